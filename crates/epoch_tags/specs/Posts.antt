@@ -1,0 +1,57 @@
+-- Of what a machine answers, what goes to whom.
+use Rattle.std.specs.Prelude.{◌==◌, ℕ, Option, Some, None, List, filter_map, if◌then◌else◌}
+use Rattle.epoch_tags.specs.declared.actor.Actor.{Actor}
+use Rattle.epoch_tags.specs.declared.actor.Actor.TheVariants.{Feeder as Feeder', Joiner as Joiner', Controller as Controller', Collector as Collector'}
+use Rattle.epoch_tags.specs.declared.message.Msg.{Msg}
+use Rattle.epoch_tags.specs.declared.message.Msg.TheVariants.{Joiner, Feeder, Controller, Collector}
+use Rattle.epoch_tags.specs.declared.message.Post.{Post}
+use Rattle.epoch_tags.specs.declared.message.ToJoiner.{ToJoiner}
+use Rattle.epoch_tags.specs.declared.message.ToController.{ToController}
+use Rattle.epoch_tags.specs.declared.message.ToCollector.{ToCollector}
+
+-- the message, where it is of that actor's kind
+abbrev pub joiner_msg : Msg → Option ToJoiner
+joiner_msg (Joiner m) = Some m
+joiner_msg (Feeder m) = None
+joiner_msg (Controller m) = None
+joiner_msg (Collector m) = None
+
+abbrev pub controller_msg : Msg → Option ToController
+controller_msg (Joiner m) = None
+controller_msg (Feeder m) = None
+controller_msg (Controller m) = Some m
+controller_msg (Collector m) = None
+
+abbrev pub for_joiner : ℕ → Actor → Msg → Option ToJoiner
+for_joiner j (Feeder' p) m = None
+for_joiner j (Joiner' id) m = if id == j then joiner_msg m else None
+for_joiner j Controller' m = None
+for_joiner j Collector' m = None
+
+abbrev pub for_controller : Actor → Msg → Option ToController
+for_controller (Feeder' p) m = None
+for_controller (Joiner' id) m = None
+for_controller Controller' m = controller_msg m
+for_controller Collector' m = None
+
+-- what the posts carry to joiner j, and to the controller
+abbrev pub posted_to_joiner : ℕ → List Post → List ToJoiner
+posted_to_joiner j posts = filter_map (λ post. for_joiner j post.to post.msg) posts
+
+abbrev pub posted_to_controller : List Post → List ToController
+posted_to_controller posts = filter_map (λ post. for_controller post.to post.msg) posts
+
+abbrev pub collector_msg : Msg → Option ToCollector
+collector_msg (Joiner m) = None
+collector_msg (Feeder m) = None
+collector_msg (Controller m) = None
+collector_msg (Collector m) = Some m
+
+abbrev pub for_collector : Actor → Msg → Option ToCollector
+for_collector (Feeder' p) m = None
+for_collector (Joiner' id) m = None
+for_collector Controller' m = None
+for_collector Collector' m = collector_msg m
+
+abbrev pub posted_to_collector : List Post → List ToCollector
+posted_to_collector posts = filter_map (λ post. for_collector post.to post.msg) posts

@@ -1,0 +1,56 @@
+// The two sides of a join, and the tables that stand on them.
+
+ghost use Rattle.std.specs.Prelude.{◌≡◌, IfOk};
+
+use crate::list::{Bytes, Items, Names};
+use std::alloc::AllocError;
+
+/// A side of the join: R is the first file, S the second.
+#[derive(Clone, Copy, Debug, PartialEq, Eq)]
+pub enum Side {
+    R,
+    S,
+}
+
+/// One field of a row: its text, and its number where the text is one that fits an `i64`.
+#[derive(Debug, Drop)]
+pub struct Cell {
+    pub text: Bytes,
+    pub num: Option<i64>,
+}
+
+pub type Cells = Items<Cell>;
+
+pub type Rows = Items<Cells>;
+
+/// The names of a header, and the rows under it.
+#[derive(Debug, Drop)]
+pub struct Table {
+    pub names: Names,
+    pub rows: Rows,
+}
+
+impl Cell {
+    /// An equal cell.
+    pub fn copy(&self) -> Result<Cell, AllocError>
+        ensures { IfOk result (λ cell. cell ≡ self.now) }
+    {
+        Ok(Cell {
+            text: self.text.copy()?,
+            num: self.num,
+        })
+    }
+}
+
+impl Items<Cell> {
+    /// Equal cells.
+    pub fn copy(&self) -> Result<Cells, AllocError>
+        ensures { IfOk result (λ cells. cells ≡ self.now) }
+    {
+        let mut cells = Cells::with_room(self.allocator(), self.len() as usize)?;
+        for cell in self.as_slice() {
+            cells.push(cell.copy()?)?;
+        }
+        Ok(cells)
+    }
+}
