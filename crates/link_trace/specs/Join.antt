@@ -1,0 +1,64 @@
+-- What a run is to answer: closed formulas over the input, the tickets and the journal.
+use Rattle.std.specs.Prelude.{◌≡◌, ◌<◌, ◌≤◌, ◌⊎◌, ⊤, [], ◌∷◌, ℕ, ◌-◌, ◌*◌, ◌^◌, ◌==◌, nat_lt, max, Bool, Some, None, slice_index, List, filter_map, length, flat_map, count_by, if◌then◌else◌}
+use Rattle.std.specs.List.{enumerate_from, range_with_len, AllByRecursion}
+use Rattle.join_rows.specs.declared.table.Side.{Side}
+use Rattle.join_rows.specs.declared.table.Side.TheVariants.{R, S}
+use Rattle.join_rows.specs.declared.table.Cell.{Cell}
+use Rattle.epoch_tags.specs.declared.tuple.Pair.{Pair}
+use Rattle.grid_map.specs.Grid.{meet}
+use Rattle.migration_plan.specs.Steps.{exchanged_side, holds_ticket}
+
+-- two tables, their tickets and the predicate
+pub record Input : Type 0 where
+  pub rows_r : List (List Cell)
+  pub rows_s : List (List Cell)
+  pub tickets_r : List ℕ
+  pub tickets_s : List ℕ
+  pub matches : List Cell → List Cell → Bool
+
+-- the nested loop's matching pairs
+abbrev pub nested_loop : Input → List Pair
+nested_loop input =
+    flat_map (λ a. filter_map (λ b. if input.matches a.1 b.1 then Some (record { i = a.0; j = b.0 }) else None) (enumerate_from 0 input.rows_s)) (enumerate_from 0 input.rows_r)
+
+-- one pair comes before another: by the first number, and then by the second
+abbrev pub IsBefore : Pair → Pair → Type 0
+IsBefore p q = (p.i < q.i) ⊎ ((p.i ≡ q.i) × (p.j ≤ q.j))
+
+abbrev pub InOrder : List Pair → Type 0
+InOrder [] = ⊤
+InOrder (p ∷ ps) = AllByRecursion (IsBefore p) ps × InOrder ps
+
+abbrev pub tickets_of : Input → Side → List ℕ
+tickets_of input R = input.tickets_r
+tickets_of input S = input.tickets_s
+
+-- the ticket of a row
+abbrev pub ticket_of : Input → Side → ℕ → ℕ
+ticket_of input side index = slice_index (tickets_of input side) index
+
+abbrev pub row_count : Input → Side → ℕ
+row_count input R = length input.rows_r
+row_count input S = length input.rows_s
+
+-- ---- of the stamps of all rows, and the shift of each epoch
+
+-- how many pairs joiner j makes: those of the nested loop that meet in it at the shift of the greater stamp
+abbrev pub made : Input → ℕ → (Side → ℕ → ℕ) → (ℕ → ℕ) → ℕ → ℕ
+made input k stamp shift j =
+    count_by (λ pair. meet k (shift (max (stamp R pair.i) (stamp S pair.j))) (ticket_of input R pair.i) (ticket_of input S pair.j) == j) (nested_loop input)
+
+-- how many rows of a side joiner j holds at shift b
+abbrev pub held : Input → ℕ → ℕ → Side → ℕ → ℕ
+held input k b side j = count_by (holds_ticket k b j side) (tickets_of input side)
+
+-- how many joiners hold each row of a side
+abbrev pub holders : ℕ → ℕ → Side → ℕ
+holders k b R = 2 ^ b
+holders k b S = 2 ^ (k - b)
+
+-- how many tuples move in the step to epoch e: each older row of the exchanged side, once for each joiner that held it
+abbrev pub moved : Input → ℕ → (Side → ℕ → ℕ) → (ℕ → ℕ) → ℕ → ℕ
+moved input k stamp shift e =
+    let side = exchanged_side (shift (e - 1)) (shift e) in
+    count_by (λ i. nat_lt (stamp side i) e) (range_with_len 0 (row_count input side)) * holders k (shift (e - 1)) side

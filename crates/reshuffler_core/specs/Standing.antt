@@ -1,0 +1,53 @@
+-- What a feeder's machine holds, and the lists for which it stands. It stores none of them.
+use Rattle.std.specs.Prelude.{◌≡◌, ℕ, ◌+◌, ◌<◌, ◌↔◌, Bool, IsTrue, List, [], ◌∷◌, ◌++◌, drop, length}
+use Rattle.epoch_tags.specs.declared.tuple.Tuple.{Tuple}
+use Rattle.epoch_tags.specs.declared.message.ToFeeder.{ToFeeder}
+use Rattle.epoch_tags.specs.declared.message.Post.{Post}
+use Rattle.epoch_tags.specs.Messages.{order_epochs, grants, stops, asks, draineds}
+use Rattle.epoch_tags.specs.Posts.{posted_to_joiner, posted_to_controller}
+use Rattle.reshuffler_core.specs.Law.{FeederLists, FeederStart, FeederLaw, shift_now}
+
+pub record FeederState : Type 0 where
+  pub start : FeederStart
+  pub epoch : ℕ
+  pub shift : ℕ
+  pub to_come : List (List Tuple)
+  pub asked : Bool
+  pub drained : Bool
+  pub stopped : Bool
+  pub held : List ToFeeder
+
+-- the lists keep the law, and what the machine holds is read off them
+pub record StandsFor (state : FeederState) (lists : FeederLists) : Type 0 where
+  pub taken : List ToFeeder
+  pub law : FeederLaw state.start lists taken
+  pub epoch : state.epoch ≡ state.start.epoch + length (order_epochs taken)
+  pub shift : state.shift ≡ shift_now state.start.shift taken
+  pub to_come : state.to_come ≡ drop (grants taken) state.start.batches
+  pub asked : IsTrue state.asked ↔ (asks lists.to_controller ≡ grants taken + 1)
+  pub drained : IsTrue state.drained ↔ (0 < draineds lists.to_controller)
+  pub stopped : IsTrue state.stopped ↔ (0 < stops taken)
+  pub held : state.held ≡ law.held
+
+-- a new machine stands for empty lists
+abbrev pub nothing_yet : FeederLists
+nothing_yet = record { received = []; to_controller = []; to_joiner = λ j. [] }
+
+-- the lists with these posts sent
+abbrev pub with_sent : FeederLists → List Post → FeederLists
+with_sent lists posts = record lists {
+  to_controller = lists.to_controller ++ posted_to_controller posts;
+  to_joiner = λ j. lists.to_joiner j ++ posted_to_joiner j posts;
+}
+
+-- and with this message received before
+abbrev pub with_message : FeederLists → ToFeeder → List Post → FeederLists
+with_message lists m posts = with_sent (record lists { received = lists.received ++ m ∷ [] }) posts
+
+-- a call that took m, and turned the posts `before` into `after`: for whatever lists the machine stood,
+-- it stands for them with the message and the new posts at their ends
+pub record TakesMessage (old new : FeederState) (m : ToFeeder) (before after : List Post) : Type 0 where
+  pub start : new.start ≡ old.start
+  pub added : List Post
+  pub sends : after ≡ before ++ added
+  pub stands : (lists : FeederLists) → StandsFor old lists → StandsFor new (with_message lists m added)
