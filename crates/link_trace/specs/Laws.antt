@@ -62,3 +62,15 @@ AnswersInTheEnd = (input : Input) (setting : Setting) (f : Family) → IsValid i
 -- pairs that are in order and, as a bag, those of the nested loop, are the nested loop
 abbrev pub SortsIntoTheLoop : Type 0
 SortsIntoTheLoop = (input : Input) (pairs : List Pair) → InOrder pairs → SameBag pairs (nested_loop input) → pairs ≡ nested_loop input
+
+-- ---- the premises can be met
+
+-- a finished family with two migrations
+pub record FinishedAfterTwoMigrations : Type 0 where
+  pub input : Input
+  pub setting : Setting
+  pub family : Family
+  pub valid : IsValid input setting
+  pub agrees : IsAgreeing input setting family
+  pub finished : IsFinished input setting family agrees
+  pub migrated : last_epoch family.controller.journal ≡ 2
