@@ -5,6 +5,7 @@ use Rattle.join_rows.specs.declared.table.Side.{Side}
 use Rattle.join_rows.specs.declared.table.Side.TheVariants.{R, S}
 use Rattle.join_rows.specs.declared.table.Cell.{Cell}
 use Rattle.epoch_tags.specs.declared.tuple.Pair.{Pair}
+use Rattle.epoch_tags.specs.Loop as loop
 use Rattle.grid_map.specs.Grid.{meet}
 use Rattle.migration_plan.specs.Steps.{exchanged_side, holds_ticket}
 
@@ -18,8 +19,7 @@ pub record Input : Type 0 where
 
 -- the nested loop's matching pairs
 abbrev pub nested_loop : Input → List Pair
-nested_loop input =
-    flat_map (λ a. filter_map (λ b. if input.matches a.1 b.1 then Some (record { i = a.0; j = b.0 }) else None) (enumerate_from 0 input.rows_s)) (enumerate_from 0 input.rows_r)
+nested_loop input = loop.nested_loop input.matches input.rows_r input.rows_s
 
 -- one pair comes before another: by the first number, and then by the second
 abbrev pub IsBefore : Pair → Pair → Type 0
