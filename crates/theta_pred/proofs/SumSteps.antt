@@ -1,0 +1,31 @@
+-- One more term of a sum.
+use Rattle.std.proofs.Common.{◌≡◌, ℕ, suc, ◌+◌, ◌<◌, ◌*◌, List, length, drop, get_or, ℤ, ◌+ℤ◌, Option, Some, None, refl, sym, ◌∙◌, ap, subst, arith, add-one}
+use Rattle.std.proofs.Math.Seq.{drop-cons}
+use Rattle.std.proofs.lemmas.Int.{ints}
+use Rattle.join_rows.specs.declared.table.Cell.{Cell}
+use Rattle.theta_pred.specs.declared.tree.Addend.{Addend}
+use Rattle.theta_pred.specs.Sizes.{IsAtMost}
+use Rattle.theta_pred.specs.Sound.{AreWithin, IsNumberWithin}
+use Rattle.theta_pred.specs.Sums.{plus, addend_of, sum_of}
+
+plus_assoc : (v x : ℤ) (rest : Option ℤ) → plus (Some (v +ℤ x)) rest ≡ plus (Some v) (plus (Some x) rest)
+plus_assoc v x None = refl
+plus_assoc v x (Some y) = let e : (v +ℤ x) +ℤ y ≡ v +ℤ (x +ℤ y) = omega (arith, ints) in ap Some e
+
+pub sum_step : (r s : List Cell) (items : List Addend) (i : ℕ) (d : Addend) (v x : ℤ) (whole : Option ℤ) → i < length items
+    → Some x ≡ addend_of r s (get_or items i d) → plus (Some v) (sum_of r s (drop i items)) ≡ whole
+    → plus (Some (v +ℤ x)) (sum_of r s (drop (i + 1) items)) ≡ whole
+sum_step r s items i d v x whole below is before =
+    rw add-one (plus_assoc v x (sum_of r s (drop (suc i) items))
+    ∙ ap (λ o. plus (Some v) (plus o (sum_of r s (drop (suc i) items)))) is
+    ∙ ap (λ xs. plus (Some v) (sum_of r s xs)) (sym (drop-cons items i d below)) ∙ before)
+
+-- the terms that are left lie in the rows, and the next one does
+pub within_step : (width_r width_s : ℕ) (items : List Addend) (i : ℕ) (d : Addend) → i < length items
+    → AreWithin width_r width_s (drop i items)
+    → IsNumberWithin width_r width_s (get_or items i d).number × AreWithin width_r width_s (drop (i + 1) items)
+within_step width_r width_s items i d below within =
+    rw add-one (subst (AreWithin width_r width_s) (drop-cons items i d below) within)
+
+pub IsAtMost-next : (limit i : ℕ) (v x : ℤ) → IsAtMost (limit * i) v → IsAtMost limit x → IsAtMost (limit * (i + 1)) (v +ℤ x)
+IsAtMost-next limit i v x v_small x_small = record { above = omega (arith, ints); below = omega (arith, ints) }

@@ -1,0 +1,6 @@
+pub mod Formula
+pub mod FormulaCode
+pub mod Sizes
+pub mod Sound
+pub mod Sums
+pub mod Truth
