@@ -1,0 +1,202 @@
+-- Each kind of step keeps the rule of a link.
+use Rattle.std.proofs.Common.{◌≡◌, ◌≢◌, ℕ, zero, suc, ◌+◌, ◌≤◌, Bool, true, false, true≢false, List, [], ◌∷◌, ◌++◌, length, set, sym, refl, ap, ◌∙◌, subst, ⊎_elim, append_assoc, append-nil, length-append, arith}
+use mathlib.Core.Option.{some, some-injective, some-ne-none}
+use native.Mathlib.Decide.{ℕ_discrete}
+use lib.ListN.{get_elem?}
+use Rattle.crossbeam_queue.specs.Fifo.{Pushes, Pops, Forks, Merges, Learns, Held}
+use Rattle.crossbeam_queue.proofs.Lists.{at_set, at_snoc, at_last, set_else}
+use Rattle.join_rows.specs.Lists.{IsPrefix}
+use Rattle.epoch_tags.specs.declared.message.Envelope.{Envelope}
+use Rattle.ruled_links.specs.declared.rule.Hand.{Hand}
+use Rattle.ruled_links.specs.Order.{hand, Stands, Fits, IsInOrder}
+use Rattle.ruled_links.specs.Ends.{AreLeft}
+
+-- ---- places of a list
+
+at_here : (l : List Hand) (i : ℕ) (v a : Hand) → get_elem? l i ≡ some v → get_elem? (set l i a) i ≡ some a
+at_here [] i v a e = absurd (some-ne-none v (sym e))
+at_here (x ∷ xs) zero v a e = refl
+at_here (x ∷ xs) (suc i) v a e = at_here xs i v a e
+
+at_front : (l : List Hand) (i : ℕ) (v a : Hand) → get_elem? l i ≡ some v → get_elem? (l ++ a ∷ []) i ≡ some v
+at_front [] i v a e = absurd (some-ne-none v (sym e))
+at_front (x ∷ xs) zero v a e = e
+at_front (x ∷ xs) (suc i) v a e = at_front xs i v a e
+
+-- a place that is new stands at the end
+at_end : (l : List Hand) (a b : Hand) (j : ℕ) → get_elem? l j ≢ some b → get_elem? (l ++ a ∷ []) j ≡ some b → j ≡ length l
+at_end [] a b zero n e = refl
+at_end [] a b (suc j) n e = absurd (some-ne-none b (sym e))
+at_end (x ∷ xs) a b zero n e = absurd (n e)
+at_end (x ∷ xs) a b (suc j) n e = ap suc (at_end xs a b j n e)
+
+-- ---- passes
+
+abbrev Each : (ℕ → Hand → Type 0) → List Hand → Type 0
+Each F hands = (pass : ℕ) (v : Hand) → get_elem? hands pass ≡ some v → F pass v
+
+Each-set : (F : ℕ → Hand → Type 0) (hands : List Hand) (pass : ℕ) (w : Hand) → F pass w → ((j : ℕ) (u : Hand) → j ≢ pass → get_elem? hands j ≡ some u → F j u) → Each F (set hands pass w)
+Each-set F hands pass w mine others j u e = ⊎_elim (λ (x : (j ≡ pass) × (w ≡ u)). subst (λ (y : ℕ × Hand). F y.0 y.1) (λ i. (sym x.0 i, x.1 i)) mine)
+    (λ (x : (j ≢ pass) × (get_elem? hands j ≡ some u)). others j u x.0 x.1) (at_set hands pass j w u e)
+
+longer : {known sent : List Envelope} (more : List Envelope) → IsPrefix known sent → IsPrefix known (sent ++ more)
+longer {known} {sent} more p = record { rest = p.rest ++ more; joins = sym (append_assoc known p.rest more) ∙ ap (λ l. l ++ more) p.joins }
+
+-- what a pass may do it may still do, where one pass changes that may do the same as before
+Stands-set : (may : Hand → Bool) (hands : List Hand) (pass who : ℕ) (v w : Hand) → get_elem? hands pass ≡ some v → may w ≡ may v → Stands may hands who → Stands may (set hands pass w) who
+Stands-set may hands pass who v w at same p = elim (ℕ_discrete who pass) [
+  | yes e ↦ (
+    w,
+    subst (λ (j : ℕ). get_elem? (set hands pass w) j ≡ some w) (sym e) (at_here hands pass v w at),
+    same ∙ (ap may (some-injective v p.0 (sym at ∙ (ap (λ (j : ℕ). get_elem? hands j) (sym e) ∙ p.1))) ∙ p.2),
+  )
+  | no n ↦ (p.0, set_else hands pass who w n ∙ p.1, p.2)
+]
+
+-- a spent pass may do nothing
+spent_fits : (sender receiver : ℕ) (sent received : List Envelope) (pass : ℕ) → Fits sender receiver sent received pass (hand false false [] [] [])
+spent_fits sender receiver sent received pass = record { puts = λ p. absurd (true≢false (sym p)); takes = λ p. absurd (true≢false (sym p)) }
+
+-- ---- the steps
+
+pub begins : IsInOrder [] (hand true true [] [] [] ∷ [])
+begins = let first = hand true true [] [] [] in record {
+  sender = 0;
+  receiver = 0;
+  sent = [];
+  received = [];
+  joins = refl;
+  puts = (first, refl, refl);
+  takes = (first, refl, refl);
+  fits = λ j u e. Each-set (Fits 0 0 [] []) (first ∷ []) 0 first
+      (record { puts = λ _. (refl, refl); takes = λ _. (refl, refl, record { rest = []; joins = refl }) })
+      (λ j u other e. absurd (other (at_end [] first u j (λ x. some-ne-none u (sym x)) e))) j u e;
+}
+
+pub puts : (n pass : ℕ) (v : Hand) (x : Envelope) → v.puts ≡ true → Pushes IsInOrder n pass v x (λ w. w ≡ hand v.puts v.takes (v.sent ++ x ∷ []) v.received v.known)
+puts n pass v x may items hands _ h at =
+    let w : Hand = hand v.puts v.takes (v.sent ++ x ∷ []) v.received v.known in
+    let mine = h.fits pass v at in
+    let sent = h.sent ++ x ∷ [] in (
+      w,
+      record {
+        sender = h.sender;
+        receiver = h.receiver;
+        sent = sent;
+        received = h.received;
+        joins = sym (append_assoc h.received items (x ∷ [])) ∙ ap (λ l. l ++ x ∷ []) h.joins;
+        puts = Stands-set (λ u. u.puts) hands pass h.sender v w at refl h.puts;
+        takes = Stands-set (λ u. u.takes) hands pass h.receiver v w at refl h.takes;
+        fits = Each-set (Fits h.sender h.receiver sent h.received) hands pass w
+            (record {
+              puts = λ _. ((mine.puts may).0, ap (λ l. l ++ x ∷ []) (mine.puts may).1);
+              takes = λ p. ((mine.takes p).0, (mine.takes p).1, longer (x ∷ []) (mine.takes p).2);
+            })
+            (λ j u other e. let fit = h.fits j u e in record {
+              puts = λ p. absurd (other ((fit.puts p).0 ∙ sym (mine.puts may).0));
+              takes = λ p. ((fit.takes p).0, (fit.takes p).1, longer (x ∷ []) (fit.takes p).2);
+            });
+      },
+      refl,
+    )
+
+pub takes : (pass : ℕ) (v : Hand) → v.takes ≡ true → Pops IsInOrder pass v (λ x w. w ≡ hand v.puts v.takes v.sent (v.received ++ x ∷ []) v.known)
+takes pass v may x items hands h at =
+    let w : Hand = hand v.puts v.takes v.sent (v.received ++ x ∷ []) v.known in
+    let mine = h.fits pass v at in
+    let received = h.received ++ x ∷ [] in (
+      w,
+      record {
+        sender = h.sender;
+        receiver = h.receiver;
+        sent = h.sent;
+        received = received;
+        joins = append_assoc h.received (x ∷ []) items ∙ h.joins;
+        puts = Stands-set (λ u. u.puts) hands pass h.sender v w at refl h.puts;
+        takes = Stands-set (λ u. u.takes) hands pass h.receiver v w at refl h.takes;
+        fits = Each-set (Fits h.sender h.receiver h.sent received) hands pass w
+            (record {
+              puts = mine.puts;
+              takes = λ _. ((mine.takes may).0, ap (λ l. l ++ x ∷ []) (mine.takes may).1, (mine.takes may).2);
+            })
+            (λ j u other e. let fit = h.fits j u e in record {
+              puts = fit.puts;
+              takes = λ p. absurd (other ((fit.takes p).0 ∙ sym (mine.takes may).0));
+            });
+      },
+      refl,
+    )
+
+pub parts : (pass : ℕ) (v : Hand) → v.puts ≡ true → v.takes ≡ true → Forks IsInOrder pass v (hand false true [] v.received v.sent) (hand true false v.sent [] [])
+parts pass v may_put may_take items hands h at =
+    let left : Hand = hand false true [] v.received v.sent in
+    let right : Hand = hand true false v.sent [] [] in
+    let mine = h.fits pass v at in
+    let cut : List Hand = set hands pass left in
+    let Cut : ℕ → Hand → Type 0 = λ j u. (u.puts ≢ true) × (u.takes ≡ true → (j ≡ h.receiver) × (u.received ≡ h.received) × IsPrefix u.known h.sent) in
+    let known : IsPrefix v.sent h.sent = record { rest = []; joins = append-nil v.sent ∙ (mine.puts may_put).1 } in
+    let fit : Each Cut cut = Each-set Cut hands pass left
+    ((λ p. true≢false (sym p)), λ _. ((mine.takes may_take).0, (mine.takes may_take).1, known))
+    (λ j u other e. ((λ p. other (((h.fits j u e).puts p).0 ∙ sym (mine.puts may_put).0)), (h.fits j u e).takes)) in
+    let stands = Stands-set (λ u. u.takes) hands pass h.receiver v left at (sym may_take) h.takes in
+    record {
+      sender = length cut;
+      receiver = h.receiver;
+      sent = h.sent;
+      received = h.received;
+      joins = h.joins;
+      puts = (right, at_last cut right (length cut) refl, refl);
+      takes = (stands.0, at_front cut h.receiver stands.0 right stands.1, stands.2);
+      fits = λ j u e. ⊎_elim
+          (λ (x : get_elem? cut j ≡ some u). record { puts = λ p. absurd ((fit j u x).0 p); takes = (fit j u x).1 })
+          (λ (is : right ≡ u). record {
+            puts = λ p. (at_end cut right u j (λ x. (fit j u x).0 p) e, ap (λ (y : Hand). y.sent) (sym is) ∙ (mine.puts may_put).1);
+            takes = λ p. absurd (true≢false (sym (ap (λ (y : Hand). y.takes) is ∙ p)));
+          })
+          (at_snoc cut right u j e);
+    }
+
+pub meets : (pass : ℕ) (v : Hand) (other : ℕ) (u : Hand) → v.takes ≡ true → u.puts ≡ true → Merges IsInOrder pass v other u (hand true true u.sent v.received v.known) (hand false false [] [] [])
+meets pass v other u may_take may_put items hands h at two at' =
+    let both : Hand = hand true true u.sent v.received v.known in
+    let mine = (h.fits pass v at).takes may_take in
+    let spent : Hand = hand false false [] [] [] in
+    let joined : List Hand = set hands pass both in
+    let was : get_elem? hands other ≡ some u = ⊎_elim (λ (x : (other ≡ pass) × (both ≡ u)). absurd (two x.0)) (λ (x : (other ≢ pass) × (get_elem? hands other ≡ some u)). x.1) (at_set hands pass other both u at') in
+    let theirs = (h.fits other u was).puts may_put in
+    let Fit : ℕ → Hand → Type 0 = Fits pass pass h.sent h.received in
+    let fit : Each (λ j y. j ≢ other → Fit j y) joined = Each-set (λ j y. j ≢ other → Fit j y) hands pass both
+    (λ _. record { puts = λ _. (refl, theirs.1); takes = λ _. (refl, mine.1, mine.2) })
+    (λ j y _ e apart. let fit = h.fits j y e in record {
+      puts = λ p. absurd (apart ((fit.puts p).0 ∙ sym theirs.0));
+      takes = λ p. ((fit.takes p).0 ∙ sym mine.0, (fit.takes p).1, (fit.takes p).2);
+    }) in
+    let stands : get_elem? (set joined other spent) pass ≡ some both = set_else joined other pass spent (λ e. two (sym e)) ∙ at_here hands pass v both at in
+    record {
+      sender = pass;
+      receiver = pass;
+      sent = h.sent;
+      received = h.received;
+      joins = h.joins;
+      puts = (both, stands, refl);
+      takes = (both, stands, refl);
+      fits = Each-set Fit joined other spent (spent_fits pass pass h.sent h.received other) (λ j y apart e. fit j y e apart);
+    }
+
+pub looks : (pass : ℕ) (v : Hand) → v.puts ≡ true → v.takes ≡ true → Learns IsInOrder pass v (λ items. v.received ++ items ≡ v.sent)
+looks pass v may_put may_take items hands h at =
+    let mine = h.fits pass v at in ap (λ l. l ++ items) (mine.takes may_take).1 ∙ h.joins ∙ sym (mine.puts may_put).1
+
+-- what is known and not received is left
+counts : (known rest received items sent : List Envelope) → known ++ rest ≡ sent → received ++ items ≡ sent → length known ≤ length received + length items
+counts known rest received items sent a b = omega (arith, ap length a, ap length b, length-append known rest, length-append received items)
+
+pub leaves : (pass : ℕ) (v : Hand) → v.takes ≡ true → Learns IsInOrder pass v (λ items. length v.known ≤ length v.received + length items)
+leaves pass v may items hands h at =
+    let mine = (h.fits pass v at).takes may in
+    counts v.known mine.2.rest v.received items h.sent mine.2.joins (ap (λ l. l ++ items) mine.1 ∙ h.joins)
+
+-- what a look with both lists shows
+pub left_of : {sent received : List Envelope} {count : ℕ} (v : Hand) → Held count (λ (items : List Envelope). v.received ++ items ≡ v.sent) → v.sent ≡ sent → v.received ≡ received → AreLeft sent received count
+left_of {sent} {received} v held sends receives =
+    record { prefix = record { rest = held.0; joins = ap (λ l. l ++ held.0) (sym receives) ∙ held.2 ∙ sends }; left = held.1 }
