@@ -2,11 +2,13 @@
 //! bytes are written to.
 #![tactic(auto)]
 
+mod fault;
 mod list;
 mod shelf;
 mod sink;
 mod table;
 
+pub use fault::TableFault;
 pub use list::{Bytes, Items, Names};
 pub use shelf::{Failed, Shelf};
 pub use sink::Sink;
