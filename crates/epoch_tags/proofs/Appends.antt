@@ -4,7 +4,7 @@ use Rattle.epoch_tags.specs.declared.message.ToController.{ToController}
 use Rattle.epoch_tags.specs.declared.message.ToController.TheVariants.{Ask, Drained, Settled}
 use Rattle.epoch_tags.specs.declared.message.ToFeeder.{ToFeeder}
 use Rattle.epoch_tags.specs.declared.message.ToFeeder.TheVariants.{Order, Grant, Stop}
-use Rattle.epoch_tags.specs.Messages.{order_epochs, grants, stops, asks, draineds, asked_r, asked_s, turns, ends, tups, moved_ends}
+use Rattle.epoch_tags.specs.Messages.{order_epochs, grants, stops, asks, draineds, asked_r, asked_s, settled_epochs, turns, ends, tups, moved_ends}
 use Rattle.epoch_tags.specs.Orders.{StopsLast, DrainsLast, NeverFalls}
 use Rattle.epoch_tags.specs.declared.message.ToJoiner.{ToJoiner}
 use Rattle.epoch_tags.specs.declared.message.ToJoiner.TheVariants.{Tup, Turn, End, Moved, MovedEnd}
@@ -50,6 +50,12 @@ asked_s-append [] ys = omega arith
 asked_s-append (Ask dr ds ∷ xs) ys = let rest = asked_s-append xs ys in omega arith
 asked_s-append (Drained ∷ xs) ys = asked_s-append xs ys
 asked_s-append (Settled epoch ∷ xs) ys = asked_s-append xs ys
+
+pub settled_epochs-append : (xs ys : List ToController) → settled_epochs (xs ++ ys) ≡ settled_epochs xs ++ settled_epochs ys
+settled_epochs-append [] ys = refl
+settled_epochs-append (Ask dr ds ∷ xs) ys = settled_epochs-append xs ys
+settled_epochs-append (Drained ∷ xs) ys = settled_epochs-append xs ys
+settled_epochs-append (Settled epoch ∷ xs) ys = ap (λ es. epoch ∷ es) (settled_epochs-append xs ys)
 
 -- before a further message no `Stop` stands
 pub none_stopped : (xs ys : List ToFeeder) (m : ToFeeder) → StopsLast (xs ++ m ∷ ys) → stops xs ≡ 0

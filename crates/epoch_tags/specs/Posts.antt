@@ -5,6 +5,7 @@ use Rattle.epoch_tags.specs.declared.actor.Actor.TheVariants.{Feeder as Feeder',
 use Rattle.epoch_tags.specs.declared.message.Msg.{Msg}
 use Rattle.epoch_tags.specs.declared.message.Msg.TheVariants.{Joiner, Feeder, Controller, Collector}
 use Rattle.epoch_tags.specs.declared.message.Post.{Post}
+use Rattle.epoch_tags.specs.declared.message.ToFeeder.{ToFeeder}
 use Rattle.epoch_tags.specs.declared.message.ToJoiner.{ToJoiner}
 use Rattle.epoch_tags.specs.declared.message.ToController.{ToController}
 use Rattle.epoch_tags.specs.declared.message.ToCollector.{ToCollector}
@@ -55,3 +56,18 @@ for_collector Collector' m = collector_msg m
 
 abbrev pub posted_to_collector : List Post → List ToCollector
 posted_to_collector posts = filter_map (λ post. for_collector post.to post.msg) posts
+
+abbrev pub feeder_msg : Msg → Option ToFeeder
+feeder_msg (Joiner m) = None
+feeder_msg (Feeder m) = Some m
+feeder_msg (Controller m) = None
+feeder_msg (Collector m) = None
+
+abbrev pub for_feeder : ℕ → Actor → Msg → Option ToFeeder
+for_feeder p (Feeder' id) m = if id == p then feeder_msg m else None
+for_feeder p (Joiner' id) m = None
+for_feeder p Controller' m = None
+for_feeder p Collector' m = None
+
+abbrev pub posted_to_feeder : ℕ → List Post → List ToFeeder
+posted_to_feeder p posts = filter_map (λ post. for_feeder p post.to post.msg) posts

@@ -8,3 +8,6 @@ mod tuple;
 pub use actor::Actor;
 pub use message::{Envelope, Msg, Post, Sends, ToCollector, ToController, ToFeeder, ToJoiner};
 pub use tuple::{Counts, Pair, Pairs, Tuple, Tuples};
+
+#[cfg(test)]
+mod tests;

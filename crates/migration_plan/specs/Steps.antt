@@ -1,5 +1,5 @@
 -- One migration step: from a shift to a neighbouring one.
-use Rattle.std.specs.Prelude.{◌≡◌, ℕ, ◌+◌, ◌-◌, min, nat_lt, Bool, true, false, ◌⊎◌, if◌then◌else◌}
+use Rattle.std.specs.Prelude.{◌≡◌, ◌≢◌, ℕ, ◌+◌, ◌-◌, min, nat_lt, Bool, true, false, ◌⊎◌, List, [], ◌∷◌, if◌then◌else◌}
 use Rattle.join_rows.specs.declared.table.Side.{Side}
 use Rattle.join_rows.specs.declared.table.Side.TheVariants.{R, S}
 use Rattle.epoch_tags.specs.declared.tuple.Tuple.{Tuple}
@@ -39,3 +39,8 @@ same_side S S = true
 -- the tuple is of that side
 abbrev pub is_of : Side → Tuple → Bool
 is_of side t = same_side side t.side
+
+-- these are all shifts after `shift` up to and with the goal, each nearer to it by 1
+abbrev pub IsChain : ℕ → ℕ → List ℕ → Type 0
+IsChain shift goal [] = shift ≡ goal
+IsChain shift goal (next ∷ shifts) = (shift ≢ goal) × (next ≡ next_step shift goal) × IsChain next goal shifts

@@ -1,0 +1,57 @@
+use crate::{chain, exchanged_side, kept, low_of, next_step};
+use epoch_tags::Tuple;
+use grid_map::Shape;
+use join_rows::{Cells, Side};
+use std::test::Fail;
+
+#[test]
+fn a_chain_goes_by_one_up_to_its_goal(rt: HostRuntime) -> Result<(), Fail> {
+    let down = chain(rt.alloc(), 3, 0)?.into_vec();
+    assert_eq!(rt; down.as_slice(), [2, 1, 0].as_slice(), "from 3 to 0");
+    let up = chain(rt.alloc(), 1, 4)?.into_vec();
+    assert_eq!(rt; up.as_slice(), [2, 3, 4].as_slice(), "from 1 to 4");
+    assert_eq!(rt; chain(rt.alloc(), 2, 2)?.len(), 0, "from 2 to 2");
+    Ok(())
+}
+
+#[test]
+fn a_step_names_its_shift_its_bit_and_its_side(rt: HostRuntime) {
+    let cases = [(2, 4, 3, 2, Side::R), (2, 0, 1, 1, Side::S)];
+    for (shift, goal, next, low, side) in cases {
+        assert_eq!(rt; next_step(shift, goal), next, "from {shift} to {goal}");
+        if next == shift + 1 || shift == next + 1 {
+            assert_eq!(rt; low_of(shift, next), low, "the bit from {shift} to {goal}");
+            assert!(rt;
+                exchanged_side(shift, next) == side,
+                "the side from {shift} to {goal}"
+            );
+        }
+    }
+}
+
+#[test]
+fn a_joiner_keeps_a_tuple_by_its_side(rt: HostRuntime) {
+    let cases = [
+        (Side::R, 208, 2, 14, true),
+        (Side::R, 208, 2, 10, false),
+        (Side::R, 208, 3, 14, true),
+        (Side::S, 6, 2, 14, true),
+        (Side::S, 6, 2, 10, true),
+        (Side::S, 6, 3, 10, false),
+    ];
+    for (side, ticket, shift, id, want) in cases {
+        let tuple = Tuple {
+            side,
+            index: 0,
+            ticket,
+            stamp: 0,
+            cells: Cells::new(rt.alloc()),
+        };
+        let shape = Shape { k: 4, shift };
+        assert_eq!(rt;
+            kept(shape, id, &tuple),
+            want,
+            "ticket {ticket} at shift {shift} and joiner {id}"
+        );
+    }
+}
