@@ -1,0 +1,120 @@
+-- A joiner that has just begun.
+use Rattle.std.proofs.Common.{◌≡◌, ℕ, zero, suc, ◌+◌, ◌^◌, ◌<◌, ◌≤◌, refl, sym, ◌∙◌, ap, subst, arith, Bool, true, false, Option, Some, None, List, [], ◌∷◌, ◌++◌, length}
+use Rattle.std.proofs.lemmas.Bool.{false≢true}
+use Rattle.join_rows.specs.Lists.{SameBag, gather}
+use Rattle.join_rows.proofs.Bags.{SameBag-refl}
+use Rattle.epoch_tags.specs.declared.tuple.Tuple.{Tuple}
+use Rattle.epoch_tags.specs.declared.tuple.Pair.{Pair}
+use Rattle.epoch_tags.specs.declared.message.ToJoiner.{ToJoiner}
+use Rattle.joiner_law.specs.Law.{JoinerStart, JoinerLists, Taken, arrived, pairs_by}
+use Rattle.joiner_law.specs.History.{Step, stored}
+use Rattle.joiner_law.specs.Standing.{StandsSettled}
+use Rattle.joiner_core.specs.Flags.{flag_at}
+use Rattle.joiner_core.specs.Queues.{held_at}
+use Rattle.joiner_core.specs.Matching.{does_hold}
+use Rattle.joiner_core.specs.Machine.{IsReady}
+use Rattle.joiner_core.specs.declared.theta.Theta.{Theta}
+use Rattle.joiner_core.specs.declared.opened.Opened.{Opened}
+use Rattle.joiner_core.specs.declared.epochs.Epochs.{Epochs}
+use Rattle.joiner_core.specs.declared.joiner.Joiner.{Joiner}
+use Rattle.joiner_core.specs.Standing.{IsMachineOf, IsClosed, StandsBy, Stands}
+use Rattle.joiner_core.specs.Taking.{IsWithin, IsStepWithin, IsCounted, HasSomeTurn}
+use Rattle.joiner_core.specs.Whole.{IsSound, IsStuck, IsFresh, IsMade, StandsWithin, no_lists, start_of}
+use Rattle.joiner_core.proofs.Keeping.{append-nil, same-ends}
+use Rattle.joiner_core.proofs.Reporting.{stands-for}
+
+abbrev none_at : ℕ → List Tuple
+none_at p = []
+
+gather-nothing : (n : ℕ) → gather n none_at ≡ []
+gather-nothing zero = refl
+gather-nothing (suc n) = append-nil (gather n none_at) ∙ gather-nothing n
+
+abbrev pub nothing_taken : ℕ → Taken
+nothing_taken shift = record { from_feeder = λ p. []; from_joiner = λ q. []; shift_at = λ e. shift }
+
+abbrev pub first_step : ℕ → List Tuple → Step
+first_step shift base = record { shift = shift; came = base; arrived = [] }
+
+same-bag : (xs ys : List Tuple) → xs ≡ ys → SameBag xs ys
+same-bag xs ys is = subst (λ (zs : List Tuple). SameBag xs zs) is (SameBag-refl xs)
+
+settled-start : (k id shift epoch feeders : ℕ) (theta : Theta) (base : List Tuple) → shift ≤ k
+    → StandsSettled (start_of k id shift epoch feeders theta base) (nothing_taken shift) no_lists [] (λ p. false) base (first_step shift base) []
+settled-start k id shift epoch feeders theta base low = record {
+  steps = record {
+    feeders = λ p less. record { counts_up = tt; by_shifts = tt; turns = refl; ends = refl };
+    history = (
+      record {
+        shift = refl;
+        within = low;
+        arrived = same-bag [] (gather feeders none_at) (sym (gather-nothing feeders));
+        came = SameBag-refl base;
+      },
+      tt,
+    );
+    by_one = tt;
+    in_time = (tt, tt);
+    pairs = record {
+      pairs = λ older. subst (λ (xs : List Tuple). SameBag (pairs_by (does_hold theta) base base) (pairs_by (does_hold theta) xs xs)) (sym (append-nil base)) (SameBag-refl (pairs_by (does_hold theta) base base));
+    };
+    sent = tt;
+    parts = tt;
+    told = refl;
+  };
+  store = same-bag base (base ++ []) (sym (append-nil base));
+  links = λ q. record { never_falls = tt; up_to = tt; goes_on = omega arith };
+  taken_up_to = λ q. tt;
+}
+
+closed-start : (k id shift epoch feeders : ℕ) (theta : Theta) (base : List Tuple) (m : Joiner) → shift ≤ k → IsMade k id shift epoch feeders theta base m
+    → IsClosed (start_of k id shift epoch feeders theta base) (nothing_taken shift) no_lists [] m.epochs
+closed-start k id shift epoch feeders theta base m low made = record {
+  cur = first_step shift base;
+  past = [];
+  stands = subst (λ (a : List Tuple). StandsSettled (start_of k id shift epoch feeders theta base) (nothing_taken shift) no_lists [] (flag_at m.epochs.ended.items) a (first_step shift base) []) (sym made.store)
+      (same-ends (start_of k id shift epoch feeders theta base) (nothing_taken shift) no_lists [] (λ p. false) (flag_at m.epochs.ended.items) base (first_step shift base) [] (λ p. sym (made.down p)) (settled-start k id shift epoch feeders theta base low));
+  epoch = let e = made.at_epoch in omega arith;
+  shift = made.at_shift;
+  ended_count = made.ended;
+}
+
+none-stuck : (queue : List ToJoiner) (x : ToJoiner) (rest : List ToJoiner) → queue ≡ [] → queue ≡ x ∷ rest → ⊥
+none-stuck queue x rest none is = let a = ap length none in let b : length queue ≡ length (x ∷ rest) = ap length is in absurd (omega arith)
+
+pub fresh : (k id shift epoch feeders : ℕ) (theta : Theta) (base : List Tuple) (m : Joiner) → k < 9 → shift ≤ k → 0 < feeders → IsMade k id shift epoch feeders theta base m → IsFresh k id shift epoch feeders theta base m
+fresh k id shift epoch feeders theta base m small low some made =
+    let same_k = made.at_k in
+    let same_shift = made.at_shift in
+    let sound : IsSound m = record {
+      within = record {
+        small = omega arith;
+        shift = omega arith;
+        step = subst (λ (z : Option Opened). IsStepWithin m.epochs.k z) (sym made.step) tt;
+        ended = made.ended ∙ sym made.at_feeders;
+        count = subst (λ (z : Option Opened). IsCounted m.epochs.feeders z) (sym made.step) tt;
+        begun = subst (λ (z : Option Opened). HasSomeTurn m.epochs.feeders z) (sym made.step) tt;
+        rests = subst (λ (z : Option Opened). IsReady z → ⊥) (sym made.step) (λ never. never);
+      };
+      feeders = made.of_feeders ∙ sym made.at_feeders;
+      joiners = made.of_joiners ∙ ap (λ n. 2 ^ n) (sym made.at_k);
+    } in
+    let stuck : IsStuck m = record {
+      feeders = λ p less x rest is can. none-stuck _ x rest (made.no_feeders p) is;
+      joiners = λ q less x rest is can. none-stuck _ x rest (made.no_joiners q) is;
+    } in
+    record {
+      sound = sound;
+      stuck = stuck;
+      going = made.spent;
+      quiet = made.told;
+      stands = stands-for (start_of k id shift epoch feeders theta base) no_lists m sound stuck (λ no. refl) (λ yes. absurd (false≢true (sym made.told ∙ yes))) (λ has. absurd (false≢true (sym (made.down 0) ∙ has.ended 0 (let n = made.ended in omega arith)))) (record {
+        taken = nothing_taken shift;
+        stands = record {
+          fixed = record { k = made.at_k; id = made.at_id; feeders = made.at_feeders; matches = ap (λ (th : Theta). does_hold th) made.at_theta; small = small };
+          now = subst (λ (z : Option Opened). StandsBy (start_of k id shift epoch feeders theta base) (nothing_taken shift) no_lists [] m.epochs z) (sym made.step) (closed-start k id shift epoch feeders theta base m low made);
+        };
+        feeders = λ p less. made.no_feeders p;
+        joiners = λ q less. made.no_joiners q;
+      });
+    }

@@ -1,0 +1,171 @@
+-- A feeder's end and a partner's messages, as whole calls.
+use Rattle.std.proofs.Common.{◌≡◌, ℕ, zero, suc, ◌+◌, ◌<◌, ◌≤◌, refl, sym, ◌∙◌, ap, subst, arith, Bool, true, false, Option, Some, None, List, [], ◌∷◌, ◌++◌, length}
+use Rattle.std.specs.Prelude.{slice_set}
+use Rattle.std.proofs.Math.ListN.{length-set}
+use Rattle.epoch_tags.specs.declared.tuple.Tuple.{Tuple}
+use Rattle.epoch_tags.specs.declared.tuple.Pair.{Pair}
+use Rattle.epoch_tags.specs.declared.message.Post.{Post}
+use Rattle.epoch_tags.specs.declared.message.ToJoiner.{ToJoiner}
+use Rattle.epoch_tags.specs.declared.message.ToJoiner.TheVariants.{Tup, Turn, End, Moved, MovedEnd}
+use Rattle.joiner_law.specs.Law.{JoinerStart, JoinerLists, Taken}
+use Rattle.joiner_law.specs.History.{Step, probed}
+use Rattle.joiner_law.specs.Standing.{took_of_feeder, took_of_joiner, with_sent, with_flag, IsOfFeeder, StandsOpen}
+use Rattle.migration_plan.specs.Steps.{partner_in_step}
+use Rattle.joiner_law.proofs.Takings.{open-end}
+use Rattle.joiner_core.specs.Matching.{does_hold}
+use Rattle.joiner_core.specs.Flags.{flag_at}
+use Rattle.joiner_core.specs.declared.opened.Opened.{Opened}
+use Rattle.joiner_core.specs.declared.epochs.Epochs.{Epochs}
+use Rattle.joiner_core.specs.Machine.{after_moved, found_moved, moved_found, step_new, with_new, part_by, after_part, IsReady, posts_settled, after_settle}
+use Rattle.joiner_core.specs.Standing.{IsMachineOf, IsClosed, IsOpen, StandsBy, Stands}
+use Rattle.joiner_core.specs.Taking.{IsWithin, IsStepWithin, IsCounted, HasSomeTurn, TookOfFeeder, TookOfJoiner}
+use Rattle.joiner_core.specs.Tests.{PartFits}
+use Rattle.joiner_core.proofs.Keeping.{quiet-settled, append-nil, closed-end, flag-set, open-part, open-part_end, stands-settled, settled-within, settled-k, settled-feeders, new-within, with_sent-none}
+
+-- ---- a feeder's end
+
+same-ends-open : (s : JoinerStart) (t : Taken) (lists : JoinerLists) (waiting : List Pair) (turned ended ended' : ℕ → Bool) (all_turned part_ended : Bool) (a b : List Tuple) (new cur : Step) (past : List Step) → ((p : ℕ) → ended p ≡ ended' p)
+    → StandsOpen s t lists waiting turned ended all_turned part_ended a b new cur past → StandsOpen s t lists waiting turned ended' all_turned part_ended a b new cur past
+same-ends-open s t lists waiting turned ended ended' all_turned part_ended a b new cur past same is =
+    let steps = is.steps in
+    record {
+      steps = record {
+        feeders = λ p low. subst (λ (b : Bool). IsOfFeeder s.epoch t.shift_at (length past) (turned p) b (t.from_feeder p)) (same p) (steps.feeders p low);
+        history = steps.history;
+        by_one = steps.by_one;
+        in_time = steps.in_time;
+        pairs = steps.pairs;
+        sent = steps.sent;
+        parts = steps.parts;
+        told = steps.told;
+      };
+      store = is.store;
+      opened = is.opened;
+      links = is.links;
+      taken_up_to = is.taken_up_to;
+    }
+
+open-ended : (s : JoinerStart) (t : Taken) (lists : JoinerLists) (waiting : List Pair) (m m' : Epochs) (o : Opened) (p : ℕ) → p < s.feeders → flag_at m.ended.items p ≡ false → m'.ended.items ≡ slice_set m.ended.items p true
+    → IsOpen s t lists waiting m o → IsOpen s (took_of_feeder p End t) lists waiting (record m { ended = m'.ended }) o
+open-ended s t lists waiting m m' o p low going flags is =
+    let within : p < length m.ended.items = let n = is.ended_count in omega arith in
+    let after = open-end s t lists waiting (flag_at o.turned.items) (flag_at m.ended.items) is.all_turned o.partner_ended m.store o.store is.new is.cur is.past p low going is.stands in
+    record {
+      new = is.new;
+      cur = is.cur;
+      past = is.past;
+      all_turned = is.all_turned;
+      stands = same-ends-open s (took_of_feeder p End t) lists waiting (flag_at o.turned.items) _ (flag_at m'.ended.items) is.all_turned o.partner_ended m.store o.store is.new is.cur is.past (λ q. flag-set m.ended.items p q within ∙ ap (λ fs. flag_at fs q) (sym flags)) after;
+      epoch = is.epoch;
+      shift = is.shift;
+      step_epoch = is.step_epoch;
+      step_shift = is.step_shift;
+      ended_count = ap length flags ∙ length-set m.ended.items p true ∙ is.ended_count;
+      count = is.count;
+      missing = is.missing;
+      all = is.all;
+    }
+
+end-by : (s : JoinerStart) (t : Taken) (lists : JoinerLists) (waiting : List Pair) (m m' : Epochs) (p : ℕ) → p < s.feeders → flag_at m.ended.items p ≡ false → m'.ended.items ≡ slice_set m.ended.items p true
+    → (step : Option Opened) → StandsBy s t lists waiting m step → StandsBy s (took_of_feeder p End t) lists waiting (record m { ended = m'.ended }) step
+end-by s t lists waiting m m' p low going flags None is = closed-end s t lists waiting m m' p low going flags is
+end-by s t lists waiting m m' p low going flags (Some o) is = open-ended s t lists waiting m m' o p low going flags is
+
+pub took-end : (m m' : Epochs) (p : ℕ) (waiting : List Pair) (before : List Post) → IsWithin m → flag_at m.ended.items p ≡ false → m' ≡ record m { ended = m'.ended } → m'.ended.items ≡ slice_set m.ended.items p true
+    → TookOfFeeder p End m m' waiting waiting before before
+took-end m m' p waiting before within going state flags = record {
+  added = [];
+  sends = sym (append-nil before);
+  quiet = refl;
+  within = subst (λ (z : Epochs). IsWithin z) (sym state) (record { small = within.small; shift = within.shift; step = within.step; ended = ap length flags ∙ length-set m.ended.items p true ∙ within.ended; count = within.count; begun = within.begun; rests = within.rests });
+  k = ap (λ (z : Epochs). z.k) state;
+  feeders = ap (λ (z : Epochs). z.feeders) state;
+  stands = λ s t lists low is.
+      let fixed = is.fixed in
+      let now = end-by s t lists waiting m m' p low going flags m.step is.now in
+      let whole : Stands s (took_of_feeder p End t) lists waiting (record m { ended = m'.ended }) =
+      record { fixed = record { k = fixed.k; id = fixed.id; feeders = fixed.feeders; matches = fixed.matches; small = fixed.small }; now = now } in (
+        took_of_feeder p End t,
+        record { from_feeder = refl; from_joiner = refl },
+        subst (λ (z : Epochs). Stands s (took_of_feeder p End t) (with_sent lists []) waiting z) (sym state)
+            (subst (λ (ls : JoinerLists). Stands s (took_of_feeder p End t) ls waiting (record m { ended = m'.ended })) (sym (with_sent-none lists)) whole),
+      );
+}
+
+-- ---- a tuple that the partner moved here
+
+moved-by : (s : JoinerStart) (t : Taken) (lists : JoinerLists) (waiting : List Pair) (m : Epochs) (q epoch : ℕ) (x : Tuple) → IsMachineOf s m
+    → (step : Option Opened) → PartFits m q epoch step → StandsBy s t lists waiting m step
+    → StandsBy s (took_of_joiner q (Moved epoch x) t) lists (waiting ++ moved_found m x step) (record m { step = step_new x step }) (step_new x step)
+moved-by s t lists waiting m q epoch x fixed None fits is = absurd fits
+moved-by s t lists waiting m q epoch x fixed (Some o) fits is =
+    subst (λ (j : ℕ). IsOpen s (took_of_joiner j (Moved epoch x) t) lists (waiting ++ moved_found m x (Some o)) (record m { step = Some (with_new o x) }) (with_new o x)) (sym fits.2)
+    (subst (λ (e : ℕ). IsOpen s (took_of_joiner (partner_in_step m.shift o.shift m.id) (Moved e x) t) lists (waiting ++ moved_found m x (Some o)) (record m { step = Some (with_new o x) }) (with_new o x)) (sym fits.0)
+    (open-part s t lists waiting m o x fixed is))
+
+pub took-moved : (m m' : Epochs) (q epoch : ℕ) (x : Tuple) (w w' : List Pair) (before : List Post) → IsWithin m → m' ≡ after_moved m x → w' ≡ w ++ found_moved m x → PartFits m q epoch m.step
+    → TookOfJoiner q (Moved epoch x) m m' w w' before before
+took-moved m m' q epoch x w w' before within state more fits = rw (state, more) (record {
+  added = [];
+  sends = sym (append-nil before);
+  quiet = refl;
+  within = new-within m x within;
+  k = refl;
+  feeders = refl;
+  stands = λ s t lists is.
+      let fixed = is.fixed in
+      let whole : Stands s (took_of_joiner q (Moved epoch x) t) lists (w ++ found_moved m x) (after_moved m x) =
+      record { fixed = record { k = fixed.k; id = fixed.id; feeders = fixed.feeders; matches = fixed.matches; small = fixed.small }; now = moved-by s t lists w m q epoch x fixed m.step fits is.now } in (
+        took_of_joiner q (Moved epoch x) t,
+        record { from_feeder = refl; from_joiner = refl },
+        subst (λ (ls : JoinerLists). Stands s (took_of_joiner q (Moved epoch x) t) ls (w ++ found_moved m x) (after_moved m x)) (sym (with_sent-none lists)) whole,
+      );
+})
+
+-- ---- the end of the partner's part
+
+part-end-by : (s : JoinerStart) (t : Taken) (lists : JoinerLists) (waiting : List Pair) (m : Epochs) (q epoch : ℕ) → IsMachineOf s m
+    → (step : Option Opened) → PartFits m q epoch step → StandsBy s t lists waiting m step
+    → StandsBy s (took_of_joiner q (MovedEnd epoch) t) lists waiting (record m { step = part_by step }) (part_by step)
+part-end-by s t lists waiting m q epoch fixed None fits is = absurd fits
+part-end-by s t lists waiting m q epoch fixed (Some o) fits is =
+    subst (λ (j : ℕ). IsOpen s (took_of_joiner j (MovedEnd epoch) t) lists waiting (record m { step = part_by (Some o) }) (record o { partner_ended = true })) (sym fits.2)
+    (subst (λ (e : ℕ). IsOpen s (took_of_joiner (partner_in_step m.shift o.shift m.id) (MovedEnd e) t) lists waiting (record m { step = part_by (Some o) }) (record o { partner_ended = true })) (sym fits.0)
+    (open-part_end s t lists waiting m o fixed fits.1 is))
+
+part-within : (k : ℕ) (step : Option Opened) → IsStepWithin k step → IsStepWithin k (part_by step)
+part-within k None is = tt
+part-within k (Some o) is = is
+
+part-count : (n : ℕ) (step : Option Opened) → IsCounted n step → IsCounted n (part_by step)
+part-count n None is = tt
+part-count n (Some o) is = is
+
+part-begun : (n : ℕ) (step : Option Opened) → HasSomeTurn n step → HasSomeTurn n (part_by step)
+part-begun n None is = tt
+part-begun n (Some o) is = is
+
+ended-within : (m m1 : Epochs) (ready : Bool) → IsWithin m → m1 ≡ after_part m → (ready ≡ true → IsReady m1.step) → (ready ≡ false → IsReady m1.step → ⊥) → IsWithin (after_settle ready m1)
+ended-within m m1 ready within part = subst (λ (z : Epochs). (ready ≡ true → IsReady z.step) → (ready ≡ false → IsReady z.step → ⊥) → IsWithin (after_settle ready z)) (sym part)
+    (λ settles not_yet. settled-within (after_part m) ready settles not_yet within.small within.shift (part-within m.k m.step within.step) within.ended (part-count m.feeders m.step within.count) (part-begun m.feeders m.step within.begun))
+
+pub took-moved_end : (m m1 m2 : Epochs) (q epoch : ℕ) (ready : Bool) (w : List Pair) (before after : List Post) → IsWithin m → m1 ≡ after_part m → (ready ≡ true → IsReady m1.step) → (ready ≡ false → IsReady m1.step → ⊥)
+    → m2 ≡ after_settle ready m1 → after ≡ before ++ posts_settled ready m1 → PartFits m q epoch m.step → TookOfJoiner q (MovedEnd epoch) m m2 w w before after
+took-moved_end m m1 m2 q epoch ready w before after within part settles not_yet state posts fits = record {
+  added = posts_settled ready m1;
+  sends = posts;
+  quiet = quiet-settled ready m1;
+  within = subst (λ (z : Epochs). IsWithin z) (sym state) (ended-within m m1 ready within part settles not_yet);
+  k = ap (λ (z : Epochs). z.k) state ∙ settled-k m1 ready ∙ ap (λ (z : Epochs). z.k) part;
+  feeders = ap (λ (z : Epochs). z.feeders) state ∙ settled-feeders m1 ready ∙ ap (λ (z : Epochs). z.feeders) part;
+  stands = λ s t lists is.
+      let fixed = is.fixed in
+      let t' = took_of_joiner q (MovedEnd epoch) t in
+      let first : Stands s t' lists w (after_part m) =
+      record { fixed = record { k = fixed.k; id = fixed.id; feeders = fixed.feeders; matches = fixed.matches; small = fixed.small }; now = part-end-by s t lists w m q epoch fixed m.step fits is.now } in
+      let first' : Stands s t' lists w m1 = subst (λ (z : Epochs). Stands s t' lists w z) (sym part) first in (
+        t',
+        record { from_feeder = refl; from_joiner = refl },
+        subst (λ (z : Epochs). Stands s t' (with_sent lists (posts_settled ready m1)) w z) (sym state) (stands-settled s t' lists w m1 ready settles first'),
+      );
+}

@@ -1,0 +1,38 @@
+// A tuple that the partner moved here.
+ghost use Rattle.std.specs.Prelude.{◌≡◌, true, false, ◌++◌, ◌∷◌, [], ◌<◌, ◌≤◌, OnOk, IfSome};
+ghost use Rattle.joiner_core.specs.Tests.{PartFits};
+ghost use Rattle.joiner_core.specs.Machine.{after_moved, found_moved};
+
+use crate::epochs::Epochs;
+use crate::grid::partner;
+use crate::which::Which;
+use epoch_tags::{Pairs, Tuple};
+use std::alloc::AllocError;
+
+impl Epochs {
+    // Whether joiner q has this epoch's step open here, as the partner whose part goes on.
+    pub(crate) fn can_take_part(&self, q: u32, epoch: u32) -> bool
+        requires { self.now.shift < 9 }
+        ensures up { result ≡ true → PartFits self.now q epoch self.now.step }
+        ensures down { result ≡ false → PartFits self.now q epoch self.now.step → ⊥ }
+    {
+        match &self.step {
+            Some(open) => {
+                epoch == open.epoch
+                    && !open.partner_ended
+                    && q == partner(self.shift, open.shift, self.id)
+            }
+            None => false,
+        }
+    }
+
+    pub(crate) fn take_moved(&mut self, tuple: Tuple, found: &mut Pairs) -> Result<(), AllocError>
+        ensures state { OnOk result (self.new ≡ after_moved self.old tuple) }
+        ensures found { OnOk result (found.new ≡ found.old ++ found_moved self.old tuple) }
+    {
+        if let Some(open) = &mut self.step {
+            open.take(&self.theta, Which::OnlyStamp(open.epoch), tuple, found)?;
+        }
+        Ok(())
+    }
+}

@@ -1,0 +1,96 @@
+// An open step.
+ghost use Rattle.std.specs.Prelude.{◌≡◌, ◌++◌, ◌∷◌, [], ◌<◌, ◌≤◌, min, true, length, slice_set, OnOk};
+ghost use Rattle.migration_plan.specs.Steps.{holds};
+ghost use Rattle.joiner_law.specs.History.{probed};
+ghost use Rattle.joiner_core.specs.Probes.{named_by};
+ghost use Rattle.joiner_core.specs.Matching.{does_hold};
+ghost use Rattle.joiner_core.specs.Machine.{kept_at_end, found_late, posts_late, opened_late};
+
+use crate::grid::{is_of, keeps};
+use crate::store::Store;
+use crate::theta::Theta;
+use crate::which::Which;
+use epoch_tags::{Actor, Msg, Pairs, Post, Sends, ToJoiner, Tuple};
+use join_rows::Side;
+use std::alloc::{AllocError, Global};
+
+#[derive(Drop)]
+pub(crate) struct Opened {
+    pub(crate) epoch: u32,
+    pub(crate) shift: u32,
+    pub(crate) turned: Vec<bool>,
+    pub(crate) store: Store,
+    pub(crate) partner_ended: bool,
+    pub(crate) alloc: Global,
+}
+
+// Sends a copy of a tuple to a joiner, if it is of that side.
+pub(crate) fn pass_on(
+    alloc: Global,
+    side: Side,
+    to: u32,
+    epoch: u32,
+    tuple: &Tuple,
+    sends: &mut Sends,
+) -> Result<(), AllocError>
+    ensures { OnOk result (sends.new ≡ sends.old ++ posts_late side to epoch tuple.now) }
+{
+    if is_of(side, tuple) {
+        let tuple = tuple.copy()?;
+        sends.push(Post {
+            to: Actor::Joiner(to),
+            msg: Msg::Joiner(ToJoiner::Moved { epoch, tuple }),
+        })?;
+    }
+    Ok(())
+}
+
+impl Opened {
+    // Feeder p has turned.
+    pub(crate) fn turn(&mut self, p: u32)
+        ensures rest { self.new ≡ record self.old { turned = self.new.turned } }
+        ensures turned { self.new.turned.items ≡ slice_set self.old.turned.items p true }
+    {
+        if (p as usize) < self.turned.len() {
+            self.turned[p as usize] = true;
+        }
+    }
+
+    // A tuple from before the step joins with the new ones, if it is kept.
+    pub(crate) fn keep(
+        &mut self,
+        k: u32,
+        id: u32,
+        theta: &Theta,
+        tuple: &Tuple,
+        found: &mut Pairs,
+    ) -> Result<(), AllocError>
+        requires grid { k < 9 }
+        requires within { self.old.shift ≤ k }
+        ensures stored { OnOk result (self.new ≡ opened_late k id self.old tuple.now) }
+        ensures found { OnOk result (found.new ≡ found.old ++ found_late (does_hold theta.now) k id self.old tuple.now) }
+    {
+        if keeps(k, self.shift, id, tuple) {
+            self.store
+                .probe(tuple, theta, Which::OnlyStamp(self.epoch), found)?;
+            let copy = tuple.copy()?;
+            self.store.add(copy)?;
+        }
+        Ok(())
+    }
+
+    // A tuple of the step's own epoch.
+    pub(crate) fn take(
+        &mut self,
+        theta: &Theta,
+        which: Which,
+        tuple: Tuple,
+        found: &mut Pairs,
+    ) -> Result<(), AllocError>
+        ensures stored { OnOk result (self.new ≡ record self.old { store = self.old.store ++ tuple ∷ [] }) }
+        ensures found { OnOk result (found.new ≡ found.old ++ probed (does_hold theta.now) (named_by which) tuple self.old.store) }
+    {
+        self.store.probe(&tuple, theta, which, found)?;
+        self.store.add(tuple)
+    }
+}

@@ -1,0 +1,45 @@
+// The end of a step.
+ghost use Rattle.std.specs.Prelude.{◌≡◌, ◌++◌, ◌<◌, true, false, IfOk};
+ghost use Rattle.joiner_core.specs.Machine.{after_settle, posts_settled, IsReady};
+
+use crate::epochs::{Epochs, are_all_up};
+use crate::grid::exchanged;
+use epoch_tags::{Actor, Msg, Post, Sends, ToController};
+use std::alloc::AllocError;
+
+impl Epochs {
+    // Whether all feeders have turned and the partner has ended its part.
+    pub(crate) fn is_ready(&self) -> bool
+        ensures up { result ≡ true → IsReady self.now.step }
+        ensures down { result ≡ false → IsReady self.now.step → ⊥ }
+    {
+        match &self.step {
+            Some(open) => open.partner_ended && are_all_up(&open.turned),
+            None => false,
+        }
+    }
+
+    // Settles the open step, if it is ready. Answers whether it was.
+    pub(crate) fn settle(&mut self, sends: &mut Sends) -> Result<bool, AllocError>
+        ensures up { IfOk result (λ ready. ready ≡ true → IsReady self.old.step) }
+        ensures down { IfOk result (λ ready. ready ≡ false → IsReady self.old.step → ⊥) }
+        ensures state { IfOk result (λ ready. self.new ≡ after_settle ready self.old) }
+        ensures posts { IfOk result (λ ready. sends.new ≡ sends.old ++ posts_settled ready self.old) }
+    {
+        if !self.is_ready() {
+            return Ok(false);
+        }
+        if let Some(open) = self.step.take() {
+            sends.push(Post {
+                to: Actor::Controller,
+                msg: Msg::Controller(ToController::Settled { epoch: open.epoch }),
+            })?;
+            self.moved
+                .push(self.store.count(exchanged(self.shift, open.shift)))?;
+            self.epoch = open.epoch;
+            self.shift = open.shift;
+            self.store = open.store;
+        }
+        Ok(true)
+    }
+}

@@ -1,0 +1,91 @@
+// A tuple of a feeder.
+ghost use Rattle.std.specs.Prelude.{◌≡◌, ◌++◌, ◌<◌, ◌≤◌, true, false, OnOk};
+ghost use Rattle.epoch_tags.specs.declared.message.ToJoiner.TheVariants.{Tup};
+ghost use Rattle.joiner_core.specs.Taking.{IsWithin, CanTakeTup, TookOfFeeder};
+ghost use Rattle.joiner_core.specs.Machine.{after_old, found_old, posts_old, after_new, found_new};
+
+use crate::epochs::Epochs;
+use crate::grid::{exchanged, partner};
+use crate::opened::pass_on;
+use crate::which::Which;
+use epoch_tags::{Pairs, Sends, Tuple};
+use std::alloc::AllocError;
+
+impl Epochs {
+    pub(crate) fn can_take_tup(&self, p: u32, stamp: u32) -> bool
+        ensures up { result ≡ true → CanTakeTup self.now p stamp }
+        ensures down { result ≡ false → CanTakeTup self.now p stamp → ⊥ }
+    {
+        if self.has_ended(p) {
+            return false;
+        }
+        match &self.step {
+            Some(open) => {
+                if self.has_turned(p) {
+                    stamp == open.epoch
+                } else {
+                    stamp == self.epoch
+                }
+            }
+            None => stamp == self.epoch,
+        }
+    }
+
+    pub(crate) fn take_tup(
+        &mut self,
+        p: u32,
+        tuple: Tuple,
+        found: &mut Pairs,
+        sends: &mut Sends,
+    ) -> Result<(), AllocError>
+        requires within { IsWithin self.old }
+        requires can { CanTakeTup self.old p tuple.stamp }
+        ensures { OnOk result (TookOfFeeder p (Tup tuple) self.old self.new found.old found.new sends.old sends.new) }
+    {
+        if self.has_turned(p) {
+            self.take_new(tuple, found)?;
+        } else {
+            self.take_old(tuple, found, sends)?;
+        }
+        Ok(())
+    }
+
+    // A tuple of the settled epoch.
+    pub(crate) fn take_old(
+        &mut self,
+        tuple: Tuple,
+        found: &mut Pairs,
+        sends: &mut Sends,
+    ) -> Result<(), AllocError>
+        requires { IsWithin self.old }
+        ensures state { OnOk result (self.new ≡ after_old self.old tuple) }
+        ensures found { OnOk result (found.new ≡ found.old ++ found_old self.old tuple) }
+        ensures posts { OnOk result (sends.new ≡ sends.old ++ posts_old self.old tuple) }
+    {
+        self.store.probe(&tuple, &self.theta, Which::All, found)?;
+        if let Some(open) = &mut self.step {
+            let to = partner(self.shift, open.shift, self.id);
+            pass_on(
+                self.alloc,
+                exchanged(self.shift, open.shift),
+                to,
+                open.epoch,
+                &tuple,
+                sends,
+            )?;
+            open.keep(self.k, self.id, &self.theta, &tuple, found)?;
+        }
+        self.store.add(tuple)
+    }
+
+    // A tuple of the open step's epoch.
+    pub(crate) fn take_new(&mut self, tuple: Tuple, found: &mut Pairs) -> Result<(), AllocError>
+        ensures state { OnOk result (self.new ≡ after_new self.old tuple) }
+        ensures found { OnOk result (found.new ≡ found.old ++ found_new self.old tuple) }
+    {
+        if let Some(open) = &mut self.step {
+            open.take(&self.theta, Which::All, tuple, found)?;
+        }
+        Ok(())
+    }
+}

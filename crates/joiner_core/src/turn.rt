@@ -1,0 +1,121 @@
+// A feeder's turn to the next epoch.
+ghost use Rattle.std.specs.Prelude.{◌≡◌, ◌++◌, ◌<◌, ◌≤◌, true, false, List, OnOk, IfOk};
+ghost use Rattle.joiner_core.specs.Taking.{IsWithin, CanTakeTurn, TookOfFeeder};
+ghost use Rattle.epoch_tags.specs.declared.message.ToJoiner.TheVariants.{Turn};
+ghost use Rattle.epoch_tags.specs.declared.tuple.Pair.{Pair};
+ghost use Rattle.joiner_core.specs.Machine.{HasBegun, begun_posts, posts_opened, HasOpened, HasTurned, AreAllUp, posts_turned};
+
+use crate::epochs::{Epochs, all_down, are_all_up};
+use crate::grid::{are_neighbours, exchanged, partner};
+use crate::opened::Opened;
+use epoch_tags::{Actor, Msg, Post, Sends, ToJoiner};
+use std::alloc::AllocError;
+
+impl Epochs {
+    pub(crate) fn can_take_turn(&self, p: u32, epoch: u32, shift: u32) -> bool
+        ensures up { result ≡ true → CanTakeTurn self.now p epoch shift }
+        ensures down { result ≡ false → CanTakeTurn self.now p epoch shift → ⊥ }
+    {
+        if self.has_ended(p) || self.has_turned(p) {
+            return false;
+        }
+        match &self.step {
+            Some(open) => epoch == open.epoch && shift == open.shift,
+            None => {
+                epoch > self.epoch
+                    && epoch - self.epoch == 1
+                    && shift <= self.k
+                    && are_neighbours(self.shift, shift)
+            }
+        }
+    }
+
+    pub(crate) fn take_turn(
+        &mut self,
+        p: u32,
+        epoch: u32,
+        shift: u32,
+        sends: &mut Sends,
+    ) -> Result<(), AllocError>
+        requires few { p < self.old.feeders }
+        requires within { IsWithin self.old }
+        requires can { CanTakeTurn self.old p epoch shift }
+        ensures { OnOk result ((waiting : List Pair) → TookOfFeeder p (Turn epoch shift) self.old self.new waiting waiting sends.old sends.new) }
+    {
+        self.begin_step(epoch, shift, sends)?;
+        self.turn(p, sends)?;
+        self.settle(sends)?;
+        Ok(())
+    }
+
+    // Opens the step, if none is open.
+    pub(crate) fn begin_step(
+        &mut self,
+        epoch: u32,
+        shift: u32,
+        sends: &mut Sends,
+    ) -> Result<(), AllocError>
+        requires within { IsWithin self.old }
+        requires fits { shift ≤ self.old.k }
+        ensures rest { OnOk result (self.new ≡ record self.old { step = self.new.step }) }
+        ensures step { OnOk result (HasBegun self.old epoch shift self.old.step self.new.step) }
+        ensures posts { OnOk result (sends.new ≡ sends.old ++ begun_posts self.old epoch shift self.old.step) }
+    {
+        if self.step.is_none() {
+            self.open_step(epoch, shift, sends)?;
+        }
+        Ok(())
+    }
+
+    // The first turn opens the step.
+    pub(crate) fn open_step(
+        &mut self,
+        epoch: u32,
+        shift: u32,
+        sends: &mut Sends,
+    ) -> Result<(), AllocError>
+        requires grid { self.old.k < 9 }
+        requires shift { self.old.shift ≤ self.old.k }
+        requires within { shift ≤ self.old.k }
+        ensures rest { OnOk result (self.new ≡ record self.old { step = self.new.step }) }
+        ensures opened { OnOk result (HasOpened self.old epoch shift self.new.step) }
+        ensures posts { OnOk result (sends.new ≡ sends.old ++ posts_opened self.old epoch shift) }
+    {
+        let store = self.store.kept_copy(self.k, shift, self.id)?;
+        let to = partner(self.shift, shift, self.id);
+        self.store
+            .send_side(exchanged(self.shift, shift), to, epoch, sends)?;
+        let turned = all_down(self.alloc, self.feeders)?;
+        self.step = Some(Opened {
+            epoch,
+            shift,
+            turned,
+            store,
+            partner_ended: false,
+            alloc: self.alloc,
+        });
+        Ok(())
+    }
+
+    // The last one ends this joiner's part of the step. Answers whether it was the last.
+    pub(crate) fn turn(&mut self, p: u32, sends: &mut Sends) -> Result<bool, AllocError>
+        requires { self.old.shift < 9 }
+        ensures rest { OnOk result (self.new ≡ record self.old { step = self.new.step }) }
+        ensures step { OnOk result (HasTurned p self.old.step self.new.step) }
+        ensures last { IfOk result (λ last. last ≡ true → AreAllUp self.new.step) }
+        ensures not_last { IfOk result (λ last. last ≡ false → AreAllUp self.new.step → ⊥) }
+        ensures posts { IfOk result (λ last. sends.new ≡ sends.old ++ posts_turned self.old last) }
+    {
+        if let Some(open) = &mut self.step {
+            open.turn(p);
+            if are_all_up(&open.turned) {
+                sends.push(Post {
+                    to: Actor::Joiner(partner(self.shift, open.shift, self.id)),
+                    msg: Msg::Joiner(ToJoiner::MovedEnd { epoch: open.epoch }),
+                })?;
+                return Ok(true);
+            }
+        }
+        Ok(false)
+    }
+}
