@@ -25,7 +25,7 @@ use Rattle.load_controller.proofs.Counted.{HaveLines}
 use Rattle.load_controller.proofs.Sends.{sends_grants, sends_orders, stops_last}
 use Rattle.joiner_law.specs.Law.{JoinerStart, Taken, opened, partner_of, AllTurned, store, exchanged}
 use Rattle.link_trace.specs.Join.{Input, row_count}
-use Rattle.link_trace.specs.Batches.{share}
+use Rattle.row_tickets.specs.Share.{share}
 use Rattle.link_trace.specs.Family.{Setting, Family, IsAgreeing, events, feeder_start, joiner_start, first_line, rules_of, batches, IsValid}
 use Rattle.link_trace.proofs.Arrivals.{front_of}
 use Rattle.link_trace.proofs.Lines.{came}

@@ -12,7 +12,8 @@ use Rattle.load_controller.specs.Journal.{Follows, causes_of, all_causes, IsLawf
 use Rattle.load_controller.specs.Law.{cause_of}
 use Rattle.load_controller.proofs.Counted.{HaveLines, forwards}
 use Rattle.link_trace.specs.Join.{Input}
-use Rattle.link_trace.specs.Batches.{Place, size_of}
+use Rattle.row_tickets.specs.declared.place.Place.{Place}
+use Rattle.link_trace.specs.Batches.{size_of}
 use Rattle.link_trace.specs.Family.{Setting, Family, IsAgreeing, first_line, rules_of, batches, tuple_of, IsValid}
 use Rattle.link_trace.proofs.Lines.{have_lines, came}
 use Rattle.link_trace.proofs.Shares.{asks_for_r, asks_for_s}

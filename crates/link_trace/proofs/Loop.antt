@@ -14,7 +14,9 @@ use Rattle.migration_plan.specs.Steps.{is_of}
 use Rattle.reshuffler_core.proofs.Arrivals.{granted}
 use Rattle.joiner_law.specs.Law.{pairs_by, pair_of}
 use Rattle.link_trace.specs.Join.{Input, nested_loop, row_count}
-use Rattle.link_trace.specs.Batches.{Place, share, cut}
+use Rattle.row_tickets.specs.declared.place.Place.{Place}
+use Rattle.row_tickets.specs.Share.{share, place_at}
+use Rattle.link_trace.specs.Batches.{cut}
 use Rattle.link_trace.specs.Family.{Setting, IsValid, tuple_of, cells_of, feeder_start}
 use Rattle.link_trace.proofs.Cuts.{joined_again}
 use Rattle.link_trace.proofs.PairSums.{sum-pairs}
@@ -24,7 +26,7 @@ use Rattle.join_rows.proofs.Totals.{total_same, total_le, sum-gather, sum_by-le,
 
 -- the sum over all rows of the input
 abbrev pub row_sum : Input → (Tuple → ℕ) → ℕ
-row_sum input g = total (row_count input R) (λ i. g (tuple_of input 0 (R, i))) + total (row_count input S) (λ i. g (tuple_of input 0 (S, i)))
+row_sum input g = total (row_count input R) (λ i. g (tuple_of input 0 (place_at R i))) + total (row_count input S) (λ i. g (tuple_of input 0 (place_at S i)))
 
 -- ---- the nested loop
 
@@ -64,16 +66,16 @@ weight input f r q = only_if (is_of R r) (only_if (is_of S q && input.matches r.
 -- the pairs of all rows are the nested loop's
 pub rows_pair_up : (input : Input) (f : Pair → ℕ) → row_sum input (λ r. row_sum input (weight input f r)) ≡ sum_by f (nested_loop input)
 rows_pair_up input f =
-    let of_r : (i : ℕ) → row_sum input (weight input f (tuple_of input 0 (R, i))) ≡ total (row_count input S) (λ j. only_if (input.matches (cells_of input R i) (cells_of input S j)) (f (loop_pair i j))) = λ i.
-    let none = zeros (row_count input R) (λ j. weight input f (tuple_of input 0 (R, i)) (tuple_of input 0 (R, j))) (λ j. refl) in
+    let of_r : (i : ℕ) → row_sum input (weight input f (tuple_of input 0 (place_at R i))) ≡ total (row_count input S) (λ j. only_if (input.matches (cells_of input R i) (cells_of input S j)) (f (loop_pair i j))) = λ i.
+    let none = zeros (row_count input R) (λ j. weight input f (tuple_of input 0 (place_at R i)) (tuple_of input 0 (place_at R j))) (λ j. refl) in
     ap (λ n. n + total (row_count input S) (λ j. only_if (input.matches (cells_of input R i) (cells_of input S j)) (f (loop_pair i j)))) none ∙ omega arith in
-    let of_s : (i : ℕ) → row_sum input (weight input f (tuple_of input 0 (S, i))) ≡ 0 = λ i.
-    let a = zeros (row_count input R) (λ j. weight input f (tuple_of input 0 (S, i)) (tuple_of input 0 (R, j))) (λ j. refl) in
-    let b = zeros (row_count input S) (λ j. weight input f (tuple_of input 0 (S, i)) (tuple_of input 0 (S, j))) (λ j. refl) in
+    let of_s : (i : ℕ) → row_sum input (weight input f (tuple_of input 0 (place_at S i))) ≡ 0 = λ i.
+    let a = zeros (row_count input R) (λ j. weight input f (tuple_of input 0 (place_at S i)) (tuple_of input 0 (place_at R j))) (λ j. refl) in
+    let b = zeros (row_count input S) (λ j. weight input f (tuple_of input 0 (place_at S i)) (tuple_of input 0 (place_at S j))) (λ j. refl) in
     omega arith in
-    let none = zeros (row_count input S) (λ i. row_sum input (weight input f (tuple_of input 0 (S, i)))) of_s in
-    let all = total_same (row_count input R) (λ i. row_sum input (weight input f (tuple_of input 0 (R, i)))) (λ i. total (row_count input S) (λ j. only_if (input.matches (cells_of input R i) (cells_of input S j)) (f (loop_pair i j)))) (λ i low. of_r i) in
-    ap (λ n. total (row_count input R) (λ i. row_sum input (weight input f (tuple_of input 0 (R, i)))) + n) none
+    let none = zeros (row_count input S) (λ i. row_sum input (weight input f (tuple_of input 0 (place_at S i)))) of_s in
+    let all = total_same (row_count input R) (λ i. row_sum input (weight input f (tuple_of input 0 (place_at R i)))) (λ i. total (row_count input S) (λ j. only_if (input.matches (cells_of input R i) (cells_of input S j)) (f (loop_pair i j)))) (λ i low. of_r i) in
+    ap (λ n. total (row_count input R) (λ i. row_sum input (weight input f (tuple_of input 0 (place_at R i)))) + n) none
     ∙ ap (λ n. n + 0) all ∙ omega arith ∙ sym (loop_sum input f)
 
 -- ---- the rows that feeders were granted

@@ -5,6 +5,7 @@ use Rattle.std.specs.List.{AllByRecursion, list_any}
 use Rattle.std.proofs.lemmas.Bool.{eqb-true}
 use mathlib.Core.List.{reverse-cons}
 use Rattle.std.proofs.lemmas.List.Sums.{sum_by-cons}
+use Rattle.row_tickets.specs.Share.{place_at}
 use Rattle.join_rows.specs.declared.table.Side.{Side}
 use Rattle.join_rows.specs.declared.table.Side.TheVariants.{R, S}
 use Rattle.join_rows.specs.Lists.{gather, total}
@@ -122,7 +123,7 @@ module _ (input : Input) (setting : Setting) (valid : IsValid input setting) (f 
 
   -- the row's tuple, with its stamp
   abbrev pub row_tuple : Side → ℕ → Tuple
-  row_tuple side i = tuple_of input (σ side i) (side, i)
+  row_tuple side i = tuple_of input (σ side i) (place_at side i)
 
   abbrev pub stamped_sum : (Tuple → ℕ) → ℕ
   stamped_sum g = total (row_count input R) (λ i. g (row_tuple R i)) + total (row_count input S) (λ i. g (row_tuple S i))

@@ -19,7 +19,7 @@ use Rattle.load_controller.specs.declared.line.Cause.TheVariants.{Settle}
 use Rattle.load_controller.specs.Journal.{Follows}
 use Rattle.load_controller.specs.Law.{ControllerLaw, CountsMessages, CountsSettled, sent_by}
 use Rattle.link_trace.specs.Join.{tickets_of, row_count}
-use Rattle.link_trace.specs.Batches.{RFirst}
+use Rattle.row_tickets.specs.declared.place.Feed.TheVariants.{RFirst}
 use Rattle.link_trace.specs.Family.{Setting, IsValid, IsAgreeing, IsFinished as IsFinishedFamily, feeder_start, joiner_start, rules_of, first_line}
 use Rattle.link_trace.specs.Laws.{FinishedAfterTwoMigrations}
 use Rattle.link_trace.specs.Rows.{journal, input}

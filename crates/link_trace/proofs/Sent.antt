@@ -4,6 +4,7 @@ use Rattle.std.specs.Prelude.{map, filter, flat_map, sum_by, ◌==◌, nat_lt, n
 use Rattle.std.specs.List.{AllByRecursion}
 use Rattle.std.proofs.lemmas.Bool.{cases_Bool, lt-ltb, leb-true, ltb-true, eq-eqb, and_parts}
 use Rattle.std.proofs.lemmas.List.{append-nil}
+use Rattle.row_tickets.specs.Share.{place_at}
 use Rattle.join_rows.specs.declared.table.Side.{Side}
 use Rattle.join_rows.specs.declared.table.Side.TheVariants.{R, S}
 use Rattle.join_rows.specs.Lists.{SameBag, IsWithinBag, gather, total}
@@ -138,8 +139,8 @@ module _ (input : Input) (setting : Setting) (valid : IsValid input setting) (f 
   tickets_fit =
       let bad : Tuple → ℕ = λ t. only_if (not (nat_lt t.ticket (2 ^ 8))) 1 in
       let fits : (side : Side) (i : ℕ) → ticket_of input side i < 2 ^ 8 = λ side i. all_at (λ n. n < 2 ^ 8) (tickets_of input side) i (valid.fit side) (omega arith) in
-      let none : (side : Side) (n : ℕ) → total n (λ i. bad (tuple_of input 0 (side, i))) ≡ 0 = λ side n.
-      total_same n (λ i. bad (tuple_of input 0 (side, i))) (λ i. 0) (λ i low. ap (λ c. only_if (not c) 1) (lt-ltb (ticket_of input side i) (2 ^ 8) (fits side i))) ∙ total-zero n in
+      let none : (side : Side) (n : ℕ) → total n (λ i. bad (tuple_of input 0 (place_at side i))) ≡ 0 = λ side n.
+      total_same n (λ i. bad (tuple_of input 0 (place_at side i))) (λ i. 0) (λ i low. ap (λ c. only_if (not c) 1) (lt-ltb (ticket_of input side i) (2 ^ 8) (fits side i))) ∙ total-zero n in
       let a = none R (row_count input R) in
       let c = none S (row_count input S) in
       let below = granted_within input setting valid agrees.taken_by_feeder bad (λ e t. refl) in

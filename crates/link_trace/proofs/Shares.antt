@@ -12,7 +12,9 @@ use Rattle.epoch_tags.specs.Messages.{asked_r, asked_s}
 use Rattle.migration_plan.specs.Steps.{is_of, same_side}
 use Rattle.reshuffler_core.specs.Law.{ask_for, requests}
 use Rattle.link_trace.specs.Join.{Input, row_count}
-use Rattle.link_trace.specs.Batches.{Place, share, size_of}
+use Rattle.row_tickets.specs.declared.place.Place.{Place}
+use Rattle.row_tickets.specs.Share.{share}
+use Rattle.link_trace.specs.Batches.{size_of}
 use Rattle.link_trace.specs.Family.{Setting, tuple_of, batches, feeder_start}
 use Rattle.link_trace.proofs.Cuts.{joined_again}
 use Rattle.link_trace.proofs.RowSums.{shares_sum}
@@ -36,7 +38,7 @@ module _ (input : Input) (setting : Setting) (some : 0 < setting.feeders) (batch
 
   pub in_all_r : total setting.feeders (λ p. sum_by (λ b. (size_of b).0) (batches input setting p)) ≡ row_count input R
   in_all_r =
-      let g : Place → ℕ = λ place. cond (same_side R place.0) 1 0 in
+      let g : Place → ℕ = λ place. cond (same_side R place.side) 1 0 in
       let a = total_same setting.feeders (λ q. sum_by (λ b. (size_of b).0) (batches input setting q)) (λ q. sum_by g (share setting.feed setting.feeders q (row_count input R) (row_count input S))) (λ q low. of_places g q) in
       let b = shares_sum setting.feed setting.feeders some g (row_count input R) (row_count input S) in
       let r = total-const (row_count input R) 1 in
@@ -45,7 +47,7 @@ module _ (input : Input) (setting : Setting) (some : 0 < setting.feeders) (batch
 
   pub in_all_s : total setting.feeders (λ p. sum_by (λ b. (size_of b).1) (batches input setting p)) ≡ row_count input S
   in_all_s =
-      let g : Place → ℕ = λ place. cond (same_side S place.0) 1 0 in
+      let g : Place → ℕ = λ place. cond (same_side S place.side) 1 0 in
       let a = total_same setting.feeders (λ q. sum_by (λ b. (size_of b).1) (batches input setting q)) (λ q. sum_by g (share setting.feed setting.feeders q (row_count input R) (row_count input S))) (λ q low. of_places g q) in
       let b = shares_sum setting.feed setting.feeders some g (row_count input R) (row_count input S) in
       let r = total-const (row_count input R) 0 in

@@ -21,7 +21,8 @@ use Rattle.load_controller.specs.Journal.{Rules, Follows, start_line, count_epoc
 use Rattle.load_controller.specs.Law.{sent_by, sent_for, is_over}
 use Rattle.load_controller.proofs.Shifts.{stays_or_begins}
 use Rattle.link_trace.specs.Join.{Input, row_count}
-use Rattle.link_trace.specs.Batches.{Place}
+use Rattle.row_tickets.specs.declared.place.Place.{Place}
+use Rattle.row_tickets.specs.Share.{place_at}
 use Rattle.link_trace.specs.Family.{Setting, Family, IsValid, IsAgreeing, HasItsStamp, tuple_of, batches, feeder_start, joiner_start, rules_of, first_line, shift_of, stamp_in}
 use Rattle.link_trace.specs.Stored.{with_stamps, counted_rows, is_stored, HasAllOf, place_of, all_places, rows_held, StoresItsRows}
 use Rattle.link_trace.proofs.Arrivals.{front_of}
@@ -171,9 +172,9 @@ module _ (input : Input) (setting : Setting) (valid : IsValid input setting) (f 
         let all = batches_sum input setting g p valid.batch in
         omega arith) in
         let rows = shares_sum setting.feed setting.feeders valid.some h (row_count input R) (row_count input S) in
-        let places = sum_by-append h (map (λ i. (R, i)) (range_with_len 0 (row_count input R))) (map (λ i. (S, i)) (range_with_len 0 (row_count input S))) in
-        let of_side : (side : Side) (n : ℕ) → sum_by h (map (λ i. (side, i)) (range_with_len 0 n)) ≡ total n (λ i. h (side, i)) = λ side n.
-        sum_of_map h (λ i. (side, i)) (range_with_len 0 n) ∙ range_sum (λ i. h (side, i)) 0 n ∙ total_same n (λ i. h (side, 0 + i)) (λ i. h (side, i)) (λ i low. let same : 0 + i ≡ i = omega arith in ap (λ m. h (side, m)) same) in
+        let places = sum_by-append h (map (place_at R) (range_with_len 0 (row_count input R))) (map (place_at S) (range_with_len 0 (row_count input S))) in
+        let of_side : (side : Side) (n : ℕ) → sum_by h (map (place_at side) (range_with_len 0 n)) ≡ total n (λ i. h (place_at side i)) = λ side n.
+        sum_of_map h (place_at side) (range_with_len 0 n) ∙ range_sum (λ i. h (place_at side i)) 0 n ∙ total_same n (λ i. h (place_at side (0 + i))) (λ i. h (place_at side i)) (λ i low. let same : 0 + i ≡ i = omega arith in ap (λ m. h (place_at side m)) same) in
         let r = of_side R (row_count input R) in
         let s = of_side S (row_count input S) in
         omega arith;

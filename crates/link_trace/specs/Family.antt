@@ -17,7 +17,10 @@ use Rattle.load_controller.specs.Journal.{Rules, start_line, IsLawful, shift_at,
 use Rattle.load_controller.specs.Law.{ControllerLists, ControllerLaw}
 use Rattle.pair_collector.specs.Law.{CollectorLists, pairs_taken, IsComplete}
 use Rattle.link_trace.specs.Join.{Input, tickets_of, ticket_of, row_count, nested_loop, made, held, moved}
-use Rattle.link_trace.specs.Batches.{Feed, Place, share, cut, size_of, stamp_of}
+use Rattle.row_tickets.specs.declared.place.Feed.{Feed}
+use Rattle.row_tickets.specs.declared.place.Place.{Place}
+use Rattle.row_tickets.specs.Share.{share, place_at}
+use Rattle.link_trace.specs.Batches.{cut, size_of, stamp_of}
 
 pub record Setting : Type 0 where
   pub k : ℕ
@@ -45,7 +48,7 @@ cells_of input S index = slice_index_or input.rows_s index []
 -- the tuple of a row, with that stamp
 abbrev pub tuple_of : Input → ℕ → Place → Tuple
 tuple_of input stamp place =
-    record { side = place.0; index = place.1; ticket = ticket_of input place.0 place.1; stamp = stamp; cells = cells_of input place.0 place.1 }
+    record { side = place.side; index = place.index; ticket = ticket_of input place.side place.index; stamp = stamp; cells = cells_of input place.side place.index }
 
 -- feeder p's batches
 abbrev pub batches : Input → Setting → ℕ → List (List Place)
@@ -110,7 +113,7 @@ abbrev pub shift_of : Setting → Family → ℕ → ℕ
 shift_of setting f e = shift_at (first_line setting).shift e f.controller.journal
 
 abbrev pub stamp_in : Input → Setting → Family → Side → ℕ → ℕ
-stamp_in input setting f side index = stamp_of setting.feed setting.feeders setting.batch (row_count input R) (row_count input S) f.controller.journal (side, index)
+stamp_in input setting f side index = stamp_of setting.feed setting.feeders setting.batch (row_count input R) (row_count input S) f.controller.journal (place_at side index)
 
 -- the pair is this one
 abbrev pub is_pair : ℕ → ℕ → Pair → Bool

@@ -1,6 +1,6 @@
 -- What a run is to answer: closed formulas over the input, the tickets and the journal.
-use Rattle.std.specs.Prelude.{◌≡◌, ◌<◌, ◌≤◌, ◌⊎◌, ⊤, [], ◌∷◌, ℕ, ◌-◌, ◌*◌, ◌^◌, ◌==◌, nat_lt, max, Bool, Some, None, slice_index, List, filter_map, length, flat_map, count_by, if◌then◌else◌}
-use Rattle.std.specs.List.{enumerate_from, range_with_len, AllByRecursion}
+use Rattle.std.specs.Prelude.{◌≡◌, ◌<◌, ◌≤◌, ◌⊎◌, ⊤, [], ◌∷◌, ℕ, ◌-◌, ◌*◌, ◌^◌, ◌==◌, nat_lt, max, Bool, slice_index, List, length, count_by}
+use Rattle.std.specs.List.{range_with_len, AllByRecursion}
 use Rattle.join_rows.specs.declared.table.Side.{Side}
 use Rattle.join_rows.specs.declared.table.Side.TheVariants.{R, S}
 use Rattle.join_rows.specs.declared.table.Cell.{Cell}

@@ -8,7 +8,9 @@ use Rattle.load_controller.specs.declared.line.TurnLine.{TurnLine}
 use Rattle.load_controller.specs.Journal.{start_line, shift_at}
 use Rattle.load_controller.specs.Rows.{past_of, growing}
 use Rattle.link_trace.specs.Join.{Input, made, held, moved}
-use Rattle.link_trace.specs.Batches.{RFirst, stamp_of}
+use Rattle.row_tickets.specs.declared.place.Feed.TheVariants.{RFirst}
+use Rattle.row_tickets.specs.Share.{place_at}
+use Rattle.link_trace.specs.Batches.{stamp_of}
 
 abbrev pub journal : List TurnLine
 journal = reverse (past_of growing (start_line growing) [] (
@@ -25,7 +27,7 @@ input = record {
 }
 
 abbrev pub stamp : Side → ℕ → ℕ
-stamp side index = stamp_of RFirst 1 4 8 8 journal (side, index)
+stamp side index = stamp_of RFirst 1 4 8 8 journal (place_at side index)
 
 abbrev pub shift : ℕ → ℕ
 shift e = shift_at 1 e journal

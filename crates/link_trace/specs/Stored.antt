@@ -10,7 +10,8 @@ use Rattle.reshuffler_core.specs.Law.{stamped}
 use Rattle.joiner_law.specs.Law.{Taken, IsSettled, opened, store}
 use Rattle.load_controller.specs.Journal.{count_epochs}
 use Rattle.link_trace.specs.Join.{Input, row_count}
-use Rattle.link_trace.specs.Batches.{Place}
+use Rattle.row_tickets.specs.declared.place.Place.{Place}
+use Rattle.row_tickets.specs.Share.{place_at}
 use Rattle.link_trace.specs.Family.{Setting, Family, IsAgreeing, tuple_of, feeder_start, joiner_start, shift_of, stamp_in}
 
 -- the batches with these stamps, as far as there are both
@@ -32,11 +33,11 @@ abbrev pub HasAllOf : ℕ → Taken → ℕ → Type 0
 HasAllOf feeders t n = (p : ℕ) → p < feeders → (n < turns (t.from_feeder p)) ⊎ (0 < ends (t.from_feeder p))
 
 abbrev pub place_of : Tuple → Place
-place_of t = (t.side, t.index)
+place_of t = place_at t.side t.index
 
 -- every row of the input
 abbrev pub all_places : Input → List Place
-all_places input = map (λ i. (R, i)) (range_with_len 0 (row_count input R)) ++ map (λ i. (S, i)) (range_with_len 0 (row_count input S))
+all_places input = map (place_at R) (range_with_len 0 (row_count input R)) ++ map (place_at S) (range_with_len 0 (row_count input S))
 
 -- the rows of epoch n or older that joiner j holds at the shift of epoch n
 abbrev pub rows_held : Input → Setting → Family → ℕ → ℕ → List Tuple
