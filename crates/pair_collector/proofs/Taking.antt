@@ -1,0 +1,196 @@
+-- What is kept after a message is what is to be kept of the longer list.
+use Rattle.std.proofs.Common.{◌≡◌, ◌<◌, ◌≤◌, ◌↔◌, ◌+◌, ℕ, zero, suc, refl, sym, ◌∙◌, ap, subst, arith, inl, inr, Bool, true, false, cond, IsTrue, List, [], ◌∷◌, ◌++◌, length, append_assoc, Option, Some, None, get_or, set, length-set, get_or-set_other, Result, Ok, Err}
+use Rattle.std.specs.Prelude.{◌==◌, map, flat_map, is_some, slice_get, replicate, OnOk, is_err}
+use Rattle.std.specs.declared.alloc.AllocError.{AllocError}
+use Rattle.std.specs.List.{range_with_len, list_all}
+use Rattle.std.proofs.lemmas.Bool.{cases_Bool, eqb-true, eq-eqb, and_parts, and_from}
+use Rattle.std.proofs.lemmas.List.{append-nil, set-get_or}
+use Rattle.std.proofs.lemmas.Grind.{get_or-set_at, flat_map-append}
+use Rattle.std.proofs.lemmas.Option.{slice_get_within, get_or_from_slice_get, slice_get-get_or}
+use Rattle.std.proofs.lemmas.List.FromFn.{map-range_with_len_more}
+use Rattle.join_rows.specs.Lists.{SameBag, gather}
+use Rattle.join_rows.proofs.Bags.{SameBag-refl}
+use Rattle.epoch_tags.specs.declared.actor.Actor.TheVariants.{Joiner}
+use Rattle.epoch_tags.specs.declared.tuple.Pair.{Pair}
+use Rattle.epoch_tags.specs.declared.message.ToCollector.{ToCollector}
+use Rattle.epoch_tags.specs.declared.message.ToCollector.TheVariants.{Found, Fin}
+use Rattle.epoch_tags.specs.Messages.{found_before_fin, fins}
+use Rattle.pair_collector.specs.declared.part.Last.{Last}
+use Rattle.pair_collector.specs.Kept.{Kept}
+use Rattle.pair_collector.specs.Law.{CollectorLists, pairs_taken, IsComplete}
+use Rattle.pair_collector.specs.Standing.{CollectorState, StandsFor, TakesMessage, IsPassedOver, kept_of, kept_after, last_of, pairs_kept, with_message, is_complete, nothing_yet, nothing_kept}
+
+-- ---- one joiner
+
+-- pairs that came before
+in_front : List Pair → Kept → Kept
+in_front pairs kept = record kept { pairs = pairs ++ kept.pairs }
+
+front-after : (found : List Pair) (kept : Kept) (m : ToCollector) → kept_after (record kept { pairs = found ++ kept.pairs }) m ≡ record (kept_after kept m) { pairs = found ++ (kept_after kept m).pairs }
+front-after found kept (Found pairs) = by_last kept.last
+  where
+    by_last : (last : Option Last) → cond (is_some last) (record { pairs = found ++ kept.pairs; last = last }) (record { pairs = (found ++ kept.pairs) ++ pairs; last = last })
+        ≡ (let after : Kept = cond (is_some last) (record { pairs = kept.pairs; last = last }) (record { pairs = kept.pairs ++ pairs; last = last }) in record after { pairs = found ++ after.pairs })
+    by_last None = ap (λ ps. record { pairs = ps; last = None }) (append_assoc found kept.pairs pairs)
+    by_last (Some last) = refl
+front-after found kept (Fin rows_r rows_s moved) = by_last kept.last
+  where
+    fin : Option Last
+    fin = Some (record { held = record { rows_r = rows_r; rows_s = rows_s }; moved = moved })
+
+    by_last : (last : Option Last) → cond (is_some last) (record { pairs = found ++ kept.pairs; last = last }) (record { pairs = found ++ kept.pairs; last = fin })
+        ≡ (let after : Kept = cond (is_some last) (record { pairs = kept.pairs; last = last }) (record { pairs = kept.pairs; last = fin }) in record after { pairs = found ++ after.pairs })
+    by_last None = refl
+    by_last (Some last) = refl
+
+pub kept-append : (ms : List ToCollector) (m : ToCollector) → kept_of (ms ++ m ∷ []) ≡ kept_after (kept_of ms) m
+kept-append [] (Found pairs) = ap (λ ps. record { pairs = ps; last = None }) (append-nil pairs)
+kept-append [] (Fin rows_r rows_s moved) = refl
+kept-append (Found pairs ∷ ms) m = ap (λ (kept : Kept). record kept { pairs = pairs ++ kept.pairs }) (kept-append ms m) ∙ sym (front-after pairs (kept_of ms) m)
+kept-append (Fin rows_r rows_s moved ∷ ms) (Found pairs) = refl
+kept-append (Fin rows_r rows_s moved ∷ ms) (Fin rows_r' rows_s' moved') = refl
+
+-- a joiner has ended where one of its messages is a `Fin`
+pub ended : (ms : List ToCollector) → is_some (last_of ms) ≡ true → 0 < fins ms
+ended (Found pairs ∷ ms) is = ended ms is
+ended (Fin rows_r rows_s moved ∷ ms) is = omega arith
+ended [] is = absurd (cc)
+
+pub has_last : (ms : List ToCollector) → 0 < fins ms → is_some (last_of ms) ≡ true
+has_last [] some = absurd (omega arith)
+has_last (Found pairs ∷ ms) some = has_last ms some
+has_last (Fin rows_r rows_s moved ∷ ms) some = refl
+
+-- ---- the list of all joiners
+
+pub from_places : {X : Type 0} (f : ℕ → X) (a : ℕ) (xs : List X) → ((j : ℕ) (x : X) → slice_get xs j ≡ Some x → x ≡ f (a + j)) → xs ≡ map f (range_with_len a (length xs))
+from_places f a [] each = refl
+from_places f a (x ∷ xs) each =
+    let here : a + 0 ≡ a = omega arith in
+    let first : x ≡ f a = rw here at (each 0 x refl) in
+    let rest = from_places f (a + 1) xs (λ j y is. let next : a + suc j ≡ a + 1 + j = omega arith in rw next at (each (suc j) y is)) in
+    ap (λ y. y ∷ xs) first ∙ ap (λ ys. f a ∷ ys) rest
+
+pub flat_map-range : {X : Type 0} (g : ℕ → List X) (n : ℕ) → flat_map (λ xs. xs) (map g (range_with_len 0 n)) ≡ gather n g
+flat_map-range g zero = refl
+flat_map-range g (suc n) =
+    let next : suc n ≡ n + 1 = omega arith in
+    ap (λ k. flat_map (λ xs. xs) (map g (range_with_len 0 k))) next
+    ∙ ap (flat_map (λ xs. xs)) (map-range_with_len_more g 0 n n (omega arith))
+    ∙ flat_map-append (λ xs. xs) (map g (range_with_len 0 n)) (g n ∷ [])
+    ∙ ap (λ xs. flat_map (λ ys. ys) (map g (range_with_len 0 n)) ++ xs) (append-nil (g n))
+    ∙ ap (λ xs. xs ++ g n) (flat_map-range g n)
+
+module _ (state : CollectorState) (lists : CollectorLists) where
+  abbrev pub Each : Type 0
+  Each = (j : ℕ) (kept : Kept) → slice_get state.joiners j ≡ Some kept → kept ≡ kept_of (lists.from_joiner j)
+
+  pub as_map : Each → state.joiners ≡ map (λ j. kept_of (lists.from_joiner j)) (range_with_len 0 (length state.joiners))
+  as_map each = from_places (λ j. kept_of (lists.from_joiner j)) 0 state.joiners
+      (λ j kept is. let same : 0 + j ≡ j = omega arith in rw same (each j kept is))
+
+  pub pairs_are : Each → pairs_kept state ≡ pairs_taken (length state.joiners) lists
+  pairs_are each =
+      ap (flat_map (λ kept. kept.pairs)) (as_map each)
+      ∙ flat_map-of_map (λ j. kept_of (lists.from_joiner j)) (range_with_len 0 (length state.joiners))
+      ∙ flat_map-range (λ j. found_before_fin (lists.from_joiner j)) (length state.joiners)
+    where
+      flat_map-of_map : (f : ℕ → Kept) (js : List ℕ) → flat_map (λ kept. kept.pairs) (map f js) ≡ flat_map (λ xs. xs) (map (λ j. (f j).pairs) js)
+      flat_map-of_map f [] = refl
+      flat_map-of_map f (j ∷ js) = ap (λ ps. (f j).pairs ++ ps) (flat_map-of_map f js)
+
+  pub stand : Each → StandsFor state lists
+  stand each = record {
+    each = each;
+    law = record { kept = subst (SameBag (pairs_kept state)) (pairs_are each) (SameBag-refl (pairs_kept state)) };
+  }
+
+-- ---- a message
+
+pub joiner_takes : (old : CollectorState) (spent : Bool) (j : ℕ) (m : ToCollector) (kept : Kept) → j < length old.joiners → kept ≡ get_or old.joiners j kept
+    → TakesMessage old (record { joiners = set old.joiners j (kept_after kept m); spent = spent }) (Joiner j) m
+joiner_takes old spent j m kept low is = record {
+  joiners = length-set old.joiners j (kept_after kept m);
+  stands = λ lists stands.
+      let new : CollectorState = record { joiners = set old.joiners j (kept_after kept m); spent = spent } in
+      stand new (with_message lists (Joiner j) m) (λ i k at.
+      let within : i < length old.joiners = rw (length-set old.joiners j (kept_after kept m)) at (slice_get_within new.joiners i k at) in
+      let value : get_or new.joiners i k ≡ k = get_or_from_slice_get new.joiners i k k at in
+      elim (cases_Bool (i == j)) [
+        | inl found ↦
+            let same : i ≡ j = eqb-true i j found in
+            let here : slice_get old.joiners i ≡ Some kept = ap (slice_get old.joiners) same ∙ slice_get-get_or old.joiners j kept low ∙ ap Some (sym is) in
+            rw found (sym value ∙ get_or-set_at old.joiners j i (kept_after kept m) k same low
+            ∙ ap (λ k'. kept_after k' m) (stands.each i kept here) ∙ sym (kept-append (lists.from_joiner i) m))
+        | inr differs ↦
+            let other : i ≡ j → ⊥ = λ same. let found : (i == j) ≡ true = eq-eqb i j same in cc in
+            let here : slice_get old.joiners i ≡ Some k =
+            slice_get-get_or old.joiners i k within ∙ ap Some (sym (get_or-set_other old.joiners j i (kept_after kept m) k other) ∙ value) in
+            rw differs (stands.each i k here)
+      ]);
+}
+
+-- of none of the joiners
+pub stranger_takes : (old : CollectorState) (j : ℕ) (m : ToCollector) → length old.joiners ≤ j → TakesMessage old old (Joiner j) m
+stranger_takes old j m past = record {
+  joiners = refl;
+  stands = λ lists stands. stand old (with_message lists (Joiner j) m) (λ i k at.
+      let within = slice_get_within old.joiners i k at in
+      elim (cases_Bool (i == j)) [
+        | inl found ↦ let same = eqb-true i j found in absurd (omega arith)
+        | inr differs ↦ rw differs (stands.each i k at)
+      ]);
+}
+
+pub passed_over : (kept : Kept) (m : ToCollector) → is_some kept.last ≡ true → kept_after kept m ≡ kept
+passed_over kept (Found pairs) is = rw is refl
+passed_over kept (Fin rows_r rows_s moved) is = rw is refl
+
+-- ---- the end
+
+pub every : {X : Type 0} (test : X → Bool) (xs : List X) → ((j : ℕ) (x : X) → slice_get xs j ≡ Some x → test x ≡ true) → list_all test xs ≡ true
+every test [] each = refl
+every test (x ∷ xs) each = and_from (test x) (list_all test xs) (each 0 x refl) (every test xs (λ j y at. each (suc j) y at))
+
+pub one_of : {X : Type 0} (test : X → Bool) (xs : List X) → list_all test xs ≡ true → (j : ℕ) (x : X) → slice_get xs j ≡ Some x → test x ≡ true
+one_of test [] all j x at = absurd (cc)
+one_of test (y ∷ ys) all zero x at =
+    let same : y ≡ x = cc in
+    subst (λ z. test z ≡ true) same (and_parts (test y) (list_all test ys) all).0
+one_of test (y ∷ ys) all (suc j) x at = one_of test ys (and_parts (test y) (list_all test ys) all).1 j x at
+
+pub complete_says : (state : CollectorState) (lists : CollectorLists) → StandsFor state lists → IsTrue (is_complete state) ↔ IsComplete (length state.joiners) lists
+complete_says state lists stands = (
+  λ is j low.
+      let kept = get_or state.joiners j nothing_kept in
+      let there : slice_get state.joiners j ≡ Some kept = slice_get-get_or state.joiners j nothing_kept low in
+      let last : is_some kept.last ≡ true = one_of (λ (k : Kept). is_some k.last) state.joiners is j kept there in
+      ended (lists.from_joiner j) (subst (λ (k : Kept). is_some k.last ≡ true) (stands.each j kept there) last),
+  λ each. every (λ (k : Kept). is_some k.last) state.joiners (λ j kept there.
+      let low = slice_get_within state.joiners j kept there in
+      subst (λ (k : Kept). is_some k.last ≡ true) (sym (stands.each j kept there)) (has_last (lists.from_joiner j) (each j low))),
+)
+
+abbrev pub state_of : List Kept → Bool → CollectorState
+state_of xs spent = record { joiners = xs; spent = spent }
+
+-- what comes behind a `Fin` changes nothing
+pub passes_over : (r : Result (Unit {0}) AllocError) (xs : List Kept) (j : ℕ) (m : ToCollector) (kept after : Kept) (spent : Bool) → spent ≡ is_err r → OnOk r (after ≡ kept_after kept m)
+    → j < length xs → kept ≡ get_or xs j kept
+    → OnOk r (IsPassedOver (record { joiners = xs; spent = false }) (Joiner j) → state_of (set xs j after) spent ≡ state_of xs false)
+passes_over (Ok x) xs j m kept after spent none is low at = λ passed.
+    let there : slice_get xs j ≡ Some kept = slice_get-get_or xs j kept low ∙ ap Some (sym at) in
+    let same : after ≡ kept = is ∙ passed_over kept m (passed kept there) in
+    let back : set xs j after ≡ xs = ap (set xs j) (same ∙ at) ∙ set-get_or xs j kept in
+    ap (λ s. state_of (set xs j after) s) none ∙ ap (λ ys. state_of ys false) back
+passes_over (Err e) xs j m kept after spent none is low at = tt
+
+-- ---- the beginning
+
+pub fresh_stands : (n : ℕ) (xs : List Kept) (spent : Bool) → xs ≡ replicate n nothing_kept → StandsFor (record { joiners = xs; spent = spent }) nothing_yet
+fresh_stands n xs spent is = stand (record { joiners = xs; spent = spent }) nothing_yet (λ j kept at. nothing_at n j kept (rw is at at))
+  where
+    nothing_at : (n j : ℕ) (kept : Kept) → slice_get (replicate n nothing_kept) j ≡ Some kept → kept ≡ nothing_kept
+    nothing_at zero j kept at = absurd (cc)
+    nothing_at (suc n) zero kept at = let same : nothing_kept ≡ kept = cc in sym same
+    nothing_at (suc n) (suc j) kept at = nothing_at n j kept at

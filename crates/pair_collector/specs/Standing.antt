@@ -1,0 +1,94 @@
+-- What the collector's machine holds, and the lists for which it stands. It stores none of them.
+use Rattle.std.specs.Prelude.{◌≡◌, ℕ, ◌==◌, Bool, true, ◌++◌, ◌∷◌, [], ⊤, List, Option, Some, None, is_some, length, flat_map, slice_get, slice_index, slice_index_or, if◌then◌else◌}
+use Rattle.std.specs.List.{list_all}
+use Rattle.join_rows.specs.Lists.{greatest, total}
+use Rattle.epoch_tags.specs.declared.actor.Actor.{Actor}
+use Rattle.epoch_tags.specs.declared.actor.Actor.TheVariants.{Feeder, Joiner, Controller, Collector}
+use Rattle.epoch_tags.specs.declared.tuple.Pair.{Pair}
+use Rattle.epoch_tags.specs.declared.message.ToCollector.{ToCollector}
+use Rattle.epoch_tags.specs.declared.message.ToCollector.TheVariants.{Found, Fin}
+use Rattle.epoch_tags.specs.Messages.{found_before_fin}
+use Rattle.pair_collector.specs.declared.collected.Held.{Held}
+use Rattle.pair_collector.specs.declared.part.Last.{Last}
+use Rattle.pair_collector.specs.Kept.{Kept}
+use Rattle.pair_collector.specs.Law.{CollectorLists, CollectorLaw}
+
+-- ---- of one joiner
+
+-- what the first `Fin` carries
+abbrev pub last_of : List ToCollector → Option Last
+last_of [] = None
+last_of (Found pairs ∷ ms) = last_of ms
+last_of (Fin rows_r rows_s moved ∷ ms) = Some (record { held = record { rows_r = rows_r; rows_s = rows_s }; moved = moved })
+
+-- what is to be kept of a joiner's messages
+abbrev pub kept_of : List ToCollector → Kept
+kept_of ms = record { pairs = found_before_fin ms; last = last_of ms }
+
+abbrev pub nothing_kept : Kept
+nothing_kept = record { pairs = []; last = None }
+
+-- and after one message more
+abbrev pub kept_after : Kept → ToCollector → Kept
+kept_after kept (Found pairs) = if is_some kept.last then kept else record kept { pairs = kept.pairs ++ pairs }
+kept_after kept (Fin rows_r rows_s moved) =
+    if is_some kept.last then kept else record kept { last = Some (record { held = record { rows_r = rows_r; rows_s = rows_s }; moved = moved }) }
+
+-- the rows that a joiner holds in the end, and those that it moved in each step
+abbrev pub held_of : Option Last → Held
+held_of None = record { rows_r = 0; rows_s = 0 }
+held_of (Some last) = last.held
+
+abbrev pub moves_of : Option Last → List ℕ
+moves_of None = []
+moves_of (Some last) = last.moved
+
+-- of the joiners at the places below n: how many steps the longest list of moves has, and how many rows moved in a step,
+-- a shorter list counting as 0 past its end
+abbrev pub longest : List Kept → ℕ → ℕ
+longest joiners n = greatest n (λ j. length (moves_of (slice_index_or joiners j nothing_kept).last))
+
+abbrev pub moved_by : List Kept → ℕ → ℕ → ℕ
+moved_by joiners step n = total n (λ j. slice_index (moves_of (slice_index_or joiners j nothing_kept).last) step)
+
+-- ---- of the machine
+
+pub record CollectorState : Type 0 where
+  pub joiners : List Kept
+  pub spent : Bool
+
+-- the pairs of all joiners
+abbrev pub pairs_kept : CollectorState → List Pair
+pairs_kept state = flat_map (λ kept. kept.pairs) state.joiners
+
+-- what is kept is read off the lists, and so the law holds
+pub record StandsFor (state : CollectorState) (lists : CollectorLists) : Type 0 where
+  pub each : (j : ℕ) (kept : Kept) → slice_get state.joiners j ≡ Some kept → kept ≡ kept_of (lists.from_joiner j)
+  pub law : CollectorLaw (length state.joiners) (pairs_kept state) lists
+
+-- a new machine stands for empty lists
+abbrev pub nothing_yet : CollectorLists
+nothing_yet = record { from_joiner = λ j. [] }
+
+-- the lists with this message at the end of its joiner's
+abbrev pub with_message : CollectorLists → Actor → ToCollector → CollectorLists
+with_message lists (Feeder p) m = lists
+with_message lists (Joiner j) m = record { from_joiner = λ i. if i == j then lists.from_joiner i ++ m ∷ [] else lists.from_joiner i }
+with_message lists Controller m = lists
+with_message lists Collector m = lists
+
+-- for whatever lists the machine stood, it stands for them with the message at its end
+pub record TakesMessage (old new : CollectorState) (from : Actor) (m : ToCollector) : Type 0 where
+  pub joiners : length new.joiners ≡ length old.joiners
+  pub stands : (lists : CollectorLists) → StandsFor old lists → StandsFor new (with_message lists from m)
+
+-- a message that doesn't count: its sender is none of the joiners, or has ended
+abbrev pub IsPassedOver : CollectorState → Actor → Type 0
+IsPassedOver state (Feeder p) = ⊤
+IsPassedOver state (Joiner j) = (kept : Kept) → slice_get state.joiners j ≡ Some kept → is_some kept.last ≡ true
+IsPassedOver state Controller = ⊤
+IsPassedOver state Collector = ⊤
+
+-- each joiner has ended
+abbrev pub is_complete : CollectorState → Bool
+is_complete state = list_all (λ kept. is_some kept.last) state.joiners

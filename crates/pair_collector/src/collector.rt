@@ -1,0 +1,107 @@
+// The collector.
+
+ghost use Rattle.std.specs.Prelude.{◌≡◌, ◌↔◌, IsTrue, true, false, ℕ, Err, IfOk, OnOk, OnErr, length, is_some, alloc_error};
+ghost use Rattle.std.specs.List.{list_all};
+ghost use Rattle.pair_collector.specs.Law.{CollectorLists, IsComplete};
+ghost use Rattle.pair_collector.specs.Standing.{StandsFor, TakesMessage, IsPassedOver, is_complete, nothing_yet};
+ghost use Rattle.pair_collector.specs.Answer.{Collects};
+
+use crate::answer::{all_pairs, loads, made, moved};
+use crate::collected::Collected;
+use crate::order::sorted;
+use crate::part::Part;
+use epoch_tags::{Actor, ToCollector};
+use std::alloc::{AllocError, Global};
+use std::marker::Model;
+
+/// Keeps the pairs of so many joiners, numbered from 0, until each of them has ended.
+#[derive(Debug, Drop)]
+pub struct Collector {
+    alloc: Global,
+    parts: Vec<Part>,
+    spent: bool,
+}
+
+impl Model for Collector {
+    ghost use Rattle.pair_collector.specs.Standing.{CollectorState};
+
+    ghost Value = { CollectorState };
+
+    ghost view = { λ c. record { joiners = c.parts.items; spent = c.spent } };
+}
+
+// Whether each joiner has ended.
+fn all_ended(parts: &[Part]) -> bool
+    ensures { result ≡ list_all (λ kept. is_some kept.last) parts.now }
+{
+    parts.iter().all(|part| part.ended())
+}
+
+impl Collector {
+    /// A collector of so many joiners, none of which has sent anything.
+    pub fn start(alloc: Global, joiners: u32) -> Result<Collector, AllocError>
+        ensures joiners { IfOk result (λ c. length c.joiners ≡ joiners) }
+        ensures fresh { IfOk result (λ c. c.spent ≡ false) }
+        ensures stands { IfOk result (λ c. StandsFor c nothing_yet) }
+    {
+        let mut parts = Vec::with_capacity(alloc, joiners as usize)?;
+        for _ in 0..joiners {
+            parts.push(Part::new(alloc))?;
+        }
+        Ok(Collector {
+            alloc,
+            parts,
+            spent: false,
+        })
+    }
+
+    /// Takes a message. `Found` counts until its joiner's first `Fin`; every other message is passed
+    /// over. After `AllocError` the collector is spent, and every later call of this answers the same.
+    pub fn on(&mut self, from: Actor, m: ToCollector) -> Result<(), AllocError>
+        ensures took { OnOk result (TakesMessage self.old self.new from m) }
+        ensures passed { OnOk result (IsPassedOver self.old from → self.new ≡ self.old) }
+        ensures err { OnErr result (self.new ≡ record self.old { spent = true }) }
+        ensures spent { self.old.spent ≡ true → result ≡ Err alloc_error }
+    {
+        if self.spent {
+            return Err(AllocError);
+        }
+        let Actor::Joiner(joiner) = from else {
+            return Ok(());
+        };
+        if joiner as usize >= self.parts.len() {
+            return Ok(());
+        }
+        let taken = self.parts[joiner as usize].take(m);
+        self.spent = taken.is_err();
+        taken
+    }
+
+    /// Whether each joiner has ended. It takes no memory.
+    pub fn complete(&self) -> bool
+        ensures value { result ≡ is_complete self.now }
+        ensures stands { (lists : CollectorLists) → StandsFor self.now lists
+            → IsTrue result ↔ IsComplete (length self.now.joiners) lists }
+    {
+        all_ended(&self.parts)
+    }
+
+    /// The answer of all that was taken. After `AllocError` the collector is gone.
+    pub fn finish(self) -> Result<Collected, AllocError>
+        requires { is_complete self ≡ true }
+        ensures { IfOk result (λ collected. (lists : CollectorLists) → StandsFor self lists
+            → Collects (length self.joiners) lists collected) }
+    {
+        let alloc = self.alloc;
+        let made = made(alloc, &self.parts)?;
+        let loads = loads(alloc, &self.parts)?;
+        let moved = moved(alloc, &self.parts)?;
+        let pairs = all_pairs(alloc, self.parts)?;
+        Ok(Collected {
+            pairs: sorted(pairs),
+            made,
+            loads,
+            moved,
+        })
+    }
+}
