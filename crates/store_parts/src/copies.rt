@@ -4,24 +4,11 @@ ghost use Rattle.std.specs.Prelude.{◌≡◌, ◌<◌, ◌≤◌, ◌^◌, filt
 ghost use Rattle.migration_plan.specs.Steps.{holds};
 
 use epoch_tags::{Tuple, Tuples};
-use grid_map::{Shape, holds_r, holds_s};
-use join_rows::Side;
+use grid_map::Shape;
+use migration_plan::kept;
 use std::alloc::{AllocError, Global};
 
-// Whether the joiner holds the tuple in a grid of this shape.
-fn is_kept(shape: Shape, id: u32, tuple: &Tuple) -> bool
-    requires shift { shape.shift ≤ shape.k }
-    requires k { shape.k ≤ 8 }
-    requires id { id < 2 ^ shape.k }
-    ensures { result ≡ holds shape.k shape.shift id tuple.now }
-{
-    match tuple.side {
-        Side::R => holds_r(shape, id, tuple.ticket),
-        Side::S => holds_s(shape, id, tuple.ticket),
-    }
-}
-
-// Copies of those that it holds, in their order.
+// Copies of those that the joiner holds in a grid of this shape, in their order.
 pub(crate) fn kept_copies(
     alloc: Global,
     tuples: &[Tuple],
@@ -31,13 +18,13 @@ pub(crate) fn kept_copies(
     requires shift { shape.shift ≤ shape.k }
     requires k { shape.k ≤ 8 }
     requires id { id < 2 ^ shape.k }
-    ensures { IfOk result (λ kept. kept ≡ filter (holds shape.k shape.shift id) tuples.now) }
+    ensures { IfOk result (λ copies. copies ≡ filter (holds shape.k shape.shift id) tuples.now) }
 {
-    let mut kept = Tuples::new(alloc);
+    let mut copies = Tuples::new(alloc);
     for tuple in tuples {
-        if is_kept(shape, id, tuple) {
-            kept.push(tuple.copy()?)?;
+        if kept(shape, id, tuple) {
+            copies.push(tuple.copy()?)?;
         }
     }
-    Ok(kept)
+    Ok(copies)
 }

@@ -3,4 +3,4 @@ use Rattle.migration_plan.specs.Steps.{holds}
 use Rattle.store_parts.proofs.copies.kept_copies.Given as goal
 
 abbrev pub invariant-loop-tuple : goal.invariant-loop-tuple
-invariant-loop-tuple l = l.kept ≡ filter (holds l.shape.k l.shape.shift l.id) (take l.tuple-index l.tuples)
+invariant-loop-tuple l = l.copies ≡ filter (holds l.shape.k l.shape.shift l.id) (take l.tuple-index l.tuples)
