@@ -13,8 +13,8 @@ use epoch_tags::{Pairs, Tuple, Tuples};
 use grid_map::Shape;
 use join_rows::Side;
 use std::alloc::{AllocError, Global};
-use std::marker::Model;
-use std::sync::ledger::Ledger;
+use std::marker::{Brand, Model};
+use std::sync::ledger::{Blank, Ledger};
 use theta_pred::Theta;
 
 /// The tuples of both sides that a joiner holds, those of a side in the order of adding.
@@ -34,6 +34,29 @@ impl Model for Store {
     ghost view = { λ store. record { key = store.key; r = store.r; s = store.s } };
 
     ghost invariant = { λ store. AreSided store.r store.s };
+}
+
+// A probe that counts from this blank on.
+fn probe_from<L: Ledger>(
+    store: &Store,
+    tuple: &Tuple,
+    theta: &Theta,
+    which: Which,
+    found: &mut Pairs,
+    blank: Blank,
+) -> Result<(), AllocError>
+    requires width { HasWidth theta.now tuple.now.side tuple.now }
+    requires widths { HaveWidths theta.now store.now }
+    requires name { blank.name ≡ L.name }
+    requires parts { blank.parts ≡ L.parts }
+    requires some { 0 < blank.parts }
+    ensures ok { let others = others_of store.now tuple.now in
+        OnOk result (found.new ≡ found.old ++ matches theta.now tuple.now which others) }
+    ensures err { let others = others_of store.now tuple.now in
+        OnErr result (AppendsFront found.old found.new (matches theta.now tuple.now which others)) }
+{
+    let mut steps = Steps::<L>::new(blank);
+    store.probe(tuple, theta, which, found, &mut steps)
 }
 
 impl Store {
@@ -96,6 +119,24 @@ impl Store {
             Side::R => scan(tuple, self.s.as_slice(), theta, which, found, steps),
             Side::S => scan(tuple, self.r.as_slice(), theta, which, found, steps),
         }
+    }
+
+    /// The same, where nobody counts.
+    pub fn probe_uncounted(
+        &self,
+        tuple: &Tuple,
+        theta: &Theta,
+        which: Which,
+        found: &mut Pairs,
+    ) -> Result<(), AllocError>
+        requires width { HasWidth theta.now tuple.now.side tuple.now }
+        requires widths { HaveWidths theta.now self.now }
+        ensures ok { let others = others_of self.now tuple.now in
+            OnOk result (found.new ≡ found.old ++ matches theta.now tuple.now which others) }
+        ensures err { let others = others_of self.now tuple.now in
+            OnErr result (AppendsFront found.old found.new (matches theta.now tuple.now which others)) }
+    {
+        probe_from::<Brand>(self, tuple, theta, which, found, Blank::new(1))
     }
 
     /// A store with the same key, and copies of the tuples that the joiner holds in a grid of this shape.
