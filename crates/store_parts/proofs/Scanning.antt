@@ -1,0 +1,39 @@
+-- One more stored tuple.
+use Rattle.std.proofs.Common.{◌≡◌, ℕ, ◌+◌, ◌<◌, Bool, cond, List, [], ◌∷◌, ◌++◌, length, take, drop, sym, ap, ◌∙◌, get_or, filter, map, count_by}
+use Rattle.std.proofs.lemmas.List.{take_more, take-append-drop, map-append}
+use Rattle.std.proofs.lemmas.List.Elements.{filter-append}
+use Rattle.std.proofs.lemmas.List.Sums.{sum_by-append}
+use Rattle.epoch_tags.specs.declared.tuple.Tuple.{Tuple}
+use Rattle.epoch_tags.specs.declared.tuple.Pair.{Pair}
+use Rattle.theta_pred.specs.Formula.{Meaning}
+use Rattle.store_parts.specs.declared.which.Which.{Which}
+use Rattle.store_parts.specs.Matches.{matches, is_found, pair_of, AppendsFront}
+
+pub take_one : {X : Type 0} (xs : List X) (i : ℕ) (x : X) → i < length xs → x ≡ get_or xs i x → take (i + 1) xs ≡ take i xs ++ x ∷ []
+take_one xs i x low is = take_more xs i x low ∙ ap (λ y. take i xs ++ y ∷ []) (sym is)
+
+pub matches-append : (theta : Meaning) (t : Tuple) (which : Which) (xs ys : List Tuple) → matches theta t which (xs ++ ys) ≡ matches theta t which xs ++ matches theta t which ys
+matches-append theta t which xs ys =
+    ap (map (pair_of t)) (filter-append (is_found theta t which) xs ys)
+    ∙ map-append (pair_of t) (filter (is_found theta t which) xs) (filter (is_found theta t which) ys)
+
+pub matches-take_more : (theta : Meaning) (t : Tuple) (which : Which) (xs : List Tuple) (i : ℕ) (x : Tuple) → i < length xs → x ≡ get_or xs i x
+    → matches theta t which (take (i + 1) xs) ≡ matches theta t which (take i xs) ++ matches theta t which (x ∷ [])
+matches-take_more theta t which xs i x low is = ap (matches theta t which) (take_one xs i x low is) ∙ matches-append theta t which (take i xs) (x ∷ [])
+
+pub count_by-take_more : {X : Type 0} (p : X → Bool) (xs : List X) (i : ℕ) (x : X) → i < length xs → x ≡ get_or xs i x → count_by p (take (i + 1) xs) ≡ count_by p (take i xs) + count_by p (x ∷ [])
+count_by-take_more p xs i x low is = ap (count_by p) (take_one xs i x low is) ∙ sum_by-append (λ y. cond (p y) 1 0) (take i xs) (x ∷ [])
+
+pub filter-take_more : {X : Type 0} (p : X → Bool) (xs : List X) (i : ℕ) (x : X) → i < length xs → x ≡ get_or xs i x → filter p (take (i + 1) xs) ≡ filter p (take i xs) ++ filter p (x ∷ [])
+filter-take_more p xs i x low is = ap (filter p) (take_one xs i x low is) ∙ filter-append p (take i xs) (x ∷ [])
+
+-- what the first tuples gave is a front of what all give
+pub front_of_matches : (theta : Meaning) (t : Tuple) (which : Which) (xs : List Tuple) (i : ℕ) (old new : List Pair) → new ≡ old ++ matches theta t which (take i xs) → AppendsFront old new (matches theta t which xs)
+front_of_matches theta t which xs i old new is = record {
+  front = matches theta t which (take i xs);
+  appended = is;
+  prefix = record {
+    rest = matches theta t which (drop i xs);
+    joins = sym (matches-append theta t which (take i xs) (drop i xs)) ∙ ap (matches theta t which) (take-append-drop i xs);
+  };
+}

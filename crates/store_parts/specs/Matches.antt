@@ -1,0 +1,64 @@
+-- What a probe finds, and how many tuples it evaluates.
+use Rattle.std.specs.Prelude.{◌≡◌, ℕ, ◌==◌, Bool, true, ◌&&◌, Option, List, ◌++◌, map, filter, count_by}
+use Rattle.join_rows.specs.declared.table.Side.{Side}
+use Rattle.join_rows.specs.declared.table.Side.TheVariants.{R, S}
+use Rattle.join_rows.specs.Lists.{IsPrefix}
+use Rattle.epoch_tags.specs.declared.tuple.Tuple.{Tuple}
+use Rattle.epoch_tags.specs.declared.tuple.Pair.{Pair}
+use Rattle.theta_pred.specs.Formula.{Meaning}
+use Rattle.theta_pred.specs.Truth.{holds, IsRowOf}
+use Rattle.store_parts.specs.declared.key.KeyAtom.{KeyAtom}
+use Rattle.store_parts.specs.declared.which.Which.{Which}
+use Rattle.store_parts.specs.declared.which.Which.TheVariants.{All, OnlyStamp}
+
+abbrev pub other_side : Side → Side
+other_side R = S
+other_side S = R
+
+-- the tuple has a cell for each column of this side
+abbrev pub HasWidth : Meaning → Side → Tuple → Type 0
+HasWidth theta side t = IsRowOf theta side t.cells
+
+-- whether the probe looks at the stored tuple
+abbrev pub is_named : Which → Tuple → Bool
+is_named All other = true
+is_named (OnlyStamp stamp) other = other.stamp == stamp
+
+abbrev pub does_match_at : Side → Meaning → Tuple → Tuple → Bool
+does_match_at R theta t other = holds theta t.cells other.cells
+does_match_at S theta t other = holds theta other.cells t.cells
+
+-- whether the predicate is true of two tuples of different sides
+abbrev pub does_match : Meaning → Tuple → Tuple → Bool
+does_match theta t other = does_match_at t.side theta t other
+
+abbrev pub pair_at : Side → Tuple → Tuple → Pair
+pair_at R t other = record { i = t.index; j = other.index }
+pair_at S t other = record { i = other.index; j = t.index }
+
+-- the pair that the two make, R first
+abbrev pub pair_of : Tuple → Tuple → Pair
+pair_of t other = pair_at t.side t other
+
+-- whether a probe finds the stored tuple
+abbrev pub is_found : Meaning → Tuple → Which → Tuple → Bool
+is_found theta t which other = does_match theta t other && is_named which other
+
+-- the pairs of a tuple with those of the others that match and are named, in their order
+abbrev pub matches : Meaning → Tuple → Which → List Tuple → List Pair
+matches theta t which others = map (pair_of t) (filter (is_found theta t which) others)
+
+-- whether a store with this key evaluates the predicate for a stored tuple: it searches by no key yet, and so for
+-- each that is named
+abbrev pub is_evaluated : Option KeyAtom → Tuple → Which → Tuple → Bool
+is_evaluated key t which other = is_named which other
+
+-- how many of the others a probe evaluates
+abbrev pub evaluated : Option KeyAtom → Tuple → Which → List Tuple → ℕ
+evaluated key t which others = count_by (is_evaluated key t which) others
+
+-- a front of the whole was appended
+pub record AppendsFront {X : Type 0} (old new whole : List X) : Type 0 where
+  pub front : List X
+  pub appended : new ≡ old ++ front
+  pub prefix : IsPrefix front whole

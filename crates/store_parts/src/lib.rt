@@ -1,0 +1,17 @@
+//! The tuples that a joiner holds, and the pairs that a tuple makes with them.
+#![tactic(auto)]
+
+mod copies;
+mod key;
+mod probe;
+mod steps;
+mod store;
+mod which;
+
+pub use key::KeyAtom;
+pub use steps::Steps;
+pub use store::Store;
+pub use which::Which;
+
+#[cfg(test)]
+mod tests;

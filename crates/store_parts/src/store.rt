@@ -1,0 +1,156 @@
+// The store.
+
+ghost use Rattle.std.specs.Prelude.{◌≡◌, ◌+◌, ◌<◌, ◌≤◌, ◌^◌, [], ◌++◌, All, IfOk, OnOk, OnErr};
+ghost use Rattle.store_parts.specs.Matches.{evaluated, matches, AppendsFront, HasWidth};
+ghost use Rattle.store_parts.specs.Stored.{kept_of, others_of, side_of, with_tuple, HaveWidths};
+
+use crate::copies::kept_copies;
+use crate::key::KeyAtom;
+use crate::probe::scan;
+use crate::steps::Steps;
+use crate::which::Which;
+use epoch_tags::{Pairs, Tuple, Tuples};
+use grid_map::Shape;
+use join_rows::Side;
+use std::alloc::{AllocError, Global};
+use std::marker::{Brand, Model};
+use std::sync::ledger::{Blank, Ledger};
+use theta_pred::Theta;
+
+/// The tuples of both sides that a joiner holds, those of a side in the order of adding.
+#[derive(Drop)]
+pub struct Store {
+    key: Option<KeyAtom>,
+    r: Tuples,
+    s: Tuples,
+    alloc: Global,
+}
+
+impl Model for Store {
+    ghost use Rattle.store_parts.specs.Stored.{Stored, AreSided};
+
+    ghost Value = { Stored };
+
+    ghost view = { λ store. record { key = store.key; r = store.r; s = store.s } };
+
+    ghost invariant = { λ store. AreSided store.r store.s };
+}
+
+// A probe that counts from this blank on.
+fn probe_from<L: Ledger>(
+    store: &Store,
+    tuple: &Tuple,
+    theta: &Theta,
+    which: Which,
+    found: &mut Pairs,
+    blank: Blank,
+) -> Result<(), AllocError>
+    requires width { HasWidth theta.now tuple.now.side tuple.now }
+    requires widths { HaveWidths theta.now store.now }
+    requires name { blank.name ≡ L.name }
+    requires parts { blank.parts ≡ L.parts }
+    requires some { 0 < blank.parts }
+    ensures ok { let others = others_of store.now tuple.now in
+        OnOk result (found.new ≡ found.old ++ matches theta.now tuple.now which others) }
+    ensures err { let others = others_of store.now tuple.now in
+        OnErr result (AppendsFront found.old found.new (matches theta.now tuple.now which others)) }
+{
+    let mut steps = Steps::<L>::new(blank);
+    store.probe(tuple, theta, which, found, &mut steps)
+}
+
+impl Store {
+    /// A store with no tuples. It takes no memory.
+    pub fn new(alloc: Global, key: Option<KeyAtom>) -> Store
+        ensures { result ≡ record { key = key; r = []; s = [] } }
+    {
+        Store {
+            key,
+            r: Tuples::new(alloc),
+            s: Tuples::new(alloc),
+            alloc,
+        }
+    }
+
+    /// Adds a tuple to those of its side, as the last. It is dropped where memory is wanting.
+    pub fn add(&mut self, tuple: Tuple) -> Result<(), AllocError>
+        ensures ok { OnOk result (self.new ≡ with_tuple self.old tuple) }
+        ensures err { OnErr result (self.new ≡ self.old) }
+    {
+        match tuple.side {
+            Side::R => self.r.push(tuple)?,
+            Side::S => self.s.push(tuple)?,
+        }
+        Ok(())
+    }
+
+    /// The tuples of a side.
+    pub fn side(&self, side: Side) -> &Tuples
+        ensures tuples { result.now ≡ side_of self.now side }
+        ensures own { All (λ tuple. tuple.side ≡ side) result.now }
+    {
+        match side {
+            Side::R => &self.r,
+            Side::S => &self.s,
+        }
+    }
+
+    /// Appends the pairs of a tuple with the stored ones of the other side that `which` names and the predicate is
+    /// true of, in stored order. A step is one evaluation of the predicate; nothing is said of their number after
+    /// want of memory.
+    pub fn probe<L: Ledger>(
+        &self,
+        tuple: &Tuple,
+        theta: &Theta,
+        which: Which,
+        found: &mut Pairs,
+        steps: &mut Steps<L>,
+    ) -> Result<(), AllocError>
+        requires width { HasWidth theta.now tuple.now.side tuple.now }
+        requires widths { HaveWidths theta.now self.now }
+        ensures ok { let others = others_of self.now tuple.now in
+            OnOk result (found.new ≡ found.old ++ matches theta.now tuple.now which others) }
+        ensures err { let others = others_of self.now tuple.now in
+            OnErr result (AppendsFront found.old found.new (matches theta.now tuple.now which others)) }
+        ensures steps { let others = others_of self.now tuple.now in
+            OnOk result (steps.new ≡ steps.old + evaluated self.now.key tuple.now which others) }
+    {
+        match tuple.side {
+            Side::R => scan(tuple, self.s.as_slice(), theta, which, found, steps),
+            Side::S => scan(tuple, self.r.as_slice(), theta, which, found, steps),
+        }
+    }
+
+    /// The same, where nobody counts.
+    pub fn probe_uncounted(
+        &self,
+        tuple: &Tuple,
+        theta: &Theta,
+        which: Which,
+        found: &mut Pairs,
+    ) -> Result<(), AllocError>
+        requires width { HasWidth theta.now tuple.now.side tuple.now }
+        requires widths { HaveWidths theta.now self.now }
+        ensures ok { let others = others_of self.now tuple.now in
+            OnOk result (found.new ≡ found.old ++ matches theta.now tuple.now which others) }
+        ensures err { let others = others_of self.now tuple.now in
+            OnErr result (AppendsFront found.old found.new (matches theta.now tuple.now which others)) }
+    {
+        probe_from::<Brand>(self, tuple, theta, which, found, Blank::new(1))
+    }
+
+    /// A store with the same key, and copies of the tuples that the joiner holds in a grid of this shape.
+    pub fn kept_copy(&self, shape: Shape, id: u32) -> Result<Store, AllocError>
+        requires shift { shape.shift ≤ shape.k }
+        requires k { shape.k ≤ 8 }
+        requires id { id < 2 ^ shape.k }
+        ensures { IfOk result (λ kept. kept ≡ kept_of shape id self.now) }
+    {
+        Ok(Store {
+            key: self.key,
+            r: kept_copies(self.alloc, self.r.as_slice(), shape, id)?,
+            s: kept_copies(self.alloc, self.s.as_slice(), shape, id)?,
+            alloc: self.alloc,
+        })
+    }
+}
