@@ -1,1 +1,2 @@
+pub mod NumericPlaces
 pub mod SumSteps

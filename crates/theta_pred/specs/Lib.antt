@@ -1,5 +1,6 @@
 pub mod Formula
 pub mod FormulaCode
+pub mod Numeric
 pub mod Sizes
 pub mod Sound
 pub mod Sums

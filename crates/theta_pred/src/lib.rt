@@ -1,6 +1,8 @@
 //! Predicates over the rows of two tables: names become places, and the truth is computed.
 #![tactic(auto)]
 
+mod copies;
+mod numeric;
 mod sums;
 mod theta;
 mod tree;

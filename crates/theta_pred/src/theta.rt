@@ -1,16 +1,24 @@
 // A predicate over the places of columns.
 
-ghost use Rattle.std.specs.Prelude.{◌≡◌};
-ghost use Rattle.theta_pred.specs.Truth.{holds, IsRowOf};
+ghost use Rattle.std.specs.Prelude.{◌≡◌, ◌<◌, IfOk};
+ghost use Rattle.theta_pred.specs.Formula.{formula_of};
+ghost use Rattle.theta_pred.specs.Numeric.{AreNumeric};
+ghost use Rattle.theta_pred.specs.Sound.{IsSound};
+ghost use Rattle.theta_pred.specs.Truth.{holds, width_of, IsRowOf, first_texts_are_equal};
 
-use crate::tree::{Columns, Tree};
+use crate::copies::copy_of;
+use crate::numeric::numeric_places;
+use crate::tree::{Column, Columns, Text, Tree};
 use crate::truth::is_true;
 use join_rows::{Cells, Side};
+use std::alloc::{AllocError, Global};
 use std::marker::Model;
+use theta_text::Op;
 
 /// A predicate over the rows of two tables.
 #[derive(Drop)]
 pub struct Theta {
+    alloc: Global,
     tree: Tree,
     width_r: u64,
     width_s: u64,
@@ -22,7 +30,7 @@ impl Model for Theta {
     ghost use Rattle.std.specs.Coded.{codes};
     ghost use Rattle.theta_pred.specs.Formula.{Meaning, formula_of};
     ghost use Rattle.theta_pred.specs.FormulaCode.{formula_code};
-    ghost use Rattle.theta_pred.specs.Sound.{IsSound};
+    ghost use Rattle.theta_pred.specs.Numeric.{IsWhole};
 
     ghost Value = { Meaning };
 
@@ -34,10 +42,57 @@ impl Model for Theta {
       width_s = theta.width_s;
     } };
 
-    ghost invariant = { λ theta. IsSound theta.width_r theta.width_s (formula_of theta.tree) };
+    ghost invariant = { λ theta. IsWhole (formula_of theta.tree) theta.width_r theta.width_s
+        theta.numeric_r theta.numeric_s };
 }
 
 impl Theta {
+    // The predicate of a tree over headers of these widths.
+    pub(crate) fn over(
+        alloc: Global,
+        tree: Tree,
+        width_r: u64,
+        width_s: u64,
+    ) -> Result<Theta, AllocError>
+        requires { IsSound width_r width_s (formula_of tree) }
+        ensures { IfOk result (λ theta.
+            theta ≡ record { formula = formula_of tree; width_r = width_r; width_s = width_s }) }
+    {
+        let numeric_r = numeric_places(alloc, &tree, Side::R, width_r, width_s)?;
+        let numeric_s = numeric_places(alloc, &tree, Side::S, width_r, width_s)?;
+        Ok(Theta {
+            alloc,
+            tree,
+            width_r,
+            width_s,
+            numeric_r,
+            numeric_s,
+        })
+    }
+
+    /// The test that the texts of the two first columns are equal.
+    pub fn first_texts(alloc: Global, width_r: u64, width_s: u64) -> Result<Theta, AllocError>
+        requires width_r { 0 < width_r }
+        requires width_s { 0 < width_s }
+        ensures { IfOk result (λ theta.
+            theta ≡ record { formula = first_texts_are_equal; width_r = width_r; width_s = width_s }) }
+    {
+        let tree = Tree::Txt {
+            left: first_text(Side::R),
+            op: Op::Eq,
+            right: first_text(Side::S),
+        };
+        Theta::over(alloc, tree, width_r, width_s)
+    }
+
+    /// An equal predicate.
+    pub fn copy(&self) -> Result<Theta, AllocError>
+        ensures { IfOk result (λ theta. theta ≡ self.now) }
+    {
+        let tree = copy_of(self.alloc, &self.tree)?;
+        Theta::over(self.alloc, tree, self.width_r, self.width_s)
+    }
+
     /// How many columns a row of R has.
     pub fn width_r(&self) -> u64
         ensures { result ≡ self.now.width_r }
@@ -52,6 +107,17 @@ impl Theta {
         self.width_s
     }
 
+    /// The places of the side's columns that stand in a sum, that of a test on an absolute value
+    /// included, counted from 0. It takes no memory.
+    pub fn numeric(&self, side: Side) -> &Columns
+        ensures { AreNumeric self.now.formula side (width_of self.now side) result.now }
+    {
+        match side {
+            Side::R => &self.numeric_r,
+            Side::S => &self.numeric_s,
+        }
+    }
+
     /// Whether the predicate is true of a row of R and a row of S. It takes no memory.
     pub fn holds(&self, r: &Cells, s: &Cells) -> bool
         requires row_r { IsRowOf self.now Side.R r.now }
@@ -60,4 +126,10 @@ impl Theta {
     {
         is_true(&self.tree, r, s)
     }
+}
+
+fn first_text(side: Side) -> Text
+    ensures { result ≡ Text.Cell (record { side = side; place = 0 }) }
+{
+    Text::Cell(Column { side, place: 0 })
 }
