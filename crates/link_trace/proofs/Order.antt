@@ -12,7 +12,8 @@ use Rattle.epoch_tags.specs.declared.message.ToCollector.{ToCollector}
 use Rattle.epoch_tags.specs.declared.message.ToCollector.TheVariants.{Found, Fin}
 use Rattle.epoch_tags.specs.Messages.{found_before_fin}
 use Rattle.pair_collector.specs.Law.{pairs_taken}
-use Rattle.link_trace.specs.Join.{Input, nested_loop, IsBefore, InOrder}
+use Rattle.pair_collector.specs.Order.{IsBefore, InOrder}
+use Rattle.link_trace.specs.Join.{Input, nested_loop}
 use Rattle.link_trace.specs.Family.{Setting, Family, IsValid, IsAgreeing, is_pair}
 use Rattle.link_trace.proofs.Loop.{loop_pair}
 use Rattle.link_trace.proofs.Sent.{nothing_wrong}

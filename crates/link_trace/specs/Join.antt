@@ -1,6 +1,6 @@
 -- What a run is to answer: closed formulas over the input, the tickets and the journal.
-use Rattle.std.specs.Prelude.{◌≡◌, ◌<◌, ◌≤◌, ◌⊎◌, ⊤, [], ◌∷◌, ℕ, ◌-◌, ◌*◌, ◌^◌, ◌==◌, nat_lt, max, Bool, slice_index, List, length, count_by}
-use Rattle.std.specs.List.{range_with_len, AllByRecursion}
+use Rattle.std.specs.Prelude.{ℕ, ◌-◌, ◌*◌, ◌^◌, ◌==◌, nat_lt, max, Bool, slice_index, List, length, count_by}
+use Rattle.std.specs.List.{range_with_len}
 use Rattle.join_rows.specs.declared.table.Side.{Side}
 use Rattle.join_rows.specs.declared.table.Side.TheVariants.{R, S}
 use Rattle.join_rows.specs.declared.table.Cell.{Cell}
@@ -20,14 +20,6 @@ pub record Input : Type 0 where
 -- the nested loop's matching pairs
 abbrev pub nested_loop : Input → List Pair
 nested_loop input = loop.nested_loop input.matches input.rows_r input.rows_s
-
--- one pair comes before another: by the first number, and then by the second
-abbrev pub IsBefore : Pair → Pair → Type 0
-IsBefore p q = (p.i < q.i) ⊎ ((p.i ≡ q.i) × (p.j ≤ q.j))
-
-abbrev pub InOrder : List Pair → Type 0
-InOrder [] = ⊤
-InOrder (p ∷ ps) = AllByRecursion (IsBefore p) ps × InOrder ps
 
 abbrev pub tickets_of : Input → Side → List ℕ
 tickets_of input R = input.tickets_r

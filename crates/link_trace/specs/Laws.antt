@@ -6,7 +6,8 @@ use Rattle.epoch_tags.specs.declared.tuple.Pair.{Pair}
 use Rattle.load_controller.specs.declared.line.TurnLine.{TurnLine}
 use Rattle.load_controller.specs.Journal.{IsLawfulSoFar, last_epoch, due_lines}
 use Rattle.pair_collector.specs.Law.{pairs_taken}
-use Rattle.link_trace.specs.Join.{Input, row_count, nested_loop, InOrder}
+use Rattle.pair_collector.specs.Order.{InOrder}
+use Rattle.link_trace.specs.Join.{Input, row_count, nested_loop}
 use Rattle.link_trace.specs.Batches.{size_of}
 use Rattle.link_trace.specs.Stored.{StoresItsRows}
 use Rattle.link_trace.specs.Family.{Setting, Family, IsValid, IsAgreeing, IsQuiet, IsFinished, NothingWrongIsSent, AnswersTheJoin, batches, rules_of, events}
