@@ -1,0 +1,12 @@
+pub mod Quotes
+pub mod Fronts
+pub mod Spellings
+pub mod Places
+pub mod Numbers
+pub mod MachineLaws
+pub mod Runs
+pub mod Stops
+pub mod Limited
+pub mod Unique
+pub mod Turns
+pub mod Whole

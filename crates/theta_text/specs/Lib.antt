@@ -1,0 +1,9 @@
+pub mod Tokens
+pub mod Grammar
+pub mod Faults
+pub mod Texts
+pub mod Kinds
+pub mod Front
+pub mod Machine
+pub mod Views
+pub mod Starts

@@ -1,0 +1,12 @@
+use Rattle.std.proofs.Common.{◌-◌, ◌≤◌, length}
+use Rattle.theta_text.proofs.Places.{StandsTo}
+use Rattle.theta_text.proofs.lexer.lex.Given as goal
+
+abbrev pub invariant-loop-at : goal.invariant-loop-at
+invariant-loop-at l = record {
+  stands : StandsTo l.text l.found.items l.at;
+  within : l.at ≤ length l.text;
+}
+
+abbrev pub decreases-loop-at : goal.decreases-loop-at
+decreases-loop-at l = length l.text - l.at
