@@ -12,7 +12,7 @@ use Rattle.load_controller.specs.declared.line.TurnLine.{TurnLine}
 use Rattle.load_controller.specs.Journal.{Rules, Follows, line_after, start_line, has_doubled, counted_r, counted_s, is_open, is_due, due_lines}
 
 -- how many steps lie between two shifts
-abbrev gap : ℕ → ℕ → ℕ
+abbrev pub gap : ℕ → ℕ → ℕ
 gap a b = (a - b) + (b - a)
 
 -- ---- the best shift is a shift
@@ -29,7 +29,7 @@ best_within k b x y within =
 
 -- ---- a step spends what a decision gave
 
-next_nearer : (shift goal : ℕ) → (shift ≡ goal → ⊥) → gap (next_step shift goal) goal + 1 ≡ gap shift goal
+pub next_nearer : (shift goal : ℕ) → (shift ≡ goal → ⊥) → gap (next_step shift goal) goal + 1 ≡ gap shift goal
 next_nearer shift goal differ = elim (cases_lt shift goal) [
   | inl up ↦ rw (lt-ltb shift goal up) (omega arith)
   | inr down ↦ rw (le-ltb shift goal down) (omega arith)

@@ -42,13 +42,13 @@ best_fewest k b x y within = record {
 -- ---- what holds of each line
 
 -- the goal was best at the bases, and a line that isn't moving has reached it, with no decision due
-record Sound (k rows_r rows_s base_r base_s shift goal : ℕ) (moving : Bool) : Type 0 where
-  best : HasFewest k goal base_r base_s
-  low_r : base_r ≤ rows_r
-  low_s : base_s ≤ rows_s
-  within : shift ≤ k
-  reached : moving ≡ false → shift ≡ goal
-  not_due : moving ≡ false → (has_doubled base_r rows_r || has_doubled base_s rows_s) ≡ false
+pub record Sound (k rows_r rows_s base_r base_s shift goal : ℕ) (moving : Bool) : Type 0 where
+  pub best : HasFewest k goal base_r base_s
+  pub low_r : base_r ≤ rows_r
+  pub low_s : base_s ≤ rows_s
+  pub within : shift ≤ k
+  pub reached : moving ≡ false → shift ≡ goal
+  pub not_due : moving ≡ false → (has_doubled base_r rows_r || has_doubled base_s rows_s) ≡ false
 
 abbrev OfLine : ℕ → TurnLine → Type 0
 OfLine k line = Sound k line.rows_r line.rows_s line.base_r line.base_s line.shift line.goal line.moving
@@ -66,7 +66,7 @@ arrives k rows_r rows_s base_r base_s shift goal best low_r low_s within not_due
 arrives k rows_r rows_s base_r base_s shift goal best low_r low_s within not_due false is =
     record { best = best; low_r = low_r; low_s = low_s; within = next_within k shift goal within best.within; reached = λ e. absurd (true≢false e); not_due = λ e. absurd (true≢false e) }
 
-chosen : (k rows_r rows_s base_r base_s shift goal : ℕ) → HasFewest k goal base_r base_s → base_r ≤ rows_r → base_s ≤ rows_s → shift ≤ k
+pub chosen : (k rows_r rows_s base_r base_s shift goal : ℕ) → HasFewest k goal base_r base_s → base_r ≤ rows_r → base_s ≤ rows_s → shift ≤ k
     → (is_open free doubled : Bool) → free ≡ true → doubled ≡ (has_doubled base_r rows_r || has_doubled base_s rows_s)
     → let is_due = not is_open && free && doubled in
     let next = cond is_due (best_shift k shift rows_r rows_s) goal in
@@ -110,7 +110,7 @@ each rules line (before ∷ past) free (made, allowed, rest) =
     subst (λ next. OfLine rules.k next) (sym made) (after rules before past line.cause free (each rules before past free rest))
 
 -- neither side has more than doubled since
-not_doubled : (base rows : ℕ) → base ≤ rows → has_doubled base rows ≡ false → rows ≤ 2 * base
+pub not_doubled : (base rows : ℕ) → base ≤ rows → has_doubled base rows ≡ false → rows ≤ 2 * base
 not_doubled base rows low e = elim (and_cases (nat_lt base rows) (nat_le (2 * base) rows) e) [
   | inl none ↦ omega (arith, ltb-false base rows none)
   | inr less ↦ omega (arith, leb-false (2 * base) rows less)

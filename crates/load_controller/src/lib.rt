@@ -1,8 +1,17 @@
 //! The controller's machine, its journal, and what a lawful journal keeps to.
 #![tactic(auto)]
 
+mod controller;
+mod flags;
+mod held;
 mod laws;
+mod ledger;
 mod line;
+mod next;
+mod post;
+mod receive;
+mod trial;
 
+pub use controller::Controller;
 pub use laws::{migrates_seldom, stays_near};
 pub use line::{Cause, Journal, TurnLine};

@@ -1,0 +1,112 @@
+-- A machine that has just begun.
+use Rattle.std.proofs.Common.{◌≡◌, ℕ, ◌+◌, ◌^◌, ◌<◌, ◌≤◌, inl, inr, refl, sym, ◌∙◌, ap, subst, arith, Bool, true, false, not, ◌||◌, ◌&&◌, Option, Some, None, List, [], ◌∷◌, length}
+use Rattle.std.specs.Prelude.{reverse, ◌==◌, All, is_none, unwrap_or, ◌/◌}
+use Rattle.std.specs.Option.{ForSome}
+use Rattle.std.specs.List.{list_all}
+use Rattle.std.proofs.lemmas.Bool.{cases_eq, ne_eqb, or_from, and_right}
+use Rattle.std.proofs.lemmas.Nat.{pow_pos}
+use Rattle.std.proofs.lemmas.List.Elements.{All-nil, All-cons}
+use Rattle.join_rows.specs.Lists.{counting_from}
+use Rattle.join_rows.proofs.Counting.{one_fails}
+use Rattle.grid_map.specs.Load.{HasFewest}
+use Rattle.load_controller.specs.declared.line.Cause.{Cause}
+use Rattle.load_controller.specs.declared.line.Cause.TheVariants.{Start}
+use Rattle.load_controller.specs.declared.line.TurnLine.{TurnLine}
+use Rattle.load_controller.specs.declared.ledger.Ledger.{Ledger}
+use Rattle.load_controller.specs.Journal.{Rules, Fits, start_line, has_drained, has_settled, settled_count, is_drain_of}
+use Rattle.load_controller.specs.Law.{is_over}
+use Rattle.load_controller.specs.Flags.{flag_at}
+use Rattle.load_controller.specs.Standing.{ControllerState, IsFresh, StandsFor, IsNearWhereStill, held_at, nothing_yet, rules_with}
+use Rattle.load_controller.specs.Machine.{IsSound, Begins, rules_of, state_of}
+use Rattle.load_controller.proofs.Bound.{fixed_within}
+use Rattle.load_controller.proofs.Numbers.{first_bounded, first_guided, near_line}
+
+-- no feeder has drained at a first line
+none_drained : (p : ℕ) (line : TurnLine) → line.cause ≡ Start → has_drained p (line ∷ []) ≡ false
+none_drained p line start = or_from (is_drain_of p line.cause) false (ap (is_drain_of p) start) refl
+
+over_at_first : (feeders : ℕ) (line : TurnLine) → line.cause ≡ Start → line.moving ≡ false → (feeders == 0) ≡ is_over feeders (line ∷ [])
+over_at_first feeders line start still = elim (cases_eq feeders 0) [
+  | inl none ↦ rw (none, still) refl
+  | inr some ↦ ne_eqb feeders 0 some ∙ sym (or_from (not line.moving && list_all (λ p. has_drained p (line ∷ [])) (counting_from 0 feeders)) false
+      (and_right (not line.moving) (list_all (λ p. has_drained p (line ∷ [])) (counting_from 0 feeders))
+      (one_fails (λ p. has_drained p (line ∷ [])) 0 0 feeders (omega arith) (omega arith) (none_drained 0 line start))) refl)
+]
+
+-- how the code makes it
+pub begins : (k feeders : ℕ) (fixed : Option ℕ) (line : TurnLine) (c : Ledger) → k ≤ 8 → Fits (rules_with k feeders fixed) line → line.cause ≡ Start → line.epoch ≤ 2 ^ 31
+    → c.k ≡ k → c.feeders ≡ feeders → c.fixed ≡ fixed → c.line ≡ line → c.journal ≡ line ∷ [] → c.settled_count ≡ 0 → c.over ≡ (feeders == 0)
+    → length c.drained.items ≡ feeders → ((i : ℕ) → flag_at c.drained.items i ≡ false) → length c.settled.items ≡ 2 ^ k → ((i : ℕ) → flag_at c.settled.items i ≡ false)
+    → length c.held ≡ 2 ^ k → ((j : ℕ) → held_at c.held j ≡ []) → Begins (rules_with k feeders fixed) line c
+begins k feeders fixed line c small fits start early at_k at_feeders at_fixed at_line at_journal none over many_drained drained many_settled settled many_held held =
+    let rules = rules_with k feeders fixed in
+    let rules_are : rules_of c ≡ rules = λ i. record { k = at_k i; feeders = at_feeders i; fixed = at_fixed i } in
+    let bounded = first_bounded rules line fits early in
+    let near : IsNearWhereStill rules line = λ free still. near_line k line bounded (first_guided rules line fits free) still in
+    let all_near : All (IsNearWhereStill rules) (line ∷ []) = All-cons (IsNearWhereStill rules) line [] near (All-nil (IsNearWhereStill rules)) in
+    record {
+      sound = record {
+        past = [];
+        newest = ap reverse at_journal ∙ ap (λ l. l ∷ []) (sym at_line);
+        k = rw at_k small;
+        bounded = rw (at_k, at_line) bounded;
+        guided = λ free. rw (at_k, at_line) (first_guided rules line fits (sym at_fixed ∙ free));
+        near = subst (λ r. All (IsNearWhereStill r) c.journal) (sym rules_are) (subst (λ ls. All (IsNearWhereStill rules) ls) (sym at_journal) all_near);
+        drained_len = many_drained ∙ sym at_feeders;
+        drained = λ p low. drained p ∙ sym (none_drained p c.line (ap (λ l. l.cause) at_line ∙ start));
+        settled_len = many_settled ∙ ap (λ n. 2 ^ n) (sym at_k);
+        settled = λ j low. settled j;
+        count = none;
+        few = λ moves. rw none (pow_pos c.k);
+        at_most = rw none (omega arith);
+        over = over ∙ over_at_first feeders line start fits.still ∙ ap (λ n. is_over n (line ∷ [])) (sym at_feeders) ∙ ap (λ l. is_over c.feeders (l ∷ [])) (sym at_line);
+        queues = many_held ∙ ap (λ n. 2 ^ n) (sym at_k);
+      };
+      rules_are = rules_are;
+      journal = at_journal;
+      held = held;
+    }
+
+-- it stands for empty lists
+stands_first : (first : TurnLine) (state : ControllerState) → state.journal ≡ first ∷ [] → ((j : ℕ) → held_at state.held j ≡ []) → StandsFor first state (nothing_yet first)
+stands_first first state journal held = record {
+  law = record {
+    line = first;
+    past = [];
+    journal = refl;
+    follows = refl;
+    counts = λ p low. record { counted = []; passed = []; splits = refl; are_counted = refl; not_in_place = tt };
+    settles = λ j low. record { counted = []; held = []; splits = refl; are_settled = refl; stuck = λ epoch rest is. absurd (cc) };
+    sends = λ p low. refl;
+  };
+  journal = journal;
+  held = λ j low. held j;
+}
+
+pub fresh : (rules : Rules) (first : TurnLine) (c : Ledger) → Begins rules first c → IsFresh rules first (state_of c false)
+fresh rules first c b = record {
+  rules_are = b.rules_are;
+  journal = b.journal;
+  ready = refl;
+  stands = stands_first first (state_of c false) b.journal b.held;
+}
+
+-- the first line of a run fits
+pub start_fits : (k feeders : ℕ) (fixed : Option ℕ) (line : TurnLine) → ForSome fixed (λ shift. shift ≤ k) → line ≡ start_line (rules_with k feeders fixed) → Fits (rules_with k feeders fixed) line
+start_fits k feeders fixed line low is =
+    let within = fixed_within fixed k low in
+    rw is (record {
+      still = refl;
+      reached = refl;
+      within = within;
+      few_r = omega arith;
+      few_s = omega arith;
+      base_r = omega arith;
+      base_s = omega arith;
+      free = λ none. (refl, record { within = within; fewest = λ c below. omega arith });
+      fixed = λ shift is'. ap (λ (o : Option ℕ). unwrap_or o (k / 2)) is';
+    })
+
+pub start_line_is : (k feeders : ℕ) (fixed : Option ℕ) (shift : ℕ) → shift ≡ unwrap_or fixed (k / 2)
+    → (let line : TurnLine = record { cause = Start; rows_r = 0; rows_s = 0; base_r = 0; base_s = 0; epoch = 0; shift = shift; goal = shift; moving = false } in line ≡ start_line (rules_with k feeders fixed))
+start_line_is k feeders fixed shift is = ap (λ (s : ℕ). let line : TurnLine = record { cause = Start; rows_r = 0; rows_s = 0; base_r = 0; base_s = 0; epoch = 0; shift = s; goal = s; moving = false } in line) is

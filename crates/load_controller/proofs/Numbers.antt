@@ -1,0 +1,184 @@
+-- The numbers of a line stay in range, and its goal stays the best.
+use Rattle.std.proofs.Common.{◌≡◌, ℕ, ◌+◌, ◌-◌, ◌*◌, ◌^◌, ◌<◌, ◌≤◌, inl, inr, refl, sym, ◌∙◌, ap, subst, arith, Bool, true, false, not, ◌||◌, ◌&&◌, cond, Option, None}
+use Rattle.std.specs.Prelude.{◌==◌, nat_lt, nat_le, is_none}
+use Rattle.std.proofs.lemmas.Nat.{pow-add}
+use Rattle.std.proofs.lemmas.Bool.{cases_eq, and_parts, or_parts, or_cases, ltb-true, leb-true, eqb-false, not-true, not_from_true}
+use Rattle.grid_map.specs.Load.{best_shift, HasFewest, IsNear}
+use Rattle.grid_map.proofs.Near.{near_from_best}
+use Rattle.migration_plan.specs.Steps.{next_step}
+use Rattle.load_controller.specs.declared.line.Cause.{Cause}
+use Rattle.load_controller.specs.declared.line.TurnLine.{TurnLine}
+use Rattle.load_controller.specs.Journal.{Rules, Fits, has_doubled, counted_r, counted_s}
+use Rattle.load_controller.specs.Next.{line_by, decides_by, goal_by, steps_by}
+use Rattle.load_controller.specs.Standing.{IsNearWhereStill}
+use Rattle.load_controller.specs.Machine.{IsBounded, IsGuided}
+use Rattle.load_controller.proofs.Bound.{gap, best_within, next_nearer, next_within}
+use Rattle.load_controller.proofs.Still.{Sound, chosen, not_doubled}
+
+-- ---- in range
+
+-- of a line's numbers
+record Ranged (k rows_r rows_s base_r base_s epoch shift goal : ℕ) : Type 0 where
+  few_r : rows_r ≤ 2 ^ 32
+  few_s : rows_s ≤ 2 ^ 32
+  low_r : base_r ≤ rows_r
+  low_s : base_s ≤ rows_s
+  shift_within : shift ≤ k
+  goal_within : goal ≤ k
+  paid : (a c : ℕ) → base_r < 2 ^ a → base_s < 2 ^ c → epoch + gap shift goal ≤ 2 ^ 31 + k * (a + c)
+
+-- a doubled base has one binary digit more
+digit_more : (base rows a : ℕ) → base < rows → 2 * base ≤ rows → rows < 2 ^ a → (a' : ℕ) × (a ≡ a' + 1) × (base < 2 ^ a')
+digit_more base rows a more twice small = elim (cases_eq a 0) [
+  | inl none ↦ let one : 2 ^ a ≡ 1 = rw none refl in absurd (omega arith)
+  | inr some ↦
+      let is : a ≡ (a - 1) + 1 = omega arith in
+      let double : 2 ^ ((a - 1) + 1) ≡ 2 ^ (a - 1) * 2 = pow-add 2 (a - 1) 1 in
+      let whole : 2 ^ a ≡ 2 ^ ((a - 1) + 1) = ap (λ n. 2 ^ n) is in
+      (a - 1, is, omega arith)
+]
+
+more_digits : (k a a' c : ℕ) → a ≡ a' + 1 → k * (a + c) ≡ k * (a' + c) + k
+more_digits k a a' c is = rw is (omega arith)
+
+more_digits_s : (k a c c' : ℕ) → c ≡ c' + 1 → k * (a + c) ≡ k * (a + c') + k
+more_digits_s k a c c' is = rw is (omega arith)
+
+decided : (k rows_r rows_s base_r base_s epoch shift goal goal' : ℕ) → Ranged k rows_r rows_s base_r base_s epoch shift goal → goal' ≤ k
+    → (has_doubled base_r rows_r || has_doubled base_s rows_s) ≡ true → Ranged k rows_r rows_s rows_r rows_s epoch shift goal'
+decided k rows_r rows_s base_r base_s epoch shift goal goal' b within due = record {
+  few_r = b.few_r;
+  few_s = b.few_s;
+  low_r = omega arith;
+  low_s = omega arith;
+  shift_within = b.shift_within;
+  goal_within = within;
+  paid = λ a c small_r small_s.
+      let near : gap shift goal' ≤ k = omega (arith, b.shift_within) in
+      let base_r_low = b.low_r in
+      let base_s_low = b.low_s in
+      elim (or_cases (has_doubled base_r rows_r) (has_doubled base_s rows_s) due) [
+        | inl of_r ↦
+            let parts = and_parts (nat_lt base_r rows_r) (nat_le (2 * base_r) rows_r) of_r in
+            let digits = digit_more base_r rows_r a (ltb-true base_r rows_r parts.0) (leb-true (2 * base_r) rows_r parts.1) small_r in
+            let old = b.paid digits.0 c digits.2 (omega arith) in
+            let grows = more_digits k a digits.0 c digits.1 in
+            omega arith
+        | inr of_s ↦
+            let parts = and_parts (nat_lt base_s rows_s) (nat_le (2 * base_s) rows_s) of_s in
+            let digits = digit_more base_s rows_s c (ltb-true base_s rows_s parts.0) (leb-true (2 * base_s) rows_s parts.1) small_s in
+            let old = b.paid a digits.0 (omega arith) digits.2 in
+            let grows = more_digits_s k a c digits.0 digits.1 in
+            omega arith
+      ];
+}
+
+maybe_decided : (k rows_r rows_s base_r base_s epoch shift goal goal' : ℕ) (due : Bool) → Ranged k rows_r rows_s base_r base_s epoch shift goal → goal' ≤ k
+    → (due ≡ true → (has_doubled base_r rows_r || has_doubled base_s rows_s) ≡ true)
+    → Ranged k rows_r rows_s (cond due rows_r base_r) (cond due rows_s base_s) epoch shift (cond due goal' goal)
+maybe_decided k rows_r rows_s base_r base_s epoch shift goal goal' true b within doubled = decided k rows_r rows_s base_r base_s epoch shift goal goal' b within (doubled refl)
+maybe_decided k rows_r rows_s base_r base_s epoch shift goal goal' false b within doubled = b
+
+maybe_stepped : (k rows_r rows_s base_r base_s epoch shift goal : ℕ) (steps : Bool) → (steps ≡ true → shift ≡ goal → ⊥) → Ranged k rows_r rows_s base_r base_s epoch shift goal
+    → Ranged k rows_r rows_s base_r base_s (cond steps (epoch + 1) epoch) (cond steps (next_step shift goal) shift) goal
+maybe_stepped k rows_r rows_s base_r base_s epoch shift goal true differ b =
+    let nearer = next_nearer shift goal (differ refl) in
+    record {
+      few_r = b.few_r;
+      few_s = b.few_s;
+      low_r = b.low_r;
+      low_s = b.low_s;
+      shift_within = next_within k shift goal b.shift_within b.goal_within;
+      goal_within = b.goal_within;
+      paid = λ a c small_r small_s. let old = b.paid a c small_r small_s in omega (arith, nearer, old);
+    }
+maybe_stepped k rows_r rows_s base_r base_s epoch shift goal false differ b = b
+
+counted : (k rows_r rows_s base_r base_s epoch shift goal dr ds : ℕ) → Ranged k rows_r rows_s base_r base_s epoch shift goal → rows_r + dr ≤ 2 ^ 32 → rows_s + ds ≤ 2 ^ 32
+    → Ranged k (rows_r + dr) (rows_s + ds) base_r base_s epoch shift goal
+counted k rows_r rows_s base_r base_s epoch shift goal dr ds b few_r few_s =
+    let low_r = b.low_r in
+    let low_s = b.low_s in
+    record {
+      few_r = few_r;
+      few_s = few_s;
+      low_r = omega arith;
+      low_s = omega arith;
+      shift_within = b.shift_within;
+      goal_within = b.goal_within;
+      paid = b.paid;
+    }
+
+pub bounded_after : (k : ℕ) (fixed : Option ℕ) (before : TurnLine) (opens : Bool) (cause : Cause) → IsBounded k before
+    → before.rows_r + counted_r cause ≤ 2 ^ 32 → before.rows_s + counted_s cause ≤ 2 ^ 32 → IsBounded k (line_by k fixed before opens cause)
+bounded_after k fixed before opens cause b few_r few_s =
+    let rows_r = before.rows_r + counted_r cause in
+    let rows_s = before.rows_s + counted_s cause in
+    let doubled = has_doubled before.base_r rows_r || has_doubled before.base_s rows_s in
+    let decides = decides_by fixed before opens cause in
+    let goal = goal_by k fixed before opens cause in
+    let steps = steps_by k fixed before opens cause in
+    let best = best_shift k before.shift rows_r rows_s in
+    let start : Ranged k before.rows_r before.rows_s before.base_r before.base_s before.epoch before.shift before.goal =
+    record { few_r = b.few_r; few_s = b.few_s; low_r = b.low_r; low_s = b.low_s; shift_within = b.shift; goal_within = b.goal; paid = b.paid } in
+    let more = counted k before.rows_r before.rows_s before.base_r before.base_s before.epoch before.shift before.goal (counted_r cause) (counted_s cause) start few_r few_s in
+    let chose = maybe_decided k rows_r rows_s before.base_r before.base_s before.epoch before.shift before.goal best decides more (best_within k before.shift rows_r rows_s b.shift)
+    (λ e. (and_parts (not opens && is_none fixed) doubled e).1) in
+    let end = maybe_stepped k rows_r rows_s (cond decides rows_r before.base_r) (cond decides rows_s before.base_s) before.epoch before.shift goal steps
+    (λ e same. eqb-false before.shift goal (not-true (before.shift == goal) (and_parts (not opens) (not (before.shift == goal)) e).1) same) chose in
+    record { few_r = end.few_r; few_s = end.few_s; low_r = end.low_r; low_s = end.low_s; shift = end.shift_within; goal = end.goal_within; paid = end.paid }
+
+-- so an epoch more fits
+pub epoch_fits : (k : ℕ) (line : TurnLine) → k ≤ 8 → IsBounded k line → line.epoch + 1 < 2 ^ 32
+epoch_fits k line small b =
+    let few_r = b.few_r in
+    let few_s = b.few_s in
+    let low_r = b.low_r in
+    let low_s = b.low_s in
+    let spent = b.paid 33 33 (omega arith) (omega arith) in
+    omega arith
+
+-- ---- near
+
+pub guided_after : (k : ℕ) (fixed : Option ℕ) (before : TurnLine) (opens : Bool) (cause : Cause) → is_none fixed ≡ true → IsBounded k before → IsGuided k before
+    → IsGuided k (line_by k fixed before opens cause)
+guided_after k fixed before opens cause free b g =
+    let rows_r = before.rows_r + counted_r cause in
+    let rows_s = before.rows_s + counted_s cause in
+    let low_r = b.low_r in
+    let low_s = b.low_s in
+    let s = chosen k rows_r rows_s before.base_r before.base_s before.shift before.goal g.best (omega arith) (omega arith) b.shift opens (is_none fixed)
+    (has_doubled before.base_r rows_r || has_doubled before.base_s rows_s) free refl in
+    record { best = s.best; reached = s.reached; not_due = s.not_due }
+
+pub near_line : (k : ℕ) (line : TurnLine) → IsBounded k line → IsGuided k line → line.moving ≡ false → IsNear k line.shift line.rows_r line.rows_s
+near_line k line b g still =
+    let parts = or_parts (has_doubled line.base_r line.rows_r) (has_doubled line.base_s line.rows_s) (g.not_due still) in
+    rw (g.reached still)
+    (near_from_best k line.goal line.base_r line.base_s line.rows_r line.rows_s g.best
+    b.low_r (not_doubled line.base_r line.rows_r b.low_r parts.0) b.low_s (not_doubled line.base_s line.rows_s b.low_s parts.1))
+
+-- ---- a first line
+
+pub first_bounded : (rules : Rules) (line : TurnLine) → Fits rules line → line.epoch ≤ 2 ^ 31 → IsBounded rules.k line
+first_bounded rules line fits early =
+    let reached = fits.reached in
+    let within = fits.within in
+    record {
+      few_r = fits.few_r;
+      few_s = fits.few_s;
+      low_r = fits.base_r;
+      low_s = fits.base_s;
+      shift = within;
+      goal = omega arith;
+      paid = λ a c small_r small_s. omega arith;
+    }
+
+pub first_guided : (rules : Rules) (line : TurnLine) → Fits rules line → rules.fixed ≡ None → IsGuided rules.k line
+first_guided rules line fits free =
+    let parts = fits.free free in
+    record {
+      best = rw fits.reached parts.1;
+      reached = λ e. sym fits.reached;
+      not_due = λ e. not-true (has_doubled line.base_r line.rows_r || has_doubled line.base_s line.rows_s) parts.0;
+    }

@@ -1,0 +1,28 @@
+-- The line of a worked row is one from which a controller can begin.
+use Rattle.std.proofs.Common.{◌≡◌, ℕ, zero, suc, ◌+◌, ◌*◌, ◌^◌, ◌≤◌, refl, arith, None, false}
+use Rattle.grid_map.specs.Load.{copies, HasFewest}
+use Rattle.load_controller.specs.declared.line.Cause.TheVariants.{Start}
+use Rattle.load_controller.specs.Journal.{Fits}
+use Rattle.load_controller.specs.Standing.{rules_with}
+
+fewest : (c : ℕ) → c ≤ 4 → copies 4 2 128 64 ≤ copies 4 c 128 64
+fewest zero low = omega arith
+fewest (suc zero) low = omega arith
+fewest (suc (suc zero)) low = omega arith
+fewest (suc (suc (suc zero))) low = omega arith
+fewest (suc (suc (suc (suc zero)))) low = omega arith
+fewest (suc (suc (suc (suc (suc c))))) low = absurd (omega arith)
+
+pub row_fits : (epoch : ℕ)
+    → Fits (rules_with 4 1 None) (record { cause = Start; rows_r = 128; rows_s = 64; base_r = 128; base_s = 64; epoch = epoch; shift = 2; goal = 2; moving = false })
+row_fits epoch = record {
+  still = refl;
+  reached = refl;
+  within = omega arith;
+  few_r = omega arith;
+  few_s = omega arith;
+  base_r = omega arith;
+  base_s = omega arith;
+  free = λ none. (refl, record { within = omega arith; fewest = fewest });
+  fixed = λ shift is. absurd (cc);
+}

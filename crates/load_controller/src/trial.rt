@@ -1,0 +1,90 @@
+// Held messages, which are tried again after each line.
+
+ghost use Rattle.std.specs.Prelude.{◌≡◌, ◌<◌, ◌≤◌, ◌^◌, ℕ, true, false, MatchOption, IfOk, OnOk};
+ghost use Rattle.load_controller.specs.Machine.{IsSound, IsReady, IsStuck, Advances, held_in_all};
+
+use crate::ledger::Ledger;
+use crate::line::Cause;
+use epoch_tags::Sends;
+use std::alloc::AllocError;
+
+// How many joiners there are.
+pub(crate) fn joiners(k: u32) -> u32
+    requires { k ≤ 8 }
+    ensures { result ≡ 2 ^ k }
+{
+    1 << k
+}
+
+impl Ledger {
+    // Whether the first message held of a joiner is in place.
+    fn is_ready(&self, joiner: u32) -> bool
+        requires { IsSound self.now }
+        ensures up { result ≡ true → IsReady self.now joiner }
+        ensures down { result ≡ false → ¬ IsReady self.now joiner }
+    {
+        let at = joiner as usize;
+        if !self.line.moving || at >= self.settled.len() || self.settled[at] {
+            return false;
+        }
+        match self.held.first(at) {
+            Some(epoch) => epoch == self.line.epoch,
+            None => false,
+        }
+    }
+
+    // The lowest joiner of whom the first held message is in place.
+    fn next_ready(&self) -> Option<u32>
+        requires { IsSound self.now }
+        ensures { MatchOption result (IsStuck self.now)
+            (λ j. IsReady self.now j × ((i : ℕ) → i < j → ¬ IsReady self.now i)) }
+    {
+        for joiner in 0..joiners(self.k) {
+            if self.is_ready(joiner) {
+                return Some(joiner);
+            }
+        }
+        None
+    }
+
+    // Counts the first message held of a joiner, which is in place.
+    fn count_first_held(&mut self, joiner: u32, sends: &mut Sends) -> Result<(), AllocError>
+        requires sound { IsSound self.old }
+        requires ready { IsReady self.old joiner }
+        ensures sound { IsSound self.new }
+        ensures took { OnOk result (Advances self.old self.new sends.old sends.new) }
+        ensures fewer { OnOk result (held_in_all self.new < held_in_all self.old) }
+    {
+        self.held.drop_first(joiner as usize);
+        self.count(Cause::Settle { joiner }, sends)?;
+        Ok(())
+    }
+
+    // Counts the held message that comes next, if one is in place.
+    fn count_one_held(&mut self, sends: &mut Sends) -> Result<bool, AllocError>
+        requires { IsSound self.old }
+        ensures sound { IsSound self.new }
+        ensures took { OnOk result (Advances self.old self.new sends.old sends.new) }
+        ensures fewer { IfOk result (λ more. more ≡ true → held_in_all self.new < held_in_all self.old) }
+        ensures stuck { IfOk result (λ more. more ≡ false → IsStuck self.new) }
+    {
+        match self.next_ready() {
+            Some(joiner) => {
+                self.count_first_held(joiner, sends)?;
+                Ok(true)
+            }
+            None => Ok(false),
+        }
+    }
+
+    // Counts held messages, joiners rising and from the lowest again after each, until none is in place.
+    pub(crate) fn count_held(&mut self, sends: &mut Sends) -> Result<(), AllocError>
+        requires { IsSound self.old }
+        ensures sound { IsSound self.new }
+        ensures took { OnOk result (Advances self.old self.new sends.old sends.new) }
+        ensures stuck { OnOk result (IsStuck self.new) }
+    {
+        'trial: while self.count_one_held(sends)? {}
+        Ok(())
+    }
+}
