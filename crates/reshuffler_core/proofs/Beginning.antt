@@ -1,0 +1,121 @@
+-- The next request is the one that the law has next.
+use Rattle.std.proofs.Common.{◌≡◌, ℕ, zero, suc, ◌+◌, ◌<◌, ◌≤◌, ◌⊎◌, ◌↔◌, inl, inr, refl, sym, ◌∙◌, ap, subst, arith, Bool, true, false, List, [], ◌∷◌, ◌++◌, drop, length, append_assoc, add-one}
+use Rattle.std.specs.Prelude.{map}
+use Rattle.std.proofs.lemmas.Bool.{false≢true}
+use Rattle.std.proofs.lemmas.List.{append-nil}
+use Rattle.std.proofs.lemmas.List.Elements.{All-append}
+use Rattle.epoch_tags.specs.declared.tuple.Tuple.{Tuple}
+use Rattle.epoch_tags.specs.declared.message.Post.{Post}
+use Rattle.epoch_tags.specs.declared.message.ToFeeder.{ToFeeder}
+use Rattle.epoch_tags.specs.declared.message.ToController.{ToController}
+use Rattle.epoch_tags.specs.declared.message.ToController.TheVariants.{Ask, Drained, Settled}
+use Rattle.epoch_tags.specs.Messages.{grants, stops, asks, draineds}
+use Rattle.epoch_tags.specs.Posts.{posted_to_controller}
+use Rattle.epoch_tags.proofs.Appends.{asks-append, draineds-append}
+use Rattle.reshuffler_core.specs.Law.{FeederLists, FeederStart, ask_for}
+use Rattle.reshuffler_core.specs.Standing.{FeederState, StandsFor, Begins, IsWaiting, IsAddressed, AreAddressed, next_request, with_sent}
+use Rattle.reshuffler_core.specs.Machine.{IsStuck, Goes, Advances, state_begun, to_controller}
+use Rattle.reshuffler_core.proofs.Assembling.{is_standing, same_lists, sent_on, joined-controller}
+
+-- what is left to ask
+left : (batches : List (List Tuple)) (sent rest : List ToController) → sent ++ rest ≡ map ask_for batches ++ Drained ∷ [] → draineds sent ≡ 0
+    → rest ≡ map ask_for (drop (asks sent) batches) ++ Drained ∷ []
+left batches [] rest is none = is
+left [] (Ask dr ds ∷ sent) rest is none = absurd (cc)
+left [] (Drained ∷ sent) rest is none = absurd (omega arith)
+left [] (Settled epoch ∷ sent) rest is none = absurd (cc)
+left (batch ∷ batches) (Ask dr ds ∷ sent) rest is none =
+    let later : sent ++ rest ≡ map ask_for batches ++ Drained ∷ [] = cc in
+    rw add-one (left batches sent rest later none)
+left (batch ∷ batches) (Drained ∷ sent) rest is none = absurd (omega arith)
+left (batch ∷ batches) (Settled epoch ∷ sent) rest is none = absurd (cc)
+
+none_yet : (b : Bool) (n : ℕ) → b ≡ false → (b ≡ true ↔ (0 < n)) → n ≡ 0
+none_yet b zero is both = refl
+none_yet b (suc n) is both = absurd (false≢true (sym is ∙ both.1 (omega arith)))
+
+even : (b : Bool) (m n : ℕ) → b ≡ false → (b ≡ true ↔ (m ≡ n + 1)) → (m ≡ n) ⊎ (m ≡ n + 1) → m ≡ n
+even b m n is both (inl same) = same
+even b m n is both (inr more) = absurd (false≢true (sym is ∙ both.1 more))
+
+module _ (s : FeederState) (lists : FeederLists) (stands : StandsFor s lists) (asked : s.asked ≡ false) (drained : s.drained ≡ false) where
+  equal : asks lists.to_controller ≡ grants stands.taken
+  equal = even s.asked (asks lists.to_controller) (grants stands.taken) asked stands.asked stands.law.granted
+
+  undrained : draineds lists.to_controller ≡ 0
+  undrained = none_yet s.drained (draineds lists.to_controller) drained stands.drained
+
+  rest_is : stands.law.asked.rest ≡ map ask_for s.to_come ++ Drained ∷ []
+  rest_is = left s.start.batches lists.to_controller stands.law.asked.rest stands.law.asked.joins undrained
+      ∙ ap (λ n. map ask_for (drop n s.start.batches) ++ Drained ∷ []) equal ∙ ap (λ bs. map ask_for bs ++ Drained ∷ []) (sym stands.to_come)
+
+  begun : (bs : List (List Tuple)) → s.to_come ≡ bs → Goes (state_begun (record s { spent = true }) bs) (with_sent lists (to_controller (next_request bs) ∷ [])) stands.taken
+  begun [] none =
+      let whole = rest_is ∙ ap (λ bs. map ask_for bs ++ Drained ∷ []) none in
+      let asks_now : asks (lists.to_controller ++ Drained ∷ []) ≡ asks lists.to_controller = (let e = asks-append lists.to_controller (Drained ∷ []) in omega arith) in
+      let ds : draineds (lists.to_controller ++ Drained ∷ []) ≡ draineds lists.to_controller + 1 = draineds-append lists.to_controller (Drained ∷ []) in
+      record {
+        splits = ap (λ ms. stands.taken ++ ms) stands.held ∙ stands.law.splits;
+        asked = record { rest = []; joins = append-nil (lists.to_controller ++ Drained ∷ []) ∙ ap (λ ms. lists.to_controller ++ ms) (sym whole) ∙ stands.law.asked.joins };
+        granted = inl (asks_now ∙ equal);
+        drained = λ some. asks_now ∙ equal;
+        orders = stands.law.orders;
+        stops_last = stands.law.stops_last;
+        stops_drained = λ some. omega arith;
+        answered = λ j below. append-nil (lists.to_joiner j) ∙ stands.law.answered j below;
+        epoch = stands.epoch;
+        shift = stands.shift;
+        to_come = stands.to_come;
+        is_asked = rw asks_now stands.asked;
+        is_drained = (λ up. omega arith, λ some. refl);
+        is_stopped = stands.stopped;
+      }
+  begun (batch ∷ batches) some =
+      let whole = rest_is ∙ ap (λ bs. map ask_for bs ++ Drained ∷ []) some in
+      let asks_now : asks (lists.to_controller ++ ask_for batch ∷ []) ≡ asks lists.to_controller + 1 = asks-append lists.to_controller (ask_for batch ∷ []) in
+      let ds : draineds (lists.to_controller ++ ask_for batch ∷ []) ≡ draineds lists.to_controller = (let e = draineds-append lists.to_controller (ask_for batch ∷ []) in omega arith) in
+      let one_more : asks (lists.to_controller ++ ask_for batch ∷ []) ≡ grants stands.taken + 1 = (let e = equal in omega arith) in
+      record {
+        splits = ap (λ ms. stands.taken ++ ms) stands.held ∙ stands.law.splits;
+        asked = record {
+          rest = map ask_for batches ++ Drained ∷ [];
+          joins = append_assoc lists.to_controller (ask_for batch ∷ []) (map ask_for batches ++ Drained ∷ []) ∙ ap (λ ms. lists.to_controller ++ ms) (sym whole) ∙ stands.law.asked.joins;
+        };
+        granted = inr one_more;
+        drained = λ up. let no = undrained in absurd (omega arith);
+        orders = stands.law.orders;
+        stops_last = stands.law.stops_last;
+        stops_drained = λ up. let was = stands.law.stops_drained up in omega arith;
+        answered = λ j below. append-nil (lists.to_joiner j) ∙ stands.law.answered j below;
+        epoch = stands.epoch;
+        shift = stands.shift;
+        to_come = stands.to_come;
+        is_asked = (λ up. one_more, λ more. refl);
+        is_drained = rw ds stands.drained;
+        is_stopped = stands.stopped;
+      }
+
+same_start : (s : FeederState) (bs : List (List Tuple)) → (state_begun s bs).start ≡ s.start
+same_start s [] = refl
+same_start s (batch ∷ batches) = refl
+
+to_the_controller : (k : ℕ) (m : ToController) → AreAddressed k (to_controller m ∷ [])
+to_the_controller k m = λ i d low. let at : i ≡ 0 = omega arith in rw at tt
+
+pub begins : (s new : FeederState) (before middle after : List Post) → s.asked ≡ false → s.drained ≡ false
+    → middle ≡ before ++ to_controller (next_request s.to_come) ∷ []
+    → Advances (state_begun (record s { spent = true }) s.to_come) new middle after → IsStuck new → Begins s (record new { spent = false }) before after
+begins s new before middle after asked drained request go stuck =
+    let first = to_controller (next_request s.to_come) ∷ [] in
+    let start = same_start (record s { spent = true }) s.to_come in
+    record {
+      start = go.start ∙ start;
+      added = first ++ go.added;
+      sends = go.sends ∙ ap (λ posts. posts ++ go.added) request ∙ append_assoc before first go.added;
+      asks_next = joined-controller first go.added ∙ ap (λ ms. next_request s.to_come ∷ ms) go.asks_nothing;
+      addressed = All-append (λ post. IsAddressed s.start.k post.to post.msg) first go.added (to_the_controller s.start.k (next_request s.to_come))
+          (subst (λ (from : FeederStart). AreAddressed from.k go.added) start go.addressed);
+      stands = λ lists stands.
+          let gone = go.goes (with_sent lists first) stands.taken (begun s lists stands asked drained s.to_come refl) in
+          is_standing new (with_sent lists (first ++ go.added)) gone.taken false (sent_on new lists first go.added gone.taken gone.goes) stuck;
+    }

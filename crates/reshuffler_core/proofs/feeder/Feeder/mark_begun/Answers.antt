@@ -1,0 +1,15 @@
+use Rattle.std.proofs.Common.{◌≡◌, sym, ap, ◌∙◌, arith, drop, length}
+use Rattle.std.proofs.lemmas.List.{length-drop}
+use Rattle.reshuffler_core.specs.contracts.feeder.Feeder.{the_view}
+use Rattle.reshuffler_core.specs.Standing.{FeederState}
+use Rattle.reshuffler_core.specs.Machine.{state_begun}
+use Rattle.reshuffler_core.proofs.Cutting.{cut_none}
+use Rattle.reshuffler_core.proofs.feeder.Feeder.mark_begun.Goals as goal
+
+pub returns-else-self-as_slice : goal.returns-else-self-as_slice
+returns-else-self-as_slice c =
+    let f = c.self.inside in
+    let left = length-drop f.sent f.load in
+    let rows = ap length c.as_slice.ensures in
+    let none : length (drop f.sent f.load) ≡ 0 = omega arith in
+    ap (state_begun (the_view f)) (sym (cut_none f.batch (drop f.sent f.load) c.self.invariant.some none)) ∙ ap (λ (s : FeederState). state_begun s s.to_come) c.self.view_is

@@ -1,0 +1,120 @@
+-- How the machine goes on, a message or a batch at a time.
+use Rattle.std.specs.Prelude.{◌≡◌, ℕ, ◌+◌, ◌^◌, ◌<◌, ◌≤◌, ◌⊎◌, ◌↔◌, Bool, true, false, IsTrue, List, [], ◌∷◌, ◌++◌, map, filter, flat_map, length, drop, if◌then◌else◌}
+use Rattle.std.specs.List.{range_with_len}
+use Rattle.epoch_tags.specs.declared.tuple.Tuple.{Tuple}
+use Rattle.epoch_tags.specs.declared.actor.Actor.TheVariants.{Joiner as Joiner', Controller as Controller'}
+use Rattle.epoch_tags.specs.declared.message.Msg.TheVariants.{Joiner, Controller}
+use Rattle.epoch_tags.specs.declared.message.Post.{Post}
+use Rattle.epoch_tags.specs.declared.message.ToJoiner.{ToJoiner}
+use Rattle.epoch_tags.specs.declared.message.ToJoiner.TheVariants.{Tup, Turn, End}
+use Rattle.epoch_tags.specs.declared.message.ToController.{ToController}
+use Rattle.epoch_tags.specs.declared.message.ToFeeder.{ToFeeder}
+use Rattle.epoch_tags.specs.declared.message.ToFeeder.TheVariants.{Order, Grant, Stop}
+use Rattle.migration_plan.specs.Steps.{holds}
+use Rattle.join_rows.specs.Lists.{IsPrefix, counting_from}
+use Rattle.epoch_tags.specs.Messages.{order_epochs, grants, stops, asks, draineds}
+use Rattle.epoch_tags.specs.Orders.{StopsLast}
+use Rattle.epoch_tags.specs.Posts.{posted_to_controller}
+use Rattle.reshuffler_core.specs.Law.{FeederLists, requests, answers, shift_now, stamped}
+use Rattle.reshuffler_core.specs.Standing.{FeederState, AreAddressed, with_sent}
+
+-- ---- what a message does
+
+-- the machine can take this message
+abbrev pub Takes : FeederState → ToFeeder → Type 0
+Takes s (Order epoch shift) = (epoch ≡ s.epoch + 1) × (shift ≤ s.start.k) × (s.stopped ≡ false)
+Takes s Grant = s.asked ≡ true
+Takes s Stop = (s.drained ≡ true) × (s.stopped ≡ false)
+
+-- the first of the held can't be taken
+abbrev pub IsStuck : FeederState → Type 0
+IsStuck s = (m : ToFeeder) (rest : List ToFeeder) → s.held ≡ m ∷ rest → ¬ Takes s m
+
+-- this message is the first of the held, and can be taken
+pub record IsReady (s : FeederState) (m : ToFeeder) : Type 0 where
+  pub rest : List ToFeeder
+  pub first : s.held ≡ m ∷ rest
+  pub takes : Takes s m
+
+-- the machine after it took a message
+abbrev pub state_after : FeederState → ToFeeder → FeederState
+state_after s (Order epoch shift) = record s { epoch = epoch; shift = shift }
+state_after s Grant = record s { to_come = drop 1 s.to_come; asked = false }
+state_after s Stop = record s { stopped = true }
+
+abbrev pub first_batch : {X : Type 0} → List (List X) → List X
+first_batch [] = []
+first_batch (batch ∷ batches) = batch
+
+-- the message to that joiner
+abbrev pub post_to : ToJoiner → ℕ → Post
+post_to m j = record { to = Joiner' j; msg = Joiner m }
+
+-- to each of n joiners, ids rising
+abbrev pub posts_to_all : ℕ → ToJoiner → List Post
+posts_to_all n m = map (post_to m) (range_with_len 0 n)
+
+-- a tuple to each of n joiners that holds it at shift b, ids rising
+abbrev pub posts_of_tuple : ℕ → ℕ → ℕ → ℕ → Tuple → List Post
+posts_of_tuple k n e b t = map (post_to (Tup (stamped e t))) (filter (λ j. holds k b j t) (range_with_len 0 n))
+
+-- the tuples of a batch, in order
+abbrev pub posts_of_batch : ℕ → ℕ → ℕ → List Tuple → List Post
+posts_of_batch k e b batch = flat_map (posts_of_tuple k (2 ^ k) e b) batch
+
+-- what it sends when it takes a message
+abbrev pub posts_for : FeederState → ToFeeder → List Post
+posts_for s (Order epoch shift) = posts_to_all (2 ^ s.start.k) (Turn epoch shift)
+posts_for s Grant = posts_of_batch s.start.k s.epoch s.shift (first_batch s.to_come)
+posts_for s Stop = posts_to_all (2 ^ s.start.k) End
+
+-- ---- for what it stands, stuck or not
+
+-- the machine took these messages, and holds the others
+pub record Goes (s : FeederState) (lists : FeederLists) (taken : List ToFeeder) : Type 0 where
+  pub splits : taken ++ s.held ≡ lists.received
+  pub asked : IsPrefix lists.to_controller (requests s.start)
+  pub granted : (asks lists.to_controller ≡ grants taken) ⊎ (asks lists.to_controller ≡ grants taken + 1)
+  pub drained : 0 < draineds lists.to_controller → asks lists.to_controller ≡ grants taken
+  pub orders : order_epochs taken ≡ counting_from (s.start.epoch + 1) (length (order_epochs taken))
+  pub stops_last : StopsLast taken
+  pub stops_drained : 0 < stops taken → 0 < draineds lists.to_controller
+  pub answered : (j : ℕ) → j < 2 ^ s.start.k → lists.to_joiner j ≡ answers s.start.k j s.start.epoch s.start.shift s.start.batches taken
+  pub epoch : s.epoch ≡ s.start.epoch + length (order_epochs taken)
+  pub shift : s.shift ≡ shift_now s.start.shift taken
+  pub to_come : s.to_come ≡ drop (grants taken) s.start.batches
+  pub is_asked : IsTrue s.asked ↔ (asks lists.to_controller ≡ grants taken + 1)
+  pub is_drained : IsTrue s.drained ↔ (0 < draineds lists.to_controller)
+  pub is_stopped : IsTrue s.stopped ↔ (0 < stops taken)
+
+pub record StillGoes (s : FeederState) (lists : FeederLists) : Type 0 where
+  pub taken : List ToFeeder
+  pub goes : Goes s lists taken
+
+-- a call that took some of the held messages: whatever it stood for, it still stands for, with its posts
+pub record Advances (old new : FeederState) (before after : List Post) : Type 0 where
+  pub start : new.start ≡ old.start
+  pub added : List Post
+  pub sends : after ≡ before ++ added
+  pub asks_nothing : posted_to_controller added ≡ []
+  pub addressed : AreAddressed old.start.k added
+  pub goes : (lists : FeederLists) (taken : List ToFeeder) → Goes old lists taken → StillGoes new (with_sent lists added)
+
+-- ---- what a beginning does
+
+abbrev pub to_controller : ToController → Post
+to_controller m = record { to = Controller'; msg = Controller m }
+
+-- the machine after it asked for its next batch, or said that none is left
+abbrev pub state_begun : FeederState → List (List Tuple) → FeederState
+state_begun s [] = record s { drained = true }
+state_begun s (batch ∷ batches) = record s { asked = true }
+
+-- ---- what the fields keep to
+
+pub record IsWithin (k shift batch sent rows : ℕ) : Type 0 where
+  pub grid : k ≤ 8
+  pub shape : shift ≤ k
+  pub some : 0 < batch
+  pub few : batch ≤ 4096
+  pub front : sent ≤ rows
