@@ -125,6 +125,7 @@ reads_test numeral after h =
     cut_left : (a b : Bool) → (a && b) ≡ true → a ≡ true
     cut_left true b h = refl
     cut_left false b h = cc h
+
     cut_right : (a b : Bool) → (a && b) ≡ true → b ≡ true
     cut_right true b h = h
     cut_right false b h = cc h

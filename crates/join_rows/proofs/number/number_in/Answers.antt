@@ -6,7 +6,7 @@ pub returns-then-spaces_before-after-clause-value :
     goal.returns-then-spaces_before-after-clause-value
 returns-then-spaces_before-after-clause-value c =
     unspaced-cut c.args.text.now c.spaces_before.result c.others_before-size.result c.spaces_before.ensures.count c.others_before-size.ensures.count
-      (λ e. c.if-spaces_before-after.true (c.spaces_before-2.ensures.count ∙ e))
+    (λ e. c.if-spaces_before-after.true (c.spaces_before-2.ensures.count ∙ e))
 
 pub returns-then-spaces_before-after-clause-exact :
     goal.returns-then-spaces_before-after-clause-exact
@@ -17,7 +17,7 @@ returns-then-spaces_before-after-clause-exact c number =
 pub returns-in_default-clause-value : goal.returns-in_default-clause-value
 returns-in_default-clause-value c =
     strange-cut c.args.text.now c.spaces_before.result c.others_before-size.result c.spaces_before.ensures.count c.others_before-size.ensures.count
-      c.in_default.ensures.cases.0
+    c.in_default.ensures.cases.0
 
 pub returns-in_default-clause-exact : goal.returns-in_default-clause-exact
 returns-in_default-clause-exact c number =
@@ -28,7 +28,7 @@ pub returns-clause-value : goal.returns-clause-value
 returns-clause-value c =
     c.ok.ensures.value
     ∙ parsed-cut c.args.text.now c.spaces_before.result c.others_before-size.result c.parse.result c.spaces_before.ensures.count c.others_before-size.ensures.count
-      (sym c.spaces_before-2.ensures.count ∙ c.if-spaces_before-after.false) (rw c.in-Ok.ensures.cases.0 at c.parse.ensures.value.0)
+    (sym c.spaces_before-2.ensures.count ∙ c.if-spaces_before-after.false) (rw c.in-Ok.ensures.cases.0 at c.parse.ensures.value.0)
 
 pub returns-clause-exact : goal.returns-clause-exact
 returns-clause-exact c number =
