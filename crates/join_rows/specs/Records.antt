@@ -1,5 +1,6 @@
 -- The table that the bytes of a file are, and what is wrong where they are none.
 use Rattle.std.specs.Prelude.{◌≡◌, ◌≢◌, ◌≤◌, ◌<◌, ◌+◌, ◌^◌, ◌==◌, ◌++◌, Bool, false, ℕ, List, [], ◌∷◌, if◌then◌else◌, length, map, take, nat_lt, Option, None, Some, Result, Ok, Err, All}
+use Rattle.std.specs.List.{AllByRecursion}
 use Rattle.csv.specs.Reading.{default_config, is_bom, records}
 use Rattle.join_rows.specs.Numbers.{number_of}
 use Rattle.join_rows.specs.declared.table.Cell.{Cell}
@@ -41,7 +42,7 @@ most_rows = 2 ^ 18
 
 -- each record has as many fields as this
 abbrev pub AreWide : ℕ → List (List (List ℕ)) → Type 0
-AreWide width rows = All (λ row. length row ≡ width) rows
+AreWide width rows = AllByRecursion (λ row. length row ≡ width) rows
 
 -- what is wrong with the rows from this number on, if anything: the first row of another width, or the first past the limit, whichever comes first
 unfoldable pub fault_of_rows : ℕ → ℕ → List (List (List ℕ)) → Option TableFault

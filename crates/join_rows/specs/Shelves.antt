@@ -1,5 +1,5 @@
 -- What a shelf of files tells, and what its calls do.
-use Rattle.std.specs.Prelude.{◌≡◌, ◌⊎◌, ◌≤◌, ◌<◌, ◌+◌, ◌-◌, ◌^◌, ℕ, List, length, take, drop, Option, None, Some, ⊤, min}
+use Rattle.std.specs.Prelude.{◌≡◌, ◌⊎◌, ◌≤◌, ◌<◌, ◌+◌, ◌-◌, ◌^◌, ℕ, List, length, take, drop, Option, None, Some, ⊤, nat_lt, if◌then◌else◌}
 
 -- the bytes under each name, where a shelf tells its files
 abbrev pub Told : Type 0
@@ -28,9 +28,9 @@ moved n (Some p) = Some (p.0, p.1 + n)
 abbrev pub last_fault : ℕ
 last_fault = 2 ^ 64 - 1
 
--- one more fault, up to the last value
+-- one more, up to the last value
 abbrev pub raised : ℕ → ℕ
-raised faults = min (faults + 1) last_fault
+raised count = if nat_lt count last_fault then count + 1 else count
 
 -- a count of faults rose, or stood at its last value before
 abbrev pub Faulted : ℕ → ℕ → Type 0

@@ -2,14 +2,28 @@
 //! bytes are written to.
 #![tactic(auto)]
 
+mod disk;
 mod fault;
+mod find;
 mod list;
+mod list_sink;
+mod map;
+mod named_file;
+mod number;
+mod read;
+mod records;
 mod shelf;
 mod sink;
+mod std_sink;
 mod table;
 
+pub use disk::DiskShelf;
 pub use fault::TableFault;
 pub use list::{Bytes, Items, Names};
+pub use list_sink::ListSink;
+pub use map::MapShelf;
+pub use read::read_table;
 pub use shelf::{Failed, Shelf};
 pub use sink::Sink;
+pub use std_sink::StdSink;
 pub use table::{Cell, Cells, Rows, Side, Table};

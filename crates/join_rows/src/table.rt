@@ -1,8 +1,10 @@
 // The two sides of a join, and the tables that stand on them.
 
 ghost use Rattle.std.specs.Prelude.{◌≡◌, IfOk};
+ghost use Rattle.join_rows.specs.Records.{cell_of};
 
 use crate::list::{Bytes, Items, Names};
+use crate::number::number_in;
 use std::alloc::AllocError;
 
 /// A side of the join: R is the first file, S the second.
@@ -31,6 +33,15 @@ pub struct Table {
 }
 
 impl Cell {
+    /// The cell of a text. Its number is the text's where that is spaces, an optional sign, one digit or more, and
+    /// spaces, a space being the byte 0x20.
+    pub fn new(text: Bytes) -> Cell
+        ensures { result ≡ cell_of text }
+    {
+        let num = number_in(text.as_slice());
+        Cell { text, num }
+    }
+
     /// An equal cell.
     pub fn copy(&self) -> Result<Cell, AllocError>
         ensures { IfOk result (λ cell. cell ≡ self.now) }

@@ -1,0 +1,16 @@
+use Rattle.std.proofs.Common.{◌∙◌, ◌<◌, ap, length, arith, sym}
+use Rattle.csv.specs.Records.{fields_of}
+use Rattle.join_rows.specs.Records.{cell_of, cells_of}
+use Rattle.join_rows.proofs.Fields.{fields-done, fields-more, fields-within}
+use Rattle.join_rows.proofs.records.cells_from.Goals as goal
+
+pub loop-field-smaller : goal.loop-field-smaller
+loop-field-smaller c =
+    let m : c.loop-field.place < length (fields_of c.args.row.now) = fields-within _ _ _ (sym c.in-Some.ensures.value) in omega arith
+
+pub loop-field-preserved : goal.loop-field-preserved
+loop-field-preserved c =
+    rw (c.in_ok-push.ensures.ok, c.loop-field.invariant, c.new.ensures, c.in_ok-from_slice.ensures) (sym (fields-more cell_of (fields_of c.args.row.now) c.loop-field.place c.in-Some.field.now (sym c.in-Some.ensures.value)))
+
+pub returns : goal.returns
+returns c = c.loop-field.invariant ∙ ap cells_of (fields-done (fields_of c.args.row.now) c.loop-field.place (sym c.in_default.ensures.value))

@@ -1,0 +1,16 @@
+use Rattle.std.proofs.Common.{◌≡◌, ◌-◌, ◌≤◌, ℕ, List, ◌∷◌, Some, length, map}
+use Rattle.csv.specs.Reading.{Reached, Ready, default_config, source_of}
+use Rattle.csv.specs.declared.parser.State.TheVariants as st
+use Rattle.csv.specs.declared.reader.Trim.TheVariants as trim
+use Rattle.join_rows.specs.Records.{AreWide, after_marks, cells_of}
+use Rattle.join_rows.proofs.records.table_from.Given as goal
+
+abbrev pub invariant-rows : goal.invariant-rows
+invariant-rows l =
+    (l.reader.trim ≡ trim.None) × Ready l.reader × (l.reader.config ≡ default_config) × (l.width ≡ length l.names)
+    × (y : List ℕ) × (source_of (λ s. Some s.now) l.reader ≡ Some y)
+    × (done : List (List (List ℕ))) × Reached default_config st.StartRecord (after_marks l.fn.text) (l.names ∷ done) l.reader.state y
+    × (l.rows ≡ map cells_of done) × AreWide (length l.names) done × (length l.rows ≡ length done) × (length done ≤ 262144)
+
+abbrev pub decreases-rows : goal.decreases-rows
+decreases-rows l = 262144 - length l.rows

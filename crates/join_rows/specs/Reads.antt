@@ -1,0 +1,20 @@
+-- What reading the bytes of a file answers.
+use Rattle.std.specs.Prelude.{◌≡◌, ◌⊎◌, ◌≤◌, ◌<◌, ◌+◌, ◌^◌, ℕ, List, length, Some}
+use Rattle.join_rows.specs.Shelves.{Lacks, Spot, Tells, Told}
+use Rattle.join_rows.specs.declared.fault.TableFault.{TableFault}
+use Rattle.join_rows.specs.declared.fault.TableFault.TheVariants as fault
+
+-- no call of the shelf failed, and it stands in the named file at a place no further than one past the limit
+abbrev pub Stands : Told → List ℕ → ℕ → ℕ → Spot → Type 0
+Stands told name old new spot = (new ≡ old) × (Lacks told name → ⊥) × (place : ℕ) × (spot ≡ Some (name, place)) × (place ≤ 2 ^ 24 + 1)
+
+-- the whole bytes of a file, or why there are none: told are the files, old and new are the counts of faults, and spot is where the shelf stands then
+abbrev pub WholeOk : Told → List ℕ → ℕ → ℕ → Spot → List ℕ → Type 0
+WholeOk told name old new spot bytes = (new ≡ old) × (Lacks told name → ⊥) × (spot ≡ Some (name, length bytes)) × (length bytes ≤ 2 ^ 24)
+    × ((file : List ℕ) → Tells told name file → bytes ≡ file)
+
+abbrev pub WholeErr : Told → List ℕ → ℕ → ℕ → Spot → TableFault → Type 0
+WholeErr told name old new spot fault.Read = (old < new) ⊎ Lacks told name
+WholeErr told name old new spot fault.TooLong = (new ≡ old) × (Lacks told name → ⊥) × (spot ≡ Some (name, 2 ^ 24 + 1)) × ((file : List ℕ) → Tells told name file → 2 ^ 24 < length file)
+WholeErr told name old new spot fault.Memory = Stands told name old new spot
+WholeErr told name old new spot why = ⊥

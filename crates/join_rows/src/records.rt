@@ -1,0 +1,112 @@
+// The table of a text, by the records of `csv`.
+
+ghost use Rattle.std.specs.Prelude.{◌≡◌, ◌⊎◌, length, IfOk, Err, Some};
+ghost use Rattle.csv.specs.Reading.{Ready, default_config, reader_config, reader_state, reader_trim, source_of, strip_bom};
+ghost use Rattle.csv.specs.Records.{fields_of};
+ghost use Rattle.csv.specs.declared.parser.State.TheVariants as st;
+ghost use Rattle.csv.specs.declared.reader.Trim.TheVariants as trim;
+ghost use Rattle.join_rows.specs.Records.{after_marks, cells_of, has_mark, records_of, table_of_records};
+ghost use Rattle.join_rows.specs.declared.fault.TableFault.TheVariants as fault;
+
+use crate::fault::TableFault;
+use crate::list::{Bytes, Names};
+use crate::table::{Cell, Cells, Rows, Table};
+use csv::{ByteRecord, Reader, ReaderBuilder};
+use std::alloc::{AllocError, Global};
+
+// How many rows a table may have under its header.
+const MOST_ROWS: u64 = 1 << 18;
+
+// Whether a text begins with a byte order mark.
+fn begins_with_mark(text: &[u8]) -> bool
+    ensures { result ≡ has_mark text.now }
+{
+    match text {
+        [a, b, c, ..] => *a == 0xEF && *b == 0xBB && *c == 0xBF,
+        _ => false,
+    }
+}
+
+// The text after each byte order mark at its beginning.
+fn without_marks(text: &[u8]) -> &[u8]
+    ensures { result.now ≡ after_marks text.now }
+{
+    let mut rest = text;
+    while begins_with_mark(rest) {
+        rest = &rest[3..];
+    }
+    rest
+}
+
+// The fields of a record.
+fn names_from(alloc: Global, row: &ByteRecord) -> Result<Names, AllocError>
+    ensures { IfOk result (λ names. names ≡ fields_of row.now) }
+{
+    let mut names = Names::with_room(alloc, row.len())?;
+    let mut place = 0;
+    while let Some(field) = row.get(place) {
+        names.push(Bytes::from_slice(alloc, field)?)?;
+        place += 1;
+    }
+    Ok(names)
+}
+
+// The fields of a record, as cells.
+fn cells_from(alloc: Global, row: &ByteRecord) -> Result<Cells, AllocError>
+    ensures { IfOk result (λ cells. cells ≡ cells_of (fields_of row.now)) }
+{
+    let mut cells = Cells::with_room(alloc, row.len())?;
+    let mut place = 0;
+    while let Some(field) = row.get(place) {
+        cells.push(Cell::new(Bytes::from_slice(alloc, field)?))?;
+        place += 1;
+    }
+    Ok(cells)
+}
+
+// A reader over a text, with no header row of its own, that takes records of any width.
+fn reader_over<'a>(alloc: Global, text: &'a [u8]) -> Reader<&'a [u8]>
+    ensures trim { reader_trim result ≡ trim.None }
+    ensures ready { Ready result }
+    ensures config { reader_config result ≡ default_config }
+    ensures state { reader_state result ≡ st.StartRecord }
+    ensures source { source_of (λ s. Some s.now) result ≡ Some (strip_bom text.now) }
+{
+    ReaderBuilder::new()
+        .has_headers(false)
+        .flexible(true)
+        .from_reader(alloc, text)
+}
+
+// The table of a text.
+pub(crate) fn table_from(alloc: Global, text: &[u8]) -> Result<Table, TableFault>
+    ensures { (result ≡ Err fault.Memory) ⊎ (result ≡ table_of_records (records_of text.now)) }
+{
+    let mut reader = reader_over(alloc, without_marks(text));
+    let mut row = ByteRecord::new(alloc);
+    match reader.read_byte_record(&mut row) {
+        Err(_) => return Err(TableFault::Memory),
+        Ok(false) => return Err(TableFault::NoHeader),
+        Ok(true) => {}
+    }
+    let width = row.len();
+    let names = names_from(alloc, &row)?;
+    let mut rows = Rows::new(alloc);
+    'rows: loop {
+        match reader.read_byte_record(&mut row) {
+            Err(_) => return Err(TableFault::Memory),
+            Ok(false) => return Ok(Table { names, rows }),
+            Ok(true) => {}
+        }
+        if rows.len() == MOST_ROWS {
+            return Err(TableFault::TooMany);
+        }
+        if row.len() != width {
+            return Err(TableFault::Width {
+                row: rows.len() + 1,
+                found: row.len() as u64,
+            });
+        }
+        rows.push(cells_from(alloc, &row)?)?;
+    }
+}
