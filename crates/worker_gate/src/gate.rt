@@ -1,0 +1,23 @@
+// What is passed at each turn.
+
+use epoch_tags::Actor;
+
+/// Who passes, and in which of its turns, counted from 0. The count stays at 2^64 - 1 once it is there.
+#[derive(Clone, Copy, Debug, PartialEq, Eq)]
+pub struct Spot {
+    pub actor: Actor,
+    pub turn: u64,
+}
+
+/// What an actor passes as a turn begins. A pass promises nothing, and takes no memory.
+pub trait Gate: Sync {
+    fn pass(&self, spot: Spot);
+}
+
+/// A gate that stands open.
+#[derive(Clone, Copy, Debug, PartialEq, Eq)]
+pub struct NoGate;
+
+impl Gate for NoGate {
+    fn pass(&self, _spot: Spot) {}
+}
