@@ -2,7 +2,7 @@
 use Rattle.std.proofs.Common.{◌≡◌, ℕ, ◌+◌, ◌^◌, ◌<◌, ◌≢◌, inl, inr, refl, sym, ◌∙◌, ap, subst, arith, Bool, true, Option, Some, None, List, [], ◌∷◌, ◌++◌, length, append_assoc, get_or-set_same, get_or-set_other}
 use Rattle.std.specs.Prelude.{slice_set, flat_map}
 use Rattle.std.proofs.Math.ListN.{length-set}
-use Rattle.std.proofs.lemmas.Bool.{cases_eq}
+use Rattle.std.proofs.lemmas.Bool.{cases_eq, false≢true}
 use Rattle.epoch_tags.specs.declared.actor.Actor.TheVariants.{Feeder, Joiner as Joiner'}
 use Rattle.epoch_tags.specs.declared.tuple.Pair.{Pair}
 use Rattle.epoch_tags.specs.declared.message.Post.{Post}
@@ -20,7 +20,7 @@ use Rattle.joiner_core.specs.Tests.{TakesOfJoiner}
 use Rattle.joiner_core.specs.Whole.{StandsWithin, IsSound, Accepts}
 use Rattle.joiner_core.specs.declared.opened.Opened.{Opened}
 use Rattle.joiner_core.specs.declared.epochs.Epochs.{Epochs}
-use Rattle.joiner_core.specs.declared.joiner.Joiner.{Joiner}
+use Rattle.joiner_core.specs.declared.machine.Machine.{Machine}
 use Rattle.joiner_core.proofs.Keeping.{append-nil, with_sent-none}
 
 -- ---- what was received, and what was sent to the collector, stand apart
@@ -48,6 +48,9 @@ steps-other s t lists f g zs w w' done turned ended all_turned part_ended steps 
   sent = sent-other s lists f g zs all_turned steps is.sent;
   parts = is.parts;
   told = is.told;
+  first_shift = is.first_shift;
+  from_partner = is.from_partner;
+  to_partner = is.to_partner;
 }
 
 by-other : (s : JoinerStart) (t : Taken) (lists : JoinerLists) (f g : ℕ → List ToJoiner) (zs : List ToCollector) (w w' : List Pair) (m : Epochs) → PairsMove s lists w zs w'
@@ -59,6 +62,7 @@ by-other s t lists f g zs w w' m moves None is = record {
   epoch = is.epoch;
   shift = is.shift;
   ended_count = is.ended_count;
+  moved = is.moved;
 }
 by-other s t lists f g zs w w' m moves (Some o) is = record {
   new = is.new;
@@ -71,6 +75,7 @@ by-other s t lists f g zs w w' m moves (Some o) is = record {
   step_epoch = is.step_epoch;
   step_shift = is.step_shift;
   ended_count = is.ended_count;
+  moved = is.moved;
   count = is.count;
   missing = is.missing;
   all = is.all;
@@ -85,11 +90,11 @@ stands-received s t lists f g w m is = stands-other s t lists f g lists.to_colle
 
 -- ---- a message of a feeder
 
-pub accepts-taken-feeder : (old new : Joiner) (p : ℕ) (m : ToJoiner) (w w' : List Pair) (before after : List Post) → IsSound old → p < old.epochs.feeders → held_at old.of_feeders p ≡ []
+pub accepts-taken-feeder : (old new : Machine) (p : ℕ) (m : ToJoiner) (w w' : List Pair) (before after : List Post) → IsSound old → p < old.epochs.feeders → held_at old.of_feeders p ≡ []
     → new ≡ record old { epochs = new.epochs } → TookOfFeeder p m old.epochs new.epochs w w' before after → Accepts (Feeder p) m old new w w' before after
 accepts-taken-feeder old new p m w w' before after sound low clear state took =
-    let own : new.of_feeders ≡ old.of_feeders = ap (λ (z : Joiner). z.of_feeders) state in
-    let other : new.of_joiners ≡ old.of_joiners = ap (λ (z : Joiner). z.of_joiners) state in
+    let own : new.of_feeders ≡ old.of_feeders = ap (λ (z : Machine). z.of_feeders) state in
+    let other : new.of_joiners ≡ old.of_joiners = ap (λ (z : Machine). z.of_joiners) state in
     record {
       sound = record {
         within = took.within;
@@ -99,7 +104,8 @@ accepts-taken-feeder old new p m w w' before after sound low clear state took =
       added = took.added;
       sends = took.sends;
       quiet = took.quiet;
-      told = ap (λ (z : Joiner). z.told) state;
+      told = ap (λ (z : Machine). z.told) state;
+      rests = λ at. let n = sound.within.ended in absurd (false≢true (sym took.going ∙ at.ended p (omega arith)));
       stands = λ s lists is.
           let many = is.stands.fixed.feeders in
           let after = took.stands s is.taken (with_other lists (grown p m lists.from_feeder) lists.from_joiner lists.to_collector) (omega arith) (stands-received s is.taken lists (grown p m lists.from_feeder) lists.from_joiner w old.epochs is.stands) in
@@ -122,7 +128,7 @@ accepts-taken-feeder old new p m w w' before after sound low clear state took =
           };
     }
 
-pub accepts-held-feeder : (old : Joiner) (queues : List (List ToJoiner)) (p : ℕ) (m : ToJoiner) (w : List Pair) (before : List Post) → IsSound old → p < old.epochs.feeders
+pub accepts-held-feeder : (old : Machine) (queues : List (List ToJoiner)) (p : ℕ) (m : ToJoiner) (w : List Pair) (before : List Post) → IsSound old → p < old.epochs.feeders
     → queues ≡ slice_set old.of_feeders p (held_at old.of_feeders p ++ m ∷ []) → Accepts (Feeder p) m old (record old { of_feeders = queues }) w w before before
 accepts-held-feeder old queues p m w before sound low put =
     let count = sound.feeders in
@@ -137,6 +143,7 @@ accepts-held-feeder old queues p m w before sound low put =
       sends = sym (append-nil before);
       quiet = refl;
       told = refl;
+      rests = λ at. (refl, refl);
       stands = λ s lists is.
           record {
             taken = is.taken;
@@ -156,12 +163,12 @@ accepts-held-feeder old queues p m w before sound low put =
 
 -- ---- a message of a joiner
 
-pub accepts-taken-joiner : (old new : Joiner) (q : ℕ) (m : ToJoiner) (w w' : List Pair) (before after : List Post) → IsSound old → held_at old.of_joiners q ≡ [] → TakesOfJoiner old.epochs q m
+pub accepts-taken-joiner : (old new : Machine) (q : ℕ) (m : ToJoiner) (w w' : List Pair) (before after : List Post) → IsSound old → held_at old.of_joiners q ≡ [] → TakesOfJoiner old.epochs q m
     → new ≡ record old { epochs = new.epochs } → ((j : ℕ) → TakesOfJoiner old.epochs j m → TookOfJoiner j m old.epochs new.epochs w w' before after) → Accepts (Joiner' q) m old new w w' before after
 accepts-taken-joiner old new q m w w' before after sound clear can state takes =
     let took = takes q can in
-    let own : new.of_joiners ≡ old.of_joiners = ap (λ (z : Joiner). z.of_joiners) state in
-    let other : new.of_feeders ≡ old.of_feeders = ap (λ (z : Joiner). z.of_feeders) state in
+    let own : new.of_joiners ≡ old.of_joiners = ap (λ (z : Machine). z.of_joiners) state in
+    let other : new.of_feeders ≡ old.of_feeders = ap (λ (z : Machine). z.of_feeders) state in
     record {
       sound = record {
         within = took.within;
@@ -171,7 +178,8 @@ accepts-taken-joiner old new q m w w' before after sound clear can state takes =
       added = took.added;
       sends = took.sends;
       quiet = took.quiet;
-      told = ap (λ (z : Joiner). z.told) state;
+      told = ap (λ (z : Machine). z.told) state;
+      rests = λ at. absurd (took.opened at.closed);
       stands = λ s lists is.
           let after = took.stands s is.taken (with_other lists lists.from_feeder (grown q m lists.from_joiner) lists.to_collector) (stands-received s is.taken lists lists.from_feeder (grown q m lists.from_joiner) w old.epochs is.stands) in
           let t' = after.0 in
@@ -193,7 +201,7 @@ accepts-taken-joiner old new q m w w' before after sound clear can state takes =
           };
     }
 
-pub accepts-held-joiner : (old : Joiner) (queues : List (List ToJoiner)) (q : ℕ) (m : ToJoiner) (w : List Pair) (before : List Post) → IsSound old → q < 2 ^ old.epochs.k
+pub accepts-held-joiner : (old : Machine) (queues : List (List ToJoiner)) (q : ℕ) (m : ToJoiner) (w : List Pair) (before : List Post) → IsSound old → q < 2 ^ old.epochs.k
     → queues ≡ slice_set old.of_joiners q (held_at old.of_joiners q ++ m ∷ []) → Accepts (Joiner' q) m old (record old { of_joiners = queues }) w w before before
 accepts-held-joiner old queues q m w before sound low put =
     let count = sound.joiners in
@@ -208,6 +216,7 @@ accepts-held-joiner old queues q m w before sound low put =
       sends = sym (append-nil before);
       quiet = refl;
       told = refl;
+      rests = λ at. (refl, refl);
       stands = λ s lists is.
           record {
             taken = is.taken;

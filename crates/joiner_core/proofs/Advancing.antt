@@ -3,7 +3,7 @@ use Rattle.std.proofs.Common.{◌≡◌, ℕ, ◌+◌, ◌^◌, ◌<◌, ◌≢�
 use Rattle.std.specs.Prelude.{slice_set, sum_by, slice_index_or}
 use Rattle.std.proofs.Math.ListN.{length-set}
 use Rattle.std.proofs.lemmas.List.Sums.{sum_by-cons}
-use Rattle.std.proofs.lemmas.Bool.{cases_eq}
+use Rattle.std.proofs.lemmas.Bool.{cases_eq, false≢true}
 use Rattle.epoch_tags.specs.declared.tuple.Pair.{Pair}
 use Rattle.epoch_tags.specs.declared.message.Post.{Post}
 use Rattle.epoch_tags.specs.declared.message.ToJoiner.{ToJoiner}
@@ -13,43 +13,50 @@ use Rattle.joiner_law.proofs.Growing.{grown-same, grown-other}
 use Rattle.joiner_core.specs.Queues.{held_at}
 use Rattle.joiner_core.specs.Taking.{IsWithin, TookOfFeeder, TookOfJoiner}
 use Rattle.joiner_core.specs.Tests.{TakesOfJoiner}
-use Rattle.joiner_core.specs.Whole.{StandsWithin, Advances, IsSound, IsReadyOfJoiner, TookHeld, held_in_all}
-use Rattle.joiner_core.specs.declared.joiner.Joiner.{Joiner}
+use Rattle.joiner_core.specs.Whole.{StandsWithin, IsResting, Advances, IsSound, IsReadyOfJoiner, TookHeld, held_in_all}
+use Rattle.joiner_core.specs.declared.epochs.Epochs.{Epochs}
+use Rattle.joiner_core.specs.declared.machine.Machine.{Machine}
 use Rattle.joiner_core.proofs.Keeping.{quiet-append, with_sent-none, with_sent-append}
 
 append-nil : {A : Type 0} (xs : List A) → xs ++ [] ≡ xs
 append-nil [] = refl
 append-nil (x ∷ xs) = ap (λ ys. x ∷ ys) (append-nil xs)
 
-pub advances-none : (m : Joiner) (waiting : List Pair) (posts : List Post) → Advances m m waiting waiting posts posts
+pub advances-none : (m : Machine) (waiting : List Pair) (posts : List Post) → Advances m m waiting waiting posts posts
 advances-none m waiting posts = record {
   added = [];
   sends = sym (append-nil posts);
   quiet = refl;
   told = refl;
+  rests = λ at. (refl, refl);
   stands = λ s lists is. subst (λ (ls : JoinerLists). StandsWithin s ls waiting m) (sym (with_sent-none lists)) is;
 }
 
-pub advances-then : (a b c : Joiner) (wa wb wc : List Pair) (pa pb pc : List Post) → Advances a b wa wb pa pb → Advances b c wb wc pb pc → Advances a c wa wc pa pc
+pub advances-then : (a b c : Machine) (wa wb wc : List Pair) (pa pb pc : List Post) → Advances a b wa wb pa pb → Advances b c wb wc pb pc → Advances a c wa wc pa pc
 advances-then a b c wa wb wc pa pb pc first second = record {
   added = first.added ++ second.added;
   sends = second.sends ∙ ap (λ zs. zs ++ second.added) first.sends ∙ append_assoc pa first.added second.added;
   quiet = quiet-append first.added second.added first.quiet second.quiet;
   told = second.told ∙ first.told;
+  rests = λ at.
+      let one = first.rests at in
+      let two = second.rests (subst (λ (z : Epochs). IsResting z) (sym one.0) at) in
+      (two.0 ∙ one.0, two.1 ∙ one.1);
   stands = λ s lists is.
       subst (λ (ls : JoinerLists). StandsWithin s ls wc c) (with_sent-append lists first.added second.added) (second.stands s (with_sent lists first.added) (first.stands s lists is));
 }
 
 -- the first of those held of feeder p is taken
-pub advances-held : (old new : Joiner) (p : ℕ) (m : ToJoiner) (w w' : List Pair) (before after : List Post) → p < length old.of_feeders → old.epochs.feeders ≡ length old.of_feeders
+pub advances-held : (old new : Machine) (p : ℕ) (m : ToJoiner) (w w' : List Pair) (before after : List Post) → p < length old.of_feeders → old.epochs.feeders ≡ length old.of_feeders → p < length old.epochs.ended.items
     → TookOfFeeder p m old.epochs new.epochs w w' before after
     → held_at old.of_feeders p ≡ m ∷ held_at new.of_feeders p → new.of_feeders ≡ slice_set old.of_feeders p (held_at new.of_feeders p) → new.of_joiners ≡ old.of_joiners → new.told ≡ old.told
     → Advances old new w w' before after
-advances-held old new p m w w' before after low count took first rest same told = record {
+advances-held old new p m w w' before after low count within took first rest same told = record {
   added = took.added;
   sends = took.sends;
   quiet = took.quiet;
   told = told;
+  rests = λ at. absurd (false≢true (sym took.going ∙ at.ended p within));
   stands = λ s lists is.
       let many = is.stands.fixed.feeders in
       let after = took.stands s is.taken lists (omega arith) is.stands in
@@ -72,7 +79,7 @@ advances-held old new p m w w' before after low count took first rest same told 
 }
 
 -- the first of those held of joiner q is taken
-pub advances-held-joiner : (old new : Joiner) (q : ℕ) (m : ToJoiner) (w w' : List Pair) (before after : List Post)
+pub advances-held-joiner : (old new : Machine) (q : ℕ) (m : ToJoiner) (w w' : List Pair) (before after : List Post)
     → TookOfJoiner q m old.epochs new.epochs w w' before after
     → held_at old.of_joiners q ≡ m ∷ held_at new.of_joiners q → new.of_joiners ≡ slice_set old.of_joiners q (held_at new.of_joiners q) → new.of_feeders ≡ old.of_feeders → new.told ≡ old.told
     → Advances old new w w' before after
@@ -81,6 +88,7 @@ advances-held-joiner old new q m w w' before after took first rest same told = r
   sends = took.sends;
   quiet = took.quiet;
   told = told;
+  rests = λ at. absurd (took.opened at.closed);
   stands = λ s lists is.
       let after = took.stands s is.taken lists is.stands in
       let t' = after.0 in
@@ -116,12 +124,12 @@ sum-fewer (q ∷ qs) (suc i) m rest low is =
 fewer-of : (old new : List (List ToJoiner)) (i : ℕ) (m : ToJoiner) → i < length old → held_at old i ≡ m ∷ held_at new i → new ≡ slice_set old i (held_at new i) → sum_by length new + 1 ≡ sum_by length old
 fewer-of old new i m low first rest = let n = sum-fewer old i m (held_at new i) low first in let e : sum_by length new ≡ sum_by length (slice_set old i (held_at new i)) = ap (λ qs. sum_by length qs) rest in omega arith
 
-pub took-held-feeder : (old new : Joiner) (queues : List (List ToJoiner)) (p : ℕ) (m : ToJoiner) (w w' : List Pair) (before after : List Post) → IsSound old → p < old.epochs.feeders
+pub took-held-feeder : (old new : Machine) (queues : List (List ToJoiner)) (p : ℕ) (m : ToJoiner) (w w' : List Pair) (before after : List Post) → IsSound old → p < old.epochs.feeders
     → held_at old.of_feeders p ≡ m ∷ held_at queues p → queues ≡ slice_set old.of_feeders p (held_at queues p)
     → new ≡ record old { of_feeders = queues; epochs = new.epochs } → TookOfFeeder p m old.epochs new.epochs w w' before after → TookHeld old new w w' before after
 took-held-feeder old new queues p m w w' before after sound low first rest state took =
-    let f : new.of_feeders ≡ queues = ap (λ (z : Joiner). z.of_feeders) state in
-    let j : new.of_joiners ≡ old.of_joiners = ap (λ (z : Joiner). z.of_joiners) state in
+    let f : new.of_feeders ≡ queues = ap (λ (z : Machine). z.of_feeders) state in
+    let j : new.of_joiners ≡ old.of_joiners = ap (λ (z : Machine). z.of_joiners) state in
     let count = sound.feeders in
     let within : p < length old.of_feeders = omega arith in
     let first' : held_at old.of_feeders p ≡ m ∷ held_at new.of_feeders p = subst (λ (qs : List (List ToJoiner)). held_at old.of_feeders p ≡ m ∷ held_at qs p) (sym f) first in
@@ -132,19 +140,19 @@ took-held-feeder old new queues p m w w' before after sound low first rest state
         feeders = ap length rest' ∙ length-set old.of_feeders p (held_at new.of_feeders p) ∙ sound.feeders ∙ sym took.feeders;
         joiners = ap length j ∙ sound.joiners ∙ ap (λ k. 2 ^ k) (sym took.k);
       };
-      advances = advances-held old new p m w w' before after within (sym sound.feeders) took first' rest' j (ap (λ (z : Joiner). z.told) state);
+      advances = advances-held old new p m w w' before after within (sym sound.feeders) (let n = sound.within.ended in omega arith) took first' rest' j (ap (λ (z : Machine). z.told) state);
       fewer = let n = fewer-of old.of_feeders new.of_feeders p m within first' rest' in let e : sum_by length new.of_joiners ≡ sum_by length old.of_joiners = ap (λ qs. sum_by length qs) j in omega arith;
     }
 
 same-first : (x y : ToJoiner) (xs ys zs : List ToJoiner) → zs ≡ x ∷ xs → zs ≡ y ∷ ys → x ≡ y
 same-first x y xs ys zs one two = ap (λ ms. slice_index_or ms 0 x) (sym one ∙ two)
 
-pub took-held-joiner : (old new : Joiner) (queues : List (List ToJoiner)) (q : ℕ) (m : ToJoiner) (w w' : List Pair) (before after : List Post) → IsSound old → IsReadyOfJoiner old q
+pub took-held-joiner : (old new : Machine) (queues : List (List ToJoiner)) (q : ℕ) (m : ToJoiner) (w w' : List Pair) (before after : List Post) → IsSound old → IsReadyOfJoiner old q
     → held_at old.of_joiners q ≡ m ∷ held_at queues q → queues ≡ slice_set old.of_joiners q (held_at queues q)
     → new ≡ record old { of_joiners = queues; epochs = new.epochs } → ((j : ℕ) → TakesOfJoiner old.epochs j m → TookOfJoiner j m old.epochs new.epochs w w' before after) → TookHeld old new w w' before after
 took-held-joiner old new queues q m w w' before after sound ready first rest state takes =
-    let f : new.of_joiners ≡ queues = ap (λ (z : Joiner). z.of_joiners) state in
-    let j : new.of_feeders ≡ old.of_feeders = ap (λ (z : Joiner). z.of_feeders) state in
+    let f : new.of_joiners ≡ queues = ap (λ (z : Machine). z.of_joiners) state in
+    let j : new.of_feeders ≡ old.of_feeders = ap (λ (z : Machine). z.of_feeders) state in
     let count = sound.joiners in
     let low = ready.low in
     let within : q < length old.of_joiners = omega arith in
@@ -158,6 +166,6 @@ took-held-joiner old new queues q m w w' before after sound ready first rest sta
         feeders = ap length j ∙ sound.feeders ∙ sym took.feeders;
         joiners = ap length rest' ∙ length-set old.of_joiners q (held_at new.of_joiners q) ∙ sound.joiners ∙ ap (λ k. 2 ^ k) (sym took.k);
       };
-      advances = advances-held-joiner old new q m w w' before after took first' rest' j (ap (λ (z : Joiner). z.told) state);
+      advances = advances-held-joiner old new q m w w' before after took first' rest' j (ap (λ (z : Machine). z.told) state);
       fewer = let n = fewer-of old.of_joiners new.of_joiners q m within first' rest' in let e : sum_by length new.of_feeders ≡ sum_by length old.of_feeders = ap (λ qs. sum_by length qs) j in omega arith;
     }

@@ -1,6 +1,7 @@
 -- A joiner that has just begun.
 use Rattle.std.proofs.Common.{◌≡◌, ℕ, zero, suc, ◌+◌, ◌^◌, ◌<◌, ◌≤◌, refl, sym, ◌∙◌, ap, subst, arith, Bool, true, false, Option, Some, None, List, [], ◌∷◌, ◌++◌, length}
 use Rattle.std.proofs.lemmas.Bool.{false≢true}
+use Rattle.std.specs.List.{AllByRecursion}
 use Rattle.join_rows.specs.Lists.{SameBag, gather}
 use Rattle.join_rows.proofs.Bags.{SameBag-refl}
 use Rattle.epoch_tags.specs.declared.tuple.Tuple.{Tuple}
@@ -12,14 +13,14 @@ use Rattle.joiner_law.specs.Standing.{StandsSettled}
 use Rattle.joiner_core.specs.Flags.{flag_at}
 use Rattle.joiner_core.specs.Queues.{held_at}
 use Rattle.joiner_core.specs.Matching.{does_hold}
-use Rattle.joiner_core.specs.Machine.{IsReady}
+use Rattle.joiner_core.specs.Changes.{IsReady}
 use Rattle.joiner_core.specs.declared.theta.Theta.{Theta}
 use Rattle.joiner_core.specs.declared.opened.Opened.{Opened}
 use Rattle.joiner_core.specs.declared.epochs.Epochs.{Epochs}
-use Rattle.joiner_core.specs.declared.joiner.Joiner.{Joiner}
+use Rattle.joiner_core.specs.declared.machine.Machine.{Machine}
 use Rattle.joiner_core.specs.Standing.{IsMachineOf, IsClosed, StandsBy, Stands}
 use Rattle.joiner_core.specs.Taking.{IsWithin, IsStepWithin, IsCounted, HasSomeTurn}
-use Rattle.joiner_core.specs.Whole.{IsSound, IsStuck, IsFresh, IsMade, StandsWithin, no_lists, start_of}
+use Rattle.joiner_core.specs.Whole.{IsSound, IsStuck, IsMade, StandsBetween, no_lists, start_of}
 use Rattle.joiner_core.proofs.Keeping.{append-nil, same-ends}
 use Rattle.joiner_core.proofs.Reporting.{stands-for}
 
@@ -61,13 +62,16 @@ settled-start k id shift epoch feeders theta base low = record {
     sent = tt;
     parts = tt;
     told = refl;
+    first_shift = refl;
+    from_partner = λ q. tt;
+    to_partner = λ q. tt;
   };
   store = same-bag base (base ++ []) (sym (append-nil base));
   links = λ q. record { never_falls = tt; up_to = tt; goes_on = omega arith };
   taken_up_to = λ q. tt;
 }
 
-closed-start : (k id shift epoch feeders : ℕ) (theta : Theta) (base : List Tuple) (m : Joiner) → shift ≤ k → IsMade k id shift epoch feeders theta base m
+closed-start : (k id shift epoch feeders : ℕ) (theta : Theta) (base : List Tuple) (m : Machine) → shift ≤ k → IsMade k id shift epoch feeders theta base m
     → IsClosed (start_of k id shift epoch feeders theta base) (nothing_taken shift) no_lists [] m.epochs
 closed-start k id shift epoch feeders theta base m low made = record {
   cur = first_step shift base;
@@ -77,16 +81,17 @@ closed-start k id shift epoch feeders theta base m low made = record {
   epoch = let e = made.at_epoch in omega arith;
   shift = made.at_shift;
   ended_count = made.ended;
+  moved = made.moved;
 }
 
 none-stuck : (queue : List ToJoiner) (x : ToJoiner) (rest : List ToJoiner) → queue ≡ [] → queue ≡ x ∷ rest → ⊥
 none-stuck queue x rest none is = let a = ap length none in let b : length queue ≡ length (x ∷ rest) = ap length is in absurd (omega arith)
 
-pub fresh : (k id shift epoch feeders : ℕ) (theta : Theta) (base : List Tuple) (m : Joiner) → k < 9 → shift ≤ k → 0 < feeders → IsMade k id shift epoch feeders theta base m → IsFresh k id shift epoch feeders theta base m
-fresh k id shift epoch feeders theta base m small low some made =
+pub made-sound : (k id shift epoch feeders : ℕ) (theta : Theta) (base : List Tuple) (m : Machine) → k < 9 → shift ≤ k → IsMade k id shift epoch feeders theta base m → IsSound m
+made-sound k id shift epoch feeders theta base m small low made =
     let same_k = made.at_k in
     let same_shift = made.at_shift in
-    let sound : IsSound m = record {
+    record {
       within = record {
         small = omega arith;
         shift = omega arith;
@@ -98,23 +103,35 @@ fresh k id shift epoch feeders theta base m small low some made =
       };
       feeders = made.of_feeders ∙ sym made.at_feeders;
       joiners = made.of_joiners ∙ ap (λ n. 2 ^ n) (sym made.at_k);
-    } in
+    }
+
+pub made-stands : (k id shift epoch feeders : ℕ) (theta : Theta) (base : List Tuple) (m : Machine) → k < 9 → shift ≤ k → id < 2 ^ k → 0 < feeders → AllByRecursion (λ (x : Tuple). x.stamp ≤ epoch) base
+    → IsMade k id shift epoch feeders theta base m → StandsBetween (start_of k id shift epoch feeders theta base) no_lists m
+made-stands k id shift epoch feeders theta base m small low few some older made =
+    let sound = made-sound k id shift epoch feeders theta base m small low made in
     let stuck : IsStuck m = record {
       feeders = λ p less x rest is can. none-stuck _ x rest (made.no_feeders p) is;
       joiners = λ q less x rest is can. none-stuck _ x rest (made.no_joiners q) is;
     } in
-    record {
-      sound = sound;
-      stuck = stuck;
-      going = made.spent;
-      quiet = made.told;
-      stands = stands-for (start_of k id shift epoch feeders theta base) no_lists m sound stuck (λ no. refl) (λ yes. absurd (false≢true (sym made.told ∙ yes))) (λ has. absurd (false≢true (sym (made.down 0) ∙ has.ended 0 (let n = made.ended in omega arith)))) (record {
-        taken = nothing_taken shift;
-        stands = record {
-          fixed = record { k = made.at_k; id = made.at_id; feeders = made.at_feeders; matches = ap (λ (th : Theta). does_hold th) made.at_theta; small = small };
-          now = subst (λ (z : Option Opened). StandsBy (start_of k id shift epoch feeders theta base) (nothing_taken shift) no_lists [] m.epochs z) (sym made.step) (closed-start k id shift epoch feeders theta base m low made);
-        };
-        feeders = λ p less. made.no_feeders p;
-        joiners = λ q less. made.no_joiners q;
-      });
-    }
+    stands-for (start_of k id shift epoch feeders theta base) no_lists m
+    (record { within = low; id = few; some = some; base = older })
+    sound stuck
+    (record {
+      founds = [];
+      last = [];
+      to_collector = refl;
+      none_empty = tt;
+      few = omega arith;
+      untold = λ no. refl;
+      told = λ yes. absurd (false≢true (sym made.told ∙ yes));
+      finishes = λ has. absurd (false≢true (sym (made.down 0) ∙ has.ended 0 (let n = made.ended in omega arith)));
+    })
+    (record {
+      taken = nothing_taken shift;
+      stands = record {
+        fixed = record { k = made.at_k; id = made.at_id; feeders = made.at_feeders; matches = ap (λ (th : Theta). does_hold th) made.at_theta; small = small };
+        now = subst (λ (z : Option Opened). StandsBy (start_of k id shift epoch feeders theta base) (nothing_taken shift) no_lists [] m.epochs z) (sym made.step) (closed-start k id shift epoch feeders theta base m low made);
+      };
+      feeders = λ p less. made.no_feeders p;
+      joiners = λ q less. made.no_joiners q;
+    })

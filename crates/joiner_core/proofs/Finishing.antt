@@ -10,13 +10,13 @@ use Rattle.joiner_law.specs.History.{Step}
 use Rattle.joiner_law.specs.Standing.{one_if, AreParts}
 use Rattle.joiner_core.specs.Flags.{flag_at, IsEachUp}
 use Rattle.joiner_core.specs.Queues.{held_at}
-use Rattle.joiner_core.specs.Machine.{IsReady}
+use Rattle.joiner_core.specs.Changes.{IsReady}
 use Rattle.joiner_core.specs.declared.opened.Opened.{Opened}
 use Rattle.joiner_core.specs.declared.epochs.Epochs.{Epochs}
-use Rattle.joiner_core.specs.declared.joiner.Joiner.{Joiner}
+use Rattle.joiner_core.specs.declared.machine.Machine.{Machine}
 use Rattle.joiner_core.specs.Standing.{IsMachineOf, IsClosed, IsOpen, StandsBy, Stands}
 use Rattle.joiner_core.specs.Taking.{HasSomeTurn}
-use Rattle.joiner_core.specs.Whole.{IsSound, StandsWithin, StandsFor, HasFinished}
+use Rattle.joiner_core.specs.Whole.{IsResting, StandsBetween, HasFinished}
 use Rattle.joiner_core.proofs.Keeping.{append-nil}
 use Rattle.joiner_core.proofs.Testing.{closed-few, open-begun}
 
@@ -52,6 +52,9 @@ closed-rests s t lists w m up is = (
 rests-by : (s : JoinerStart) (t : Taken) (lists : JoinerLists) (w : List Pair) (m : Epochs) (step : Option Opened) → step ≡ None → IsEachUp m.ended.items → StandsBy s t lists w m step → IsAtRest s t
 rests-by s t lists w m step none up is = closed-rests s t lists w m up (subst (λ (z : Option Opened). StandsBy s t lists w m z) none is)
 
+pub rests-law : (s : JoinerStart) (t : Taken) (lists : JoinerLists) (w : List Pair) (m : Epochs) → IsResting m → Stands s t lists w m → IsAtRest s t
+rests-law s t lists w m at is = rests-by s t lists w m m.step at.closed at.ended is.now
+
 clear-same : (taken held received : List ToJoiner) → held ≡ [] → taken ++ held ≡ received → taken ≡ received
 clear-same taken held received none is = sym (append-nil taken) ∙ ap (λ zs. taken ++ zs) (sym none) ∙ is
 
@@ -63,7 +66,7 @@ same-clear taken (x ∷ held) received is same =
     let c = length-append taken (x ∷ held) in
     absurd (omega arith)
 
-pub finished-law : (s : JoinerStart) (lists : JoinerLists) (m : Joiner) → (is : StandsFor s lists m) → HasFinished m → IsFinished s lists is.within.taken
+pub finished-law : (s : JoinerStart) (lists : JoinerLists) (m : Machine) → (is : StandsBetween s lists m) → HasFinished m → IsFinished s lists is.within.taken
 finished-law s lists m is has = (
   rests-by s is.within.taken lists [] m.epochs m.epochs.step has.closed has.ended is.within.stands.now,
   λ p low. clear-same _ _ _ (has.feeders p) (is.within.feeders p low),
@@ -89,8 +92,9 @@ clear-at [] n count low i = refl
 clear-at (q ∷ queues) n count low zero = low 0 (omega arith)
 clear-at (q ∷ queues) n count low (suc i) = clear-at queues (length queues) refl (λ j less. low (suc j) (omega arith)) i
 
-pub law-finished : (s : JoinerStart) (lists : JoinerLists) (m : Joiner) → IsSound m → (is : StandsFor s lists m) → IsFinished s lists is.within.taken → HasFinished m
-law-finished s lists m sound is fin =
+pub law-finished : (s : JoinerStart) (lists : JoinerLists) (m : Machine) → (is : StandsBetween s lists m) → IsFinished s lists is.within.taken → HasFinished m
+law-finished s lists m is fin =
+    let sound = is.sound in
     let many = is.within.stands.fixed.feeders in
     let k = is.within.stands.fixed.k in
     let some : HasSomeTurn s.feeders m.epochs.step = subst (λ (n : ℕ). HasSomeTurn n m.epochs.step) many sound.within.begun in

@@ -1,7 +1,7 @@
 -- The machine stands for its lists after each call.
 use Rattle.std.proofs.Common.{◌≡◌, ℕ, zero, suc, ◌+◌, ◌<◌, ◌≤◌, refl, sym, ◌∙◌, ap, subst, arith, Bool, true, false, cond, Option, Some, None, List, [], ◌∷◌, ◌++◌, length, inl, inr, eq-eqb, get_or-set_same, get_or-set_other, append_assoc}
 use Rattle.std.proofs.lemmas.Bool.{false≢true, cases_eq, ne_eqb}
-use Rattle.std.specs.Prelude.{slice_set}
+use Rattle.std.specs.Prelude.{slice_set, count_by}
 use Rattle.std.proofs.Math.ListN.{length-set}
 use Rattle.join_rows.specs.Lists.{SameBag}
 use Rattle.join_rows.specs.declared.table.Side.{Side}
@@ -16,14 +16,16 @@ use Rattle.migration_plan.specs.Steps.{holds, is_of, exchanged_side, partner_in_
 use Rattle.joiner_law.specs.Law.{JoinerStart, JoinerLists, Taken, partner_of, shift_after}
 use Rattle.migration_plan.specs.Steps.{AreNeighbours}
 use Rattle.joiner_law.specs.Posting.{settled_post, moved_end_post, moved_post}
-use Rattle.joiner_law.specs.History.{Step, probed, with_arrived, with_came, new_step, all_tuples, only_stamp}
-use Rattle.joiner_law.specs.Standing.{grown, took_of_feeder, took_of_joiner, with_sent, with_flag, with_shift, IsOfFeeder, StandsSettled, StandsOpen}
+use Rattle.joiner_law.specs.History.{Step, probed, with_arrived, with_came, new_step, all_tuples, only_stamp, stored}
+use Rattle.joiner_law.specs.Standing.{grown, took_of_feeder, took_of_joiner, with_sent, with_flag, with_shift, IsOfFeeder, StandsSettled, StandsOpen, moved_counts}
+use Rattle.joiner_law.proofs.Partners.{counts-arrived}
+use Rattle.joiner_law.proofs.Sending.{count-bag}
 use Rattle.joiner_law.proofs.Takings.{settled-tup, open-late, open-tup, open-moved, opened-step, open-turn, all-turned, open-end, settled-end, open-moved_end, settled-step}
 use Rattle.joiner_core.specs.Matching.{does_hold}
 use Rattle.joiner_core.specs.Flags.{flag_at, IsEachUp}
 use Rattle.joiner_core.specs.declared.opened.Opened.{Opened}
 use Rattle.joiner_core.specs.declared.epochs.Epochs.{Epochs}
-use Rattle.joiner_core.specs.Machine.{after_old, found_old, posts_old, late_found, late_posts, open_old, opened_late, found_late, posts_late, with_new, after_new, found_new, step_new, new_found, after_moved, found_moved, moved_found, IsOpened, posts_opened, part_by, after_part, settled_by, IsReady, turned_in, settle_posts, posts_settled, after_settle, HasTurned, AreAllUp, end_posts, posts_turned, HasBegun, begun_posts, HasOpened}
+use Rattle.joiner_core.specs.Changes.{after_old, found_old, posts_old, late_found, late_posts, open_old, opened_late, found_late, posts_late, with_new, after_new, found_new, step_new, new_found, after_moved, found_moved, moved_found, IsOpened, posts_opened, part_by, after_part, settled_by, IsReady, turned_in, settle_posts, posts_settled, after_settle, HasTurned, AreAllUp, end_posts, posts_turned, HasBegun, begun_posts, HasOpened}
 use Rattle.joiner_core.specs.Standing.{IsMachineOf, IsClosed, IsOpen, StandsBy, Stands}
 use Rattle.joiner_core.specs.Taking.{IsWithin, IsStepWithin, IsCounted, HasSomeTurn, TupFits, CanTakeTup, TurnFits, CanTakeTurn, TookOfFeeder, TookOfJoiner}
 use Rattle.epoch_tags.specs.declared.message.Post.{Post}
@@ -39,16 +41,17 @@ not_true false never = refl
 -- with no step open
 closed-old : (s : JoinerStart) (t : Taken) (lists : JoinerLists) (waiting : List Pair) (m : Epochs) (x : Tuple) (p : ℕ) → IsMachineOf s m → p < s.feeders → flag_at m.ended.items p ≡ false → x.stamp ≡ m.epoch
     → IsClosed s t lists waiting m
-    → IsClosed s (took_of_feeder p (Tup x) t) lists (waiting ++ (probed (does_hold m.theta) all_tuples x m.store ++ [])) (record m { store = m.store ++ x ∷ []; step = None })
+    → IsClosed s (took_of_feeder p (Tup x) t) lists (waiting ++ (probed (does_hold m.theta.now) all_tuples x m.store ++ [])) (record m { store = m.store ++ x ∷ []; step = None })
 closed-old s t lists waiting m x p fixed low going stamp is =
     let at = is.epoch in
     record {
       cur = with_arrived x is.cur;
       past = is.past;
-      stands = rw (append-nil (probed (does_hold m.theta) all_tuples x m.store), fixed.matches) (settled-tup s t lists waiting (flag_at m.ended.items) m.store is.cur is.past p x low going (omega arith) is.stands);
+      stands = rw (append-nil (probed (does_hold m.theta.now) all_tuples x m.store), fixed.matches) (settled-tup s t lists waiting (flag_at m.ended.items) m.store is.cur is.past p x low going (omega arith) is.stands);
       epoch = is.epoch;
       shift = is.shift;
       ended_count = is.ended_count;
+      moved = is.moved ∙ sym (counts-arrived s.k s.id x is.cur is.past);
     }
 
 -- the open step's epoch, as the machine keeps it
@@ -64,7 +67,7 @@ open-old : (s : JoinerStart) (t : Taken) (lists : JoinerLists) (waiting : List P
     → IsOpen s t lists waiting m o
     → IsOpen s (took_of_feeder p (Tup x) t)
     (with_sent lists (posts_late (exchanged_side m.shift o.shift) (partner_in_step m.shift o.shift m.id) o.epoch x))
-    (waiting ++ (probed (does_hold m.theta) all_tuples x m.store ++ found_late (does_hold m.theta) m.k m.id o x))
+    (waiting ++ (probed (does_hold m.theta.now) all_tuples x m.store ++ found_late (does_hold m.theta.now) m.k m.id o x))
     (record m { store = m.store ++ x ∷ []; step = Some (opened_late m.k m.id o x) }) (opened_late m.k m.id o x)
 open-old s t lists waiting m o x p fixed low going still stamp is =
     let at = is.epoch in
@@ -85,6 +88,7 @@ open-old s t lists waiting m o x p fixed low going still stamp is =
       step_epoch = is.step_epoch;
       step_shift = is.step_shift;
       ended_count = is.ended_count;
+      moved = is.moved ∙ sym (counts-arrived s.k s.id x is.cur is.past);
       count = is.count;
       missing = λ same each. false≢true (sym still ∙ each p low);
       all = λ never. absurd (false≢true never);
@@ -102,9 +106,9 @@ with_sent-none lists = λ i. record {
 
 old-by : (s : JoinerStart) (t : Taken) (lists : JoinerLists) (waiting : List Pair) (m : Epochs) (x : Tuple) (p : ℕ) → IsMachineOf s m → p < s.feeders → flag_at m.ended.items p ≡ false → x.stamp ≡ m.epoch
     → (step : Option Opened) → turned_in step p ≡ false → StandsBy s t lists waiting m step
-    → StandsBy s (took_of_feeder p (Tup x) t) (with_sent lists (late_posts m x step)) (waiting ++ (probed (does_hold m.theta) all_tuples x m.store ++ late_found m x step)) (record m { store = m.store ++ x ∷ []; step = open_old m x step }) (open_old m x step)
+    → StandsBy s (took_of_feeder p (Tup x) t) (with_sent lists (late_posts m x step)) (waiting ++ (probed (does_hold m.theta.now) all_tuples x m.store ++ late_found m x step)) (record m { store = m.store ++ x ∷ []; step = open_old m x step }) (open_old m x step)
 old-by s t lists waiting m x p fixed low going stamp None still is =
-    subst (λ (ls : JoinerLists). IsClosed s (took_of_feeder p (Tup x) t) ls (waiting ++ (probed (does_hold m.theta) all_tuples x m.store ++ [])) (record m { store = m.store ++ x ∷ []; step = None })) (sym (with_sent-none lists)) (closed-old s t lists waiting m x p fixed low going stamp is)
+    subst (λ (ls : JoinerLists). IsClosed s (took_of_feeder p (Tup x) t) ls (waiting ++ (probed (does_hold m.theta.now) all_tuples x m.store ++ [])) (record m { store = m.store ++ x ∷ []; step = None })) (sym (with_sent-none lists)) (closed-old s t lists waiting m x p fixed low going stamp is)
 old-by s t lists waiting m x p fixed low going stamp (Some o) still is = open-old s t lists waiting m o x p fixed low going still stamp is
 
 -- a tuple of the settled epoch
@@ -129,7 +133,7 @@ stands-shift s t lists waiting m is = shift-by s t lists waiting m is.fixed m.st
 
 open-new : (s : JoinerStart) (t : Taken) (lists : JoinerLists) (waiting : List Pair) (m : Epochs) (o : Opened) (x : Tuple) (p : ℕ) → IsMachineOf s m → p < s.feeders → flag_at m.ended.items p ≡ false → flag_at o.turned.items p ≡ true → x.stamp ≡ o.epoch
     → IsOpen s t lists waiting m o
-    → IsOpen s (took_of_feeder p (Tup x) t) lists (waiting ++ probed (does_hold m.theta) all_tuples x o.store) (record m { step = Some (with_new o x) }) (with_new o x)
+    → IsOpen s (took_of_feeder p (Tup x) t) lists (waiting ++ probed (does_hold m.theta.now) all_tuples x o.store) (record m { step = Some (with_new o x) }) (with_new o x)
 open-new s t lists waiting m o x p fixed low going has stamp is =
     let at = is.step_epoch in
     record {
@@ -143,6 +147,7 @@ open-new s t lists waiting m o x p fixed low going has stamp is =
       step_epoch = is.step_epoch;
       step_shift = is.step_shift;
       ended_count = is.ended_count;
+      moved = is.moved;
       count = is.count;
       missing = is.missing;
       all = is.all;
@@ -160,7 +165,7 @@ partner-is s t lists waiting m o fixed is =
     ∙ ap (λ i. partner_in_step m.shift o.shift i) (sym fixed.id)
 
 pub open-part : (s : JoinerStart) (t : Taken) (lists : JoinerLists) (waiting : List Pair) (m : Epochs) (o : Opened) (x : Tuple) → IsMachineOf s m → (is : IsOpen s t lists waiting m o)
-    → IsOpen s (took_of_joiner (partner_in_step m.shift o.shift m.id) (Moved o.epoch x) t) lists (waiting ++ probed (does_hold m.theta) (only_stamp o.epoch) x o.store) (record m { step = Some (with_new o x) }) (with_new o x)
+    → IsOpen s (took_of_joiner (partner_in_step m.shift o.shift m.id) (Moved o.epoch x) t) lists (waiting ++ probed (does_hold m.theta.now) (only_stamp o.epoch) x o.store) (record m { step = Some (with_new o x) }) (with_new o x)
 open-part s t lists waiting m o x fixed is =
     let at = is.step_epoch in
     let next : o.epoch ≡ s.epoch + length (is.cur ∷ is.past) = omega arith in
@@ -178,6 +183,7 @@ open-part s t lists waiting m o x fixed is =
       step_epoch = is.step_epoch;
       step_shift = is.step_shift;
       ended_count = is.ended_count;
+      moved = is.moved;
       count = is.count;
       missing = is.missing;
       all = is.all;
@@ -199,6 +205,7 @@ open-part_end s t lists waiting m o fixed going is =
       step_epoch = is.step_epoch;
       step_shift = is.step_shift;
       ended_count = is.ended_count;
+      moved = is.moved;
       count = is.count;
       missing = is.missing;
       all = is.all;
@@ -223,6 +230,9 @@ same-flags s t lists waiting turned turned' ended all_turned part_ended a b new 
         sent = steps.sent;
         parts = steps.parts;
         told = steps.told;
+        first_shift = steps.first_shift;
+        from_partner = steps.from_partner;
+        to_partner = steps.to_partner;
       };
       store = is.store;
       opened = is.opened;
@@ -252,6 +262,7 @@ closed-opened s t lists waiting m o epoch shift fixed next within near some open
       step_epoch = opened.epoch ∙ now;
       step_shift = opened.shift;
       ended_count = is.ended_count;
+      moved = is.moved;
       count = opened.count ∙ fixed.feeders;
       missing = λ same each. false≢true (sym (opened.turned 0) ∙ each 0 some);
       all = λ never. absurd (false≢true never);
@@ -266,6 +277,14 @@ open-settled s t lists waiting m o fixed part is turned =
     let before' : StandsOpen s t lists waiting (flag_at o.turned.items) (flag_at m.ended.items) true true m.store o.store is.new is.cur is.past = rw part at before in
     let after = settled-step s t lists waiting (flag_at o.turned.items) (flag_at m.ended.items) m.store o.store is.new is.cur is.past (is.all turned) before' in
     let at = is.step_epoch in
+    let here = stored s.k s.id (is.cur ∷ is.past) in
+    let same : count_by (is_of (exchanged_side m.shift o.shift)) m.store ≡ count_by (is_of (exchanged_side is.cur.shift is.new.shift)) here =
+    ap (λ b. count_by (is_of (exchanged_side b o.shift)) m.store) is.shift
+    ∙ ap (λ b. count_by (is_of (exchanged_side is.cur.shift b)) m.store) is.step_shift
+    ∙ count-bag (is_of (exchanged_side is.cur.shift is.new.shift)) m.store here is.stands.store in
+    let counted : m.moved ++ count_by (is_of (exchanged_side m.shift o.shift)) m.store ∷ [] ≡ moved_counts s.k s.id (is.new ∷ (is.cur ∷ is.past)) =
+    ap (λ zs. zs ++ count_by (is_of (exchanged_side m.shift o.shift)) m.store ∷ []) is.moved
+    ∙ ap (λ n. moved_counts s.k s.id (is.cur ∷ is.past) ++ n ∷ []) same in
     record {
       cur = is.new;
       past = is.cur ∷ is.past;
@@ -273,6 +292,7 @@ open-settled s t lists waiting m o fixed part is turned =
       epoch = omega arith;
       shift = is.step_shift;
       ended_count = is.ended_count;
+      moved = counted;
     }
 
 -- ---- a feeder's turn
@@ -297,6 +317,9 @@ same-ends s t lists waiting ended ended' a cur past same is =
         sent = steps.sent;
         parts = steps.parts;
         told = steps.told;
+        first_shift = steps.first_shift;
+        from_partner = steps.from_partner;
+        to_partner = steps.to_partner;
       };
       store = is.store;
       links = is.links;
@@ -332,6 +355,7 @@ open-turned s t lists waiting m o o' p epoch shift last fixed low going still no
       step_epoch = is.step_epoch;
       step_shift = is.step_shift;
       ended_count = is.ended_count;
+      moved = is.moved;
       count = many;
       missing = λ never each. down never (λ q less. each q (omega arith));
       all = λ all q less. up all q (omega arith);
@@ -351,6 +375,7 @@ closed-end s t lists waiting m m' p low going flags is =
       epoch = is.epoch;
       shift = is.shift;
       ended_count = ap length flags ∙ length-set m.ended.items p true ∙ is.ended_count;
+      moved = is.moved;
     }
 
 -- ---- a tuple of a feeder, as the whole call
@@ -449,6 +474,7 @@ took-old m m' x p found found' before after within can still state more posts = 
   within = record { small = within.small; shift = within.shift; step = within-old m.k m.id m x m.step within.step; ended = within.ended; count = count-old m.feeders m x m.step within.count; begun = begun-old m.feeders m x m.step within.begun; rests = rests-old m x m.step within.rests };
   k = refl;
   feeders = refl;
+  going = can.going;
   stands = λ s t lists low is.
       (took_of_feeder p (Tup x) t, record { from_feeder = refl; from_joiner = refl }, stands-old s t lists found m x p low can.going still (fits-old m p x.stamp m.step still can.fits) is);
 })
@@ -462,6 +488,7 @@ took-new m m' x p found found' before within can has state more = rw (state, mor
   within = new-within m x within;
   k = refl;
   feeders = refl;
+  going = can.going;
   stands = λ s t lists low is.
       (took_of_feeder p (Tup x) t, record { from_feeder = refl; from_joiner = refl }, subst (λ (ls : JoinerLists). Stands s (took_of_feeder p (Tup x) t) ls (found ++ found_new m x) (after_new m x)) (sym (with_sent-none lists)) (stands-new s t lists found m x p low can has is));
 })
@@ -486,6 +513,7 @@ same-open s t lists waiting m o step is = record {
   step_epoch = is.step_epoch;
   step_shift = is.step_shift;
   ended_count = is.ended_count;
+  moved = is.moved;
   count = is.count;
   missing = is.missing;
   all = is.all;
@@ -620,6 +648,7 @@ took-turn m m1 m2 m3 p epoch shift last ready waiting before s1 s2 after few wit
       within = rw state within3;
       k = ap (λ (z : Epochs). z.k) state ∙ settled-k m2 ready ∙ k2;
       feeders = ap (λ (z : Epochs). z.feeders) state ∙ settled-feeders m2 ready ∙ n2;
+      going = can.going;
       stands = λ s t lists low is.
           let fixed = is.fixed in
           let first = begun-by s t lists waiting m p epoch shift fixed low m.step m1.step can.fits begun is.now in

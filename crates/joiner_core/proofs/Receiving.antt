@@ -16,7 +16,7 @@ use Rattle.joiner_core.specs.Matching.{does_hold}
 use Rattle.joiner_core.specs.Flags.{flag_at}
 use Rattle.joiner_core.specs.declared.opened.Opened.{Opened}
 use Rattle.joiner_core.specs.declared.epochs.Epochs.{Epochs}
-use Rattle.joiner_core.specs.Machine.{after_moved, found_moved, moved_found, step_new, with_new, part_by, after_part, IsReady, posts_settled, after_settle}
+use Rattle.joiner_core.specs.Changes.{after_moved, found_moved, moved_found, step_new, with_new, part_by, after_part, IsReady, posts_settled, after_settle}
 use Rattle.joiner_core.specs.Standing.{IsMachineOf, IsClosed, IsOpen, StandsBy, Stands}
 use Rattle.joiner_core.specs.Taking.{IsWithin, IsStepWithin, IsCounted, HasSomeTurn, TookOfFeeder, TookOfJoiner}
 use Rattle.joiner_core.specs.Tests.{PartFits}
@@ -38,6 +38,9 @@ same-ends-open s t lists waiting turned ended ended' all_turned part_ended a b n
         sent = steps.sent;
         parts = steps.parts;
         told = steps.told;
+        first_shift = steps.first_shift;
+        from_partner = steps.from_partner;
+        to_partner = steps.to_partner;
       };
       store = is.store;
       opened = is.opened;
@@ -61,6 +64,7 @@ open-ended s t lists waiting m m' o p low going flags is =
       step_epoch = is.step_epoch;
       step_shift = is.step_shift;
       ended_count = ap length flags ∙ length-set m.ended.items p true ∙ is.ended_count;
+      moved = is.moved;
       count = is.count;
       missing = is.missing;
       all = is.all;
@@ -80,6 +84,7 @@ took-end m m' p waiting before within going state flags = record {
   within = subst (λ (z : Epochs). IsWithin z) (sym state) (record { small = within.small; shift = within.shift; step = within.step; ended = ap length flags ∙ length-set m.ended.items p true ∙ within.ended; count = within.count; begun = within.begun; rests = within.rests });
   k = ap (λ (z : Epochs). z.k) state;
   feeders = ap (λ (z : Epochs). z.feeders) state;
+  going = going;
   stands = λ s t lists low is.
       let fixed = is.fixed in
       let now = end-by s t lists waiting m m' p low going flags m.step is.now in
@@ -103,6 +108,10 @@ moved-by s t lists waiting m q epoch x fixed (Some o) fits is =
     (subst (λ (e : ℕ). IsOpen s (took_of_joiner (partner_in_step m.shift o.shift m.id) (Moved e x) t) lists (waiting ++ moved_found m x (Some o)) (record m { step = Some (with_new o x) }) (with_new o x)) (sym fits.0)
     (open-part s t lists waiting m o x fixed is))
 
+fits-open : (m : Epochs) (q epoch : ℕ) (step : Option Opened) → PartFits m q epoch step → step ≡ None → ⊥
+fits-open m q epoch None fits is = fits
+fits-open m q epoch (Some o) fits is = absurd (cc)
+
 pub took-moved : (m m' : Epochs) (q epoch : ℕ) (x : Tuple) (w w' : List Pair) (before : List Post) → IsWithin m → m' ≡ after_moved m x → w' ≡ w ++ found_moved m x → PartFits m q epoch m.step
     → TookOfJoiner q (Moved epoch x) m m' w w' before before
 took-moved m m' q epoch x w w' before within state more fits = rw (state, more) (record {
@@ -112,6 +121,7 @@ took-moved m m' q epoch x w w' before within state more fits = rw (state, more) 
   within = new-within m x within;
   k = refl;
   feeders = refl;
+  opened = fits-open m q epoch m.step fits;
   stands = λ s t lists is.
       let fixed = is.fixed in
       let whole : Stands s (took_of_joiner q (Moved epoch x) t) lists (w ++ found_moved m x) (after_moved m x) =
@@ -158,6 +168,7 @@ took-moved_end m m1 m2 q epoch ready w before after within part settles not_yet 
   within = subst (λ (z : Epochs). IsWithin z) (sym state) (ended-within m m1 ready within part settles not_yet);
   k = ap (λ (z : Epochs). z.k) state ∙ settled-k m1 ready ∙ ap (λ (z : Epochs). z.k) part;
   feeders = ap (λ (z : Epochs). z.feeders) state ∙ settled-feeders m1 ready ∙ ap (λ (z : Epochs). z.feeders) part;
+  opened = fits-open m q epoch m.step fits;
   stands = λ s t lists is.
       let fixed = is.fixed in
       let t' = took_of_joiner q (MovedEnd epoch) t in

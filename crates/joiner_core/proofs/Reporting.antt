@@ -1,6 +1,6 @@
 -- The end of a call, and the call as a whole.
-use Rattle.std.proofs.Common.{◌≡◌, ℕ, ◌+◌, ◌^◌, ◌<◌, refl, sym, ◌∙◌, ap, subst, arith, Bool, true, false, Option, Some, None, List, [], ◌∷◌, ◌++◌, length, append_assoc}
-use Rattle.std.specs.Prelude.{flat_map}
+use Rattle.std.proofs.Common.{◌≡◌, ℕ, ◌+◌, ◌^◌, ◌<◌, ◌≤◌, refl, sym, ◌∙◌, ap, subst, arith, Bool, true, false, Option, Some, None, List, [], ◌∷◌, ◌++◌, length, append_assoc}
+use Rattle.std.specs.Prelude.{flat_map, map}
 use Rattle.std.proofs.lemmas.List.Concat.{flat_map-append}
 use Rattle.join_rows.specs.Lists.{SameBag}
 use Rattle.epoch_tags.specs.declared.actor.Actor.{Actor}
@@ -8,23 +8,26 @@ use Rattle.epoch_tags.specs.declared.tuple.Pair.{Pair}
 use Rattle.epoch_tags.specs.declared.message.Post.{Post}
 use Rattle.epoch_tags.specs.declared.message.ToJoiner.{ToJoiner}
 use Rattle.epoch_tags.specs.declared.message.ToCollector.{ToCollector}
-use Rattle.epoch_tags.specs.Messages.{pairs_found, fins}
+use Rattle.epoch_tags.specs.Messages.{pairs_found}
+use Rattle.std.specs.List.{AllByRecursion}
+use Rattle.std.proofs.lemmas.List.{map-append, length-append}
 use Rattle.std.proofs.lemmas.Bool.{false≢true}
 use Rattle.std.proofs.lemmas.List.Elements.{filter_map-append}
 use Rattle.epoch_tags.specs.declared.message.ToCollector.TheVariants.{Found, Fin}
 use Rattle.epoch_tags.specs.declared.actor.Actor.TheVariants.{Feeder, Joiner as Joiner', Controller, Collector}
 use Rattle.joiner_core.specs.Flags.{IsEachUp}
 use Rattle.epoch_tags.specs.Posts.{for_collector, posted_to_joiner, posted_to_controller, posted_to_collector}
-use Rattle.joiner_law.specs.Law.{JoinerStart, JoinerLists, Taken, pairs_by, IsTakenOf, CanTakeOfFeeder, CanTakeOfJoiner}
+use Rattle.joiner_law.specs.Law.{JoinerStart, JoinerLists, Taken, pairs_by, received_count, IsTakenOf, CanTakeOfFeeder, CanTakeOfJoiner}
 use Rattle.joiner_law.specs.History.{Step, all_found}
 use Rattle.joiner_law.specs.Standing.{one_if, with_sent, pairs_sent, ArePairs}
 use Rattle.joiner_core.specs.Queues.{held_at}
 use Rattle.joiner_core.specs.Standing.{StandsBy, Stands}
 use Rattle.joiner_core.specs.Taking.{HasSomeTurn}
-use Rattle.joiner_core.specs.Whole.{StandsWithin, StandsFor, Advances, IsSound, IsStuck, Accepts, TakesMessage, TellsFin, HasFinished, with_message, found_posts, fin_posts, fin_post}
+use Rattle.joiner_core.specs.Whole.{StandsWithin, StandsBetween, IsStart, Collects, IsResting, IsOfGrid, Advances, IsSound, IsStuck, Accepts, Receives, TellsFin, HasFinished, with_message, found_posts, fin_posts, fin_of}
 use Rattle.joiner_core.specs.declared.opened.Opened.{Opened}
 use Rattle.joiner_core.specs.declared.epochs.Epochs.{Epochs}
-use Rattle.joiner_core.specs.declared.joiner.Joiner.{Joiner}
+use Rattle.joiner_core.specs.declared.machine.Machine.{Machine}
+use Rattle.joiner_law.proofs.Sending.{gathered-more}
 use Rattle.joiner_core.proofs.Keeping.{quiet-append, append-nil, with_sent-none, with_sent-append}
 use Rattle.joiner_core.proofs.Accepting.{with_other, PairsMove, stands-other}
 use Rattle.joiner_core.proofs.Testing.{tests-feeder, tests-joiner}
@@ -43,7 +46,7 @@ only-collected lists posts joiners controller = λ i. record {
     none : {X : Type 0} (xs ys : List X) → ys ≡ [] → xs ++ ys ≡ xs
     none xs ys is = ap (λ zs. xs ++ zs) is ∙ append-nil xs
 
-within-collected : (s : JoinerStart) (lists : JoinerLists) (w w' : List Pair) (posts : List Post) (m : Joiner) → ((j : ℕ) → posted_to_joiner j posts ≡ []) → posted_to_controller posts ≡ []
+within-collected : (s : JoinerStart) (lists : JoinerLists) (w w' : List Pair) (posts : List Post) (m : Machine) → ((j : ℕ) → posted_to_joiner j posts ≡ []) → posted_to_controller posts ≡ []
     → PairsMove s lists w (lists.to_collector ++ posted_to_collector posts) w' → StandsWithin s lists w m → StandsWithin s (with_sent lists posts) w' m
 within-collected s lists w w' posts m joiners controller moves is = record {
   taken = is.taken;
@@ -61,14 +64,14 @@ pairs-move s lists w zs w' same steps is = record {
     moved : (base : List Pair) → (flat_map pairs_found zs ++ w') ++ base ≡ (pairs_sent lists ++ w) ++ base
     moved base = ap (λ xs. xs ++ base) same
 
-within-found : (s : JoinerStart) (lists : JoinerLists) (w : List Pair) (m : Joiner) → StandsWithin s lists w m → StandsWithin s (with_sent lists (found_posts w)) [] m
+within-found : (s : JoinerStart) (lists : JoinerLists) (w : List Pair) (m : Machine) → StandsWithin s lists w m → StandsWithin s (with_sent lists (found_posts w)) [] m
 within-found s lists [] m is = subst (λ (ls : JoinerLists). StandsWithin s ls [] m) (sym (with_sent-none lists)) is
 within-found s lists (p ∷ ps) m is =
     within-collected s lists (p ∷ ps) [] (found_posts (p ∷ ps)) m (λ j. refl) refl
     (pairs-move s lists (p ∷ ps) (lists.to_collector ++ posted_to_collector (found_posts (p ∷ ps))) []
     (append-nil _ ∙ flat_map-append pairs_found lists.to_collector (posted_to_collector (found_posts (p ∷ ps))) ∙ ap (λ xs. pairs_sent lists ++ xs) (append-nil (p ∷ ps)))) is
 
-within-fin : (s : JoinerStart) (lists : JoinerLists) (now : Bool) (b m : Joiner) → StandsWithin s lists [] m → StandsWithin s (with_sent lists (fin_posts now b)) [] m
+within-fin : (s : JoinerStart) (lists : JoinerLists) (now : Bool) (b m : Machine) → StandsWithin s lists [] m → StandsWithin s (with_sent lists (fin_posts now b)) [] m
 within-fin s lists false b m is = subst (λ (ls : JoinerLists). StandsWithin s ls [] m) (sym (with_sent-none lists)) is
 within-fin s lists true b m is =
     within-collected s lists [] [] (fin_posts true b) m (λ j. refl) refl
@@ -80,20 +83,19 @@ done-by s t lists w m None is = (length is.past, is.epoch)
 done-by s t lists w m (Some o) is = (length is.past, is.epoch)
 
 -- between calls
-pub stands-for : (s : JoinerStart) (lists : JoinerLists) (m : Joiner) → IsSound m → IsStuck m → (m.told ≡ false → fins lists.to_collector ≡ 0) → (m.told ≡ true → fins lists.to_collector ≡ 1) → (HasFinished m → m.told ≡ true)
-    → StandsWithin s lists [] m → StandsFor s lists m
-stands-for s lists m sound stuck untold told finishes is =
+pub stands-for : (s : JoinerStart) (lists : JoinerLists) (m : Machine) → IsStart s → IsSound m → IsStuck m → Collects s lists m → StandsWithin s lists [] m → StandsBetween s lists m
+stands-for s lists m start sound stuck collects is =
     let settled = done-by s is.taken lists [] m.epochs m.epochs.step is.stands.now in
     let many = is.stands.fixed.feeders in
     let k = is.stands.fixed.k in
     let some : HasSomeTurn s.feeders m.epochs.step = subst (λ (n : ℕ). HasSomeTurn n m.epochs.step) many sound.within.begun in
     record {
+      start = start;
+      sound = sound;
       within = is;
       done = settled.0;
       settled = settled.1;
-      untold = untold;
-      told = told;
-      finishes = finishes;
+      collects = collects;
       of_feeders = λ p low. record {
         held = held_at m.of_feeders p;
         splits = is.feeders p low;
@@ -106,23 +108,27 @@ stands-for s lists m sound stuck untold told finishes is =
       };
     }
 
--- ---- the last message is sent once
+-- ---- what is sent to the collector
 
-fins-append : (xs ys : List ToCollector) → fins (xs ++ ys) ≡ fins xs + fins ys
-fins-append [] ys = omega arith
-fins-append (Found ps ∷ xs) ys = fins-append xs ys
-fins-append (Fin r q moved ∷ xs) ys = let rest = fins-append xs ys in omega arith
+-- the pairs of one call
+abbrev founds_of : List Pair → List (List Pair)
+founds_of [] = []
+founds_of (p ∷ ps) = (p ∷ ps) ∷ []
+
+abbrev fins_if : Bool → Machine → List ToCollector
+fins_if true b = fin_of b.epochs ∷ []
+fins_if false b = []
 
 posted-append : (xs ys : List Post) → posted_to_collector (xs ++ ys) ≡ posted_to_collector xs ++ posted_to_collector ys
 posted-append xs ys = filter_map-append (λ post. for_collector post.to post.msg) xs ys
 
-none-found : (w : List Pair) → fins (posted_to_collector (found_posts w)) ≡ 0
-none-found [] = refl
-none-found (p ∷ ps) = refl
+posted-found : (w : List Pair) → posted_to_collector (found_posts w) ≡ map Found (founds_of w)
+posted-found [] = refl
+posted-found (p ∷ ps) = refl
 
-one-fin : (now : Bool) (b : Joiner) → fins (posted_to_collector (fin_posts now b)) ≡ one_if now
-one-fin true b = refl
-one-fin false b = refl
+posted-fin : (now : Bool) (b : Machine) → posted_to_collector (fin_posts now b) ≡ fins_if now b
+posted-fin true b = refl
+posted-fin false b = refl
 
 same-collected : (from : Actor) (m : ToJoiner) (lists : JoinerLists) → (with_message from m lists).to_collector ≡ lists.to_collector
 same-collected (Feeder p) m lists = refl
@@ -130,24 +136,89 @@ same-collected (Joiner' q) m lists = refl
 same-collected Controller m lists = refl
 same-collected Collector m lists = refl
 
-count-fins : (from : Actor) (m : ToJoiner) (lists : JoinerLists) (a1 a2 : List Post) (w : List Pair) (now : Bool) (b : Joiner) → posted_to_collector a1 ≡ [] → posted_to_collector a2 ≡ []
-    → fins ((with_message from m lists).to_collector ++ posted_to_collector (((a1 ++ a2) ++ found_posts w) ++ fin_posts now b)) ≡ fins lists.to_collector + one_if now
-count-fins from m lists a1 a2 w now b one two =
+collected : (from : Actor) (m : ToJoiner) (lists : JoinerLists) (a1 a2 : List Post) (w : List Pair) (now : Bool) (b : Machine) → posted_to_collector a1 ≡ [] → posted_to_collector a2 ≡ []
+    → (with_message from m lists).to_collector ++ posted_to_collector (((a1 ++ a2) ++ found_posts w) ++ fin_posts now b) ≡ lists.to_collector ++ (map Found (founds_of w) ++ fins_if now b)
+collected from m lists a1 a2 w now b one two =
     let quiet = quiet-append a1 a2 one two in
-    let x = fins-append (with_message from m lists).to_collector (posted_to_collector (((a1 ++ a2) ++ found_posts w) ++ fin_posts now b)) in
-    let y = ap fins (same-collected from m lists) in
-    let z : fins (posted_to_collector (((a1 ++ a2) ++ found_posts w) ++ fin_posts now b)) ≡ one_if now =
-    ap fins (posted-append ((a1 ++ a2) ++ found_posts w) (fin_posts now b) ∙ ap (λ zs. zs ++ posted_to_collector (fin_posts now b)) (posted-append (a1 ++ a2) (found_posts w) ∙ ap (λ zs. zs ++ posted_to_collector (found_posts w)) quiet))
-    ∙ fins-append (posted_to_collector (found_posts w)) (posted_to_collector (fin_posts now b)) ∙ (let c = none-found w in let d = one-fin now b in omega arith) in
-    omega arith
+    let posted : posted_to_collector (((a1 ++ a2) ++ found_posts w) ++ fin_posts now b) ≡ map Found (founds_of w) ++ fins_if now b =
+    posted-append ((a1 ++ a2) ++ found_posts w) (fin_posts now b)
+    ∙ ap (λ zs. zs ++ posted_to_collector (fin_posts now b)) (posted-append (a1 ++ a2) (found_posts w) ∙ ap (λ zs. zs ++ posted_to_collector (found_posts w)) quiet ∙ posted-found w)
+    ∙ ap (λ zs. map Found (founds_of w) ++ zs) (posted-fin now b) in
+    ap (λ zs. zs ++ posted_to_collector (((a1 ++ a2) ++ found_posts w) ++ fin_posts now b)) (same-collected from m lists)
+    ∙ ap (λ zs. lists.to_collector ++ zs) posted
 
-told-cases : (now old b new : Bool) → b ≡ old → (now ≡ true → new ≡ true) → (now ≡ false → new ≡ b) → (n : ℕ) → (old ≡ false → n ≡ 0) → (old ≡ true → n ≡ 1) → (now ≡ true → b ≡ false)
-    → (new ≡ false → n + one_if now ≡ 0) × (new ≡ true → n + one_if now ≡ 1)
-told-cases true old b new keeps first other n none one was =
-    let zero' : n ≡ 0 = none (sym keeps ∙ was refl) in
-    (λ no. absurd (false≢true (sym no ∙ first refl)), λ yes. omega arith)
-told-cases false old b new keeps first other n none one was =
-    (λ no. let z : n ≡ 0 = none (sym keeps ∙ sym (other refl) ∙ no) in omega arith, λ yes. let z : n ≡ 1 = one (sym keeps ∙ sym (other refl) ∙ yes) in omega arith)
+one_at_most : (w : List Pair) → length (founds_of w) ≤ 1
+one_at_most [] = omega arith
+one_at_most (p ∷ ps) = omega arith
+
+not_empty : (w : List Pair) → AllByRecursion (λ (ps : List Pair). 0 < length ps) (founds_of w)
+not_empty [] = tt
+not_empty (p ∷ ps) = (omega arith, tt)
+
+all-append : {X : Type 0} (P : X → Type 0) (xs ys : List X) → AllByRecursion P xs → AllByRecursion P ys → AllByRecursion P (xs ++ ys)
+all-append P [] ys left right = right
+all-append P (x ∷ xs) ys left right = (left.0, all-append P xs ys left.1 right)
+
+resting : (m : Machine) → HasFinished m → IsResting m.epochs
+resting m has = record { closed = has.closed; ended = has.ended }
+
+untold-by : (now : Bool) (b new : Machine) → (now ≡ true → new.told ≡ true) → new.told ≡ false → fins_if now b ≡ []
+untold-by true b new first low = absurd (false≢true (sym low ∙ first refl))
+untold-by false b new first low = refl
+
+told-by : (now : Bool) (b new : Machine) → b.told ≡ false → new.epochs ≡ b.epochs → (now ≡ true → HasFinished b) → (now ≡ false → new.told ≡ b.told) → new.told ≡ true → (fins_if now b ≡ fin_of new.epochs ∷ []) × IsResting new.epochs
+told-by true b new was same first other high = (ap (λ (z : Epochs). fin_of z ∷ []) (sym same), subst (λ (z : Epochs). IsResting z) (sym same) (resting b (first refl)))
+told-by false b new was same first other high = absurd (false≢true (sym was ∙ sym (other refl) ∙ high))
+
+not-now : (now : Bool) (b : Bool) → (now ≡ true → b ≡ false) → b ≡ true → now ≡ false
+not-now true b first was = absurd (false≢true (sym (first refl) ∙ was))
+not-now false b first was = refl
+
+collects-more : (s : JoinerStart) (lists lists' : JoinerLists) (old b new : Machine) (w : List Pair) (now : Bool) → Collects s lists old
+    → lists'.to_collector ≡ lists.to_collector ++ (map Found (founds_of w) ++ fins_if now b) → received_count s lists' ≡ received_count s lists + 1 → b.told ≡ old.told → new.epochs ≡ b.epochs
+    → (IsResting old.epochs → (b.epochs ≡ old.epochs) × (w ≡ [])) → (now ≡ true → (b.told ≡ false) × HasFinished b × (new.told ≡ true)) → (now ≡ false → new.told ≡ b.told) → (HasFinished new → new.told ≡ true)
+    → (told : Bool) → old.told ≡ told → Collects s lists' new
+collects-more s lists lists' old b new w now was is more keeps same rests first other finishes false low =
+    let none = was.untold low in
+    let few = was.few in
+    let one = one_at_most w in
+    record {
+      founds = was.founds ++ founds_of w;
+      last = fins_if now b;
+      to_collector = is
+          ∙ ap (λ zs. zs ++ (map Found (founds_of w) ++ fins_if now b)) (was.to_collector ∙ ap (λ zs. map Found was.founds ++ zs) none ∙ append-nil (map Found was.founds))
+          ∙ sym (append_assoc (map Found was.founds) (map Found (founds_of w)) (fins_if now b))
+          ∙ ap (λ zs. zs ++ fins_if now b) (sym (map-append Found was.founds (founds_of w)));
+      none_empty = all-append _ was.founds (founds_of w) was.none_empty (not_empty w);
+      few = let size = length-append was.founds (founds_of w) in omega arith;
+      untold = untold-by now b new (λ yes. (first yes).2);
+      told = told-by now b new (keeps ∙ low) same (λ yes. (first yes).1) other;
+      finishes = finishes;
+    }
+collects-more s lists lists' old b new w now was is more keeps same rests first other finishes true high =
+    let before = was.told high in
+    let quiet = rests before.1 in
+    let still : now ≡ false = not-now now b.told (λ on. (first on).0) (keeps ∙ high) in
+    let nothing : map Found (founds_of w) ++ fins_if now b ≡ [] = ap (λ ps. map Found (founds_of ps) ++ fins_if now b) quiet.1 ∙ ap (λ t. fins_if t b) still in
+    let epochs : old.epochs ≡ new.epochs = sym (same ∙ quiet.0) in
+    let few = was.few in
+    record {
+      founds = was.founds;
+      last = was.last;
+      to_collector = is ∙ ap (λ zs. lists.to_collector ++ zs) nothing ∙ append-nil lists.to_collector ∙ was.to_collector;
+      none_empty = was.none_empty;
+      few = omega arith;
+      untold = λ no. absurd (false≢true (sym no ∙ other still ∙ keeps ∙ high));
+      told = λ has. (before.0 ∙ ap (λ (z : Epochs). fin_of z ∷ []) epochs, subst (λ (z : Epochs). IsResting z) epochs before.1);
+      finishes = finishes;
+    }
+
+-- one message more was received
+received-more : (s : JoinerStart) (from : Actor) (m : ToJoiner) (lists : JoinerLists) (posts : List Post) (e : Epochs) → e.feeders ≡ s.feeders → e.k ≡ s.k → IsOfGrid from e → received_count s (with_sent (with_message from m lists) posts) ≡ received_count s lists + 1
+received-more s (Feeder p) m lists posts e many k low = let n = gathered-more p m lists.from_feeder s.feeders (omega arith) in omega arith
+received-more s (Joiner' q) m lists posts e many k low = let n = gathered-more q m lists.from_joiner (2 ^ s.k) (subst (λ (i : ℕ). q < 2 ^ i) k low) in omega arith
+received-more s Controller m lists posts e many k low = absurd low
+received-more s Collector m lists posts e many k low = absurd low
 
 finishes-by : {F : Type 0} (now b new : Bool) → (now ≡ true → new ≡ true) → (now ≡ false → new ≡ b) → (now ≡ false → b ≡ false → F → ⊥) → F → new ≡ true
 finishes-by true b new first other never has = first refl
@@ -155,46 +226,36 @@ finishes-by false true new first other never has = other refl
 finishes-by false false new first other never has = absurd (never refl refl has)
 
 -- the call as a whole
-pub takes-message : (from : Actor) (m : ToJoiner) (old a b new : Joiner) (w0 w1 w2 : List Pair) (p0 p1 p2 p3 p4 : List Post) → w0 ≡ [] → Accepts from m old a w0 w1 p0 p1 → IsSound b → Advances a b w1 w2 p1 p2 → IsStuck b
-    → p3 ≡ p2 ++ found_posts w2 → new ≡ record b { told = new.told } → TellsFin b new.told p3 p4 → TakesMessage from m old new p0 p4
-takes-message from m old a b new w0 w1 w2 p0 p1 p2 p3 p4 none accepts sound advances stuck found state tells =
+pub receives : (from : Actor) (m : ToJoiner) (old a b new : Machine) (w0 w1 w2 : List Pair) (p0 p1 p2 p3 p4 : List Post) → IsOfGrid from old.epochs → w0 ≡ [] → Accepts from m old a w0 w1 p0 p1 → IsSound b → Advances a b w1 w2 p1 p2 → IsStuck b
+    → p3 ≡ p2 ++ found_posts w2 → new ≡ record b { told = new.told } → TellsFin b new.told p3 p4 → Receives from m old new p0 p4
+receives from m old a b new w0 w1 w2 p0 p1 p2 p3 p4 grid none accepts sound advances stuck found state tells =
     let a1 = accepts.added in
     let a2 = advances.added in
     let a3 = found_posts w2 in
     let a4 = fin_posts tells.now b in
-    let sound' : IsSound new = subst (λ (z : Joiner). IsSound z) (sym state) (record { within = sound.within; feeders = sound.feeders; joiners = sound.joiners }) in
-    let stuck' : IsStuck new = subst (λ (z : Joiner). IsStuck z) (sym state) (record { feeders = stuck.feeders; joiners = stuck.joiners }) in
+    let sound' : IsSound new = subst (λ (z : Machine). IsSound z) (sym state) (record { within = sound.within; feeders = sound.feeders; joiners = sound.joiners }) in
+    let stuck' : IsStuck new = subst (λ (z : Machine). IsStuck z) (sym state) (record { feeders = stuck.feeders; joiners = stuck.joiners }) in
     record {
       sound = sound';
-      stuck = stuck';
       added = ((a1 ++ a2) ++ a3) ++ a4;
       sends = tells.sends ∙ ap (λ zs. zs ++ a4) (found ∙ ap (λ zs. zs ++ a3) (advances.sends ∙ ap (λ zs. zs ++ a2) accepts.sends ∙ append_assoc p0 a1 a2) ∙ append_assoc p0 (a1 ++ a2) a3) ∙ append_assoc p0 ((a1 ++ a2) ++ a3) a4;
       stands = λ s lists is.
           let ls = with_message from m lists in
-          let keeps : b.told ≡ old.told = advances.told ∙ accepts.told in
-          let count : (ls0 : JoinerLists) → fins ((with_message from m ls0).to_collector ++ posted_to_collector (((a1 ++ a2) ++ a3) ++ a4)) ≡ fins ls0.to_collector + one_if tells.now = λ ls0. count-fins from m ls0 a1 a2 w2 tells.now b accepts.quiet advances.quiet in
+          let fixed = is.within.stands.fixed in
           let zero' : StandsWithin s lists w0 old = subst (λ (w : List Pair). StandsWithin s lists w old) (sym none) is.within in
           let one : StandsWithin s (with_sent ls a1) w1 a = accepts.stands s lists zero' in
           let two : StandsWithin s (with_sent ls (a1 ++ a2)) w2 b = subst (λ (l : JoinerLists). StandsWithin s l w2 b) (with_sent-append ls a1 a2) (advances.stands s (with_sent ls a1) one) in
           let three : StandsWithin s (with_sent ls ((a1 ++ a2) ++ a3)) [] b = subst (λ (l : JoinerLists). StandsWithin s l [] b) (with_sent-append ls (a1 ++ a2) a3) (within-found s (with_sent ls (a1 ++ a2)) w2 b two) in
           let four : StandsWithin s (with_sent ls (((a1 ++ a2) ++ a3) ++ a4)) [] b = subst (λ (l : JoinerLists). StandsWithin s l [] b) (with_sent-append ls ((a1 ++ a2) ++ a3) a4) (within-fin s (with_sent ls ((a1 ++ a2) ++ a3)) tells.now b b three) in
-          let five : StandsWithin s (with_sent ls (((a1 ++ a2) ++ a3) ++ a4)) [] new = subst (λ (z : Joiner). StandsWithin s (with_sent ls (((a1 ++ a2) ++ a3) ++ a4)) [] z) (sym state) (record { taken = four.taken; stands = four.stands; feeders = four.feeders; joiners = four.joiners }) in
-          stands-for s (with_sent ls (((a1 ++ a2) ++ a3) ++ a4)) new sound' stuck'
-          (λ no. let n = count lists in let z = told-cases tells.now old.told b.told new.told keeps (λ yes. (tells.first yes).2) (λ other. (tells.other other).0) (fins lists.to_collector) is.untold is.told (λ yes. (tells.first yes).0) in n ∙ z.0 no)
-          (λ yes. let n = count lists in let z = told-cases tells.now old.told b.told new.told keeps (λ yes. (tells.first yes).2) (λ other. (tells.other other).0) (fins lists.to_collector) is.untold is.told (λ yes. (tells.first yes).0) in n ∙ z.1 yes)
-          (finishes-by tells.now b.told new.told (λ yes. (tells.first yes).2) (λ other. (tells.other other).0) (λ other no has. (tells.other other).1 no (record { closed = ap (λ (z : Joiner). z.epochs.step) (sym state) ∙ has.closed; ended = subst (λ (z : Joiner). IsEachUp z.epochs.ended.items) state has.ended; feeders = subst (λ (z : Joiner). (p : ℕ) → held_at z.of_feeders p ≡ []) state has.feeders; joiners = subst (λ (z : Joiner). (q : ℕ) → held_at z.of_joiners q ≡ []) state has.joiners })))
-          five;
+          let five : StandsWithin s (with_sent ls (((a1 ++ a2) ++ a3) ++ a4)) [] new = subst (λ (z : Machine). StandsWithin s (with_sent ls (((a1 ++ a2) ++ a3) ++ a4)) [] z) (sym state) (record { taken = four.taken; stands = four.stands; feeders = four.feeders; joiners = four.joiners }) in
+          let collects : Collects s (with_sent ls (((a1 ++ a2) ++ a3) ++ a4)) new =
+          collects-more s lists (with_sent ls (((a1 ++ a2) ++ a3) ++ a4)) old b new w2 tells.now is.collects
+          (collected from m lists a1 a2 w2 tells.now b accepts.quiet advances.quiet)
+          (received-more s from m lists (((a1 ++ a2) ++ a3) ++ a4) old.epochs fixed.feeders fixed.k grid)
+          (advances.told ∙ accepts.told) (ap (λ (z : Machine). z.epochs) state)
+          (λ at. let x = accepts.rests at in let y = advances.rests (subst (λ (z : Epochs). IsResting z) (sym x.0) at) in (y.0 ∙ x.0, y.1 ∙ x.1 ∙ none))
+          tells.first (λ no. (tells.other no).0)
+          (finishes-by tells.now b.told new.told (λ yes. (tells.first yes).2) (λ no. (tells.other no).0) (λ no going has. (tells.other no).1 going (record { closed = ap (λ (z : Machine). z.epochs.step) (sym state) ∙ has.closed; ended = subst (λ (z : Machine). IsEachUp z.epochs.ended.items) state has.ended; feeders = subst (λ (z : Machine). (p : ℕ) → held_at z.of_feeders p ≡ []) state has.feeders; joiners = subst (λ (z : Machine). (q : ℕ) → held_at z.of_joiners q ≡ []) state has.joiners })))
+          old.told refl in
+          stands-for s (with_sent ls (((a1 ++ a2) ++ a3) ++ a4)) new is.start sound' stuck' collects five;
     }
-
--- whether it is spent doesn't matter
-pub takes-spent : (from : Actor) (m : ToJoiner) (old new : Joiner) (p p' : List Post) (spent : Bool) → TakesMessage from m old new p p' → TakesMessage from m old (record new { spent = spent }) p p'
-takes-spent from m old new p p' spent is = record {
-  sound = record { within = is.sound.within; feeders = is.sound.feeders; joiners = is.sound.joiners };
-  stuck = record { feeders = is.stuck.feeders; joiners = is.stuck.joiners };
-  added = is.added;
-  sends = is.sends;
-  stands = λ s lists was.
-      let st = is.stands s lists was in
-      let w = st.within in
-      record { within = record { taken = w.taken; stands = w.stands; feeders = w.feeders; joiners = w.joiners }; done = st.done; settled = st.settled; untold = st.untold; told = st.told; finishes = λ has. st.finishes (record { closed = has.closed; ended = has.ended; feeders = has.feeders; joiners = has.joiners }); of_feeders = st.of_feeders; of_joiners = st.of_joiners };
-}

@@ -1,10 +1,10 @@
-pub mod Matching
-pub mod Machine
-pub mod Standing
 pub mod Flags
-pub mod Taking
 pub mod Queues
-pub mod Whole
-pub mod Tests
-pub mod Most
+pub mod Matching
 pub mod Probes
+pub mod Changes
+pub mod Standing
+pub mod Taking
+pub mod Tests
+pub mod Whole
+pub mod Joining

@@ -3,7 +3,7 @@ use Rattle.std.specs.Prelude.{◌≡◌, ℕ, ◌+◌, ◌<◌, ◌≤◌, ◌�
 use Rattle.epoch_tags.specs.declared.tuple.Pair.{Pair}
 use Rattle.joiner_law.specs.Law.{JoinerStart, JoinerLists, Taken}
 use Rattle.joiner_law.specs.History.{Step}
-use Rattle.joiner_law.specs.Standing.{StandsSettled, StandsOpen}
+use Rattle.joiner_law.specs.Standing.{StandsSettled, StandsOpen, moved_counts}
 use Rattle.joiner_core.specs.Matching.{does_hold}
 use Rattle.joiner_core.specs.Flags.{flag_at}
 use Rattle.joiner_core.specs.declared.opened.Opened.{Opened}
@@ -14,7 +14,7 @@ pub record IsMachineOf (s : JoinerStart) (m : Epochs) : Type 0 where
   pub k : m.k ≡ s.k
   pub id : m.id ≡ s.id
   pub feeders : m.feeders ≡ s.feeders
-  pub matches : does_hold m.theta ≡ s.matches
+  pub matches : does_hold m.theta.now ≡ s.matches
   pub small : s.k < 9
 
 -- with no step open
@@ -25,6 +25,7 @@ pub record IsClosed (s : JoinerStart) (t : Taken) (lists : JoinerLists) (waiting
   pub epoch : m.epoch ≡ s.epoch + length past
   pub shift : m.shift ≡ cur.shift
   pub ended_count : length m.ended.items ≡ s.feeders
+  pub moved : m.moved ≡ moved_counts s.k s.id (cur ∷ past)
 
 -- with a step open
 pub record IsOpen (s : JoinerStart) (t : Taken) (lists : JoinerLists) (waiting : List Pair) (m : Epochs) (o : Opened) : Type 0 where
@@ -39,6 +40,7 @@ pub record IsOpen (s : JoinerStart) (t : Taken) (lists : JoinerLists) (waiting :
   pub step_shift : o.shift ≡ new.shift
   pub ended_count : length m.ended.items ≡ s.feeders
   pub count : length o.turned.items ≡ s.feeders
+  pub moved : m.moved ≡ moved_counts s.k s.id (cur ∷ past)
   pub missing : all_turned ≡ false → ((p : ℕ) → p < s.feeders → flag_at o.turned.items p ≡ true) → ⊥
   pub all : all_turned ≡ true → (p : ℕ) → p < s.feeders → flag_at o.turned.items p ≡ true
 

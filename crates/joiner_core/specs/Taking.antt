@@ -10,7 +10,7 @@ use Rattle.joiner_law.specs.Law.{JoinerStart, JoinerLists, Taken}
 use Rattle.joiner_law.specs.Standing.{grown, with_sent}
 use Rattle.joiner_core.specs.Flags.{flag_at}
 use Rattle.joiner_core.specs.Standing.{Stands}
-use Rattle.joiner_core.specs.Machine.{IsReady}
+use Rattle.joiner_core.specs.Changes.{IsReady}
 use Rattle.joiner_core.specs.declared.opened.Opened.{Opened}
 use Rattle.joiner_core.specs.declared.epochs.Epochs.{Epochs}
 
@@ -69,6 +69,7 @@ pub record TookOfFeeder (p : ℕ) (m : ToJoiner) (old new : Epochs) (waiting wai
   pub within : IsWithin new
   pub k : new.k ≡ old.k
   pub feeders : new.feeders ≡ old.feeders
+  pub going : flag_at old.ended.items p ≡ false
   pub stands : (s : JoinerStart) (t : Taken) (lists : JoinerLists) → p < s.feeders → Stands s t lists waiting old
       → (t' : Taken) × IsAfter p m t t' × Stands s t' (with_sent lists added) waiting' new
 
@@ -85,5 +86,6 @@ pub record TookOfJoiner (q : ℕ) (m : ToJoiner) (old new : Epochs) (waiting wai
   pub within : IsWithin new
   pub k : new.k ≡ old.k
   pub feeders : new.feeders ≡ old.feeders
+  pub opened : old.step ≡ None → ⊥
   pub stands : (s : JoinerStart) (t : Taken) (lists : JoinerLists) → Stands s t lists waiting old
       → (t' : Taken) × IsAfterJoiner q m t t' × Stands s t' (with_sent lists added) waiting' new

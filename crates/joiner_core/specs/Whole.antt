@@ -1,10 +1,11 @@
 -- The lists for which a joiner stands, with the messages that it holds.
-use Rattle.std.specs.Prelude.{◌≡◌, ℕ, ◌+◌, ◌^◌, ◌<◌, Bool, true, false, None, List, [], ◌∷◌, ◌++◌, length, sum_by, count_by}
+use Rattle.std.specs.Prelude.{◌≡◌, ℕ, ◌+◌, ◌^◌, ◌<◌, ◌≤◌, map, Bool, true, false, Some, None, List, [], ◌∷◌, ◌++◌, length, sum_by, count_by}
+use Rattle.std.specs.List.{AllByRecursion}
 use Rattle.epoch_tags.specs.declared.tuple.Pair.{Pair}
+use Rattle.epoch_tags.specs.declared.message.ToCollector.{ToCollector}
 use Rattle.epoch_tags.specs.declared.message.Post.{Post}
 use Rattle.epoch_tags.specs.declared.message.ToJoiner.{ToJoiner}
 use Rattle.epoch_tags.specs.Posts.{posted_to_collector}
-use Rattle.epoch_tags.specs.Messages.{fins}
 use Rattle.epoch_tags.specs.declared.message.Msg.TheVariants.{Collector as Collector'}
 use Rattle.epoch_tags.specs.declared.message.ToCollector.TheVariants.{Found, Fin}
 use Rattle.join_rows.specs.declared.table.Side.TheVariants.{R, S}
@@ -13,89 +14,130 @@ use Rattle.joiner_core.specs.Flags.{IsEachUp, flag_at}
 use Rattle.joiner_core.specs.Matching.{does_hold}
 use Rattle.joiner_core.specs.declared.theta.Theta.{Theta}
 use Rattle.epoch_tags.specs.declared.tuple.Tuple.{Tuple}
-use Rattle.joiner_law.specs.Law.{JoinerStart, JoinerLists, Taken, CanTakeOfFeeder, CanTakeOfJoiner, IsTakenOf}
+use Rattle.joiner_law.specs.Law.{JoinerStart, JoinerLists, Taken, CanTakeOfFeeder, CanTakeOfJoiner, IsTakenOf, received_count}
 use Rattle.joiner_law.specs.Standing.{grown, with_sent}
 use Rattle.joiner_core.specs.Queues.{held_at}
 use Rattle.joiner_core.specs.Queues.{BeginsWith}
 use Rattle.joiner_core.specs.Taking.{IsWithin}
+use Rattle.joiner_core.specs.Changes.{IsReady}
+use Rattle.joiner_core.specs.declared.opened.Opened.{Opened}
 use Rattle.joiner_core.specs.Tests.{TakesOfFeeder, TakesOfJoiner}
 use Rattle.epoch_tags.specs.declared.actor.Actor.{Actor}
 use Rattle.epoch_tags.specs.declared.actor.Actor.TheVariants.{Feeder, Joiner as Joiner', Controller, Collector}
 use Rattle.joiner_core.specs.Standing.{Stands}
 use Rattle.joiner_core.specs.declared.epochs.Epochs.{Epochs}
-use Rattle.joiner_core.specs.declared.joiner.Joiner.{Joiner}
+use Rattle.joiner_core.specs.declared.machine.Machine.{Machine}
 
 -- in the midst of a call: what was taken and what is held are what was received
-pub record StandsWithin (s : JoinerStart) (lists : JoinerLists) (waiting : List Pair) (m : Joiner) : Type 0 where
+pub record StandsWithin (s : JoinerStart) (lists : JoinerLists) (waiting : List Pair) (m : Machine) : Type 0 where
   pub taken : Taken
   pub stands : Stands s taken lists waiting m.epochs
   pub feeders : (p : ℕ) → p < s.feeders → taken.from_feeder p ++ held_at m.of_feeders p ≡ lists.from_feeder p
   pub joiners : (q : ℕ) → q < 2 ^ s.k → taken.from_joiner q ++ held_at m.of_joiners q ≡ lists.from_joiner q
 
+-- all feeders have ended, and no step is open
+pub record IsResting (m : Epochs) : Type 0 where
+  pub closed : m.step ≡ None
+  pub ended : IsEachUp m.ended.items
+
 -- a part of a call, which turned the machine, the pairs that wait and the posts: for whatever lists the machine stood, it stands for them with the new posts
-pub record Advances (old new : Joiner) (waiting waiting' : List Pair) (before after : List Post) : Type 0 where
+pub record Advances (old new : Machine) (waiting waiting' : List Pair) (before after : List Post) : Type 0 where
   pub added : List Post
   pub sends : after ≡ before ++ added
   pub quiet : posted_to_collector added ≡ []
   pub told : new.told ≡ old.told
+  pub rests : IsResting old.epochs → (new.epochs ≡ old.epochs) × (waiting' ≡ waiting)
   pub stands : (s : JoinerStart) (lists : JoinerLists) → StandsWithin s lists waiting old → StandsWithin s (with_sent lists added) waiting' new
 
 -- how many messages it holds
-abbrev pub held_in_all : Joiner → ℕ
+abbrev pub held_in_all : Machine → ℕ
 held_in_all m = sum_by length m.of_feeders + sum_by length m.of_joiners
 
 -- what holds of the machine between two messages
-pub record IsSound (m : Joiner) : Type 0 where
+pub record IsSound (m : Machine) : Type 0 where
   pub within : IsWithin m.epochs
   pub feeders : length m.of_feeders ≡ m.epochs.feeders
   pub joiners : length m.of_joiners ≡ 2 ^ m.epochs.k
 
+-- the same, with each fact a proposition
+pub record IsKept (m : Machine) : Type 0 where
+  pub small : m.epochs.k < 9
+  pub shift : m.epochs.shift ≤ m.epochs.k
+  pub step : (o : Opened) → m.epochs.step ≡ Some o → o.shift ≤ m.epochs.k
+  pub ended : length m.epochs.ended.items ≡ m.epochs.feeders
+  pub count : (o : Opened) → m.epochs.step ≡ Some o → length o.turned.items ≡ m.epochs.feeders
+  pub begun : (o : Opened) → m.epochs.step ≡ Some o → ((p : ℕ) → p < m.epochs.feeders → flag_at o.turned.items p ≡ false) → ⊥
+  pub rests : IsReady m.epochs.step → ⊥
+  pub feeders : length m.of_feeders ≡ m.epochs.feeders
+  pub joiners : length m.of_joiners ≡ 2 ^ m.epochs.k
+
 -- the first message held of that sender can be taken
-pub record IsReadyOfFeeder (m : Joiner) (p : ℕ) : Type 0 where
+pub record IsReadyOfFeeder (m : Machine) (p : ℕ) : Type 0 where
   pub low : p < m.epochs.feeders
   pub first : ToJoiner
   pub begins : BeginsWith first (held_at m.of_feeders p)
   pub can : TakesOfFeeder m.epochs p first
 
-pub record IsReadyOfJoiner (m : Joiner) (q : ℕ) : Type 0 where
+pub record IsReadyOfJoiner (m : Machine) (q : ℕ) : Type 0 where
   pub low : q < 2 ^ m.epochs.k
   pub first : ToJoiner
   pub begins : BeginsWith first (held_at m.of_joiners q)
   pub can : TakesOfJoiner m.epochs q first
 
 -- no first message held of these senders can be taken
-abbrev pub AreStuckOfFeeders : ℕ → Joiner → Type 0
+abbrev pub AreStuckOfFeeders : ℕ → Machine → Type 0
 AreStuckOfFeeders count m = (p : ℕ) → p < count → (x : ToJoiner) (rest : List ToJoiner) → held_at m.of_feeders p ≡ x ∷ rest → TakesOfFeeder m.epochs p x → ⊥
 
-abbrev pub AreStuckOfJoiners : ℕ → Joiner → Type 0
+abbrev pub AreStuckOfJoiners : ℕ → Machine → Type 0
 AreStuckOfJoiners count m = (q : ℕ) → q < count → (x : ToJoiner) (rest : List ToJoiner) → held_at m.of_joiners q ≡ x ∷ rest → TakesOfJoiner m.epochs q x → ⊥
 
-pub record IsStuck (m : Joiner) : Type 0 where
+pub record IsStuck (m : Machine) : Type 0 where
   pub feeders : AreStuckOfFeeders m.epochs.feeders m
   pub joiners : AreStuckOfJoiners (2 ^ m.epochs.k) m
 
 -- one held message was taken
-pub record TookHeld (old new : Joiner) (waiting waiting' : List Pair) (before after : List Post) : Type 0 where
+pub record TookHeld (old new : Machine) (waiting waiting' : List Pair) (before after : List Post) : Type 0 where
   pub sound : IsSound new
   pub advances : Advances old new waiting waiting' before after
   pub fewer : held_in_all new < held_in_all old
 
 -- all feeders have ended, no step is open, and nothing is held
-pub record HasFinished (m : Joiner) : Type 0 where
+pub record HasFinished (m : Machine) : Type 0 where
   pub closed : m.epochs.step ≡ None
   pub ended : IsEachUp m.epochs.ended.items
   pub feeders : (p : ℕ) → held_at m.of_feeders p ≡ []
   pub joiners : (q : ℕ) → held_at m.of_joiners q ≡ []
 
+-- how a joiner may begin
+pub record IsStart (s : JoinerStart) : Type 0 where
+  pub within : s.shift ≤ s.k
+  pub id : s.id < 2 ^ s.k
+  pub some : 0 < s.feeders
+  pub base : AllByRecursion (λ (x : Tuple). x.stamp ≤ s.epoch) s.base
+
+-- the last message, as the machine has it
+abbrev pub fin_of : Epochs → ToCollector
+fin_of m = Fin (count_by (is_of R) m.store) (count_by (is_of S) m.store) m.moved
+
+-- what was sent to the collector: pairs, and once, where the machine has finished, the last message
+pub record Collects (s : JoinerStart) (lists : JoinerLists) (m : Machine) : Type 0 where
+  pub founds : List (List Pair)
+  pub last : List ToCollector
+  pub to_collector : lists.to_collector ≡ map Found founds ++ last
+  pub none_empty : AllByRecursion (λ (ps : List Pair). 0 < length ps) founds
+  pub few : length founds ≤ received_count s lists
+  pub untold : m.told ≡ false → last ≡ []
+  pub told : m.told ≡ true → (last ≡ fin_of m.epochs ∷ []) × IsResting m.epochs
+  pub finishes : HasFinished m → m.told ≡ true
+
 -- between calls: no pair waits, no step is ready, and the first message held of each sender can't be taken; `done` steps are settled
-pub record StandsFor (s : JoinerStart) (lists : JoinerLists) (m : Joiner) : Type 0 where
+pub record StandsBetween (s : JoinerStart) (lists : JoinerLists) (m : Machine) : Type 0 where
+  pub start : IsStart s
+  pub sound : IsSound m
   pub within : StandsWithin s lists [] m
   pub done : ℕ
   pub settled : m.epochs.epoch ≡ s.epoch + done
-  -- the last message was sent once, and where it has finished
-  pub untold : m.told ≡ false → fins lists.to_collector ≡ 0
-  pub told : m.told ≡ true → fins lists.to_collector ≡ 1
-  pub finishes : HasFinished m → m.told ≡ true
+  pub collects : Collects s lists m
   pub of_feeders : (p : ℕ) → p < s.feeders → IsTakenOf (CanTakeOfFeeder s within.taken done p) (within.taken.from_feeder p) (lists.from_feeder p)
   pub of_joiners : (q : ℕ) → q < 2 ^ s.k → IsTakenOf (CanTakeOfJoiner s within.taken done q) (within.taken.from_joiner q) (lists.from_joiner q)
 
@@ -114,12 +156,13 @@ IsOfGrid Controller m = ⊥
 IsOfGrid Collector m = ⊥
 
 -- a message was taken or held
-pub record Accepts (from : Actor) (m : ToJoiner) (old new : Joiner) (waiting waiting' : List Pair) (before after : List Post) : Type 0 where
+pub record Accepts (from : Actor) (m : ToJoiner) (old new : Machine) (waiting waiting' : List Pair) (before after : List Post) : Type 0 where
   pub sound : IsSound new
   pub added : List Post
   pub sends : after ≡ before ++ added
   pub quiet : posted_to_collector added ≡ []
   pub told : new.told ≡ old.told
+  pub rests : IsResting old.epochs → (new.epochs ≡ old.epochs) × (waiting' ≡ waiting)
   pub stands : (s : JoinerStart) (lists : JoinerLists) → StandsWithin s lists waiting old → StandsWithin s (with_sent (with_message from m lists) added) waiting' new
 
 -- ---- what is sent at the end of a call
@@ -128,28 +171,23 @@ abbrev pub found_posts : List Pair → List Post
 found_posts [] = []
 found_posts (p ∷ ps) = record { to = Collector; msg = Collector' (Found (p ∷ ps)) } ∷ []
 
--- the last message, as the machine has it
-abbrev pub fin_post : Joiner → Post
-fin_post m = record { to = Collector; msg = Collector' (Fin (count_by (is_of R) m.epochs.store) (count_by (is_of S) m.epochs.store) m.epochs.moved) }
-
 -- the posts of the last message: it is sent where the machine first has finished
-abbrev pub fin_posts : Bool → Joiner → List Post
-fin_posts true m = fin_post m ∷ []
+abbrev pub fin_posts : Bool → Machine → List Post
+fin_posts true m = record { to = Collector; msg = Collector' (fin_of m.epochs) } ∷ []
 fin_posts false m = []
 
-pub record TellsFin (m : Joiner) (told : Bool) (before after : List Post) : Type 0 where
+pub record TellsFin (m : Machine) (told : Bool) (before after : List Post) : Type 0 where
   pub now : Bool
   pub sends : after ≡ before ++ fin_posts now m
   pub first : now ≡ true → (m.told ≡ false) × HasFinished m × (told ≡ true)
   pub other : now ≡ false → (told ≡ m.told) × (m.told ≡ false → HasFinished m → ⊥)
 
--- a call that took or held a message
-pub record TakesMessage (from : Actor) (m : ToJoiner) (old new : Joiner) (before after : List Post) : Type 0 where
+-- a call that took or held a message: for whatever lists the machine stood, it stands for them with the message and the new posts
+pub record Receives (from : Actor) (m : ToJoiner) (old new : Machine) (before after : List Post) : Type 0 where
   pub sound : IsSound new
-  pub stuck : IsStuck new
   pub added : List Post
   pub sends : after ≡ before ++ added
-  pub stands : (s : JoinerStart) (lists : JoinerLists) → StandsFor s lists old → StandsFor s (with_sent (with_message from m lists) added) new
+  pub stands : (s : JoinerStart) (lists : JoinerLists) → StandsBetween s lists old → StandsBetween s (with_sent (with_message from m lists) added) new
 
 -- ---- the beginning
 
@@ -160,23 +198,16 @@ abbrev pub start_of : ℕ → ℕ → ℕ → ℕ → ℕ → Theta → List Tup
 start_of k id shift epoch feeders theta base =
     record { k = k; feeders = feeders; id = id; matches = does_hold theta; epoch = epoch; shift = shift; base = base }
 
--- a joiner that has just begun stands for empty lists
-pub record IsFresh (k id shift epoch feeders : ℕ) (theta : Theta) (base : List Tuple) (m : Joiner) : Type 0 where
-  pub sound : IsSound m
-  pub stuck : IsStuck m
-  pub going : m.spent ≡ false
-  pub quiet : m.told ≡ false
-  pub stands : StandsFor (start_of k id shift epoch feeders theta base) no_lists m
-
 -- how the code makes it
-pub record IsMade (k id shift epoch feeders : ℕ) (theta : Theta) (base : List Tuple) (m : Joiner) : Type 0 where
+pub record IsMade (k id shift epoch feeders : ℕ) (theta : Theta) (base : List Tuple) (m : Machine) : Type 0 where
   pub at_k : m.epochs.k ≡ k
   pub at_id : m.epochs.id ≡ id
   pub at_shift : m.epochs.shift ≡ shift
   pub at_epoch : m.epochs.epoch ≡ epoch
   pub at_feeders : m.epochs.feeders ≡ feeders
-  pub at_theta : m.epochs.theta ≡ theta
+  pub at_theta : m.epochs.theta.now ≡ theta
   pub store : m.epochs.store ≡ base
+  pub moved : m.epochs.moved ≡ []
   pub step : m.epochs.step ≡ None
   pub ended : length m.epochs.ended.items ≡ feeders
   pub down : (p : ℕ) → flag_at m.epochs.ended.items p ≡ false
@@ -185,4 +216,3 @@ pub record IsMade (k id shift epoch feeders : ℕ) (theta : Theta) (base : List 
   pub no_feeders : (p : ℕ) → held_at m.of_feeders p ≡ []
   pub no_joiners : (q : ℕ) → held_at m.of_joiners q ≡ []
   pub told : m.told ≡ false
-  pub spent : m.spent ≡ false

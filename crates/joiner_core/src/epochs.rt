@@ -1,7 +1,7 @@
 // What a joiner has of its epochs: the settled one, and the open step.
 ghost use Rattle.std.specs.Prelude.{◌≡◌, ℕ, ◌<◌, ◌↔◌, IsTrue, false, true, length, slice_index_or, IfOk, None};
 ghost use Rattle.joiner_core.specs.Flags.{flag_at, IsEachUp};
-ghost use Rattle.joiner_core.specs.Machine.{turned_in};
+ghost use Rattle.joiner_core.specs.Changes.{turned_in};
 
 use crate::opened::Opened;
 use crate::store::Store;
@@ -10,11 +10,11 @@ use epoch_tags::Counts;
 use std::alloc::{AllocError, Global};
 
 #[derive(Drop)]
-pub(crate) struct Epochs {
+pub(crate) struct Epochs<'a> {
     pub(crate) k: u32,
     pub(crate) id: u32,
     pub(crate) feeders: u32,
-    pub(crate) theta: Theta,
+    pub(crate) theta: &'a Theta,
     pub(crate) epoch: u32,
     pub(crate) shift: u32,
     pub(crate) store: Store,
@@ -61,7 +61,7 @@ pub(crate) fn are_all_up(flags: &Vec<bool>) -> bool
     true
 }
 
-impl Epochs {
+impl<'a> Epochs<'a> {
     // Whether feeder p has turned in the open step.
     pub(crate) fn has_turned(&self, p: u32) -> bool
         ensures { result ≡ turned_in self.now.step p }

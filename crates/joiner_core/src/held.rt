@@ -1,5 +1,6 @@
 // Messages that can't be taken yet, link by link.
-ghost use Rattle.std.specs.Prelude.{◌≡◌, true, false, ◌≢◌, ℕ, ◌+◌, ◌<◌, List, [], ◌∷◌, ◌++◌, length, slice_set, MatchOption, IfOk, OnOk, OnErr};
+ghost use Rattle.std.specs.Prelude.{◌≡◌, true, false, ◌≢◌, ℕ, ◌+◌, ◌<◌, List, [], ◌∷◌, ◌++◌, length, slice_set, MatchOption, IfOk, OnOk, min, ◌^◌, ◌-◌};
+ghost use Rattle.join_rows.specs.Lists.{total};
 ghost use Rattle.epoch_tags.specs.declared.message.ToJoiner.{ToJoiner};
 ghost use Rattle.joiner_core.specs.Queues.{held_at, BeginsWith};
 
@@ -85,10 +86,13 @@ impl Held {
         true
     }
 
-    pub(crate) fn count(&self) -> u64 {
+    // How many messages are held, or 2 ^ 64 - 1 where there are more.
+    pub(crate) fn count(&self) -> u64
+        ensures { result ≡ min (total (length self.now) (λ sender. length (held_at self.now sender))) (2 ^ 64 - 1) }
+    {
         let mut count = 0u64;
-        for queue in &self.queues {
-            count = count.saturating_add(queue.len() as u64);
+        for sender in 0..self.queues.len() {
+            count = count.saturating_add(self.queues[sender].len() as u64);
         }
         count
     }

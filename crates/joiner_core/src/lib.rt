@@ -1,15 +1,20 @@
-//! A joiner's machine.
+//! The joiner: it tells apart old, late, new and moved rows in whatever order messages come.
 #![tactic(auto)]
 
+mod calls;
 mod counts;
 mod end;
 mod epochs;
 mod grid;
 mod held;
 mod joiner;
+mod kinds;
+mod machine;
 mod moved;
 mod moved_end;
 mod opened;
+mod report;
+mod retry;
 mod settle;
 mod store;
 mod theta;
@@ -20,6 +25,3 @@ mod which;
 pub use joiner::Joiner;
 pub use store::Store;
 pub use theta::Theta;
-
-#[cfg(test)]
-mod tests;

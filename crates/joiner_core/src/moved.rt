@@ -1,7 +1,7 @@
 // A tuple that the partner moved here.
 ghost use Rattle.std.specs.Prelude.{◌≡◌, true, false, ◌++◌, ◌∷◌, [], ◌<◌, ◌≤◌, OnOk, IfSome};
 ghost use Rattle.joiner_core.specs.Tests.{PartFits};
-ghost use Rattle.joiner_core.specs.Machine.{after_moved, found_moved};
+ghost use Rattle.joiner_core.specs.Changes.{after_moved, found_moved};
 
 use crate::epochs::Epochs;
 use crate::grid::partner;
@@ -9,7 +9,7 @@ use crate::which::Which;
 use epoch_tags::{Pairs, Tuple};
 use std::alloc::AllocError;
 
-impl Epochs {
+impl<'a> Epochs<'a> {
     // Whether joiner q has this epoch's step open here, as the partner whose part goes on.
     pub(crate) fn can_take_part(&self, q: u32, epoch: u32) -> bool
         requires { self.now.shift < 9 }
@@ -31,7 +31,7 @@ impl Epochs {
         ensures found { OnOk result (found.new ≡ found.old ++ found_moved self.old tuple) }
     {
         if let Some(open) = &mut self.step {
-            open.take(&self.theta, Which::OnlyStamp(open.epoch), tuple, found)?;
+            open.take(self.theta, Which::OnlyStamp(open.epoch), tuple, found)?;
         }
         Ok(())
     }

@@ -4,7 +4,7 @@ ghost use Rattle.migration_plan.specs.Steps.{holds};
 ghost use Rattle.joiner_law.specs.History.{probed};
 ghost use Rattle.joiner_core.specs.Probes.{named_by};
 ghost use Rattle.joiner_core.specs.Matching.{does_hold};
-ghost use Rattle.joiner_core.specs.Machine.{kept_at_end, found_late, posts_late, opened_late};
+ghost use Rattle.joiner_core.specs.Changes.{kept_at_end, found_late, posts_late, opened_late};
 
 use crate::grid::{is_of, keeps};
 use crate::store::Store;

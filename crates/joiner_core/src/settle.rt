@@ -1,13 +1,13 @@
 // The end of a step.
 ghost use Rattle.std.specs.Prelude.{◌≡◌, ◌++◌, ◌<◌, true, false, IfOk};
-ghost use Rattle.joiner_core.specs.Machine.{after_settle, posts_settled, IsReady};
+ghost use Rattle.joiner_core.specs.Changes.{after_settle, posts_settled, IsReady};
 
 use crate::epochs::{Epochs, are_all_up};
 use crate::grid::exchanged;
 use epoch_tags::{Actor, Msg, Post, Sends, ToController};
 use std::alloc::AllocError;
 
-impl Epochs {
+impl<'a> Epochs<'a> {
     // Whether all feeders have turned and the partner has ended its part.
     pub(crate) fn is_ready(&self) -> bool
         ensures up { result ≡ true → IsReady self.now.step }

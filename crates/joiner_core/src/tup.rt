@@ -2,7 +2,7 @@
 ghost use Rattle.std.specs.Prelude.{◌≡◌, ◌++◌, ◌<◌, ◌≤◌, true, false, OnOk};
 ghost use Rattle.epoch_tags.specs.declared.message.ToJoiner.TheVariants.{Tup};
 ghost use Rattle.joiner_core.specs.Taking.{IsWithin, CanTakeTup, TookOfFeeder};
-ghost use Rattle.joiner_core.specs.Machine.{after_old, found_old, posts_old, after_new, found_new};
+ghost use Rattle.joiner_core.specs.Changes.{after_old, found_old, posts_old, after_new, found_new};
 
 use crate::epochs::Epochs;
 use crate::grid::{exchanged, partner};
@@ -11,7 +11,7 @@ use crate::which::Which;
 use epoch_tags::{Pairs, Sends, Tuple};
 use std::alloc::AllocError;
 
-impl Epochs {
+impl<'a> Epochs<'a> {
     pub(crate) fn can_take_tup(&self, p: u32, stamp: u32) -> bool
         ensures up { result ≡ true → CanTakeTup self.now p stamp }
         ensures down { result ≡ false → CanTakeTup self.now p stamp → ⊥ }
@@ -62,7 +62,7 @@ impl Epochs {
         ensures found { OnOk result (found.new ≡ found.old ++ found_old self.old tuple) }
         ensures posts { OnOk result (sends.new ≡ sends.old ++ posts_old self.old tuple) }
     {
-        self.store.probe(&tuple, &self.theta, Which::All, found)?;
+        self.store.probe(&tuple, self.theta, Which::All, found)?;
         if let Some(open) = &mut self.step {
             let to = partner(self.shift, open.shift, self.id);
             pass_on(
@@ -73,7 +73,7 @@ impl Epochs {
                 &tuple,
                 sends,
             )?;
-            open.keep(self.k, self.id, &self.theta, &tuple, found)?;
+            open.keep(self.k, self.id, self.theta, &tuple, found)?;
         }
         self.store.add(tuple)
     }
@@ -84,7 +84,7 @@ impl Epochs {
         ensures found { OnOk result (found.new ≡ found.old ++ found_new self.old tuple) }
     {
         if let Some(open) = &mut self.step {
-            open.take(&self.theta, Which::All, tuple, found)?;
+            open.take(self.theta, Which::All, tuple, found)?;
         }
         Ok(())
     }

@@ -3,7 +3,7 @@ ghost use Rattle.std.specs.Prelude.{◌≡◌, ◌++◌, ◌<◌, ◌≤◌, tru
 ghost use Rattle.joiner_core.specs.Taking.{IsWithin, CanTakeTurn, TookOfFeeder};
 ghost use Rattle.epoch_tags.specs.declared.message.ToJoiner.TheVariants.{Turn};
 ghost use Rattle.epoch_tags.specs.declared.tuple.Pair.{Pair};
-ghost use Rattle.joiner_core.specs.Machine.{HasBegun, begun_posts, posts_opened, HasOpened, HasTurned, AreAllUp, posts_turned};
+ghost use Rattle.joiner_core.specs.Changes.{HasBegun, begun_posts, posts_opened, HasOpened, HasTurned, AreAllUp, posts_turned};
 
 use crate::epochs::{Epochs, all_down, are_all_up};
 use crate::grid::{are_neighbours, exchanged, partner};
@@ -11,7 +11,7 @@ use crate::opened::Opened;
 use epoch_tags::{Actor, Msg, Post, Sends, ToJoiner};
 use std::alloc::AllocError;
 
-impl Epochs {
+impl<'a> Epochs<'a> {
     pub(crate) fn can_take_turn(&self, p: u32, epoch: u32, shift: u32) -> bool
         ensures up { result ≡ true → CanTakeTurn self.now p epoch shift }
         ensures down { result ≡ false → CanTakeTurn self.now p epoch shift → ⊥ }

@@ -1,4 +1,4 @@
--- The law's stores and pairs, names go by numbers of steps, are those of the steps that were taken.
+-- The law's stores and pairs, which go by numbers of steps, are those of the steps that were taken.
 use Rattle.std.proofs.Common.{◌≡◌, ℕ, suc, ◌+◌, ◌<◌, ◌≤◌, inl, inr, refl, sym, ◌∙◌, ap, subst, arith, Bool, cond, ◌&&◌, List, [], ◌∷◌, ◌++◌, length, eq-eqb}
 use Rattle.std.specs.Prelude.{nat_le, filter, sum_by}
 use Rattle.std.specs.List.{AllByRecursion}
@@ -139,11 +139,11 @@ older-bag e xs ys same all = all_older e xs (same.sums (newer e) ∙ none_newer 
 
 -- the law's premise is that of the steps
 pub older-is : (s : JoinerStart) (t : Taken) (steps : List Step) → IsHistory s t steps → AllByRecursion (λ (x : Tuple). x.stamp ≤ s.epoch) s.base
-    → ((n : ℕ) → AllByRecursion (λ (x : Tuple). x.stamp ≤ s.epoch + n) (moved_of (s.epoch + n + 1) (t.from_joiner (partner_of s t n)))) → CameOlder s.epoch steps
+    → ((n : ℕ) → n + 1 < length steps → AllByRecursion (λ (x : Tuple). x.stamp ≤ s.epoch + n) (moved_of (s.epoch + n + 1) (t.from_joiner (partner_of s t n)))) → CameOlder s.epoch steps
 older-is s t [] is base older = tt
 older-is s t (step ∷ []) is base older = older-bag s.epoch step.came s.base is.0.came base
 older-is s t (step ∷ (before ∷ past)) is base older =
-    (older-bag (s.epoch + length past) step.came _ is.0.came (older (length past)), older-is s t (before ∷ past) is.1 base older)
+    (older-bag (s.epoch + length past) step.came _ is.0.came (older (length past) (omega arith)), older-is s t (before ∷ past) is.1 base (λ n less. older n (omega arith)))
 
 -- ---- shifts
 

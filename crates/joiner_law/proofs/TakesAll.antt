@@ -77,7 +77,7 @@ IsOfEpoch e End = ⊥
 IsOfEpoch e (Moved' epoch x) = epoch ≡ e
 IsOfEpoch e (MovedEnd epoch) = epoch ≡ e
 
--- all that comes is of an epoch, names isn't lower than those before
+-- all that comes is of an epoch, which isn't lower than those before
 pub at_least : (f : ℕ) (xs ys : List ToJoiner) (m : ToJoiner) → NeverFalls f (xs ++ m ∷ ys) → (e : ℕ) × IsOfEpoch e m × (f ≤ e)
 at_least f [] ys (Tup x) falls = absurd falls
 at_least f [] ys (Turn epoch shift) falls = absurd falls

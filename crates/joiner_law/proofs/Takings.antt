@@ -17,13 +17,14 @@ use Rattle.std.proofs.lemmas.List.{map-append}
 use Rattle.migration_plan.specs.Steps.{AreNeighbours, is_of, exchanged_side, partner_in_step, holds}
 use Rattle.joiner_law.specs.Law.{JoinerStart, JoinerLists, Taken, partner_of, shift_after}
 use Rattle.joiner_law.specs.History.{Step, stored, with_arrived, with_came, new_step, all_tuples, only_stamp, probed}
-use Rattle.joiner_law.specs.Standing.{grown, took_of_feeder, took_of_joiner, with_shift, IsOfFeeder, IsStep, IsLink, SentUpTo, reached, AreSent, ArePairs, pairs_sent, AreParts, StandsSettled, StandsOpen, with_sent, with_flag}
+use Rattle.joiner_law.specs.Standing.{grown, took_of_feeder, took_of_joiner, with_shift, IsOfFeeder, IsStep, IsLink, SentUpTo, reached, AreSent, ArePairs, pairs_sent, AreParts, StandsSettled, StandsOpen, with_sent, with_flag, IsHistory}
 use Rattle.joiner_law.specs.Posting.{moved_post, moved_end_post, settled_post}
 use Rattle.joiner_law.proofs.Growing.{moved_of-append, grown-same, grown-other}
 use Rattle.joiner_law.proofs.Feeders.{feeder-tup, feeder-turn, feeder-end, feeder-settled, feeder-shifts, feeder-none}
 use Rattle.joiner_law.proofs.Heart.{stored-arrived, stored-under, stored-came, stored-new, if_kept}
 use Rattle.joiner_law.proofs.Histories.{history-arrived, history-under, history-came, history-shift, history-quiet, history-part, by_one-arrived}
 use Rattle.joiner_law.proofs.Pairing.{pairs-arrived, pairs-under, pairs-came, pairs-new}
+use Rattle.joiner_law.proofs.Partners.{taken-arrived, taken-under, taken-new, taken-came, taken-end, parts_sent-arrived, parts_sent-came, parts_sent-under, parts_sent-new, parts_sent-end, parts_sent-none}
 use Rattle.joiner_law.proofs.Moving.{sent-arrived, sent-under, sent-came, sent-new, link-moved, link-later, link-end, moved_ends-append, none-later, no_end-later, up_to-later, up_to-append, all-quiet, quiet-end}
 
 -- a list that had one tuple added at its end
@@ -42,7 +43,7 @@ gather-none f (suc n) none =
     let rest : gather n f ≡ [] = gather-none f n (λ i low. none i (omega arith)) in
     rw (here, rest) refl
 
--- the feeders, one of names sent a message more
+-- the feeders, one of which sent a message more
 feeders-grown : (s : JoinerStart) (t : Taken) (done : ℕ) (turned ended turned' ended' : ℕ → Bool) (p : ℕ) (m : ToJoiner)
     → ((q : ℕ) → q ≢ p → (turned' q ≡ turned q) × (ended' q ≡ ended q))
     → (IsOfFeeder s.epoch t.shift_at done (turned p) (ended p) (t.from_feeder p) → IsOfFeeder s.epoch t.shift_at done (turned' p) (ended' p) (t.from_feeder p ++ m ∷ []))
@@ -123,6 +124,17 @@ step-new s t e shift n within is none_moved none_came =
       came = rw (none_moved (partner_of s (with_shift e shift t) n)) (SameBag-refl []);
     }
 
+-- the partner of the open step
+who-is : (s : JoinerStart) (t : Taken) (new cur : Step) (past : List Step) → IsHistory s t (new ∷ (cur ∷ past)) → partner_of s t (length past) ≡ partner_in_step cur.shift new.shift s.id
+who-is s t new cur past is =
+    let next : s.epoch + (length past + 1) ≡ s.epoch + length (cur ∷ past) = omega arith in
+    let one : shift_after s t (length past) ≡ cur.shift = is.1.0.shift in
+    let two : shift_after s t (length past + 1) ≡ new.shift = ap t.shift_at next ∙ is.0.shift in
+    rw (one, two) refl
+
+first-kept : (s : JoinerStart) (t : Taken) (epoch shift : ℕ) → s.epoch < epoch → shift_after s t 0 ≡ s.shift → shift_after s (with_shift epoch shift t) 0 ≡ s.shift
+first-kept s t epoch shift low is = rw (ne_eqb (s.epoch + 0) epoch (λ same. absurd (omega arith))) is
+
 -- ---- a tuple of the settled epoch, with no step open
 
 pub settled-tup : (s : JoinerStart) (t : Taken) (lists : JoinerLists) (waiting : List Pair) (ended : ℕ → Bool) (a : List Tuple) (cur : Step) (past : List Step) (p : ℕ) (x : Tuple)
@@ -142,6 +154,9 @@ settled-tup s t lists waiting ended a cur past p x low going stamp stands =
         sent = sent-arrived s lists true x cur past is.sent;
         parts = parts-arrived s t true x cur past (Tup x) p is.parts;
         told = is.told;
+        first_shift = is.first_shift;
+        from_partner = taken-arrived s t.from_joiner x cur past is.from_partner;
+        to_partner = parts_sent-arrived s true lists.to_joiner x cur past is.to_partner;
       };
       store = added x a (stored s.k s.id (cur ∷ past)) (stored s.k s.id (with_arrived x cur ∷ past)) stands.store (stored-arrived s.k s.id x cur past);
       links = stands.links;
@@ -156,7 +171,7 @@ up_to-grown last q m f here all j = elim (cases_eq j q) [
 
 -- ---- a late tuple, under an open step
 
--- a list to names the tuple was added if it is kept
+-- a list to which the tuple was added if it is kept
 abbrev pub kept_at_end : Bool → Tuple → List Tuple → List Tuple
 kept_at_end kept x b = cond kept (b ++ x ∷ []) b
 
@@ -184,6 +199,9 @@ open-late s t lists waiting turned ended part_ended a b new cur past p x low goi
         sent = sent-under s lists false x new cur past is.sent;
         parts = (is.parts.0, parts-arrived s t true x cur past (Tup x) p is.parts.1);
         told = told-posted lists (partner_in_step cur.shift new.shift s.id) (s.epoch + length past + 1) (cond (is_of (exchanged_side cur.shift new.shift) x) (x ∷ []) []) _ is.told;
+        first_shift = is.first_shift;
+        from_partner = taken-under s t.from_joiner x new cur past is.from_partner;
+        to_partner = parts_sent-under s false lists x new cur past (cond (is_of (exchanged_side cur.shift new.shift) x) (x ∷ []) []) is.to_partner;
       };
       store = added x a (stored s.k s.id (cur ∷ past)) (stored s.k s.id (with_arrived x cur ∷ past)) stands.store (stored-arrived s.k s.id x cur past);
       opened = added-kept (holds s.k new.shift s.id x) x b _ _ stands.opened (stored-under s.k s.id x new cur past);
@@ -214,6 +232,9 @@ open-tup s t lists waiting turned ended all_turned part_ended a b new cur past p
         sent = sent-arrived s lists all_turned x new (cur ∷ past) is.sent;
         parts = parts-arrived s t part_ended x new (cur ∷ past) (Tup x) p is.parts;
         told = is.told;
+        first_shift = is.first_shift;
+        from_partner = taken-arrived s t.from_joiner x new (cur ∷ past) is.from_partner;
+        to_partner = parts_sent-arrived s all_turned lists.to_joiner x new (cur ∷ past) is.to_partner;
       };
       store = stands.store;
       opened = added x b (stored s.k s.id (new ∷ (cur ∷ past))) (stored s.k s.id (with_arrived x new ∷ (cur ∷ past))) stands.opened (stored-arrived s.k s.id x new (cur ∷ past));
@@ -239,6 +260,9 @@ open-moved s t lists waiting turned ended all_turned part_ended a b new cur past
         sent = sent-came s lists all_turned x new (cur ∷ past) is.sent;
         parts = parts-moved s t part_ended (partner_of s t (length past)) epoch x new (cur ∷ past) is.parts;
         told = is.told;
+        first_shift = is.first_shift;
+        from_partner = taken-came s t.from_joiner x new cur past (partner_of s t (length past)) epoch now (who-is s t new cur past is.history) is.from_partner;
+        to_partner = parts_sent-came s all_turned lists.to_joiner x new (cur ∷ past) is.to_partner;
       };
       store = stands.store;
       opened = added x b (stored s.k s.id (new ∷ (cur ∷ past))) (stored s.k s.id (with_came x new ∷ (cur ∷ past))) stands.opened (stored-came s.k s.id x new (cur ∷ past));
@@ -270,6 +294,9 @@ opened-step s t lists waiting ended a cur past shift within near stands =
         sent = sent-new s lists a shift cur past (λ q. (stands.links q).up_to) stands.store is.sent;
         parts = (none_ended (partner_of s (with_shift e shift t) (length past)), parts-shift s t e shift (cur ∷ past) (omega arith) is.parts);
         told = told-posted lists (partner_in_step cur.shift shift s.id) (s.epoch + length past + 1) (filter (is_of (exchanged_side cur.shift shift)) a) _ is.told;
+        first_shift = first-kept s t e shift (omega arith) is.first_shift;
+        from_partner = taken-new s t.from_joiner shift (cur ∷ past) is.from_partner;
+        to_partner = parts_sent-new s lists shift cur past (filter (is_of (exchanged_side cur.shift shift)) a) is.to_partner;
       };
       store = stands.store;
       opened = rw (stored-new s.k s.id shift (cur ∷ past)) (SameBag-filter (holds s.k shift s.id) stands.store);
@@ -350,6 +377,9 @@ open-turn s t lists waiting turned ended part_ended a b new cur past p epoch shi
         sent = is.sent;
         parts = parts-same s t part_ended (new ∷ (cur ∷ past)) (Turn epoch shift) p is.parts;
         told = is.told;
+        first_shift = is.first_shift;
+        from_partner = is.from_partner;
+        to_partner = is.to_partner;
       };
       store = stands.store;
       opened = stands.opened;
@@ -375,6 +405,9 @@ all-turned s t lists waiting turned ended part_ended a b new cur past stands =
         sent = sent-end s lists new cur past is.sent;
         parts = is.parts;
         told = append-nil lists.to_controller ∙ is.told;
+        first_shift = is.first_shift;
+        from_partner = is.from_partner;
+        to_partner = parts_sent-end s lists new cur past is.to_partner;
       };
       store = stands.store;
       opened = stands.opened;
@@ -405,6 +438,9 @@ open-end s t lists waiting turned ended all_turned part_ended a b new cur past p
         sent = is.sent;
         parts = parts-same s t part_ended (new ∷ (cur ∷ past)) End p is.parts;
         told = is.told;
+        first_shift = is.first_shift;
+        from_partner = is.from_partner;
+        to_partner = is.to_partner;
       };
       store = stands.store;
       opened = stands.opened;
@@ -430,6 +466,9 @@ settled-end s t lists waiting ended a cur past p low going stands =
         sent = is.sent;
         parts = parts-same s t true (cur ∷ past) End p is.parts;
         told = is.told;
+        first_shift = is.first_shift;
+        from_partner = is.from_partner;
+        to_partner = is.to_partner;
       };
       store = stands.store;
       links = stands.links;
@@ -461,6 +500,9 @@ open-moved_end s t lists waiting turned ended all_turned a b new cur past epoch 
           parts-quiet s t true q (MovedEnd epoch) (cur ∷ past) (λ n less. rw (ne_eqb epoch (s.epoch + n + 1) (λ same. absurd (omega arith))) refl) is.parts.1,
         );
         told = is.told;
+        first_shift = is.first_shift;
+        from_partner = taken-end s t.from_joiner new cur past q epoch now (who-is s t new cur past is.history) is.from_partner;
+        to_partner = is.to_partner;
       };
       store = stands.store;
       opened = stands.opened;
@@ -486,6 +528,9 @@ settled-step s t lists waiting turned ended a b new cur past all stands =
         sent = all-quiet s lists (settled_post (s.epoch + length past + 1) ∷ []) true (new ∷ (cur ∷ past)) (λ n less. record { tuples = λ j. refl; ends = λ j. refl }) is.sent;
         parts = is.parts;
         told = told-more s.epoch (length past) lists.to_controller is.told;
+        first_shift = is.first_shift;
+        from_partner = is.from_partner;
+        to_partner = parts_sent-none s true (new ∷ (cur ∷ past)) lists.to_joiner _ (λ q. append-nil (lists.to_joiner q)) is.to_partner;
       };
       store = stands.opened;
       links = λ q.

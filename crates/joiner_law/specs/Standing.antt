@@ -1,5 +1,5 @@
 -- What a joiner's machine holds, and the lists for which it stands.
-use Rattle.std.specs.Prelude.{◌≡◌, ℕ, zero, suc, ◌+◌, ◌<◌, ◌≤◌, ◌==◌, Bool, true, false, cond, ⊤, List, [], ◌∷◌, ◌++◌, filter, length, flat_map, map}
+use Rattle.std.specs.Prelude.{◌≡◌, ℕ, zero, suc, ◌+◌, ◌<◌, ◌≤◌, ◌==◌, Bool, true, false, cond, ⊤, List, [], ◌∷◌, ◌++◌, filter, length, flat_map, map, ◌⊎◌, count_by}
 use Rattle.join_rows.specs.Lists.{SameBag, counting_from}
 use Rattle.epoch_tags.specs.declared.tuple.Tuple.{Tuple}
 use Rattle.epoch_tags.specs.declared.tuple.Pair.{Pair}
@@ -133,6 +133,36 @@ AreParts s t ended (step ∷ []) = ⊤
 AreParts s t ended (step ∷ (before ∷ past)) =
     (moved_ends (s.epoch + length past + 1) (t.from_joiner (partner_of s t (length past))) ≡ one_if ended) × AreParts s t true (before ∷ past)
 
+-- epoch e is that of a step whose partner is joiner q
+abbrev pub IsPartOf : JoinerStart → List Step → ℕ → ℕ → Type 0
+IsPartOf s [] q e = ⊥
+IsPartOf s (step ∷ []) q e = ⊥
+IsPartOf s (step ∷ (before ∷ past)) q e =
+    ((e ≡ s.epoch + length past + 1) × (q ≡ partner_in_step before.shift step.shift s.id)) ⊎ IsPartOf s (before ∷ past) q e
+
+-- and this joiner ended its part of that step
+abbrev pub IsEndOf : JoinerStart → Bool → List Step → ℕ → ℕ → Type 0
+IsEndOf s ended [] q e = ⊥
+IsEndOf s ended (step ∷ []) q e = ⊥
+IsEndOf s ended (step ∷ (before ∷ past)) q e =
+    ((e ≡ s.epoch + length past + 1) × (q ≡ partner_in_step before.shift step.shift s.id) × (ended ≡ true)) ⊎ IsEndOf s true (before ∷ past) q e
+
+-- the epochs of all `Moved`, and of all `MovedEnd`
+abbrev pub HasParts : (ℕ → Type 0) → (ℕ → Type 0) → List ToJoiner → Type 0
+HasParts P Q [] = ⊤
+HasParts P Q (Tup x ∷ ms) = HasParts P Q ms
+HasParts P Q (Turn epoch shift ∷ ms) = HasParts P Q ms
+HasParts P Q (End ∷ ms) = HasParts P Q ms
+HasParts P Q (Moved epoch x ∷ ms) = P epoch × HasParts P Q ms
+HasParts P Q (MovedEnd epoch ∷ ms) = Q epoch × HasParts P Q ms
+
+-- how many tuples were sent in each step, the first step first
+abbrev pub moved_counts : ℕ → ℕ → List Step → List ℕ
+moved_counts k id [] = []
+moved_counts k id (step ∷ []) = []
+moved_counts k id (step ∷ (before ∷ past)) =
+    moved_counts k id (before ∷ past) ++ count_by (is_of (exchanged_side before.shift step.shift)) (stored k id (before ∷ past)) ∷ []
+
 -- of a joiner that took t, sent these lists and has these pairs waiting: what holds whether a step is open or not
 pub record AreSteps (s : JoinerStart) (t : Taken) (lists : JoinerLists) (waiting : List Pair) (done : ℕ) (turned ended : ℕ → Bool) (all_turned part_ended : Bool) (steps : List Step) : Type 0 where
   pub feeders : (p : ℕ) → p < s.feeders → IsOfFeeder s.epoch t.shift_at done (turned p) (ended p) (t.from_feeder p)
@@ -143,6 +173,9 @@ pub record AreSteps (s : JoinerStart) (t : Taken) (lists : JoinerLists) (waiting
   pub sent : AreSent s lists all_turned steps
   pub parts : AreParts s t part_ended steps
   pub told : lists.to_controller ≡ map Settled (counting_from (s.epoch + 1) done)
+  pub first_shift : shift_after s t 0 ≡ s.shift
+  pub from_partner : (q : ℕ) → HasParts (λ e. IsPartOf s steps q e) (λ e. IsPartOf s steps q e) (t.from_joiner q)
+  pub to_partner : (q : ℕ) → HasParts (λ e. IsPartOf s steps q e) (λ e. IsEndOf s all_turned steps q e) (lists.to_joiner q)
 
 -- with no step open, the store being `a`
 pub record StandsSettled (s : JoinerStart) (t : Taken) (lists : JoinerLists) (waiting : List Pair) (ended : ℕ → Bool) (a : List Tuple) (cur : Step) (past : List Step) : Type 0 where

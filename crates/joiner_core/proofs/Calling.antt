@@ -1,0 +1,148 @@
+-- What callers do with a joiner.
+use Rattle.std.proofs.Common.{◌≡◌, ℕ, zero, suc, ◌+◌, ◌-◌, ◌^◌, ◌<◌, ◌≤◌, refl, sym, ◌∙◌, ap, subst, arith, inl, inr, Bool, true, false, Option, Some, None, List, [], ◌∷◌, ◌++◌, length}
+use Rattle.std.specs.Prelude.{min, ⊤}
+use Rattle.std.proofs.lemmas.List.{length-append}
+use Rattle.std.proofs.lemmas.Bool.{false≢true, cases_eq, cases_Bool}
+use Rattle.join_rows.specs.Lists.{total}
+use Rattle.join_rows.proofs.Totals.{total_same}
+use Rattle.epoch_tags.specs.declared.actor.Actor.{Actor}
+use Rattle.epoch_tags.specs.declared.actor.Actor.TheVariants.{Feeder, Joiner as Joiner', Controller, Collector}
+use Rattle.epoch_tags.specs.declared.message.Post.{Post}
+use Rattle.epoch_tags.specs.declared.message.ToJoiner.{ToJoiner}
+use Rattle.epoch_tags.specs.Links.{HasLink, feeder_joiner, joiner_joiner, controller_feeder, feeder_controller, joiner_controller, joiner_collector}
+use Rattle.joiner_law.specs.Law.{JoinerStart, JoinerLists}
+use Rattle.joiner_core.specs.Queues.{held_at}
+use Rattle.joiner_core.specs.Whole.{StandsBetween, Receives, IsOfGrid, IsSound, IsKept}
+use Rattle.joiner_core.specs.Flags.{flag_at}
+use Rattle.joiner_core.specs.Taking.{IsStepWithin, IsCounted, HasSomeTurn}
+use Rattle.joiner_core.specs.declared.opened.Opened.{Opened}
+use Rattle.joiner_core.specs.Joining.{KeepsLaw, TakesMessage, held_number}
+use Rattle.joiner_core.specs.declared.epochs.Epochs.{Epochs}
+use Rattle.joiner_core.specs.declared.machine.Machine.{Machine}
+use Rattle.joiner_core.specs.declared.joiner.Joiner.{Joiner}
+use Rattle.joiner_core.proofs.Assembling.{keeps-law}
+
+pub keeps : (joiner : Joiner) → KeepsLaw joiner
+keeps joiner s lists stands = keeps-law s lists joiner.machine stands
+
+pub takes : (old new : Joiner) (from : Actor) (m : ToJoiner) (before after : List Post) → Receives from m old.machine new.machine before after → TakesMessage old new from m before after
+takes old new from m before after is = record { added = is.added; sends = is.sends; stands = is.stands }
+
+-- ---- between calls
+
+some-flag : (n : ℕ) (f : ℕ → Bool) → (((p : ℕ) → p < n → f p ≡ false) → ⊥) → (p : ℕ) × (p < n) × (f p ≡ true)
+some-flag zero f never = absurd (never (λ p low. absurd (omega arith)))
+some-flag (suc n) f never = elim (cases_Bool (f n)) [
+  | inl up ↦ (n, omega arith, up)
+  | inr down ↦
+      let rest = some-flag n f (λ all. never (λ p low. elim (cases_eq p n) [
+        | inl same ↦ ap f same ∙ down
+        | inr differ ↦ all p (omega arith)
+      ])) in
+      let low = rest.1 in
+      (rest.0, omega arith, rest.2)
+]
+
+step-within : (k : ℕ) (step : Option Opened) → ((o : Opened) → step ≡ Some o → o.shift ≤ k) → IsStepWithin k step
+step-within k None all = tt
+step-within k (Some o) all = all o refl
+
+step-counted : (n : ℕ) (step : Option Opened) → ((o : Opened) → step ≡ Some o → length o.turned.items ≡ n) → IsCounted n step
+step-counted n None all = tt
+step-counted n (Some o) all = all o refl
+
+step-begun : (n : ℕ) (step : Option Opened) → ((o : Opened) → step ≡ Some o → ((p : ℕ) → p < n → flag_at o.turned.items p ≡ false) → ⊥) → HasSomeTurn n step
+step-begun n None all = tt
+step-begun n (Some o) all = some-flag n (flag_at o.turned.items) (all o refl)
+
+pub to-sound : (m : Machine) → IsKept m → IsSound m
+to-sound m is = record {
+  within = record {
+    small = is.small;
+    shift = is.shift;
+    step = step-within m.epochs.k m.epochs.step is.step;
+    ended = is.ended;
+    count = step-counted m.epochs.feeders m.epochs.step is.count;
+    begun = step-begun m.epochs.feeders m.epochs.step is.begun;
+    rests = is.rests;
+  };
+  feeders = is.feeders;
+  joiners = is.joiners;
+}
+
+pub from-sound : (m : Machine) → IsSound m → IsKept m
+from-sound m is = record {
+  small = is.within.small;
+  shift = is.within.shift;
+  step = λ o opens. subst (λ (z : Option Opened). IsStepWithin m.epochs.k z) opens is.within.step;
+  ended = is.within.ended;
+  count = λ o opens. subst (λ (z : Option Opened). IsCounted m.epochs.feeders z) opens is.within.count;
+  begun = λ o opens down.
+      let some : HasSomeTurn m.epochs.feeders (Some o) = subst (λ (z : Option Opened). HasSomeTurn m.epochs.feeders z) opens is.within.begun in
+      false≢true (sym (down some.0 some.1) ∙ some.2);
+  rests = is.within.rests;
+  feeders = is.feeders;
+  joiners = is.joiners;
+}
+
+-- ---- links
+
+-- who may send to a joiner
+abbrev Reaches : ℕ → ℕ → Actor → Actor → Type 0
+Reaches k feeders (Feeder p) (Joiner' j) = p < feeders
+Reaches k feeders (Joiner' q) (Joiner' j) = q < 2 ^ k
+Reaches k feeders Controller (Joiner' j) = ⊥
+Reaches k feeders Collector (Joiner' j) = ⊥
+Reaches k feeders from (Feeder p) = ⊤
+Reaches k feeders from Controller = ⊤
+Reaches k feeders from Collector = ⊤
+
+reaches : (k feeders : ℕ) (from to : Actor) → HasLink k feeders from to → Reaches k feeders from to
+reaches k feeders _ _ (feeder_joiner low below) = low
+reaches k feeders _ _ (joiner_joiner below low) = below
+reaches k feeders _ _ (controller_feeder low) = tt
+reaches k feeders _ _ (feeder_controller low) = tt
+reaches k feeders _ _ (joiner_controller low) = tt
+reaches k feeders _ _ (joiner_collector low) = tt
+
+grid-by : (m : Epochs) (from : Actor) → Reaches m.k m.feeders from (Joiner' m.id) → IsOfGrid from m
+grid-by m (Feeder p) is = is
+grid-by m (Joiner' q) is = is
+grid-by m Controller is = is
+grid-by m Collector is = is
+
+pub link-grid : (m : Epochs) (from : Actor) → HasLink m.k m.feeders from (Joiner' m.id) → IsOfGrid from m
+link-grid m from link = grid-by m from (reaches m.k m.feeders from (Joiner' m.id) link)
+
+-- ---- what is held
+
+rest-length : (taken held received : List ToJoiner) → taken ++ held ≡ received → length held ≡ length received - length taken
+rest-length taken held received is = let a = length-append taken held in let b : length (taken ++ held) ≡ length received = ap length is in omega arith
+
+sat : (a b top : ℕ) → min (min a top + min b top) top ≡ min (a + b) top
+sat a b top = omega arith
+
+pub held-law : (s : JoinerStart) (lists : JoinerLists) (m : Machine) (is : StandsBetween s lists m)
+    → total (length m.of_feeders) (λ p. length (held_at m.of_feeders p)) + total (length m.of_joiners) (λ q. length (held_at m.of_joiners q)) ≡ held_number s lists is.within.taken
+held-law s lists m is =
+    let w = is.within in
+    let fixed = w.stands.fixed in
+    let n : length m.of_feeders ≡ s.feeders = is.sound.feeders ∙ fixed.feeders in
+    let k : length m.of_joiners ≡ 2 ^ s.k = is.sound.joiners ∙ ap (λ i. 2 ^ i) fixed.k in
+    let one : total s.feeders (λ p. length (held_at m.of_feeders p)) ≡ total s.feeders (λ p. length (lists.from_feeder p) - length (w.taken.from_feeder p)) =
+    total_same s.feeders _ _ (λ p low. rest-length _ _ _ (w.feeders p low)) in
+    let two : total (2 ^ s.k) (λ q. length (held_at m.of_joiners q)) ≡ total (2 ^ s.k) (λ q. length (lists.from_joiner q) - length (w.taken.from_joiner q)) =
+    total_same (2 ^ s.k) _ _ (λ q low. rest-length _ _ _ (w.joiners q low)) in
+    ap (λ i. total i (λ p. length (held_at m.of_feeders p)) + total (length m.of_joiners) (λ q. length (held_at m.of_joiners q))) n
+    ∙ ap (λ i. total s.feeders (λ p. length (held_at m.of_feeders p)) + total i (λ q. length (held_at m.of_joiners q))) k
+    ∙ ap (λ a. a + total (2 ^ s.k) (λ q. length (held_at m.of_joiners q))) one
+    ∙ ap (λ b. total s.feeders (λ p. length (lists.from_feeder p) - length (w.taken.from_feeder p)) + b) two
+
+pub held-count : (s : JoinerStart) (lists : JoinerLists) (m : Machine) (is : StandsBetween s lists m) (a b n : ℕ) → a ≡ min (total (length m.of_feeders) (λ p. length (held_at m.of_feeders p))) (2 ^ 64 - 1)
+    → b ≡ min (total (length m.of_joiners) (λ q. length (held_at m.of_joiners q))) (2 ^ 64 - 1) → n ≡ min (a + b) (2 ^ 64 - 1) → n ≡ min (held_number s lists is.within.taken) (2 ^ 64 - 1)
+held-count s lists m is a b n one two all =
+    all
+    ∙ ap (λ i. min (i + b) (2 ^ 64 - 1)) one
+    ∙ ap (λ i. min (min (total (length m.of_feeders) (λ p. length (held_at m.of_feeders p))) (2 ^ 64 - 1) + i) (2 ^ 64 - 1)) two
+    ∙ sat (total (length m.of_feeders) (λ p. length (held_at m.of_feeders p))) (total (length m.of_joiners) (λ q. length (held_at m.of_joiners q))) (2 ^ 64 - 1)
+    ∙ ap (λ i. min i (2 ^ 64 - 1)) (held-law s lists m is)

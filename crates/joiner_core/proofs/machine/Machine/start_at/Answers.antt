@@ -1,0 +1,23 @@
+use Rattle.std.proofs.Common.{refl, ◌∙◌, arith}
+use Rattle.std.proofs.lemmas.Nat.{one_shl}
+use Rattle.joiner_core.proofs.machine.Machine.start_at.Goals as goal
+
+pub returns : goal.returns
+returns c = record {
+  at_k = refl;
+  at_id = refl;
+  at_shift = refl;
+  at_epoch = refl;
+  at_feeders = refl;
+  at_theta = refl;
+  store = refl;
+  moved = c.new.ensures;
+  step = refl;
+  ended = c.in_ok-ended.ensures.length;
+  down = c.in_ok-ended.ensures.down;
+  of_feeders = c.in_ok-start.ensures.count;
+  of_joiners = c.in_ok-start-2.ensures.count ∙ one_shl c.args.k 32 (let small = c.requires in omega arith);
+  no_feeders = c.in_ok-start.ensures.empty;
+  no_joiners = c.in_ok-start-2.ensures.empty;
+  told = refl;
+}

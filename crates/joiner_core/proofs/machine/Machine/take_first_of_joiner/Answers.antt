@@ -1,0 +1,7 @@
+use Rattle.joiner_core.proofs.Advancing.{took-held-joiner}
+use Rattle.joiner_core.proofs.machine.Machine.take_first_of_joiner.Goals as goal
+
+pub returns-in_ok-take_of_joiner : goal.returns-in_ok-take_of_joiner
+returns-in_ok-take_of_joiner c =
+    took-held-joiner c.args.self.now c.take_of_joiner.new.self c.take_first.new.self c.args.q c.in-Some.m c.args.found.now c.take_of_joiner.new.found c.args.sends.now c.take_of_joiner.new.sends
+    c.requires.sound c.requires.ready c.in-Some.ensures.first c.in-Some.ensures.rest c.in_ok-take_of_joiner.ensures.rest c.in_ok-take_of_joiner.ensures.took

@@ -1,0 +1,49 @@
+-- A joiner as its callers see it, and what a call does to it.
+use Rattle.std.specs.Prelude.{◌≡◌, ℕ, ◌+◌, ◌-◌, ◌^◌, true, List, ◌++◌, length}
+use Rattle.join_rows.specs.Lists.{total}
+use Rattle.epoch_tags.specs.declared.actor.Actor.{Actor}
+use Rattle.epoch_tags.specs.declared.message.Post.{Post}
+use Rattle.epoch_tags.specs.declared.message.ToJoiner.{ToJoiner}
+use Rattle.joiner_law.specs.Law.{JoinerStart, JoinerLists, JoinerLaw, Taken}
+use Rattle.joiner_law.specs.Standing.{with_sent}
+use Rattle.joiner_core.specs.Whole.{StandsBetween, with_message}
+use Rattle.joiner_core.specs.declared.machine.Machine.{Machine}
+use Rattle.joiner_core.specs.declared.joiner.Joiner.{Joiner}
+
+-- want of memory has stopped it
+abbrev pub IsSpent : Joiner → Type 0
+IsSpent joiner = joiner.spent ≡ true
+
+-- the grid's k, its id and the number of feeders
+abbrev pub k_of : Joiner → ℕ
+k_of joiner = joiner.machine.epochs.k
+
+abbrev pub id_of : Joiner → ℕ
+id_of joiner = joiner.machine.epochs.id
+
+abbrev pub feeders_of : Joiner → ℕ
+feeders_of joiner = joiner.machine.epochs.feeders
+
+-- it began by s, and these lists are what it has received and sent
+abbrev pub StandsFor : JoinerStart → JoinerLists → Joiner → Type 0
+StandsFor s lists joiner = StandsBetween s lists joiner.machine
+
+-- what it took of these lists
+abbrev pub taken_of : (s : JoinerStart) (lists : JoinerLists) (joiner : Joiner) → StandsFor s lists joiner → Taken
+taken_of s lists joiner stands = stands.within.taken
+
+-- how many messages of these lists weren't taken
+abbrev pub held_number : JoinerStart → JoinerLists → Taken → ℕ
+held_number s lists t =
+    total s.feeders (λ p. length (lists.from_feeder p) - length (t.from_feeder p))
+    + total (2 ^ s.k) (λ q. length (lists.from_joiner q) - length (t.from_joiner q))
+
+-- lists for which a joiner stands meet its law
+abbrev pub KeepsLaw : Joiner → Type 0
+KeepsLaw joiner = (s : JoinerStart) (lists : JoinerLists) (stands : StandsFor s lists joiner) → JoinerLaw s lists (taken_of s lists joiner stands)
+
+-- a call that took or held message m: for whatever lists the joiner stood, it stands for them with the message and the new posts at their ends
+pub record TakesMessage (old new : Joiner) (from : Actor) (m : ToJoiner) (before after : List Post) : Type 0 where
+  pub added : List Post
+  pub sends : after ≡ before ++ added
+  pub stands : (s : JoinerStart) (lists : JoinerLists) → StandsFor s lists old → StandsFor s (with_sent (with_message from m lists) added) new

@@ -1,0 +1,118 @@
+// What callers do with a joiner.
+ghost use Rattle.std.specs.Prelude.{◌≡◌, ℕ, ◌+◌, ◌-◌, ◌<◌, ◌^◌, ◌≤◌, min, false, true, [], OnOk, OnErr, IfOk};
+ghost use Rattle.std.specs.List.{AllByRecursion};
+ghost use Rattle.join_rows.specs.Lists.{SameBag};
+ghost use Rattle.epoch_tags.specs.declared.actor.Actor.TheVariants.{Joiner as Joiner'};
+ghost use Rattle.epoch_tags.specs.declared.tuple.Tuple.{Tuple};
+ghost use Rattle.epoch_tags.specs.Links.{HasLink};
+ghost use Rattle.joiner_law.specs.Law.{JoinerStart, JoinerLists, IsFinished, store};
+ghost use Rattle.joiner_core.specs.Whole.{start_of, no_lists};
+ghost use Rattle.joiner_core.specs.Joining.{IsSpent, StandsFor, taken_of, held_number, k_of, id_of, feeders_of, KeepsLaw, TakesMessage};
+
+use crate::joiner::Joiner;
+use crate::machine::Machine;
+use crate::store::Store;
+use crate::theta::Theta;
+use epoch_tags::{Actor, Sends, ToJoiner};
+use std::alloc::{AllocError, Global};
+
+impl<'a> Joiner<'a> {
+    /// Joiner `id` of `2^k`, at epoch 0 and with an empty store. Each feeder has a link to it.
+    pub fn start(
+        alloc: Global,
+        k: u32,
+        id: u32,
+        shift: u32,
+        feeders: u32,
+        theta: &'a Theta,
+    ) -> Result<Joiner<'a>, AllocError>
+        requires k { k < 9 }
+        requires shift { shift ≤ k }
+        requires id { id < 2 ^ k }
+        requires feeders { 0 < feeders }
+        ensures going { IfOk result (λ joiner. ¬ IsSpent joiner) }
+        ensures stands { IfOk result (λ joiner. StandsFor (start_of k id shift 0 feeders theta.now []) no_lists joiner) }
+        ensures law { IfOk result (λ joiner. KeepsLaw joiner) }
+    {
+        Joiner::start_at(alloc, k, id, shift, 0, feeders, theta, Store::new(alloc))
+    }
+
+    /// Joiner `id` of `2^k`, settled at this epoch and shift and with this store. Its last message counts the moves of
+    /// later epochs alone. After want of memory the store is dropped.
+    pub fn start_at(
+        alloc: Global,
+        k: u32,
+        id: u32,
+        shift: u32,
+        epoch: u32,
+        feeders: u32,
+        theta: &'a Theta,
+        base: Store,
+    ) -> Result<Joiner<'a>, AllocError>
+        requires k { k < 9 }
+        requires shift { shift ≤ k }
+        requires id { id < 2 ^ k }
+        requires feeders { 0 < feeders }
+        requires base { AllByRecursion (λ (x : Tuple). x.stamp ≤ epoch) base }
+        ensures going { IfOk result (λ joiner. ¬ IsSpent joiner) }
+        ensures stands { IfOk result (λ joiner. StandsFor (start_of k id shift epoch feeders theta.now base) no_lists joiner) }
+        ensures law { IfOk result (λ joiner. KeepsLaw joiner) }
+    {
+        let machine = Machine::start_at(alloc, k, id, shift, epoch, feeders, theta, base)?;
+        Ok(Joiner {
+            machine,
+            spent: false,
+        })
+    }
+
+    /// The epoch of the last step that is settled.
+    pub fn settled_epoch(&self) -> u32
+        ensures { (s : JoinerStart) (lists : JoinerLists) → (stands : StandsFor s lists self.now) → result ≡ s.epoch + stands.done }
+    {
+        self.machine.epochs.epoch
+    }
+
+    /// How many messages are held, or `2^64 - 1` where there are more.
+    pub fn held_count(&self) -> u64
+        ensures { (s : JoinerStart) (lists : JoinerLists) → (stands : StandsFor s lists self.now) → result ≡ min (held_number s lists (taken_of s lists self.now stands)) (2 ^ 64 - 1) }
+    {
+        self.machine
+            .of_feeders
+            .count()
+            .saturating_add(self.machine.of_joiners.count())
+    }
+
+    /// Whether all feeders have ended, no step is open and nothing is held.
+    pub fn finished(&self) -> bool
+        ensures up { result ≡ true → (s : JoinerStart) (lists : JoinerLists) → (stands : StandsFor s lists self.now) → IsFinished s lists (taken_of s lists self.now stands) }
+        ensures down { result ≡ false → (s : JoinerStart) (lists : JoinerLists) → (stands : StandsFor s lists self.now) → ¬ IsFinished s lists (taken_of s lists self.now stands) }
+    {
+        self.machine.finished()
+    }
+
+    /// The rows that it holds in its settled epoch.
+    pub fn store(&self) -> &Store
+        ensures { (s : JoinerStart) (lists : JoinerLists) → (stands : StandsFor s lists self.now) → SameBag result.now (store s (taken_of s lists self.now stands) stands.done) }
+    {
+        &self.machine.epochs.store
+    }
+
+    /// Takes a message, or holds it behind its link, and appends what it sends. After want of memory it is spent, and
+    /// every later call answers the same and changes nothing.
+    pub fn on(&mut self, from: Actor, m: ToJoiner, sends: &mut Sends) -> Result<(), AllocError>
+        requires link { ¬ IsSpent self.old → HasLink (k_of self.old) (feeders_of self.old) from (Joiner' (id_of self.old)) }
+        ensures takes { OnOk result (TakesMessage self.old self.new from m sends.old sends.new) }
+        ensures going { OnOk result ((¬ IsSpent self.old) × (¬ IsSpent self.new)) }
+        ensures spent { OnErr result (IsSpent self.new) }
+        ensures stays { IsSpent self.old → (self.new ≡ self.old) × (sends.new ≡ sends.old) }
+        ensures law { KeepsLaw self.new }
+    {
+        if self.spent {
+            return Err(AllocError);
+        }
+        self.spent = true;
+        self.machine.receive(from, m, sends)?;
+        self.spent = false;
+        Ok(())
+    }
+}

@@ -1,0 +1,135 @@
+// A joiner's machine: what it has of its epochs, and the messages that it holds.
+ghost use Rattle.std.specs.Prelude.{◌≡◌, ℕ, ◌<◌, ◌^◌, ◌≤◌, ◌++◌, [], true, false, OnOk, IfOk};
+ghost use Rattle.joiner_core.specs.Whole.{IsMade, IsSound, Accepts, IsOfGrid, Receives};
+ghost use Rattle.epoch_tags.specs.declared.actor.Actor.TheVariants.{Feeder, Joiner as Joiner'};
+
+use crate::epochs::{Epochs, all_down};
+use crate::held::Held;
+use crate::store::Store;
+use crate::theta::Theta;
+use epoch_tags::{Actor, Counts, Pairs, Sends, ToJoiner};
+use std::alloc::{AllocError, Global};
+
+#[derive(Drop)]
+pub(crate) struct Machine<'a> {
+    pub(crate) epochs: Epochs<'a>,
+    pub(crate) of_feeders: Held,
+    pub(crate) of_joiners: Held,
+    pub(crate) told: bool,
+    pub(crate) alloc: Global,
+}
+
+impl<'a> Machine<'a> {
+    pub(crate) fn start_at(
+        alloc: Global,
+        k: u32,
+        id: u32,
+        shift: u32,
+        epoch: u32,
+        feeders: u32,
+        theta: &'a Theta,
+        base: Store,
+    ) -> Result<Machine<'a>, AllocError>
+        requires { k < 9 }
+        ensures { IfOk result (λ machine. IsMade k id shift epoch feeders theta.now base machine) }
+    {
+        let ended = all_down(alloc, feeders)?;
+        Ok(Machine {
+            epochs: Epochs {
+                k,
+                id,
+                feeders,
+                theta,
+                epoch,
+                shift,
+                store: base,
+                ended,
+                step: None,
+                moved: Counts::new(alloc),
+                alloc,
+            },
+            of_feeders: Held::start(alloc, feeders)?,
+            of_joiners: Held::start(alloc, 1u32 << k)?,
+            told: false,
+            alloc,
+        })
+    }
+
+    // Takes or holds a message, tries the held ones again and reports.
+    pub(crate) fn receive(
+        &mut self,
+        from: Actor,
+        m: ToJoiner,
+        sends: &mut Sends,
+    ) -> Result<(), AllocError>
+        requires sound { IsSound self.old }
+        requires grid { IsOfGrid from self.old.epochs }
+        ensures { OnOk result (Receives from m self.old self.new sends.old sends.new) }
+    {
+        let mut found = Pairs::new(self.alloc);
+        self.accept(from, m, &mut found, sends)?;
+        self.take_held(&mut found, sends)?;
+        self.send_found(found, sends)?;
+        self.send_fin(sends)?;
+        Ok(())
+    }
+
+    // Takes or holds a message.
+    pub(crate) fn accept(
+        &mut self,
+        from: Actor,
+        m: ToJoiner,
+        found: &mut Pairs,
+        sends: &mut Sends,
+    ) -> Result<(), AllocError>
+        requires sound { IsSound self.old }
+        requires grid { IsOfGrid from self.old.epochs }
+        ensures { OnOk result (Accepts from m self.old self.new found.old found.new sends.old sends.new) }
+    {
+        match from {
+            Actor::Feeder(p) => self.accept_of_feeder(p, m, found, sends)?,
+            Actor::Joiner(q) => self.accept_of_joiner(q, m, found, sends)?,
+            Actor::Controller => {}
+            Actor::Collector => {}
+        }
+        Ok(())
+    }
+
+    pub(crate) fn accept_of_feeder(
+        &mut self,
+        p: u32,
+        m: ToJoiner,
+        found: &mut Pairs,
+        sends: &mut Sends,
+    ) -> Result<(), AllocError>
+        requires sound { IsSound self.old }
+        requires few { p < self.old.epochs.feeders }
+        ensures { OnOk result (Accepts (Feeder p) m self.old self.new found.old found.new sends.old sends.new) }
+    {
+        if self.of_feeders.is_clear(p as usize) && self.can_take_of_feeder(p, &m) {
+            self.take_of_feeder(p, m, found, sends)?;
+        } else {
+            self.of_feeders.hold(p as usize, m)?;
+        }
+        Ok(())
+    }
+
+    pub(crate) fn accept_of_joiner(
+        &mut self,
+        q: u32,
+        m: ToJoiner,
+        found: &mut Pairs,
+        sends: &mut Sends,
+    ) -> Result<(), AllocError>
+        requires sound { IsSound self.old }
+        requires few { q < 2 ^ self.old.epochs.k }
+        ensures { OnOk result (Accepts (Joiner' q) m self.old self.new found.old found.new sends.old sends.new) }
+    {
+        if self.of_joiners.is_clear(q as usize) && self.can_take_of_joiner(q, &m) {
+            self.take_of_joiner(m, found, sends)?;
+        } else {
+            self.of_joiners.hold(q as usize, m)?;
+        }
+        Ok(())
+    }
+}

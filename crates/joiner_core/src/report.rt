@@ -1,0 +1,52 @@
+// What is sent at the end of a call.
+ghost use Rattle.std.specs.Prelude.{◌≡◌, ◌++◌, true, false, OnOk};
+ghost use Rattle.joiner_core.specs.Whole.{TellsFin, HasFinished, found_posts};
+
+use crate::counts::copy_of;
+use crate::machine::Machine;
+use epoch_tags::{Actor, Msg, Pairs, Post, Sends, ToCollector};
+use join_rows::Side;
+use std::alloc::AllocError;
+
+impl<'a> Machine<'a> {
+    // All feeders have ended, no step is open and nothing is held.
+    pub(crate) fn finished(&self) -> bool
+        ensures up { result ≡ true → HasFinished self.now }
+        ensures down { result ≡ false → HasFinished self.now → ⊥ }
+    {
+        self.epochs.is_at_rest() && self.of_feeders.is_empty() && self.of_joiners.is_empty()
+    }
+
+    // Sends the pairs of one call, if there are any.
+    pub(crate) fn send_found(&self, found: Pairs, sends: &mut Sends) -> Result<(), AllocError>
+        ensures { OnOk result (sends.new ≡ sends.old ++ found_posts found) }
+    {
+        if found.len() > 0 {
+            sends.push(Post {
+                to: Actor::Collector,
+                msg: Msg::Collector(ToCollector::Found(found)),
+            })?;
+        }
+        Ok(())
+    }
+
+    // Sends the last message when it first is finished.
+    pub(crate) fn send_fin(&mut self, sends: &mut Sends) -> Result<(), AllocError>
+        ensures rest { OnOk result (self.new ≡ record self.old { told = self.new.told }) }
+        ensures tells { OnOk result (TellsFin self.old self.new.told sends.old sends.new) }
+    {
+        if !self.told && self.finished() {
+            let moved = copy_of(self.alloc, &self.epochs.moved)?;
+            sends.push(Post {
+                to: Actor::Collector,
+                msg: Msg::Collector(ToCollector::Fin {
+                    rows_r: self.epochs.store.count(Side::R),
+                    rows_s: self.epochs.store.count(Side::S),
+                    moved,
+                }),
+            })?;
+            self.told = true;
+        }
+        Ok(())
+    }
+}
