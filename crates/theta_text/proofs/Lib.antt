@@ -10,3 +10,4 @@ pub mod Limited
 pub mod Unique
 pub mod Turns
 pub mod Whole
+pub mod OneFault

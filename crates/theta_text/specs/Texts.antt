@@ -3,6 +3,8 @@ use Rattle.std.specs.Prelude.{◌≡◌, ℕ, List, length}
 use Rattle.theta_text.specs.declared.token.Placed.{Placed}
 use Rattle.theta_text.specs.declared.tree.Pred.{Pred, fold-Pred}
 use Rattle.theta_text.specs.declared.tree.Pred.TheOpen.{Pred-F}
+use Rattle.theta_text.specs.declared.fault.PredFault.{PredFault}
+use Rattle.theta_text.specs.declared.fault.PredFault.TheVariants as faults
 use Rattle.theta_text.specs.Tokens.{AreTokens}
 use Rattle.theta_text.specs.Grammar.{Tree, any, every, negation, num, band, txt, trees, Limits, Reads}
 use Rattle.theta_text.specs.Faults.{words, IsSyntaxFault, IsDeepFault, IsWideFault, IsLiteralFault}
@@ -48,3 +50,11 @@ IsWideAt limits text place = (tokens : List Placed) × AreTokens text tokens × 
 -- the number at the place is too great
 abbrev pub IsLiteralAt : Limits → List ℕ → ℕ → Type 0
 IsLiteralAt limits text place = (tokens : List Placed) × AreTokens text tokens × IsLiteralFault limits tokens place
+
+-- this is the text's fault
+abbrev pub IsFaultOf : Limits → List ℕ → PredFault → Type 0
+IsFaultOf within text (faults.Syntax place) = IsSyntaxAt within text place
+IsFaultOf within text (faults.Deep place) = IsDeepAt within text place
+IsFaultOf within text (faults.Wide place) = IsWideAt within text place
+IsFaultOf within text (faults.Literal place) = IsLiteralAt within text place
+IsFaultOf within text faults.Memory = ⊥

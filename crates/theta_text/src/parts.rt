@@ -26,7 +26,8 @@ pub(crate) fn next(tokens: &[Placed]) -> Option<(&Placed, &[Placed])>
 
 pub(crate) fn opened(tokens: &[Placed], end: u64) -> Result<&[Placed], PredFault>
     ensures read { IfOk result (λ rest. words tokens.now ≡ Token.Open ∷ words rest.now) }
-    ensures run { (s : List Symbol) → Leads (verdict limits end (open' ∷ s) tokens.now) (λ rest. verdict limits end s rest.now) result }
+    ensures run { (s : List Symbol) → Leads (verdict limits end (open' ∷ s) tokens.now)
+        (λ rest. verdict limits end s rest.now) result }
     ensures shorter { IfOk result (λ rest. length rest.now < length tokens.now) }
 {
     let Some((first, rest)) = next(tokens) else {
@@ -40,7 +41,8 @@ pub(crate) fn opened(tokens: &[Placed], end: u64) -> Result<&[Placed], PredFault
 
 pub(crate) fn closed(tokens: &[Placed], end: u64) -> Result<&[Placed], PredFault>
     ensures read { IfOk result (λ rest. words tokens.now ≡ Token.Close ∷ words rest.now) }
-    ensures run { (s : List Symbol) → Leads (verdict limits end (close ∷ s) tokens.now) (λ rest. verdict limits end s rest.now) result }
+    ensures run { (s : List Symbol) → Leads (verdict limits end (close ∷ s) tokens.now)
+        (λ rest. verdict limits end s rest.now) result }
     ensures shorter { IfOk result (λ rest. length rest.now < length tokens.now) }
 {
     let Some((first, rest)) = next(tokens) else {
@@ -54,7 +56,8 @@ pub(crate) fn closed(tokens: &[Placed], end: u64) -> Result<&[Placed], PredFault
 
 fn dotted(tokens: &[Placed], end: u64) -> Result<&[Placed], PredFault>
     ensures read { IfOk result (λ rest. words tokens.now ≡ Token.Dot ∷ words rest.now) }
-    ensures run { (s : List Symbol) → Leads (verdict limits end (dot ∷ s) tokens.now) (λ rest. verdict limits end s rest.now) result }
+    ensures run { (s : List Symbol) → Leads (verdict limits end (dot ∷ s) tokens.now)
+        (λ rest. verdict limits end s rest.now) result }
     ensures shorter { IfOk result (λ rest. length rest.now < length tokens.now) }
 {
     let Some((first, rest)) = next(tokens) else {
@@ -69,7 +72,8 @@ fn dotted(tokens: &[Placed], end: u64) -> Result<&[Placed], PredFault>
 // any word, or a quoted name
 fn field_of(tokens: &[Placed], end: u64) -> Result<(Bytes, &[Placed]), PredFault>
     ensures read { IfOk result (λ x. FieldText (words tokens.now) x.0 (words x.1.now)) }
-    ensures run { (s : List Symbol) → Leads (verdict limits end (field ∷ s) tokens.now) (λ x. verdict limits end s x.1.now) result }
+    ensures run { (s : List Symbol) → Leads (verdict limits end (field ∷ s) tokens.now)
+        (λ x. verdict limits end s x.1.now) result }
     ensures shorter { IfOk result (λ x. length x.1.now < length tokens.now) }
 {
     let Some((first, rest)) = next(tokens) else {
@@ -84,7 +88,8 @@ fn field_of(tokens: &[Placed], end: u64) -> Result<(Bytes, &[Placed]), PredFault
 
 pub(crate) fn name_of(tokens: &[Placed], end: u64) -> Result<(Name, &[Placed]), PredFault>
     ensures read { IfOk result (λ x. NameText (words tokens.now) x.0 (words x.1.now)) }
-    ensures run { (s : List Symbol) → Leads (verdict limits end (name ∷ s) tokens.now) (λ x. verdict limits end s x.1.now) result }
+    ensures run { (s : List Symbol) → Leads (verdict limits end (name ∷ s) tokens.now)
+        (λ x. verdict limits end s x.1.now) result }
     ensures shorter { IfOk result (λ x. length x.1.now < length tokens.now) }
 {
     let Some((first, rest)) = next(tokens) else {
@@ -109,8 +114,10 @@ fn side_named(token: &Token) -> Option<Side>
 
 // "." and a field, behind a side
 fn column_of(of: Side, tokens: &[Placed], end: u64) -> Result<(Name, &[Placed]), PredFault>
-    ensures read { IfOk result (λ x. (x.0.side ≡ of) × DotText (words tokens.now) x.0.word (words x.1.now)) }
-    ensures run { (s : List Symbol) → Leads (verdict limits end (dot ∷ field ∷ s) tokens.now) (λ x. verdict limits end s x.1.now) result }
+    ensures read { IfOk result (λ x.
+        (x.0.side ≡ of) × DotText (words tokens.now) x.0.word (words x.1.now)) }
+    ensures run { (s : List Symbol) → Leads (verdict limits end (dot ∷ field ∷ s) tokens.now)
+        (λ x. verdict limits end s x.1.now) result }
     ensures shorter { IfOk result (λ x. length x.1.now < length tokens.now) }
 {
     let rest = dotted(tokens, end)?;
@@ -119,8 +126,10 @@ fn column_of(of: Side, tokens: &[Placed], end: u64) -> Result<(Name, &[Placed]),
 }
 
 pub(crate) fn term_of(tokens: &[Placed], end: u64) -> Result<(Term, &[Placed]), PredFault>
-    ensures read { IfOk result (λ x. TermText limits.greatest (words tokens.now) x.0 (words x.1.now)) }
-    ensures run { (s : List Symbol) → Leads (verdict limits end (term ∷ s) tokens.now) (λ x. verdict limits end s x.1.now) result }
+    ensures read { IfOk result (λ x.
+        TermText limits.greatest (words tokens.now) x.0 (words x.1.now)) }
+    ensures run { (s : List Symbol) → Leads (verdict limits end (term ∷ s) tokens.now)
+        (λ x. verdict limits end s x.1.now) result }
     ensures shorter { IfOk result (λ x. length x.1.now < length tokens.now) }
 {
     let Some((first, rest)) = next(tokens) else {
@@ -141,7 +150,8 @@ pub(crate) fn term_of(tokens: &[Placed], end: u64) -> Result<(Term, &[Placed]), 
 
 pub(crate) fn op_of(tokens: &[Placed], end: u64) -> Result<(Op, &[Placed]), PredFault>
     ensures read { IfOk result (λ x. OpText (words tokens.now) x.0 (words x.1.now)) }
-    ensures run { (s : List Symbol) → Leads (verdict limits end (op ∷ s) tokens.now) (λ x. verdict limits end s x.1.now) result }
+    ensures run { (s : List Symbol) → Leads (verdict limits end (op ∷ s) tokens.now)
+        (λ x. verdict limits end s x.1.now) result }
     ensures shorter { IfOk result (λ x. length x.1.now < length tokens.now) }
 {
     let Some((first, rest)) = next(tokens) else {
@@ -154,8 +164,10 @@ pub(crate) fn op_of(tokens: &[Placed], end: u64) -> Result<(Op, &[Placed]), Pred
 }
 
 pub(crate) fn bound_of(tokens: &[Placed], end: u64) -> Result<(i64, &[Placed]), PredFault>
-    ensures read { IfOk result (λ x. BoundText limits.greatest (words tokens.now) x.0 (words x.1.now)) }
-    ensures run { (s : List Symbol) → Leads (verdict limits end (bound ∷ s) tokens.now) (λ x. verdict limits end s x.1.now) result }
+    ensures read { IfOk result (λ x.
+        BoundText limits.greatest (words tokens.now) x.0 (words x.1.now)) }
+    ensures run { (s : List Symbol) → Leads (verdict limits end (bound ∷ s) tokens.now)
+        (λ x. verdict limits end s x.1.now) result }
     ensures shorter { IfOk result (λ x. length x.1.now < length tokens.now) }
 {
     let Some((first, rest)) = next(tokens) else {
@@ -172,7 +184,8 @@ pub(crate) fn bound_of(tokens: &[Placed], end: u64) -> Result<(i64, &[Placed]), 
 
 pub(crate) fn side_of(tokens: &[Placed], end: u64) -> Result<(TextSide, &[Placed]), PredFault>
     ensures read { IfOk result (λ x. SideText (words tokens.now) x.0 (words x.1.now)) }
-    ensures run { (s : List Symbol) → Leads (verdict limits end (side ∷ s) tokens.now) (λ x. verdict limits end s x.1.now) result }
+    ensures run { (s : List Symbol) → Leads (verdict limits end (side ∷ s) tokens.now)
+        (λ x. verdict limits end s x.1.now) result }
     ensures shorter { IfOk result (λ x. length x.1.now < length tokens.now) }
 {
     let Some((first, rest)) = next(tokens) else {
@@ -196,7 +209,8 @@ fn text_word(token: &Token) -> bool
 // "(" name ")", behind "text"
 fn text_of(tokens: &[Placed], end: u64) -> Result<(TextSide, &[Placed]), PredFault>
     ensures read { IfOk result (λ x. ColumnText (words tokens.now) x.0 (words x.1.now)) }
-    ensures run { (s : List Symbol) → Leads (verdict limits end (open' ∷ name ∷ close ∷ s) tokens.now) (λ x. verdict limits end s x.1.now) result }
+    ensures run { (s : List Symbol) → Leads (verdict limits end (open' ∷ name ∷ close ∷ s) tokens.now)
+        (λ x. verdict limits end s x.1.now) result }
     ensures shorter { IfOk result (λ x. length x.1.now < length tokens.now) }
 {
     let inside = opened(tokens, end)?;

@@ -19,8 +19,10 @@ const MORE: u32 = 15;
 
 // The first term, which needs no sign.
 fn first_of(tokens: &[Placed], end: u64) -> Result<(Signed, &[Placed]), PredFault>
-    ensures read { IfOk result (λ x. FirstText limits.greatest (words tokens.now) x.0 (words x.1.now)) }
-    ensures run { (s : List Symbol) → Leads (verdict limits end (sum ∷ s) tokens.now) (λ x. verdict limits end (more limits.more ∷ s) x.1.now) result }
+    ensures read { IfOk result (λ x.
+        FirstText limits.greatest (words tokens.now) x.0 (words x.1.now)) }
+    ensures run { (s : List Symbol) → Leads (verdict limits end (sum ∷ s) tokens.now)
+        (λ x. verdict limits end (more limits.more ∷ s) x.1.now) result }
     ensures shorter { IfOk result (λ x. length x.1.now < length tokens.now) }
 {
     let Some((first, rest)) = next(tokens) else {
@@ -45,7 +47,8 @@ pub(crate) fn sum_of<'a>(
     end: u64,
 ) -> Result<(Sum, &'a [Placed]), PredFault>
     ensures read { IfOk result (λ x. SumText limits (words tokens.now) x.0 (words x.1.now)) }
-    ensures run { (s : List Symbol) → Leads (verdict limits end (sum ∷ s) tokens.now) (λ x. verdict limits end s x.1.now) result }
+    ensures run { (s : List Symbol) → Leads (verdict limits end (sum ∷ s) tokens.now)
+        (λ x. verdict limits end s x.1.now) result }
     ensures shorter { IfOk result (λ x. length x.1.now < length tokens.now) }
 {
     let (first, mut rest) = first_of(tokens, end)?;
@@ -66,7 +69,8 @@ pub(crate) fn sum_of<'a>(
 
 // Whether a sign is a minus, its place, and the tokens behind it.
 fn sign(tokens: &[Placed]) -> Option<(bool, u64, &[Placed])>
-    ensures { MatchOption result ((p : PlacedToken) (rest : List PlacedToken) → tokens.now ≡ p ∷ rest → (m : Bool) → p.token ≡ Token.Sign m → ⊥)
+    ensures { MatchOption result
+        ((p : PlacedToken) (rest : List PlacedToken) → tokens.now ≡ p ∷ rest → (m : Bool) → p.token ≡ Token.Sign m → ⊥)
         (λ x. (p : PlacedToken) × (tokens.now ≡ p ∷ x.2.now) × (p.token ≡ Token.Sign x.0) × (p.place ≡ x.1)) }
 {
     let (first, rest) = next(tokens)?;

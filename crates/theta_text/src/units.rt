@@ -33,8 +33,10 @@ pub(crate) fn predicate<'a>(
     end: u64,
     depth: u32,
 ) -> Result<(Pred, &'a [Placed]), PredFault>
-    ensures read { IfOk result (λ x. Predicate (Unit' limits depth) (words tokens.now) (tree_of x.0) (words x.1.now)) }
-    ensures run { (s : List Symbol) → Leads (verdict limits end (unit depth ∷ tail depth ∷ s) tokens.now) (λ x. verdict limits end s x.1.now) result }
+    ensures read { IfOk result (λ x.
+        Predicate (Unit' limits depth) (words tokens.now) (tree_of x.0) (words x.1.now)) }
+    ensures run { (s : List Symbol) → Leads (verdict limits end (unit depth ∷ tail depth ∷ s) tokens.now)
+        (λ x. verdict limits end s x.1.now) result }
     ensures shorter { IfOk result (λ x. length x.1.now < length tokens.now) }
 {
     let (first, mut rest) = conj(alloc, tokens, end, depth)?;
@@ -55,8 +57,10 @@ fn conj<'a>(
     end: u64,
     depth: u32,
 ) -> Result<(Pred, &'a [Placed]), PredFault>
-    ensures read { IfOk result (λ x. Conj (Unit' limits depth) (words tokens.now) (tree_of x.0) (words x.1.now)) }
-    ensures run { (s : List Symbol) → Leads (verdict limits end (unit depth ∷ tail depth ∷ s) tokens.now) (λ x. verdict limits end (tail depth ∷ s) x.1.now) result }
+    ensures read { IfOk result (λ x.
+        Conj (Unit' limits depth) (words tokens.now) (tree_of x.0) (words x.1.now)) }
+    ensures run { (s : List Symbol) → Leads (verdict limits end (unit depth ∷ tail depth ∷ s) tokens.now)
+        (λ x. verdict limits end (tail depth ∷ s) x.1.now) result }
     ensures ends { IfOk result (λ x. BeginsOff IsAnd x.1.now) }
     ensures shorter { IfOk result (λ x. length x.1.now < length tokens.now) }
 {
@@ -78,8 +82,10 @@ fn one_unit<'a>(
     end: u64,
     depth: u32,
 ) -> Result<(Pred, &'a [Placed]), PredFault>
-    ensures read { IfOk result (λ x. Unit' limits depth (words tokens.now) (tree_of x.0) (words x.1.now)) }
-    ensures run { (s : List Symbol) → Leads (verdict limits end (unit depth ∷ s) tokens.now) (λ x. verdict limits end s x.1.now) result }
+    ensures read { IfOk result (λ x.
+        Unit' limits depth (words tokens.now) (tree_of x.0) (words x.1.now)) }
+    ensures run { (s : List Symbol) → Leads (verdict limits end (unit depth ∷ s) tokens.now)
+        (λ x. verdict limits end s x.1.now) result }
     ensures shorter { IfOk result (λ x. length x.1.now < length tokens.now) }
 {
     let Some((first, rest)) = next(tokens) else {
@@ -127,8 +133,10 @@ fn num_of<'a>(
     tokens: &'a [Placed],
     end: u64,
 ) -> Result<(Pred, &'a [Placed]), PredFault>
-    ensures read { IfOk result (λ x. NumTest limits (words tokens.now) (tree_of x.0) (words x.1.now)) }
-    ensures run { (s : List Symbol) → Leads (verdict limits end (sum ∷ op ∷ sum ∷ s) tokens.now) (λ x. verdict limits end s x.1.now) result }
+    ensures read { IfOk result (λ x.
+        NumTest limits (words tokens.now) (tree_of x.0) (words x.1.now)) }
+    ensures run { (s : List Symbol) → Leads (verdict limits end (sum ∷ op ∷ sum ∷ s) tokens.now)
+        (λ x. verdict limits end s x.1.now) result }
     ensures shorter { IfOk result (λ x. length x.1.now < length tokens.now) }
 {
     let (left, rest1) = sum_of(alloc, tokens, end)?;
@@ -140,7 +148,8 @@ fn num_of<'a>(
 // side op side
 fn txt_of(tokens: &[Placed], end: u64) -> Result<(Pred, &[Placed]), PredFault>
     ensures read { IfOk result (λ x. TxtTest (words tokens.now) (tree_of x.0) (words x.1.now)) }
-    ensures run { (s : List Symbol) → Leads (verdict limits end (side ∷ op ∷ side ∷ s) tokens.now) (λ x. verdict limits end s x.1.now) result }
+    ensures run { (s : List Symbol) → Leads (verdict limits end (side ∷ op ∷ side ∷ s) tokens.now)
+        (λ x. verdict limits end s x.1.now) result }
     ensures shorter { IfOk result (λ x. length x.1.now < length tokens.now) }
 {
     let (left, rest1) = side_of(tokens, end)?;
@@ -155,8 +164,10 @@ fn band_of<'a>(
     tokens: &'a [Placed],
     end: u64,
 ) -> Result<(Pred, &'a [Placed]), PredFault>
-    ensures read { IfOk result (λ x. BandRest limits (words tokens.now) (tree_of x.0) (words x.1.now)) }
-    ensures run { (s : List Symbol) → Leads (verdict limits end (open' ∷ sum ∷ close ∷ op ∷ bound ∷ s) tokens.now) (λ x. verdict limits end s x.1.now) result }
+    ensures read { IfOk result (λ x.
+        BandRest limits (words tokens.now) (tree_of x.0) (words x.1.now)) }
+    ensures run { (s : List Symbol) → Leads (verdict limits end (open' ∷ sum ∷ close ∷ op ∷ bound ∷ s) tokens.now)
+        (λ x. verdict limits end s x.1.now) result }
     ensures shorter { IfOk result (λ x. length x.1.now < length tokens.now) }
 {
     let rest1 = opened(tokens, end)?;
@@ -189,7 +200,8 @@ fn after_or(tokens: &[Placed]) -> Option<&[Placed]>
 
 // One member alone stands for itself.
 fn any_of(first: Pred, others: Vec<Pred>) -> Result<Pred, PredFault>
-    ensures { OnlyMemory result (λ p. tree_of p ≡ joined any (tree_of first) (map tree_of others.items)) }
+    ensures { OnlyMemory result
+        (λ p. tree_of p ≡ joined any (tree_of first) (map tree_of others.items)) }
 {
     let mut all = others;
     if all.is_empty() {
@@ -200,7 +212,8 @@ fn any_of(first: Pred, others: Vec<Pred>) -> Result<Pred, PredFault>
 }
 
 fn every_of(first: Pred, others: Vec<Pred>) -> Result<Pred, PredFault>
-    ensures { OnlyMemory result (λ p. tree_of p ≡ joined every (tree_of first) (map tree_of others.items)) }
+    ensures { OnlyMemory result
+        (λ p. tree_of p ≡ joined every (tree_of first) (map tree_of others.items)) }
 {
     let mut all = others;
     if all.is_empty() {
