@@ -1,2 +1,4 @@
+pub mod Left
 pub mod NumericPlaces
 pub mod SumSteps
+pub mod Wrong

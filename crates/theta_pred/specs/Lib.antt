@@ -1,6 +1,9 @@
 pub mod Formula
 pub mod FormulaCode
+pub mod Names
 pub mod Numeric
+pub mod Resolved
+pub mod Standing
 pub mod Sizes
 pub mod Sound
 pub mod Sums

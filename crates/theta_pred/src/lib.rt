@@ -2,12 +2,20 @@
 #![tactic(auto)]
 
 mod copies;
+mod fault;
+mod named;
 mod numeric;
+mod resolver;
+mod short;
 mod sums;
+mod terms;
 mod theta;
 mod tree;
 mod truth;
 
+pub use fault::ResolveFault;
+pub use resolver::resolve;
+pub use short::longest_sum;
 pub use theta::Theta;
 pub use theta_text::{Name, Op, Pred, Signed, Sum, Term, TextSide};
 pub use tree::{Column, Columns};
