@@ -9,6 +9,8 @@ mod resolver;
 mod short;
 mod sums;
 mod terms;
+#[cfg(test)]
+mod tests;
 mod theta;
 mod tree;
 mod truth;
