@@ -15,3 +15,6 @@ mod trial;
 pub use controller::Controller;
 pub use laws::{migrates_seldom, stays_near};
 pub use line::{Cause, Journal, TurnLine};
+
+#[cfg(test)]
+mod tests;
