@@ -2,6 +2,7 @@
 //! bytes are written to.
 #![tactic(auto)]
 
+mod columns;
 mod disk;
 mod fault;
 mod find;
@@ -17,6 +18,7 @@ mod sink;
 mod std_sink;
 mod table;
 
+pub use columns::BadNumber;
 pub use disk::DiskShelf;
 pub use fault::TableFault;
 pub use list::{Bytes, Items, Names};
@@ -27,3 +29,6 @@ pub use shelf::{Failed, Shelf};
 pub use sink::Sink;
 pub use std_sink::StdSink;
 pub use table::{Cell, Cells, Rows, Side, Table};
+
+#[cfg(test)]
+mod tests;

@@ -4,7 +4,7 @@ ghost use Rattle.std.specs.Prelude.{◌≡◌, ◌↔◌, ◌≤◌, ℤ, Some, 
 ghost use Rattle.join_rows.specs.Numbers.{IsNumber, number_of, others_at, spaces_at};
 
 // How many spaces a text begins with.
-fn spaces_before(text: &[u8]) -> usize
+pub(crate) fn spaces_before(text: &[u8]) -> usize
     ensures count { result ≡ spaces_at text.now }
     ensures within { result ≤ length text.now }
 {
