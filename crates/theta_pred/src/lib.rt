@@ -1,6 +1,7 @@
 //! Predicates over the rows of two tables: names become places, and the truth is computed.
 #![tactic(auto)]
 
+mod atom;
 mod copies;
 mod fault;
 mod named;
@@ -15,6 +16,7 @@ mod theta;
 mod tree;
 mod truth;
 
+pub use atom::{KeyAtom, Linear, Part, Parts};
 pub use fault::ResolveFault;
 pub use resolver::resolve;
 pub use short::longest_sum;
