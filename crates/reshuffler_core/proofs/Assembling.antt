@@ -1,23 +1,17 @@
 -- From one taken message to a whole call.
-use Rattle.std.proofs.Common.{◌≡◌, ℕ, zero, suc, ◌+◌, ◌^◌, ◌<◌, ◌≤◌, ◌⊎◌, ◌↔◌, inl, inr, refl, sym, ◌∙◌, ap, subst, arith, Bool, true, false, List, [], ◌∷◌, ◌++◌, drop, length, append_assoc}
-use Rattle.std.specs.Prelude.{All, map}
+use Rattle.std.proofs.Common.{◌≡◌, ℕ, ◌<◌, ◌↔◌, inl, refl, sym, ◌∙◌, ap, subst, arith, Bool, true, false, List, [], ◌∷◌, ◌++◌, drop, append_assoc}
 use Rattle.std.proofs.lemmas.List.{append-nil}
 use Rattle.std.proofs.lemmas.List.Elements.{filter_map-append, All-append, All-nil}
 use Rattle.std.proofs.lemmas.Bool.{false≢true}
-use Rattle.join_rows.specs.Lists.{IsPrefix}
-use Rattle.epoch_tags.specs.declared.tuple.Tuple.{Tuple}
 use Rattle.epoch_tags.specs.declared.message.Post.{Post}
 use Rattle.epoch_tags.specs.declared.message.ToJoiner.TheVariants.{Turn, End}
 use Rattle.epoch_tags.specs.declared.message.ToFeeder.{ToFeeder}
 use Rattle.epoch_tags.specs.declared.message.ToFeeder.TheVariants.{Order, Grant, Stop}
-use Rattle.epoch_tags.specs.declared.message.ToController.{ToController}
-use Rattle.epoch_tags.specs.declared.message.ToController.TheVariants.{Ask, Drained, Settled}
-use Rattle.epoch_tags.specs.Messages.{order_epochs, grants, stops, asks, draineds}
+use Rattle.epoch_tags.specs.Messages.{stops}
 use Rattle.epoch_tags.specs.Posts.{posted_to_joiner, posted_to_controller, for_joiner, for_controller}
-use Rattle.epoch_tags.proofs.Appends.{asks-append, draineds-append}
-use Rattle.reshuffler_core.specs.Law.{FeederLists, FeederStart, FeederLaw, CanTake, ask_for, requests}
-use Rattle.reshuffler_core.specs.Standing.{FeederState, StandsFor, TakesMessage, Begins, IsWaiting, IsAddressed, AreAddressed, next_request, nothing_yet, with_sent, with_message}
-use Rattle.reshuffler_core.specs.Machine.{Takes, IsStuck, IsReady, Goes, StillGoes, Advances, state_after, state_begun, posts_for, first_batch, to_controller}
+use Rattle.reshuffler_core.specs.Law.{FeederLists, FeederStart, CanTake, requests}
+use Rattle.reshuffler_core.specs.Standing.{FeederState, StandsFor, TakesMessage, IsAddressed, AreAddressed, nothing_yet, with_sent, with_message}
+use Rattle.reshuffler_core.specs.Machine.{Takes, IsStuck, IsReady, Goes, Advances, state_after, posts_for, first_batch}
 use Rattle.reshuffler_core.proofs.Posting.{all-addressed, batch-addressed}
 use Rattle.reshuffler_core.proofs.Taking.{took, nothing_asked}
 

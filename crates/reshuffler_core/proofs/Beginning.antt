@@ -1,21 +1,19 @@
 -- The next request is the one that the law has next.
-use Rattle.std.proofs.Common.{◌≡◌, ℕ, zero, suc, ◌+◌, ◌<◌, ◌≤◌, ◌⊎◌, ◌↔◌, inl, inr, refl, sym, ◌∙◌, ap, subst, arith, Bool, true, false, List, [], ◌∷◌, ◌++◌, drop, length, append_assoc, add-one}
+use Rattle.std.proofs.Common.{◌≡◌, ℕ, zero, suc, ◌+◌, ◌<◌, ◌⊎◌, ◌↔◌, inl, inr, refl, sym, ◌∙◌, ap, subst, arith, Bool, true, false, List, [], ◌∷◌, ◌++◌, drop, append_assoc, add-one}
 use Rattle.std.specs.Prelude.{map}
 use Rattle.std.proofs.lemmas.Bool.{false≢true}
 use Rattle.std.proofs.lemmas.List.{append-nil}
 use Rattle.std.proofs.lemmas.List.Elements.{All-append}
 use Rattle.epoch_tags.specs.declared.tuple.Tuple.{Tuple}
 use Rattle.epoch_tags.specs.declared.message.Post.{Post}
-use Rattle.epoch_tags.specs.declared.message.ToFeeder.{ToFeeder}
 use Rattle.epoch_tags.specs.declared.message.ToController.{ToController}
 use Rattle.epoch_tags.specs.declared.message.ToController.TheVariants.{Ask, Drained, Settled}
-use Rattle.epoch_tags.specs.Messages.{grants, stops, asks, draineds}
-use Rattle.epoch_tags.specs.Posts.{posted_to_controller}
+use Rattle.epoch_tags.specs.Messages.{grants, asks, draineds}
 use Rattle.epoch_tags.proofs.Appends.{asks-append, draineds-append}
 use Rattle.reshuffler_core.specs.Law.{FeederLists, FeederStart, ask_for}
 use Rattle.reshuffler_core.specs.Standing.{FeederState, StandsFor, Begins, IsWaiting, IsAddressed, AreAddressed, next_request, with_sent}
 use Rattle.reshuffler_core.specs.Machine.{IsStuck, Goes, Advances, state_begun, to_controller}
-use Rattle.reshuffler_core.proofs.Assembling.{is_standing, same_lists, sent_on, joined-controller}
+use Rattle.reshuffler_core.proofs.Assembling.{is_standing, sent_on, joined-controller}
 
 -- what is left to ask
 left : (batches : List (List Tuple)) (sent rest : List ToController) → sent ++ rest ≡ map ask_for batches ++ Drained ∷ [] → draineds sent ≡ 0
@@ -37,6 +35,13 @@ none_yet b (suc n) is both = absurd (false≢true (sym is ∙ both.1 (omega arit
 even : (b : Bool) (m n : ℕ) → b ≡ false → (b ≡ true ↔ (m ≡ n + 1)) → (m ≡ n) ⊎ (m ≡ n + 1) → m ≡ n
 even b m n is both (inl same) = same
 even b m n is both (inr more) = absurd (false≢true (sym is ∙ both.1 more))
+
+not_true : (b : Bool) → (¬ (b ≡ true)) → b ≡ false
+not_true true never = absurd (never refl)
+not_true false never = refl
+
+pub is_free : (s : FeederState) → (¬ (IsWaiting s)) → (s.asked ≡ false) × (s.drained ≡ false)
+is_free s free = (not_true s.asked (λ up. free (inl up)), not_true s.drained (λ up. free (inr up)))
 
 module _ (s : FeederState) (lists : FeederLists) (stands : StandsFor s lists) (asked : s.asked ≡ false) (drained : s.drained ≡ false) where
   equal : asks lists.to_controller ≡ grants stands.taken

@@ -1,22 +1,21 @@
 -- A message that can be taken is taken as the law says.
-use Rattle.std.proofs.Common.{◌≡◌, ℕ, zero, suc, ◌+◌, ◌^◌, ◌<◌, ◌≤◌, ◌⊎◌, ◌↔◌, inl, inr, refl, sym, ◌∙◌, ap, subst, arith, Bool, true, false, List, [], ◌∷◌, ◌++◌, drop, length, length-append, append_assoc, add-one}
+use Rattle.std.proofs.Common.{◌≡◌, ℕ, zero, suc, ◌+◌, ◌^◌, ◌<◌, ◌↔◌, inl, refl, sym, ◌∙◌, ap, arith, Bool, true, false, List, [], ◌∷◌, ◌++◌, drop, length, length-append, append_assoc, add-one}
 use Rattle.std.proofs.lemmas.List.{append-nil, drop-drop}
 use Rattle.std.proofs.Math.Seq.{drop-nil}
 use Rattle.std.proofs.lemmas.Bool.{false≢true}
 use Rattle.join_rows.specs.Lists.{counting_from}
 use Rattle.join_rows.proofs.Counting.{counting-more}
 use Rattle.epoch_tags.specs.declared.tuple.Tuple.{Tuple}
-use Rattle.epoch_tags.specs.declared.message.Post.{Post}
 use Rattle.epoch_tags.specs.declared.message.ToJoiner.TheVariants.{Turn, End}
 use Rattle.epoch_tags.specs.declared.message.ToFeeder.{ToFeeder}
 use Rattle.epoch_tags.specs.declared.message.ToFeeder.TheVariants.{Order, Grant, Stop}
-use Rattle.epoch_tags.specs.Messages.{order_epochs, grants, stops, asks, draineds}
+use Rattle.epoch_tags.specs.Messages.{order_epochs, grants, stops, asks}
 use Rattle.epoch_tags.specs.Orders.{StopsLast}
 use Rattle.epoch_tags.specs.Posts.{posted_to_joiner, posted_to_controller}
 use Rattle.epoch_tags.proofs.Appends.{order_epochs-append, grants-append, stops-append}
-use Rattle.reshuffler_core.specs.Law.{FeederLists, FeederStart, answers, shift_now, copies_for}
+use Rattle.reshuffler_core.specs.Law.{FeederLists, answers, shift_now, copies_for}
 use Rattle.reshuffler_core.specs.Standing.{FeederState, with_sent}
-use Rattle.reshuffler_core.specs.Machine.{Takes, Goes, state_after, posts_for, posts_of_batch, posts_to_all, first_batch}
+use Rattle.reshuffler_core.specs.Machine.{Takes, Goes, state_after, posts_for, posts_of_batch, first_batch}
 use Rattle.reshuffler_core.proofs.Posting.{all-joiner, batch-joiner, all-controller, batch-controller}
 
 -- ---- what it answers, message after message

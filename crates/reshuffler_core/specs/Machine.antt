@@ -1,5 +1,5 @@
 -- How the machine goes on, a message or a batch at a time.
-use Rattle.std.specs.Prelude.{◌≡◌, ℕ, ◌+◌, ◌^◌, ◌<◌, ◌≤◌, ◌⊎◌, ◌↔◌, Bool, true, false, IsTrue, List, [], ◌∷◌, ◌++◌, map, filter, flat_map, length, drop, if◌then◌else◌}
+use Rattle.std.specs.Prelude.{◌≡◌, ℕ, ◌+◌, ◌^◌, ◌<◌, ◌≤◌, ◌⊎◌, ◌↔◌, true, false, IsTrue, List, [], ◌∷◌, ◌++◌, map, filter, flat_map, length, drop}
 use Rattle.std.specs.List.{range_with_len}
 use Rattle.epoch_tags.specs.declared.tuple.Tuple.{Tuple}
 use Rattle.epoch_tags.specs.declared.actor.Actor.TheVariants.{Joiner as Joiner', Controller as Controller'}

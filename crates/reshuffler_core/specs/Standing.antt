@@ -1,6 +1,5 @@
 -- What a feeder's machine holds, and the lists for which it stands. It stores none of them.
-use Rattle.std.specs.Prelude.{◌≡◌, ℕ, ◌+◌, ◌<◌, ◌^◌, ⊤, ◌↔◌, ◌⊎◌, All, Bool, true, false, IsTrue, List, [], ◌∷◌, ◌++◌, drop, length}
-use Rattle.join_rows.specs.declared.table.Side.TheVariants.{R, S}
+use Rattle.std.specs.Prelude.{◌≡◌, ℕ, ◌+◌, ◌<◌, ◌^◌, ⊤, ◌↔◌, ◌⊎◌, All, Bool, IsTrue, List, [], ◌∷◌, ◌++◌, drop, length}
 use Rattle.epoch_tags.specs.declared.actor.Actor.{Actor}
 use Rattle.epoch_tags.specs.declared.actor.Actor.TheVariants.{Feeder as Feeder', Joiner as Joiner', Controller as Controller', Collector as Collector'}
 use Rattle.epoch_tags.specs.declared.message.Msg.{Msg}

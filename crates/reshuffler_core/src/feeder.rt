@@ -126,7 +126,7 @@ impl Feeder {
         if self.spent {
             return Err(AllocError);
         }
-        if self.asked || self.drained {
+        if self.is_waiting() {
             return Ok(false);
         }
         self.spent = true;
@@ -140,7 +140,13 @@ impl Feeder {
     pub fn can_begin(&self) -> bool
         ensures { result ≡ false ↔ ((self.now.spent ≡ false) × IsWaiting self.now) }
     {
-        self.spent || !(self.asked || self.drained)
+        self.spent || !self.is_waiting()
+    }
+
+    fn is_waiting(&self) -> bool
+        ensures { IsTrue result ↔ IsWaiting self.now }
+    {
+        self.asked || self.drained
     }
 
     /// Takes a message, or holds it where its cause hasn't come or it comes behind a held one. After

@@ -16,7 +16,7 @@ enum Seen {
     Other,
 }
 
-fn seen(post: &Post) -> Seen {
+fn what_it_carries(post: &Post) -> Seen {
     match (&post.to, &post.msg) {
         (Actor::Controller, Msg::Controller(ToController::Ask { dr, ds })) => Seen::Ask(*dr, *ds),
         (Actor::Controller, Msg::Controller(ToController::Drained)) => Seen::Drained,
@@ -34,7 +34,7 @@ fn seen(post: &Post) -> Seen {
 fn assert_sent(rt: &impl Abort, sends: &Sends, wanted: &[Seen], step: &str) {
     assert_eq!(rt; sends.as_slice().len(), wanted.len(), "{step}");
     for (post, want) in sends.as_slice().iter().zip(wanted) {
-        assert_eq!(rt; seen(post), *want, "{step}");
+        assert_eq!(rt; what_it_carries(post), *want, "{step}");
     }
 }
 

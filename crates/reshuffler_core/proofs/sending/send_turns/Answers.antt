@@ -1,4 +1,4 @@
-use Rattle.std.proofs.Common.{◌+◌, ◌++◌, ◌∷◌, [], sym, ap, ◌∙◌, append_assoc}
+use Rattle.std.proofs.Common.{◌++◌, ◌∷◌, [], sym, ap, ◌∙◌, append_assoc}
 use Rattle.epoch_tags.specs.declared.message.ToJoiner.TheVariants.{Turn}
 use Rattle.reshuffler_core.specs.Machine.{post_to, posts_to_all}
 use Rattle.reshuffler_core.proofs.Posting.{all-more}

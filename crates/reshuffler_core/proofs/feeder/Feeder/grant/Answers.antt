@@ -1,4 +1,4 @@
-use Rattle.std.proofs.Common.{◌≡◌, ◌+◌, ◌≤◌, false, sym, ap, ◌∙◌, arith, drop, length}
+use Rattle.std.proofs.Common.{false, sym, ap, ◌∙◌, arith, drop, length}
 use Rattle.reshuffler_core.specs.contracts.feeder.Feeder.{the_view}
 use Rattle.reshuffler_core.specs.Standing.{FeederState}
 use Rattle.reshuffler_core.specs.Machine.{first_batch}

@@ -1,4 +1,4 @@
-use Rattle.std.proofs.Common.{◌≡◌, ◌+◌, ◌-◌, ◌≤◌, min, refl, sym, ap, ◌∙◌, arith, take, drop, length}
+use Rattle.std.proofs.Common.{◌≡◌, ◌+◌, ◌-◌, min, sym, ap, ◌∙◌, arith, take, drop, length}
 use Rattle.std.proofs.lemmas.List.{length-drop, length-take}
 use Rattle.reshuffler_core.specs.Standing.{FeederState}
 use Rattle.reshuffler_core.specs.Machine.{first_batch}

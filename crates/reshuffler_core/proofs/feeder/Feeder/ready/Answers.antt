@@ -1,4 +1,4 @@
-use Rattle.std.proofs.Common.{◌≡◌, ◌<◌, ◌∷◌, refl, sym, ap, ◌∙◌, arith, drop, length, get_or}
+use Rattle.std.proofs.Common.{◌<◌, ◌∷◌, sym, ap, ◌∙◌, drop, length}
 use Rattle.std.proofs.Math.Seq.{drop-cons}
 use Rattle.reshuffler_core.specs.Standing.{FeederState}
 use Rattle.reshuffler_core.proofs.feeder.Feeder.ready.Goals as goal

@@ -1,4 +1,4 @@
-use Rattle.std.proofs.Common.{◌≡◌, ◌+◌, ◌++◌, ◌∷◌, refl, sym, ap, ◌∙◌, subst, arith, length, drop}
+use Rattle.std.proofs.Common.{◌≡◌, ◌++◌, sym, ap, ◌∙◌, subst, arith, length, drop}
 use Rattle.epoch_tags.specs.declared.message.Post.{Post}
 use Rattle.std.specs.Prelude.{List}
 use Rattle.reshuffler_core.specs.Standing.{FeederState}
