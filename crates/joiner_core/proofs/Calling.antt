@@ -5,13 +5,14 @@ use Rattle.std.proofs.lemmas.List.{length-append}
 use Rattle.std.proofs.lemmas.Bool.{false≢true, cases_eq, cases_Bool}
 use Rattle.join_rows.specs.Lists.{total}
 use Rattle.join_rows.proofs.Totals.{total_same}
+use Rattle.grid_map.proofs.Halves.{partner_below}
 use Rattle.epoch_tags.specs.declared.actor.Actor.{Actor}
 use Rattle.epoch_tags.specs.declared.actor.Actor.TheVariants.{Feeder, Joiner as Joiner', Controller, Collector}
 use Rattle.epoch_tags.specs.declared.message.Post.{Post}
 use Rattle.epoch_tags.specs.declared.message.ToJoiner.{ToJoiner}
 use Rattle.epoch_tags.specs.Links.{HasLink, feeder_joiner, joiner_joiner, controller_feeder, feeder_controller, joiner_controller, joiner_collector}
 use Rattle.joiner_law.specs.Law.{JoinerStart, JoinerLists}
-use Rattle.joiner_core.specs.Queues.{held_at}
+use Rattle.joiner_core.specs.Queues.{held_at, DifferInOneBit}
 use Rattle.joiner_core.specs.Whole.{StandsBetween, Receives, IsOfGrid, IsSound, IsKept}
 use Rattle.joiner_core.specs.Flags.{flag_at}
 use Rattle.joiner_core.specs.Taking.{IsStepWithin, IsCounted, HasSomeTurn}
@@ -113,6 +114,52 @@ grid-by m Collector is = is
 
 pub link-grid : (m : Epochs) (from : Actor) → HasLink m.k m.feeders from (Joiner' m.id) → IsOfGrid from m
 link-grid m from link = grid-by m from (reaches m.k m.feeders from (Joiner' m.id) link)
+
+-- which links end at a joiner
+abbrev pub IsLinked : ℕ → ℕ → Actor → Actor → Type 0
+IsLinked k feeders (Feeder p) (Joiner' j) = (p < feeders) × (j < 2 ^ k)
+IsLinked k feeders (Joiner' q) (Joiner' j) = (q < 2 ^ k) × DifferInOneBit k q j
+IsLinked k feeders Controller (Joiner' j) = ⊥
+IsLinked k feeders Collector (Joiner' j) = ⊥
+IsLinked k feeders from (Feeder p) = ⊤
+IsLinked k feeders from Controller = ⊤
+IsLinked k feeders from Collector = ⊤
+
+linked : (k feeders : ℕ) (from to : Actor) → HasLink k feeders from to → IsLinked k feeders from to
+linked k feeders _ _ (feeder_joiner low below) = (low, below)
+linked k feeders _ _ (joiner_joiner {low = low} below within) = (below, record { low = low; below = within; other = refl })
+linked k feeders _ _ (controller_feeder low) = tt
+linked k feeders _ _ (feeder_controller low) = tt
+linked k feeders _ _ (joiner_controller low) = tt
+linked k feeders _ _ (joiner_collector low) = tt
+
+pub joiner-link : (k feeders q id : ℕ) → q < 2 ^ k → DifferInOneBit k q id → HasLink k feeders (Joiner' q) (Joiner' id)
+joiner-link k feeders q id low is = subst (λ (j : ℕ). HasLink k feeders (Joiner' q) (Joiner' j)) (sym is.other) (joiner_joiner low is.below)
+
+pub feeder-link : (k feeders p id : ℕ) → p < feeders → id < 2 ^ k → HasLink k feeders (Feeder p) (Joiner' id)
+feeder-link k feeders p id low below = feeder_joiner low below
+
+pub no-feeder : (k feeders p id : ℕ) → HasLink k feeders (Feeder p) (Joiner' id) → (p < feeders) × (id < 2 ^ k)
+no-feeder k feeders p id link = linked k feeders (Feeder p) (Joiner' id) link
+
+pub no-joiner : (k feeders q id : ℕ) → HasLink k feeders (Joiner' q) (Joiner' id) → (q < 2 ^ k) × DifferInOneBit k q id
+no-joiner k feeders q id link = linked k feeders (Joiner' q) (Joiner' id) link
+
+pub no-controller : (k feeders id : ℕ) → HasLink k feeders Controller (Joiner' id) → ⊥
+no-controller k feeders id link = linked k feeders Controller (Joiner' id) link
+
+pub no-collector : (k feeders id : ℕ) → HasLink k feeders Collector (Joiner' id) → ⊥
+no-collector k feeders id link = linked k feeders Collector (Joiner' id) link
+
+-- an id past the grid has no link
+pub no-id : (k feeders id : ℕ) (from : Actor) → k < 9 → 2 ^ k ≤ id → HasLink k feeders from (Joiner' id) → ⊥
+no-id k feeders id (Feeder p) small high link = let low = (no-feeder k feeders p id link).1 in absurd (omega arith)
+no-id k feeders id (Joiner' q) small high link =
+    let is = no-joiner k feeders q id link in
+    let low : id < 2 ^ k = subst (λ (j : ℕ). j < 2 ^ k) (sym is.1.other) (partner_below k is.1.low q is.1.below is.0) in
+    absurd (omega arith)
+no-id k feeders id Controller small high link = no-controller k feeders id link
+no-id k feeders id Collector small high link = no-collector k feeders id link
 
 -- ---- what is held
 

@@ -97,6 +97,23 @@ impl<'a> Joiner<'a> {
         &self.machine.epochs.store
     }
 
+    /// Whether want of memory has stopped it.
+    pub fn is_spent(&self) -> bool
+        ensures up { result ≡ true → IsSpent self.now }
+        ensures down { result ≡ false → ¬ IsSpent self.now }
+    {
+        self.spent
+    }
+
+    /// Whether this sender has a link to this joiner: a feeder of the run, or a joiner whose id differs in one bit.
+    pub fn hears(&self, from: Actor) -> bool
+        requires { ¬ IsSpent self.now }
+        ensures up { result ≡ true → HasLink (k_of self.now) (feeders_of self.now) from (Joiner' (id_of self.now)) }
+        ensures down { result ≡ false → ¬ HasLink (k_of self.now) (feeders_of self.now) from (Joiner' (id_of self.now)) }
+    {
+        self.machine.hears(from)
+    }
+
     /// Takes a message, or holds it behind its link, and appends what it sends. After want of memory it is spent, and
     /// every later call answers the same and changes nothing.
     pub fn on(&mut self, from: Actor, m: ToJoiner, sends: &mut Sends) -> Result<(), AllocError>

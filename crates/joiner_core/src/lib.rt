@@ -25,3 +25,4 @@ mod which;
 pub use joiner::Joiner;
 pub use store::Store;
 pub use theta::Theta;
+

@@ -1,9 +1,11 @@
 // A joiner's machine: what it has of its epochs, and the messages that it holds.
 ghost use Rattle.std.specs.Prelude.{◌≡◌, ℕ, ◌<◌, ◌^◌, ◌≤◌, ◌++◌, [], true, false, OnOk, IfOk};
+ghost use Rattle.epoch_tags.specs.Links.{HasLink};
 ghost use Rattle.joiner_core.specs.Whole.{IsMade, IsSound, Accepts, IsOfGrid, Receives};
 ghost use Rattle.epoch_tags.specs.declared.actor.Actor.TheVariants.{Feeder, Joiner as Joiner'};
 
 use crate::epochs::{Epochs, all_down};
+use crate::grid::differ_in_one_bit;
 use crate::held::Held;
 use crate::store::Store;
 use crate::theta::Theta;
@@ -53,6 +55,24 @@ impl<'a> Machine<'a> {
             told: false,
             alloc,
         })
+    }
+
+    // Whether this sender has a link to this joiner.
+    pub(crate) fn hears(&self, from: Actor) -> bool
+        requires { self.now.epochs.k < 9 }
+        ensures up { result ≡ true → HasLink self.now.epochs.k self.now.epochs.feeders from (Joiner' self.now.epochs.id) }
+        ensures down { result ≡ false → ¬ HasLink self.now.epochs.k self.now.epochs.feeders from (Joiner' self.now.epochs.id) }
+    {
+        let count = 1u32 << self.epochs.k;
+        if self.epochs.id >= count {
+            return false;
+        }
+        match from {
+            Actor::Feeder(p) => p < self.epochs.feeders,
+            Actor::Joiner(q) => q < count && differ_in_one_bit(self.epochs.k, q, self.epochs.id),
+            Actor::Controller => false,
+            Actor::Collector => false,
+        }
     }
 
     // Takes or holds a message, tries the held ones again and reports.
