@@ -16,7 +16,7 @@ use Rattle.joiner_law.specs.Law.{pairs_by, pair_of}
 use Rattle.link_trace.specs.Join.{Input, nested_loop, row_count}
 use Rattle.row_tickets.specs.declared.place.Place.{Place}
 use Rattle.row_tickets.specs.Share.{share, place_at}
-use Rattle.link_trace.specs.Batches.{cut}
+use Rattle.reshuffler_core.specs.Batches.{cut}
 use Rattle.link_trace.specs.Family.{Setting, IsValid, tuple_of, cells_of, feeder_start}
 use Rattle.link_trace.proofs.Cuts.{joined_again}
 use Rattle.link_trace.proofs.PairSums.{sum-pairs}

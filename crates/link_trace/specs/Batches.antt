@@ -13,10 +13,6 @@ use Rattle.load_controller.specs.Journal.{count_epochs}
 abbrev pub same_place : Place → Place → Bool
 same_place a b = same_side a.side b.side && (a.index == b.index)
 
--- the list cut after every `size` elements
-abbrev pub cut : {X : Type 0} → ℕ → List X → List (List X)
-cut size xs = map (λ i. take size (drop (i * size) xs)) (range_with_len 0 ((length xs + size - 1) / size))
-
 -- how many places of a batch are of R, and of S
 abbrev pub size_of : List Place → ℕ × ℕ
 size_of batch = (count_by (λ a. same_side R a.side) batch, count_by (λ a. same_side S a.side) batch)

@@ -20,7 +20,8 @@ use Rattle.link_trace.specs.Join.{Input, tickets_of, ticket_of, row_count, neste
 use Rattle.row_tickets.specs.declared.place.Feed.{Feed}
 use Rattle.row_tickets.specs.declared.place.Place.{Place}
 use Rattle.row_tickets.specs.Share.{share, place_at}
-use Rattle.link_trace.specs.Batches.{cut, size_of, stamp_of}
+use Rattle.reshuffler_core.specs.Batches.{cut}
+use Rattle.link_trace.specs.Batches.{size_of, stamp_of}
 
 pub record Setting : Type 0 where
   pub k : ℕ
