@@ -11,3 +11,4 @@ pub mod Unique
 pub mod Turns
 pub mod Whole
 pub mod OneFault
+pub mod Narrow

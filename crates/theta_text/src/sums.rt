@@ -1,6 +1,6 @@
 // Sums.
 
-ghost use Rattle.std.specs.Prelude.{◌≡◌, ◌<◌, List, ◌∷◌, length, Bool, IfOk, MatchOption};
+ghost use Rattle.std.specs.Prelude.{◌≡◌, ◌<◌, ◌≤◌, List, ◌∷◌, length, Bool, IfOk, MatchOption};
 ghost use Rattle.theta_text.specs.declared.token.Placed.{Placed as PlacedToken};
 ghost use Rattle.theta_text.specs.Grammar.{FirstText, SumText};
 ghost use Rattle.theta_text.specs.Machine.{Symbol, sum, more, verdict};
@@ -50,6 +50,7 @@ pub(crate) fn sum_of<'a>(
     ensures run { (s : List Symbol) → Leads (verdict limits end (sum ∷ s) tokens.now)
         (λ x. verdict limits end s x.1.now) result }
     ensures shorter { IfOk result (λ x. length x.1.now < length tokens.now) }
+    ensures narrow { IfOk result (λ x. length x.0 ≤ 16) }
 {
     let (first, mut rest) = first_of(tokens, end)?;
     let mut terms = Sum::new(alloc);

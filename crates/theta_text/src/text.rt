@@ -1,9 +1,10 @@
 // The predicate that a text is.
 
-ghost use Rattle.std.specs.Prelude.{◌≡◌, ◌⊎◌, ℕ, IfOk, MatchResult};
+ghost use Rattle.std.specs.Prelude.{◌≡◌, ◌≤◌, ◌⊎◌, ℕ, IfOk, MatchResult};
 ghost use Rattle.theta_text.specs.Grammar.{Tree, Reads};
 ghost use Rattle.theta_text.specs.Faults.{words, IsSyntaxFault, IsDeepFault, IsWideFault, IsLiteralFault};
 ghost use Rattle.theta_text.specs.Texts.{tree_of, limits, TextReads, IsSyntaxAt, IsDeepAt, IsWideAt, IsLiteralAt, IsFaultOf};
+ghost use Rattle.theta_text.specs.Sizes.{longest_sum};
 ghost use Rattle.theta_text.specs.declared.fault.PredFault.{PredFault as Fault};
 
 use crate::fault::PredFault;
@@ -23,6 +24,7 @@ pub fn parse(alloc: Global, text: &str) -> Result<Pred, PredFault>
     ensures ok { IfOk result (λ pred. TextReads limits text.now (tree_of pred)) }
     ensures only { (tree : Tree) → TextReads limits text.now tree
         → MatchResult result (λ pred. tree_of pred ≡ tree) (λ fault. fault ≡ PredFault.Memory) }
+    ensures narrow { IfOk result (λ pred. longest_sum pred ≤ 16) }
     ensures syntax { (place : ℕ) → result ≡ Err (PredFault.Syntax place)
         → IsSyntaxAt limits text.now place }
     ensures deep { (place : ℕ) → result ≡ Err (PredFault.Deep place)
@@ -43,6 +45,7 @@ fn whole(alloc: Global, tokens: &[Placed], end: u64) -> Result<Pred, PredFault>
     ensures ok { IfOk result (λ pred. Reads limits (words tokens.now) (tree_of pred)) }
     ensures only { (tree : Tree) → Reads limits (words tokens.now) tree
         → MatchResult result (λ pred. tree_of pred ≡ tree) (λ fault. fault ≡ PredFault.Memory) }
+    ensures narrow { IfOk result (λ pred. longest_sum pred ≤ 16) }
     ensures syntax { (place : ℕ) → result ≡ Err (PredFault.Syntax place)
         → IsSyntaxFault limits end tokens.now place }
     ensures deep { (place : ℕ) → result ≡ Err (PredFault.Deep place)

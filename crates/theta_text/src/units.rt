@@ -1,10 +1,11 @@
 // Units, conjunctions and predicates.
 
-ghost use Rattle.std.specs.Prelude.{◌≡◌, ◌<◌, List, ◌∷◌, length, map, IfOk};
+ghost use Rattle.std.specs.Prelude.{◌≡◌, ◌<◌, ◌≤◌, List, ◌∷◌, length, map, IfOk};
 ghost use Rattle.theta_text.specs.Grammar.{any, every, joined, IsAnd, IsOr, Unit', Conj, Predicate, NumTest, BandRest, TxtTest};
 ghost use Rattle.theta_text.specs.Machine.{Symbol, unit, tail, close, open', sum, op, bound, side, verdict};
 ghost use Rattle.theta_text.specs.Faults.{words};
 ghost use Rattle.theta_text.specs.Texts.{tree_of, limits};
+ghost use Rattle.theta_text.specs.Sizes.{longest, longest_sum};
 ghost use Rattle.theta_text.specs.Views.{Leads, OnlyMemory, BeginsOff, IsPast};
 ghost use Rattle.theta_text.specs.Starts.{unit_start};
 
@@ -38,6 +39,7 @@ pub(crate) fn predicate<'a>(
     ensures run { (s : List Symbol) → Leads (verdict limits end (unit depth ∷ tail depth ∷ s) tokens.now)
         (λ x. verdict limits end s x.1.now) result }
     ensures shorter { IfOk result (λ x. length x.1.now < length tokens.now) }
+    ensures narrow { IfOk result (λ x. longest_sum x.0 ≤ 16) }
 {
     let (first, mut rest) = conj(alloc, tokens, end, depth)?;
     let mut others = Vec::new(alloc);
@@ -63,6 +65,7 @@ fn conj<'a>(
         (λ x. verdict limits end (tail depth ∷ s) x.1.now) result }
     ensures ends { IfOk result (λ x. BeginsOff IsAnd x.1.now) }
     ensures shorter { IfOk result (λ x. length x.1.now < length tokens.now) }
+    ensures narrow { IfOk result (λ x. longest_sum x.0 ≤ 16) }
 {
     let (first, mut rest) = one_unit(alloc, tokens, end, depth)?;
     let mut others = Vec::new(alloc);
@@ -87,6 +90,7 @@ fn one_unit<'a>(
     ensures run { (s : List Symbol) → Leads (verdict limits end (unit depth ∷ s) tokens.now)
         (λ x. verdict limits end s x.1.now) result }
     ensures shorter { IfOk result (λ x. length x.1.now < length tokens.now) }
+    ensures narrow { IfOk result (λ x. longest_sum x.0 ≤ 16) }
 {
     let Some((first, rest)) = next(tokens) else {
         return Err(PredFault::Syntax { place: end });
@@ -138,6 +142,7 @@ fn num_of<'a>(
     ensures run { (s : List Symbol) → Leads (verdict limits end (sum ∷ op ∷ sum ∷ s) tokens.now)
         (λ x. verdict limits end s x.1.now) result }
     ensures shorter { IfOk result (λ x. length x.1.now < length tokens.now) }
+    ensures narrow { IfOk result (λ x. longest_sum x.0 ≤ 16) }
 {
     let (left, rest1) = sum_of(alloc, tokens, end)?;
     let (op, rest2) = op_of(rest1, end)?;
@@ -151,6 +156,7 @@ fn txt_of(tokens: &[Placed], end: u64) -> Result<(Pred, &[Placed]), PredFault>
     ensures run { (s : List Symbol) → Leads (verdict limits end (side ∷ op ∷ side ∷ s) tokens.now)
         (λ x. verdict limits end s x.1.now) result }
     ensures shorter { IfOk result (λ x. length x.1.now < length tokens.now) }
+    ensures narrow { IfOk result (λ x. longest_sum x.0 ≤ 16) }
 {
     let (left, rest1) = side_of(tokens, end)?;
     let (op, rest2) = op_of(rest1, end)?;
@@ -169,6 +175,7 @@ fn band_of<'a>(
     ensures run { (s : List Symbol) → Leads (verdict limits end (open' ∷ sum ∷ close ∷ op ∷ bound ∷ s) tokens.now)
         (λ x. verdict limits end s x.1.now) result }
     ensures shorter { IfOk result (λ x. length x.1.now < length tokens.now) }
+    ensures narrow { IfOk result (λ x. longest_sum x.0 ≤ 16) }
 {
     let rest1 = opened(tokens, end)?;
     let (sum, rest2) = sum_of(alloc, rest1, end)?;
@@ -200,8 +207,10 @@ fn after_or(tokens: &[Placed]) -> Option<&[Placed]>
 
 // One member alone stands for itself.
 fn any_of(first: Pred, others: Vec<Pred>) -> Result<Pred, PredFault>
-    ensures { OnlyMemory result
+    ensures tree { OnlyMemory result
         (λ p. tree_of p ≡ joined any (tree_of first) (map tree_of others.items)) }
+    ensures narrow { OnlyMemory result (λ p. longest_sum first ≤ 16 → longest (map longest_sum others.items) ≤ 16
+        → longest_sum p ≤ 16) }
 {
     let mut all = others;
     if all.is_empty() {
@@ -212,8 +221,10 @@ fn any_of(first: Pred, others: Vec<Pred>) -> Result<Pred, PredFault>
 }
 
 fn every_of(first: Pred, others: Vec<Pred>) -> Result<Pred, PredFault>
-    ensures { OnlyMemory result
+    ensures tree { OnlyMemory result
         (λ p. tree_of p ≡ joined every (tree_of first) (map tree_of others.items)) }
+    ensures narrow { OnlyMemory result (λ p. longest_sum first ≤ 16 → longest (map longest_sum others.items) ≤ 16
+        → longest_sum p ≤ 16) }
 {
     let mut all = others;
     if all.is_empty() {

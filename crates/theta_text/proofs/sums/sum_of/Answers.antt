@@ -57,3 +57,9 @@ loop-minus-preserved c =
 
 pub returns-clause-run : goal.returns-clause-run
 returns-clause-run c s = c.loop-minus.invariant.run s ∙ past_more limits c.args.end c.loop-minus.room s c.loop-minus.rest.now c.in_default.ensures
+
+pub returns-clause-narrow : goal.returns-clause-narrow
+returns-clause-narrow c =
+    let (x, xs, e, count, first, f) = c.loop-minus.invariant.read in
+    let long : length c.loop-minus.terms ≡ length (x ∷ xs) = ap length e in
+    grind (arith, long, count, more_is)

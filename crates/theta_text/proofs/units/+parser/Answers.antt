@@ -8,6 +8,7 @@ use Rattle.theta_text.specs.Machine.{Symbol, unit, tail, close, open', sum, op, 
 use Rattle.theta_text.specs.Faults.{words}
 use Rattle.theta_text.specs.Texts.{limits, tree_of}
 use Rattle.theta_text.proofs.Turns.{turn_ok, turn_same, words_at, same_fault, same_leads, if_ok_map, past_tail, further_push, unit_not, unit_open, unit_band, is_not, is_open, is_band, starts_num, read_num, starts_txt, read_txt, read_band, read_open}
+use Rattle.theta_text.proofs.Narrow.{longest-push}
 use Rattle.theta_text.proofs.units.+parser.Goals as goal
 
 pub conj-returns-in_err-first-clause-run : goal.conj-returns-in_err-first-clause-run
@@ -47,6 +48,8 @@ conj-loop-after-preserved t c =
           (further_push IsAnd (Unit' limits c.args.depth) (words c.in_ok-first.rest.now) (words l.rest.now) (words c.in-Some.after.now) (words m.left.now) (map tree_of l.others.items) (tree_of m.member) past.0.token it.read past.2 mid m.ensures.read);
       run = λ s. it.run s ∙ turned s ∙ m.ensures.run (tail c.args.depth ∷ s);
       shorter = grind (arith, past.1);
+      narrow_first = it.narrow_first;
+      narrow = longest-push c.push.new.self.items l.others.items m.member (search rules) it.narrow m.ensures.narrow;
     }
 
 pub predicate-returns-in_err-member-clause-run : goal.predicate-returns-in_err-member-clause-run
@@ -77,6 +80,8 @@ predicate-loop-after-preserved t c =
       run = λ s. it.run s ∙ turned s ∙ m.ensures.run s;
       ends = m.ensures.ends;
       shorter = grind (arith, past.1);
+      narrow_first = it.narrow_first;
+      narrow = longest-push c.push.new.self.items l.others.items m.member (search rules) it.narrow m.ensures.narrow;
     }
 
 pub predicate-returns-clause-run : goal.predicate-returns-clause-run

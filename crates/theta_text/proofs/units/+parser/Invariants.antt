@@ -1,9 +1,10 @@
-use Rattle.std.proofs.Common.{◌≡◌, ◌+◌, ◌*◌, ◌<◌, List, ◌∷◌, length, map}
+use Rattle.std.proofs.Common.{◌≡◌, ◌+◌, ◌*◌, ◌<◌, ◌≤◌, List, ◌∷◌, length, map}
 use Rattle.theta_text.specs.Grammar.{IsAnd, IsOr, Unit', Conj, Further}
 use Rattle.theta_text.specs.Machine.{Symbol, unit, tail, verdict}
 use Rattle.theta_text.specs.Faults.{words}
 use Rattle.theta_text.specs.Texts.{tree_of, limits}
 use Rattle.theta_text.specs.Views.{BeginsOff}
+use Rattle.theta_text.specs.Sizes.{longest, longest_sum}
 use Rattle.theta_text.proofs.units.+parser.Given as goal
 
 abbrev pub decreases-predicate : goal.decreases-predicate
@@ -21,6 +22,8 @@ invariant-conj-loop-after l = record {
   read : Further IsAnd (Unit' limits l.depth) (words l.initial.rest) (map tree_of l.others.items) (words l.rest);
   run : (s : List Symbol) → verdict limits l.end (unit l.depth ∷ tail l.depth ∷ s) l.tokens ≡ verdict limits l.end (tail l.depth ∷ s) l.rest;
   shorter : length l.rest < length l.tokens;
+  narrow_first : longest_sum l.first ≤ 16;
+  narrow : longest (map longest_sum l.others.items) ≤ 16;
 }
 
 abbrev pub decreases-conj-loop-after : goal.decreases-conj-loop-after
@@ -33,6 +36,8 @@ invariant-predicate-loop-after l = record {
   run : (s : List Symbol) → verdict limits l.end (unit l.depth ∷ tail l.depth ∷ s) l.tokens ≡ verdict limits l.end (tail l.depth ∷ s) l.rest;
   ends : BeginsOff IsAnd l.rest;
   shorter : length l.rest < length l.tokens;
+  narrow_first : longest_sum l.first ≤ 16;
+  narrow : longest (map longest_sum l.others.items) ≤ 16;
 }
 
 abbrev pub decreases-predicate-loop-after : goal.decreases-predicate-loop-after
