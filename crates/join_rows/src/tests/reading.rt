@@ -1,5 +1,4 @@
-use crate::{Bytes, Failed, MapShelf, Shelf, TableFault, read_table};
-use std::alloc::{AllocError, Global};
+use crate::{Failed, MapShelf, Shelf, TableFault, read_table};
 use std::test::Fail;
 
 // A file's bytes and what there is to read in them: the names, and the rows, each by its fields.
@@ -39,6 +38,31 @@ fn tables(rt: HostRuntime) -> Result<(), Fail> {
     Ok(())
 }
 
+// A column of a table, and its first row that is neither empty nor a number.
+#[test]
+fn columns(rt: HostRuntime) -> Result<(), Fail> {
+    let cases: [(&[u8], u64); 3] = [
+        (b"id,x\n1,10\n2,\n3,-7\n", 0),
+        (b"id,x\n1, \n2,z\n3,y\n", 2),
+        (b"id,x\n", 0),
+    ];
+    for (file, bad) in cases {
+        let mut shelf = MapShelf::new(rt.alloc());
+        shelf.add("file", file)?;
+        let Ok(table) = read_table(rt.alloc(), &mut shelf, "file") else {
+            assert!(rt; false);
+            return Ok(());
+        };
+        let width = table.names.len();
+        let row = match table.numbers(width - 1) {
+            Ok(()) => 0,
+            Err(fault) => fault.row,
+        };
+        assert!(rt; row == bad);
+    }
+    Ok(())
+}
+
 #[test]
 fn faults(rt: HostRuntime) -> Result<(), Fail> {
     let cases: [(&[u8], TableFault); 6] = [
@@ -56,37 +80,6 @@ fn faults(rt: HostRuntime) -> Result<(), Fail> {
             Err(fault) => assert!(rt; fault == why),
             Ok(_) => assert!(rt; false),
         }
-    }
-    Ok(())
-}
-
-// A file of a header and so many more lines.
-fn lines(alloc: Global, count: u64, line: &[u8], last: &[u8]) -> Result<Bytes, AllocError> {
-    let mut bytes = Bytes::from_slice(alloc, b"a\n")?;
-    for _ in 0..count {
-        bytes.append(line)?;
-    }
-    bytes.append(last)?;
-    Ok(bytes)
-}
-
-#[test]
-fn limits(rt: HostRuntime) -> Result<(), Fail> {
-    let cases: [(u64, &[u8], &[u8], TableFault); 2] = [
-        (262_144, b"1\n", b"2,3\n", TableFault::TooMany),
-        (
-            262_144,
-            b"0123456789012345678901234567890123456789012345678901234567890123",
-            b"",
-            TableFault::TooLong,
-        ),
-    ];
-    for (count, line, last, why) in cases {
-        let file = lines(rt.alloc(), count, line, last)?;
-        let mut shelf = MapShelf::new(rt.alloc());
-        shelf.add("file", file.as_slice())?;
-        let fault = read_table(rt.alloc(), &mut shelf, "file").err();
-        assert!(rt; fault == Some(why));
     }
     Ok(())
 }
@@ -133,15 +126,15 @@ fn reads_that_are_made(rt: HostRuntime) -> Result<(), Fail> {
     Ok(())
 }
 
+// A pick that is told to fail, a name that is picked first, and whether its table is read.
 #[test]
 fn names_that_are_missing(rt: HostRuntime) -> Result<(), Fail> {
-    let mut shelf = MapShelf::new(rt.alloc());
-    shelf.add("r", b"a\n")?;
-    shelf.fail_pick(2)?;
-    let missing = read_table(rt.alloc(), &mut shelf, "s").err();
-    assert!(rt; missing == Some(TableFault::Read));
-    let failed = read_table(rt.alloc(), &mut shelf, "r").err();
-    assert!(rt; failed == Some(TableFault::Read));
-    assert!(rt; read_table(rt.alloc(), &mut shelf, "r").is_ok());
+    let cases = [(2, "s", false), (1, "r", false), (2, "r", true)];
+    for (failing, name, there) in cases {
+        let mut shelf = MapShelf::new(rt.alloc());
+        shelf.add("r", b"a\n")?;
+        shelf.fail_pick(failing)?;
+        assert!(rt; read_table(rt.alloc(), &mut shelf, name).is_ok() == there);
+    }
     Ok(())
 }
