@@ -8,8 +8,13 @@ mod matching;
 mod outcome;
 mod reading;
 mod text;
+mod top;
 mod write;
 
 pub use grid::grid_run;
 pub use matching::{FirstTexts, Test};
 pub use outcome::{InputFault, LimitFault, Outcome, WordsFault};
+pub use top::join_main;
+
+#[cfg(test)]
+mod tests;

@@ -1,5 +1,5 @@
-use Rattle.std.proofs.Common.{◌≡◌, ◌<◌, ◌∙◌, sym, arith, length}
-use Rattle.join_rows.proofs.Columns.{good-more, good-row, row-within}
+use Rattle.std.proofs.Common.{◌∙◌, sym, arith}
+use Rattle.join_rows.proofs.BadCells.{good-more, good-row, row-within}
 use Rattle.join_rows.proofs.table.Table.numbers.Goals as goal
 
 pub loop-place-preserved : goal.loop-place-preserved

@@ -1,4 +1,4 @@
-use Rattle.std.proofs.Common.{◌≡◌, ◌<◌, ◌-◌, ◌≤◌, ℕ, List, Some, length}
+use Rattle.std.proofs.Common.{◌≡◌, ◌<◌, ◌-◌, ℕ, List, Some, length}
 use Rattle.std.specs.List.{slice_get}
 use Rattle.join_rows.specs.Columns.{IsBad}
 use Rattle.join_rows.specs.declared.table.Cell.{Cell}
