@@ -1,7 +1,7 @@
 //! `jm R.csv S.csv` joins two files on the equality of their first columns.
 #![tactic(auto)]
 
-use join_cli::{InputFault, LimitFault, Outcome, join_main};
+use join_cli::{InputFault, LimitFault, Outcome, WordsFault, join_main};
 use join_rows::{DiskShelf, Side, StdSink};
 use std::process::ExitCode;
 use std::{env, io};
@@ -27,13 +27,18 @@ fn line(outcome: Outcome) -> Option<&'static str> {
 
 fn main(rt: HostRuntime) -> io::Result<ExitCode> {
     let alloc = rt.alloc();
-    let mut words = Vec::new(alloc);
-    for word in env::args(&rt)? {
-        words.push(word)?;
-    }
-    let mut shelf = DiskShelf::new(alloc, rt.clone()?);
-    let mut sink = StdSink::new(rt.clone()?);
-    let outcome = join_main(alloc, &words, &mut shelf, &mut sink);
+    let outcome = match env::args(&rt) {
+        Ok(args) => {
+            let mut words = Vec::new(alloc);
+            for word in args {
+                words.push(word)?;
+            }
+            let mut shelf = DiskShelf::new(alloc, rt.clone()?);
+            let mut sink = StdSink::new(rt.clone()?);
+            join_main(alloc, &words, &mut shelf, &mut sink)
+        }
+        Err(_) => Outcome::Words(WordsFault::Files),
+    };
     if let Some(line) = line(outcome) {
         eprintln!(rt; "{line}")?;
     }
