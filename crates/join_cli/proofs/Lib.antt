@@ -1,0 +1,4 @@
+pub mod Holding
+pub mod Meeting
+pub mod Gathering
+pub mod Writing

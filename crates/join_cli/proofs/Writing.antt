@@ -1,0 +1,43 @@
+-- Pieces put one after the other are the whole.
+use Rattle.std.proofs.Common.{◌≡◌, ◌≤◌, ◌+◌, ◌-◌, min, ℕ, zero, suc, refl, sym, ◌∙◌, ap, subst, arith, List, [], ◌∷◌, ◌++◌, length, take, drop, append_assoc, Option, Some, None}
+use Rattle.std.specs.Io.KnownBytes.{append_known}
+use Rattle.std.proofs.lemmas.List.{append-nil}
+use Rattle.join_rows.specs.Sinks.{AppendsFront}
+
+known-append : (known : Option (List ℕ)) (xs ys : List ℕ) → append_known (append_known known xs) ys ≡ append_known known (xs ++ ys)
+known-append None xs ys = refl
+known-append (Some bytes) xs ys = ap Some (append_assoc bytes xs ys)
+
+pub known-none : (known : Option (List ℕ)) → append_known known [] ≡ known
+known-none None = refl
+known-none (Some bytes) = ap Some (append-nil bytes)
+
+-- a front, and some bytes behind it
+joined : (p n : ℕ) (xs : List ℕ) → take p xs ++ take n (drop p xs) ≡ take (p + n) xs
+joined zero n xs = let same : 0 + n ≡ n = omega arith in rw same refl
+joined (suc p) zero [] = let same : suc p + 0 ≡ suc p = omega arith in rw same refl
+joined (suc p) (suc n) [] = let same : suc p + suc n ≡ suc (p + suc n) = omega arith in rw same refl
+joined (suc p) n (x ∷ xs) = let same : suc p + n ≡ suc (p + n) = omega arith in rw same (ap (λ ys. x ∷ ys) (joined p n xs))
+
+twice : (m n : ℕ) (xs : List ℕ) → take m (take n xs) ≡ take (min m n) xs
+twice zero n xs = let none : min 0 n ≡ 0 = omega arith in rw none refl
+twice (suc m) zero xs = let none : min (suc m) 0 ≡ 0 = omega arith in rw none refl
+twice (suc m) (suc n) [] = let less : min (suc m) (suc n) ≡ suc (min m n) = omega arith in rw less refl
+twice (suc m) (suc n) (x ∷ xs) = let less : min (suc m) (suc n) ≡ suc (min m n) = omega arith in rw less (ap (λ ys. x ∷ ys) (twice m n xs))
+
+pub piece_put : (known before after : Option (List ℕ)) (xs : List ℕ) (p e : ℕ) → p ≤ e → before ≡ append_known known (take p xs)
+    → after ≡ append_known before (take (e - p) (drop p xs)) → after ≡ append_known known (take e xs)
+piece_put known before after xs p e below front is =
+    let whole : p + (e - p) ≡ e = omega arith in
+    is ∙ ap (λ b. append_known b (take (e - p) (drop p xs))) front ∙ known-append known (take p xs) (take (e - p) (drop p xs))
+    ∙ ap (append_known known) (joined p (e - p) xs) ∙ ap (λ n. append_known known (take n xs)) whole
+
+pub piece_cut : (known before after : Option (List ℕ)) (xs : List ℕ) (p e : ℕ) → before ≡ append_known known (take p xs)
+    → AppendsFront before after (take (e - p) (drop p xs)) → AppendsFront known after xs
+piece_cut known before after xs p e front (n, is) = (
+  p + min n (e - p),
+  is ∙ ap (λ b. append_known b (take n (take (e - p) (drop p xs)))) front
+      ∙ known-append known (take p xs) (take n (take (e - p) (drop p xs)))
+      ∙ ap (λ ys. append_known known (take p xs ++ ys)) (twice n (e - p) (drop p xs))
+      ∙ ap (append_known known) (joined p (min n (e - p)) xs),
+)

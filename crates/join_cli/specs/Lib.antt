@@ -1,0 +1,7 @@
+pub mod Tests
+pub mod Joining
+pub mod Sending
+pub mod Answer
+pub mod Text
+pub mod Outcomes
+pub mod Plan

@@ -1,0 +1,82 @@
+// The two tables, read one after the other.
+
+ghost use Rattle.std.specs.Prelude.{◌≡◌, ◌⊎◌, ◌<◌, ◌≤◌, ℕ, List, Option, Some, Err, IfOk, true};
+ghost use Rattle.join_rows.specs.Shelves.{Lacks, last_fault};
+ghost use Rattle.join_rows.specs.Records.{IsTable};
+ghost use Rattle.join_cli.specs.Plan.{tables_of, table_found, LacksOne};
+
+use crate::outcome::{Refusal, refusal_for};
+use join_rows::{Shelf, Side, Table, read_table};
+use std::alloc::Global;
+
+/// The tables of both sides.
+#[derive(Debug, Drop)]
+pub(crate) struct Tables {
+    pub(crate) of_r: Table,
+    pub(crate) of_s: Table,
+}
+
+/// How many rows a table may have under its header.
+const MOST_ROWS: u64 = 1 << 18;
+
+/// Whether a table has a name or more, rows of its header's width alone, and no more rows than the
+/// limit, as every table has that was read.
+fn is_whole(table: &Table) -> bool
+    ensures { result ≡ true → IsTable table.now }
+{
+    let width = table.names.len();
+    if width == 0 || table.rows.len() > MOST_ROWS {
+        return false;
+    }
+    let rows = table.rows.as_slice();
+    for row in rows {
+        if row.len() != width {
+            return false;
+        }
+    }
+    true
+}
+
+/// The table of one side.
+fn table<H: Shelf>(alloc: Global, shelf: &mut H, side: Side, name: &str) -> Result<Table, Refusal>
+    requires { H.faults shelf.old < last_fault }
+    ensures told { H.told shelf.new ≡ H.told shelf.old }
+    ensures rises { H.faults shelf.old ≤ H.faults shelf.new }
+    ensures answer { (files : List ℕ → Option (List ℕ)) → H.told shelf.old ≡ Some files
+        → H.faults shelf.new ≡ H.faults shelf.old
+        → (result ≡ Err Refusal.Memory) ⊎ (result ≡ table_found side (files name.now)) }
+    ensures read { result ≡ Err Refusal.Read
+        → (H.faults shelf.old < H.faults shelf.new) ⊎ Lacks (H.told shelf.old) name.now }
+    ensures counts { (result ≡ Err Refusal.Read → ⊥) → H.faults shelf.new ≡ H.faults shelf.old }
+    ensures whole { IfOk result IsTable }
+{
+    match read_table(alloc, shelf, name) {
+        Ok(table) if is_whole(&table) => Ok(table),
+        Ok(_) => Err(Refusal::Memory),
+        Err(fault) => Err(refusal_for(side, fault)),
+    }
+}
+
+/// The tables of both sides, R before S, or the first refusal.
+pub(crate) fn read_tables<H: Shelf>(
+    alloc: Global,
+    shelf: &mut H,
+    name_r: &str,
+    name_s: &str,
+) -> Result<Tables, Refusal>
+    requires { H.faults shelf.old < last_fault }
+    ensures told { H.told shelf.new ≡ H.told shelf.old }
+    ensures rises { H.faults shelf.old ≤ H.faults shelf.new }
+    ensures answer { (files : List ℕ → Option (List ℕ)) → H.told shelf.old ≡ Some files
+        → H.faults shelf.new ≡ H.faults shelf.old
+        → (result ≡ Err Refusal.Memory) ⊎ (result ≡ tables_of files name_r.now name_s.now) }
+    ensures read { result ≡ Err Refusal.Read
+        → (H.faults shelf.old < H.faults shelf.new) ⊎ LacksOne (H.told shelf.old) name_r.now name_s.now }
+    ensures counts { (result ≡ Err Refusal.Read → ⊥) → H.faults shelf.new ≡ H.faults shelf.old }
+    ensures whole_r { IfOk result (λ tables. IsTable tables.of_r) }
+    ensures whole_s { IfOk result (λ tables. IsTable tables.of_s) }
+{
+    let of_r = table(alloc, shelf, Side::R, name_r)?;
+    let of_s = table(alloc, shelf, Side::S, name_s)?;
+    Ok(Tables { of_r, of_s })
+}
