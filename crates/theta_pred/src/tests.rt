@@ -14,14 +14,33 @@ fn header(alloc: Global, words: &[&[u8]]) -> Result<Names, AllocError> {
     Ok(names)
 }
 
-// A row of cells, each a text and its number.
-fn row(alloc: Global, cells: &[(&[u8], Option<i64>)]) -> Result<Cells, AllocError> {
+fn cell(alloc: Global, text: &[u8], num: Option<i64>) -> Result<Cell, AllocError> {
+    Ok(Cell {
+        text: Bytes::from_slice(alloc, text)?,
+        num,
+    })
+}
+
+// A row of two cells, each a text and its number.
+fn row(
+    alloc: Global,
+    first: (&[u8], Option<i64>),
+    second: (&[u8], Option<i64>),
+) -> Result<Cells, AllocError> {
     let mut row = Cells::new(alloc);
-    for (text, num) in cells {
-        let text = Bytes::from_slice(alloc, *text)?;
-        row.push(Cell { text, num: *num })?;
-    }
+    row.push(cell(alloc, first.0, first.1)?)?;
+    row.push(cell(alloc, second.0, second.1)?)?;
     Ok(row)
+}
+
+// The name that a refusal tells of, with its side and whether it stands there more than once.
+fn wrong_name(answer: Result<Theta, ResolveFault>) -> Option<(bool, Side, Bytes)> {
+    match answer {
+        Err(ResolveFault::TwoColumns { side, name }) => Some((true, side, name)),
+        Err(ResolveFault::NoColumn { side, name }) => Some((false, side, name)),
+        Err(ResolveFault::Memory) => None,
+        Ok(_theta) => None,
+    }
 }
 
 fn name(alloc: Global, side: Side, word: &[u8]) -> Result<Name, AllocError> {
@@ -94,8 +113,8 @@ fn both_answer(
     wanted: bool,
 ) -> Result<(), Fail> {
     let id: (&[u8], Option<i64>) = (b"1", Some(1));
-    let r = row(alloc, &[id, x])?;
-    let s = row(alloc, &[y, id])?;
+    let r = row(alloc, id, x)?;
+    let s = row(alloc, y, id)?;
     let copy = theta.copy()?;
     assert_eq!(rt; answer(rt, theta, &r, &s), wanted);
     assert_eq!(rt; answer(rt, &copy, &r, &s), wanted, "of the copy");
@@ -219,8 +238,8 @@ fn texts_compare_byte_by_byte(rt: HostRuntime) -> Result<(), Fail> {
     both_answer(&rt, alloc, &either, (b"7", Some(7)), (b"7", Some(7)), true)?;
     both_answer(&rt, alloc, &either, (b"v", None), (b"7", Some(7)), false)?;
     let first = Theta::first_texts(alloc, 2, 2)?;
-    let r = row(alloc, &[(b"a", None), (b"b", None)])?;
-    let s = row(alloc, &[(b"a", None), (b"c", None)])?;
+    let r = row(alloc, (b"a", None), (b"b", None))?;
+    let s = row(alloc, (b"a", None), (b"c", None))?;
     assert!(rt; answer(&rt, &first, &r, &s));
     Ok(())
 }
@@ -250,13 +269,12 @@ fn the_first_wrong_name_is_told(rt: HostRuntime) -> Result<(), Fail> {
         bound: 3,
     };
     assert!(rt; longest_sum(&doubled) <= 16);
-    match resolve(alloc, &doubled, &names_r, &names_s) {
-        Err(ResolveFault::TwoColumns { side, name }) => {
-            assert_eq!(rt; side, Side::R);
-            assert_eq!(rt; name.as_slice(), b"b".as_slice());
-        }
-        _ => assert!(rt; false, "b stands twice"),
-    }
+    let Some((twice, side, name)) = wrong_name(resolve(alloc, &doubled, &names_r, &names_s)) else {
+        return Err(Fail::from(AllocError));
+    };
+    assert!(rt; twice);
+    assert_eq!(rt; side, Side::R);
+    assert_eq!(rt; name.as_slice(), b"b".as_slice());
     let mut sum = one(alloc, column(alloc, false, Side::S, b"z")?)?;
     sum.push(column(alloc, false, Side::R, b"b")?)?;
     let absent = Pred::Abs {
@@ -265,12 +283,11 @@ fn the_first_wrong_name_is_told(rt: HostRuntime) -> Result<(), Fail> {
         bound: 3,
     };
     assert!(rt; longest_sum(&absent) <= 16);
-    match resolve(alloc, &absent, &names_r, &names_s) {
-        Err(ResolveFault::NoColumn { side, name }) => {
-            assert_eq!(rt; side, Side::S);
-            assert_eq!(rt; name.as_slice(), b"z".as_slice());
-        }
-        _ => assert!(rt; false, "z doesn't stand"),
-    }
+    let Some((twice, side, name)) = wrong_name(resolve(alloc, &absent, &names_r, &names_s)) else {
+        return Err(Fail::from(AllocError));
+    };
+    assert!(rt; !twice);
+    assert_eq!(rt; side, Side::S);
+    assert_eq!(rt; name.as_slice(), b"z".as_slice());
     Ok(())
 }
