@@ -25,4 +25,3 @@ mod which;
 pub use joiner::Joiner;
 pub use store::Store;
 pub use theta::Theta;
-

@@ -166,7 +166,7 @@ parts_sent-end s lists new cur past is q =
     let who = partner_in_step cur.shift new.shift s.id in
     let e = s.epoch + length past + 1 in
     let before : HasParts (λ i. IsPartOf s (new ∷ (cur ∷ past)) q i) (λ i. IsEndOf s true (new ∷ (cur ∷ past)) q i) (lists.to_joiner q) =
-        parts-more _ _ _ _ (lists.to_joiner q) (λ i p. p) (end-turned s new cur past q) (is q) in
+    parts-more _ _ _ _ (lists.to_joiner q) (λ i p. p) (end-turned s new cur past q) (is q) in
     elim (cases_eq who q) [
       | inl same ↦ rw (eq-eqb who q same) (parts-append _ _ (lists.to_joiner q) (MovedEnd e ∷ []) before (inl (refl, sym same, refl), tt))
       | inr other ↦ rw (ne_eqb who q other, append-nil (lists.to_joiner q)) before

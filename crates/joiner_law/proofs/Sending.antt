@@ -128,7 +128,7 @@ counts-law s lists t ended step (before ∷ past) is sent low only =
     let moved = moved-here s lists t ended step before past is sent.0 in
     let many : f n ≡ count_by (is_of (exchanged s t n)) (store s t n) = count-here s lists t n (low n (omega arith)) (only n (omega arith)) moved in
     let same : count_by (is_of (exchanged s t n)) (store s t n) ≡ count_by (is_of (exchanged_side before.shift step.shift)) (stored s.k s.id (before ∷ past)) =
-        rw (shift-below s t step before past is, shift-top s t step before past is) (count-bag (is_of (exchanged_side before.shift step.shift)) (store s t n) (stored s.k s.id (before ∷ past)) (store-is s t before past is.1)) in
+    rw (shift-below s t step before past is, shift-top s t step before past is) (count-bag (is_of (exchanged_side before.shift step.shift)) (store s t n) (stored s.k s.id (before ∷ past)) (store-is s t before past is.1)) in
     let size : length (before ∷ past) ≡ n + 1 = omega arith in
     let next : counting_from 0 (length (before ∷ past)) ≡ counting_from 0 n ++ n ∷ [] = ap (λ i. counting_from 0 i) size ∙ counting-more 0 n ∙ (let none : 0 + n ≡ n = omega arith in ap (λ i. counting_from 0 n ++ i ∷ []) none) in
     ap (λ zs. zs ++ count_by (is_of (exchanged_side before.shift step.shift)) (stored s.k s.id (before ∷ past)) ∷ []) rest

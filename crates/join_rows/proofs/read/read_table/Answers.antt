@@ -1,5 +1,6 @@
 use Rattle.std.proofs.lemmas.Result.{err_from_is_err_and}
 use Rattle.join_rows.proofs.Answered.{bytes-answer, bytes-place, bytes-read, fault-answers}
+use Rattle.join_rows.proofs.Shapes.{table-in-shape}
 use Rattle.join_rows.proofs.read.read_table.Goals as goal
 
 pub returns-in_err-bytes-clause-answer : goal.returns-in_err-bytes-clause-answer
@@ -19,3 +20,6 @@ returns-clause-answer g c file tells same =
 pub returns-clause-place : goal.returns-clause-place
 returns-clause-place g c not_read =
     bytes-place (g.H.Shelf.told c.args.shelf.now) c.args.name.now (g.H.Shelf.faults c.args.shelf.now) (g.H.Shelf.faults c.read_whole.new.shelf) (g.H.Shelf.picked c.read_whole.new.shelf) c.in_ok-bytes.bytes.items c.table_from.result c.in_ok-bytes.ensures.ok (rw c.as_slice.ensures.value at c.table_from.ensures)
+
+pub returns-clause-table : goal.returns-clause-table
+returns-clause-table g c = table-in-shape c.in_ok-bytes.bytes.items c.table_from.result (rw c.as_slice.ensures.value at c.table_from.ensures)
