@@ -3,7 +3,7 @@ use epoch_tags::Pair;
 use join_rows::{ListSink, MapShelf, Side, read_table};
 use std::alloc::{AllocError, Global};
 use std::test::Fail;
-use theta_pred::{Theta, longest_sum, resolve};
+use theta_pred::{longest_sum, resolve};
 use theta_text::parse;
 
 fn words(alloc: Global, names: &[&str]) -> Result<Vec<String>, AllocError> {
@@ -93,18 +93,26 @@ fn tells_a_failing_shelf_and_a_failing_sink(rt: HostRuntime) -> Result<(), Fail>
 
 // The pairs of two files that a predicate is true of, by the predicate and by its copy.
 fn matching(alloc: Global, text: &str, r: &str, s: &str) -> Option<(Vec<Pair>, Vec<Pair>)> {
-    let mut shelf = MapShelf::new(alloc);
-    shelf.add("r", r.as_bytes()).ok()?;
-    let table_r = read_table(alloc, &mut shelf, "r").ok()?;
-    let mut shelf = MapShelf::new(alloc);
-    shelf.add("s", s.as_bytes()).ok()?;
-    let table_s = read_table(alloc, &mut shelf, "s").ok()?;
+    let mut shelf_r = MapShelf::new(alloc);
+    shelf_r.add("r", r.as_bytes()).ok()?;
+    let mut shelf_s = MapShelf::new(alloc);
+    shelf_s.add("s", s.as_bytes()).ok()?;
     let pred = parse(alloc, text).ok()?;
     if longest_sum(&pred) > 16 {
         return None;
     }
-    let theta = resolve(alloc, &pred, &table_r.names, &table_s.names).ok()?;
-    let copied: Theta = theta.copy().ok()?;
+    let Ok(table_r) = read_table(alloc, &mut shelf_r, "r") else {
+        return None;
+    };
+    let Ok(table_s) = read_table(alloc, &mut shelf_s, "s") else {
+        return None;
+    };
+    let Ok(theta) = resolve(alloc, &pred, &table_r.names, &table_s.names) else {
+        return None;
+    };
+    let Ok(copied) = theta.copy() else {
+        return None;
+    };
     let first = join_by(alloc, &table_r, &table_s, &theta).ok()?;
     let second = join_by(alloc, &table_r, &table_s, &copied).ok()?;
     Some((first.pairs.into_vec(), second.pairs.into_vec()))
