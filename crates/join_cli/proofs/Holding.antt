@@ -95,10 +95,16 @@ pairs_more matches rows_r rows_s i held_s n before pairs pairs' r s t low at_r a
     by_test j true ps is' = ap (λ xs. xs ++ record { i = i; j = j } ∷ []) is' ∙ append_assoc before ps (record { i = i; j = j } ∷ [])
     by_test j false ps is' = is' ∙ ap (λ xs. before ++ xs) (sym (append-nil ps))
 
--- each row of a table has a first cell
-pub rows_fit : (table : Table) → IsTable table → Fit (λ row. 0 < length row) table.rows
-rows_fit table is = λ place row at.
+-- each row of a table is as wide as its header
+pub rows_wide : (table : Table) (width : ℕ) → IsTable table → width ≡ length table.names → Fit (λ row. length row ≡ width) table.rows
+rows_wide table width is same = λ place row at.
     let low = slice_get_within table.rows place row at in
     let wide : length row ≡ length table.names = subst (λ r. length r ≡ length table.names) (get_or_from_slice_get table.rows place row [] at) (is.wide place [] low) in
+    wide ∙ sym same
+
+-- and so has a first cell
+pub rows_fit : (table : Table) → IsTable table → Fit (λ row. 0 < length row) table.rows
+rows_fit table is = λ place row at.
+    let wide : length row ≡ length table.names = rows_wide table (length table.names) is refl place row at in
     let named = is.named in
     omega arith

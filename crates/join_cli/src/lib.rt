@@ -12,6 +12,7 @@ mod top;
 mod write;
 
 pub use grid::grid_run;
+pub use join::join_by;
 pub use matching::{FirstTexts, Test};
 pub use outcome::{InputFault, LimitFault, Outcome, WordsFault};
 pub use top::join_main;

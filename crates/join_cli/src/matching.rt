@@ -4,8 +4,10 @@ ghost use Rattle.std.specs.Prelude.{◌≡◌, ◌<◌, Bool, List, length};
 ghost use Rattle.join_rows.specs.declared.table.Cell.{Cell};
 ghost use Rattle.join_rows.specs.declared.table.Side.{Side};
 ghost use Rattle.join_cli.specs.Tests.{first_texts};
+ghost use Rattle.theta_pred.specs.Truth;
 
 use join_rows::Cells;
+use theta_pred::Theta;
 
 /// A test of a row of R and a row of S.
 pub trait Test {
@@ -32,5 +34,15 @@ impl Test for FirstTexts {
 
     fn holds(&self, r: &Cells, s: &Cells) -> bool {
         r.at(0).text.as_slice() == s.at(0).text.as_slice()
+    }
+}
+
+impl Test for Theta {
+    ghost matches = { Truth.holds };
+
+    ghost fits = { Truth.IsRowOf };
+
+    fn holds(&self, r: &Cells, s: &Cells) -> bool {
+        Theta::holds(self, r, s)
     }
 }

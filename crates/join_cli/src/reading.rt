@@ -1,6 +1,6 @@
 // The two tables, read one after the other.
 
-ghost use Rattle.std.specs.Prelude.{◌≡◌, ◌⊎◌, ◌<◌, ◌≤◌, ℕ, List, Option, Some, Err, IfOk, true};
+ghost use Rattle.std.specs.Prelude.{◌≡◌, ◌⊎◌, ◌<◌, ◌≤◌, ℕ, List, Option, Some, Err, IfOk};
 ghost use Rattle.join_rows.specs.Shelves.{Lacks, last_fault};
 ghost use Rattle.join_rows.specs.Records.{IsTable};
 ghost use Rattle.join_cli.specs.Plan.{tables_of, table_found, LacksOne};
@@ -14,27 +14,6 @@ use std::alloc::Global;
 pub(crate) struct Tables {
     pub(crate) of_r: Table,
     pub(crate) of_s: Table,
-}
-
-/// How many rows a table may have under its header.
-const MOST_ROWS: u64 = 1 << 18;
-
-/// Whether a table has a name or more, rows of its header's width alone, and no more rows than the
-/// limit, as every table has that was read.
-fn is_whole(table: &Table) -> bool
-    ensures { result ≡ true → IsTable table.now }
-{
-    let width = table.names.len();
-    if width == 0 || table.rows.len() > MOST_ROWS {
-        return false;
-    }
-    let rows = table.rows.as_slice();
-    for row in rows {
-        if row.len() != width {
-            return false;
-        }
-    }
-    true
 }
 
 /// The table of one side.
@@ -51,8 +30,7 @@ fn table<H: Shelf>(alloc: Global, shelf: &mut H, side: Side, name: &str) -> Resu
     ensures whole { IfOk result IsTable }
 {
     match read_table(alloc, shelf, name) {
-        Ok(table) if is_whole(&table) => Ok(table),
-        Ok(_) => Err(Refusal::Memory),
+        Ok(table) => Ok(table),
         Err(fault) => Err(refusal_for(side, fault)),
     }
 }

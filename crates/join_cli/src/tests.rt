@@ -1,7 +1,10 @@
-use crate::{InputFault, Outcome, WordsFault, join_main};
-use join_rows::{ListSink, MapShelf, Side};
+use crate::{InputFault, Outcome, WordsFault, join_by, join_main};
+use epoch_tags::Pair;
+use join_rows::{ListSink, MapShelf, Side, read_table};
 use std::alloc::{AllocError, Global};
 use std::test::Fail;
+use theta_pred::{longest_sum, resolve};
+use theta_text::parse;
 
 fn words(alloc: Global, names: &[&str]) -> Result<Vec<String>, AllocError> {
     let mut words = Vec::new(alloc);
@@ -84,6 +87,79 @@ fn tells_a_failing_shelf_and_a_failing_sink(rt: HostRuntime) -> Result<(), Fail>
         let outcome = join_main(rt.alloc(), &words, &mut shelf, &mut sink);
         assert_eq!(rt; outcome, wanted);
         assert!(rt; sink.written().is_empty());
+    }
+    Ok(())
+}
+
+// The pairs of two files that a predicate is true of, by the predicate and by its copy.
+fn matching(alloc: Global, text: &str, r: &str, s: &str) -> Option<(Vec<Pair>, Vec<Pair>)> {
+    let mut shelf_r = MapShelf::new(alloc);
+    shelf_r.add("r", r.as_bytes()).ok()?;
+    let mut shelf_s = MapShelf::new(alloc);
+    shelf_s.add("s", s.as_bytes()).ok()?;
+    let pred = parse(alloc, text).ok()?;
+    if longest_sum(&pred) > 16 {
+        return None;
+    }
+    let Ok(table_r) = read_table(alloc, &mut shelf_r, "r") else {
+        return None;
+    };
+    let Ok(table_s) = read_table(alloc, &mut shelf_s, "s") else {
+        return None;
+    };
+    let Ok(theta) = resolve(alloc, &pred, &table_r.names, &table_s.names) else {
+        return None;
+    };
+    let Ok(copied) = theta.copy() else {
+        return None;
+    };
+    let first = join_by(alloc, &table_r, &table_s, &theta).ok()?;
+    let second = join_by(alloc, &table_r, &table_s, &copied).ok()?;
+    Some((first.pairs.into_vec(), second.pairs.into_vec()))
+}
+
+#[test]
+fn joins_by_predicates(rt: HostRuntime) -> Result<(), Fail> {
+    let empty = ("id,x\n1,\n2,5\n", "id,y\n1,5\n");
+    let cases = [
+        (
+            "abs(r.t - s.t) <= 5",
+            "t\n10\n20\n",
+            "t\n15\n26\n4\n",
+            [(0, 0), (1, 0)].as_slice(),
+        ),
+        (
+            "r.x - s.y >= 1",
+            "x\n9223372036854775807\n",
+            "y\n-9223372036854775808\n",
+            [(0, 0)].as_slice(),
+        ),
+        (
+            "r.x = s.y",
+            "x\n7\n7\n",
+            "y\n7\n",
+            [(0, 0), (1, 0)].as_slice(),
+        ),
+        ("not (r.x = s.y)", empty.0, empty.1, [(0, 0)].as_slice()),
+        ("r.x = s.y", empty.0, empty.1, [(1, 0)].as_slice()),
+        ("r.x != s.y", empty.0, empty.1, [].as_slice()),
+        (
+            "r.x < s.x",
+            "x\n1\n2\n3\n",
+            "x\n1\n2\n3\n",
+            [(0, 1), (0, 2), (1, 2)].as_slice(),
+        ),
+    ];
+    for (text, r, s, wanted) in cases {
+        let found = matching(rt.alloc(), text, r, s);
+        let mut pairs = Vec::new(rt.alloc());
+        for (i, j) in wanted {
+            pairs.push(Pair { i: *i, j: *j })?;
+        }
+        let of_both = found.is_some_and(|found| {
+            found.0.as_slice() == pairs.as_slice() && found.1.as_slice() == pairs.as_slice()
+        });
+        assert!(rt; of_both, "by {text}");
     }
     Ok(())
 }

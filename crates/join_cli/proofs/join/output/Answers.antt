@@ -1,16 +1,8 @@
-use Rattle.std.proofs.Common.{◌≡◌, ◌∙◌, ◌%◌, ℕ, ap, length}
-use Rattle.std.proofs.lemmas.List.FromFn.{length-map-range_with_len}
 use Rattle.join_cli.proofs.Holding.{rows_fit}
 use Rattle.join_cli.proofs.join.output.Goals as goal
 
-pub grid_run-requires-clause-tickets_r : goal.grid_run-requires-clause-tickets_r
-grid_run-requires-clause-tickets_r c = ap length c.in_ok-tickets_r.ensures ∙ length-map-range_with_len (λ row. row % 256) 0 c.len.result ∙ c.len.ensures
+pub in_four-requires-clause-fit_r : goal.in_four-requires-clause-fit_r
+in_four-requires-clause-fit_r c = rows_fit c.args.table_r.now c.requires.table_r
 
-pub grid_run-requires-clause-tickets_s : goal.grid_run-requires-clause-tickets_s
-grid_run-requires-clause-tickets_s c = ap length c.in_ok-tickets_s.ensures ∙ length-map-range_with_len (λ row. row % 256) 0 c.len-2.result ∙ c.len-2.ensures
-
-pub grid_run-requires-clause-fit_r : goal.grid_run-requires-clause-fit_r
-grid_run-requires-clause-fit_r c = rows_fit c.args.table_r.now c.requires.table_r
-
-pub grid_run-requires-clause-fit_s : goal.grid_run-requires-clause-fit_s
-grid_run-requires-clause-fit_s c = rows_fit c.args.table_s.now c.requires.table_s
+pub in_four-requires-clause-fit_s : goal.in_four-requires-clause-fit_s
+in_four-requires-clause-fit_s c = rows_fit c.args.table_s.now c.requires.table_s
