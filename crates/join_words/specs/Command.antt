@@ -41,7 +41,7 @@ with_rules app [] = app
 with_rules app (rule ∷ rest) = with_rules (with_rule app rule) rest
 
 -- the command of `jm`
-abbrev pub jm_command : App
+unfoldable pub jm_command : App
 jm_command = with_rules (new_app (codes "jm")) rules
 
 -- the command is that of `jm`

@@ -1,5 +1,5 @@
 -- What the words of the command line ask for.
-use Rattle.std.specs.Prelude.{◌≡◌, ℕ, Bool, true, false, List, [], ◌∷◌, Option, Some, None, Result, Ok, Err, codes, unwrap_or, option_and_then, nat_le, if◌then◌else◌}
+use Rattle.std.specs.Prelude.{◌≡◌, ◌≤◌, ℕ, Bool, true, false, List, [], ◌∷◌, Option, Some, None, Result, Ok, Err, codes, unwrap_or, option_and_then, nat_le, if◌then◌else◌}
 use Rattle.std.specs.Int.{is_power_of_two, trailing_zeros, w64}
 use Rattle.std.specs.Borrow.{Bor}
 use Rattle.std.specs.Str.{bytes_eq}
@@ -52,6 +52,10 @@ text_at id rows = unwrap_or (first_of id rows) []
 abbrev pub flag_at : Text → List Row → Bool
 flag_at id rows = bytes_eq (text_at id rows) (codes "true")
 
+-- how many joiners
+abbrev pub joiners_at : List Row → ℕ
+joiners_at rows = unwrap_or (number_at (codes "joiners") rows) 4
+
 -- ---- the checks, in their order
 
 -- one check after another
@@ -79,7 +83,7 @@ files_at rows = two_names (unwrap_or (all_of (codes "files") rows) [])
 -- what a match asks for, or the first check that it fails
 abbrev pub asked_by : List Row → Result Asked WordsFault
 asked_by rows =
-    then_of (exponent_of (unwrap_or (number_at (codes "joiners") rows) 4)) (λ k.
+    then_of (exponent_of (joiners_at rows)) (λ k.
     then_of (fixed_within k (number_at (codes "fixed") rows)) (λ fixed.
     then_of (files_at rows) (λ names. Ok (record {
       on = text_at (codes "on") rows;
@@ -101,6 +105,12 @@ asked_unless (kind ∷ kinds) rows = Err NoMatch
 -- what these words ask for, the program's name first, or the first thing that is wrong with them
 unfoldable pub asked_of : List Text → Result Asked WordsFault
 asked_of words = asked_unless (fault_of jm_command words) (matches_of jm_command words)
+
+-- the command has a match for the words, and these are its rows
+pub record IsMatch (words : List Text) (rows : List Row) : Type 0 where
+  pub no_fault : fault_of jm_command words ≡ []
+  pub rows_are : rows ≡ matches_of jm_command words
+  pub few_joiners : joiners_at rows ≤ 64
 
 -- ---- what a call answers
 
