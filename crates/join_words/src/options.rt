@@ -1,7 +1,7 @@
 // What the words ask for, and what may be wrong with them.
 
 /// What the words ask for.
-#[derive(Clone, Copy, Debug)]
+#[derive(Clone, Copy, Debug, PartialEq, Eq)]
 pub struct Options<'a> {
     /// The text of the predicate.
     pub on: &'a str,

@@ -2,17 +2,123 @@ use crate::{Options, WordsError, WordsFault, read_words};
 use std::alloc::{AllocError, Global};
 use std::test::Fail;
 
-fn words(alloc: Global, texts: &[&str]) -> Result<Vec<String>, AllocError> {
+/// The words of a line, between its bars. An empty line has none.
+fn words(alloc: Global, line: &str) -> Result<Vec<String>, AllocError> {
     let mut words = Vec::new(alloc);
-    for text in texts {
-        words.push(String::from_str(alloc, text)?)?;
+    if !line.is_empty() {
+        for word in line.split('|') {
+            words.push(String::from_str(alloc, word)?)?;
+        }
     }
     Ok(words)
 }
 
+const PLAIN: Options<'static> = Options {
+    on: "p",
+    k: 2,
+    fixed: None,
+    seed: 1,
+    report: false,
+    name_r: "r",
+    name_s: "s",
+};
+
+fn grid(k: u32, fixed: Option<u32>) -> Options<'static> {
+    Options { k, fixed, ..PLAIN }
+}
+
+fn on(text: &'static str) -> Options<'static> {
+    Options { on: text, ..PLAIN }
+}
+
+fn seed(seed: u64) -> Options<'static> {
+    Options { seed, ..PLAIN }
+}
+
+fn name_r(name: &'static str) -> Options<'static> {
+    Options {
+        name_r: name,
+        ..PLAIN
+    }
+}
+
 #[test]
-fn reads(rt: HostRuntime) -> Result<(), Fail> {
-    let words = words(rt.alloc(), &["jm", "--on", "p", "r", "s"])?;
-    assert!(rt; read_words(rt.alloc(), &words).is_ok());
+fn reads_what_the_words_ask_for(rt: HostRuntime) -> Result<(), Fail> {
+    let report = Options {
+        report: true,
+        ..PLAIN
+    };
+    let cases = [
+        ("jm|--on|p|r|s", PLAIN),
+        ("another name|r|s|--on=p", PLAIN),
+        ("jm|r|--report|--on|p|s", report),
+        ("jm|--on|p|--joiners|1|r|s", grid(0, None)),
+        ("jm|--on|p|--joiners=64|--fixed=6|r|s", grid(6, Some(6))),
+        ("jm|--on|p|--fixed|0|r|s", grid(2, Some(0))),
+        ("jm|--on|p|--fixed|2|r|s", grid(2, Some(2))),
+        ("jm|--on|p|--joiners|+8|r|s", grid(3, None)),
+        ("jm|--on|p|--joiners|008|r|s", grid(3, None)),
+        ("jm|--on|p|--seed|0|r|s", seed(0)),
+        ("jm|--on|p|--seed|18446744073709551615|r|s", seed(u64::MAX)),
+        ("jm|--on| -r.x = s.y|r|s", on(" -r.x = s.y")),
+        ("jm|--on= -r.x = s.y|r|s", on(" -r.x = s.y")),
+        ("jm|--on=-r.x = s.y|r|s", on("-r.x = s.y")),
+        ("jm|--on||r|s", on("")),
+        ("jm|--on|p|-|s", name_r("-")),
+        ("jm|--on|p|--|--report|s", name_r("--report")),
+    ];
+    for (line, wanted) in cases {
+        let words = words(rt.alloc(), line)?;
+        assert_eq!(rt; read_words(rt.alloc(), &words), Ok(wanted), "{line}");
+    }
+    Ok(())
+}
+
+#[test]
+fn tells_the_first_fault(rt: HostRuntime) -> Result<(), Fail> {
+    let cases = [
+        ("", WordsFault::NoMatch),
+        ("jm", WordsFault::NoMatch),
+        ("jm|--help", WordsFault::NoMatch),
+        ("jm|-h", WordsFault::NoMatch),
+        ("jm|--version", WordsFault::NoMatch),
+        ("jm|-V", WordsFault::NoMatch),
+        ("jm|--on|p|r|s|--help", WordsFault::NoMatch),
+        ("jm|r|s", WordsFault::NoMatch),
+        ("jm|r|s|--on", WordsFault::NoMatch),
+        ("jm|--on|-r.x = s.y|r|s", WordsFault::NoMatch),
+        ("jm|--on|p|--on|p|r|s", WordsFault::NoMatch),
+        ("jm|--on|p|--workers|4|r|s", WordsFault::NoMatch),
+        ("jm|--on|p|--repor|r|s", WordsFault::NoMatch),
+        ("jm|--on|p|--report=true|r|s", WordsFault::NoMatch),
+        ("jm|--on|p|--report|--report|r|s", WordsFault::NoMatch),
+        ("jm|--on|p|-x|r|s", WordsFault::NoMatch),
+        ("jm|--on|p|--joiners|0|r|s", WordsFault::NoMatch),
+        ("jm|--on|p|--joiners|65|r|s", WordsFault::NoMatch),
+        ("jm|--on|p|--joiners|four|r|s", WordsFault::NoMatch),
+        ("jm|--on|p|--joiners||r|s", WordsFault::NoMatch),
+        ("jm|--on|p|--fixed|7|r|s", WordsFault::NoMatch),
+        ("jm|--on|p|--fixed|-1|r|s", WordsFault::NoMatch),
+        (
+            "jm|--on|p|--seed|18446744073709551616|r|s",
+            WordsFault::NoMatch,
+        ),
+        ("jm|--on|p|--joiners|3|--fixed|7|r", WordsFault::NoMatch),
+        ("jm|--on|p|--joiners|3|r|s", WordsFault::Joiners),
+        ("jm|--on|p|--joiners|63|r|s", WordsFault::Joiners),
+        ("jm|--on|p|--joiners|3|--fixed|6|r", WordsFault::Joiners),
+        ("jm|--on|p|--joiners|4|--fixed|3|r|s", WordsFault::Fixed),
+        ("jm|--on|p|--joiners|1|--fixed|1|r|s", WordsFault::Fixed),
+        ("jm|--on|p|--fixed|3|r", WordsFault::Fixed),
+        ("jm|--on|p", WordsFault::Files),
+        ("jm|--on|p|r", WordsFault::Files),
+        ("jm|--on|p|r|s|t", WordsFault::Files),
+        ("jm|--on|p|r|s|--|--report", WordsFault::Files),
+    ];
+    for (line, fault) in cases {
+        let words = words(rt.alloc(), line)?;
+        let wanted = Err(WordsError::Fault(fault));
+        assert_eq!(rt; read_words(rt.alloc(), &words), wanted, "{line}");
+    }
     Ok(())
 }

@@ -22,5 +22,5 @@ returns-clause-fault c fault is =
     let line = map string_bytes c.args.words.now in
     let other : kind_of c.in-Err-try_get_matches_from.error ≡ OutOfMemory → ⊥ = λ memory. search (rules, memory) in
     let none : asked_of line ≡ Err NoMatch =
-        no_match (app_of c.in-Ok.command) line c.in-Err-try_get_matches_from.error c.in-Ok.ensures (c.in-Err-try_get_matches_from.ensures.kinds (free (app_of c.in-Ok.command) c.in-Ok.ensures)) other in
+    no_match (app_of c.in-Ok.command) line c.in-Err-try_get_matches_from.error c.in-Ok.ensures (c.in-Err-try_get_matches_from.ensures.kinds (free (app_of c.in-Ok.command) c.in-Ok.ensures)) other in
     none ∙ ap Err (same_fault NoMatch fault is)
