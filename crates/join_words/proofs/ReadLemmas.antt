@@ -16,14 +16,18 @@ use Rattle.clap.proofs.WalkLemmas.{first_value-rows}
 use Rattle.join_words.specs.Command.{IsCommand, jm_command}
 use Rattle.join_words.specs.Words.{Asked, IsMatch, asked_by, asked_of, asked_unless, joiners_at}
 use Rattle.join_words.specs.declared.options.WordsError.{WordsError}
-use Rattle.join_words.specs.declared.options.WordsError.TheVariants.{Fault}
+use Rattle.join_words.specs.declared.options.WordsError.TheVariants.{Fault, Memory}
 use Rattle.join_words.specs.declared.options.WordsFault.{WordsFault}
 use Rattle.join_words.specs.declared.options.WordsFault.TheVariants.{NoMatch}
 use Rattle.join_words.proofs.NumberReads.{number_at_most}
 
 -- the fault that an answer tells
-pub same_fault : {T : Type 0} (told fault : WordsFault) → ◌≡◌ {A = Result T WordsError} (Err (Fault told)) (Err (Fault fault)) → told ≡ fault
+pub same_fault : (told fault : WordsFault) → Fault told ≡ Fault fault → told ≡ fault
 same_fault told fault is = cc
+
+-- the error of an answer
+pub same_error : {T : Type 0} (told error : WordsError) → ◌≡◌ {A = Result T WordsError} (Err told) (Err error) → told ≡ error
+same_error told error is = cc
 
 simple_command : is_simple jm_command ≡ true
 unfolding clap_on_literals jm_command
@@ -40,7 +44,7 @@ pub free : (app : App) → IsCommand app → is_simple_and_free app ≡ true
 free app command = ap is_simple_and_free command.is ∙ free_command
 
 -- a parse that failed, and not for memory
-pub no_match : (app : App) (words : List Text) (error : Error) → IsCommand app → HasKind (fault_of app words) error → (kind_of error ≡ OutOfMemory → ⊥)
+no_match : (app : App) (words : List Text) (error : Error) → IsCommand app → HasKind (fault_of app words) error → (kind_of error ≡ OutOfMemory → ⊥)
     → asked_of words ≡ Err NoMatch
 unfolding asked_of
 no_match app words error command kinds other = go (fault_of jm_command words) (subst (λ (a : App). HasKind (fault_of a words) error) command.is kinds)
@@ -49,6 +53,18 @@ no_match app words error command kinds other = go (fault_of jm_command words) (s
     go [] (inl memory) = absurd (other memory)
     go [] (inr among) = absurd among
     go (kind ∷ rest) has = refl
+
+-- what a parse that failed tells
+pub tells : (app : App) (words : List Text) (error : Error) (told : WordsError) (fault : WordsFault) → IsCommand app → HasKind (fault_of app words) error
+    → (kind_of error ≡ OutOfMemory → told ≡ Memory) → ((kind_of error ≡ OutOfMemory → ⊥) → told ≡ Fault NoMatch) → told ≡ Fault fault → asked_of words ≡ Err fault
+tells app words error told fault command kinds memory others is =
+    no_match app words error command kinds no_memory ∙ ap Err (same_fault NoMatch fault (sym (others no_memory) ∙ is))
+  where
+    differ : Memory ≡ Fault fault → ⊥
+    differ e = cc
+
+    no_memory : kind_of error ≡ OutOfMemory → ⊥
+    no_memory e = differ (sym (memory e) ∙ is)
 
 -- a parse that gave a match
 pub is_match : (app : App) (words : List Text) (matches : ArgMatches) → IsCommand app → fault_of app words ≡ [] → HasMatchesOf app words matches

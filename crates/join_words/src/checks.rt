@@ -9,6 +9,7 @@ use crate::found::{flag, number, text};
 use crate::options::{Options, WordsFault};
 use clap::ArgMatches;
 
+/// k of 2^k joiners.
 fn exponent(joiners: u64) -> Result<u32, WordsFault>
     ensures exact { result ≡ exponent_of joiners }
     ensures small { joiners ≤ 64 → IfOk result (λ k. k ≤ 6) }
@@ -20,6 +21,7 @@ fn exponent(joiners: u64) -> Result<u32, WordsFault>
     }
 }
 
+/// A grid that stays is one of the 2^k joiners.
 fn within(k: u32, fixed: Option<u64>) -> Result<Option<u32>, WordsFault>
     ensures exact { result ≡ fixed_within k fixed }
     ensures fits { IfOk result (λ fixed. IfSome fixed (λ fixed. fixed ≤ k)) }
@@ -31,6 +33,7 @@ fn within(k: u32, fixed: Option<u64>) -> Result<Option<u32>, WordsFault>
     }
 }
 
+/// Just two names.
 fn two<'a>(names: &[&'a str]) -> Result<(&'a str, &'a str), WordsFault>
     ensures { GivesFiles (two_names (texts names.now)) result }
 {
@@ -40,6 +43,7 @@ fn two<'a>(names: &[&'a str]) -> Result<(&'a str, &'a str), WordsFault>
     }
 }
 
+/// The names of the files.
 fn files<'a>(matches: &ArgMatches<'a>) -> Result<(&'a str, &'a str), WordsFault>
     ensures { GivesFiles (files_at (rows_of (found_of matches.now))) result }
 {

@@ -7,12 +7,14 @@ ghost use Rattle.join_words.specs.Words.{flag_at, number_at, number_of, text_at}
 
 use clap::ArgMatches;
 
+/// A whole number of 64 bits.
 fn number_in(text: &str) -> Option<u64>
     ensures { result ≡ number_of text.now }
 {
     text.parse::<u64>().ok()
 }
 
+/// The number of an option, where it was given or has a default.
 pub(crate) fn number(matches: &ArgMatches<'_>, id: &str) -> Option<u64>
     ensures { result ≡ number_at id.now (rows_of (found_of matches.now)) }
 {
@@ -22,6 +24,7 @@ pub(crate) fn number(matches: &ArgMatches<'_>, id: &str) -> Option<u64>
     }
 }
 
+/// The text of an option; empty where there is none.
 pub(crate) fn text<'a>(matches: &ArgMatches<'a>, id: &str) -> &'a str
     ensures { result.now ≡ text_at id.now (rows_of (found_of matches.now)) }
 {
@@ -31,6 +34,7 @@ pub(crate) fn text<'a>(matches: &ArgMatches<'a>, id: &str) -> &'a str
     }
 }
 
+/// The flag was given.
 pub(crate) fn flag(matches: &ArgMatches<'_>, id: &str) -> bool
     ensures { result ≡ flag_at id.now (rows_of (found_of matches.now)) }
 {

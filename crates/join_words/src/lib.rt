@@ -4,9 +4,11 @@
 mod checks;
 mod command;
 mod found;
+mod laws;
 mod options;
 mod reading;
 
+pub use laws::requests_have_no_match;
 pub use options::{Options, WordsError, WordsFault};
 pub use reading::read_words;
 

@@ -1,17 +1,31 @@
 // The words, read.
 
-ghost use Rattle.std.specs.Prelude.{◌≡◌, ◌≤◌, Ok, Err, IfOk, IfSome, map, string_bytes};
+ghost use Rattle.std.specs.Prelude.{◌≡◌, ◌≢◌, ◌≤◌, Ok, Err, IfOk, IfSome, map, string_bytes};
 ghost use Rattle.clap.specs.Matches.{found_of};
+ghost use Rattle.clap.specs.Values.{kind_of};
 ghost use Rattle.clap.specs.Walk.{rows_of};
+ghost use Rattle.clap.specs.declared.error.kind.ErrorKind.TheVariants.{OutOfMemory};
 ghost use Rattle.join_words.specs.Words.{IsMatch, asked, asked_of};
 ghost use Rattle.join_words.specs.declared.options.WordsFault.{WordsFault};
 
 use crate::checks::checked;
 use crate::command::command;
 use crate::options::{Options, WordsError, WordsFault};
-use clap::ArgMatches;
 use clap::error::ErrorKind;
+use clap::{ArgMatches, Error};
 use std::alloc::{AllocError, Global};
+
+/// Why a parse failed.
+fn refusal(error: &Error) -> WordsError
+    ensures memory { kind_of error.now ≡ OutOfMemory → result ≡ WordsError.Memory }
+    ensures others { kind_of error.now ≢ OutOfMemory → result ≡ WordsError.Fault WordsFault.NoMatch }
+{
+    if error.kind() == ErrorKind::OutOfMemory {
+        WordsError::Memory
+    } else {
+        WordsError::Fault(WordsFault::NoMatch)
+    }
+}
 
 /// The match of the words by the command.
 fn matched<'a>(alloc: Global, words: &'a [String]) -> Result<ArgMatches<'a>, WordsError>
@@ -25,8 +39,7 @@ fn matched<'a>(alloc: Global, words: &'a [String]) -> Result<ArgMatches<'a>, Wor
     };
     match command.try_get_matches_from(words) {
         Ok(matches) => Ok(matches),
-        Err(error) if error.kind() == ErrorKind::OutOfMemory => Err(WordsError::Memory),
-        Err(_) => Err(WordsError::Fault(WordsFault::NoMatch)),
+        Err(error) => Err(refusal(&error)),
     }
 }
 

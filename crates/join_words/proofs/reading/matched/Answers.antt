@@ -1,13 +1,8 @@
-use Rattle.std.proofs.Common.{◌≡◌, ◌∙◌, ap, sym, map, string_bytes, arith, rules}
-use Rattle.std.specs.Prelude.{Ok, Err}
+use Rattle.std.proofs.Common.{map, string_bytes, rules}
 use Rattle.clap.specs.Simple.{app_of}
-use Rattle.clap.specs.Values.{kind_of}
-use Rattle.clap.specs.declared.error.kind.ErrorKind.TheVariants.{OutOfMemory}
-use Rattle.join_words.specs.Words.{asked_of}
-use Rattle.join_words.specs.declared.options.WordsFault.{WordsFault}
-use Rattle.join_words.specs.declared.options.WordsFault.TheVariants.{NoMatch}
+use Rattle.join_words.specs.declared.options.WordsError.TheVariants.{Fault}
 use Rattle.join_words.proofs.RangeLemmas.{joiners_in}
-use Rattle.join_words.proofs.ReadLemmas.{free, is_match, no_match, same_fault}
+use Rattle.join_words.proofs.ReadLemmas.{free, is_match, same_error, tells}
 use Rattle.join_words.proofs.reading.matched.Goals as goal
 
 pub returns-in-Ok-try_get_matches_from-clause-ok : goal.returns-in-Ok-try_get_matches_from-clause-ok
@@ -17,10 +12,8 @@ returns-in-Ok-try_get_matches_from-clause-ok c =
     is_match (app_of c.in-Ok.command) line c.in-Ok-try_get_matches_from.matches c.in-Ok.ensures (found.kinds (free (app_of c.in-Ok.command) c.in-Ok.ensures)) found.matches
     (joiners_in c.in-Ok.command c.in-Ok-try_get_matches_from.matches found.parsed c.in-Ok.ensures)
 
-pub returns-clause-fault : goal.returns-clause-fault
-returns-clause-fault c fault is =
-    let line = map string_bytes c.args.words.now in
-    let other : kind_of c.in-Err-try_get_matches_from.error ≡ OutOfMemory → ⊥ = λ memory. search (rules, memory) in
-    let none : asked_of line ≡ Err NoMatch =
-    no_match (app_of c.in-Ok.command) line c.in-Err-try_get_matches_from.error c.in-Ok.ensures (c.in-Err-try_get_matches_from.ensures.kinds (free (app_of c.in-Ok.command) c.in-Ok.ensures)) other in
-    none ∙ ap Err (same_fault NoMatch fault is)
+pub returns-in-Err-try_get_matches_from-clause-fault : goal.returns-in-Err-try_get_matches_from-clause-fault
+returns-in-Err-try_get_matches_from-clause-fault c fault is =
+    let failed = c.in-Err-try_get_matches_from.ensures in
+    tells (app_of c.in-Ok.command) (map string_bytes c.args.words.now) c.in-Err-try_get_matches_from.error c.refusal.result fault c.in-Ok.ensures (failed.kinds (free (app_of c.in-Ok.command) c.in-Ok.ensures))
+    c.refusal.ensures.memory c.refusal.ensures.others (same_error c.refusal.result (Fault fault) is)
