@@ -1,0 +1,61 @@
+use Rattle.std.proofs.Common.{◌≡◌, ◌∙◌, ◌^◌, subst, arith}
+use Rattle.theta_pred.specs.Truth.{holds}
+use Rattle.link_trace.specs.Join.{Input}
+use Rattle.pair_collector.specs.Standing.{StandsFor}
+use Rattle.pair_collector.specs.Answer.{Collects}
+use Rattle.join_grid.specs.Sending.{sent_up_to, all_sent}
+use Rattle.join_grid.proofs.Gathering.{ok_weaker, one_more, all_in_the_end, completes, joins_in_grid}
+use Rattle.join_grid.proofs.grid.run_all.Goals as goal
+
+pub loop-id-preserved : goal.loop-id-preserved
+loop-id-preserved c =
+    let input : Input = record {
+      rows_r = c.args.rows_r.now;
+      rows_s = c.args.rows_s.now;
+      tickets_r = c.args.tickets_r.now;
+      tickets_s = c.args.tickets_s.now;
+      matches = holds c.args.theta.now;
+    } in
+    let took = c.in_ok-run_joiner.ensures in
+    record {
+      last = c.loop-id.invariant.last;
+      fits = c.loop-id.invariant.fits;
+      count = took.joiners ∙ c.loop-id.invariant.count;
+      stands = one_more input c.args.shape.k c.args.shape.shift c.loop-id.collector c.run_joiner.new.collector c.loop-id.id took c.loop-id.invariant.stands;
+    }
+
+pub finish-requires : goal.finish-requires
+finish-requires c =
+    let input : Input = record {
+      rows_r = c.args.rows_r.now;
+      rows_s = c.args.rows_s.now;
+      tickets_r = c.args.tickets_r.now;
+      tickets_s = c.args.tickets_s.now;
+      matches = holds c.args.theta.now;
+    } in
+    let k = c.args.shape.k in
+    let b = c.args.shape.shift in
+    let end = c.loop-id.invariant.last in
+    let last : c.loop-id.id ≡ 2 ^ k = omega arith in
+    let stands = subst (λ n. StandsFor c.loop-id.collector (sent_up_to input k b n)) last c.loop-id.invariant.stands in
+    completes input k b c.loop-id.collector (all_in_the_end input k b c.loop-id.collector c.loop-id.invariant.count stands)
+
+pub returns : goal.returns
+returns c =
+    let input : Input = record {
+      rows_r = c.args.rows_r.now;
+      rows_s = c.args.rows_s.now;
+      tickets_r = c.args.tickets_r.now;
+      tickets_s = c.args.tickets_s.now;
+      matches = holds c.args.theta.now;
+    } in
+    let k = c.args.shape.k in
+    let b = c.args.shape.shift in
+    let end = c.loop-id.invariant.last in
+    let last : c.loop-id.id ≡ 2 ^ k = omega arith in
+    let stands = subst (λ n. StandsFor c.loop-id.collector (sent_up_to input k b n)) last c.loop-id.invariant.stands in
+    let all = all_in_the_end input k b c.loop-id.collector c.loop-id.invariant.count stands in
+    ok_weaker c.finish.result (λ collected collects.
+    joins_in_grid input k b collected c.requires.shift c.requires.k c.loop-id.invariant.fits c.requires.tickets_r c.requires.tickets_s
+    (subst (λ n. Collects n (all_sent input k b) collected) c.loop-id.invariant.count (collects (all_sent input k b) all)))
+    c.finish.ensures
