@@ -5,44 +5,22 @@ ghost use Rattle.store_parts.specs.Stored.{HaveWidths};
 use crate::{KeyAtom, Steps, Store, Which};
 use epoch_tags::{Pair, Pairs, Tuple, Tuples};
 use grid_map::Shape;
-use join_rows::{Bytes, Cell, Cells, Names, Side};
+use join_rows::{Bytes, Cell, Cells, Side};
 use std::alloc::{AllocError, Global};
 use std::marker::Brand;
+use std::process::Abort;
 use std::sync::ledger::{Blank, Ledger};
 use std::test::*;
-use theta_pred::{Linear, Parts, Theta, parse, resolve};
+use theta_pred::{Linear, Parts, Theta};
 
-fn header(alloc: Global, word: &[u8]) -> Result<Names, AllocError>
-    ensures { IfOk result (λ names. length names ≡ 1) }
-{
-    let mut names = Names::new(alloc);
-    names.push(Bytes::from_slice(alloc, word)?)?;
-    Ok(names)
-}
-
-// The test that R's only column, x, and S's, y, are at most two apart.
-fn band(alloc: Global) -> Result<Theta, AllocError>
-    ensures r { IfOk result (λ theta. theta.width_r ≡ 1) }
-    ensures s { IfOk result (λ theta. theta.width_s ≡ 1) }
-{
-    let names_r = header(alloc, b"x")?;
-    let names_s = header(alloc, b"y")?;
-    let Ok(pred) = parse(alloc, "abs(r.x - s.y) <= 2") else {
-        return Err(AllocError);
-    };
-    let Ok(theta) = resolve(alloc, &pred, &names_r, &names_s) else {
-        return Err(AllocError);
-    };
-    Ok(theta)
-}
-
-fn cells(alloc: Global, number: i64) -> Result<Cells, AllocError>
+// The row of one cell.
+fn cells(alloc: Global, text: &[u8]) -> Result<Cells, AllocError>
     ensures { IfOk result (λ cells. length cells ≡ 1) }
 {
     let mut cells = Cells::new(alloc);
     cells.push(Cell {
-        text: Bytes::new(alloc),
-        num: Some(number),
+        text: Bytes::from_slice(alloc, text)?,
+        num: None,
     })?;
     Ok(cells)
 }
@@ -112,42 +90,48 @@ fn a_joiner_keeps_what_it_holds(rt: HostRuntime) -> Result<(), Fail> {
     Ok(())
 }
 
-fn add(
+fn tuple(
     alloc: Global,
-    store: &mut Store,
-    theta: &Theta,
     side: Side,
     index: u32,
     stamp: u32,
-    number: i64,
-) -> Result<(), AllocError>
-    requires r { theta.now.width_r ≡ 1 }
-    requires s { theta.now.width_s ≡ 1 }
-    requires widths { HaveWidths theta.now store.old }
-    ensures { HaveWidths theta.now store.new }
+    text: &[u8],
+) -> Result<Tuple, AllocError>
+    ensures { IfOk result (λ tuple. length tuple.cells ≡ 1) }
 {
-    store.add(Tuple {
+    Ok(Tuple {
         side,
         index,
         ticket: 0,
         stamp,
-        cells: cells(alloc, number)?,
+        cells: cells(alloc, text)?,
     })
 }
 
-// Two rows of R and four of S.
-fn of_numbers(alloc: Global, theta: &Theta) -> Result<Store, AllocError>
+fn add(store: &mut Store, theta: &Theta, tuple: Tuple) -> Result<(), AllocError>
+    requires r { theta.now.width_r ≡ 1 }
+    requires s { theta.now.width_s ≡ 1 }
+    requires width { length tuple.cells ≡ 1 }
+    requires widths { HaveWidths theta.now store.old }
+    ensures { HaveWidths theta.now store.new }
+{
+    store.add(tuple)
+}
+
+fn of_texts(
+    alloc: Global,
+    theta: &Theta,
+    rows: &[(Side, u32, u32, &[u8])],
+) -> Result<Store, AllocError>
     requires r { theta.now.width_r ≡ 1 }
     requires s { theta.now.width_s ≡ 1 }
     ensures { IfOk result (λ store. HaveWidths theta.now store) }
 {
     let mut store = empty(alloc);
-    add(alloc, &mut store, theta, Side::S, 0, 0, 10)?;
-    add(alloc, &mut store, theta, Side::R, 0, 0, 11)?;
-    add(alloc, &mut store, theta, Side::S, 1, 1, 12)?;
-    add(alloc, &mut store, theta, Side::S, 2, 1, 20)?;
-    add(alloc, &mut store, theta, Side::R, 1, 1, 30)?;
-    add(alloc, &mut store, theta, Side::S, 3, 0, 13)?;
+    for (side, index, stamp, text) in rows {
+        let tuple = tuple(alloc, *side, *index, *stamp, *text)?;
+        add(&mut store, theta, tuple)?;
+    }
     Ok(store)
 }
 
@@ -171,53 +155,85 @@ fn counted<L: Ledger>(
     Ok(found)
 }
 
-// What a tuple of index 9 finds, counted and uncounted.
 fn found(
     alloc: Global,
     store: &Store,
+    tuple: &Tuple,
     theta: &Theta,
-    side: Side,
-    number: i64,
     which: Which,
-) -> Result<(Pairs, Pairs), AllocError>
-    requires r { theta.now.width_r ≡ 1 }
-    requires s { theta.now.width_s ≡ 1 }
+) -> Result<Pairs, AllocError>
+    requires width { HasWidth theta.now tuple.now.side tuple.now }
     requires widths { HaveWidths theta.now store.now }
 {
-    let tuple = Tuple {
-        side,
-        index: 9,
-        ticket: 0,
-        stamp: 0,
-        cells: cells(alloc, number)?,
-    };
-    let first = counted::<Brand>(alloc, store, &tuple, theta, which, Blank::new(1))?;
-    let mut second = Pairs::new(alloc);
-    store.probe_uncounted(&tuple, theta, which, &mut second)?;
-    Ok((first, second))
+    counted::<Brand>(alloc, store, tuple, theta, which, Blank::new(1))
+}
+
+fn found_uncounted(
+    alloc: Global,
+    store: &Store,
+    tuple: &Tuple,
+    theta: &Theta,
+    which: Which,
+) -> Result<Pairs, AllocError>
+    requires width { HasWidth theta.now tuple.now.side tuple.now }
+    requires widths { HaveWidths theta.now store.now }
+{
+    let mut found = Pairs::new(alloc);
+    store.probe_uncounted(tuple, theta, which, &mut found)?;
+    Ok(found)
+}
+
+// That a tuple finds these, counted and uncounted.
+fn finds(
+    rt: &impl Abort,
+    alloc: Global,
+    store: &Store,
+    tuple: &Tuple,
+    theta: &Theta,
+    which: Which,
+    wanted: &[Pair],
+) -> Result<(), AllocError>
+    requires r { theta.now.width_r ≡ 1 }
+    requires s { theta.now.width_s ≡ 1 }
+    requires width { length tuple.now.cells ≡ 1 }
+    requires widths { HaveWidths theta.now store.now }
+{
+    let first = found(alloc, store, tuple, theta, which)?;
+    assert_eq!(rt; first.as_slice(), wanted, "{which:?}");
+    let second = found_uncounted(alloc, store, tuple, theta, which)?;
+    assert_eq!(rt; second.as_slice(), wanted, "{which:?}, uncounted");
+    Ok(())
 }
 
 #[test]
 fn a_probe_finds_the_named_that_match(rt: HostRuntime) -> Result<(), Fail> {
-    let theta = band(rt.alloc())?;
-    let store = of_numbers(rt.alloc(), &theta)?;
+    let alloc = rt.alloc();
+    let theta = Theta::first_texts(alloc, 1, 1)?;
+    let rows: [(Side, u32, u32, &[u8]); 6] = [
+        (Side::S, 0, 0, b"a"),
+        (Side::R, 0, 0, b"b"),
+        (Side::S, 1, 1, b"a"),
+        (Side::S, 2, 1, b"b"),
+        (Side::R, 1, 1, b"c"),
+        (Side::S, 3, 0, b"a"),
+    ];
+    let store = of_texts(alloc, &theta, &rows)?;
     let three = [
         Pair { i: 9, j: 0 },
         Pair { i: 9, j: 1 },
         Pair { i: 9, j: 3 },
     ];
-    let cases: [(Side, i64, Which, &[Pair]); 6] = [
-        (Side::R, 11, Which::All, &three),
-        (Side::R, 11, Which::OnlyStamp(1), &[Pair { i: 9, j: 1 }]),
-        (Side::R, 23, Which::All, &[]),
-        (Side::S, 12, Which::All, &[Pair { i: 0, j: 9 }]),
-        (Side::S, 12, Which::OnlyStamp(1), &[]),
-        (Side::S, 31, Which::OnlyStamp(1), &[Pair { i: 1, j: 9 }]),
+    let cases: [(Side, &[u8], Which, &[Pair]); 6] = [
+        (Side::R, b"a", Which::All, &three),
+        (Side::R, b"a", Which::OnlyStamp(1), &[Pair { i: 9, j: 1 }]),
+        (Side::R, b"z", Which::All, &[]),
+        (Side::S, b"b", Which::All, &[Pair { i: 0, j: 9 }]),
+        (Side::S, b"b", Which::OnlyStamp(1), &[]),
+        (Side::S, b"c", Which::OnlyStamp(1), &[Pair { i: 1, j: 9 }]),
     ];
-    for (side, number, which, wanted) in cases {
-        let (first, second) = found(rt.alloc(), &store, &theta, side, number, which)?;
-        assert_eq!(rt; first.as_slice(), wanted, "with {number}");
-        assert_eq!(rt; second.as_slice(), wanted, "with {number}, uncounted");
+    for (side, text, which, wanted) in cases {
+        let tuple = tuple(alloc, side, 9, 0, text)?;
+        finds(&rt, alloc, &store, &tuple, &theta, which, wanted)?;
     }
     Ok(())
 }
