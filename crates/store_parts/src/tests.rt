@@ -1,30 +1,42 @@
-use crate::{KeyAtom, Store, Which};
-use epoch_tags::{Tuple, Tuples};
-use grid_map::Shape;
-use join_rows::{Cells, Side};
-use std::alloc::{AllocError, Global};
-use std::test::*;
+ghost use Rattle.std.specs.Prelude.{◌≡◌, ◌<◌, length, IfOk};
+ghost use Rattle.store_parts.specs.Matches.{HasWidth};
+ghost use Rattle.store_parts.specs.Stored.{HaveWidths};
 
-fn tuple(alloc: Global, side: Side, index: u32, ticket: u8) -> Tuple {
-    Tuple {
-        side,
-        index,
-        ticket,
-        stamp: 0,
-        cells: Cells::new(alloc),
-    }
+use crate::{KeyAtom, Steps, Store, Which};
+use epoch_tags::{Pair, Pairs, Tuple, Tuples};
+use grid_map::Shape;
+use join_rows::{Bytes, Cell, Cells, Side};
+use std::alloc::{AllocError, Global};
+use std::marker::Brand;
+use std::process::Abort;
+use std::sync::ledger::{Blank, Ledger};
+use std::test::*;
+use theta_pred::{Linear, Parts, Theta};
+
+// The row of one cell.
+fn cells(alloc: Global, text: &[u8]) -> Result<Cells, AllocError>
+    ensures { IfOk result (λ cells. length cells ≡ 1) }
+{
+    let mut cells = Cells::new(alloc);
+    cells.push(Cell {
+        text: Bytes::from_slice(alloc, text)?,
+        num: None,
+    })?;
+    Ok(cells)
 }
 
-fn filled(alloc: Global, rows: &[(Side, u32, u8)]) -> Result<Store, AllocError> {
+fn empty(alloc: Global) -> Store {
     let key = KeyAtom {
+        r_sum: Linear {
+            parts: Parts::new(alloc),
+        },
+        s_sum: Linear {
+            parts: Parts::new(alloc),
+        },
         low: Some(-1),
         high: None,
     };
-    let mut store = Store::new(alloc, Some(key));
-    for (side, index, ticket) in rows {
-        store.add(tuple(alloc, *side, *index, *ticket))?;
-    }
-    Ok(store)
+    Store::new(alloc, Some(key))
 }
 
 fn indices(alloc: Global, tuples: &Tuples) -> Result<Vec<u32>, AllocError> {
@@ -33,6 +45,20 @@ fn indices(alloc: Global, tuples: &Tuples) -> Result<Vec<u32>, AllocError> {
         indices.push(tuple.index)?;
     }
     Ok(indices)
+}
+
+fn of_tickets(alloc: Global, rows: &[(Side, u32, u8)]) -> Result<Store, AllocError> {
+    let mut store = empty(alloc);
+    for (side, index, ticket) in rows {
+        store.add(Tuple {
+            side: *side,
+            index: *index,
+            ticket: *ticket,
+            stamp: 0,
+            cells: Cells::new(alloc),
+        })?;
+    }
+    Ok(store)
 }
 
 #[test]
@@ -45,7 +71,7 @@ fn a_joiner_keeps_what_it_holds(rt: HostRuntime) -> Result<(), Fail> {
         (Side::R, 2, 127),
         (Side::S, 2, 255),
     ];
-    let store = filled(rt.alloc(), &rows)?;
+    let store = of_tickets(rt.alloc(), &rows)?;
     let all = [0, 1, 2];
     // Two rows and one column, then one row and two columns.
     let cases: [(u32, u32, &[u32], &[u32]); 4] = [
@@ -60,6 +86,154 @@ fn a_joiner_keeps_what_it_holds(rt: HostRuntime) -> Result<(), Fail> {
         let kept_s = indices(rt.alloc(), kept.side(Side::S))?;
         assert_eq!(rt; kept_r.as_slice(), r, "R of joiner {id} at shift {shift}");
         assert_eq!(rt; kept_s.as_slice(), s, "S of joiner {id} at shift {shift}");
+    }
+    Ok(())
+}
+
+fn tuple(
+    alloc: Global,
+    side: Side,
+    index: u32,
+    stamp: u32,
+    text: &[u8],
+) -> Result<Tuple, AllocError>
+    ensures { IfOk result (λ tuple. length tuple.cells ≡ 1) }
+{
+    Ok(Tuple {
+        side,
+        index,
+        ticket: 0,
+        stamp,
+        cells: cells(alloc, text)?,
+    })
+}
+
+fn add(store: &mut Store, theta: &Theta, tuple: Tuple) -> Result<(), AllocError>
+    requires r { theta.now.width_r ≡ 1 }
+    requires s { theta.now.width_s ≡ 1 }
+    requires width { length tuple.cells ≡ 1 }
+    requires widths { HaveWidths theta.now store.old }
+    ensures { HaveWidths theta.now store.new }
+{
+    store.add(tuple)
+}
+
+fn of_texts(
+    alloc: Global,
+    theta: &Theta,
+    rows: &[(Side, u32, u32, &[u8])],
+) -> Result<Store, AllocError>
+    requires r { theta.now.width_r ≡ 1 }
+    requires s { theta.now.width_s ≡ 1 }
+    ensures { IfOk result (λ store. HaveWidths theta.now store) }
+{
+    let mut store = empty(alloc);
+    for (side, index, stamp, text) in rows {
+        let tuple = tuple(alloc, *side, *index, *stamp, *text)?;
+        add(&mut store, theta, tuple)?;
+    }
+    Ok(store)
+}
+
+fn counted<L: Ledger>(
+    alloc: Global,
+    store: &Store,
+    tuple: &Tuple,
+    theta: &Theta,
+    which: Which,
+    blank: Blank,
+) -> Result<Pairs, AllocError>
+    requires width { HasWidth theta.now tuple.now.side tuple.now }
+    requires widths { HaveWidths theta.now store.now }
+    requires name { blank.name ≡ L.name }
+    requires parts { blank.parts ≡ L.parts }
+    requires some { 0 < blank.parts }
+{
+    let mut found = Pairs::new(alloc);
+    let mut steps = Steps::<L>::new(blank);
+    store.probe(tuple, theta, which, &mut found, &mut steps)?;
+    Ok(found)
+}
+
+fn found(
+    alloc: Global,
+    store: &Store,
+    tuple: &Tuple,
+    theta: &Theta,
+    which: Which,
+) -> Result<Pairs, AllocError>
+    requires width { HasWidth theta.now tuple.now.side tuple.now }
+    requires widths { HaveWidths theta.now store.now }
+{
+    counted::<Brand>(alloc, store, tuple, theta, which, Blank::new(1))
+}
+
+fn found_uncounted(
+    alloc: Global,
+    store: &Store,
+    tuple: &Tuple,
+    theta: &Theta,
+    which: Which,
+) -> Result<Pairs, AllocError>
+    requires width { HasWidth theta.now tuple.now.side tuple.now }
+    requires widths { HaveWidths theta.now store.now }
+{
+    let mut found = Pairs::new(alloc);
+    store.probe_uncounted(tuple, theta, which, &mut found)?;
+    Ok(found)
+}
+
+// That a tuple finds these, counted and uncounted.
+fn finds(
+    rt: &impl Abort,
+    alloc: Global,
+    store: &Store,
+    tuple: &Tuple,
+    theta: &Theta,
+    which: Which,
+    wanted: &[Pair],
+) -> Result<(), AllocError>
+    requires r { theta.now.width_r ≡ 1 }
+    requires s { theta.now.width_s ≡ 1 }
+    requires width { length tuple.now.cells ≡ 1 }
+    requires widths { HaveWidths theta.now store.now }
+{
+    let first = found(alloc, store, tuple, theta, which)?;
+    assert_eq!(rt; first.as_slice(), wanted, "{which:?}");
+    let second = found_uncounted(alloc, store, tuple, theta, which)?;
+    assert_eq!(rt; second.as_slice(), wanted, "{which:?}, uncounted");
+    Ok(())
+}
+
+#[test]
+fn a_probe_finds_the_named_that_match(rt: HostRuntime) -> Result<(), Fail> {
+    let alloc = rt.alloc();
+    let theta = Theta::first_texts(alloc, 1, 1)?;
+    let rows: [(Side, u32, u32, &[u8]); 6] = [
+        (Side::S, 0, 0, b"a"),
+        (Side::R, 0, 0, b"b"),
+        (Side::S, 1, 1, b"a"),
+        (Side::S, 2, 1, b"b"),
+        (Side::R, 1, 1, b"c"),
+        (Side::S, 3, 0, b"a"),
+    ];
+    let store = of_texts(alloc, &theta, &rows)?;
+    let three = [
+        Pair { i: 9, j: 0 },
+        Pair { i: 9, j: 1 },
+        Pair { i: 9, j: 3 },
+    ];
+    let cases: [(Side, &[u8], Which, &[Pair]); 6] = [
+        (Side::R, b"a", Which::All, &three),
+        (Side::R, b"a", Which::OnlyStamp(1), &[Pair { i: 9, j: 1 }]),
+        (Side::R, b"z", Which::All, &[]),
+        (Side::S, b"b", Which::All, &[Pair { i: 0, j: 9 }]),
+        (Side::S, b"b", Which::OnlyStamp(1), &[]),
+        (Side::S, b"c", Which::OnlyStamp(1), &[Pair { i: 1, j: 9 }]),
+    ];
+    for (side, text, which, wanted) in cases {
+        let tuple = tuple(alloc, side, 9, 0, text)?;
+        finds(&rt, alloc, &store, &tuple, &theta, which, wanted)?;
     }
     Ok(())
 }
