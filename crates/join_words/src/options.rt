@@ -7,7 +7,7 @@ pub struct Options<'a> {
     pub on: &'a str,
     /// There are 2^k joiners.
     pub k: u32,
-    /// The grid stays at 2^fixed parts of R.
+    /// The grid's shift, where it was given: the grid then has 2^fixed columns.
     pub fixed: Option<u32>,
     /// The seed of the tickets.
     pub seed: u64,

@@ -1,0 +1,103 @@
+#!/bin/sh
+# Runs the built program over small files and compares its status, its output and its line on standard
+# error with what docs/USAGE.md says. It is no part of the gate, in which no test may start a program.
+# JM names another program than the repository's own.
+set -u
+top=$(cd "$(dirname "$0")/.." && pwd -P)
+jm=${JM:-$top/jm}
+room=$(mktemp -d)
+trap 'rm -rf "$room"' EXIT
+cd "$room" || exit 1
+passed=0
+failed=0
+
+# file NAME TEXT, where TEXT may have printf's escapes
+file() { printf "$2" >"$1"; }
+
+# check STATUS OUTPUT LINE WORDS.., where OUTPUT and LINE may have printf's escapes
+check() {
+    status=$1
+    printf "$2" >wanted.out
+    if [ -n "$3" ]; then printf '%s\n' "$3" >wanted.err; else : >wanted.err; fi
+    shift 3
+    "$jm" "$@" >got.out 2>got.err </dev/null
+    got=$?
+    if [ "$got" = "$status" ] && cmp -s wanted.out got.out && cmp -s wanted.err got.err; then
+        passed=$((passed + 1))
+    else
+        failed=$((failed + 1))
+        echo "failed: jm $*" >&2
+        echo "  status $got, wanted $status" >&2
+        diff wanted.out got.out >&2
+        diff wanted.err got.err >&2
+    fi
+}
+
+usage='usage: jm --on TEXT [options] R.csv S.csv'
+file r.csv 'id,x\n1,10\n2,20\n3,30\n'
+file s.csv 'id,y\n1,20\n2,30\n3,20\n'
+file none.csv ''
+file header.csv 'id,x\n'
+file narrow.csv 'id,x\n1,10\n2\n'
+file wide.csv 'id,y\n1,20,5\n'
+file text.csv 'id,y\n1,20\n2,30\n3,4x\n'
+file twice.csv 'y,y\n1,2\n'
+file gap.csv 'id,x\n1,\n2,5\n'
+file five.csv 'id,y\n1,5\n'
+file three.csv 'x\n1\n2\n3\n'
+file trades.csv '\357\273\277trade,"Unit Price",at\r\nT1,105,900\r\n"T,2",99,903\r\n'
+file quotes.csv 'quote,bid,at\r\nQ1,100,898\r\nQ2,101,902\r\nQ3,97,903\r\n'
+"$jm" >/dev/null 2>&1 # builds the program where it isn't built
+
+check 0 '2,1\n2,3\n3,2\n' '' --on 'r.x = s.y' r.csv s.csv
+check 0 '' '' --on 'r.x = s.y' header.csv s.csv
+check 0 '1,1\n1,2\n2,3\n' '' --on 'abs(r.at - s.at) <= 2 and r."Unit Price" >= s.bid' trades.csv quotes.csv
+check 0 '1,2\n1,3\n2,3\n' '' --on 'r.x < s.x' three.csv three.csv
+check 0 '1,1\n' '' --on 'not (r.x = s.y)' gap.csv five.csv
+check 0 '2,1\n' '' --on 'r.x = s.y' gap.csv five.csv
+check 0 '' '' --on 'r.x != s.y' gap.csv five.csv
+for joiners in 1 2 4 8 16 32 64; do
+    check 0 '2,1\n2,3\n3,2\n' '' --joiners $joiners --seed 7 --on 'r.x = s.y' r.csv s.csv
+done
+check 0 '2,1\n2,3\n3,2\ninput 3 3\nfinal 4 1 copies 15 best 12\njoiner 0 held 0 3 made 0\njoiner 1 held 1 3 made 2\njoiner 2 held 2 3 made 1\njoiner 3 held 0 3 made 0\n' '' \
+    --on 'r.x = s.y' --joiners 4 --fixed 0 --seed 42 --report r.csv s.csv
+
+check 2 '' "$usage"
+check 2 '' "$usage" --help
+check 2 '' "$usage" r.csv s.csv
+check 2 '' "$usage" --on 'r.x = s.y' r.csv
+check 2 '' "$usage" --on 'r.x = s.y' --joiners 3 r.csv s.csv
+check 2 '' "$usage" --on 'r.x = s.y' --joiners 4 --fixed 3 r.csv s.csv
+check 2 '' "$usage" --on 'r.x = s.y' --unknown r.csv s.csv
+
+check 3 '' 'predicate: not understood at byte 0' --on '' r.csv s.csv
+check 3 '' 'predicate: not understood at byte 6' --on 'r.x = ' r.csv s.csv
+check 3 '' 'predicate: not understood at byte 5' --on 'r.x == s.y' r.csv s.csv
+check 3 '' 'predicate: not understood at byte 2' --on 'r.' missing.csv s.csv
+check 3 '' 'predicate: number too large at byte 6' --on 'r.x = 9223372036854775808' r.csv s.csv
+check 3 '' 'predicate: nested too deep at byte 32' --on '(((((((((((((((((((((((((((((((((' r.csv s.csv
+check 3 '' 'predicate: sum too long at byte 32' --on '1+1+1+1+1+1+1+1+1+1+1+1+1+1+1+1 + 1 = 1' r.csv s.csv
+check 3 '' 'predicate: R has no column z' --on 'r.z = s.y' r.csv s.csv
+check 3 '' 'predicate: S has column y more than once' --on 'r.x = s.y' r.csv twice.csv
+
+check 4 '' 'input: R has no header' --on 'r.x = s.y' none.csv none.csv
+check 4 '' 'input: S has no header' --on 'r.x = s.y' r.csv none.csv
+check 4 '' 'input: R row 2 has 1 fields' --on 'r.x = s.y' narrow.csv missing.csv
+check 4 '' 'input: S row 1 has 3 fields' --on 'r.x = s.y' r.csv wide.csv
+check 4 '' 'input: S row 3 column 2 is no number' --on 'r.x = s.y' r.csv text.csv
+check 6 '' 'read: failed' --on 'r.x = s.y' missing.csv s.csv
+check 6 '' 'read: failed' --on 'r.x = s.y' r.csv missing.csv
+
+# a sink that takes nothing
+if [ -w /dev/full ]; then
+    "$jm" --on 'r.x = s.y' r.csv s.csv >/dev/full 2>got.err
+    if [ $? = 7 ] && [ "$(cat got.err)" = 'write: failed' ]; then
+        passed=$((passed + 1))
+    else
+        failed=$((failed + 1))
+        echo 'failed: standard output is full' >&2
+    fi
+fi
+
+echo "$passed passed, $failed failed"
+[ "$failed" = 0 ]
