@@ -1,24 +1,22 @@
 -- The collector of a grid stands for what its joiners sent, and so its answer is the join.
-use Rattle.std.proofs.Common.{◌≡◌, ◌<◌, ◌≤◌, ◌+◌, ◌-◌, ◌^◌, min, max, ℕ, zero, suc, inl, inr, refl, sym, ◌∙◌, ap, subst, arith, Bool, true, false, cond, List, [], ◌∷◌, ◌++◌, length}
-use Rattle.std.specs.Prelude.{IfOk, Result, Ok, Err, ◌==◌, nat_lt, map, slice_index, count_by, is_some}
+use Rattle.std.proofs.Common.{◌≡◌, ◌<◌, ◌≤◌, ◌+◌, ◌-◌, ◌^◌, min, ℕ, zero, suc, inl, inr, refl, sym, ◌∙◌, ap, subst, arith, Bool, true, false, cond, List, [], ◌∷◌, ◌++◌, length}
+use Rattle.std.specs.Prelude.{IfOk, Result, Ok, Err, ◌==◌, nat_lt, map, slice_index}
 use Rattle.std.specs.List.{range_with_len}
-use Rattle.std.proofs.lemmas.Bool.{cases_Bool, eqb-true, eqb-false, eq-eqb, lt-ltb, le-ltb, ltb-true, ltb-false}
+use Rattle.std.proofs.lemmas.Bool.{cases_Bool, eqb-true, eqb-false, lt-ltb, le-ltb, ltb-true, ltb-false}
 use Rattle.std.proofs.lemmas.List.{append-nil, append_assoc}
 use Rattle.std.proofs.lemmas.Option.{slice_get_within}
 use Rattle.join_rows.specs.declared.table.Side.TheVariants.{R, S}
 use Rattle.join_rows.specs.Lists.{SameBag, gather, greatest}
 use Rattle.join_rows.proofs.Bags.{SameBag-trans}
-use Rattle.epoch_tags.specs.declared.tuple.Pair.{Pair}
 use Rattle.epoch_tags.specs.declared.actor.Actor.TheVariants.{Joiner}
 use Rattle.epoch_tags.specs.declared.message.ToCollector.{ToCollector}
-use Rattle.epoch_tags.specs.declared.message.ToCollector.TheVariants.{Found, Fin}
 use Rattle.epoch_tags.specs.Messages.{found_before_fin}
 use Rattle.migration_plan.specs.Steps.{holds_ticket}
 use Rattle.link_trace.specs.Join.{Input, nested_loop, row_count, held}
 use Rattle.link_trace.proofs.Order.{one_order, loop_in_order}
 use Rattle.pair_collector.specs.declared.collected.Held.{Held}
 use Rattle.pair_collector.specs.declared.collected.Collected.{Collected}
-use Rattle.pair_collector.specs.Law.{CollectorLists, IsComplete, pairs_taken}
+use Rattle.pair_collector.specs.Law.{CollectorLists, pairs_taken}
 use Rattle.pair_collector.specs.Standing.{CollectorState, StandsFor, TakesMessage, kept_of, last_of, held_of, with_message, nothing_yet, is_complete}
 use Rattle.pair_collector.specs.Answer.{Collects, moved_in}
 use Rattle.pair_collector.proofs.Taking.{stand, complete_says}

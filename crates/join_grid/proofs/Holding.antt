@@ -1,10 +1,9 @@
 -- The rows that one joiner holds.
-use Rattle.std.proofs.Common.{◌≡◌, ◌<◌, ◌≤◌, ◌+◌, ℕ, zero, suc, refl, sym, ◌∙◌, ap, subst, arith, Bool, true, false, cond, List, [], ◌∷◌, ◌++◌, length, get_or, take, append_assoc, Option, Some, None}
-use Rattle.std.specs.Prelude.{All, filter, sum_by, count_by, map, filter_map, slice_get, slice_index, slice_index_or}
+use Rattle.std.proofs.Common.{◌≡◌, ◌<◌, ◌+◌, ℕ, zero, suc, refl, sym, ◌∙◌, ap, subst, arith, Bool, true, false, cond, List, [], ◌∷◌, ◌++◌, length, get_or, take, append_assoc, Option, Some, None}
+use Rattle.std.specs.Prelude.{All, filter, sum_by, count_by, filter_map, slice_get, slice_index, slice_index_or}
 use Rattle.std.specs.List.{range_with_len, cons_option}
 use Rattle.std.proofs.lemmas.List.{append-nil, take_more}
 use Rattle.std.proofs.lemmas.Option.{get_or_from_slice_get, slice_get_within}
-use Rattle.std.proofs.lemmas.Bool.{cases_Bool}
 use Rattle.std.proofs.lemmas.List.Sums.{sum_by-cons}
 use Rattle.std.proofs.lemmas.List.Elements.{filter-append, filter_map-append}
 use Rattle.join_rows.specs.declared.table.Cell.{Cell}
@@ -14,7 +13,7 @@ use Rattle.epoch_tags.specs.declared.tuple.Pair.{Pair}
 use Rattle.theta_pred.specs.Formula.{Meaning}
 use Rattle.theta_pred.specs.Truth.{width_of}
 use Rattle.join_grid.specs.Joining.{pair_if, pairs_of, AreRowsOf}
-use Rattle.join_rows.proofs.Bags.{only_if, sum-filter, sum-same}
+use Rattle.join_rows.proofs.Bags.{only_if, sum-filter}
 use Rattle.join_rows.proofs.Totals.{total_same, total_front, range_sum}
 
 pub length_is : {X : Type 0} (xs : List X) → length xs ≡ sum_by (λ x. 1) xs

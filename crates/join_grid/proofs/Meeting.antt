@@ -1,22 +1,20 @@
 -- Each pair of rows meets in one joiner, so all joiners together find the nested loop.
-use Rattle.std.proofs.Common.{◌≡◌, ◌<◌, ◌≤◌, ◌+◌, ◌^◌, ℕ, zero, suc, refl, sym, ◌∙◌, ap, arith, Bool, true, false, cond, ◌&&◌, List, [], ◌∷◌, ◌++◌, length, Option, Some, None}
-use Rattle.std.specs.Prelude.{◌==◌, filter, filter_map, flat_map, sum_by, slice_index, slice_index_or}
+use Rattle.std.proofs.Common.{◌≡◌, ◌<◌, ◌≤◌, ◌+◌, ◌^◌, ℕ, refl, sym, ◌∙◌, ap, arith, Bool, true, false, cond, ◌&&◌, List, [], ◌∷◌, length, Some, None}
+use Rattle.std.specs.Prelude.{◌==◌, filter_map, sum_by, slice_index}
 use Rattle.std.specs.List.{range_with_len, cons_option}
 use Rattle.std.proofs.lemmas.List.Sums.{sum_by-cons}
 use Rattle.join_rows.specs.declared.table.Side.TheVariants.{R, S}
-use Rattle.join_rows.specs.declared.table.Cell.{Cell}
 use Rattle.join_rows.specs.Lists.{SameBag, gather, total}
 use Rattle.join_rows.proofs.Bags.{only_if, sum-same, sum-flat_map, sum-filter}
 use Rattle.join_rows.proofs.Totals.{total_same, sum-gather, exchange, test_inside, one_index}
 use Rattle.epoch_tags.specs.declared.tuple.Pair.{Pair}
 use Rattle.grid_map.specs.Grid.{meet, holds_r, holds_s}
 use Rattle.grid_map.proofs.Halves.{meets, meet_below}
-use Rattle.migration_plan.specs.Steps.{holds_ticket}
 use Rattle.link_trace.specs.Join.{Input, nested_loop, row_count, ticket_of}
 use Rattle.link_trace.specs.Family.{cells_of}
 use Rattle.link_trace.proofs.PairSums.{turn_round}
 use Rattle.link_trace.proofs.Loop.{loop_pair, loop_sum}
-use Rattle.join_grid.specs.Joining.{rows_held, pair_if, pairs_of, pairs_found}
+use Rattle.join_grid.specs.Joining.{rows_held, pairs_of, pairs_found}
 use Rattle.join_grid.specs.Answer.{made_at}
 use Rattle.join_grid.proofs.Holding.{length_is, from_zero}
 

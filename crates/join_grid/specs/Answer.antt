@@ -1,5 +1,5 @@
 -- What a grid of joiners answers.
-use Rattle.std.specs.Prelude.{◌≡◌, ℕ, ◌^◌, ◌==◌, List, [], map, count_by}
+use Rattle.std.specs.Prelude.{◌≡◌, ℕ, ◌^◌, ◌==◌, [], map, count_by}
 use Rattle.std.specs.List.{range_with_len}
 use Rattle.join_rows.specs.declared.table.Side.TheVariants.{R, S}
 use Rattle.grid_map.specs.Grid.{meet}

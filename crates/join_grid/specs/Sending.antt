@@ -1,7 +1,6 @@
 -- What one joiner sends the collector.
 use Rattle.std.specs.Prelude.{◌≡◌, ◌==◌, ◌++◌, ℕ, nat_lt, List, [], ◌∷◌, length, if◌then◌else◌}
 use Rattle.join_rows.specs.declared.table.Side.TheVariants.{R, S}
-use Rattle.epoch_tags.specs.declared.tuple.Pair.{Pair}
 use Rattle.epoch_tags.specs.declared.message.ToCollector.{ToCollector}
 use Rattle.epoch_tags.specs.declared.message.ToCollector.TheVariants.{Found, Fin}
 use Rattle.link_trace.specs.Join.{Input}

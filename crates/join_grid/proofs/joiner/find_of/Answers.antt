@@ -1,4 +1,4 @@
-use Rattle.std.proofs.Common.{◌≡◌, ◌∙◌, ◌++◌, ◌∷◌, [], ℕ, Bool, List, ap, cond, sym, get_or}
+use Rattle.std.proofs.Common.{◌≡◌, ◌∙◌, ◌++◌, ◌∷◌, [], cond, get_or}
 use Rattle.epoch_tags.specs.declared.tuple.Pair.{Pair}
 use Rattle.theta_pred.specs.Truth.{holds}
 use Rattle.join_grid.proofs.Holding.{pairs_more}

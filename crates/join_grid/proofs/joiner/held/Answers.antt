@@ -1,4 +1,4 @@
-use Rattle.std.proofs.Common.{◌≡◌, ◌∙◌, ◌++◌, ◌∷◌, [], ℕ, Bool, List, ap, cond, sym}
+use Rattle.std.proofs.Common.{◌≡◌, ◌∙◌, ◌++◌, ◌∷◌, [], ℕ, Bool, List, ap, cond}
 use Rattle.std.specs.Prelude.{slice_index}
 use Rattle.migration_plan.specs.Steps.{holds_ticket}
 use Rattle.join_grid.proofs.Holding.{held_more}
