@@ -39,7 +39,7 @@ nothing_taken shift = record { from_feeder = λ p. []; from_joiner = λ q. []; s
 abbrev pub first_step : ℕ → List Tuple → Step
 first_step shift base = record { shift = shift; came = base; arrived = [] }
 
-same-bag : (xs ys : List Tuple) → xs ≡ ys → SameBag xs ys
+pub same-bag : (xs ys : List Tuple) → xs ≡ ys → SameBag xs ys
 same-bag xs ys is = subst (λ (zs : List Tuple). SameBag xs zs) is (SameBag-refl xs)
 
 settled-start : (k id shift epoch feeders : ℕ) (theta : Meaning) (base : List Tuple) → shift ≤ k

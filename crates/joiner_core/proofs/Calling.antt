@@ -33,7 +33,7 @@ pub takes : (old new : Joiner) (from : Actor) (m : ToJoiner) (before after : Lis
 takes old new from m before after is = record {
   added = is.added;
   sends = is.sends;
-  same = record { k = is.fixed.k; id = is.fixed.id; feeders = is.fixed.feeders; theta = is.fixed.theta };
+  same = record { of_k = is.fixed.k; of_id = is.fixed.id; of_feeders = is.fixed.feeders; of_theta = is.fixed.theta };
   stands = is.stands;
 }
 

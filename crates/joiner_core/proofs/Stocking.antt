@@ -1,5 +1,6 @@
 -- A store as one list.
 use Rattle.std.proofs.Common.{◌≡◌, ℕ, ◌+◌, refl, sym, ◌∙◌, ap, subst, arith, Bool, true, false, cond, List, [], ◌∷◌, ◌++◌, length, filter, sum_by, count_by, All, append-nil}
+use Rattle.std.specs.Prelude.{slice_index_or}
 use Rattle.std.proofs.lemmas.List.Elements.{filter-append, All-filter, All-push, All-head, All-tail}
 use Rattle.std.proofs.lemmas.List.Sums.{sum_by-cons, sum_by-append, length-filter}
 use Rattle.join_rows.specs.Lists.{SameBag}
@@ -131,7 +132,7 @@ pub probe-is : (theta : Meaning) (x : Tuple) (which : Which) (store : Stored) �
 probe-is theta x which store are = matches-both theta x which store are ∙ same-probe x.side theta which x (tuples_of store)
 
 widths-at : (theta : Meaning) (side : Side) (ts : List Tuple) → All (λ t. t.side ≡ side) ts → AreRows theta ts → All (HasWidth theta side) ts
-widths-at theta side ts own rows = λ k d low. subst (λ (i : Side). HasWidth theta i _) (own k d low) (rows k d low)
+widths-at theta side ts own rows = λ k d low. subst (λ (i : Side). HasWidth theta i (slice_index_or ts k d)) (own k d low) (rows k d low)
 
 -- rows of the whole are rows of each side
 pub widths-of : (theta : Meaning) (store : Stored) → AreSided store.r store.s → AreRows theta (tuples_of store) → HaveWidths theta store

@@ -31,10 +31,10 @@ theta_of joiner = joiner.machine.epochs.theta.now
 
 -- it is joiner `id` of 2 ^ k, hears so many feeders and joins by this predicate
 pub record IsJoiner (k id feeders : ℕ) (theta : Meaning) (joiner : Joiner) : Type 0 where
-  pub k : k_of joiner ≡ k
-  pub id : id_of joiner ≡ id
-  pub feeders : feeders_of joiner ≡ feeders
-  pub theta : theta_of joiner ≡ theta
+  pub of_k : k_of joiner ≡ k
+  pub of_id : id_of joiner ≡ id
+  pub of_feeders : feeders_of joiner ≡ feeders
+  pub of_theta : theta_of joiner ≡ theta
 
 -- it began by s, and these lists are what it has received and sent
 abbrev pub StandsFor : JoinerStart → JoinerLists → Joiner → Type 0

@@ -64,7 +64,8 @@ impl Stock {
     pub(crate) fn add(&mut self, tuple: Tuple) -> Result<(), AllocError>
         ensures { OnOk result (self.new ≡ placed tuple self.old) }
     {
-        self.store.add(tuple)
+        self.store.add(tuple)?;
+        Ok(())
     }
 
     pub(crate) fn count(&self, side: Side) -> u64
@@ -84,7 +85,8 @@ impl Stock {
         requires rows { AreRows theta.now self.now }
         ensures { OnOk result (found.new ≡ found.old ++ probed (does_hold theta.now) (named_by which) tuple.now self.now) }
     {
-        self.store.probe_uncounted(tuple, theta, which, found)
+        self.store.probe_uncounted(tuple, theta, which, found)?;
+        Ok(())
     }
 
     pub(crate) fn kept_copy(&self, k: u32, shift: u32, id: u32) -> Result<Stock, AllocError>
@@ -107,7 +109,8 @@ impl Stock {
     ) -> Result<(), AllocError>
         ensures { OnOk result (sends.new ≡ sends.old ++ map (moved_post to epoch) (filter (is_of side) self.now)) }
     {
-        send_all(self.store.side(side).as_slice(), to, epoch, sends)
+        send_all(self.store.side(side).as_slice(), to, epoch, sends)?;
+        Ok(())
     }
 }
 

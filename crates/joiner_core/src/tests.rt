@@ -12,7 +12,7 @@ use std::alloc::{AllocError, Global};
 use std::process::Abort;
 use std::test::Fail;
 use store_parts::Store;
-use theta_pred::{Op, Pred, Signed, Sum, Term, Theta, longest_sum, resolve};
+use theta_pred::{Theta, parse, resolve};
 
 // What a joiner is given: a row by side, index, ticket and stamp, and so on.
 #[derive(Clone, Copy, Debug, PartialEq, Eq)]
@@ -112,25 +112,19 @@ fn all_seen(alloc: Global, sends: &Sends) -> Result<Vec<Seen>, AllocError> {
     Ok(seen)
 }
 
-fn one(alloc: Global) -> Result<Sum, AllocError> {
-    let mut sum = Sum::new(alloc);
-    sum.push(Signed {
-        minus: false,
-        term: Term::Const(1),
-    })?;
-    Ok(sum)
-}
-
 // The predicate `1 = 1` over two tables with no columns.
-fn always(rt: &impl Abort, alloc: Global) -> Result<Theta, Fail> {
-    let pred = Pred::Num {
-        left: one(alloc)?,
-        op: Op::Eq,
-        right: one(alloc)?,
-    };
-    assert!(rt; longest_sum(&pred) <= 16);
+fn always(alloc: Global) -> Result<Theta, AllocError>
+    ensures r { IfOk result (λ theta. theta.width_r ≡ 0) }
+    ensures s { IfOk result (λ theta. theta.width_s ≡ 0) }
+{
     let none = Names::new(alloc);
-    Ok(resolve(alloc, &pred, &none, &none)?)
+    let Ok(pred) = parse(alloc, "1 = 1") else {
+        return Err(AllocError);
+    };
+    let Ok(theta) = resolve(alloc, &pred, &none, &none) else {
+        return Err(AllocError);
+    };
+    Ok(theta)
 }
 
 // Gives it a message. It sends what is wanted, and holds so many messages.
@@ -163,7 +157,7 @@ const PARTNER: Actor = Actor::Joiner(1);
 
 #[test]
 fn a_step_finds_each_pair_once(rt: HostRuntime) -> Result<(), Fail> {
-    let theta = always(&rt, rt.alloc())?;
+    let theta = always(rt.alloc())?;
     let mut joiner = Joiner::start(rt.alloc(), 1, 0, 0, 2, &theta)?;
     let steps: [(Actor, Given, &[Seen]); 9] = [
         (FEEDER, Given::Row(Side::R, 0, 0, 0), &[]),
@@ -187,7 +181,7 @@ fn a_step_finds_each_pair_once(rt: HostRuntime) -> Result<(), Fail> {
 
 #[test]
 fn an_early_row_waits_for_its_step(rt: HostRuntime) -> Result<(), Fail> {
-    let theta = always(&rt, rt.alloc())?;
+    let theta = always(rt.alloc())?;
     let mut joiner = Joiner::start(rt.alloc(), 1, 0, 0, 2, &theta)?;
     let steps: [(Actor, Given, u64, &[Seen]); 9] = [
         (FEEDER, Given::Row(Side::R, 0, 0, 0), 0, &[]),
@@ -213,7 +207,7 @@ fn an_early_row_waits_for_its_step(rt: HostRuntime) -> Result<(), Fail> {
 
 #[test]
 fn a_turn_to_the_same_shift_is_held(rt: HostRuntime) -> Result<(), Fail> {
-    let theta = always(&rt, rt.alloc())?;
+    let theta = always(rt.alloc())?;
     let mut joiner = Joiner::start(rt.alloc(), 0, 0, 0, 1, &theta)?;
     let steps = [(Given::Turn(1, 0), 1), (Given::Row(Side::R, 0, 0, 0), 2)];
     for (given, held) in steps {
@@ -237,10 +231,8 @@ fn base(alloc: Global) -> Result<Store, AllocError>
 
 #[test]
 fn a_base_is_not_joined_again(rt: HostRuntime) -> Result<(), Fail> {
-    let theta = always(&rt, rt.alloc())?;
+    let theta = always(rt.alloc())?;
     let base = base(rt.alloc())?;
-    assert_eq!(rt; theta.width_r(), 0);
-    assert_eq!(rt; theta.width_s(), 0);
     let mut joiner = Joiner::start_at(rt.alloc(), 0, 0, 0, 2, 1, &theta, base)?;
     let steps: [(Given, &[Seen]); 2] = [
         (Given::Row(Side::S, 1, 0, 2), &[Seen::Found(0, 1)]),
