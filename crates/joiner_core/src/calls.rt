@@ -39,7 +39,16 @@ impl<'a> Joiner<'a> {
         ensures stands { IfOk result (λ joiner. StandsFor (start_of k id shift 0 feeders theta.now []) no_lists joiner) }
         ensures law { IfOk result (λ joiner. KeepsLaw joiner) }
     {
-        Joiner::start_at(alloc, k, id, shift, 0, feeders, theta, Store::new(alloc, None))
+        Joiner::start_at(
+            alloc,
+            k,
+            id,
+            shift,
+            0,
+            feeders,
+            theta,
+            Store::new(alloc, None),
+        )
     }
 
     /// Joiner `id` of `2^k`, settled at this epoch and shift and with this store. Its last message counts the moves of
@@ -66,7 +75,16 @@ impl<'a> Joiner<'a> {
         ensures stands { IfOk result (λ joiner. StandsFor (start_of k id shift epoch feeders theta.now (tuples_of base)) no_lists joiner) }
         ensures law { IfOk result (λ joiner. KeepsLaw joiner) }
     {
-        let machine = Machine::start_at(alloc, k, id, shift, epoch, feeders, theta, Stock::of(base))?;
+        let machine = Machine::start_at(
+            alloc,
+            k,
+            id,
+            shift,
+            epoch,
+            feeders,
+            theta,
+            Stock::of(base),
+        )?;
         Ok(Joiner {
             machine,
             spent: false,

@@ -115,12 +115,7 @@ impl Stock {
 }
 
 // Sends a copy of each tuple to a joiner.
-fn send_all(
-    tuples: &[Tuple],
-    to: u32,
-    epoch: u32,
-    sends: &mut Sends,
-) -> Result<(), AllocError>
+fn send_all(tuples: &[Tuple], to: u32, epoch: u32, sends: &mut Sends) -> Result<(), AllocError>
     ensures { OnOk result (sends.new ≡ sends.old ++ map (moved_post to epoch) tuples.now) }
 {
     for tuple in tuples {
