@@ -14,6 +14,8 @@ use Rattle.joiner_law.specs.History.{Step}
 use Rattle.joiner_law.specs.Standing.{grown, with_sent, pairs_sent, ArePairs, AreSent, AreSteps, StandsSettled, StandsOpen}
 use Rattle.joiner_law.proofs.Growing.{grown-same, grown-other}
 use Rattle.joiner_core.specs.Queues.{held_at}
+use Rattle.joiner_core.specs.Widths.{HasRow}
+use Rattle.joiner_core.proofs.Fitting.{same-rows, rows-held}
 use Rattle.joiner_core.specs.Standing.{IsClosed, IsOpen, StandsBy, Stands}
 use Rattle.joiner_core.specs.Taking.{TookOfFeeder, TookOfJoiner}
 use Rattle.joiner_core.specs.Tests.{TakesOfJoiner}
@@ -100,11 +102,14 @@ accepts-taken-feeder old new p m w w' before after sound low clear state took =
         within = took.within;
         feeders = ap length own ∙ sound.feeders ∙ sym took.feeders;
         joiners = ap length other ∙ sound.joiners ∙ ap (λ k. 2 ^ k) (sym took.k);
+        feeder_rows = same-rows _ _ _ _ took.theta own sound.feeder_rows;
+        joiner_rows = same-rows _ _ _ _ took.theta other sound.joiner_rows;
       };
       added = took.added;
       sends = took.sends;
       quiet = took.quiet;
       told = ap (λ (z : Machine). z.told) state;
+      fixed = record { k = took.k; id = took.id; feeders = took.feeders; theta = took.theta };
       rests = λ at. let n = sound.within.ended in absurd (false≢true (sym took.going ∙ at.ended p (omega arith)));
       stands = λ s lists is.
           let many = is.stands.fixed.feeders in
@@ -128,9 +133,9 @@ accepts-taken-feeder old new p m w w' before after sound low clear state took =
           };
     }
 
-pub accepts-held-feeder : (old : Machine) (queues : List (List ToJoiner)) (p : ℕ) (m : ToJoiner) (w : List Pair) (before : List Post) → IsSound old → p < old.epochs.feeders
+pub accepts-held-feeder : (old : Machine) (queues : List (List ToJoiner)) (p : ℕ) (m : ToJoiner) (w : List Pair) (before : List Post) → IsSound old → p < old.epochs.feeders → HasRow old.epochs.theta.now m
     → queues ≡ slice_set old.of_feeders p (held_at old.of_feeders p ++ m ∷ []) → Accepts (Feeder p) m old (record old { of_feeders = queues }) w w before before
-accepts-held-feeder old queues p m w before sound low put =
+accepts-held-feeder old queues p m w before sound low row put =
     let count = sound.feeders in
     let within : p < length old.of_feeders = omega arith in
     record {
@@ -138,11 +143,14 @@ accepts-held-feeder old queues p m w before sound low put =
         within = sound.within;
         feeders = ap length put ∙ length-set old.of_feeders p (held_at old.of_feeders p ++ m ∷ []) ∙ sound.feeders;
         joiners = sound.joiners;
+        feeder_rows = rows-held old.epochs.theta.now old.of_feeders queues p m within put row sound.feeder_rows;
+        joiner_rows = sound.joiner_rows;
       };
       added = [];
       sends = sym (append-nil before);
       quiet = refl;
       told = refl;
+      fixed = record { k = refl; id = refl; feeders = refl; theta = refl };
       rests = λ at. (refl, refl);
       stands = λ s lists is.
           record {
@@ -174,11 +182,14 @@ accepts-taken-joiner old new q m w w' before after sound clear can state takes =
         within = took.within;
         feeders = ap length other ∙ sound.feeders ∙ sym took.feeders;
         joiners = ap length own ∙ sound.joiners ∙ ap (λ k. 2 ^ k) (sym took.k);
+        feeder_rows = same-rows _ _ _ _ took.theta other sound.feeder_rows;
+        joiner_rows = same-rows _ _ _ _ took.theta own sound.joiner_rows;
       };
       added = took.added;
       sends = took.sends;
       quiet = took.quiet;
       told = ap (λ (z : Machine). z.told) state;
+      fixed = record { k = took.k; id = took.id; feeders = took.feeders; theta = took.theta };
       rests = λ at. absurd (took.opened at.closed);
       stands = λ s lists is.
           let after = took.stands s is.taken (with_other lists lists.from_feeder (grown q m lists.from_joiner) lists.to_collector) (stands-received s is.taken lists lists.from_feeder (grown q m lists.from_joiner) w old.epochs is.stands) in
@@ -201,9 +212,9 @@ accepts-taken-joiner old new q m w w' before after sound clear can state takes =
           };
     }
 
-pub accepts-held-joiner : (old : Machine) (queues : List (List ToJoiner)) (q : ℕ) (m : ToJoiner) (w : List Pair) (before : List Post) → IsSound old → q < 2 ^ old.epochs.k
+pub accepts-held-joiner : (old : Machine) (queues : List (List ToJoiner)) (q : ℕ) (m : ToJoiner) (w : List Pair) (before : List Post) → IsSound old → q < 2 ^ old.epochs.k → HasRow old.epochs.theta.now m
     → queues ≡ slice_set old.of_joiners q (held_at old.of_joiners q ++ m ∷ []) → Accepts (Joiner' q) m old (record old { of_joiners = queues }) w w before before
-accepts-held-joiner old queues q m w before sound low put =
+accepts-held-joiner old queues q m w before sound low row put =
     let count = sound.joiners in
     let within : q < length old.of_joiners = omega arith in
     record {
@@ -211,11 +222,14 @@ accepts-held-joiner old queues q m w before sound low put =
         within = sound.within;
         feeders = sound.feeders;
         joiners = ap length put ∙ length-set old.of_joiners q (held_at old.of_joiners q ++ m ∷ []) ∙ sound.joiners;
+        feeder_rows = sound.feeder_rows;
+        joiner_rows = rows-held old.epochs.theta.now old.of_joiners queues q m within put row sound.joiner_rows;
       };
       added = [];
       sends = sym (append-nil before);
       quiet = refl;
       told = refl;
+      fixed = record { k = refl; id = refl; feeders = refl; theta = refl };
       rests = λ at. (refl, refl);
       stands = λ s lists is.
           record {

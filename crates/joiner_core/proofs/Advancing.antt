@@ -11,7 +11,8 @@ use Rattle.joiner_law.specs.Law.{JoinerStart, JoinerLists, Taken}
 use Rattle.joiner_law.specs.Standing.{grown, with_sent}
 use Rattle.joiner_law.proofs.Growing.{grown-same, grown-other}
 use Rattle.joiner_core.specs.Queues.{held_at}
-use Rattle.joiner_core.specs.Taking.{IsWithin, TookOfFeeder, TookOfJoiner}
+use Rattle.joiner_core.proofs.Fitting.{same-rows, rows-taken}
+use Rattle.joiner_core.specs.Taking.{IsWithin, IsFixed, TookOfFeeder, TookOfJoiner}
 use Rattle.joiner_core.specs.Tests.{TakesOfJoiner}
 use Rattle.joiner_core.specs.Whole.{StandsWithin, IsResting, Advances, IsSound, IsReadyOfJoiner, TookHeld, held_in_all}
 use Rattle.joiner_core.specs.declared.epochs.Epochs.{Epochs}
@@ -28,9 +29,13 @@ advances-none m waiting posts = record {
   sends = sym (append-nil posts);
   quiet = refl;
   told = refl;
+  fixed = record { k = refl; id = refl; feeders = refl; theta = refl };
   rests = λ at. (refl, refl);
   stands = λ s lists is. subst (λ (ls : JoinerLists). StandsWithin s ls waiting m) (sym (with_sent-none lists)) is;
 }
+
+pub fixed-then : (a b c : Epochs) → IsFixed a b → IsFixed b c → IsFixed a c
+fixed-then a b c one two = record { k = two.k ∙ one.k; id = two.id ∙ one.id; feeders = two.feeders ∙ one.feeders; theta = two.theta ∙ one.theta }
 
 pub advances-then : (a b c : Machine) (wa wb wc : List Pair) (pa pb pc : List Post) → Advances a b wa wb pa pb → Advances b c wb wc pb pc → Advances a c wa wc pa pc
 advances-then a b c wa wb wc pa pb pc first second = record {
@@ -38,6 +43,7 @@ advances-then a b c wa wb wc pa pb pc first second = record {
   sends = second.sends ∙ ap (λ zs. zs ++ second.added) first.sends ∙ append_assoc pa first.added second.added;
   quiet = quiet-append first.added second.added first.quiet second.quiet;
   told = second.told ∙ first.told;
+  fixed = fixed-then a.epochs b.epochs c.epochs first.fixed second.fixed;
   rests = λ at.
       let one = first.rests at in
       let two = second.rests (subst (λ (z : Epochs). IsResting z) (sym one.0) at) in
@@ -56,6 +62,7 @@ advances-held old new p m w w' before after low count within took first rest sam
   sends = took.sends;
   quiet = took.quiet;
   told = told;
+  fixed = record { k = took.k; id = took.id; feeders = took.feeders; theta = took.theta };
   rests = λ at. absurd (false≢true (sym took.going ∙ at.ended p within));
   stands = λ s lists is.
       let many = is.stands.fixed.feeders in
@@ -88,6 +95,7 @@ advances-held-joiner old new q m w w' before after took first rest same told = r
   sends = took.sends;
   quiet = took.quiet;
   told = told;
+  fixed = record { k = took.k; id = took.id; feeders = took.feeders; theta = took.theta };
   rests = λ at. absurd (took.opened at.closed);
   stands = λ s lists is.
       let after = took.stands s is.taken lists is.stands in
@@ -139,6 +147,8 @@ took-held-feeder old new queues p m w w' before after sound low first rest state
         within = took.within;
         feeders = ap length rest' ∙ length-set old.of_feeders p (held_at new.of_feeders p) ∙ sound.feeders ∙ sym took.feeders;
         joiners = ap length j ∙ sound.joiners ∙ ap (λ k. 2 ^ k) (sym took.k);
+        feeder_rows = same-rows _ _ _ _ took.theta refl (rows-taken old.epochs.theta.now old.of_feeders new.of_feeders p m within first' rest' sound.feeder_rows);
+        joiner_rows = same-rows _ _ _ _ took.theta j sound.joiner_rows;
       };
       advances = advances-held old new p m w w' before after within (sym sound.feeders) (let n = sound.within.ended in omega arith) took first' rest' j (ap (λ (z : Machine). z.told) state);
       fewer = let n = fewer-of old.of_feeders new.of_feeders p m within first' rest' in let e : sum_by length new.of_joiners ≡ sum_by length old.of_joiners = ap (λ qs. sum_by length qs) j in omega arith;
@@ -165,6 +175,8 @@ took-held-joiner old new queues q m w w' before after sound ready first rest sta
         within = took.within;
         feeders = ap length j ∙ sound.feeders ∙ sym took.feeders;
         joiners = ap length rest' ∙ length-set old.of_joiners q (held_at new.of_joiners q) ∙ sound.joiners ∙ ap (λ k. 2 ^ k) (sym took.k);
+        feeder_rows = same-rows _ _ _ _ took.theta j sound.feeder_rows;
+        joiner_rows = same-rows _ _ _ _ took.theta refl (rows-taken old.epochs.theta.now old.of_joiners new.of_joiners q m within first' rest' sound.joiner_rows);
       };
       advances = advances-held-joiner old new q m w w' before after took first' rest' j (ap (λ (z : Machine). z.told) state);
       fewer = let n = fewer-of old.of_joiners new.of_joiners q m within first' rest' in let e : sum_by length new.of_feeders ≡ sum_by length old.of_feeders = ap (λ qs. sum_by length qs) j in omega arith;

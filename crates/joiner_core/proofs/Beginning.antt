@@ -14,12 +14,14 @@ use Rattle.joiner_core.specs.Flags.{flag_at}
 use Rattle.joiner_core.specs.Queues.{held_at}
 use Rattle.joiner_core.specs.Matching.{does_hold}
 use Rattle.joiner_core.specs.Changes.{IsReady}
-use Rattle.joiner_core.specs.declared.theta.Theta.{Theta}
+use Rattle.theta_pred.specs.Formula.{Meaning}
+use Rattle.joiner_core.specs.Widths.{AreRows}
+use Rattle.joiner_core.proofs.Fitting.{rows-none}
 use Rattle.joiner_core.specs.declared.opened.Opened.{Opened}
 use Rattle.joiner_core.specs.declared.epochs.Epochs.{Epochs}
 use Rattle.joiner_core.specs.declared.machine.Machine.{Machine}
 use Rattle.joiner_core.specs.Standing.{IsMachineOf, IsClosed, StandsBy, Stands}
-use Rattle.joiner_core.specs.Taking.{IsWithin, IsStepWithin, IsCounted, HasSomeTurn}
+use Rattle.joiner_core.specs.Taking.{AreStepRows, IsWithin, IsStepWithin, IsCounted, HasSomeTurn}
 use Rattle.joiner_core.specs.Whole.{IsSound, IsStuck, IsMade, StandsBetween, no_lists, start_of}
 use Rattle.joiner_core.proofs.Keeping.{append-nil, same-ends}
 use Rattle.joiner_core.proofs.Reporting.{stands-for}
@@ -37,10 +39,10 @@ nothing_taken shift = record { from_feeder = λ p. []; from_joiner = λ q. []; s
 abbrev pub first_step : ℕ → List Tuple → Step
 first_step shift base = record { shift = shift; came = base; arrived = [] }
 
-same-bag : (xs ys : List Tuple) → xs ≡ ys → SameBag xs ys
+pub same-bag : (xs ys : List Tuple) → xs ≡ ys → SameBag xs ys
 same-bag xs ys is = subst (λ (zs : List Tuple). SameBag xs zs) is (SameBag-refl xs)
 
-settled-start : (k id shift epoch feeders : ℕ) (theta : Theta) (base : List Tuple) → shift ≤ k
+settled-start : (k id shift epoch feeders : ℕ) (theta : Meaning) (base : List Tuple) → shift ≤ k
     → StandsSettled (start_of k id shift epoch feeders theta base) (nothing_taken shift) no_lists [] (λ p. false) base (first_step shift base) []
 settled-start k id shift epoch feeders theta base low = record {
   steps = record {
@@ -71,7 +73,7 @@ settled-start k id shift epoch feeders theta base low = record {
   taken_up_to = λ q. tt;
 }
 
-closed-start : (k id shift epoch feeders : ℕ) (theta : Theta) (base : List Tuple) (m : Machine) → shift ≤ k → IsMade k id shift epoch feeders theta base m
+closed-start : (k id shift epoch feeders : ℕ) (theta : Meaning) (base : List Tuple) (m : Machine) → shift ≤ k → IsMade k id shift epoch feeders theta base m
     → IsClosed (start_of k id shift epoch feeders theta base) (nothing_taken shift) no_lists [] m.epochs
 closed-start k id shift epoch feeders theta base m low made = record {
   cur = first_step shift base;
@@ -87,8 +89,8 @@ closed-start k id shift epoch feeders theta base m low made = record {
 none-stuck : (queue : List ToJoiner) (x : ToJoiner) (rest : List ToJoiner) → queue ≡ [] → queue ≡ x ∷ rest → ⊥
 none-stuck queue x rest none is = let a = ap length none in let b : length queue ≡ length (x ∷ rest) = ap length is in absurd (omega arith)
 
-pub made-sound : (k id shift epoch feeders : ℕ) (theta : Theta) (base : List Tuple) (m : Machine) → k < 9 → shift ≤ k → IsMade k id shift epoch feeders theta base m → IsSound m
-made-sound k id shift epoch feeders theta base m small low made =
+pub made-sound : (k id shift epoch feeders : ℕ) (theta : Meaning) (base : List Tuple) (m : Machine) → k < 9 → shift ≤ k → id < 2 ^ k → AreRows theta base → IsMade k id shift epoch feeders theta base m → IsSound m
+made-sound k id shift epoch feeders theta base m small low few rows made =
     let same_k = made.at_k in
     let same_shift = made.at_shift in
     record {
@@ -100,15 +102,20 @@ made-sound k id shift epoch feeders theta base m small low made =
         count = subst (λ (z : Option Opened). IsCounted m.epochs.feeders z) (sym made.step) tt;
         begun = subst (λ (z : Option Opened). HasSomeTurn m.epochs.feeders z) (sym made.step) tt;
         rests = subst (λ (z : Option Opened). IsReady z → ⊥) (sym made.step) (λ never. never);
+        id = subst (λ (n : ℕ). m.epochs.id < 2 ^ n) (sym made.at_k) (subst (λ (n : ℕ). n < 2 ^ k) (sym made.at_id) few);
+        rows = subst (λ (th : Meaning). AreRows th m.epochs.store) (sym made.at_theta) (subst (AreRows theta) (sym made.store) rows);
+        step_rows = subst (λ (z : Option Opened). AreStepRows m.epochs.theta.now z) (sym made.step) tt;
       };
       feeders = made.of_feeders ∙ sym made.at_feeders;
       joiners = made.of_joiners ∙ ap (λ n. 2 ^ n) (sym made.at_k);
+      feeder_rows = rows-none m.epochs.theta.now m.of_feeders made.no_feeders;
+      joiner_rows = rows-none m.epochs.theta.now m.of_joiners made.no_joiners;
     }
 
-pub made-stands : (k id shift epoch feeders : ℕ) (theta : Theta) (base : List Tuple) (m : Machine) → k < 9 → shift ≤ k → id < 2 ^ k → 0 < feeders → AllByRecursion (λ (x : Tuple). x.stamp ≤ epoch) base
+pub made-stands : (k id shift epoch feeders : ℕ) (theta : Meaning) (base : List Tuple) (m : Machine) → k < 9 → shift ≤ k → id < 2 ^ k → 0 < feeders → AllByRecursion (λ (x : Tuple). x.stamp ≤ epoch) base → AreRows theta base
     → IsMade k id shift epoch feeders theta base m → StandsBetween (start_of k id shift epoch feeders theta base) no_lists m
-made-stands k id shift epoch feeders theta base m small low few some older made =
-    let sound = made-sound k id shift epoch feeders theta base m small low made in
+made-stands k id shift epoch feeders theta base m small low few some older rows made =
+    let sound = made-sound k id shift epoch feeders theta base m small low few rows made in
     let stuck : IsStuck m = record {
       feeders = λ p less x rest is can. none-stuck _ x rest (made.no_feeders p) is;
       joiners = λ q less x rest is can. none-stuck _ x rest (made.no_joiners q) is;
@@ -129,7 +136,7 @@ made-stands k id shift epoch feeders theta base m small low few some older made 
     (record {
       taken = nothing_taken shift;
       stands = record {
-        fixed = record { k = made.at_k; id = made.at_id; feeders = made.at_feeders; matches = ap (λ (th : Theta). does_hold th) made.at_theta; small = small };
+        fixed = record { k = made.at_k; id = made.at_id; feeders = made.at_feeders; matches = ap (λ (th : Meaning). does_hold th) made.at_theta; small = small };
         now = subst (λ (z : Option Opened). StandsBy (start_of k id shift epoch feeders theta base) (nothing_taken shift) no_lists [] m.epochs z) (sym made.step) (closed-start k id shift epoch feeders theta base m low made);
       };
       feeders = λ p less. made.no_feeders p;

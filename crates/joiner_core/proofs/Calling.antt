@@ -15,7 +15,10 @@ use Rattle.joiner_law.specs.Law.{JoinerStart, JoinerLists}
 use Rattle.joiner_core.specs.Queues.{held_at, DifferInOneBit}
 use Rattle.joiner_core.specs.Whole.{StandsBetween, Receives, IsOfGrid, IsSound, IsKept}
 use Rattle.joiner_core.specs.Flags.{flag_at}
-use Rattle.joiner_core.specs.Taking.{IsStepWithin, IsCounted, HasSomeTurn}
+use Rattle.theta_pred.specs.Formula.{Meaning}
+use Rattle.joiner_core.specs.Widths.{AreRows}
+use Rattle.joiner_core.proofs.Fitting.{to-rows, from-rows}
+use Rattle.joiner_core.specs.Taking.{AreStepRows, IsStepWithin, IsCounted, HasSomeTurn}
 use Rattle.joiner_core.specs.declared.opened.Opened.{Opened}
 use Rattle.joiner_core.specs.Joining.{KeepsLaw, TakesMessage, held_number}
 use Rattle.joiner_core.specs.declared.epochs.Epochs.{Epochs}
@@ -27,7 +30,12 @@ pub keeps : (joiner : Joiner) → KeepsLaw joiner
 keeps joiner s lists stands = keeps-law s lists joiner.machine stands
 
 pub takes : (old new : Joiner) (from : Actor) (m : ToJoiner) (before after : List Post) → Receives from m old.machine new.machine before after → TakesMessage old new from m before after
-takes old new from m before after is = record { added = is.added; sends = is.sends; stands = is.stands }
+takes old new from m before after is = record {
+  added = is.added;
+  sends = is.sends;
+  same = record { of_k = is.fixed.k; of_id = is.fixed.id; of_feeders = is.fixed.feeders; of_theta = is.fixed.theta };
+  stands = is.stands;
+}
 
 -- ---- between calls
 
@@ -56,6 +64,10 @@ step-begun : (n : ℕ) (step : Option Opened) → ((o : Opened) → step ≡ Som
 step-begun n None all = tt
 step-begun n (Some o) all = some-flag n (flag_at o.turned.items) (all o refl)
 
+step-rows : (theta : Meaning) (step : Option Opened) → ((o : Opened) → step ≡ Some o → AreRows theta o.store) → AreStepRows theta step
+step-rows theta None all = tt
+step-rows theta (Some o) all = all o refl
+
 pub to-sound : (m : Machine) → IsKept m → IsSound m
 to-sound m is = record {
   within = record {
@@ -66,9 +78,14 @@ to-sound m is = record {
     count = step-counted m.epochs.feeders m.epochs.step is.count;
     begun = step-begun m.epochs.feeders m.epochs.step is.begun;
     rests = is.rests;
+    id = is.id;
+    rows = is.rows;
+    step_rows = step-rows m.epochs.theta.now m.epochs.step is.step_rows;
   };
   feeders = is.feeders;
   joiners = is.joiners;
+  feeder_rows = to-rows m.epochs.theta.now m.of_feeders is.feeder_rows;
+  joiner_rows = to-rows m.epochs.theta.now m.of_joiners is.joiner_rows;
 }
 
 pub from-sound : (m : Machine) → IsSound m → IsKept m
@@ -84,6 +101,11 @@ from-sound m is = record {
   rests = is.within.rests;
   feeders = is.feeders;
   joiners = is.joiners;
+  id = is.within.id;
+  rows = is.within.rows;
+  step_rows = λ o opens. subst (λ (z : Option Opened). AreStepRows m.epochs.theta.now z) opens is.within.step_rows;
+  feeder_rows = from-rows m.epochs.theta.now m.of_feeders is.feeder_rows;
+  joiner_rows = from-rows m.epochs.theta.now m.of_joiners is.joiner_rows;
 }
 
 -- ---- links

@@ -1,5 +1,5 @@
 -- The machine stands for its lists after each call.
-use Rattle.std.proofs.Common.{◌≡◌, ℕ, zero, suc, ◌+◌, ◌<◌, ◌≤◌, refl, sym, ◌∙◌, ap, subst, arith, Bool, true, false, cond, Option, Some, None, List, [], ◌∷◌, ◌++◌, length, inl, inr, eq-eqb, get_or-set_same, get_or-set_other, append_assoc}
+use Rattle.std.proofs.Common.{◌≡◌, ℕ, zero, suc, ◌+◌, ◌<◌, ◌≤◌, ◌^◌, refl, sym, ◌∙◌, ap, subst, arith, Bool, true, false, cond, Option, Some, None, List, [], ◌∷◌, ◌++◌, length, inl, inr, eq-eqb, get_or-set_same, get_or-set_other, append_assoc}
 use Rattle.std.proofs.lemmas.Bool.{false≢true, cases_eq, ne_eqb}
 use Rattle.std.specs.Prelude.{slice_set, count_by}
 use Rattle.std.proofs.Math.ListN.{length-set}
@@ -27,7 +27,12 @@ use Rattle.joiner_core.specs.declared.opened.Opened.{Opened}
 use Rattle.joiner_core.specs.declared.epochs.Epochs.{Epochs}
 use Rattle.joiner_core.specs.Changes.{after_old, found_old, posts_old, late_found, late_posts, open_old, opened_late, found_late, posts_late, with_new, after_new, found_new, step_new, new_found, after_moved, found_moved, moved_found, IsOpened, posts_opened, part_by, after_part, settled_by, IsReady, turned_in, settle_posts, posts_settled, after_settle, HasTurned, AreAllUp, end_posts, posts_turned, HasBegun, begun_posts, HasOpened}
 use Rattle.joiner_core.specs.Standing.{IsMachineOf, IsClosed, IsOpen, StandsBy, Stands}
-use Rattle.joiner_core.specs.Taking.{IsWithin, IsStepWithin, IsCounted, HasSomeTurn, TupFits, CanTakeTup, TurnFits, CanTakeTurn, TookOfFeeder, TookOfJoiner}
+use Rattle.theta_pred.specs.Formula.{Meaning}
+use Rattle.joiner_core.specs.Stocks.{placed}
+use Rattle.joiner_core.specs.Widths.{IsRow, AreRows}
+use Rattle.joiner_core.proofs.Fitting.{rows-placed, rows-old, rows-new, rows-begun, rows-turned}
+use Rattle.joiner_core.proofs.Bagging.{settled-placed, open-placed, both-placed}
+use Rattle.joiner_core.specs.Taking.{AreStepRows, IsWithin, IsStepWithin, IsCounted, HasSomeTurn, TupFits, CanTakeTup, TurnFits, CanTakeTurn, TookOfFeeder, TookOfJoiner}
 use Rattle.epoch_tags.specs.declared.message.Post.{Post}
 
 pub append-nil : {A : Type 0} (xs : List A) → xs ++ [] ≡ xs
@@ -41,13 +46,13 @@ not_true false never = refl
 -- with no step open
 closed-old : (s : JoinerStart) (t : Taken) (lists : JoinerLists) (waiting : List Pair) (m : Epochs) (x : Tuple) (p : ℕ) → IsMachineOf s m → p < s.feeders → flag_at m.ended.items p ≡ false → x.stamp ≡ m.epoch
     → IsClosed s t lists waiting m
-    → IsClosed s (took_of_feeder p (Tup x) t) lists (waiting ++ (probed (does_hold m.theta.now) all_tuples x m.store ++ [])) (record m { store = m.store ++ x ∷ []; step = None })
+    → IsClosed s (took_of_feeder p (Tup x) t) lists (waiting ++ (probed (does_hold m.theta.now) all_tuples x m.store ++ [])) (record m { store = placed x m.store; step = None })
 closed-old s t lists waiting m x p fixed low going stamp is =
     let at = is.epoch in
     record {
       cur = with_arrived x is.cur;
       past = is.past;
-      stands = rw (append-nil (probed (does_hold m.theta.now) all_tuples x m.store), fixed.matches) (settled-tup s t lists waiting (flag_at m.ended.items) m.store is.cur is.past p x low going (omega arith) is.stands);
+      stands = rw (append-nil (probed (does_hold m.theta.now) all_tuples x m.store), fixed.matches) (settled-placed s _ lists _ _ m.store x _ is.past (settled-tup s t lists waiting (flag_at m.ended.items) m.store is.cur is.past p x low going (omega arith) is.stands));
       epoch = is.epoch;
       shift = is.shift;
       ended_count = is.ended_count;
@@ -68,7 +73,7 @@ open-old : (s : JoinerStart) (t : Taken) (lists : JoinerLists) (waiting : List P
     → IsOpen s (took_of_feeder p (Tup x) t)
     (with_sent lists (posts_late (exchanged_side m.shift o.shift) (partner_in_step m.shift o.shift m.id) o.epoch x))
     (waiting ++ (probed (does_hold m.theta.now) all_tuples x m.store ++ found_late (does_hold m.theta.now) m.k m.id o x))
-    (record m { store = m.store ++ x ∷ []; step = Some (opened_late m.k m.id o x) }) (opened_late m.k m.id o x)
+    (record m { store = placed x m.store; step = Some (opened_late m.k m.id o x) }) (opened_late m.k m.id o x)
 open-old s t lists waiting m o x p fixed low going still stamp is =
     let at = is.epoch in
     let not_all : is.all_turned ≡ false = not_true is.all_turned (λ yes. false≢true (sym still ∙ is.all yes p low)) in
@@ -82,7 +87,7 @@ open-old s t lists waiting m o x p fixed low going still stamp is =
       cur = with_arrived x is.cur;
       past = is.past;
       all_turned = false;
-      stands = rw (fixed.matches, fixed.k, fixed.id, is.shift, is.step_shift) (at_epoch s (took_of_feeder p (Tup x) t) lists waiting _ _ _ m.store _ o.store _ is.new is.cur _ is.past (exchanged_side is.cur.shift is.new.shift) (partner_in_step is.cur.shift is.new.shift s.id) x (holds s.k is.new.shift s.id x) (s.epoch + length is.past + 1) (s.epoch + length (is.cur ∷ is.past)) o.epoch is.step_epoch epoch after);
+      stands = rw (fixed.matches, fixed.k, fixed.id, is.shift, is.step_shift) (both-placed s _ _ _ _ _ _ _ m.store o.store x (holds s.k is.new.shift s.id x) is.new _ is.past (at_epoch s (took_of_feeder p (Tup x) t) lists waiting _ _ _ m.store _ o.store _ is.new is.cur _ is.past (exchanged_side is.cur.shift is.new.shift) (partner_in_step is.cur.shift is.new.shift s.id) x (holds s.k is.new.shift s.id x) (s.epoch + length is.past + 1) (s.epoch + length (is.cur ∷ is.past)) o.epoch is.step_epoch epoch after));
       epoch = is.epoch;
       shift = is.shift;
       step_epoch = is.step_epoch;
@@ -106,9 +111,9 @@ with_sent-none lists = λ i. record {
 
 old-by : (s : JoinerStart) (t : Taken) (lists : JoinerLists) (waiting : List Pair) (m : Epochs) (x : Tuple) (p : ℕ) → IsMachineOf s m → p < s.feeders → flag_at m.ended.items p ≡ false → x.stamp ≡ m.epoch
     → (step : Option Opened) → turned_in step p ≡ false → StandsBy s t lists waiting m step
-    → StandsBy s (took_of_feeder p (Tup x) t) (with_sent lists (late_posts m x step)) (waiting ++ (probed (does_hold m.theta.now) all_tuples x m.store ++ late_found m x step)) (record m { store = m.store ++ x ∷ []; step = open_old m x step }) (open_old m x step)
+    → StandsBy s (took_of_feeder p (Tup x) t) (with_sent lists (late_posts m x step)) (waiting ++ (probed (does_hold m.theta.now) all_tuples x m.store ++ late_found m x step)) (record m { store = placed x m.store; step = open_old m x step }) (open_old m x step)
 old-by s t lists waiting m x p fixed low going stamp None still is =
-    subst (λ (ls : JoinerLists). IsClosed s (took_of_feeder p (Tup x) t) ls (waiting ++ (probed (does_hold m.theta.now) all_tuples x m.store ++ [])) (record m { store = m.store ++ x ∷ []; step = None })) (sym (with_sent-none lists)) (closed-old s t lists waiting m x p fixed low going stamp is)
+    subst (λ (ls : JoinerLists). IsClosed s (took_of_feeder p (Tup x) t) ls (waiting ++ (probed (does_hold m.theta.now) all_tuples x m.store ++ [])) (record m { store = placed x m.store; step = None })) (sym (with_sent-none lists)) (closed-old s t lists waiting m x p fixed low going stamp is)
 old-by s t lists waiting m x p fixed low going stamp (Some o) still is = open-old s t lists waiting m o x p fixed low going still stamp is
 
 -- a tuple of the settled epoch
@@ -141,7 +146,7 @@ open-new s t lists waiting m o x p fixed low going has stamp is =
       cur = is.cur;
       past = is.past;
       all_turned = is.all_turned;
-      stands = rw fixed.matches (open-tup s t lists waiting (flag_at o.turned.items) (flag_at m.ended.items) is.all_turned o.partner_ended m.store o.store is.new is.cur is.past p x low going has (omega arith) is.stands);
+      stands = rw fixed.matches (open-placed s _ _ _ _ _ _ _ m.store o.store x _ is.cur is.past (open-tup s t lists waiting (flag_at o.turned.items) (flag_at m.ended.items) is.all_turned o.partner_ended m.store o.store is.new is.cur is.past p x low going has (omega arith) is.stands));
       epoch = is.epoch;
       shift = is.shift;
       step_epoch = is.step_epoch;
@@ -175,9 +180,9 @@ open-part s t lists waiting m o x fixed is =
       cur = is.cur;
       past = is.past;
       all_turned = is.all_turned;
-      stands = rw fixed.matches
+      stands = rw fixed.matches (open-placed s _ _ _ _ _ _ _ m.store o.store x _ is.cur is.past
           (subst (λ (q : ℕ). StandsOpen s (took_of_joiner q (Moved o.epoch x) t) lists (waiting ++ probed s.matches (only_stamp o.epoch) x o.store) (flag_at o.turned.items) (flag_at m.ended.items) is.all_turned o.partner_ended m.store (o.store ++ x ∷ []) (with_came x is.new) is.cur is.past) (partner-is s t lists waiting m o fixed is)
-          (subst (λ (e : ℕ). StandsOpen s (took_of_joiner (partner_of s t (length is.past)) (Moved o.epoch x) t) lists (waiting ++ probed s.matches (only_stamp e) x o.store) (flag_at o.turned.items) (flag_at m.ended.items) is.all_turned o.partner_ended m.store (o.store ++ x ∷ []) (with_came x is.new) is.cur is.past) (sym next) after));
+          (subst (λ (e : ℕ). StandsOpen s (took_of_joiner (partner_of s t (length is.past)) (Moved o.epoch x) t) lists (waiting ++ probed s.matches (only_stamp e) x o.store) (flag_at o.turned.items) (flag_at m.ended.items) is.all_turned o.partner_ended m.store (o.store ++ x ∷ []) (with_came x is.new) is.cur is.past) (sym next) after)));
       epoch = is.epoch;
       shift = is.shift;
       step_epoch = is.step_epoch;
@@ -431,8 +436,8 @@ rests-new : (x : Tuple) (step : Option Opened) → (IsReady step → ⊥) → Is
 rests-new x None rests ready = ready
 rests-new x (Some o) rests ready = rests ready
 
-pub new-within : (m : Epochs) (x : Tuple) → IsWithin m → IsWithin (after_new m x)
-new-within m x within = record { small = within.small; shift = within.shift; step = within-new m.k x m.step within.step; ended = within.ended; count = count-new m.feeders x m.step within.count; begun = begun-new m.feeders x m.step within.begun; rests = rests-new x m.step within.rests }
+pub new-within : (m : Epochs) (x : Tuple) → IsWithin m → IsRow m.theta.now x → IsWithin (after_new m x)
+new-within m x within row = record { small = within.small; shift = within.shift; step = within-new m.k x m.step within.step; ended = within.ended; count = count-new m.feeders x m.step within.count; begun = begun-new m.feeders x m.step within.begun; rests = rests-new x m.step within.rests; id = within.id; rows = within.rows; step_rows = rows-new m.theta.now x m.step within.step_rows row }
 
 pub quiet-moved : (to epoch : ℕ) (xs : List Tuple) → posted_to_collector (map (moved_post to epoch) xs) ≡ []
 quiet-moved to epoch [] = refl
@@ -465,29 +470,33 @@ pub quiet-settled : (ready : Bool) (m : Epochs) → posted_to_collector (posts_s
 quiet-settled true m = quiet-settle m.step
 quiet-settled false m = refl
 
-pub took-old : (m m' : Epochs) (x : Tuple) (p : ℕ) (found found' : List Pair) (before after : List Post) → IsWithin m → CanTakeTup m p x.stamp → turned_in m.step p ≡ false
+pub took-old : (m m' : Epochs) (x : Tuple) (p : ℕ) (found found' : List Pair) (before after : List Post) → IsWithin m → CanTakeTup m p x.stamp → IsRow m.theta.now x → turned_in m.step p ≡ false
     → m' ≡ after_old m x → found' ≡ found ++ found_old m x → after ≡ before ++ posts_old m x → TookOfFeeder p (Tup x) m m' found found' before after
-took-old m m' x p found found' before after within can still state more posts = rw (state, more, posts) (record {
+took-old m m' x p found found' before after within can row still state more posts = rw (state, more, posts) (record {
   added = posts_old m x;
   sends = refl;
   quiet = quiet-late m x m.step;
-  within = record { small = within.small; shift = within.shift; step = within-old m.k m.id m x m.step within.step; ended = within.ended; count = count-old m.feeders m x m.step within.count; begun = begun-old m.feeders m x m.step within.begun; rests = rests-old m x m.step within.rests };
+  within = record { small = within.small; shift = within.shift; step = within-old m.k m.id m x m.step within.step; ended = within.ended; count = count-old m.feeders m x m.step within.count; begun = begun-old m.feeders m x m.step within.begun; rests = rests-old m x m.step within.rests; id = within.id; rows = rows-placed m.theta.now m.store x within.rows row; step_rows = rows-old m.theta.now m x m.step within.step_rows row };
   k = refl;
+  id = refl;
   feeders = refl;
+  theta = refl;
   going = can.going;
   stands = λ s t lists low is.
       (took_of_feeder p (Tup x) t, record { from_feeder = refl; from_joiner = refl }, stands-old s t lists found m x p low can.going still (fits-old m p x.stamp m.step still can.fits) is);
 })
 
-pub took-new : (m m' : Epochs) (x : Tuple) (p : ℕ) (found found' : List Pair) (before : List Post) → IsWithin m → CanTakeTup m p x.stamp → turned_in m.step p ≡ true
+pub took-new : (m m' : Epochs) (x : Tuple) (p : ℕ) (found found' : List Pair) (before : List Post) → IsWithin m → CanTakeTup m p x.stamp → IsRow m.theta.now x → turned_in m.step p ≡ true
     → m' ≡ after_new m x → found' ≡ found ++ found_new m x → TookOfFeeder p (Tup x) m m' found found' before before
-took-new m m' x p found found' before within can has state more = rw (state, more) (record {
+took-new m m' x p found found' before within can row has state more = rw (state, more) (record {
   added = [];
   sends = sym (append-nil before);
   quiet = refl;
-  within = new-within m x within;
+  within = new-within m x within row;
   k = refl;
+  id = refl;
   feeders = refl;
+  theta = refl;
   going = can.going;
   stands = λ s t lists low is.
       (took_of_feeder p (Tup x) t, record { from_feeder = refl; from_joiner = refl }, subst (λ (ls : JoinerLists). Stands s (took_of_feeder p (Tup x) t) ls (found ++ found_new m x) (after_new m x)) (sym (with_sent-none lists)) (stands-new s t lists found m x p low can has is));
@@ -596,14 +605,15 @@ turned-some n p None step' low has is = subst (λ (z : Option Opened). HasSomeTu
 turned-some n p (Some o) None low has is = absurd has
 turned-some n p (Some o) (Some o') low has is = (p, low, ap (λ fs. flag_at fs p) has.1 ∙ get_or-set_same o.turned.items p true false (omega arith))
 
-settled-within-step : (m : Epochs) (step : Option Opened) → IsReady step → m.k < 9 → IsStepWithin m.k step → length m.ended.items ≡ m.feeders → IsWithin (settled_by m step)
-settled-within-step m None ready small step ended = absurd ready
-settled-within-step m (Some o) ready small step ended = record { small = small; shift = step; step = tt; ended = ended; count = tt; begun = tt; rests = λ never. never }
+settled-within-step : (m : Epochs) (step : Option Opened) → IsReady step → m.k < 9 → IsStepWithin m.k step → length m.ended.items ≡ m.feeders → m.id < 2 ^ m.k → AreStepRows m.theta.now step → IsWithin (settled_by m step)
+settled-within-step m None ready small step ended id rows = absurd ready
+settled-within-step m (Some o) ready small step ended id rows = record { small = small; shift = step; step = tt; ended = ended; count = tt; begun = tt; rests = λ never. never; id = id; rows = rows; step_rows = tt }
 
 pub settled-within : (m : Epochs) (ready : Bool) → (ready ≡ true → IsReady m.step) → (ready ≡ false → IsReady m.step → ⊥)
-    → m.k < 9 → m.shift ≤ m.k → IsStepWithin m.k m.step → length m.ended.items ≡ m.feeders → IsCounted m.feeders m.step → HasSomeTurn m.feeders m.step → IsWithin (after_settle ready m)
-settled-within m true settles not_yet small low step ended count begun = settled-within-step m m.step (settles refl) small step ended
-settled-within m false settles not_yet small low step ended count begun = record { small = small; shift = low; step = step; ended = ended; count = count; begun = begun; rests = not_yet refl }
+    → m.k < 9 → m.shift ≤ m.k → IsStepWithin m.k m.step → length m.ended.items ≡ m.feeders → IsCounted m.feeders m.step → HasSomeTurn m.feeders m.step
+    → m.id < 2 ^ m.k → AreRows m.theta.now m.store → AreStepRows m.theta.now m.step → IsWithin (after_settle ready m)
+settled-within m true settles not_yet small low step ended count begun id rows step_rows = settled-within-step m m.step (settles refl) small step ended id step_rows
+settled-within m false settles not_yet small low step ended count begun id rows step_rows = record { small = small; shift = low; step = step; ended = ended; count = count; begun = begun; rests = not_yet refl; id = id; rows = rows; step_rows = step_rows }
 
 pub settled-k : (m : Epochs) (ready : Bool) → (after_settle ready m).k ≡ m.k
 settled-k m true = by m.step
@@ -621,6 +631,22 @@ settled-feeders m true = by m.step
     by (Some o) = refl
 settled-feeders m false = refl
 
+pub settled-id : (m : Epochs) (ready : Bool) → (after_settle ready m).id ≡ m.id
+settled-id m true = by m.step
+  where
+    by : (step : Option Opened) → (settled_by m step).id ≡ m.id
+    by None = refl
+    by (Some o) = refl
+settled-id m false = refl
+
+pub settled-theta : (m : Epochs) (ready : Bool) → (after_settle ready m).theta.now ≡ m.theta.now
+settled-theta m true = by m.step
+  where
+    by : (step : Option Opened) → (settled_by m step).theta.now ≡ m.theta.now
+    by None = refl
+    by (Some o) = refl
+settled-theta m false = refl
+
 pub took-turn : (m m1 m2 m3 : Epochs) (p epoch shift : ℕ) (last ready : Bool) (waiting : List Pair) (before s1 s2 after : List Post) → p < m.feeders → IsWithin m → CanTakeTurn m p epoch shift
     → m1 ≡ record m { step = m1.step } → HasBegun m epoch shift m.step m1.step → s1 ≡ before ++ begun_posts m epoch shift m.step
     → m2 ≡ record m1 { step = m2.step } → HasTurned p m1.step m2.step → (last ≡ true → AreAllUp m2.step) → (last ≡ false → AreAllUp m2.step → ⊥) → s2 ≡ s1 ++ posts_turned m1 last
@@ -634,12 +660,20 @@ took-turn m m1 m2 m3 p epoch shift last ready waiting before s1 s2 after few wit
     let step2 : IsStepWithin m.k m2.step = turned-within m.k p m1.step m2.step turned step1 in
     let n2 : m2.feeders ≡ m.feeders = ap (λ (z : Epochs). z.feeders) rest2 ∙ ap (λ (z : Epochs). z.feeders) rest1 in
     let count1 : IsCounted m.feeders m1.step = begun-count m epoch shift m.step m1.step within.count begun in
+    let i2 : m2.id ≡ m.id = ap (λ (z : Epochs). z.id) rest2 ∙ ap (λ (z : Epochs). z.id) rest1 in
+    let th2 : m2.theta.now ≡ m.theta.now = ap (λ (z : Epochs). z.theta.now) rest2 ∙ ap (λ (z : Epochs). z.theta.now) rest1 in
+    let store2 : m2.store ≡ m.store = ap (λ (z : Epochs). z.store) rest2 ∙ ap (λ (z : Epochs). z.store) rest1 in
+    let rows1 : AreStepRows m.theta.now m1.step = rows-begun m.theta.now m epoch shift m.step m1.step within.rows within.step_rows begun in
+    let rows2 : AreStepRows m.theta.now m2.step = rows-turned m.theta.now p m1.step m2.step turned rows1 in
     let within3 : IsWithin (after_settle ready m2) =
     settled-within m2 ready settles not_yet (let small = within.small in omega arith) (let low = within.shift in omega arith)
     (subst (λ (n : ℕ). IsStepWithin n m2.step) (sym k2) step2)
     (ap (λ (z : Epochs). length z.ended.items) rest2 ∙ ap (λ (z : Epochs). length z.ended.items) rest1 ∙ within.ended ∙ sym n2)
     (subst (λ (n : ℕ). IsCounted n m2.step) (sym n2) (turned-count m.feeders p m1.step m2.step turned count1))
-    (subst (λ (n : ℕ). HasSomeTurn n m2.step) (sym n2) (turned-some m.feeders p m1.step m2.step few turned count1)) in
+    (subst (λ (n : ℕ). HasSomeTurn n m2.step) (sym n2) (turned-some m.feeders p m1.step m2.step few turned count1))
+    (subst (λ (n : ℕ). m2.id < 2 ^ n) (sym k2) (subst (λ (n : ℕ). n < 2 ^ m.k) (sym i2) within.id))
+    (subst (λ (th : Meaning). AreRows th m2.store) (sym th2) (subst (AreRows m.theta.now) (sym store2) within.rows))
+    (subst (λ (th : Meaning). AreStepRows th m2.step) (sym th2) rows2) in
     record {
       added = begun_posts m epoch shift m.step ++ posts_turned m1 last ++ posts_settled ready m2;
       sends = posts3 ∙ ap (λ zs. zs ++ posts_settled ready m2) (posts2 ∙ ap (λ zs. zs ++ posts_turned m1 last) posts1)
@@ -647,7 +681,9 @@ took-turn m m1 m2 m3 p epoch shift last ready waiting before s1 s2 after few wit
       quiet = quiet-append (begun_posts m epoch shift m.step ++ posts_turned m1 last) (posts_settled ready m2) (quiet-append (begun_posts m epoch shift m.step) (posts_turned m1 last) (quiet-begun m epoch shift m.step) (quiet-turned m1 last)) (quiet-settled ready m2);
       within = rw state within3;
       k = ap (λ (z : Epochs). z.k) state ∙ settled-k m2 ready ∙ k2;
+      id = ap (λ (z : Epochs). z.id) state ∙ settled-id m2 ready ∙ i2;
       feeders = ap (λ (z : Epochs). z.feeders) state ∙ settled-feeders m2 ready ∙ n2;
+      theta = ap (λ (z : Epochs). z.theta.now) state ∙ settled-theta m2 ready ∙ th2;
       going = can.going;
       stands = λ s t lists low is.
           let fixed = is.fixed in

@@ -19,8 +19,10 @@ use Rattle.joiner_core.specs.declared.epochs.Epochs.{Epochs}
 use Rattle.joiner_core.specs.Changes.{after_moved, found_moved, moved_found, step_new, with_new, part_by, after_part, IsReady, posts_settled, after_settle}
 use Rattle.joiner_core.specs.Standing.{IsMachineOf, IsClosed, IsOpen, StandsBy, Stands}
 use Rattle.joiner_core.specs.Taking.{IsWithin, IsStepWithin, IsCounted, HasSomeTurn, TookOfFeeder, TookOfJoiner}
+use Rattle.joiner_core.specs.Widths.{IsRow}
 use Rattle.joiner_core.specs.Tests.{PartFits}
-use Rattle.joiner_core.proofs.Keeping.{quiet-settled, append-nil, closed-end, flag-set, open-part, open-part_end, stands-settled, settled-within, settled-k, settled-feeders, new-within, with_sent-none}
+use Rattle.joiner_core.proofs.Fitting.{rows-part}
+use Rattle.joiner_core.proofs.Keeping.{quiet-settled, append-nil, closed-end, flag-set, open-part, open-part_end, stands-settled, settled-within, settled-k, settled-id, settled-feeders, settled-theta, new-within, with_sent-none}
 
 -- ---- a feeder's end
 
@@ -81,9 +83,11 @@ took-end m m' p waiting before within going state flags = record {
   added = [];
   sends = sym (append-nil before);
   quiet = refl;
-  within = subst (λ (z : Epochs). IsWithin z) (sym state) (record { small = within.small; shift = within.shift; step = within.step; ended = ap length flags ∙ length-set m.ended.items p true ∙ within.ended; count = within.count; begun = within.begun; rests = within.rests });
+  within = subst (λ (z : Epochs). IsWithin z) (sym state) (record { small = within.small; shift = within.shift; step = within.step; ended = ap length flags ∙ length-set m.ended.items p true ∙ within.ended; count = within.count; begun = within.begun; rests = within.rests; id = within.id; rows = within.rows; step_rows = within.step_rows });
   k = ap (λ (z : Epochs). z.k) state;
+  id = ap (λ (z : Epochs). z.id) state;
   feeders = ap (λ (z : Epochs). z.feeders) state;
+  theta = ap (λ (z : Epochs). z.theta.now) state;
   going = going;
   stands = λ s t lists low is.
       let fixed = is.fixed in
@@ -112,15 +116,17 @@ fits-open : (m : Epochs) (q epoch : ℕ) (step : Option Opened) → PartFits m q
 fits-open m q epoch None fits is = fits
 fits-open m q epoch (Some o) fits is = absurd (cc)
 
-pub took-moved : (m m' : Epochs) (q epoch : ℕ) (x : Tuple) (w w' : List Pair) (before : List Post) → IsWithin m → m' ≡ after_moved m x → w' ≡ w ++ found_moved m x → PartFits m q epoch m.step
+pub took-moved : (m m' : Epochs) (q epoch : ℕ) (x : Tuple) (w w' : List Pair) (before : List Post) → IsWithin m → IsRow m.theta.now x → m' ≡ after_moved m x → w' ≡ w ++ found_moved m x → PartFits m q epoch m.step
     → TookOfJoiner q (Moved epoch x) m m' w w' before before
-took-moved m m' q epoch x w w' before within state more fits = rw (state, more) (record {
+took-moved m m' q epoch x w w' before within row state more fits = rw (state, more) (record {
   added = [];
   sends = sym (append-nil before);
   quiet = refl;
-  within = new-within m x within;
+  within = new-within m x within row;
   k = refl;
+  id = refl;
   feeders = refl;
+  theta = refl;
   opened = fits-open m q epoch m.step fits;
   stands = λ s t lists is.
       let fixed = is.fixed in
@@ -157,7 +163,7 @@ part-begun n (Some o) is = is
 
 ended-within : (m m1 : Epochs) (ready : Bool) → IsWithin m → m1 ≡ after_part m → (ready ≡ true → IsReady m1.step) → (ready ≡ false → IsReady m1.step → ⊥) → IsWithin (after_settle ready m1)
 ended-within m m1 ready within part = subst (λ (z : Epochs). (ready ≡ true → IsReady z.step) → (ready ≡ false → IsReady z.step → ⊥) → IsWithin (after_settle ready z)) (sym part)
-    (λ settles not_yet. settled-within (after_part m) ready settles not_yet within.small within.shift (part-within m.k m.step within.step) within.ended (part-count m.feeders m.step within.count) (part-begun m.feeders m.step within.begun))
+    (λ settles not_yet. settled-within (after_part m) ready settles not_yet within.small within.shift (part-within m.k m.step within.step) within.ended (part-count m.feeders m.step within.count) (part-begun m.feeders m.step within.begun) within.id within.rows (rows-part m.theta.now m.step within.step_rows))
 
 pub took-moved_end : (m m1 m2 : Epochs) (q epoch : ℕ) (ready : Bool) (w : List Pair) (before after : List Post) → IsWithin m → m1 ≡ after_part m → (ready ≡ true → IsReady m1.step) → (ready ≡ false → IsReady m1.step → ⊥)
     → m2 ≡ after_settle ready m1 → after ≡ before ++ posts_settled ready m1 → PartFits m q epoch m.step → TookOfJoiner q (MovedEnd epoch) m m2 w w before after
@@ -167,7 +173,9 @@ took-moved_end m m1 m2 q epoch ready w before after within part settles not_yet 
   quiet = quiet-settled ready m1;
   within = subst (λ (z : Epochs). IsWithin z) (sym state) (ended-within m m1 ready within part settles not_yet);
   k = ap (λ (z : Epochs). z.k) state ∙ settled-k m1 ready ∙ ap (λ (z : Epochs). z.k) part;
+  id = ap (λ (z : Epochs). z.id) state ∙ settled-id m1 ready ∙ ap (λ (z : Epochs). z.id) part;
   feeders = ap (λ (z : Epochs). z.feeders) state ∙ settled-feeders m1 ready ∙ ap (λ (z : Epochs). z.feeders) part;
+  theta = ap (λ (z : Epochs). z.theta.now) state ∙ settled-theta m1 ready ∙ ap (λ (z : Epochs). z.theta.now) part;
   opened = fits-open m q epoch m.step fits;
   stands = λ s t lists is.
       let fixed = is.fixed in

@@ -23,6 +23,8 @@ use Rattle.joiner_law.specs.Standing.{one_if, with_sent, pairs_sent, ArePairs}
 use Rattle.joiner_core.specs.Queues.{held_at}
 use Rattle.joiner_core.specs.Standing.{StandsBy, Stands}
 use Rattle.joiner_core.specs.Taking.{HasSomeTurn}
+use Rattle.joiner_core.specs.Taking.{IsFixed}
+use Rattle.joiner_core.proofs.Advancing.{fixed-then}
 use Rattle.joiner_core.specs.Whole.{StandsWithin, StandsBetween, IsStart, Collects, IsResting, IsOfGrid, Advances, IsSound, IsStuck, Accepts, Receives, TellsFin, HasFinished, with_message, found_posts, fin_posts, fin_of}
 use Rattle.joiner_core.specs.declared.opened.Opened.{Opened}
 use Rattle.joiner_core.specs.declared.epochs.Epochs.{Epochs}
@@ -233,10 +235,11 @@ receives from m old a b new w0 w1 w2 p0 p1 p2 p3 p4 grid none accepts sound adva
     let a2 = advances.added in
     let a3 = found_posts w2 in
     let a4 = fin_posts tells.now b in
-    let sound' : IsSound new = subst (λ (z : Machine). IsSound z) (sym state) (record { within = sound.within; feeders = sound.feeders; joiners = sound.joiners }) in
+    let sound' : IsSound new = subst (λ (z : Machine). IsSound z) (sym state) (record { within = sound.within; feeders = sound.feeders; joiners = sound.joiners; feeder_rows = sound.feeder_rows; joiner_rows = sound.joiner_rows }) in
     let stuck' : IsStuck new = subst (λ (z : Machine). IsStuck z) (sym state) (record { feeders = stuck.feeders; joiners = stuck.joiners }) in
     record {
       sound = sound';
+      fixed = subst (λ (z : Machine). IsFixed old.epochs z.epochs) (sym state) (fixed-then old.epochs a.epochs b.epochs accepts.fixed advances.fixed);
       added = ((a1 ++ a2) ++ a3) ++ a4;
       sends = tells.sends ∙ ap (λ zs. zs ++ a4) (found ∙ ap (λ zs. zs ++ a3) (advances.sends ∙ ap (λ zs. zs ++ a2) accepts.sends ∙ append_assoc p0 a1 a2) ∙ append_assoc p0 (a1 ++ a2) a3) ∙ append_assoc p0 ((a1 ++ a2) ++ a3) a4;
       stands = λ s lists is.

@@ -8,13 +8,14 @@ use Rattle.migration_plan.specs.Steps.{holds, is_of, exchanged_side, partner_in_
 use Rattle.joiner_law.specs.History.{probed, all_tuples, only_stamp}
 use Rattle.joiner_law.specs.Posting.{moved_post, moved_end_post, settled_post}
 use Rattle.joiner_core.specs.Matching.{does_hold}
+use Rattle.joiner_core.specs.Stocks.{placed}
 use Rattle.joiner_core.specs.Flags.{flag_at, IsEachUp}
 use Rattle.joiner_core.specs.declared.opened.Opened.{Opened}
 use Rattle.joiner_core.specs.declared.epochs.Epochs.{Epochs}
 
 -- a list to which the tuple was added if it is kept
 abbrev pub kept_at_end : Bool → Tuple → List Tuple → List Tuple
-kept_at_end kept x b = cond kept (b ++ x ∷ []) b
+kept_at_end kept x b = cond kept (placed x b) b
 
 -- ---- a late tuple
 
@@ -34,7 +35,7 @@ open_old m x None = None
 open_old m x (Some o) = Some (opened_late m.k m.id o x)
 
 abbrev pub after_old : Epochs → Tuple → Epochs
-after_old m x = record m { store = m.store ++ x ∷ []; step = open_old m x m.step }
+after_old m x = record m { store = placed x m.store; step = open_old m x m.step }
 
 abbrev pub late_found : Epochs → Tuple → Option Opened → List Pair
 late_found m x None = []
@@ -53,7 +54,7 @@ posts_old m x = late_posts m x m.step
 -- ---- a tuple of the open step
 
 abbrev pub with_new : Opened → Tuple → Opened
-with_new o x = record o { store = o.store ++ x ∷ [] }
+with_new o x = record o { store = placed x o.store }
 
 abbrev pub step_new : Tuple → Option Opened → Option Opened
 step_new x None = None

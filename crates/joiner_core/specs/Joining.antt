@@ -4,6 +4,7 @@ use Rattle.join_rows.specs.Lists.{total}
 use Rattle.epoch_tags.specs.declared.actor.Actor.{Actor}
 use Rattle.epoch_tags.specs.declared.message.Post.{Post}
 use Rattle.epoch_tags.specs.declared.message.ToJoiner.{ToJoiner}
+use Rattle.theta_pred.specs.Formula.{Meaning}
 use Rattle.joiner_law.specs.Law.{JoinerStart, JoinerLists, JoinerLaw, Taken}
 use Rattle.joiner_law.specs.Standing.{with_sent}
 use Rattle.joiner_core.specs.Whole.{StandsBetween, with_message}
@@ -23,6 +24,17 @@ id_of joiner = joiner.machine.epochs.id
 
 abbrev pub feeders_of : Joiner → ℕ
 feeders_of joiner = joiner.machine.epochs.feeders
+
+-- what its predicate says
+abbrev pub theta_of : Joiner → Meaning
+theta_of joiner = joiner.machine.epochs.theta.now
+
+-- it is joiner `id` of 2 ^ k, hears so many feeders and joins by this predicate
+pub record IsJoiner (k id feeders : ℕ) (theta : Meaning) (joiner : Joiner) : Type 0 where
+  pub of_k : k_of joiner ≡ k
+  pub of_id : id_of joiner ≡ id
+  pub of_feeders : feeders_of joiner ≡ feeders
+  pub of_theta : theta_of joiner ≡ theta
 
 -- it began by s, and these lists are what it has received and sent
 abbrev pub StandsFor : JoinerStart → JoinerLists → Joiner → Type 0
@@ -46,4 +58,5 @@ KeepsLaw joiner = (s : JoinerStart) (lists : JoinerLists) (stands : StandsFor s 
 pub record TakesMessage (old new : Joiner) (from : Actor) (m : ToJoiner) (before after : List Post) : Type 0 where
   pub added : List Post
   pub sends : after ≡ before ++ added
+  pub same : IsJoiner (k_of old) (id_of old) (feeders_of old) (theta_of old) new
   pub stands : (s : JoinerStart) (lists : JoinerLists) → StandsFor s lists old → StandsFor s (with_sent (with_message from m lists) added) new

@@ -2,6 +2,8 @@ pub mod Flags
 pub mod Queues
 pub mod Matching
 pub mod Probes
+pub mod Stocks
+pub mod Widths
 pub mod Changes
 pub mod Standing
 pub mod Taking

@@ -1,7 +1,9 @@
--- A predicate, which stands for the one of a text.
-use Rattle.std.specs.Prelude.{Bool, ◌||◌, ◌==◌}
+-- The predicate, as a test of two tuples.
+use Rattle.std.specs.Prelude.{Bool}
 use Rattle.epoch_tags.specs.declared.tuple.Tuple.{Tuple}
-use Rattle.joiner_core.specs.declared.theta.Theta.{Theta}
+use Rattle.theta_pred.specs.Formula.{Meaning}
+use Rattle.theta_pred.specs.Truth.{holds}
 
-abbrev pub does_hold : Theta → Tuple → Tuple → Bool
-does_hold theta r q = theta.of_all || (r.ticket == q.ticket)
+-- whether it is true of the rows of a tuple of R and one of S
+abbrev pub does_hold : Meaning → Tuple → Tuple → Bool
+does_hold theta r q = holds theta r.cells q.cells

@@ -1,5 +1,5 @@
 -- What the machine can take, and what taking it does to the lists for which the machine stands.
-use Rattle.std.specs.Prelude.{◌≡◌, ℕ, ◌+◌, ◌<◌, ◌≤◌, Bool, true, false, Option, Some, None, ⊤, List, [], ◌++◌, length}
+use Rattle.std.specs.Prelude.{◌≡◌, ℕ, ◌+◌, ◌<◌, ◌≤◌, ◌^◌, Bool, true, false, Option, Some, None, ⊤, List, [], ◌++◌, length}
 use Rattle.epoch_tags.specs.declared.tuple.Tuple.{Tuple}
 use Rattle.epoch_tags.specs.declared.tuple.Pair.{Pair}
 use Rattle.epoch_tags.specs.declared.message.Post.{Post}
@@ -9,6 +9,8 @@ use Rattle.epoch_tags.specs.Posts.{posted_to_collector}
 use Rattle.joiner_law.specs.Law.{JoinerStart, JoinerLists, Taken}
 use Rattle.joiner_law.specs.Standing.{grown, with_sent}
 use Rattle.joiner_core.specs.Flags.{flag_at}
+use Rattle.joiner_core.specs.Widths.{AreRows}
+use Rattle.theta_pred.specs.Formula.{Meaning}
 use Rattle.joiner_core.specs.Standing.{Stands}
 use Rattle.joiner_core.specs.Changes.{IsReady}
 use Rattle.joiner_core.specs.declared.opened.Opened.{Opened}
@@ -28,6 +30,11 @@ abbrev pub IsCounted : ℕ → Option Opened → Type 0
 IsCounted feeders None = ⊤
 IsCounted feeders (Some o) = length o.turned.items ≡ feeders
 
+-- the rows of the open step's store have the predicate's widths
+abbrev pub AreStepRows : Meaning → Option Opened → Type 0
+AreStepRows theta None = ⊤
+AreStepRows theta (Some o) = AreRows theta o.store
+
 -- what holds of the machine between two messages
 pub record IsWithin (m : Epochs) : Type 0 where
   pub small : m.k < 9
@@ -37,6 +44,9 @@ pub record IsWithin (m : Epochs) : Type 0 where
   pub count : IsCounted m.feeders m.step
   pub begun : HasSomeTurn m.feeders m.step
   pub rests : IsReady m.step → ⊥
+  pub id : m.id < 2 ^ m.k
+  pub rows : AreRows m.theta.now m.store
+  pub step_rows : AreStepRows m.theta.now m.step
 
 abbrev pub TupFits : Epochs → ℕ → ℕ → Option Opened → Type 0
 TupFits m p stamp None = stamp ≡ m.epoch
@@ -56,6 +66,13 @@ pub record CanTakeTurn (m : Epochs) (p epoch shift : ℕ) : Type 0 where
   pub going : flag_at m.ended.items p ≡ false
   pub fits : TurnFits m p epoch shift m.step
 
+-- what no call changes
+pub record IsFixed (old new : Epochs) : Type 0 where
+  pub k : new.k ≡ old.k
+  pub id : new.id ≡ old.id
+  pub feeders : new.feeders ≡ old.feeders
+  pub theta : new.theta.now ≡ old.theta.now
+
 -- what was taken before, with this message of feeder p; an epoch may have got its shift
 pub record IsAfter (p : ℕ) (m : ToJoiner) (t t' : Taken) : Type 0 where
   pub from_feeder : t'.from_feeder ≡ grown p m t.from_feeder
@@ -68,7 +85,9 @@ pub record TookOfFeeder (p : ℕ) (m : ToJoiner) (old new : Epochs) (waiting wai
   pub quiet : posted_to_collector added ≡ []
   pub within : IsWithin new
   pub k : new.k ≡ old.k
+  pub id : new.id ≡ old.id
   pub feeders : new.feeders ≡ old.feeders
+  pub theta : new.theta.now ≡ old.theta.now
   pub going : flag_at old.ended.items p ≡ false
   pub stands : (s : JoinerStart) (t : Taken) (lists : JoinerLists) → p < s.feeders → Stands s t lists waiting old
       → (t' : Taken) × IsAfter p m t t' × Stands s t' (with_sent lists added) waiting' new
@@ -85,7 +104,9 @@ pub record TookOfJoiner (q : ℕ) (m : ToJoiner) (old new : Epochs) (waiting wai
   pub quiet : posted_to_collector added ≡ []
   pub within : IsWithin new
   pub k : new.k ≡ old.k
+  pub id : new.id ≡ old.id
   pub feeders : new.feeders ≡ old.feeders
+  pub theta : new.theta.now ≡ old.theta.now
   pub opened : old.step ≡ None → ⊥
   pub stands : (s : JoinerStart) (t : Taken) (lists : JoinerLists) → Stands s t lists waiting old
       → (t' : Taken) × IsAfterJoiner q m t t' × Stands s t' (with_sent lists added) waiting' new

@@ -12,13 +12,14 @@ use Rattle.join_rows.specs.declared.table.Side.TheVariants.{R, S}
 use Rattle.migration_plan.specs.Steps.{is_of}
 use Rattle.joiner_core.specs.Flags.{IsEachUp, flag_at}
 use Rattle.joiner_core.specs.Matching.{does_hold}
-use Rattle.joiner_core.specs.declared.theta.Theta.{Theta}
+use Rattle.theta_pred.specs.Formula.{Meaning}
+use Rattle.joiner_core.specs.Widths.{AreRows, HoldsRows, CarriesRows}
 use Rattle.epoch_tags.specs.declared.tuple.Tuple.{Tuple}
 use Rattle.joiner_law.specs.Law.{JoinerStart, JoinerLists, Taken, CanTakeOfFeeder, CanTakeOfJoiner, IsTakenOf, received_count}
 use Rattle.joiner_law.specs.Standing.{grown, with_sent}
 use Rattle.joiner_core.specs.Queues.{held_at}
 use Rattle.joiner_core.specs.Queues.{BeginsWith}
-use Rattle.joiner_core.specs.Taking.{IsWithin}
+use Rattle.joiner_core.specs.Taking.{IsWithin, IsFixed}
 use Rattle.joiner_core.specs.Changes.{IsReady}
 use Rattle.joiner_core.specs.declared.opened.Opened.{Opened}
 use Rattle.joiner_core.specs.Tests.{TakesOfFeeder, TakesOfJoiner}
@@ -46,6 +47,7 @@ pub record Advances (old new : Machine) (waiting waiting' : List Pair) (before a
   pub sends : after ≡ before ++ added
   pub quiet : posted_to_collector added ≡ []
   pub told : new.told ≡ old.told
+  pub fixed : IsFixed old.epochs new.epochs
   pub rests : IsResting old.epochs → (new.epochs ≡ old.epochs) × (waiting' ≡ waiting)
   pub stands : (s : JoinerStart) (lists : JoinerLists) → StandsWithin s lists waiting old → StandsWithin s (with_sent lists added) waiting' new
 
@@ -58,6 +60,8 @@ pub record IsSound (m : Machine) : Type 0 where
   pub within : IsWithin m.epochs
   pub feeders : length m.of_feeders ≡ m.epochs.feeders
   pub joiners : length m.of_joiners ≡ 2 ^ m.epochs.k
+  pub feeder_rows : HoldsRows m.epochs.theta.now m.of_feeders
+  pub joiner_rows : HoldsRows m.epochs.theta.now m.of_joiners
 
 -- the same, with each fact a proposition
 pub record IsKept (m : Machine) : Type 0 where
@@ -70,6 +74,11 @@ pub record IsKept (m : Machine) : Type 0 where
   pub rests : IsReady m.epochs.step → ⊥
   pub feeders : length m.of_feeders ≡ m.epochs.feeders
   pub joiners : length m.of_joiners ≡ 2 ^ m.epochs.k
+  pub id : m.epochs.id < 2 ^ m.epochs.k
+  pub rows : AreRows m.epochs.theta.now m.epochs.store
+  pub step_rows : (o : Opened) → m.epochs.step ≡ Some o → AreRows m.epochs.theta.now o.store
+  pub feeder_rows : CarriesRows m.epochs.theta.now m.of_feeders
+  pub joiner_rows : CarriesRows m.epochs.theta.now m.of_joiners
 
 -- the first message held of that sender can be taken
 pub record IsReadyOfFeeder (m : Machine) (p : ℕ) : Type 0 where
@@ -162,6 +171,7 @@ pub record Accepts (from : Actor) (m : ToJoiner) (old new : Machine) (waiting wa
   pub sends : after ≡ before ++ added
   pub quiet : posted_to_collector added ≡ []
   pub told : new.told ≡ old.told
+  pub fixed : IsFixed old.epochs new.epochs
   pub rests : IsResting old.epochs → (new.epochs ≡ old.epochs) × (waiting' ≡ waiting)
   pub stands : (s : JoinerStart) (lists : JoinerLists) → StandsWithin s lists waiting old → StandsWithin s (with_sent (with_message from m lists) added) waiting' new
 
@@ -185,6 +195,7 @@ pub record TellsFin (m : Machine) (told : Bool) (before after : List Post) : Typ
 -- a call that took or held a message: for whatever lists the machine stood, it stands for them with the message and the new posts
 pub record Receives (from : Actor) (m : ToJoiner) (old new : Machine) (before after : List Post) : Type 0 where
   pub sound : IsSound new
+  pub fixed : IsFixed old.epochs new.epochs
   pub added : List Post
   pub sends : after ≡ before ++ added
   pub stands : (s : JoinerStart) (lists : JoinerLists) → StandsBetween s lists old → StandsBetween s (with_sent (with_message from m lists) added) new
@@ -194,12 +205,12 @@ pub record Receives (from : Actor) (m : ToJoiner) (old new : Machine) (before af
 abbrev pub no_lists : JoinerLists
 no_lists = record { from_feeder = λ p. []; from_joiner = λ q. []; to_joiner = λ j. []; to_controller = []; to_collector = [] }
 
-abbrev pub start_of : ℕ → ℕ → ℕ → ℕ → ℕ → Theta → List Tuple → JoinerStart
+abbrev pub start_of : ℕ → ℕ → ℕ → ℕ → ℕ → Meaning → List Tuple → JoinerStart
 start_of k id shift epoch feeders theta base =
     record { k = k; feeders = feeders; id = id; matches = does_hold theta; epoch = epoch; shift = shift; base = base }
 
 -- how the code makes it
-pub record IsMade (k id shift epoch feeders : ℕ) (theta : Theta) (base : List Tuple) (m : Machine) : Type 0 where
+pub record IsMade (k id shift epoch feeders : ℕ) (theta : Meaning) (base : List Tuple) (m : Machine) : Type 0 where
   pub at_k : m.epochs.k ≡ k
   pub at_id : m.epochs.id ≡ id
   pub at_shift : m.epochs.shift ≡ shift

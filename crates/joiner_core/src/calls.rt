@@ -1,5 +1,5 @@
 // What callers do with a joiner.
-ghost use Rattle.std.specs.Prelude.{◌≡◌, ℕ, ◌+◌, ◌-◌, ◌<◌, ◌^◌, ◌≤◌, min, false, true, [], OnOk, OnErr, IfOk};
+ghost use Rattle.std.specs.Prelude.{◌≡◌, ℕ, ◌+◌, ◌-◌, ◌<◌, ◌^◌, ◌≤◌, min, false, true, [], OnOk, OnErr, IfOk, None};
 ghost use Rattle.std.specs.List.{AllByRecursion};
 ghost use Rattle.join_rows.specs.Lists.{SameBag};
 ghost use Rattle.epoch_tags.specs.declared.actor.Actor.TheVariants.{Joiner as Joiner'};
@@ -7,14 +7,18 @@ ghost use Rattle.epoch_tags.specs.declared.tuple.Tuple.{Tuple};
 ghost use Rattle.epoch_tags.specs.Links.{HasLink};
 ghost use Rattle.joiner_law.specs.Law.{JoinerStart, JoinerLists, IsFinished, store};
 ghost use Rattle.joiner_core.specs.Whole.{start_of, no_lists};
-ghost use Rattle.joiner_core.specs.Joining.{IsSpent, StandsFor, taken_of, held_number, k_of, id_of, feeders_of, KeepsLaw, TakesMessage};
+ghost use Rattle.joiner_core.specs.Stocks.{tuples_of};
+ghost use Rattle.joiner_core.specs.Widths.{AreRows, HasRow};
+ghost use Rattle.joiner_core.specs.Joining.{IsSpent, IsJoiner, theta_of, StandsFor, taken_of, held_number, k_of, id_of, feeders_of, KeepsLaw, TakesMessage};
 
+use crate::fits::has_row;
 use crate::joiner::Joiner;
 use crate::machine::Machine;
-use crate::store::Store;
-use crate::theta::Theta;
+use crate::stock::Stock;
 use epoch_tags::{Actor, Sends, ToJoiner};
 use std::alloc::{AllocError, Global};
+use store_parts::Store;
+use theta_pred::Theta;
 
 impl<'a> Joiner<'a> {
     /// Joiner `id` of `2^k`, at epoch 0 and with an empty store. Each feeder has a link to it.
@@ -30,11 +34,21 @@ impl<'a> Joiner<'a> {
         requires shift { shift ≤ k }
         requires id { id < 2 ^ k }
         requires feeders { 0 < feeders }
+        ensures seat { IfOk result (λ joiner. IsJoiner k id feeders theta.now joiner) }
         ensures going { IfOk result (λ joiner. ¬ IsSpent joiner) }
         ensures stands { IfOk result (λ joiner. StandsFor (start_of k id shift 0 feeders theta.now []) no_lists joiner) }
         ensures law { IfOk result (λ joiner. KeepsLaw joiner) }
     {
-        Joiner::start_at(alloc, k, id, shift, 0, feeders, theta, Store::new(alloc))
+        Joiner::start_at(
+            alloc,
+            k,
+            id,
+            shift,
+            0,
+            feeders,
+            theta,
+            Store::new(alloc, None),
+        )
     }
 
     /// Joiner `id` of `2^k`, settled at this epoch and shift and with this store. Its last message counts the moves of
@@ -53,12 +67,24 @@ impl<'a> Joiner<'a> {
         requires shift { shift ≤ k }
         requires id { id < 2 ^ k }
         requires feeders { 0 < feeders }
-        requires base { AllByRecursion (λ (x : Tuple). x.stamp ≤ epoch) base }
+        requires base { AllByRecursion (λ (x : Tuple). x.stamp ≤ epoch) (tuples_of base) }
+        requires rows { AreRows theta.now (tuples_of base) }
+        requires key { base.key ≡ None }
+        ensures seat { IfOk result (λ joiner. IsJoiner k id feeders theta.now joiner) }
         ensures going { IfOk result (λ joiner. ¬ IsSpent joiner) }
-        ensures stands { IfOk result (λ joiner. StandsFor (start_of k id shift epoch feeders theta.now base) no_lists joiner) }
+        ensures stands { IfOk result (λ joiner. StandsFor (start_of k id shift epoch feeders theta.now (tuples_of base)) no_lists joiner) }
         ensures law { IfOk result (λ joiner. KeepsLaw joiner) }
     {
-        let machine = Machine::start_at(alloc, k, id, shift, epoch, feeders, theta, base)?;
+        let machine = Machine::start_at(
+            alloc,
+            k,
+            id,
+            shift,
+            epoch,
+            feeders,
+            theta,
+            Stock::of(base),
+        )?;
         Ok(Joiner {
             machine,
             spent: false,
@@ -92,9 +118,10 @@ impl<'a> Joiner<'a> {
 
     /// The rows that it holds in its settled epoch.
     pub fn store(&self) -> &Store
-        ensures { (s : JoinerStart) (lists : JoinerLists) → (stands : StandsFor s lists self.now) → SameBag result.now (store s (taken_of s lists self.now stands) stands.done) }
+        ensures key { result.now.key ≡ None }
+        ensures tuples { (s : JoinerStart) (lists : JoinerLists) → (stands : StandsFor s lists self.now) → SameBag (tuples_of result.now) (store s (taken_of s lists self.now stands) stands.done) }
     {
-        &self.machine.epochs.store
+        self.machine.epochs.store.store()
     }
 
     /// Whether want of memory has stopped it.
@@ -114,10 +141,19 @@ impl<'a> Joiner<'a> {
         self.machine.hears(from)
     }
 
+    /// Whether the row that the message carries, if it carries one, has a cell for each column of its side.
+    pub fn fits(&self, m: &ToJoiner) -> bool
+        ensures up { result ≡ true → HasRow (theta_of self.now) m.now }
+        ensures down { result ≡ false → ¬ HasRow (theta_of self.now) m.now }
+    {
+        has_row(self.machine.epochs.theta, m)
+    }
+
     /// Takes a message, or holds it behind its link, and appends what it sends. After want of memory it is spent, and
     /// every later call answers the same and changes nothing.
     pub fn on(&mut self, from: Actor, m: ToJoiner, sends: &mut Sends) -> Result<(), AllocError>
         requires link { ¬ IsSpent self.old → HasLink (k_of self.old) (feeders_of self.old) from (Joiner' (id_of self.old)) }
+        requires row { ¬ IsSpent self.old → HasRow (theta_of self.old) m }
         ensures takes { OnOk result (TakesMessage self.old self.new from m sends.old sends.new) }
         ensures going { OnOk result ((¬ IsSpent self.old) × (¬ IsSpent self.new)) }
         ensures spent { OnErr result (IsSpent self.new) }

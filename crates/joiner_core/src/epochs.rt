@@ -4,10 +4,10 @@ ghost use Rattle.joiner_core.specs.Flags.{flag_at, IsEachUp};
 ghost use Rattle.joiner_core.specs.Changes.{turned_in};
 
 use crate::opened::Opened;
-use crate::store::Store;
-use crate::theta::Theta;
+use crate::stock::Stock;
 use epoch_tags::Counts;
 use std::alloc::{AllocError, Global};
+use theta_pred::Theta;
 
 #[derive(Drop)]
 pub(crate) struct Epochs<'a> {
@@ -17,7 +17,7 @@ pub(crate) struct Epochs<'a> {
     pub(crate) theta: &'a Theta,
     pub(crate) epoch: u32,
     pub(crate) shift: u32,
-    pub(crate) store: Store,
+    pub(crate) store: Stock,
     pub(crate) ended: Vec<bool>,
     pub(crate) step: Option<Opened>,
     pub(crate) moved: Counts,

@@ -1,6 +1,7 @@
 // Each kind of message: whether it can be taken, and its taking.
 ghost use Rattle.std.specs.Prelude.{◌≡◌, ℕ, ◌<◌, true, false, OnOk};
 ghost use Rattle.joiner_core.specs.Taking.{IsWithin, TookOfFeeder, TookOfJoiner};
+ghost use Rattle.joiner_core.specs.Widths.{HasRow};
 ghost use Rattle.joiner_core.specs.Tests.{TakesOfFeeder, TakesOfJoiner};
 
 use crate::machine::Machine;
@@ -42,6 +43,7 @@ impl<'a> Machine<'a> {
         requires few { p < self.old.epochs.feeders }
         requires within { IsWithin self.old.epochs }
         requires can { TakesOfFeeder self.old.epochs p m }
+        requires row { HasRow self.old.epochs.theta.now m }
         ensures rest { OnOk result (self.new ≡ record self.old { epochs = self.new.epochs }) }
         ensures took { OnOk result (TookOfFeeder p m self.old.epochs self.new.epochs found.old found.new sends.old sends.new) }
     {
@@ -63,6 +65,7 @@ impl<'a> Machine<'a> {
         sends: &mut Sends,
     ) -> Result<(), AllocError>
         requires within { IsWithin self.old.epochs }
+        requires row { HasRow self.old.epochs.theta.now m }
         ensures rest { OnOk result (self.new ≡ record self.old { epochs = self.new.epochs }) }
         ensures took { OnOk result ((q : ℕ) → TakesOfJoiner self.old.epochs q m → TookOfJoiner q m self.old.epochs self.new.epochs found.old found.new sends.old sends.new) }
     {

@@ -5,6 +5,7 @@ mod calls;
 mod counts;
 mod end;
 mod epochs;
+mod fits;
 mod grid;
 mod held;
 mod joiner;
@@ -16,12 +17,11 @@ mod opened;
 mod report;
 mod retry;
 mod settle;
-mod store;
-mod theta;
+mod stock;
 mod tup;
 mod turn;
-mod which;
 
 pub use joiner::Joiner;
-pub use store::Store;
-pub use theta::Theta;
+
+#[cfg(test)]
+mod tests;

@@ -1,16 +1,17 @@
 // A joiner's machine: what it has of its epochs, and the messages that it holds.
 ghost use Rattle.std.specs.Prelude.{◌≡◌, ℕ, ◌<◌, ◌^◌, ◌≤◌, ◌++◌, [], true, false, OnOk, IfOk};
 ghost use Rattle.epoch_tags.specs.Links.{HasLink};
+ghost use Rattle.joiner_core.specs.Widths.{HasRow};
 ghost use Rattle.joiner_core.specs.Whole.{IsMade, IsSound, Accepts, IsOfGrid, Receives};
 ghost use Rattle.epoch_tags.specs.declared.actor.Actor.TheVariants.{Feeder, Joiner as Joiner'};
 
 use crate::epochs::{Epochs, all_down};
 use crate::grid::differ_in_one_bit;
 use crate::held::Held;
-use crate::store::Store;
-use crate::theta::Theta;
+use crate::stock::Stock;
 use epoch_tags::{Actor, Counts, Pairs, Sends, ToJoiner};
 use std::alloc::{AllocError, Global};
+use theta_pred::Theta;
 
 #[derive(Drop)]
 pub(crate) struct Machine<'a> {
@@ -30,7 +31,7 @@ impl<'a> Machine<'a> {
         epoch: u32,
         feeders: u32,
         theta: &'a Theta,
-        base: Store,
+        base: Stock,
     ) -> Result<Machine<'a>, AllocError>
         requires { k < 9 }
         ensures { IfOk result (λ machine. IsMade k id shift epoch feeders theta.now base machine) }
@@ -84,6 +85,7 @@ impl<'a> Machine<'a> {
     ) -> Result<(), AllocError>
         requires sound { IsSound self.old }
         requires grid { IsOfGrid from self.old.epochs }
+        requires row { HasRow self.old.epochs.theta.now m }
         ensures { OnOk result (Receives from m self.old self.new sends.old sends.new) }
     {
         let mut found = Pairs::new(self.alloc);
@@ -104,6 +106,7 @@ impl<'a> Machine<'a> {
     ) -> Result<(), AllocError>
         requires sound { IsSound self.old }
         requires grid { IsOfGrid from self.old.epochs }
+        requires row { HasRow self.old.epochs.theta.now m }
         ensures { OnOk result (Accepts from m self.old self.new found.old found.new sends.old sends.new) }
     {
         match from {
@@ -124,6 +127,7 @@ impl<'a> Machine<'a> {
     ) -> Result<(), AllocError>
         requires sound { IsSound self.old }
         requires few { p < self.old.epochs.feeders }
+        requires row { HasRow self.old.epochs.theta.now m }
         ensures { OnOk result (Accepts (Feeder p) m self.old self.new found.old found.new sends.old sends.new) }
     {
         if self.of_feeders.is_clear(p as usize) && self.can_take_of_feeder(p, &m) {
@@ -143,6 +147,7 @@ impl<'a> Machine<'a> {
     ) -> Result<(), AllocError>
         requires sound { IsSound self.old }
         requires few { q < 2 ^ self.old.epochs.k }
+        requires row { HasRow self.old.epochs.theta.now m }
         ensures { OnOk result (Accepts (Joiner' q) m self.old self.new found.old found.new sends.old sends.new) }
     {
         if self.of_joiners.is_clear(q as usize) && self.can_take_of_joiner(q, &m) {

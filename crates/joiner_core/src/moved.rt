@@ -1,13 +1,15 @@
 // A tuple that the partner moved here.
 ghost use Rattle.std.specs.Prelude.{◌≡◌, true, false, ◌++◌, ◌∷◌, [], ◌<◌, ◌≤◌, OnOk, IfSome};
+ghost use Rattle.joiner_core.specs.Widths.{IsRow};
+ghost use Rattle.joiner_core.specs.Taking.{IsWithin};
 ghost use Rattle.joiner_core.specs.Tests.{PartFits};
 ghost use Rattle.joiner_core.specs.Changes.{after_moved, found_moved};
 
 use crate::epochs::Epochs;
 use crate::grid::partner;
-use crate::which::Which;
 use epoch_tags::{Pairs, Tuple};
 use std::alloc::AllocError;
+use store_parts::Which;
 
 impl<'a> Epochs<'a> {
     // Whether joiner q has this epoch's step open here, as the partner whose part goes on.
@@ -27,6 +29,8 @@ impl<'a> Epochs<'a> {
     }
 
     pub(crate) fn take_moved(&mut self, tuple: Tuple, found: &mut Pairs) -> Result<(), AllocError>
+        requires row { IsRow self.old.theta.now tuple }
+        requires within { IsWithin self.old }
         ensures state { OnOk result (self.new ≡ after_moved self.old tuple) }
         ensures found { OnOk result (found.new ≡ found.old ++ found_moved self.old tuple) }
     {

@@ -1,32 +1,53 @@
 // An open step.
-ghost use Rattle.std.specs.Prelude.{◌≡◌, ◌++◌, ◌∷◌, [], ◌<◌, ◌≤◌, min, true, length, slice_set, OnOk};
+ghost use Rattle.std.specs.Prelude.{◌≡◌, ◌++◌, ◌∷◌, [], ◌<◌, ◌≤◌, ◌^◌, min, true, length, slice_set, OnOk};
 ghost use Rattle.migration_plan.specs.Steps.{holds};
 ghost use Rattle.joiner_law.specs.History.{probed};
 ghost use Rattle.joiner_core.specs.Probes.{named_by};
 ghost use Rattle.joiner_core.specs.Matching.{does_hold};
+ghost use Rattle.joiner_core.specs.Stocks.{placed};
+ghost use Rattle.joiner_core.specs.Widths.{IsRow, AreRows};
+ghost use Rattle.joiner_law.specs.Posting.{moved_post};
 ghost use Rattle.joiner_core.specs.Changes.{kept_at_end, found_late, posts_late, opened_late};
 
-use crate::grid::{is_of, keeps};
-use crate::store::Store;
-use crate::theta::Theta;
-use crate::which::Which;
+use crate::grid::is_of;
+use crate::stock::Stock;
 use epoch_tags::{Actor, Msg, Pairs, Post, Sends, ToJoiner, Tuple};
+use grid_map::Shape;
 use join_rows::Side;
+use migration_plan::kept;
 use std::alloc::{AllocError, Global};
+use store_parts::Which;
+use theta_pred::Theta;
 
 #[derive(Drop)]
 pub(crate) struct Opened {
     pub(crate) epoch: u32,
     pub(crate) shift: u32,
     pub(crate) turned: Vec<bool>,
-    pub(crate) store: Store,
+    pub(crate) store: Stock,
     pub(crate) partner_ended: bool,
     pub(crate) alloc: Global,
 }
 
-// Sends a copy of a tuple to a joiner, if it is of that side.
+// Sends a copy of a tuple to a joiner.
+pub(crate) fn move_to(
+    to: u32,
+    epoch: u32,
+    tuple: &Tuple,
+    sends: &mut Sends,
+) -> Result<(), AllocError>
+    ensures { OnOk result (sends.new ≡ sends.old ++ moved_post to epoch tuple.now ∷ []) }
+{
+    let tuple = tuple.copy()?;
+    sends.push(Post {
+        to: Actor::Joiner(to),
+        msg: Msg::Joiner(ToJoiner::Moved { epoch, tuple }),
+    })?;
+    Ok(())
+}
+
+// The same, if it is of that side.
 pub(crate) fn pass_on(
-    alloc: Global,
     side: Side,
     to: u32,
     epoch: u32,
@@ -36,11 +57,7 @@ pub(crate) fn pass_on(
     ensures { OnOk result (sends.new ≡ sends.old ++ posts_late side to epoch tuple.now) }
 {
     if is_of(side, tuple) {
-        let tuple = tuple.copy()?;
-        sends.push(Post {
-            to: Actor::Joiner(to),
-            msg: Msg::Joiner(ToJoiner::Moved { epoch, tuple }),
-        })?;
+        move_to(to, epoch, tuple, sends)?;
     }
     Ok(())
 }
@@ -67,10 +84,17 @@ impl Opened {
     ) -> Result<(), AllocError>
         requires grid { k < 9 }
         requires within { self.old.shift ≤ k }
+        requires id { id < 2 ^ k }
+        requires row { IsRow theta.now tuple.now }
+        requires rows { AreRows theta.now self.old.store }
         ensures stored { OnOk result (self.new ≡ opened_late k id self.old tuple.now) }
         ensures found { OnOk result (found.new ≡ found.old ++ found_late (does_hold theta.now) k id self.old tuple.now) }
     {
-        if keeps(k, self.shift, id, tuple) {
+        let shape = Shape {
+            k,
+            shift: self.shift,
+        };
+        if kept(shape, id, tuple) {
             self.store
                 .probe(tuple, theta, Which::OnlyStamp(self.epoch), found)?;
             let copy = tuple.copy()?;
@@ -87,7 +111,9 @@ impl Opened {
         tuple: Tuple,
         found: &mut Pairs,
     ) -> Result<(), AllocError>
-        ensures stored { OnOk result (self.new ≡ record self.old { store = self.old.store ++ tuple ∷ [] }) }
+        requires row { IsRow theta.now tuple }
+        requires rows { AreRows theta.now self.old.store }
+        ensures stored { OnOk result (self.new ≡ record self.old { store = placed tuple self.old.store }) }
         ensures found { OnOk result (found.new ≡ found.old ++ probed (does_hold theta.now) (named_by which) tuple self.old.store) }
     {
         self.store.probe(&tuple, theta, which, found)?;

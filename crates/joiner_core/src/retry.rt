@@ -1,5 +1,5 @@
 // The held messages, which are tried again after each one that was taken.
-ghost use Rattle.std.specs.Prelude.{◌≡◌, ◌<◌, ◌^◌, true, false, OnOk, IfOk, MatchOption};
+ghost use Rattle.std.specs.Prelude.{◌≡◌, ◌<◌, ◌^◌, true, false, OnOk, IfOk, IfSome, MatchOption};
 ghost use Rattle.joiner_core.specs.Whole.{Advances, IsSound, IsStuck, AreStuckOfFeeders, AreStuckOfJoiners, IsReadyOfFeeder, IsReadyOfJoiner, TookHeld, held_in_all};
 
 use crate::machine::Machine;
@@ -86,7 +86,8 @@ impl<'a> Machine<'a> {
     // The first feeder whose first held message can be taken.
     pub(crate) fn ready_feeder(&self) -> Option<u32>
         requires { IsSound self.now }
-        ensures { MatchOption result (AreStuckOfFeeders self.now.epochs.feeders self.now) (λ p. IsReadyOfFeeder self.now p) }
+        ensures ready { MatchOption result (AreStuckOfFeeders self.now.epochs.feeders self.now) (λ p. IsReadyOfFeeder self.now p) }
+        ensures first { IfSome result (λ p. AreStuckOfFeeders p self.now) }
     {
         for p in 0..self.epochs.feeders {
             if let Some(m) = self.of_feeders.first(p as usize) {
@@ -101,7 +102,8 @@ impl<'a> Machine<'a> {
     // The first joiner whose first held message can be taken.
     pub(crate) fn ready_joiner(&self) -> Option<u32>
         requires { IsSound self.now }
-        ensures { MatchOption result (AreStuckOfJoiners (2 ^ self.now.epochs.k) self.now) (λ q. IsReadyOfJoiner self.now q) }
+        ensures ready { MatchOption result (AreStuckOfJoiners (2 ^ self.now.epochs.k) self.now) (λ q. IsReadyOfJoiner self.now q) }
+        ensures first { IfSome result (λ q. AreStuckOfJoiners q self.now) }
     {
         for q in 0..(1u32 << self.epochs.k) {
             if let Some(m) = self.of_joiners.first(q as usize) {

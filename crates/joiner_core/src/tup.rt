@@ -1,15 +1,16 @@
 // A tuple of a feeder.
 ghost use Rattle.std.specs.Prelude.{◌≡◌, ◌++◌, ◌<◌, ◌≤◌, true, false, OnOk};
 ghost use Rattle.epoch_tags.specs.declared.message.ToJoiner.TheVariants.{Tup};
+ghost use Rattle.joiner_core.specs.Widths.{IsRow};
 ghost use Rattle.joiner_core.specs.Taking.{IsWithin, CanTakeTup, TookOfFeeder};
 ghost use Rattle.joiner_core.specs.Changes.{after_old, found_old, posts_old, after_new, found_new};
 
 use crate::epochs::Epochs;
 use crate::grid::{exchanged, partner};
 use crate::opened::pass_on;
-use crate::which::Which;
 use epoch_tags::{Pairs, Sends, Tuple};
 use std::alloc::AllocError;
+use store_parts::Which;
 
 impl<'a> Epochs<'a> {
     pub(crate) fn can_take_tup(&self, p: u32, stamp: u32) -> bool
@@ -40,6 +41,7 @@ impl<'a> Epochs<'a> {
     ) -> Result<(), AllocError>
         requires within { IsWithin self.old }
         requires can { CanTakeTup self.old p tuple.stamp }
+        requires row { IsRow self.old.theta.now tuple }
         ensures { OnOk result (TookOfFeeder p (Tup tuple) self.old self.new found.old found.new sends.old sends.new) }
     {
         if self.has_turned(p) {
@@ -57,7 +59,8 @@ impl<'a> Epochs<'a> {
         found: &mut Pairs,
         sends: &mut Sends,
     ) -> Result<(), AllocError>
-        requires { IsWithin self.old }
+        requires within { IsWithin self.old }
+        requires row { IsRow self.old.theta.now tuple }
         ensures state { OnOk result (self.new ≡ after_old self.old tuple) }
         ensures found { OnOk result (found.new ≡ found.old ++ found_old self.old tuple) }
         ensures posts { OnOk result (sends.new ≡ sends.old ++ posts_old self.old tuple) }
@@ -66,7 +69,6 @@ impl<'a> Epochs<'a> {
         if let Some(open) = &mut self.step {
             let to = partner(self.shift, open.shift, self.id);
             pass_on(
-                self.alloc,
                 exchanged(self.shift, open.shift),
                 to,
                 open.epoch,
@@ -80,6 +82,8 @@ impl<'a> Epochs<'a> {
 
     // A tuple of the open step's epoch.
     pub(crate) fn take_new(&mut self, tuple: Tuple, found: &mut Pairs) -> Result<(), AllocError>
+        requires row { IsRow self.old.theta.now tuple }
+        requires within { IsWithin self.old }
         ensures state { OnOk result (self.new ≡ after_new self.old tuple) }
         ensures found { OnOk result (found.new ≡ found.old ++ found_new self.old tuple) }
     {

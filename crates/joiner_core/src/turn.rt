@@ -1,5 +1,5 @@
 // A feeder's turn to the next epoch.
-ghost use Rattle.std.specs.Prelude.{◌≡◌, ◌++◌, ◌<◌, ◌≤◌, true, false, List, OnOk, IfOk};
+ghost use Rattle.std.specs.Prelude.{◌≡◌, ◌++◌, ◌<◌, ◌≤◌, ◌^◌, true, false, List, OnOk, IfOk};
 ghost use Rattle.joiner_core.specs.Taking.{IsWithin, CanTakeTurn, TookOfFeeder};
 ghost use Rattle.epoch_tags.specs.declared.message.ToJoiner.TheVariants.{Turn};
 ghost use Rattle.epoch_tags.specs.declared.tuple.Pair.{Pair};
@@ -77,6 +77,7 @@ impl<'a> Epochs<'a> {
         requires grid { self.old.k < 9 }
         requires shift { self.old.shift ≤ self.old.k }
         requires within { shift ≤ self.old.k }
+        requires id { self.old.id < 2 ^ self.old.k }
         ensures rest { OnOk result (self.new ≡ record self.old { step = self.new.step }) }
         ensures opened { OnOk result (HasOpened self.old epoch shift self.new.step) }
         ensures posts { OnOk result (sends.new ≡ sends.old ++ posts_opened self.old epoch shift) }

@@ -1,0 +1,101 @@
+-- Rows that have the predicate's widths stay so.
+use Rattle.std.proofs.Common.{◌≡◌, ℕ, ◌<◌, inl, inr, refl, sym, ◌∙◌, ap, subst, arith, Bool, true, false, Option, Some, None, List, [], ◌∷◌, ◌++◌, length, filter, All, get_or-set_same, get_or-set_other}
+use Rattle.std.specs.Prelude.{slice_set}
+use Rattle.std.proofs.lemmas.Bool.{cases_eq}
+use Rattle.std.proofs.lemmas.List.Elements.{All-nil, All-append, All-filter, All-push, All-head, All-tail}
+use Rattle.join_rows.specs.declared.table.Side.TheVariants.{R, S}
+use Rattle.epoch_tags.specs.declared.tuple.Tuple.{Tuple}
+use Rattle.epoch_tags.specs.declared.message.ToJoiner.{ToJoiner}
+use Rattle.epoch_tags.specs.declared.message.ToJoiner.TheVariants.{Tup, Turn, End, Moved, MovedEnd}
+use Rattle.migration_plan.specs.Steps.{holds, is_of}
+use Rattle.theta_pred.specs.Formula.{Meaning}
+use Rattle.joiner_core.specs.Queues.{held_at}
+use Rattle.joiner_core.specs.Stocks.{placed}
+use Rattle.joiner_core.specs.Widths.{IsRow, AreRows, HasRow, HoldsRows, Carries, CarriesRows}
+use Rattle.joiner_core.specs.Changes.{kept_at_end, open_old, step_new, part_by, HasBegun, HasTurned}
+use Rattle.joiner_core.specs.Taking.{AreStepRows}
+use Rattle.joiner_core.specs.declared.opened.Opened.{Opened}
+use Rattle.joiner_core.specs.declared.epochs.Epochs.{Epochs}
+
+-- ---- stores
+
+pub rows-placed : (theta : Meaning) (xs : List Tuple) (x : Tuple) → AreRows theta xs → IsRow theta x → AreRows theta (placed x xs)
+rows-placed theta xs x rows row =
+    let all = All-push (IsRow theta) xs x rows row in
+    All-append (IsRow theta) (filter (is_of R) (xs ++ x ∷ [])) (filter (is_of S) (xs ++ x ∷ []))
+    (All-filter (is_of R) (IsRow theta) (xs ++ x ∷ []) all) (All-filter (is_of S) (IsRow theta) (xs ++ x ∷ []) all)
+
+rows-kept : (theta : Meaning) (kept : Bool) (x : Tuple) (b : List Tuple) → AreRows theta b → IsRow theta x → AreRows theta (kept_at_end kept x b)
+rows-kept theta true x b rows row = rows-placed theta b x rows row
+rows-kept theta false x b rows row = rows
+
+pub rows-old : (theta : Meaning) (m : Epochs) (x : Tuple) (step : Option Opened) → AreStepRows theta step → IsRow theta x → AreStepRows theta (open_old m x step)
+rows-old theta m x None rows row = tt
+rows-old theta m x (Some o) rows row = rows-kept theta (holds m.k o.shift m.id x) x o.store rows row
+
+pub rows-new : (theta : Meaning) (x : Tuple) (step : Option Opened) → AreStepRows theta step → IsRow theta x → AreStepRows theta (step_new x step)
+rows-new theta x None rows row = tt
+rows-new theta x (Some o) rows row = rows-placed theta o.store x rows row
+
+pub rows-part : (theta : Meaning) (step : Option Opened) → AreStepRows theta step → AreStepRows theta (part_by step)
+rows-part theta None rows = tt
+rows-part theta (Some o) rows = rows
+
+pub rows-begun : (theta : Meaning) (m : Epochs) (epoch shift : ℕ) (step step' : Option Opened) → AreRows theta m.store → AreStepRows theta step → HasBegun m epoch shift step step' → AreStepRows theta step'
+rows-begun theta m epoch shift None None rows is has = tt
+rows-begun theta m epoch shift None (Some o) rows is has = subst (AreRows theta) (sym has.store) (All-filter (holds m.k shift m.id) (IsRow theta) m.store rows)
+rows-begun theta m epoch shift (Some o) step' rows is has = subst (AreStepRows theta) (sym has) is
+
+pub rows-turned : (theta : Meaning) (p : ℕ) (step step' : Option Opened) → HasTurned p step step' → AreStepRows theta step → AreStepRows theta step'
+rows-turned theta p None step' has rows = subst (AreStepRows theta) (sym has) tt
+rows-turned theta p (Some o) None has rows = absurd has
+rows-turned theta p (Some o) (Some o') has rows = subst (AreRows theta) (sym (ap (λ (z : Opened). z.store) has.0)) rows
+
+-- ---- held messages
+
+pub same-rows : (theta theta' : Meaning) (qs qs' : List (List ToJoiner)) → theta' ≡ theta → qs' ≡ qs → HoldsRows theta qs → HoldsRows theta' qs'
+same-rows theta theta' qs qs' one two rows = subst (λ (th : Meaning). HoldsRows th qs') (sym one) (subst (HoldsRows theta) (sym two) rows)
+
+put-rows : (theta : Meaning) (qs queues : List (List ToJoiner)) (i : ℕ) (queue : List ToJoiner) → i < length qs → queues ≡ slice_set qs i queue → All (HasRow theta) queue → HoldsRows theta qs → HoldsRows theta queues
+put-rows theta qs queues i queue low put new rows = λ j. elim (cases_eq j i) [
+  | inl here ↦
+      let now : held_at queues i ≡ queue = ap (λ zs. held_at zs i) put ∙ get_or-set_same qs i queue [] low in
+      rw here (subst (All (HasRow theta)) (sym now) new)
+  | inr differ ↦
+      let keeps : held_at queues j ≡ held_at qs j = ap (λ zs. held_at zs j) put ∙ get_or-set_other qs i j queue [] differ in
+      subst (All (HasRow theta)) (sym keeps) (rows j)
+]
+
+pub rows-held : (theta : Meaning) (qs queues : List (List ToJoiner)) (i : ℕ) (m : ToJoiner) → i < length qs → queues ≡ slice_set qs i (held_at qs i ++ m ∷ []) → HasRow theta m → HoldsRows theta qs → HoldsRows theta queues
+rows-held theta qs queues i m low put row rows = put-rows theta qs queues i (held_at qs i ++ m ∷ []) low put (All-push (HasRow theta) (held_at qs i) m (rows i) row) rows
+
+pub rows-taken : (theta : Meaning) (qs queues : List (List ToJoiner)) (i : ℕ) (m : ToJoiner) → i < length qs → held_at qs i ≡ m ∷ held_at queues i → queues ≡ slice_set qs i (held_at queues i) → HoldsRows theta qs → HoldsRows theta queues
+rows-taken theta qs queues i m low first put rows = put-rows theta qs queues i (held_at queues i) low put (All-tail (HasRow theta) m (held_at queues i) (subst (All (HasRow theta)) first (rows i))) rows
+
+pub row-first : (theta : Meaning) (qs : List (List ToJoiner)) (i : ℕ) (m : ToJoiner) (rest : List ToJoiner) → held_at qs i ≡ m ∷ rest → HoldsRows theta qs → HasRow theta m
+row-first theta qs i m rest first rows = All-head (HasRow theta) m rest (subst (All (HasRow theta)) first (rows i))
+
+pub rows-none : (theta : Meaning) (qs : List (List ToJoiner)) → ((i : ℕ) → held_at qs i ≡ []) → HoldsRows theta qs
+rows-none theta qs none = λ i. subst (All (HasRow theta)) (sym (none i)) (All-nil (HasRow theta))
+
+-- ---- the same, as a proposition
+
+carried-row : (theta : Meaning) (m : ToJoiner) → ((t : Tuple) → Carries m t → IsRow theta t) → HasRow theta m
+carried-row theta (Tup x) each = each x refl
+carried-row theta (Turn epoch shift) each = tt
+carried-row theta End each = tt
+carried-row theta (Moved epoch x) each = each x refl
+carried-row theta (MovedEnd epoch) each = tt
+
+row-carried : (theta : Meaning) (m : ToJoiner) → HasRow theta m → (t : Tuple) → Carries m t → IsRow theta t
+row-carried theta (Tup x) row t is = subst (IsRow theta) is row
+row-carried theta (Turn epoch shift) row t is = absurd is
+row-carried theta End row t is = absurd is
+row-carried theta (Moved epoch x) row t is = subst (IsRow theta) is row
+row-carried theta (MovedEnd epoch) row t is = absurd is
+
+pub to-rows : (theta : Meaning) (qs : List (List ToJoiner)) → CarriesRows theta qs → HoldsRows theta qs
+to-rows theta qs each = λ i k d low. carried-row theta _ (each i k d low)
+
+pub from-rows : (theta : Meaning) (qs : List (List ToJoiner)) → HoldsRows theta qs → CarriesRows theta qs
+from-rows theta qs rows = λ i k d low. row-carried theta _ (rows i k d low)

@@ -1,0 +1,11 @@
+use Rattle.std.proofs.Common.{ap, ◌∙◌, length, count_by}
+use Rattle.migration_plan.specs.Steps.{is_of}
+use Rattle.joiner_core.proofs.Stocking.{count-side}
+use Rattle.joiner_core.proofs.stock.Stock.count.Goals as goal
+
+pub returns : goal.returns
+returns c =
+    c.len.ensures
+    ∙ ap length c.side.ensures.tuples
+    ∙ count-side c.args.side c.self.inside.store c.self.invariant.0
+    ∙ ap (count_by (is_of c.args.side)) c.self.view_is

@@ -1,0 +1,39 @@
+-- Rows that have the predicate's widths.
+use Rattle.std.specs.Prelude.{◌≡◌, ℕ, ⊤, List, All}
+use Rattle.epoch_tags.specs.declared.tuple.Tuple.{Tuple}
+use Rattle.epoch_tags.specs.declared.message.ToJoiner.{ToJoiner}
+use Rattle.epoch_tags.specs.declared.message.ToJoiner.TheVariants.{Tup, Turn, End, Moved, MovedEnd}
+use Rattle.theta_pred.specs.Formula.{Meaning}
+use Rattle.store_parts.specs.Matches.{HasWidth}
+use Rattle.joiner_core.specs.Queues.{held_at}
+
+-- the tuple has a cell for each column of its side
+abbrev pub IsRow : Meaning → Tuple → Type 0
+IsRow theta x = HasWidth theta x.side x
+
+abbrev pub AreRows : Meaning → List Tuple → Type 0
+AreRows theta xs = All (IsRow theta) xs
+
+-- so has the tuple that a message carries, if it carries one
+abbrev pub HasRow : Meaning → ToJoiner → Type 0
+HasRow theta (Tup x) = IsRow theta x
+HasRow theta (Turn epoch shift) = ⊤
+HasRow theta End = ⊤
+HasRow theta (Moved epoch x) = IsRow theta x
+HasRow theta (MovedEnd epoch) = ⊤
+
+-- and each that is carried by a held message
+abbrev pub HoldsRows : Meaning → List (List ToJoiner) → Type 0
+HoldsRows theta queues = (sender : ℕ) → All (HasRow theta) (held_at queues sender)
+
+-- the message carries this tuple
+abbrev pub Carries : ToJoiner → Tuple → Type 0
+Carries (Tup x) t = x ≡ t
+Carries (Turn epoch shift) t = ⊥
+Carries End t = ⊥
+Carries (Moved epoch x) t = x ≡ t
+Carries (MovedEnd epoch) t = ⊥
+
+-- the same as `HoldsRows`, as a proposition
+abbrev pub CarriesRows : Meaning → List (List ToJoiner) → Type 0
+CarriesRows theta queues = (sender : ℕ) → All (λ m. (t : Tuple) → Carries m t → IsRow theta t) (held_at queues sender)

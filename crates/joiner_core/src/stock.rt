@@ -1,0 +1,125 @@
+// The tuples of one epoch.
+ghost use Rattle.std.specs.Prelude.{◌≡◌, ◌<◌, ◌≤◌, ◌^◌, [], ◌++◌, None, filter, map, count_by, IfOk, OnOk};
+ghost use Rattle.migration_plan.specs.Steps.{holds, is_of};
+ghost use Rattle.store_parts.specs.Stored.{AreSided};
+ghost use Rattle.joiner_law.specs.History.{probed};
+ghost use Rattle.joiner_law.specs.Posting.{moved_post};
+ghost use Rattle.joiner_core.specs.Matching.{does_hold};
+ghost use Rattle.joiner_core.specs.Probes.{named_by};
+ghost use Rattle.joiner_core.specs.Stocks.{tuples_of, placed};
+ghost use Rattle.joiner_core.specs.Widths.{IsRow, AreRows};
+
+use crate::opened::move_to;
+use epoch_tags::{Pairs, Sends, Tuple};
+use grid_map::Shape;
+use join_rows::Side;
+use std::alloc::AllocError;
+use std::marker::Model;
+use store_parts::{Store, Which};
+use theta_pred::Theta;
+
+// A store with no key, seen as one list.
+#[derive(Drop)]
+pub(crate) struct Stock {
+    store: Store,
+}
+
+impl Model for Stock {
+    ghost use Rattle.std.specs.Prelude.{◌≡◌, List, None};
+    ghost use Rattle.epoch_tags.specs.declared.tuple.Tuple.{Tuple};
+    ghost use Rattle.store_parts.specs.Stored.{AreSided};
+    ghost use Rattle.joiner_core.specs.Stocks.{tuples_of};
+
+    ghost Value = { List Tuple };
+
+    ghost view = { λ stock. tuples_of stock.store };
+
+    ghost invariant = { λ stock. AreSided stock.store.r stock.store.s × (stock.store.key ≡ None) };
+}
+
+// Each tuple of a store stands in the list of its side.
+fn are_sided(store: &Store)
+    ensures { AreSided store.now.r store.now.s }
+{
+    let _ = store.side(Side::R);
+    let _ = store.side(Side::S);
+}
+
+impl Stock {
+    pub(crate) fn of(store: Store) -> Stock
+        requires { store.key ≡ None }
+        ensures { result ≡ tuples_of store }
+    {
+        are_sided(&store);
+        Stock { store }
+    }
+
+    pub(crate) fn store(&self) -> &Store
+        ensures tuples { tuples_of result.now ≡ self.now }
+        ensures key { result.now.key ≡ None }
+    {
+        &self.store
+    }
+
+    pub(crate) fn add(&mut self, tuple: Tuple) -> Result<(), AllocError>
+        ensures { OnOk result (self.new ≡ placed tuple self.old) }
+    {
+        self.store.add(tuple)?;
+        Ok(())
+    }
+
+    pub(crate) fn count(&self, side: Side) -> u64
+        ensures { result ≡ count_by (is_of side) self.now }
+    {
+        self.store.side(side).len()
+    }
+
+    pub(crate) fn probe(
+        &self,
+        tuple: &Tuple,
+        theta: &Theta,
+        which: Which,
+        found: &mut Pairs,
+    ) -> Result<(), AllocError>
+        requires row { IsRow theta.now tuple.now }
+        requires rows { AreRows theta.now self.now }
+        ensures { OnOk result (found.new ≡ found.old ++ probed (does_hold theta.now) (named_by which) tuple.now self.now) }
+    {
+        self.store.probe_uncounted(tuple, theta, which, found)?;
+        Ok(())
+    }
+
+    pub(crate) fn kept_copy(&self, k: u32, shift: u32, id: u32) -> Result<Stock, AllocError>
+        requires grid { k < 9 }
+        requires within { shift ≤ k }
+        requires id { id < 2 ^ k }
+        ensures { IfOk result (λ kept. kept ≡ filter (holds k shift id) self.now) }
+    {
+        let store = self.store.kept_copy(Shape { k, shift }, id)?;
+        Ok(Stock { store })
+    }
+
+    // Sends a copy of each tuple of a side to a joiner, in stored order.
+    pub(crate) fn send_side(
+        &self,
+        side: Side,
+        to: u32,
+        epoch: u32,
+        sends: &mut Sends,
+    ) -> Result<(), AllocError>
+        ensures { OnOk result (sends.new ≡ sends.old ++ map (moved_post to epoch) (filter (is_of side) self.now)) }
+    {
+        send_all(self.store.side(side).as_slice(), to, epoch, sends)?;
+        Ok(())
+    }
+}
+
+// Sends a copy of each tuple to a joiner.
+fn send_all(tuples: &[Tuple], to: u32, epoch: u32, sends: &mut Sends) -> Result<(), AllocError>
+    ensures { OnOk result (sends.new ≡ sends.old ++ map (moved_post to epoch) tuples.now) }
+{
+    for tuple in tuples {
+        move_to(to, epoch, tuple, sends)?;
+    }
+    Ok(())
+}
