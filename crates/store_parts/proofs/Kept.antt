@@ -12,7 +12,6 @@ use Rattle.theta_pred.specs.Formula.{Meaning}
 use Rattle.store_parts.specs.Matches.{HasWidth}
 use Rattle.store_parts.specs.Stored.{Stored, with_tuple_at, with_tuple, kept_of, HaveWidths}
 
-
 HaveWidths-with_tuple_at : (side : Side) (theta : Meaning) (store : Stored) (t : Tuple) → HaveWidths theta store → HasWidth theta side t → HaveWidths theta (with_tuple_at side store t)
 HaveWidths-with_tuple_at R theta store t have width = record { r = All-push (HasWidth theta R) store.r t have.r width; s = have.s }
 HaveWidths-with_tuple_at S theta store t have width = record { r = have.r; s = All-push (HasWidth theta S) store.s t have.s width }

@@ -10,10 +10,7 @@ use std::alloc::{AllocError, Global};
 use theta_pred::KeyAtom;
 
 // An equal key.
-pub(crate) fn key_copy(
-    alloc: Global,
-    key: &Option<KeyAtom>,
-) -> Result<Option<KeyAtom>, AllocError>
+pub(crate) fn key_copy(alloc: Global, key: &Option<KeyAtom>) -> Result<Option<KeyAtom>, AllocError>
     ensures { IfOk result (λ copy. copy ≡ key.now) }
 {
     match key {

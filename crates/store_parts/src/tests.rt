@@ -61,6 +61,26 @@ fn of_tickets(alloc: Global, rows: &[(Side, u32, u8)]) -> Result<Store, AllocErr
     Ok(store)
 }
 
+// That a joiner of two keeps the tuples of R and of S with these indices.
+fn keeps(
+    rt: &impl Abort,
+    alloc: Global,
+    store: &Store,
+    shift: u32,
+    id: u32,
+    r: &[u32],
+    s: &[u32],
+) -> Result<(), AllocError> {
+    assert!(rt; shift <= 1);
+    assert!(rt; id <= 1);
+    let kept = store.kept_copy(Shape { k: 1, shift }, id)?;
+    let kept_r = indices(alloc, kept.side(Side::R))?;
+    assert_eq!(rt; kept_r.as_slice(), r, "R of joiner {id} at shift {shift}");
+    let kept_s = indices(alloc, kept.side(Side::S))?;
+    assert_eq!(rt; kept_s.as_slice(), s, "S of joiner {id} at shift {shift}");
+    Ok(())
+}
+
 #[test]
 fn a_joiner_keeps_what_it_holds(rt: HostRuntime) -> Result<(), Fail> {
     let rows = [
@@ -71,22 +91,13 @@ fn a_joiner_keeps_what_it_holds(rt: HostRuntime) -> Result<(), Fail> {
         (Side::R, 2, 127),
         (Side::S, 2, 255),
     ];
-    let store = of_tickets(rt.alloc(), &rows)?;
-    let all = [0, 1, 2];
+    let alloc = rt.alloc();
+    let store = of_tickets(alloc, &rows)?;
     // Two rows and one column, then one row and two columns.
-    let cases: [(u32, u32, &[u32], &[u32]); 4] = [
-        (0, 0, &[0, 2], &all),
-        (0, 1, &[1], &all),
-        (1, 0, &all, &[1]),
-        (1, 1, &all, &[0, 2]),
-    ];
-    for (shift, id, r, s) in cases {
-        let kept = store.kept_copy(Shape { k: 1, shift }, id)?;
-        let kept_r = indices(rt.alloc(), kept.side(Side::R))?;
-        let kept_s = indices(rt.alloc(), kept.side(Side::S))?;
-        assert_eq!(rt; kept_r.as_slice(), r, "R of joiner {id} at shift {shift}");
-        assert_eq!(rt; kept_s.as_slice(), s, "S of joiner {id} at shift {shift}");
-    }
+    keeps(&rt, alloc, &store, 0, 0, &[0, 2], &[0, 1, 2])?;
+    keeps(&rt, alloc, &store, 0, 1, &[1], &[0, 1, 2])?;
+    keeps(&rt, alloc, &store, 1, 0, &[0, 1, 2], &[1])?;
+    keeps(&rt, alloc, &store, 1, 1, &[0, 1, 2], &[0, 2])?;
     Ok(())
 }
 
@@ -183,57 +194,73 @@ fn found_uncounted(
     Ok(found)
 }
 
-// That a tuple finds these, counted and uncounted.
-fn finds(
+// That tuples find these, counted and uncounted.
+fn find(
     rt: &impl Abort,
     alloc: Global,
     store: &Store,
-    tuple: &Tuple,
     theta: &Theta,
-    which: Which,
-    wanted: &[Pair],
+    cases: &[(Side, &[u8], Which, &[Pair])],
 ) -> Result<(), AllocError>
     requires r { theta.now.width_r ≡ 1 }
     requires s { theta.now.width_s ≡ 1 }
-    requires width { length tuple.now.cells ≡ 1 }
     requires widths { HaveWidths theta.now store.now }
 {
-    let first = found(alloc, store, tuple, theta, which)?;
-    assert_eq!(rt; first.as_slice(), wanted, "{which:?}");
-    let second = found_uncounted(alloc, store, tuple, theta, which)?;
-    assert_eq!(rt; second.as_slice(), wanted, "{which:?}, uncounted");
+    for (side, text, which, wanted) in cases {
+        let tuple = tuple(alloc, *side, 9, 0, *text)?;
+        let first = found(alloc, store, &tuple, theta, *which)?;
+        assert_eq!(rt; first.as_slice(), *wanted, "{which:?}");
+        let second = found_uncounted(alloc, store, &tuple, theta, *which)?;
+        assert_eq!(rt; second.as_slice(), *wanted, "{which:?}, uncounted");
+    }
     Ok(())
+}
+
+fn probed(
+    rt: &impl Abort,
+    alloc: Global,
+    rows: &[(Side, u32, u32, &[u8])],
+) -> Result<(), AllocError> {
+    let theta = Theta::first_texts(alloc, 1, 1)?;
+    let store = of_texts(alloc, &theta, rows)?;
+    find(
+        rt,
+        alloc,
+        &store,
+        &theta,
+        &[
+            (
+                Side::R,
+                b"a",
+                Which::All,
+                &[
+                    Pair { i: 9, j: 0 },
+                    Pair { i: 9, j: 1 },
+                    Pair { i: 9, j: 3 },
+                ],
+            ),
+            (Side::R, b"a", Which::OnlyStamp(1), &[Pair { i: 9, j: 1 }]),
+            (Side::R, b"z", Which::All, &[]),
+            (Side::S, b"b", Which::All, &[Pair { i: 0, j: 9 }]),
+            (Side::S, b"b", Which::OnlyStamp(1), &[]),
+            (Side::S, b"c", Which::OnlyStamp(1), &[Pair { i: 1, j: 9 }]),
+        ],
+    )
 }
 
 #[test]
 fn a_probe_finds_the_named_that_match(rt: HostRuntime) -> Result<(), Fail> {
-    let alloc = rt.alloc();
-    let theta = Theta::first_texts(alloc, 1, 1)?;
-    let rows: [(Side, u32, u32, &[u8]); 6] = [
-        (Side::S, 0, 0, b"a"),
-        (Side::R, 0, 0, b"b"),
-        (Side::S, 1, 1, b"a"),
-        (Side::S, 2, 1, b"b"),
-        (Side::R, 1, 1, b"c"),
-        (Side::S, 3, 0, b"a"),
-    ];
-    let store = of_texts(alloc, &theta, &rows)?;
-    let three = [
-        Pair { i: 9, j: 0 },
-        Pair { i: 9, j: 1 },
-        Pair { i: 9, j: 3 },
-    ];
-    let cases: [(Side, &[u8], Which, &[Pair]); 6] = [
-        (Side::R, b"a", Which::All, &three),
-        (Side::R, b"a", Which::OnlyStamp(1), &[Pair { i: 9, j: 1 }]),
-        (Side::R, b"z", Which::All, &[]),
-        (Side::S, b"b", Which::All, &[Pair { i: 0, j: 9 }]),
-        (Side::S, b"b", Which::OnlyStamp(1), &[]),
-        (Side::S, b"c", Which::OnlyStamp(1), &[Pair { i: 1, j: 9 }]),
-    ];
-    for (side, text, which, wanted) in cases {
-        let tuple = tuple(alloc, side, 9, 0, text)?;
-        finds(&rt, alloc, &store, &tuple, &theta, which, wanted)?;
-    }
+    probed(
+        &rt,
+        rt.alloc(),
+        &[
+            (Side::S, 0, 0, b"a"),
+            (Side::R, 0, 0, b"b"),
+            (Side::S, 1, 1, b"a"),
+            (Side::S, 2, 1, b"b"),
+            (Side::R, 1, 1, b"c"),
+            (Side::S, 3, 0, b"a"),
+        ],
+    )?;
     Ok(())
 }
