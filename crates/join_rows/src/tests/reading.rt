@@ -1,24 +1,45 @@
-use crate::{Failed, MapShelf, Shelf, TableFault, read_table};
+use crate::{BadNumber, Failed, MapShelf, Shelf, TableFault, read_table};
 use std::test::Fail;
 
-// A file's bytes and what there is to read in them: the names, and the rows, each by its fields.
+// A file's bytes and what there is to read in them: the names and the first of them, and the rows with one of their
+// fields.
 #[test]
 fn tables(rt: HostRuntime) -> Result<(), Fail> {
-    let cases: [(&[u8], u64, u64, &[u8]); 7] = [
-        (b"id,x\n1,10\n2,20\n3,30\n", 2, 3, b"10"),
-        (b"id,x\n1,10", 2, 1, b"10"),
-        (b"\xEF\xBB\xBF\xEF\xBB\xBFk,v\r\n7,a\r\n8,b\r\n", 2, 2, b"a"),
-        (b"k,v\r7,a\r", 2, 1, b"a"),
-        (b"\n\nk,v\n\n7,a\n\n", 2, 1, b"a"),
+    let cases: [(&[u8], u64, &[u8], u64, &[u8]); 14] = [
+        (b"id,x\n1,10\n2,20\n3,30\n", 2, b"id", 3, b"10"),
+        (b"id,x\n1,10", 2, b"id", 1, b"10"),
+        (b"id,x\n1,\n", 2, b"id", 1, b""),
+        (b"k,v\r7,a\r", 2, b"k", 1, b"a"),
+        (b"k,v\n7,a\r8,b\r\n9,c", 2, b"k", 3, b"c"),
+        (b"\n\nk,v\n\n7,a\n\n", 2, b"k", 1, b"a"),
+        (b"\r\n\r\nk,v\r\r\n\n\r7,a\n\r\n8,b\r\n\r", 2, b"k", 2, b"b"),
+        (b"k\n\"\"\n \n", 1, b"k", 2, b" "),
         (
             b"k,v\n\"T,2\",\"say \"\"so\"\"\n\"\n",
             2,
+            b"k",
             1,
             b"say \"so\"\n",
         ),
-        (b"id,x\n1,\n", 2, 1, b""),
+        (
+            b"\xEF\xBB\xBF\xEF\xBB\xBFk,v\r\n7,a\r\n8,b\r\n",
+            2,
+            b"k",
+            2,
+            b"a",
+        ),
+        (
+            b"\xEF\xBB\xBF\xEF\xBB\xBF\xEF\xBB\xBFk\n7",
+            1,
+            b"k",
+            1,
+            b"7",
+        ),
+        (b"\xEF\xBB\xBF\xEF\xBBk\n7", 1, b"\xEF\xBBk", 1, b"7"),
+        (b"k\n\xEF\xBB\xBF7\n", 1, b"k", 1, b"\xEF\xBB\xBF7"),
+        (b"\xFF\n\xFE\n", 1, b"\xFF", 1, b"\xFE"),
     ];
-    for (file, names, rows, text) in cases {
+    for (file, names, name, rows, text) in cases {
         let mut shelf = MapShelf::new(rt.alloc());
         shelf.add("file", file)?;
         let Ok(table) = read_table(rt.alloc(), &mut shelf, "file") else {
@@ -26,6 +47,7 @@ fn tables(rt: HostRuntime) -> Result<(), Fail> {
             return Ok(());
         };
         assert!(rt; table.names.len() == names);
+        assert!(rt; table.names.at(0).as_slice() == name);
         assert!(rt; table.rows.len() == rows);
         let mut found = false;
         for row in table.rows.as_slice() {
@@ -38,15 +60,25 @@ fn tables(rt: HostRuntime) -> Result<(), Fail> {
     Ok(())
 }
 
-// A column of a table, and its first row that is neither empty nor a number.
+// The row that a column's answer names, and 0 where there is none.
+fn row_in(answer: Result<(), BadNumber>) -> u64 {
+    match answer {
+        Ok(()) => 0,
+        Err(fault) => fault.row,
+    }
+}
+
+// The first rows that are neither empty nor a number, in the first column of a table and in its last.
 #[test]
 fn columns(rt: HostRuntime) -> Result<(), Fail> {
-    let cases: [(&[u8], u64); 3] = [
-        (b"id,x\n1,10\n2,\n3,-7\n", 0),
-        (b"id,x\n1, \n2,z\n3,y\n", 2),
-        (b"id,x\n", 0),
+    let cases: [(&[u8], u64, u64); 5] = [
+        (b"id,y\n1,20\n2,30\n3,4x\n", 0, 3),
+        (b"id,x\n1,10\n2,\n3,-7\n", 0, 0),
+        (b"id,x\n1, \n2,z\n3,y\n", 0, 2),
+        (b"id,x\n\n a ,0\n", 1, 0),
+        (b"id,x\n", 0, 0),
     ];
-    for (file, bad) in cases {
+    for (file, first, last) in cases {
         let mut shelf = MapShelf::new(rt.alloc());
         shelf.add("file", file)?;
         let Ok(table) = read_table(rt.alloc(), &mut shelf, "file") else {
@@ -54,23 +86,25 @@ fn columns(rt: HostRuntime) -> Result<(), Fail> {
             return Ok(());
         };
         let width = table.names.len();
-        let row = match table.numbers(width - 1) {
-            Ok(()) => 0,
-            Err(fault) => fault.row,
-        };
-        assert!(rt; row == bad);
+        assert!(rt; row_in(table.numbers(0)) == first);
+        assert!(rt; row_in(table.numbers(width - 1)) == last);
     }
     Ok(())
 }
 
 #[test]
 fn faults(rt: HostRuntime) -> Result<(), Fail> {
-    let cases: [(&[u8], TableFault); 6] = [
+    let cases: [(&[u8], TableFault); 8] = [
         (b"", TableFault::NoHeader),
         (b"\xEF\xBB\xBF\r\n\n", TableFault::NoHeader),
+        (b"\n\r\r\n\n", TableFault::NoHeader),
         (b"a,b\n1,2\n3", TableFault::Width { row: 2, found: 1 }),
         (b"a,b\n\n1,2,3\n4\n", TableFault::Width { row: 1, found: 3 }),
         (b"k,v\n7\n", TableFault::Width { row: 1, found: 1 }),
+        (
+            b"a,b\n\n1,2\n\r\n3\n4\n",
+            TableFault::Width { row: 2, found: 1 },
+        ),
         (b"k\n7\n\"\"\n8,9\n", TableFault::Width { row: 3, found: 2 }),
     ];
     for (file, why) in cases {
@@ -80,6 +114,34 @@ fn faults(rt: HostRuntime) -> Result<(), Fail> {
             Err(fault) => assert!(rt; fault == why),
             Ok(_) => assert!(rt; false),
         }
+    }
+    Ok(())
+}
+
+// Files at the limits: a text so many times, the text at their end, and what is wrong with them.
+#[test]
+fn limits(rt: HostRuntime) -> Result<(), Fail> {
+    let page = [b'\n'; 4096];
+    let cases: [(&[u8], usize, &[u8], Option<TableFault>); 3] = [
+        (&page, 4096, b"k", Some(TableFault::TooLong)),
+        (b"7\n", 262_145, b"8,9", Some(TableFault::TooMany)),
+        (
+            b"7\n",
+            262_144,
+            b"8,9\n7",
+            Some(TableFault::Width {
+                row: 262_144,
+                found: 2,
+            }),
+        ),
+    ];
+    for (text, times, end, why) in cases {
+        let mut file = text.repeat(rt.alloc(), times)?;
+        file.extend_from_slice(end)?;
+        let mut shelf = MapShelf::new(rt.alloc());
+        shelf.add("file", file.as_slice())?;
+        let fault = read_table(rt.alloc(), &mut shelf, "file").err();
+        assert!(rt; fault == why);
     }
     Ok(())
 }
@@ -123,6 +185,23 @@ fn reads_that_are_made(rt: HostRuntime) -> Result<(), Fail> {
     let fault = read_table(rt.alloc(), &mut shelf, "s").err();
     assert!(rt; fault == Some(TableFault::Read));
     assert!(rt; shelf.reads == 3);
+    Ok(())
+}
+
+// After a pick that failed, of a name that isn't there or as it was told to, the shelf reads again.
+#[test]
+fn picks_that_fail(rt: HostRuntime) -> Result<(), Fail> {
+    let mut shelf = MapShelf::new(rt.alloc());
+    shelf.add("r", b"k\n7\n")?;
+    assert!(rt; shelf.pick("s").is_err());
+    let mut piece = [0u8; 4];
+    assert!(rt; shelf.read(&mut piece) == Ok(0));
+    assert!(rt; read_table(rt.alloc(), &mut shelf, "r").is_ok());
+    let mut failing = MapShelf::new(rt.alloc());
+    failing.add("r", b"k\n7\n")?;
+    failing.fail_pick(1)?;
+    assert!(rt; failing.pick("r").is_err());
+    assert!(rt; read_table(rt.alloc(), &mut failing, "r").is_ok());
     Ok(())
 }
 
