@@ -1,20 +1,19 @@
 -- What a parse by the command gives.
-use Rattle.std.proofs.Common.{◌≡◌, ◌∙◌, ◌⊎◌, ◌≤◌, arith, inl, inr, ℕ, List, [], ◌∷◌, true, Some, refl, ap, sym, subst, codes}
-use Rattle.std.specs.Prelude.{Ok, Err, Result}
+use Rattle.std.proofs.Common.{◌≡◌, ◌∙◌, arith, inl, inr, List, [], ◌∷◌, true, Some, refl, ap, sym, subst, codes}
+use Rattle.std.specs.Prelude.{Err, Result}
 use Rattle.clap.specs.Matches.{first_value, found_of}
 use Rattle.clap.specs.Values.{IsUnsignedIn, kind_of}
 use Rattle.clap.specs.Walk.{Row, Text, first_of, rows_of}
-use Rattle.clap.specs.Simple.{App, HasMatchesOf, app_of, is_simple, matches_of}
+use Rattle.clap.specs.Simple.{App, HasMatchesOf, is_simple, matches_of}
 use Rattle.clap.specs.Faults.{fault_of, is_simple_and_free}
-use Rattle.clap.specs.Kinds.{HasKind, IsAmong, Kinds}
-use Rattle.clap.specs.declared.builder.command.Command.{Command}
+use Rattle.clap.specs.Kinds.{HasKind, Kinds}
 use Rattle.clap.specs.declared.error.Error.{Error}
 use Rattle.clap.specs.declared.error.kind.ErrorKind.TheVariants.{OutOfMemory}
 use Rattle.clap.specs.declared.parser.matches.ArgMatches.{ArgMatches}
 use Rattle.clap.proofs.OnLiterals.{clap_on_literals}
 use Rattle.clap.proofs.WalkLemmas.{first_value-rows}
 use Rattle.join_words.specs.Command.{IsCommand, jm_command}
-use Rattle.join_words.specs.Words.{Asked, IsMatch, asked_by, asked_of, asked_unless, joiners_at}
+use Rattle.join_words.specs.Words.{IsMatch, asked_by, asked_of, asked_unless}
 use Rattle.join_words.specs.declared.options.WordsError.{WordsError}
 use Rattle.join_words.specs.declared.options.WordsError.TheVariants.{Fault, Memory}
 use Rattle.join_words.specs.declared.options.WordsFault.{WordsFault}

@@ -1,4 +1,4 @@
-use Rattle.std.proofs.Common.{◌≡◌, ◌∙◌, sym, rules}
+use Rattle.std.proofs.Common.{◌∙◌, sym}
 use Rattle.join_words.proofs.Powers.{small_exponent}
 use Rattle.join_words.proofs.checks.exponent.Goals as goal
 

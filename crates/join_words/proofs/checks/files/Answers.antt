@@ -1,4 +1,4 @@
-use Rattle.std.proofs.Common.{◌≡◌, Option, Some, None, ap, sym, subst, List, [], rules}
+use Rattle.std.proofs.Common.{Option, Some, None, ap, sym, subst, List, []}
 use Rattle.std.specs.Prelude.{codes, unwrap_or}
 use Rattle.clap.specs.Matches.{found_of}
 use Rattle.clap.specs.Walk.{Text}

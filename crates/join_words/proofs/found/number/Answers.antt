@@ -1,4 +1,4 @@
-use Rattle.std.proofs.Common.{◌≡◌, ◌∙◌, Some, None, ap, rules}
+use Rattle.std.proofs.Common.{◌∙◌, Some, None, ap}
 use Rattle.std.specs.Prelude.{option_and_then}
 use Rattle.clap.specs.Matches.{found_of}
 use Rattle.join_words.specs.Words.{number_of}

@@ -1,4 +1,4 @@
-use Rattle.std.proofs.Common.{◌≡◌, ◌∙◌, rules}
+use Rattle.std.proofs.Common.{◌∙◌}
 use Rattle.join_words.proofs.NumberReads.{number_parsed}
 use Rattle.join_words.proofs.found.number_in.Goals as goal
 

@@ -1,4 +1,4 @@
-use Rattle.std.proofs.Common.{map, string_bytes, rules}
+use Rattle.std.proofs.Common.{map, string_bytes}
 use Rattle.clap.specs.Simple.{app_of}
 use Rattle.join_words.specs.declared.options.WordsError.TheVariants.{Fault}
 use Rattle.join_words.proofs.RangeLemmas.{joiners_in}

@@ -1,8 +1,7 @@
-use Rattle.std.proofs.Common.{◌≡◌, ◌∙◌, ap, sym, map, string_bytes, rules}
-use Rattle.std.specs.Prelude.{Ok, Err}
+use Rattle.std.proofs.Common.{◌∙◌, ap, map, string_bytes}
+use Rattle.std.specs.Prelude.{Err}
 use Rattle.clap.specs.Matches.{found_of}
 use Rattle.clap.specs.Walk.{rows_of}
-use Rattle.join_words.specs.declared.options.WordsFault.{WordsFault}
 use Rattle.join_words.specs.declared.options.WordsError.TheVariants.{Fault}
 use Rattle.join_words.proofs.ReadLemmas.{asked_of-match, same_error, same_fault}
 use Rattle.join_words.proofs.reading.read_words.Goals as goal
