@@ -1,5 +1,5 @@
 -- A message is taken or held.
-use Rattle.std.proofs.Common.{◌≡◌, ℕ, ◌+◌, ◌^◌, ◌<◌, ◌≢◌, inl, inr, refl, sym, ◌∙◌, ap, subst, arith, Bool, true, Option, Some, None, List, [], ◌∷◌, ◌++◌, length, append_assoc, get_or-set_same, get_or-set_other}
+use Rattle.std.proofs.Common.{◌≡◌, ℕ, ◌^◌, ◌<◌, inl, inr, refl, sym, ◌∙◌, ap, subst, arith, Bool, true, Option, Some, None, List, [], ◌∷◌, ◌++◌, length, append_assoc, get_or-set_same, get_or-set_other}
 use Rattle.std.specs.Prelude.{slice_set, flat_map}
 use Rattle.std.proofs.Math.ListN.{length-set}
 use Rattle.std.proofs.lemmas.Bool.{cases_eq, false≢true}
@@ -11,15 +11,15 @@ use Rattle.epoch_tags.specs.declared.message.ToCollector.{ToCollector}
 use Rattle.epoch_tags.specs.Messages.{pairs_found}
 use Rattle.joiner_law.specs.Law.{JoinerStart, JoinerLists, Taken}
 use Rattle.joiner_law.specs.History.{Step}
-use Rattle.joiner_law.specs.Standing.{grown, with_sent, pairs_sent, ArePairs, AreSent, AreSteps, StandsSettled, StandsOpen}
+use Rattle.joiner_law.specs.Standing.{grown, pairs_sent, ArePairs, AreSent, AreSteps}
 use Rattle.joiner_law.proofs.Growing.{grown-same, grown-other}
 use Rattle.joiner_core.specs.Queues.{held_at}
 use Rattle.joiner_core.specs.Widths.{HasRow}
 use Rattle.joiner_core.proofs.Fitting.{same-rows, rows-held}
-use Rattle.joiner_core.specs.Standing.{IsClosed, IsOpen, StandsBy, Stands}
+use Rattle.joiner_core.specs.Standing.{StandsBy, Stands}
 use Rattle.joiner_core.specs.Taking.{TookOfFeeder, TookOfJoiner}
 use Rattle.joiner_core.specs.Tests.{TakesOfJoiner}
-use Rattle.joiner_core.specs.Whole.{StandsWithin, IsSound, Accepts}
+use Rattle.joiner_core.specs.Whole.{IsSound, Accepts}
 use Rattle.joiner_core.specs.declared.opened.Opened.{Opened}
 use Rattle.joiner_core.specs.declared.epochs.Epochs.{Epochs}
 use Rattle.joiner_core.specs.declared.machine.Machine.{Machine}

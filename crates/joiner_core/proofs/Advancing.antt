@@ -1,5 +1,5 @@
 -- Parts of a call, one after another.
-use Rattle.std.proofs.Common.{◌≡◌, ℕ, ◌+◌, ◌^◌, ◌<◌, ◌≢◌, zero, suc, inl, inr, refl, sym, ◌∙◌, ap, subst, arith, List, [], ◌∷◌, ◌++◌, length, append_assoc, get_or-set_same, get_or-set_other, set}
+use Rattle.std.proofs.Common.{◌≡◌, ℕ, ◌+◌, ◌^◌, ◌<◌, zero, suc, inl, inr, refl, sym, ◌∙◌, ap, subst, arith, List, [], ◌∷◌, ◌++◌, length, append_assoc, get_or-set_other, set}
 use Rattle.std.specs.Prelude.{slice_set, sum_by, slice_index_or}
 use Rattle.std.proofs.Math.ListN.{length-set}
 use Rattle.std.proofs.lemmas.List.Sums.{sum_by-cons}
@@ -7,14 +7,14 @@ use Rattle.std.proofs.lemmas.Bool.{cases_eq, false≢true}
 use Rattle.epoch_tags.specs.declared.tuple.Pair.{Pair}
 use Rattle.epoch_tags.specs.declared.message.Post.{Post}
 use Rattle.epoch_tags.specs.declared.message.ToJoiner.{ToJoiner}
-use Rattle.joiner_law.specs.Law.{JoinerStart, JoinerLists, Taken}
-use Rattle.joiner_law.specs.Standing.{grown, with_sent}
+use Rattle.joiner_law.specs.Law.{JoinerLists}
+use Rattle.joiner_law.specs.Standing.{with_sent}
 use Rattle.joiner_law.proofs.Growing.{grown-same, grown-other}
 use Rattle.joiner_core.specs.Queues.{held_at}
 use Rattle.joiner_core.proofs.Fitting.{same-rows, rows-taken}
-use Rattle.joiner_core.specs.Taking.{IsWithin, IsFixed, TookOfFeeder, TookOfJoiner}
+use Rattle.joiner_core.specs.Taking.{IsFixed, TookOfFeeder, TookOfJoiner}
 use Rattle.joiner_core.specs.Tests.{TakesOfJoiner}
-use Rattle.joiner_core.specs.Whole.{StandsWithin, IsResting, Advances, IsSound, IsReadyOfJoiner, TookHeld, held_in_all}
+use Rattle.joiner_core.specs.Whole.{StandsWithin, IsResting, Advances, IsSound, IsReadyOfJoiner, TookHeld}
 use Rattle.joiner_core.specs.declared.epochs.Epochs.{Epochs}
 use Rattle.joiner_core.specs.declared.machine.Machine.{Machine}
 use Rattle.joiner_core.proofs.Keeping.{quiet-append, with_sent-none, with_sent-append}

@@ -1,13 +1,12 @@
 -- The law, of a machine between calls.
 use Rattle.std.proofs.Common.{◌≡◌, ℕ, zero, suc, ◌+◌, ◌^◌, ◌<◌, ◌≤◌, ◌⊎◌, inl, inr, refl, sym, ◌∙◌, ap, subst, arith, Bool, true, false, Option, Some, None, List, [], ◌∷◌, ◌++◌, length}
-use Rattle.std.specs.Prelude.{flat_map, map, count_by, IsTrue}
+use Rattle.std.specs.Prelude.{flat_map, map, count_by}
 use Rattle.std.specs.List.{AllByRecursion}
 use Rattle.std.proofs.lemmas.Bool.{false≢true, cases_eq}
 use Rattle.join_rows.specs.declared.table.Side.TheVariants.{R, S}
-use Rattle.join_rows.specs.Lists.{SameBag, greatest, counting_from}
+use Rattle.join_rows.specs.Lists.{SameBag, counting_from}
 use Rattle.join_rows.proofs.Bags.{SameBag-trans, SameBag-sym}
 use Rattle.epoch_tags.specs.declared.tuple.Pair.{Pair}
-use Rattle.epoch_tags.specs.declared.message.ToJoiner.{ToJoiner}
 use Rattle.epoch_tags.specs.declared.message.ToCollector.{ToCollector}
 use Rattle.epoch_tags.specs.declared.message.ToCollector.TheVariants.{Found, Fin}
 use Rattle.epoch_tags.specs.Messages.{turns, moved_of, moved_ends, pairs_found}
@@ -22,9 +21,9 @@ use Rattle.joiner_core.specs.Changes.{IsReady}
 use Rattle.joiner_core.specs.declared.opened.Opened.{Opened}
 use Rattle.joiner_core.specs.declared.epochs.Epochs.{Epochs}
 use Rattle.joiner_core.specs.declared.machine.Machine.{Machine}
-use Rattle.joiner_core.specs.Standing.{IsClosed, IsOpen, StandsBy, Stands}
+use Rattle.joiner_core.specs.Standing.{IsClosed, StandsBy}
 use Rattle.joiner_core.specs.Taking.{HasSomeTurn}
-use Rattle.joiner_core.specs.Whole.{IsResting, IsStart, StandsBetween, HasFinished, fin_of}
+use Rattle.joiner_core.specs.Whole.{IsStart, StandsBetween, fin_of}
 use Rattle.joiner_core.proofs.Keeping.{append-nil}
 use Rattle.joiner_core.proofs.Testing.{closed-few, open-begun, greatest-above, greatest-below}
 use Rattle.joiner_core.proofs.Finishing.{parts-at, some-up, more-up, rests-law, law-finished}

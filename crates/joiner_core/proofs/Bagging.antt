@@ -1,5 +1,5 @@
 -- What is said of stores is said of them as bags.
-use Rattle.std.proofs.Common.{◌≡◌, ℕ, Bool, true, false, List, [], ◌∷◌, ◌++◌, cond}
+use Rattle.std.proofs.Common.{ℕ, Bool, true, false, List, [], ◌∷◌, ◌++◌, cond}
 use Rattle.join_rows.specs.Lists.{SameBag}
 use Rattle.join_rows.proofs.Bags.{SameBag-refl, SameBag-trans}
 use Rattle.epoch_tags.specs.declared.tuple.Tuple.{Tuple}

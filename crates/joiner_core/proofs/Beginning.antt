@@ -1,27 +1,24 @@
 -- A joiner that has just begun.
-use Rattle.std.proofs.Common.{◌≡◌, ℕ, zero, suc, ◌+◌, ◌^◌, ◌<◌, ◌≤◌, refl, sym, ◌∙◌, ap, subst, arith, Bool, true, false, Option, Some, None, List, [], ◌∷◌, ◌++◌, length}
+use Rattle.std.proofs.Common.{◌≡◌, ℕ, zero, suc, ◌^◌, ◌<◌, ◌≤◌, refl, sym, ◌∙◌, ap, subst, arith, false, Option, List, [], ◌∷◌, ◌++◌, length}
 use Rattle.std.proofs.lemmas.Bool.{false≢true}
 use Rattle.std.specs.List.{AllByRecursion}
 use Rattle.join_rows.specs.Lists.{SameBag, gather}
 use Rattle.join_rows.proofs.Bags.{SameBag-refl}
 use Rattle.epoch_tags.specs.declared.tuple.Tuple.{Tuple}
-use Rattle.epoch_tags.specs.declared.tuple.Pair.{Pair}
 use Rattle.epoch_tags.specs.declared.message.ToJoiner.{ToJoiner}
-use Rattle.joiner_law.specs.Law.{JoinerStart, JoinerLists, Taken, arrived, pairs_by}
-use Rattle.joiner_law.specs.History.{Step, stored}
+use Rattle.joiner_law.specs.Law.{Taken, pairs_by}
+use Rattle.joiner_law.specs.History.{Step}
 use Rattle.joiner_law.specs.Standing.{StandsSettled}
 use Rattle.joiner_core.specs.Flags.{flag_at}
-use Rattle.joiner_core.specs.Queues.{held_at}
 use Rattle.joiner_core.specs.Matching.{does_hold}
 use Rattle.joiner_core.specs.Changes.{IsReady}
 use Rattle.theta_pred.specs.Formula.{Meaning}
 use Rattle.joiner_core.specs.Widths.{AreRows}
 use Rattle.joiner_core.proofs.Fitting.{rows-none}
 use Rattle.joiner_core.specs.declared.opened.Opened.{Opened}
-use Rattle.joiner_core.specs.declared.epochs.Epochs.{Epochs}
 use Rattle.joiner_core.specs.declared.machine.Machine.{Machine}
-use Rattle.joiner_core.specs.Standing.{IsMachineOf, IsClosed, StandsBy, Stands}
-use Rattle.joiner_core.specs.Taking.{AreStepRows, IsWithin, IsStepWithin, IsCounted, HasSomeTurn}
+use Rattle.joiner_core.specs.Standing.{IsClosed, StandsBy}
+use Rattle.joiner_core.specs.Taking.{AreStepRows, IsStepWithin, IsCounted, HasSomeTurn}
 use Rattle.joiner_core.specs.Whole.{IsSound, IsStuck, IsMade, StandsBetween, no_lists, start_of}
 use Rattle.joiner_core.proofs.Keeping.{append-nil, same-ends}
 use Rattle.joiner_core.proofs.Reporting.{stands-for}

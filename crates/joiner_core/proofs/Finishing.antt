@@ -1,20 +1,20 @@
 -- The machine has finished exactly where the law says so.
-use Rattle.std.proofs.Common.{◌≡◌, ℕ, zero, suc, ◌+◌, ◌^◌, ◌<◌, ◌≤◌, ◌≢◌, ◌⊎◌, inl, inr, refl, sym, ◌∙◌, ap, subst, arith, Bool, true, false, Option, Some, None, List, [], ◌∷◌, ◌++◌, length}
+use Rattle.std.proofs.Common.{◌≡◌, ℕ, zero, suc, ◌+◌, ◌^◌, ◌<◌, inl, inr, refl, sym, ◌∙◌, ap, subst, arith, Bool, true, false, Option, Some, None, List, [], ◌∷◌, ◌++◌, length}
 use Rattle.std.proofs.lemmas.Bool.{false≢true, cases_eq}
 use Rattle.std.proofs.lemmas.List.{length-append}
 use Rattle.epoch_tags.specs.declared.tuple.Pair.{Pair}
 use Rattle.epoch_tags.specs.declared.message.ToJoiner.{ToJoiner}
-use Rattle.epoch_tags.specs.Messages.{turns, ends, moved_ends}
-use Rattle.joiner_law.specs.Law.{JoinerStart, JoinerLists, Taken, partner_of, opened, AllTurned, IsSettled, IsAtRest, IsFinished}
+use Rattle.epoch_tags.specs.Messages.{moved_ends}
+use Rattle.joiner_law.specs.Law.{JoinerStart, JoinerLists, Taken, partner_of, opened, IsSettled, IsAtRest, IsFinished}
 use Rattle.joiner_law.specs.History.{Step}
 use Rattle.joiner_law.specs.Standing.{one_if, AreParts}
-use Rattle.joiner_core.specs.Flags.{flag_at, IsEachUp}
+use Rattle.joiner_core.specs.Flags.{IsEachUp}
 use Rattle.joiner_core.specs.Queues.{held_at}
 use Rattle.joiner_core.specs.Changes.{IsReady}
 use Rattle.joiner_core.specs.declared.opened.Opened.{Opened}
 use Rattle.joiner_core.specs.declared.epochs.Epochs.{Epochs}
 use Rattle.joiner_core.specs.declared.machine.Machine.{Machine}
-use Rattle.joiner_core.specs.Standing.{IsMachineOf, IsClosed, IsOpen, StandsBy, Stands}
+use Rattle.joiner_core.specs.Standing.{IsClosed, IsOpen, StandsBy, Stands}
 use Rattle.joiner_core.specs.Taking.{HasSomeTurn}
 use Rattle.joiner_core.specs.Whole.{IsResting, StandsBetween, HasFinished}
 use Rattle.joiner_core.proofs.Keeping.{append-nil}

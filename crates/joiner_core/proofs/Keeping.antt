@@ -1,16 +1,15 @@
 -- The machine stands for its lists after each call.
-use Rattle.std.proofs.Common.{◌≡◌, ℕ, zero, suc, ◌+◌, ◌<◌, ◌≤◌, ◌^◌, refl, sym, ◌∙◌, ap, subst, arith, Bool, true, false, cond, Option, Some, None, List, [], ◌∷◌, ◌++◌, length, inl, inr, eq-eqb, get_or-set_same, get_or-set_other, append_assoc}
+use Rattle.std.proofs.Common.{◌≡◌, ℕ, ◌+◌, ◌<◌, ◌≤◌, ◌^◌, refl, sym, ◌∙◌, ap, subst, arith, Bool, true, false, cond, Option, Some, None, List, [], ◌∷◌, ◌++◌, length, inl, inr, eq-eqb, get_or-set_same, get_or-set_other, append_assoc}
 use Rattle.std.proofs.lemmas.Bool.{false≢true, cases_eq, ne_eqb}
 use Rattle.std.specs.Prelude.{slice_set, count_by}
 use Rattle.std.proofs.Math.ListN.{length-set}
-use Rattle.join_rows.specs.Lists.{SameBag}
 use Rattle.join_rows.specs.declared.table.Side.{Side}
 use Rattle.epoch_tags.specs.declared.tuple.Tuple.{Tuple}
 use Rattle.epoch_tags.specs.declared.tuple.Pair.{Pair}
 use Rattle.epoch_tags.specs.declared.message.ToJoiner.{ToJoiner}
 use Rattle.epoch_tags.specs.declared.message.ToJoiner.TheVariants.{Tup, Turn, End, Moved, MovedEnd}
 use Rattle.epoch_tags.specs.Posts.{posted_to_joiner, posted_to_controller, posted_to_collector, for_joiner, for_controller, for_collector}
-use Rattle.std.specs.Prelude.{filter_map, map, filter}
+use Rattle.std.specs.Prelude.{map, filter}
 use Rattle.std.proofs.lemmas.List.Elements.{filter_map-append}
 use Rattle.migration_plan.specs.Steps.{holds, is_of, exchanged_side, partner_in_step}
 use Rattle.joiner_law.specs.Law.{JoinerStart, JoinerLists, Taken, partner_of, shift_after}
@@ -20,19 +19,19 @@ use Rattle.joiner_law.specs.History.{Step, probed, with_arrived, with_came, new_
 use Rattle.joiner_law.specs.Standing.{grown, took_of_feeder, took_of_joiner, with_sent, with_flag, with_shift, IsOfFeeder, StandsSettled, StandsOpen, moved_counts}
 use Rattle.joiner_law.proofs.Partners.{counts-arrived}
 use Rattle.joiner_law.proofs.Sending.{count-bag}
-use Rattle.joiner_law.proofs.Takings.{settled-tup, open-late, open-tup, open-moved, opened-step, open-turn, all-turned, open-end, settled-end, open-moved_end, settled-step}
+use Rattle.joiner_law.proofs.Takings.{settled-tup, open-late, open-tup, open-moved, opened-step, open-turn, all-turned, settled-end, open-moved_end, settled-step}
 use Rattle.joiner_core.specs.Matching.{does_hold}
 use Rattle.joiner_core.specs.Flags.{flag_at, IsEachUp}
 use Rattle.joiner_core.specs.declared.opened.Opened.{Opened}
 use Rattle.joiner_core.specs.declared.epochs.Epochs.{Epochs}
-use Rattle.joiner_core.specs.Changes.{after_old, found_old, posts_old, late_found, late_posts, open_old, opened_late, found_late, posts_late, with_new, after_new, found_new, step_new, new_found, after_moved, found_moved, moved_found, IsOpened, posts_opened, part_by, after_part, settled_by, IsReady, turned_in, settle_posts, posts_settled, after_settle, HasTurned, AreAllUp, end_posts, posts_turned, HasBegun, begun_posts, HasOpened}
+use Rattle.joiner_core.specs.Changes.{after_old, found_old, posts_old, late_found, late_posts, open_old, opened_late, found_late, posts_late, with_new, after_new, found_new, step_new, new_found, IsOpened, posts_opened, settled_by, IsReady, turned_in, settle_posts, posts_settled, after_settle, HasTurned, AreAllUp, end_posts, posts_turned, HasBegun, begun_posts}
 use Rattle.joiner_core.specs.Standing.{IsMachineOf, IsClosed, IsOpen, StandsBy, Stands}
 use Rattle.theta_pred.specs.Formula.{Meaning}
 use Rattle.joiner_core.specs.Stocks.{placed}
 use Rattle.joiner_core.specs.Widths.{IsRow, AreRows}
 use Rattle.joiner_core.proofs.Fitting.{rows-placed, rows-old, rows-new, rows-begun, rows-turned}
 use Rattle.joiner_core.proofs.Bagging.{settled-placed, open-placed, both-placed}
-use Rattle.joiner_core.specs.Taking.{AreStepRows, IsWithin, IsStepWithin, IsCounted, HasSomeTurn, TupFits, CanTakeTup, TurnFits, CanTakeTurn, TookOfFeeder, TookOfJoiner}
+use Rattle.joiner_core.specs.Taking.{AreStepRows, IsWithin, IsStepWithin, IsCounted, HasSomeTurn, TupFits, CanTakeTup, TurnFits, CanTakeTurn, TookOfFeeder}
 use Rattle.epoch_tags.specs.declared.message.Post.{Post}
 
 pub append-nil : {A : Type 0} (xs : List A) → xs ++ [] ≡ xs

@@ -1,5 +1,5 @@
 -- Queues in a list of queues.
-use Rattle.std.proofs.Common.{◌≡◌, ℕ, ◌<◌, refl, sym, ◌∙◌, ap, subst, arith, List, [], ◌∷◌, ◌++◌, length, get_or, set, get_or-set_same, Option, Some, None}
+use Rattle.std.proofs.Common.{◌≡◌, ℕ, ◌<◌, refl, sym, ◌∙◌, ap, arith, List, [], ◌∷◌, ◌++◌, length, get_or, set, get_or-set_same, Option, Some, None}
 use Rattle.std.specs.Prelude.{map, MatchOption, option_to_list, drop}
 use Rattle.std.proofs.lemmas.List.{map-set, get_or-map, length-map}
 use Rattle.epoch_tags.specs.declared.message.ToJoiner.{ToJoiner}

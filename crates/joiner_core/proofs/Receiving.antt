@@ -1,23 +1,21 @@
 -- A feeder's end and a partner's messages, as whole calls.
-use Rattle.std.proofs.Common.{◌≡◌, ℕ, zero, suc, ◌+◌, ◌<◌, ◌≤◌, refl, sym, ◌∙◌, ap, subst, arith, Bool, true, false, Option, Some, None, List, [], ◌∷◌, ◌++◌, length}
+use Rattle.std.proofs.Common.{◌≡◌, ℕ, ◌<◌, refl, sym, ◌∙◌, ap, subst, arith, Bool, true, false, Option, Some, None, List, [], ◌++◌, length}
 use Rattle.std.specs.Prelude.{slice_set}
 use Rattle.std.proofs.Math.ListN.{length-set}
 use Rattle.epoch_tags.specs.declared.tuple.Tuple.{Tuple}
 use Rattle.epoch_tags.specs.declared.tuple.Pair.{Pair}
 use Rattle.epoch_tags.specs.declared.message.Post.{Post}
-use Rattle.epoch_tags.specs.declared.message.ToJoiner.{ToJoiner}
-use Rattle.epoch_tags.specs.declared.message.ToJoiner.TheVariants.{Tup, Turn, End, Moved, MovedEnd}
+use Rattle.epoch_tags.specs.declared.message.ToJoiner.TheVariants.{End, Moved, MovedEnd}
 use Rattle.joiner_law.specs.Law.{JoinerStart, JoinerLists, Taken}
-use Rattle.joiner_law.specs.History.{Step, probed}
-use Rattle.joiner_law.specs.Standing.{took_of_feeder, took_of_joiner, with_sent, with_flag, IsOfFeeder, StandsOpen}
+use Rattle.joiner_law.specs.History.{Step}
+use Rattle.joiner_law.specs.Standing.{took_of_feeder, took_of_joiner, with_sent, IsOfFeeder, StandsOpen}
 use Rattle.migration_plan.specs.Steps.{partner_in_step}
 use Rattle.joiner_law.proofs.Takings.{open-end}
-use Rattle.joiner_core.specs.Matching.{does_hold}
 use Rattle.joiner_core.specs.Flags.{flag_at}
 use Rattle.joiner_core.specs.declared.opened.Opened.{Opened}
 use Rattle.joiner_core.specs.declared.epochs.Epochs.{Epochs}
 use Rattle.joiner_core.specs.Changes.{after_moved, found_moved, moved_found, step_new, with_new, part_by, after_part, IsReady, posts_settled, after_settle}
-use Rattle.joiner_core.specs.Standing.{IsMachineOf, IsClosed, IsOpen, StandsBy, Stands}
+use Rattle.joiner_core.specs.Standing.{IsMachineOf, IsOpen, StandsBy, Stands}
 use Rattle.joiner_core.specs.Taking.{IsWithin, IsStepWithin, IsCounted, HasSomeTurn, TookOfFeeder, TookOfJoiner}
 use Rattle.joiner_core.specs.Widths.{IsRow}
 use Rattle.joiner_core.specs.Tests.{PartFits}

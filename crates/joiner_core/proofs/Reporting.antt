@@ -13,13 +13,13 @@ use Rattle.std.specs.List.{AllByRecursion}
 use Rattle.std.proofs.lemmas.List.{map-append, length-append}
 use Rattle.std.proofs.lemmas.Bool.{false≢true}
 use Rattle.std.proofs.lemmas.List.Elements.{filter_map-append}
-use Rattle.epoch_tags.specs.declared.message.ToCollector.TheVariants.{Found, Fin}
+use Rattle.epoch_tags.specs.declared.message.ToCollector.TheVariants.{Found}
 use Rattle.epoch_tags.specs.declared.actor.Actor.TheVariants.{Feeder, Joiner as Joiner', Controller, Collector}
 use Rattle.joiner_core.specs.Flags.{IsEachUp}
 use Rattle.epoch_tags.specs.Posts.{for_collector, posted_to_joiner, posted_to_controller, posted_to_collector}
-use Rattle.joiner_law.specs.Law.{JoinerStart, JoinerLists, Taken, pairs_by, received_count, IsTakenOf, CanTakeOfFeeder, CanTakeOfJoiner}
-use Rattle.joiner_law.specs.History.{Step, all_found}
-use Rattle.joiner_law.specs.Standing.{one_if, with_sent, pairs_sent, ArePairs}
+use Rattle.joiner_law.specs.Law.{JoinerStart, JoinerLists, Taken, pairs_by, received_count}
+use Rattle.joiner_law.specs.History.{all_found}
+use Rattle.joiner_law.specs.Standing.{with_sent, pairs_sent}
 use Rattle.joiner_core.specs.Queues.{held_at}
 use Rattle.joiner_core.specs.Standing.{StandsBy, Stands}
 use Rattle.joiner_core.specs.Taking.{HasSomeTurn}

@@ -8,7 +8,6 @@ use Rattle.join_rows.specs.declared.table.Side.{Side}
 use Rattle.join_rows.specs.declared.table.Side.TheVariants.{R, S}
 use Rattle.grid_map.specs.declared.shape.Shape.{Shape}
 use Rattle.epoch_tags.specs.declared.tuple.Tuple.{Tuple}
-use Rattle.epoch_tags.specs.declared.tuple.Pair.{Pair}
 use Rattle.migration_plan.specs.Steps.{holds, same_side, is_of}
 use Rattle.theta_pred.specs.Formula.{Meaning}
 use Rattle.theta_pred.specs.Truth.{holds as is_true}

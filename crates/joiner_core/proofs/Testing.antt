@@ -1,20 +1,19 @@
 -- The machine's tests are those of the law, for the lists for which it stands.
-use Rattle.std.proofs.Common.{◌≡◌, ℕ, zero, suc, ◌+◌, ◌<◌, ◌≤◌, ◌≢◌, inl, inr, refl, sym, ◌∙◌, ap, subst, arith, Bool, true, false, Option, Some, None, List, [], ◌∷◌, ◌++◌, length}
+use Rattle.std.proofs.Common.{◌≡◌, ℕ, zero, suc, ◌+◌, ◌<◌, ◌≤◌, inl, inr, refl, sym, ◌∙◌, ap, subst, arith, Bool, true, false, Option, Some, None, List, ◌∷◌, length}
 use Rattle.std.proofs.lemmas.Bool.{false≢true, cases_eq}
 use Rattle.join_rows.specs.Lists.{greatest}
 use Rattle.epoch_tags.specs.declared.tuple.Pair.{Pair}
-use Rattle.epoch_tags.specs.declared.tuple.Tuple.{Tuple}
 use Rattle.epoch_tags.specs.declared.message.ToJoiner.{ToJoiner}
 use Rattle.epoch_tags.specs.declared.message.ToJoiner.TheVariants.{Tup, Turn, End, Moved, MovedEnd}
-use Rattle.epoch_tags.specs.Messages.{turns, ends, moved_ends}
+use Rattle.epoch_tags.specs.Messages.{turns, moved_ends}
 use Rattle.migration_plan.specs.Steps.{AreNeighbours, partner_in_step}
 use Rattle.joiner_law.specs.Law.{JoinerStart, JoinerLists, Taken, partner_of, shift_after, opened, CanTakeOfFeeder, CanTakeOfJoiner, IsOpenPart}
-use Rattle.joiner_law.specs.Standing.{one_if, IsOfFeeder, StandsSettled, StandsOpen}
+use Rattle.joiner_law.specs.Standing.{one_if}
 use Rattle.joiner_core.specs.Flags.{flag_at}
 use Rattle.joiner_core.specs.declared.opened.Opened.{Opened}
 use Rattle.joiner_core.specs.declared.epochs.Epochs.{Epochs}
 use Rattle.joiner_core.specs.Standing.{IsMachineOf, IsClosed, IsOpen, StandsBy, Stands}
-use Rattle.joiner_core.specs.Taking.{TupFits, CanTakeTup, TurnFits, CanTakeTurn, HasSomeTurn}
+use Rattle.joiner_core.specs.Taking.{TupFits, TurnFits, HasSomeTurn}
 use Rattle.joiner_core.specs.Tests.{PartFits, TakesOfFeeder, TakesOfJoiner}
 use Rattle.joiner_core.proofs.Keeping.{partner-is}
 

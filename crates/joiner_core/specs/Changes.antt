@@ -1,5 +1,5 @@
 -- What each call does to the machine, as functions of its state.
-use Rattle.std.specs.Prelude.{◌≡◌, ℕ, zero, suc, ◌+◌, ⊤, ◌<◌, Bool, true, false, cond, slice_set, count_by, Option, Some, None, List, [], ◌∷◌, ◌++◌, map, filter, slice_index_or, length}
+use Rattle.std.specs.Prelude.{◌≡◌, ℕ, Bool, true, false, cond, slice_set, count_by, Option, Some, None, List, [], ◌∷◌, ◌++◌, map, filter, slice_index_or, length}
 use Rattle.join_rows.specs.declared.table.Side.{Side}
 use Rattle.epoch_tags.specs.declared.tuple.Tuple.{Tuple}
 use Rattle.epoch_tags.specs.declared.tuple.Pair.{Pair}

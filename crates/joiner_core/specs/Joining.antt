@@ -8,7 +8,6 @@ use Rattle.theta_pred.specs.Formula.{Meaning}
 use Rattle.joiner_law.specs.Law.{JoinerStart, JoinerLists, JoinerLaw, Taken}
 use Rattle.joiner_law.specs.Standing.{with_sent}
 use Rattle.joiner_core.specs.Whole.{StandsBetween, with_message}
-use Rattle.joiner_core.specs.declared.machine.Machine.{Machine}
 use Rattle.joiner_core.specs.declared.joiner.Joiner.{Joiner}
 
 -- want of memory has stopped it
