@@ -1,4 +1,4 @@
-ghost use Rattle.std.specs.Prelude.{◌≡◌, ◌<◌, length, IfOk};
+ghost use Rattle.std.specs.Prelude.{◌≡◌, ◌<◌, [], length, IfOk};
 ghost use Rattle.store_parts.specs.Matches.{HasWidth};
 ghost use Rattle.store_parts.specs.Stored.{HaveWidths};
 
@@ -25,7 +25,10 @@ fn cells(alloc: Global, text: &[u8]) -> Result<Cells, AllocError>
     Ok(cells)
 }
 
-fn empty(alloc: Global) -> Store {
+fn empty(alloc: Global) -> Store
+    ensures r { result.r ≡ [] }
+    ensures s { result.s ≡ [] }
+{
     let key = KeyAtom {
         r_sum: Linear {
             parts: Parts::new(alloc),

@@ -1,0 +1,5 @@
+use Rattle.store_parts.specs.Stored.{HaveWidths}
+use Rattle.jm_bench.proofs.filled.Given as goal
+
+abbrev pub invariant-loop-number : goal.invariant-loop-number
+invariant-loop-number l = HaveWidths l.theta l.store

@@ -1,0 +1,144 @@
+//! Work to be timed, chosen by a word: `holds` evaluates a predicate four million times, `store` probes a store of
+//! 20,000 tuples with as many.
+#![tactic(auto)]
+
+ghost use Rattle.std.specs.Prelude.{◌≡◌, length, All, IfOk};
+ghost use Rattle.store_parts.specs.Stored.{HaveWidths};
+
+use epoch_tags::{Pairs, Tuple};
+use join_rows::{Bytes, Cell, Cells, Items, Names, Side};
+use std::alloc::{AllocError, Global};
+use std::{env, io};
+use store_parts::{Store, Which};
+use theta_pred::{Theta, parse, resolve};
+
+fn header(alloc: Global, word: &[u8]) -> Result<Names, AllocError>
+    ensures { IfOk result (λ names. length names ≡ 1) }
+{
+    let mut names = Names::new(alloc);
+    names.push(Bytes::from_slice(alloc, word)?)?;
+    Ok(names)
+}
+
+// The test that R's only column, x, and S's, y, are at most two apart.
+fn band(alloc: Global) -> Result<Theta, AllocError>
+    ensures r { IfOk result (λ theta. theta.width_r ≡ 1) }
+    ensures s { IfOk result (λ theta. theta.width_s ≡ 1) }
+{
+    let names_r = header(alloc, b"x")?;
+    let names_s = header(alloc, b"y")?;
+    let Ok(pred) = parse(alloc, "abs(r.x - s.y) <= 2") else {
+        return Err(AllocError);
+    };
+    let Ok(theta) = resolve(alloc, &pred, &names_r, &names_s) else {
+        return Err(AllocError);
+    };
+    Ok(theta)
+}
+
+fn row(alloc: Global, number: u32) -> Result<Cells, AllocError>
+    ensures { IfOk result (λ row. length row ≡ 1) }
+{
+    let mut row = Cells::new(alloc);
+    row.push(Cell {
+        text: Bytes::new(alloc),
+        num: Some(i64::from(number)),
+    })?;
+    Ok(row)
+}
+
+fn rows(alloc: Global, count: u32) -> Result<Items<Cells>, AllocError>
+    ensures { IfOk result (λ rows. All (λ row. length row ≡ 1) rows) }
+{
+    let mut rows = Items::<Cells>::new(alloc);
+    for number in 0..count {
+        rows.push(row(alloc, number)?)?;
+    }
+    Ok(rows)
+}
+
+// How many of the rows match this row of R.
+fn matching(theta: &Theta, r: &Cells, rows: &Items<Cells>) -> u32
+    requires r { theta.now.width_r ≡ 1 }
+    requires s { theta.now.width_s ≡ 1 }
+    requires row { length r.now ≡ 1 }
+    requires rows { All (λ row. length row ≡ 1) rows.now }
+{
+    let mut count = 0u32;
+    for s in rows.as_slice() {
+        if theta.holds(r, s) {
+            count = count.wrapping_add(1);
+        }
+    }
+    count
+}
+
+// How many of 2,000 rows by 2,000 match.
+fn holds(alloc: Global) -> Result<u32, AllocError> {
+    let theta = band(alloc)?;
+    let rows = rows(alloc, 2000)?;
+    let mut count = 0u32;
+    for r in rows.as_slice() {
+        count = count.wrapping_add(matching(&theta, r, &rows));
+    }
+    Ok(count)
+}
+
+fn tuple(alloc: Global, side: Side, number: u32) -> Result<Tuple, AllocError>
+    ensures side { IfOk result (λ tuple. tuple.side ≡ side) }
+    ensures width { IfOk result (λ tuple. length tuple.cells ≡ 1) }
+{
+    Ok(Tuple {
+        side,
+        index: number,
+        ticket: 0,
+        stamp: 0,
+        cells: row(alloc, number)?,
+    })
+}
+
+fn add(alloc: Global, store: &mut Store, theta: &Theta, number: u32) -> Result<(), AllocError>
+    requires s { theta.now.width_s ≡ 1 }
+    requires widths { HaveWidths theta.now store.old }
+    ensures { HaveWidths theta.now store.new }
+{
+    store.add(tuple(alloc, Side::S, number)?)
+}
+
+// A store of this many tuples of S.
+fn filled(alloc: Global, theta: &Theta, count: u32) -> Result<Store, AllocError>
+    requires s { theta.now.width_s ≡ 1 }
+    ensures { IfOk result (λ store. HaveWidths theta.now store) }
+{
+    let mut store = Store::new(alloc, None);
+    for number in 0..count {
+        add(alloc, &mut store, theta, number)?;
+    }
+    Ok(store)
+}
+
+// How many pairs 20,000 probes of 20,000 tuples find.
+fn probes(alloc: Global) -> Result<u64, AllocError> {
+    let theta = band(alloc)?;
+    let store = filled(alloc, &theta, 20000)?;
+    let mut found = Pairs::new(alloc);
+    for number in 0..20000 {
+        let tuple = tuple(alloc, Side::R, number)?;
+        store.probe_uncounted(&tuple, &theta, Which::All, &mut found)?;
+    }
+    Ok(found.len())
+}
+
+fn main(rt: HostRuntime) -> io::Result<()> {
+    let alloc = rt.alloc();
+    let Some(word) = env::args(&rt)?.nth(1) else {
+        println!(rt; "holds or store")?;
+        return Ok(());
+    };
+    match word.as_str() {
+        "holds" => println!(rt; "{}", holds(alloc)?)?,
+        "store" => println!(rt; "{}", probes(alloc)?)?,
+        _ => println!(rt; "holds or store")?,
+    }
+    Ok(())
+}
