@@ -1,4 +1,1 @@
-pub mod Holding
-pub mod Meeting
-pub mod Gathering
 pub mod Writing
