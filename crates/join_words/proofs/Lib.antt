@@ -1,0 +1,6 @@
+pub mod Building
+pub mod NumberReads
+pub mod Powers
+pub mod RangeLemmas
+pub mod ReadLemmas
+pub mod TextReads

@@ -1,0 +1,37 @@
+-- What `parse` reads, as a number of the contracts.
+use Rattle.std.proofs.Common.{◌≡◌, ◌<◌, ◌≤◌, ℕ, Bool, true, false, List, Option, Some, None, refl, arith, ◌^◌, ap, sym, ◌∙◌}
+use Rattle.std.specs.Prelude.{Ok, Err, Result, option_and_then, unwrap_or}
+use Rattle.std.specs.Str.Parse.{IsNumeral, ParsesUnsigned, digits_value, without_leading_plus}
+use Rattle.std.specs.Result.{result_ok}
+use Rattle.clap.specs.ValueTests.{is_unsigned_in}
+use Rattle.clap.specs.Values.{IsUnsignedIn}
+use Rattle.clap.specs.declared.builder.value_parser.ValueParser.TheVariants as vp
+use Rattle.clap.proofs.ValueTestLemmas.{accepts-Accepts, Accepts-accepts}
+use Rattle.join_words.specs.Words.{number_of}
+
+pub number_parsed : {E : Type 0} (text : List ℕ) (parsed : Result ℕ E) → ParsesUnsigned 64 10 text parsed → result_ok parsed ≡ number_of text
+number_parsed text (Ok v) parses =
+    let low : 0 ≤ digits_value 10 (without_leading_plus text) = omega arith in
+    let high : digits_value 10 (without_leading_plus text) ≤ 18446744073709551615 = omega (arith, parses.0.1) in
+    let passes : IsUnsignedIn 0 18446744073709551615 text = (parses.0.0, parses.0.1, low, high) in
+    let fits : is_unsigned_in 0 18446744073709551615 text ≡ true = Accepts-accepts false (vp.Unsigned 0 18446744073709551615) text passes in
+    rw fits (ap (λ (n : ℕ). Some n) parses.1)
+number_parsed text (Err e) parses = go (is_unsigned_in 0 18446744073709551615 text) refl
+  where
+    go : (b : Bool) → is_unsigned_in 0 18446744073709551615 text ≡ b → None ≡ number_of text
+    go true e =
+        let passes : IsUnsignedIn 0 18446744073709551615 text = accepts-Accepts false (vp.Unsigned 0 18446744073709551615) text e in
+        absurd (parses (passes.0, passes.1))
+    go false e = rw e refl
+
+-- a number that is there or not, from a text that lies in bounds
+pub number_at_most : (low high other : ℕ) (first : Option (List ℕ)) → ((text : List ℕ) → first ≡ Some text → IsUnsignedIn low high text) → other ≤ high
+    → unwrap_or (option_and_then number_of first) other ≤ high
+number_at_most low high other None each less = less
+number_at_most low high other (Some text) each less =
+    let in_bounds = each text refl in
+    let low0 : 0 ≤ digits_value 10 (without_leading_plus text) = omega arith in
+    let high0 : digits_value 10 (without_leading_plus text) ≤ 18446744073709551615 = omega (arith, in_bounds.1) in
+    let passes : IsUnsignedIn 0 18446744073709551615 text = (in_bounds.0, in_bounds.1, low0, high0) in
+    let fits : is_unsigned_in 0 18446744073709551615 text ≡ true = Accepts-accepts false (vp.Unsigned 0 18446744073709551615) text passes in
+    rw fits in_bounds.3

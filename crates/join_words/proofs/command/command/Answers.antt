@@ -1,0 +1,32 @@
+use Rattle.std.proofs.Common.{rules, ◌≡◌, ◌∙◌, ap, codes}
+use Rattle.std.proofs.lemmas.Result.{IfOk-weaker}
+use Rattle.clap.specs.Built.{AddsArg}
+use Rattle.clap.specs.Walk.{Rule}
+use Rattle.clap.specs.Simple.{App, app_of, new_app, with_rule}
+use Rattle.join_words.specs.Command.{IsCommand, jm_command, default_rule, files_rule, flag_rule, number_rule, text_rule}
+use Rattle.join_words.proofs.Building.{IsApp, added}
+use Rattle.join_words.proofs.command.command.Goals as goal
+
+pub returns : goal.returns
+unfolding jm_command
+returns c =
+    let a0 : App = new_app (codes "jm") in
+    let e0 : IsApp c.new.result a0 = record { is = c.new.ensures.app } in
+    let r1 : Rule = text_rule (codes "on") in
+    let a1 : App = with_rule a0 r1 in
+    let e1 : IsApp c.in_ok-arg.field-0 a1 = added a0 c.new.result c.in_ok-arg.field-0 c.text.result r1 e0 c.text.ensures.local c.text.ensures.rule c.in_ok-arg.ensures in
+    let r2 : Rule = default_rule (codes "joiners") 1 64 (codes "4") in
+    let a2 : App = with_rule a1 r2 in
+    let e2 : IsApp c.in_ok-arg-2.field-0 a2 = added a1 c.in_ok-arg.field-0 c.in_ok-arg-2.field-0 c.number_or.result r2 e1 c.number_or.ensures.local c.number_or.ensures.rule c.in_ok-arg-2.ensures in
+    let r3 : Rule = default_rule (codes "seed") 0 18446744073709551615 (codes "1") in
+    let a3 : App = with_rule a2 r3 in
+    let e3 : IsApp c.in_ok-arg-3.field-0 a3 = added a2 c.in_ok-arg-2.field-0 c.in_ok-arg-3.field-0 c.number_or-2.result r3 e2 c.number_or-2.ensures.local c.number_or-2.ensures.rule c.in_ok-arg-3.ensures in
+    let r4 : Rule = number_rule (codes "fixed") 0 6 in
+    let a4 : App = with_rule a3 r4 in
+    let e4 : IsApp c.in_ok-arg-4.field-0 a4 = added a3 c.in_ok-arg-3.field-0 c.in_ok-arg-4.field-0 c.number.result r4 e3 c.number.ensures.local c.number.ensures.rule c.in_ok-arg-4.ensures in
+    let r5 : Rule = flag_rule (codes "report") in
+    let a5 : App = with_rule a4 r5 in
+    let e5 : IsApp c.in_ok-arg-5.field-0 a5 = added a4 c.in_ok-arg-4.field-0 c.in_ok-arg-5.field-0 c.flag.result r5 e4 c.flag.ensures.local c.flag.ensures.rule c.in_ok-arg-5.ensures in
+    IfOk-weaker c.arg-6.result (λ r. AddsArg c.in_ok-arg-5.field-0 c.files.result r) (λ r. IsCommand (app_of r)) (λ r adds.
+    let e6 : IsApp r (with_rule a5 (files_rule (codes "files"))) = added a5 c.in_ok-arg-5.field-0 r c.files.result (files_rule (codes "files")) e5 c.files.ensures.local c.files.ensures.rule adds in
+    record { is = e6.is }) c.arg-6.ensures

@@ -1,0 +1,49 @@
+-- The command line of `jm`, as clap reads it.
+use Rattle.std.specs.Prelude.{◌≡◌, ℕ, true, List, [], ◌∷◌, Some, codes}
+use Rattle.clap.specs.Lexer.{usize_max}
+use Rattle.clap.specs.Walk.{Rule, Text}
+use Rattle.clap.specs.Simple.{App, new_app, new_rule, with_rule}
+use Rattle.clap.specs.declared.builder.action.ArgAction.TheVariants.{SetTrue}
+use Rattle.clap.specs.declared.builder.value_parser.ValueParser.TheVariants as vp
+
+-- `--id TEXT`, which must be there
+abbrev pub text_rule : Text → Rule
+text_rule id = record (new_rule id) { long = Some id; required = true }
+
+-- `--id N`, from least to most
+abbrev pub number_rule : Text → ℕ → ℕ → Rule
+number_rule id least most = record (new_rule id) { long = Some id; parser = Some (vp.Unsigned least most) }
+
+-- the same, or else this value
+abbrev pub default_rule : Text → ℕ → ℕ → Text → Rule
+default_rule id least most value = record (number_rule id least most) { defaults = value ∷ [] }
+
+-- `--id`, without a value
+abbrev pub flag_rule : Text → Rule
+flag_rule id = record (new_rule id) { long = Some id; action = Some SetTrue }
+
+-- any number of words that no option takes
+abbrev pub files_rule : Text → Rule
+files_rule id = record (new_rule id) { range = Some (record { start_inclusive = 0; end_inclusive = usize_max }) }
+
+-- the arguments of `jm`
+abbrev pub rules : List Rule
+rules = text_rule (codes "on")
+    ∷ default_rule (codes "joiners") 1 64 (codes "4")
+    ∷ default_rule (codes "seed") 0 18446744073709551615 (codes "1")
+    ∷ number_rule (codes "fixed") 0 6
+    ∷ flag_rule (codes "report")
+    ∷ files_rule (codes "files") ∷ []
+
+-- a command with these arguments too
+abbrev pub with_rules : App → List Rule → App
+with_rules app [] = app
+with_rules app (rule ∷ rest) = with_rules (with_rule app rule) rest
+
+-- the command of `jm`
+unfoldable pub jm_command : App
+jm_command = with_rules (new_app (codes "jm")) rules
+
+-- the command is that of `jm`
+pub record IsCommand (app : App) : Type 0 where
+  pub is : app ≡ jm_command

@@ -1,0 +1,125 @@
+-- What the words of the command line ask for.
+use Rattle.std.specs.Prelude.{◌≡◌, ◌≤◌, ℕ, Bool, true, false, List, [], ◌∷◌, Option, Some, None, Result, Ok, Err, codes, unwrap_or, option_and_then, nat_le, if◌then◌else◌}
+use Rattle.std.specs.Int.{is_power_of_two, trailing_zeros, w64}
+use Rattle.std.specs.Borrow.{Bor}
+use Rattle.std.specs.Str.{bytes_eq}
+use Rattle.std.specs.Str.Parse.{digits_value, without_leading_plus}
+use Rattle.clap.specs.ValueTests.{is_unsigned_in}
+use Rattle.clap.specs.Walk.{Row, Text, all_of, first_of}
+use Rattle.clap.specs.Simple.{matches_of}
+use Rattle.clap.specs.Faults.{fault_of}
+use Rattle.clap.specs.Kinds.{Kinds}
+use Rattle.join_words.specs.Command.{jm_command}
+use Rattle.join_words.specs.declared.options.Options.{Options}
+use Rattle.join_words.specs.declared.options.WordsFault.{WordsFault}
+use Rattle.join_words.specs.declared.options.WordsFault.TheVariants.{NoMatch, Joiners, Fixed, Files}
+
+-- what the words ask for: the predicate's text, 2^k joiners, whether the grid stays at 2^fixed parts
+-- of R, the seed of the tickets, whether a report is wanted, and the names of the two files
+pub record Asked : Type 0 where
+  pub on : List ℕ
+  pub k : ℕ
+  pub fixed : Option ℕ
+  pub seed : ℕ
+  pub report : Bool
+  pub name_r : List ℕ
+  pub name_s : List ℕ
+
+-- what these options say
+abbrev pub asked : Options → Asked
+asked options = record {
+  on = options.on.now;
+  k = options.k;
+  fixed = options.fixed;
+  seed = options.seed;
+  report = options.report;
+  name_r = options.name_r.now;
+  name_s = options.name_s.now;
+}
+
+-- ---- what clap's matches say of one argument
+
+-- a whole number of 64 bits
+abbrev pub number_of : Text → Option ℕ
+number_of text = if is_unsigned_in 0 18446744073709551615 text then Some (digits_value 10 (without_leading_plus text)) else None
+
+abbrev pub number_at : Text → List Row → Option ℕ
+number_at id rows = option_and_then number_of (first_of id rows)
+
+abbrev pub text_at : Text → List Row → Text
+text_at id rows = unwrap_or (first_of id rows) []
+
+abbrev pub flag_at : Text → List Row → Bool
+flag_at id rows = bytes_eq (text_at id rows) (codes "true")
+
+-- how many joiners
+abbrev pub joiners_at : List Row → ℕ
+joiners_at rows = unwrap_or (number_at (codes "joiners") rows) 4
+
+-- ---- the checks, in their order
+
+-- one check after another
+abbrev pub then_of : {A B : Type 0} → Result A WordsFault → (A → Result B WordsFault) → Result B WordsFault
+then_of (Ok x) next = next x
+then_of (Err fault) next = Err fault
+
+-- k of 2^k joiners
+abbrev pub exponent_of : ℕ → Result ℕ WordsFault
+exponent_of joiners = if is_power_of_two joiners then Ok (trailing_zeros w64 joiners) else Err Joiners
+
+-- a grid that stays is one of 2^k joiners
+abbrev pub fixed_within : ℕ → Option ℕ → Result (Option ℕ) WordsFault
+fixed_within k None = Ok None
+fixed_within k (Some fixed) = if nat_le fixed k then Ok (Some fixed) else Err Fixed
+
+-- just two names
+abbrev pub two_names : List Text → Result (Text × Text) WordsFault
+two_names (name_r ∷ name_s ∷ []) = Ok (name_r, name_s)
+two_names _ = Err Files
+
+abbrev pub files_at : List Row → Result (Text × Text) WordsFault
+files_at rows = two_names (unwrap_or (all_of (codes "files") rows) [])
+
+-- what a match asks for, or the first check that it fails
+abbrev pub asked_by : List Row → Result Asked WordsFault
+asked_by rows =
+    then_of (exponent_of (joiners_at rows)) (λ k.
+    then_of (fixed_within k (number_at (codes "fixed") rows)) (λ fixed.
+    then_of (files_at rows) (λ names. Ok (record {
+      on = text_at (codes "on") rows;
+      k = k;
+      fixed = fixed;
+      seed = unwrap_or (number_at (codes "seed") rows) 1;
+      report = flag_at (codes "report") rows;
+      name_r = names.0;
+      name_s = names.1;
+    }))))
+
+-- ---- the words
+
+-- what the match asks for, where there is one
+abbrev pub asked_unless : Kinds → List Row → Result Asked WordsFault
+asked_unless [] rows = asked_by rows
+asked_unless (kind ∷ kinds) rows = Err NoMatch
+
+-- what these words ask for, the program's name first, or the first thing that is wrong with them
+unfoldable pub asked_of : List Text → Result Asked WordsFault
+asked_of words = asked_unless (fault_of jm_command words) (matches_of jm_command words)
+
+-- the command has a match for the words, and these are its rows
+pub record IsMatch (words : List Text) (rows : List Row) : Type 0 where
+  pub no_fault : fault_of jm_command words ≡ []
+  pub rows_are : rows ≡ matches_of jm_command words
+  pub few_joiners : joiners_at rows ≤ 64
+
+-- ---- what a call answers
+
+-- the code's names are those
+abbrev pub GivesFiles : Result (Text × Text) WordsFault → Result (Bor Text × Bor Text) WordsFault → Type 0
+GivesFiles wanted (Ok names) = wanted ≡ Ok (names.0.now, names.1.now)
+GivesFiles wanted (Err fault) = wanted ≡ Err fault
+
+-- the code's options are those
+abbrev pub Gives : Result Asked WordsFault → Result Options WordsFault → Type 0
+Gives wanted (Ok options) = wanted ≡ Ok (asked options)
+Gives wanted (Err fault) = wanted ≡ Err fault

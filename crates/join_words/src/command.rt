@@ -1,0 +1,65 @@
+// The command that clap matches: one function for each kind of argument, and their chain.
+
+ghost use Rattle.std.specs.Prelude.{◌≡◌, IfOk, false};
+ghost use Rattle.clap.specs.Walk.{rule_of};
+ghost use Rattle.clap.specs.Simple.{app_of};
+ghost use Rattle.join_words.specs.Command.{IsCommand, default_rule, files_rule, flag_rule, number_rule, text_rule};
+
+use clap::builder::ValueParser;
+use clap::{Arg, ArgAction, Command};
+use std::alloc::{AllocError, Global};
+
+/// `--id TEXT`, which must be there.
+fn text<'a>(alloc: Global, id: &'a str) -> Arg<'a>
+    ensures rule { rule_of result ≡ text_rule id.entry.now }
+    ensures local { result.global ≡ false }
+{
+    Arg::new(alloc, id).long(id).required(true)
+}
+
+/// `--id N`, from `least` to `most`.
+fn number<'a>(alloc: Global, id: &'a str, least: u64, most: u64) -> Arg<'a>
+    ensures rule { rule_of result ≡ number_rule id.entry.now least most }
+    ensures local { result.global ≡ false }
+{
+    Arg::new(alloc, id)
+        .long(id)
+        .value_parser(ValueParser::unsigned(least, most))
+}
+
+/// `--id N`, from `least` to `most`, or else `value`.
+fn number_or<'a>(alloc: Global, id: &'a str, least: u64, most: u64, value: &'a str) -> Arg<'a>
+    ensures rule { rule_of result ≡ default_rule id.entry.now least most value.entry.now }
+    ensures local { result.global ≡ false }
+{
+    number(alloc, id, least, most).default_value(value)
+}
+
+/// `--id`, without a value.
+fn flag<'a>(alloc: Global, id: &'a str) -> Arg<'a>
+    ensures rule { rule_of result ≡ flag_rule id.entry.now }
+    ensures local { result.global ≡ false }
+{
+    Arg::new(alloc, id).long(id).action(ArgAction::SetTrue)
+}
+
+/// Any number of words that no option takes.
+fn files<'a>(alloc: Global, id: &'a str) -> Arg<'a>
+    ensures rule { rule_of result ≡ files_rule id.entry.now }
+    ensures local { result.global ≡ false }
+{
+    Arg::new(alloc, id).num_args(0..)
+}
+
+/// The command of `jm`.
+pub(crate) fn command<'a>(alloc: Global) -> Result<Command<'a>, AllocError>
+    ensures { IfOk result (λ command. IsCommand (app_of command)) }
+{
+    Command::new(alloc, "jm")
+        .arg(text(alloc, "on"))?
+        .arg(number_or(alloc, "joiners", 1, 64, "4"))?
+        .arg(number_or(alloc, "seed", 0, u64::MAX, "1"))?
+        .arg(number(alloc, "fixed", 0, 6))?
+        .arg(flag(alloc, "report"))?
+        .arg(files(alloc, "files"))
+}

@@ -1,0 +1,41 @@
+// What the words ask for, and what may be wrong with them.
+
+/// What the words ask for.
+#[derive(Clone, Copy, Debug)]
+pub struct Options<'a> {
+    /// The text of the predicate.
+    pub on: &'a str,
+    /// There are 2^k joiners.
+    pub k: u32,
+    /// The grid stays at 2^fixed parts of R.
+    pub fixed: Option<u32>,
+    /// The seed of the tickets.
+    pub seed: u64,
+    /// A report is wanted beside the output.
+    pub report: bool,
+    /// The name of the file of R.
+    pub name_r: &'a str,
+    /// The name of the file of S.
+    pub name_s: &'a str,
+}
+
+/// What is wrong with the words. Where several things are, the first in this order is told.
+#[derive(Clone, Copy, Debug, PartialEq, Eq)]
+pub enum WordsFault {
+    /// The list of words is empty, or the command has no match for it. A request for help or for the
+    /// version is no match.
+    NoMatch,
+    /// The number of joiners isn't a power of two.
+    Joiners,
+    /// `--fixed` is given, and is greater than k.
+    Fixed,
+    /// There aren't just two names of files.
+    Files,
+}
+
+/// Why nothing was read from the words.
+#[derive(Clone, Copy, Debug, PartialEq, Eq)]
+pub enum WordsError {
+    Fault(WordsFault),
+    Memory,
+}

@@ -1,0 +1,47 @@
+// The words, read.
+
+ghost use Rattle.std.specs.Prelude.{◌≡◌, ◌≤◌, Ok, Err, IfOk, IfSome, map, string_bytes};
+ghost use Rattle.clap.specs.Matches.{found_of};
+ghost use Rattle.clap.specs.Walk.{rows_of};
+ghost use Rattle.join_words.specs.Words.{IsMatch, asked, asked_of};
+ghost use Rattle.join_words.specs.declared.options.WordsFault.{WordsFault};
+
+use crate::checks::checked;
+use crate::command::command;
+use crate::options::{Options, WordsError, WordsFault};
+use clap::ArgMatches;
+use clap::error::ErrorKind;
+use std::alloc::{AllocError, Global};
+
+/// The match of the words by the command.
+fn matched<'a>(alloc: Global, words: &'a [String]) -> Result<ArgMatches<'a>, WordsError>
+    ensures ok { IfOk result (λ matches. IsMatch (map string_bytes words.now) (rows_of (found_of matches))) }
+    ensures fault { (fault : WordsFault) → result ≡ Err (WordsError.Fault fault)
+        → asked_of (map string_bytes words.now) ≡ Err fault }
+{
+    let command = match command(alloc) {
+        Ok(command) => command,
+        Err(AllocError) => return Err(WordsError::Memory),
+    };
+    match command.try_get_matches_from(words) {
+        Ok(matches) => Ok(matches),
+        Err(error) if error.kind() == ErrorKind::OutOfMemory => Err(WordsError::Memory),
+        Err(_) => Err(WordsError::Fault(WordsFault::NoMatch)),
+    }
+}
+
+/// Reads the words, of which the first is the program's name. Memory may run out at any list of
+/// words; where it doesn't, the answer is the one that `asked_of` names.
+pub fn read_words<'a>(alloc: Global, words: &'a [String]) -> Result<Options<'a>, WordsError>
+    ensures ok { IfOk result (λ options. asked_of (map string_bytes words.now) ≡ Ok (asked options)) }
+    ensures fault { (fault : WordsFault) → result ≡ Err (WordsError.Fault fault)
+        → asked_of (map string_bytes words.now) ≡ Err fault }
+    ensures small { IfOk result (λ options. options.k ≤ 6) }
+    ensures fits { IfOk result (λ options. IfSome options.fixed (λ fixed. fixed ≤ options.k)) }
+{
+    let matches = matched(alloc, words)?;
+    match checked(&matches) {
+        Ok(options) => Ok(options),
+        Err(fault) => Err(WordsError::Fault(fault)),
+    }
+}
