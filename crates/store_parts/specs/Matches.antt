@@ -7,7 +7,7 @@ use Rattle.epoch_tags.specs.declared.tuple.Tuple.{Tuple}
 use Rattle.epoch_tags.specs.declared.tuple.Pair.{Pair}
 use Rattle.theta_pred.specs.Formula.{Meaning}
 use Rattle.theta_pred.specs.Truth.{holds, IsRowOf}
-use Rattle.store_parts.specs.declared.key.KeyAtom.{KeyAtom}
+use Rattle.theta_pred.specs.declared.atom.KeyAtom.{KeyAtom}
 use Rattle.store_parts.specs.declared.which.Which.{Which}
 use Rattle.store_parts.specs.declared.which.Which.TheVariants.{All, OnlyStamp}
 

@@ -6,7 +6,7 @@ use Rattle.epoch_tags.specs.declared.tuple.Tuple.{Tuple}
 use Rattle.grid_map.specs.declared.shape.Shape.{Shape}
 use Rattle.migration_plan.specs.Steps.{holds}
 use Rattle.theta_pred.specs.Formula.{Meaning}
-use Rattle.store_parts.specs.declared.key.KeyAtom.{KeyAtom}
+use Rattle.theta_pred.specs.declared.atom.KeyAtom.{KeyAtom}
 use Rattle.store_parts.specs.Matches.{other_side, HasWidth}
 
 -- the key that it was made with, and the tuples of each side in the order of adding

@@ -1,4 +1,4 @@
-// Copies of the tuples that a joiner keeps.
+// Copies of what a joiner keeps.
 
 ghost use Rattle.std.specs.Prelude.{◌≡◌, ◌<◌, ◌≤◌, ◌^◌, filter, IfOk};
 ghost use Rattle.migration_plan.specs.Steps.{holds};
@@ -7,6 +7,20 @@ use epoch_tags::{Tuple, Tuples};
 use grid_map::Shape;
 use migration_plan::kept;
 use std::alloc::{AllocError, Global};
+use theta_pred::KeyAtom;
+
+// An equal key.
+pub(crate) fn key_copy(
+    alloc: Global,
+    key: &Option<KeyAtom>,
+) -> Result<Option<KeyAtom>, AllocError>
+    ensures { IfOk result (λ copy. copy ≡ key.now) }
+{
+    match key {
+        Some(atom) => Ok(Some(atom.copy(alloc)?)),
+        None => Ok(None),
+    }
+}
 
 // Copies of those that the joiner holds in a grid of this shape, in their order.
 pub(crate) fn kept_copies(

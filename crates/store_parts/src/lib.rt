@@ -2,15 +2,14 @@
 #![tactic(auto)]
 
 mod copies;
-mod key;
 mod probe;
 mod steps;
 mod store;
 mod which;
 
-pub use key::KeyAtom;
 pub use steps::Steps;
 pub use store::Store;
+pub use theta_pred::KeyAtom;
 pub use which::Which;
 
 #[cfg(test)]

@@ -4,8 +4,7 @@ ghost use Rattle.std.specs.Prelude.{◌≡◌, ◌+◌, ◌<◌, ◌≤◌, ◌^
 ghost use Rattle.store_parts.specs.Matches.{evaluated, matches, AppendsFront, HasWidth};
 ghost use Rattle.store_parts.specs.Stored.{kept_of, others_of, side_of, with_tuple, HaveWidths};
 
-use crate::copies::kept_copies;
-use crate::key::KeyAtom;
+use crate::copies::{kept_copies, key_copy};
 use crate::probe::scan;
 use crate::steps::Steps;
 use crate::which::Which;
@@ -15,7 +14,7 @@ use join_rows::Side;
 use std::alloc::{AllocError, Global};
 use std::marker::{Brand, Model};
 use std::sync::ledger::{Blank, Ledger};
-use theta_pred::Theta;
+use theta_pred::{KeyAtom, Theta};
 
 /// The tuples of both sides that a joiner holds, those of a side in the order of adding.
 #[derive(Drop)]
@@ -147,7 +146,7 @@ impl Store {
         ensures { IfOk result (λ kept. kept ≡ kept_of shape id self.now) }
     {
         Ok(Store {
-            key: self.key,
+            key: key_copy(self.alloc, &self.key)?,
             r: kept_copies(self.alloc, self.r.as_slice(), shape, id)?,
             s: kept_copies(self.alloc, self.s.as_slice(), shape, id)?,
             alloc: self.alloc,

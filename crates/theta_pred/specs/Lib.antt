@@ -8,3 +8,7 @@ pub mod Sizes
 pub mod Sound
 pub mod Sums
 pub mod Truth
+pub use Rattle.theta_text.specs.Faults
+pub use Rattle.theta_text.specs.Grammar
+pub use Rattle.theta_text.specs.Sizes as TextSizes
+pub use Rattle.theta_text.specs.Texts

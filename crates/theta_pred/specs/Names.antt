@@ -1,5 +1,5 @@
 -- The names of a predicate, and where they stand in the headers.
-use Rattle.std.specs.Prelude.{◌≡◌, ℕ, ◌+◌, max, List, [], ◌∷◌, ◌++◌, length, All, if◌then◌else◌}
+use Rattle.std.specs.Prelude.{◌≡◌, ℕ, ◌+◌, List, [], ◌∷◌, ◌++◌, length, All, if◌then◌else◌}
 use Rattle.std.specs.Str.{bytes_eq}
 use Rattle.theta_text.specs.declared.tree.Name.{Name}
 use Rattle.theta_text.specs.declared.tree.Signed.{Signed}
@@ -59,19 +59,3 @@ pub record IsFirstWrong (names_r names_s : List (List ℕ)) (names : List Name) 
   pub after : List Name
   pub splits : names ≡ before ++ (name ∷ after)
   pub once : All (StandsOnce names_r names_s) before
-
-abbrev pub longest : List ℕ → ℕ
-longest [] = 0
-longest (n ∷ ns) = max n (longest ns)
-
-abbrev pub length_step : Pred-F ℕ → ℕ
-length_step (Pred-F.Or members) = longest members.items
-length_step (Pred-F.And members) = longest members.items
-length_step (Pred-F.Not member) = member.value
-length_step (Pred-F.Num left op right) = max (length left) (length right)
-length_step (Pred-F.Abs sum op bound) = length sum
-length_step (Pred-F.Txt left op right) = 0
-
--- how many terms the longest sum has
-abbrev pub longest_sum : Pred → ℕ
-longest_sum = fold-Pred ℕ length_step

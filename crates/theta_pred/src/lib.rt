@@ -21,5 +21,5 @@ pub use fault::ResolveFault;
 pub use resolver::resolve;
 pub use short::longest_sum;
 pub use theta::Theta;
-pub use theta_text::{Name, Op, Pred, Signed, Sum, Term, TextSide};
+pub use theta_text::{Name, Op, Pred, PredFault, Signed, Sum, Term, TextSide, parse};
 pub use tree::{Column, Columns};

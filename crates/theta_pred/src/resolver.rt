@@ -2,9 +2,10 @@
 
 ghost use Rattle.std.specs.Prelude.{◌≡◌, ◌≤◌, ◌++◌, length, map, All, IfOk, IfErr, OnOk};
 ghost use Rattle.theta_pred.specs.Formula.{formula_of, formulas, num, txt};
-ghost use Rattle.theta_pred.specs.Names.{sum_names, side_names, joined, names_in, StandsOnce, longest_sum, longest};
+ghost use Rattle.theta_pred.specs.Names.{sum_names, side_names, joined, names_in, StandsOnce};
 ghost use Rattle.theta_pred.specs.Resolved.{resolved_sum, resolved_side, resolved, Tells};
 ghost use Rattle.theta_pred.specs.Sound.{IsTextWithin, AreWithin, IsSound, AreSound};
+ghost use Rattle.theta_text.specs.Sizes.{longest, longest_sum};
 
 use crate::fault::ResolveFault;
 use crate::terms::{resolved_addends, resolved_text};

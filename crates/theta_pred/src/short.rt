@@ -1,13 +1,13 @@
 // How long the sums of a predicate are.
 
 ghost use Rattle.std.specs.Prelude.{◌≡◌};
-ghost use Rattle.theta_pred.specs.Names;
+ghost use Rattle.theta_text.specs.Sizes;
 
 use theta_text::Pred;
 
 /// How many terms the longest sum of the predicate has, or 0. It takes no memory.
 pub fn longest_sum(pred: &Pred) -> u64
-    ensures { result ≡ Names.longest_sum pred.now }
+    ensures { result ≡ Sizes.longest_sum pred.now }
 {
     match pred {
         Pred::Or(members) => {
