@@ -1,6 +1,6 @@
 -- The rows that one joiner holds.
 use Rattle.std.proofs.Common.{◌≡◌, ◌<◌, ◌≤◌, ◌+◌, ℕ, zero, suc, refl, sym, ◌∙◌, ap, subst, arith, Bool, true, false, cond, List, [], ◌∷◌, ◌++◌, length, get_or, take, append_assoc, Option, Some, None}
-use Rattle.std.specs.Prelude.{filter, sum_by, count_by, map, filter_map, slice_get, slice_index, slice_index_or}
+use Rattle.std.specs.Prelude.{All, filter, sum_by, count_by, map, filter_map, slice_get, slice_index, slice_index_or}
 use Rattle.std.specs.List.{range_with_len, cons_option}
 use Rattle.std.proofs.lemmas.List.{append-nil, take_more}
 use Rattle.std.proofs.lemmas.Option.{get_or_from_slice_get, slice_get_within}
@@ -8,11 +8,12 @@ use Rattle.std.proofs.lemmas.Bool.{cases_Bool}
 use Rattle.std.proofs.lemmas.List.Sums.{sum_by-cons}
 use Rattle.std.proofs.lemmas.List.Elements.{filter-append, filter_map-append}
 use Rattle.join_rows.specs.declared.table.Cell.{Cell}
-use Rattle.join_rows.specs.declared.table.Table.{Table}
-use Rattle.join_rows.specs.Records.{IsTable}
+use Rattle.join_rows.specs.declared.table.Side.{Side}
 use Rattle.join_rows.specs.Lists.{total}
 use Rattle.epoch_tags.specs.declared.tuple.Pair.{Pair}
-use Rattle.join_grid.specs.Joining.{pair_if, pairs_of, Fit}
+use Rattle.theta_pred.specs.Formula.{Meaning}
+use Rattle.theta_pred.specs.Truth.{width_of}
+use Rattle.join_grid.specs.Joining.{pair_if, pairs_of, AreRowsOf}
 use Rattle.join_rows.proofs.Bags.{only_if, sum-filter, sum-same}
 use Rattle.join_rows.proofs.Totals.{total_same, total_front, range_sum}
 
@@ -95,16 +96,9 @@ pairs_more matches rows_r rows_s i held_s n before pairs pairs' r s t low at_r a
     by_test j true ps is' = ap (λ xs. xs ++ record { i = i; j = j } ∷ []) is' ∙ append_assoc before ps (record { i = i; j = j } ∷ [])
     by_test j false ps is' = is' ∙ ap (λ xs. before ++ xs) (sym (append-nil ps))
 
--- each row of a table is as wide as its header
-pub rows_wide : (table : Table) (width : ℕ) → IsTable table → width ≡ length table.names → Fit (λ row. length row ≡ width) table.rows
-rows_wide table width is same = λ place row at.
-    let low = slice_get_within table.rows place row at in
-    let wide : length row ≡ length table.names = subst (λ r. length r ≡ length table.names) (get_or_from_slice_get table.rows place row [] at) (is.wide place [] low) in
-    wide ∙ sym same
-
--- and so has a first cell
-pub rows_fit : (table : Table) → IsTable table → Fit (λ row. 0 < length row) table.rows
-rows_fit table is = λ place row at.
-    let wide : length row ≡ length table.names = rows_wide table (length table.names) is refl place row at in
-    let named = is.named in
-    omega arith
+-- rows that are as wide as the header, which is as wide as the predicate says
+pub are_rows : (theta : Meaning) (side : Side) (width : ℕ) (rows : List (List Cell)) → width_of theta side ≡ width → All (λ row. length row ≡ width) rows → AreRowsOf theta side rows
+are_rows theta side width rows same wide = λ place row at.
+    let low = slice_get_within rows place row at in
+    let is : length row ≡ width = subst (λ r. length r ≡ width) (get_or_from_slice_get rows place row [] at) (wide place [] low) in
+    is ∙ sym same

@@ -1,4 +1,5 @@
-use Rattle.std.proofs.Common.{◌≡◌, ◌∙◌, ◌^◌, ap, length, subst, arith}
+use Rattle.std.proofs.Common.{◌≡◌, ◌∙◌, ◌^◌, subst, arith}
+use Rattle.theta_pred.specs.Truth.{holds}
 use Rattle.link_trace.specs.Join.{Input}
 use Rattle.pair_collector.specs.Standing.{StandsFor}
 use Rattle.pair_collector.specs.Answer.{Collects}
@@ -7,13 +8,13 @@ use Rattle.join_grid.proofs.Gathering.{ok_weaker, one_more, all_in_the_end, comp
 use Rattle.join_grid.proofs.grid.run_all.Goals as goal
 
 pub loop-id-preserved : goal.loop-id-preserved
-loop-id-preserved g c =
+loop-id-preserved c =
     let input : Input = record {
-      rows_r = c.args.table_r.now.rows;
-      rows_s = c.args.table_s.now.rows;
-      tickets_r = c.as_slice-tickets_r.result.now;
-      tickets_s = c.as_slice-tickets_s.result.now;
-      matches = g.T.Test.matches c.args.test.now;
+      rows_r = c.args.rows_r.now;
+      rows_s = c.args.rows_s.now;
+      tickets_r = c.args.tickets_r.now;
+      tickets_s = c.args.tickets_s.now;
+      matches = holds c.args.theta.now;
     } in
     let took = c.in_ok-run_joiner.ensures in
     record {
@@ -24,13 +25,13 @@ loop-id-preserved g c =
     }
 
 pub finish-requires : goal.finish-requires
-finish-requires g c =
+finish-requires c =
     let input : Input = record {
-      rows_r = c.args.table_r.now.rows;
-      rows_s = c.args.table_s.now.rows;
-      tickets_r = c.as_slice-tickets_r.result.now;
-      tickets_s = c.as_slice-tickets_s.result.now;
-      matches = g.T.Test.matches c.args.test.now;
+      rows_r = c.args.rows_r.now;
+      rows_s = c.args.rows_s.now;
+      tickets_r = c.args.tickets_r.now;
+      tickets_s = c.args.tickets_s.now;
+      matches = holds c.args.theta.now;
     } in
     let k = c.args.shape.k in
     let b = c.args.shape.shift in
@@ -40,13 +41,13 @@ finish-requires g c =
     completes input k b c.loop-id.collector (all_in_the_end input k b c.loop-id.collector c.loop-id.invariant.count stands)
 
 pub returns : goal.returns
-returns g c =
+returns c =
     let input : Input = record {
-      rows_r = c.args.table_r.now.rows;
-      rows_s = c.args.table_s.now.rows;
-      tickets_r = c.as_slice-tickets_r.result.now;
-      tickets_s = c.as_slice-tickets_s.result.now;
-      matches = g.T.Test.matches c.args.test.now;
+      rows_r = c.args.rows_r.now;
+      rows_s = c.args.rows_s.now;
+      tickets_r = c.args.tickets_r.now;
+      tickets_s = c.args.tickets_s.now;
+      matches = holds c.args.theta.now;
     } in
     let k = c.args.shape.k in
     let b = c.args.shape.shift in
@@ -54,9 +55,7 @@ returns g c =
     let last : c.loop-id.id ≡ 2 ^ k = omega arith in
     let stands = subst (λ n. StandsFor c.loop-id.collector (sent_up_to input k b n)) last c.loop-id.invariant.stands in
     let all = all_in_the_end input k b c.loop-id.collector c.loop-id.invariant.count stands in
-    rw (← c.as_slice-tickets_r.ensures, ← c.as_slice-tickets_s.ensures)
-    (ok_weaker c.finish.result (λ collected collects.
-    joins_in_grid input k b collected c.requires.shift c.requires.k c.loop-id.invariant.fits
-    (ap length c.as_slice-tickets_r.ensures ∙ c.requires.tickets_r) (ap length c.as_slice-tickets_s.ensures ∙ c.requires.tickets_s)
+    ok_weaker c.finish.result (λ collected collects.
+    joins_in_grid input k b collected c.requires.shift c.requires.k c.loop-id.invariant.fits c.requires.tickets_r c.requires.tickets_s
     (subst (λ n. Collects n (all_sent input k b) collected) c.loop-id.invariant.count (collects (all_sent input k b) all)))
-    c.finish.ensures)
+    c.finish.ensures
