@@ -1,1 +1,5 @@
 pub mod Writing
+pub mod Trees
+pub mod Wrong
+pub mod Bad
+pub mod Picked
