@@ -28,6 +28,14 @@ fn least_copies(shape: Shape, x: u64, y: u64) -> u64
     copies(Shape { k: shape.k, shift }, x, y)
 }
 
+/// Two to this power.
+fn power(exponent: u32) -> u32
+    requires { exponent ≤ 8 }
+    ensures { result ≡ 2 ^ exponent }
+{
+    1 << exponent
+}
+
 /// Adds the line of the grid and of what it costs.
 fn write_final(text: &mut String, shape: Shape, x: u64, y: u64) -> Result<(), AllocError>
     requires shift { shape.shift ≤ shape.k }
@@ -37,8 +45,8 @@ fn write_final(text: &mut String, shape: Shape, x: u64, y: u64) -> Result<(), Al
     ensures { OnOk result (string_bytes text.new
         ≡ string_bytes text.old ++ final_line shape.k shape.shift x y) }
 {
-    let n = 1u32 << (shape.k - shape.shift);
-    let m = 1u32 << shape.shift;
+    let n = power(shape.k - shape.shift);
+    let m = power(shape.shift);
     let held = copies(shape, x, y);
     let best = least_copies(shape, x, y);
     write!(text, "final {n} {m} copies {held} best {best}\n")
@@ -54,12 +62,15 @@ fn write_joiner(text: &mut String, id: u64, held: Held, made: u64) -> Result<(),
 }
 
 /// Adds the lines of all joiners.
-fn write_joiners(text: &mut String, loads: &[Held], made: &[u64]) -> Result<(), AllocError>
+fn write_joiners(text: &mut String, loads: &Loads, made: &Counts) -> Result<(), AllocError>
     ensures { OnOk result (string_bytes text.new
         ≡ string_bytes text.old ++ joiner_lines loads.now made.now) }
 {
-    for (id, (held, made)) in loads.iter().zip(made.iter()).enumerate() {
-        write_joiner(text, id as u64, *held, *made)?;
+    let joiners = loads.len().min(made.len());
+    for id in 0..joiners {
+        let held = loads.at(id);
+        let pairs = made.at(id);
+        write_joiner(text, id, *held, *pairs)?;
     }
     Ok(())
 }
@@ -68,6 +79,8 @@ fn write_joiners(text: &mut String, loads: &[Held], made: &[u64]) -> Result<(), 
 /// `input x y` of the numbers of rows; a line `final n m copies c best d` of the grid's rows, its
 /// columns, its copies and the fewest copies at any shift; and for each joiner, ids rising from 0, a
 /// line `joiner id held r s made p` of the rows of R and of S that it holds and the pairs that it made.
+/// `made` and `loads` have an entry for each joiner; what the longer one has past the end of the other
+/// is passed over.
 pub fn report_text(
     alloc: Global,
     shape: Shape,
@@ -86,6 +99,6 @@ pub fn report_text(
     let mut text = String::new(alloc);
     write_input(&mut text, rows_r, rows_s)?;
     write_final(&mut text, shape, rows_r, rows_s)?;
-    write_joiners(&mut text, loads.as_slice(), made.as_slice())?;
+    write_joiners(&mut text, loads, made)?;
     Ok(text)
 }

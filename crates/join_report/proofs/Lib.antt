@@ -1,0 +1,2 @@
+mod Joiners
+mod Worked
