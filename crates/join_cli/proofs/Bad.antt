@@ -1,10 +1,14 @@
 -- The first bad cell of a column.
 use Rattle.std.proofs.Common.{◌≡◌, ◌<◌, ◌+◌, ℕ, zero, suc, Bool, true, false, true≢false, List, [], ◌∷◌, drop, length, refl, sym, ◌∙◌, ap, absurd, Option, Some, None, arith}
 use Rattle.std.specs.List.{slice_get}
-use Rattle.std.specs.Prelude.{option_or}
+use Rattle.std.specs.Option.{unwrap_or}
+use Rattle.std.proofs.lemmas.Option.{none-some}
 use Rattle.join_rows.specs.declared.table.Cell.{Cell}
 use Rattle.join_rows.specs.Columns.{IsBad, IsFirstBad, is_bad}
-use Rattle.join_cli.specs.Numbers.{is_bad_cell, first_bad}
+use Rattle.join_rows.specs.declared.table.Side.{Side}
+use Rattle.join_cli.specs.declared.outcome.InputFault.TheVariants.{Number}
+use Rattle.join_cli.specs.declared.outcome.InputFault.{InputFault}
+use Rattle.join_cli.specs.Numbers.{is_bad_cell, first_bad, column_fault, number_fault}
 
 bad_is : (column : ℕ) (row : List Cell) → IsBad column row → is_bad_cell (slice_get row column) ≡ true
 bad_is column row bad = ap is_bad_cell bad.there ∙ bad.bad
@@ -29,12 +33,9 @@ first_bad-none column number (row ∷ rows) good =
 first_bad-at : (column number : ℕ) (rows : List (List Cell)) (place : ℕ) (row : List Cell) → slice_get rows place ≡ Some row → IsBad column row
     → ((earlier : ℕ) (other : List Cell) → earlier < place → slice_get rows earlier ≡ Some other → ¬ (IsBad column other))
     → first_bad column number rows ≡ Some (number + place)
-first_bad-at column number [] place row there bad before = absurd (none_some there)
-  where
-    none_some : None ≡ Some row → ⊥
-    none_some ()
+first_bad-at column number [] place row there bad before = absurd (none-some row there)
 first_bad-at column number (first ∷ rows) zero row there bad before =
-    let same : first ≡ row = some_injective there in
+    let same : first ≡ row = ap (λ found. unwrap_or found first) there in
     let is : is_bad_cell (slice_get first column) ≡ true = rw same (bad_is column row bad) in
     let sum : number + 0 ≡ number = omega arith in
     rw (is, sum) refl
@@ -48,3 +49,29 @@ pub first_bad-first : (column : ℕ) (rows : List (List Cell)) (number : ℕ) �
 first_bad-first column rows number first =
     let sum : number ≡ 1 + first.place = omega (arith, first.counted) in
     rw sum (first_bad-at column 1 rows first.place first.row first.there first.bad first.before)
+
+pub no_fault : (side : Side) (column : ℕ) (rows : List (List Cell))
+    → ((place : ℕ) (row : List Cell) → slice_get rows place ≡ Some row → ¬ (IsBad column row)) → None ≡ column_fault side rows column
+no_fault side column rows good = rw (first_bad-none column 1 rows good) refl
+
+pub first_fault : (side : Side) (column : ℕ) (rows : List (List Cell)) (number : ℕ) → IsFirstBad column rows number
+    → Some (Number side (column + 1) number) ≡ column_fault side rows column
+first_fault side column rows number first = rw (first_bad-first column rows number first) refl
+
+pub number_fault-past : (side : Side) (rows : List (List Cell)) (columns : List ℕ) (i column : ℕ) → slice_get columns i ≡ Some column
+    → column_fault side rows column ≡ None → number_fault side rows (drop (i + 1) columns) ≡ number_fault side rows (drop i columns)
+number_fault-past side rows [] i column there none = absurd (none-some column there)
+number_fault-past side rows (first ∷ columns) zero column there none =
+    let same : first ≡ column = ap (λ found. unwrap_or found first) there in
+    rw (same, none) refl
+number_fault-past side rows (first ∷ columns) (suc i) column there none =
+    let next : suc i + 1 ≡ suc (i + 1) = omega arith in
+    rw next (number_fault-past side rows columns i column there none)
+
+pub number_fault-here : (side : Side) (rows : List (List Cell)) (columns : List ℕ) (i column : ℕ) (fault : InputFault) → slice_get columns i ≡ Some column
+    → column_fault side rows column ≡ Some fault → number_fault side rows (drop i columns) ≡ Some fault
+number_fault-here side rows [] i column fault there is = absurd (none-some column there)
+number_fault-here side rows (first ∷ columns) zero column fault there is =
+    let same : first ≡ column = ap (λ found. unwrap_or found first) there in
+    rw (same, is) refl
+number_fault-here side rows (first ∷ columns) (suc i) column fault there is = number_fault-here side rows columns i column fault there is

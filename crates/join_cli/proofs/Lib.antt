@@ -1,4 +1,6 @@
 pub mod Writing
+pub mod Parsed
+pub mod Shown
 pub mod Trees
 pub mod Wrong
 pub mod Bad

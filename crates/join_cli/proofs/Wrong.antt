@@ -1,16 +1,18 @@
 -- The first wrong name, by what resolving tells.
-use Rattle.std.proofs.Common.{◌≡◌, ◌≢◌, ◌⊎◌, inl, inr, ◌<◌, ◌++◌, ℕ, List, [], ◌∷◌, All, length, refl, sym, ◌∙◌, ap, subst, absurd, Some, None, Ok, Err, arith}
-use Rattle.std.specs.Prelude.{option_or}
+use Rattle.std.proofs.Common.{◌≡◌, ◌≢◌, ◌⊎◌, inl, inr, ◌<◌, ◌++◌, ℕ, List, [], ◌∷◌, All, length, refl, sym, ◌∙◌, ap, subst, absurd, Result, Some, None, Ok, Err, arith}
+use Rattle.std.specs.Option.{option_or}
 use Rattle.std.proofs.lemmas.List.Elements.{All-head, All-tail}
 use Rattle.theta_text.specs.Texts.{tree_of}
 use Rattle.theta_text.specs.declared.tree.Name.{Name}
 use Rattle.theta_text.specs.declared.tree.Pred.{Pred}
+use Rattle.theta_pred.specs.Formula.{Meaning}
 use Rattle.theta_pred.specs.Names.{names_in, places_of, StandsOnce, IsFirstWrong}
 use Rattle.theta_pred.specs.Resolved.{resolved, Tells}
 use Rattle.theta_pred.specs.declared.fault.ResolveFault.{ResolveFault}
 use Rattle.theta_pred.specs.declared.fault.ResolveFault.TheVariants as faults
 use Rattle.join_cli.specs.declared.outcome.TextFault.{TextFault}
 use Rattle.join_cli.specs.declared.outcome.TextFault.TheVariants.{NoColumn, TwoColumns}
+use Rattle.join_cli.specs.declared.refusal.Refusal.{Refusal}
 use Rattle.join_cli.specs.declared.refusal.Refusal.TheVariants.{Predicate, Memory}
 use Rattle.join_cli.specs.Refusals.{column_refusal}
 use Rattle.join_cli.specs.Columns.{wrong_at, first_wrong, theta_over, unless_wrong, tree_names, formula_over}
@@ -25,6 +27,9 @@ doubled_at : (name : Name) (places : List ℕ) → 1 < length places → wrong_a
 doubled_at name [] many = absurd (omega (arith, many))
 doubled_at name (place ∷ []) many = absurd (omega (arith, many))
 doubled_at name (place ∷ other ∷ places) many = refl
+
+abbrev refused_with : Refusal → Result Meaning Refusal
+refused_with refusal = Err refusal
 
 module _ (names_r names_s : List (List ℕ)) where
   pub first_wrong-none : (names : List Name) → All (StandsOnce names_r names_s) names → first_wrong names_r names_s names ≡ None
@@ -69,3 +74,10 @@ module _ (names_r names_s : List (List ℕ)) where
       by (inr found) =
           let there : first_wrong names_r names_s (tree_names (tree_of pred)) ≡ Some found.0 = subst (λ names. first_wrong names_r names_s names ≡ Some found.0) (names_in-tree pred) found.1 in
           inr (rw (there, found.2) refl)
+
+  pub refused_over : (pred : Pred) (fault : ResolveFault) → Tells names_r names_s (names_in pred) fault
+      → (refused_with (column_refusal fault) ≡ refused_with Memory) ⊎ (refused_with (column_refusal fault) ≡ theta_over names_r names_s (tree_of pred))
+  refused_over pred fault tells = elim (theta_refused pred fault tells) [
+      | inl memory ↦ inl (ap refused_with memory)
+      | inr is ↦ inr (sym is)
+    ]

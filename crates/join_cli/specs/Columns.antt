@@ -1,5 +1,6 @@
 -- A predicate's tree over two headers.
-use Rattle.std.specs.Prelude.{ℕ, List, [], ◌∷◌, ◌++◌, map, length, Option, None, Some, option_or, Result, Ok, Err}
+use Rattle.std.specs.Prelude.{ℕ, List, [], ◌∷◌, ◌++◌, map, length, Option, None, Some, Result, Ok, Err}
+use Rattle.std.specs.Option.{option_or}
 use Rattle.theta_text.specs.Grammar.{Tree, any, every, negation, num, band, txt, Trees, no_trees, tree}
 use Rattle.theta_text.specs.declared.tree.Name.{Name}
 use Rattle.theta_pred.specs.Formula.{Formula, Formulas, no_formula, formula, Meaning}

@@ -1,5 +1,6 @@
 -- The cells that a predicate reads as numbers.
-use Rattle.std.specs.Prelude.{◌≡◌, ℕ, ◌+◌, ◌==◌, Bool, false, List, [], ◌∷◌, filter, if◌then◌else◌, length, Option, None, Some, option_or, option_map, Result, Ok, Err}
+use Rattle.std.specs.Prelude.{◌≡◌, ℕ, ◌+◌, ◌==◌, Bool, false, List, [], ◌∷◌, filter, if◌then◌else◌, length, Option, None, Some, option_map, Result, Ok, Err}
+use Rattle.std.specs.Option.{option_or}
 use Rattle.std.specs.List.{list_any, range_with_len, slice_get}
 use Rattle.join_rows.specs.declared.table.Cell.{Cell}
 use Rattle.join_rows.specs.declared.table.Table.{Table}

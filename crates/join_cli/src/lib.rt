@@ -17,3 +17,6 @@ pub use join_words::WordsFault;
 pub use outcome::{InputFault, LimitFault, Outcome, TextFault};
 pub use top::join_main;
 
+
+#[cfg(test)]
+mod tests;

@@ -17,6 +17,7 @@ fn column_fault(side: Side, table: &Table, column: u64) -> Option<InputFault>
     requires column { column < length table.now.names }
     ensures { result ≡ Numbers.column_fault side table.now.rows column }
 {
+    let _width = table.names.len();
     match table.numbers(column) {
         Ok(()) => None,
         Err(bad) => Some(InputFault::Number {

@@ -1,6 +1,6 @@
 // The predicate that the words ask for.
 
-ghost use Rattle.std.specs.Prelude.{◌≡◌, ◌≤◌, ⊥, Result, IfOk, Err};
+ghost use Rattle.std.specs.Prelude.{◌≡◌, ◌≤◌, Result, IfOk, Err};
 ghost use Rattle.theta_text.specs.Grammar.{Tree};
 ghost use Rattle.theta_text.specs.Sizes.{longest_sum};
 ghost use Rattle.theta_text.specs.Texts.{TextReads, limits, tree_of};

@@ -1,2 +1,1 @@
 mod Joiners
-mod Worked

@@ -1,0 +1,8 @@
+use Rattle.join_cli.proofs.Parsed.{reads_ok, reads_err}
+use Rattle.join_cli.proofs.predicate.predicate.Goals as goal
+
+pub returns-in-Ok-clause-answer : goal.returns-in-Ok-clause-answer
+returns-in-Ok-clause-answer c = λ reading reads. reads_ok c.args.text.now c.in-Ok.pred reading c.in-Ok.ensures.only c.in-Ok.ensures.exact reads
+
+pub returns-in-Err-clause-answer : goal.returns-in-Err-clause-answer
+returns-in-Err-clause-answer c = λ reading reads. reads_err c.args.text.now c.in-Err.fault reading c.in-Err.ensures.only c.in-Err.ensures.exact reads
