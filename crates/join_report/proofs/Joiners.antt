@@ -1,5 +1,5 @@
 -- The lines of joiners, one after the other.
-use Rattle.std.proofs.Common.{◌≡◌, ◌≤◌, ◌+◌, ℕ, zero, suc, min, sym, ◌∙◌, ap, refl, arith, List, [], ◌∷◌, ◌++◌, length, take, append_assoc, Option, Some}
+use Rattle.std.proofs.Common.{◌≡◌, ◌≤◌, ◌+◌, ℕ, zero, suc, min, sym, ◌∙◌, ap, refl, arith, List, [], ◌∷◌, ◌++◌, length, take, append_assoc, Some}
 use Rattle.std.specs.Prelude.{zip, flat_map, slice_get}
 use Rattle.std.specs.List.{enumerate_from}
 use Rattle.std.proofs.lemmas.List.{append-nil}

@@ -1,1 +1,2 @@
 mod Joiners
+mod Worked

@@ -1,4 +1,4 @@
-use Rattle.std.proofs.Common.{◌≡◌, ◌≤◌, ◌∙◌, ◌++◌, ap, length, min, arith}
+use Rattle.std.proofs.Common.{◌≤◌, ◌∙◌, ◌++◌, ap, length, min, arith}
 use Rattle.std.specs.Prelude.{string_bytes}
 use Rattle.join_report.proofs.Joiners.{lines_more, all_lines}
 use Rattle.join_report.proofs.report.write_joiners.Goals as goal
