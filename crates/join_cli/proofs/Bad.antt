@@ -1,5 +1,5 @@
 -- The first bad cell of a column.
-use Rattle.std.proofs.Common.{◌≡◌, ◌<◌, ◌+◌, ℕ, zero, suc, Bool, true, false, true≢false, List, [], ◌∷◌, drop, length, refl, sym, ◌∙◌, ap, absurd, Option, Some, None, arith}
+use Rattle.std.proofs.Common.{◌≡◌, ◌<◌, ◌+◌, ℕ, zero, suc, Bool, true, false, true≢false, List, [], ◌∷◌, drop, get_or, length, refl, sym, ◌∙◌, ap, Option, Some, None, arith}
 use Rattle.std.specs.List.{slice_get}
 use Rattle.std.specs.Option.{unwrap_or}
 use Rattle.std.proofs.lemmas.Option.{none-some}
@@ -58,20 +58,16 @@ pub first_fault : (side : Side) (column : ℕ) (rows : List (List Cell)) (number
     → Some (Number side (column + 1) number) ≡ column_fault side rows column
 first_fault side column rows number first = rw (first_bad-first column rows number first) refl
 
-pub number_fault-past : (side : Side) (rows : List (List Cell)) (columns : List ℕ) (i column : ℕ) → slice_get columns i ≡ Some column
-    → column_fault side rows column ≡ None → number_fault side rows (drop (i + 1) columns) ≡ number_fault side rows (drop i columns)
-number_fault-past side rows [] i column there none = absurd (none-some column there)
-number_fault-past side rows (first ∷ columns) zero column there none =
-    let same : first ≡ column = ap (λ found. unwrap_or found first) there in
-    rw (same, none) refl
-number_fault-past side rows (first ∷ columns) (suc i) column there none =
+pub number_fault-past : (side : Side) (rows : List (List Cell)) (columns : List ℕ) (i : ℕ) → i < length columns
+    → column_fault side rows (get_or columns i 0) ≡ None → number_fault side rows (drop (i + 1) columns) ≡ number_fault side rows (drop i columns)
+number_fault-past side rows [] i within none = absurd (omega (arith, within))
+number_fault-past side rows (column ∷ columns) zero within none = rw none refl
+number_fault-past side rows (column ∷ columns) (suc i) within none =
     let next : suc i + 1 ≡ suc (i + 1) = omega arith in
-    rw next (number_fault-past side rows columns i column there none)
+    rw next (number_fault-past side rows columns i (omega (arith, within)) none)
 
-pub number_fault-here : (side : Side) (rows : List (List Cell)) (columns : List ℕ) (i column : ℕ) (fault : InputFault) → slice_get columns i ≡ Some column
-    → column_fault side rows column ≡ Some fault → number_fault side rows (drop i columns) ≡ Some fault
-number_fault-here side rows [] i column fault there is = absurd (none-some column there)
-number_fault-here side rows (first ∷ columns) zero column fault there is =
-    let same : first ≡ column = ap (λ found. unwrap_or found first) there in
-    rw (same, is) refl
-number_fault-here side rows (first ∷ columns) (suc i) column fault there is = number_fault-here side rows columns i column fault there is
+pub number_fault-here : (side : Side) (rows : List (List Cell)) (columns : List ℕ) (i : ℕ) (fault : InputFault) → i < length columns
+    → column_fault side rows (get_or columns i 0) ≡ Some fault → number_fault side rows (drop i columns) ≡ Some fault
+number_fault-here side rows [] i fault within is = absurd (omega (arith, within))
+number_fault-here side rows (column ∷ columns) zero fault within is = rw is refl
+number_fault-here side rows (column ∷ columns) (suc i) fault within is = number_fault-here side rows columns i fault (omega (arith, within)) is

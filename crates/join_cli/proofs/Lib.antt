@@ -1,7 +1,7 @@
 pub mod Writing
 pub mod Parsed
-pub mod Shown
 pub mod Trees
 pub mod Wrong
 pub mod Bad
 pub mod Picked
+pub mod Asking

@@ -1,5 +1,5 @@
 -- What parsing a text answers, by what the text reads as.
-use Rattle.std.proofs.Common.{◌≡◌, ◌⊎◌, inl, inr, ℕ, List, Result, Ok, Err, refl, sym, ap, absurd}
+use Rattle.std.proofs.Common.{◌≡◌, ◌⊎◌, inl, inr, ℕ, List, Result, Ok, Err, refl, sym, ap}
 use Rattle.theta_text.specs.Grammar.{Tree}
 use Rattle.theta_text.specs.Texts.{TextReads, IsFaultOf, limits, tree_of}
 use Rattle.theta_text.specs.declared.tree.Pred.{Pred}
@@ -23,5 +23,13 @@ pub reads_err : (text : List ℕ) (found : PredFault) (reading : Result Tree Pre
 reads_err text found (Ok tree) only exact reads = inl (ap text_refusal (only tree reads))
 reads_err text found (Err fault) only exact reads = elim (exact fault reads) [
     | inl same ↦ inr (ap (λ f. Err (text_refusal f)) (sym same))
+    | inr memory ↦ inl (ap text_refusal memory)
+  ]
+
+pub refused_early : (text : List ℕ) (found fault : PredFault)
+    → ((other : PredFault) → IsFaultOf limits text other → (found ≡ other) ⊎ (found ≡ texts.Memory))
+    → IsFaultOf limits text fault → (text_refusal found ≡ Memory) ⊎ (text_refusal found ≡ text_refusal fault)
+refused_early text found fault exact is = elim (exact fault is) [
+    | inl same ↦ inr (ap text_refusal same)
     | inr memory ↦ inl (ap text_refusal memory)
   ]

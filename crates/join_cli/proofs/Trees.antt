@@ -11,7 +11,7 @@ use Rattle.theta_pred.specs.Names.{joined, names_in, names_step}
 use Rattle.theta_pred.specs.Resolved.{resolved, resolved_step}
 use Rattle.join_cli.specs.Columns.{tree_names, trees_names, formula_over, formulas_over}
 
-HasNames : Pred → Type 0
+abbrev HasNames : Pred → Type 0
 HasNames p = names_in p ≡ tree_names (tree_of p)
 
 all_names : (ps : List ((p : Pred) × HasNames p)) → joined (map names_in (map (λ e. e.0) ps)) ≡ trees_names (trees (map tree_of (map (λ e. e.0) ps)))
@@ -19,7 +19,7 @@ all_names [] = refl
 all_names (p ∷ ps) = rw (p.1, all_names ps) refl
 
 layer_names : (y : Pred-F ((p : Pred) × HasNames p)) →
-    names_step (map-Pred names_in (map-Pred (λ e. e.0) y)) ≡ tree_names (tree_step (map-Pred tree_of (map-Pred (λ e. e.0) y)))
+    names_step (map-Pred _ _ names_in (map-Pred _ _ (λ e. e.0) y)) ≡ tree_names (tree_step (map-Pred _ _ tree_of (map-Pred _ _ (λ e. e.0) y)))
 layer_names (Pred-F.Or members) = all_names members.items
 layer_names (Pred-F.And members) = all_names members.items
 layer_names (Pred-F.Not member) = member.value.1
@@ -29,11 +29,11 @@ layer_names (Pred-F.Txt left op right) = refl
 
 pub names_in-tree : (pred : Pred) → names_in pred ≡ tree_names (tree_of pred)
 names_in-tree = ind-Pred HasNames (λ x y is.
-    let layer = subst (λ z. names_step (map-Pred names_in z) ≡ tree_names (tree_step (map-Pred tree_of z))) is (layer_names y) in
+    let layer = subst (λ z. names_step (map-Pred _ _ names_in z) ≡ tree_names (tree_step (map-Pred _ _ tree_of z))) is (layer_names y) in
     fold-roll-Pred (List Name) names_step x ∙ layer ∙ sym (ap tree_names (fold-roll-Pred Tree tree_step x)))
 
 module _ (names_r names_s : List (List ℕ)) where
-  HasFormula : Pred → Type 0
+  abbrev HasFormula : Pred → Type 0
   HasFormula p = resolved names_r names_s p ≡ formula_over names_r names_s (tree_of p)
 
   all_formulas : (ps : List ((p : Pred) × HasFormula p)) →
@@ -42,8 +42,8 @@ module _ (names_r names_s : List (List ℕ)) where
   all_formulas (p ∷ ps) = rw (p.1, all_formulas ps) refl
 
   layer_formula : (y : Pred-F ((p : Pred) × HasFormula p)) →
-      resolved_step names_r names_s (map-Pred (resolved names_r names_s) (map-Pred (λ e. e.0) y))
-      ≡ formula_over names_r names_s (tree_step (map-Pred tree_of (map-Pred (λ e. e.0) y)))
+      resolved_step names_r names_s (map-Pred _ _ (resolved names_r names_s) (map-Pred _ _ (λ e. e.0) y))
+      ≡ formula_over names_r names_s (tree_step (map-Pred _ _ tree_of (map-Pred _ _ (λ e. e.0) y)))
   layer_formula (Pred-F.Or members) = rw (all_formulas members.items) refl
   layer_formula (Pred-F.And members) = rw (all_formulas members.items) refl
   layer_formula (Pred-F.Not member) = rw member.value.1 refl
@@ -53,5 +53,5 @@ module _ (names_r names_s : List (List ℕ)) where
 
   pub resolved-tree : (pred : Pred) → resolved names_r names_s pred ≡ formula_over names_r names_s (tree_of pred)
   resolved-tree = ind-Pred HasFormula (λ x y is.
-      let layer = subst (λ z. resolved_step names_r names_s (map-Pred (resolved names_r names_s) z) ≡ formula_over names_r names_s (tree_step (map-Pred tree_of z))) is (layer_formula y) in
+      let layer = subst (λ z. resolved_step names_r names_s (map-Pred _ _ (resolved names_r names_s) z) ≡ formula_over names_r names_s (tree_step (map-Pred _ _ tree_of z))) is (layer_formula y) in
       fold-roll-Pred Formula (resolved_step names_r names_s) x ∙ layer ∙ sym (ap (formula_over names_r names_s) (fold-roll-Pred Tree tree_step x)))

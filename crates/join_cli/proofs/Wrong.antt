@@ -1,5 +1,5 @@
 -- The first wrong name, by what resolving tells.
-use Rattle.std.proofs.Common.{◌≡◌, ◌≢◌, ◌⊎◌, inl, inr, ◌<◌, ◌++◌, ℕ, List, [], ◌∷◌, All, length, refl, sym, ◌∙◌, ap, subst, absurd, Result, Some, None, Ok, Err, arith}
+use Rattle.std.proofs.Common.{◌≡◌, ◌≢◌, ◌⊎◌, inl, inr, ◌<◌, ◌++◌, ℕ, suc, List, [], ◌∷◌, All, length, refl, sym, ◌∙◌, ap, subst, Result, Some, None, Ok, Err, arith}
 use Rattle.std.specs.Option.{option_or}
 use Rattle.std.proofs.lemmas.List.Elements.{All-head, All-tail}
 use Rattle.theta_text.specs.Texts.{tree_of}
@@ -35,13 +35,13 @@ module _ (names_r names_s : List (List ℕ)) where
   pub first_wrong-none : (names : List Name) → All (StandsOnce names_r names_s) names → first_wrong names_r names_s names ≡ None
   first_wrong-none [] once = refl
   first_wrong-none (name ∷ names) once =
-      rw (right_at name (places_of names_r names_s name) (once 0 name (omega arith)), first_wrong-none names (λ k d within. once (k + 1) d (omega (arith, within)))) refl
+      rw (right_at name (places_of names_r names_s name) (once 0 name (omega arith)), first_wrong-none names (λ k d within. once (suc k) d (omega (arith, within)))) refl
 
   first_wrong-behind : (before after : List Name) (name : Name) (fault : TextFault) → All (StandsOnce names_r names_s) before
       → wrong_at name (places_of names_r names_s name) ≡ Some fault → first_wrong names_r names_s (before ++ name ∷ after) ≡ Some fault
   first_wrong-behind [] after name fault once wrong = rw wrong refl
   first_wrong-behind (first ∷ before) after name fault once wrong =
-      rw (right_at first (places_of names_r names_s first) (once 0 first (omega arith)), first_wrong-behind before after name fault (λ k d within. once (k + 1) d (omega (arith, within))) wrong) refl
+      rw (right_at first (places_of names_r names_s first) (once 0 first (omega arith)), first_wrong-behind before after name fault (λ k d within. once (suc k) d (omega (arith, within))) wrong) refl
 
   first_wrong-first : (names : List Name) (name : Name) (fault : TextFault) → IsFirstWrong names_r names_s names name
       → wrong_at name (places_of names_r names_s name) ≡ Some fault → first_wrong names_r names_s names ≡ Some fault

@@ -12,7 +12,6 @@ use Rattle.join_words.specs.Words.{Asked}
 use Rattle.join_cli.specs.declared.outcome.Outcome.{Outcome}
 use Rattle.join_cli.specs.declared.outcome.Outcome.TheVariants.{Done, Memory}
 use Rattle.join_cli.specs.declared.refusal.Refusal.{Refusal}
-use Rattle.join_cli.specs.declared.refusal.Refusal.TheVariants.{Memory as out_of_memory}
 use Rattle.join_cli.specs.declared.plan.Planned.{Planned}
 use Rattle.join_cli.specs.Refusals.{refused_as, text_refusal}
 use Rattle.join_cli.specs.Plan.{fitted, plan_of, output_of, tables_of}
@@ -61,8 +60,5 @@ abbrev pub StandsPast : Spot → List ℕ → Type 0
 StandsPast spot name = (place : ℕ) × (spot ≡ Some (name, place)) × (2 ^ 24 < place)
 
 -- the text's own fault is answered, or memory ran out
-abbrev pub RefusesText : PredFault → Result Planned Refusal → Type 0
-RefusesText fault result = (result ≡ Err out_of_memory) ⊎ (result ≡ Err (text_refusal fault))
-
 abbrev pub EndsEarly : PredFault → Outcome → Type 0
 EndsEarly fault outcome = (outcome ≡ Memory) ⊎ (outcome ≡ refused_as (text_refusal fault))

@@ -1,5 +1,5 @@
 -- What a predicate's text is, and the refusal where it is none.
-use Rattle.std.specs.Prelude.{◌≡◌, ◌⊎◌, ℕ, List, ⊤, Result, Ok, Err}
+use Rattle.std.specs.Prelude.{◌≡◌, ◌⊎◌, ℕ, List, ⊤, Result, Ok, Err, MatchResult}
 use Rattle.theta_text.specs.Grammar.{Tree}
 use Rattle.theta_text.specs.Texts.{TextReads, IsFaultOf, limits, tree_of}
 use Rattle.theta_text.specs.declared.tree.Pred.{Pred}
@@ -32,3 +32,7 @@ IsTrueOf text _ = ⊤
 abbrev pub Reads : Result Tree PredFault → Result Pred Refusal → Type 0
 Reads reading (Ok pred) = reading ≡ Ok (tree_of pred)
 Reads reading (Err refusal) = (refusal ≡ Memory) ⊎ (tree_or_refused reading ≡ Err refusal)
+
+-- a text with this fault is refused by it, or memory ran out
+abbrev pub RefusesText : {T : Type 0} → PredFault → Result T Refusal → Type 0
+RefusesText fault result = MatchResult result (λ value. ⊥) (λ refusal. (refusal ≡ Memory) ⊎ (refusal ≡ text_refusal fault))

@@ -1,6 +1,6 @@
 // A predicate over the headers of two tables.
 
-ghost use Rattle.std.specs.Prelude.{◌≡◌, ◌⊎◌, ◌≤◌, ℕ, List, IfOk, Err, length};
+ghost use Rattle.std.specs.Prelude.{◌≡◌, ◌⊎◌, ◌≤◌, ℕ, List, IfOk, Ok, Err, length};
 ghost use Rattle.theta_text.specs.Sizes.{longest_sum};
 ghost use Rattle.theta_text.specs.Texts.{tree_of};
 ghost use Rattle.join_rows.specs.declared.table.Side.{Side};
@@ -25,6 +25,7 @@ pub(crate) fn theta(
     requires { longest_sum pred.now ≤ 16 }
     ensures answer { (result ≡ Err Refusal.Memory)
         ⊎ (result ≡ theta_over names_r.now names_s.now (tree_of pred.now)) }
+    ensures found { IfOk result (λ theta. theta_over names_r.now names_s.now (tree_of pred.now) ≡ Ok theta) }
     ensures text { (text : List ℕ) (fault : TextFault) → result ≡ Err (Refusal.Predicate fault)
         → IsTrueOf text fault }
     ensures files { result ≡ Err Refusal.Read → ⊥ }

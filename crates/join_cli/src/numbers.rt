@@ -35,9 +35,8 @@ fn columns_fault(side: Side, table: &Table, columns: &[u64]) -> Option<InputFaul
     ensures { result ≡ Numbers.number_fault side table.now.rows columns.now }
 {
     for column in columns {
-        let fault = column_fault(side, table, *column);
-        if fault.is_some() {
-            return fault;
+        if let Some(fault) = column_fault(side, table, *column) {
+            return Some(fault);
         }
     }
     None

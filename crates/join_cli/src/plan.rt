@@ -6,12 +6,13 @@ ghost use Rattle.join_rows.specs.Records.{IsTable};
 ghost use Rattle.join_rows.specs.declared.table.Side.{Side};
 ghost use Rattle.theta_text.specs.Grammar.{Tree};
 ghost use Rattle.theta_text.specs.declared.fault.PredFault.{PredFault};
+ghost use Rattle.theta_text.specs.Texts.{IsFaultOf, limits};
 ghost use Rattle.join_words.specs.Words.{asked};
 ghost use Rattle.join_cli.specs.declared.outcome.TextFault.{TextFault};
-ghost use Rattle.join_cli.specs.Texts.{IsRead, IsTrueOf};
+ghost use Rattle.join_cli.specs.Texts.{IsRead, IsTrueOf, RefusesText};
 ghost use Rattle.join_cli.specs.Plan;
 ghost use Rattle.join_cli.specs.Plan.{IsFit, plan_of};
-ghost use Rattle.join_cli.specs.Ends.{IsAsked, RefusesText, LacksOne, StandsPast, name_of};
+ghost use Rattle.join_cli.specs.Ends.{IsAsked, LacksOne, StandsPast, name_of};
 
 use crate::columns::theta;
 use crate::numbers::number_fault;
@@ -37,7 +38,12 @@ fn checked(tables: Tables, theta: Theta) -> Result<Planned, Refusal>
     requires table_s { IsTable tables.of_s }
     requires width_r { theta.width_r ≡ length tables.of_r.names }
     requires width_s { theta.width_s ≡ length tables.of_s.names }
-    ensures { result ≡ Plan.checked tables theta }
+    ensures answer { result ≡ Plan.checked tables theta }
+    ensures kept { IfOk result (λ planned. planned.tables ≡ tables) }
+    ensures fit { IfOk result IsFit }
+    ensures text { (fault : TextFault) → result ≡ Err (Refusal.Predicate fault) → ⊥ }
+    ensures limits { (side : Side) → result ≡ Err (Refusal.Limit (LimitFault.TooLong side)) → ⊥ }
+    ensures files { result ≡ Err Refusal.Read → ⊥ }
 {
     match number_fault(&tables, &theta) {
         Some(fault) => Err(Refusal::Input(fault)),
@@ -59,7 +65,7 @@ pub(crate) fn prepare<H: Shelf>(
         → H.told shelf.old ≡ Some files → IsRead options.now.on.now reading
         → H.faults shelf.new ≡ H.faults shelf.old
         → (result ≡ Err Refusal.Memory) ⊎ (result ≡ plan_of (asked options.now) reading files) }
-    ensures early { (fault : PredFault) → IsRead options.now.on.now (Err fault)
+    ensures early { (fault : PredFault) → IsFaultOf limits options.now.on.now fault
         → RefusesText fault result × (shelf.new ≡ shelf.old) }
     ensures asked { IfOk result (IsAsked (H.told shelf.old) (asked options.now)) }
     ensures fit { IfOk result IsFit }

@@ -1,6 +1,6 @@
 // The two tables, read one after the other.
 
-ghost use Rattle.std.specs.Prelude.{◌≡◌, ◌⊎◌, ◌<◌, ◌≤◌, ℕ, List, Option, Some, Err, IfOk};
+ghost use Rattle.std.specs.Prelude.{◌≡◌, ◌⊎◌, ◌<◌, ◌≤◌, ℕ, List, Option, Some, Ok, Err, IfOk};
 ghost use Rattle.join_rows.specs.Shelves.{Lacks, last_fault};
 ghost use Rattle.join_rows.specs.Records.{IsTable};
 ghost use Rattle.join_rows.specs.declared.table.Side.{Side};
@@ -28,6 +28,8 @@ fn table<H: Shelf>(alloc: Global, shelf: &mut H, side: Side, name: &str) -> Resu
     ensures answer { (files : List ℕ → Option (List ℕ)) → H.told shelf.old ≡ Some files
         → H.faults shelf.new ≡ H.faults shelf.old
         → (result ≡ Err Refusal.Memory) ⊎ (result ≡ table_found side (files name.now)) }
+    ensures found { IfOk result (λ table. (files : List ℕ → Option (List ℕ)) → H.told shelf.old ≡ Some files
+        → table_found side (files name.now) ≡ Ok table) }
     ensures read { result ≡ Err Refusal.Read
         → (H.faults shelf.old < H.faults shelf.new) ⊎ Lacks (H.told shelf.old) name.now }
     ensures counts { (result ≡ Err Refusal.Read → ⊥) → H.faults shelf.new ≡ H.faults shelf.old }
@@ -55,6 +57,8 @@ pub(crate) fn read_tables<H: Shelf>(
     ensures answer { (files : List ℕ → Option (List ℕ)) → H.told shelf.old ≡ Some files
         → H.faults shelf.new ≡ H.faults shelf.old
         → (result ≡ Err Refusal.Memory) ⊎ (result ≡ tables_of files name_r.now name_s.now) }
+    ensures found { IfOk result (λ tables. (files : List ℕ → Option (List ℕ)) → H.told shelf.old ≡ Some files
+        → tables_of files name_r.now name_s.now ≡ Ok tables) }
     ensures read { result ≡ Err Refusal.Read → (H.faults shelf.old < H.faults shelf.new)
         ⊎ (Lacks (H.told shelf.old) name_r.now ⊎ Lacks (H.told shelf.old) name_s.now) }
     ensures counts { (result ≡ Err Refusal.Read → ⊥) → H.faults shelf.new ≡ H.faults shelf.old }

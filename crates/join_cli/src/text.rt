@@ -1,25 +1,18 @@
 // The lines on standard error.
 
-ghost use Rattle.std.specs.Prelude.{◌≡◌};
-ghost use Rattle.join_cli.specs.Outcomes.{shown_name, shown_side};
-
 use crate::outcome::{InputFault, LimitFault, Outcome, TextFault};
 use join_rows::{Bytes, Side};
 use std::fmt;
 use std::str;
 
-fn side_text(side: Side) -> &'static str
-    ensures { result.now ≡ shown_side side }
-{
+fn side_text(side: Side) -> &'static str {
     match side {
         Side::R => "R",
         Side::S => "S",
     }
 }
 
-fn name_text(name: &Bytes) -> &str
-    ensures { result.now ≡ shown_name name.now }
-{
+fn name_text(name: &Bytes) -> &str {
     match str::from_utf8(name.as_slice()) {
         Ok(text) => text,
         Err(_) => "?",
@@ -27,11 +20,6 @@ fn name_text(name: &Bytes) -> &str
 }
 
 impl fmt::Display for TextFault {
-    ghost use Rattle.std.specs.Prelude.{Some};
-    ghost use Rattle.join_cli.specs.Outcomes.{text_fault_text};
-
-    ghost output = { λ fault. Some (text_fault_text fault) };
-
     fn fmt<W: fmt::Write>(&self, f: &mut fmt::Formatter<W>) -> fmt::Result {
         match self {
             TextFault::Syntax { place } => {
@@ -57,11 +45,6 @@ impl fmt::Display for TextFault {
 }
 
 impl fmt::Display for InputFault {
-    ghost use Rattle.std.specs.Prelude.{Some};
-    ghost use Rattle.join_cli.specs.Outcomes.{input_fault_text};
-
-    ghost output = { λ fault. Some (input_fault_text fault) };
-
     fn fmt<W: fmt::Write>(&self, f: &mut fmt::Formatter<W>) -> fmt::Result {
         match self {
             InputFault::NoHeader { side } => {
@@ -81,11 +64,6 @@ impl fmt::Display for InputFault {
 }
 
 impl fmt::Display for LimitFault {
-    ghost use Rattle.std.specs.Prelude.{Some};
-    ghost use Rattle.join_cli.specs.Outcomes.{limit_fault_text};
-
-    ghost output = { λ fault. Some (limit_fault_text fault) };
-
     fn fmt<W: fmt::Write>(&self, f: &mut fmt::Formatter<W>) -> fmt::Result {
         match self {
             LimitFault::TooLong { side } => {
@@ -103,11 +81,6 @@ impl fmt::Display for LimitFault {
 /// The line on standard error, without its end; nothing for `Done`. A name that isn't UTF-8 is shown
 /// as `?`.
 impl fmt::Display for Outcome {
-    ghost use Rattle.std.specs.Prelude.{Some};
-    ghost use Rattle.join_cli.specs.Outcomes.{text_of};
-
-    ghost output = { λ outcome. Some (text_of outcome) };
-
     fn fmt<W: fmt::Write>(&self, f: &mut fmt::Formatter<W>) -> fmt::Result {
         match self {
             Outcome::Done => Ok(()),

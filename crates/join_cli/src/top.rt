@@ -5,6 +5,7 @@ ghost use Rattle.join_rows.specs.Shelves.{last_fault};
 ghost use Rattle.join_rows.specs.declared.table.Side.{Side};
 ghost use Rattle.theta_text.specs.Grammar.{Tree};
 ghost use Rattle.theta_text.specs.declared.fault.PredFault.{PredFault};
+ghost use Rattle.theta_text.specs.Texts.{IsFaultOf, limits};
 ghost use Rattle.join_words.specs.Words.{Asked, asked, asked_of};
 ghost use Rattle.join_words.specs.declared.options.WordsFault.{WordsFault};
 ghost use Rattle.join_cli.specs.declared.outcome.TextFault.{TextFault};
@@ -33,7 +34,7 @@ fn join_files<H: Shelf, K: Sink>(
     requires small { options.now.k ≤ 6 }
     requires fits { IfSome options.now.fixed (λ fixed. fixed ≤ options.now.k) }
     ensures words { (fault : WordsFault) → result ≢ Outcome.Words fault }
-    ensures early { (fault : PredFault) → IsRead options.now.on.now (Err fault)
+    ensures early { (fault : PredFault) → IsFaultOf limits options.now.on.now fault
         → EndsEarly fault result × (shelf.new ≡ shelf.old) }
     ensures answer { (reading : Result Tree PredFault) → IsRead options.now.on.now reading
         → H.faults shelf.new ≡ H.faults shelf.old → K.faults sink.new ≡ K.faults sink.old
@@ -85,7 +86,7 @@ pub fn join_main<H: Shelf, K: Sink>(
     ensures only_words { (fault : WordsFault) → result ≡ Outcome.Words fault
         → asked_of (map string_bytes words.now) ≡ Err fault }
     ensures early { (asked : Asked) (fault : PredFault) → asked_of (map string_bytes words.now) ≡ Ok asked
-        → IsRead asked.on (Err fault) → EndsEarly fault result × (shelf.new ≡ shelf.old) }
+        → IsFaultOf limits asked.on fault → EndsEarly fault result × (shelf.new ≡ shelf.old) }
     ensures answer { (asked : Asked) (reading : Result Tree PredFault) → asked_of (map string_bytes words.now) ≡ Ok asked
         → IsRead asked.on reading
         → H.faults shelf.new ≡ H.faults shelf.old → K.faults sink.new ≡ K.faults sink.old

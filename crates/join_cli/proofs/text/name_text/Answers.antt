@@ -1,9 +1,0 @@
-use Rattle.std.proofs.Common.{◌∙◌}
-use Rattle.join_cli.proofs.Shown.{shown_whole, shown_not}
-use Rattle.join_cli.proofs.text.name_text.Goals as goal
-
-pub returns-in-Ok : goal.returns-in-Ok
-returns-in-Ok c = c.in-Ok.ensures.cases.0 ∙ shown_whole c.args.name.now c.in-Ok.ensures.cases.1
-
-pub returns-in-Err : goal.returns-in-Err
-returns-in-Err c = shown_not c.args.name.now c.in-Err.ensures.cases.0
