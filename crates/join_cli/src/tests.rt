@@ -1,10 +1,9 @@
 use crate::join_main;
 use join_rows::{ListSink, MapShelf};
 use std::alloc::{AllocError, Global};
-use std::test::Fail;
 
+mod calls;
 mod faults;
-mod limits;
 mod rows;
 
 // These words.

@@ -1,4 +1,4 @@
-// Calls that fail, pieces, and limits.
+// Calls that fail, and pieces.
 
 use super::{ends, shelf};
 use join_rows::{ListSink, MapShelf};
@@ -61,7 +61,7 @@ fn of_forty(alloc: Global, put: u64) -> Result<(u8, u64), AllocError> {
     let texts = ["jm", "--on", "1 = 1", "r", "s"];
     let words = super::words(alloc, texts.as_slice())?;
     let outcome = crate::join_main(alloc, &words, &mut shelf, &mut sink);
-    Ok((outcome.status(), sink.written().len()))
+    Ok((outcome.status(), sink.written().len() as u64))
 }
 
 #[test]
@@ -70,27 +70,6 @@ fn puts_pieces(rt: HostRuntime) -> Result<(), Fail> {
     for (put, status, length) in cases {
         let found = of_forty(rt.alloc(), put)?;
         assert_eq!(rt; found, (status, length));
-    }
-    Ok(())
-}
-
-#[test]
-fn keeps_the_limits(rt: HostRuntime) -> Result<(), Fail> {
-    let long = "limit: R has more than 16777216 bytes";
-    let many = "limit: R has more than 262144 rows";
-    let cases = [
-        (16777215, "1", 5, long),
-        (262145, "1\n", 5, many),
-        (262144, "1\n", 0, ""),
-    ];
-    for (lines, line, status, text) in cases {
-        let r = file(rt.alloc(), "a\n", lines, line)?;
-        let mut shelf = shelf(rt.alloc(), r.as_str(), "b\n")?;
-        let mut sink = ListSink::new(rt.alloc(), 100)?;
-        let texts = ["jm", "--on", "r.a = s.b", "r", "s"];
-        let wanted = (status, text, "");
-        let same = ends(rt.alloc(), texts.as_slice(), &mut shelf, &mut sink, wanted)?;
-        assert!(rt; same, "for {lines}");
     }
     Ok(())
 }
