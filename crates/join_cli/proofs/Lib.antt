@@ -1,4 +1,7 @@
-pub mod Holding
-pub mod Meeting
-pub mod Gathering
 pub mod Writing
+pub mod Parsed
+pub mod Trees
+pub mod Wrong
+pub mod Bad
+pub mod Picked
+pub mod Asking

@@ -1,7 +1,7 @@
-pub mod Tests
-pub mod Joining
-pub mod Sending
-pub mod Answer
-pub mod Text
 pub mod Outcomes
+pub mod Refusals
+pub mod Texts
+pub mod Columns
+pub mod Numbers
 pub mod Plan
+pub mod Ends

@@ -1,21 +1,22 @@
-//! The join of two tables by a grid of joiners, and the top call of `jm`.
+//! The top call of `jm`: the words, two files, a predicate, and the output.
 #![tactic(auto)]
 
-mod grid;
-mod join;
-mod joiner;
-mod matching;
+mod columns;
+mod numbers;
 mod outcome;
+mod plan;
+mod predicate;
 mod reading;
+mod refusal;
+mod run;
 mod text;
 mod top;
 mod write;
 
-pub use grid::grid_run;
-pub use join::join_by;
-pub use matching::{FirstTexts, Test};
-pub use outcome::{InputFault, LimitFault, Outcome, WordsFault};
+pub use join_words::WordsFault;
+pub use outcome::{InputFault, LimitFault, Outcome, TextFault};
 pub use top::join_main;
+
 
 #[cfg(test)]
 mod tests;

@@ -1,23 +1,41 @@
 // How a run of `jm` ends.
 
 ghost use Rattle.std.specs.Prelude.{◌≡◌};
-ghost use Rattle.join_cli.specs.Plan.{refusal_of, refused_as};
 ghost use Rattle.join_cli.specs.Outcomes.{status_of};
 
-use join_rows::{Side, TableFault};
+use join_rows::{Bytes, Side};
+use join_words::WordsFault;
 
-/// What is wrong with the words.
-#[derive(Clone, Copy, Debug, PartialEq, Eq)]
-pub enum WordsFault {
-    /// There are not just the program's name and two names of files.
-    Files,
+/// What is wrong with the predicate. A place is the offset of a byte in its text, counted from 0.
+#[derive(Debug, Drop)]
+pub enum TextFault {
+    /// The token at `place` can't follow what stands before it in any predicate, or no token begins
+    /// there. At the end of a text that isn't a whole predicate the place is the text's length.
+    Syntax { place: u64 },
+    /// The token at `place` is a `not`, or a `(` around a predicate, inside 32 others that aren't
+    /// closed.
+    Deep { place: u64 },
+    /// The sign at `place` opens the 17th term of a sum.
+    Wide { place: u64 },
+    /// The number at `place` is greater than 9223372036854775807.
+    Literal { place: u64 },
+    /// The first name of the predicate that doesn't stand in its header just once isn't there.
+    NoColumn { side: Side, name: Bytes },
+    /// The first name of the predicate that doesn't stand in its header just once is there more than
+    /// once.
+    TwoColumns { side: Side, name: Bytes },
 }
 
-/// What is wrong with a file.
+/// What is wrong with a file. Rows and columns are counted from 1.
 #[derive(Clone, Copy, Debug, PartialEq, Eq)]
 pub enum InputFault {
-    /// It has no record, a row of another width than its header, or more than 2^18 rows.
-    Form { side: Side },
+    /// It has no record.
+    NoHeader { side: Side },
+    /// The row is the first that has not as many fields as the header.
+    Width { side: Side, row: u64, found: u64 },
+    /// The column stands in a sum of the predicate, and the row is the first whose cell there isn't
+    /// empty and is no number. Columns of R come before those of S, and each before those on its right.
+    Number { side: Side, column: u64, row: u64 },
 }
 
 /// What is past a limit.
@@ -25,23 +43,17 @@ pub enum InputFault {
 pub enum LimitFault {
     /// The file has more than 2^24 bytes.
     TooLong { side: Side },
-}
-
-/// Why nothing was written.
-#[derive(Clone, Copy, Debug, PartialEq, Eq)]
-pub(crate) enum Refusal {
-    Input(InputFault),
-    Limit(LimitFault),
-    Read,
-    Memory,
+    /// The file has more than 2^18 rows under its header.
+    TooMany { side: Side },
 }
 
 /// How a run ended.
-#[derive(Clone, Copy, Debug, PartialEq, Eq)]
+#[derive(Debug, Drop)]
 pub enum Outcome {
     /// The output was written whole.
     Done,
     Words(WordsFault),
+    Predicate(TextFault),
     Input(InputFault),
     Limit(LimitFault),
     /// A file couldn't be read.
@@ -60,37 +72,12 @@ impl Outcome {
         match self {
             Outcome::Done => 0,
             Outcome::Words(_) => 2,
+            Outcome::Predicate(_) => 3,
             Outcome::Input(_) => 4,
             Outcome::Limit(_) => 5,
             Outcome::Read => 6,
             Outcome::Write => 7,
             Outcome::Memory => 8,
         }
-    }
-}
-
-/// The refusal of a side's file that is no table.
-pub(crate) fn refusal_for(side: Side, fault: TableFault) -> Refusal
-    ensures { result ≡ refusal_of side fault }
-{
-    match fault {
-        TableFault::Read => Refusal::Read,
-        TableFault::TooLong => Refusal::Limit(LimitFault::TooLong { side }),
-        TableFault::NoHeader | TableFault::Width { .. } | TableFault::TooMany => {
-            Refusal::Input(InputFault::Form { side })
-        }
-        TableFault::Memory => Refusal::Memory,
-    }
-}
-
-/// The outcome of a refusal.
-pub(crate) fn refused(refusal: Refusal) -> Outcome
-    ensures { result ≡ refused_as refusal }
-{
-    match refusal {
-        Refusal::Input(fault) => Outcome::Input(fault),
-        Refusal::Limit(fault) => Outcome::Limit(fault),
-        Refusal::Read => Outcome::Read,
-        Refusal::Memory => Outcome::Memory,
     }
 }

@@ -1,11 +1,15 @@
 // The two tables, read one after the other.
 
-ghost use Rattle.std.specs.Prelude.{◌≡◌, ◌⊎◌, ◌<◌, ◌≤◌, ℕ, List, Option, Some, Err, IfOk};
+ghost use Rattle.std.specs.Prelude.{◌≡◌, ◌⊎◌, ◌<◌, ◌≤◌, ℕ, List, Option, Some, Ok, Err, IfOk};
 ghost use Rattle.join_rows.specs.Shelves.{Lacks, last_fault};
 ghost use Rattle.join_rows.specs.Records.{IsTable};
-ghost use Rattle.join_cli.specs.Plan.{tables_of, table_found, LacksOne};
+ghost use Rattle.join_rows.specs.declared.table.Side.{Side};
+ghost use Rattle.join_cli.specs.declared.outcome.TextFault.{TextFault};
+ghost use Rattle.join_cli.specs.Plan.{tables_of, table_found};
+ghost use Rattle.join_cli.specs.Ends.{StandsPast, name_on};
 
-use crate::outcome::{Refusal, refusal_for};
+use crate::outcome::LimitFault;
+use crate::refusal::{Refusal, file_refused};
 use join_rows::{Shelf, Side, Table, read_table};
 use std::alloc::Global;
 
@@ -24,14 +28,19 @@ fn table<H: Shelf>(alloc: Global, shelf: &mut H, side: Side, name: &str) -> Resu
     ensures answer { (files : List ℕ → Option (List ℕ)) → H.told shelf.old ≡ Some files
         → H.faults shelf.new ≡ H.faults shelf.old
         → (result ≡ Err Refusal.Memory) ⊎ (result ≡ table_found side (files name.now)) }
+    ensures found { IfOk result (λ table. (files : List ℕ → Option (List ℕ)) → H.told shelf.old ≡ Some files
+        → table_found side (files name.now) ≡ Ok table) }
     ensures read { result ≡ Err Refusal.Read
         → (H.faults shelf.old < H.faults shelf.new) ⊎ Lacks (H.told shelf.old) name.now }
     ensures counts { (result ≡ Err Refusal.Read → ⊥) → H.faults shelf.new ≡ H.faults shelf.old }
+    ensures long { (of : Side) → result ≡ Err (Refusal.Limit (LimitFault.TooLong of))
+        → (of ≡ side) × StandsPast (H.picked shelf.new) name.now }
+    ensures files { (fault : TextFault) → result ≡ Err (Refusal.Predicate fault) → ⊥ }
     ensures whole { IfOk result IsTable }
 {
     match read_table(alloc, shelf, name) {
         Ok(table) => Ok(table),
-        Err(fault) => Err(refusal_for(side, fault)),
+        Err(fault) => Err(file_refused(side, fault)),
     }
 }
 
@@ -48,9 +57,14 @@ pub(crate) fn read_tables<H: Shelf>(
     ensures answer { (files : List ℕ → Option (List ℕ)) → H.told shelf.old ≡ Some files
         → H.faults shelf.new ≡ H.faults shelf.old
         → (result ≡ Err Refusal.Memory) ⊎ (result ≡ tables_of files name_r.now name_s.now) }
-    ensures read { result ≡ Err Refusal.Read
-        → (H.faults shelf.old < H.faults shelf.new) ⊎ LacksOne (H.told shelf.old) name_r.now name_s.now }
+    ensures found { IfOk result (λ tables. (files : List ℕ → Option (List ℕ)) → H.told shelf.old ≡ Some files
+        → tables_of files name_r.now name_s.now ≡ Ok tables) }
+    ensures read { result ≡ Err Refusal.Read → (H.faults shelf.old < H.faults shelf.new)
+        ⊎ (Lacks (H.told shelf.old) name_r.now ⊎ Lacks (H.told shelf.old) name_s.now) }
     ensures counts { (result ≡ Err Refusal.Read → ⊥) → H.faults shelf.new ≡ H.faults shelf.old }
+    ensures long { (side : Side) → result ≡ Err (Refusal.Limit (LimitFault.TooLong side))
+        → StandsPast (H.picked shelf.new) (name_on side name_r.now name_s.now) }
+    ensures files { (fault : TextFault) → result ≡ Err (Refusal.Predicate fault) → ⊥ }
     ensures whole_r { IfOk result (λ tables. IsTable tables.of_r) }
     ensures whole_s { IfOk result (λ tables. IsTable tables.of_s) }
 {

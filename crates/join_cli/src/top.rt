@@ -1,46 +1,65 @@
 // The top call.
 
-ghost use Rattle.std.specs.Prelude.{◌≡◌, ◌≢◌, ◌⊎◌, ◌↔◌, ◌<◌, ℕ, List, map, length, string_bytes};
+ghost use Rattle.std.specs.Prelude.{◌≡◌, ◌≢◌, ◌⊎◌, ◌<◌, ◌≤◌, ℕ, List, Result, Ok, Err, IfSome, map, string_bytes};
 ghost use Rattle.join_rows.specs.Shelves.{last_fault};
-ghost use Rattle.join_cli.specs.Plan.{EndsAs, Wrote, WroteFront, LacksOne, Names};
+ghost use Rattle.join_rows.specs.declared.table.Side.{Side};
+ghost use Rattle.theta_text.specs.Grammar.{Tree};
+ghost use Rattle.theta_text.specs.declared.fault.PredFault.{PredFault};
+ghost use Rattle.theta_text.specs.Texts.{IsFaultOf, limits};
+ghost use Rattle.join_words.specs.Words.{Asked, asked, asked_of};
+ghost use Rattle.join_words.specs.declared.options.WordsFault.{WordsFault};
+ghost use Rattle.join_cli.specs.declared.outcome.TextFault.{TextFault};
+ghost use Rattle.join_cli.specs.Refusals.{refused_as, text_refusal};
+ghost use Rattle.join_cli.specs.Texts.{IsRead, IsTrueOf};
+ghost use Rattle.join_cli.specs.Ends.{EndsAs, EndsEarly, Wrote, WroteFront, LacksOne, StandsPast, name_of};
 
-use crate::join::output;
-use crate::outcome::{Outcome, WordsFault, refused};
-use crate::reading::read_tables;
+use crate::outcome::{LimitFault, Outcome};
+use crate::plan::prepare;
+use crate::refusal::refused;
+use crate::run::output;
 use crate::write::put_all;
 use join_rows::{Failed, Shelf, Sink};
+use join_words::{Options, WordsError, read_words};
 use std::alloc::{AllocError, Global};
 
-/// Joins the files of two names.
+/// Joins what the options ask for.
 fn join_files<H: Shelf, K: Sink>(
     alloc: Global,
-    name_r: &str,
-    name_s: &str,
+    options: &Options<'_>,
     shelf: &mut H,
     sink: &mut K,
 ) -> Outcome
     requires shelf { H.faults shelf.old < last_fault }
     requires sink { K.faults sink.old < last_fault }
-    ensures words { result ≢ Outcome.Words WordsFault.Files }
-    ensures answer { H.faults shelf.new ≡ H.faults shelf.old → K.faults sink.new ≡ K.faults sink.old
-        → EndsAs (H.told shelf.old) name_r.now name_s.now result }
+    requires small { options.now.k ≤ 6 }
+    requires fits { IfSome options.now.fixed (λ fixed. fixed ≤ options.now.k) }
+    ensures words { (fault : WordsFault) → result ≢ Outcome.Words fault }
+    ensures early { (fault : PredFault) → IsFaultOf limits options.now.on.now fault
+        → EndsEarly fault result × (shelf.new ≡ shelf.old) }
+    ensures answer { (reading : Result Tree PredFault) → IsRead options.now.on.now reading
+        → H.faults shelf.new ≡ H.faults shelf.old → K.faults sink.new ≡ K.faults sink.old
+        → EndsAs (H.told shelf.old) (asked options.now) reading result }
     ensures done { result ≡ Outcome.Done
-        → Wrote (H.told shelf.old) name_r.now name_s.now (K.written sink.old) (K.written sink.new) }
+        → Wrote (H.told shelf.old) (asked options.now) (K.written sink.old) (K.written sink.new) }
     ensures front { result ≡ Outcome.Write
-        → WroteFront (H.told shelf.old) name_r.now name_s.now (K.written sink.old) (K.written sink.new) }
+        → WroteFront (H.told shelf.old) (asked options.now) (K.written sink.old) (K.written sink.new) }
     ensures nothing { result ≢ Outcome.Done → result ≢ Outcome.Write → sink.new ≡ sink.old }
+    ensures text { (fault : TextFault) → result ≡ Outcome.Predicate fault
+        → IsTrueOf options.now.on.now fault }
+    ensures long { (side : Side) → result ≡ Outcome.Limit (LimitFault.TooLong side)
+        → StandsPast (H.picked shelf.new) (name_of side (asked options.now)) }
     ensures read { result ≡ Outcome.Read
-        → (H.faults shelf.old < H.faults shelf.new) ⊎ LacksOne (H.told shelf.old) name_r.now name_s.now }
+        → (H.faults shelf.old < H.faults shelf.new) ⊎ LacksOne (H.told shelf.old) (asked options.now) }
     ensures write { result ≡ Outcome.Write → K.faults sink.old < K.faults sink.new }
     ensures shelf_counts { result ≢ Outcome.Read → H.faults shelf.new ≡ H.faults shelf.old }
     ensures sink_counts { result ≢ Outcome.Write → K.faults sink.new ≡ K.faults sink.old }
     ensures told { H.told shelf.new ≡ H.told shelf.old }
 {
-    let tables = match read_tables(alloc, shelf, name_r, name_s) {
-        Ok(tables) => tables,
+    let planned = match prepare(alloc, options, shelf) {
+        Ok(planned) => planned,
         Err(refusal) => return refused(refusal),
     };
-    let text = match output(alloc, &tables.of_r, &tables.of_s) {
+    let text = match output(alloc, options, &planned) {
         Ok(text) => text,
         Err(AllocError) => return Outcome::Memory,
     };
@@ -50,8 +69,10 @@ fn join_files<H: Shelf, K: Sink>(
     }
 }
 
-/// Runs `jm` with these words, the program's name first, then the names of the file of R and of that
-/// of S. The output is made whole before its first byte is written.
+/// Runs `jm` with these words, the program's name first. The first of these that applies is
+/// answered: the words, the text of the predicate, the file of R, the file of S, the columns, the
+/// numbers of R and then of S; then the output is made whole, and then it is written. Memory may
+/// run out at each of them.
 pub fn join_main<H: Shelf, K: Sink>(
     alloc: Global,
     words: &[String],
@@ -60,26 +81,35 @@ pub fn join_main<H: Shelf, K: Sink>(
 ) -> Outcome
     requires shelf { H.faults shelf.old < last_fault }
     requires sink { K.faults sink.old < last_fault }
-    ensures words { (result ≡ Outcome.Words WordsFault.Files) ↔ (length words.now ≢ 3) }
-    ensures untouched { result ≡ Outcome.Words WordsFault.Files
-        → (shelf.new ≡ shelf.old) × (sink.new ≡ sink.old) }
-    ensures answer { (name_r name_s : List ℕ) → Names (map string_bytes words.now) name_r name_s
+    ensures words { (fault : WordsFault) → asked_of (map string_bytes words.now) ≡ Err fault
+        → ((result ≡ Outcome.Words fault) ⊎ (result ≡ Outcome.Memory)) × (shelf.new ≡ shelf.old) × (sink.new ≡ sink.old) }
+    ensures only_words { (fault : WordsFault) → result ≡ Outcome.Words fault
+        → asked_of (map string_bytes words.now) ≡ Err fault }
+    ensures early { (asked : Asked) (fault : PredFault) → asked_of (map string_bytes words.now) ≡ Ok asked
+        → IsFaultOf limits asked.on fault → EndsEarly fault result × (shelf.new ≡ shelf.old) }
+    ensures answer { (asked : Asked) (reading : Result Tree PredFault) → asked_of (map string_bytes words.now) ≡ Ok asked
+        → IsRead asked.on reading
         → H.faults shelf.new ≡ H.faults shelf.old → K.faults sink.new ≡ K.faults sink.old
-        → EndsAs (H.told shelf.old) name_r name_s result }
-    ensures done { (name_r name_s : List ℕ) → Names (map string_bytes words.now) name_r name_s → result ≡ Outcome.Done
-        → Wrote (H.told shelf.old) name_r name_s (K.written sink.old) (K.written sink.new) }
-    ensures front { (name_r name_s : List ℕ) → Names (map string_bytes words.now) name_r name_s → result ≡ Outcome.Write
-        → WroteFront (H.told shelf.old) name_r name_s (K.written sink.old) (K.written sink.new) }
+        → EndsAs (H.told shelf.old) asked reading result }
+    ensures done { result ≡ Outcome.Done → (asked : Asked) × (asked_of (map string_bytes words.now) ≡ Ok asked)
+        × Wrote (H.told shelf.old) asked (K.written sink.old) (K.written sink.new) }
+    ensures front { result ≡ Outcome.Write → (asked : Asked) × (asked_of (map string_bytes words.now) ≡ Ok asked)
+        × WroteFront (H.told shelf.old) asked (K.written sink.old) (K.written sink.new) }
     ensures nothing { result ≢ Outcome.Done → result ≢ Outcome.Write → sink.new ≡ sink.old }
-    ensures read { (name_r name_s : List ℕ) → Names (map string_bytes words.now) name_r name_s → result ≡ Outcome.Read
-        → (H.faults shelf.old < H.faults shelf.new) ⊎ LacksOne (H.told shelf.old) name_r name_s }
+    ensures text { (asked : Asked) (fault : TextFault) → asked_of (map string_bytes words.now) ≡ Ok asked
+        → result ≡ Outcome.Predicate fault → IsTrueOf asked.on fault }
+    ensures long { (asked : Asked) (side : Side) → asked_of (map string_bytes words.now) ≡ Ok asked
+        → result ≡ Outcome.Limit (LimitFault.TooLong side) → StandsPast (H.picked shelf.new) (name_of side asked) }
+    ensures read { (asked : Asked) → asked_of (map string_bytes words.now) ≡ Ok asked → result ≡ Outcome.Read
+        → (H.faults shelf.old < H.faults shelf.new) ⊎ LacksOne (H.told shelf.old) asked }
     ensures write { result ≡ Outcome.Write → K.faults sink.old < K.faults sink.new }
     ensures shelf_counts { result ≢ Outcome.Read → H.faults shelf.new ≡ H.faults shelf.old }
     ensures sink_counts { result ≢ Outcome.Write → K.faults sink.new ≡ K.faults sink.old }
     ensures told { H.told shelf.new ≡ H.told shelf.old }
 {
-    let [_, name_r, name_s] = words else {
-        return Outcome::Words(WordsFault::Files);
-    };
-    join_files(alloc, name_r.as_str(), name_s.as_str(), shelf, sink)
+    match read_words(alloc, words) {
+        Ok(options) => join_files(alloc, &options, shelf, sink),
+        Err(WordsError::Fault(fault)) => Outcome::Words(fault),
+        Err(WordsError::Memory) => Outcome::Memory,
+    }
 }

@@ -1,0 +1,58 @@
+-- What was prepared is what was asked for.
+use Rattle.std.proofs.Common.{◌≡◌, ◌∙◌, ℕ, List, Option, Some, Result, Ok, Err, refl, sym, ap, subst}
+use Rattle.std.specs.Prelude.{IfOk}
+use Rattle.std.specs.Result.{result_unwrap_or}
+use Rattle.join_rows.specs.Sinks.{AppendsFront}
+use Rattle.join_words.specs.Words.{asked_of}
+use Rattle.join_words.specs.declared.options.WordsFault.{WordsFault}
+use Rattle.join_cli.specs.declared.outcome.TextFault.{TextFault}
+use Rattle.join_cli.specs.Texts.{IsTrueOf}
+use Rattle.join_rows.specs.Shelves.{Told}
+use Rattle.theta_text.specs.Grammar.{Tree}
+use Rattle.theta_text.specs.Texts.{TextReads, limits}
+use Rattle.theta_pred.specs.Formula.{Meaning}
+use Rattle.join_words.specs.Words.{Asked}
+use Rattle.join_cli.specs.declared.plan.Planned.{Planned}
+use Rattle.join_cli.specs.declared.reading.Tables.{Tables}
+use Rattle.join_cli.specs.declared.refusal.Refusal.{Refusal}
+use Rattle.join_cli.specs.Columns.{theta_over}
+use Rattle.join_cli.specs.Plan.{checked, fitted, output_of, tables_of, then_of}
+use Rattle.join_cli.specs.Ends.{IsAsked, WroteFront}
+
+pub is_asked : (told : Told) (asked : Asked) (tree : Tree) (tables : Tables) (theta : Meaning) (planned : Planned)
+    → TextReads limits asked.on tree
+    → theta_over tables.of_r.names tables.of_s.names tree ≡ Ok theta
+    → Ok planned ≡ checked tables theta
+    → planned.tables ≡ tables
+    → ((files : List ℕ → Option (List ℕ)) → told ≡ Some files → tables_of files asked.name_r asked.name_s ≡ Ok tables)
+    → IsAsked told asked planned
+is_asked told asked tree tables theta planned reads over is same found =
+    let fits : fitted tree tables ≡ Ok planned = ap (λ r. then_of r (checked tables)) over ∙ sym is in
+    record {
+      tree = tree;
+      reads = reads;
+      fits = subst (λ t. fitted tree t ≡ Ok planned) (sym same) fits;
+      files = λ files told_is. subst (λ t. tables_of files asked.name_r asked.name_s ≡ Ok t) (sym same) (found files told_is);
+    }
+
+pub asked_if : (told : Told) (asked : Asked) (tree : Tree) (tables : Tables) (theta : Meaning) (r : Result Planned Refusal)
+    → TextReads limits asked.on tree
+    → theta_over tables.of_r.names tables.of_s.names tree ≡ Ok theta
+    → r ≡ checked tables theta
+    → IfOk r (λ planned. planned.tables ≡ tables)
+    → ((files : List ℕ → Option (List ℕ)) → told ≡ Some files → tables_of files asked.name_r asked.name_s ≡ Ok tables)
+    → IfOk r (IsAsked told asked)
+asked_if told asked tree tables theta (Ok planned) reads over is same found = is_asked told asked tree tables theta planned reads over is same found
+asked_if told asked tree tables theta (Err refusal) reads over is same found = tt
+
+pub wrote_front : (told : Told) (asked : Asked) (old new : Option (List ℕ)) (planned : Planned) (bytes : List ℕ)
+    → IsAsked told asked planned → AppendsFront old new bytes → bytes ≡ output_of asked planned → WroteFront told asked old new
+wrote_front told asked old new planned bytes found front same =
+    record { planned = planned; found = found; front = subst (AppendsFront old new) same front }
+
+-- words ask for one thing
+pub asked_text : (words : List (List ℕ)) (given wanted : Asked) (fault : TextFault) → asked_of words ≡ Ok given → asked_of words ≡ Ok wanted
+    → IsTrueOf given.on fault → IsTrueOf wanted.on fault
+asked_text words given wanted fault is is_wanted true_of =
+    let same : given ≡ wanted = ap (λ r. result_unwrap_or r given) (sym is ∙ is_wanted) in
+    subst (λ asked. IsTrueOf asked.on fault) same true_of

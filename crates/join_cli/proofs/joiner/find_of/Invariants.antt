@@ -1,6 +1,0 @@
-use Rattle.std.proofs.Common.{◌≡◌, ◌++◌, take}
-use Rattle.join_cli.specs.Joining.{pairs_of}
-use Rattle.join_cli.proofs.joiner.find_of.Given as goal
-
-abbrev pub invariant-loop-j : goal.invariant-loop-j
-invariant-loop-j g l = l.pairs ≡ l.initial.pairs ++ pairs_of (g.T.Test.matches l.test) l.rows_r l.rows_s l.i (take l.j-index l.held_s)

@@ -1,0 +1,64 @@
+-- How a run ends, and what it leaves.
+use Rattle.std.specs.Prelude.{◌≡◌, ◌⊎◌, ◌<◌, ◌^◌, ℕ, ⊤, List, Option, None, Some, Result, Ok, Err}
+use Rattle.std.specs.Io.KnownBytes.{append_known}
+use Rattle.join_rows.specs.declared.table.Side.{Side}
+use Rattle.join_rows.specs.declared.table.Side.TheVariants.{R, S}
+use Rattle.join_rows.specs.Shelves.{Told, Lacks, Spot}
+use Rattle.join_rows.specs.Sinks.{AppendsFront}
+use Rattle.theta_text.specs.Grammar.{Tree}
+use Rattle.theta_text.specs.Texts.{TextReads, limits}
+use Rattle.theta_text.specs.declared.fault.PredFault.{PredFault}
+use Rattle.join_words.specs.Words.{Asked}
+use Rattle.join_cli.specs.declared.outcome.Outcome.{Outcome}
+use Rattle.join_cli.specs.declared.outcome.Outcome.TheVariants.{Done, Memory}
+use Rattle.join_cli.specs.declared.refusal.Refusal.{Refusal}
+use Rattle.join_cli.specs.declared.plan.Planned.{Planned}
+use Rattle.join_cli.specs.Refusals.{refused_as, text_refusal}
+use Rattle.join_cli.specs.Plan.{fitted, plan_of, output_of, tables_of}
+
+abbrev pub outcome_of : Result Planned Refusal → Outcome
+outcome_of (Ok planned) = Done
+outcome_of (Err refusal) = refused_as refusal
+
+-- where the shelf tells its files, the outcome is that of the plan, or memory ran out
+abbrev pub EndsAs : Told → Asked → Result Tree PredFault → Outcome → Type 0
+EndsAs None asked reading outcome = ⊤
+EndsAs (Some files) asked reading outcome = (outcome ≡ Memory) ⊎ (outcome ≡ outcome_of (plan_of asked reading files))
+
+-- these are tables and a predicate that were asked for: the predicate's text has a tree which fits the tables, and they are those of the told files
+pub record IsAsked (told : Told) (asked : Asked) (planned : Planned) : Type 0 where
+  pub tree : Tree
+  pub reads : TextReads limits asked.on tree
+  pub fits : fitted tree planned.tables ≡ Ok planned
+  pub files : (files : List ℕ → Option (List ℕ)) → told ≡ Some files → tables_of files asked.name_r asked.name_s ≡ Ok planned.tables
+
+-- the output of what was asked for was written, or a front of it
+pub record Wrote (told : Told) (asked : Asked) (old new : Option (List ℕ)) : Type 0 where
+  pub planned : Planned
+  pub found : IsAsked told asked planned
+  pub written : new ≡ append_known old (output_of asked planned)
+
+pub record WroteFront (told : Told) (asked : Asked) (old new : Option (List ℕ)) : Type 0 where
+  pub planned : Planned
+  pub found : IsAsked told asked planned
+  pub front : AppendsFront old new (output_of asked planned)
+
+-- one of the two names isn't there
+abbrev pub LacksOne : Told → Asked → Type 0
+LacksOne told asked = Lacks told asked.name_r ⊎ Lacks told asked.name_s
+
+-- the name of a side's file
+abbrev pub name_on : Side → List ℕ → List ℕ → List ℕ
+name_on R name_r name_s = name_r
+name_on S name_r name_s = name_s
+
+abbrev pub name_of : Side → Asked → List ℕ
+name_of side asked = name_on side asked.name_r asked.name_s
+
+-- the file is picked, and the place in it is past the greatest length
+abbrev pub StandsPast : Spot → List ℕ → Type 0
+StandsPast spot name = (place : ℕ) × (spot ≡ Some (name, place)) × (2 ^ 24 < place)
+
+-- the text's own fault is answered, or memory ran out
+abbrev pub EndsEarly : PredFault → Outcome → Type 0
+EndsEarly fault outcome = (outcome ≡ Memory) ⊎ (outcome ≡ refused_as (text_refusal fault))

@@ -1,0 +1,84 @@
+// The tables and the predicate that the words ask for.
+
+ghost use Rattle.std.specs.Prelude.{◌≡◌, ◌⊎◌, ◌<◌, ◌≤◌, ℕ, List, Option, Some, Result, Err, IfOk, length};
+ghost use Rattle.join_rows.specs.Shelves.{last_fault};
+ghost use Rattle.join_rows.specs.Records.{IsTable};
+ghost use Rattle.join_rows.specs.declared.table.Side.{Side};
+ghost use Rattle.theta_text.specs.Grammar.{Tree};
+ghost use Rattle.theta_text.specs.declared.fault.PredFault.{PredFault};
+ghost use Rattle.theta_text.specs.Texts.{IsFaultOf, limits};
+ghost use Rattle.join_words.specs.Words.{asked};
+ghost use Rattle.join_cli.specs.declared.outcome.TextFault.{TextFault};
+ghost use Rattle.join_cli.specs.Texts.{IsRead, IsTrueOf, RefusesText};
+ghost use Rattle.join_cli.specs.Plan;
+ghost use Rattle.join_cli.specs.Plan.{IsFit, plan_of};
+ghost use Rattle.join_cli.specs.Ends.{IsAsked, LacksOne, StandsPast, name_of};
+
+use crate::columns::theta;
+use crate::numbers::number_fault;
+use crate::outcome::LimitFault;
+use crate::predicate::predicate;
+use crate::reading::{Tables, read_tables};
+use crate::refusal::Refusal;
+use join_rows::Shelf;
+use join_words::Options;
+use std::alloc::Global;
+use theta_pred::Theta;
+
+/// Two tables and a predicate over them.
+#[derive(Drop)]
+pub(crate) struct Planned {
+    pub(crate) tables: Tables,
+    pub(crate) theta: Theta,
+}
+
+/// Refuses a cell that is to be a number and is none.
+fn checked(tables: Tables, theta: Theta) -> Result<Planned, Refusal>
+    requires table_r { IsTable tables.of_r }
+    requires table_s { IsTable tables.of_s }
+    requires width_r { theta.width_r ≡ length tables.of_r.names }
+    requires width_s { theta.width_s ≡ length tables.of_s.names }
+    ensures answer { result ≡ Plan.checked tables theta }
+    ensures kept { IfOk result (λ planned. planned.tables ≡ tables) }
+    ensures fit { IfOk result IsFit }
+    ensures text { (fault : TextFault) → result ≡ Err (Refusal.Predicate fault) → ⊥ }
+    ensures limits { (side : Side) → result ≡ Err (Refusal.Limit (LimitFault.TooLong side)) → ⊥ }
+    ensures files { result ≡ Err Refusal.Read → ⊥ }
+{
+    match number_fault(&tables, &theta) {
+        Some(fault) => Err(Refusal::Input(fault)),
+        None => Ok(Planned { tables, theta }),
+    }
+}
+
+/// What the options ask for, or the first refusal: of the text, of the file of R, of that of S, of the
+/// columns, of the numbers. A refusal of the text comes before any call of the shelf.
+pub(crate) fn prepare<H: Shelf>(
+    alloc: Global,
+    options: &Options<'_>,
+    shelf: &mut H,
+) -> Result<Planned, Refusal>
+    requires { H.faults shelf.old < last_fault }
+    ensures told { H.told shelf.new ≡ H.told shelf.old }
+    ensures rises { H.faults shelf.old ≤ H.faults shelf.new }
+    ensures answer { (files : List ℕ → Option (List ℕ)) (reading : Result Tree PredFault)
+        → H.told shelf.old ≡ Some files → IsRead options.now.on.now reading
+        → H.faults shelf.new ≡ H.faults shelf.old
+        → (result ≡ Err Refusal.Memory) ⊎ (result ≡ plan_of (asked options.now) reading files) }
+    ensures early { (fault : PredFault) → IsFaultOf limits options.now.on.now fault
+        → RefusesText fault result × (shelf.new ≡ shelf.old) }
+    ensures asked { IfOk result (IsAsked (H.told shelf.old) (asked options.now)) }
+    ensures fit { IfOk result IsFit }
+    ensures text { (fault : TextFault) → result ≡ Err (Refusal.Predicate fault)
+        → IsTrueOf options.now.on.now fault }
+    ensures long { (side : Side) → result ≡ Err (Refusal.Limit (LimitFault.TooLong side))
+        → StandsPast (H.picked shelf.new) (name_of side (asked options.now)) }
+    ensures read { result ≡ Err Refusal.Read → (H.faults shelf.old < H.faults shelf.new)
+        ⊎ LacksOne (H.told shelf.old) (asked options.now) }
+    ensures counts { (result ≡ Err Refusal.Read → ⊥) → H.faults shelf.new ≡ H.faults shelf.old }
+{
+    let pred = predicate(alloc, options.on)?;
+    let tables = read_tables(alloc, shelf, options.name_r, options.name_s)?;
+    let theta = theta(alloc, &pred, &tables.of_r.names, &tables.of_s.names)?;
+    checked(tables, theta)
+}

@@ -1,0 +1,129 @@
+// Worked rows that are refused, and nothing is written.
+
+use super::{ends, shelf};
+use join_rows::{ListSink, MapShelf};
+use std::alloc::{AllocError, Global};
+use std::test::Fail;
+
+const R: &str = "id,x\n1,10\n2,20\n3,30\n";
+const S: &str = "id,y\n1,20\n2,30\n3,20\n";
+const USAGE: &str = "usage: jm --on TEXT [options] R.csv S.csv";
+
+// Whether the words are refused so.
+fn refuses(
+    alloc: Global,
+    texts: &[&str],
+    shelf: &mut MapShelf,
+    status: u8,
+    line: &str,
+) -> Result<bool, AllocError> {
+    let mut sink = ListSink::new(alloc, 10000)?;
+    ends(alloc, texts, shelf, &mut sink, (status, line, ""))
+}
+
+#[test]
+fn refuses_words(rt: HostRuntime) -> Result<(), Fail> {
+    let cases = [
+        [].as_slice(),
+        ["jm"].as_slice(),
+        ["jm", "--help"].as_slice(),
+        ["jm", "--on", "r.", "r"].as_slice(),
+        ["jm", "--on", "r.", "--joiners", "3", "r", "s"].as_slice(),
+        ["jm", "--on", "r.", "--joiners", "4", "--fixed", "3", "r", "s"].as_slice(),
+        ["jm", "--on", "r.", "--rows", "r", "s"].as_slice(),
+    ];
+    for texts in cases {
+        let mut shelf = MapShelf::new(rt.alloc());
+        let same = refuses(rt.alloc(), texts, &mut shelf, 2, USAGE)?;
+        assert!(rt; same);
+    }
+    Ok(())
+}
+
+#[test]
+fn refuses_predicates(rt: HostRuntime) -> Result<(), Fail> {
+    let cases = [
+        ("", "predicate: not understood at byte 0"),
+        ("r.x = ", "predicate: not understood at byte 6"),
+        ("r.x == s.y", "predicate: not understood at byte 5"),
+        (
+            "r.x = 9223372036854775808",
+            "predicate: number too large at byte 6",
+        ),
+        (
+            "(((((((((((((((((((((((((((((((((",
+            "predicate: nested too deep at byte 32",
+        ),
+        (
+            "1+1+1+1+1+1+1+1+1+1+1+1+1+1+1+1+1 = 1",
+            "predicate: sum too long at byte 31",
+        ),
+        ("r.z = s.y", "predicate: R has no column z"),
+        ("r.x = s.\"\u{e9}\"", "predicate: S has no column \u{e9}"),
+    ];
+    for (on, line) in cases {
+        let mut shelf = shelf(rt.alloc(), R, S)?;
+        let same = refuses(
+            rt.alloc(),
+            &["jm", "--on", on, "r", "s"],
+            &mut shelf,
+            3,
+            line,
+        )?;
+        assert!(rt; same, "of {on}");
+    }
+    Ok(())
+}
+
+#[test]
+fn refuses_files(rt: HostRuntime) -> Result<(), Fail> {
+    let cases = [
+        ("", "", 4, "input: R has no header"),
+        (R, "\n", 4, "input: S has no header"),
+        ("a,b\n1,2\n3", S, 4, "input: R row 2 has 1 fields"),
+        (
+            R,
+            "id,y\n1,20\n2,30\n3,4x\n",
+            4,
+            "input: S row 3 column 2 is no number",
+        ),
+        (
+            "x,x\n1,2\n",
+            "id,y\n1,4x\n",
+            3,
+            "predicate: R has column x more than once",
+        ),
+        (
+            "id,x\n1,a\n",
+            "id,y\n1,4x\n",
+            4,
+            "input: R row 1 column 2 is no number",
+        ),
+        ("id,x\n1,a\n", "id,y\n1\n", 4, "input: S row 1 has 1 fields"),
+    ];
+    for (r, s, status, line) in cases {
+        let mut shelf = shelf(rt.alloc(), r, s)?;
+        let texts = ["jm", "--on", "r.x = s.y", "r", "s"];
+        let same = refuses(rt.alloc(), texts.as_slice(), &mut shelf, status, line)?;
+        assert!(rt; same, "for {line}");
+    }
+    Ok(())
+}
+
+#[test]
+fn looks_in_order(rt: HostRuntime) -> Result<(), Fail> {
+    let narrow = "input: R row 2 has 1 fields";
+    let syntax = "predicate: not understood at byte 2";
+    let cases = [
+        (["jm", "--on", "r.x = s.y", "r", "none"].as_slice(), 4, narrow),
+        (["jm", "--on", "r.", "none", "none"].as_slice(), 3, syntax),
+        (["jm", "--on", "1 = 1", "none", "r"].as_slice(), 6, "read: failed"),
+        (["jm", "--on", "1 = 1", "s", "none"].as_slice(), 6, "read: failed"),
+    ];
+    for (texts, status, line) in cases {
+        let mut shelf = shelf(rt.alloc(), "a,b\n1,2\n3\n", S)?;
+        let same = refuses(rt.alloc(), texts, &mut shelf, status, line)?;
+        assert!(rt; same, "for {line}");
+    }
+    Ok(())
+}
