@@ -5,3 +5,4 @@ pub mod Wrong
 pub mod Bad
 pub mod Picked
 pub mod Asking
+pub mod Worked
