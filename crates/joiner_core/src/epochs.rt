@@ -1,5 +1,5 @@
 // What a joiner has of its epochs: the settled one, and the open step.
-ghost use Rattle.std.specs.Prelude.{◌≡◌, ℕ, ◌<◌, ◌↔◌, IsTrue, false, true, length, slice_index_or, IfOk, None};
+ghost use Rattle.std.specs.Prelude.{◌≡◌, ℕ, false, true, length, slice_index_or, IfOk, None};
 ghost use Rattle.joiner_core.specs.Flags.{flag_at, IsEachUp};
 ghost use Rattle.joiner_core.specs.Changes.{turned_in};
 

@@ -1,5 +1,5 @@
 // Messages that can't be taken yet, link by link.
-ghost use Rattle.std.specs.Prelude.{◌≡◌, true, false, ◌≢◌, ℕ, ◌+◌, ◌<◌, List, [], ◌∷◌, ◌++◌, length, slice_set, MatchOption, IfOk, OnOk, min, ◌^◌, ◌-◌};
+ghost use Rattle.std.specs.Prelude.{◌≡◌, true, false, ℕ, ◌+◌, ◌<◌, List, [], ◌∷◌, ◌++◌, length, slice_set, MatchOption, IfOk, OnOk, min, ◌^◌, ◌-◌};
 ghost use Rattle.join_rows.specs.Lists.{total};
 ghost use Rattle.epoch_tags.specs.declared.message.ToJoiner.{ToJoiner};
 ghost use Rattle.joiner_core.specs.Queues.{held_at, BeginsWith};

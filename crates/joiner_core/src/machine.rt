@@ -1,5 +1,5 @@
 // A joiner's machine: what it has of its epochs, and the messages that it holds.
-ghost use Rattle.std.specs.Prelude.{◌≡◌, ℕ, ◌<◌, ◌^◌, ◌≤◌, ◌++◌, [], true, false, OnOk, IfOk};
+ghost use Rattle.std.specs.Prelude.{◌≡◌, ◌<◌, ◌^◌, true, false, OnOk, IfOk};
 ghost use Rattle.epoch_tags.specs.Links.{HasLink};
 ghost use Rattle.joiner_core.specs.Widths.{HasRow};
 ghost use Rattle.joiner_core.specs.Whole.{IsMade, IsSound, Accepts, IsOfGrid, Receives};

@@ -1,5 +1,5 @@
 // A tuple that the partner moved here.
-ghost use Rattle.std.specs.Prelude.{◌≡◌, true, false, ◌++◌, ◌∷◌, [], ◌<◌, ◌≤◌, OnOk, IfSome};
+ghost use Rattle.std.specs.Prelude.{◌≡◌, true, false, ◌++◌, ◌<◌, OnOk};
 ghost use Rattle.joiner_core.specs.Widths.{IsRow};
 ghost use Rattle.joiner_core.specs.Taking.{IsWithin};
 ghost use Rattle.joiner_core.specs.Tests.{PartFits};

@@ -1,13 +1,12 @@
 // An open step.
-ghost use Rattle.std.specs.Prelude.{◌≡◌, ◌++◌, ◌∷◌, [], ◌<◌, ◌≤◌, ◌^◌, min, true, length, slice_set, OnOk};
-ghost use Rattle.migration_plan.specs.Steps.{holds};
+ghost use Rattle.std.specs.Prelude.{◌≡◌, ◌++◌, ◌∷◌, [], ◌<◌, ◌≤◌, ◌^◌, true, slice_set, OnOk};
 ghost use Rattle.joiner_law.specs.History.{probed};
 ghost use Rattle.joiner_core.specs.Probes.{named_by};
 ghost use Rattle.joiner_core.specs.Matching.{does_hold};
 ghost use Rattle.joiner_core.specs.Stocks.{placed};
 ghost use Rattle.joiner_core.specs.Widths.{IsRow, AreRows};
 ghost use Rattle.joiner_law.specs.Posting.{moved_post};
-ghost use Rattle.joiner_core.specs.Changes.{kept_at_end, found_late, posts_late, opened_late};
+ghost use Rattle.joiner_core.specs.Changes.{found_late, posts_late, opened_late};
 
 use crate::grid::is_of;
 use crate::stock::Stock;

@@ -1,5 +1,5 @@
 // The end of a step.
-ghost use Rattle.std.specs.Prelude.{◌≡◌, ◌++◌, ◌<◌, true, false, IfOk};
+ghost use Rattle.std.specs.Prelude.{◌≡◌, ◌++◌, true, false, IfOk};
 ghost use Rattle.joiner_core.specs.Changes.{after_settle, posts_settled, IsReady};
 
 use crate::epochs::{Epochs, are_all_up};

@@ -1,5 +1,5 @@
 // The tuples of one epoch.
-ghost use Rattle.std.specs.Prelude.{◌≡◌, ◌<◌, ◌≤◌, ◌^◌, [], ◌++◌, None, filter, map, count_by, IfOk, OnOk};
+ghost use Rattle.std.specs.Prelude.{◌≡◌, ◌<◌, ◌≤◌, ◌^◌, ◌++◌, None, filter, map, count_by, IfOk, OnOk};
 ghost use Rattle.migration_plan.specs.Steps.{holds, is_of};
 ghost use Rattle.store_parts.specs.Stored.{AreSided};
 ghost use Rattle.joiner_law.specs.History.{probed};
