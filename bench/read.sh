@@ -10,10 +10,10 @@ awk 'BEGIN {
     for (i = 0; i < 262144; i++) printf "%d,%013d,%013d,%013d,%013d\n", i, i * 7, i * 11, i * 13, i * 17
 }' >"$room/rows.csv"
 echo id >"$room/none.csv"
-"$top/jm" "$room/none.csv" "$room/none.csv" # builds it where it isn't built
-python3 - "$top/jm" "$room/rows.csv" "$room/none.csv" <<'PY'
+"$top/jm" --on "1 = 1" "$room/none.csv" "$room/none.csv" # builds it where it isn't built
+python3 - "$top/jm" --on "1 = 1" "$room/rows.csv" "$room/none.csv" <<'PY'
 import os, resource, subprocess, sys
 subprocess.run(sys.argv[1:], check=True)
 used = resource.getrusage(resource.RUSAGE_CHILDREN)
-print(f"{os.path.getsize(sys.argv[2])} bytes: {used.ru_utime + used.ru_stime:.2f} s of processor time, {used.ru_maxrss // 1000} MB")
+print(f"{os.path.getsize(sys.argv[4])} bytes: {used.ru_utime + used.ru_stime:.2f} s of processor time, {used.ru_maxrss // 1000} MB")
 PY

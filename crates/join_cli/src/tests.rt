@@ -35,7 +35,5 @@ fn ends(
     let outcome = join_main(alloc, &words, shelf, sink);
     let line = format!(in alloc; "{outcome}")?;
     let (status, text, written) = wanted;
-    Ok(outcome.status() == status
-        && line.as_str() == text
-        && sink.written() == written.as_bytes())
+    Ok(outcome.status() == status && line.as_str() == text && sink.written() == written.as_bytes())
 }

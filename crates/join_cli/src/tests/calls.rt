@@ -6,6 +6,7 @@ use std::alloc::{AllocError, Global};
 use std::test::Fail;
 
 const R: &str = "id,x\n1,10\n2,20\n3,30\n";
+
 const S: &str = "id,y\n1,20\n2,30\n3,20\n";
 
 // A shelf, where a call fails that is counted from 1.

@@ -6,7 +6,9 @@ use std::alloc::{AllocError, Global};
 use std::test::Fail;
 
 const R: &str = "id,x\n1,10\n2,20\n3,30\n";
+
 const S: &str = "id,y\n1,20\n2,30\n3,20\n";
+
 const USAGE: &str = "usage: jm --on TEXT [options] R.csv S.csv";
 
 // Whether the words are refused so.
@@ -24,18 +26,38 @@ fn refuses(
 #[test]
 fn refuses_words(rt: HostRuntime) -> Result<(), Fail> {
     let cases = [
-        [].as_slice(),
-        ["jm"].as_slice(),
-        ["jm", "--help"].as_slice(),
-        ["jm", "--on", "r.", "r"].as_slice(),
-        ["jm", "--on", "r.", "--joiners", "3", "r", "s"].as_slice(),
-        ["jm", "--on", "r.", "--joiners", "4", "--fixed", "3", "r", "s"].as_slice(),
-        ["jm", "--on", "r.", "--rows", "r", "s"].as_slice(),
+        ([].as_slice(), "no words"),
+        (["jm"].as_slice(), "no predicate"),
+        (["jm", "--help"].as_slice(), "help"),
+        (["jm", "--on", "r.", "r"].as_slice(), "one file"),
+        (
+            ["jm", "--on", "r.", "--joiners", "3", "r", "s"].as_slice(),
+            "three joiners",
+        ),
+        (
+            [
+                "jm",
+                "--on",
+                "r.",
+                "--joiners",
+                "4",
+                "--fixed",
+                "3",
+                "r",
+                "s",
+            ]
+            .as_slice(),
+            "too fixed",
+        ),
+        (
+            ["jm", "--on", "r.", "--rows", "r", "s"].as_slice(),
+            "an unknown word",
+        ),
     ];
-    for texts in cases {
+    for (texts, name) in cases {
         let mut shelf = MapShelf::new(rt.alloc());
         let same = refuses(rt.alloc(), texts, &mut shelf, 2, USAGE)?;
-        assert!(rt; same);
+        assert!(rt; same, "{name}");
     }
     Ok(())
 }
@@ -115,10 +137,22 @@ fn looks_in_order(rt: HostRuntime) -> Result<(), Fail> {
     let narrow = "input: R row 2 has 1 fields";
     let syntax = "predicate: not understood at byte 2";
     let cases = [
-        (["jm", "--on", "r.x = s.y", "r", "none"].as_slice(), 4, narrow),
+        (
+            ["jm", "--on", "r.x = s.y", "r", "none"].as_slice(),
+            4,
+            narrow,
+        ),
         (["jm", "--on", "r.", "none", "none"].as_slice(), 3, syntax),
-        (["jm", "--on", "1 = 1", "none", "r"].as_slice(), 6, "read: failed"),
-        (["jm", "--on", "1 = 1", "s", "none"].as_slice(), 6, "read: failed"),
+        (
+            ["jm", "--on", "1 = 1", "none", "r"].as_slice(),
+            6,
+            "read: failed",
+        ),
+        (
+            ["jm", "--on", "1 = 1", "s", "none"].as_slice(),
+            6,
+            "read: failed",
+        ),
     ];
     for (texts, status, line) in cases {
         let mut shelf = shelf(rt.alloc(), "a,b\n1,2\n3\n", S)?;
