@@ -1,7 +1,6 @@
 // Worked rows that are refused, and nothing is written.
 
-use super::{ends, shelf};
-use join_rows::{ListSink, MapShelf};
+use super::{NEVER, ends};
 use std::alloc::{AllocError, Global};
 use std::test::Fail;
 
@@ -15,12 +14,12 @@ const USAGE: &str = "usage: jm --on TEXT [options] R.csv S.csv";
 fn refuses(
     alloc: Global,
     texts: &[&str],
-    shelf: &mut MapShelf,
+    files: (&str, &str),
     status: u8,
     line: &str,
 ) -> Result<bool, AllocError> {
-    let mut sink = ListSink::new(alloc, 10000)?;
-    ends(alloc, texts, shelf, &mut sink, (status, line, ""))
+    let calls = (NEVER, NEVER, NEVER);
+    ends(alloc, texts, files, calls, (status, line, ""))
 }
 
 #[test]
@@ -55,8 +54,7 @@ fn refuses_words(rt: HostRuntime) -> Result<(), Fail> {
         ),
     ];
     for (texts, name) in cases {
-        let mut shelf = MapShelf::new(rt.alloc());
-        let same = refuses(rt.alloc(), texts, &mut shelf, 2, USAGE)?;
+        let same = refuses(rt.alloc(), texts, (R, S), 2, USAGE)?;
         assert!(rt; same, "{name}");
     }
     Ok(())
@@ -84,14 +82,7 @@ fn refuses_predicates(rt: HostRuntime) -> Result<(), Fail> {
         ("r.x = s.\"\u{e9}\"", "predicate: S has no column \u{e9}"),
     ];
     for (on, line) in cases {
-        let mut shelf = shelf(rt.alloc(), R, S)?;
-        let same = refuses(
-            rt.alloc(),
-            &["jm", "--on", on, "r", "s"],
-            &mut shelf,
-            3,
-            line,
-        )?;
+        let same = refuses(rt.alloc(), &["jm", "--on", on, "r", "s"], (R, S), 3, line)?;
         assert!(rt; same, "of {on}");
     }
     Ok(())
@@ -124,9 +115,8 @@ fn refuses_files(rt: HostRuntime) -> Result<(), Fail> {
         ("id,x\n1,a\n", "id,y\n1\n", 4, "input: S row 1 has 1 fields"),
     ];
     for (r, s, status, line) in cases {
-        let mut shelf = shelf(rt.alloc(), r, s)?;
         let texts = ["jm", "--on", "r.x = s.y", "r", "s"];
-        let same = refuses(rt.alloc(), texts.as_slice(), &mut shelf, status, line)?;
+        let same = refuses(rt.alloc(), texts.as_slice(), (r, s), status, line)?;
         assert!(rt; same, "for {line}");
     }
     Ok(())
@@ -155,8 +145,7 @@ fn looks_in_order(rt: HostRuntime) -> Result<(), Fail> {
         ),
     ];
     for (texts, status, line) in cases {
-        let mut shelf = shelf(rt.alloc(), "a,b\n1,2\n3\n", S)?;
-        let same = refuses(rt.alloc(), texts, &mut shelf, status, line)?;
+        let same = refuses(rt.alloc(), texts, ("a,b\n1,2\n3\n", S), status, line)?;
         assert!(rt; same, "for {line}");
     }
     Ok(())
