@@ -22,14 +22,14 @@ pub reads_err : (text : List ℕ) (found : PredFault) (reading : Result Tree Pre
     → IsRead text reading → (text_refusal found ≡ Memory) ⊎ (tree_or_refused reading ≡ Err (text_refusal found))
 reads_err text found (Ok tree) only exact reads = inl (ap text_refusal (only tree reads))
 reads_err text found (Err fault) only exact reads = elim (exact fault reads) [
-    | inl same ↦ inr (ap (λ f. Err (text_refusal f)) (sym same))
-    | inr memory ↦ inl (ap text_refusal memory)
-  ]
+  | inl same ↦ inr (ap (λ f. Err (text_refusal f)) (sym same))
+  | inr memory ↦ inl (ap text_refusal memory)
+]
 
 pub refused_early : (text : List ℕ) (found fault : PredFault)
     → ((other : PredFault) → IsFaultOf limits text other → (found ≡ other) ⊎ (found ≡ texts.Memory))
     → IsFaultOf limits text fault → (text_refusal found ≡ Memory) ⊎ (text_refusal found ≡ text_refusal fault)
 refused_early text found fault exact is = elim (exact fault is) [
-    | inl same ↦ inr (ap text_refusal same)
-    | inr memory ↦ inl (ap text_refusal memory)
-  ]
+  | inl same ↦ inr (ap text_refusal same)
+  | inr memory ↦ inl (ap text_refusal memory)
+]

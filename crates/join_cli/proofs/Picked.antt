@@ -83,11 +83,13 @@ module _ (test : ℕ → Bool) where
     picked-here same =
         let is : test a ≡ true = picks.passes a (omega arith) (subst (Contains (x ∷ xs)) same (contains-first x xs)) in
         let later : filter test (range_with_len (a + 1) n) ≡ xs = rest xs
-            (λ i j d lower within. rising (suc i) (suc j) d (omega (arith, lower)) (omega (arith, within)))
-            (λ k d within. let p = past k d within in omega (arith, p, same))
-            (λ k d within. let most = below (suc k) d (omega (arith, within)) in omega (arith, most))
-            (record { passes = λ y least at. picks.passes y (omega (arith, least)) (contains-later x y xs at);
-                only = λ y least passes. other y (omega (arith, least, same)) (contains-cases x y xs (picks.only y (omega (arith, least)) passes)) }) in
+        (λ i j d lower within. rising (suc i) (suc j) d (omega (arith, lower)) (omega (arith, within)))
+        (λ k d within. let p = past k d within in omega (arith, p, same))
+        (λ k d within. let most = below (suc k) d (omega (arith, within)) in omega (arith, most))
+        (record {
+          passes = λ y least at. picks.passes y (omega (arith, least)) (contains-later x y xs at);
+          only = λ y least passes. other y (omega (arith, least, same)) (contains-cases x y xs (picks.only y (omega (arith, least)) passes));
+        }) in
         rw (is, later, same) refl
 
     past_a : x ≢ a → (k d : ℕ) → k < length (x ∷ xs) → a + 1 ≤ slice_index_or (x ∷ xs) k d
@@ -104,7 +106,7 @@ module _ (test : ℕ → Bool) where
             (record { passes = λ y least at. picks.passes y (omega (arith, least)) at; only = λ y least passes. picks.only y (omega (arith, least)) passes }))
 
     picked-some : filter test (range_with_len a (suc n)) ≡ x ∷ xs
-    picked-some = elim (cases_eq x a) [ | inl same ↦ picked-here same | inr apart ↦ picked-later apart ]
+    picked-some = elim (cases_eq x a) [ inl same ↦ picked-here same | inr apart ↦ picked-later apart ]
 
   picked : (n a : ℕ) → ArePicked n a
   picked zero a [] rising above below picks = refl
@@ -119,8 +121,8 @@ pub summed_columns-places : (theta : Meaning) (side : Side) (places : List ℕ) 
     → summed_columns theta side ≡ places
 summed_columns-places theta side places numeric =
     picked (λ column. list_any (λ place. place == column) (sum_places side theta.formula)) (width_of theta side) 0 places
-        (AllPairs-from_increasing places numeric.rising) (λ k d within. omega arith) (λ k d within. let below = numeric.within k d within in omega (arith, below))
-        (record {
-          passes = λ place least at. contains-any (sum_places side theta.formula) place ((numeric.standing place).0 at);
-          only = λ place least passes. (numeric.standing place).1 (any-contains (sum_places side theta.formula) place passes);
-        })
+    (AllPairs-from_increasing places numeric.rising) (λ k d within. omega arith) (λ k d within. let below = numeric.within k d within in omega (arith, below))
+    (record {
+      passes = λ place least at. contains-any (sum_places side theta.formula) place ((numeric.standing place).0 at);
+      only = λ place least passes. (numeric.standing place).1 (any-contains (sum_places side theta.formula) place passes);
+    })

@@ -78,6 +78,6 @@ module _ (names_r names_s : List (List ℕ)) where
   pub refused_over : (pred : Pred) (fault : ResolveFault) → Tells names_r names_s (names_in pred) fault
       → (refused_with (column_refusal fault) ≡ refused_with Memory) ⊎ (refused_with (column_refusal fault) ≡ theta_over names_r names_s (tree_of pred))
   refused_over pred fault tells = elim (theta_refused pred fault tells) [
-      | inl memory ↦ inl (ap refused_with memory)
-      | inr is ↦ inr (sym is)
-    ]
+    | inl memory ↦ inl (ap refused_with memory)
+    | inr is ↦ inr (sym is)
+  ]

@@ -17,6 +17,5 @@ pub use join_words::WordsFault;
 pub use outcome::{InputFault, LimitFault, Outcome, TextFault};
 pub use top::join_main;
 
-
 #[cfg(test)]
 mod tests;

@@ -72,7 +72,14 @@ pub(crate) fn output(
     if options.report {
         let rows_r = planned.tables.of_r.rows.len();
         let rows_s = planned.tables.of_s.rows.len();
-        let report = report_text(alloc, shape, rows_r, rows_s, &collected.made, &collected.loads)?;
+        let report = report_text(
+            alloc,
+            shape,
+            rows_r,
+            rows_s,
+            &collected.made,
+            &collected.loads,
+        )?;
         text.push_str(report.as_str())?;
     }
     Ok(text)

@@ -6,6 +6,9 @@ mod calls;
 mod faults;
 mod rows;
 
+// The number of a call that isn't made.
+const NEVER: u64 = 1000000;
+
 // These words.
 fn words(alloc: Global, texts: &[&str]) -> Result<Vec<String>, AllocError> {
     let mut words = Vec::new(alloc);
@@ -15,27 +18,26 @@ fn words(alloc: Global, texts: &[&str]) -> Result<Vec<String>, AllocError> {
     Ok(words)
 }
 
-// A shelf with the files `r` and `s`.
-fn shelf(alloc: Global, r: &str, s: &str) -> Result<MapShelf, AllocError> {
-    let mut shelf = MapShelf::new(alloc);
-    shelf.add("r", r.as_bytes())?;
-    shelf.add("s", s.as_bytes())?;
-    Ok(shelf)
-}
-
-// Whether a run over these files writes these bytes, and ends with this status and this line.
+// Whether a run over these files `r` and `s` ends with this status and this line and writes these
+// bytes, where a pick, a read and a put of these numbers fail.
 fn ends(
     alloc: Global,
     texts: &[&str],
-    shelf: &mut MapShelf,
-    sink: &mut ListSink,
+    files: (&str, &str),
+    calls: (u64, u64, u64),
     wanted: (u8, &str, &str),
 ) -> Result<bool, AllocError> {
+    let (pick, read, put) = calls;
+    let mut shelf = MapShelf::new(alloc);
+    shelf.add("r", files.0.as_bytes())?;
+    shelf.add("s", files.1.as_bytes())?;
+    shelf.fail_pick(pick)?;
+    shelf.fail_read(read)?;
+    let mut sink = ListSink::new(alloc, 10000)?;
+    sink.fail_put(put)?;
     let words = words(alloc, texts)?;
-    let outcome = join_main(alloc, &words, shelf, sink);
+    let outcome = join_main(alloc, &words, &mut shelf, &mut sink);
     let line = format!(in alloc; "{outcome}")?;
     let (status, text, written) = wanted;
-    Ok(outcome.status() == status
-        && line.as_str() == text
-        && sink.written() == written.as_bytes())
+    Ok(outcome.status() == status && line.as_str() == text && sink.written() == written.as_bytes())
 }

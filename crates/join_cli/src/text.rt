@@ -2,8 +2,7 @@
 
 use crate::outcome::{InputFault, LimitFault, Outcome, TextFault};
 use join_rows::{Bytes, Side};
-use std::fmt;
-use std::str;
+use std::{fmt, str};
 
 fn side_text(side: Side) -> &'static str {
     match side {

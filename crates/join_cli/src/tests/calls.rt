@@ -1,66 +1,55 @@
 // Calls that fail, and pieces.
 
-use super::{ends, shelf};
+use super::{NEVER, ends, words};
+use crate::join_main;
 use join_rows::{ListSink, MapShelf};
 use std::alloc::{AllocError, Global};
 use std::test::Fail;
 
 const R: &str = "id,x\n1,10\n2,20\n3,30\n";
+
 const S: &str = "id,y\n1,20\n2,30\n3,20\n";
 
-// A shelf, where a call fails that is counted from 1.
-fn failing(alloc: Global, pick: u64, read: u64) -> Result<MapShelf, AllocError> {
-    let mut shelf = shelf(alloc, R, S)?;
-    shelf.fail_pick(pick)?;
-    shelf.fail_read(read)?;
-    Ok(shelf)
-}
-
 #[test]
-fn tells_a_failing_shelf(rt: HostRuntime) -> Result<(), Fail> {
-    let cases = [(9, 1), (9, 3), (1, 9), (2, 9)];
-    for (pick, read) in cases {
-        let mut shelf = failing(rt.alloc(), pick, read)?;
-        let mut sink = ListSink::new(rt.alloc(), 100)?;
+fn tells_failing_calls(rt: HostRuntime) -> Result<(), Fail> {
+    let cases = [
+        (NEVER, 1, NEVER, 6, "read: failed"),
+        (NEVER, 3, NEVER, 6, "read: failed"),
+        (1, NEVER, NEVER, 6, "read: failed"),
+        (2, NEVER, 1, 6, "read: failed"),
+        (NEVER, NEVER, 1, 7, "write: failed"),
+    ];
+    for (pick, read, put, status, line) in cases {
         let texts = ["jm", "--on", "r.x = s.y", "r", "s"];
-        let wanted = (6, "read: failed", "");
-        let same = ends(rt.alloc(), texts.as_slice(), &mut shelf, &mut sink, wanted)?;
+        let calls = (pick, read, put);
+        let wanted = (status, line, "");
+        let same = ends(rt.alloc(), texts.as_slice(), (R, S), calls, wanted)?;
         assert!(rt; same);
     }
     Ok(())
 }
 
-#[test]
-fn tells_a_failing_sink(rt: HostRuntime) -> Result<(), Fail> {
-    let mut shelf = shelf(rt.alloc(), R, S)?;
-    let mut sink = ListSink::new(rt.alloc(), 100)?;
-    sink.fail_put(1)?;
-    let texts = ["jm", "--on", "r.x = s.y", "r", "s"];
-    let wanted = (7, "write: failed", "");
-    let same = ends(rt.alloc(), texts.as_slice(), &mut shelf, &mut sink, wanted)?;
-    assert!(rt; same);
-    Ok(())
-}
-
-// A file of a header and lines.
-fn file(alloc: Global, header: &str, lines: u64, line: &str) -> Result<String, AllocError> {
+// A file of a header and 40 lines.
+fn forty(alloc: Global, header: &str) -> Result<String, AllocError> {
     let mut text = String::from_str(alloc, header)?;
-    for _ in 0..lines {
-        text.push_str(line)?;
+    for _ in 0..40 {
+        text.push_str("1\n")?;
     }
     Ok(text)
 }
 
-// The number of bytes that 1,600 pairs leave in a sink, and the status, where a put fails.
+// The status, and the number of bytes that 1,600 pairs leave in a sink, where a put fails.
 fn of_forty(alloc: Global, put: u64) -> Result<(u8, u64), AllocError> {
-    let r = file(alloc, "x\n", 40, "1\n")?;
-    let s = file(alloc, "y\n", 40, "1\n")?;
-    let mut shelf = shelf(alloc, r.as_str(), s.as_str())?;
+    let r = forty(alloc, "x\n")?;
+    let s = forty(alloc, "y\n")?;
+    let mut shelf = MapShelf::new(alloc);
+    shelf.add("r", r.as_bytes())?;
+    shelf.add("s", s.as_bytes())?;
     let mut sink = ListSink::new(alloc, 10000)?;
     sink.fail_put(put)?;
     let texts = ["jm", "--on", "1 = 1", "r", "s"];
-    let words = super::words(alloc, texts.as_slice())?;
-    let outcome = crate::join_main(alloc, &words, &mut shelf, &mut sink);
+    let words = words(alloc, texts.as_slice())?;
+    let outcome = join_main(alloc, &words, &mut shelf, &mut sink);
     Ok((outcome.status(), sink.written().len() as u64))
 }
 

@@ -1,41 +1,61 @@
 // Worked rows that are refused, and nothing is written.
 
-use super::{ends, shelf};
-use join_rows::{ListSink, MapShelf};
+use super::{NEVER, ends};
 use std::alloc::{AllocError, Global};
 use std::test::Fail;
 
 const R: &str = "id,x\n1,10\n2,20\n3,30\n";
+
 const S: &str = "id,y\n1,20\n2,30\n3,20\n";
+
 const USAGE: &str = "usage: jm --on TEXT [options] R.csv S.csv";
 
 // Whether the words are refused so.
 fn refuses(
     alloc: Global,
     texts: &[&str],
-    shelf: &mut MapShelf,
+    files: (&str, &str),
     status: u8,
     line: &str,
 ) -> Result<bool, AllocError> {
-    let mut sink = ListSink::new(alloc, 10000)?;
-    ends(alloc, texts, shelf, &mut sink, (status, line, ""))
+    let calls = (NEVER, NEVER, NEVER);
+    ends(alloc, texts, files, calls, (status, line, ""))
 }
 
 #[test]
 fn refuses_words(rt: HostRuntime) -> Result<(), Fail> {
     let cases = [
-        [].as_slice(),
-        ["jm"].as_slice(),
-        ["jm", "--help"].as_slice(),
-        ["jm", "--on", "r.", "r"].as_slice(),
-        ["jm", "--on", "r.", "--joiners", "3", "r", "s"].as_slice(),
-        ["jm", "--on", "r.", "--joiners", "4", "--fixed", "3", "r", "s"].as_slice(),
-        ["jm", "--on", "r.", "--rows", "r", "s"].as_slice(),
+        ([].as_slice(), "no words"),
+        (["jm"].as_slice(), "no predicate"),
+        (["jm", "--help"].as_slice(), "help"),
+        (["jm", "--on", "r.", "r"].as_slice(), "one file"),
+        (
+            ["jm", "--on", "r.", "--joiners", "3", "r", "s"].as_slice(),
+            "three joiners",
+        ),
+        (
+            [
+                "jm",
+                "--on",
+                "r.",
+                "--joiners",
+                "4",
+                "--fixed",
+                "3",
+                "r",
+                "s",
+            ]
+            .as_slice(),
+            "too fixed",
+        ),
+        (
+            ["jm", "--on", "r.", "--rows", "r", "s"].as_slice(),
+            "an unknown word",
+        ),
     ];
-    for texts in cases {
-        let mut shelf = MapShelf::new(rt.alloc());
-        let same = refuses(rt.alloc(), texts, &mut shelf, 2, USAGE)?;
-        assert!(rt; same);
+    for (texts, name) in cases {
+        let same = refuses(rt.alloc(), texts, (R, S), 2, USAGE)?;
+        assert!(rt; same, "{name}");
     }
     Ok(())
 }
@@ -62,14 +82,7 @@ fn refuses_predicates(rt: HostRuntime) -> Result<(), Fail> {
         ("r.x = s.\"\u{e9}\"", "predicate: S has no column \u{e9}"),
     ];
     for (on, line) in cases {
-        let mut shelf = shelf(rt.alloc(), R, S)?;
-        let same = refuses(
-            rt.alloc(),
-            &["jm", "--on", on, "r", "s"],
-            &mut shelf,
-            3,
-            line,
-        )?;
+        let same = refuses(rt.alloc(), &["jm", "--on", on, "r", "s"], (R, S), 3, line)?;
         assert!(rt; same, "of {on}");
     }
     Ok(())
@@ -102,9 +115,8 @@ fn refuses_files(rt: HostRuntime) -> Result<(), Fail> {
         ("id,x\n1,a\n", "id,y\n1\n", 4, "input: S row 1 has 1 fields"),
     ];
     for (r, s, status, line) in cases {
-        let mut shelf = shelf(rt.alloc(), r, s)?;
         let texts = ["jm", "--on", "r.x = s.y", "r", "s"];
-        let same = refuses(rt.alloc(), texts.as_slice(), &mut shelf, status, line)?;
+        let same = refuses(rt.alloc(), texts.as_slice(), (r, s), status, line)?;
         assert!(rt; same, "for {line}");
     }
     Ok(())
@@ -115,14 +127,25 @@ fn looks_in_order(rt: HostRuntime) -> Result<(), Fail> {
     let narrow = "input: R row 2 has 1 fields";
     let syntax = "predicate: not understood at byte 2";
     let cases = [
-        (["jm", "--on", "r.x = s.y", "r", "none"].as_slice(), 4, narrow),
+        (
+            ["jm", "--on", "r.x = s.y", "r", "none"].as_slice(),
+            4,
+            narrow,
+        ),
         (["jm", "--on", "r.", "none", "none"].as_slice(), 3, syntax),
-        (["jm", "--on", "1 = 1", "none", "r"].as_slice(), 6, "read: failed"),
-        (["jm", "--on", "1 = 1", "s", "none"].as_slice(), 6, "read: failed"),
+        (
+            ["jm", "--on", "1 = 1", "none", "r"].as_slice(),
+            6,
+            "read: failed",
+        ),
+        (
+            ["jm", "--on", "1 = 1", "s", "none"].as_slice(),
+            6,
+            "read: failed",
+        ),
     ];
     for (texts, status, line) in cases {
-        let mut shelf = shelf(rt.alloc(), "a,b\n1,2\n3\n", S)?;
-        let same = refuses(rt.alloc(), texts, &mut shelf, status, line)?;
+        let same = refuses(rt.alloc(), texts, ("a,b\n1,2\n3\n", S), status, line)?;
         assert!(rt; same, "for {line}");
     }
     Ok(())

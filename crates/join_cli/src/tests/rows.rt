@@ -1,11 +1,11 @@
 // Worked rows that end well.
 
-use super::{ends, shelf};
-use join_rows::ListSink;
+use super::{NEVER, ends};
 use std::alloc::{AllocError, Global};
 use std::test::Fail;
 
 const R: &str = "id,x\n1,10\n2,20\n3,30\n";
+
 const S: &str = "id,y\n1,20\n2,30\n3,20\n";
 
 // Whether the words write these bytes.
@@ -16,9 +16,8 @@ fn writes(
     s: &str,
     written: &str,
 ) -> Result<bool, AllocError> {
-    let mut shelf = shelf(alloc, r, s)?;
-    let mut sink = ListSink::new(alloc, 10000)?;
-    ends(alloc, texts, &mut shelf, &mut sink, (0, "", written))
+    let calls = (NEVER, NEVER, NEVER);
+    ends(alloc, texts, (r, s), calls, (0, "", written))
 }
 
 #[test]
@@ -74,11 +73,22 @@ fn joins_a_file_with_itself(rt: HostRuntime) -> Result<(), Fail> {
 #[test]
 fn reports_the_grid(rt: HostRuntime) -> Result<(), Fail> {
     let pairs = "2,1\n2,3\n3,2\n";
-    let wide = "2,1\n2,3\n3,2\ninput 3 3\nfinal 4 1 copies 15 best 12\njoiner 0 held 0 3 made 0\njoiner 1 held 1 3 made 2\njoiner 2 held 2 3 made 1\njoiner 3 held 0 3 made 0\n";
+    let wide =
+        "2,1\n2,3\n3,2\ninput 3 3\nfinal 4 1 copies 15 best 12\njoiner 0 held 0 3 made 0\njoiner 1 held 1 3 made 2\njoiner 2 held 2 3 made 1\njoiner 3 held 0 3 made 0\n";
     let one = "2,1\n2,3\n3,2\ninput 3 3\nfinal 1 1 copies 6 best 6\njoiner 0 held 3 3 made 3\n";
     let cases = [
         (
-            ["jm", "--joiners", "4", "--fixed", "0", "--seed", "42", "--report"].as_slice(),
+            [
+                "jm",
+                "--joiners",
+                "4",
+                "--fixed",
+                "0",
+                "--seed",
+                "42",
+                "--report",
+            ]
+            .as_slice(),
             wide,
         ),
         (["jm", "--joiners", "1", "--report"].as_slice(), one),
