@@ -1,10 +1,9 @@
 -- What was prepared is what was asked for.
-use Rattle.std.proofs.Common.{◌≡◌, ◌∙◌, ℕ, List, Option, Some, Result, Ok, Err, refl, sym, ap, subst}
+use Rattle.std.proofs.Common.{◌≡◌, ◌∙◌, ℕ, List, Option, Some, Result, Ok, Err, sym, ap, subst}
 use Rattle.std.specs.Prelude.{IfOk}
 use Rattle.std.specs.Result.{result_unwrap_or}
 use Rattle.join_rows.specs.Sinks.{AppendsFront}
 use Rattle.join_words.specs.Words.{asked_of}
-use Rattle.join_words.specs.declared.options.WordsFault.{WordsFault}
 use Rattle.join_cli.specs.declared.outcome.TextFault.{TextFault}
 use Rattle.join_cli.specs.Texts.{IsTrueOf}
 use Rattle.join_rows.specs.Shelves.{Told}

@@ -1,5 +1,5 @@
 -- What parsing a text answers, by what the text reads as.
-use Rattle.std.proofs.Common.{◌≡◌, ◌⊎◌, inl, inr, ℕ, List, Result, Ok, Err, refl, sym, ap}
+use Rattle.std.proofs.Common.{◌≡◌, ◌⊎◌, inl, inr, ℕ, List, Result, Ok, Err, sym, ap}
 use Rattle.theta_text.specs.Grammar.{Tree}
 use Rattle.theta_text.specs.Texts.{TextReads, IsFaultOf, limits, tree_of}
 use Rattle.theta_text.specs.declared.tree.Pred.{Pred}

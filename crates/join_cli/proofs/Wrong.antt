@@ -1,7 +1,5 @@
 -- The first wrong name, by what resolving tells.
-use Rattle.std.proofs.Common.{◌≡◌, ◌≢◌, ◌⊎◌, inl, inr, ◌<◌, ◌++◌, ℕ, suc, List, [], ◌∷◌, All, length, refl, sym, ◌∙◌, ap, subst, Result, Some, None, Ok, Err, arith}
-use Rattle.std.specs.Option.{option_or}
-use Rattle.std.proofs.lemmas.List.Elements.{All-head, All-tail}
+use Rattle.std.proofs.Common.{◌≡◌, ◌⊎◌, inl, inr, ◌<◌, ◌++◌, ℕ, suc, List, [], ◌∷◌, All, length, refl, sym, ap, subst, Result, Some, None, Ok, Err, arith}
 use Rattle.theta_text.specs.Texts.{tree_of}
 use Rattle.theta_text.specs.declared.tree.Name.{Name}
 use Rattle.theta_text.specs.declared.tree.Pred.{Pred}
@@ -15,7 +13,7 @@ use Rattle.join_cli.specs.declared.outcome.TextFault.TheVariants.{NoColumn, TwoC
 use Rattle.join_cli.specs.declared.refusal.Refusal.{Refusal}
 use Rattle.join_cli.specs.declared.refusal.Refusal.TheVariants.{Predicate, Memory}
 use Rattle.join_cli.specs.Refusals.{column_refusal}
-use Rattle.join_cli.specs.Columns.{wrong_at, first_wrong, theta_over, unless_wrong, tree_names, formula_over}
+use Rattle.join_cli.specs.Columns.{wrong_at, first_wrong, theta_over, tree_names}
 use Rattle.join_cli.proofs.Trees.{names_in-tree, resolved-tree}
 
 right_at : (name : Name) (places : List ℕ) → length places ≡ 1 → wrong_at name places ≡ None

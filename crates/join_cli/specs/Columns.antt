@@ -1,5 +1,5 @@
 -- A predicate's tree over two headers.
-use Rattle.std.specs.Prelude.{ℕ, List, [], ◌∷◌, ◌++◌, map, length, Option, None, Some, Result, Ok, Err}
+use Rattle.std.specs.Prelude.{ℕ, List, [], ◌∷◌, ◌++◌, length, Option, None, Some, Result, Ok, Err}
 use Rattle.std.specs.Option.{option_or}
 use Rattle.theta_text.specs.Grammar.{Tree, any, every, negation, num, band, txt, Trees, no_trees, tree}
 use Rattle.theta_text.specs.declared.tree.Name.{Name}

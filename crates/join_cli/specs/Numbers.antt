@@ -1,5 +1,5 @@
 -- The cells that a predicate reads as numbers.
-use Rattle.std.specs.Prelude.{◌≡◌, ℕ, ◌+◌, ◌==◌, Bool, false, List, [], ◌∷◌, filter, if◌then◌else◌, length, Option, None, Some, option_map, Result, Ok, Err}
+use Rattle.std.specs.Prelude.{◌≡◌, ℕ, ◌+◌, ◌==◌, Bool, false, List, [], ◌∷◌, filter, if◌then◌else◌, length, Option, None, Some, option_map}
 use Rattle.std.specs.Option.{option_or}
 use Rattle.std.specs.List.{list_any, range_with_len, slice_get}
 use Rattle.join_rows.specs.declared.table.Cell.{Cell}
@@ -7,7 +7,7 @@ use Rattle.join_rows.specs.declared.table.Table.{Table}
 use Rattle.join_rows.specs.declared.table.Side.{Side}
 use Rattle.join_rows.specs.declared.table.Side.TheVariants.{R, S}
 use Rattle.join_rows.specs.Columns.{is_bad}
-use Rattle.theta_pred.specs.Formula.{Formula, Meaning}
+use Rattle.theta_pred.specs.Formula.{Meaning}
 use Rattle.theta_pred.specs.Numeric.{sum_places}
 use Rattle.theta_pred.specs.Truth.{width_of}
 use Rattle.join_cli.specs.declared.outcome.InputFault.{InputFault}

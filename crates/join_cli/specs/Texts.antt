@@ -8,7 +8,7 @@ use Rattle.theta_text.specs.declared.fault.PredFault.TheVariants as texts
 use Rattle.join_cli.specs.declared.outcome.TextFault.{TextFault}
 use Rattle.join_cli.specs.declared.outcome.TextFault.TheVariants.{Syntax, Deep, Wide, Literal}
 use Rattle.join_cli.specs.declared.refusal.Refusal.{Refusal}
-use Rattle.join_cli.specs.declared.refusal.Refusal.TheVariants.{Predicate, Memory}
+use Rattle.join_cli.specs.declared.refusal.Refusal.TheVariants.{Memory}
 use Rattle.join_cli.specs.Refusals.{text_refusal}
 
 -- the text's tree within the limits, or its fault

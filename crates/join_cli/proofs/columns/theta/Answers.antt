@@ -1,4 +1,4 @@
-use Rattle.std.proofs.Common.{◌≡◌, inr, ap, sym, ◌∙◌, Ok}
+use Rattle.std.proofs.Common.{inr, ap, sym, ◌∙◌, Ok}
 use Rattle.join_cli.proofs.Wrong.{theta_found, refused_over}
 use Rattle.join_cli.proofs.columns.theta.Goals as goal
 

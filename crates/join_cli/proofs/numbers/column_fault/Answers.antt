@@ -1,4 +1,3 @@
-use Rattle.std.proofs.Common.{◌≡◌, ap, sym, arith}
 use Rattle.join_cli.proofs.Bad.{no_fault, first_fault}
 use Rattle.join_cli.proofs.numbers.column_fault.Goals as goal
 

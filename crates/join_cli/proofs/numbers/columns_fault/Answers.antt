@@ -1,5 +1,5 @@
-use Rattle.std.proofs.Common.{◌≡◌, ◌∙◌, sym}
-use Rattle.join_cli.proofs.Bad.{number_fault-past, number_fault-here}
+use Rattle.std.proofs.Common.{◌∙◌, sym}
+use Rattle.join_cli.proofs.Bad.{number_fault-here}
 use Rattle.join_cli.proofs.numbers.columns_fault.Goals as goal
 
 pub returns-in-Some : goal.returns-in-Some

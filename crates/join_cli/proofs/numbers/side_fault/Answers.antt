@@ -1,4 +1,4 @@
-use Rattle.std.proofs.Common.{◌≡◌, ◌∙◌, ◌<◌, ℕ, All, ap, sym, subst, length}
+use Rattle.std.proofs.Common.{◌∙◌, ◌<◌, All, ap, sym, subst, length}
 use Rattle.join_cli.specs.Numbers.{number_fault}
 use Rattle.join_cli.proofs.Picked.{summed_columns-places}
 use Rattle.join_cli.proofs.numbers.side_fault.Goals as goal

@@ -1,4 +1,4 @@
-use Rattle.std.proofs.Common.{◌≡◌, ◌∙◌, ap, length}
+use Rattle.std.proofs.Common.{◌∙◌, ap, length}
 use Rattle.std.proofs.lemmas.List.FromFn.{length-map-range_with_len}
 use Rattle.join_rows.specs.declared.table.Side.TheVariants.{R, S}
 use Rattle.row_tickets.specs.Tickets.{ticket_of}

@@ -1,4 +1,4 @@
-use Rattle.std.proofs.Common.{◌≤◌, ◌∙◌, length, arith, rules}
+use Rattle.std.proofs.Common.{◌≤◌, ◌∙◌, arith, rules}
 use Rattle.join_cli.proofs.Writing.{piece_put, piece_cut}
 use Rattle.join_cli.proofs.write.put_all.Goals as goal
 
