@@ -33,7 +33,7 @@ four = record { on = []; k = 2; fixed = None; seed = 1; report = false; name_r =
 joined : Tree → List ℕ → List ℕ → Result (List ℕ) Refusal
 joined tree of_r of_s =
     then_of (plan_of four (Ok tree) (λ name. if bytes_eq name (codes "r") then Some of_r else (if bytes_eq name (codes "s") then Some of_s else None)))
-        (λ planned. Ok (output_of four planned))
+    (λ planned. Ok (output_of four planned))
 
 of_r : List ℕ
 of_r = lines (codes "k,v" ∷ codes "7,a" ∷ codes "8,b" ∷ codes "7,c" ∷ [])
