@@ -12,7 +12,7 @@ rm -rf src/tests
 
 # Test number n takes memory n times before it begins, so one build tries as many allocations of the join as there
 # are tests: the refused one less n.
-tests=64
+tests=320
 {
     cat <<'RT'
 use crate::join_main;
