@@ -1,21 +1,17 @@
 -- What a table of records has, and what each fault says of them.
-use Rattle.std.proofs.Common.{◌≡◌, ◌≢◌, ◌≤◌, ◌<◌, ◌+◌, ◌∙◌, ◌⊎◌, inl, inr, ℕ, zero, suc, Bool, true, false, List, [], ◌∷◌, ◌++◌, length, map, take, get_or, arith, refl, sym, ap, subst, Option, Result, IfOk, Ok, Err, None, Some, length-append, add-one}
+use Rattle.std.proofs.Common.{◌≡◌, ◌≤◌, ◌<◌, ◌+◌, ◌∙◌, ◌⊎◌, inl, inr, ℕ, zero, suc, Bool, true, false, List, [], ◌∷◌, ◌++◌, length, map, arith, refl, sym, subst, Option, Result, IfOk, Ok, Err, None, Some, length-append, add-one}
 use Rattle.std.specs.Prelude.{◌==◌, nat_lt, All}
-use Rattle.std.specs.List.{AllByRecursion}
-use Rattle.std.proofs.Math.Seq.{take-append_seam}
-use Rattle.std.proofs.lemmas.List.{length-map, take-append-drop}
+use Rattle.std.proofs.lemmas.List.{length-map}
 use Rattle.csv.specs.Machine.{Read, ends_at_end, field_after, fields_after, is_end, next_record, step}
 use Rattle.csv.specs.Reading.{default_config, records, records_from}
 use Rattle.csv.specs.declared.parser.Action.{Action}
 use Rattle.csv.specs.declared.parser.Action.TheVariants as act
 use Rattle.csv.specs.declared.parser.State.{State}
 use Rattle.csv.specs.declared.parser.State.TheVariants as st
-use Rattle.join_rows.specs.declared.table.Cell.{Cell}
 use Rattle.join_rows.specs.declared.table.Table.{Table}
-use Rattle.join_rows.specs.Records.{AreTooMany, AreWide, IsFirstOfOtherWidth, IsTable, SaysOf, SaysOfRecords, cells_of, fault_of_rows, most_rows, records_of, table_of, table_of_records}
+use Rattle.join_rows.specs.Records.{AreWide, IsTable, cells_of, fault_of_rows, most_rows, records_of, table_of_records}
 use Rattle.join_rows.specs.declared.fault.TableFault.{TableFault}
 use Rattle.join_rows.specs.declared.fault.TableFault.TheVariants as fault
-use Rattle.join_rows.proofs.Tables.{fault_of_rows-append}
 
 -- a record has a field
 some_field : (fields : List (List ℕ)) (field : List ℕ) → 0 < length (fields ++ (field ∷ []))

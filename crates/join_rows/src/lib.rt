@@ -2,6 +2,7 @@
 //! bytes are written to.
 #![tactic(auto)]
 
+mod cells;
 mod columns;
 mod disk;
 mod fault;
@@ -18,6 +19,7 @@ mod sink;
 mod std_sink;
 mod table;
 
+pub use cells::Cells;
 pub use columns::BadNumber;
 pub use disk::DiskShelf;
 pub use fault::TableFault;
@@ -28,7 +30,7 @@ pub use read::read_table;
 pub use shelf::{Failed, Shelf};
 pub use sink::Sink;
 pub use std_sink::StdSink;
-pub use table::{Cell, Cells, Rows, Side, Table};
+pub use table::{Cell, Rows, Side, Table};
 
 #[cfg(test)]
 mod tests;

@@ -3,6 +3,7 @@
 ghost use Rattle.std.specs.Prelude.{◌≡◌, IfOk};
 ghost use Rattle.join_rows.specs.Records.{cell_of};
 
+use crate::cells::Cells;
 use crate::list::{Bytes, Items, Names};
 use crate::number::number_in;
 use std::alloc::AllocError;
@@ -20,8 +21,6 @@ pub struct Cell {
     pub text: Bytes,
     pub num: Option<i64>,
 }
-
-pub type Cells = Items<Cell>;
 
 pub type Rows = Items<Cells>;
 
@@ -50,18 +49,5 @@ impl Cell {
             text: self.text.copy()?,
             num: self.num,
         })
-    }
-}
-
-impl Items<Cell> {
-    /// Equal cells.
-    pub fn copy(&self) -> Result<Cells, AllocError>
-        ensures { IfOk result (λ cells. cells ≡ self.now) }
-    {
-        let mut cells = Cells::with_room(self.allocator(), self.len() as usize)?;
-        for cell in self.as_slice() {
-            cells.push(cell.copy()?)?;
-        }
-        Ok(cells)
     }
 }

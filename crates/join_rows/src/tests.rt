@@ -1,3 +1,4 @@
 mod numbers;
 mod reading;
+mod sharing;
 mod sinks;
