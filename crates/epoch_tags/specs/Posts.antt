@@ -1,5 +1,5 @@
 -- Of what a machine answers, what goes to whom.
-use Rattle.std.specs.Prelude.{◌==◌, ℕ, Option, Some, None, List, filter_map, if◌then◌else◌}
+use Rattle.std.specs.Prelude.{◌==◌, ℕ, ⊤, Option, Some, None, List, All, filter_map, if◌then◌else◌}
 use Rattle.epoch_tags.specs.declared.actor.Actor.{Actor}
 use Rattle.epoch_tags.specs.declared.actor.Actor.TheVariants.{Feeder as Feeder', Joiner as Joiner', Controller as Controller', Collector as Collector'}
 use Rattle.epoch_tags.specs.declared.message.Msg.{Msg}
@@ -9,6 +9,7 @@ use Rattle.epoch_tags.specs.declared.message.ToFeeder.{ToFeeder}
 use Rattle.epoch_tags.specs.declared.message.ToJoiner.{ToJoiner}
 use Rattle.epoch_tags.specs.declared.message.ToController.{ToController}
 use Rattle.epoch_tags.specs.declared.message.ToCollector.{ToCollector}
+use Rattle.epoch_tags.specs.Links.{HasLink}
 
 -- the message, where it is of that actor's kind
 abbrev pub joiner_msg : Msg → Option ToJoiner
@@ -71,3 +72,32 @@ for_feeder p Collector' m = None
 
 abbrev pub posted_to_feeder : ℕ → List Post → List ToFeeder
 posted_to_feeder p posts = filter_map (λ post. for_feeder p post.to post.msg) posts
+
+-- ---- over which links
+
+-- the message is of the kind that this actor takes
+abbrev pub IsOfKind : Actor → Msg → Type 0
+IsOfKind (Feeder' p) (Joiner m) = ⊥
+IsOfKind (Feeder' p) (Feeder m) = ⊤
+IsOfKind (Feeder' p) (Controller m) = ⊥
+IsOfKind (Feeder' p) (Collector m) = ⊥
+IsOfKind (Joiner' j) (Joiner m) = ⊤
+IsOfKind (Joiner' j) (Feeder m) = ⊥
+IsOfKind (Joiner' j) (Controller m) = ⊥
+IsOfKind (Joiner' j) (Collector m) = ⊥
+IsOfKind Controller' (Joiner m) = ⊥
+IsOfKind Controller' (Feeder m) = ⊥
+IsOfKind Controller' (Controller m) = ⊤
+IsOfKind Controller' (Collector m) = ⊥
+IsOfKind Collector' (Joiner m) = ⊥
+IsOfKind Collector' (Feeder m) = ⊥
+IsOfKind Collector' (Controller m) = ⊥
+IsOfKind Collector' (Collector m) = ⊤
+
+-- the post goes over a link of this actor, one of 2 ^ k joiners and so many feeders, and is of that link's kind
+pub record GoesOver (k feeders : ℕ) (self : Actor) (post : Post) : Type 0 where
+  pub link : HasLink k feeders self post.to
+  pub kind : IsOfKind post.to post.msg
+
+abbrev pub AllGoOver : ℕ → ℕ → Actor → List Post → Type 0
+AllGoOver k feeders self posts = All (GoesOver k feeders self) posts

@@ -1,8 +1,8 @@
 -- The best shift is a shift of the grid, and none has fewer copies.
-use Rattle.std.proofs.Common.{◌≡◌, ℕ, zero, suc, ◌≤◌, inl, inr, arith}
+use Rattle.std.proofs.Common.{◌≡◌, ℕ, zero, suc, ◌≤◌, ◌<◌, inl, inr, arith}
 use Rattle.std.specs.Prelude.{nat_lt, nat_le}
 use Rattle.std.proofs.lemmas.Bool.{cases_eq, ltb-true, ltb-false, leb-true, cond_both}
-use Rattle.grid_map.specs.Load.{copies, smallest_best, best_shift, HasFewest}
+use Rattle.grid_map.specs.Load.{copies, smallest_best, best_shift, HasFewest, IsSmallest}
 
 pub smallest_within : (k top x y : ℕ) → smallest_best k top x y ≤ top
 smallest_within k zero x y = omega arith
@@ -30,6 +30,15 @@ smallest_fewest k (suc top) x y c low =
       | inr differ ↦ smallest_fewest k top x y c (omega arith)
     ])
 
+pub smallest_is_smallest : (k top x y c : ℕ) → c < smallest_best k top x y → copies k (smallest_best k top x y) x y < copies k c x y
+smallest_is_smallest k zero x y c low = omega arith
+smallest_is_smallest k (suc top) x y c below =
+    let small = smallest_best k top x y in
+    cond_both (nat_lt (copies k (suc top) x y) (copies k small x y)) (suc top) small (λ b. c < b → copies k b x y < copies k c x y)
+    (λ e low. let less = ltb-true (copies k (suc top) x y) (copies k small x y) e in
+    let fewest = smallest_fewest k top x y c (omega arith) in omega arith)
+    (λ e low. smallest_is_smallest k top x y c low) below
+
 pub best_fewest : (k b x y : ℕ) → b ≤ k → HasFewest k (best_shift k b x y) x y
 best_fewest k b x y within = record {
   within = best_within k b x y within;
@@ -55,3 +64,6 @@ as_few k b c x y within less fewest = record {
 
 pub is_fewest : (k below b x y : ℕ) → below ≡ k → b ≡ smallest_best k below x y → HasFewest k b x y
 is_fewest k below b x y all is = let is' : b ≡ smallest_best k k x y = rw all at is in rw is' (smallest_has_fewest k x y)
+
+pub is_smallest : (k below b x y : ℕ) → below ≡ k → b ≡ smallest_best k below x y → IsSmallest k b x y
+is_smallest k below b x y all is = let is' : b ≡ smallest_best k k x y = rw all at is in rw is' (smallest_is_smallest k k x y)

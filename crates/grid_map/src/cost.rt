@@ -1,8 +1,8 @@
 // What a grid costs: the tuples that all joiners hold together.
 
-ghost use Rattle.std.specs.Prelude.{◌≡◌, ◌≤◌, ◌^◌};
+ghost use Rattle.std.specs.Prelude.{◌≡◌, ◌≤◌, ◌^◌, ◌⊎◌};
 ghost use Rattle.grid_map.specs.Load as load;
-ghost use Rattle.grid_map.specs.Load.{HasFewest};
+ghost use Rattle.grid_map.specs.Load.{HasFewest, IsSmallest};
 
 use crate::shape::{Shape, power};
 
@@ -25,6 +25,7 @@ fn smallest_best(k: u32, x: u64, y: u64) -> u32
     requires y { y ≤ 2 ^ 32 }
     ensures value { result ≡ load.smallest_best k k x y }
     ensures fewest { HasFewest k result x y }
+    ensures smallest { IsSmallest k result x y }
 {
     let mut best = 0;
     for below in 0..k {
@@ -46,6 +47,8 @@ pub fn best_shift(shape: Shape, x: u64, y: u64) -> u32
     requires y { y ≤ 2 ^ 32 }
     ensures value { result ≡ load.best_shift shape.k shape.shift x y }
     ensures fewest { HasFewest shape.k result x y }
+    ensures stays { HasFewest shape.k shape.shift x y → result ≡ shape.shift }
+    ensures smallest { (result ≡ shape.shift) ⊎ IsSmallest shape.k result x y }
 {
     let smallest = smallest_best(shape.k, x, y);
     let best = Shape {
