@@ -10,9 +10,9 @@ use Rattle.join_rows.specs.Records.{IsTable, table_of}
 use Rattle.theta_text.specs.Grammar.{Tree}
 use Rattle.theta_text.specs.declared.fault.PredFault.{PredFault}
 use Rattle.theta_pred.specs.Formula.{Meaning}
-use Rattle.theta_pred.specs.Truth.{holds}
 use Rattle.row_tickets.specs.Tickets.{ticket_of}
-use Rattle.link_trace.specs.Join.{Input, nested_loop, held}
+use Rattle.trace_law.specs.declared.input.Input.{Input}
+use Rattle.trace_law.specs.Join.{nested_loop, held, rows_of}
 use Rattle.join_grid.specs.Answer.{made_at}
 use Rattle.join_report.specs.PairLines.{pair_lines}
 use Rattle.join_report.specs.Report.{report_of}
@@ -82,11 +82,11 @@ tickets_of seed side rows = map (ticket_of seed side) (range_with_len 0 (length 
 
 abbrev pub input_of : ℕ → Planned → Input
 input_of seed planned = record {
-  rows_r = planned.tables.of_r.rows;
-  rows_s = planned.tables.of_s.rows;
+  table_r = planned.tables.of_r;
+  table_s = planned.tables.of_s;
   tickets_r = tickets_of seed R planned.tables.of_r.rows;
   tickets_s = tickets_of seed S planned.tables.of_s.rows;
-  matches = holds planned.theta;
+  theta = planned.theta;
 }
 
 -- the grid stays at the shift that is asked for, or at the middle one
@@ -95,7 +95,7 @@ shift_of k fixed = unwrap_or fixed (k / 2)
 
 -- the report of a grid of 2 ^ k joiners at shift b
 abbrev pub report_over : Input → ℕ → ℕ → List ℕ
-report_over input k b = report_of k b (length input.rows_r) (length input.rows_s)
+report_over input k b = report_of k b (length (rows_of input R)) (length (rows_of input S))
     (map (made_at input k b) (range_with_len 0 (2 ^ k)))
     (map (λ j. record { rows_r = held input k b R j; rows_s = held input k b S j }) (range_with_len 0 (2 ^ k)))
 

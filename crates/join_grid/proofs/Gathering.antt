@@ -12,8 +12,9 @@ use Rattle.epoch_tags.specs.declared.actor.Actor.TheVariants.{Joiner}
 use Rattle.epoch_tags.specs.declared.message.ToCollector.{ToCollector}
 use Rattle.epoch_tags.specs.Messages.{found_before_fin}
 use Rattle.migration_plan.specs.Steps.{holds_ticket}
-use Rattle.link_trace.specs.Join.{Input, nested_loop, row_count, held}
-use Rattle.link_trace.proofs.Order.{one_order, loop_in_order}
+use Rattle.trace_law.specs.declared.input.Input.{Input}
+use Rattle.trace_law.specs.Join.{nested_loop, row_count, held}
+use Rattle.trace_law.proofs.Order.{one_order, loop_in_order}
 use Rattle.pair_collector.specs.declared.collected.Held.{Held}
 use Rattle.pair_collector.specs.declared.collected.Collected.{Collected}
 use Rattle.pair_collector.specs.Law.{CollectorLists, pairs_taken}

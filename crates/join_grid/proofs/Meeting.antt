@@ -10,10 +10,11 @@ use Rattle.join_rows.proofs.Totals.{total_same, sum-gather, exchange, test_insid
 use Rattle.epoch_tags.specs.declared.tuple.Pair.{Pair}
 use Rattle.grid_map.specs.Grid.{meet, holds_r, holds_s}
 use Rattle.grid_map.proofs.Halves.{meets, meet_below}
-use Rattle.link_trace.specs.Join.{Input, nested_loop, row_count, ticket_of}
-use Rattle.link_trace.specs.Family.{cells_of}
-use Rattle.link_trace.proofs.PairSums.{turn_round}
-use Rattle.link_trace.proofs.Loop.{loop_pair, loop_sum}
+use Rattle.trace_law.specs.declared.input.Input.{Input}
+use Rattle.trace_law.specs.Join.{nested_loop, row_count, ticket_of, matches_of, rows_of}
+use Rattle.trace_law.specs.Family.{cells_of}
+use Rattle.trace_law.proofs.PairSums.{turn_round}
+use Rattle.trace_law.proofs.Loop.{loop_pair, loop_sum}
 use Rattle.join_grid.specs.Joining.{rows_held, pairs_of, pairs_found}
 use Rattle.join_grid.specs.Answer.{made_at}
 use Rattle.join_grid.proofs.Holding.{length_is, from_zero}
@@ -40,7 +41,7 @@ module _ (input : Input) (k b : ℕ) where
 
   -- what a pair of rows weighs, where it matches
   abbrev weigh : (Pair → ℕ) → ℕ → ℕ → ℕ
-  weigh f i i' = only_if (input.matches (cells_of input R i) (cells_of input S i')) (f (loop_pair i i'))
+  weigh f i i' = only_if (matches_of input (cells_of input R i) (cells_of input S i')) (f (loop_pair i i'))
 
   abbrev in_row : ℕ → ℕ → Bool
   in_row j i = holds_r k b j (slice_index input.tickets_r i)
@@ -49,18 +50,18 @@ module _ (input : Input) (k b : ℕ) where
   in_column j i' = holds_s b j (slice_index input.tickets_s i')
 
   abbrev pub found : ℕ → List Pair
-  found j = pairs_found input.matches input.rows_r input.rows_s (rows_held k b j R input.tickets_r) (rows_held k b j S input.tickets_s)
+  found j = pairs_found (matches_of input) (rows_of input R) (rows_of input S) (rows_held k b j R input.tickets_r) (rows_held k b j S input.tickets_s)
 
   -- the sum over what one joiner finds
   found_sum : (j : ℕ) (f : Pair → ℕ) → sum_by f (found j) ≡ sum_by (λ i. sum_by (λ i'. only_if (in_row j i && in_column j i') (weigh f i i')) of_s) of_r
   found_sum j f =
       let held_s = rows_held k b j S input.tickets_s in
-      let of_one : (i : ℕ) → sum_by f (pairs_of input.matches input.rows_r input.rows_s i held_s) ≡ sum_by (λ i'. only_if (in_column j i') (weigh f i i')) of_s = λ i.
-      sum-some f (λ i'. input.matches (cells_of input R i) (cells_of input S i')) (λ i'. loop_pair i i') held_s
+      let of_one : (i : ℕ) → sum_by f (pairs_of (matches_of input) (rows_of input R) (rows_of input S) i held_s) ≡ sum_by (λ i'. only_if (in_column j i') (weigh f i i')) of_s = λ i.
+      sum-some f (λ i'. matches_of input (cells_of input R i) (cells_of input S i')) (λ i'. loop_pair i i') held_s
       ∙ sum-filter (weigh f i) (in_column j) of_s in
-      sum-flat_map f (λ i. pairs_of input.matches input.rows_r input.rows_s i held_s) (rows_held k b j R input.tickets_r)
-      ∙ sum-filter (λ i. sum_by f (pairs_of input.matches input.rows_r input.rows_s i held_s)) (in_row j) of_r
-      ∙ sum-same (λ i. only_if (in_row j i) (sum_by f (pairs_of input.matches input.rows_r input.rows_s i held_s))) (λ i. sum_by (λ i'. only_if (in_row j i && in_column j i') (weigh f i i')) of_s)
+      sum-flat_map f (λ i. pairs_of (matches_of input) (rows_of input R) (rows_of input S) i held_s) (rows_held k b j R input.tickets_r)
+      ∙ sum-filter (λ i. sum_by f (pairs_of (matches_of input) (rows_of input R) (rows_of input S) i held_s)) (in_row j) of_r
+      ∙ sum-same (λ i. only_if (in_row j i) (sum_by f (pairs_of (matches_of input) (rows_of input R) (rows_of input S) i held_s))) (λ i. sum_by (λ i'. only_if (in_row j i && in_column j i') (weigh f i i')) of_s)
       (λ i. ap (only_if (in_row j i)) (of_one i)
       ∙ test_inside (in_row j i) (λ i'. only_if (in_column j i') (weigh f i i')) of_s
       ∙ sum-same (λ i'. only_if (in_row j i) (only_if (in_column j i') (weigh f i i'))) (λ i'. only_if (in_row j i && in_column j i') (weigh f i i'))
@@ -106,7 +107,7 @@ module _ (input : Input) (k b : ℕ) where
       ∙ sum-same (λ i. sum_by (λ i'. only_if (in_row j i && in_column j i') (weigh (λ p. 1) i i')) of_s) (λ i. sum_by (weigh here i) of_s)
       (λ i. sum-same (λ i'. only_if (in_row j i && in_column j i') (weigh (λ p. 1) i i')) (weigh here i)
       (λ i'. ap (λ c. only_if c (weigh (λ p. 1) i i')) (meets k b j (slice_index input.tickets_r i) (slice_index input.tickets_s i') ∙ turn_round j (meet k b (slice_index input.tickets_r i) (slice_index input.tickets_s i')))
-      ∙ swapped (meet k b (slice_index input.tickets_r i) (slice_index input.tickets_s i') == j) (input.matches (cells_of input R i) (cells_of input S i'))) of_s) of_r
+      ∙ swapped (meet k b (slice_index input.tickets_r i) (slice_index input.tickets_s i') == j) (matches_of input (cells_of input R i) (cells_of input S i'))) of_s) of_r
       ∙ sym (loop_over same_r same_s here)
     where
       swapped : (a c : Bool) → only_if a (only_if c 1) ≡ only_if c (only_if a 1)

@@ -3,7 +3,8 @@ use Rattle.std.specs.Prelude.{◌≡◌, ℕ, ◌^◌, ◌==◌, [], map, count_
 use Rattle.std.specs.List.{range_with_len}
 use Rattle.join_rows.specs.declared.table.Side.TheVariants.{R, S}
 use Rattle.grid_map.specs.Grid.{meet}
-use Rattle.link_trace.specs.Join.{Input, nested_loop, ticket_of, held}
+use Rattle.trace_law.specs.declared.input.Input.{Input}
+use Rattle.trace_law.specs.Join.{nested_loop, ticket_of, held}
 use Rattle.pair_collector.specs.declared.collected.Collected.{Collected}
 
 -- how many pairs of the nested loop meet in joiner j

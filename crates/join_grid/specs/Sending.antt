@@ -3,7 +3,8 @@ use Rattle.std.specs.Prelude.{◌≡◌, ◌==◌, ◌++◌, ℕ, nat_lt, List, 
 use Rattle.join_rows.specs.declared.table.Side.TheVariants.{R, S}
 use Rattle.epoch_tags.specs.declared.message.ToCollector.{ToCollector}
 use Rattle.epoch_tags.specs.declared.message.ToCollector.TheVariants.{Found, Fin}
-use Rattle.link_trace.specs.Join.{Input}
+use Rattle.trace_law.specs.declared.input.Input.{Input}
+use Rattle.trace_law.specs.Join.{matches_of, rows_of}
 use Rattle.pair_collector.specs.Law.{CollectorLists}
 use Rattle.pair_collector.specs.Standing.{CollectorState, StandsFor}
 use Rattle.join_grid.specs.Joining.{rows_held, pairs_found}
@@ -13,7 +14,7 @@ abbrev pub sent_by : Input → ℕ → ℕ → ℕ → List ToCollector
 sent_by input k b j =
     let held_r = rows_held k b j R input.tickets_r in
     let held_s = rows_held k b j S input.tickets_s in
-    Found (pairs_found input.matches input.rows_r input.rows_s held_r held_s) ∷ Fin (length held_r) (length held_s) [] ∷ []
+    Found (pairs_found (matches_of input) (rows_of input R) (rows_of input S) held_r held_s) ∷ Fin (length held_r) (length held_s) [] ∷ []
 
 -- the lists with these messages at the end of joiner j's
 abbrev pub with_sent : CollectorLists → ℕ → List ToCollector → CollectorLists

@@ -3,8 +3,7 @@
 ghost use Rattle.std.specs.Prelude.{◌≡◌, ◌<◌, ◌≤◌, ◌^◌, ◌∷◌, [], length, All, IfOk, OnOk};
 ghost use Rattle.join_rows.specs.declared.table.Side.{Side};
 ghost use Rattle.epoch_tags.specs.declared.message.ToCollector.TheVariants.{Found, Fin};
-ghost use Rattle.link_trace.specs.Join.{Input};
-ghost use Rattle.theta_pred.specs.Truth;
+ghost use Rattle.trace_law.specs.declared.input.Input.{Input};
 ghost use Rattle.join_grid.specs.Joining.{AreRowsOf};
 ghost use Rattle.join_grid.specs.Sending.{TakesAll, sent_by};
 ghost use Rattle.join_grid.specs.Answer.{JoinsInGrid};
@@ -12,7 +11,7 @@ ghost use Rattle.join_grid.specs.Answer.{JoinsInGrid};
 use crate::joiner::{find, held};
 use epoch_tags::{Actor, Counts, Pairs, ToCollector};
 use grid_map::Shape;
-use join_rows::{Bytes, Rows, Side, Table};
+use join_rows::{Bytes, Side, Table};
 use pair_collector::{Collected, Collector};
 use std::alloc::{AllocError, Global};
 use theta_pred::Theta;
@@ -44,8 +43,8 @@ fn run_joiner(
     alloc: Global,
     shape: Shape,
     id: u32,
-    rows_r: &Rows,
-    rows_s: &Rows,
+    table_r: &Table,
+    table_s: &Table,
     theta: &Theta,
     tickets_r: &[u8],
     tickets_s: &[u8],
@@ -54,23 +53,23 @@ fn run_joiner(
     requires shift { shape.shift ≤ shape.k }
     requires k { shape.k ≤ 8 }
     requires id { id < 2 ^ shape.k }
-    requires tickets_r { length tickets_r.now ≡ length rows_r.now }
-    requires tickets_s { length tickets_s.now ≡ length rows_s.now }
-    requires few_r { length rows_r.now < 2 ^ 32 }
-    requires few_s { length rows_s.now < 2 ^ 32 }
-    requires rows_r { AreRowsOf theta.now Side.R rows_r.now }
-    requires rows_s { AreRowsOf theta.now Side.S rows_s.now }
+    requires tickets_r { length tickets_r.now ≡ length table_r.now.rows }
+    requires tickets_s { length tickets_s.now ≡ length table_s.now.rows }
+    requires few_r { length table_r.now.rows < 2 ^ 32 }
+    requires few_s { length table_s.now.rows < 2 ^ 32 }
+    requires rows_r { AreRowsOf theta.now Side.R table_r.now.rows }
+    requires rows_s { AreRowsOf theta.now Side.S table_s.now.rows }
     ensures { OnOk result (TakesAll collector.old collector.new id (sent_by (record {
-      rows_r = rows_r.now;
-      rows_s = rows_s.now;
+      table_r = table_r.now;
+      table_s = table_s.now;
       tickets_r = tickets_r.now;
       tickets_s = tickets_s.now;
-      matches = Truth.holds theta.now;
+      theta = theta.now;
     }) shape.k shape.shift id)) }
 {
     let held_r = held(alloc, shape, id, Side::R, tickets_r)?;
     let held_s = held(alloc, shape, id, Side::S, tickets_s)?;
-    let pairs = find(alloc, theta, rows_r, rows_s, &held_r, &held_s)?;
+    let pairs = find(alloc, theta, &table_r.rows, &table_s.rows, &held_r, &held_s)?;
     send(
         alloc,
         collector,
@@ -85,26 +84,26 @@ fn run_joiner(
 fn run_all(
     alloc: Global,
     shape: Shape,
-    rows_r: &Rows,
-    rows_s: &Rows,
+    table_r: &Table,
+    table_s: &Table,
     theta: &Theta,
     tickets_r: &[u8],
     tickets_s: &[u8],
 ) -> Result<Collected, AllocError>
     requires shift { shape.shift ≤ shape.k }
     requires k { shape.k ≤ 8 }
-    requires tickets_r { length tickets_r.now ≡ length rows_r.now }
-    requires tickets_s { length tickets_s.now ≡ length rows_s.now }
-    requires few_r { length rows_r.now < 2 ^ 32 }
-    requires few_s { length rows_s.now < 2 ^ 32 }
-    requires rows_r { AreRowsOf theta.now Side.R rows_r.now }
-    requires rows_s { AreRowsOf theta.now Side.S rows_s.now }
+    requires tickets_r { length tickets_r.now ≡ length table_r.now.rows }
+    requires tickets_s { length tickets_s.now ≡ length table_s.now.rows }
+    requires few_r { length table_r.now.rows < 2 ^ 32 }
+    requires few_s { length table_s.now.rows < 2 ^ 32 }
+    requires rows_r { AreRowsOf theta.now Side.R table_r.now.rows }
+    requires rows_s { AreRowsOf theta.now Side.S table_s.now.rows }
     ensures { IfOk result (JoinsInGrid (record {
-      rows_r = rows_r.now;
-      rows_s = rows_s.now;
+      table_r = table_r.now;
+      table_s = table_s.now;
       tickets_r = tickets_r.now;
       tickets_s = tickets_s.now;
-      matches = Truth.holds theta.now;
+      theta = theta.now;
     }) shape.k shape.shift) }
 {
     let joiners = 1u32 << shape.k;
@@ -114,8 +113,8 @@ fn run_all(
             alloc,
             shape,
             id,
-            rows_r,
-            rows_s,
+            table_r,
+            table_s,
             theta,
             tickets_r,
             tickets_s,
@@ -146,11 +145,11 @@ pub fn grid_run(
     requires rows_r { All (λ row. length row ≡ length table_r.now.names) table_r.now.rows }
     requires rows_s { All (λ row. length row ≡ length table_s.now.names) table_s.now.rows }
     ensures { IfOk result (JoinsInGrid (record {
-      rows_r = table_r.now.rows;
-      rows_s = table_s.now.rows;
+      table_r = table_r.now;
+      table_s = table_s.now;
       tickets_r = tickets_r.now;
       tickets_s = tickets_s.now;
-      matches = Truth.holds theta.now;
+      theta = theta.now;
     }) shape.k shape.shift) }
 {
     if table_r.rows.len() > u64::from(u32::MAX) {
@@ -162,8 +161,8 @@ pub fn grid_run(
     run_all(
         alloc,
         shape,
-        &table_r.rows,
-        &table_s.rows,
+        table_r,
+        table_s,
         theta,
         tickets_r.as_slice(),
         tickets_s.as_slice(),

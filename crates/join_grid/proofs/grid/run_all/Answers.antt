@@ -1,6 +1,5 @@
 use Rattle.std.proofs.Common.{◌≡◌, ◌∙◌, ◌^◌, subst, arith}
-use Rattle.theta_pred.specs.Truth.{holds}
-use Rattle.link_trace.specs.Join.{Input}
+use Rattle.trace_law.specs.declared.input.Input.{Input}
 use Rattle.pair_collector.specs.Standing.{StandsFor}
 use Rattle.pair_collector.specs.Answer.{Collects}
 use Rattle.join_grid.specs.Sending.{sent_up_to, all_sent}
@@ -10,11 +9,11 @@ use Rattle.join_grid.proofs.grid.run_all.Goals as goal
 pub loop-id-preserved : goal.loop-id-preserved
 loop-id-preserved c =
     let input : Input = record {
-      rows_r = c.args.rows_r.now;
-      rows_s = c.args.rows_s.now;
+      table_r = c.args.table_r.now;
+      table_s = c.args.table_s.now;
       tickets_r = c.args.tickets_r.now;
       tickets_s = c.args.tickets_s.now;
-      matches = holds c.args.theta.now;
+      theta = c.args.theta.now;
     } in
     let took = c.in_ok-run_joiner.ensures in
     record {
@@ -27,11 +26,11 @@ loop-id-preserved c =
 pub finish-requires : goal.finish-requires
 finish-requires c =
     let input : Input = record {
-      rows_r = c.args.rows_r.now;
-      rows_s = c.args.rows_s.now;
+      table_r = c.args.table_r.now;
+      table_s = c.args.table_s.now;
       tickets_r = c.args.tickets_r.now;
       tickets_s = c.args.tickets_s.now;
-      matches = holds c.args.theta.now;
+      theta = c.args.theta.now;
     } in
     let k = c.args.shape.k in
     let b = c.args.shape.shift in
@@ -43,11 +42,11 @@ finish-requires c =
 pub returns : goal.returns
 returns c =
     let input : Input = record {
-      rows_r = c.args.rows_r.now;
-      rows_s = c.args.rows_s.now;
+      table_r = c.args.table_r.now;
+      table_s = c.args.table_s.now;
       tickets_r = c.args.tickets_r.now;
       tickets_s = c.args.tickets_s.now;
-      matches = holds c.args.theta.now;
+      theta = c.args.theta.now;
     } in
     let k = c.args.shape.k in
     let b = c.args.shape.shift in

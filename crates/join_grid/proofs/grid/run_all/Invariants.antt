@@ -1,6 +1,5 @@
 use Rattle.std.proofs.Common.{◌≡◌, ◌<◌, ◌^◌, ℕ, length}
 use Rattle.std.specs.Prelude.{slice_index}
-use Rattle.theta_pred.specs.Truth.{holds}
 use Rattle.pair_collector.specs.Standing.{StandsFor}
 use Rattle.join_grid.specs.Sending.{sent_up_to}
 use Rattle.join_grid.proofs.grid.run_all.Given as goal
@@ -12,6 +11,6 @@ invariant-loop-id l =
       fits : (i : ℕ) → slice_index l.tickets_r i < 2 ^ 8;
       count : length l.collector.joiners ≡ 2 ^ l.shape.k;
       stands : StandsFor l.collector (sent_up_to
-          (record { rows_r = l.rows_r; rows_s = l.rows_s; tickets_r = l.tickets_r; tickets_s = l.tickets_s; matches = holds l.theta })
+          (record { table_r = l.table_r; table_s = l.table_s; tickets_r = l.tickets_r; tickets_s = l.tickets_s; theta = l.theta })
           l.shape.k l.shape.shift l.id);
     }

@@ -1,0 +1,156 @@
+-- What a joiner has stored once all of an epoch has come to it.
+use Rattle.std.proofs.Common.{◌≡◌, ℕ, zero, suc, ◌+◌, ◌^◌, ◌<◌, ◌≤◌, min, inl, inr, sym, ◌∙◌, ap, subst, arith, Bool, true, false, cond, ◌&&◌, List, [], ◌∷◌, ◌++◌, append_assoc}
+use Rattle.std.specs.Prelude.{filter, ◌==◌, nat_le}
+use Rattle.std.proofs.lemmas.Bool.{lt-ltb, le-ltb}
+use Rattle.std.proofs.lemmas.Bool.Decides.{nat_tests}
+use Rattle.epoch_tags.specs.declared.message.ToJoiner.TheVariants.{Tup, Turn, End, Moved, MovedEnd}
+use Rattle.join_rows.specs.declared.table.Side.TheVariants.{R, S}
+use Rattle.join_rows.specs.Lists.{IsPrefix, SameBag}
+use Rattle.join_rows.proofs.Bags.{only_if, sum-same, sum-filter}
+use Rattle.epoch_tags.specs.declared.tuple.Tuple.{Tuple}
+use Rattle.epoch_tags.specs.declared.message.ToJoiner.{ToJoiner}
+use Rattle.epoch_tags.specs.Messages.{turns, moved_of, moved_ends}
+use Rattle.grid_map.specs.Grid.{partner}
+use Rattle.migration_plan.specs.Steps.{AreNeighbours, holds, is_of, exchanged_side, partner_in_step}
+use Rattle.joiner_law.specs.Law.{opened, shift_after, partner_of, store, arrived as arrived_of, AllTurned, IsSettled}
+use Rattle.epoch_tags.specs.Orders.{NeverFalls}
+use Rattle.joiner_law.proofs.Moved.{whole_part}
+use Rattle.trace_law.specs.declared.input.Input.{Input}
+pub use Rattle.trace_law.specs.Stored.{HasAllOf}
+use Rattle.trace_law.specs.declared.setting.Setting.{Setting}
+use Rattle.trace_law.specs.Family.{Family, IsAgreeing, joiner_start}
+use Rattle.trace_law.proofs.Stores.{is_stored, rising_step, falling_step}
+use Rattle.join_rows.proofs.Totals.{greatest_above}
+use Rattle.grid_map.proofs.Halves.{partner_below}
+
+-- ---- small facts
+
+moved_ends-append : (e : ℕ) (xs ys : List ToJoiner) → 0 < moved_ends e xs → 0 < moved_ends e (xs ++ ys)
+moved_ends-append e [] ys has = absurd (omega arith)
+moved_ends-append e (Tup x ∷ xs) ys has = moved_ends-append e xs ys has
+moved_ends-append e (Turn epoch shift ∷ xs) ys has = moved_ends-append e xs ys has
+moved_ends-append e (End ∷ xs) ys has = moved_ends-append e xs ys has
+moved_ends-append e (Moved epoch x ∷ xs) ys has = moved_ends-append e xs ys has
+moved_ends-append e (MovedEnd epoch ∷ xs) ys has = one_more (epoch == e) (moved_ends e xs) (moved_ends e (xs ++ ys)) (moved_ends-append e xs ys) has
+  where
+    one_more : (t : Bool) (m n : ℕ) → (0 < m → 0 < n) → 0 < cond t (m + 1) m → 0 < cond t (n + 1) n
+    one_more true m n grows has = omega arith
+    one_more false m n grows has = grows has
+
+-- the first epoch
+at_start : (k b j : ℕ) (N all : List Tuple) → SameBag N (filter (λ t. (t.stamp == 0) && holds k b j t) all) → SameBag N (filter (is_stored k b 0 j) all)
+at_start k b j N all came = record {
+  sums = λ f.
+      came.sums f
+      ∙ sum-filter f (λ t. (t.stamp == 0) && holds k b j t) all
+      ∙ sum-same (λ t. only_if ((t.stamp == 0) && holds k b j t) (f t)) (λ t. only_if (is_stored k b 0 j t) (f t))
+      (λ t. ap (λ old. only_if (old && holds k b j t) (f t)) (is_zero t.stamp)) all
+      ∙ sym (sum-filter f (is_stored k b 0 j) all);
+}
+  where
+    is_zero : (stamp : ℕ) → (stamp == 0) ≡ nat_le stamp 0
+    is_zero stamp = grind (arith, nat_tests)
+
+-- one step, in either direction
+either_step : (all A B M N : List Tuple) (k b b' e j : ℕ) → AreNeighbours b b' → b ≤ k → b' ≤ k → k ≤ 8
+    → SameBag A (filter (is_stored k b e j) all) → SameBag B (filter (is_stored k b e (partner_in_step b b' j)) all)
+    → SameBag M (filter (is_of (exchanged_side b b')) B) → SameBag N (filter (λ t. (t.stamp == e + 1) && holds k b' j t) all)
+    → SameBag (filter (holds k b' j) A ++ M ++ N) (filter (is_stored k b' (e + 1) j) all)
+either_step all A B M N k b b' e j (inl up) low low' small mine its came new =
+    let least : min b b' ≡ b = omega arith in
+    let its' : SameBag B (filter (is_stored k b e (partner b j)) all) = rw least at its in
+    let came' : SameBag M (filter (is_of R) B) = rw (lt-ltb b b' (omega arith)) at came in
+    let new' : SameBag N (filter (λ t. (t.stamp == e + 1) && holds k (b + 1) j t) all) = simp up at new in
+    rw up (rising_step all A B M N k b e j (omega arith) small mine its' came' new')
+either_step all A B M N k b b' e j (inr down) low low' small mine its came new =
+    let least : min b b' ≡ b' = omega arith in
+    let its0 : SameBag B (filter (is_stored k b e (partner b' j)) all) = rw least at its in
+    let its' : SameBag B (filter (is_stored k (b' + 1) e (partner b' j)) all) = rw down at its0 in
+    let mine' : SameBag A (filter (is_stored k (b' + 1) e j) all) = rw down at mine in
+    let came' : SameBag M (filter (is_of S) B) = rw (le-ltb b b' (omega arith)) at came in
+    falling_step all A B M N k b' e j (omega arith) small mine' its' came' new
+
+pub low_within : (k a c : ℕ) → AreNeighbours a c → a ≤ k → c ≤ k → min a c < k
+low_within k a c (inl up) low low' = omega arith
+low_within k a c (inr down) low low' = omega arith
+
+-- ---- the induction over epochs
+-- b has the shift of each epoch, and all has the tuples of all rows with their stamps. Given that the joiners go by
+-- these shifts, and that feeders send each joiner what it holds, a joiner to which all of an epoch has come has stored
+-- just the tuples of that epoch or older that it holds.
+module _ (input : Input) (setting : Setting) (f : Family) (agrees : IsAgreeing input setting f) (all : List Tuple) (b : ℕ → ℕ)
+    (some : 0 < setting.feeders) (small : setting.k ≤ 8)
+    (shifts : (j : ℕ) (h : j < 2 ^ setting.k) (n : ℕ) → n ≤ opened (joiner_start input setting j) (agrees.taken_by_joiner j) → shift_after (joiner_start input setting j) (agrees.taken_by_joiner j) n ≡ b n)
+    (arrivals : (j : ℕ) (h : j < 2 ^ setting.k) (n : ℕ) → HasAllOf setting.feeders (agrees.taken_by_joiner j) n → SameBag (arrived_of (joiner_start input setting j) (agrees.taken_by_joiner j) n) (filter (λ t. (t.stamp == n) && holds setting.k (b n) j t) all)) where
+  pub complete : (n j : ℕ) (h : j < 2 ^ setting.k) → ((m : ℕ) → m < n → IsSettled (joiner_start input setting j) (agrees.taken_by_joiner j) m) → HasAllOf setting.feeders (agrees.taken_by_joiner j) n
+      → SameBag (store (joiner_start input setting j) (agrees.taken_by_joiner j) n) (filter (is_stored setting.k (b n) n j) all)
+  complete zero j h settled has =
+      at_start setting.k (b 0) j (arrived_of (joiner_start input setting j) (agrees.taken_by_joiner j) 0) all (arrivals j h 0 has)
+  complete (suc n) j h settled has =
+      let k = setting.k in
+      let law = agrees.joiners j h in
+      let s = joiner_start input setting j in
+      let t = agrees.taken_by_joiner j in
+      let step = settled n (omega arith) in
+      let first : n < turns (t.from_feeder 0) = step.0 0 some in
+      let open_j : n < opened s t = omega (arith, greatest_above setting.feeders (λ p. turns (t.from_feeder p)) 0 some) in
+      let here : shift_after s t n ≡ b n = shifts j h n (omega arith) in
+      let next : shift_after s t (n + 1) ≡ b (n + 1) = shifts j h (n + 1) (omega arith) in
+      let near : AreNeighbours (shift_after s t n) (shift_after s t (n + 1)) = law.by_one n open_j in
+      let low_here : shift_after s t n ≤ k = law.within n (omega arith) in
+      let low_next : shift_after s t (n + 1) ≤ k = law.within (n + 1) (omega arith) in
+      let low = min (shift_after s t n) (shift_after s t (n + 1)) in
+      let low_k : low < k = low_within k (shift_after s t n) (shift_after s t (n + 1)) near low_here low_next in
+      let q = partner_of s t n in
+      let h' : q < 2 ^ k = partner_below k low j low_k h in
+      -- the partner, and the link from it
+      let law' = agrees.joiners q h' in
+      let s' = joiner_start input setting q in
+      let t' = agrees.taken_by_joiner q in
+      let link : IsPrefix ((f.joiner j).from_joiner q) ((f.joiner q).to_joiner j) = agrees.joiner_joiner q j h' h in
+      let of_q = law.of_joiners q h' in
+      let sent : t.from_joiner q ++ (of_q.held ++ link.rest) ≡ (f.joiner q).to_joiner j =
+      sym (append_assoc (t.from_joiner q) of_q.held link.rest) ∙ ap (λ ms. ms ++ link.rest) of_q.splits ∙ link.joins in
+      let ended : 0 < moved_ends (0 + n + 1) ((f.joiner q).to_joiner j) =
+      subst (λ ms. 0 < moved_ends (0 + n + 1) ms) sent (moved_ends-append (0 + n + 1) (t.from_joiner q) (of_q.held ++ link.rest) step.1) in
+      let falls : NeverFalls 0 (t.from_joiner q ++ (of_q.held ++ link.rest)) = subst (λ ms. NeverFalls 0 ms) (sym sent) (law'.never_falls j) in
+      let moved_is : moved_of (0 + n + 1) (t.from_joiner q) ≡ moved_of (0 + n + 1) ((f.joiner q).to_joiner j) =
+      whole_part (0 + n + 1) 0 (t.from_joiner q) (of_q.held ++ link.rest) falls step.1 ∙ ap (λ ms. moved_of (0 + n + 1) ms) sent in
+      -- it had turned, so it had all of the epoch before
+      let end = law'.ended_only j (0 + n + 1) ended in
+      let same : end.0 ≡ n = omega (arith, end.1) in
+      let turned : AllTurned s' t' n = subst (λ m. AllTurned s' t' m) same end.2 in
+      let to_j : j ≡ partner_of s' t' n = subst (λ m. j ≡ partner_of s' t' m) same end.3 in
+      let first' : n < turns (t'.from_feeder 0) = turned 0 some in
+      let open_q : n < opened s' t' = omega (arith, greatest_above setting.feeders (λ p. turns (t'.from_feeder p)) 0 some) in
+      let one' : opened s' t' ≤ law'.done + 1 = law'.one_open in
+      let here' : shift_after s' t' n ≡ b n = shifts q h' n (omega arith) in
+      let next' : shift_after s' t' (n + 1) ≡ b (n + 1) = shifts q h' (n + 1) (omega arith) in
+      let shift = shift_after s t n in
+      let shift' = shift_after s t (n + 1) in
+      let mine : SameBag (store s t n) (filter (is_stored k shift n j) all) =
+      subst (λ c. SameBag (store s t n) (filter (is_stored k c n j) all)) (sym here) (complete n j h (λ m low. settled m (omega arith)) (λ p hp. inl (step.0 p hp))) in
+      let its : SameBag (store s' t' n) (filter (is_stored k shift n q) all) =
+      subst (λ c. SameBag (store s' t' n) (filter (is_stored k c n q) all)) (sym here) (complete n q h' (λ m low. law'.settled m (omega arith)) (λ p hp. inl (turned p hp))) in
+      let sent_q : SameBag (moved_of (0 + n + 1) ((f.joiner q).to_joiner j)) (filter (is_of (exchanged_side (shift_after s' t' n) (shift_after s' t' (n + 1)))) (store s' t' n)) =
+      subst (λ i. SameBag (moved_of (0 + n + 1) ((f.joiner q).to_joiner i)) (filter (is_of (exchanged_side (shift_after s' t' n) (shift_after s' t' (n + 1)))) (store s' t' n))) (sym to_j) (law'.moved n open_q) in
+      let same_here : shift_after s' t' n ≡ shift = here' ∙ sym here in
+      let same_next : shift_after s' t' (n + 1) ≡ shift' = next' ∙ sym next in
+      let sent_here : SameBag (moved_of (0 + n + 1) ((f.joiner q).to_joiner j)) (filter (is_of (exchanged_side shift (shift_after s' t' (n + 1)))) (store s' t' n)) =
+      subst (λ c. SameBag (moved_of (0 + n + 1) ((f.joiner q).to_joiner j)) (filter (is_of (exchanged_side c (shift_after s' t' (n + 1)))) (store s' t' n))) same_here sent_q in
+      let sent_next : SameBag (moved_of (0 + n + 1) ((f.joiner q).to_joiner j)) (filter (is_of (exchanged_side shift shift')) (store s' t' n)) =
+      subst (λ c. SameBag (moved_of (0 + n + 1) ((f.joiner q).to_joiner j)) (filter (is_of (exchanged_side shift c)) (store s' t' n))) same_next sent_here in
+      let came : SameBag (moved_of (0 + n + 1) (t.from_joiner q)) (filter (is_of (exchanged_side shift shift')) (store s' t' n)) =
+      subst (λ ts. SameBag ts (filter (is_of (exchanged_side shift shift')) (store s' t' n))) (sym moved_is) sent_next in
+      let one : suc n ≡ n + 1 = omega arith in
+      let epoch : n + 1 ≡ 0 + n + 1 = omega arith in
+      let all_came : HasAllOf setting.feeders t (n + 1) = subst (λ m. HasAllOf setting.feeders t m) one has in
+      let new_here : SameBag (arrived_of s t (n + 1)) (filter (λ x. (x.stamp == n + 1) && holds k shift' j x) all) =
+      subst (λ c. SameBag (arrived_of s t (n + 1)) (filter (λ x. (x.stamp == n + 1) && holds k c j x) all)) (sym next) (arrivals j h (n + 1) all_came) in
+      let new : SameBag (arrived_of s t (0 + n + 1)) (filter (λ x. (x.stamp == n + 1) && holds k shift' j x) all) =
+      subst (λ e. SameBag (arrived_of s t e) (filter (λ x. (x.stamp == n + 1) && holds k shift' j x) all)) epoch new_here in
+      let whole = either_step all (store s t n) (store s' t' n) (moved_of (0 + n + 1) (t.from_joiner q)) (arrived_of s t (0 + n + 1)) k shift shift' n j
+      near low_here low_next small mine its came new in
+      let whole' : SameBag (store s t (suc n)) (filter (is_stored k (b (n + 1)) (n + 1) j) all) =
+      subst (λ c. SameBag (store s t (suc n)) (filter (is_stored k c (n + 1) j) all)) next whole in
+      subst (λ m. SameBag (store s t (suc n)) (filter (is_stored k (b m) m j) all)) (sym one) whole'

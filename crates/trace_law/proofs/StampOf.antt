@@ -1,0 +1,173 @@
+-- The rows that feeders were granted bear the stamps that the journal gives them.
+use Rattle.std.proofs.Common.{◌≡◌, ℕ, zero, suc, ◌+◌, ◌-◌, ◌*◌, ◌/◌, ◌%◌, ◌<◌, ◌≤◌, inl, inr, refl, sym, ◌∙◌, ap, subst, arith, Bool, true, false, cond, List, [], ◌∷◌, ◌++◌, length, length-append, append_assoc, take, drop, get_or-drop, length-take, take-append-drop, drop-drop}
+use Rattle.std.specs.Prelude.{map, sum_by, ◌==◌, nat_lt, slice_index, max}
+use Rattle.std.specs.List.{AllByRecursion, range_with_len, position_or_len}
+use Rattle.std.proofs.lemmas.Bool.{cases_lt, cases_Bool, eqb-true, eq-eqb, ne_eqb}
+use Rattle.std.proofs.lemmas.List.{drop_all, take_all}
+use Rattle.std.proofs.lemmas.Nat.{div-mul-add}
+use Rattle.std.proofs.lemmas.List.Sums.{sum_by-cons, sum_by-append}
+use Rattle.join_rows.specs.declared.table.Side.{Side}
+use Rattle.join_rows.specs.declared.table.Side.TheVariants.{R, S}
+use Rattle.join_rows.proofs.Bags.{only_if}
+use Rattle.reshuffler_core.specs.Law.{stamped}
+use Rattle.reshuffler_core.proofs.Arrivals.{granted}
+use Rattle.load_controller.specs.Journal.{count_epochs}
+use Rattle.trace_law.specs.declared.input.Input.{Input}
+use Rattle.trace_law.specs.Join.{row_count}
+use Rattle.row_tickets.specs.declared.place.Feed.{Feed}
+use Rattle.row_tickets.specs.declared.place.Place.{Place}
+use Rattle.row_tickets.specs.Share.{share, share_of, indices, both_at, place_at}
+use Rattle.trace_law.specs.Batches.{same_place}
+use Rattle.row_tickets.specs.declared.place.Feed.TheVariants.{Alternate, RFirst, SFirst}
+use Rattle.trace_law.specs.declared.setting.Setting.{Setting}
+use Rattle.trace_law.specs.Validity.{IsValid}
+use Rattle.trace_law.specs.Family.{Family, IsAgreeing, HasItsStamp, tuple_of, feeder_start, stamp_in}
+use Rattle.trace_law.proofs.RowSums.{shares_sum}
+use Rattle.trace_law.proofs.Stamps.{grant_epochs, with_stamps, granted_is, epochs_taken}
+use Rattle.trace_law.proofs.Sent.{rows}
+use Rattle.trace_law.proofs.Lawful.{journal_is}
+use Rattle.join_rows.specs.Lists.{total}
+use Rattle.join_rows.proofs.Within.{within-refl, all_pass}
+use Rattle.join_rows.proofs.Everywhere.{weaken, all-back, all-append, all-gather, all-map, all-flat_map}
+use Rattle.join_rows.proofs.Totals.{total_same, total-zero, one_index, total_part}
+
+-- ---- a feeder's rows are its own
+
+indices_of : (feeders p n : ℕ) → AllByRecursion (λ i. i % feeders ≡ p) (indices feeders p n)
+indices_of feeders p n =
+    weaken (λ i. (i % feeders == p) ≡ true) (λ i. i % feeders ≡ p) (λ i is. eqb-true (i % feeders) p is) (indices feeders p n)
+    (all_pass (λ i. i % feeders == p) (indices feeders p n) (range_with_len 0 n) (within-refl (indices feeders p n)))
+
+side_of : (feeders p : ℕ) (side : Side) (n : ℕ) → AllByRecursion (λ a. a.index % feeders ≡ p) (share_of feeders p side n)
+side_of feeders p side n = all-map (λ (a : Place). a.index % feeders ≡ p) (place_at side) (indices feeders p n) (indices_of feeders p n)
+
+both_of : (feeders p rows_r rows_s i : ℕ) → i % feeders ≡ p → AllByRecursion (λ a. a.index % feeders ≡ p) (both_at rows_r rows_s i)
+both_of feeders p rows_r rows_s i is = by_tests (nat_lt i rows_r) (nat_lt i rows_s)
+  where
+    by_tests : (c d : Bool) → AllByRecursion (λ (a : Place). a.index % feeders ≡ p) (cond c ((place_at R i) ∷ []) [] ++ cond d ((place_at S i) ∷ []) [])
+    by_tests true true = (is, (is, tt))
+    by_tests true false = (is, tt)
+    by_tests false true = (is, tt)
+    by_tests false false = tt
+
+share_is_own : (feed : Feed) (feeders p rows_r rows_s : ℕ) → AllByRecursion (λ a. a.index % feeders ≡ p) (share feed feeders p rows_r rows_s)
+share_is_own Alternate feeders p rows_r rows_s =
+    all-flat_map (λ (a : Place). a.index % feeders ≡ p) (both_at rows_r rows_s) (indices feeders p (max rows_r rows_s))
+    (weaken (λ i. i % feeders ≡ p) (λ i. AllByRecursion (λ (a : Place). a.index % feeders ≡ p) (both_at rows_r rows_s i)) (λ i is. both_of feeders p rows_r rows_s i is) (indices feeders p (max rows_r rows_s)) (indices_of feeders p (max rows_r rows_s)))
+share_is_own RFirst feeders p rows_r rows_s = all-append (λ (a : Place). a.index % feeders ≡ p) (share_of feeders p R rows_r) (share_of feeders p S rows_s) (side_of feeders p R rows_r) (side_of feeders p S rows_s)
+share_is_own SFirst feeders p rows_r rows_s = all-append (λ (a : Place). a.index % feeders ≡ p) (share_of feeders p S rows_s) (share_of feeders p R rows_r) (side_of feeders p S rows_s) (side_of feeders p R rows_r)
+
+-- ---- each once
+
+one_at_most : (n m : ℕ) → total n (λ i. only_if (m == i) 1) ≤ 1
+one_at_most n m = elim (cases_lt m n) [
+  | inl low ↦ let is = one_index n m (λ i. 1) low in omega arith
+  | inr high ↦
+      let none : total n (λ i. only_if (m == i) 1) ≡ 0 = total_same n (λ i. only_if (m == i) 1) (λ i. 0) (λ i low. ap (λ t. only_if t 1) (ne_eqb m i (omega arith))) ∙ total-zero n in
+      omega arith
+]
+
+at_most_one : (feed : Feed) (feeders p rows_r rows_s : ℕ) → 0 < feeders → p < feeders → (side : Side) (i : ℕ) → sum_by (λ c. only_if (same_place (place_at side i) c) 1) (share feed feeders p rows_r rows_s) ≤ 1
+at_most_one feed feeders p rows_r rows_s some h R i =
+    let part = total_part feeders p (λ q. sum_by (λ c. only_if (same_place (place_at R i) c) 1) (share feed feeders q rows_r rows_s)) h in
+    let all = shares_sum feed feeders some (λ c. only_if (same_place (place_at R i) c) 1) rows_r rows_s in
+    let here = one_at_most rows_r i in
+    let none = total-zero rows_s in
+    omega arith
+at_most_one feed feeders p rows_r rows_s some h S i =
+    let part = total_part feeders p (λ q. sum_by (λ c. only_if (same_place (place_at S i) c) 1) (share feed feeders q rows_r rows_s)) h in
+    let all = shares_sum feed feeders some (λ c. only_if (same_place (place_at S i) c) 1) rows_r rows_s in
+    let here = one_at_most rows_s i in
+    let none = total-zero rows_r in
+    omega arith
+
+once_at_most : (feed : Feed) (feeders p rows_r rows_s : ℕ) → 0 < feeders → p < feeders → (a : Place) → sum_by (λ c. only_if (same_place a c) 1) (share feed feeders p rows_r rows_s) ≤ 1
+once_at_most feed feeders p rows_r rows_s some h a = at_most_one feed feeders p rows_r rows_s some h a.side a.index
+
+itself_at : (side : Side) (i : ℕ) → same_place (place_at side i) (place_at side i) ≡ true
+itself_at R i = eq-eqb i i refl
+itself_at S i = eq-eqb i i refl
+
+itself : (a : Place) → same_place a a ≡ true
+itself a = itself_at a.side a.index
+
+-- what stands once stands at its place
+position_at : {X : Type 0} (test : X → Bool) (xs : List X) (a : X) (ys : List X) → test a ≡ true → sum_by (λ c. only_if (test c) 1) (xs ++ a ∷ ys) ≤ 1 → position_or_len test (xs ++ a ∷ ys) ≡ length xs
+position_at test [] a ys is once = rw is refl
+position_at test (x ∷ xs) a ys is once =
+    let all = sum_by-cons (λ c. only_if (test c) 1) x (xs ++ a ∷ ys) in
+    elim (cases_Bool (test x)) [
+      | inl also ↦
+          let parts = sum_by-append (λ c. only_if (test c) 1) xs (a ∷ ys) in
+          let parts' = sum_by-cons (λ c. only_if (test c) 1) a ys in
+          let one : only_if (test a) 1 ≡ 1 = ap (λ t. only_if t 1) is in
+          let two : only_if (test x) 1 ≡ 1 = ap (λ t. only_if t 1) also in
+          absurd (omega arith)
+      | inr other ↦
+          let rest = position_at test xs a ys is (omega arith) in
+          rw other (ap (λ n. 1 + n) rest ∙ omega arith)
+    ]
+
+-- ---- batch by batch
+
+module _ (input : Input) (size : ℕ) (own : List Place) (full : List ℕ) (σ : Place → ℕ)
+    (places : (xs : List Place) (c : Place) (ys : List Place) → own ≡ xs ++ c ∷ ys → σ c ≡ slice_index full (length xs / size)) where
+  in_batch : (a e : ℕ) → slice_index full a ≡ e → (front todo post : List Place) (r : ℕ) → own ≡ front ++ todo ++ post → length front ≡ a * size + r → r + length todo ≤ size
+      → AllByRecursion (λ t. t.stamp ≡ σ (place_at t.side t.index)) (map (stamped e) (map (tuple_of input 0) todo))
+  in_batch a e is front [] post r joins at fits = tt
+  in_batch a e is front (c ∷ todo) post r joins at fits =
+      let low : r < size = omega arith in
+      let next : own ≡ (front ++ c ∷ []) ++ todo ++ post = joins ∙ append_assoc front (c ∷ todo) post ∙ sym (append_assoc front (c ∷ []) (todo ++ post)) ∙ sym (append_assoc (front ++ c ∷ []) todo post) in
+      let more : length (front ++ c ∷ []) ≡ a * size + (r + 1) = length-append front (c ∷ []) ∙ omega arith in (
+        sym (places front c (todo ++ post) (joins ∙ append_assoc front (c ∷ todo) post) ∙ ap (λ n. slice_index full (n / size)) at ∙ ap (slice_index full) (div-mul-add a size r low) ∙ is),
+        in_batch a e is (front ++ c ∷ []) todo post (r + 1) next more (omega arith),
+      )
+
+  each_batch : (a m : ℕ) (es rest : List ℕ) → drop a full ≡ es ++ rest
+      → AllByRecursion (λ t. t.stamp ≡ σ (place_at t.side t.index)) (with_stamps es (map (λ batch. map (tuple_of input 0) batch) (map (λ i. take size (drop (i * size) own)) (range_with_len a m))))
+  each_batch a m [] rest is = tt
+  each_batch a zero (e ∷ es) rest is = tt
+  each_batch a (suc m) (e ∷ es) rest is =
+      let batch = take size (drop (a * size) own) in
+      let first : a + 0 ≡ a = omega arith in
+      let here : slice_index full a ≡ e = ap (slice_index full) (sym first) ∙ sym (get_or-drop a full 0 0) ∙ ap (λ xs. slice_index xs 0) is in
+      let next : drop (a + 1) full ≡ es ++ rest = sym (drop-drop 1 a full) ∙ ap (drop 1) is in
+      let of_batch : AllByRecursion (λ t. t.stamp ≡ σ (place_at t.side t.index)) (map (stamped e) (map (tuple_of input 0) batch)) =
+      elim (cases_lt (length own) (a * size)) [
+        | inl past ↦
+            let none : batch ≡ [] = ap (take size) (drop_all (a * size) own (omega arith)) ∙ take_all size [] (omega arith) in
+            subst (λ ts. AllByRecursion (λ t. t.stamp ≡ σ (place_at t.side t.index)) (map (stamped e) (map (tuple_of input 0) ts))) (sym none) tt
+        | inr within ↦
+            let joins : own ≡ take (a * size) own ++ batch ++ drop size (drop (a * size) own) =
+            sym (take-append-drop (a * size) own) ∙ ap (λ xs. take (a * size) own ++ xs) (sym (take-append-drop size (drop (a * size) own))) ∙ sym (append_assoc (take (a * size) own) batch (drop size (drop (a * size) own))) in
+            let at = length-take (a * size) own in
+            let few = length-take size (drop (a * size) own) in
+            in_batch a e here (take (a * size) own) batch (drop size (drop (a * size) own)) 0 joins (omega arith) (omega arith)
+      ] in
+      all-append (λ t. t.stamp ≡ σ (place_at t.side t.index)) (map (stamped e) (map (tuple_of input 0) batch))
+      (with_stamps es (map (λ batch. map (tuple_of input 0) batch) (map (λ i. take size (drop (i * size) own)) (range_with_len (a + 1) m)))) of_batch (each_batch (a + 1) m es rest next)
+
+-- ---- in every agreeing family
+
+-- of batches that are stamped by the first of a feeder's counts
+pub stamps_at : (input : Input) (setting : Setting) (valid : IsValid input setting) (f : Family) (p : ℕ) → p < setting.feeders → (es rest : List ℕ) → count_epochs p f.controller.journal ≡ es ++ rest
+    → AllByRecursion (HasItsStamp input setting f) (with_stamps es (feeder_start input setting p).batches)
+stamps_at input setting valid f p h es rest is =
+    let own = share setting.feed setting.feeders p (row_count input R) (row_count input S) in
+    let full = count_epochs p f.controller.journal in
+    let places : (xs : List Place) (c : Place) (ys : List Place) → own ≡ xs ++ c ∷ ys → stamp_in input setting f c.side c.index ≡ slice_index full (length xs / setting.batch) = λ xs c ys joins.
+    let each = subst (AllByRecursion (λ (a : Place). a.index % setting.feeders ≡ p)) joins (share_is_own setting.feed setting.feeders p (row_count input R) (row_count input S)) in
+    let its = (all-back (λ (a : Place). a.index % setting.feeders ≡ p) xs (c ∷ ys) each).0 in
+    let once = subst (λ cs. sum_by (λ d. only_if (same_place c d) 1) cs ≤ 1) joins (once_at_most setting.feed setting.feeders p (row_count input R) (row_count input S) valid.some h c) in
+    ap (λ q. slice_index (count_epochs q f.controller.journal) (position_or_len (same_place c) (share setting.feed setting.feeders q (row_count input R) (row_count input S)) / setting.batch)) its
+    ∙ ap (λ n. slice_index full (n / setting.batch)) (ap (position_or_len (same_place c)) joins ∙ position_at (same_place c) xs c ys (itself c) once) in
+    each_batch input setting.batch own full (λ c. stamp_in input setting f c.side c.index) places 0 ((length own + setting.batch - 1) / setting.batch) es rest is
+
+pub stamps_are : (input : Input) (setting : Setting) (valid : IsValid input setting) (f : Family) (agrees : IsAgreeing input setting f) → AllByRecursion (HasItsStamp input setting f) (rows input setting valid f agrees)
+stamps_are input setting valid f agrees =
+    all-gather (HasItsStamp input setting f) setting.feeders (λ p. granted 0 (feeder_start input setting p).batches (agrees.taken_by_feeder p))
+    (λ p h.
+    let front = epochs_taken input setting f agrees p h in
+    let is : count_epochs p f.controller.journal ≡ grant_epochs 0 (agrees.taken_by_feeder p) ++ front.rest = ap (count_epochs p) (journal_is input setting valid f agrees) ∙ sym front.joins in
+    subst (AllByRecursion (HasItsStamp input setting f)) (sym (granted_is 0 (feeder_start input setting p).batches (agrees.taken_by_feeder p)))
+    (stamps_at input setting valid f p h (grant_epochs 0 (agrees.taken_by_feeder p)) front.rest is))

@@ -1,0 +1,269 @@
+-- A joiner stores what it holds of the rows that were counted.
+use Rattle.std.proofs.Common.{◌≡◌, ℕ, ◌+◌, ◌<◌, ◌≤◌, ◌^◌, ◌⊎◌, inl, inr, refl, sym, ◌∙◌, ap, subst, arith, Bool, true, false, cond, not, ◌&&◌, List, [], ◌∷◌, ◌++◌, length, append_assoc, append-nil, drop}
+use Rattle.std.specs.Prelude.{map, filter, sum_by, ◌==◌}
+use Rattle.std.specs.List.{AllByRecursion, range_with_len}
+use Rattle.std.proofs.lemmas.Bool.{lt-leb}
+use Rattle.std.proofs.lemmas.List.Sums.{sum_by-cons, sum_by-append}
+use Rattle.join_rows.specs.declared.table.Side.{Side}
+use Rattle.join_rows.specs.declared.table.Side.TheVariants.{R, S}
+use Rattle.join_rows.specs.Lists.{SameBag, IsWithinBag, gather, counting_from, total}
+use Rattle.join_rows.proofs.Bags.{only_if, sum-filter, sum_of_map, SameBag-trans}
+use Rattle.epoch_tags.specs.declared.tuple.Tuple.{Tuple}
+use Rattle.epoch_tags.specs.declared.message.ToFeeder.{ToFeeder}
+use Rattle.epoch_tags.specs.declared.message.ToFeeder.TheVariants.{Order, Grant, Stop}
+use Rattle.epoch_tags.specs.Messages.{turns, ends, order_epochs}
+use Rattle.migration_plan.specs.Steps.{holds}
+use Rattle.reshuffler_core.specs.Law.{stamped}
+use Rattle.reshuffler_core.proofs.Arrivals.{granted}
+use Rattle.joiner_law.specs.Law.{IsSettled, opened, store}
+use Rattle.load_controller.specs.declared.line.TurnLine.{TurnLine}
+use Rattle.load_controller.specs.Journal.{Rules, Follows, start_line, count_epochs, is_count_of}
+use Rattle.load_controller.specs.Law.{sent_by, sent_for, is_over}
+use Rattle.load_controller.proofs.Shifts.{stays_or_begins}
+use Rattle.trace_law.specs.declared.input.Input.{Input}
+use Rattle.trace_law.specs.Join.{row_count}
+use Rattle.row_tickets.specs.declared.place.Place.{Place}
+use Rattle.row_tickets.specs.Share.{place_at}
+use Rattle.trace_law.specs.declared.setting.Setting.{Setting}
+use Rattle.trace_law.specs.Validity.{IsValid}
+use Rattle.trace_law.specs.Family.{Family, IsAgreeing, HasItsStamp, tuple_of, batches, feeder_start, joiner_start, rules_of, first_line, shift_of, stamp_in}
+use Rattle.trace_law.specs.Stored.{with_stamps, counted_rows, is_stored, HasAllOf, place_of, all_places, rows_held, StoresItsRows}
+use Rattle.trace_law.proofs.Arrivals.{front_of}
+use Rattle.trace_law.proofs.Journals.{stores_what_it_holds, feeders_go, begins}
+use Rattle.trace_law.proofs.RowSums.{shares_sum}
+use Rattle.trace_law.proofs.Stamps.{grant_epochs, epoch_now, granted_is, epochs-append, epochs_sent, some_of_batches}
+use Rattle.trace_law.proofs.Loop.{batches_sum, rows_at}
+use Rattle.trace_law.proofs.AtMost.{stores_at_most}
+use Rattle.trace_law.proofs.Sent.{shift, rows}
+use Rattle.trace_law.proofs.Lawful.{journal_is}
+use Rattle.trace_law.proofs.Ends.{sent_last}
+use Rattle.trace_law.proofs.StampOf.{stamps_at}
+use Rattle.trace_law.proofs.Made.{shift_same}
+use Rattle.join_rows.proofs.Within.{IsWithinBag-trans, within-filter, within-gather, within-more}
+use Rattle.join_rows.proofs.Everywhere.{all-append, all-gather}
+use Rattle.join_rows.proofs.Totals.{total_same, total_le, sum-gather, range_sum}
+use Rattle.epoch_tags.proofs.Appends.{nothing_left, turns-append, ends-append}
+use Rattle.epoch_tags.specs.Orders.{StopsLast}
+use Rattle.reshuffler_core.proofs.TakesAll.{answers_turns, answers_ends}
+
+-- ---- the batches with their stamps
+
+stamps-append : (es rest : List ℕ) (batches : List (List Tuple)) → with_stamps (es ++ rest) batches ≡ with_stamps es batches ++ with_stamps rest (drop (length es) batches)
+stamps-append [] rest batches = refl
+stamps-append (e ∷ es) [] [] = refl
+stamps-append (e ∷ es) (r ∷ rest) [] = refl
+stamps-append (e ∷ es) rest (batch ∷ batches) =
+    ap (λ ts. map (stamped e) batch ++ ts) (stamps-append es rest batches) ∙ sym (append_assoc (map (stamped e) batch) (with_stamps es batches) (with_stamps rest (drop (length es) batches)))
+
+stamped_from : (c e : ℕ) (batch : List Tuple) → c ≤ e → AllByRecursion (λ t. c ≤ t.stamp) (map (stamped e) batch)
+stamped_from c e [] low = tt
+stamped_from c e (t ∷ batch) low = (low, stamped_from c e batch low)
+
+stamps_from : (c : ℕ) (es : List ℕ) (batches : List (List Tuple)) → AllByRecursion (λ e. c ≤ e) es → AllByRecursion (λ t. c ≤ t.stamp) (with_stamps es batches)
+stamps_from c [] batches each = tt
+stamps_from c (e ∷ es) [] each = tt
+stamps_from c (e ∷ es) (batch ∷ batches) (here, rest) = all-append (λ t. c ≤ t.stamp) (map (stamped e) batch) (with_stamps es batches) (stamped_from c e batch here) (stamps_from c es batches rest)
+
+-- later rows are not stored
+none_stored : (k b n j : ℕ) (ts : List Tuple) → AllByRecursion (λ t. n + 1 ≤ t.stamp) ts → (f : Tuple → ℕ) → sum_by (λ t. only_if (is_stored k b n j t) (f t)) ts ≡ 0
+none_stored k b n j [] each f = refl
+none_stored k b n j (t ∷ ts) (here, rest) f =
+    let old = none_stored k b n j ts rest f in
+    let none : only_if (is_stored k b n j t) (f t) ≡ 0 = ap (λ c. only_if (c && holds k b j t) (f t)) (lt-leb t.stamp n (omega arith)) in
+    sum_by-cons (λ x. only_if (is_stored k b n j x) (f x)) t ts ∙ omega arith
+
+-- ---- epochs rise on a feeder's link
+
+abbrev Rises : ℕ → List ToFeeder → Type 0
+Rises e [] = Unit {0}
+Rises e (Order epoch shift ∷ ms) = (e ≤ epoch) × Rises epoch ms
+Rises e (Grant ∷ ms) = Rises e ms
+Rises e (Stop ∷ ms) = Rises e ms
+
+rises-append : (e : ℕ) (xs ys : List ToFeeder) → Rises e xs → Rises (epoch_now e xs) ys → Rises e (xs ++ ys)
+rises-append e [] ys go go' = go'
+rises-append e (Order epoch shift ∷ xs) ys (low, go) go' = (low, rises-append epoch xs ys go go')
+rises-append e (Grant ∷ xs) ys go go' = rises-append e xs ys go go'
+rises-append e (Stop ∷ xs) ys go go' = rises-append e xs ys go go'
+
+rises-back : (e : ℕ) (xs ys : List ToFeeder) → Rises e (xs ++ ys) → Rises (epoch_now e xs) ys
+rises-back e [] ys go = go
+rises-back e (Order epoch shift ∷ xs) ys (low, go) = rises-back epoch xs ys go
+rises-back e (Grant ∷ xs) ys go = rises-back e xs ys go
+rises-back e (Stop ∷ xs) ys go = rises-back e xs ys go
+
+late_grants : (c e : ℕ) (ms : List ToFeeder) → c ≤ e → Rises e ms → AllByRecursion (λ x. c ≤ x) (grant_epochs e ms)
+late_grants c e [] low go = tt
+late_grants c e (Order epoch shift ∷ ms) low (more, go) = late_grants c epoch ms (omega arith) go
+late_grants c e (Grant ∷ ms) low go = (low, late_grants c e ms low go)
+late_grants c e (Stop ∷ ms) low go = late_grants c e ms low go
+
+line_rises : (same counts over : Bool) (e epoch shift : ℕ) → e ≤ epoch → Rises e (cond same [] (Order epoch shift ∷ []) ++ cond counts (Grant ∷ []) [] ++ cond over (Stop ∷ []) [])
+line_rises true true true e epoch shift low = tt
+line_rises true true false e epoch shift low = tt
+line_rises true false true e epoch shift low = tt
+line_rises true false false e epoch shift low = tt
+line_rises false true true e epoch shift low = (low, tt)
+line_rises false true false e epoch shift low = (low, tt)
+line_rises false false true e epoch shift low = (low, tt)
+line_rises false false false e epoch shift low = (low, tt)
+
+sent_rises : (rules : Rules) (p : ℕ) (line : TurnLine) (past : List TurnLine) → Follows rules (start_line rules) (line ∷ past) → Rises 0 (sent_by rules p (line ∷ past))
+sent_rises rules p line [] is = tt
+sent_rises rules p line (before ∷ past) (made, allowed, rest) =
+    let now = (epochs_sent rules p before past rest).1 in
+    let either : ((line.epoch ≡ before.epoch) × (line.shift ≡ before.shift)) ⊎ (line.epoch ≡ before.epoch + 1) =
+    subst (λ (next : TurnLine). ((next.epoch ≡ before.epoch) × (next.shift ≡ before.shift)) ⊎ (next.epoch ≡ before.epoch + 1)) (sym made) (stays_or_begins rules before past line.cause) in
+    let low : before.epoch ≤ line.epoch = elim either [ inl stays ↦ omega (arith, stays.0) | inr begins ↦ omega arith ] in
+    rises-append 0 (sent_by rules p (before ∷ past)) (sent_for rules p line before past) (sent_rises rules p before past rest)
+    (subst (λ e. Rises e (sent_for rules p line before past)) (sym now)
+    (line_rises (line.epoch == before.epoch) (is_count_of p line.cause) (not (is_over rules.feeders (before ∷ past)) && is_over rules.feeders (line ∷ before ∷ past)) before.epoch line.epoch line.shift low))
+
+now_is : (e : ℕ) (ms : List ToFeeder) → order_epochs ms ≡ counting_from (e + 1) (length (order_epochs ms)) → epoch_now e ms ≡ e + length (order_epochs ms)
+now_is e [] orders = omega arith
+now_is e (Order epoch shift ∷ ms) orders =
+    let is : epoch ≡ e + 1 = cc in
+    let rest : order_epochs ms ≡ counting_from ((e + 1) + 1) (length (order_epochs ms)) = cc in
+    let old = now_is (e + 1) ms rest in
+    ap (λ c. epoch_now c ms) is ∙ old ∙ omega arith
+now_is e (Grant ∷ ms) orders = now_is e ms orders
+now_is e (Stop ∷ ms) orders = now_is e ms orders
+
+-- ---- what a feeder answers for its stop
+
+-- ---- tuples of rows
+
+of_one : (input : Input) (e : ℕ) (batch : List Place) → AllByRecursion (λ t. t ≡ tuple_of input t.stamp (place_of t)) (map (stamped e) (map (tuple_of input 0) batch))
+of_one input e [] = tt
+of_one input e (a ∷ batch) = (refl, of_one input e batch)
+
+of_batches : (input : Input) (es : List ℕ) (bs : List (List Place)) → AllByRecursion (λ t. t ≡ tuple_of input t.stamp (place_of t)) (with_stamps es (map (λ batch. map (tuple_of input 0) batch) bs))
+of_batches input [] bs = tt
+of_batches input (e ∷ es) [] = tt
+of_batches input (e ∷ es) (batch ∷ bs) =
+    all-append (λ t. t ≡ tuple_of input t.stamp (place_of t)) (map (stamped e) (map (tuple_of input 0) batch)) (with_stamps es (map (λ batch'. map (tuple_of input 0) batch') bs)) (of_one input e batch) (of_batches input es bs)
+
+both_are : (input : Input) (setting : Setting) (f : Family) (ts : List Tuple) → AllByRecursion (λ t. t ≡ tuple_of input t.stamp (place_of t)) ts → AllByRecursion (HasItsStamp input setting f) ts
+    → AllByRecursion (λ t. t ≡ tuple_of input (stamp_in input setting f t.side t.index) (place_of t)) ts
+both_are input setting f [] more stamps = tt
+both_are input setting f (t ∷ ts) (row, more) (stamp, stamps) = (row ∙ ap (λ e. tuple_of input e (place_of t)) stamp, both_are input setting f ts more stamps)
+
+-- ---- in every agreeing family
+
+module _ (input : Input) (setting : Setting) (valid : IsValid input setting) (f : Family) (agrees : IsAgreeing input setting f) where
+  abbrev counted_of : ℕ → List Tuple
+  counted_of p = with_stamps (count_epochs p f.controller.journal) (feeder_start input setting p).batches
+
+  abbrev granted_of : ℕ → List Tuple
+  granted_of p = granted 0 (feeder_start input setting p).batches (agrees.taken_by_feeder p)
+
+  rows_counted : AllByRecursion (λ t. t ≡ tuple_of input (stamp_in input setting f t.side t.index) (place_of t)) (counted_rows input setting f)
+  rows_counted =
+      all-gather (λ t. t ≡ tuple_of input (stamp_in input setting f t.side t.index) (place_of t)) setting.feeders counted_of
+      (λ p h. both_are input setting f (counted_of p) (of_batches input (count_epochs p f.controller.journal) (batches input setting p))
+      (stamps_at input setting valid f p h (count_epochs p f.controller.journal) [] (sym (append-nil (count_epochs p f.controller.journal)))))
+
+  counted_once : IsWithinBag (map place_of (counted_rows input setting f)) (all_places input)
+  counted_once = record {
+    sums = λ h.
+        let g : Tuple → ℕ = λ t. h (place_of t) in
+        let start = sum_of_map h place_of (counted_rows input setting f) in
+        let sums = sum-gather g setting.feeders counted_of in
+        let below = total_le setting.feeders (λ p. sum_by g (counted_of p)) (λ p. sum_by (λ a. g (tuple_of input 0 a)) (rows_at input setting p))
+        (λ p low.
+        let few = some_of_batches g (λ e t. refl) (count_epochs p f.controller.journal) (feeder_start input setting p).batches in
+        let all = batches_sum input setting g p valid.batch in
+        omega arith) in
+        let rows = shares_sum setting.feed setting.feeders valid.some h (row_count input R) (row_count input S) in
+        let places = sum_by-append h (map (place_at R) (range_with_len 0 (row_count input R))) (map (place_at S) (range_with_len 0 (row_count input S))) in
+        let of_side : (side : Side) (n : ℕ) → sum_by h (map (place_at side) (range_with_len 0 n)) ≡ total n (λ i. h (place_at side i)) = λ side n.
+        sum_of_map h (place_at side) (range_with_len 0 n) ∙ range_sum (λ i. h (place_at side i)) 0 n ∙ total_same n (λ i. h (place_at side (0 + i))) (λ i. h (place_at side i)) (λ i low. let same : 0 + i ≡ i = omega arith in ap (λ m. h (place_at side m)) same) in
+        let r = of_side R (row_count input R) in
+        let s = of_side S (row_count input S) in
+        omega arith;
+  }
+
+  -- all that was counted: what was granted, and more
+  sent_rest : (p : ℕ) → p < setting.feeders → (rest : List ToFeeder) × (agrees.taken_by_feeder p ++ rest ≡ sent_by (rules_of setting) p (agrees.controller.line ∷ agrees.controller.past))
+  sent_rest p h =
+      let law = agrees.feeders p h in
+      let link = agrees.controller_feeder p h in (
+        law.held ++ link.rest,
+        sym (append_assoc (agrees.taken_by_feeder p) law.held link.rest) ∙ ap (λ ms. ms ++ link.rest) law.splits ∙ link.joins ∙ agrees.controller.sends p h,
+      )
+
+  more_epochs : (p : ℕ) (h : p < setting.feeders) → count_epochs p f.controller.journal ≡ grant_epochs 0 (agrees.taken_by_feeder p) ++ grant_epochs (epoch_now 0 (agrees.taken_by_feeder p)) (sent_rest p h).0
+  more_epochs p h =
+      ap (count_epochs p) (journal_is input setting valid f agrees)
+      ∙ sym (epochs_sent (rules_of setting) p agrees.controller.line agrees.controller.past agrees.controller.follows).0
+      ∙ ap (grant_epochs 0) (sym (sent_rest p h).1)
+      ∙ epochs-append 0 (agrees.taken_by_feeder p) (sent_rest p h).0
+
+  more_of : (p : ℕ) → p < setting.feeders → List Tuple
+  more_of p h = with_stamps (grant_epochs (epoch_now 0 (agrees.taken_by_feeder p)) (sent_rest p h).0) (drop (length (grant_epochs 0 (agrees.taken_by_feeder p))) (feeder_start input setting p).batches)
+
+  counted_is : (p : ℕ) (h : p < setting.feeders) → counted_of p ≡ granted_of p ++ more_of p h
+  unfolding more_of
+  counted_is p h =
+      let bs = (feeder_start input setting p).batches in
+      let es = grant_epochs 0 (agrees.taken_by_feeder p) in
+      let rest = grant_epochs (epoch_now 0 (agrees.taken_by_feeder p)) (sent_rest p h).0 in
+      ap (λ xs. with_stamps xs bs) (more_epochs p h) ∙ stamps-append es rest bs ∙ ap (λ ts. ts ++ with_stamps rest (drop (length es) bs)) (sym (granted_is 0 bs (agrees.taken_by_feeder p)))
+
+  stores_few : (n j : ℕ) → j < 2 ^ setting.k → n ≤ opened (joiner_start input setting j) (agrees.taken_by_joiner j)
+      → IsWithinBag (store (joiner_start input setting j) (agrees.taken_by_joiner j) n) (rows_held input setting f n j)
+  stores_few n j h low =
+      let within = within-gather setting.feeders granted_of counted_of (λ p h'. subst (λ ts. IsWithinBag (granted_of p) ts) (sym (counted_is p h')) (within-more (granted_of p) (more_of p h'))) in
+      IsWithinBag-trans
+      (subst (λ c. IsWithinBag (store (joiner_start input setting j) (agrees.taken_by_joiner j) n) (filter (is_stored setting.k c n j) (rows input setting valid f agrees))) (sym (shift_same input setting valid f agrees n)) (stores_at_most input setting valid f agrees n j h low))
+      (within-filter (is_stored setting.k (shift_of setting f n) n j) within)
+
+  -- where a joiner has all of an epoch from a feeder, more that was counted is later
+  more_later : (n j p : ℕ) (h : j < 2 ^ setting.k) (h' : p < setting.feeders) → (n < turns ((agrees.taken_by_joiner j).from_feeder p)) ⊎ (0 < ends ((agrees.taken_by_joiner j).from_feeder p))
+      → AllByRecursion (λ t. n + 1 ≤ t.stamp) (more_of p h')
+  unfolding more_of
+  more_later n j p h h' (inl past) =
+      let law = agrees.feeders p h' in
+      let taken = agrees.taken_by_feeder p in
+      let front = front_of input setting f agrees (shift input setting valid f agrees) (feeders_go input setting f agrees) (begins input setting f agrees) j p h h' in
+      let all_turns = ap turns front.1 ∙ answers_turns setting.k j 0 (first_line setting).shift (feeder_start input setting p).batches taken in
+      let parts = turns-append ((agrees.taken_by_joiner j).from_feeder p) front.0 in
+      let now = now_is 0 taken law.orders in
+      let go = rises-back 0 taken (sent_rest p h').0 (subst (Rises 0) (sym (sent_rest p h').1) (sent_rises (rules_of setting) p agrees.controller.line agrees.controller.past agrees.controller.follows)) in
+      stamps_from (n + 1) (grant_epochs (epoch_now 0 taken) (sent_rest p h').0) (drop (length (grant_epochs 0 taken)) (feeder_start input setting p).batches)
+      (late_grants (n + 1) (epoch_now 0 taken) (sent_rest p h').0 (omega arith) go)
+  more_later n j p h h' (inr ended) =
+      let taken = agrees.taken_by_feeder p in
+      let front = front_of input setting f agrees (shift input setting valid f agrees) (feeders_go input setting f agrees) (begins input setting f agrees) j p h h' in
+      let all_ends = ap ends front.1 ∙ answers_ends setting.k j 0 (first_line setting).shift (feeder_start input setting p).batches taken in
+      let parts = ends-append ((agrees.taken_by_joiner j).from_feeder p) front.0 in
+      let last = sent_last input setting f agrees p in
+      let none = nothing_left taken (sent_rest p h').0 (subst StopsLast (sym (sent_rest p h').1) last) (omega arith) in
+      subst (λ ms. AllByRecursion (λ t. n + 1 ≤ t.stamp) (with_stamps (grant_epochs (epoch_now 0 taken) ms) (drop (length (grant_epochs 0 taken)) (feeder_start input setting p).batches))) (sym none) tt
+
+  stores_all_of : (n j : ℕ) → j < 2 ^ setting.k
+      → ((m : ℕ) → m < n → IsSettled (joiner_start input setting j) (agrees.taken_by_joiner j) m)
+      → HasAllOf setting.feeders (agrees.taken_by_joiner j) n
+      → SameBag (store (joiner_start input setting j) (agrees.taken_by_joiner j) n) (rows_held input setting f n j)
+  stores_all_of n j h settled has =
+      let k = setting.k in
+      let keep : Tuple → Bool = is_stored k (shift_of setting f n) n j in
+      let old = subst (λ c. SameBag (store (joiner_start input setting j) (agrees.taken_by_joiner j) n) (filter (is_stored k c n j) (rows input setting valid f agrees))) (sym (shift_same input setting valid f agrees n))
+      (stores_what_it_holds input setting f agrees valid.some valid.small n j h settled has) in
+      let more : SameBag (filter keep (gather setting.feeders granted_of)) (filter keep (gather setting.feeders counted_of)) = record {
+        sums = λ g.
+            let w : Tuple → ℕ = λ t. only_if (keep t) (g t) in
+            sum-filter g keep (gather setting.feeders granted_of)
+            ∙ sum-gather w setting.feeders granted_of
+            ∙ total_same setting.feeders (λ p. sum_by w (granted_of p)) (λ p. sum_by w (counted_of p))
+            (λ p h'.
+            let is = ap (sum_by w) (counted_is p h') ∙ sum_by-append w (granted_of p) (more_of p h') in
+            let none = none_stored k (shift_of setting f n) n j (more_of p h') (more_later n j p h h' (has p h')) g in
+            omega arith)
+            ∙ sym (sum-gather w setting.feeders counted_of)
+            ∙ sym (sum-filter g keep (gather setting.feeders counted_of));
+      } in
+      SameBag-trans old more
+
+  pub stores_its_rows : StoresItsRows input setting f agrees
+  stores_its_rows = record { of_rows = rows_counted; each_once = counted_once; at_most = stores_few; all_of = stores_all_of }

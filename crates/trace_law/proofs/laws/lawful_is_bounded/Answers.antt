@@ -1,0 +1,5 @@
+use Rattle.trace_law.proofs.Bounds.{bounded}
+use Rattle.trace_law.proofs.laws.lawful_is_bounded.Goals as goal
+
+pub returns : goal.returns
+returns c = λ input setting journal valid law a c' small_r small_s. bounded input setting journal valid law a c' small_r small_s

@@ -1,0 +1,5 @@
+use Rattle.trace_law.proofs.Quiet.{finishes}
+use Rattle.trace_law.proofs.laws.quiet_is_finished.Goals as goal
+
+pub returns : goal.returns
+returns c = λ input setting f valid agrees quiet. finishes input setting f valid agrees quiet

@@ -1,0 +1,9 @@
+use Rattle.trace_law.proofs.OneTaken.{feeder_took, took_of_feeder, took_of_joiner}
+use Rattle.trace_law.proofs.laws.taken_is_determined.Goals as goal
+
+pub returns : goal.returns
+returns c = λ input setting f valid one other. (
+  feeder_took input setting f valid.some one other,
+  (λ j p h low. took_of_feeder input setting f valid.some one other j h p low),
+  (λ j i h hi. took_of_joiner input setting f valid.some one other j h i hi),
+)

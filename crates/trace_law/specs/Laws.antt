@@ -1,0 +1,86 @@
+-- What every agreeing family keeps to.
+use Rattle.std.specs.Prelude.{ℕ, ◌≡◌, ◌+◌, ◌*◌, ◌^◌, ◌<◌, ◌≤◌, List, map, reverse}
+use Rattle.join_rows.specs.declared.table.Side.TheVariants.{R, S}
+use Rattle.join_rows.specs.Lists.{SameBag, IsWithinBag}
+use Rattle.epoch_tags.specs.declared.tuple.Pair.{Pair}
+use Rattle.load_controller.specs.declared.line.TurnLine.{TurnLine}
+use Rattle.load_controller.specs.Journal.{IsLawfulSoFar, last_epoch, due_lines}
+use Rattle.pair_collector.specs.Law.{pairs_taken}
+use Rattle.pair_collector.specs.Order.{InOrder}
+use Rattle.trace_law.specs.declared.input.Input.{Input}
+use Rattle.trace_law.specs.Join.{row_count, nested_loop}
+use Rattle.trace_law.specs.Batches.{size_of}
+use Rattle.trace_law.specs.Stored.{StoresItsRows}
+use Rattle.trace_law.specs.declared.setting.Setting.{Setting}
+use Rattle.trace_law.specs.Validity.{IsValidInput, IsValidSetting, IsValid}
+use Rattle.trace_law.specs.Family.{Family, IsAgreeing, IsQuiet, IsFinished, NothingWrongIsSent, AnswersTheJoin, batches, rules_of, events}
+
+-- ---- for which inputs
+
+-- what a run takes meets what the laws ask
+abbrev pub LimitsSuffice : Type 0
+LimitsSuffice = (input : Input) (setting : Setting) → IsValidInput input → IsValidSetting setting → IsValid input setting
+
+-- ---- at every moment
+
+-- no pair is sent twice, and none is wrong
+abbrev pub SendsNothingWrong : Type 0
+SendsNothingWrong = (input : Input) (setting : Setting) (f : Family) → IsValid input setting → IsAgreeing input setting f → NothingWrongIsSent input setting f
+
+-- the collector has taken nothing wrong, and nothing twice
+abbrev pub TakesNothingWrong : Type 0
+TakesNothingWrong = (input : Input) (setting : Setting) (f : Family) → IsValid input setting → IsAgreeing input setting f → IsWithinBag (pairs_taken (2 ^ setting.k) f.collector) (nested_loop input)
+
+-- a joiner stores what it holds of the rows that were counted
+abbrev pub StoresWhatItHolds : Type 0
+StoresWhatItHolds = (input : Input) (setting : Setting) (f : Family) → IsValid input setting → (agrees : IsAgreeing input setting f) → StoresItsRows input setting f agrees
+
+-- the journal is lawful so far
+abbrev pub KeepsALawfulJournal : Type 0
+KeepsALawfulJournal = (input : Input) (setting : Setting) (f : Family) → IsValid input setting → IsAgreeing input setting f
+    → IsLawfulSoFar (rules_of setting) (λ p. map size_of (batches input setting p)) f.controller.journal
+
+-- a journal that is lawful so far has at most k migrations, and one decision, for each binary digit of the numbers of rows
+abbrev pub LawfulIsBounded : Type 0
+LawfulIsBounded = (input : Input) (setting : Setting) (journal : List TurnLine) → IsValid input setting
+    → IsLawfulSoFar (rules_of setting) (λ p. map size_of (batches input setting p)) journal
+    → (a c : ℕ) → row_count input R < 2 ^ a → row_count input S < 2 ^ c
+    → (last_epoch journal ≤ setting.k * (a + c)) × (due_lines (rules_of setting) (reverse journal) ≤ a + c)
+
+-- a family has not more events than this, its journal having that many migrations
+abbrev pub EventsAreFew : Type 0
+EventsAreFew = (input : Input) (setting : Setting) (f : Family) → IsValid input setting → IsAgreeing input setting f
+    → events setting f ≤ 8 * (row_count input R + row_count input S + setting.feeders + 2) * 2 ^ setting.k * (last_epoch f.controller.journal + 2)
+
+-- what the actors took is determined by the lists
+abbrev pub TakenIsDetermined : Type 0
+TakenIsDetermined = (input : Input) (setting : Setting) (f : Family) → IsValid input setting → (one other : IsAgreeing input setting f)
+    → ((p : ℕ) → p < setting.feeders → one.taken_by_feeder p ≡ other.taken_by_feeder p)
+    × ((j p : ℕ) → j < 2 ^ setting.k → p < setting.feeders → (one.taken_by_joiner j).from_feeder p ≡ (other.taken_by_joiner j).from_feeder p)
+    × ((j i : ℕ) → j < 2 ^ setting.k → i < 2 ^ setting.k → (one.taken_by_joiner j).from_joiner i ≡ (other.taken_by_joiner j).from_joiner i)
+
+-- ---- in the end
+
+-- where nothing is under way and no feeder would begin, all is finished
+abbrev pub QuietIsFinished : Type 0
+QuietIsFinished = (input : Input) (setting : Setting) (f : Family) → IsValid input setting → (agrees : IsAgreeing input setting f) → IsQuiet input setting f agrees → IsFinished input setting f agrees
+
+-- a finished family has the nested loop's answer, and its numbers
+abbrev pub AnswersInTheEnd : Type 0
+AnswersInTheEnd = (input : Input) (setting : Setting) (f : Family) → IsValid input setting → (agrees : IsAgreeing input setting f) → IsFinished input setting f agrees → AnswersTheJoin input setting f
+
+-- pairs that are in order and, as a bag, those of the nested loop, are the nested loop
+abbrev pub SortsIntoTheLoop : Type 0
+SortsIntoTheLoop = (input : Input) (pairs : List Pair) → InOrder pairs → SameBag pairs (nested_loop input) → pairs ≡ nested_loop input
+
+-- ---- the premises can be met
+
+-- a finished family with two migrations
+pub record FinishedAfterTwoMigrations : Type 0 where
+  pub input : Input
+  pub setting : Setting
+  pub family : Family
+  pub valid : IsValid input setting
+  pub agrees : IsAgreeing input setting family
+  pub finished : IsFinished input setting family agrees
+  pub migrated : last_epoch family.controller.journal ≡ 2

@@ -1,0 +1,7 @@
+pub mod Join
+pub mod Validity
+pub mod Batches
+pub mod Family
+pub mod Rows
+pub mod Laws
+pub mod Stored

@@ -1,0 +1,47 @@
+-- A worked row: four joiners, one feeder, batches of four, all rows of R first, eight rows on each side,
+-- each step settled before the next count.
+use Rattle.std.specs.Prelude.{◌≡◌, ℕ, List, [], ◌∷◌, map, reverse, refl, replicate}
+use Rattle.join_rows.specs.declared.table.Side.{Side}
+use Rattle.join_rows.specs.declared.table.Side.TheVariants.{R, S}
+use Rattle.theta_pred.specs.Formula.{every, no_formula}
+use Rattle.load_controller.specs.declared.line.Cause.TheVariants.{Count, Settle, Drain}
+use Rattle.load_controller.specs.declared.line.TurnLine.{TurnLine}
+use Rattle.load_controller.specs.Journal.{start_line, shift_at}
+use Rattle.load_controller.specs.Rows.{past_of, growing}
+use Rattle.trace_law.specs.declared.input.Input.{Input}
+use Rattle.trace_law.specs.Join.{made, held, moved}
+use Rattle.row_tickets.specs.declared.place.Feed.TheVariants.{RFirst}
+use Rattle.row_tickets.specs.Share.{place_at}
+use Rattle.trace_law.specs.Batches.{stamp_of}
+
+abbrev pub journal : List TurnLine
+journal = reverse (past_of growing (start_line growing) [] (
+    Count 0 4 0 ∷ Settle 0 ∷ Settle 1 ∷ Settle 2 ∷ Settle 3 ∷ Count 0 4 0 ∷ Count 0 0 4 ∷ Count 0 0 4 ∷ Drain 0
+    ∷ Settle 3 ∷ Settle 2 ∷ Settle 1 ∷ Settle 0 ∷ []))
+
+abbrev pub input : Input
+input = record {
+  table_r = record { names = []; rows = replicate 8 [] };
+  table_s = record { names = []; rows = replicate 8 [] };
+  theta = record { formula = every no_formula; width_r = 0; width_s = 0 };
+  tickets_r = 0 ∷ 32 ∷ 64 ∷ 96 ∷ 128 ∷ 160 ∷ 192 ∷ 224 ∷ [];
+  tickets_s = 0 ∷ 1 ∷ 2 ∷ 3 ∷ 4 ∷ 5 ∷ 6 ∷ 7 ∷ [];
+}
+
+abbrev pub stamp : Side → ℕ → ℕ
+stamp side index = stamp_of RFirst 1 4 8 8 journal (place_at side index)
+
+abbrev pub shift : ℕ → ℕ
+shift e = shift_at 1 e journal
+
+pub stamps : stamp R 0 ∷ stamp R 7 ∷ stamp S 3 ∷ stamp S 4 ∷ [] ≡ 1 ∷ 1 ∷ 1 ∷ 2 ∷ []
+stamps = refl
+
+pub each_makes_16 : map (made input 2 stamp shift) (0 ∷ 1 ∷ 2 ∷ 3 ∷ []) ≡ 16 ∷ 16 ∷ 16 ∷ 16 ∷ []
+each_makes_16 = refl
+
+pub each_holds_4_and_4 : held input 2 1 R 0 ∷ held input 2 1 S 0 ∷ held input 2 1 R 3 ∷ held input 2 1 S 3 ∷ [] ≡ 4 ∷ 4 ∷ 4 ∷ 4 ∷ []
+each_holds_4_and_4 = refl
+
+pub moved_0_and_8 : moved input 2 stamp shift 1 ∷ moved input 2 stamp shift 2 ∷ [] ≡ 0 ∷ 8 ∷ []
+moved_0_and_8 = refl

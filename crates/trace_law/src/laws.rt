@@ -1,0 +1,63 @@
+// What every agreeing family keeps to, each law as the contract of a function with an empty body.
+
+ghost use Rattle.trace_law.specs.Laws.{LimitsSuffice, SendsNothingWrong, TakesNothingWrong, StoresWhatItHolds, KeepsALawfulJournal, LawfulIsBounded, EventsAreFew, FinishedAfterTwoMigrations, TakenIsDetermined, QuietIsFinished, AnswersInTheEnd, SortsIntoTheLoop};
+
+/// A valid input and a valid setting are what the other laws ask for.
+pub fn limits_suffice()
+    ensures { LimitsSuffice }
+{}
+
+/// At every moment no pair is sent twice, and none is wrong.
+pub fn sends_nothing_wrong()
+    ensures { SendsNothingWrong }
+{}
+
+/// At every moment the collector has taken nothing wrong.
+pub fn takes_nothing_wrong()
+    ensures { TakesNothingWrong }
+{}
+
+/// A joiner stores what it holds of the rows that were counted.
+pub fn stores_what_it_holds()
+    ensures { StoresWhatItHolds }
+{}
+
+/// The journal of an agreeing family is lawful so far.
+pub fn keeps_a_lawful_journal()
+    ensures { KeepsALawfulJournal }
+{}
+
+/// A lawful journal has few migrations and few decisions.
+pub fn lawful_is_bounded()
+    ensures { LawfulIsBounded }
+{}
+
+/// An agreeing family has few events.
+pub fn events_are_few()
+    ensures { EventsAreFew }
+{}
+
+/// What the actors of an agreeing family took is determined by its lists.
+pub fn taken_is_determined()
+    ensures { TakenIsDetermined }
+{}
+
+/// A quiet agreeing family is finished.
+pub fn quiet_is_finished()
+    ensures { QuietIsFinished }
+{}
+
+/// A finished family has the nested loop's pairs, and the numbers of the formulas.
+pub fn answers_in_the_end()
+    ensures { AnswersInTheEnd }
+{}
+
+/// Pairs in order that are the nested loop's as a bag are the nested loop's list.
+pub fn sorts_into_the_loop()
+    ensures { SortsIntoTheLoop }
+{}
+
+/// The premises of these laws can be met: a family with two migrations agrees and is finished.
+pub fn some_family_migrates()
+    ensures { FinishedAfterTwoMigrations }
+{}
