@@ -9,6 +9,7 @@ pub mod Stamps
 pub mod Loop
 pub mod AtMost
 pub mod Sent
+pub mod Widths
 pub mod Finished
 pub mod Lawful
 pub mod Ends

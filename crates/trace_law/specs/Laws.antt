@@ -1,5 +1,6 @@
 -- What every agreeing family keeps to.
 use Rattle.std.specs.Prelude.{ℕ, ◌≡◌, ◌+◌, ◌*◌, ◌^◌, ◌<◌, ◌≤◌, List, map, reverse}
+use Rattle.std.specs.List.{AllByRecursion}
 use Rattle.join_rows.specs.declared.table.Side.TheVariants.{R, S}
 use Rattle.join_rows.specs.Lists.{SameBag, IsWithinBag}
 use Rattle.epoch_tags.specs.declared.tuple.Pair.{Pair}
@@ -10,6 +11,7 @@ use Rattle.pair_collector.specs.Order.{InOrder}
 use Rattle.trace_law.specs.declared.input.Input.{Input}
 use Rattle.trace_law.specs.Join.{row_count, nested_loop}
 use Rattle.trace_law.specs.Batches.{size_of}
+use Rattle.trace_law.specs.Widths.{HasRow}
 use Rattle.trace_law.specs.Stored.{StoresItsRows}
 use Rattle.trace_law.specs.declared.setting.Setting.{Setting}
 use Rattle.trace_law.specs.Validity.{IsValidInput, IsValidSetting, IsValid}
@@ -34,6 +36,12 @@ TakesNothingWrong = (input : Input) (setting : Setting) (f : Family) → IsValid
 -- a joiner stores what it holds of the rows that were counted
 abbrev pub StoresWhatItHolds : Type 0
 StoresWhatItHolds = (input : Input) (setting : Setting) (f : Family) → IsValid input setting → (agrees : IsAgreeing input setting f) → StoresItsRows input setting f agrees
+
+-- each row that a feeder or a joiner sent to a joiner has the predicate's width of its side
+abbrev pub NoneIsStrange : Type 0
+NoneIsStrange = (input : Input) (setting : Setting) (f : Family) → IsValid input setting → IsAgreeing input setting f
+    → ((p j : ℕ) → p < setting.feeders → j < 2 ^ setting.k → AllByRecursion (HasRow input.theta) ((f.feeder p).to_joiner j))
+    × ((i j : ℕ) → i < 2 ^ setting.k → j < 2 ^ setting.k → AllByRecursion (HasRow input.theta) ((f.joiner i).to_joiner j))
 
 -- the journal is lawful so far
 abbrev pub KeepsALawfulJournal : Type 0

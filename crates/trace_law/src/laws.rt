@@ -1,6 +1,6 @@
 // What every agreeing family keeps to, each law as the contract of a function with an empty body.
 
-ghost use Rattle.trace_law.specs.Laws.{LimitsSuffice, SendsNothingWrong, TakesNothingWrong, StoresWhatItHolds, KeepsALawfulJournal, LawfulIsBounded, EventsAreFew, FinishedAfterTwoMigrations, TakenIsDetermined, QuietIsFinished, AnswersInTheEnd, SortsIntoTheLoop};
+ghost use Rattle.trace_law.specs.Laws.{LimitsSuffice, SendsNothingWrong, TakesNothingWrong, StoresWhatItHolds, NoneIsStrange, KeepsALawfulJournal, LawfulIsBounded, EventsAreFew, FinishedAfterTwoMigrations, TakenIsDetermined, QuietIsFinished, AnswersInTheEnd, SortsIntoTheLoop};
 
 /// A valid input and a valid setting are what the other laws ask for.
 pub fn limits_suffice()
@@ -20,6 +20,11 @@ pub fn takes_nothing_wrong()
 /// A joiner stores what it holds of the rows that were counted.
 pub fn stores_what_it_holds()
     ensures { StoresWhatItHolds }
+{}
+
+/// No row that is sent to a joiner is of a foreign width.
+pub fn none_is_strange()
+    ensures { NoneIsStrange }
 {}
 
 /// The journal of an agreeing family is lawful so far.

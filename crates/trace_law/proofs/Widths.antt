@@ -1,0 +1,147 @@
+-- No message of an agreeing family carries a row of a foreign width.
+use Rattle.std.proofs.Common.{◌≡◌, ℕ, ◌+◌, ◌<◌, ◌^◌, inl, inr, refl, sym, ◌∙◌, ap, subst, arith, Bool, true, false, cond, not, List, [], ◌∷◌, length}
+use Rattle.std.specs.Prelude.{filter, map, sum_by, ◌==◌}
+use Rattle.std.specs.List.{AllByRecursion}
+use Rattle.std.proofs.lemmas.Bool.{cases_lt, eqb-true, eq-eqb}
+use Rattle.join_rows.specs.declared.table.Side.{Side}
+use Rattle.join_rows.specs.declared.table.Side.TheVariants.{R, S}
+use Rattle.join_rows.specs.Lists.{IsWithinBag, total}
+use Rattle.join_rows.proofs.Bags.{only_if}
+use Rattle.join_rows.proofs.Everywhere.{weaken, all-front, all-back, all-append, all-part}
+use Rattle.join_rows.proofs.Totals.{total_same, total-zero}
+use Rattle.join_rows.proofs.Within.{IsWithinBag-trans, within_same, within-refl, filtered_within, none_fails}
+use Rattle.row_tickets.specs.Share.{place_at}
+use Rattle.theta_pred.specs.Formula.{Meaning}
+use Rattle.theta_pred.specs.Truth.{width_of}
+use Rattle.epoch_tags.specs.declared.tuple.Tuple.{Tuple}
+use Rattle.epoch_tags.specs.declared.message.ToJoiner.{ToJoiner}
+use Rattle.epoch_tags.specs.declared.message.ToJoiner.TheVariants.{Tup, Turn, End, Moved, MovedEnd}
+use Rattle.epoch_tags.specs.declared.message.ToFeeder.{ToFeeder}
+use Rattle.epoch_tags.specs.declared.message.ToFeeder.TheVariants.{Order, Grant, Stop}
+use Rattle.epoch_tags.specs.Messages.{moved_of}
+use Rattle.epoch_tags.specs.Orders.{NeverFalls}
+use Rattle.migration_plan.specs.Steps.{holds, is_of}
+use Rattle.reshuffler_core.specs.Law.{answers, stamped, copies_for}
+use Rattle.reshuffler_core.proofs.Arrivals.{granted}
+use Rattle.joiner_law.specs.Law.{store, partner_of, exchanged}
+use Rattle.trace_law.specs.declared.input.Input.{Input}
+use Rattle.trace_law.specs.declared.setting.Setting.{Setting}
+use Rattle.trace_law.specs.Join.{row_count}
+use Rattle.trace_law.specs.Validity.{IsValid}
+use Rattle.trace_law.specs.Family.{Family, IsAgreeing, tuple_of, cells_of, feeder_start, first_line}
+use Rattle.trace_law.specs.Widths.{IsRow, HasRow}
+use Rattle.trace_law.proofs.Stores.{is_stored}
+use Rattle.trace_law.proofs.Loop.{granted_within}
+use Rattle.trace_law.proofs.AtMost.{stores_at_most}
+use Rattle.trace_law.proofs.Sent.{shift, rows, s_of, t_of}
+
+-- ---- what a feeder sends
+
+copies_wide : (theta : Meaning) (e : ℕ) (keep : Tuple → Bool) (ts : List Tuple) → AllByRecursion (IsRow theta) (map (stamped e) ts)
+    → AllByRecursion (HasRow theta) (map (λ t. Tup (stamped e t)) (filter keep ts))
+copies_wide theta e keep [] each = tt
+copies_wide theta e keep (t ∷ ts) (here, rest) = by_test (keep t) (copies_wide theta e keep ts rest)
+  where
+    by_test : (c : Bool) → AllByRecursion (HasRow theta) (map (λ x. Tup (stamped e x)) (filter keep ts)) → AllByRecursion (HasRow theta) (map (λ x. Tup (stamped e x)) (cond c (t ∷ filter keep ts) (filter keep ts)))
+    by_test true more = (here, more)
+    by_test false more = more
+
+answers_wide : (theta : Meaning) (k j e b : ℕ) (batches : List (List Tuple)) (ms : List ToFeeder) → AllByRecursion (IsRow theta) (granted e batches ms)
+    → AllByRecursion (HasRow theta) (answers k j e b batches ms)
+answers_wide theta k j e b batches [] each = tt
+answers_wide theta k j e b batches (Order epoch shift ∷ ms) each = (tt, answers_wide theta k j epoch shift batches ms each)
+answers_wide theta k j e b [] (Grant ∷ ms) each = answers_wide theta k j e b [] ms each
+answers_wide theta k j e b (batch ∷ batches) (Grant ∷ ms) each =
+    all-append (HasRow theta) (copies_for k j e b batch) (answers k j e b batches ms)
+    (copies_wide theta e (holds k b j) batch (all-front (IsRow theta) (map (stamped e) batch) (granted e batches ms) each))
+    (answers_wide theta k j e b batches ms (all-back (IsRow theta) (map (stamped e) batch) (granted e batches ms) each))
+answers_wide theta k j e b batches (Stop ∷ ms) each = (tt, answers_wide theta k j e b batches ms each)
+
+-- ---- what a joiner sends
+
+head_moved : (theta : Meaning) (epoch : ℕ) (x : Tuple) (ms : List ToJoiner) → AllByRecursion (IsRow theta) (moved_of epoch (Moved epoch x ∷ ms)) → IsRow theta x
+head_moved theta epoch x ms each = by_test (epoch == epoch) (eq-eqb epoch epoch (omega arith)) each
+  where
+    by_test : (t : Bool) → t ≡ true → AllByRecursion (IsRow theta) (cond t (x ∷ moved_of epoch ms) (moved_of epoch ms)) → IsRow theta x
+    by_test true is (here, rest) = here
+    by_test false is each' = absurd (cc)
+
+rest_moved : (theta : Meaning) (e epoch : ℕ) (x : Tuple) (ms : List ToJoiner) → AllByRecursion (IsRow theta) (moved_of e (Moved epoch x ∷ ms)) → AllByRecursion (IsRow theta) (moved_of e ms)
+rest_moved theta e epoch x ms each = by_test (epoch == e) each
+  where
+    by_test : (t : Bool) → AllByRecursion (IsRow theta) (cond t (x ∷ moved_of e ms) (moved_of e ms)) → AllByRecursion (IsRow theta) (moved_of e ms)
+    by_test true (here, rest) = rest
+    by_test false each' = each'
+
+moved_wide : (theta : Meaning) (e : ℕ) (ms : List ToJoiner) → NeverFalls e ms → ((epoch : ℕ) → AllByRecursion (IsRow theta) (moved_of epoch ms)) → AllByRecursion (HasRow theta) ms
+moved_wide theta e [] never each = tt
+moved_wide theta e (Tup x ∷ ms) never each = absurd never
+moved_wide theta e (Turn epoch shift ∷ ms) never each = absurd never
+moved_wide theta e (End ∷ ms) never each = absurd never
+moved_wide theta e (Moved epoch x ∷ ms) never each =
+    (head_moved theta epoch x ms (each epoch), moved_wide theta epoch ms never.1 (λ n. rest_moved theta n epoch x ms (each n)))
+moved_wide theta e (MovedEnd epoch ∷ ms) never each = (tt, moved_wide theta (epoch + 1) ms never.1 each)
+
+no_length : {X : Type 0} (P : X → Type 0) (xs : List X) → length xs ≡ 0 → AllByRecursion P xs
+no_length P [] none = tt
+no_length P (x ∷ xs) none = absurd (omega arith)
+
+-- ---- of a family
+
+module _ (input : Input) (setting : Setting) (valid : IsValid input setting) (f : Family) (agrees : IsAgreeing input setting f) where
+  abbrev theta : Meaning
+  theta = input.theta
+
+  abbrev fits : Tuple → Bool
+  fits t = length t.cells == width_of theta t.side
+
+  abbrev bad : Tuple → ℕ
+  bad t = only_if (not (fits t)) 1
+
+  none_bad : sum_by bad (rows input setting valid f agrees) ≡ 0
+  none_bad =
+      let wide : (side : Side) (i : ℕ) → i < row_count input side → length (cells_of input side i) ≡ width_of theta side = λ side i low. (valid.of_input.sides side).rows i [] low in
+      let none : (side : Side) → total (row_count input side) (λ i. bad (tuple_of input 0 (place_at side i))) ≡ 0 = λ side.
+      total_same (row_count input side) (λ i. bad (tuple_of input 0 (place_at side i))) (λ i. 0) (λ i low. ap (λ c. only_if (not c) 1) (eq-eqb (length (cells_of input side i)) (width_of theta side) (wide side i low))) ∙ total-zero (row_count input side) in
+      let of_r = none R in
+      let of_s = none S in
+      let below = granted_within input setting valid agrees.taken_by_feeder bad (λ e t. refl) in
+      omega arith
+
+  -- what is within the rows that feeders were granted has its widths
+  within_wide : (ts : List Tuple) → IsWithinBag ts (rows input setting valid f agrees) → AllByRecursion (IsRow theta) ts
+  within_wide ts within =
+      let few = within.sums bad in
+      let none = none_bad in
+      weaken (λ t. fits t ≡ true) (IsRow theta) (λ t is. eqb-true (length t.cells) (width_of theta t.side) is) ts (none_fails fits ts (omega arith))
+
+  pub feeders_wide : (p j : ℕ) → p < setting.feeders → j < 2 ^ setting.k → AllByRecursion (HasRow theta) ((f.feeder p).to_joiner j)
+  feeders_wide p j h h' =
+      let all = rows input setting valid f agrees in
+      let of_p : ℕ → List Tuple = λ q. granted 0 (feeder_start input setting q).batches (agrees.taken_by_feeder q) in
+      let its = all-part (IsRow theta) setting.feeders of_p p h (within_wide all (within-refl all)) in
+      subst (AllByRecursion (HasRow theta)) (sym ((agrees.feeders p h).answered j h'))
+      (answers_wide theta setting.k j 0 (first_line setting).shift (feeder_start input setting p).batches (agrees.taken_by_feeder p) its)
+
+  -- in each step
+  step_wide : (i j e : ℕ) → i < 2 ^ setting.k → AllByRecursion (IsRow theta) (moved_of e ((f.joiner i).to_joiner j))
+  step_wide i j e h =
+      let law = agrees.joiners i h in
+      let s = s_of input setting valid f agrees i in
+      let t = t_of input setting valid f agrees i in
+      let ms : ℕ → ℕ → List Tuple = λ q n. moved_of n ((f.joiner i).to_joiner q) in
+      elim (cases_lt 0 (length (ms j e))) [
+        | inl some ↦
+            let is = law.moved_only j e some in
+            let n = is.0 in
+            let kept = filtered_within (is_of (exchanged s t n)) (store s t n) in
+            let stored = stores_at_most input setting valid f agrees n i h (let low = is.2 in omega arith) in
+            let all = filtered_within (is_stored setting.k (shift input setting valid f agrees n) n i) (rows input setting valid f agrees) in
+            let wide = within_wide (ms (partner_of s t n) (0 + n + 1))
+            (IsWithinBag-trans (within_same (law.moved n is.2)) (IsWithinBag-trans kept (IsWithinBag-trans stored all))) in
+            subst (λ q. AllByRecursion (IsRow theta) (ms q e)) (sym is.3) (subst (λ m. AllByRecursion (IsRow theta) (ms (partner_of s t n) m)) (sym is.1) wide)
+        | inr none ↦ no_length (IsRow theta) (ms j e) (omega arith)
+      ]
+
+  pub joiners_wide : (i j : ℕ) → i < 2 ^ setting.k → AllByRecursion (HasRow theta) ((f.joiner i).to_joiner j)
+  joiners_wide i j h = moved_wide theta 0 ((f.joiner i).to_joiner j) ((agrees.joiners i h).never_falls j) (λ e. step_wide i j e h)
