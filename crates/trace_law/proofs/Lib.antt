@@ -18,6 +18,7 @@ pub mod Made
 pub mod Numbers
 pub mod Stored
 pub mod Order
+pub mod Runs
 pub mod Validity
 pub mod Lines
 pub mod Quiet

@@ -92,12 +92,19 @@ pub record IsFinished (input : Input) (setting : Setting) (f : Family) (agrees :
 
 -- ---- what is said of them
 
--- the shift of each epoch, and the stamp of each row, by the family's journal
+-- the shift of each epoch, and the stamp of each row, by a journal
+abbrev pub shift_by : Setting → List TurnLine → ℕ → ℕ
+shift_by setting journal e = shift_at (first_line setting).shift e journal
+
+abbrev pub stamp_by : Input → Setting → List TurnLine → Side → ℕ → ℕ
+stamp_by input setting journal side index = stamp_of setting.feed setting.feeders setting.batch (row_count input R) (row_count input S) journal (place_at side index)
+
+-- and by the family's journal
 abbrev pub shift_of : Setting → Family → ℕ → ℕ
-shift_of setting f e = shift_at (first_line setting).shift e f.controller.journal
+shift_of setting f e = shift_by setting f.controller.journal e
 
 abbrev pub stamp_in : Input → Setting → Family → Side → ℕ → ℕ
-stamp_in input setting f side index = stamp_of setting.feed setting.feeders setting.batch (row_count input R) (row_count input S) f.controller.journal (place_at side index)
+stamp_in input setting f side index = stamp_by input setting f.controller.journal side index
 
 -- the pair is this one
 abbrev pub is_pair : ℕ → ℕ → Pair → Bool

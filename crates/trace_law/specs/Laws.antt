@@ -12,6 +12,9 @@ use Rattle.trace_law.specs.declared.input.Input.{Input}
 use Rattle.trace_law.specs.Join.{row_count, nested_loop}
 use Rattle.trace_law.specs.Batches.{size_of}
 use Rattle.trace_law.specs.Widths.{HasRow}
+use Rattle.pair_collector.specs.declared.collected.Collected.{Collected}
+use Rattle.pair_collector.specs.Answer.{Collects}
+use Rattle.trace_law.specs.Runs.{IsRunOf, run_of}
 use Rattle.trace_law.specs.Stored.{StoresItsRows}
 use Rattle.trace_law.specs.declared.setting.Setting.{Setting}
 use Rattle.trace_law.specs.Validity.{IsValidInput, IsValidSetting, IsValid}
@@ -76,6 +79,12 @@ QuietIsFinished = (input : Input) (setting : Setting) (f : Family) → IsValid i
 -- a finished family has the nested loop's answer, and its numbers
 abbrev pub AnswersInTheEnd : Type 0
 AnswersInTheEnd = (input : Input) (setting : Setting) (f : Family) → IsValid input setting → (agrees : IsAgreeing input setting f) → IsFinished input setting f agrees → AnswersTheJoin input setting f
+
+-- what its collector answers, with its journal, is the run of the input and the setting
+abbrev pub FinishedAnswers : Type 0
+FinishedAnswers = (input : Input) (setting : Setting) (f : Family) → IsValid input setting → (agrees : IsAgreeing input setting f) → IsFinished input setting f agrees
+    → (collected : Collected) → Collects (2 ^ setting.k) f.collector collected
+    → (bouts : ℕ) → IsRunOf input setting f.controller.journal (run_of collected f.controller.journal bouts)
 
 -- pairs that are in order and, as a bag, those of the nested loop, are the nested loop
 abbrev pub SortsIntoTheLoop : Type 0

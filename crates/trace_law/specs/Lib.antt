@@ -4,5 +4,6 @@ pub mod Batches
 pub mod Family
 pub mod Rows
 pub mod Widths
+pub mod Runs
 pub mod Laws
 pub mod Stored

@@ -1,6 +1,6 @@
 // What every agreeing family keeps to, each law as the contract of a function with an empty body.
 
-ghost use Rattle.trace_law.specs.Laws.{LimitsSuffice, SendsNothingWrong, TakesNothingWrong, StoresWhatItHolds, NoneIsStrange, KeepsALawfulJournal, LawfulIsBounded, EventsAreFew, FinishedAfterTwoMigrations, TakenIsDetermined, QuietIsFinished, AnswersInTheEnd, SortsIntoTheLoop};
+ghost use Rattle.trace_law.specs.Laws.{FinishedAnswers, LimitsSuffice, SendsNothingWrong, TakesNothingWrong, StoresWhatItHolds, NoneIsStrange, KeepsALawfulJournal, LawfulIsBounded, EventsAreFew, FinishedAfterTwoMigrations, TakenIsDetermined, QuietIsFinished, AnswersInTheEnd, SortsIntoTheLoop};
 
 /// A valid input and a valid setting are what the other laws ask for.
 pub fn limits_suffice()
@@ -55,6 +55,11 @@ pub fn quiet_is_finished()
 /// A finished family has the nested loop's pairs, and the numbers of the formulas.
 pub fn answers_in_the_end()
     ensures { AnswersInTheEnd }
+{}
+
+/// What the collector of a finished family answers is the run of its input, setting and journal.
+pub fn finished_answers()
+    ensures { FinishedAnswers }
 {}
 
 /// Pairs in order that are the nested loop's as a bag are the nested loop's list.
