@@ -21,6 +21,8 @@ pub mod Order
 pub mod Runs
 pub mod Validity
 pub mod Lines
+pub mod Links
+pub mod FixedShift
 pub mod Quiet
 pub mod Shares
 pub mod Bounds

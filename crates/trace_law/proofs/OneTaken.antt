@@ -160,7 +160,7 @@ module _ (input : Input) (setting : Setting) (f : Family) (some : 0 < setting.fe
   same_opened : (a1 a2 : IsAgreeing input setting f) (j : ℕ) → j < 2 ^ setting.k → opened (s j) (a1.taken_by_joiner j) ≡ opened (s j) (a2.taken_by_joiner j)
   same_opened a1 a2 j h = greatest_same setting.feeders (λ p. turns ((a1.taken_by_joiner j).from_feeder p)) (λ p. turns ((a2.taken_by_joiner j).from_feeder p)) (λ p low. ap turns (took_of_feeder a1 a2 j h p low))
 
-  same_after : (a1 a2 : IsAgreeing input setting f) (j : ℕ) → j < 2 ^ setting.k → (n : ℕ) → n ≤ opened (s j) (a1.taken_by_joiner j) → shift_after (s j) (a1.taken_by_joiner j) n ≡ shift_after (s j) (a2.taken_by_joiner j) n
+  pub same_after : (a1 a2 : IsAgreeing input setting f) (j : ℕ) → j < 2 ^ setting.k → (n : ℕ) → n ≤ opened (s j) (a1.taken_by_joiner j) → shift_after (s j) (a1.taken_by_joiner j) n ≡ shift_after (s j) (a2.taken_by_joiner j) n
   same_after a1 a2 j h n low = goes a1 j h n low ∙ same_shifts a1 a2 n ∙ sym (goes a2 j h n (omega (arith, same_opened a1 a2 j h)))
 
   same_partner : (a1 a2 : IsAgreeing input setting f) (j : ℕ) → j < 2 ^ setting.k → (n : ℕ) → n < opened (s j) (a1.taken_by_joiner j) → partner_of (s j) (a1.taken_by_joiner j) n ≡ partner_of (s j) (a2.taken_by_joiner j) n

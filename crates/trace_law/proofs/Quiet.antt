@@ -38,6 +38,7 @@ use Rattle.trace_law.proofs.Membership.{low_within}
 use Rattle.trace_law.proofs.Arrivals.{goes_by}
 use Rattle.trace_law.proofs.Journals.{shift_in, feeders_go, begins}
 use Rattle.join_rows.proofs.Totals.{greatest_above}
+use Rattle.trace_law.proofs.Links.{has_link, none_received}
 use Rattle.trace_law.proofs.Lawful.{lines_of}
 use Rattle.epoch_tags.proofs.Appends.{turns-append, moved_ends_both}
 use Rattle.grid_map.proofs.Halves.{partner_below, back_again}
@@ -64,6 +65,14 @@ module _ (input : Input) (setting : Setting) (f : Family) (valid : IsValid input
 
   abbrev past : List TurnLine
   past = agrees.controller.past
+
+  -- where there is no link, nothing was sent
+  came_all : (i j : ℕ) → i < 2 ^ setting.k → j < 2 ^ setting.k → (f.joiner j).from_joiner i ≡ (f.joiner i).to_joiner j
+  came_all i j h h' = by_list ((f.joiner i).to_joiner j) refl
+    where
+      by_list : (ms : List ToJoiner) → (f.joiner i).to_joiner j ≡ ms → (f.joiner j).from_joiner i ≡ (f.joiner i).to_joiner j
+      by_list [] is = none_received input setting valid.some f agrees i j h h' is ∙ sym is
+      by_list (m ∷ rest) is = quiet.joiner_joiner i j (has_link input setting valid.some f agrees i j h m rest is)
 
   -- the last epoch, and the shift of each
   abbrev last : ℕ
@@ -243,14 +252,14 @@ module _ (input : Input) (setting : Setting) (f : Family) (valid : IsValid input
           omega arith
 
   falls : (i j : ℕ) → i < 2 ^ setting.k → j < 2 ^ setting.k → NeverFalls 0 ((f.joiner j).from_joiner i)
-  falls i j hi hj = subst (λ ms. NeverFalls 0 ms) (sym (quiet.joiner_joiner i j hi hj)) ((agrees.joiners i hi).never_falls j)
+  falls i j hi hj = subst (λ ms. NeverFalls 0 ms) (sym (came_all i j hi hj)) ((agrees.joiners i hi).never_falls j)
 
   -- what i sent to j is of a step in which they are partners
   of_step : (i j : ℕ) → i < 2 ^ setting.k → j < 2 ^ setting.k → (xs ys : List ToJoiner) (m : ToJoiner) → xs ++ m ∷ ys ≡ (f.joiner j).from_joiner i
       → (e : ℕ) → IsOfEpoch e m → (n : ℕ) × (e ≡ n + 1) × (n < opened (start i) (took i)) × (j ≡ partner (low_of n) i)
   of_step i j hi hj xs ys m is e of_e =
       let law = agrees.joiners i hi in
-      let sent : xs ++ m ∷ ys ≡ (f.joiner i).to_joiner j = is ∙ quiet.joiner_joiner i j hi hj in
+      let sent : xs ++ m ∷ ys ≡ (f.joiner i).to_joiner j = is ∙ came_all i j hi hj in
       elim (shows e xs ys m of_e) [
         | inl moved ↦
             let r = law.moved_only j e (rw sent at moved) in
@@ -290,7 +299,7 @@ module _ (input : Input) (setting : Setting) (f : Family) (valid : IsValid input
           let turned_q = turned n q hq low (all q hq) in
           let to_j : partner_of (start q) (took q) n ≡ j = partner_is q hq n (turned_opened q n turned_q) ∙ ap (partner (low_of n)) is_q ∙ back_again (low_of n) j in
           let sent : moved_ends (0 + n + 1) ((f.joiner q).to_joiner j) ≡ 1 = subst (λ i. moved_ends (0 + n + 1) ((f.joiner q).to_joiner i) ≡ 1) to_j (law'.ended n turned_q) in
-          let came : moved_ends (0 + n + 1) ((f.joiner j).from_joiner q) ≡ 1 = ap (λ ms. moved_ends (0 + n + 1) ms) (quiet.joiner_joiner q j hq h) ∙ sent in
+          let came : moved_ends (0 + n + 1) ((f.joiner j).from_joiner q) ≡ 1 = ap (λ ms. moved_ends (0 + n + 1) ms) (came_all q j hq h) ∙ sent in
           let of_q = law.of_joiners q hq in
           by_held of_q.held of_q.splits of_q.stuck came
         where

@@ -5,6 +5,8 @@ use Rattle.join_rows.specs.declared.table.Side.{Side}
 use Rattle.join_rows.specs.declared.table.Side.TheVariants.{R, S}
 use Rattle.join_rows.specs.declared.table.Cell.{Cell}
 use Rattle.join_rows.specs.Lists.{IsPrefix, SameBag, IsWithinBag, gather, counting_from, total}
+use Rattle.epoch_tags.specs.declared.actor.Actor.TheVariants.{Joiner}
+use Rattle.epoch_tags.specs.Links.{HasLink}
 use Rattle.epoch_tags.specs.declared.tuple.Tuple.{Tuple}
 use Rattle.epoch_tags.specs.declared.tuple.Pair.{Pair}
 use Rattle.epoch_tags.specs.Messages.{asks, draineds, grants, stops, tups, found_before_fin, fins_of, moved_of}
@@ -74,10 +76,10 @@ pub record IsAgreeing (input : Input) (setting : Setting) (f : Family) : Type 0 
   pub joiner_controller : (j : ℕ) → j < 2 ^ setting.k → IsPrefix (f.controller.from_joiner j) (f.joiner j).to_controller
   pub joiner_collector : (j : ℕ) → j < 2 ^ setting.k → IsPrefix (f.collector.from_joiner j) (f.joiner j).to_collector
 
--- nothing is under way, and no feeder would begin
+-- nothing is under way on any link, and no feeder would begin
 pub record IsQuiet (input : Input) (setting : Setting) (f : Family) (agrees : IsAgreeing input setting f) : Type 0 where
   pub feeder_joiner : (p j : ℕ) → p < setting.feeders → j < 2 ^ setting.k → (f.joiner j).from_feeder p ≡ (f.feeder p).to_joiner j
-  pub joiner_joiner : (i j : ℕ) → i < 2 ^ setting.k → j < 2 ^ setting.k → (f.joiner j).from_joiner i ≡ (f.joiner i).to_joiner j
+  pub joiner_joiner : (i j : ℕ) → HasLink setting.k setting.feeders (Joiner i) (Joiner j) → (f.joiner j).from_joiner i ≡ (f.joiner i).to_joiner j
   pub controller_feeder : (p : ℕ) → p < setting.feeders → (f.feeder p).received ≡ f.controller.to_feeder p
   pub feeder_controller : (p : ℕ) → p < setting.feeders → f.controller.from_feeder p ≡ (f.feeder p).to_controller
   pub joiner_controller : (j : ℕ) → j < 2 ^ setting.k → f.controller.from_joiner j ≡ (f.joiner j).to_controller

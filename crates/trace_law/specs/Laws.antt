@@ -1,5 +1,5 @@
 -- What every agreeing family keeps to.
-use Rattle.std.specs.Prelude.{ℕ, ◌≡◌, ◌+◌, ◌*◌, ◌^◌, ◌<◌, ◌≤◌, List, map, reverse}
+use Rattle.std.specs.Prelude.{ℕ, ◌≡◌, ◌+◌, ◌*◌, ◌^◌, ◌<◌, ◌≤◌, All, Some, List, [], map, reverse}
 use Rattle.std.specs.List.{AllByRecursion}
 use Rattle.join_rows.specs.declared.table.Side.TheVariants.{R, S}
 use Rattle.join_rows.specs.Lists.{SameBag, IsWithinBag}
@@ -14,11 +14,15 @@ use Rattle.trace_law.specs.Batches.{size_of}
 use Rattle.trace_law.specs.Widths.{HasRow}
 use Rattle.pair_collector.specs.declared.collected.Collected.{Collected}
 use Rattle.pair_collector.specs.Answer.{Collects}
-use Rattle.trace_law.specs.Runs.{IsRunOf, run_of}
+use Rattle.trace_law.specs.declared.run.Run.{Run}
+use Rattle.trace_law.specs.Runs.{StaysAt, IsRunOf, run_of}
+use Rattle.joiner_law.specs.Law.{opened, shift_after}
+use Rattle.epoch_tags.specs.declared.actor.Actor.TheVariants.{Joiner}
+use Rattle.epoch_tags.specs.Links.{HasLink}
 use Rattle.trace_law.specs.Stored.{StoresItsRows}
 use Rattle.trace_law.specs.declared.setting.Setting.{Setting}
 use Rattle.trace_law.specs.Validity.{IsValidInput, IsValidSetting, IsValid}
-use Rattle.trace_law.specs.Family.{Family, IsAgreeing, IsQuiet, IsFinished, NothingWrongIsSent, AnswersTheJoin, batches, rules_of, events}
+use Rattle.trace_law.specs.Family.{Family, IsAgreeing, joiner_start, IsQuiet, IsFinished, NothingWrongIsSent, AnswersTheJoin, batches, rules_of, events}
 
 -- ---- for which inputs
 
@@ -46,6 +50,12 @@ NoneIsStrange = (input : Input) (setting : Setting) (f : Family) → IsValid inp
     → ((p j : ℕ) → p < setting.feeders → j < 2 ^ setting.k → AllByRecursion (HasRow input.theta) ((f.feeder p).to_joiner j))
     × ((i j : ℕ) → i < 2 ^ setting.k → j < 2 ^ setting.k → AllByRecursion (HasRow input.theta) ((f.joiner i).to_joiner j))
 
+-- between joiners that no link joins nothing is sent
+abbrev pub NoLinkNoMessage : Type 0
+NoLinkNoMessage = (input : Input) (setting : Setting) (f : Family) → IsValid input setting → IsAgreeing input setting f
+    → (i j : ℕ) → i < 2 ^ setting.k → j < 2 ^ setting.k → ¬ HasLink setting.k setting.feeders (Joiner i) (Joiner j)
+    → ((f.joiner i).to_joiner j ≡ []) × ((f.joiner j).from_joiner i ≡ [])
+
 -- the journal is lawful so far
 abbrev pub KeepsALawfulJournal : Type 0
 KeepsALawfulJournal = (input : Input) (setting : Setting) (f : Family) → IsValid input setting → IsAgreeing input setting f
@@ -58,17 +68,30 @@ LawfulIsBounded = (input : Input) (setting : Setting) (journal : List TurnLine) 
     → (a c : ℕ) → row_count input R < 2 ^ a → row_count input S < 2 ^ c
     → (last_epoch journal ≤ setting.k * (a + c)) × (due_lines (rules_of setting) (reverse journal) ≤ a + c)
 
+-- where a shift is fixed, no line leaves it and there is no migration
+abbrev pub FixedStays : Type 0
+FixedStays = (input : Input) (setting : Setting) (journal : List TurnLine) → IsValid input setting
+    → IsLawfulSoFar (rules_of setting) (λ p. map size_of (batches input setting p)) journal
+    → (shift : ℕ) → setting.fixed ≡ Some shift → All (StaysAt shift) journal × (last_epoch journal ≡ 0)
+
+-- so its run moves nothing
+abbrev pub FixedMovesNothing : Type 0
+FixedMovesNothing = (input : Input) (setting : Setting) (journal : List TurnLine) (run : Run) → IsRunOf input setting journal run
+    → (shift : ℕ) → setting.fixed ≡ Some shift → run.moved ≡ []
+
 -- a family has not more events than this, its journal having that many migrations
 abbrev pub EventsAreFew : Type 0
 EventsAreFew = (input : Input) (setting : Setting) (f : Family) → IsValid input setting → IsAgreeing input setting f
     → events setting f ≤ 8 * (row_count input R + row_count input S + setting.feeders + 2) * 2 ^ setting.k * (last_epoch f.controller.journal + 2)
 
--- what the actors took is determined by the lists
+-- what the actors took is determined by the lists, and so are the shifts of the epochs that joiners opened
 abbrev pub TakenIsDetermined : Type 0
 TakenIsDetermined = (input : Input) (setting : Setting) (f : Family) → IsValid input setting → (one other : IsAgreeing input setting f)
     → ((p : ℕ) → p < setting.feeders → one.taken_by_feeder p ≡ other.taken_by_feeder p)
     × ((j p : ℕ) → j < 2 ^ setting.k → p < setting.feeders → (one.taken_by_joiner j).from_feeder p ≡ (other.taken_by_joiner j).from_feeder p)
     × ((j i : ℕ) → j < 2 ^ setting.k → i < 2 ^ setting.k → (one.taken_by_joiner j).from_joiner i ≡ (other.taken_by_joiner j).from_joiner i)
+    × ((j n : ℕ) → j < 2 ^ setting.k → n ≤ opened (joiner_start input setting j) (one.taken_by_joiner j)
+    → shift_after (joiner_start input setting j) (one.taken_by_joiner j) n ≡ shift_after (joiner_start input setting j) (other.taken_by_joiner j) n)
 
 -- ---- in the end
 

@@ -17,6 +17,12 @@ use Rattle.trace_law.specs.Family.{rules_of, batches, shift_by, stamp_by}
 abbrev pub AreNear : ℕ → List TurnLine → Type 0
 AreNear k journal = All (λ line. line.moving ≡ false → IsNear k line.shift line.rows_r line.rows_s) journal
 
+-- the line is of the first epoch, at this shift, and isn't moving
+pub record StaysAt (shift : ℕ) (line : TurnLine) : Type 0 where
+  pub epoch : line.epoch ≡ 0
+  pub stays : line.shift ≡ shift
+  pub still : line.moving ≡ false
+
 -- the run answers the nested loop in its order, and the numbers of the closed formulas over this lawful journal
 pub record IsRunOf (input : Input) (setting : Setting) (journal : List TurnLine) (run : Run) : Type 0 where
   pub keeps : run.journal ≡ journal

@@ -1,6 +1,6 @@
 // What every agreeing family keeps to, each law as the contract of a function with an empty body.
 
-ghost use Rattle.trace_law.specs.Laws.{FinishedAnswers, LimitsSuffice, SendsNothingWrong, TakesNothingWrong, StoresWhatItHolds, NoneIsStrange, KeepsALawfulJournal, LawfulIsBounded, EventsAreFew, FinishedAfterTwoMigrations, TakenIsDetermined, QuietIsFinished, AnswersInTheEnd, SortsIntoTheLoop};
+ghost use Rattle.trace_law.specs.Laws.{FixedMovesNothing, FixedStays, NoLinkNoMessage, FinishedAnswers, LimitsSuffice, SendsNothingWrong, TakesNothingWrong, StoresWhatItHolds, NoneIsStrange, KeepsALawfulJournal, LawfulIsBounded, EventsAreFew, FinishedAfterTwoMigrations, TakenIsDetermined, QuietIsFinished, AnswersInTheEnd, SortsIntoTheLoop};
 
 /// A valid input and a valid setting are what the other laws ask for.
 pub fn limits_suffice()
@@ -27,6 +27,11 @@ pub fn none_is_strange()
     ensures { NoneIsStrange }
 {}
 
+/// Between joiners that no link joins nothing is sent.
+pub fn no_link_no_message()
+    ensures { NoLinkNoMessage }
+{}
+
 /// The journal of an agreeing family is lawful so far.
 pub fn keeps_a_lawful_journal()
     ensures { KeepsALawfulJournal }
@@ -35,6 +40,16 @@ pub fn keeps_a_lawful_journal()
 /// A lawful journal has few migrations and few decisions.
 pub fn lawful_is_bounded()
     ensures { LawfulIsBounded }
+{}
+
+/// Where a shift is fixed, no line leaves it, and there is no migration.
+pub fn fixed_stays()
+    ensures { FixedStays }
+{}
+
+/// Where a shift is fixed, a run moves nothing.
+pub fn fixed_moves_nothing()
+    ensures { FixedMovesNothing }
 {}
 
 /// An agreeing family has few events.

@@ -1,4 +1,4 @@
-use Rattle.trace_law.proofs.OneTaken.{feeder_took, took_of_feeder, took_of_joiner}
+use Rattle.trace_law.proofs.OneTaken.{feeder_took, took_of_feeder, took_of_joiner, same_after}
 use Rattle.trace_law.proofs.laws.taken_is_determined.Goals as goal
 
 pub returns : goal.returns
@@ -6,4 +6,5 @@ returns c = λ input setting f valid one other. (
   feeder_took input setting f valid.some one other,
   (λ j p h low. took_of_feeder input setting f valid.some one other j h p low),
   (λ j i h hi. took_of_joiner input setting f valid.some one other j h i hi),
+  (λ j n h low. same_after input setting f valid.some one other j h n low),
 )
