@@ -1,6 +1,6 @@
 -- How many pairs each joiner makes.
 use Rattle.std.proofs.Common.{◌≡◌, ℕ, suc, ◌+◌, ◌<◌, ◌≤◌, ◌^◌, max, refl, sym, ◌∙◌, ap, arith, Bool, true, false, cond, ◌&&◌, ◌||◌, List, [], ◌∷◌, ◌++◌, length, reverse}
-use Rattle.std.specs.Prelude.{sum_by, ◌==◌, nat_le}
+use Rattle.std.specs.Prelude.{sum_by, unwrap_or, ◌==◌, nat_le}
 use Rattle.std.specs.List.{AllByRecursion, list_any}
 use Rattle.std.proofs.lemmas.Bool.{eqb-true}
 use mathlib.Core.List.{reverse-cons}
@@ -24,7 +24,7 @@ use Rattle.trace_law.specs.declared.input.Input.{Input}
 use Rattle.trace_law.specs.Join.{nested_loop, row_count, ticket_of, made, matches_of}
 use Rattle.trace_law.specs.declared.setting.Setting.{Setting}
 use Rattle.trace_law.specs.Validity.{IsValid}
-use Rattle.trace_law.specs.Family.{Family, IsAgreeing, IsFinished, tuple_of, cells_of, first_line, rules_of, shift_of, stamp_in}
+use Rattle.trace_law.specs.Family.{Family, IsAgreeing, IsFinished, tuple_of, cells_of, first_line, rules_of, HasItsStamp, shift_of, stamp_in}
 use Rattle.trace_law.proofs.Stores.{is_stored}
 use Rattle.trace_law.proofs.PairSums.{sum-pairs_by, finds, IsStamped, at_epoch, never, turn_round}
 use Rattle.trace_law.proofs.Loop.{granted_all, joins_of, loop_pair, loop_sum}
@@ -134,7 +134,7 @@ module _ (input : Input) (setting : Setting) (valid : IsValid input setting) (f 
   pub stamped_rows : IsFinished input setting f agrees → (g : Tuple → ℕ) → sum_by g (rows input setting valid f agrees) ≡ stamped_sum g
   stamped_rows finished g =
       let g' : Tuple → ℕ = λ t. g (record t { stamp = σ t.side t.index }) in
-      sum_same_on (λ t. t.stamp ≡ σ t.side t.index) g g' (λ t is. ap (λ e. g (record t { stamp = e })) is) (rows input setting valid f agrees) (stamps_are input setting valid f agrees)
+      sum_same_on (HasItsStamp input setting f) g g' (λ t is. ap (λ o. g (record t { stamp = unwrap_or o 0 })) (sym is)) (rows input setting valid f agrees) (stamps_are input setting valid f agrees)
       ∙ granted_all input setting valid agrees.taken_by_feeder (granted_all_of input setting valid f agrees finished) g' (λ e t. refl)
 
   pub none_of : (n : ℕ) (g : ℕ → ℕ) → ((i : ℕ) → g i ≡ 0) → total n g ≡ 0

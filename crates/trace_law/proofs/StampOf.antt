@@ -1,14 +1,16 @@
 -- The rows that feeders were granted bear the stamps that the journal gives them.
-use Rattle.std.proofs.Common.{◌≡◌, ℕ, zero, suc, ◌+◌, ◌-◌, ◌*◌, ◌/◌, ◌%◌, ◌<◌, ◌≤◌, inl, inr, refl, sym, ◌∙◌, ap, subst, arith, Bool, true, false, cond, List, [], ◌∷◌, ◌++◌, length, length-append, append_assoc, take, drop, get_or-drop, length-take, take-append-drop, drop-drop}
-use Rattle.std.specs.Prelude.{map, sum_by, ◌==◌, nat_lt, slice_index, max}
+use Rattle.std.proofs.Common.{◌≡◌, ℕ, zero, suc, ◌+◌, ◌-◌, ◌*◌, ◌/◌, ◌%◌, ◌<◌, ◌≤◌, inl, inr, refl, sym, ◌∙◌, ap, subst, arith, Bool, true, false, cond, List, [], ◌∷◌, ◌++◌, length, length-append, append_assoc, take, drop, get_or-drop, length-take, take-append-drop, drop-drop, length-drop, get_or}
+use Rattle.std.specs.Prelude.{map, sum_by, ◌==◌, nat_lt, flat_map, slice_get, max, Option, Some, None}
 use Rattle.std.specs.List.{AllByRecursion, range_with_len, position_or_len}
 use Rattle.std.proofs.lemmas.Bool.{cases_lt, cases_Bool, eqb-true, eq-eqb, ne_eqb}
 use Rattle.std.proofs.lemmas.List.{drop_all, take_all}
 use Rattle.std.proofs.lemmas.Nat.{div-mul-add}
+use Rattle.std.proofs.lemmas.Option.{slice_get_past, slice_get-get_or}
 use Rattle.std.proofs.lemmas.List.Sums.{sum_by-cons, sum_by-append}
 use Rattle.join_rows.specs.declared.table.Side.{Side}
 use Rattle.join_rows.specs.declared.table.Side.TheVariants.{R, S}
 use Rattle.join_rows.proofs.Bags.{only_if}
+use Rattle.epoch_tags.specs.declared.tuple.Tuple.{Tuple}
 use Rattle.reshuffler_core.specs.Law.{stamped}
 use Rattle.reshuffler_core.proofs.Arrivals.{granted}
 use Rattle.load_controller.specs.Journal.{count_epochs}
@@ -21,7 +23,8 @@ use Rattle.trace_law.specs.Batches.{same_place}
 use Rattle.row_tickets.specs.declared.place.Feed.TheVariants.{Alternate, RFirst, SFirst}
 use Rattle.trace_law.specs.declared.setting.Setting.{Setting}
 use Rattle.trace_law.specs.Validity.{IsValid}
-use Rattle.trace_law.specs.Family.{Family, IsAgreeing, HasItsStamp, tuple_of, feeder_start, stamp_in}
+use Rattle.trace_law.specs.Family.{Family, IsAgreeing, HasItsStamp, tuple_of, feeder_start, stamp_at}
+use Rattle.trace_law.proofs.Cuts.{joined_again}
 use Rattle.trace_law.proofs.RowSums.{shares_sum}
 use Rattle.trace_law.proofs.Stamps.{grant_epochs, with_stamps, granted_is, epochs_taken}
 use Rattle.trace_law.proofs.Sent.{rows}
@@ -110,58 +113,143 @@ position_at test (x ∷ xs) a ys is once =
 
 -- ---- batch by batch
 
-module _ (input : Input) (size : ℕ) (own : List Place) (full : List ℕ) (σ : Place → ℕ)
-    (places : (xs : List Place) (c : Place) (ys : List Place) → own ≡ xs ++ c ∷ ys → σ c ≡ slice_index full (length xs / size)) where
-  in_batch : (a e : ℕ) → slice_index full a ≡ e → (front todo post : List Place) (r : ℕ) → own ≡ front ++ todo ++ post → length front ≡ a * size + r → r + length todo ≤ size
-      → AllByRecursion (λ t. t.stamp ≡ σ (place_at t.side t.index)) (map (stamped e) (map (tuple_of input 0) todo))
-  in_batch a e is front [] post r joins at fits = tt
-  in_batch a e is front (c ∷ todo) post r joins at fits =
+abbrev pub row_place : Tuple → Place
+row_place t = place_at t.side t.index
+
+stamped_as : (input : Input) (σ : Place → Option ℕ) (e : ℕ) (batch : List Place) → AllByRecursion (λ c. σ (place_at c.side c.index) ≡ Some e) batch
+    → AllByRecursion (λ t. σ (row_place t) ≡ Some t.stamp) (map (stamped e) (map (tuple_of input 0) batch))
+stamped_as input σ e [] each = tt
+stamped_as input σ e (c ∷ batch) (here, rest) = (here, stamped_as input σ e batch rest)
+
+-- what a place counts for where it has a stamp
+abbrev pub weigh : Input → (Tuple → ℕ) → Option ℕ → Place → ℕ
+weigh input g None c = 0
+weigh input g (Some e) c = g (tuple_of input e c)
+
+stamped_sum : (input : Input) (g : Tuple → ℕ) (σ : Place → Option ℕ) (e : ℕ) (batch : List Place) → AllByRecursion (λ c. σ (place_at c.side c.index) ≡ Some e) batch
+    → sum_by g (map (stamped e) (map (tuple_of input 0) batch)) ≡ sum_by (λ c. weigh input g (σ (place_at c.side c.index)) c) batch
+stamped_sum input g σ e [] each = refl
+stamped_sum input g σ e (c ∷ batch) (here, rest) =
+    sum_by-cons g (tuple_of input e c) (map (stamped e) (map (tuple_of input 0) batch))
+    ∙ ap (λ n. g (tuple_of input e c) + n) (stamped_sum input g σ e batch rest)
+    ∙ ap (λ o. weigh input g o c + sum_by (λ d. weigh input g (σ (place_at d.side d.index)) d) batch) (sym here)
+    ∙ sym (sum_by-cons (λ d. weigh input g (σ (place_at d.side d.index)) d) c batch)
+
+unstamped_sum : (input : Input) (g : Tuple → ℕ) (σ : Place → Option ℕ) (batch : List Place) → AllByRecursion (λ c. σ (place_at c.side c.index) ≡ None) batch
+    → sum_by (λ c. weigh input g (σ (place_at c.side c.index)) c) batch ≡ 0
+unstamped_sum input g σ [] each = refl
+unstamped_sum input g σ (c ∷ batch) (here, rest) =
+    sum_by-cons (λ d. weigh input g (σ (place_at d.side d.index)) d) c batch
+    ∙ ap (λ o. weigh input g o c + sum_by (λ d. weigh input g (σ (place_at d.side d.index)) d) batch) here
+    ∙ omega (arith, unstamped_sum input g σ batch rest)
+
+module _ (input : Input) (size : ℕ) (own : List Place) (full : List ℕ) (σ : Place → Option ℕ)
+    (places : (xs : List Place) (c : Place) (ys : List Place) → own ≡ xs ++ c ∷ ys → σ (place_at c.side c.index) ≡ slice_get full (length xs / size)) where
+  abbrev piece : ℕ → List Place
+  piece a = take size (drop (a * size) own)
+
+  in_batch : (a : ℕ) (front todo post : List Place) (r : ℕ) → own ≡ front ++ todo ++ post → length front ≡ a * size + r → r + length todo ≤ size
+      → AllByRecursion (λ c. σ (place_at c.side c.index) ≡ slice_get full a) todo
+  in_batch a front [] post r joins at fits = tt
+  in_batch a front (c ∷ todo) post r joins at fits =
       let low : r < size = omega arith in
       let next : own ≡ (front ++ c ∷ []) ++ todo ++ post = joins ∙ append_assoc front (c ∷ todo) post ∙ sym (append_assoc front (c ∷ []) (todo ++ post)) ∙ sym (append_assoc (front ++ c ∷ []) todo post) in
       let more : length (front ++ c ∷ []) ≡ a * size + (r + 1) = length-append front (c ∷ []) ∙ omega arith in (
-        sym (places front c (todo ++ post) (joins ∙ append_assoc front (c ∷ todo) post) ∙ ap (λ n. slice_index full (n / size)) at ∙ ap (slice_index full) (div-mul-add a size r low) ∙ is),
-        in_batch a e is (front ++ c ∷ []) todo post (r + 1) next more (omega arith),
+        places front c (todo ++ post) (joins ∙ append_assoc front (c ∷ todo) post) ∙ ap (λ n. slice_get full (n / size)) at ∙ ap (slice_get full) (div-mul-add a size r low),
+        in_batch a (front ++ c ∷ []) todo post (r + 1) next more (omega arith),
       )
 
-  each_batch : (a m : ℕ) (es rest : List ℕ) → drop a full ≡ es ++ rest
-      → AllByRecursion (λ t. t.stamp ≡ σ (place_at t.side t.index)) (with_stamps es (map (λ batch. map (tuple_of input 0) batch) (map (λ i. take size (drop (i * size) own)) (range_with_len a m))))
+  -- the rows of batch a have the stamp of the count of that number, if there is one
+  of_piece : (a : ℕ) → AllByRecursion (λ c. σ (place_at c.side c.index) ≡ slice_get full a) (piece a)
+  of_piece a = elim (cases_lt (length own) (a * size)) [
+    | inl past ↦
+        let none : piece a ≡ [] = ap (take size) (drop_all (a * size) own (omega arith)) ∙ take_all size [] (omega arith) in
+        subst (AllByRecursion (λ c. σ (place_at c.side c.index) ≡ slice_get full a)) (sym none) tt
+    | inr within ↦
+        let joins : own ≡ take (a * size) own ++ piece a ++ drop size (drop (a * size) own) =
+        sym (take-append-drop (a * size) own) ∙ ap (λ xs. take (a * size) own ++ xs) (sym (take-append-drop size (drop (a * size) own))) ∙ sym (append_assoc (take (a * size) own) (piece a) (drop size (drop (a * size) own))) in
+        let at = length-take (a * size) own in
+        let few = length-take size (drop (a * size) own) in
+        in_batch a (take (a * size) own) (piece a) (drop size (drop (a * size) own)) 0 joins (omega arith) (omega arith)
+  ]
+
+  abbrev pieces_from : ℕ → ℕ → List (List Tuple)
+  pieces_from a m = map (λ batch. map (tuple_of input 0) batch) (map piece (range_with_len a m))
+
+  first_is : (a e : ℕ) (es : List ℕ) → drop a full ≡ e ∷ es → slice_get full a ≡ Some e
+  first_is a e es is =
+      let first : a + 0 ≡ a = omega arith in
+      let some : a < length full = omega (arith, length-drop a full, ap length is) in
+      slice_get-get_or full a 0 some ∙ ap (λ x. Some x) (ap (λ n. get_or full n 0) (sym first) ∙ sym (get_or-drop a full 0 0) ∙ ap (λ xs. get_or xs 0 0) is)
+
+  next_is : (a e : ℕ) (es : List ℕ) → drop a full ≡ e ∷ es → drop (a + 1) full ≡ es
+  next_is a e es is = sym (drop-drop 1 a full) ∙ ap (drop 1) is
+
+  of_first : (a e : ℕ) (es : List ℕ) → drop a full ≡ e ∷ es → AllByRecursion (λ c. σ (place_at c.side c.index) ≡ Some e) (piece a)
+  of_first a e es is = weaken (λ c. σ (place_at c.side c.index) ≡ slice_get full a) (λ c. σ (place_at c.side c.index) ≡ Some e) (λ c known. known ∙ first_is a e es is) (piece a) (of_piece a)
+
+  each_batch : (a m : ℕ) (es rest : List ℕ) → drop a full ≡ es ++ rest → AllByRecursion (λ t. σ (row_place t) ≡ Some t.stamp) (with_stamps es (pieces_from a m))
   each_batch a m [] rest is = tt
   each_batch a zero (e ∷ es) rest is = tt
   each_batch a (suc m) (e ∷ es) rest is =
-      let batch = take size (drop (a * size) own) in
-      let first : a + 0 ≡ a = omega arith in
-      let here : slice_index full a ≡ e = ap (slice_index full) (sym first) ∙ sym (get_or-drop a full 0 0) ∙ ap (λ xs. slice_index xs 0) is in
-      let next : drop (a + 1) full ≡ es ++ rest = sym (drop-drop 1 a full) ∙ ap (drop 1) is in
-      let of_batch : AllByRecursion (λ t. t.stamp ≡ σ (place_at t.side t.index)) (map (stamped e) (map (tuple_of input 0) batch)) =
-      elim (cases_lt (length own) (a * size)) [
-        | inl past ↦
-            let none : batch ≡ [] = ap (take size) (drop_all (a * size) own (omega arith)) ∙ take_all size [] (omega arith) in
-            subst (λ ts. AllByRecursion (λ t. t.stamp ≡ σ (place_at t.side t.index)) (map (stamped e) (map (tuple_of input 0) ts))) (sym none) tt
-        | inr within ↦
-            let joins : own ≡ take (a * size) own ++ batch ++ drop size (drop (a * size) own) =
-            sym (take-append-drop (a * size) own) ∙ ap (λ xs. take (a * size) own ++ xs) (sym (take-append-drop size (drop (a * size) own))) ∙ sym (append_assoc (take (a * size) own) batch (drop size (drop (a * size) own))) in
-            let at = length-take (a * size) own in
-            let few = length-take size (drop (a * size) own) in
-            in_batch a e here (take (a * size) own) batch (drop size (drop (a * size) own)) 0 joins (omega arith) (omega arith)
-      ] in
-      all-append (λ t. t.stamp ≡ σ (place_at t.side t.index)) (map (stamped e) (map (tuple_of input 0) batch))
-      (with_stamps es (map (λ batch. map (tuple_of input 0) batch) (map (λ i. take size (drop (i * size) own)) (range_with_len (a + 1) m)))) of_batch (each_batch (a + 1) m es rest next)
+      all-append (λ t. σ (row_place t) ≡ Some t.stamp) (map (stamped e) (map (tuple_of input 0) (piece a))) (with_stamps es (pieces_from (a + 1) m))
+      (stamped_as input σ e (piece a) (of_first a e (es ++ rest) is)) (each_batch (a + 1) m es rest (next_is a e (es ++ rest) is))
+
+  abbrev its : (Tuple → ℕ) → Place → ℕ
+  its g c = weigh input g (σ (place_at c.side c.index)) c
+
+  -- what is stamped counts as the places that have a stamp
+  batches_weigh : (g : Tuple → ℕ) (a m : ℕ) (es : List ℕ) → drop a full ≡ es → sum_by g (with_stamps es (pieces_from a m)) ≡ sum_by (its g) (flat_map (λ ys. ys) (map piece (range_with_len a m)))
+  batches_weigh g a zero [] is = refl
+  batches_weigh g a zero (e ∷ es) is = refl
+  batches_weigh g a (suc m) [] is =
+      let past : slice_get full a ≡ None = slice_get_past full a (omega (arith, length-drop a full, ap length is)) in
+      let none = unstamped_sum input g σ (piece a)
+      (weaken (λ c. σ (place_at c.side c.index) ≡ slice_get full a) (λ c. σ (place_at c.side c.index) ≡ None) (λ c known. known ∙ past) (piece a) (of_piece a)) in
+      let rest = batches_weigh g (a + 1) m [] (sym (drop-drop 1 a full) ∙ ap (drop 1) is) in
+      let parts = sum_by-append (its g) (piece a) (flat_map (λ ys. ys) (map piece (range_with_len (a + 1) m))) in
+      let zero_left = no_stamps g (pieces_from (a + 1) m) in
+      omega arith
+    where
+      no_stamps : (g : Tuple → ℕ) (bs : List (List Tuple)) → sum_by g (with_stamps [] bs) ≡ 0
+      no_stamps g bs = refl
+  batches_weigh g a (suc m) (e ∷ es) is =
+      let here = stamped_sum input g σ e (piece a) (of_first a e es is) in
+      let rest = batches_weigh g (a + 1) m es (next_is a e es is) in
+      let parts = sum_by-append (its g) (piece a) (flat_map (λ ys. ys) (map piece (range_with_len (a + 1) m))) in
+      let parts' = sum_by-append g (map (stamped e) (map (tuple_of input 0) (piece a))) (with_stamps es (pieces_from (a + 1) m)) in
+      omega arith
 
 -- ---- in every agreeing family
 
--- of batches that are stamped by the first of a feeder's counts
-pub stamps_at : (input : Input) (setting : Setting) (valid : IsValid input setting) (f : Family) (p : ℕ) → p < setting.feeders → (es rest : List ℕ) → count_epochs p f.controller.journal ≡ es ++ rest
-    → AllByRecursion (HasItsStamp input setting f) (with_stamps es (feeder_start input setting p).batches)
-stamps_at input setting valid f p h es rest is =
-    let own = share setting.feed setting.feeders p (row_count input R) (row_count input S) in
-    let full = count_epochs p f.controller.journal in
-    let places : (xs : List Place) (c : Place) (ys : List Place) → own ≡ xs ++ c ∷ ys → stamp_in input setting f c.side c.index ≡ slice_index full (length xs / setting.batch) = λ xs c ys joins.
-    let each = subst (AllByRecursion (λ (a : Place). a.index % setting.feeders ≡ p)) joins (share_is_own setting.feed setting.feeders p (row_count input R) (row_count input S)) in
-    let its = (all-back (λ (a : Place). a.index % setting.feeders ≡ p) xs (c ∷ ys) each).0 in
-    let once = subst (λ cs. sum_by (λ d. only_if (same_place c d) 1) cs ≤ 1) joins (once_at_most setting.feed setting.feeders p (row_count input R) (row_count input S) valid.some h c) in
-    ap (λ q. slice_index (count_epochs q f.controller.journal) (position_or_len (same_place c) (share setting.feed setting.feeders q (row_count input R) (row_count input S)) / setting.batch)) its
-    ∙ ap (λ n. slice_index full (n / setting.batch)) (ap (position_or_len (same_place c)) joins ∙ position_at (same_place c) xs c ys (itself c) once) in
-    each_batch input setting.batch own full (λ c. stamp_in input setting f c.side c.index) places 0 ((length own + setting.batch - 1) / setting.batch) es rest is
+-- the stamps of feeder p's rows
+module _ (input : Input) (setting : Setting) (valid : IsValid input setting) (f : Family) (p : ℕ) (h : p < setting.feeders) where
+  abbrev own_rows : List Place
+  own_rows = share setting.feed setting.feeders p (row_count input R) (row_count input S)
+
+  abbrev full_epochs : List ℕ
+  full_epochs = count_epochs p f.controller.journal
+
+  abbrev stamp : Place → Option ℕ
+  stamp c = stamp_at input setting f.controller.journal c
+
+  places_are : (xs : List Place) (c : Place) (ys : List Place) → own_rows ≡ xs ++ c ∷ ys → stamp (place_at c.side c.index) ≡ slice_get full_epochs (length xs / setting.batch)
+  places_are xs c ys joins =
+      let each = subst (AllByRecursion (λ (a : Place). a.index % setting.feeders ≡ p)) joins (share_is_own setting.feed setting.feeders p (row_count input R) (row_count input S)) in
+      let its = (all-back (λ (a : Place). a.index % setting.feeders ≡ p) xs (c ∷ ys) each).0 in
+      let once = subst (λ cs. sum_by (λ d. only_if (same_place c d) 1) cs ≤ 1) joins (once_at_most setting.feed setting.feeders p (row_count input R) (row_count input S) valid.some h c) in
+      ap (λ q. slice_get (count_epochs q f.controller.journal) (position_or_len (same_place c) (share setting.feed setting.feeders q (row_count input R) (row_count input S)) / setting.batch)) its
+      ∙ ap (λ n. slice_get full_epochs (n / setting.batch)) (ap (position_or_len (same_place c)) joins ∙ position_at (same_place c) xs c ys (itself c) once)
+
+  -- of batches that are stamped by the first of a feeder's counts
+  pub stamps_at : (es rest : List ℕ) → count_epochs p f.controller.journal ≡ es ++ rest → AllByRecursion (HasItsStamp input setting f) (with_stamps es (feeder_start input setting p).batches)
+  stamps_at es rest is = each_batch input setting.batch own_rows full_epochs stamp places_are 0 ((length own_rows + setting.batch - 1) / setting.batch) es rest is
+
+  -- what was counted of its rows
+  pub counted_weigh : (g : Tuple → ℕ) → sum_by g (with_stamps full_epochs (feeder_start input setting p).batches) ≡ sum_by (λ c. weigh input g (stamp (place_at c.side c.index)) c) own_rows
+  counted_weigh g =
+      batches_weigh input setting.batch own_rows full_epochs stamp places_are g 0 ((length own_rows + setting.batch - 1) / setting.batch) full_epochs refl
+      ∙ ap (sum_by (λ c. weigh input g (stamp (place_at c.side c.index)) c)) (joined_again setting.batch own_rows valid.batch)
 
 pub stamps_are : (input : Input) (setting : Setting) (valid : IsValid input setting) (f : Family) (agrees : IsAgreeing input setting f) → AllByRecursion (HasItsStamp input setting f) (rows input setting valid f agrees)
 stamps_are input setting valid f agrees =

@@ -18,9 +18,14 @@ use Rattle.load_controller.specs.declared.line.TurnLine.{TurnLine}
 use Rattle.load_controller.specs.Journal.{Rules, Follows, start_line, is_count_of, count_epochs}
 use Rattle.load_controller.specs.Law.{sent_by, sent_for, is_over}
 use Rattle.trace_law.specs.declared.input.Input.{Input}
-pub use Rattle.trace_law.specs.Stored.{with_stamps}
 use Rattle.trace_law.specs.declared.setting.Setting.{Setting}
 use Rattle.trace_law.specs.Family.{Family, IsAgreeing, rules_of}
+
+-- the batches with these stamps, as far as there are both
+abbrev pub with_stamps : List ℕ → List (List Tuple) → List Tuple
+with_stamps [] batches = []
+with_stamps (e ∷ es) [] = []
+with_stamps (e ∷ es) (batch ∷ batches) = map (stamped e) batch ++ with_stamps es batches
 
 -- the epochs in which a feeder was granted, from epoch e on
 abbrev pub grant_epochs : ℕ → List ToFeeder → List ℕ

@@ -1,7 +1,7 @@
 -- A joiner stores what it holds of the rows that were counted.
 use Rattle.std.proofs.Common.{◌≡◌, ℕ, ◌+◌, ◌<◌, ◌≤◌, ◌^◌, ◌⊎◌, inl, inr, refl, sym, ◌∙◌, ap, subst, arith, Bool, true, false, cond, not, ◌&&◌, List, [], ◌∷◌, ◌++◌, length, append_assoc, append-nil, drop}
-use Rattle.std.specs.Prelude.{map, filter, sum_by, ◌==◌}
-use Rattle.std.specs.List.{AllByRecursion, range_with_len}
+use Rattle.std.specs.Prelude.{map, filter, filter_map, option_map, sum_by, ◌==◌, Option, Some, None}
+use Rattle.std.specs.List.{AllByRecursion, range_with_len, cons_option}
 use Rattle.std.proofs.lemmas.Bool.{lt-leb}
 use Rattle.std.proofs.lemmas.List.Sums.{sum_by-cons, sum_by-append}
 use Rattle.join_rows.specs.declared.table.Side.{Side}
@@ -26,20 +26,20 @@ use Rattle.row_tickets.specs.declared.place.Place.{Place}
 use Rattle.row_tickets.specs.Share.{place_at}
 use Rattle.trace_law.specs.declared.setting.Setting.{Setting}
 use Rattle.trace_law.specs.Validity.{IsValid}
-use Rattle.trace_law.specs.Family.{Family, IsAgreeing, HasItsStamp, tuple_of, batches, feeder_start, joiner_start, rules_of, first_line, shift_of, stamp_in}
-use Rattle.trace_law.specs.Stored.{with_stamps, counted_rows, is_stored, HasAllOf, place_of, all_places, rows_held, StoresItsRows}
+use Rattle.trace_law.specs.Family.{Family, IsAgreeing, tuple_of, feeder_start, joiner_start, rules_of, first_line, shift_of, stamp_at}
+use Rattle.trace_law.specs.Stored.{counted_rows, is_stored, HasAllOf, all_places, rows_held, StoresItsRows}
 use Rattle.trace_law.proofs.Arrivals.{front_of}
 use Rattle.trace_law.proofs.Journals.{stores_what_it_holds, feeders_go, begins}
 use Rattle.trace_law.proofs.RowSums.{shares_sum}
-use Rattle.trace_law.proofs.Stamps.{grant_epochs, epoch_now, granted_is, epochs-append, epochs_sent, some_of_batches}
-use Rattle.trace_law.proofs.Loop.{batches_sum, rows_at}
+use Rattle.trace_law.proofs.Stamps.{with_stamps, grant_epochs, epoch_now, granted_is, epochs-append, epochs_sent, some_of_batches}
+use Rattle.trace_law.proofs.Loop.{rows_at}
 use Rattle.trace_law.proofs.AtMost.{stores_at_most}
 use Rattle.trace_law.proofs.Sent.{shift, rows}
 use Rattle.trace_law.proofs.Lawful.{journal_is}
 use Rattle.trace_law.proofs.Ends.{sent_last}
-use Rattle.trace_law.proofs.StampOf.{stamps_at}
+use Rattle.trace_law.proofs.StampOf.{weigh, counted_weigh}
 use Rattle.trace_law.proofs.Made.{shift_same}
-use Rattle.join_rows.proofs.Within.{IsWithinBag-trans, within-filter, within-gather, within-more}
+use Rattle.join_rows.proofs.Within.{IsWithinBag-trans, within-filter, within-gather, within-more, within_same}
 use Rattle.join_rows.proofs.Everywhere.{all-append, all-gather}
 use Rattle.join_rows.proofs.Totals.{total_same, total_le, sum-gather, range_sum}
 use Rattle.epoch_tags.proofs.Appends.{nothing_left, turns-append, ends-append}
@@ -129,24 +129,17 @@ now_is e (Order epoch shift ∷ ms) orders =
 now_is e (Grant ∷ ms) orders = now_is e ms orders
 now_is e (Stop ∷ ms) orders = now_is e ms orders
 
--- ---- what a feeder answers for its stop
+weighed : (input : Input) (g : Tuple → ℕ) (σ : Place → Option ℕ) (cs : List Place)
+    → sum_by g (filter_map (λ c. option_map (λ e. tuple_of input e c) (σ c)) cs) ≡ sum_by (λ c. weigh input g (σ c) c) cs
+weighed input g σ [] = refl
+weighed input g σ (c ∷ cs) = by_option (σ c) ∙ ap (λ n. weigh input g (σ c) c + n) (weighed input g σ cs) ∙ sym (sum_by-cons (λ d. weigh input g (σ d) d) c cs)
+  where
+    rest : List Tuple
+    rest = filter_map (λ d. option_map (λ e. tuple_of input e d) (σ d)) cs
 
--- ---- tuples of rows
-
-of_one : (input : Input) (e : ℕ) (batch : List Place) → AllByRecursion (λ t. t ≡ tuple_of input t.stamp (place_of t)) (map (stamped e) (map (tuple_of input 0) batch))
-of_one input e [] = tt
-of_one input e (a ∷ batch) = (refl, of_one input e batch)
-
-of_batches : (input : Input) (es : List ℕ) (bs : List (List Place)) → AllByRecursion (λ t. t ≡ tuple_of input t.stamp (place_of t)) (with_stamps es (map (λ batch. map (tuple_of input 0) batch) bs))
-of_batches input [] bs = tt
-of_batches input (e ∷ es) [] = tt
-of_batches input (e ∷ es) (batch ∷ bs) =
-    all-append (λ t. t ≡ tuple_of input t.stamp (place_of t)) (map (stamped e) (map (tuple_of input 0) batch)) (with_stamps es (map (λ batch'. map (tuple_of input 0) batch') bs)) (of_one input e batch) (of_batches input es bs)
-
-both_are : (input : Input) (setting : Setting) (f : Family) (ts : List Tuple) → AllByRecursion (λ t. t ≡ tuple_of input t.stamp (place_of t)) ts → AllByRecursion (HasItsStamp input setting f) ts
-    → AllByRecursion (λ t. t ≡ tuple_of input (stamp_in input setting f t.side t.index) (place_of t)) ts
-both_are input setting f [] more stamps = tt
-both_are input setting f (t ∷ ts) (row, more) (stamp, stamps) = (row ∙ ap (λ e. tuple_of input e (place_of t)) stamp, both_are input setting f ts more stamps)
+    by_option : (o : Option ℕ) → sum_by g (cons_option (option_map (λ e. tuple_of input e c) o) rest) ≡ weigh input g o c + sum_by g rest
+    by_option None = omega arith
+    by_option (Some e) = sum_by-cons g (tuple_of input e c) rest
 
 -- ---- in every agreeing family
 
@@ -157,27 +150,20 @@ module _ (input : Input) (setting : Setting) (valid : IsValid input setting) (f 
   abbrev granted_of : ℕ → List Tuple
   granted_of p = granted 0 (feeder_start input setting p).batches (agrees.taken_by_feeder p)
 
-  rows_counted : AllByRecursion (λ t. t ≡ tuple_of input (stamp_in input setting f t.side t.index) (place_of t)) (counted_rows input setting f)
-  rows_counted =
-      all-gather (λ t. t ≡ tuple_of input (stamp_in input setting f t.side t.index) (place_of t)) setting.feeders counted_of
-      (λ p h. both_are input setting f (counted_of p) (of_batches input (count_epochs p f.controller.journal) (batches input setting p))
-      (stamps_at input setting valid f p h (count_epochs p f.controller.journal) [] (sym (append-nil (count_epochs p f.controller.journal)))))
-
-  counted_once : IsWithinBag (map place_of (counted_rows input setting f)) (all_places input)
-  counted_once = record {
-    sums = λ h.
-        let g : Tuple → ℕ = λ t. h (place_of t) in
-        let start = sum_of_map h place_of (counted_rows input setting f) in
+  -- what was counted of all feeders' batches are the counted rows
+  counted_are : SameBag (gather setting.feeders counted_of) (counted_rows input setting f.controller.journal)
+  counted_are = record {
+    sums = λ g.
+        let σ : Place → Option ℕ = stamp_at input setting f.controller.journal in
+        let w : Place → ℕ = λ c. weigh input g (σ (place_at c.side c.index)) c in
+        let v : Place → ℕ = λ c. weigh input g (σ c) c in
         let sums = sum-gather g setting.feeders counted_of in
-        let below = total_le setting.feeders (λ p. sum_by g (counted_of p)) (λ p. sum_by (λ a. g (tuple_of input 0 a)) (rows_at input setting p))
-        (λ p low.
-        let few = some_of_batches g (λ e t. refl) (count_epochs p f.controller.journal) (feeder_start input setting p).batches in
-        let all = batches_sum input setting g p valid.batch in
-        omega arith) in
-        let rows = shares_sum setting.feed setting.feeders valid.some h (row_count input R) (row_count input S) in
-        let places = sum_by-append h (map (place_at R) (range_with_len 0 (row_count input R))) (map (place_at S) (range_with_len 0 (row_count input S))) in
-        let of_side : (side : Side) (n : ℕ) → sum_by h (map (place_at side) (range_with_len 0 n)) ≡ total n (λ i. h (place_at side i)) = λ side n.
-        sum_of_map h (place_at side) (range_with_len 0 n) ∙ range_sum (λ i. h (place_at side i)) 0 n ∙ total_same n (λ i. h (place_at side (0 + i))) (λ i. h (place_at side i)) (λ i low. let same : 0 + i ≡ i = omega arith in ap (λ m. h (place_at side m)) same) in
+        let each = total_same setting.feeders (λ p. sum_by g (counted_of p)) (λ p. sum_by w (rows_at input setting p)) (λ p low. counted_weigh input setting valid f p low g) in
+        let rows = shares_sum setting.feed setting.feeders valid.some w (row_count input R) (row_count input S) in
+        let whole = weighed input g σ (all_places input) in
+        let places = sum_by-append v (map (place_at R) (range_with_len 0 (row_count input R))) (map (place_at S) (range_with_len 0 (row_count input S))) in
+        let of_side : (side : Side) (n : ℕ) → sum_by v (map (place_at side) (range_with_len 0 n)) ≡ total n (λ i. w (place_at side i)) = λ side n.
+        sum_of_map v (place_at side) (range_with_len 0 n) ∙ range_sum (λ i. v (place_at side i)) 0 n ∙ total_same n (λ i. v (place_at side (0 + i))) (λ i. w (place_at side i)) (λ i low. let same : 0 + i ≡ i = omega arith in ap (λ m. v (place_at side m)) same) in
         let r = of_side R (row_count input R) in
         let s = of_side S (row_count input S) in
         omega arith;
@@ -216,7 +202,7 @@ module _ (input : Input) (setting : Setting) (valid : IsValid input setting) (f 
       let within = within-gather setting.feeders granted_of counted_of (λ p h'. subst (λ ts. IsWithinBag (granted_of p) ts) (sym (counted_is p h')) (within-more (granted_of p) (more_of p h'))) in
       IsWithinBag-trans
       (subst (λ c. IsWithinBag (store (joiner_start input setting j) (agrees.taken_by_joiner j) n) (filter (is_stored setting.k c n j) (rows input setting valid f agrees))) (sym (shift_same input setting valid f agrees n)) (stores_at_most input setting valid f agrees n j h low))
-      (within-filter (is_stored setting.k (shift_of setting f n) n j) within)
+      (within-filter (is_stored setting.k (shift_of setting f n) n j) (IsWithinBag-trans within (within_same counted_are)))
 
   -- where a joiner has all of an epoch from a feeder, more that was counted is later
   more_later : (n j p : ℕ) (h : j < 2 ^ setting.k) (h' : p < setting.feeders) → (n < turns ((agrees.taken_by_joiner j).from_feeder p)) ⊎ (0 < ends ((agrees.taken_by_joiner j).from_feeder p))
@@ -263,7 +249,13 @@ module _ (input : Input) (setting : Setting) (valid : IsValid input setting) (f 
             ∙ sym (sum-gather w setting.feeders counted_of)
             ∙ sym (sum-filter g keep (gather setting.feeders counted_of));
       } in
-      SameBag-trans old more
+      let all : SameBag (filter keep (gather setting.feeders counted_of)) (filter keep (counted_rows input setting f.controller.journal)) = record {
+        sums = λ g.
+            sum-filter g keep (gather setting.feeders counted_of)
+            ∙ counted_are.sums (λ t. only_if (keep t) (g t))
+            ∙ sym (sum-filter g keep (counted_rows input setting f.controller.journal));
+      } in
+      SameBag-trans old (SameBag-trans more all)
 
   pub stores_its_rows : StoresItsRows input setting f agrees
-  stores_its_rows = record { of_rows = rows_counted; each_once = counted_once; at_most = stores_few; all_of = stores_all_of }
+  stores_its_rows = record { at_most = stores_few; all_of = stores_all_of }

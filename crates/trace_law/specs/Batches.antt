@@ -1,5 +1,5 @@
 -- Which rows a feeder has, in which batches, and the stamps that a journal gives them.
-use Rattle.std.specs.Prelude.{ℕ, ◌/◌, ◌%◌, ◌==◌, Bool, ◌&&◌, slice_index, List, count_by}
+use Rattle.std.specs.Prelude.{ℕ, ◌/◌, ◌%◌, ◌==◌, Bool, ◌&&◌, slice_get, Option, List, count_by}
 use Rattle.std.specs.List.{position_or_len}
 use Rattle.row_tickets.specs.declared.place.Feed.{Feed}
 use Rattle.row_tickets.specs.declared.place.Place.{Place}
@@ -17,8 +17,8 @@ same_place a b = same_side a.side b.side && (a.index == b.index)
 abbrev pub size_of : List Place → ℕ × ℕ
 size_of batch = (count_by (λ a. same_side R a.side) batch, count_by (λ a. same_side S a.side) batch)
 
--- the epoch of the line that counted the row's batch
-abbrev pub stamp_of : Feed → ℕ → ℕ → ℕ → ℕ → List TurnLine → Place → ℕ
+-- the epoch of the line that counted the row's batch, where there is one
+abbrev pub stamp_of : Feed → ℕ → ℕ → ℕ → ℕ → List TurnLine → Place → Option ℕ
 stamp_of feed feeders size rows_r rows_s journal place =
     let p = place.index % feeders in
-    slice_index (count_epochs p journal) (position_or_len (same_place place) (share feed feeders p rows_r rows_s) / size)
+    slice_get (count_epochs p journal) (position_or_len (same_place place) (share feed feeders p rows_r rows_s) / size)

@@ -1,5 +1,5 @@
 -- Families of lists, and what is said of them.
-use Rattle.std.specs.Prelude.{◌≡◌, ℕ, ◌+◌, ◌^◌, ◌<◌, ◌==◌, ◌⊎◌, Bool, ◌&&◌, slice_index_or, List, [], ◌∷◌, map, length}
+use Rattle.std.specs.Prelude.{Option, Some, unwrap_or, ◌≡◌, ℕ, ◌+◌, ◌^◌, ◌<◌, ◌==◌, ◌⊎◌, Bool, ◌&&◌, slice_index_or, List, [], ◌∷◌, map, length}
 use Rattle.std.specs.List.{range_with_len, sum, AllByRecursion}
 use Rattle.join_rows.specs.declared.table.Side.{Side}
 use Rattle.join_rows.specs.declared.table.Side.TheVariants.{R, S}
@@ -94,12 +94,17 @@ pub record IsFinished (input : Input) (setting : Setting) (f : Family) (agrees :
 
 -- ---- what is said of them
 
--- the shift of each epoch, and the stamp of each row, by a journal
+-- the shift of each epoch by a journal
 abbrev pub shift_by : Setting → List TurnLine → ℕ → ℕ
 shift_by setting journal e = shift_at (first_line setting).shift e journal
 
+-- the stamp of a row, where the journal has counted its batch
+abbrev pub stamp_at : Input → Setting → List TurnLine → Place → Option ℕ
+stamp_at input setting journal place = stamp_of setting.feed setting.feeders setting.batch (row_count input R) (row_count input S) journal place
+
+-- the stamp of each row by a lawful journal, which has counted all
 abbrev pub stamp_by : Input → Setting → List TurnLine → Side → ℕ → ℕ
-stamp_by input setting journal side index = stamp_of setting.feed setting.feeders setting.batch (row_count input R) (row_count input S) journal (place_at side index)
+stamp_by input setting journal side index = unwrap_or (stamp_at input setting journal (place_at side index)) 0
 
 -- and by the family's journal
 abbrev pub shift_of : Setting → Family → ℕ → ℕ
@@ -126,7 +131,7 @@ moved_by setting f e j = length (gather (2 ^ setting.k) (λ q. moved_of e ((f.jo
 
 -- the tuple bears the stamp that the journal gives its row
 abbrev pub HasItsStamp : Input → Setting → Family → Tuple → Type 0
-HasItsStamp input setting f t = t.stamp ≡ stamp_in input setting f t.side t.index
+HasItsStamp input setting f t = stamp_at input setting f.controller.journal (place_at t.side t.index) ≡ Some t.stamp
 
 -- in the end: the answer is the nested loop's, and the reported numbers are those of the formulas
 pub record AnswersTheJoin (input : Input) (setting : Setting) (f : Family) : Type 0 where

@@ -1,6 +1,6 @@
 -- A worked row: four joiners, one feeder, batches of four, all rows of R first, eight rows on each side,
 -- each step settled before the next count.
-use Rattle.std.specs.Prelude.{◌≡◌, ℕ, List, [], ◌∷◌, map, reverse, refl, replicate}
+use Rattle.std.specs.Prelude.{◌≡◌, ℕ, List, [], ◌∷◌, map, reverse, refl, replicate, unwrap_or}
 use Rattle.join_rows.specs.declared.table.Side.{Side}
 use Rattle.join_rows.specs.declared.table.Side.TheVariants.{R, S}
 use Rattle.theta_pred.specs.Formula.{every, no_formula}
@@ -29,7 +29,7 @@ input = record {
 }
 
 abbrev pub stamp : Side → ℕ → ℕ
-stamp side index = stamp_of RFirst 1 4 8 8 journal (place_at side index)
+stamp side index = unwrap_or (stamp_of RFirst 1 4 8 8 journal (place_at side index)) 0
 
 abbrev pub shift : ℕ → ℕ
 shift e = shift_at 1 e journal
