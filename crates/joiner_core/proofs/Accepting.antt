@@ -23,6 +23,7 @@ use Rattle.joiner_core.specs.Whole.{IsSound, Accepts}
 use Rattle.joiner_core.specs.declared.opened.Opened.{Opened}
 use Rattle.joiner_core.specs.declared.epochs.Epochs.{Epochs}
 use Rattle.joiner_core.specs.declared.machine.Machine.{Machine}
+use Rattle.joiner_core.proofs.Posting.{own-none}
 use Rattle.joiner_core.proofs.Keeping.{append-nil, with_sent-none}
 
 -- ---- what was received, and what was sent to the collector, stand apart
@@ -108,6 +109,7 @@ accepts-taken-feeder old new p m w w' before after sound low clear state took =
       added = took.added;
       sends = took.sends;
       quiet = took.quiet;
+      own = took.own;
       told = ap (λ (z : Machine). z.told) state;
       fixed = record { k = took.k; id = took.id; feeders = took.feeders; theta = took.theta };
       rests = λ at. let n = sound.within.ended in absurd (false≢true (sym took.going ∙ at.ended p (omega arith)));
@@ -149,6 +151,7 @@ accepts-held-feeder old queues p m w before sound low row put =
       added = [];
       sends = sym (append-nil before);
       quiet = refl;
+      own = own-none old.epochs;
       told = refl;
       fixed = record { k = refl; id = refl; feeders = refl; theta = refl };
       rests = λ at. (refl, refl);
@@ -188,6 +191,7 @@ accepts-taken-joiner old new q m w w' before after sound clear can state takes =
       added = took.added;
       sends = took.sends;
       quiet = took.quiet;
+      own = took.own;
       told = ap (λ (z : Machine). z.told) state;
       fixed = record { k = took.k; id = took.id; feeders = took.feeders; theta = took.theta };
       rests = λ at. absurd (took.opened at.closed);
@@ -228,6 +232,7 @@ accepts-held-joiner old queues q m w before sound low row put =
       added = [];
       sends = sym (append-nil before);
       quiet = refl;
+      own = own-none old.epochs;
       told = refl;
       fixed = record { k = refl; id = refl; feeders = refl; theta = refl };
       rests = λ at. (refl, refl);

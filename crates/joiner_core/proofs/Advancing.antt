@@ -17,6 +17,7 @@ use Rattle.joiner_core.specs.Tests.{TakesOfJoiner}
 use Rattle.joiner_core.specs.Whole.{StandsWithin, IsResting, Advances, IsSound, IsReadyOfJoiner, TookHeld}
 use Rattle.joiner_core.specs.declared.epochs.Epochs.{Epochs}
 use Rattle.joiner_core.specs.declared.machine.Machine.{Machine}
+use Rattle.joiner_core.proofs.Posting.{own-none, own-append, own-before}
 use Rattle.joiner_core.proofs.Keeping.{quiet-append, with_sent-none, with_sent-append}
 
 append-nil : {A : Type 0} (xs : List A) → xs ++ [] ≡ xs
@@ -28,6 +29,7 @@ advances-none m waiting posts = record {
   added = [];
   sends = sym (append-nil posts);
   quiet = refl;
+  own = own-none m.epochs;
   told = refl;
   fixed = record { k = refl; id = refl; feeders = refl; theta = refl };
   rests = λ at. (refl, refl);
@@ -42,6 +44,7 @@ advances-then a b c wa wb wc pa pb pc first second = record {
   added = first.added ++ second.added;
   sends = second.sends ∙ ap (λ zs. zs ++ second.added) first.sends ∙ append_assoc pa first.added second.added;
   quiet = quiet-append first.added second.added first.quiet second.quiet;
+  own = own-append a.epochs first.added second.added first.own (own-before a.epochs b.epochs second.added first.fixed second.own);
   told = second.told ∙ first.told;
   fixed = fixed-then a.epochs b.epochs c.epochs first.fixed second.fixed;
   rests = λ at.
@@ -61,6 +64,7 @@ advances-held old new p m w w' before after low count within took first rest sam
   added = took.added;
   sends = took.sends;
   quiet = took.quiet;
+  own = took.own;
   told = told;
   fixed = record { k = took.k; id = took.id; feeders = took.feeders; theta = took.theta };
   rests = λ at. absurd (false≢true (sym took.going ∙ at.ended p within));
@@ -94,6 +98,7 @@ advances-held-joiner old new q m w w' before after took first rest same told = r
   added = took.added;
   sends = took.sends;
   quiet = took.quiet;
+  own = took.own;
   told = told;
   fixed = record { k = took.k; id = took.id; feeders = took.feeders; theta = took.theta };
   rests = λ at. absurd (took.opened at.closed);

@@ -24,6 +24,7 @@ use Rattle.joiner_core.specs.Joining.{KeepsLaw, TakesMessage, held_number}
 use Rattle.joiner_core.specs.declared.epochs.Epochs.{Epochs}
 use Rattle.joiner_core.specs.declared.machine.Machine.{Machine}
 use Rattle.joiner_core.specs.declared.joiner.Joiner.{Joiner}
+use Rattle.joiner_core.proofs.Posting.{all-over, all-rows}
 use Rattle.joiner_core.proofs.Assembling.{keeps-law}
 
 pub keeps : (joiner : Joiner) → KeepsLaw joiner
@@ -33,6 +34,8 @@ pub takes : (old new : Joiner) (from : Actor) (m : ToJoiner) (before after : Lis
 takes old new from m before after is = record {
   added = is.added;
   sends = is.sends;
+  over = all-over old.machine.epochs is.added is.own;
+  rows = all-rows old.machine.epochs is.added is.own;
   same = record { of_k = is.fixed.k; of_id = is.fixed.id; of_feeders = is.fixed.feeders; of_theta = is.fixed.theta };
   stands = is.stands;
 }
@@ -52,9 +55,9 @@ some-flag (suc n) f never = elim (cases_Bool (f n)) [
       (rest.0, omega arith, rest.2)
 ]
 
-step-within : (k : ℕ) (step : Option Opened) → ((o : Opened) → step ≡ Some o → o.shift ≤ k) → IsStepWithin k step
-step-within k None all = tt
-step-within k (Some o) all = all o refl
+step-within : (k shift : ℕ) (step : Option Opened) → ((o : Opened) → step ≡ Some o → o.shift ≤ k) → ((o : Opened) → step ≡ Some o → min shift o.shift < k) → IsStepWithin k shift step
+step-within k shift None all apart = tt
+step-within k shift (Some o) all apart = (all o refl, apart o refl)
 
 step-counted : (n : ℕ) (step : Option Opened) → ((o : Opened) → step ≡ Some o → length o.turned.items ≡ n) → IsCounted n step
 step-counted n None all = tt
@@ -73,7 +76,7 @@ to-sound m is = record {
   within = record {
     small = is.small;
     shift = is.shift;
-    step = step-within m.epochs.k m.epochs.step is.step;
+    step = step-within m.epochs.k m.epochs.shift m.epochs.step is.step is.apart;
     ended = is.ended;
     count = step-counted m.epochs.feeders m.epochs.step is.count;
     begun = step-begun m.epochs.feeders m.epochs.step is.begun;
@@ -88,11 +91,15 @@ to-sound m is = record {
   joiner_rows = to-rows m.epochs.theta.now m.of_joiners is.joiner_rows;
 }
 
+step-of : (m : Machine) (o : Opened) → m.epochs.step ≡ Some o → IsSound m → IsStepWithin m.epochs.k m.epochs.shift (Some o)
+step-of m o opens is = subst (λ (z : Option Opened). IsStepWithin m.epochs.k m.epochs.shift z) opens is.within.step
+
 pub from-sound : (m : Machine) → IsSound m → IsKept m
 from-sound m is = record {
   small = is.within.small;
   shift = is.within.shift;
-  step = λ o opens. subst (λ (z : Option Opened). IsStepWithin m.epochs.k z) opens is.within.step;
+  step = λ o opens. (step-of m o opens is).0;
+  apart = λ o opens. (step-of m o opens is).1;
   ended = is.within.ended;
   count = λ o opens. subst (λ (z : Option Opened). IsCounted m.epochs.feeders z) opens is.within.count;
   begun = λ o opens down.

@@ -1,7 +1,7 @@
 -- The machine stands for its lists after each call.
 use Rattle.std.proofs.Common.{◌≡◌, ℕ, ◌+◌, ◌<◌, ◌≤◌, ◌^◌, refl, sym, ◌∙◌, ap, subst, arith, Bool, true, false, cond, Option, Some, None, List, [], ◌∷◌, ◌++◌, length, inl, inr, eq-eqb, get_or-set_same, get_or-set_other, append_assoc}
 use Rattle.std.proofs.lemmas.Bool.{false≢true, cases_eq, ne_eqb}
-use Rattle.std.specs.Prelude.{slice_set, count_by}
+use Rattle.std.specs.Prelude.{slice_set, count_by, min}
 use Rattle.std.proofs.Math.ListN.{length-set}
 use Rattle.join_rows.specs.declared.table.Side.{Side}
 use Rattle.epoch_tags.specs.declared.tuple.Tuple.{Tuple}
@@ -30,8 +30,9 @@ use Rattle.theta_pred.specs.Formula.{Meaning}
 use Rattle.joiner_core.specs.Stocks.{placed}
 use Rattle.joiner_core.specs.Widths.{IsRow, AreRows}
 use Rattle.joiner_core.proofs.Fitting.{rows-placed, rows-old, rows-new, rows-begun, rows-turned}
+use Rattle.joiner_core.proofs.Posting.{beside, own-none, own-append, own-late, own-begun, own-turned, own-settled, own-before}
 use Rattle.joiner_core.proofs.Bagging.{settled-placed, open-placed, both-placed}
-use Rattle.joiner_core.specs.Taking.{AreStepRows, IsWithin, IsStepWithin, IsCounted, HasSomeTurn, TupFits, CanTakeTup, TurnFits, CanTakeTurn, TookOfFeeder}
+use Rattle.joiner_core.specs.Taking.{AreStepRows, IsWithin, IsFixed, IsStepWithin, IsCounted, HasSomeTurn, TupFits, CanTakeTup, TurnFits, CanTakeTurn, TookOfFeeder}
 use Rattle.epoch_tags.specs.declared.message.Post.{Post}
 
 pub append-nil : {A : Type 0} (xs : List A) → xs ++ [] ≡ xs
@@ -403,13 +404,13 @@ fits-old : (m : Epochs) (p stamp : ℕ) (step : Option Opened) → turned_in ste
 fits-old m p stamp None still fits = fits
 fits-old m p stamp (Some o) still fits = fits.0 still
 
-within-old : (k id : ℕ) (m : Epochs) (x : Tuple) (step : Option Opened) → IsStepWithin k step → IsStepWithin k (open_old m x step)
-within-old k id m x None is = tt
-within-old k id m x (Some o) is = is
+within-old : (k shift : ℕ) (m : Epochs) (x : Tuple) (step : Option Opened) → IsStepWithin k shift step → IsStepWithin k shift (open_old m x step)
+within-old k shift m x None is = tt
+within-old k shift m x (Some o) is = is
 
-within-new : (k : ℕ) (x : Tuple) (step : Option Opened) → IsStepWithin k step → IsStepWithin k (step_new x step)
-within-new k x None is = tt
-within-new k x (Some o) is = is
+within-new : (k shift : ℕ) (x : Tuple) (step : Option Opened) → IsStepWithin k shift step → IsStepWithin k shift (step_new x step)
+within-new k shift x None is = tt
+within-new k shift x (Some o) is = is
 
 count-old : (n : ℕ) (m : Epochs) (x : Tuple) (step : Option Opened) → IsCounted n step → IsCounted n (open_old m x step)
 count-old n m x None is = tt
@@ -436,7 +437,7 @@ rests-new x None rests ready = ready
 rests-new x (Some o) rests ready = rests ready
 
 pub new-within : (m : Epochs) (x : Tuple) → IsWithin m → IsRow m.theta.now x → IsWithin (after_new m x)
-new-within m x within row = record { small = within.small; shift = within.shift; step = within-new m.k x m.step within.step; ended = within.ended; count = count-new m.feeders x m.step within.count; begun = begun-new m.feeders x m.step within.begun; rests = rests-new x m.step within.rests; id = within.id; rows = within.rows; step_rows = rows-new m.theta.now x m.step within.step_rows row }
+new-within m x within row = record { small = within.small; shift = within.shift; step = within-new m.k m.shift x m.step within.step; ended = within.ended; count = count-new m.feeders x m.step within.count; begun = begun-new m.feeders x m.step within.begun; rests = rests-new x m.step within.rests; id = within.id; rows = within.rows; step_rows = rows-new m.theta.now x m.step within.step_rows row }
 
 pub quiet-moved : (to epoch : ℕ) (xs : List Tuple) → posted_to_collector (map (moved_post to epoch) xs) ≡ []
 quiet-moved to epoch [] = refl
@@ -475,7 +476,8 @@ took-old m m' x p found found' before after within can row still state more post
   added = posts_old m x;
   sends = refl;
   quiet = quiet-late m x m.step;
-  within = record { small = within.small; shift = within.shift; step = within-old m.k m.id m x m.step within.step; ended = within.ended; count = count-old m.feeders m x m.step within.count; begun = begun-old m.feeders m x m.step within.begun; rests = rests-old m x m.step within.rests; id = within.id; rows = rows-placed m.theta.now m.store x within.rows row; step_rows = rows-old m.theta.now m x m.step within.step_rows row };
+  own = own-late m x m.step within.id within.step row;
+  within = record { small = within.small; shift = within.shift; step = within-old m.k m.shift m x m.step within.step; ended = within.ended; count = count-old m.feeders m x m.step within.count; begun = begun-old m.feeders m x m.step within.begun; rests = rests-old m x m.step within.rests; id = within.id; rows = rows-placed m.theta.now m.store x within.rows row; step_rows = rows-old m.theta.now m x m.step within.step_rows row };
   k = refl;
   id = refl;
   feeders = refl;
@@ -491,6 +493,7 @@ took-new m m' x p found found' before within can row has state more = rw (state,
   added = [];
   sends = sym (append-nil before);
   quiet = refl;
+  own = own-none m;
   within = new-within m x within row;
   k = refl;
   id = refl;
@@ -579,15 +582,18 @@ begun-by s t lists waiting m p epoch shift fixed low (Some o) step' fits has is 
 )
 
 -- the shifts stay within the grid
-begun-within : (m : Epochs) (p epoch shift : ℕ) (step step' : Option Opened) → TurnFits m p epoch shift step → IsStepWithin m.k step → HasBegun m epoch shift step step' → IsStepWithin m.k step'
-begun-within m p epoch shift None None fits within has = tt
-begun-within m p epoch shift None (Some o) fits within has = let is = has.shift in let low : shift ≤ m.k = fits.1 in omega arith
-begun-within m p epoch shift (Some o) step' fits within has = subst (λ (z : Option Opened). IsStepWithin m.k z) (sym has) within
+begun-within : (m : Epochs) (p epoch shift : ℕ) (step step' : Option Opened) → m.shift ≤ m.k → TurnFits m p epoch shift step → IsStepWithin m.k m.shift step → HasBegun m epoch shift step step' → IsStepWithin m.k m.shift step'
+begun-within m p epoch shift None None top fits within has = tt
+begun-within m p epoch shift None (Some o) top fits within has =
+    subst (λ (b : ℕ). (b ≤ m.k) × (min m.shift b < m.k)) (sym has.shift) (fits.1, beside m.k m.shift shift top fits.1 fits.2)
+begun-within m p epoch shift (Some o) step' top fits within has = subst (λ (z : Option Opened). IsStepWithin m.k m.shift z) (sym has) within
 
-turned-within : (k p : ℕ) (step step' : Option Opened) → HasTurned p step step' → IsStepWithin k step → IsStepWithin k step'
-turned-within k p None step' has within = subst (λ (z : Option Opened). IsStepWithin k z) (sym has) tt
-turned-within k p (Some o) None has within = absurd has
-turned-within k p (Some o) (Some o') has within = let same : o'.shift ≡ o.shift = ap (λ (z : Opened). z.shift) has.0 in omega arith
+turned-within : (k shift p : ℕ) (step step' : Option Opened) → HasTurned p step step' → IsStepWithin k shift step → IsStepWithin k shift step'
+turned-within k shift p None step' has within = subst (λ (z : Option Opened). IsStepWithin k shift z) (sym has) tt
+turned-within k shift p (Some o) None has within = absurd has
+turned-within k shift p (Some o) (Some o') has within =
+    let same : o'.shift ≡ o.shift = ap (λ (z : Opened). z.shift) has.0 in
+    subst (λ (b : ℕ). (b ≤ k) × (min shift b < k)) (sym same) within
 
 begun-count : (m : Epochs) (epoch shift : ℕ) (step step' : Option Opened) → IsCounted m.feeders step → HasBegun m epoch shift step step' → IsCounted m.feeders step'
 begun-count m epoch shift None None is has = tt
@@ -604,12 +610,12 @@ turned-some n p None step' low has is = subst (λ (z : Option Opened). HasSomeTu
 turned-some n p (Some o) None low has is = absurd has
 turned-some n p (Some o) (Some o') low has is = (p, low, ap (λ fs. flag_at fs p) has.1 ∙ get_or-set_same o.turned.items p true false (omega arith))
 
-settled-within-step : (m : Epochs) (step : Option Opened) → IsReady step → m.k < 9 → IsStepWithin m.k step → length m.ended.items ≡ m.feeders → m.id < 2 ^ m.k → AreStepRows m.theta.now step → IsWithin (settled_by m step)
+settled-within-step : (m : Epochs) (step : Option Opened) → IsReady step → m.k < 9 → IsStepWithin m.k m.shift step → length m.ended.items ≡ m.feeders → m.id < 2 ^ m.k → AreStepRows m.theta.now step → IsWithin (settled_by m step)
 settled-within-step m None ready small step ended id rows = absurd ready
-settled-within-step m (Some o) ready small step ended id rows = record { small = small; shift = step; step = tt; ended = ended; count = tt; begun = tt; rests = λ never. never; id = id; rows = rows; step_rows = tt }
+settled-within-step m (Some o) ready small step ended id rows = record { small = small; shift = step.0; step = tt; ended = ended; count = tt; begun = tt; rests = λ never. never; id = id; rows = rows; step_rows = tt }
 
 pub settled-within : (m : Epochs) (ready : Bool) → (ready ≡ true → IsReady m.step) → (ready ≡ false → IsReady m.step → ⊥)
-    → m.k < 9 → m.shift ≤ m.k → IsStepWithin m.k m.step → length m.ended.items ≡ m.feeders → IsCounted m.feeders m.step → HasSomeTurn m.feeders m.step
+    → m.k < 9 → m.shift ≤ m.k → IsStepWithin m.k m.shift m.step → length m.ended.items ≡ m.feeders → IsCounted m.feeders m.step → HasSomeTurn m.feeders m.step
     → m.id < 2 ^ m.k → AreRows m.theta.now m.store → AreStepRows m.theta.now m.step → IsWithin (after_settle ready m)
 settled-within m true settles not_yet small low step ended count begun id rows step_rows = settled-within-step m m.step (settles refl) small step ended id step_rows
 settled-within m false settles not_yet small low step ended count begun id rows step_rows = record { small = small; shift = low; step = step; ended = ended; count = count; begun = begun; rests = not_yet refl; id = id; rows = rows; step_rows = step_rows }
@@ -655,8 +661,10 @@ took-turn m m1 m2 m3 p epoch shift last ready waiting before s1 s2 after few wit
     let k1 : m1.k ≡ m.k = ap (λ (z : Epochs). z.k) rest1 in
     let k2 : m2.k ≡ m.k = ap (λ (z : Epochs). z.k) rest2 ∙ k1 in
     let b2 : m2.shift ≡ m.shift = ap (λ (z : Epochs). z.shift) rest2 ∙ ap (λ (z : Epochs). z.shift) rest1 in
-    let step1 : IsStepWithin m.k m1.step = begun-within m p epoch shift m.step m1.step can.fits within.step begun in
-    let step2 : IsStepWithin m.k m2.step = turned-within m.k p m1.step m2.step turned step1 in
+    let b1 : m1.shift ≡ m.shift = ap (λ (z : Epochs). z.shift) rest1 in
+    let step1 : IsStepWithin m.k m.shift m1.step = begun-within m p epoch shift m.step m1.step within.shift can.fits within.step begun in
+    let step2 : IsStepWithin m.k m.shift m2.step = turned-within m.k m.shift p m1.step m2.step turned step1 in
+    let own1 : IsStepWithin m1.k m1.shift m1.step = subst (λ (n : ℕ). IsStepWithin n m1.shift m1.step) (sym k1) (subst (λ (n : ℕ). IsStepWithin m.k n m1.step) (sym b1) step1) in
     let n2 : m2.feeders ≡ m.feeders = ap (λ (z : Epochs). z.feeders) rest2 ∙ ap (λ (z : Epochs). z.feeders) rest1 in
     let count1 : IsCounted m.feeders m1.step = begun-count m epoch shift m.step m1.step within.count begun in
     let i2 : m2.id ≡ m.id = ap (λ (z : Epochs). z.id) rest2 ∙ ap (λ (z : Epochs). z.id) rest1 in
@@ -664,13 +672,16 @@ took-turn m m1 m2 m3 p epoch shift last ready waiting before s1 s2 after few wit
     let store2 : m2.store ≡ m.store = ap (λ (z : Epochs). z.store) rest2 ∙ ap (λ (z : Epochs). z.store) rest1 in
     let rows1 : AreStepRows m.theta.now m1.step = rows-begun m.theta.now m epoch shift m.step m1.step within.rows within.step_rows begun in
     let rows2 : AreStepRows m.theta.now m2.step = rows-turned m.theta.now p m1.step m2.step turned rows1 in
+    let fixed1 : IsFixed m m1 = record { k = k1; id = ap (λ (z : Epochs). z.id) rest1; feeders = ap (λ (z : Epochs). z.feeders) rest1; theta = ap (λ (z : Epochs). z.theta.now) rest1 } in
+    let id1 : m1.id < 2 ^ m1.k = subst (λ (n : ℕ). m1.id < 2 ^ n) (sym k1) (subst (λ (n : ℕ). n < 2 ^ m.k) (sym fixed1.id) within.id) in
+    let id2 : m2.id < 2 ^ m2.k = subst (λ (n : ℕ). m2.id < 2 ^ n) (sym k2) (subst (λ (n : ℕ). n < 2 ^ m.k) (sym i2) within.id) in
     let within3 : IsWithin (after_settle ready m2) =
     settled-within m2 ready settles not_yet (let small = within.small in omega arith) (let low = within.shift in omega arith)
-    (subst (λ (n : ℕ). IsStepWithin n m2.step) (sym k2) step2)
+    (subst (λ (n : ℕ). IsStepWithin n m2.shift m2.step) (sym k2) (subst (λ (n : ℕ). IsStepWithin m.k n m2.step) (sym b2) step2))
     (ap (λ (z : Epochs). length z.ended.items) rest2 ∙ ap (λ (z : Epochs). length z.ended.items) rest1 ∙ within.ended ∙ sym n2)
     (subst (λ (n : ℕ). IsCounted n m2.step) (sym n2) (turned-count m.feeders p m1.step m2.step turned count1))
     (subst (λ (n : ℕ). HasSomeTurn n m2.step) (sym n2) (turned-some m.feeders p m1.step m2.step few turned count1))
-    (subst (λ (n : ℕ). m2.id < 2 ^ n) (sym k2) (subst (λ (n : ℕ). n < 2 ^ m.k) (sym i2) within.id))
+    id2
     (subst (λ (th : Meaning). AreRows th m2.store) (sym th2) (subst (AreRows m.theta.now) (sym store2) within.rows))
     (subst (λ (th : Meaning). AreStepRows th m2.step) (sym th2) rows2) in
     record {
@@ -678,6 +689,9 @@ took-turn m m1 m2 m3 p epoch shift last ready waiting before s1 s2 after few wit
       sends = posts3 ∙ ap (λ zs. zs ++ posts_settled ready m2) (posts2 ∙ ap (λ zs. zs ++ posts_turned m1 last) posts1)
           ∙ four before (begun_posts m epoch shift m.step) (posts_turned m1 last) (posts_settled ready m2);
       quiet = quiet-append (begun_posts m epoch shift m.step ++ posts_turned m1 last) (posts_settled ready m2) (quiet-append (begun_posts m epoch shift m.step) (posts_turned m1 last) (quiet-begun m epoch shift m.step) (quiet-turned m1 last)) (quiet-settled ready m2);
+      own = own-append m (begun_posts m epoch shift m.step ++ posts_turned m1 last) (posts_settled ready m2)
+          (own-append m (begun_posts m epoch shift m.step) (posts_turned m1 last) (own-begun m p epoch shift m.step within can.fits) (own-before m m1 (posts_turned m1 last) fixed1 (own-turned m1 last id1 own1)))
+          (own-before m m2 (posts_settled ready m2) (record { k = k2; id = i2; feeders = n2; theta = th2 }) (own-settled m2 ready id2));
       within = rw state within3;
       k = ap (λ (z : Epochs). z.k) state ∙ settled-k m2 ready ∙ k2;
       id = ap (λ (z : Epochs). z.id) state ∙ settled-id m2 ready ∙ i2;

@@ -1,5 +1,5 @@
 -- A feeder's end and a partner's messages, as whole calls.
-use Rattle.std.proofs.Common.{◌≡◌, ℕ, ◌<◌, refl, sym, ◌∙◌, ap, subst, arith, Bool, true, false, Option, Some, None, List, [], ◌++◌, length}
+use Rattle.std.proofs.Common.{◌≡◌, ℕ, ◌^◌, ◌<◌, refl, sym, ◌∙◌, ap, subst, arith, Bool, true, false, Option, Some, None, List, [], ◌++◌, length}
 use Rattle.std.specs.Prelude.{slice_set}
 use Rattle.std.proofs.Math.ListN.{length-set}
 use Rattle.epoch_tags.specs.declared.tuple.Tuple.{Tuple}
@@ -16,10 +16,11 @@ use Rattle.joiner_core.specs.declared.opened.Opened.{Opened}
 use Rattle.joiner_core.specs.declared.epochs.Epochs.{Epochs}
 use Rattle.joiner_core.specs.Changes.{after_moved, found_moved, moved_found, step_new, with_new, part_by, after_part, IsReady, posts_settled, after_settle}
 use Rattle.joiner_core.specs.Standing.{IsMachineOf, IsOpen, StandsBy, Stands}
-use Rattle.joiner_core.specs.Taking.{IsWithin, IsStepWithin, IsCounted, HasSomeTurn, TookOfFeeder, TookOfJoiner}
+use Rattle.joiner_core.specs.Taking.{IsWithin, IsFixed, IsStepWithin, IsCounted, HasSomeTurn, TookOfFeeder, TookOfJoiner}
 use Rattle.joiner_core.specs.Widths.{IsRow}
 use Rattle.joiner_core.specs.Tests.{PartFits}
 use Rattle.joiner_core.proofs.Fitting.{rows-part}
+use Rattle.joiner_core.proofs.Posting.{own-none, own-settled, own-before}
 use Rattle.joiner_core.proofs.Keeping.{quiet-settled, append-nil, closed-end, flag-set, open-part, open-part_end, stands-settled, settled-within, settled-k, settled-id, settled-feeders, settled-theta, new-within, with_sent-none}
 
 -- ---- a feeder's end
@@ -81,6 +82,7 @@ took-end m m' p waiting before within going state flags = record {
   added = [];
   sends = sym (append-nil before);
   quiet = refl;
+  own = own-none m;
   within = subst (λ (z : Epochs). IsWithin z) (sym state) (record { small = within.small; shift = within.shift; step = within.step; ended = ap length flags ∙ length-set m.ended.items p true ∙ within.ended; count = within.count; begun = within.begun; rests = within.rests; id = within.id; rows = within.rows; step_rows = within.step_rows });
   k = ap (λ (z : Epochs). z.k) state;
   id = ap (λ (z : Epochs). z.id) state;
@@ -120,6 +122,7 @@ took-moved m m' q epoch x w w' before within row state more fits = rw (state, mo
   added = [];
   sends = sym (append-nil before);
   quiet = refl;
+  own = own-none m;
   within = new-within m x within row;
   k = refl;
   id = refl;
@@ -147,9 +150,9 @@ part-end-by s t lists waiting m q epoch fixed (Some o) fits is =
     (subst (λ (e : ℕ). IsOpen s (took_of_joiner (partner_in_step m.shift o.shift m.id) (MovedEnd e) t) lists waiting (record m { step = part_by (Some o) }) (record o { partner_ended = true })) (sym fits.0)
     (open-part_end s t lists waiting m o fixed fits.1 is))
 
-part-within : (k : ℕ) (step : Option Opened) → IsStepWithin k step → IsStepWithin k (part_by step)
-part-within k None is = tt
-part-within k (Some o) is = is
+part-within : (k shift : ℕ) (step : Option Opened) → IsStepWithin k shift step → IsStepWithin k shift (part_by step)
+part-within k shift None is = tt
+part-within k shift (Some o) is = is
 
 part-count : (n : ℕ) (step : Option Opened) → IsCounted n step → IsCounted n (part_by step)
 part-count n None is = tt
@@ -161,7 +164,10 @@ part-begun n (Some o) is = is
 
 ended-within : (m m1 : Epochs) (ready : Bool) → IsWithin m → m1 ≡ after_part m → (ready ≡ true → IsReady m1.step) → (ready ≡ false → IsReady m1.step → ⊥) → IsWithin (after_settle ready m1)
 ended-within m m1 ready within part = subst (λ (z : Epochs). (ready ≡ true → IsReady z.step) → (ready ≡ false → IsReady z.step → ⊥) → IsWithin (after_settle ready z)) (sym part)
-    (λ settles not_yet. settled-within (after_part m) ready settles not_yet within.small within.shift (part-within m.k m.step within.step) within.ended (part-count m.feeders m.step within.count) (part-begun m.feeders m.step within.begun) within.id within.rows (rows-part m.theta.now m.step within.step_rows))
+    (λ settles not_yet. settled-within (after_part m) ready settles not_yet within.small within.shift (part-within m.k m.shift m.step within.step) within.ended (part-count m.feeders m.step within.count) (part-begun m.feeders m.step within.begun) within.id within.rows (rows-part m.theta.now m.step within.step_rows))
+
+part-fixed : (m m1 : Epochs) → m1 ≡ after_part m → IsFixed m m1
+part-fixed m m1 part = subst (λ (z : Epochs). IsFixed m z) (sym part) (record { k = refl; id = refl; feeders = refl; theta = refl })
 
 pub took-moved_end : (m m1 m2 : Epochs) (q epoch : ℕ) (ready : Bool) (w : List Pair) (before after : List Post) → IsWithin m → m1 ≡ after_part m → (ready ≡ true → IsReady m1.step) → (ready ≡ false → IsReady m1.step → ⊥)
     → m2 ≡ after_settle ready m1 → after ≡ before ++ posts_settled ready m1 → PartFits m q epoch m.step → TookOfJoiner q (MovedEnd epoch) m m2 w w before after
@@ -169,6 +175,7 @@ took-moved_end m m1 m2 q epoch ready w before after within part settles not_yet 
   added = posts_settled ready m1;
   sends = posts;
   quiet = quiet-settled ready m1;
+  own = own-before m m1 (posts_settled ready m1) (part-fixed m m1 part) (own-settled m1 ready (subst (λ (z : Epochs). z.id < 2 ^ z.k) (sym part) within.id));
   within = subst (λ (z : Epochs). IsWithin z) (sym state) (ended-within m m1 ready within part settles not_yet);
   k = ap (λ (z : Epochs). z.k) state ∙ settled-k m1 ready ∙ ap (λ (z : Epochs). z.k) part;
   id = ap (λ (z : Epochs). z.id) state ∙ settled-id m1 ready ∙ ap (λ (z : Epochs). z.id) part;

@@ -30,6 +30,7 @@ use Rattle.joiner_core.specs.declared.opened.Opened.{Opened}
 use Rattle.joiner_core.specs.declared.epochs.Epochs.{Epochs}
 use Rattle.joiner_core.specs.declared.machine.Machine.{Machine}
 use Rattle.joiner_law.proofs.Sending.{gathered-more}
+use Rattle.joiner_core.proofs.Posting.{own-append, own-before, own-found, own-fin}
 use Rattle.joiner_core.proofs.Keeping.{quiet-append, append-nil, with_sent-none, with_sent-append}
 use Rattle.joiner_core.proofs.Accepting.{with_other, PairsMove, stands-other}
 use Rattle.joiner_core.proofs.Testing.{tests-feeder, tests-joiner}
@@ -235,13 +236,16 @@ receives from m old a b new w0 w1 w2 p0 p1 p2 p3 p4 grid none accepts sound adva
     let a2 = advances.added in
     let a3 = found_posts w2 in
     let a4 = fin_posts tells.now b in
+    let fixed : IsFixed old.epochs b.epochs = fixed-then old.epochs a.epochs b.epochs accepts.fixed advances.fixed in
     let sound' : IsSound new = subst (λ (z : Machine). IsSound z) (sym state) (record { within = sound.within; feeders = sound.feeders; joiners = sound.joiners; feeder_rows = sound.feeder_rows; joiner_rows = sound.joiner_rows }) in
     let stuck' : IsStuck new = subst (λ (z : Machine). IsStuck z) (sym state) (record { feeders = stuck.feeders; joiners = stuck.joiners }) in
     record {
       sound = sound';
-      fixed = subst (λ (z : Machine). IsFixed old.epochs z.epochs) (sym state) (fixed-then old.epochs a.epochs b.epochs accepts.fixed advances.fixed);
+      fixed = subst (λ (z : Machine). IsFixed old.epochs z.epochs) (sym state) fixed;
       added = ((a1 ++ a2) ++ a3) ++ a4;
       sends = tells.sends ∙ ap (λ zs. zs ++ a4) (found ∙ ap (λ zs. zs ++ a3) (advances.sends ∙ ap (λ zs. zs ++ a2) accepts.sends ∙ append_assoc p0 a1 a2) ∙ append_assoc p0 (a1 ++ a2) a3) ∙ append_assoc p0 ((a1 ++ a2) ++ a3) a4;
+      own = own-append old.epochs ((a1 ++ a2) ++ a3) a4 (own-append old.epochs (a1 ++ a2) a3 (own-append old.epochs a1 a2 accepts.own (own-before old.epochs a.epochs a2 accepts.fixed advances.own))
+          (own-before old.epochs b.epochs a3 fixed (own-found b.epochs w2 sound.within.id))) (own-before old.epochs b.epochs a4 fixed (own-fin b tells.now sound.within.id));
       stands = λ s lists is.
           let ls = with_message from m lists in
           let fixed = is.within.stands.fixed in

@@ -2,12 +2,15 @@
 use Rattle.std.specs.Prelude.{◌≡◌, ℕ, ◌+◌, ◌-◌, ◌^◌, true, List, ◌++◌, length}
 use Rattle.join_rows.specs.Lists.{total}
 use Rattle.epoch_tags.specs.declared.actor.Actor.{Actor}
+use Rattle.epoch_tags.specs.declared.actor.Actor.TheVariants.{Joiner as Joiner'}
 use Rattle.epoch_tags.specs.declared.message.Post.{Post}
 use Rattle.epoch_tags.specs.declared.message.ToJoiner.{ToJoiner}
+use Rattle.epoch_tags.specs.Posts.{AllGoOver}
 use Rattle.theta_pred.specs.Formula.{Meaning}
 use Rattle.joiner_law.specs.Law.{JoinerStart, JoinerLists, JoinerLaw, Taken}
 use Rattle.joiner_law.specs.Standing.{with_sent}
 use Rattle.joiner_core.specs.Whole.{StandsBetween, with_message}
+use Rattle.joiner_core.specs.Widths.{AllSendRows}
 use Rattle.joiner_core.specs.declared.joiner.Joiner.{Joiner}
 
 -- want of memory has stopped it
@@ -53,9 +56,12 @@ held_number s lists t =
 abbrev pub KeepsLaw : Joiner → Type 0
 KeepsLaw joiner = (s : JoinerStart) (lists : JoinerLists) (stands : StandsFor s lists joiner) → JoinerLaw s lists (taken_of s lists joiner stands)
 
--- a call that took or held message m: for whatever lists the joiner stood, it stands for them with the message and the new posts at their ends
+-- a call that took or held message m: its posts go over links of this joiner, and for whatever lists it stood, it stands
+-- for them with the message and the new posts at their ends
 pub record TakesMessage (old new : Joiner) (from : Actor) (m : ToJoiner) (before after : List Post) : Type 0 where
   pub added : List Post
   pub sends : after ≡ before ++ added
+  pub over : AllGoOver (k_of old) (feeders_of old) (Joiner' (id_of old)) added
+  pub rows : AllSendRows (theta_of old) added
   pub same : IsJoiner (k_of old) (id_of old) (feeders_of old) (theta_of old) new
   pub stands : (s : JoinerStart) (lists : JoinerLists) → StandsFor s lists old → StandsFor s (with_sent (with_message from m lists) added) new

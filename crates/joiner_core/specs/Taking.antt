@@ -1,5 +1,5 @@
 -- What the machine can take, and what taking it does to the lists for which the machine stands.
-use Rattle.std.specs.Prelude.{◌≡◌, ℕ, ◌+◌, ◌<◌, ◌≤◌, ◌^◌, true, false, Option, Some, None, ⊤, List, [], ◌++◌, length}
+use Rattle.std.specs.Prelude.{◌≡◌, ℕ, ◌+◌, ◌<◌, ◌≤◌, ◌^◌, min, true, false, Option, Some, None, ⊤, List, [], ◌++◌, length, All}
 use Rattle.epoch_tags.specs.declared.tuple.Pair.{Pair}
 use Rattle.epoch_tags.specs.declared.message.Post.{Post}
 use Rattle.epoch_tags.specs.declared.message.ToJoiner.{ToJoiner}
@@ -8,17 +8,17 @@ use Rattle.epoch_tags.specs.Posts.{posted_to_collector}
 use Rattle.joiner_law.specs.Law.{JoinerStart, JoinerLists, Taken}
 use Rattle.joiner_law.specs.Standing.{grown, with_sent}
 use Rattle.joiner_core.specs.Flags.{flag_at}
-use Rattle.joiner_core.specs.Widths.{AreRows}
+use Rattle.joiner_core.specs.Widths.{AreRows, IsOwnPost}
 use Rattle.theta_pred.specs.Formula.{Meaning}
 use Rattle.joiner_core.specs.Standing.{Stands}
 use Rattle.joiner_core.specs.Changes.{IsReady}
 use Rattle.joiner_core.specs.declared.opened.Opened.{Opened}
 use Rattle.joiner_core.specs.declared.epochs.Epochs.{Epochs}
 
--- the shifts are within the grid
-abbrev pub IsStepWithin : ℕ → Option Opened → Type 0
-IsStepWithin k None = ⊤
-IsStepWithin k (Some o) = o.shift ≤ k
+-- the step leads from this shift within the grid, and to another
+abbrev pub IsStepWithin : ℕ → ℕ → Option Opened → Type 0
+IsStepWithin k shift None = ⊤
+IsStepWithin k shift (Some o) = (o.shift ≤ k) × (min shift o.shift < k)
 
 -- some feeder has turned in the open step, if there is one
 abbrev pub HasSomeTurn : ℕ → Option Opened → Type 0
@@ -38,7 +38,7 @@ AreStepRows theta (Some o) = AreRows theta o.store
 pub record IsWithin (m : Epochs) : Type 0 where
   pub small : m.k < 9
   pub shift : m.shift ≤ m.k
-  pub step : IsStepWithin m.k m.step
+  pub step : IsStepWithin m.k m.shift m.step
   pub ended : length m.ended.items ≡ m.feeders
   pub count : IsCounted m.feeders m.step
   pub begun : HasSomeTurn m.feeders m.step
@@ -77,11 +77,16 @@ pub record IsAfter (p : ℕ) (m : ToJoiner) (t t' : Taken) : Type 0 where
   pub from_feeder : t'.from_feeder ≡ grown p m t.from_feeder
   pub from_joiner : t'.from_joiner ≡ t.from_joiner
 
+-- what it posts goes over its links, with rows of the predicate's widths
+abbrev pub AreOwnPosts : Epochs → List Post → Type 0
+AreOwnPosts m posts = All (IsOwnPost m.k m.feeders m.id m.theta.now) posts
+
 -- a call that took message m of feeder p
 pub record TookOfFeeder (p : ℕ) (m : ToJoiner) (old new : Epochs) (waiting waiting' : List Pair) (before after : List Post) : Type 0 where
   pub added : List Post
   pub sends : after ≡ before ++ added
   pub quiet : posted_to_collector added ≡ []
+  pub own : AreOwnPosts old added
   pub within : IsWithin new
   pub k : new.k ≡ old.k
   pub id : new.id ≡ old.id
@@ -101,6 +106,7 @@ pub record TookOfJoiner (q : ℕ) (m : ToJoiner) (old new : Epochs) (waiting wai
   pub added : List Post
   pub sends : after ≡ before ++ added
   pub quiet : posted_to_collector added ≡ []
+  pub own : AreOwnPosts old added
   pub within : IsWithin new
   pub k : new.k ≡ old.k
   pub id : new.id ≡ old.id

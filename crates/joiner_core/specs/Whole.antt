@@ -1,5 +1,5 @@
 -- The lists for which a joiner stands, with the messages that it holds.
-use Rattle.std.specs.Prelude.{◌≡◌, ℕ, ◌+◌, ◌^◌, ◌<◌, ◌≤◌, map, Bool, true, false, Some, None, List, [], ◌∷◌, ◌++◌, length, sum_by, count_by}
+use Rattle.std.specs.Prelude.{◌≡◌, ℕ, ◌+◌, ◌^◌, ◌<◌, ◌≤◌, min, map, Bool, true, false, Some, None, List, [], ◌∷◌, ◌++◌, length, sum_by, count_by}
 use Rattle.std.specs.List.{AllByRecursion}
 use Rattle.epoch_tags.specs.declared.tuple.Pair.{Pair}
 use Rattle.epoch_tags.specs.declared.message.ToCollector.{ToCollector}
@@ -19,7 +19,7 @@ use Rattle.joiner_law.specs.Law.{JoinerStart, JoinerLists, Taken, CanTakeOfFeede
 use Rattle.joiner_law.specs.Standing.{grown, with_sent}
 use Rattle.joiner_core.specs.Queues.{held_at}
 use Rattle.joiner_core.specs.Queues.{BeginsWith}
-use Rattle.joiner_core.specs.Taking.{IsWithin, IsFixed}
+use Rattle.joiner_core.specs.Taking.{IsWithin, IsFixed, AreOwnPosts}
 use Rattle.joiner_core.specs.Changes.{IsReady}
 use Rattle.joiner_core.specs.declared.opened.Opened.{Opened}
 use Rattle.joiner_core.specs.Tests.{TakesOfFeeder, TakesOfJoiner}
@@ -46,6 +46,7 @@ pub record Advances (old new : Machine) (waiting waiting' : List Pair) (before a
   pub added : List Post
   pub sends : after ≡ before ++ added
   pub quiet : posted_to_collector added ≡ []
+  pub own : AreOwnPosts old.epochs added
   pub told : new.told ≡ old.told
   pub fixed : IsFixed old.epochs new.epochs
   pub rests : IsResting old.epochs → (new.epochs ≡ old.epochs) × (waiting' ≡ waiting)
@@ -68,6 +69,7 @@ pub record IsKept (m : Machine) : Type 0 where
   pub small : m.epochs.k < 9
   pub shift : m.epochs.shift ≤ m.epochs.k
   pub step : (o : Opened) → m.epochs.step ≡ Some o → o.shift ≤ m.epochs.k
+  pub apart : (o : Opened) → m.epochs.step ≡ Some o → min m.epochs.shift o.shift < m.epochs.k
   pub ended : length m.epochs.ended.items ≡ m.epochs.feeders
   pub count : (o : Opened) → m.epochs.step ≡ Some o → length o.turned.items ≡ m.epochs.feeders
   pub begun : (o : Opened) → m.epochs.step ≡ Some o → ((p : ℕ) → p < m.epochs.feeders → flag_at o.turned.items p ≡ false) → ⊥
@@ -170,6 +172,7 @@ pub record Accepts (from : Actor) (m : ToJoiner) (old new : Machine) (waiting wa
   pub added : List Post
   pub sends : after ≡ before ++ added
   pub quiet : posted_to_collector added ≡ []
+  pub own : AreOwnPosts old.epochs added
   pub told : new.told ≡ old.told
   pub fixed : IsFixed old.epochs new.epochs
   pub rests : IsResting old.epochs → (new.epochs ≡ old.epochs) × (waiting' ≡ waiting)
@@ -198,6 +201,7 @@ pub record Receives (from : Actor) (m : ToJoiner) (old new : Machine) (before af
   pub fixed : IsFixed old.epochs new.epochs
   pub added : List Post
   pub sends : after ≡ before ++ added
+  pub own : AreOwnPosts old.epochs added
   pub stands : (s : JoinerStart) (lists : JoinerLists) → StandsBetween s lists old → StandsBetween s (with_sent (with_message from m lists) added) new
 
 -- ---- the beginning

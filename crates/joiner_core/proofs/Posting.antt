@@ -1,0 +1,106 @@
+-- Whither a joiner's posts go.
+use Rattle.std.proofs.Common.{◌≡◌, ℕ, ◌+◌, ◌<◌, ◌≤◌, ◌^◌, inl, inr, ◌⊎◌, refl, sym, ◌∙◌, ap, subst, arith, Bool, true, false, cond, Option, Some, None, List, [], ◌∷◌, ◌++◌, filter, map, All}
+use Rattle.std.specs.Prelude.{min}
+use Rattle.std.proofs.lemmas.List.Elements.{All-nil, All-cons, All-append, All-filter, All-map}
+use Rattle.epoch_tags.specs.Links.{joiner_joiner, joiner_controller, joiner_collector}
+use Rattle.epoch_tags.specs.Posts.{GoesOver, AllGoOver}
+use Rattle.epoch_tags.specs.declared.actor.Actor.TheVariants.{Joiner as Joiner'}
+use Rattle.epoch_tags.specs.declared.message.Post.{Post}
+use Rattle.epoch_tags.specs.declared.tuple.Tuple.{Tuple}
+use Rattle.epoch_tags.specs.declared.tuple.Pair.{Pair}
+use Rattle.migration_plan.specs.Steps.{AreNeighbours, is_of, exchanged_side, partner_in_step}
+use Rattle.theta_pred.specs.Formula.{Meaning}
+use Rattle.joiner_law.specs.Posting.{moved_post, moved_end_post, settled_post}
+use Rattle.joiner_core.specs.Widths.{IsRow, AreRows, IsOwnPost, AllSendRows}
+use Rattle.joiner_core.specs.Changes.{late_posts, begun_posts, end_posts, posts_turned, settle_posts, posts_settled}
+use Rattle.joiner_core.specs.Taking.{IsWithin, IsFixed, IsStepWithin, TurnFits, AreOwnPosts}
+use Rattle.joiner_core.specs.Whole.{found_posts, fin_posts}
+use Rattle.joiner_core.specs.declared.opened.Opened.{Opened}
+use Rattle.joiner_core.specs.declared.epochs.Epochs.{Epochs}
+use Rattle.joiner_core.specs.declared.machine.Machine.{Machine}
+
+-- two neighbours aren't both the last shift
+pub beside : (k b c : ℕ) → b ≤ k → c ≤ k → AreNeighbours b c → min b c < k
+beside k b c low low' next = elim next [
+  | inl up ↦ omega arith
+  | inr down ↦ omega arith
+]
+
+own-moved : (m : Epochs) (shift epoch : ℕ) (x : Tuple) → m.id < 2 ^ m.k → min m.shift shift < m.k → IsRow m.theta.now x
+    → IsOwnPost m.k m.feeders m.id m.theta.now (moved_post (partner_in_step m.shift shift m.id) epoch x)
+own-moved m shift epoch x id low row = record { over = record { link = joiner_joiner id low; kind = tt }; row = row }
+
+own-moves : (m : Epochs) (shift epoch : ℕ) (xs : List Tuple) → m.id < 2 ^ m.k → min m.shift shift < m.k → AreRows m.theta.now xs
+    → AreOwnPosts m (map (moved_post (partner_in_step m.shift shift m.id) epoch) xs)
+own-moves m shift epoch xs id low rows =
+    All-map (IsOwnPost m.k m.feeders m.id m.theta.now) (moved_post (partner_in_step m.shift shift m.id) epoch) xs
+    (λ n d less. own-moved m shift epoch _ id low (rows n d less))
+
+rows-if : (theta : Meaning) (yes : Bool) (x : Tuple) → IsRow theta x → AreRows theta (cond yes (x ∷ []) [])
+rows-if theta true x row = All-cons (IsRow theta) x [] row (All-nil (IsRow theta))
+rows-if theta false x row = All-nil (IsRow theta)
+
+pub own-late : (m : Epochs) (x : Tuple) (step : Option Opened) → m.id < 2 ^ m.k → IsStepWithin m.k m.shift step → IsRow m.theta.now x → AreOwnPosts m (late_posts m x step)
+own-late m x None id within row = All-nil (IsOwnPost m.k m.feeders m.id m.theta.now)
+own-late m x (Some o) id within row = own-moves m o.shift o.epoch _ id within.1 (rows-if m.theta.now (is_of (exchanged_side m.shift o.shift) x) x row)
+
+pub own-begun : (m : Epochs) (p epoch shift : ℕ) (step : Option Opened) → IsWithin m → TurnFits m p epoch shift step → AreOwnPosts m (begun_posts m epoch shift step)
+own-begun m p epoch shift None within fits =
+    own-moves m shift epoch _ within.id (beside m.k m.shift shift within.shift fits.1 fits.2) (All-filter (is_of (exchanged_side m.shift shift)) (IsRow m.theta.now) m.store within.rows)
+own-begun m p epoch shift (Some o) within fits = All-nil (IsOwnPost m.k m.feeders m.id m.theta.now)
+
+own-ends : (m : Epochs) (step : Option Opened) → m.id < 2 ^ m.k → IsStepWithin m.k m.shift step → AreOwnPosts m (end_posts m step)
+own-ends m None id within = All-nil (IsOwnPost m.k m.feeders m.id m.theta.now)
+own-ends m (Some o) id within =
+    All-cons (IsOwnPost m.k m.feeders m.id m.theta.now) (moved_end_post (partner_in_step m.shift o.shift m.id) o.epoch) []
+    (record { over = record { link = joiner_joiner id within.1; kind = tt }; row = tt }) (All-nil (IsOwnPost m.k m.feeders m.id m.theta.now))
+
+pub own-turned : (m : Epochs) (last : Bool) → m.id < 2 ^ m.k → IsStepWithin m.k m.shift m.step → AreOwnPosts m (posts_turned m last)
+own-turned m true id within = own-ends m m.step id within
+own-turned m false id within = All-nil (IsOwnPost m.k m.feeders m.id m.theta.now)
+
+own-settle : (m : Epochs) (step : Option Opened) → m.id < 2 ^ m.k → AreOwnPosts m (settle_posts step)
+own-settle m None id = All-nil (IsOwnPost m.k m.feeders m.id m.theta.now)
+own-settle m (Some o) id =
+    All-cons (IsOwnPost m.k m.feeders m.id m.theta.now) (settled_post o.epoch) []
+    (record { over = record { link = joiner_controller id; kind = tt }; row = tt }) (All-nil (IsOwnPost m.k m.feeders m.id m.theta.now))
+
+pub own-settled : (m : Epochs) (ready : Bool) → m.id < 2 ^ m.k → AreOwnPosts m (posts_settled ready m)
+own-settled m true id = own-settle m m.step id
+own-settled m false id = All-nil (IsOwnPost m.k m.feeders m.id m.theta.now)
+
+pub own-found : (m : Epochs) (pairs : List Pair) → m.id < 2 ^ m.k → AreOwnPosts m (found_posts pairs)
+own-found m [] id = All-nil (IsOwnPost m.k m.feeders m.id m.theta.now)
+own-found m (p ∷ ps) id =
+    All-cons (IsOwnPost m.k m.feeders m.id m.theta.now) _ []
+    (record { over = record { link = joiner_collector id; kind = tt }; row = tt }) (All-nil (IsOwnPost m.k m.feeders m.id m.theta.now))
+
+pub own-fin : (m : Machine) (now : Bool) → m.epochs.id < 2 ^ m.epochs.k → AreOwnPosts m.epochs (fin_posts now m)
+own-fin m true id =
+    All-cons (IsOwnPost m.epochs.k m.epochs.feeders m.epochs.id m.epochs.theta.now) _ []
+    (record { over = record { link = joiner_collector id; kind = tt }; row = tt }) (All-nil (IsOwnPost m.epochs.k m.epochs.feeders m.epochs.id m.epochs.theta.now))
+own-fin m false id = All-nil (IsOwnPost m.epochs.k m.epochs.feeders m.epochs.id m.epochs.theta.now)
+
+pub own-none : (m : Epochs) → AreOwnPosts m []
+own-none m = All-nil (IsOwnPost m.k m.feeders m.id m.theta.now)
+
+pub own-append : (m : Epochs) (xs ys : List Post) → AreOwnPosts m xs → AreOwnPosts m ys → AreOwnPosts m (xs ++ ys)
+own-append m xs ys one two = All-append (IsOwnPost m.k m.feeders m.id m.theta.now) xs ys one two
+
+own-by : (k k' n n' id id' : ℕ) (th th' : Meaning) (posts : List Post) → k' ≡ k → n' ≡ n → id' ≡ id → th' ≡ th
+    → All (IsOwnPost k' n' id' th') posts → All (IsOwnPost k n id th) posts
+own-by k k' n n' id id' th th' posts one two three four own =
+    subst (λ (i : ℕ). All (IsOwnPost i n id th) posts) one
+    (subst (λ (i : ℕ). All (IsOwnPost k' i id th) posts) two
+    (subst (λ (i : ℕ). All (IsOwnPost k' n' i th) posts) three
+    (subst (λ (z : Meaning). All (IsOwnPost k' n' id' z) posts) four own)))
+
+-- a call doesn't change whose posts they are
+pub own-before : (old new : Epochs) (posts : List Post) → IsFixed old new → AreOwnPosts new posts → AreOwnPosts old posts
+own-before old new posts fixed own = own-by old.k new.k old.feeders new.feeders old.id new.id old.theta.now new.theta.now posts fixed.k fixed.feeders fixed.id fixed.theta own
+
+pub all-over : (m : Epochs) (posts : List Post) → AreOwnPosts m posts → AllGoOver m.k m.feeders (Joiner' m.id) posts
+all-over m posts own = λ n d less. (own n d less).over
+
+pub all-rows : (m : Epochs) (posts : List Post) → AreOwnPosts m posts → AllSendRows m.theta.now posts
+all-rows m posts own = λ n d less. (own n d less).row
