@@ -9,6 +9,7 @@ use Rattle.join_rows.proofs.Bags.{SameBag-trans, SameBag-sym}
 use Rattle.epoch_tags.specs.declared.tuple.Pair.{Pair}
 use Rattle.epoch_tags.specs.declared.message.ToCollector.{ToCollector}
 use Rattle.epoch_tags.specs.declared.message.ToCollector.TheVariants.{Found, Fin}
+use Rattle.epoch_tags.specs.declared.message.ToController.TheVariants.{Settled}
 use Rattle.epoch_tags.specs.Messages.{turns, moved_of, moved_ends, pairs_found}
 use Rattle.migration_plan.specs.Steps.{is_of}
 use Rattle.joiner_law.specs.Law.{JoinerStart, JoinerLists, JoinerLaw, Taken, IsTakenOf, CanTakeOfFeeder, CanTakeOfJoiner, shift_after, partner_of, opened, store, found, fin, received_count, sent_in_step, AllTurned, IsSettled, IsAtRest, IsFinished}
@@ -248,6 +249,23 @@ keeps-law s lists m is =
     let many = is.within.stands.fixed.feeders in
     law-by s is.within.taken lists m.epochs is.done is.start is.settled is.of_feeders is.of_joiners (told-law s lists m is m.told refl) m.epochs.step
     (subst (λ (n : ℕ). HasSomeTurn n m.epochs.step) many is.sound.within.begun) is.sound.within.rests is.within.stands.now
+
+-- how many steps are settled, by what was told
+count-told : (first n : ℕ) → length (map Settled (counting_from first n)) ≡ n
+count-told first zero = refl
+count-told first (suc n) = ap suc (count-told (first + 1) n)
+
+pub law-done : (s : JoinerStart) (lists : JoinerLists) (t : Taken) (law : JoinerLaw s lists t) → length lists.to_controller ≡ law.done
+law-done s lists t law = ap length law.told ∙ count-told (s.epoch + 1) law.done
+
+done-by : (s : JoinerStart) (t : Taken) (lists : JoinerLists) (m : Epochs) (done : ℕ) → m.epoch ≡ s.epoch + done → (step : Option Opened) → StandsBy s t lists [] m step → length lists.to_controller ≡ done
+done-by s t lists m done epoch None is =
+    let at = is.epoch in let n = ap length is.stands.steps.told ∙ count-told (s.epoch + 1) (length is.past) in omega arith
+done-by s t lists m done epoch (Some o) is =
+    let at = is.epoch in let n = ap length is.stands.steps.told ∙ count-told (s.epoch + 1) (length is.past) in omega arith
+
+pub machine-done : (s : JoinerStart) (lists : JoinerLists) (m : Machine) (is : StandsBetween s lists m) → length lists.to_controller ≡ is.done
+machine-done s lists m is = done-by s is.within.taken lists m.epochs is.done is.settled m.epochs.step is.within.stands.now
 
 -- ---- what is read off the lists
 

@@ -19,7 +19,7 @@ use Rattle.joiner_core.specs.declared.opened.Opened.{Opened}
 use Rattle.joiner_core.specs.declared.machine.Machine.{Machine}
 use Rattle.joiner_core.specs.Standing.{IsClosed, StandsBy}
 use Rattle.joiner_core.specs.Taking.{AreStepRows, IsStepWithin, IsCounted, HasSomeTurn}
-use Rattle.joiner_core.specs.Whole.{IsSound, IsStuck, IsMade, StandsBetween, no_lists, start_of}
+use Rattle.joiner_core.specs.Whole.{IsSound, IsStuck, IsMade, StandsBetween, nothing_yet, start_of}
 use Rattle.joiner_core.proofs.Keeping.{append-nil, same-ends}
 use Rattle.joiner_core.proofs.Reporting.{stands-for}
 
@@ -40,7 +40,7 @@ pub same-bag : (xs ys : List Tuple) → xs ≡ ys → SameBag xs ys
 same-bag xs ys is = subst (λ (zs : List Tuple). SameBag xs zs) is (SameBag-refl xs)
 
 settled-start : (k id shift epoch feeders : ℕ) (theta : Meaning) (base : List Tuple) → shift ≤ k
-    → StandsSettled (start_of k id shift epoch feeders theta base) (nothing_taken shift) no_lists [] (λ p. false) base (first_step shift base) []
+    → StandsSettled (start_of k id shift epoch feeders theta base) (nothing_taken shift) nothing_yet [] (λ p. false) base (first_step shift base) []
 settled-start k id shift epoch feeders theta base low = record {
   steps = record {
     feeders = λ p less. record { counts_up = tt; by_shifts = tt; turns = refl; ends = refl };
@@ -71,12 +71,12 @@ settled-start k id shift epoch feeders theta base low = record {
 }
 
 closed-start : (k id shift epoch feeders : ℕ) (theta : Meaning) (base : List Tuple) (m : Machine) → shift ≤ k → IsMade k id shift epoch feeders theta base m
-    → IsClosed (start_of k id shift epoch feeders theta base) (nothing_taken shift) no_lists [] m.epochs
+    → IsClosed (start_of k id shift epoch feeders theta base) (nothing_taken shift) nothing_yet [] m.epochs
 closed-start k id shift epoch feeders theta base m low made = record {
   cur = first_step shift base;
   past = [];
-  stands = subst (λ (a : List Tuple). StandsSettled (start_of k id shift epoch feeders theta base) (nothing_taken shift) no_lists [] (flag_at m.epochs.ended.items) a (first_step shift base) []) (sym made.store)
-      (same-ends (start_of k id shift epoch feeders theta base) (nothing_taken shift) no_lists [] (λ p. false) (flag_at m.epochs.ended.items) base (first_step shift base) [] (λ p. sym (made.down p)) (settled-start k id shift epoch feeders theta base low));
+  stands = subst (λ (a : List Tuple). StandsSettled (start_of k id shift epoch feeders theta base) (nothing_taken shift) nothing_yet [] (flag_at m.epochs.ended.items) a (first_step shift base) []) (sym made.store)
+      (same-ends (start_of k id shift epoch feeders theta base) (nothing_taken shift) nothing_yet [] (λ p. false) (flag_at m.epochs.ended.items) base (first_step shift base) [] (λ p. sym (made.down p)) (settled-start k id shift epoch feeders theta base low));
   epoch = let e = made.at_epoch in omega arith;
   shift = made.at_shift;
   ended_count = made.ended;
@@ -110,14 +110,14 @@ made-sound k id shift epoch feeders theta base m small low few rows made =
     }
 
 pub made-stands : (k id shift epoch feeders : ℕ) (theta : Meaning) (base : List Tuple) (m : Machine) → k < 9 → shift ≤ k → id < 2 ^ k → 0 < feeders → AllByRecursion (λ (x : Tuple). x.stamp ≤ epoch) base → AreRows theta base
-    → IsMade k id shift epoch feeders theta base m → StandsBetween (start_of k id shift epoch feeders theta base) no_lists m
+    → IsMade k id shift epoch feeders theta base m → StandsBetween (start_of k id shift epoch feeders theta base) nothing_yet m
 made-stands k id shift epoch feeders theta base m small low few some older rows made =
     let sound = made-sound k id shift epoch feeders theta base m small low few rows made in
     let stuck : IsStuck m = record {
       feeders = λ p less x rest is can. none-stuck _ x rest (made.no_feeders p) is;
       joiners = λ q less x rest is can. none-stuck _ x rest (made.no_joiners q) is;
     } in
-    stands-for (start_of k id shift epoch feeders theta base) no_lists m
+    stands-for (start_of k id shift epoch feeders theta base) nothing_yet m
     (record { within = low; id = few; some = some; base = older })
     sound stuck
     (record {
@@ -134,7 +134,7 @@ made-stands k id shift epoch feeders theta base m small low few some older rows 
       taken = nothing_taken shift;
       stands = record {
         fixed = record { k = made.at_k; id = made.at_id; feeders = made.at_feeders; matches = ap (λ (th : Meaning). does_hold th) made.at_theta; small = small };
-        now = subst (λ (z : Option Opened). StandsBy (start_of k id shift epoch feeders theta base) (nothing_taken shift) no_lists [] m.epochs z) (sym made.step) (closed-start k id shift epoch feeders theta base m low made);
+        now = subst (λ (z : Option Opened). StandsBy (start_of k id shift epoch feeders theta base) (nothing_taken shift) nothing_yet [] m.epochs z) (sym made.step) (closed-start k id shift epoch feeders theta base m low made);
       };
       feeders = λ p less. made.no_feeders p;
       joiners = λ q less. made.no_joiners q;

@@ -1,5 +1,5 @@
 -- What callers do with a joiner.
-use Rattle.std.proofs.Common.{◌≡◌, ℕ, zero, suc, ◌+◌, ◌-◌, ◌^◌, ◌<◌, ◌≤◌, refl, sym, ◌∙◌, ap, subst, arith, inl, inr, Bool, true, false, Option, Some, None, List, ◌++◌, length}
+use Rattle.std.proofs.Common.{IsTrue, ◌↔◌, ◌≡◌, ℕ, zero, suc, ◌+◌, ◌-◌, ◌^◌, ◌<◌, ◌≤◌, refl, sym, ◌∙◌, ap, subst, arith, inl, inr, Bool, true, false, Option, Some, None, List, ◌++◌, length}
 use Rattle.std.specs.Prelude.{min, ⊤}
 use Rattle.std.proofs.lemmas.List.{length-append}
 use Rattle.std.proofs.lemmas.Bool.{false≢true, cases_eq, cases_Bool}
@@ -13,32 +13,41 @@ use Rattle.epoch_tags.specs.declared.message.ToJoiner.{ToJoiner}
 use Rattle.epoch_tags.specs.Links.{HasLink, feeder_joiner, joiner_joiner, controller_feeder, feeder_controller, joiner_controller, joiner_collector}
 use Rattle.joiner_law.specs.Law.{JoinerStart, JoinerLists}
 use Rattle.joiner_core.specs.Queues.{held_at, DifferInOneBit}
-use Rattle.joiner_core.specs.Whole.{StandsBetween, Receives, IsOfGrid, IsSound, IsKept}
+use Rattle.joiner_law.specs.Standing.{with_sent}
+use Rattle.joiner_core.specs.Whole.{StandsBetween, StandsAt, Receives, IsOfGrid, IsSound, IsKept, with_message}
 use Rattle.joiner_core.specs.Flags.{flag_at}
 use Rattle.theta_pred.specs.Formula.{Meaning}
 use Rattle.joiner_core.specs.Widths.{AreRows}
 use Rattle.joiner_core.proofs.Fitting.{to-rows, from-rows}
 use Rattle.joiner_core.specs.Taking.{AreStepRows, IsStepWithin, IsCounted, HasSomeTurn}
 use Rattle.joiner_core.specs.declared.opened.Opened.{Opened}
-use Rattle.joiner_core.specs.Joining.{KeepsLaw, TakesMessage, held_number}
+use Rattle.joiner_core.specs.Joining.{StandsFor, TakesMessage, held_number}
 use Rattle.joiner_core.specs.declared.epochs.Epochs.{Epochs}
 use Rattle.joiner_core.specs.declared.machine.Machine.{Machine}
 use Rattle.joiner_core.specs.declared.joiner.Joiner.{Joiner}
 use Rattle.joiner_core.proofs.Posting.{all-over, all-rows}
-use Rattle.joiner_core.proofs.Assembling.{keeps-law}
+use Rattle.joiner_core.proofs.Assembling.{keeps-law, law-done, machine-done}
 
-pub keeps : (joiner : Joiner) → KeepsLaw joiner
-keeps joiner s lists stands = keeps-law s lists joiner.machine stands
+-- what the machine stands for keeps the law
+pub with-law : (s : JoinerStart) (lists : JoinerLists) (joiner : Joiner) → StandsBetween s lists joiner.machine → StandsFor s lists joiner
+with-law s lists joiner is =
+    let law = keeps-law s lists joiner.machine is in
+    record { taken = is.within.taken; law = law; machine = record { between = is; taken = refl; done = sym (machine-done s lists joiner.machine is) ∙ law-done s lists is.within.taken law } }
 
-pub takes : (old new : Joiner) (from : Actor) (m : ToJoiner) (before after : List Post) → Receives from m old.machine new.machine before after → TakesMessage old new from m before after
-takes old new from m before after is = record {
+pub takes : (from : Actor) (m : ToJoiner) (old new : Joiner) (before after : List Post) → Receives from m old.machine new.machine before after → TakesMessage from m old new before after
+takes from m old new before after is = record {
   added = is.added;
   sends = is.sends;
   over = all-over old.machine.epochs is.added is.own;
   rows = all-rows old.machine.epochs is.added is.own;
   same = record { of_k = is.fixed.k; of_id = is.fixed.id; of_feeders = is.fixed.feeders; of_theta = is.fixed.theta };
-  stands = is.stands;
+  stands = λ s lists stands. with-law s (with_sent (with_message from m lists) is.added) new (is.stands s lists stands.machine.between);
 }
+
+-- a test that is true where the fact holds and false where it doesn't
+pub told-by : {F : Type 0} (b : Bool) → (b ≡ true → F) → (b ≡ false → F → ⊥) → IsTrue b ↔ F
+told-by true up down = (λ yes. up refl, λ fact. refl)
+told-by false up down = (λ yes. absurd (false≢true yes), λ fact. absurd (down refl fact))
 
 -- ---- between calls
 

@@ -9,7 +9,7 @@ use Rattle.epoch_tags.specs.Posts.{AllGoOver}
 use Rattle.theta_pred.specs.Formula.{Meaning}
 use Rattle.joiner_law.specs.Law.{JoinerStart, JoinerLists, JoinerLaw, Taken}
 use Rattle.joiner_law.specs.Standing.{with_sent}
-use Rattle.joiner_core.specs.Whole.{StandsBetween, with_message}
+use Rattle.joiner_core.specs.Whole.{StandsAt, with_message}
 use Rattle.joiner_core.specs.Widths.{AllSendRows}
 use Rattle.joiner_core.specs.declared.joiner.Joiner.{Joiner}
 
@@ -38,13 +38,11 @@ pub record IsJoiner (k id feeders : ℕ) (theta : Meaning) (joiner : Joiner) : T
   pub of_feeders : feeders_of joiner ≡ feeders
   pub of_theta : theta_of joiner ≡ theta
 
--- it began by s, and these lists are what it has received and sent
-abbrev pub StandsFor : JoinerStart → JoinerLists → Joiner → Type 0
-StandsFor s lists joiner = StandsBetween s lists joiner.machine
-
--- what it took of these lists
-abbrev pub taken_of : (s : JoinerStart) (lists : JoinerLists) (joiner : Joiner) → StandsFor s lists joiner → Taken
-taken_of s lists joiner stands = stands.within.taken
+-- it began by `start`, these lists are what it has received and sent, and they keep the law
+pub record StandsFor (start : JoinerStart) (lists : JoinerLists) (joiner : Joiner) : Type 0 where
+  pub taken : Taken
+  pub law : JoinerLaw start lists taken
+  pub machine : StandsAt start lists taken law.done joiner.machine
 
 -- how many messages of these lists weren't taken
 abbrev pub held_number : JoinerStart → JoinerLists → Taken → ℕ
@@ -52,16 +50,13 @@ held_number s lists t =
     total s.feeders (λ p. length (lists.from_feeder p) - length (t.from_feeder p))
     + total (2 ^ s.k) (λ q. length (lists.from_joiner q) - length (t.from_joiner q))
 
--- lists for which a joiner stands meet its law
-abbrev pub KeepsLaw : Joiner → Type 0
-KeepsLaw joiner = (s : JoinerStart) (lists : JoinerLists) (stands : StandsFor s lists joiner) → JoinerLaw s lists (taken_of s lists joiner stands)
-
 -- a call that took or held message m: its posts go over links of this joiner, and for whatever lists it stood, it stands
 -- for them with the message and the new posts at their ends
-pub record TakesMessage (old new : Joiner) (from : Actor) (m : ToJoiner) (before after : List Post) : Type 0 where
+pub record TakesMessage (from : Actor) (m : ToJoiner) (old new : Joiner) (before after : List Post) : Type 0 where
   pub added : List Post
   pub sends : after ≡ before ++ added
   pub over : AllGoOver (k_of old) (feeders_of old) (Joiner' (id_of old)) added
   pub rows : AllSendRows (theta_of old) added
   pub same : IsJoiner (k_of old) (id_of old) (feeders_of old) (theta_of old) new
-  pub stands : (s : JoinerStart) (lists : JoinerLists) → StandsFor s lists old → StandsFor s (with_sent (with_message from m lists) added) new
+  pub stands : (start : JoinerStart) (lists : JoinerLists) → StandsFor start lists old
+      → StandsFor start (with_sent (with_message from m lists) added) new

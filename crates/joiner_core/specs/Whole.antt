@@ -152,6 +152,12 @@ pub record StandsBetween (s : JoinerStart) (lists : JoinerLists) (m : Machine) :
   pub of_feeders : (p : ℕ) → p < s.feeders → IsTakenOf (CanTakeOfFeeder s within.taken done p) (within.taken.from_feeder p) (lists.from_feeder p)
   pub of_joiners : (q : ℕ) → q < 2 ^ s.k → IsTakenOf (CanTakeOfJoiner s within.taken done q) (within.taken.from_joiner q) (lists.from_joiner q)
 
+-- the same, with these messages taken and so many steps settled
+pub record StandsAt (s : JoinerStart) (lists : JoinerLists) (t : Taken) (n : ℕ) (m : Machine) : Type 0 where
+  pub between : StandsBetween s lists m
+  pub taken : between.within.taken ≡ t
+  pub done : between.done ≡ n
+
 -- the lists with a message received
 abbrev pub with_message : Actor → ToJoiner → JoinerLists → JoinerLists
 with_message (Feeder p) m lists = record lists { from_feeder = grown p m lists.from_feeder }
@@ -206,8 +212,9 @@ pub record Receives (from : Actor) (m : ToJoiner) (old new : Machine) (before af
 
 -- ---- the beginning
 
-abbrev pub no_lists : JoinerLists
-no_lists = record { from_feeder = λ p. []; from_joiner = λ q. []; to_joiner = λ j. []; to_controller = []; to_collector = [] }
+-- a new joiner stands for empty lists
+abbrev pub nothing_yet : JoinerLists
+nothing_yet = record { from_feeder = λ p. []; from_joiner = λ q. []; to_joiner = λ j. []; to_controller = []; to_collector = [] }
 
 abbrev pub start_of : ℕ → ℕ → ℕ → ℕ → ℕ → Meaning → List Tuple → JoinerStart
 start_of k id shift epoch feeders theta base =

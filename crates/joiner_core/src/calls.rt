@@ -1,15 +1,15 @@
 // What callers do with a joiner.
-ghost use Rattle.std.specs.Prelude.{◌≡◌, ◌+◌, ◌-◌, ◌<◌, ◌^◌, ◌≤◌, min, false, true, [], OnOk, OnErr, IfOk, None};
+ghost use Rattle.std.specs.Prelude.{◌≡◌, ◌+◌, ◌-◌, ◌<◌, ◌^◌, ◌≤◌, ◌↔◌, min, IsTrue, [], OnOk, OnErr, IfOk, Err, None, alloc_error};
 ghost use Rattle.std.specs.List.{AllByRecursion};
 ghost use Rattle.join_rows.specs.Lists.{SameBag};
 ghost use Rattle.epoch_tags.specs.declared.actor.Actor.TheVariants.{Joiner as Joiner'};
 ghost use Rattle.epoch_tags.specs.declared.tuple.Tuple.{Tuple};
 ghost use Rattle.epoch_tags.specs.Links.{HasLink};
 ghost use Rattle.joiner_law.specs.Law.{JoinerStart, JoinerLists, IsFinished, store};
-ghost use Rattle.joiner_core.specs.Whole.{start_of, no_lists};
+ghost use Rattle.joiner_core.specs.Whole.{start_of, nothing_yet};
 ghost use Rattle.joiner_core.specs.Stocks.{tuples_of};
 ghost use Rattle.joiner_core.specs.Widths.{AreRows, HasRow};
-ghost use Rattle.joiner_core.specs.Joining.{IsSpent, IsJoiner, theta_of, StandsFor, taken_of, held_number, k_of, id_of, feeders_of, KeepsLaw, TakesMessage};
+ghost use Rattle.joiner_core.specs.Joining.{IsSpent, IsJoiner, theta_of, StandsFor, held_number, k_of, id_of, feeders_of, TakesMessage};
 
 use crate::fits::has_row;
 use crate::joiner::Joiner;
@@ -35,9 +35,9 @@ impl<'a> Joiner<'a> {
         requires id { id < 2 ^ k }
         requires feeders { 0 < feeders }
         ensures seat { IfOk result (λ joiner. IsJoiner k id feeders theta.now joiner) }
-        ensures going { IfOk result (λ joiner. ¬ IsSpent joiner) }
-        ensures stands { IfOk result (λ joiner. StandsFor (start_of k id shift 0 feeders theta.now []) no_lists joiner) }
-        ensures law { IfOk result (λ joiner. KeepsLaw joiner) }
+        ensures at_work { IfOk result (λ joiner. ¬ IsSpent joiner) }
+        ensures fresh { IfOk result (λ joiner.
+            StandsFor (start_of k id shift 0 feeders theta.now []) nothing_yet joiner) }
     {
         Joiner::start_at(
             alloc,
@@ -71,9 +71,9 @@ impl<'a> Joiner<'a> {
         requires rows { AreRows theta.now (tuples_of base) }
         requires key { base.key ≡ None }
         ensures seat { IfOk result (λ joiner. IsJoiner k id feeders theta.now joiner) }
-        ensures going { IfOk result (λ joiner. ¬ IsSpent joiner) }
-        ensures stands { IfOk result (λ joiner. StandsFor (start_of k id shift epoch feeders theta.now (tuples_of base)) no_lists joiner) }
-        ensures law { IfOk result (λ joiner. KeepsLaw joiner) }
+        ensures at_work { IfOk result (λ joiner. ¬ IsSpent joiner) }
+        ensures fresh { IfOk result (λ joiner.
+            StandsFor (start_of k id shift epoch feeders theta.now (tuples_of base)) nothing_yet joiner) }
     {
         let machine = Machine::start_at(
             alloc,
@@ -93,14 +93,16 @@ impl<'a> Joiner<'a> {
 
     /// The epoch of the last step that is settled.
     pub fn settled_epoch(&self) -> u32
-        ensures { (s : JoinerStart) (lists : JoinerLists) → (stands : StandsFor s lists self.now) → result ≡ s.epoch + stands.done }
+        ensures { (start : JoinerStart) (lists : JoinerLists) (stands : StandsFor start lists self.now)
+            → result ≡ start.epoch + stands.law.done }
     {
         self.machine.epochs.epoch
     }
 
     /// How many messages are held, or `2^64 - 1` where there are more.
     pub fn held_count(&self) -> u64
-        ensures { (s : JoinerStart) (lists : JoinerLists) → (stands : StandsFor s lists self.now) → result ≡ min (held_number s lists (taken_of s lists self.now stands)) (2 ^ 64 - 1) }
+        ensures { (start : JoinerStart) (lists : JoinerLists) (stands : StandsFor start lists self.now)
+            → result ≡ min (held_number start lists stands.taken) (2 ^ 64 - 1) }
     {
         self.machine
             .of_feeders
@@ -110,8 +112,8 @@ impl<'a> Joiner<'a> {
 
     /// Whether all feeders have ended, no step is open and nothing is held.
     pub fn finished(&self) -> bool
-        ensures up { result ≡ true → (s : JoinerStart) (lists : JoinerLists) → (stands : StandsFor s lists self.now) → IsFinished s lists (taken_of s lists self.now stands) }
-        ensures down { result ≡ false → (s : JoinerStart) (lists : JoinerLists) → (stands : StandsFor s lists self.now) → ¬ IsFinished s lists (taken_of s lists self.now stands) }
+        ensures { (start : JoinerStart) (lists : JoinerLists) (stands : StandsFor start lists self.now)
+            → IsTrue result ↔ IsFinished start lists stands.taken }
     {
         self.machine.finished()
     }
@@ -119,15 +121,15 @@ impl<'a> Joiner<'a> {
     /// The rows that it holds in its settled epoch.
     pub fn store(&self) -> &Store
         ensures key { result.now.key ≡ None }
-        ensures tuples { (s : JoinerStart) (lists : JoinerLists) → (stands : StandsFor s lists self.now) → SameBag (tuples_of result.now) (store s (taken_of s lists self.now stands) stands.done) }
+        ensures tuples { (start : JoinerStart) (lists : JoinerLists) (stands : StandsFor start lists self.now)
+            → SameBag (tuples_of result.now) (store start stands.taken stands.law.done) }
     {
         self.machine.epochs.store.store()
     }
 
     /// Whether want of memory has stopped it.
     pub fn is_spent(&self) -> bool
-        ensures up { result ≡ true → IsSpent self.now }
-        ensures down { result ≡ false → ¬ IsSpent self.now }
+        ensures { IsTrue result ↔ IsSpent self.now }
     {
         self.spent
     }
@@ -135,16 +137,15 @@ impl<'a> Joiner<'a> {
     /// Whether this sender has a link to this joiner: a feeder of the run, or a joiner whose id differs in one bit.
     pub fn hears(&self, from: Actor) -> bool
         requires { ¬ IsSpent self.now }
-        ensures up { result ≡ true → HasLink (k_of self.now) (feeders_of self.now) from (Joiner' (id_of self.now)) }
-        ensures down { result ≡ false → ¬ HasLink (k_of self.now) (feeders_of self.now) from (Joiner' (id_of self.now)) }
+        ensures { IsTrue result
+            ↔ HasLink (k_of self.now) (feeders_of self.now) from (Joiner' (id_of self.now)) }
     {
         self.machine.hears(from)
     }
 
     /// Whether the row that the message carries, if it carries one, has a cell for each column of its side.
     pub fn fits(&self, m: &ToJoiner) -> bool
-        ensures up { result ≡ true → HasRow (theta_of self.now) m.now }
-        ensures down { result ≡ false → ¬ HasRow (theta_of self.now) m.now }
+        ensures { IsTrue result ↔ HasRow (theta_of self.now) m.now }
     {
         has_row(self.machine.epochs.theta, m)
     }
@@ -152,13 +153,14 @@ impl<'a> Joiner<'a> {
     /// Takes a message, or holds it behind its link, and appends what it sends. After want of memory it is spent, and
     /// every later call answers the same and changes nothing.
     pub fn on(&mut self, from: Actor, m: ToJoiner, sends: &mut Sends) -> Result<(), AllocError>
-        requires link { ¬ IsSpent self.old → HasLink (k_of self.old) (feeders_of self.old) from (Joiner' (id_of self.old)) }
+        requires link { ¬ IsSpent self.old
+            → HasLink (k_of self.old) (feeders_of self.old) from (Joiner' (id_of self.old)) }
         requires row { ¬ IsSpent self.old → HasRow (theta_of self.old) m }
-        ensures takes { OnOk result (TakesMessage self.old self.new from m sends.old sends.new) }
-        ensures going { OnOk result ((¬ IsSpent self.old) × (¬ IsSpent self.new)) }
-        ensures spent { OnErr result (IsSpent self.new) }
-        ensures stays { IsSpent self.old → (self.new ≡ self.old) × (sends.new ≡ sends.old) }
-        ensures law { KeepsLaw self.new }
+        ensures takes { OnOk result (TakesMessage from m self.old self.new sends.old sends.new) }
+        ensures goes_on { OnOk result ((¬ IsSpent self.old) × (¬ IsSpent self.new)) }
+        ensures fails { OnErr result (IsSpent self.new) }
+        ensures spent { IsSpent self.old
+            → (result ≡ Err alloc_error) × (self.new ≡ self.old) × (sends.new ≡ sends.old) }
     {
         if self.spent {
             return Err(AllocError);

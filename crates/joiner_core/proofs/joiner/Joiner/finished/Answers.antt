@@ -1,8 +1,14 @@
+use Rattle.std.proofs.Common.{subst, IsTrue, ◌↔◌}
+use Rattle.joiner_law.specs.Law.{Taken, IsFinished}
 use Rattle.joiner_core.proofs.Finishing.{finished-law, law-finished}
+use Rattle.joiner_core.proofs.Calling.{told-by}
 use Rattle.joiner_core.proofs.joiner.Joiner.finished.Goals as goal
 
-pub returns-clause-up : goal.returns-clause-up
-returns-clause-up c high s lists stands = finished-law s lists c.args.self.now.machine stands (c.finished.ensures.up high)
-
-pub returns-clause-down : goal.returns-clause-down
-returns-clause-down c down s lists stands over = c.finished.ensures.down down (law-finished s lists c.args.self.now.machine stands over)
+pub returns : goal.returns
+returns c s lists stands =
+    let m = c.args.self.now.machine in
+    let is = stands.machine.between in
+    subst (λ (t : Taken). IsTrue c.finished.result ↔ IsFinished s lists t) stands.machine.taken
+    (told-by c.finished.result
+    (λ up. finished-law s lists m is (c.finished.ensures.up up))
+    (λ down over. c.finished.ensures.down down (law-finished s lists m is over)))
