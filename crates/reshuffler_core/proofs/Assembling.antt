@@ -3,16 +3,17 @@ use Rattle.std.proofs.Common.{◌≡◌, ℕ, ◌<◌, ◌↔◌, inl, refl, sym
 use Rattle.std.proofs.lemmas.List.{append-nil}
 use Rattle.std.proofs.lemmas.List.Elements.{filter_map-append, All-append, All-nil}
 use Rattle.std.proofs.lemmas.Bool.{false≢true}
+use Rattle.epoch_tags.specs.declared.actor.Actor.TheVariants.{Feeder}
 use Rattle.epoch_tags.specs.declared.message.Post.{Post}
 use Rattle.epoch_tags.specs.declared.message.ToJoiner.TheVariants.{Turn, End}
 use Rattle.epoch_tags.specs.declared.message.ToFeeder.{ToFeeder}
 use Rattle.epoch_tags.specs.declared.message.ToFeeder.TheVariants.{Order, Grant, Stop}
 use Rattle.epoch_tags.specs.Messages.{stops}
-use Rattle.epoch_tags.specs.Posts.{posted_to_joiner, posted_to_controller, for_joiner, for_controller}
+use Rattle.epoch_tags.specs.Posts.{GoesOver, AllGoOver, posted_to_joiner, posted_to_controller, for_joiner, for_controller}
 use Rattle.reshuffler_core.specs.Law.{FeederLists, FeederStart, CanTake, requests}
-use Rattle.reshuffler_core.specs.Standing.{FeederState, StandsFor, TakesMessage, IsAddressed, AreAddressed, nothing_yet, with_sent, with_message}
-use Rattle.reshuffler_core.specs.Machine.{Takes, IsStuck, IsReady, Goes, Advances, state_after, posts_for, first_batch}
-use Rattle.reshuffler_core.proofs.Posting.{all-addressed, batch-addressed}
+use Rattle.reshuffler_core.specs.Standing.{FeederState, StandsFor, TakesMessage, nothing_yet, with_sent, with_message}
+use Rattle.reshuffler_core.specs.Machine.{Takes, IsStuck, IsReady, Goes, Advances, GoesOverLinks, state_after, posts_for, first_batch}
+use Rattle.reshuffler_core.proofs.Posting.{all-over, batch-over}
 use Rattle.reshuffler_core.proofs.Taking.{took, nothing_asked}
 
 -- ---- lists that are the same, one by one
@@ -56,7 +57,7 @@ stays s posts = record {
   added = [];
   sends = sym (append-nil posts);
   asks_nothing = refl;
-  addressed = All-nil (λ post. IsAddressed s.start.k post.to post.msg);
+  over = λ p feeders low. All-nil (GoesOver s.start.k feeders (Feeder p));
   goes = λ lists taken g. record {
     taken = taken;
     goes = same_lists s lists (with_sent lists []) taken g refl (append-nil lists.to_controller) (λ j. append-nil (lists.to_joiner j));
@@ -69,18 +70,18 @@ further a b c xs ys zs p q = record {
   added = p.added ++ q.added;
   sends = q.sends ∙ ap (λ posts. posts ++ q.added) p.sends ∙ append_assoc xs p.added q.added;
   asks_nothing = joined-controller p.added q.added ∙ ap (λ ms. ms ++ posted_to_controller q.added) p.asks_nothing ∙ q.asks_nothing;
-  addressed = All-append (λ post. IsAddressed a.start.k post.to post.msg) p.added q.added p.addressed
-      (subst (λ (start : FeederStart). AreAddressed start.k q.added) p.start q.addressed);
+  over = λ id feeders low. All-append (GoesOver a.start.k feeders (Feeder id)) p.added q.added (p.over id feeders low)
+      (subst (λ (start : FeederStart). AllGoOver start.k feeders (Feeder id) q.added) p.start (q.over id feeders low));
   goes = λ lists taken g.
       let first = p.goes lists taken g in
       let second = q.goes (with_sent lists p.added) first.taken first.goes in
       record { taken = second.taken; goes = sent_on c lists p.added q.added second.taken second.goes };
 }
 
-are_addressed : (s : FeederState) (m : ToFeeder) → AreAddressed s.start.k (posts_for s m)
-are_addressed s (Order epoch shift) = all-addressed s.start.k (Turn epoch shift)
-are_addressed s Grant = batch-addressed s.start.k s.epoch s.shift (first_batch s.to_come)
-are_addressed s Stop = all-addressed s.start.k End
+go_over : (s : FeederState) (m : ToFeeder) → GoesOverLinks s.start.k (posts_for s m)
+go_over s (Order epoch shift) = λ p feeders low. all-over s.start.k p feeders low (Turn epoch shift)
+go_over s Grant = λ p feeders low. batch-over s.start.k p feeders low s.epoch s.shift (first_batch s.to_come)
+go_over s Stop = λ p feeders low. all-over s.start.k p feeders low End
 
 same_posts : (s : FeederState) (rest : List ToFeeder) (m : ToFeeder) → posts_for (record s { held = rest }) m ≡ posts_for s m
 same_posts s rest (Order epoch shift) = refl
@@ -106,7 +107,7 @@ one_taken s m before ready =
       added = posts_for s m;
       sends = ap (λ posts. before ++ posts) (same_posts s (drop 1 s.held) m);
       asks_nothing = nothing_asked s m;
-      addressed = are_addressed s m;
+      over = go_over s m;
       goes = λ lists taken g. record {
         taken = taken ++ m ∷ [];
         goes = took s (drop 1 s.held) lists taken g m (ready.first ∙ ap (λ ms. m ∷ ms) (sym rest)) ready.takes;
@@ -187,7 +188,7 @@ takes_message old new m before after go stuck = record {
   added = go.added;
   sends = go.sends;
   asks_nothing = go.asks_nothing;
-  addressed = go.addressed;
+  over = go.over;
   stands = λ lists stands.
       let gone = go.goes (record lists { received = lists.received ++ m ∷ [] }) stands.taken (received old lists m true stands) in
       is_standing new (with_message lists m go.added) gone.taken false gone.goes stuck;

@@ -5,14 +5,17 @@ use Rattle.std.proofs.lemmas.Bool.{false≢true}
 use Rattle.std.proofs.lemmas.List.{append-nil}
 use Rattle.std.proofs.lemmas.List.Elements.{All-append}
 use Rattle.epoch_tags.specs.declared.tuple.Tuple.{Tuple}
+use Rattle.epoch_tags.specs.declared.actor.Actor.TheVariants.{Feeder}
 use Rattle.epoch_tags.specs.declared.message.Post.{Post}
 use Rattle.epoch_tags.specs.declared.message.ToController.{ToController}
 use Rattle.epoch_tags.specs.declared.message.ToController.TheVariants.{Ask, Drained, Settled}
 use Rattle.epoch_tags.specs.Messages.{grants, asks, draineds}
+use Rattle.epoch_tags.specs.Posts.{GoesOver, AllGoOver}
 use Rattle.epoch_tags.proofs.Appends.{asks-append, draineds-append}
 use Rattle.reshuffler_core.specs.Law.{FeederLists, FeederStart, ask_for}
-use Rattle.reshuffler_core.specs.Standing.{FeederState, StandsFor, Begins, IsWaiting, IsAddressed, AreAddressed, next_request, with_sent}
+use Rattle.reshuffler_core.specs.Standing.{FeederState, StandsFor, Begins, IsWaiting, next_request, with_sent}
 use Rattle.reshuffler_core.specs.Machine.{IsStuck, Goes, Advances, state_begun, to_controller}
+use Rattle.reshuffler_core.proofs.Posting.{request-over}
 use Rattle.reshuffler_core.proofs.Assembling.{is_standing, sent_on, joined-controller}
 
 -- what is left to ask
@@ -104,9 +107,6 @@ same_start : (s : FeederState) (bs : List (List Tuple)) → (state_begun s bs).s
 same_start s [] = refl
 same_start s (batch ∷ batches) = refl
 
-to_the_controller : (k : ℕ) (m : ToController) → AreAddressed k (to_controller m ∷ [])
-to_the_controller k m = λ i d low. let at : i ≡ 0 = omega arith in rw at tt
-
 pub begins : (s new : FeederState) (before middle after : List Post) → s.asked ≡ false → s.drained ≡ false
     → middle ≡ before ++ to_controller (next_request s.to_come) ∷ []
     → Advances (state_begun (record s { spent = true }) s.to_come) new middle after → IsStuck new → Begins s (record new { spent = false }) before after
@@ -118,8 +118,8 @@ begins s new before middle after asked drained request go stuck =
       added = first ++ go.added;
       sends = go.sends ∙ ap (λ posts. posts ++ go.added) request ∙ append_assoc before first go.added;
       asks_next = joined-controller first go.added ∙ ap (λ ms. next_request s.to_come ∷ ms) go.asks_nothing;
-      addressed = All-append (λ post. IsAddressed s.start.k post.to post.msg) first go.added (to_the_controller s.start.k (next_request s.to_come))
-          (subst (λ (from : FeederStart). AreAddressed from.k go.added) start go.addressed);
+      over = λ p feeders low. All-append (GoesOver s.start.k feeders (Feeder p)) first go.added (request-over s.start.k p feeders low (next_request s.to_come))
+          (subst (λ (from : FeederStart). AllGoOver from.k feeders (Feeder p) go.added) start (go.over p feeders low));
       stands = λ lists stands.
           let gone = go.goes (with_sent lists first) stands.taken (begun s lists stands asked drained s.to_come refl) in
           is_standing new (with_sent lists (first ++ go.added)) gone.taken false (sent_on new lists first go.added gone.taken gone.goes) stuck;

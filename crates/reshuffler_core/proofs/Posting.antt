@@ -6,14 +6,16 @@ use Rattle.std.proofs.lemmas.Bool.{ne_eqb, cases_lt}
 use Rattle.std.proofs.lemmas.List.{map-append}
 use Rattle.std.proofs.lemmas.List.Elements.{filter-append, filter_map-append, All-append, All-nil}
 use Rattle.epoch_tags.specs.declared.tuple.Tuple.{Tuple}
+use Rattle.epoch_tags.specs.declared.actor.Actor.TheVariants.{Feeder}
 use Rattle.epoch_tags.specs.declared.message.Post.{Post}
+use Rattle.epoch_tags.specs.declared.message.ToController.{ToController}
+use Rattle.epoch_tags.specs.Links.HasLink.{feeder_joiner, feeder_controller}
 use Rattle.epoch_tags.specs.declared.message.ToJoiner.{ToJoiner}
 use Rattle.epoch_tags.specs.declared.message.ToJoiner.TheVariants.{Tup}
-use Rattle.epoch_tags.specs.Posts.{posted_to_joiner, posted_to_controller, for_joiner, for_controller}
+use Rattle.epoch_tags.specs.Posts.{GoesOver, AllGoOver, posted_to_joiner, posted_to_controller, for_joiner, for_controller}
 use Rattle.migration_plan.specs.Steps.{holds}
 use Rattle.reshuffler_core.specs.Law.{copies_for, stamped}
-use Rattle.reshuffler_core.specs.Standing.{IsAddressed, AreAddressed}
-use Rattle.reshuffler_core.specs.Machine.{post_to, posts_to_all, posts_of_tuple, posts_of_batch}
+use Rattle.reshuffler_core.specs.Machine.{post_to, posts_to_all, posts_of_tuple, posts_of_batch, to_controller}
 
 abbrev posts_where : (ℕ → Bool) → ToJoiner → ℕ → ℕ → List Post
 posts_where test m first n = map (post_to m) (filter test (range_with_len first n))
@@ -88,26 +90,30 @@ batch-controller k e b (t ∷ ts) =
 
 -- ---- over links
 
-addressed_where : (k : ℕ) (test : ℕ → Bool) (m : ToJoiner) (first n : ℕ) → first + n ≤ 2 ^ k → AreAddressed k (posts_where test m first n)
-addressed_where k test m first zero within = All-nil (λ post. IsAddressed k post.to post.msg)
-addressed_where k test m first (suc n) within = either (test first) (addressed_where k test m (first + 1) n (omega arith))
-  where
-    one : AreAddressed k (post_to m first ∷ [])
-    one = λ i d low. let at : i ≡ 0 = omega arith in rw at (omega arith)
+module _ (k p feeders : ℕ) (low : p < feeders) where
+  over_where : (test : ℕ → Bool) (m : ToJoiner) (first n : ℕ) → first + n ≤ 2 ^ k → AllGoOver k feeders (Feeder p) (posts_where test m first n)
+  over_where test m first zero within = All-nil (GoesOver k feeders (Feeder p))
+  over_where test m first (suc n) within = either (test first) (over_where test m (first + 1) n (omega arith))
+    where
+      one : AllGoOver k feeders (Feeder p) (post_to m first ∷ [])
+      one = λ i d below. let at : i ≡ 0 = omega arith in rw at (record { link = feeder_joiner {j = first} low (omega arith); kind = tt })
 
-    either : (t : Bool) → AreAddressed k (posts_where test m (first + 1) n)
-        → AreAddressed k (map (post_to m) (cond t (first ∷ filter test (range_with_len (first + 1) n)) (filter test (range_with_len (first + 1) n))))
-    either true rest = All-append (λ post. IsAddressed k post.to post.msg) (post_to m first ∷ []) (posts_where test m (first + 1) n) one rest
-    either false rest = rest
+      either : (t : Bool) → AllGoOver k feeders (Feeder p) (posts_where test m (first + 1) n)
+          → AllGoOver k feeders (Feeder p) (map (post_to m) (cond t (first ∷ filter test (range_with_len (first + 1) n)) (filter test (range_with_len (first + 1) n))))
+      either true rest = All-append (GoesOver k feeders (Feeder p)) (post_to m first ∷ []) (posts_where test m (first + 1) n) one rest
+      either false rest = rest
 
-pub all-addressed : (k : ℕ) (m : ToJoiner) → AreAddressed k (posts_to_all (2 ^ k) m)
-all-addressed k m = subst (λ is. AreAddressed k (map (post_to m) is)) (everyone 0 (2 ^ k)) (addressed_where k (λ i. true) m 0 (2 ^ k) (omega arith))
+  pub all-over : (m : ToJoiner) → AllGoOver k feeders (Feeder p) (posts_to_all (2 ^ k) m)
+  all-over m = subst (λ is. AllGoOver k feeders (Feeder p) (map (post_to m) is)) (everyone 0 (2 ^ k)) (over_where (λ i. true) m 0 (2 ^ k) (omega arith))
 
-pub batch-addressed : (k e b : ℕ) (batch : List Tuple) → AreAddressed k (posts_of_batch k e b batch)
-batch-addressed k e b [] = All-nil (λ post. IsAddressed k post.to post.msg)
-batch-addressed k e b (t ∷ ts) =
-    All-append (λ post. IsAddressed k post.to post.msg) (posts_of_tuple k (2 ^ k) e b t) (posts_of_batch k e b ts)
-    (addressed_where k (λ j. holds k b j t) (Tup (stamped e t)) 0 (2 ^ k) (omega arith)) (batch-addressed k e b ts)
+  pub batch-over : (e b : ℕ) (batch : List Tuple) → AllGoOver k feeders (Feeder p) (posts_of_batch k e b batch)
+  batch-over e b [] = All-nil (GoesOver k feeders (Feeder p))
+  batch-over e b (t ∷ ts) =
+      All-append (GoesOver k feeders (Feeder p)) (posts_of_tuple k (2 ^ k) e b t) (posts_of_batch k e b ts)
+      (over_where (λ j. holds k b j t) (Tup (stamped e t)) 0 (2 ^ k) (omega arith)) (batch-over e b ts)
+
+  pub request-over : (m : ToController) → AllGoOver k feeders (Feeder p) (to_controller m ∷ [])
+  request-over m = λ i d below. let at : i ≡ 0 = omega arith in rw at (record { link = feeder_controller low; kind = tt })
 
 -- ---- one joiner more
 

@@ -2,7 +2,7 @@
 use Rattle.std.specs.Prelude.{◌≡◌, ℕ, ◌+◌, ◌^◌, ◌<◌, ◌≤◌, ◌⊎◌, ◌↔◌, true, false, IsTrue, List, [], ◌∷◌, ◌++◌, map, filter, flat_map, length, drop}
 use Rattle.std.specs.List.{range_with_len}
 use Rattle.epoch_tags.specs.declared.tuple.Tuple.{Tuple}
-use Rattle.epoch_tags.specs.declared.actor.Actor.TheVariants.{Joiner as Joiner', Controller as Controller'}
+use Rattle.epoch_tags.specs.declared.actor.Actor.TheVariants.{Feeder, Joiner as Joiner', Controller as Controller'}
 use Rattle.epoch_tags.specs.declared.message.Msg.TheVariants.{Joiner, Controller}
 use Rattle.epoch_tags.specs.declared.message.Post.{Post}
 use Rattle.epoch_tags.specs.declared.message.ToJoiner.{ToJoiner}
@@ -14,9 +14,9 @@ use Rattle.migration_plan.specs.Steps.{holds}
 use Rattle.join_rows.specs.Lists.{IsPrefix, counting_from}
 use Rattle.epoch_tags.specs.Messages.{order_epochs, grants, stops, asks, draineds}
 use Rattle.epoch_tags.specs.Orders.{StopsLast}
-use Rattle.epoch_tags.specs.Posts.{posted_to_controller}
+use Rattle.epoch_tags.specs.Posts.{AllGoOver, posted_to_controller}
 use Rattle.reshuffler_core.specs.Law.{FeederLists, requests, answers, shift_now, stamped}
-use Rattle.reshuffler_core.specs.Standing.{FeederState, AreAddressed, with_sent}
+use Rattle.reshuffler_core.specs.Standing.{FeederState, with_sent}
 
 -- ---- what a message does
 
@@ -68,6 +68,10 @@ posts_for s (Order epoch shift) = posts_to_all (2 ^ s.start.k) (Turn epoch shift
 posts_for s Grant = posts_of_batch s.start.k s.epoch s.shift (first_batch s.to_come)
 posts_for s Stop = posts_to_all (2 ^ s.start.k) End
 
+-- over the links of a feeder, whatever its number below whatever number of feeders
+abbrev pub GoesOverLinks : ℕ → List Post → Type 0
+GoesOverLinks k posts = (p feeders : ℕ) → p < feeders → AllGoOver k feeders (Feeder p) posts
+
 -- ---- for what it stands, stuck or not
 
 -- the machine took these messages, and holds the others
@@ -97,7 +101,7 @@ pub record Advances (old new : FeederState) (before after : List Post) : Type 0 
   pub added : List Post
   pub sends : after ≡ before ++ added
   pub asks_nothing : posted_to_controller added ≡ []
-  pub addressed : AreAddressed old.start.k added
+  pub over : GoesOverLinks old.start.k added
   pub goes : (lists : FeederLists) (taken : List ToFeeder) → Goes old lists taken → StillGoes new (with_sent lists added)
 
 -- ---- what a beginning does

@@ -1,16 +1,13 @@
 -- What a feeder's machine holds, and the lists for which it stands. It stores none of them.
-use Rattle.std.specs.Prelude.{◌≡◌, ℕ, ◌+◌, ◌<◌, ◌^◌, ⊤, ◌↔◌, ◌⊎◌, All, Bool, IsTrue, List, [], ◌∷◌, ◌++◌, drop, length}
-use Rattle.epoch_tags.specs.declared.actor.Actor.{Actor}
-use Rattle.epoch_tags.specs.declared.actor.Actor.TheVariants.{Feeder as Feeder', Joiner as Joiner', Controller as Controller', Collector as Collector'}
-use Rattle.epoch_tags.specs.declared.message.Msg.{Msg}
-use Rattle.epoch_tags.specs.declared.message.Msg.TheVariants.{Joiner, Feeder, Controller, Collector}
+use Rattle.std.specs.Prelude.{◌≡◌, ℕ, ◌+◌, ◌<◌, ◌↔◌, ◌⊎◌, Bool, IsTrue, List, [], ◌∷◌, ◌++◌, drop, length}
+use Rattle.epoch_tags.specs.declared.actor.Actor.TheVariants.{Feeder}
 use Rattle.epoch_tags.specs.declared.message.ToController.{ToController}
 use Rattle.epoch_tags.specs.declared.message.ToController.TheVariants.{Drained}
 use Rattle.epoch_tags.specs.declared.tuple.Tuple.{Tuple}
 use Rattle.epoch_tags.specs.declared.message.ToFeeder.{ToFeeder}
 use Rattle.epoch_tags.specs.declared.message.Post.{Post}
 use Rattle.epoch_tags.specs.Messages.{order_epochs, grants, stops, asks, draineds}
-use Rattle.epoch_tags.specs.Posts.{posted_to_joiner, posted_to_controller}
+use Rattle.epoch_tags.specs.Posts.{AllGoOver, posted_to_joiner, posted_to_controller}
 use Rattle.reshuffler_core.specs.Law.{FeederLists, FeederStart, FeederLaw, ask_for, shift_now}
 
 pub record FeederState : Type 0 where
@@ -61,23 +58,6 @@ with_sent lists posts = record lists {
 abbrev pub with_message : FeederLists → ToFeeder → List Post → FeederLists
 with_message lists m posts = with_sent (record lists { received = lists.received ++ m ∷ [] }) posts
 
--- a post over one of a feeder's links: to a joiner of 2 ^ k, or to the controller
-abbrev pub IsAddressed : ℕ → Actor → Msg → Type 0
-IsAddressed k (Feeder' p) m = ⊥
-IsAddressed k (Joiner' j) (Joiner m) = j < 2 ^ k
-IsAddressed k (Joiner' j) (Feeder m) = ⊥
-IsAddressed k (Joiner' j) (Controller m) = ⊥
-IsAddressed k (Joiner' j) (Collector m) = ⊥
-IsAddressed k Controller' (Joiner m) = ⊥
-IsAddressed k Controller' (Feeder m) = ⊥
-IsAddressed k Controller' (Controller m) = ⊤
-IsAddressed k Controller' (Collector m) = ⊥
-IsAddressed k Collector' m = ⊥
-
--- all of them are
-abbrev pub AreAddressed : ℕ → List Post → Type 0
-AreAddressed k posts = All (λ post. IsAddressed k post.to post.msg) posts
-
 -- a call that took m, and turned the posts `before` into `after`: for whatever lists the machine stood,
 -- it stands for them with the message and the new posts at their ends
 pub record TakesMessage (old new : FeederState) (m : ToFeeder) (before after : List Post) : Type 0 where
@@ -86,7 +66,8 @@ pub record TakesMessage (old new : FeederState) (m : ToFeeder) (before after : L
   pub sends : after ≡ before ++ added
   -- the controller is sent nothing
   pub asks_nothing : posted_to_controller added ≡ []
-  pub addressed : AreAddressed old.start.k added
+  -- whatever its number below whatever number of feeders, its posts go over its links
+  pub over : (p feeders : ℕ) → p < feeders → AllGoOver old.start.k feeders (Feeder p) added
   pub stands : (lists : FeederLists) → StandsFor old lists → StandsFor new (with_message lists m added)
 
 -- a call that began the next batch, or the end: for whatever lists the machine stood, it stands for
@@ -97,5 +78,6 @@ pub record Begins (old new : FeederState) (before after : List Post) : Type 0 wh
   pub sends : after ≡ before ++ added
   -- the controller is sent the next request, and nothing else
   pub asks_next : posted_to_controller added ≡ next_request old.to_come ∷ []
-  pub addressed : AreAddressed old.start.k added
+  -- whatever its number below whatever number of feeders, its posts go over its links
+  pub over : (p feeders : ℕ) → p < feeders → AllGoOver old.start.k feeders (Feeder p) added
   pub stands : (lists : FeederLists) → StandsFor old lists → StandsFor new (with_sent lists added)
