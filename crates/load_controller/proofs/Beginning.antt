@@ -1,6 +1,6 @@
 -- A machine that has just begun.
-use Rattle.std.proofs.Common.{◌≡◌, ℕ, ◌+◌, ◌^◌, ◌<◌, ◌≤◌, inl, inr, refl, sym, ◌∙◌, ap, subst, arith, Bool, true, false, not, ◌||◌, ◌&&◌, Option, Some, None, List, [], ◌∷◌, length}
-use Rattle.std.specs.Prelude.{reverse, ◌==◌, All, is_none, unwrap_or, ◌/◌}
+use Rattle.std.proofs.Common.{◌≡◌, ℕ, ◌^◌, ◌≤◌, inl, inr, refl, sym, ◌∙◌, ap, subst, arith, false, not, ◌&&◌, Option, [], ◌∷◌, length}
+use Rattle.std.specs.Prelude.{reverse, ◌==◌, All, unwrap_or, ◌/◌}
 use Rattle.std.specs.Option.{ForSome}
 use Rattle.std.specs.List.{list_all}
 use Rattle.std.proofs.lemmas.Bool.{cases_eq, ne_eqb, or_from, and_right}
@@ -8,16 +8,14 @@ use Rattle.std.proofs.lemmas.Nat.{pow_pos}
 use Rattle.std.proofs.lemmas.List.Elements.{All-nil, All-cons}
 use Rattle.join_rows.specs.Lists.{counting_from}
 use Rattle.join_rows.proofs.Counting.{one_fails}
-use Rattle.grid_map.specs.Load.{HasFewest}
-use Rattle.load_controller.specs.declared.line.Cause.{Cause}
 use Rattle.load_controller.specs.declared.line.Cause.TheVariants.{Start}
 use Rattle.load_controller.specs.declared.line.TurnLine.{TurnLine}
 use Rattle.load_controller.specs.declared.ledger.Ledger.{Ledger}
-use Rattle.load_controller.specs.Journal.{Rules, Fits, start_line, has_drained, has_settled, settled_count, is_drain_of}
+use Rattle.load_controller.specs.Journal.{Rules, Fits, start_line, has_drained, is_drain_of}
 use Rattle.load_controller.specs.Law.{is_over}
 use Rattle.load_controller.specs.Flags.{flag_at}
 use Rattle.load_controller.specs.Standing.{ControllerState, IsFresh, StandsFor, IsNearWhereStill, held_at, nothing_yet, rules_with}
-use Rattle.load_controller.specs.Machine.{IsSound, Begins, rules_of, state_of}
+use Rattle.load_controller.specs.Machine.{Begins, rules_of, state_of}
 use Rattle.load_controller.proofs.Bound.{fixed_within}
 use Rattle.load_controller.proofs.Numbers.{first_bounded, first_guided, near_line}
 

@@ -1,8 +1,8 @@
 -- What the machine keeps beside its journal stays in step with it.
-use Rattle.std.proofs.Common.{◌≡◌, ℕ, zero, suc, ◌+◌, ◌*◌, ◌^◌, ◌<◌, ◌≤◌, inl, inr, refl, sym, ◌∙◌, ap, subst, arith, Bool, true, false, not, ◌||◌, ◌&&◌, cond, None, List, [], ◌∷◌, ◌++◌, length, filter, reverse, get_or}
-use Rattle.std.specs.Prelude.{◌==◌, is_none, All, slice_index_or}
+use Rattle.std.proofs.Common.{◌≡◌, ℕ, suc, ◌+◌, ◌^◌, ◌<◌, ◌≤◌, refl, sym, ◌∙◌, ap, subst, arith, Bool, true, false, not, ◌||◌, ◌&&◌, cond, None, List, [], ◌∷◌, ◌++◌, length, filter, reverse}
+use Rattle.std.specs.Prelude.{◌==◌, is_none, All}
 use Rattle.std.specs.List.{list_all, list_any}
-use Rattle.std.proofs.lemmas.Bool.{eq-eqb, ne_eqb, eqb-false, false≢true, true≢false}
+use Rattle.std.proofs.lemmas.Bool.{eq-eqb, ne_eqb, eqb-false, false≢true}
 use Rattle.std.proofs.Math.Bool.{or_comm}
 use Rattle.std.proofs.lemmas.Nat.{pow_pos}
 use Rattle.std.proofs.Math.Pow.{pow_mono}
@@ -13,10 +13,10 @@ use Rattle.load_controller.specs.declared.line.Cause.{Cause}
 use Rattle.load_controller.specs.declared.line.Cause.TheVariants.{Start, Count, Settle, Drain}
 use Rattle.load_controller.specs.declared.line.TurnLine.{TurnLine}
 use Rattle.load_controller.specs.declared.ledger.Ledger.{Ledger}
-use Rattle.load_controller.specs.Journal.{Rules, line_after, is_open, counted_r, counted_s, has_drained, has_settled, since_begun, settled_count, is_settle, is_settle_of, is_drain_of}
+use Rattle.load_controller.specs.Journal.{line_after, is_open, counted_r, counted_s, has_drained, since_begun, settled_count, is_settle, is_settle_of, is_drain_of}
 use Rattle.load_controller.specs.Law.{is_over}
 use Rattle.load_controller.specs.Flags.{flag_at}
-use Rattle.load_controller.specs.Next.{line_by, steps_by, goal_by}
+use Rattle.load_controller.specs.Next.{line_by, goal_by}
 use Rattle.load_controller.specs.Standing.{IsNearWhereStill}
 use Rattle.load_controller.specs.Machine.{IsSound, IsBounded, IsGuided, CauseFits, Notes, rules_of, opens_of}
 use Rattle.load_controller.proofs.Numbers.{bounded_after, guided_after, near_line}

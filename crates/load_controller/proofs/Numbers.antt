@@ -1,19 +1,18 @@
 -- The numbers of a line stay in range, and its goal stays the best.
-use Rattle.std.proofs.Common.{◌≡◌, ℕ, ◌+◌, ◌-◌, ◌*◌, ◌^◌, ◌<◌, ◌≤◌, inl, inr, refl, sym, ◌∙◌, ap, subst, arith, Bool, true, false, not, ◌||◌, ◌&&◌, cond, Option, None}
+use Rattle.std.proofs.Common.{◌≡◌, ℕ, ◌+◌, ◌-◌, ◌*◌, ◌^◌, ◌<◌, ◌≤◌, inl, inr, refl, sym, ap, arith, Bool, true, false, not, ◌||◌, ◌&&◌, cond, Option, None}
 use Rattle.std.specs.Prelude.{◌==◌, nat_lt, nat_le, is_none}
 use Rattle.std.proofs.lemmas.Nat.{pow-add}
-use Rattle.std.proofs.lemmas.Bool.{cases_eq, and_parts, or_parts, or_cases, ltb-true, leb-true, eqb-false, not-true, not_from_true}
-use Rattle.grid_map.specs.Load.{best_shift, HasFewest, IsNear}
+use Rattle.std.proofs.lemmas.Bool.{cases_eq, and_parts, or_parts, or_cases, ltb-true, leb-true, eqb-false, not-true}
+use Rattle.grid_map.specs.Load.{best_shift, IsNear}
 use Rattle.grid_map.proofs.Near.{near_from_best}
 use Rattle.migration_plan.specs.Steps.{next_step}
 use Rattle.load_controller.specs.declared.line.Cause.{Cause}
 use Rattle.load_controller.specs.declared.line.TurnLine.{TurnLine}
 use Rattle.load_controller.specs.Journal.{Rules, Fits, has_doubled, counted_r, counted_s}
 use Rattle.load_controller.specs.Next.{line_by, decides_by, goal_by, steps_by}
-use Rattle.load_controller.specs.Standing.{IsNearWhereStill}
 use Rattle.load_controller.specs.Machine.{IsBounded, IsGuided}
 use Rattle.load_controller.proofs.Bound.{gap, best_within, next_nearer, next_within}
-use Rattle.load_controller.proofs.Still.{Sound, chosen, not_doubled}
+use Rattle.load_controller.proofs.Still.{chosen, not_doubled}
 
 -- ---- in range
 

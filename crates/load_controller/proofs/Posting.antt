@@ -1,22 +1,25 @@
 -- What the posts of a line carry to each feeder.
-use Rattle.std.proofs.Common.{◌≡◌, ℕ, zero, suc, ◌+◌, ◌<◌, ◌≤◌, inl, inr, refl, sym, ◌∙◌, ap, arith, Bool, true, false, cond, List, [], ◌∷◌, ◌++◌}
+use Rattle.std.proofs.Common.{◌≡◌, ℕ, zero, suc, ◌+◌, ◌<◌, ◌≤◌, inl, inr, refl, ◌∙◌, ap, arith, Bool, true, false, cond, List, [], ◌∷◌, ◌++◌}
 use Rattle.std.specs.Prelude.{map, ◌==◌, not, ◌&&◌}
 use Rattle.std.proofs.lemmas.Bool.{cases_eq, eq-eqb, ne_eqb}
 use Rattle.std.proofs.lemmas.List.{map-append}
-use Rattle.std.proofs.lemmas.List.Elements.{filter_map-append}
+use Rattle.std.proofs.lemmas.List.Elements.{filter_map-append, All-append, All-nil}
 use Rattle.join_rows.specs.Lists.{counting_from}
 use Rattle.join_rows.proofs.Counting.{counting-more}
+use Rattle.epoch_tags.specs.declared.actor.Actor.TheVariants.{Controller}
 use Rattle.epoch_tags.specs.declared.message.Post.{Post}
 use Rattle.epoch_tags.specs.declared.message.ToFeeder.{ToFeeder}
 use Rattle.epoch_tags.specs.declared.message.ToFeeder.TheVariants.{Order, Grant, Stop}
-use Rattle.epoch_tags.specs.Posts.{posted_to_feeder, for_feeder}
+use Rattle.epoch_tags.specs.Posts.{GoesOver, AllGoOver, posted_to_feeder, for_feeder}
+use Rattle.epoch_tags.specs.Links.HasLink.{controller_feeder}
 use Rattle.load_controller.specs.declared.line.Cause.{Cause}
 use Rattle.load_controller.specs.declared.line.Cause.TheVariants.{Start, Count, Settle, Drain}
 use Rattle.load_controller.specs.declared.line.TurnLine.{TurnLine}
+use Rattle.load_controller.specs.declared.ledger.Ledger.{Ledger}
 use Rattle.load_controller.specs.Journal.{Rules, is_count_of}
 use Rattle.load_controller.specs.Law.{is_over, sent_for}
 use Rattle.load_controller.specs.Standing.{post_to, to_each, grant_for, posts_for}
-use Rattle.load_controller.specs.Machine.{posts_of}
+use Rattle.load_controller.specs.Machine.{CauseFits, rules_of}
 
 pub to_each_more : (n : ℕ) (m : ToFeeder) → to_each (n + 1) m ≡ to_each n m ++ post_to m n ∷ []
 to_each_more n m = ap (map (post_to m)) (counting-more 0 n) ∙ map-append (post_to m) (counting_from 0 n) ((0 + n) ∷ []) ∙ ap (λ i. to_each n m ++ post_to m i ∷ []) (let e : 0 + n ≡ n = omega arith in e)
@@ -78,3 +81,41 @@ posted_for rules line before past q low =
     ∙ ap (λ ms. (ms ++ posted_to_feeder q (grant_for line.cause)) ++ posted_to_feeder q last) (posted_unless q rules.feeders order stays low)
     ∙ ap (λ ms. (cond stays [] (order ∷ []) ++ ms) ++ posted_to_feeder q last) (posted_grant q line.cause)
     ∙ ap (λ ms. (cond stays [] (order ∷ []) ++ cond (is_count_of q line.cause) (Grant ∷ []) []) ++ ms) (posted_if q rules.feeders Stop ends low)
+
+-- ---- over links
+
+module _ (k feeders : ℕ) where
+  one_over : (m : ToFeeder) (p : ℕ) → p < feeders → AllGoOver k feeders Controller (post_to m p ∷ [])
+  one_over m p low = λ i d below. let at : i ≡ 0 = omega arith in rw at (record { link = controller_feeder low; kind = tt })
+
+  each_over : (m : ToFeeder) (a n : ℕ) → a + n ≤ feeders → AllGoOver k feeders Controller (map (post_to m) (counting_from a n))
+  each_over m a zero within = All-nil (GoesOver k feeders Controller)
+  each_over m a (suc n) within =
+      All-append (GoesOver k feeders Controller) (post_to m a ∷ []) (map (post_to m) (counting_from (a + 1) n)) (one_over m a (omega arith)) (each_over m (a + 1) n (omega arith))
+
+  grant_over : (c : Ledger) (cause : Cause) → c.feeders ≡ feeders → CauseFits c cause → AllGoOver k feeders Controller (grant_for cause)
+  grant_over c Start same fits = absurd fits
+  grant_over c (Count feeder dr ds) same fits = one_over Grant feeder (let low = fits.0 in omega arith)
+  grant_over c (Settle joiner) same fits = All-nil (GoesOver k feeders Controller)
+  grant_over c (Drain feeder) same fits = All-nil (GoesOver k feeders Controller)
+
+  if_over : (m : ToFeeder) (b : Bool) → AllGoOver k feeders Controller (cond b (to_each feeders m) [])
+  if_over m true = each_over m 0 feeders (omega arith)
+  if_over m false = All-nil (GoesOver k feeders Controller)
+
+  unless_over : (m : ToFeeder) (b : Bool) → AllGoOver k feeders Controller (cond b [] (to_each feeders m))
+  unless_over m true = All-nil (GoesOver k feeders Controller)
+  unless_over m false = each_over m 0 feeders (omega arith)
+
+-- a line's posts go over links, where its cause may come
+pub line_over : (c : Ledger) (line before : TurnLine) (past : List TurnLine) → CauseFits c line.cause → AllGoOver c.k c.feeders Controller (posts_for (rules_of c) line before past)
+line_over c line before past fits =
+    let k = c.k in
+    let feeders = c.feeders in
+    let ends = not (is_over feeders (before ∷ past)) && is_over feeders (line ∷ before ∷ past) in
+    let orders : List Post = cond (line.epoch == before.epoch) [] (to_each feeders (Order line.epoch line.shift)) in
+    let last : List Post = cond ends (to_each feeders Stop) [] in
+    let Over : Post → Type 0 = λ post. GoesOver k feeders Controller post in
+    All-append Over (orders ++ grant_for line.cause) last
+    (All-append Over orders (grant_for line.cause) (unless_over k feeders (Order line.epoch line.shift) (line.epoch == before.epoch)) (grant_over k feeders c line.cause refl fits))
+    (if_over k feeders Stop ends)

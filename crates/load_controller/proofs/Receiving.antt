@@ -1,29 +1,29 @@
 -- The parts of a call, one after another.
-use Rattle.std.proofs.Common.{◌≡◌, ℕ, zero, suc, ◌+◌, ◌^◌, ◌<◌, ◌≤◌, inl, inr, refl, sym, ◌∙◌, ap, subst, arith, Bool, true, false, not, ◌||◌, ◌&&◌, List, [], ◌∷◌, ◌++◌, append_assoc, length, drop, reverse, get_or, set, get_or-set_same, get_or-set_other}
-use Rattle.std.specs.Prelude.{slice_set, sum_by, IsTrue}
+use Rattle.std.proofs.Common.{◌≡◌, ℕ, ◌^◌, ◌<◌, refl, sym, ◌∙◌, ap, subst, arith, Bool, false, not, ◌&&◌, List, [], ◌∷◌, ◌++◌, append_assoc, length, drop, reverse, get_or-set_same, get_or-set_other}
+use Rattle.std.specs.Prelude.{slice_set, sum_by}
 use Rattle.std.proofs.Math.ListN.{length-set}
 use Rattle.std.proofs.lemmas.Bool.{not-true}
 use Rattle.std.proofs.lemmas.List.{append-nil, reverse-append}
-use Rattle.std.proofs.lemmas.List.Elements.{filter_map-append}
+use Rattle.std.proofs.lemmas.List.Elements.{filter_map-append, All-append, All-nil}
 use Rattle.std.proofs.lemmas.List.Sums.{sum_by-set}
 use Rattle.join_rows.specs.Lists.{IsPrefix}
 use Rattle.epoch_tags.specs.declared.actor.Actor.{Actor}
-use Rattle.epoch_tags.specs.declared.actor.Actor.TheVariants.{Feeder, Joiner}
+use Rattle.epoch_tags.specs.declared.actor.Actor.TheVariants.{Feeder, Joiner, Controller}
 use Rattle.epoch_tags.specs.declared.message.Post.{Post}
 use Rattle.epoch_tags.specs.declared.message.ToController.{ToController}
 use Rattle.epoch_tags.specs.declared.message.ToController.TheVariants.{Ask, Drained, Settled}
-use Rattle.epoch_tags.specs.Posts.{posted_to_feeder, for_feeder}
+use Rattle.epoch_tags.specs.Posts.{GoesOver, AllGoOver, posted_to_feeder, for_feeder}
 use Rattle.load_controller.specs.declared.line.Cause.{Cause}
-use Rattle.load_controller.specs.declared.line.Cause.TheVariants.{Start, Count, Settle, Drain}
+use Rattle.load_controller.specs.declared.line.Cause.TheVariants.{Settle}
 use Rattle.load_controller.specs.declared.line.TurnLine.{TurnLine}
 use Rattle.load_controller.specs.declared.ledger.Ledger.{Ledger}
 use Rattle.load_controller.specs.Journal.{Rules, Follows, line_after, has_drained, has_settled}
 use Rattle.load_controller.specs.Law.{ControllerLists, CountsMessages, IsInPlace, SettlesInPlace, cause_of, is_over, sent_by}
-use Rattle.load_controller.specs.Flags.{flag_at}
-use Rattle.load_controller.specs.Standing.{ControllerState, StandsFor, TakesMessage, PassesOver, IsPassedOver, with_message, with_sent, held_at, posts_for, posts_by}
+use Rattle.load_controller.specs.Standing.{ControllerState, TakesMessage, PassesOver, IsPassedOver, with_message, with_sent, held_at, posts_for, posts_by}
 use Rattle.epoch_tags.specs.Messages.{settled_epochs}
-use Rattle.load_controller.specs.Machine.{HoldsSettled, IsSound, IsReady, IsStuck, StandsWithin, Advances, Took, HasPlace, CauseFits, CountsCause, Notes, rules_of, state_of, opens_of, posts_of, held_in_all}
+use Rattle.load_controller.specs.Machine.{HoldsSettled, IsSound, IsReady, IsStuck, StandsWithin, Advances, Took, HasPlace, CauseFits, CountsCause, rules_of, state_of, posts_of, held_in_all}
 use Rattle.load_controller.proofs.Keeping.{line_is, rules_kept}
+use Rattle.load_controller.proofs.Posting.{line_over}
 use Rattle.load_controller.proofs.Standings.{same_line, feeder_counted, held_counted, joiner_held, message_passed, within_of, stuck_of, stands_of}
 
 -- ---- posts, one after another
@@ -74,6 +74,7 @@ advances_none c posts = record {
   added = [];
   sends = sym (append-nil posts);
   posted = sym (append-nil (posts_by (rules_of c) (reverse c.journal)));
+  over = All-nil (GoesOver c.k c.feeders Controller);
   stands = λ first lists w. subst (λ ls. StandsWithin (rules_of c) first ls c.journal (held_at c.held)) (sent_none lists c.journal w.same) w;
 }
 
@@ -82,6 +83,10 @@ posted_both : (r r' : Rules) (x y z : List TurnLine) (a b : List Post) → r' �
 posted_both r r' x y z a b same one two =
     let two' : posts_by r z ≡ posts_by r y ++ b = subst (λ q. posts_by q z ≡ posts_by q y ++ b) same two in
     two' ∙ ap (λ ps. ps ++ b) one ∙ append_assoc (posts_by r x) a b
+
+over_both : (r r' : Rules) (a b : List Post) → r' ≡ r → AllGoOver r.k r.feeders Controller a → AllGoOver r'.k r'.feeders Controller b → AllGoOver r.k r.feeders Controller (a ++ b)
+over_both r r' a b same one two =
+    All-append (GoesOver r.k r.feeders Controller) a b one (subst (λ (q : Rules). AllGoOver q.k q.feeders Controller b) same two)
 
 -- from lists with the first part's posts to those with both
 stands_both : (r r' : Rules) (first : TurnLine) (lists : ControllerLists) (a b : List Post) (j j' : List TurnLine) (h h' : ℕ → List ℕ) → r' ≡ r
@@ -100,6 +105,7 @@ advances_then a b c pa pb pc one two = record {
   added = one.added ++ two.added;
   sends = two.sends ∙ ap (λ ps. ps ++ two.added) one.sends ∙ append_assoc pa one.added two.added;
   posted = posted_both (rules_of a) (rules_of b) (reverse a.journal) (reverse b.journal) (reverse c.journal) one.added two.added one.rules one.posted two.posted;
+  over = over_both (rules_of a) (rules_of b) one.added two.added one.rules one.over two.over;
   stands = λ first lists w.
       stands_both (rules_of a) (rules_of b) first lists one.added two.added b.journal c.journal (held_at b.held) (held_at c.held) one.rules (one.stands first lists w)
       (λ w'. two.stands first (with_sent lists one.added b.journal) w');
@@ -112,6 +118,7 @@ took_then from m a b c pa pb pc one two = record {
   added = one.added ++ two.added;
   sends = two.sends ∙ ap (λ ps. ps ++ two.added) one.sends ∙ append_assoc pa one.added two.added;
   posted = posted_both (rules_of a) (rules_of b) (reverse a.journal) (reverse b.journal) (reverse c.journal) one.added two.added one.rules one.posted two.posted;
+  over = over_both (rules_of a) (rules_of b) one.added two.added one.rules one.over two.over;
   stands = λ first lists w.
       stands_both (rules_of a) (rules_of b) first (with_message from m lists) one.added two.added b.journal c.journal (held_at b.held) (held_at c.held) one.rules (one.stands first lists w)
       (λ w'. two.stands first (with_sent (with_message from m lists) one.added b.journal) w');
@@ -147,6 +154,11 @@ adds_line cause old new before after s t c =
       sends = c.sends ∙ ap (λ ps. before ++ ps) posts;
       posted = ap (posts_by (rules_of old)) turned ∙ ap (λ ls. posts_by (rules_of old) ls ++ posts_for (rules_of old) new.line old.line s.past) (sym s.newest);
     }
+
+over_line : (cause : Cause) (old new : Ledger) (before after : List Post) (s : IsSound old) → CauseFits old cause → CountsCause cause old new before after
+    → AllGoOver old.k old.feeders Controller (posts_for (rules_of old) new.line old.line s.past)
+over_line cause old new before after s fits c =
+    line_over old new.line old.line s.past (subst (λ x. CauseFits old x) (sym (ap (λ (l : TurnLine). l.cause) c.line)) fits)
 
 -- lists that stand with the line that a past makes stand with the machine's
 stands_with : (r : Rules) (first : TurnLine) (lists : ControllerLists) (old new : TurnLine) (past : List TurnLine) (cause : Cause) (journal journal' : List TurnLine) (held : ℕ → List ℕ)
@@ -204,6 +216,7 @@ feeder_took p m old new before after s t place c =
       added = posts_for (rules_of old) new.line old.line s.past;
       sends = adds.sends;
       posted = adds.posted;
+      over = over_line (cause_of p m) old new before after s (place_fits old p m place) c;
       stands = λ first lists w.
           let both = sym s.newest ∙ w.newest in
           let here = recast (rules_of old) first lists old.journal (held_at old.held) w old.line s.past s.newest (first_same old.line w.line s.past w.past both) (rest_same old.line w.line s.past w.past both) in
@@ -255,6 +268,7 @@ held_took old new j before after s t ready c =
       added = posts_for (rules_of old) new.line old.line s.past;
       sends = adds.sends;
       posted = adds.posted;
+      over = over_line (Settle j) mid new before after (sound_held old queues s many) (ready_fits old queues j ready) c;
       stands = λ first lists w.
           let both = sym s.newest ∙ w.newest in
           let here = recast (rules_of old) first lists old.journal (held_at old.held) w old.line s.past s.newest (first_same old.line w.line s.past w.past both) (rest_same old.line w.line s.past w.past both) in
@@ -296,6 +310,7 @@ joiner_took j epoch old new posts s low is = subst (λ x. Took (Joiner j) (Settl
       added = [];
       sends = sym (append-nil posts);
       posted = sym (append-nil (posts_by (rules_of old) (reverse old.journal)));
+      over = All-nil (GoesOver old.k old.feeders Controller);
       stands = λ first lists w.
           let held = joiner_held (rules_of old) first lists old.journal (held_at old.held) (held_at queues) w j epoch
           (get_or-set_same old.held j more [] within)
@@ -321,6 +336,7 @@ takes_message from m old new before after s stuck took = record {
   added = took.added;
   sends = took.sends;
   posted = took.posted;
+  over = took.over;
   stands = λ first lists stands.
       let lists' = with_sent (with_message from m lists) took.added new.journal in
       let w = subst (λ r. StandsWithin r first lists' new.journal (held_at new.held)) (sym took.rules) (took.stands first lists (within_of first (state_of old false) lists stands)) in
@@ -350,6 +366,7 @@ passed_takes from m c posts s over = record {
   added = [];
   sends = sym (append-nil posts);
   posted = sym (append-nil (posts_by (rules_of c) (reverse c.journal)));
+  over = All-nil (GoesOver c.k c.feeders Controller);
   stands = λ first lists stands.
       let w = within_of first (state_of c false) lists stands in
       let both = sym s.newest ∙ w.newest in

@@ -1,6 +1,6 @@
 -- The line of a worked row is one from which a controller can begin.
-use Rattle.std.proofs.Common.{◌≡◌, ℕ, zero, suc, ◌+◌, ◌*◌, ◌^◌, ◌≤◌, refl, arith, None, false}
-use Rattle.grid_map.specs.Load.{copies, HasFewest}
+use Rattle.std.proofs.Common.{ℕ, zero, suc, ◌≤◌, refl, arith, None, false}
+use Rattle.grid_map.specs.Load.{copies}
 use Rattle.load_controller.specs.declared.line.Cause.TheVariants.{Start}
 use Rattle.load_controller.specs.Journal.{Fits}
 use Rattle.load_controller.specs.Standing.{rules_with}

@@ -1,22 +1,21 @@
 -- The lists grow by a message or a line, and keep the law.
-use Rattle.std.proofs.Common.{◌≡◌, ℕ, ◌+◌, ◌^◌, ◌<◌, ◌≤◌, inl, inr, refl, sym, ◌∙◌, ap, subst, arith, Bool, true, false, not, ◌||◌, cond, List, [], ◌∷◌, ◌++◌, append_assoc, reverse}
-use Rattle.std.specs.Prelude.{◌==◌, MatchBool, IsTrue}
+use Rattle.std.proofs.Common.{◌≡◌, ℕ, ◌+◌, ◌^◌, ◌<◌, ◌≤◌, inl, inr, refl, sym, ◌∙◌, ap, subst, arith, Bool, true, false, not, ◌||◌, List, [], ◌∷◌, ◌++◌, append_assoc, reverse}
+use Rattle.std.specs.Prelude.{◌==◌, MatchBool}
 use Rattle.std.specs.List.{AllByRecursion}
-use Rattle.std.proofs.lemmas.Bool.{cases_eq, eq-eqb, ne_eqb, or_right, or_left, or_parts, not-true, not_from_true}
+use Rattle.std.proofs.lemmas.Bool.{cases_eq, eq-eqb, ne_eqb, or_right, or_left, or_parts, not-true}
 use Rattle.std.proofs.lemmas.List.{append-nil, reverse-append}
 use Rattle.epoch_tags.specs.declared.actor.Actor.{Actor}
 use Rattle.epoch_tags.specs.declared.actor.Actor.TheVariants.{Feeder, Joiner, Controller, Collector}
-use Rattle.epoch_tags.specs.declared.message.Post.{Post}
 use Rattle.epoch_tags.specs.declared.message.ToController.{ToController}
 use Rattle.epoch_tags.specs.declared.message.ToController.TheVariants.{Ask, Drained, Settled}
 use Rattle.epoch_tags.specs.Messages.{settled_epochs}
 use Rattle.epoch_tags.specs.Posts.{posted_to_feeder}
 use Rattle.epoch_tags.proofs.Appends.{settled_epochs-append}
 use Rattle.load_controller.specs.declared.line.Cause.{Cause}
-use Rattle.load_controller.specs.declared.line.Cause.TheVariants.{Start, Count, Settle, Drain}
+use Rattle.load_controller.specs.declared.line.Cause.TheVariants.{Settle}
 use Rattle.load_controller.specs.declared.line.TurnLine.{TurnLine}
-use Rattle.load_controller.specs.Journal.{Rules, Follows, IsAllowed, line_after, counted_r, counted_s, is_count_of, is_drain_of, is_settle_of, has_drained, has_settled}
-use Rattle.load_controller.specs.Law.{ControllerLists, ControllerLaw, CountsMessages, CountsSettled, CountsOne, SettlesOne, AreCounted, AreSettled, IsInPlace, SettlesInPlace, cause_of, sent_for, sent_by}
+use Rattle.load_controller.specs.Journal.{Rules, IsAllowed, line_after, counted_r, counted_s, is_count_of, is_drain_of, is_settle_of, has_drained}
+use Rattle.load_controller.specs.Law.{ControllerLists, CountsMessages, CountsOne, SettlesOne, AreCounted, AreSettled, IsInPlace, SettlesInPlace, cause_of, sent_by}
 use Rattle.load_controller.specs.Standing.{ControllerState, StandsFor, grown, with_message, with_sent, held_at, IsPassedOver, posts_for}
 use Rattle.load_controller.specs.Machine.{HoldsSettled, StandsWithin}
 use Rattle.load_controller.proofs.Posting.{posted_for}

@@ -4,11 +4,13 @@ use Rattle.std.specs.List.{list_all}
 use Rattle.join_rows.specs.Lists.{IsPrefix}
 use Rattle.grid_map.specs.Load.{HasFewest}
 use Rattle.epoch_tags.specs.declared.actor.Actor.{Actor}
+use Rattle.epoch_tags.specs.declared.actor.Actor.TheVariants.{Controller}
 use Rattle.epoch_tags.specs.declared.message.Post.{Post}
 use Rattle.epoch_tags.specs.declared.message.ToController.{ToController}
 use Rattle.epoch_tags.specs.declared.message.ToController.TheVariants.{Ask, Drained, Settled}
 use Rattle.epoch_tags.specs.declared.message.ToFeeder.TheVariants.{Order, Stop}
 use Rattle.epoch_tags.specs.Messages.{settled_epochs}
+use Rattle.epoch_tags.specs.Posts.{AllGoOver}
 use Rattle.load_controller.specs.declared.line.Cause.{Cause}
 use Rattle.load_controller.specs.declared.line.Cause.TheVariants.{Start, Count, Settle, Drain}
 use Rattle.load_controller.specs.declared.line.TurnLine.{TurnLine}
@@ -156,6 +158,7 @@ pub record Advances (old new : Ledger) (before after : List Post) : Type 0 where
   pub added : List Post
   pub sends : after ≡ before ++ added
   pub posted : posts_by (rules_of old) (reverse new.journal) ≡ posts_by (rules_of old) (reverse old.journal) ++ added
+  pub over : AllGoOver old.k old.feeders Controller added
   pub stands : (first : TurnLine) (lists : ControllerLists) → StandsWithin (rules_of old) first lists old.journal (held_at old.held)
       → StandsWithin (rules_of old) first (with_sent lists added new.journal) new.journal (held_at new.held)
 
@@ -172,6 +175,7 @@ pub record Took (from : Actor) (m : ToController) (old new : Ledger) (before aft
   pub added : List Post
   pub sends : after ≡ before ++ added
   pub posted : posts_by (rules_of old) (reverse new.journal) ≡ posts_by (rules_of old) (reverse old.journal) ++ added
+  pub over : AllGoOver old.k old.feeders Controller added
   pub stands : (first : TurnLine) (lists : ControllerLists) → StandsWithin (rules_of old) first lists old.journal (held_at old.held)
       → StandsWithin (rules_of old) first (with_sent (with_message from m lists) added new.journal) new.journal (held_at new.held)
 

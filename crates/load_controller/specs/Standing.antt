@@ -1,5 +1,5 @@
 -- What a controller's machine holds, and the lists for which it stands. Of those it stores its journal alone.
-use Rattle.std.specs.Prelude.{◌≡◌, ℕ, ◌^◌, ◌<◌, ◌==◌, ⊤, Bool, false, not, ◌&&◌, None, Option, List, [], ◌∷◌, ◌++◌, All, map, reverse, slice_index_or, if◌then◌else◌}
+use Rattle.std.specs.Prelude.{◌≡◌, ℕ, ◌^◌, ◌<◌, ◌==◌, ⊤, Bool, false, not, ◌&&◌, None, Option, List, [], ◌∷◌, ◌++◌, map, reverse, slice_index_or, if◌then◌else◌}
 use Rattle.join_rows.specs.Lists.{IsPrefix, counting_from}
 use Rattle.grid_map.specs.Load.{IsNear}
 use Rattle.epoch_tags.specs.declared.actor.Actor.{Actor}
@@ -10,7 +10,7 @@ use Rattle.epoch_tags.specs.declared.message.ToController.{ToController}
 use Rattle.epoch_tags.specs.declared.message.ToController.TheVariants.{Ask, Drained, Settled}
 use Rattle.epoch_tags.specs.declared.message.ToFeeder.{ToFeeder}
 use Rattle.epoch_tags.specs.declared.message.ToFeeder.TheVariants.{Order, Grant, Stop}
-use Rattle.epoch_tags.specs.Posts.{posted_to_feeder}
+use Rattle.epoch_tags.specs.Posts.{AllGoOver, posted_to_feeder}
 use Rattle.load_controller.specs.declared.line.Cause.{Cause}
 use Rattle.load_controller.specs.declared.line.Cause.TheVariants.{Start, Count, Settle, Drain}
 use Rattle.load_controller.specs.declared.line.TurnLine.{TurnLine}
@@ -107,6 +107,8 @@ pub record TakesMessage (from : Actor) (m : ToController) (old new : ControllerS
   pub added : List Post
   pub sends : after ≡ before ++ added
   pub posted : posts_by old.rules (reverse new.journal) ≡ posts_by old.rules (reverse old.journal) ++ added
+  -- each over a link to one of the feeders
+  pub over : AllGoOver old.rules.k old.rules.feeders Controller added
   pub stands : (first : TurnLine) (lists : ControllerLists) → StandsFor first old lists → StandsFor first new (with_sent (with_message from m lists) added new.journal)
 
 -- a call that passed the message over
