@@ -58,10 +58,11 @@ impl Collector {
     /// Takes a message. `Found` counts until its joiner's first `Fin`; every other message is passed
     /// over. After `AllocError` the collector is spent, and every later call of this answers the same.
     pub fn on(&mut self, from: Actor, m: ToCollector) -> Result<(), AllocError>
-        ensures took { OnOk result (TakesMessage self.old self.new from m) }
-        ensures passed { OnOk result (IsPassedOver self.old from → self.new ≡ self.old) }
-        ensures err { OnErr result (self.new ≡ record self.old { spent = true }) }
-        ensures spent { self.old.spent ≡ true → result ≡ Err alloc_error }
+        ensures takes { OnOk result (TakesMessage self.old self.new from m) }
+        ensures passes { OnOk result (IsPassedOver self.old from → self.new ≡ self.old) }
+        ensures goes_on { OnOk result ((self.old.spent ≡ false) × (self.new.spent ≡ false)) }
+        ensures fails { OnErr result (self.new ≡ record self.old { spent = true }) }
+        ensures spent { self.old.spent ≡ true → (result ≡ Err alloc_error) × (self.new ≡ self.old) }
     {
         if self.spent {
             return Err(AllocError);

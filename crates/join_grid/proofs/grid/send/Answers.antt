@@ -8,6 +8,6 @@ use Rattle.join_grid.proofs.grid.send.Goals as goal
 
 pub returns : goal.returns
 returns c = on_ok_weaker c.on-2.result
-    (λ took. takes_two c.args.collector.now c.on.new.self c.on-2.new.self c.args.id (Found c.args.pairs) (Fin c.args.rows_r c.args.rows_s []) c.in_ok-on.ensures.took
+    (λ took. takes_two c.args.collector.now c.on.new.self c.on-2.new.self c.args.id (Found c.args.pairs) (Fin c.args.rows_r c.args.rows_s []) c.in_ok-on.ensures.takes
     (subst (λ moved. TakesMessage c.on.new.self c.on-2.new.self (Joiner c.args.id) (Fin c.args.rows_r c.args.rows_s moved)) c.new-moved.ensures took))
-    c.on-2.ensures.took
+    c.on-2.ensures.takes
