@@ -31,10 +31,10 @@ ok_weaker (Ok x) gives known = gives x known
 ok_weaker (Err e) gives known = tt
 
 -- lists that are the same below the number of joiners
-pub stands_same : (state : CollectorState) (lists lists' : CollectorLists) → ((j : ℕ) → j < length state.joiners → lists.from_joiner j ≡ lists'.from_joiner j)
-    → StandsFor state lists → StandsFor state lists'
-stands_same state lists lists' same stands = stand state lists' (λ j kept at.
-    stands.each j kept at ∙ ap kept_of (same j (slice_get_within state.joiners j kept at)))
+pub stands_same : (joiners : ℕ) (lists lists' : CollectorLists) (state : CollectorState) → ((j : ℕ) → j < joiners → lists.from_joiner j ≡ lists'.from_joiner j)
+    → StandsFor joiners lists state → StandsFor joiners lists' state
+stands_same joiners lists lists' state same stands = stand state lists' joiners stands.began (λ j kept at.
+    stands.each j kept at ∙ ap kept_of (same j (rw (← stands.began) (slice_get_within state.joiners j kept at))))
 
 -- ---- two messages of one joiner
 
@@ -42,21 +42,21 @@ both_sent : (t : Bool) (ms : List ToCollector) (m m' : ToCollector) → cond t (
 both_sent true ms m m' = append_assoc ms (m ∷ []) (m' ∷ [])
 both_sent false ms m m' = refl
 
-pub takes_two : (old mid new : CollectorState) (j : ℕ) (m m' : ToCollector) → TakesMessage old mid (Joiner j) m → TakesMessage mid new (Joiner j) m' → TakesAll old new j (m ∷ m' ∷ [])
+pub takes_two : (old mid new : CollectorState) (j : ℕ) (m m' : ToCollector) → TakesMessage (Joiner j) m old mid → TakesMessage (Joiner j) m' mid new → TakesAll old new j (m ∷ m' ∷ [])
 takes_two old mid new j m m' first second = record {
-  joiners = second.joiners ∙ first.joiners;
-  stands = λ lists stands.
-      stands_same new (with_message (with_message lists (Joiner j) m) (Joiner j) m') (with_sent lists j (m ∷ m' ∷ [])) (λ i low. both_sent (i == j) (lists.from_joiner i) m m')
-      (second.stands (with_message lists (Joiner j) m) (first.stands lists stands));
+  joiners = second.start ∙ first.start;
+  stands = λ joiners lists stands.
+      stands_same joiners (with_message (Joiner j) m' (with_message (Joiner j) m lists)) (with_sent lists j (m ∷ m' ∷ [])) new (λ i low. both_sent (i == j) (lists.from_joiner i) m m')
+      (second.stands joiners (with_message (Joiner j) m lists) (first.stands joiners lists stands));
 }
 
 module _ (input : Input) (k b : ℕ) where
-  pub none_sent : (state : CollectorState) → StandsFor state nothing_yet → StandsFor state (sent_up_to input k b 0)
-  none_sent state stands = stands_same state nothing_yet (sent_up_to input k b 0) (λ j low. ap (λ t. cond t (sent_by input k b j) []) (sym (le-ltb j 0 (omega arith)))) stands
+  pub none_sent : (state : CollectorState) → StandsFor (2 ^ k) nothing_yet state → StandsFor (2 ^ k) (sent_up_to input k b 0) state
+  none_sent state stands = stands_same (2 ^ k) nothing_yet (sent_up_to input k b 0) state (λ j low. ap (λ t. cond t (sent_by input k b j) []) (sym (le-ltb j 0 (omega arith)))) stands
 
-  pub one_more : (old new : CollectorState) (n : ℕ) → TakesAll old new n (sent_by input k b n) → StandsFor old (sent_up_to input k b n) → StandsFor new (sent_up_to input k b (n + 1))
+  pub one_more : (old new : CollectorState) (n : ℕ) → TakesAll old new n (sent_by input k b n) → StandsFor (2 ^ k) (sent_up_to input k b n) old → StandsFor (2 ^ k) (sent_up_to input k b (n + 1)) new
   one_more old new n takes stands =
-      stands_same new (with_sent (sent_up_to input k b n) n (sent_by input k b n)) (sent_up_to input k b (n + 1)) (λ j low. elim (cases_Bool (j == n)) [
+      stands_same (2 ^ k) (with_sent (sent_up_to input k b n) n (sent_by input k b n)) (sent_up_to input k b (n + 1)) new (λ j low. elim (cases_Bool (j == n)) [
         | inl same ↦
             let is : j ≡ n = eqb-true j n same in
             let before : nat_lt j n ≡ false = le-ltb j n (omega arith) in
@@ -65,7 +65,7 @@ module _ (input : Input) (k b : ℕ) where
         | inr other ↦
             let differs : j ≡ n → ⊥ = eqb-false j n other in
             rw other (ap (λ t. cond t (sent_by input k b j) []) (alike j differs))
-      ]) (takes.stands (sent_up_to input k b n) stands)
+      ]) (takes.stands (2 ^ k) (sent_up_to input k b n) stands)
     where
       alike : (j : ℕ) → (j ≡ n → ⊥) → nat_lt j n ≡ nat_lt j (n + 1)
       alike j differs = elim (cases_Bool (nat_lt j n)) [
@@ -73,12 +73,12 @@ module _ (input : Input) (k b : ℕ) where
         | inr more ↦ let high : n ≤ j = ltb-false j n more in more ∙ sym (le-ltb j (n + 1) (omega arith))
       ]
 
-  pub all_in_the_end : (state : CollectorState) → length state.joiners ≡ 2 ^ k → StandsFor state (sent_up_to input k b (2 ^ k)) → StandsFor state (all_sent input k b)
-  all_in_the_end state count stands = stands_same state (sent_up_to input k b (2 ^ k)) (all_sent input k b)
-      (λ j low. let below : j < 2 ^ k = rw count at low in ap (λ t. cond t (sent_by input k b j) []) (lt-ltb j (2 ^ k) below)) stands
+  pub all_in_the_end : (state : CollectorState) → StandsFor (2 ^ k) (sent_up_to input k b (2 ^ k)) state → StandsFor (2 ^ k) (all_sent input k b) state
+  all_in_the_end state stands = stands_same (2 ^ k) (sent_up_to input k b (2 ^ k)) (all_sent input k b) state
+      (λ j low. ap (λ t. cond t (sent_by input k b j) []) (lt-ltb j (2 ^ k) low)) stands
 
-  pub completes : (state : CollectorState) → StandsFor state (all_sent input k b) → is_complete state ≡ true
-  completes state stands = (complete_says state (all_sent input k b) stands).1 (λ j low. omega arith)
+  pub completes : (state : CollectorState) → StandsFor (2 ^ k) (all_sent input k b) state → is_complete state ≡ true
+  completes state stands = (complete_says (2 ^ k) (all_sent input k b) state stands).1 (λ j low. omega arith)
 
   -- ---- the answer
 

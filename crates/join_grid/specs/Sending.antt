@@ -23,7 +23,7 @@ with_sent lists j ms = record { from_joiner = λ i. if i == j then lists.from_jo
 -- for whatever lists the collector stood, it stands for them with these messages of joiner j
 pub record TakesAll (old new : CollectorState) (j : ℕ) (ms : List ToCollector) : Type 0 where
   pub joiners : length new.joiners ≡ length old.joiners
-  pub stands : (lists : CollectorLists) → StandsFor old lists → StandsFor new (with_sent lists j ms)
+  pub stands : (joiners : ℕ) (lists : CollectorLists) → StandsFor joiners lists old → StandsFor joiners (with_sent lists j ms) new
 
 -- the joiners below n have sent all, and the others nothing
 abbrev pub sent_up_to : Input → ℕ → ℕ → ℕ → CollectorLists

@@ -27,15 +27,14 @@ greatest_same : (n : ℕ) (g h : ℕ → ℕ) → ((i : ℕ) → i < n → g i �
 greatest_same zero g h same = refl
 greatest_same (suc n) g h same = ap (λ m. max m (g n)) (greatest_same n g h (λ i low. same i (omega arith))) ∙ ap (max (greatest n h)) (same n (omega arith))
 
-module _ (state : CollectorState) (lists : CollectorLists) (stands : StandsFor state lists) where
-  abbrev joiners : ℕ
-  joiners = length state.joiners
-
+module _ (joiners : ℕ) (lists : CollectorLists) (state : CollectorState) (stands : StandsFor joiners lists state) where
   at_place : (j : ℕ) → j < joiners → slice_index_or state.joiners j nothing_kept ≡ kept_of (lists.from_joiner j)
-  at_place j low = stands.each j (get_or state.joiners j nothing_kept) (slice_get-get_or state.joiners j nothing_kept low)
+  at_place j low = stands.each j (get_or state.joiners j nothing_kept) (slice_get-get_or state.joiners j nothing_kept (rw stands.began low))
 
   each_mapped : {Y : Type 0} (g : Kept → Y) → map g state.joiners ≡ map (λ j. g (kept_of (lists.from_joiner j))) (range_with_len 0 joiners)
-  each_mapped g = ap (map g) (as_map state lists stands.each) ∙ map_of_map g (λ j. kept_of (lists.from_joiner j)) (range_with_len 0 joiners)
+  each_mapped g =
+      ap (map g) (as_map state lists stands.each) ∙ ap (λ n. map g (map (λ j. kept_of (lists.from_joiner j)) (range_with_len 0 n))) stands.began
+      ∙ map_of_map g (λ j. kept_of (lists.from_joiner j)) (range_with_len 0 joiners)
 
   longest_is : longest state.joiners joiners ≡ greatest joiners (λ j. length (moves lists j))
   longest_is = greatest_same joiners (λ j. length (moves_of (slice_index_or state.joiners j nothing_kept).last)) (λ j. length (moves lists j))
@@ -48,10 +47,10 @@ module _ (state : CollectorState) (lists : CollectorLists) (stands : StandsFor s
   pub collects : (collected : Collected) (all : List Pair) → all ≡ pairs_kept state → IsPermutation all collected.pairs → InOrder collected.pairs
       → collected.made ≡ map (λ kept. length kept.pairs) state.joiners
       → collected.loads ≡ map (λ kept. held_of kept.last) state.joiners
-      → collected.moved ≡ map (λ step. min (moved_by state.joiners step joiners) (2 ^ 64 - 1)) (range_with_len 0 (longest state.joiners joiners))
+      → collected.moved ≡ map (λ step. min (moved_by state.joiners step (length state.joiners)) (2 ^ 64 - 1)) (range_with_len 0 (longest state.joiners (length state.joiners)))
       → Collects joiners lists collected
   collects collected all are permuted order made loads moved =
-      let taken : all ≡ pairs_taken joiners lists = are ∙ pairs_are state lists stands.each in
+      let taken : all ≡ pairs_taken joiners lists = are ∙ pairs_are state lists stands.each ∙ ap (λ n. pairs_taken n lists) stands.began in
       let pairs : IsPermutation (pairs_taken joiners lists) collected.pairs = subst (λ ps. IsPermutation ps collected.pairs) taken permuted in
       record {
         pairs = pairs;
@@ -60,6 +59,7 @@ module _ (state : CollectorState) (lists : CollectorLists) (stands : StandsFor s
         made = made ∙ each_mapped (λ kept. length kept.pairs);
         loads = loads ∙ each_mapped (λ kept. held_of kept.last);
         moved = moved
+            ∙ ap (λ m. map (λ step. min (moved_by state.joiners step m) (2 ^ 64 - 1)) (range_with_len 0 (longest state.joiners m))) stands.began
             ∙ ap (λ n. map (λ step. min (moved_by state.joiners step joiners) (2 ^ 64 - 1)) (range_with_len 0 n)) longest_is
             ∙ map_same (λ step. min (moved_by state.joiners step joiners) (2 ^ 64 - 1)) (λ step. min (moved_in joiners lists step) (2 ^ 64 - 1))
             (λ step. ap (λ n. min n (2 ^ 64 - 1)) (moved_is step)) (range_with_len 0 (greatest joiners (λ j. length (moves lists j))));

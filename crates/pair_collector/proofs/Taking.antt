@@ -4,7 +4,7 @@ use Rattle.std.specs.Prelude.{◌==◌, map, flat_map, is_some, slice_get, repli
 use Rattle.std.specs.declared.alloc.AllocError.{AllocError}
 use Rattle.std.specs.List.{range_with_len, list_all}
 use Rattle.std.proofs.lemmas.Bool.{cases_Bool, eqb-true, eq-eqb, and_parts, and_from}
-use Rattle.std.proofs.lemmas.List.{append-nil, set-get_or}
+use Rattle.std.proofs.lemmas.List.{append-nil, set-get_or, length-replicate}
 use Rattle.std.proofs.lemmas.Grind.{get_or-set_at, flat_map-append}
 use Rattle.std.proofs.lemmas.Option.{slice_get_within, get_or_from_slice_get, slice_get-get_or}
 use Rattle.std.proofs.lemmas.List.FromFn.{map-range_with_len_more}
@@ -99,21 +99,22 @@ module _ (state : CollectorState) (lists : CollectorLists) where
       flat_map-of_map f [] = refl
       flat_map-of_map f (j ∷ js) = ap (λ ps. (f j).pairs ++ ps) (flat_map-of_map f js)
 
-  pub stand : Each → StandsFor state lists
-  stand each = record {
+  pub stand : (joiners : ℕ) → length state.joiners ≡ joiners → Each → StandsFor joiners lists state
+  stand joiners began each = record {
+    began = began;
     each = each;
-    law = record { kept = subst (SameBag (pairs_kept state)) (pairs_are each) (SameBag-refl (pairs_kept state)) };
+    law = record { kept = subst (SameBag (pairs_kept state)) (pairs_are each ∙ ap (λ n. pairs_taken n lists) began) (SameBag-refl (pairs_kept state)) };
   }
 
 -- ---- a message
 
 pub joiner_takes : (old : CollectorState) (spent : Bool) (j : ℕ) (m : ToCollector) (kept : Kept) → j < length old.joiners → kept ≡ get_or old.joiners j kept
-    → TakesMessage old (record { joiners = set old.joiners j (kept_after kept m); spent = spent }) (Joiner j) m
+    → TakesMessage (Joiner j) m old (record { joiners = set old.joiners j (kept_after kept m); spent = spent })
 joiner_takes old spent j m kept low is = record {
-  joiners = length-set old.joiners j (kept_after kept m);
-  stands = λ lists stands.
+  start = length-set old.joiners j (kept_after kept m);
+  stands = λ joiners lists stands.
       let new : CollectorState = record { joiners = set old.joiners j (kept_after kept m); spent = spent } in
-      stand new (with_message lists (Joiner j) m) (λ i k at.
+      stand new (with_message (Joiner j) m lists) joiners (length-set old.joiners j (kept_after kept m) ∙ stands.began) (λ i k at.
       let within : i < length old.joiners = rw (length-set old.joiners j (kept_after kept m)) at (slice_get_within new.joiners i k at) in
       let value : get_or new.joiners i k ≡ k = get_or_from_slice_get new.joiners i k k at in
       elim (cases_Bool (i == j)) [
@@ -131,10 +132,10 @@ joiner_takes old spent j m kept low is = record {
 }
 
 -- of none of the joiners
-pub stranger_takes : (old : CollectorState) (j : ℕ) (m : ToCollector) → length old.joiners ≤ j → TakesMessage old old (Joiner j) m
+pub stranger_takes : (old : CollectorState) (j : ℕ) (m : ToCollector) → length old.joiners ≤ j → TakesMessage (Joiner j) m old old
 stranger_takes old j m past = record {
-  joiners = refl;
-  stands = λ lists stands. stand old (with_message lists (Joiner j) m) (λ i k at.
+  start = refl;
+  stands = λ joiners lists stands. stand old (with_message (Joiner j) m lists) joiners stands.began (λ i k at.
       let within = slice_get_within old.joiners i k at in
       elim (cases_Bool (i == j)) [
         | inl found ↦ let same = eqb-true i j found in absurd (omega arith)
@@ -159,15 +160,16 @@ one_of test (y ∷ ys) all zero x at =
     subst (λ z. test z ≡ true) same (and_parts (test y) (list_all test ys) all).0
 one_of test (y ∷ ys) all (suc j) x at = one_of test ys (and_parts (test y) (list_all test ys) all).1 j x at
 
-pub complete_says : (state : CollectorState) (lists : CollectorLists) → StandsFor state lists → IsTrue (is_complete state) ↔ IsComplete (length state.joiners) lists
-complete_says state lists stands = (
-  λ is j low.
+pub complete_says : (joiners : ℕ) (lists : CollectorLists) (state : CollectorState) → StandsFor joiners lists state → IsTrue (is_complete state) ↔ IsComplete joiners lists
+complete_says joiners lists state stands = (
+  λ is j below.
+      let low : j < length state.joiners = rw stands.began below in
       let kept = get_or state.joiners j nothing_kept in
       let there : slice_get state.joiners j ≡ Some kept = slice_get-get_or state.joiners j nothing_kept low in
       let last : is_some kept.last ≡ true = one_of (λ (k : Kept). is_some k.last) state.joiners is j kept there in
       ended (lists.from_joiner j) (subst (λ (k : Kept). is_some k.last ≡ true) (stands.each j kept there) last),
   λ each. every (λ (k : Kept). is_some k.last) state.joiners (λ j kept there.
-      let low = slice_get_within state.joiners j kept there in
+      let low : j < joiners = rw (← stands.began) (slice_get_within state.joiners j kept there) in
       subst (λ (k : Kept). is_some k.last ≡ true) (sym (stands.each j kept there)) (has_last (lists.from_joiner j) (each j low))),
 )
 
@@ -187,8 +189,9 @@ passes_over (Err e) xs j m kept after spent none is low at = tt
 
 -- ---- the beginning
 
-pub fresh_stands : (n : ℕ) (xs : List Kept) (spent : Bool) → xs ≡ replicate n nothing_kept → StandsFor (record { joiners = xs; spent = spent }) nothing_yet
-fresh_stands n xs spent is = stand (record { joiners = xs; spent = spent }) nothing_yet (λ j kept at. nothing_at n j kept (rw is at at))
+pub fresh_stands : (joiners n : ℕ) (xs : List Kept) (spent : Bool) → n ≡ joiners → xs ≡ replicate n nothing_kept → StandsFor joiners nothing_yet (record { joiners = xs; spent = spent })
+fresh_stands joiners n xs spent all is =
+    stand (record { joiners = xs; spent = spent }) nothing_yet joiners (ap length is ∙ length-replicate n nothing_kept ∙ all) (λ j kept at. nothing_at n j kept (rw is at at))
   where
     nothing_at : (n j : ℕ) (kept : Kept) → slice_get (replicate n nothing_kept) j ≡ Some kept → kept ≡ nothing_kept
     nothing_at zero j kept at = absurd (cc)

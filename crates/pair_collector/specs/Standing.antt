@@ -61,26 +61,27 @@ pub record CollectorState : Type 0 where
 abbrev pub pairs_kept : CollectorState → List Pair
 pairs_kept state = flat_map (λ kept. kept.pairs) state.joiners
 
--- what is kept is read off the lists, and so the law holds
-pub record StandsFor (state : CollectorState) (lists : CollectorLists) : Type 0 where
+-- it began with so many joiners; what is kept is read off the lists, and so the law holds
+pub record StandsFor (joiners : ℕ) (lists : CollectorLists) (state : CollectorState) : Type 0 where
+  pub began : length state.joiners ≡ joiners
   pub each : (j : ℕ) (kept : Kept) → slice_get state.joiners j ≡ Some kept → kept ≡ kept_of (lists.from_joiner j)
-  pub law : CollectorLaw (length state.joiners) (pairs_kept state) lists
+  pub law : CollectorLaw joiners (pairs_kept state) lists
 
 -- a new machine stands for empty lists
 abbrev pub nothing_yet : CollectorLists
 nothing_yet = record { from_joiner = λ j. [] }
 
 -- the lists with this message at the end of its joiner's
-abbrev pub with_message : CollectorLists → Actor → ToCollector → CollectorLists
-with_message lists (Feeder p) m = lists
-with_message lists (Joiner j) m = record { from_joiner = λ i. if i == j then lists.from_joiner i ++ m ∷ [] else lists.from_joiner i }
-with_message lists Controller m = lists
-with_message lists Collector m = lists
+abbrev pub with_message : Actor → ToCollector → CollectorLists → CollectorLists
+with_message (Feeder p) m lists = lists
+with_message (Joiner j) m lists = record { from_joiner = λ i. if i == j then lists.from_joiner i ++ m ∷ [] else lists.from_joiner i }
+with_message Controller m lists = lists
+with_message Collector m lists = lists
 
 -- for whatever lists the machine stood, it stands for them with the message at its end
-pub record TakesMessage (old new : CollectorState) (from : Actor) (m : ToCollector) : Type 0 where
-  pub joiners : length new.joiners ≡ length old.joiners
-  pub stands : (lists : CollectorLists) → StandsFor old lists → StandsFor new (with_message lists from m)
+pub record TakesMessage (from : Actor) (m : ToCollector) (old new : CollectorState) : Type 0 where
+  pub start : length new.joiners ≡ length old.joiners
+  pub stands : (joiners : ℕ) (lists : CollectorLists) → StandsFor joiners lists old → StandsFor joiners (with_message from m lists) new
 
 -- a message that doesn't count: its sender is none of the joiners, or has ended
 abbrev pub IsPassedOver : CollectorState → Actor → Type 0

@@ -40,9 +40,9 @@ fn all_ended(parts: &[Part]) -> bool
 impl Collector {
     /// A collector of so many joiners, none of which has sent anything.
     pub fn start(alloc: Global, joiners: u32) -> Result<Collector, AllocError>
-        ensures joiners { IfOk result (λ c. length c.joiners ≡ joiners) }
-        ensures fresh { IfOk result (λ c. c.spent ≡ false) }
-        ensures stands { IfOk result (λ c. StandsFor c nothing_yet) }
+        ensures start { IfOk result (λ c. length c.joiners ≡ joiners) }
+        ensures fresh { IfOk result (λ c. StandsFor joiners nothing_yet c) }
+        ensures at_work { IfOk result (λ c. c.spent ≡ false) }
     {
         let mut parts = Vec::with_capacity(alloc, joiners as usize)?;
         for _ in 0..joiners {
@@ -58,7 +58,7 @@ impl Collector {
     /// Takes a message. `Found` counts until its joiner's first `Fin`; every other message is passed
     /// over. After `AllocError` the collector is spent, and every later call of this answers the same.
     pub fn on(&mut self, from: Actor, m: ToCollector) -> Result<(), AllocError>
-        ensures takes { OnOk result (TakesMessage self.old self.new from m) }
+        ensures takes { OnOk result (TakesMessage from m self.old self.new) }
         ensures passes { OnOk result (IsPassedOver self.old from → self.new ≡ self.old) }
         ensures goes_on { OnOk result ((self.old.spent ≡ false) × (self.new.spent ≡ false)) }
         ensures fails { OnErr result (self.new ≡ record self.old { spent = true }) }
@@ -81,8 +81,8 @@ impl Collector {
     /// Whether each joiner has ended. It takes no memory.
     pub fn complete(&self) -> bool
         ensures value { result ≡ is_complete self.now }
-        ensures stands { (lists : CollectorLists) → StandsFor self.now lists
-            → IsTrue result ↔ IsComplete (length self.now.joiners) lists }
+        ensures stands { (joiners : ℕ) (lists : CollectorLists) → StandsFor joiners lists self.now
+            → IsTrue result ↔ IsComplete joiners lists }
     {
         all_ended(&self.parts)
     }
@@ -90,8 +90,8 @@ impl Collector {
     /// The answer of all that was taken. After `AllocError` the collector is gone.
     pub fn finish(self) -> Result<Collected, AllocError>
         requires { is_complete self ≡ true }
-        ensures { IfOk result (λ collected. (lists : CollectorLists) → StandsFor self lists
-            → Collects (length self.joiners) lists collected) }
+        ensures { IfOk result (λ collected. (joiners : ℕ) (lists : CollectorLists)
+            → StandsFor joiners lists self → Collects joiners lists collected) }
     {
         let alloc = self.alloc;
         let made = made(alloc, &self.parts)?;

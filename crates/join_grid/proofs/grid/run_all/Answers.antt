@@ -1,7 +1,6 @@
 use Rattle.std.proofs.Common.{◌≡◌, ◌∙◌, ◌^◌, subst, arith}
 use Rattle.trace_law.specs.declared.input.Input.{Input}
 use Rattle.pair_collector.specs.Standing.{StandsFor}
-use Rattle.pair_collector.specs.Answer.{Collects}
 use Rattle.join_grid.specs.Sending.{sent_up_to, all_sent}
 use Rattle.join_grid.proofs.Gathering.{ok_weaker, one_more, all_in_the_end, completes, joins_in_grid}
 use Rattle.join_grid.proofs.grid.run_all.Goals as goal
@@ -36,8 +35,8 @@ finish-requires c =
     let b = c.args.shape.shift in
     let end = c.loop-id.invariant.last in
     let last : c.loop-id.id ≡ 2 ^ k = omega arith in
-    let stands = subst (λ n. StandsFor c.loop-id.collector (sent_up_to input k b n)) last c.loop-id.invariant.stands in
-    completes input k b c.loop-id.collector (all_in_the_end input k b c.loop-id.collector c.loop-id.invariant.count stands)
+    let stands = subst (λ n. StandsFor (2 ^ k) (sent_up_to input k b n) c.loop-id.collector) last c.loop-id.invariant.stands in
+    completes input k b c.loop-id.collector (all_in_the_end input k b c.loop-id.collector stands)
 
 pub returns : goal.returns
 returns c =
@@ -52,9 +51,9 @@ returns c =
     let b = c.args.shape.shift in
     let end = c.loop-id.invariant.last in
     let last : c.loop-id.id ≡ 2 ^ k = omega arith in
-    let stands = subst (λ n. StandsFor c.loop-id.collector (sent_up_to input k b n)) last c.loop-id.invariant.stands in
-    let all = all_in_the_end input k b c.loop-id.collector c.loop-id.invariant.count stands in
+    let stands = subst (λ n. StandsFor (2 ^ k) (sent_up_to input k b n) c.loop-id.collector) last c.loop-id.invariant.stands in
+    let all = all_in_the_end input k b c.loop-id.collector stands in
     ok_weaker c.finish.result (λ collected collects.
     joins_in_grid input k b collected c.requires.shift c.requires.k c.loop-id.invariant.fits c.requires.tickets_r c.requires.tickets_s
-    (subst (λ n. Collects n (all_sent input k b) collected) c.loop-id.invariant.count (collects (all_sent input k b) all)))
+    (collects (2 ^ k) (all_sent input k b) all))
     c.finish.ensures

@@ -10,7 +10,7 @@ invariant-loop-id l =
       last : l.joiners ≡ 2 ^ l.shape.k;
       fits : (i : ℕ) → slice_index l.tickets_r i < 2 ^ 8;
       count : length l.collector.joiners ≡ 2 ^ l.shape.k;
-      stands : StandsFor l.collector (sent_up_to
+      stands : StandsFor (2 ^ l.shape.k) (sent_up_to
           (record { table_r = l.table_r; table_s = l.table_s; tickets_r = l.tickets_r; tickets_s = l.tickets_s; theta = l.theta })
-          l.shape.k l.shape.shift l.id);
+          l.shape.k l.shape.shift l.id) l.collector;
     }

@@ -7,9 +7,9 @@ use Rattle.pair_collector.proofs.Ending.{collects}
 use Rattle.pair_collector.proofs.collector.Collector.finish.Goals as goal
 
 pub returns : goal.returns
-returns c = λ lists stands.
+returns c = λ joiners lists stands.
     let parts : c.self.inside.parts.items ≡ c.args.self.joiners = ap (λ (state : CollectorState). state.joiners) c.self.view_is in
-    collects c.args.self lists stands _ c.in_ok-pairs.pairs.items
+    collects joiners lists c.args.self stands _ c.in_ok-pairs.pairs.items
     (c.in_ok-pairs.ensures ∙ ap (flat_map (λ (kept : Kept). kept.pairs)) parts)
     c.sorted.ensures.permutation
     c.sorted.ensures.order
