@@ -135,8 +135,9 @@ takes_if s lists taken g Grant can = g.is_asked.1 can
 takes_if s lists taken g Stop can = (g.is_drained.1 can.0, below_nothing s.stopped (stops taken) can.1 g.is_stopped)
 
 -- whether it is spent makes no difference here
-pub is_standing : (s : FeederState) (lists : FeederLists) (taken : List ToFeeder) (spent : Bool) → Goes s lists taken → IsStuck s → StandsFor (record s { spent = spent }) lists
+pub is_standing : (s : FeederState) (lists : FeederLists) (taken : List ToFeeder) (spent : Bool) → Goes s lists taken → IsStuck s → StandsFor s.start lists (record s { spent = spent })
 is_standing s lists taken spent g stuck = record {
+  began = refl;
   taken = taken;
   law = record {
     held = s.held;
@@ -159,9 +160,13 @@ is_standing s lists taken spent g stuck = record {
   held = refl;
 }
 
+-- the start as the machine has it
+pub as_own : (s : FeederState) (start : FeederStart) (lists : FeederLists) → StandsFor start lists s → StandsFor s.start lists s
+as_own s start lists stands = subst (λ (own : FeederStart). StandsFor own lists s) (sym stands.began) stands
+
 -- with one message more behind the held
-pub received : (s : FeederState) (lists : FeederLists) (m : ToFeeder) (spent : Bool) → (stands : StandsFor s lists)
-    → Goes (record s { held = s.held ++ m ∷ []; spent = spent }) (record lists { received = lists.received ++ m ∷ [] }) stands.taken
+pub received : (s : FeederState) (lists : FeederLists) (m : ToFeeder) (spent : Bool) → (stands : StandsFor s.start lists s)
+    → Goes (record s { held = s.held ++ m ∷ []; spent = spent }) (with_message m lists) stands.taken
 received s lists m spent stands =
     let law = stands.law in
     record {
@@ -182,23 +187,26 @@ received s lists m spent stands =
     }
 
 pub takes_message : (old new : FeederState) (m : ToFeeder) (before after : List Post)
-    → Advances (record old { held = old.held ++ m ∷ []; spent = true }) new before after → IsStuck new → TakesMessage old (record new { spent = false }) m before after
+    → Advances (record old { held = old.held ++ m ∷ []; spent = true }) new before after → IsStuck new → TakesMessage m old (record new { spent = false }) before after
 takes_message old new m before after go stuck = record {
   start = go.start;
   added = go.added;
   sends = go.sends;
   asks_nothing = go.asks_nothing;
   over = go.over;
-  stands = λ lists stands.
-      let gone = go.goes (record lists { received = lists.received ++ m ∷ [] }) stands.taken (received old lists m true stands) in
-      is_standing new (with_message lists m go.added) gone.taken false gone.goes stuck;
+  stands = λ start lists stands.
+      let own = as_own old start lists stands in
+      let gone = go.goes (with_message m lists) own.taken (received old lists m true own) in
+      subst (λ (s : FeederStart). StandsFor s (with_sent (with_message m lists) go.added) (record new { spent = false })) (go.start ∙ stands.began)
+      (is_standing new (with_sent (with_message m lists) go.added) gone.taken false gone.goes stuck);
 }
 
 -- ---- beginnings
 
 pub fresh : (s : FeederState) → s.epoch ≡ s.start.epoch → s.shift ≡ s.start.shift → s.to_come ≡ s.start.batches
-    → s.asked ≡ false → s.drained ≡ false → s.stopped ≡ false → s.held ≡ [] → StandsFor s nothing_yet
+    → s.asked ≡ false → s.drained ≡ false → s.stopped ≡ false → s.held ≡ [] → StandsFor s.start nothing_yet s
 fresh s epoch shift to_come asked drained stopped held = record {
+  began = refl;
   taken = [];
   law = record {
     held = [];

@@ -16,7 +16,7 @@ use Rattle.reshuffler_core.specs.Law.{FeederLists, FeederStart, ask_for}
 use Rattle.reshuffler_core.specs.Standing.{FeederState, StandsFor, Begins, IsWaiting, next_request, with_sent}
 use Rattle.reshuffler_core.specs.Machine.{IsStuck, Goes, Advances, state_begun, to_controller}
 use Rattle.reshuffler_core.proofs.Posting.{request-over}
-use Rattle.reshuffler_core.proofs.Assembling.{is_standing, sent_on, joined-controller}
+use Rattle.reshuffler_core.proofs.Assembling.{is_standing, as_own, sent_on, joined-controller}
 
 -- what is left to ask
 left : (batches : List (List Tuple)) (sent rest : List ToController) → sent ++ rest ≡ map ask_for batches ++ Drained ∷ [] → draineds sent ≡ 0
@@ -46,7 +46,7 @@ not_true false never = refl
 pub is_free : (s : FeederState) → (¬ (IsWaiting s)) → (s.asked ≡ false) × (s.drained ≡ false)
 is_free s free = (not_true s.asked (λ up. free (inl up)), not_true s.drained (λ up. free (inr up)))
 
-module _ (s : FeederState) (lists : FeederLists) (stands : StandsFor s lists) (asked : s.asked ≡ false) (drained : s.drained ≡ false) where
+module _ (s : FeederState) (lists : FeederLists) (stands : StandsFor s.start lists s) (asked : s.asked ≡ false) (drained : s.drained ≡ false) where
   equal : asks lists.to_controller ≡ grants stands.taken
   equal = even s.asked (asks lists.to_controller) (grants stands.taken) asked stands.asked stands.law.granted
 
@@ -120,7 +120,9 @@ begins s new before middle after asked drained request go stuck =
       asks_next = joined-controller first go.added ∙ ap (λ ms. next_request s.to_come ∷ ms) go.asks_nothing;
       over = λ p feeders low. All-append (GoesOver s.start.k feeders (Feeder p)) first go.added (request-over s.start.k p feeders low (next_request s.to_come))
           (subst (λ (from : FeederStart). AllGoOver from.k feeders (Feeder p) go.added) start (go.over p feeders low));
-      stands = λ lists stands.
-          let gone = go.goes (with_sent lists first) stands.taken (begun s lists stands asked drained s.to_come refl) in
-          is_standing new (with_sent lists (first ++ go.added)) gone.taken false (sent_on new lists first go.added gone.taken gone.goes) stuck;
+      stands = λ own lists stands.
+          let stood = as_own s own lists stands in
+          let gone = go.goes (with_sent lists first) stood.taken (begun s lists stood asked drained s.to_come refl) in
+          subst (λ (from : FeederStart). StandsFor from (with_sent lists (first ++ go.added)) (record new { spent = false })) (go.start ∙ start ∙ stands.began)
+          (is_standing new (with_sent lists (first ++ go.added)) gone.taken false (sent_on new lists first go.added gone.taken gone.goes) stuck);
     }

@@ -31,13 +31,14 @@ abbrev pub next_request : List (List Tuple) → ToController
 next_request [] = Drained
 next_request (batch ∷ batches) = ask_for batch
 
--- the lists keep the law, and what the machine holds is read off them
-pub record StandsFor (state : FeederState) (lists : FeederLists) : Type 0 where
+-- it began so; the lists keep the law, and what the machine holds is read off them
+pub record StandsFor (start : FeederStart) (lists : FeederLists) (state : FeederState) : Type 0 where
+  pub began : state.start ≡ start
   pub taken : List ToFeeder
-  pub law : FeederLaw state.start lists taken
-  pub epoch : state.epoch ≡ state.start.epoch + length (order_epochs taken)
-  pub shift : state.shift ≡ shift_now state.start.shift taken
-  pub to_come : state.to_come ≡ drop (grants taken) state.start.batches
+  pub law : FeederLaw start lists taken
+  pub epoch : state.epoch ≡ start.epoch + length (order_epochs taken)
+  pub shift : state.shift ≡ shift_now start.shift taken
+  pub to_come : state.to_come ≡ drop (grants taken) start.batches
   pub asked : IsTrue state.asked ↔ (asks lists.to_controller ≡ grants taken + 1)
   pub drained : IsTrue state.drained ↔ (0 < draineds lists.to_controller)
   pub stopped : IsTrue state.stopped ↔ (0 < stops taken)
@@ -47,20 +48,20 @@ pub record StandsFor (state : FeederState) (lists : FeederLists) : Type 0 where
 abbrev pub nothing_yet : FeederLists
 nothing_yet = record { received = []; to_controller = []; to_joiner = λ j. [] }
 
--- the lists with these posts sent
+-- the lists with this message received
+abbrev pub with_message : ToFeeder → FeederLists → FeederLists
+with_message m lists = record lists { received = lists.received ++ m ∷ [] }
+
+-- with these posts sent
 abbrev pub with_sent : FeederLists → List Post → FeederLists
 with_sent lists posts = record lists {
   to_controller = lists.to_controller ++ posted_to_controller posts;
   to_joiner = λ j. lists.to_joiner j ++ posted_to_joiner j posts;
 }
 
--- and with this message received before
-abbrev pub with_message : FeederLists → ToFeeder → List Post → FeederLists
-with_message lists m posts = with_sent (record lists { received = lists.received ++ m ∷ [] }) posts
-
--- a call that took m, and turned the posts `before` into `after`: for whatever lists the machine stood,
+-- a call that took or held m, and turned the posts `before` into `after`: for whatever lists the machine stood,
 -- it stands for them with the message and the new posts at their ends
-pub record TakesMessage (old new : FeederState) (m : ToFeeder) (before after : List Post) : Type 0 where
+pub record TakesMessage (m : ToFeeder) (old new : FeederState) (before after : List Post) : Type 0 where
   pub start : new.start ≡ old.start
   pub added : List Post
   pub sends : after ≡ before ++ added
@@ -68,7 +69,7 @@ pub record TakesMessage (old new : FeederState) (m : ToFeeder) (before after : L
   pub asks_nothing : posted_to_controller added ≡ []
   -- whatever its number below whatever number of feeders, its posts go over its links
   pub over : (p feeders : ℕ) → p < feeders → AllGoOver old.start.k feeders (Feeder p) added
-  pub stands : (lists : FeederLists) → StandsFor old lists → StandsFor new (with_message lists m added)
+  pub stands : (start : FeederStart) (lists : FeederLists) → StandsFor start lists old → StandsFor start (with_sent (with_message m lists) added) new
 
 -- a call that began the next batch, or the end: for whatever lists the machine stood, it stands for
 -- them with the new posts at their ends
@@ -80,4 +81,4 @@ pub record Begins (old new : FeederState) (before after : List Post) : Type 0 wh
   pub asks_next : posted_to_controller added ≡ next_request old.to_come ∷ []
   -- whatever its number below whatever number of feeders, its posts go over its links
   pub over : (p feeders : ℕ) → p < feeders → AllGoOver old.start.k feeders (Feeder p) added
-  pub stands : (lists : FeederLists) → StandsFor old lists → StandsFor new (with_sent lists added)
+  pub stands : (start : FeederStart) (lists : FeederLists) → StandsFor start lists old → StandsFor start (with_sent lists added) new

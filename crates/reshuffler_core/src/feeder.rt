@@ -5,7 +5,7 @@ mod taking;
 ghost use Rattle.std.specs.Prelude.{◌≡◌, ◌+◌, ◌<◌, ◌≤◌, ◌++◌, ◌∷◌, [], ◌↔◌, ◌⊎◌, IsTrue, true, false, OnOk, OnErr, alloc_error};
 ghost use Rattle.epoch_tags.specs.Messages.{grants, stops, asks, draineds};
 ghost use Rattle.reshuffler_core.specs.Batches.{cut};
-ghost use Rattle.reshuffler_core.specs.Law.{FeederLists};
+ghost use Rattle.reshuffler_core.specs.Law.{FeederLists, FeederStart};
 ghost use Rattle.reshuffler_core.specs.Standing.{StandsFor, TakesMessage, Begins, IsWaiting, nothing_yet};
 
 use epoch_tags::{Sends, ToFeeder, Tuples};
@@ -64,7 +64,7 @@ impl Feeder {
         requires some { 0 < batch }
         requires few { batch ≤ 4096 }
         ensures start { result.start ≡ record { k = k; epoch = 0; shift = shift; batches = cut batch load } }
-        ensures fresh { StandsFor result nothing_yet }
+        ensures fresh { StandsFor result.start nothing_yet result }
         ensures to_come { result.to_come ≡ cut batch load }
         ensures at_work { result.spent ≡ false }
     {
@@ -88,7 +88,7 @@ impl Feeder {
         requires some { 0 < batch }
         requires few { batch ≤ 4096 }
         ensures start { result.start ≡ record { k = k; epoch = epoch; shift = shift; batches = cut batch load } }
-        ensures fresh { StandsFor result nothing_yet }
+        ensures fresh { StandsFor result.start nothing_yet result }
         ensures to_come { result.to_come ≡ cut batch load }
         ensures at_work { result.spent ≡ false }
     {
@@ -152,7 +152,7 @@ impl Feeder {
     /// Takes a message, or holds it where its cause hasn't come or it comes behind a held one. After
     /// an error the feeder is spent: each later call answers the error, and changes nothing.
     pub fn on(&mut self, m: ToFeeder, sends: &mut Sends) -> Result<(), AllocError>
-        ensures takes { OnOk result (TakesMessage self.old self.new m sends.old sends.new) }
+        ensures takes { OnOk result (TakesMessage m self.old self.new sends.old sends.new) }
         ensures goes_on { OnOk result ((self.old.spent ≡ false) × (self.new.spent ≡ false)) }
         ensures fails { OnErr result (self.new.spent ≡ true) }
         ensures spent { self.old.spent ≡ true
@@ -171,8 +171,8 @@ impl Feeder {
     /// Whether the last message, `Stop`, was taken. It takes no memory.
     pub fn stopped(&self) -> bool
         ensures value { result ≡ self.now.stopped }
-        ensures stands { (lists : FeederLists) → (stands : StandsFor self.now lists)
-            → IsTrue result ↔ (0 < stops stands.taken) }
+        ensures stands { (start : FeederStart) (lists : FeederLists)
+            → (stands : StandsFor start lists self.now) → IsTrue result ↔ (0 < stops stands.taken) }
     {
         self.stopped
     }
