@@ -66,8 +66,10 @@ begins k feeders fixed line c small fits start early at_k at_feeders at_fixed at
     }
 
 -- it stands for empty lists
-stands_first : (first : TurnLine) (state : ControllerState) → state.journal ≡ first ∷ [] → ((j : ℕ) → held_at state.held j ≡ []) → StandsFor first state (nothing_yet first)
-stands_first first state journal held = record {
+stands_first : (rules : Rules) (first : TurnLine) (state : ControllerState) → state.rules ≡ rules → state.journal ≡ first ∷ [] → ((j : ℕ) → held_at state.held j ≡ [])
+    → StandsFor (record { rules = rules; first = first }) (nothing_yet first) state
+stands_first rules first state began journal held = record {
+  began = began;
   law = record {
     line = first;
     past = [];
@@ -85,8 +87,8 @@ pub fresh : (rules : Rules) (first : TurnLine) (c : Ledger) → Begins rules fir
 fresh rules first c b = record {
   rules_are = b.rules_are;
   journal = b.journal;
-  ready = refl;
-  stands = stands_first first (state_of c false) b.journal b.held;
+  stands = stands_first rules first (state_of c false) b.rules_are b.journal b.held;
+  at_work = refl;
 }
 
 -- the first line of a run fits

@@ -24,7 +24,7 @@ use Rattle.epoch_tags.specs.Messages.{settled_epochs}
 use Rattle.load_controller.specs.Machine.{HoldsSettled, IsSound, IsReady, IsStuck, StandsWithin, Advances, Took, HasPlace, CauseFits, CountsCause, rules_of, state_of, posts_of, held_in_all}
 use Rattle.load_controller.proofs.Keeping.{line_is, rules_kept}
 use Rattle.load_controller.proofs.Posting.{line_over}
-use Rattle.load_controller.proofs.Standings.{same_line, feeder_counted, held_counted, joiner_held, message_passed, within_of, stuck_of, stands_of}
+use Rattle.load_controller.proofs.Standings.{same_line, feeder_counted, held_counted, joiner_held, message_passed, as_own, within_of, stuck_of, stands_of}
 
 -- ---- posts, one after another
 
@@ -337,12 +337,14 @@ takes_message from m old new before after s stuck took = record {
   sends = took.sends;
   posted = took.posted;
   over = took.over;
-  stands = λ first lists stands.
+  stands = λ start lists stands.
+      let first = start.first in
       let lists' = with_sent (with_message from m lists) took.added new.journal in
-      let w = subst (λ r. StandsWithin r first lists' new.journal (held_at new.held)) (sym took.rules) (took.stands first lists (within_of first (state_of old false) lists stands)) in
+      let own = as_own start lists (state_of old false) stands in
+      let w = subst (λ r. StandsWithin r first lists' new.journal (held_at new.held)) (sym took.rules) (took.stands first lists (within_of first lists (state_of old false) own)) in
       let both = sym s.newest ∙ w.newest in
       let here = recast (rules_of new) first lists' new.journal (held_at new.held) w new.line s.past s.newest (first_same new.line w.line s.past w.past both) (rest_same new.line w.line s.past w.past both) in
-      stands_of first (state_of new false) lists' here (stuck_here new s stuck);
+      stands_of first lists' (state_of new false) here (stuck_here new s stuck) start (took.rules ∙ stands.began) refl;
 }
 
 pub feeder_takes : (p : ℕ) (m : ToController) (old mid new : Ledger) (before between after : List Post) → IsSound old → IsSound mid → IsSound new → HasPlace old p m
@@ -367,8 +369,10 @@ passed_takes from m c posts s over = record {
   sends = sym (append-nil posts);
   posted = sym (append-nil (posts_by (rules_of c) (reverse c.journal)));
   over = All-nil (GoesOver c.k c.feeders Controller);
-  stands = λ first lists stands.
-      let w = within_of first (state_of c false) lists stands in
+  stands = λ start lists stands.
+      let first = start.first in
+      let own = as_own start lists (state_of c false) stands in
+      let w = within_of first lists (state_of c false) own in
       let both = sym s.newest ∙ w.newest in
       let same_line = first_same c.line w.line s.past w.past both in
       let same_past = rest_same c.line w.line s.past w.past both in
@@ -376,9 +380,9 @@ passed_takes from m c posts s over = record {
       let passed = message_passed (rules_of c) first lists c.journal (held_at c.held) w from m over' in
       let ends = sym w.newest ∙ passed.newest in
       let here = recast (rules_of c) first (with_message from m lists) c.journal (held_at c.held) passed w.line w.past w.newest (first_same w.line passed.line w.past passed.past ends) (rest_same w.line passed.line w.past passed.past ends) in
-      stands_of first (state_of c false) (with_sent (with_message from m lists) [] c.journal)
+      stands_of first (with_sent (with_message from m lists) [] c.journal) (state_of c false)
       (sent_within (rules_of c) first (with_message from m lists) c.journal (held_at c.held) here)
-      (stuck_of first (state_of c false) lists stands);
+      (stuck_of first lists (state_of c false) own) start stands.began refl;
 }
 
 -- a feeder's message that has no place

@@ -16,7 +16,7 @@ use Rattle.load_controller.specs.declared.line.Cause.TheVariants.{Settle}
 use Rattle.load_controller.specs.declared.line.TurnLine.{TurnLine}
 use Rattle.load_controller.specs.Journal.{Rules, IsAllowed, line_after, counted_r, counted_s, is_count_of, is_drain_of, is_settle_of, has_drained}
 use Rattle.load_controller.specs.Law.{ControllerLists, CountsMessages, CountsOne, SettlesOne, AreCounted, AreSettled, IsInPlace, SettlesInPlace, cause_of, sent_by}
-use Rattle.load_controller.specs.Standing.{ControllerState, StandsFor, grown, with_message, with_sent, held_at, IsPassedOver, posts_for}
+use Rattle.load_controller.specs.Standing.{ControllerStart, ControllerState, StandsFor, grown, with_message, with_sent, held_at, IsPassedOver, posts_for}
 use Rattle.load_controller.specs.Machine.{HoldsSettled, StandsWithin}
 use Rattle.load_controller.proofs.Posting.{posted_for}
 
@@ -294,8 +294,17 @@ message_passed rules first lists journal held w Collector m never = w
 
 -- ---- between calls
 
-abbrev pub within_of : (first : TurnLine) (state : ControllerState) (lists : ControllerLists) → StandsFor first state lists → StandsWithin state.rules first lists state.journal (held_at state.held)
-within_of first state lists stands =
+-- a beginning with the machine's rules
+abbrev pub own_start : TurnLine → ControllerState → ControllerStart
+own_start first state = record { rules = state.rules; first = first }
+
+pub as_own : (start : ControllerStart) (lists : ControllerLists) (state : ControllerState) → StandsFor start lists state → StandsFor (own_start start.first state) lists state
+as_own start lists state stands =
+    subst (λ (rules : Rules). StandsFor (record { rules = rules; first = start.first }) lists state) (sym stands.began) stands
+
+abbrev pub within_of : (first : TurnLine) (lists : ControllerLists) (state : ControllerState) → StandsFor (own_start first state) lists state
+    → StandsWithin state.rules first lists state.journal (held_at state.held)
+within_of first lists state stands =
     let law = stands.law in
     record {
       line = law.line;
@@ -310,25 +319,29 @@ within_of first state lists stands =
       sends = law.sends;
     }
 
-pub stuck_of : (first : TurnLine) (state : ControllerState) (lists : ControllerLists) (stands : StandsFor first state lists) (j : ℕ) → j < 2 ^ state.rules.k
+pub stuck_of : (first : TurnLine) (lists : ControllerLists) (state : ControllerState) (stands : StandsFor (own_start first state) lists state) (j : ℕ) → j < 2 ^ state.rules.k
     → (epoch : ℕ) (rest : List ℕ) → held_at state.held j ≡ epoch ∷ rest → ¬ SettlesInPlace stands.law.line stands.law.past j epoch
-stuck_of first state lists stands j low epoch rest is = (stands.law.settles j low).stuck epoch rest (sym (stands.held j low) ∙ is)
+stuck_of first lists state stands j low epoch rest is = (stands.law.settles j low).stuck epoch rest (sym (stands.held j low) ∙ is)
 
-pub stands_of : (first : TurnLine) (state : ControllerState) (lists : ControllerLists) (w : StandsWithin state.rules first lists state.journal (held_at state.held))
+pub stands_of : (first : TurnLine) (lists : ControllerLists) (state : ControllerState) (w : StandsWithin state.rules first lists state.journal (held_at state.held))
     → ((j : ℕ) → j < 2 ^ state.rules.k → (epoch : ℕ) (rest : List ℕ) → held_at state.held j ≡ epoch ∷ rest → ¬ SettlesInPlace w.line w.past j epoch)
-    → StandsFor first state lists
-stands_of first state lists w stuck = record {
-  law = record {
-    line = w.line;
-    past = w.past;
-    journal = ap reverse (sym w.same) ∙ w.newest;
-    follows = w.follows;
-    counts = w.counts;
-    settles = λ j low.
-        let h = w.settles j low in
-        record { counted = h.counted; held = held_at state.held j; splits = h.splits; are_settled = h.are_settled; stuck = stuck j low };
-    sends = w.sends;
-  };
-  journal = w.same;
-  held = λ j low. refl;
-}
+    → (start : ControllerStart) → state.rules ≡ start.rules → start.first ≡ first → StandsFor start lists state
+stands_of first lists state w stuck start began same =
+    let own : StandsFor (own_start first state) lists state = record {
+      began = refl;
+      law = record {
+        line = w.line;
+        past = w.past;
+        journal = ap reverse (sym w.same) ∙ w.newest;
+        follows = w.follows;
+        counts = w.counts;
+        settles = λ j low.
+            let h = w.settles j low in
+            record { counted = h.counted; held = held_at state.held j; splits = h.splits; are_settled = h.are_settled; stuck = stuck j low };
+        sends = w.sends;
+      };
+      journal = w.same;
+      held = λ j low. refl;
+    } in
+    subst (λ (l : TurnLine). StandsFor (record { rules = start.rules; first = l }) lists state) (sym same)
+    (subst (λ (rules : Rules). StandsFor (record { rules = rules; first = first }) lists state) began own)

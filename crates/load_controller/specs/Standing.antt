@@ -29,11 +29,17 @@ pub record ControllerState : Type 0 where
 abbrev pub held_at : List (List ℕ) → ℕ → List ℕ
 held_at queues j = slice_index_or queues j []
 
--- the lists keep the law from this first line, and what the machine holds is read off them
-pub record StandsFor (first : TurnLine) (state : ControllerState) (lists : ControllerLists) : Type 0 where
-  pub law : ControllerLaw state.rules first lists
+-- how a controller begins: its rules, and the first line of its journal
+pub record ControllerStart : Type 0 where
+  pub rules : Rules
+  pub first : TurnLine
+
+-- it began so; the lists keep the law, and what the machine holds is read off them
+pub record StandsFor (start : ControllerStart) (lists : ControllerLists) (state : ControllerState) : Type 0 where
+  pub began : state.rules ≡ start.rules
+  pub law : ControllerLaw start.rules start.first lists
   pub journal : state.journal ≡ lists.journal
-  pub held : (j : ℕ) (low : j < 2 ^ state.rules.k) → held_at state.held j ≡ (law.settles j low).held
+  pub held : (j : ℕ) (low : j < 2 ^ start.rules.k) → held_at state.held j ≡ (law.settles j low).held
 
 -- ---- the lists before and after a call
 
@@ -109,7 +115,7 @@ pub record TakesMessage (from : Actor) (m : ToController) (old new : ControllerS
   pub posted : posts_by old.rules (reverse new.journal) ≡ posts_by old.rules (reverse old.journal) ++ added
   -- each over a link to one of the feeders
   pub over : AllGoOver old.rules.k old.rules.feeders Controller added
-  pub stands : (first : TurnLine) (lists : ControllerLists) → StandsFor first old lists → StandsFor first new (with_sent (with_message from m lists) added new.journal)
+  pub stands : (start : ControllerStart) (lists : ControllerLists) → StandsFor start lists old → StandsFor start (with_sent (with_message from m lists) added new.journal) new
 
 -- a call that passed the message over
 pub record PassesOver (old new : ControllerState) (before after : List Post) : Type 0 where
@@ -124,8 +130,8 @@ IsNearWhereStill rules line = rules.fixed ≡ None → line.moving ≡ false →
 pub record IsFresh (rules : Rules) (first : TurnLine) (state : ControllerState) : Type 0 where
   pub rules_are : state.rules ≡ rules
   pub journal : state.journal ≡ first ∷ []
-  pub ready : state.spent ≡ false
-  pub stands : StandsFor first state (nothing_yet first)
+  pub stands : StandsFor (record { rules = rules; first = first }) (nothing_yet first) state
+  pub at_work : state.spent ≡ false
 
 -- the rules of a grid of 2 ^ k joiners, with a shift that is fixed or none
 abbrev pub rules_with : ℕ → ℕ → Option ℕ → Rules

@@ -1,6 +1,6 @@
 // The controller's machine.
 
-ghost use Rattle.std.specs.Prelude.{◌≡◌, ◌<◌, ◌≤◌, ◌^◌, ◌∷◌, List, All, reverse, length, not, true, false, is_err, IfOk, OnOk, OnErr};
+ghost use Rattle.std.specs.Prelude.{◌≡◌, ◌<◌, ◌≤◌, ◌^◌, ◌∷◌, List, All, reverse, length, not, true, false, Err, alloc_error, IfOk, OnOk, OnErr};
 ghost use Rattle.load_controller.specs.declared.line.TurnLine.{TurnLine};
 ghost use Rattle.load_controller.specs.declared.line.Cause.TheVariants.{Start};
 ghost use Rattle.std.specs.Option.{ForSome};
@@ -83,18 +83,19 @@ impl Controller {
     }
 
     /// Takes a message of this sender: counts it, holds it or passes it over, and appends what is
-    /// sent. After an error the controller is spent, and each later call is an error.
+    /// sent. A message that isn't in place, or of another sender or kind, is passed over: it adds no
+    /// line, and nothing is sent for it. After an error the controller is spent: each later call
+    /// answers the error, and changes nothing.
     pub fn on(&mut self, from: Actor, m: ToController, sends: &mut Sends) -> Result<(), AllocError>
         ensures takes { OnOk result (TakesMessage from m self.old self.new sends.old sends.new) }
-        // a message that isn't in place, or of another sender or kind, adds no line and sends nothing
         ensures passes { OnOk result ((line : TurnLine) (past : List TurnLine)
             → reverse self.old.journal ≡ line ∷ past
             → IsPassedOver self.old.rules line past from m
             → PassesOver self.old self.new sends.old sends.new) }
-        ensures ready { OnOk result ((self.old.spent ≡ false) × (self.new.spent ≡ false)) }
+        ensures goes_on { OnOk result ((self.old.spent ≡ false) × (self.new.spent ≡ false)) }
         ensures fails { OnErr result (self.new.spent ≡ true) }
         ensures spent { self.old.spent ≡ true
-            → (is_err result ≡ true) × (self.new ≡ self.old) × (sends.new ≡ sends.old) }
+            → (result ≡ Err alloc_error) × (self.new ≡ self.old) × (sends.new ≡ sends.old) }
     {
         if self.spent {
             return Err(AllocError);
