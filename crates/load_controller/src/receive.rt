@@ -1,6 +1,6 @@
 // What becomes of a message: it is counted, held or passed over.
 
-ghost use Rattle.std.specs.Prelude.{◌≡◌, ◌+◌, ◌^◌, ◌<◌, ◌≤◌, ◌∷◌, List, reverse, true, false, OnOk};
+ghost use Rattle.std.specs.Prelude.{◌≡◌, ◌+◌, ◌^◌, ◌<◌, ◌≤◌, ◌∷◌, ◌↔◌, IsTrue, List, reverse, true, false, OnOk};
 ghost use Rattle.epoch_tags.specs.declared.actor.Actor.TheVariants.{Feeder, Joiner};
 ghost use Rattle.load_controller.specs.Law as law;
 ghost use Rattle.load_controller.specs.Standing.{IsPassedOver, TakesMessage, PassesOver};
@@ -31,8 +31,7 @@ impl Ledger {
     // Whether the feeder's message is in place.
     fn has_place(&self, feeder: u32, m: ToController) -> bool
         requires { IsSound self.now }
-        ensures up { result ≡ true → HasPlace self.now feeder m }
-        ensures down { result ≡ false → ¬ HasPlace self.now feeder m }
+        ensures { IsTrue result ↔ HasPlace self.now feeder m }
     {
         if feeder >= self.feeders || self.drained[feeder as usize] {
             return false;

@@ -1,6 +1,6 @@
 // Held messages, which are tried again after each line.
 
-ghost use Rattle.std.specs.Prelude.{◌≡◌, ◌<◌, ◌≤◌, ◌^◌, ℕ, true, false, MatchOption, IfOk, OnOk};
+ghost use Rattle.std.specs.Prelude.{◌≡◌, ◌<◌, ◌≤◌, ◌^◌, ◌↔◌, ℕ, IsTrue, true, false, MatchOption, IfOk, OnOk};
 ghost use Rattle.load_controller.specs.Machine.{IsSound, IsReady, IsStuck, Advances, held_in_all};
 
 use crate::ledger::Ledger;
@@ -20,8 +20,7 @@ impl Ledger {
     // Whether the first message held of a joiner is in place.
     fn is_ready(&self, joiner: u32) -> bool
         requires { IsSound self.now }
-        ensures up { result ≡ true → IsReady self.now joiner }
-        ensures down { result ≡ false → ¬ IsReady self.now joiner }
+        ensures { IsTrue result ↔ IsReady self.now joiner }
     {
         let at = joiner as usize;
         if !self.line.moving || at >= self.settled.len() || self.settled[at] {
