@@ -1,11 +1,10 @@
 -- The parts of a call, one after another.
 use Rattle.std.proofs.Common.{◌≡◌, ℕ, ◌^◌, ◌<◌, refl, sym, ◌∙◌, ap, subst, arith, Bool, false, not, ◌&&◌, List, [], ◌∷◌, ◌++◌, append_assoc, length, drop, reverse, get_or-set_same, get_or-set_other}
-use Rattle.std.specs.Prelude.{slice_set, sum_by}
+use Rattle.std.specs.Prelude.{slice_set}
 use Rattle.std.proofs.Math.ListN.{length-set}
-use Rattle.std.proofs.lemmas.Bool.{not-true}
+use Rattle.std.proofs.lemmas.Bool.{not-true, lt-ltb}
 use Rattle.std.proofs.lemmas.List.{append-nil, reverse-append}
 use Rattle.std.proofs.lemmas.List.Elements.{filter_map-append, All-append, All-nil}
-use Rattle.std.proofs.lemmas.List.Sums.{sum_by-set}
 use Rattle.join_rows.specs.Lists.{IsPrefix}
 use Rattle.epoch_tags.specs.declared.actor.Actor.{Actor}
 use Rattle.epoch_tags.specs.declared.actor.Actor.TheVariants.{Feeder, Joiner, Controller}
@@ -19,11 +18,12 @@ use Rattle.load_controller.specs.declared.line.TurnLine.{TurnLine}
 use Rattle.load_controller.specs.declared.ledger.Ledger.{Ledger}
 use Rattle.load_controller.specs.Journal.{Rules, Follows, line_after, has_drained, has_settled}
 use Rattle.load_controller.specs.Law.{ControllerLists, CountsMessages, IsInPlace, SettlesInPlace, cause_of, is_over, sent_by}
-use Rattle.load_controller.specs.Standing.{ControllerState, TakesMessage, PassesOver, IsPassedOver, with_message, with_sent, held_at, posts_for, posts_by}
+use Rattle.load_controller.specs.Standing.{ControllerState, TakesMessage, PassesOver, IsPassedOver, with_message, with_sent, held_at, posts_for, posts_by, with_all_held}
 use Rattle.epoch_tags.specs.Messages.{settled_epochs}
 use Rattle.load_controller.specs.Machine.{HoldsSettled, IsSound, IsReady, IsStuck, StandsWithin, Advances, Took, HasPlace, CauseFits, CountsCause, rules_of, state_of, posts_of, held_in_all}
 use Rattle.load_controller.proofs.Keeping.{line_is, rules_kept}
 use Rattle.load_controller.proofs.Posting.{line_over}
+use Rattle.load_controller.proofs.Trying.{placed_counts, line_state, same_left, one_fewer, stays_stuck, passed_stays}
 use Rattle.load_controller.proofs.Standings.{same_line, feeder_counted, held_counted, joiner_held, message_passed, as_own, within_of, stuck_of, stands_of}
 
 -- ---- posts, one after another
@@ -69,6 +69,7 @@ sent_within r first lists journal held w = record {
 
 pub advances_none : (c : Ledger) (posts : List Post) → Advances c c posts posts
 advances_none c posts = record {
+  state = refl;
   rules = refl;
   grows = prefix_self c.journal;
   added = [];
@@ -100,6 +101,7 @@ stands_both r r' first lists a b j j' h h' same w moves =
 
 pub advances_then : (a b c : Ledger) (pa pb pc : List Post) → Advances a b pa pb → Advances b c pb pc → Advances a c pa pc
 advances_then a b c pa pb pc one two = record {
+  state = one.state ∙ two.state;
   rules = two.rules ∙ one.rules;
   grows = prefix_then a.journal b.journal c.journal one.grows two.grows;
   added = one.added ++ two.added;
@@ -113,6 +115,7 @@ advances_then a b c pa pb pc one two = record {
 
 took_then : (from : Actor) (m : ToController) (a b c : Ledger) (pa pb pc : List Post) → Took from m a b pa pb → Advances b c pb pc → Took from m a c pa pc
 took_then from m a b c pa pb pc one two = record {
+  state = one.state ∙ two.state;
   rules = two.rules ∙ one.rules;
   grows = prefix_then a.journal b.journal c.journal one.grows two.grows;
   added = one.added ++ two.added;
@@ -211,6 +214,7 @@ feeder_took p m old new before after s t place c =
     let adds = adds_line (cause_of p m) old new before after s t c in
     let placed = has_place old s p m place in
     record {
+      state = rw (placed_counts old s p m place) (ap with_all_held (sym (line_state (cause_of p m) old new s adds.rules adds.held adds.line adds.journal)));
       rules = adds.rules;
       grows = record { rest = new.line ∷ []; joins = sym adds.journal };
       added = posts_for (rules_of old) new.line old.line s.past;
@@ -254,15 +258,16 @@ without_first c j = slice_set c.held j (drop 1 (held_at c.held j))
 pub ready_fits : (c : Ledger) (held : List (List ℕ)) (j : ℕ) → IsReady c j → CauseFits (record c { held = held }) (Settle j)
 ready_fits c held j ready = (ready.low, ready.moves, ready.new)
 
-held_took : (old new : Ledger) (j : ℕ) (before after : List Post) (s : IsSound old) → IsSound new → IsReady old j
+held_took : (old new : Ledger) (j : ℕ) (before after : List Post) (s : IsSound old) → IsSound new → IsReady old j → ((i : ℕ) → i < j → ¬ IsReady old i)
     → CountsCause (Settle j) (record old { held = without_first old j }) new before after → Advances old new before after
-held_took old new j before after s t ready c =
+held_took old new j before after s t ready lowest c =
     let queues = without_first old j in
     let mid = record old { held = queues } in
     let many : length queues ≡ length old.held = length-set old.held j (drop 1 (held_at old.held j)) in
     let adds = adds_line (Settle j) mid new before after (sound_held old queues s many) t c in
     let within : j < length old.held = let n = s.queues in let low = ready.low in omega arith in
     record {
+      state = same_left old new j s ready lowest adds.held (line_state (Settle j) mid new (sound_held old queues s many) adds.rules adds.held adds.line adds.journal);
       rules = adds.rules;
       grows = record { rest = new.line ∷ []; joins = sym adds.journal };
       added = posts_for (rules_of old) new.line old.line s.past;
@@ -282,18 +287,15 @@ held_took old new j before after s t ready c =
     }
 
 -- the machine after the pop, as the code has it
-pub advances_held : (old mid new : Ledger) (j : ℕ) (before after : List Post) → IsSound old → IsSound new → IsReady old j
+pub advances_held : (old mid new : Ledger) (j : ℕ) (before after : List Post) → IsSound old → IsSound new → IsReady old j → ((i : ℕ) → i < j → ¬ IsReady old i)
     → mid ≡ record old { held = without_first old j } → CountsCause (Settle j) mid new before after → Advances old new before after
-advances_held old mid new j before after s t ready is c = held_took old new j before after s t ready (subst (λ x. CountsCause (Settle j) x new before after) is c)
+advances_held old mid new j before after s t ready lowest is c = held_took old new j before after s t ready lowest (subst (λ x. CountsCause (Settle j) x new before after) is c)
 
 pub fewer_held : (old mid new : Ledger) (j : ℕ) (before after : List Post) → IsSound old → IsReady old j
     → mid ≡ record old { held = without_first old j } → CountsCause (Settle j) mid new before after → held_in_all new < held_in_all old
 fewer_held old mid new j before after s ready is c =
-    let within : j < length old.held = let n = s.queues in let low = ready.low in omega arith in
     let own : new.held ≡ without_first old j = c.notes.held ∙ ap (λ x. x.held) is in
-    let sums = sum_by-set length old.held j (drop 1 (held_at old.held j)) [] within in
-    let one : length (held_at old.held j) ≡ length (old.line.epoch ∷ drop 1 (held_at old.held j)) = ap length ready.first in
-    let all : sum_by length new.held ≡ sum_by length (without_first old j) = ap (λ hs. sum_by length hs) own in
+    let one = one_fewer old new j s ready own in
     omega arith
 
 -- ---- a joiner's message
@@ -305,6 +307,7 @@ joiner_took j epoch old new posts s low is = subst (λ x. Took (Joiner j) (Settl
     let queues = slice_set old.held j more in
     let within : j < length old.held = let n = s.queues in omega arith in
     record {
+      state = rw (lt-ltb j (2 ^ old.k) low) refl;
       rules = refl;
       grows = prefix_self old.journal;
       added = [];
@@ -331,6 +334,7 @@ stuck_here c s stuck j low epoch rest is place = stuck j (record {
 pub takes_message : (from : Actor) (m : ToController) (old new : Ledger) (before after : List Post) → IsSound new → IsStuck new → Took from m old new before after
     → TakesMessage from m (state_of old false) (state_of new false) before after
 takes_message from m old new before after s stuck took = record {
+  state = sym (stays_stuck new s stuck) ∙ sym took.state;
   rules = took.rules;
   grows = took.grows;
   added = took.added;
@@ -363,6 +367,7 @@ joiner_takes j epoch old mid new before after s u low is advances stuck =
 pub passed_takes : (from : Actor) (m : ToController) (c : Ledger) (posts : List Post) (s : IsSound c) → IsPassedOver (rules_of c) c.line s.past from m
     → TakesMessage from m (state_of c false) (state_of c false) posts posts
 passed_takes from m c posts s over = record {
+  state = passed_stays c s from m over;
   rules = refl;
   grows = prefix_self c.journal;
   added = [];

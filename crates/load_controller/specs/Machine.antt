@@ -19,7 +19,7 @@ use Rattle.load_controller.specs.Journal.{Rules, Follows, has_doubled, has_drain
 use Rattle.load_controller.specs.Law.{ControllerLists, CountsMessages, AreSettled, is_over, sent_by}
 use Rattle.load_controller.specs.Next.{line_by}
 use Rattle.load_controller.specs.Flags.{flag_at}
-use Rattle.load_controller.specs.Standing.{ControllerState, IsNearWhereStill, held_at, with_message, with_sent, to_each, grant_for, posts_by}
+use Rattle.load_controller.specs.Standing.{ControllerState, IsNearWhereStill, held_at, with_message, with_sent, to_each, grant_for, posts_by, with_all_held, state_after}
 
 abbrev pub rules_of : Ledger → Rules
 rules_of c = record { k = c.k; feeders = c.feeders; fixed = c.fixed }
@@ -151,8 +151,10 @@ pub record StandsWithin (rules : Rules) (first : TurnLine) (lists : ControllerLi
   pub settles : (j : ℕ) → j < 2 ^ rules.k → HoldsSettled j line past (held j) (settled_epochs (lists.from_joiner j))
   pub sends : (p : ℕ) → p < rules.feeders → lists.to_feeder p ≡ sent_by rules p (line ∷ past)
 
--- a part of a call: for whatever lists the machine stood, it stands for them with the new posts
+-- a part of a call: for whatever lists the machine stood, it stands for them with the new posts, and what the held
+-- messages lead to is the same
 pub record Advances (old new : Ledger) (before after : List Post) : Type 0 where
+  pub state : with_all_held (state_of old false) ≡ with_all_held (state_of new false)
   pub rules : rules_of new ≡ rules_of old
   pub grows : IsPrefix old.journal new.journal
   pub added : List Post
@@ -170,6 +172,7 @@ HasPlace c p (Settled epoch) = ⊥
 
 -- a part of a call that was handed a message
 pub record Took (from : Actor) (m : ToController) (old new : Ledger) (before after : List Post) : Type 0 where
+  pub state : state_after from m (state_of old false) ≡ with_all_held (state_of new false)
   pub rules : rules_of new ≡ rules_of old
   pub grows : IsPrefix old.journal new.journal
   pub added : List Post

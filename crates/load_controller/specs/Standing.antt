@@ -1,5 +1,6 @@
 -- What a controller's machine holds, and the lists for which it stands. Of those it stores its journal alone.
-use Rattle.std.specs.Prelude.{◌≡◌, ℕ, ◌^◌, ◌<◌, ◌==◌, ⊤, Bool, false, not, ◌&&◌, None, Option, List, [], ◌∷◌, ◌++◌, map, reverse, slice_index_or, if◌then◌else◌}
+use Rattle.std.specs.Prelude.{◌≡◌, ℕ, zero, suc, ◌+◌, ◌^◌, ◌<◌, ◌==◌, nat_lt, nat_le, ⊤, Bool, false, not, ◌&&◌, None, Some, Option, List, [], ◌∷◌, ◌++◌, drop, length, map, reverse, sum_by, slice_index_or, slice_set, if◌then◌else◌}
+use Rattle.std.specs.List.{find}
 use Rattle.join_rows.specs.Lists.{IsPrefix, counting_from}
 use Rattle.grid_map.specs.Load.{IsNear}
 use Rattle.epoch_tags.specs.declared.actor.Actor.{Actor}
@@ -14,8 +15,8 @@ use Rattle.epoch_tags.specs.Posts.{AllGoOver, posted_to_feeder}
 use Rattle.load_controller.specs.declared.line.Cause.{Cause}
 use Rattle.load_controller.specs.declared.line.Cause.TheVariants.{Start, Count, Settle, Drain}
 use Rattle.load_controller.specs.declared.line.TurnLine.{TurnLine}
-use Rattle.load_controller.specs.Journal.{Rules}
-use Rattle.load_controller.specs.Law.{ControllerLists, ControllerLaw, IsInPlace, is_over}
+use Rattle.load_controller.specs.Journal.{Rules, line_after, has_drained, has_settled}
+use Rattle.load_controller.specs.Law.{ControllerLists, ControllerLaw, IsInPlace, cause_of, is_over}
 
 pub record ControllerState : Type 0 where
   pub rules : Rules
@@ -91,6 +92,65 @@ posts_by rules [] = []
 posts_by rules (line ∷ []) = []
 posts_by rules (line ∷ before ∷ past) = posts_by rules (before ∷ past) ++ posts_for rules line before past
 
+-- ---- what a call leaves, by what the machine held and the message
+
+-- the journal with the line of this cause, and with it the machine
+abbrev pub journal_with : Rules → Cause → List TurnLine → List TurnLine → List TurnLine
+journal_with rules cause journal [] = journal
+journal_with rules cause journal (before ∷ past) = journal ++ line_after rules before past cause ∷ []
+
+abbrev pub with_line : Cause → ControllerState → ControllerState
+with_line cause state = record state { journal = journal_with state.rules cause state.journal (reverse state.journal) }
+
+-- the first of joiner j's held epochs is in place
+abbrev pub is_ready : TurnLine → List TurnLine → ℕ → List ℕ → Bool
+is_ready before past j [] = false
+is_ready before past j (epoch ∷ rest) = before.moving && ((epoch == before.epoch) && not (has_settled j (before ∷ past)))
+
+-- the lowest joiner of whom that is so
+abbrev pub lowest_ready : Rules → List TurnLine → List (List ℕ) → Option ℕ
+lowest_ready rules [] held = None
+lowest_ready rules (before ∷ past) held = find (λ j. is_ready before past j (held_at held j)) (counting_from 0 (2 ^ rules.k))
+
+-- the first of joiner j's held epochs is counted
+abbrev pub with_settled : ℕ → ControllerState → ControllerState
+with_settled j state = with_line (Settle j) (record state { held = slice_set state.held j (drop 1 (held_at state.held j)) })
+
+abbrev pub with_next : (ControllerState → ControllerState) → ControllerState → Option ℕ → ControllerState
+with_next later state None = state
+with_next later state (Some j) = later (with_settled j state)
+
+-- so many held epochs at most are counted, as long as one is in place: the lowest joiner's first, and after each line
+-- from the lowest again
+abbrev pub with_held : ℕ → ControllerState → ControllerState
+with_held zero state = state
+with_held (suc n) state = with_next (with_held n) state (lowest_ready state.rules (reverse state.journal) state.held)
+
+-- all that can be
+abbrev pub with_all_held : ControllerState → ControllerState
+with_all_held state = with_held (sum_by length state.held) state
+
+-- the feeder's message is in place
+abbrev pub is_in_place : TurnLine → List TurnLine → ℕ → ToController → Bool
+is_in_place before past p (Ask dr ds) = not (has_drained p (before ∷ past)) && (nat_le (before.rows_r + dr) (2 ^ 32) && nat_le (before.rows_s + ds) (2 ^ 32))
+is_in_place before past p Drained = not (has_drained p (before ∷ past))
+is_in_place before past p (Settled epoch) = false
+
+abbrev pub counts_feeder : Rules → List TurnLine → ℕ → ToController → Bool
+counts_feeder rules [] p m = false
+counts_feeder rules (before ∷ past) p m = nat_lt p rules.feeders && is_in_place before past p m
+
+-- after a message: a feeder's is counted where it is in place, a joiner's word is held, and then the held ones are tried
+abbrev pub state_after : Actor → ToController → ControllerState → ControllerState
+state_after (Feeder p) m state =
+    if counts_feeder state.rules (reverse state.journal) p m then with_all_held (with_line (cause_of p m) state) else state
+state_after (Joiner j) (Ask dr ds) state = state
+state_after (Joiner j) Drained state = state
+state_after (Joiner j) (Settled epoch) state =
+    if nat_lt j (2 ^ state.rules.k) then with_all_held (record state { held = slice_set state.held j (held_at state.held j ++ epoch ∷ []) }) else state
+state_after Controller m state = state
+state_after Collector m state = state
+
 -- ---- a call
 
 -- after a past that begins with the line `before`, the message adds no line and isn't held:
@@ -106,6 +166,8 @@ IsPassedOver rules before past Collector m = ⊤
 -- a call that was handed m of this sender, and turned the posts `before` into `after`: for whatever lists the machine stood,
 -- it stands for them with the message and the new posts at their ends
 pub record TakesMessage (from : Actor) (m : ToController) (old new : ControllerState) (before after : List Post) : Type 0 where
+  -- which new lines there are, and what is held
+  pub state : new ≡ state_after from m old
   pub rules : new.rules ≡ old.rules
   -- the journal grows
   pub grows : IsPrefix old.journal new.journal

@@ -50,6 +50,7 @@ impl Ledger {
     fn count_first_held(&mut self, joiner: u32, sends: &mut Sends) -> Result<(), AllocError>
         requires sound { IsSound self.old }
         requires ready { IsReady self.old joiner }
+        requires lowest { (i : ℕ) → i < joiner → ¬ IsReady self.old i }
         ensures sound { IsSound self.new }
         ensures took { OnOk result (Advances self.old self.new sends.old sends.new) }
         ensures fewer { OnOk result (held_in_all self.new < held_in_all self.old) }

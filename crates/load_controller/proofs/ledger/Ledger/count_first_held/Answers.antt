@@ -6,4 +6,4 @@ pub returns-clause-took : goal.returns-clause-took
 returns-clause-took c =
     let old = c.args.self.now in
     advances_held old (record old { held = c.drop_first.new.self }) c.count.new.self c.args.joiner c.args.sends.now c.count.new.sends
-    c.requires.sound c.in_ok-count.ensures.sound c.requires.ready (ap (λ h. record old { held = h }) c.drop_first.ensures) c.in_ok-count.ensures.took
+    c.requires.sound c.in_ok-count.ensures.sound c.requires.ready c.requires.lowest (ap (λ h. record old { held = h }) c.drop_first.ensures) c.in_ok-count.ensures.took
