@@ -11,10 +11,11 @@ use Rattle.epoch_tags.specs.declared.message.ToFeeder.TheVariants.{Order, Grant,
 use Rattle.epoch_tags.specs.Messages.{stops}
 use Rattle.epoch_tags.specs.Posts.{GoesOver, AllGoOver, posted_to_joiner, posted_to_controller, for_joiner, for_controller}
 use Rattle.reshuffler_core.specs.Law.{FeederLists, FeederStart, CanTake, requests}
-use Rattle.reshuffler_core.specs.Standing.{FeederState, StandsFor, TakesMessage, nothing_yet, with_sent, with_message}
-use Rattle.reshuffler_core.specs.Machine.{Takes, IsStuck, IsReady, Goes, Advances, GoesOverLinks, state_after, posts_for, first_batch}
+use Rattle.reshuffler_core.specs.Standing.{FeederState, StandsFor, TakesMessage, nothing_yet, with_sent, with_message, after_held, posts_of_held, state_after, posts_for, first_batch}
+use Rattle.reshuffler_core.specs.Machine.{Takes, IsStuck, IsReady, Goes, Advances, GoesOverLinks}
 use Rattle.reshuffler_core.proofs.Posting.{all-over, batch-over}
 use Rattle.reshuffler_core.proofs.Taking.{took, nothing_asked}
+use Rattle.reshuffler_core.proofs.Trying.{one_state, one_posts, whole_state, whole_posts}
 
 -- ---- lists that are the same, one by one
 
@@ -58,6 +59,8 @@ stays s posts = record {
   sends = sym (append-nil posts);
   asks_nothing = refl;
   over = λ p feeders low. All-nil (GoesOver s.start.k feeders (Feeder p));
+  state = refl;
+  posts = refl;
   goes = λ lists taken g. record {
     taken = taken;
     goes = same_lists s lists (with_sent lists []) taken g refl (append-nil lists.to_controller) (λ j. append-nil (lists.to_joiner j));
@@ -72,6 +75,8 @@ further a b c xs ys zs p q = record {
   asks_nothing = joined-controller p.added q.added ∙ ap (λ ms. ms ++ posted_to_controller q.added) p.asks_nothing ∙ q.asks_nothing;
   over = λ id feeders low. All-append (GoesOver a.start.k feeders (Feeder id)) p.added q.added (p.over id feeders low)
       (subst (λ (start : FeederStart). AllGoOver start.k feeders (Feeder id) q.added) p.start (q.over id feeders low));
+  state = p.state ∙ q.state;
+  posts = p.posts ∙ ap (λ posts. p.added ++ posts) q.posts ∙ sym (append_assoc p.added q.added (posts_of_held c c.held));
   goes = λ lists taken g.
       let first = p.goes lists taken g in
       let second = q.goes (with_sent lists p.added) first.taken first.goes in
@@ -102,12 +107,15 @@ pub one_taken : (s : FeederState) (m : ToFeeder) (before : List Post) → IsRead
     → Advances s (state_after (record s { held = drop 1 s.held }) m) before (before ++ posts_for (record s { held = drop 1 s.held }) m)
 one_taken s m before ready =
     let rest : drop 1 s.held ≡ ready.rest = ap (drop 1) ready.first in
+    let next = state_after (record s { held = drop 1 s.held }) m in
     record {
       start = same_start s (drop 1 s.held) m;
       added = posts_for s m;
       sends = ap (λ posts. before ++ posts) (same_posts s (drop 1 s.held) m);
       asks_nothing = nothing_asked s m;
       over = go_over s m;
+      state = one_state s m ready ∙ ap (after_held next) (sym (same_held (record s { held = drop 1 s.held }) m));
+      posts = one_posts s m ready ∙ ap (λ held. posts_for s m ++ posts_of_held next held) (sym (same_held (record s { held = drop 1 s.held }) m));
       goes = λ lists taken g. record {
         taken = taken ++ m ∷ [];
         goes = took s (drop 1 s.held) lists taken g m (ready.first ∙ ap (λ ms. m ∷ ms) (sym rest)) ready.takes;
@@ -192,6 +200,8 @@ takes_message old new m before after go stuck = record {
   start = go.start;
   added = go.added;
   sends = go.sends;
+  state = whole_state old new (old.held ++ m ∷ []) go.added stuck go.state;
+  posts = whole_posts old new (old.held ++ m ∷ []) go.added stuck go.posts;
   asks_nothing = go.asks_nothing;
   over = go.over;
   stands = λ start lists stands.

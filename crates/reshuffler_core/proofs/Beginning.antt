@@ -13,9 +13,10 @@ use Rattle.epoch_tags.specs.Messages.{grants, asks, draineds}
 use Rattle.epoch_tags.specs.Posts.{GoesOver, AllGoOver}
 use Rattle.epoch_tags.proofs.Appends.{asks-append, draineds-append}
 use Rattle.reshuffler_core.specs.Law.{FeederLists, FeederStart, ask_for}
-use Rattle.reshuffler_core.specs.Standing.{FeederState, StandsFor, Begins, IsWaiting, next_request, with_sent}
-use Rattle.reshuffler_core.specs.Machine.{IsStuck, Goes, Advances, state_begun, to_controller}
+use Rattle.reshuffler_core.specs.Standing.{FeederState, StandsFor, Begins, IsWaiting, next_request, with_sent, after_held, posts_of_held, state_begun, to_controller}
+use Rattle.reshuffler_core.specs.Machine.{IsStuck, Goes, Advances}
 use Rattle.reshuffler_core.proofs.Posting.{request-over}
+use Rattle.reshuffler_core.proofs.Trying.{whole_state, whole_posts}
 use Rattle.reshuffler_core.proofs.Assembling.{is_standing, as_own, sent_on, joined-controller}
 
 -- what is left to ask
@@ -107,16 +108,23 @@ same_start : (s : FeederState) (bs : List (List Tuple)) → (state_begun s bs).s
 same_start s [] = refl
 same_start s (batch ∷ batches) = refl
 
+as_started : (s : FeederState) (bs : List (List Tuple)) → state_begun (record s { spent = true }) bs ≡ record (state_begun s bs) { held = s.held; spent = true }
+as_started s [] = refl
+as_started s (batch ∷ batches) = refl
+
 pub begins : (s new : FeederState) (before middle after : List Post) → s.asked ≡ false → s.drained ≡ false
     → middle ≡ before ++ to_controller (next_request s.to_come) ∷ []
     → Advances (state_begun (record s { spent = true }) s.to_come) new middle after → IsStuck new → Begins s (record new { spent = false }) before after
 begins s new before middle after asked drained request go stuck =
     let first = to_controller (next_request s.to_come) ∷ [] in
     let start = same_start (record s { spent = true }) s.to_come in
+    let started = state_begun s s.to_come in
     record {
       start = go.start ∙ start;
       added = first ++ go.added;
       sends = go.sends ∙ ap (λ posts. posts ++ go.added) request ∙ append_assoc before first go.added;
+      state = whole_state started new s.held go.added stuck (ap (λ x. after_held x x.held) (sym (as_started s s.to_come)) ∙ go.state);
+      posts = ap (λ posts. to_controller (next_request s.to_come) ∷ posts) (whole_posts started new s.held go.added stuck (ap (λ x. posts_of_held x x.held) (sym (as_started s s.to_come)) ∙ go.posts));
       asks_next = joined-controller first go.added ∙ ap (λ ms. next_request s.to_come ∷ ms) go.asks_nothing;
       over = λ p feeders low. All-append (GoesOver s.start.k feeders (Feeder p)) first go.added (request-over s.start.k p feeders low (next_request s.to_come))
           (subst (λ (from : FeederStart). AllGoOver from.k feeders (Feeder p) go.added) start (go.over p feeders low));

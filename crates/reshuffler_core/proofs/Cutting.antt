@@ -6,7 +6,7 @@ use Rattle.std.proofs.lemmas.Bool.{cases_lt}
 use Rattle.std.proofs.lemmas.List.{drop-drop, length-drop, length-take, take_all, drop_all}
 use Rattle.std.proofs.Math.Nat.{div-eq_of_lt, add-div_right}
 use Rattle.reshuffler_core.specs.Batches.{cut}
-use Rattle.reshuffler_core.specs.Machine.{first_batch}
+use Rattle.reshuffler_core.specs.Standing.{first_batch}
 
 pieces_later : {X : Type 0} (size : ℕ) (xs : List X) (a m : ℕ)
     → map (λ i. take size (drop (i * size) xs)) (range_with_len (a + 1) m) ≡ map (λ i. take size (drop (i * size) (drop size xs))) (range_with_len a m)

@@ -15,7 +15,7 @@ use Rattle.epoch_tags.specs.declared.message.ToJoiner.TheVariants.{Tup}
 use Rattle.epoch_tags.specs.Posts.{GoesOver, AllGoOver, posted_to_joiner, posted_to_controller, for_joiner, for_controller}
 use Rattle.migration_plan.specs.Steps.{holds}
 use Rattle.reshuffler_core.specs.Law.{copies_for, stamped}
-use Rattle.reshuffler_core.specs.Machine.{post_to, posts_to_all, posts_of_tuple, posts_of_batch, to_controller}
+use Rattle.reshuffler_core.specs.Standing.{post_to, posts_to_all, posts_of_tuple, posts_of_batch, to_controller}
 
 abbrev posts_where : (ℕ → Bool) → ToJoiner → ℕ → ℕ → List Post
 posts_where test m first n = map (post_to m) (filter test (range_with_len first n))

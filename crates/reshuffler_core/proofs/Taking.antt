@@ -14,8 +14,8 @@ use Rattle.epoch_tags.specs.Orders.{StopsLast}
 use Rattle.epoch_tags.specs.Posts.{posted_to_joiner, posted_to_controller}
 use Rattle.epoch_tags.proofs.Appends.{order_epochs-append, grants-append, stops-append}
 use Rattle.reshuffler_core.specs.Law.{FeederLists, answers, shift_now, copies_for}
-use Rattle.reshuffler_core.specs.Standing.{FeederState, with_sent}
-use Rattle.reshuffler_core.specs.Machine.{Takes, Goes, state_after, posts_for, posts_of_batch, first_batch}
+use Rattle.reshuffler_core.specs.Standing.{FeederState, with_sent, state_after, posts_for, posts_of_batch, first_batch}
+use Rattle.reshuffler_core.specs.Machine.{Takes, Goes}
 use Rattle.reshuffler_core.proofs.Posting.{all-joiner, batch-joiner, all-controller, batch-controller}
 
 -- ---- what it answers, message after message

@@ -1,22 +1,15 @@
 -- How the machine goes on, a message or a batch at a time.
-use Rattle.std.specs.Prelude.{◌≡◌, ℕ, ◌+◌, ◌^◌, ◌<◌, ◌≤◌, ◌⊎◌, ◌↔◌, true, false, IsTrue, List, [], ◌∷◌, ◌++◌, map, filter, flat_map, length, drop}
-use Rattle.std.specs.List.{range_with_len}
-use Rattle.epoch_tags.specs.declared.tuple.Tuple.{Tuple}
-use Rattle.epoch_tags.specs.declared.actor.Actor.TheVariants.{Feeder, Joiner as Joiner', Controller as Controller'}
-use Rattle.epoch_tags.specs.declared.message.Msg.TheVariants.{Joiner, Controller}
+use Rattle.std.specs.Prelude.{◌≡◌, ℕ, ◌+◌, ◌^◌, ◌<◌, ◌≤◌, ◌⊎◌, ◌↔◌, true, false, IsTrue, List, [], ◌∷◌, ◌++◌, length, drop}
+use Rattle.epoch_tags.specs.declared.actor.Actor.TheVariants.{Feeder}
 use Rattle.epoch_tags.specs.declared.message.Post.{Post}
-use Rattle.epoch_tags.specs.declared.message.ToJoiner.{ToJoiner}
-use Rattle.epoch_tags.specs.declared.message.ToJoiner.TheVariants.{Tup, Turn, End}
-use Rattle.epoch_tags.specs.declared.message.ToController.{ToController}
 use Rattle.epoch_tags.specs.declared.message.ToFeeder.{ToFeeder}
 use Rattle.epoch_tags.specs.declared.message.ToFeeder.TheVariants.{Order, Grant, Stop}
-use Rattle.migration_plan.specs.Steps.{holds}
 use Rattle.join_rows.specs.Lists.{IsPrefix, counting_from}
 use Rattle.epoch_tags.specs.Messages.{order_epochs, grants, stops, asks, draineds}
 use Rattle.epoch_tags.specs.Orders.{StopsLast}
 use Rattle.epoch_tags.specs.Posts.{AllGoOver, posted_to_controller}
-use Rattle.reshuffler_core.specs.Law.{FeederLists, requests, answers, shift_now, stamped}
-use Rattle.reshuffler_core.specs.Standing.{FeederState, with_sent}
+use Rattle.reshuffler_core.specs.Law.{FeederLists, requests, answers, shift_now}
+use Rattle.reshuffler_core.specs.Standing.{FeederState, with_sent, after_held, posts_of_held}
 
 -- ---- what a message does
 
@@ -35,38 +28,6 @@ pub record IsReady (s : FeederState) (m : ToFeeder) : Type 0 where
   pub rest : List ToFeeder
   pub first : s.held ≡ m ∷ rest
   pub takes : Takes s m
-
--- the machine after it took a message
-abbrev pub state_after : FeederState → ToFeeder → FeederState
-state_after s (Order epoch shift) = record s { epoch = epoch; shift = shift }
-state_after s Grant = record s { to_come = drop 1 s.to_come; asked = false }
-state_after s Stop = record s { stopped = true }
-
-abbrev pub first_batch : {X : Type 0} → List (List X) → List X
-first_batch [] = []
-first_batch (batch ∷ batches) = batch
-
--- the message to that joiner
-abbrev pub post_to : ToJoiner → ℕ → Post
-post_to m j = record { to = Joiner' j; msg = Joiner m }
-
--- to each of n joiners, ids rising
-abbrev pub posts_to_all : ℕ → ToJoiner → List Post
-posts_to_all n m = map (post_to m) (range_with_len 0 n)
-
--- a tuple to each of n joiners that holds it at shift b, ids rising
-abbrev pub posts_of_tuple : ℕ → ℕ → ℕ → ℕ → Tuple → List Post
-posts_of_tuple k n e b t = map (post_to (Tup (stamped e t))) (filter (λ j. holds k b j t) (range_with_len 0 n))
-
--- the tuples of a batch, in order
-abbrev pub posts_of_batch : ℕ → ℕ → ℕ → List Tuple → List Post
-posts_of_batch k e b batch = flat_map (posts_of_tuple k (2 ^ k) e b) batch
-
--- what it sends when it takes a message
-abbrev pub posts_for : FeederState → ToFeeder → List Post
-posts_for s (Order epoch shift) = posts_to_all (2 ^ s.start.k) (Turn epoch shift)
-posts_for s Grant = posts_of_batch s.start.k s.epoch s.shift (first_batch s.to_come)
-posts_for s Stop = posts_to_all (2 ^ s.start.k) End
 
 -- over the links of a feeder, whatever its number below whatever number of feeders
 abbrev pub GoesOverLinks : ℕ → List Post → Type 0
@@ -102,17 +63,10 @@ pub record Advances (old new : FeederState) (before after : List Post) : Type 0 
   pub sends : after ≡ before ++ added
   pub asks_nothing : posted_to_controller added ≡ []
   pub over : GoesOverLinks old.start.k added
+  -- and what the held messages lead to is the same
+  pub state : after_held old old.held ≡ after_held new new.held
+  pub posts : posts_of_held old old.held ≡ added ++ posts_of_held new new.held
   pub goes : (lists : FeederLists) (taken : List ToFeeder) → Goes old lists taken → StillGoes new (with_sent lists added)
-
--- ---- what a beginning does
-
-abbrev pub to_controller : ToController → Post
-to_controller m = record { to = Controller'; msg = Controller m }
-
--- the machine after it asked for its next batch, or said that none is left
-abbrev pub state_begun : FeederState → List (List Tuple) → FeederState
-state_begun s [] = record s { drained = true }
-state_begun s (batch ∷ batches) = record s { asked = true }
 
 -- ---- what the fields keep to
 

@@ -1,6 +1,12 @@
 -- What a feeder's machine holds, and the lists for which it stands. It stores none of them.
-use Rattle.std.specs.Prelude.{◌≡◌, ℕ, ◌+◌, ◌<◌, ◌↔◌, ◌⊎◌, Bool, IsTrue, List, [], ◌∷◌, ◌++◌, drop, length}
-use Rattle.epoch_tags.specs.declared.actor.Actor.TheVariants.{Feeder}
+use Rattle.std.specs.Prelude.{◌≡◌, ℕ, ◌+◌, ◌^◌, ◌<◌, ◌==◌, nat_le, ◌↔◌, ◌⊎◌, Bool, true, false, not, ◌&&◌, IsTrue, List, [], ◌∷◌, ◌++◌, map, filter, flat_map, drop, length, if◌then◌else◌}
+use Rattle.std.specs.List.{range_with_len}
+use Rattle.epoch_tags.specs.declared.actor.Actor.TheVariants.{Feeder, Joiner as Joiner', Controller as Controller'}
+use Rattle.epoch_tags.specs.declared.message.Msg.TheVariants.{Joiner, Controller}
+use Rattle.epoch_tags.specs.declared.message.ToJoiner.{ToJoiner}
+use Rattle.epoch_tags.specs.declared.message.ToJoiner.TheVariants.{Tup, Turn, End}
+use Rattle.epoch_tags.specs.declared.message.ToFeeder.TheVariants.{Order, Grant, Stop}
+use Rattle.migration_plan.specs.Steps.{holds}
 use Rattle.epoch_tags.specs.declared.message.ToController.{ToController}
 use Rattle.epoch_tags.specs.declared.message.ToController.TheVariants.{Drained}
 use Rattle.epoch_tags.specs.declared.tuple.Tuple.{Tuple}
@@ -8,7 +14,7 @@ use Rattle.epoch_tags.specs.declared.message.ToFeeder.{ToFeeder}
 use Rattle.epoch_tags.specs.declared.message.Post.{Post}
 use Rattle.epoch_tags.specs.Messages.{order_epochs, grants, stops, asks, draineds}
 use Rattle.epoch_tags.specs.Posts.{AllGoOver, posted_to_joiner, posted_to_controller}
-use Rattle.reshuffler_core.specs.Law.{FeederLists, FeederStart, FeederLaw, ask_for, shift_now}
+use Rattle.reshuffler_core.specs.Law.{FeederLists, FeederStart, FeederLaw, ask_for, shift_now, stamped}
 
 pub record FeederState : Type 0 where
   pub start : FeederStart
@@ -59,12 +65,77 @@ with_sent lists posts = record lists {
   to_joiner = λ j. lists.to_joiner j ++ posted_to_joiner j posts;
 }
 
+-- ---- what a message leaves and sends
+
+-- the machine can take this message
+abbrev pub can_take : FeederState → ToFeeder → Bool
+can_take s (Order epoch shift) = (epoch == s.epoch + 1) && (nat_le shift s.start.k && not s.stopped)
+can_take s Grant = s.asked
+can_take s Stop = s.drained && not s.stopped
+
+-- the machine after it took a message
+abbrev pub state_after : FeederState → ToFeeder → FeederState
+state_after s (Order epoch shift) = record s { epoch = epoch; shift = shift }
+state_after s Grant = record s { to_come = drop 1 s.to_come; asked = false }
+state_after s Stop = record s { stopped = true }
+
+abbrev pub first_batch : {X : Type 0} → List (List X) → List X
+first_batch [] = []
+first_batch (batch ∷ batches) = batch
+
+-- the message to that joiner
+abbrev pub post_to : ToJoiner → ℕ → Post
+post_to m j = record { to = Joiner' j; msg = Joiner m }
+
+-- to each of n joiners, ids rising
+abbrev pub posts_to_all : ℕ → ToJoiner → List Post
+posts_to_all n m = map (post_to m) (range_with_len 0 n)
+
+-- a tuple to each of n joiners that holds it at shift b, ids rising
+abbrev pub posts_of_tuple : ℕ → ℕ → ℕ → ℕ → Tuple → List Post
+posts_of_tuple k n e b t = map (post_to (Tup (stamped e t))) (filter (λ j. holds k b j t) (range_with_len 0 n))
+
+-- the tuples of a batch, in order
+abbrev pub posts_of_batch : ℕ → ℕ → ℕ → List Tuple → List Post
+posts_of_batch k e b batch = flat_map (posts_of_tuple k (2 ^ k) e b) batch
+
+-- what it sends when it takes a message
+abbrev pub posts_for : FeederState → ToFeeder → List Post
+posts_for s (Order epoch shift) = posts_to_all (2 ^ s.start.k) (Turn epoch shift)
+posts_for s Grant = posts_of_batch s.start.k s.epoch s.shift (first_batch s.to_come)
+posts_for s Stop = posts_to_all (2 ^ s.start.k) End
+
+-- the held messages are taken in their order, up to the first that can't be
+abbrev pub after_held : FeederState → List ToFeeder → FeederState
+after_held s [] = record s { held = [] }
+after_held s (m ∷ rest) = if can_take s m then after_held (state_after s m) rest else record s { held = m ∷ rest }
+
+-- and what is sent for them
+abbrev pub posts_of_held : FeederState → List ToFeeder → List Post
+posts_of_held s [] = []
+posts_of_held s (m ∷ rest) = if can_take s m then posts_for s m ++ posts_of_held (state_after s m) rest else []
+
+-- ---- what a beginning does
+
+abbrev pub to_controller : ToController → Post
+to_controller m = record { to = Controller'; msg = Controller m }
+
+-- the machine after it asked for its next batch, or said that none is left
+abbrev pub state_begun : FeederState → List (List Tuple) → FeederState
+state_begun s [] = record s { drained = true }
+state_begun s (batch ∷ batches) = record s { asked = true }
+
+-- ---- a call
+
 -- a call that took or held m, and turned the posts `before` into `after`: for whatever lists the machine stood,
 -- it stands for them with the message and the new posts at their ends
 pub record TakesMessage (m : ToFeeder) (old new : FeederState) (before after : List Post) : Type 0 where
   pub start : new.start ≡ old.start
   pub added : List Post
   pub sends : after ≡ before ++ added
+  -- the message is tried behind the held ones
+  pub state : new ≡ record (after_held old (old.held ++ m ∷ [])) { spent = false }
+  pub posts : added ≡ posts_of_held old (old.held ++ m ∷ [])
   -- the controller is sent nothing
   pub asks_nothing : posted_to_controller added ≡ []
   -- whatever its number below whatever number of feeders, its posts go over its links
@@ -77,6 +148,9 @@ pub record Begins (old new : FeederState) (before after : List Post) : Type 0 wh
   pub start : new.start ≡ old.start
   pub added : List Post
   pub sends : after ≡ before ++ added
+  -- the held messages are tried behind the request
+  pub state : new ≡ record (after_held (state_begun old old.to_come) old.held) { spent = false }
+  pub posts : added ≡ to_controller (next_request old.to_come) ∷ posts_of_held (state_begun old old.to_come) old.held
   -- the controller is sent the next request, and nothing else
   pub asks_next : posted_to_controller added ≡ next_request old.to_come ∷ []
   -- whatever its number below whatever number of feeders, its posts go over its links

@@ -4,7 +4,7 @@ ghost use Rattle.std.specs.Prelude.{◌≡◌, ◌^◌, ◌<◌, ◌≤◌, ◌+
 ghost use Rattle.migration_plan.specs.Steps.{holds, is_of};
 ghost use Rattle.epoch_tags.specs.declared.message.ToJoiner.TheVariants.{Tup, Turn, End};
 ghost use Rattle.reshuffler_core.specs.Law.{ask_for, stamped};
-ghost use Rattle.reshuffler_core.specs.Machine.{post_to, posts_to_all, posts_of_tuple, posts_of_batch};
+ghost use Rattle.reshuffler_core.specs.Standing.{post_to, posts_to_all, posts_of_tuple, posts_of_batch};
 
 use epoch_tags::{Actor, Msg, Post, Sends, ToController, ToJoiner, Tuple};
 use grid_map::{Shape, holds_r, holds_s};

@@ -1,8 +1,8 @@
 // The held messages, and what each of them does once it can be taken.
 
 ghost use Rattle.std.specs.Prelude.{◌≡◌, ◌+◌, ◌++◌, ◌∷◌, [], ◌↔◌, ◌<◌, ◌≤◌, ◌^◌, IsTrue, false, length, drop, OnOk, MatchOption};
-ghost use Rattle.reshuffler_core.specs.Standing.{next_request};
-ghost use Rattle.reshuffler_core.specs.Machine.{Takes, IsStuck, IsReady, Advances, state_after, state_begun, posts_for, posts_of_batch, first_batch, to_controller};
+ghost use Rattle.reshuffler_core.specs.Standing.{next_request, state_after, state_begun, posts_for, posts_of_batch, first_batch, to_controller};
+ghost use Rattle.reshuffler_core.specs.Machine.{Takes, IsStuck, IsReady, Advances};
 
 use crate::feeder::Feeder;
 use crate::sending::{request_for, send_batch, send_ends, send_turns};

@@ -1,5 +1,5 @@
 use Rattle.std.proofs.Common.{◌≡◌, ◌++◌, take}
-use Rattle.reshuffler_core.specs.Machine.{posts_of_batch}
+use Rattle.reshuffler_core.specs.Standing.{posts_of_batch}
 use Rattle.reshuffler_core.proofs.sending.send_batch.Given as goal
 
 abbrev pub invariant-loop-tuple : goal.invariant-loop-tuple

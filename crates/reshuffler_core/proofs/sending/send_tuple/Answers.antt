@@ -2,7 +2,7 @@ use Rattle.std.proofs.Common.{◌++◌, ◌∷◌, [], cond, sym, ap, ◌∙◌,
 use Rattle.epoch_tags.specs.declared.message.ToJoiner.TheVariants.{Tup}
 use Rattle.migration_plan.specs.Steps.{holds}
 use Rattle.reshuffler_core.specs.Law.{stamped}
-use Rattle.reshuffler_core.specs.Machine.{post_to, posts_of_tuple}
+use Rattle.reshuffler_core.specs.Standing.{post_to, posts_of_tuple}
 use Rattle.reshuffler_core.proofs.Posting.{tuple-more}
 use Rattle.reshuffler_core.proofs.sending.send_tuple.Goals as goal
 

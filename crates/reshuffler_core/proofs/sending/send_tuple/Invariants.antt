@@ -1,5 +1,5 @@
 use Rattle.std.proofs.Common.{◌≡◌, ◌++◌}
-use Rattle.reshuffler_core.specs.Machine.{posts_of_tuple}
+use Rattle.reshuffler_core.specs.Standing.{posts_of_tuple}
 use Rattle.reshuffler_core.proofs.sending.send_tuple.Given as goal
 
 abbrev pub invariant-loop-id : goal.invariant-loop-id

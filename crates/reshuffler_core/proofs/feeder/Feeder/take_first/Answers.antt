@@ -1,8 +1,8 @@
 use Rattle.std.proofs.Common.{◌≡◌, ◌++◌, sym, ap, ◌∙◌, subst, arith, length, drop}
 use Rattle.epoch_tags.specs.declared.message.Post.{Post}
 use Rattle.std.specs.Prelude.{List}
-use Rattle.reshuffler_core.specs.Standing.{FeederState}
-use Rattle.reshuffler_core.specs.Machine.{Takes, Advances, state_after, posts_for}
+use Rattle.reshuffler_core.specs.Standing.{FeederState, state_after, posts_for}
+use Rattle.reshuffler_core.specs.Machine.{Takes, Advances}
 use Rattle.reshuffler_core.proofs.Assembling.{one_taken, still_takes, same_held}
 use Rattle.reshuffler_core.proofs.feeder.Feeder.take_first.Goals as goal
 
