@@ -1,6 +1,6 @@
 // Where bytes are written.
 
-ghost use Rattle.std.specs.Prelude.{◌≡◌, ◌≤◌, ◌+◌, ℕ, List, Option, OnOk, OnErr, length};
+ghost use Rattle.std.specs.Prelude.{◌≡◌, ◌≤◌, ◌+◌, ℕ, List, Option, OnOk, OnErr, IsOk, length};
 ghost use Rattle.std.specs.Result.{is_ok};
 ghost use Rattle.std.specs.Io.KnownBytes.{append_known};
 ghost use Rattle.join_rows.specs.Shelves.{Faulted};
@@ -29,5 +29,5 @@ pub trait Sink {
         ensures counts { OnOk result (faults self.new ≡ faults self.old) }
         ensures front { OnErr result (AppendsFront (written self.old) (written self.new) piece.now) }
         ensures fails { OnErr result (Faulted (faults self.old) (faults self.new)) }
-        ensures takes { (more : ℕ) → takes self.old (length piece.now + more) → OnOk result (takes self.new more) };
+        ensures takes { (more : ℕ) → takes self.old (length piece.now + more) → IsOk result × takes self.new more };
 }
