@@ -21,11 +21,8 @@ fn run(rt: &HostRuntime) -> Outcome {
     let Ok(files) = rt.clone() else {
         return Outcome::Memory;
     };
-    let Ok(output) = rt.clone() else {
-        return Outcome::Memory;
-    };
     let mut shelf = DiskShelf::new(alloc, files);
-    let mut sink = StdSink::new(output);
+    let mut sink = StdSink::new(rt.stdout());
     join_main(alloc, &words, &mut shelf, &mut sink)
 }
 

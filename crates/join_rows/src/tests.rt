@@ -1,4 +1,5 @@
 mod numbers;
 mod reading;
+mod real;
 mod sharing;
 mod sinks;
