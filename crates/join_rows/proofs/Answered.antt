@@ -55,7 +55,7 @@ pub fault-answers : (told : Told) (name : List ℕ) (old new : ℕ) (spot : Spot
     → (file : List ℕ) → Tells told name file → new ≡ old → (refused e ≡ refused fault.Memory) ⊎ (refused e ≡ table_of file)
 fault-answers told name old new spot fault.Read w file t s =
     elim w [ inl rose ↦ absurd (omega (arith, rose, s)) | inr lacks ↦ absurd (told-there told name file t lacks) ]
-fault-answers told name old new spot fault.TooLong w file t s = inr (sym (long-table file (w.3 file t)))
+fault-answers told name old new spot fault.TooLong w file t s = inr (sym (long-table file (omega (arith, w.2.size, (w.2.first file t).0))))
 fault-answers told name old new spot fault.NoHeader w file t s = absurd w
 fault-answers told name old new spot (fault.Width number found) w file t s = absurd w
 fault-answers told name old new spot fault.TooMany w file t s = absurd w

@@ -47,7 +47,7 @@ records_named xs names rows h = by (next_record default_config st.StartRecord []
     by (Some p) e = let q : p.0 ≡ names = cc (rw (add-one, e) at h) in rw (← q) (record_named st.StartRecord [] [] xs p e)
 
 -- rows without a fault have the width, and are not too many
-none_wide : (width number : ℕ) (rows : List (List (List ℕ))) → number ≤ 262145 → fault_of_rows width number rows ≡ None → AreWide width rows × (number + length rows ≤ 262145)
+pub none_wide : (width number : ℕ) (rows : List (List (List ℕ))) → number ≤ 262145 → fault_of_rows width number rows ≡ None → AreWide width rows × (number + length rows ≤ 262145)
 unfolding fault_of_rows
 none_wide width number [] few h = (tt, omega (arith, few))
 none_wide width number (row ∷ rows) few h = by (nat_lt most_rows number) (length row == width) refl refl (none_wide width (number + 1) rows)

@@ -1,12 +1,21 @@
 -- What reading the bytes of a file answers.
-use Rattle.std.specs.Prelude.{◌≡◌, ◌⊎◌, ◌≤◌, ◌<◌, ◌+◌, ◌^◌, ℕ, List, length, Some}
+use Rattle.std.specs.Prelude.{◌≡◌, ◌⊎◌, ◌≤◌, ◌<◌, ◌+◌, ◌^◌, ℕ, List, Result, length, take, Some}
 use Rattle.join_rows.specs.Shelves.{Lacks, Spot, Tells, Told}
+use Rattle.join_rows.specs.Records.{AnswerSays, table_of}
+use Rattle.join_rows.specs.declared.table.Table.{Table}
 use Rattle.join_rows.specs.declared.fault.TableFault.{TableFault}
 use Rattle.join_rows.specs.declared.fault.TableFault.TheVariants as fault
 
 -- no call of the shelf failed, and it stands in the named file at a place no further than one past the limit
 abbrev pub Stands : Told → List ℕ → ℕ → ℕ → Spot → Type 0
 Stands told name old new spot = (new ≡ old) × (Lacks told name → ⊥) × (place : ℕ) × (spot ≡ Some (name, place)) × (place ≤ 2 ^ 24 + 1)
+
+-- one byte more than the limit was read, and the bytes are the first of a told file
+pub record IsPast (told : Told) (name : List ℕ) (spot : Spot) : Type 0 where
+  pub bytes : List ℕ
+  pub size : length bytes ≡ 2 ^ 24 + 1
+  pub place : spot ≡ Some (name, length bytes)
+  pub first : (file : List ℕ) → Tells told name file → (length bytes ≤ length file) × (bytes ≡ take (length bytes) file)
 
 -- the whole bytes of a file, or why there are none: told are the files, old and new are the counts of faults, and spot is where the shelf stands then
 abbrev pub WholeOk : Told → List ℕ → ℕ → ℕ → Spot → List ℕ → Type 0
@@ -15,6 +24,14 @@ WholeOk told name old new spot bytes = (new ≡ old) × (Lacks told name → ⊥
 
 abbrev pub WholeErr : Told → List ℕ → ℕ → ℕ → Spot → TableFault → Type 0
 WholeErr told name old new spot fault.Read = (old < new) ⊎ Lacks told name
-WholeErr told name old new spot fault.TooLong = (new ≡ old) × (Lacks told name → ⊥) × (spot ≡ Some (name, 2 ^ 24 + 1)) × ((file : List ℕ) → Tells told name file → 2 ^ 24 < length file)
+WholeErr told name old new spot fault.TooLong = (new ≡ old) × (Lacks told name → ⊥) × IsPast told name spot
 WholeErr told name old new spot fault.Memory = Stands told name old new spot
 WholeErr told name old new spot why = ⊥
+
+-- the answer is that of bytes which were read of the named file, as many as the place in it says, and the first of a told file; it is what the definition makes of them, and says of them what that answer means
+pub record IsOfBytes (told : Told) (name : List ℕ) (spot : Spot) (result : Result Table TableFault) : Type 0 where
+  pub bytes : List ℕ
+  pub place : spot ≡ Some (name, length bytes)
+  pub first : (file : List ℕ) → Tells told name file → bytes ≡ take (2 ^ 24 + 1) file
+  pub answer : result ≡ table_of bytes
+  pub says : AnswerSays result bytes

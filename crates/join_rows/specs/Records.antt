@@ -94,6 +94,20 @@ abbrev pub SaysOf : TableFault → List ℕ → Type 0
 SaysOf fault.TooLong bytes = most_bytes < length bytes
 SaysOf fault bytes = (length bytes ≤ most_bytes) × SaysOfRecords fault (records_of bytes)
 
+-- the table is that of these bytes: the first of their records is its header, the cells of the others are its rows, and these are as wide as the header and no more than the limit
+pub record IsTableOf (bytes : List ℕ) (table : Table) : Type 0 where
+  pub records : List (List (List ℕ))
+  pub read : records_of bytes ≡ table.names ∷ records
+  pub rows : table.rows ≡ map cells_of records
+  pub wide : AreWide (length table.names) records
+  pub few : length records ≤ most_rows
+  pub short : length bytes ≤ most_bytes
+
+-- what an answer says of the bytes that it is of
+abbrev pub AnswerSays : Result Table TableFault → List ℕ → Type 0
+AnswerSays (Ok table) bytes = IsTableOf bytes table
+AnswerSays (Err fault) bytes = SaysOf fault bytes
+
 -- a table has a header of a name or more, no row of another width, and no more rows than the limit
 pub record IsTable (table : Table) : Type 0 where
   pub named : 0 < length table.names

@@ -2,7 +2,7 @@
 
 ghost use Rattle.std.specs.Prelude.{◌≡◌, ◌⊎◌, ◌≤◌, ◌<◌, ◌+◌, ◌-◌, ◌^◌, ◌↔◌, List, ℕ, length, take, IfOk, IfErr, Err, Some};
 ghost use Rattle.join_rows.specs.Records.{IsTable, table_of};
-ghost use Rattle.join_rows.specs.Reads.{WholeErr, WholeOk};
+ghost use Rattle.join_rows.specs.Reads.{IsOfBytes, WholeErr, WholeOk};
 ghost use Rattle.join_rows.specs.Shelves.{Lacks, Tells, last_fault};
 ghost use Rattle.join_rows.specs.declared.fault.TableFault.TheVariants as fault;
 
@@ -58,6 +58,8 @@ pub fn read_table<H: Shelf>(alloc: Global, shelf: &mut H, name: &str) -> Result<
         ↔ ((H.faults shelf.old < H.faults shelf.new) ⊎ Lacks (H.told shelf.old) name.now) }
     ensures answer { (file : List ℕ) → Tells (H.told shelf.old) name.now file → H.faults shelf.new ≡ H.faults shelf.old
         → (result ≡ Err fault.Memory) ⊎ (result ≡ table_of file) }
+    ensures bytes { (result ≡ Err fault.Read → ⊥) → (result ≡ Err fault.Memory → ⊥)
+        → IsOfBytes (H.told shelf.old) name.now (H.picked shelf.new) result }
     ensures table { IfOk result IsTable }
     ensures place { (result ≡ Err fault.Read → ⊥) → (place : ℕ) × (H.picked shelf.new ≡ Some (name.now, place))
         × (place ≤ 2 ^ 24 + 1) × (result ≡ Err fault.TooLong → 2 ^ 24 < place)

@@ -31,6 +31,8 @@ fn files_of_the_system(rt: HostRuntime) -> Result<(), Fail> {
     for (name, answer) in cases {
         assert!(rt; rows_in(&rt, name) == answer);
     }
+    fs::remove_file(&rt, "long.csv")?;
+    fs::remove_file(&rt, "short.csv")?;
     Ok(())
 }
 
