@@ -1,14 +1,14 @@
 -- The answer is that of the bytes that were read.
-use Rattle.std.proofs.Common.{◌≡◌, ◌≤◌, ◌+◌, ◌^◌, ◌∙◌, ℕ, List, length, take, arith, Result, Err, refl, sym, ap, subst, inl, inr}
+use Rattle.std.proofs.Common.{◌≡◌, ◌≤◌, ◌+◌, ◌^◌, ◌∙◌, ℕ, List, length, arith, Result, Err, refl, sym, ap, subst, inl, inr}
 use Rattle.std.proofs.lemmas.List.{take_all}
 use Rattle.join_rows.specs.Reads.{IsOfBytes, WholeErr, WholeOk}
-use Rattle.join_rows.specs.Records.{AnswerSays, table_of}
+use Rattle.join_rows.specs.Records.{AnswerSays}
 use Rattle.join_rows.specs.Shelves.{Spot, Told}
 use Rattle.join_rows.specs.declared.table.Table.{Table}
 use Rattle.join_rows.specs.declared.fault.TableFault.{TableFault}
 use Rattle.join_rows.specs.declared.fault.TableFault.TheVariants as fault
 use Rattle.join_rows.proofs.Answered.{TableIn, long-table, refused, short-table}
-use Rattle.join_rows.proofs.Says.{table-says}
+use Rattle.join_rows.proofs.Says.{says-table, table-says}
 
 pub bytes-refused : (told : Told) (name : List ℕ) (old new : ℕ) (spot : Spot) (e : TableFault) → WholeErr told name old new spot e
     → (refused e ≡ refused fault.Read → ⊥) → (refused e ≡ refused fault.Memory → ⊥) → IsOfBytes told name spot (refused e)
@@ -21,6 +21,7 @@ bytes-refused told name old new spot fault.TooLong w read memory =
       first = λ file tells. rw past.size at ((past.first file tells).1);
       answer = sym (long-table past.bytes (omega (arith, past.size)));
       says = omega (arith, past.size);
+      exact = λ why says. sym (long-table past.bytes (omega (arith, past.size))) ∙ says-table why past.bytes says;
     }
 bytes-refused told name old new spot fault.NoHeader w read memory = absurd w
 bytes-refused told name old new spot (fault.Width number found) w read memory = absurd w
@@ -42,5 +43,6 @@ bytes-read_whole told name old new spot bytes r w t memory = elim t [
             same ∙ sym (take_all (2 ^ 24 + 1) file few);
         answer = answer;
         says = subst (λ z. AnswerSays z bytes) (sym answer) (table-says bytes);
+        exact = λ why says. answer ∙ says-table why bytes says;
       }
 ]

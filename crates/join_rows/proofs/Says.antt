@@ -1,8 +1,8 @@
 -- What an answer says of the bytes that it is of.
-use Rattle.std.proofs.Common.{◌≡◌, ◌≢◌, ◌≤◌, ◌<◌, ◌+◌, ◌-◌, ◌∙◌, ℕ, suc, Bool, true, false, List, [], ◌∷◌, ◌++◌, length, map, take, arith, refl, sym, ap, subst, Option, Result, Ok, Err, None, Some}
+use Rattle.std.proofs.Common.{◌≡◌, ◌≢◌, ◌≤◌, ◌<◌, ◌+◌, ◌-◌, ◌∙◌, ℕ, suc, Bool, true, false, List, [], ◌∷◌, ◌++◌, length, take, arith, refl, ap, subst, Option, Err, None, Some, add-zero}
 use Rattle.std.specs.Prelude.{◌==◌, nat_lt}
-use Rattle.join_rows.specs.declared.table.Table.{Table}
-use Rattle.join_rows.specs.Records.{AnswerSays, AreTooMany, AreWide, IsFirstOfOtherWidth, IsTableOf, SaysOf, SaysOfRecords, cells_of, fault_of_rows, most_bytes, most_rows, records_of, table_of, table_of_records}
+use Rattle.join_rows.specs.Records.{AnswerSays, AreWide, SaysOf, SaysOfRecords, fault_of_rows, most_bytes, most_rows, records_of, table_of, table_of_records}
+use Rattle.join_rows.proofs.Answered.{long-table, short-table}
 use Rattle.join_rows.proofs.Shapes.{none_wide}
 use Rattle.join_rows.specs.declared.fault.TableFault.{TableFault}
 use Rattle.join_rows.specs.declared.fault.TableFault.TheVariants as fault
@@ -127,3 +127,68 @@ table-says bytes = by (nat_lt most_bytes (length bytes)) refl
     by : (long : Bool) → nat_lt most_bytes (length bytes) ≡ long → AnswerSays (table_of bytes) bytes
     by true p = rw p (grind (arith, p))
     by false p = rw p (records_say bytes (records_of bytes) (grind (arith, p)) refl)
+
+-- ---- and the other way round
+
+width_back : (width first : ℕ) (before : List (List (List ℕ))) (row : List (List ℕ)) (after : List (List (List ℕ))) → first + length before ≤ 262144 → AreWide width before → length row ≢ width
+    → fault_of_rows width first (before ++ row ∷ after) ≡ Some (fault.Width (first + length before) (length row))
+unfolding fault_of_rows
+width_back width first [] row after few wide other =
+    let p : nat_lt most_rows first ≡ false = grind (arith, few) in
+    let s : (length row == width) ≡ false = grind (arith, other) in
+    rw (p, s, add-zero first) refl
+width_back width first (one ∷ before) row after few wide other =
+    let p : nat_lt most_rows first ≡ false = grind (arith, few) in
+    let s : (length one == width) ≡ true = grind (arith, wide.0) in
+    let more = width_back width (first + 1) before row after (omega (arith, few)) wide.1 other in
+    let number : first + 1 + length before ≡ first + length (one ∷ before) = omega arith in
+    rw (p, s) (rw number at more)
+
+many_back : (width first : ℕ) (rows : List (List (List ℕ))) → first ≤ 262145 → 262145 < first + length rows → AreWide width (take (262145 - first) rows)
+    → fault_of_rows width first rows ≡ Some fault.TooMany
+unfolding fault_of_rows
+many_back width first [] few many wide = absurd (omega (arith, few, many))
+many_back width first (row ∷ rows) few many wide = by (nat_lt most_rows first) refl (many_back width (first + 1) rows)
+  where
+    by : (past : Bool) → nat_lt most_rows first ≡ past
+        → (first + 1 ≤ 262145 → 262145 < first + 1 + length rows → AreWide width (take (262145 - (first + 1)) rows) → fault_of_rows width (first + 1) rows ≡ Some fault.TooMany)
+        → fault_of_rows width first (row ∷ rows) ≡ Some fault.TooMany
+    by true p more = rw p refl
+    by false p more =
+        let within : first ≤ 262144 = grind (arith, p) in
+        let left : 262145 - first ≡ suc (262145 - (first + 1)) = omega (arith, within) in
+        let is : AreWide width (row ∷ take (262145 - (first + 1)) rows) = rw left at wide in
+        let s : (length row == width) ≡ true = grind (arith, is.0) in
+        rw (p, s) (more (omega (arith, within)) (omega (arith, many)) is.1)
+
+rows_back : (why : TableFault) (names : List (List ℕ)) (rows : List (List (List ℕ))) → SaysOfRecords why (names ∷ rows) → fault_of_rows (length names) 1 rows ≡ Some why
+rows_back (fault.Width number found) names rows is =
+    let counted : 1 + length is.before ≡ number = omega (arith, is.counted) in
+    rw (is.joined, is.fields, ← counted) (width_back (length names) 1 is.before is.row is.after (omega (arith, is.counted, is.few)) is.wide is.other)
+rows_back fault.TooMany names rows is = many_back (length names) 1 rows (omega arith) (omega (arith, is.many)) is.wide
+rows_back fault.Read names rows is = absurd is
+rows_back fault.TooLong names rows is = absurd is
+rows_back fault.NoHeader names rows is = cc is
+rows_back fault.Memory names rows is = absurd is
+
+records_back : (why : TableFault) (all : List (List (List ℕ))) → SaysOfRecords why all → table_of_records all ≡ Err why
+unfolding table_of_records
+records_back why (names ∷ rows) is = rw (rows_back why names rows is) refl
+records_back fault.NoHeader [] is = refl
+records_back (fault.Width number found) [] is = absurd is
+records_back fault.TooMany [] is = absurd is
+records_back fault.Read [] is = absurd is
+records_back fault.TooLong [] is = absurd is
+records_back fault.Memory [] is = absurd is
+
+short_back : (why : TableFault) (bytes : List ℕ) → length bytes ≤ most_bytes → SaysOfRecords why (records_of bytes) → table_of bytes ≡ Err why
+short_back why bytes few is = short-table bytes few ∙ records_back why (records_of bytes) is
+
+-- bytes with a fault have that answer
+pub says-table : (why : TableFault) (bytes : List ℕ) → SaysOf why bytes → table_of bytes ≡ Err why
+says-table fault.TooLong bytes is = long-table bytes is
+says-table (fault.Width number found) bytes is = short_back (fault.Width number found) bytes is.0 is.1
+says-table fault.TooMany bytes is = short_back fault.TooMany bytes is.0 is.1
+says-table fault.NoHeader bytes is = short_back fault.NoHeader bytes is.0 is.1
+says-table fault.Read bytes is = absurd is.1
+says-table fault.Memory bytes is = absurd is.1

@@ -9,7 +9,8 @@ use Rattle.csv.specs.declared.parser.Action.TheVariants as act
 use Rattle.csv.specs.declared.parser.State.{State}
 use Rattle.csv.specs.declared.parser.State.TheVariants as st
 use Rattle.join_rows.specs.declared.table.Table.{Table}
-use Rattle.join_rows.specs.Records.{AreWide, IsTable, cells_of, fault_of_rows, most_rows, records_of, table_of_records}
+use Rattle.join_rows.specs.Records.{AreWide, HasItsNumber, IsTable, cell_of, cells_of, fault_of_rows, most_rows, records_of, table_of_records}
+use Rattle.join_rows.proofs.Numbers.{number_of-writes, number_of-written}
 use Rattle.join_rows.specs.declared.fault.TableFault.{TableFault}
 use Rattle.join_rows.specs.declared.fault.TableFault.TheVariants as fault
 
@@ -67,6 +68,20 @@ all_wide width [] h k d e = absurd (omega (arith, e))
 all_wide width (row ∷ rows) h zero d e = length-map row _ ∙ h.0
 all_wide width (row ∷ rows) h (suc k) d e = all_wide width rows h.1 k d (omega (arith, e))
 
+-- the cells of fields have the numbers of their texts
+pub cell-number : (text : List ℕ) → HasItsNumber (cell_of text)
+cell-number text number = (number_of-writes text number, number_of-written text number)
+
+cells_numbers : (fields : List (List ℕ)) → All HasItsNumber (cells_of fields)
+cells_numbers [] k d e = absurd (omega (arith, e))
+cells_numbers (field ∷ fields) zero d e = cell-number field
+cells_numbers (field ∷ fields) (suc k) d e = cells_numbers fields k d (omega (arith, e))
+
+rows_numbers : (rows : List (List (List ℕ))) → All (λ row. All HasItsNumber row) (map cells_of rows)
+rows_numbers [] k d e = absurd (omega (arith, e))
+rows_numbers (row ∷ rows) zero d e = cells_numbers row
+rows_numbers (row ∷ rows) (suc k) d e = rows_numbers rows k d (omega (arith, e))
+
 pub table-shape : (bytes : List ℕ) (table : Table) → table_of_records (records_of bytes) ≡ Ok table → IsTable table
 unfolding table_of_records
 table-shape bytes table h = go (records_of bytes) refl h
@@ -83,6 +98,7 @@ table-shape bytes table h = go (records_of bytes) refl h
               named = records_named _ names rows e;
               wide = all_wide (length names) rows wide.0;
               few = omega (arith, wide.1, length-map rows cells_of);
+              numbers = rows_numbers rows;
             })
         by (Some why) q = cc (rw q at h)
 

@@ -1,7 +1,7 @@
 -- What reading the bytes of a file answers.
-use Rattle.std.specs.Prelude.{◌≡◌, ◌⊎◌, ◌≤◌, ◌<◌, ◌+◌, ◌^◌, ℕ, List, Result, length, take, Some}
+use Rattle.std.specs.Prelude.{◌≡◌, ◌⊎◌, ◌≤◌, ◌<◌, ◌+◌, ◌^◌, ℕ, List, Result, Err, length, take, Some}
 use Rattle.join_rows.specs.Shelves.{Lacks, Spot, Tells, Told}
-use Rattle.join_rows.specs.Records.{AnswerSays, table_of}
+use Rattle.join_rows.specs.Records.{AnswerSays, SaysOf, table_of}
 use Rattle.join_rows.specs.declared.table.Table.{Table}
 use Rattle.join_rows.specs.declared.fault.TableFault.{TableFault}
 use Rattle.join_rows.specs.declared.fault.TableFault.TheVariants as fault
@@ -28,10 +28,11 @@ WholeErr told name old new spot fault.TooLong = (new ≡ old) × (Lacks told nam
 WholeErr told name old new spot fault.Memory = Stands told name old new spot
 WholeErr told name old new spot why = ⊥
 
--- the answer is that of bytes which were read of the named file, as many as the place in it says, and the first of a told file; it is what the definition makes of them, and says of them what that answer means
+-- the answer is that of bytes which were read of the named file, as many as the place in it says, and the first of a told file: it is what the definition makes of them, it says of them what it means, and it is the fault that they have, if they have one
 pub record IsOfBytes (told : Told) (name : List ℕ) (spot : Spot) (result : Result Table TableFault) : Type 0 where
   pub bytes : List ℕ
   pub place : spot ≡ Some (name, length bytes)
   pub first : (file : List ℕ) → Tells told name file → bytes ≡ take (2 ^ 24 + 1) file
   pub answer : result ≡ table_of bytes
   pub says : AnswerSays result bytes
+  pub exact : (why : TableFault) → SaysOf why bytes → result ≡ Err why

@@ -1,8 +1,8 @@
 -- The table that the bytes of a file are, and what is wrong where they are none.
-use Rattle.std.specs.Prelude.{◌≡◌, ◌≢◌, ◌≤◌, ◌<◌, ◌+◌, ◌^◌, ◌==◌, ◌++◌, Bool, false, ℕ, List, [], ◌∷◌, if◌then◌else◌, length, map, take, nat_lt, Option, None, Some, Result, Ok, Err, All}
+use Rattle.std.specs.Prelude.{◌≡◌, ◌≢◌, ◌≤◌, ◌<◌, ◌+◌, ◌^◌, ◌==◌, ◌++◌, ◌↔◌, Bool, false, ℕ, ℤ, List, [], ◌∷◌, if◌then◌else◌, length, map, take, nat_lt, Option, None, Some, Result, Ok, Err, All}
 use Rattle.std.specs.List.{AllByRecursion}
 use Rattle.csv.specs.Reading.{default_config, is_bom, records}
-use Rattle.join_rows.specs.Numbers.{number_of}
+use Rattle.join_rows.specs.Numbers.{IsNumber, number_of}
 use Rattle.join_rows.specs.declared.table.Cell.{Cell}
 use Rattle.join_rows.specs.declared.table.Table.{Table}
 use Rattle.join_rows.specs.declared.fault.TableFault.{TableFault}
@@ -32,6 +32,10 @@ cell_of text = record { text = text; num = number_of text }
 
 abbrev pub cells_of : List (List ℕ) → List Cell
 cells_of fields = map cell_of fields
+
+-- a cell has a number where its text writes one, and that number
+abbrev pub HasItsNumber : Cell → Type 0
+HasItsNumber cell = (number : ℤ) → (cell.num ≡ Some number) ↔ IsNumber cell.text number
 
 -- a table may have so many bytes, and so many rows under its header
 abbrev pub most_bytes : ℕ
@@ -108,8 +112,9 @@ abbrev pub AnswerSays : Result Table TableFault → List ℕ → Type 0
 AnswerSays (Ok table) bytes = IsTableOf bytes table
 AnswerSays (Err fault) bytes = SaysOf fault bytes
 
--- a table has a header of a name or more, no row of another width, and no more rows than the limit
+-- a table has a header of a name or more, no row of another width, no more rows than the limit, and in each cell the number of its text
 pub record IsTable (table : Table) : Type 0 where
   pub named : 0 < length table.names
   pub wide : All (λ row. length row ≡ length table.names) table.rows
   pub few : length table.rows ≤ most_rows
+  pub numbers : All (λ row. All HasItsNumber row) table.rows

@@ -1,7 +1,7 @@
 // The two sides of a join, and the tables that stand on them.
 
 ghost use Rattle.std.specs.Prelude.{◌≡◌, IfOk};
-ghost use Rattle.join_rows.specs.Records.{cell_of};
+ghost use Rattle.join_rows.specs.Records.{HasItsNumber, cell_of};
 
 use crate::cells::Cells;
 use crate::list::{Bytes, Items, Names};
@@ -35,7 +35,8 @@ impl Cell {
     /// The cell of a text. Its number is the text's where that is spaces, an optional sign, one digit or more, and
     /// spaces, a space being the byte 0x20.
     pub fn new(text: Bytes) -> Cell
-        ensures { result ≡ cell_of text }
+        ensures cell { result ≡ cell_of text }
+        ensures number { HasItsNumber result }
     {
         let num = number_in(text.as_slice());
         Cell { text, num }

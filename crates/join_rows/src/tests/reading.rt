@@ -146,11 +146,17 @@ fn limits(rt: HostRuntime) -> Result<(), Fail> {
     Ok(())
 }
 
-// A shelf that counts the reads of another.
+// A shelf that counts the reads of another, and how many of them have room for 4,096 bytes.
 #[derive(Drop)]
 struct Counting {
     inner: MapShelf,
     reads: u64,
+    pages: u64,
+}
+
+// 1 for a read with that room, else 0.
+fn page(room: usize) -> u64 {
+    if room == 4096 { 1 } else { 0 }
 }
 
 impl Shelf for Counting {
@@ -168,6 +174,7 @@ impl Shelf for Counting {
 
     fn read(&mut self, into: &mut [u8]) -> Result<usize, Failed> {
         self.reads = self.reads.saturating_add(1);
+        self.pages = self.pages.saturating_add(page(into.len()));
         self.inner.read(into)
     }
 }
@@ -179,12 +186,17 @@ fn reads_that_are_made(rt: HostRuntime) -> Result<(), Fail> {
     inner.add("r", b"id,x\n1,10\n")?;
     inner.add("s", b"id,y\n1,20\n")?;
     inner.fail_read(3)?;
-    let mut shelf = Counting { inner, reads: 0 };
+    let mut shelf = Counting {
+        inner,
+        reads: 0,
+        pages: 0,
+    };
     assert!(rt; read_table(rt.alloc(), &mut shelf, "r").is_ok());
     assert!(rt; shelf.reads == 2);
     let fault = read_table(rt.alloc(), &mut shelf, "s").err();
     assert!(rt; fault == Some(TableFault::Read));
     assert!(rt; shelf.reads == 3);
+    assert!(rt; shelf.pages == 3);
     Ok(())
 }
 

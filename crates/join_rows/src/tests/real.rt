@@ -1,9 +1,8 @@
 use crate::{DiskShelf, Failed, Shelf, Sink, StdSink, TableFault, read_table};
 use std::alloc::Global;
-use std::fs;
-use std::io;
 use std::io::Write;
 use std::test::Fail;
+use std::{fs, io};
 
 // The rows that are read of a file of this name.
 fn rows_in(rt: &HostRuntime, name: &str) -> Result<u64, TableFault> {

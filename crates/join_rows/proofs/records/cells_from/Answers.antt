@@ -10,7 +10,7 @@ loop-field-smaller c =
 
 pub loop-field-preserved : goal.loop-field-preserved
 loop-field-preserved c =
-    rw (c.in_ok-push.ensures.ok, c.loop-field.invariant, c.new.ensures, c.in_ok-from_slice.ensures) (sym (fields-more cell_of (fields_of c.args.row.now) c.loop-field.place c.in-Some.field.now (sym c.in-Some.ensures.value)))
+    rw (c.in_ok-push.ensures.ok, c.loop-field.invariant, c.new.ensures.cell, c.in_ok-from_slice.ensures) (sym (fields-more cell_of (fields_of c.args.row.now) c.loop-field.place c.in-Some.field.now (sym c.in-Some.ensures.value)))
 
 pub returns : goal.returns
 returns c = c.loop-field.invariant ∙ ap cells_of (fields-done (fields_of c.args.row.now) c.loop-field.place (sym c.in_default.ensures.value))
