@@ -1,57 +1,21 @@
 -- Each kind of step keeps the rule of a link.
-use Rattle.std.proofs.Common.{◌≡◌, ◌≢◌, ℕ, zero, suc, ◌+◌, ◌≤◌, Bool, true, false, true≢false, List, [], ◌∷◌, ◌++◌, length, set, sym, refl, ap, ◌∙◌, subst, ⊎_elim, append_assoc, append-nil, length-append, arith}
-use mathlib.Core.Option.{some, some-injective, some-ne-none}
-use native.Mathlib.Decide.{ℕ_discrete}
+use Rattle.std.proofs.Common.{◌≡◌, ◌≢◌, ℕ, ◌+◌, ◌≤◌, true, false, true≢false, List, [], ◌∷◌, ◌++◌, length, set, sym, refl, ap, ◌∙◌, ⊎_elim, append_assoc, append-nil, length-append, arith}
+use mathlib.Core.Option.{some, some-ne-none}
 use lib.ListN.{get_elem?}
 use Rattle.crossbeam_queue.specs.Fifo.{Pushes, Pops, Forks, Merges, Learns, Held}
 use Rattle.crossbeam_queue.proofs.Lists.{at_set, at_snoc, at_last, set_else}
 use Rattle.join_rows.specs.Lists.{IsPrefix}
 use Rattle.epoch_tags.specs.declared.message.Envelope.{Envelope}
 use Rattle.ruled_links.specs.declared.rule.Hand.{Hand}
-use Rattle.ruled_links.specs.Order.{hand, Stands, Fits, IsInOrder}
+use Rattle.ruled_links.specs.Order.{hand, Fits, IsInOrder}
 use Rattle.ruled_links.specs.Ends.{AreLeft}
-
--- ---- places of a list
-
-at_here : (l : List Hand) (i : ℕ) (v a : Hand) → get_elem? l i ≡ some v → get_elem? (set l i a) i ≡ some a
-at_here [] i v a e = absurd (some-ne-none v (sym e))
-at_here (x ∷ xs) zero v a e = refl
-at_here (x ∷ xs) (suc i) v a e = at_here xs i v a e
-
-at_front : (l : List Hand) (i : ℕ) (v a : Hand) → get_elem? l i ≡ some v → get_elem? (l ++ a ∷ []) i ≡ some v
-at_front [] i v a e = absurd (some-ne-none v (sym e))
-at_front (x ∷ xs) zero v a e = e
-at_front (x ∷ xs) (suc i) v a e = at_front xs i v a e
-
--- a place that is new stands at the end
-at_end : (l : List Hand) (a b : Hand) (j : ℕ) → get_elem? l j ≢ some b → get_elem? (l ++ a ∷ []) j ≡ some b → j ≡ length l
-at_end [] a b zero n e = refl
-at_end [] a b (suc j) n e = absurd (some-ne-none b (sym e))
-at_end (x ∷ xs) a b zero n e = absurd (n e)
-at_end (x ∷ xs) a b (suc j) n e = ap suc (at_end xs a b j n e)
+use Rattle.ruled_links.proofs.Places.{at_here, at_front, at_end, Each, Each-set, Stands-set}
 
 -- ---- passes
 
-abbrev Each : (ℕ → Hand → Type 0) → List Hand → Type 0
-Each F hands = (pass : ℕ) (v : Hand) → get_elem? hands pass ≡ some v → F pass v
-
-Each-set : (F : ℕ → Hand → Type 0) (hands : List Hand) (pass : ℕ) (w : Hand) → F pass w → ((j : ℕ) (u : Hand) → j ≢ pass → get_elem? hands j ≡ some u → F j u) → Each F (set hands pass w)
-Each-set F hands pass w mine others j u e = ⊎_elim (λ (x : (j ≡ pass) × (w ≡ u)). subst (λ (y : ℕ × Hand). F y.0 y.1) (λ i. (sym x.0 i, x.1 i)) mine)
-    (λ (x : (j ≢ pass) × (get_elem? hands j ≡ some u)). others j u x.0 x.1) (at_set hands pass j w u e)
-
-longer : {known sent : List Envelope} (more : List Envelope) → IsPrefix known sent → IsPrefix known (sent ++ more)
+-- what begins a list begins a longer one
+pub longer : {known sent : List Envelope} (more : List Envelope) → IsPrefix known sent → IsPrefix known (sent ++ more)
 longer {known} {sent} more p = record { rest = p.rest ++ more; joins = sym (append_assoc known p.rest more) ∙ ap (λ l. l ++ more) p.joins }
-
--- what a pass may do it may still do, where one pass changes that may do the same as before
-Stands-set : (may : Hand → Bool) (hands : List Hand) (pass who : ℕ) (v w : Hand) → get_elem? hands pass ≡ some v → may w ≡ may v → Stands may hands who → Stands may (set hands pass w) who
-Stands-set may hands pass who v w at same p = elim (ℕ_discrete who pass) [
-  | yes e ↦ (
-    w,
-    subst (λ (j : ℕ). get_elem? (set hands pass w) j ≡ some w) (sym e) (at_here hands pass v w at),
-    same ∙ (ap may (some-injective v p.0 (sym at ∙ (ap (λ (j : ℕ). get_elem? hands j) (sym e) ∙ p.1))) ∙ p.2),
-  )
-  | no n ↦ (p.0, set_else hands pass who w n ∙ p.1, p.2)
-]
 
 -- a spent pass may do nothing
 spent_fits : (sender receiver : ℕ) (sent received : List Envelope) (pass : ℕ) → Fits sender receiver sent received pass (hand false false [] [] [])
@@ -85,8 +49,8 @@ puts n pass v x may items hands _ h at =
         sent = sent;
         received = h.received;
         joins = sym (append_assoc h.received items (x ∷ [])) ∙ ap (λ l. l ++ x ∷ []) h.joins;
-        puts = Stands-set (λ u. u.puts) hands pass h.sender v w at refl h.puts;
-        takes = Stands-set (λ u. u.takes) hands pass h.receiver v w at refl h.takes;
+        puts = Stands-set (λ u. u.puts ≡ true) hands pass h.sender v w at (λ p. p) h.puts;
+        takes = Stands-set (λ u. u.takes ≡ true) hands pass h.receiver v w at (λ p. p) h.takes;
         fits = Each-set (Fits h.sender h.receiver sent h.received) hands pass w
             (record {
               puts = λ _. ((mine.puts may).0, ap (λ l. l ++ x ∷ []) (mine.puts may).1);
@@ -112,8 +76,8 @@ takes pass v may x items hands h at =
         sent = h.sent;
         received = received;
         joins = append_assoc h.received (x ∷ []) items ∙ h.joins;
-        puts = Stands-set (λ u. u.puts) hands pass h.sender v w at refl h.puts;
-        takes = Stands-set (λ u. u.takes) hands pass h.receiver v w at refl h.takes;
+        puts = Stands-set (λ u. u.puts ≡ true) hands pass h.sender v w at (λ p. p) h.puts;
+        takes = Stands-set (λ u. u.takes ≡ true) hands pass h.receiver v w at (λ p. p) h.takes;
         fits = Each-set (Fits h.sender h.receiver h.sent received) hands pass w
             (record {
               puts = mine.puts;
@@ -138,7 +102,7 @@ parts pass v may_put may_take items hands h at =
     let fit : Each Cut cut = Each-set Cut hands pass left
     ((λ p. true≢false (sym p)), λ _. ((mine.takes may_take).0, (mine.takes may_take).1, known))
     (λ j u other e. ((λ p. other (((h.fits j u e).puts p).0 ∙ sym (mine.puts may_put).0)), (h.fits j u e).takes)) in
-    let stands = Stands-set (λ u. u.takes) hands pass h.receiver v left at (sym may_take) h.takes in
+    let stands = Stands-set (λ u. u.takes ≡ true) hands pass h.receiver v left at (λ _. refl) h.takes in
     record {
       sender = length cut;
       receiver = h.receiver;
@@ -188,7 +152,7 @@ looks pass v may_put may_take items hands h at =
     let mine = h.fits pass v at in ap (λ l. l ++ items) (mine.takes may_take).1 ∙ h.joins ∙ sym (mine.puts may_put).1
 
 -- what is known and not received is left
-counts : (known rest received items sent : List Envelope) → known ++ rest ≡ sent → received ++ items ≡ sent → length known ≤ length received + length items
+pub counts : (known rest received items sent : List Envelope) → known ++ rest ≡ sent → received ++ items ≡ sent → length known ≤ length received + length items
 counts known rest received items sent a b = omega (arith, ap length a, ap length b, length-append known rest, length-append received items)
 
 pub leaves : (pass : ℕ) (v : Hand) → v.takes ≡ true → Learns IsInOrder pass v (λ items. length v.known ≤ length v.received + length items)

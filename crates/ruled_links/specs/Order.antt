@@ -16,8 +16,8 @@ sent_by None hand_of = []
 sent_by (Some pass) hand_of = (hand_of pass).sent
 
 -- there is such a pass, and it may do this
-abbrev pub Stands : (Hand → Bool) → List Hand → ℕ → Type 0
-Stands may hands pass = (v : Hand) × (get_elem? hands pass ≡ some v) × (may v ≡ true)
+abbrev pub Stands : {V : Type 0} → (V → Type 0) → List V → ℕ → Type 0
+Stands {V} May hands pass = (v : V) × (get_elem? hands pass ≡ some v) × May v
 
 -- what one pass may do, and what it then knows
 pub record Fits (sender receiver : ℕ) (sent received : List Envelope) (pass : ℕ) (v : Hand) : Type 0 where
@@ -32,7 +32,7 @@ pub record IsInOrder (items : List Envelope) (hands : List Hand) : Type 0 where
   pub sent : List Envelope
   pub received : List Envelope
   pub joins : received ++ items ≡ sent
-  pub puts : Stands (λ v. v.puts) hands sender
-  pub takes : Stands (λ v. v.takes) hands receiver
+  pub puts : Stands (λ v. v.puts ≡ true) hands sender
+  pub takes : Stands (λ v. v.takes ≡ true) hands receiver
   pub fits : (pass : ℕ) (v : Hand) → get_elem? hands pass ≡ some v
       → Fits sender receiver sent received pass v

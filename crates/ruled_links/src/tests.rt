@@ -2,6 +2,8 @@ ghost use Rattle.std.specs.Prelude.{◌≡◌, IfOk};
 ghost use Rattle.ruled_links.specs.Ends.{IsSameIn, IsSameOut};
 ghost use Rattle.epoch_tags.specs.declared.actor.Actor.TheVariants.{Feeder};
 
+mod inboxes;
+
 use crate::*;
 use epoch_tags::{Actor, Envelope, Msg, ToController};
 use std::alloc::{AllocError, Global};
@@ -10,11 +12,11 @@ use std::test::*;
 use std::thread;
 use std::thread::Threads;
 
-fn ask(number: u32) -> Envelope
-    ensures { result.from ≡ Feeder 0 }
+fn ask(from: Actor, number: u32) -> Envelope
+    ensures { result.from ≡ from }
 {
     Envelope {
-        from: Actor::Feeder(0),
+        from,
         msg: Msg::Controller(ToController::Ask { dr: number, ds: 0 }),
     }
 }
@@ -32,7 +34,7 @@ fn put_all<R: Wait>(rt: &R, mut out: Out, count: u32) -> (Out, bool)
 {
     let mut all = true;
     for number in 0..count {
-        all &= out.put(rt, ask(number)).is_ok();
+        all &= out.put(rt, ask(Actor::Feeder(0), number)).is_ok();
     }
     (out, all)
 }
