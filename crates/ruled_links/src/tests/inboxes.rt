@@ -1,7 +1,7 @@
 ghost use Rattle.std.specs.Prelude.{◌≡◌, IfOk, IfSome};
 ghost use Rattle.epoch_tags.specs.declared.actor.Actor.TheVariants.{Feeder, Joiner};
 ghost use Rattle.ruled_links.specs.Ends.{IsSameOut};
-ghost use Rattle.ruled_links.specs.Inboxes.{IsSameInbox};
+ghost use Rattle.ruled_links.specs.Inboxes.{IsMouthOf, IsSameInbox};
 
 use super::{ask, number_of};
 use crate::*;
@@ -44,4 +44,216 @@ fn take_up_to<R: Wait>(
         }
     }
     Ok((inbox, got))
+}
+
+fn actors(alloc: Global, all: &[Actor]) -> Result<Actors, AllocError>
+    ensures { IfOk result (λ actors. actors ≡ all.now) }
+{
+    Ok(Actors::from_vec(Vec::from_slice(alloc, all)?))
+}
+
+// An inbox of the controller with two senders, and their mouths.
+fn of_two(alloc: Global) -> Result<(Inbox, Mouth, Mouth), AllocError>
+    ensures x { IfOk result (λ ends. ends.1.from ≡ Feeder 0) }
+    ensures y { IfOk result (λ ends. ends.2.from ≡ Joiner 1) }
+    ensures x_of { IfOk result (λ ends. IsMouthOf ends.1 ends.0) }
+    ensures y_of { IfOk result (λ ends. IsMouthOf ends.2 ends.0) }
+{
+    let senders = actors(alloc, &[Actor::Feeder(0), Actor::Joiner(1)])?;
+    let (inbox, mouths) = inbox(alloc, Actor::Controller, &senders)?;
+    let mut mouths = mouths.into_vec();
+    let x = mouths.remove(0);
+    let y = mouths.remove(0);
+    Ok((inbox, x, y))
+}
+
+#[test]
+fn each_sender_has_a_list_of_its_own(rt: HostRuntime) -> Result<(), Fail> {
+    let (mut inbox, mut x, mut y) = of_two(rt.alloc())?;
+    assert!(rt; x.put(&rt, ask(Actor::Feeder(0), 10)).is_ok());
+    assert!(rt; y.put(&rt, ask(Actor::Joiner(1), 11)).is_ok());
+    assert!(rt; x.put(&rt, ask(Actor::Feeder(0), 12)).is_ok());
+    assert_eq!(rt; inbox.known(), 0);
+    assert_eq!(rt; inbox.take(&rt).map(seen), Some((Actor::Feeder(0), 10)));
+    assert_eq!(rt; inbox.take(&rt).map(seen), Some((Actor::Joiner(1), 11)));
+    assert_eq!(rt; inbox.take(&rt).map(seen), Some((Actor::Feeder(0), 12)));
+    assert_eq!(rt; gather_mouth(&mut x, &mut inbox, &rt), 0);
+    assert_eq!(rt; gather_mouth(&mut y, &mut inbox, &rt), 0);
+    assert!(rt; inbox.take(&rt).is_none());
+    Ok(())
+}
+
+#[test]
+fn known_is_told_by_sender(rt: HostRuntime) -> Result<(), Fail> {
+    let (mut inbox, x, mut y) = of_two(rt.alloc())?;
+    let (mut x, all_put) = put_all(&rt, x, Actor::Feeder(0), 3);
+    assert!(rt; all_put);
+    assert!(rt; y.put(&rt, ask(Actor::Joiner(1), 3)).is_ok());
+    assert_eq!(rt; gather_mouth(&mut x, &mut inbox, &rt), 3);
+    assert_eq!(rt; inbox.known(), 3);
+    assert_eq!(rt; gather_mouth(&mut y, &mut inbox, &rt), 1);
+    assert_eq!(rt; inbox.known(), 4);
+    assert_eq!(rt; inbox.take(&rt).map(seen), Some((Actor::Feeder(0), 0)));
+    assert_eq!(rt; inbox.known(), 3);
+    assert_eq!(rt; gather_mouth(&mut x, &mut inbox, &rt), 2);
+    assert_eq!(rt; inbox.known(), 3);
+    Ok(())
+}
+
+fn link_carries<R: Wait>(
+    rt: &R,
+    alloc: Global,
+    from: Actor,
+    to: Actor,
+) -> Result<bool, AllocError> {
+    let (mut out, mut inn) = link(alloc, from, to)?;
+    let sent = out.put(rt, ask(from, 7)).is_ok();
+    Ok(sent && inn.take(rt).map(seen) == Some((from, 7)))
+}
+
+fn inbox_carries<R: Wait>(
+    rt: &R,
+    alloc: Global,
+    from: Actor,
+    to: Actor,
+) -> Result<bool, AllocError> {
+    let senders = actors(alloc, &[from])?;
+    let (mut inbox, mouths) = inbox(alloc, to, &senders)?;
+    let mut mouth = mouths.into_vec().remove(0);
+    let sent = mouth.put(rt, ask(from, 7)).is_ok();
+    Ok(sent && inbox.take(rt).map(seen) == Some((from, 7)))
+}
+
+// Neither end knows of a message before it is gathered, and still each take makes its pop.
+#[test]
+fn every_kind_of_actor_sends_to_every_kind(rt: HostRuntime) -> Result<(), Fail> {
+    let kinds = [
+        Actor::Feeder(7),
+        Actor::Joiner(63),
+        Actor::Controller,
+        Actor::Collector,
+    ];
+    for from in kinds {
+        for to in kinds {
+            assert!(rt;
+                link_carries(&rt, rt.alloc(), from, to)?,
+                "link {from:?} {to:?}"
+            );
+            assert!(rt;
+                inbox_carries(&rt, rt.alloc(), from, to)?,
+                "inbox {from:?} {to:?}"
+            );
+        }
+    }
+    Ok(())
+}
+
+type Sent = (Mouth, bool);
+
+type Taken = Result<(Inbox, Got), AllocError>;
+
+fn put_two<R: Threads + Wait + Sync>(rt: &R, a: Mouth, b: Mouth) -> (Sent, Sent)
+    requires { (a.from ≡ Feeder 0) × (b.from ≡ Feeder 1) }
+    ensures { IsSameOut a result.0.0 × IsSameOut b result.1.0 }
+{
+    thread::join(
+        rt,
+        move ||
+            requires { a.from ≡ Feeder 0 }
+            ensures { IsSameOut a result.0 }
+        { put_all(rt, a, Actor::Feeder(0), 500) },
+        move ||
+            requires { b.from ≡ Feeder 1 }
+            ensures { IsSameOut b result.0 }
+        { put_all(rt, b, Actor::Feeder(1), 500) },
+    )
+}
+
+fn put_and_take<R: Threads + Wait + Sync>(rt: &R, c: Mouth, inbox: Inbox, got: Got) -> (Sent, Taken)
+    requires { c.from ≡ Feeder 2 }
+    ensures { IsSameOut c result.0.0 × IfOk result.1 (λ taken. IsSameInbox inbox taken.0) }
+{
+    thread::join(
+        rt,
+        move ||
+            requires { c.from ≡ Feeder 2 }
+            ensures { IsSameOut c result.0 }
+        { put_all(rt, c, Actor::Feeder(2), 500) },
+        move ||
+            ensures { IfOk result (λ taken. IsSameInbox inbox taken.0) }
+        { take_up_to(rt, inbox, got, 700) },
+    )
+}
+
+// Three senders put in threads of their own, while another takes.
+fn run_three<R: Threads + Wait + Sync>(
+    rt: &R,
+    inbox: Inbox,
+    a: Mouth,
+    b: Mouth,
+    c: Mouth,
+    got: Got,
+) -> ((Sent, Sent), (Sent, Taken))
+    requires { (a.from ≡ Feeder 0) × (b.from ≡ Feeder 1) × (c.from ≡ Feeder 2) }
+    ensures mouths { IsSameOut a result.0.0.0 × IsSameOut b result.0.1.0 × IsSameOut c result.1.0.0 }
+    ensures inbox { IfOk result.1.1 (λ taken. IsSameInbox inbox taken.0) }
+{
+    thread::join(
+        rt,
+        move ||
+            requires { (a.from ≡ Feeder 0) × (b.from ≡ Feeder 1) }
+            ensures { IsSameOut a result.0.0 × IsSameOut b result.1.0 }
+        { put_two(rt, a, b) },
+        move ||
+            requires { c.from ≡ Feeder 2 }
+            ensures { IsSameOut c result.0.0 × IfOk result.1 (λ taken. IsSameInbox inbox taken.0) }
+        { put_and_take(rt, c, inbox, got) },
+    )
+}
+
+// The numbers from this sender are 0 to 499, in order.
+fn are_all_there(got: &[(Actor, u32)], from: Actor) -> bool {
+    let mut next = 0u32;
+    for (actor, number) in got {
+        if *actor == from {
+            if *number != next {
+                return false;
+            }
+            next = next.saturating_add(1);
+        }
+    }
+    next == 500
+}
+
+#[test]
+fn three_senders_in_threads_keep_their_orders(rt: HostRuntime) -> Result<(), Fail> {
+    let senders = actors(
+        rt.alloc(),
+        &[Actor::Feeder(0), Actor::Feeder(1), Actor::Feeder(2)],
+    )?;
+    let (inbox, mouths) = inbox(rt.alloc(), Actor::Controller, &senders)?;
+    let mut mouths = mouths.into_vec();
+    let a = mouths.remove(0);
+    let b = mouths.remove(0);
+    let c = mouths.remove(0);
+    let got = Vec::new(rt.alloc());
+    let (((mut a, all_a), (mut b, all_b)), ((mut c, all_c), taken)) = run_three(
+        &rt, inbox, a, b, c, got,
+    );
+    assert!(rt; all_a && all_b && all_c);
+    let (mut inbox, got) = taken?;
+    let left = gather_mouth(&mut a, &mut inbox, &rt);
+    let left = left.saturating_add(gather_mouth(&mut b, &mut inbox, &rt));
+    let left = left.saturating_add(gather_mouth(&mut c, &mut inbox, &rt));
+    assert_eq!(rt; left as usize, 1500 - got.len().min(1500));
+    assert_eq!(rt; inbox.known(), left);
+    let (_, got) = take_up_to(&rt, inbox, got, 1500)?;
+    assert_eq!(rt; got.len(), 1500);
+    for sender in 0..3u32 {
+        assert!(rt;
+            are_all_there(got.as_slice(), Actor::Feeder(sender)),
+            "feeder {sender}"
+        );
+    }
+    Ok(())
 }
