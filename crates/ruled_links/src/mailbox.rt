@@ -161,6 +161,20 @@ impl Inbox {
 }
 
 impl Mouth {
+    /// Who sends through it. It takes no memory.
+    pub fn sender(&self) -> Actor
+        ensures { result ≡ self.now.from }
+    {
+        self.from
+    }
+
+    /// Whose inbox it leads to. It takes no memory.
+    pub fn receiver(&self) -> Actor
+        ensures { result ≡ self.now.to }
+    {
+        self.to
+    }
+
     /// Sends a message. `Err` hands it back, and means want of memory; or that the mouth has had 2^62 messages.
     pub fn put<R: Wait>(&mut self, rt: &R, m: Envelope) -> Result<(), Envelope>
         requires { m.from ≡ self.old.from }

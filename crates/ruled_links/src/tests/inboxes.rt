@@ -1,5 +1,5 @@
-ghost use Rattle.std.specs.Prelude.{◌≡◌, IfOk, IfSome};
-ghost use Rattle.epoch_tags.specs.declared.actor.Actor.TheVariants.{Feeder, Joiner};
+ghost use Rattle.std.specs.Prelude.{◌≡◌, IfOk};
+ghost use Rattle.epoch_tags.specs.declared.actor.Actor.TheVariants.{Feeder};
 ghost use Rattle.ruled_links.specs.Ends.{IsSameOut};
 ghost use Rattle.ruled_links.specs.Inboxes.{IsMouthOf, IsSameInbox};
 
@@ -52,51 +52,56 @@ fn actors(alloc: Global, all: &[Actor]) -> Result<Actors, AllocError>
     Ok(Actors::from_vec(Vec::from_slice(alloc, all)?))
 }
 
-// An inbox of the controller with two senders, and their mouths.
-fn of_two(alloc: Global) -> Result<(Inbox, Mouth, Mouth), AllocError>
-    ensures x { IfOk result (λ ends. ends.1.from ≡ Feeder 0) }
-    ensures y { IfOk result (λ ends. ends.2.from ≡ Joiner 1) }
-    ensures x_of { IfOk result (λ ends. IsMouthOf ends.1 ends.0) }
-    ensures y_of { IfOk result (λ ends. IsMouthOf ends.2 ends.0) }
+// An inbox of the controller with three senders, and their mouths.
+fn of_three(alloc: Global) -> Result<(Inbox, Mouth, Mouth, Mouth), AllocError>
+    ensures from { IfOk result (λ ends. (ends.1.from ≡ Feeder 0) × (ends.2.from ≡ Feeder 1) × (ends.3.from ≡ Feeder 2)) }
+    ensures of { IfOk result (λ ends. IsMouthOf ends.1 ends.0 × IsMouthOf ends.2 ends.0 × IsMouthOf ends.3 ends.0) }
 {
-    let senders = actors(alloc, &[Actor::Feeder(0), Actor::Joiner(1)])?;
+    let senders = actors(
+        alloc,
+        &[Actor::Feeder(0), Actor::Feeder(1), Actor::Feeder(2)],
+    )?;
     let (inbox, mouths) = inbox(alloc, Actor::Controller, &senders)?;
     let mut mouths = mouths.into_vec();
-    let x = mouths.remove(0);
-    let y = mouths.remove(0);
-    Ok((inbox, x, y))
+    let a = mouths.remove(0);
+    let b = mouths.remove(0);
+    let c = mouths.remove(0);
+    Ok((inbox, a, b, c))
+}
+
+// How many are left of each of two senders.
+fn left_of_two<R: Wait>(rt: &R, inbox: &mut Inbox, mut a: Mouth, mut b: Mouth) -> (u64, u64)
+    requires a { IsMouthOf a inbox.old }
+    requires b { IsMouthOf b inbox.old }
+    ensures { IsSameInbox inbox.old inbox.new }
+{
+    (
+        gather_mouth(&mut a, inbox, rt),
+        gather_mouth(&mut b, inbox, rt),
+    )
+}
+
+fn put_three<R: Wait>(rt: &R, x: &mut Mouth, y: &mut Mouth) -> bool
+    requires { (x.old.from ≡ Feeder 0) × (y.old.from ≡ Feeder 1) }
+    ensures { IsSameOut x.old x.new × IsSameOut y.old y.new }
+{
+    x.put(rt, ask(Actor::Feeder(0), 10)).is_ok()
+        && y.put(rt, ask(Actor::Feeder(1), 11)).is_ok()
+        && x.put(rt, ask(Actor::Feeder(0), 12)).is_ok()
 }
 
 #[test]
 fn each_sender_has_a_list_of_its_own(rt: HostRuntime) -> Result<(), Fail> {
-    let (mut inbox, mut x, mut y) = of_two(rt.alloc())?;
-    assert!(rt; x.put(&rt, ask(Actor::Feeder(0), 10)).is_ok());
-    assert!(rt; y.put(&rt, ask(Actor::Joiner(1), 11)).is_ok());
-    assert!(rt; x.put(&rt, ask(Actor::Feeder(0), 12)).is_ok());
-    assert_eq!(rt; inbox.known(), 0);
-    assert_eq!(rt; inbox.take(&rt).map(seen), Some((Actor::Feeder(0), 10)));
-    assert_eq!(rt; inbox.take(&rt).map(seen), Some((Actor::Joiner(1), 11)));
-    assert_eq!(rt; inbox.take(&rt).map(seen), Some((Actor::Feeder(0), 12)));
-    assert_eq!(rt; gather_mouth(&mut x, &mut inbox, &rt), 0);
-    assert_eq!(rt; gather_mouth(&mut y, &mut inbox, &rt), 0);
-    assert!(rt; inbox.take(&rt).is_none());
-    Ok(())
-}
-
-#[test]
-fn known_is_told_by_sender(rt: HostRuntime) -> Result<(), Fail> {
-    let (mut inbox, x, mut y) = of_two(rt.alloc())?;
-    let (mut x, all_put) = put_all(&rt, x, Actor::Feeder(0), 3);
-    assert!(rt; all_put);
-    assert!(rt; y.put(&rt, ask(Actor::Joiner(1), 3)).is_ok());
-    assert_eq!(rt; gather_mouth(&mut x, &mut inbox, &rt), 3);
-    assert_eq!(rt; inbox.known(), 3);
-    assert_eq!(rt; gather_mouth(&mut y, &mut inbox, &rt), 1);
-    assert_eq!(rt; inbox.known(), 4);
-    assert_eq!(rt; inbox.take(&rt).map(seen), Some((Actor::Feeder(0), 0)));
-    assert_eq!(rt; inbox.known(), 3);
-    assert_eq!(rt; gather_mouth(&mut x, &mut inbox, &rt), 2);
-    assert_eq!(rt; inbox.known(), 3);
+    let (inbox, mut x, mut y, _) = of_three(rt.alloc())?;
+    assert!(rt; put_three(&rt, &mut x, &mut y));
+    let (mut inbox, got) = take_up_to(&rt, inbox, Vec::new(rt.alloc()), 4)?;
+    let want = [
+        (Actor::Feeder(0), 10),
+        (Actor::Feeder(1), 11),
+        (Actor::Feeder(0), 12),
+    ];
+    assert!(rt; got.as_slice() == want.as_slice());
+    assert_eq!(rt; left_of_two(&rt, &mut inbox, x, y), (0, 0));
     Ok(())
 }
 
@@ -227,28 +232,21 @@ fn are_all_there(got: &[(Actor, u32)], from: Actor) -> bool {
 
 #[test]
 fn three_senders_in_threads_keep_their_orders(rt: HostRuntime) -> Result<(), Fail> {
-    let senders = actors(
-        rt.alloc(),
-        &[Actor::Feeder(0), Actor::Feeder(1), Actor::Feeder(2)],
-    )?;
-    let (inbox, mouths) = inbox(rt.alloc(), Actor::Controller, &senders)?;
-    let mut mouths = mouths.into_vec();
-    let a = mouths.remove(0);
-    let b = mouths.remove(0);
-    let c = mouths.remove(0);
+    let (inbox, a, b, c) = of_three(rt.alloc())?;
     let got = Vec::new(rt.alloc());
-    let (((mut a, all_a), (mut b, all_b)), ((mut c, all_c), taken)) = run_three(
-        &rt, inbox, a, b, c, got,
-    );
+    let (((a, all_a), (b, all_b)), ((mut c, all_c), taken)) = run_three(&rt, inbox, a, b, c, got);
     assert!(rt; all_a && all_b && all_c);
     let (mut inbox, got) = taken?;
-    let left = gather_mouth(&mut a, &mut inbox, &rt);
-    let left = left.saturating_add(gather_mouth(&mut b, &mut inbox, &rt));
-    let left = left.saturating_add(gather_mouth(&mut c, &mut inbox, &rt));
-    assert_eq!(rt; left as usize, 1500 - got.len().min(1500));
-    assert_eq!(rt; inbox.known(), left);
+    let left = left_of_two(&rt, &mut inbox, a, b);
+    let known = left
+        .0
+        .saturating_add(left.1)
+        .saturating_add(gather_mouth(&mut c, &mut inbox, &rt));
+    assert_eq!(rt;
+        (known as usize, inbox.known()),
+        (1500 - got.len().min(1500), known)
+    );
     let (_, got) = take_up_to(&rt, inbox, got, 1500)?;
-    assert_eq!(rt; got.len(), 1500);
     for sender in 0..3u32 {
         assert!(rt;
             are_all_there(got.as_slice(), Actor::Feeder(sender)),
