@@ -14,6 +14,7 @@ pub mod Finished
 pub mod Lawful
 pub mod Ends
 pub mod StampOf
+pub mod Counted
 pub mod Made
 pub mod Numbers
 pub mod Stored

@@ -53,7 +53,7 @@ both_of feeders p rows_r rows_s i is = by_tests (nat_lt i rows_r) (nat_lt i rows
     by_tests false true = (is, tt)
     by_tests false false = tt
 
-share_is_own : (feed : Feed) (feeders p rows_r rows_s : ℕ) → AllByRecursion (λ a. a.index % feeders ≡ p) (share feed feeders p rows_r rows_s)
+pub share_is_own : (feed : Feed) (feeders p rows_r rows_s : ℕ) → AllByRecursion (λ a. a.index % feeders ≡ p) (share feed feeders p rows_r rows_s)
 share_is_own Alternate feeders p rows_r rows_s =
     all-flat_map (λ (a : Place). a.index % feeders ≡ p) (both_at rows_r rows_s) (indices feeders p (max rows_r rows_s))
     (weaken (λ i. i % feeders ≡ p) (λ i. AllByRecursion (λ (a : Place). a.index % feeders ≡ p) (both_at rows_r rows_s i)) (λ i is. both_of feeders p rows_r rows_s i is) (indices feeders p (max rows_r rows_s)) (indices_of feeders p (max rows_r rows_s)))

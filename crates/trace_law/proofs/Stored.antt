@@ -1,5 +1,5 @@
 -- A joiner stores what it holds of the rows that were counted.
-use Rattle.std.proofs.Common.{◌≡◌, ℕ, ◌+◌, ◌<◌, ◌≤◌, ◌^◌, ◌⊎◌, inl, inr, refl, sym, ◌∙◌, ap, subst, arith, Bool, true, false, cond, not, ◌&&◌, List, [], ◌∷◌, ◌++◌, length, append_assoc, append-nil, drop}
+use Rattle.std.proofs.Common.{◌≡◌, ℕ, ◌+◌, ◌<◌, ◌≤◌, ◌^◌, ◌⊎◌, inl, inr, refl, sym, ◌∙◌, ap, subst, arith, Bool, true, false, cond, not, ◌&&◌, List, [], ◌∷◌, ◌++◌, length, append_assoc, drop}
 use Rattle.std.specs.Prelude.{map, filter, filter_map, option_map, sum_by, ◌==◌, Option, Some, None}
 use Rattle.std.specs.List.{AllByRecursion, range_with_len, cons_option}
 use Rattle.std.proofs.lemmas.Bool.{lt-leb}
@@ -31,7 +31,7 @@ use Rattle.trace_law.specs.Stored.{counted_rows, is_stored, HasAllOf, all_places
 use Rattle.trace_law.proofs.Arrivals.{front_of}
 use Rattle.trace_law.proofs.Journals.{stores_what_it_holds, feeders_go, begins}
 use Rattle.trace_law.proofs.RowSums.{shares_sum}
-use Rattle.trace_law.proofs.Stamps.{with_stamps, grant_epochs, epoch_now, granted_is, epochs-append, epochs_sent, some_of_batches}
+use Rattle.trace_law.proofs.Stamps.{with_stamps, grant_epochs, epoch_now, granted_is, epochs-append, epochs_sent}
 use Rattle.trace_law.proofs.Loop.{rows_at}
 use Rattle.trace_law.proofs.AtMost.{stores_at_most}
 use Rattle.trace_law.proofs.Sent.{shift, rows}
@@ -40,8 +40,8 @@ use Rattle.trace_law.proofs.Ends.{sent_last}
 use Rattle.trace_law.proofs.StampOf.{weigh, counted_weigh}
 use Rattle.trace_law.proofs.Made.{shift_same}
 use Rattle.join_rows.proofs.Within.{IsWithinBag-trans, within-filter, within-gather, within-more, within_same}
-use Rattle.join_rows.proofs.Everywhere.{all-append, all-gather}
-use Rattle.join_rows.proofs.Totals.{total_same, total_le, sum-gather, range_sum}
+use Rattle.join_rows.proofs.Everywhere.{all-append}
+use Rattle.join_rows.proofs.Totals.{total_same, sum-gather, range_sum}
 use Rattle.epoch_tags.proofs.Appends.{nothing_left, turns-append, ends-append}
 use Rattle.epoch_tags.specs.Orders.{StopsLast}
 use Rattle.reshuffler_core.proofs.TakesAll.{answers_turns, answers_ends}

@@ -1,11 +1,11 @@
 -- What every agreeing family keeps to.
-use Rattle.std.specs.Prelude.{ℕ, ◌≡◌, ◌+◌, ◌*◌, ◌^◌, ◌<◌, ◌≤◌, All, Some, List, [], map, reverse}
+use Rattle.std.specs.Prelude.{IsSome, ℕ, ◌≡◌, ◌+◌, ◌*◌, ◌^◌, ◌<◌, ◌≤◌, All, Some, List, [], map, reverse}
 use Rattle.std.specs.List.{AllByRecursion}
 use Rattle.join_rows.specs.declared.table.Side.TheVariants.{R, S}
 use Rattle.join_rows.specs.Lists.{SameBag, IsWithinBag}
 use Rattle.epoch_tags.specs.declared.tuple.Pair.{Pair}
 use Rattle.load_controller.specs.declared.line.TurnLine.{TurnLine}
-use Rattle.load_controller.specs.Journal.{IsLawfulSoFar, last_epoch, due_lines}
+use Rattle.load_controller.specs.Journal.{IsLawful, IsLawfulSoFar, last_epoch, due_lines}
 use Rattle.pair_collector.specs.Law.{pairs_taken}
 use Rattle.pair_collector.specs.Order.{InOrder}
 use Rattle.trace_law.specs.declared.input.Input.{Input}
@@ -15,6 +15,8 @@ use Rattle.trace_law.specs.Widths.{HasRow}
 use Rattle.pair_collector.specs.declared.collected.Collected.{Collected}
 use Rattle.pair_collector.specs.Answer.{Collects}
 use Rattle.trace_law.specs.declared.run.Run.{Run}
+use Rattle.join_rows.specs.declared.table.Side.{Side}
+use Rattle.row_tickets.specs.Share.{place_at}
 use Rattle.trace_law.specs.Runs.{StaysAt, IsRunOf, run_of}
 use Rattle.joiner_law.specs.Law.{opened, shift_after}
 use Rattle.epoch_tags.specs.declared.actor.Actor.TheVariants.{Joiner}
@@ -22,7 +24,7 @@ use Rattle.epoch_tags.specs.Links.{HasLink}
 use Rattle.trace_law.specs.Stored.{StoresItsRows}
 use Rattle.trace_law.specs.declared.setting.Setting.{Setting}
 use Rattle.trace_law.specs.Validity.{IsValidInput, IsValidSetting, IsValid}
-use Rattle.trace_law.specs.Family.{Family, IsAgreeing, joiner_start, IsQuiet, IsFinished, NothingWrongIsSent, AnswersTheJoin, batches, rules_of, events}
+use Rattle.trace_law.specs.Family.{Family, IsAgreeing, joiner_start, IsQuiet, IsFinished, NothingWrongIsSent, AnswersTheJoin, batches, rules_of, stamp_at, events}
 
 -- ---- for which inputs
 
@@ -78,6 +80,12 @@ FixedStays = (input : Input) (setting : Setting) (journal : List TurnLine) → I
 abbrev pub FixedMovesNothing : Type 0
 FixedMovesNothing = (input : Input) (setting : Setting) (journal : List TurnLine) (run : Run) → IsRunOf input setting journal run
     → (shift : ℕ) → setting.fixed ≡ Some shift → run.moved ≡ []
+
+-- a lawful journal has counted each row
+abbrev pub LawfulCountsEachRow : Type 0
+LawfulCountsEachRow = (input : Input) (setting : Setting) (journal : List TurnLine) → IsValid input setting
+    → IsLawful (rules_of setting) (λ p. map size_of (batches input setting p)) journal
+    → (side : Side) (index : ℕ) → index < row_count input side → IsSome (stamp_at input setting journal (place_at side index))
 
 -- a family has not more events than this, its journal having that many migrations
 abbrev pub EventsAreFew : Type 0

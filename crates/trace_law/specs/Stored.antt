@@ -1,6 +1,6 @@
 -- Which rows a joiner has stored.
-use Rattle.std.specs.Prelude.{◌≡◌, ℕ, ◌^◌, ◌<◌, ◌≤◌, nat_le, Bool, ◌&&◌, ◌⊎◌, List, [], ◌∷◌, ◌++◌, map, filter, filter_map, option_map}
-use Rattle.std.specs.List.{AllByRecursion, range_with_len}
+use Rattle.std.specs.Prelude.{ℕ, ◌^◌, ◌<◌, ◌≤◌, nat_le, Bool, ◌&&◌, ◌⊎◌, List, ◌++◌, map, filter, filter_map, option_map}
+use Rattle.std.specs.List.{range_with_len}
 use Rattle.join_rows.specs.declared.table.Side.TheVariants.{R, S}
 use Rattle.join_rows.specs.Lists.{SameBag, IsWithinBag}
 use Rattle.epoch_tags.specs.declared.tuple.Tuple.{Tuple}

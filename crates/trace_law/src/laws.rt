@@ -1,6 +1,6 @@
 // What every agreeing family keeps to, each law as the contract of a function with an empty body.
 
-ghost use Rattle.trace_law.specs.Laws.{FixedMovesNothing, FixedStays, NoLinkNoMessage, FinishedAnswers, LimitsSuffice, SendsNothingWrong, TakesNothingWrong, StoresWhatItHolds, NoneIsStrange, KeepsALawfulJournal, LawfulIsBounded, EventsAreFew, FinishedAfterTwoMigrations, TakenIsDetermined, QuietIsFinished, AnswersInTheEnd, SortsIntoTheLoop};
+ghost use Rattle.trace_law.specs.Laws.{LawfulCountsEachRow, FixedMovesNothing, FixedStays, NoLinkNoMessage, FinishedAnswers, LimitsSuffice, SendsNothingWrong, TakesNothingWrong, StoresWhatItHolds, NoneIsStrange, KeepsALawfulJournal, LawfulIsBounded, EventsAreFew, FinishedAfterTwoMigrations, TakenIsDetermined, QuietIsFinished, AnswersInTheEnd, SortsIntoTheLoop};
 
 /// A valid input and a valid setting are what the other laws ask for.
 pub fn limits_suffice()
@@ -50,6 +50,11 @@ pub fn fixed_stays()
 /// Where a shift is fixed, a run moves nothing.
 pub fn fixed_moves_nothing()
     ensures { FixedMovesNothing }
+{}
+
+/// A lawful journal has counted each row.
+pub fn lawful_counts_each_row()
+    ensures { LawfulCountsEachRow }
 {}
 
 /// An agreeing family has few events.
