@@ -32,3 +32,5 @@ pub mod Few
 pub mod OneTaken
 pub mod Migrating
 pub mod MigratingLaws
+pub mod Late
+pub mod LateLaws

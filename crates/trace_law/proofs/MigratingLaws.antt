@@ -24,7 +24,7 @@ use Rattle.trace_law.specs.Join.{table_of, tickets_of}
 use Rattle.row_tickets.specs.declared.place.Feed.TheVariants.{RFirst}
 use Rattle.trace_law.specs.declared.setting.Setting.{Setting}
 use Rattle.trace_law.specs.Validity.{IsFor, IsValid}
-use Rattle.trace_law.specs.Family.{IsAgreeing, IsFinished as IsFinishedFamily, feeder_start, joiner_start, rules_of, first_line}
+use Rattle.trace_law.specs.Family.{IsAgreeing, IsQuiet, IsFinished as IsFinishedFamily, feeder_start, joiner_start, rules_of, first_line}
 use Rattle.trace_law.specs.Laws.{FinishedAfterTwoMigrations}
 use Rattle.trace_law.specs.Rows.{journal, input}
 use Rattle.grid_map.proofs.Halves.{back_again}
@@ -61,11 +61,11 @@ feeder_law = record {
 
 -- ---- the joiners: what holds of each
 
-append-nil : {A : Type 0} (xs : List A) → xs ++ [] ≡ xs
+pub append-nil : {A : Type 0} (xs : List A) → xs ++ [] ≡ xs
 append-nil [] = refl
 append-nil (x ∷ xs) = ap (λ ys. x ∷ ys) (append-nil xs)
 
-all_of : (can_take : ToJoiner → Type 0) (ms : List ToJoiner) → IsTakenOf can_take ms ms
+pub all_of : (can_take : ToJoiner → Type 0) (ms : List ToJoiner) → IsTakenOf can_take ms ms
 all_of can_take ms = record { held = []; splits = append-nil ms; stuck = λ m rest is. absurd (cc) }
 
 counts_up : (j : ℕ) → CountsUp 0 (fed j)
@@ -458,6 +458,17 @@ finished = record {
   collector = λ j low. omega arith;
 }
 
+quiet : IsQuiet input setting family agrees
+quiet = record {
+  feeder_joiner = λ p j low low'. refl;
+  joiner_joiner = λ i j link. refl;
+  controller_feeder = λ p low. refl;
+  feeder_controller = λ p low. refl;
+  joiner_controller = λ j low. refl;
+  joiner_collector = λ j low. refl;
+  none_begins = λ p low. inl (omega arith);
+}
+
 valid : IsValid input setting
 valid = record {
   of_input = record { sides = sides_of; bytes = bytes_of };
@@ -479,4 +490,4 @@ valid = record {
     bytes_of S = All-from_recursion is_byte (tickets_of input S) (omega arith, (omega arith, (omega arith, (omega arith, (omega arith, (omega arith, (omega arith, (omega arith, tt))))))))
 
 pub finished_after_two : FinishedAfterTwoMigrations
-finished_after_two = record { input = input; setting = setting; family = family; valid = valid; agrees = agrees; finished = finished; migrated = refl }
+finished_after_two = record { input = input; setting = setting; family = family; valid = valid; agrees = agrees; finished = finished; quiet = quiet; migrated = refl }

@@ -1,5 +1,5 @@
 -- What every agreeing family keeps to.
-use Rattle.std.specs.Prelude.{IsSome, ℕ, ◌≡◌, ◌+◌, ◌*◌, ◌^◌, ◌<◌, ◌≤◌, All, Some, List, [], map, reverse}
+use Rattle.std.specs.Prelude.{length, IsSome, ℕ, ◌≡◌, ◌+◌, ◌*◌, ◌^◌, ◌<◌, ◌≤◌, All, Some, List, [], map, reverse}
 use Rattle.std.specs.List.{AllByRecursion}
 use Rattle.join_rows.specs.declared.table.Side.TheVariants.{R, S}
 use Rattle.join_rows.specs.Lists.{SameBag, IsWithinBag}
@@ -17,6 +17,7 @@ use Rattle.pair_collector.specs.Answer.{Collects}
 use Rattle.trace_law.specs.declared.run.Run.{Run}
 use Rattle.join_rows.specs.declared.table.Side.{Side}
 use Rattle.row_tickets.specs.Share.{place_at}
+use Rattle.epoch_tags.specs.Messages.{moved_of}
 use Rattle.trace_law.specs.Runs.{StaysAt, IsRunOf, run_of}
 use Rattle.joiner_law.specs.Law.{opened, shift_after}
 use Rattle.epoch_tags.specs.declared.actor.Actor.TheVariants.{Joiner}
@@ -123,7 +124,7 @@ SortsIntoTheLoop = (input : Input) (pairs : List Pair) → InOrder pairs → Sam
 
 -- ---- the premises can be met
 
--- a finished family with two migrations
+-- a finished, quiet family with two migrations
 pub record FinishedAfterTwoMigrations : Type 0 where
   pub input : Input
   pub setting : Setting
@@ -131,4 +132,18 @@ pub record FinishedAfterTwoMigrations : Type 0 where
   pub valid : IsValid input setting
   pub agrees : IsAgreeing input setting family
   pub finished : IsFinished input setting family agrees
+  pub quiet : IsQuiet input setting family agrees
   pub migrated : last_epoch family.controller.journal ≡ 2
+
+-- and one of two feeders with one migration, in which joiner 1 moves a row of the old epoch to joiner 0
+pub record FinishedWithAnOldRowMoved : Type 0 where
+  pub input : Input
+  pub setting : Setting
+  pub family : Family
+  pub valid : IsValid input setting
+  pub agrees : IsAgreeing input setting family
+  pub finished : IsFinished input setting family agrees
+  pub quiet : IsQuiet input setting family agrees
+  pub two_feeders : setting.feeders ≡ 2
+  pub migrated : last_epoch family.controller.journal ≡ 1
+  pub moved : 0 < length (moved_of 1 ((family.joiner 1).to_joiner 0))

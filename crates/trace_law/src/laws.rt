@@ -1,6 +1,6 @@
 // What every agreeing family keeps to, each law as the contract of a function with an empty body.
 
-ghost use Rattle.trace_law.specs.Laws.{LawfulCountsEachRow, FixedMovesNothing, FixedStays, NoLinkNoMessage, FinishedAnswers, LimitsSuffice, SendsNothingWrong, TakesNothingWrong, StoresWhatItHolds, NoneIsStrange, KeepsALawfulJournal, LawfulIsBounded, EventsAreFew, FinishedAfterTwoMigrations, TakenIsDetermined, QuietIsFinished, AnswersInTheEnd, SortsIntoTheLoop};
+ghost use Rattle.trace_law.specs.Laws.{FinishedWithAnOldRowMoved, LawfulCountsEachRow, FixedMovesNothing, FixedStays, NoLinkNoMessage, FinishedAnswers, LimitsSuffice, SendsNothingWrong, TakesNothingWrong, StoresWhatItHolds, NoneIsStrange, KeepsALawfulJournal, LawfulIsBounded, EventsAreFew, FinishedAfterTwoMigrations, TakenIsDetermined, QuietIsFinished, AnswersInTheEnd, SortsIntoTheLoop};
 
 /// A valid input and a valid setting are what the other laws ask for.
 pub fn limits_suffice()
@@ -90,4 +90,9 @@ pub fn sorts_into_the_loop()
 /// The premises of these laws can be met: a family with two migrations agrees and is finished.
 pub fn some_family_migrates()
     ensures { FinishedAfterTwoMigrations }
+{}
+
+/// And so they can with two feeders, where a row of the old epoch is moved.
+pub fn some_family_moves_an_old_row()
+    ensures { FinishedWithAnOldRowMoved }
 {}
