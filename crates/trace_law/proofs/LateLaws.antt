@@ -1,6 +1,6 @@
 -- The actors of the finished family with an old row that is moved keep their laws, and agree.
-use Rattle.std.proofs.Common.{◌≡◌, ℕ, zero, suc, ◌+◌, ◌<◌, ◌^◌, ◌==◌, inl, inr, refl, sym, subst, arith, false, List, [], ◌∷◌, length}
-use Rattle.std.specs.Prelude.{All, filter, reverse, drop}
+use Rattle.std.proofs.Common.{◌≡◌, ℕ, zero, suc, ◌+◌, ◌<◌, ◌^◌, ◌==◌, inl, inr, refl, sym, subst, arith, false, [], ◌∷◌, length}
+use Rattle.std.specs.Prelude.{All, filter}
 use Rattle.std.specs.List.{AllByRecursion}
 use Rattle.std.proofs.lemmas.Bool.{cases_eq, ne_eqb}
 use Rattle.std.proofs.lemmas.List.Elements.{All-from_recursion}
@@ -9,21 +9,17 @@ use Rattle.join_rows.specs.declared.table.Side.TheVariants.{R, S}
 use Rattle.join_rows.specs.Lists.{SameBag}
 use Rattle.epoch_tags.specs.Messages.{turns, ends, moved_of, moved_ends, turn_shifts, stops, draineds, fins}
 use Rattle.epoch_tags.specs.Orders.{CountsUp, NeverFalls}
-use Rattle.epoch_tags.specs.declared.message.ToController.TheVariants.{Ask, Drained}
 use Rattle.migration_plan.specs.Steps.{AreNeighbours, is_of}
 use Rattle.reshuffler_core.specs.Law.{FeederLaw, answers}
 use Rattle.joiner_law.specs.Law.{JoinerLaw, JoinerStart, IsSettled, AllTurned, IsAtRest, shift_after, partner_of, exchanged, store}
-use Rattle.load_controller.specs.declared.line.Cause.TheVariants.{Settle}
-use Rattle.load_controller.specs.declared.line.TurnLine.{TurnLine}
-use Rattle.load_controller.specs.Journal.{Follows}
-use Rattle.load_controller.specs.Law.{ControllerLaw, CountsMessages, CountsSettled, sent_by}
 use Rattle.theta_pred.specs.Truth.{width_of}
 use Rattle.trace_law.specs.Join.{table_of, tickets_of}
 use Rattle.trace_law.specs.Validity.{IsFor, IsValid}
-use Rattle.trace_law.specs.Family.{IsAgreeing, IsQuiet, IsFinished as IsFinishedFamily, feeder_start, joiner_start, rules_of, first_line}
+use Rattle.trace_law.specs.Family.{IsAgreeing, IsQuiet, IsFinished as IsFinishedFamily, feeder_start, joiner_start}
 use Rattle.trace_law.specs.Laws.{FinishedWithAnOldRowMoved}
 use Rattle.trace_law.proofs.MigratingLaws.{all_of, append-nil}
-use Rattle.trace_law.proofs.Late.{input, setting, journal, orders, requests, fed, passed, founds, last_words, collected, taken, family}
+use Rattle.trace_law.proofs.Late.{input, setting, orders, requests, fed, passed, founds, last_words, collected, taken, family}
+use Rattle.trace_law.proofs.LateController.{controller_law}
 
 abbrev start : ℕ → JoinerStart
 start j = joiner_start input setting j
@@ -245,80 +241,6 @@ joiner_law (suc zero) low = record {
 }
 joiner_law (suc (suc j)) low = absurd (omega arith)
 
--- ---- the controller
-
-abbrev line : TurnLine
-line = record { cause = Settle 1; rows_r = 2; rows_s = 3; base_r = 2; base_s = 3; epoch = 1; shift = 1; goal = 1; moving = false }
-
-abbrev past : List TurnLine
-past = drop 1 (reverse journal)
-
-follows : Follows (rules_of setting) (first_line setting) (line ∷ past)
-follows =
-    let none : 0 < 2 = omega arith in
-    let one : 1 < 2 = omega arith in
-    (refl, (one, refl, refl), (refl, (none, refl, refl), (refl, none, (refl, one, (refl, none, (refl, one, refl))))))
-
-counts : (p : ℕ) → p < 2 → CountsMessages p line past (requests p)
-counts zero low = record {
-  counted = requests 0;
-  passed = [];
-  splits = refl;
-  are_counted = record {
-    earlier = Ask 1 2 ∷ [];
-    passed = [];
-    m = Drained;
-    splits = refl;
-    passes = tt;
-    in_place = refl;
-    is = refl;
-    are_earlier = record { earlier = []; passed = []; m = Ask 1 2; splits = refl; passes = tt; in_place = (refl, omega arith, omega arith); is = refl; are_earlier = refl };
-  };
-  not_in_place = tt;
-}
-counts (suc zero) low = record {
-  counted = requests 1;
-  passed = [];
-  splits = refl;
-  are_counted = record {
-    earlier = Ask 1 1 ∷ [];
-    passed = [];
-    m = Drained;
-    splits = refl;
-    passes = tt;
-    in_place = refl;
-    is = refl;
-    are_earlier = record { earlier = []; passed = []; m = Ask 1 1; splits = refl; passes = tt; in_place = (refl, omega arith, omega arith); is = refl; are_earlier = refl };
-  };
-  not_in_place = tt;
-}
-counts (suc (suc p)) low = absurd (omega arith)
-
-settles : (j : ℕ) → j < 2 → CountsSettled j line past (1 ∷ [])
-settles zero low = record {
-  counted = 1 ∷ [];
-  held = [];
-  splits = refl;
-  are_settled = record { earlier = []; epoch = 1; splits = refl; in_place = (refl, refl, refl); are_earlier = refl };
-  stuck = λ epoch rest is. absurd (cc);
-}
-settles (suc zero) low = record {
-  counted = 1 ∷ [];
-  held = [];
-  splits = refl;
-  are_settled = record { earlier = []; epoch = 1; splits = refl; in_place = (refl, refl, refl); are_earlier = refl };
-  stuck = λ epoch rest is. absurd (cc);
-}
-settles (suc (suc j)) low = absurd (omega arith)
-
-sends : (p : ℕ) → p < 2 → orders p ≡ sent_by (rules_of setting) p (line ∷ past)
-sends zero low = refl
-sends (suc zero) low = refl
-sends (suc (suc p)) low = absurd (omega arith)
-
-controller_law : ControllerLaw (rules_of setting) (first_line setting) family.controller
-controller_law = record { line = line; past = past; journal = refl; follows = follows; counts = counts; settles = settles; sends = sends }
-
 -- ---- all of them
 
 abbrev agrees : IsAgreeing input setting family
@@ -366,7 +288,7 @@ quiet = record {
     drained zero = omega arith
     drained (suc p) = omega arith
 
-valid : IsValid input setting
+pub valid : IsValid input setting
 valid = record {
   of_input = record { sides = sides_of; bytes = bytes_of };
   some = omega arith;

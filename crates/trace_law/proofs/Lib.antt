@@ -31,6 +31,9 @@ pub mod Events
 pub mod Few
 pub mod OneTaken
 pub mod Migrating
+pub mod MigratingController
 pub mod MigratingLaws
 pub mod Late
+pub mod LateController
 pub mod LateLaws
+pub mod HeldMoved

@@ -1,7 +1,7 @@
 -- A finished family with two migrations: four joiners, one feeder, batches of four, all rows of R first,
 -- eight rows on each side, and a predicate that is always true. First the actors' lists.
 use Rattle.std.proofs.Common.{ℕ, ◌+◌, ◌*◌, ◌%◌, ◌==◌, List, [], ◌∷◌, ◌++◌, cond}
-use Rattle.std.specs.Prelude.{bit_xor, map}
+use Rattle.std.specs.Prelude.{None, bit_xor, map}
 use Rattle.join_rows.specs.declared.table.Side.TheVariants.{R, S}
 use Rattle.epoch_tags.specs.declared.tuple.Tuple.{Tuple}
 use Rattle.epoch_tags.specs.declared.tuple.Pair.{Pair}
@@ -14,8 +14,13 @@ use Rattle.epoch_tags.specs.declared.message.ToController.TheVariants.{Ask, Drai
 use Rattle.epoch_tags.specs.declared.message.ToCollector.{ToCollector}
 use Rattle.epoch_tags.specs.declared.message.ToCollector.TheVariants.{Found, Fin}
 use Rattle.joiner_law.specs.Law.{Taken}
+use Rattle.row_tickets.specs.declared.place.Feed.TheVariants.{RFirst}
+use Rattle.trace_law.specs.declared.setting.Setting.{Setting}
 use Rattle.trace_law.specs.Family.{Family}
 use Rattle.trace_law.specs.Rows.{journal}
+
+abbrev pub setting : Setting
+setting = record { k = 2; feeders = 1; workers = 1; batch = 4; feed = RFirst; fixed = None }
 
 -- ---- rows
 

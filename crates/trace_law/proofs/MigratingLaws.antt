@@ -1,6 +1,6 @@
 -- The actors of the finished family with two migrations keep their laws, and agree.
 use Rattle.std.proofs.Common.{◌≡◌, ℕ, zero, suc, ◌+◌, ◌<◌, ◌≤◌, ◌^◌, ◌==◌, ◌⊎◌, inl, inr, refl, sym, ◌∙◌, ap, subst, arith, Bool, true, false, List, [], ◌∷◌, ◌++◌, length, cond}
-use Rattle.std.specs.Prelude.{All, filter, None, reverse, drop}
+use Rattle.std.specs.Prelude.{All, filter}
 use Rattle.std.specs.List.{AllByRecursion}
 use Rattle.std.proofs.lemmas.Bool.{cases_eq, ne_eqb, eq-eqb}
 use Rattle.join_rows.specs.declared.table.Side.{Side}
@@ -9,29 +9,20 @@ use Rattle.join_rows.specs.Lists.{SameBag}
 use Rattle.epoch_tags.specs.Messages.{moved_of, moved_ends, turn_shifts}
 use Rattle.epoch_tags.specs.Orders.{CountsUp, NeverFalls}
 use Rattle.epoch_tags.specs.declared.message.ToJoiner.{ToJoiner}
-use Rattle.epoch_tags.specs.declared.message.ToController.TheVariants.{Ask, Drained}
 use Rattle.epoch_tags.specs.declared.message.ToCollector.TheVariants.{Fin}
 use Rattle.migration_plan.specs.Steps.{AreNeighbours, is_of}
 use Rattle.reshuffler_core.specs.Law.{FeederLaw, answers}
 use Rattle.joiner_law.specs.Law.{JoinerLaw, JoinerStart, IsTakenOf, IsSettled, AllTurned, IsAtRest, shift_after, partner_of, exchanged, store, found, fin}
-use Rattle.load_controller.specs.declared.line.TurnLine.{TurnLine}
-use Rattle.load_controller.specs.declared.line.Cause.TheVariants.{Settle}
-use Rattle.load_controller.specs.Journal.{Follows}
-use Rattle.load_controller.specs.Law.{ControllerLaw, CountsMessages, CountsSettled, sent_by}
 use Rattle.std.proofs.lemmas.List.Elements.{All-replicate, All-from_recursion}
 use Rattle.theta_pred.specs.Truth.{width_of}
 use Rattle.trace_law.specs.Join.{table_of, tickets_of}
-use Rattle.row_tickets.specs.declared.place.Feed.TheVariants.{RFirst}
-use Rattle.trace_law.specs.declared.setting.Setting.{Setting}
 use Rattle.trace_law.specs.Validity.{IsFor, IsValid}
-use Rattle.trace_law.specs.Family.{IsAgreeing, IsQuiet, IsFinished as IsFinishedFamily, feeder_start, joiner_start, rules_of, first_line}
+use Rattle.trace_law.specs.Family.{IsAgreeing, IsQuiet, IsFinished as IsFinishedFamily, feeder_start, joiner_start}
 use Rattle.trace_law.specs.Laws.{FinishedAfterTwoMigrations}
-use Rattle.trace_law.specs.Rows.{journal, input}
+use Rattle.trace_law.specs.Rows.{input}
 use Rattle.grid_map.proofs.Halves.{back_again}
-use Rattle.trace_law.proofs.Migrating.{orders, requests, fed, other, part, passed, found_first, found_then, taken, family}
-
-abbrev pub setting : Setting
-setting = record { k = 2; feeders = 1; workers = 1; batch = 4; feed = RFirst; fixed = None }
+use Rattle.trace_law.proofs.Migrating.{setting, orders, fed, other, part, passed, found_first, found_then, taken, family}
+use Rattle.trace_law.proofs.MigratingController.{controller_law}
 
 abbrev start : ℕ → JoinerStart
 start j = joiner_start input setting j
@@ -248,190 +239,6 @@ joiner_law j low_j = record {
   told = refl;
   fin_last = inr (last j low_j, at_rest j low_j);
   finished = λ is. last j low_j;
-}
-
--- ---- the controller
-
-follows : Follows (rules_of setting) (first_line setting) (reverse journal)
-follows =
-    let count : 0 < 1 = omega arith in
-    let none : 0 < 4 = omega arith in
-    let one : 1 < 4 = omega arith in
-    let two : 2 < 4 = omega arith in
-    let three : 3 < 4 = omega arith in (
-      refl,
-      (none, refl, refl),
-      (
-        refl,
-        (one, refl, refl),
-        (
-          refl,
-          (two, refl, refl),
-          (
-            refl,
-            (three, refl, refl),
-            (
-              refl,
-              count,
-              (
-                refl,
-                count,
-                (
-                  refl,
-                  count,
-                  (
-                    refl,
-                    count,
-                    (
-                      refl,
-                      (three, refl, refl),
-                      (
-                        refl,
-                        (
-                          two,
-                          refl,
-                          refl,
-                        ),
-                        (refl, (one, refl, refl), (refl, (none, refl, refl), (refl, count, refl))),
-                      ),
-                    ),
-                  ),
-                ),
-              ),
-            ),
-          ),
-        ),
-      ),
-    )
-
--- what the last line is, and the lines before it
-abbrev line : TurnLine
-line = record { cause = Settle 0; rows_r = 8; rows_s = 8; base_r = 8; base_s = 8; epoch = 2; shift = 1; goal = 1; moving = false }
-
-abbrev past : List TurnLine
-past = drop 1 (reverse journal)
-
-counts : CountsMessages 0 line past requests
-counts = record {
-  counted = requests;
-  passed = [];
-  splits = refl;
-  are_counted = record {
-    earlier = Ask 4 0 ∷ Ask 4 0 ∷ Ask 0 4 ∷ Ask 0 4 ∷ [];
-    passed = [];
-    m = Drained;
-    splits = refl;
-    passes = tt;
-    in_place = refl;
-    is = refl;
-    are_earlier = record {
-      earlier = Ask 4 0 ∷ Ask 4 0 ∷ Ask 0 4 ∷ [];
-      passed = [];
-      m = Ask 0 4;
-      splits = refl;
-      passes = tt;
-      in_place = (refl, omega arith, omega arith);
-      is = refl;
-      are_earlier = record {
-        earlier = Ask 4 0 ∷ Ask 4 0 ∷ [];
-        passed = [];
-        m = Ask 0 4;
-        splits = refl;
-        passes = tt;
-        in_place = (refl, omega arith, omega arith);
-        is = refl;
-        are_earlier = record {
-          earlier = Ask 4 0 ∷ [];
-          passed = [];
-          m = Ask 4 0;
-          splits = refl;
-          passes = tt;
-          in_place = (refl, omega arith, omega arith);
-          is = refl;
-          are_earlier = record {
-            earlier = [];
-            passed = [];
-            m = Ask 4 0;
-            splits = refl;
-            passes = tt;
-            in_place = (refl, omega arith, omega arith);
-            is = refl;
-            are_earlier = refl;
-          };
-        };
-      };
-    };
-  };
-  not_in_place = tt;
-}
-
-abbrev Settles : ℕ → Type 0
-Settles j = CountsSettled j line past (1 ∷ 2 ∷ [])
-
-settles : (j : ℕ) → j < 4 → Settles j
-settles zero low = record {
-  counted = 1 ∷ 2 ∷ [];
-  held = [];
-  splits = refl;
-  are_settled = record {
-    earlier = 1 ∷ [];
-    epoch = 2;
-    splits = refl;
-    in_place = (refl, refl, refl);
-    are_earlier = record { earlier = []; epoch = 1; splits = refl; in_place = (refl, refl, refl); are_earlier = refl };
-  };
-  stuck = λ epoch rest is. absurd (cc);
-}
-settles (suc zero) low = record {
-  counted = 1 ∷ 2 ∷ [];
-  held = [];
-  splits = refl;
-  are_settled = record {
-    earlier = 1 ∷ [];
-    epoch = 2;
-    splits = refl;
-    in_place = (refl, refl, refl);
-    are_earlier = record { earlier = []; epoch = 1; splits = refl; in_place = (refl, refl, refl); are_earlier = refl };
-  };
-  stuck = λ epoch rest is. absurd (cc);
-}
-settles (suc (suc zero)) low = record {
-  counted = 1 ∷ 2 ∷ [];
-  held = [];
-  splits = refl;
-  are_settled = record {
-    earlier = 1 ∷ [];
-    epoch = 2;
-    splits = refl;
-    in_place = (refl, refl, refl);
-    are_earlier = record { earlier = []; epoch = 1; splits = refl; in_place = (refl, refl, refl); are_earlier = refl };
-  };
-  stuck = λ epoch rest is. absurd (cc);
-}
-settles (suc (suc (suc zero))) low = record {
-  counted = 1 ∷ 2 ∷ [];
-  held = [];
-  splits = refl;
-  are_settled = record {
-    earlier = 1 ∷ [];
-    epoch = 2;
-    splits = refl;
-    in_place = (refl, refl, refl);
-    are_earlier = record { earlier = []; epoch = 1; splits = refl; in_place = (refl, refl, refl); are_earlier = refl };
-  };
-  stuck = λ epoch rest is. absurd (cc);
-}
-settles (suc (suc (suc (suc j)))) low = absurd (omega arith)
-
-controller_law : ControllerLaw (rules_of setting) (first_line setting) family.controller
-controller_law = record {
-  line = line;
-  past = past;
-  journal = refl;
-  follows = follows;
-  counts = λ p low. let is : 0 ≡ p = omega arith in subst (λ q. CountsMessages q line past requests) is counts;
-  settles = settles;
-  sends = λ p low. let is : 0 ≡ p = omega arith in subst (λ q. orders ≡ sent_by (rules_of setting) q (line ∷ past)) is refl;
 }
 
 -- ---- all of them

@@ -1,5 +1,5 @@
 -- What every agreeing family keeps to.
-use Rattle.std.specs.Prelude.{length, IsSome, ℕ, ◌≡◌, ◌+◌, ◌*◌, ◌^◌, ◌<◌, ◌≤◌, All, Some, List, [], map, reverse}
+use Rattle.std.specs.Prelude.{◌∷◌, length, IsSome, ℕ, ◌≡◌, ◌+◌, ◌*◌, ◌^◌, ◌<◌, ◌≤◌, All, Some, List, [], map, reverse}
 use Rattle.std.specs.List.{AllByRecursion}
 use Rattle.join_rows.specs.declared.table.Side.TheVariants.{R, S}
 use Rattle.join_rows.specs.Lists.{SameBag, IsWithinBag}
@@ -17,7 +17,10 @@ use Rattle.pair_collector.specs.Answer.{Collects}
 use Rattle.trace_law.specs.declared.run.Run.{Run}
 use Rattle.join_rows.specs.declared.table.Side.{Side}
 use Rattle.row_tickets.specs.Share.{place_at}
-use Rattle.epoch_tags.specs.Messages.{moved_of}
+use Rattle.epoch_tags.specs.Messages.{turns, moved_of}
+use Rattle.epoch_tags.specs.declared.tuple.Tuple.{Tuple}
+use Rattle.epoch_tags.specs.declared.message.ToJoiner.{ToJoiner}
+use Rattle.epoch_tags.specs.declared.message.ToJoiner.TheVariants.{Tup, Moved}
 use Rattle.trace_law.specs.Runs.{StaysAt, IsRunOf, run_of}
 use Rattle.joiner_law.specs.Law.{opened, shift_after}
 use Rattle.epoch_tags.specs.declared.actor.Actor.TheVariants.{Joiner}
@@ -147,3 +150,21 @@ pub record FinishedWithAnOldRowMoved : Type 0 where
   pub two_feeders : setting.feeders ≡ 2
   pub migrated : last_epoch family.controller.journal ≡ 1
   pub moved : 0 < length (moved_of 1 ((family.joiner 1).to_joiner 0))
+
+-- and an agreeing family on its way: at joiner 1 the first feeder has turned and the second has not, so that the second's
+-- rows of the old epoch come late; joiner 1 has moved one of them to joiner 0, which holds it before any step of its own
+pub record HoldsAMovedRow : Type 0 where
+  pub input : Input
+  pub setting : Setting
+  pub family : Family
+  pub valid : IsValid input setting
+  pub agrees : IsAgreeing input setting family
+  pub first_turned : turns ((agrees.taken_by_joiner 1).from_feeder 0) ≡ 1
+  pub second_not : turns ((agrees.taken_by_joiner 1).from_feeder 1) ≡ 0
+  pub row : Tuple
+  pub old : row.stamp ≡ 0
+  pub rest : List ToJoiner
+  pub late : (agrees.taken_by_joiner 1).from_feeder 1 ≡ Tup row ∷ rest
+  pub received : (family.joiner 0).from_joiner 1 ≡ Moved 1 row ∷ []
+  pub held : (agrees.taken_by_joiner 0).from_joiner 1 ≡ []
+  pub not_opened : opened (joiner_start input setting 0) (agrees.taken_by_joiner 0) ≡ 0

@@ -1,6 +1,6 @@
 // What every agreeing family keeps to, each law as the contract of a function with an empty body.
 
-ghost use Rattle.trace_law.specs.Laws.{FinishedWithAnOldRowMoved, LawfulCountsEachRow, FixedMovesNothing, FixedStays, NoLinkNoMessage, FinishedAnswers, LimitsSuffice, SendsNothingWrong, TakesNothingWrong, StoresWhatItHolds, NoneIsStrange, KeepsALawfulJournal, LawfulIsBounded, EventsAreFew, FinishedAfterTwoMigrations, TakenIsDetermined, QuietIsFinished, AnswersInTheEnd, SortsIntoTheLoop};
+ghost use Rattle.trace_law.specs.Laws.{HoldsAMovedRow, FinishedWithAnOldRowMoved, LawfulCountsEachRow, FixedMovesNothing, FixedStays, NoLinkNoMessage, FinishedAnswers, LimitsSuffice, SendsNothingWrong, TakesNothingWrong, StoresWhatItHolds, NoneIsStrange, KeepsALawfulJournal, LawfulIsBounded, EventsAreFew, FinishedAfterTwoMigrations, TakenIsDetermined, QuietIsFinished, AnswersInTheEnd, SortsIntoTheLoop};
 
 /// A valid input and a valid setting are what the other laws ask for.
 pub fn limits_suffice()
@@ -95,4 +95,9 @@ pub fn some_family_migrates()
 /// And so they can with two feeders, where a row of the old epoch is moved.
 pub fn some_family_moves_an_old_row()
     ensures { FinishedWithAnOldRowMoved }
+{}
+
+/// On the way there, a joiner holds what was moved to it before any step of its own.
+pub fn some_family_holds_a_moved_row()
+    ensures { HoldsAMovedRow }
 {}
