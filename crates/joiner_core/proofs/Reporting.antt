@@ -25,7 +25,7 @@ use Rattle.joiner_core.specs.Standing.{StandsBy, Stands}
 use Rattle.joiner_core.specs.Taking.{HasSomeTurn}
 use Rattle.joiner_core.specs.Taking.{IsFixed}
 use Rattle.joiner_core.proofs.Advancing.{fixed-then}
-use Rattle.joiner_core.specs.Whole.{StandsWithin, StandsBetween, IsStart, Collects, IsResting, IsOfGrid, Advances, IsSound, IsStuck, Accepts, Receives, TellsFin, HasFinished, with_message, found_posts, fin_posts, fin_of}
+use Rattle.joiner_core.specs.Whole.{StandsWithin, StandsBetween, IsStart, Collects, IsResting, IsOfGrid, Advances, IsSound, IsStuck, Accepts, Receives, TellsFin, HasFinished, with_message, found_posts, fin_posts, fin_of, StandInOrder, IsLastAtMost, post_to_collector}
 use Rattle.joiner_core.specs.declared.opened.Opened.{Opened}
 use Rattle.joiner_core.specs.declared.epochs.Epochs.{Epochs}
 use Rattle.joiner_core.specs.declared.machine.Machine.{Machine}
@@ -228,6 +228,24 @@ finishes-by true b new first other never has = first refl
 finishes-by false true new first other never has = other refl
 finishes-by false false new first other never has = absurd (never refl refl has)
 
+fin-is : (now : Bool) (b : Machine) → fin_posts now b ≡ map post_to_collector (fins_if now b)
+fin-is true b = refl
+fin-is false b = refl
+
+at-most-fin : (now : Bool) (b : Machine) → IsLastAtMost (fins_if now b)
+at-most-fin true b = refl
+at-most-fin false b = tt
+
+in-order : (a1 a2 : List Post) (w : List Pair) (now : Bool) (b : Machine) → posted_to_collector a1 ≡ [] → posted_to_collector a2 ≡ [] → StandInOrder (((a1 ++ a2) ++ found_posts w) ++ fin_posts now b)
+in-order a1 a2 w now b one two = record {
+  others = a1 ++ a2;
+  pairs = w;
+  last = fins_if now b;
+  splits = ap (λ zs. ((a1 ++ a2) ++ found_posts w) ++ zs) (fin-is now b);
+  quiet = quiet-append a1 a2 one two;
+  at_most = at-most-fin now b;
+}
+
 -- the call as a whole
 pub receives : (from : Actor) (m : ToJoiner) (old a b new : Machine) (w0 w1 w2 : List Pair) (p0 p1 p2 p3 p4 : List Post) → IsOfGrid from old.epochs → w0 ≡ [] → Accepts from m old a w0 w1 p0 p1 → IsSound b → Advances a b w1 w2 p1 p2 → IsStuck b
     → p3 ≡ p2 ++ found_posts w2 → new ≡ record b { told = new.told } → TellsFin b new.told p3 p4 → Receives from m old new p0 p4
@@ -246,6 +264,7 @@ receives from m old a b new w0 w1 w2 p0 p1 p2 p3 p4 grid none accepts sound adva
       sends = tells.sends ∙ ap (λ zs. zs ++ a4) (found ∙ ap (λ zs. zs ++ a3) (advances.sends ∙ ap (λ zs. zs ++ a2) accepts.sends ∙ append_assoc p0 a1 a2) ∙ append_assoc p0 (a1 ++ a2) a3) ∙ append_assoc p0 ((a1 ++ a2) ++ a3) a4;
       own = own-append old.epochs ((a1 ++ a2) ++ a3) a4 (own-append old.epochs (a1 ++ a2) a3 (own-append old.epochs a1 a2 accepts.own (own-before old.epochs a.epochs a2 accepts.fixed advances.own))
           (own-before old.epochs b.epochs a3 fixed (own-found b.epochs w2 sound.within.id))) (own-before old.epochs b.epochs a4 fixed (own-fin b tells.now sound.within.id));
+      order = in-order a1 a2 w2 tells.now b accepts.quiet advances.quiet;
       stands = λ s lists is.
           let ls = with_message from m lists in
           let fixed = is.within.stands.fixed in

@@ -1,5 +1,5 @@
 -- The lists for which a joiner stands, with the messages that it holds.
-use Rattle.std.specs.Prelude.{◌≡◌, ℕ, ◌+◌, ◌^◌, ◌<◌, ◌≤◌, min, map, Bool, true, false, Some, None, List, [], ◌∷◌, ◌++◌, length, sum_by, count_by}
+use Rattle.std.specs.Prelude.{◌≡◌, ℕ, ◌+◌, ◌^◌, ◌<◌, ◌≤◌, min, map, Bool, true, false, Some, None, ⊤, List, [], ◌∷◌, ◌++◌, length, sum_by, count_by}
 use Rattle.std.specs.List.{AllByRecursion}
 use Rattle.epoch_tags.specs.declared.tuple.Pair.{Pair}
 use Rattle.epoch_tags.specs.declared.message.ToCollector.{ToCollector}
@@ -190,10 +190,28 @@ abbrev pub found_posts : List Pair → List Post
 found_posts [] = []
 found_posts (p ∷ ps) = record { to = Collector; msg = Collector' (Found (p ∷ ps)) } ∷ []
 
+abbrev pub post_to_collector : ToCollector → Post
+post_to_collector m = record { to = Collector; msg = Collector' m }
+
 -- the posts of the last message: it is sent where the machine first has finished
 abbrev pub fin_posts : Bool → Machine → List Post
 fin_posts true m = record { to = Collector; msg = Collector' (fin_of m.epochs) } ∷ []
 fin_posts false m = []
+
+-- nothing, or the last message
+abbrev pub IsLastAtMost : List ToCollector → Type 0
+IsLastAtMost [] = ⊤
+IsLastAtMost (Found pairs ∷ ms) = ⊥
+IsLastAtMost (Fin rows_r rows_s moved ∷ ms) = ms ≡ []
+
+-- the posts of one call: those to joiners and the controller, then what it found, then the last message
+pub record StandInOrder (posts : List Post) : Type 0 where
+  pub others : List Post
+  pub pairs : List Pair
+  pub last : List ToCollector
+  pub splits : posts ≡ others ++ found_posts pairs ++ map post_to_collector last
+  pub quiet : posted_to_collector others ≡ []
+  pub at_most : IsLastAtMost last
 
 pub record TellsFin (m : Machine) (told : Bool) (before after : List Post) : Type 0 where
   pub now : Bool
@@ -208,6 +226,7 @@ pub record Receives (from : Actor) (m : ToJoiner) (old new : Machine) (before af
   pub added : List Post
   pub sends : after ≡ before ++ added
   pub own : AreOwnPosts old.epochs added
+  pub order : StandInOrder added
   pub stands : (s : JoinerStart) (lists : JoinerLists) → StandsBetween s lists old → StandsBetween s (with_sent (with_message from m lists) added) new
 
 -- ---- the beginning
