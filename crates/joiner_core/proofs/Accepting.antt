@@ -18,7 +18,7 @@ use Rattle.joiner_core.specs.Widths.{HasRow}
 use Rattle.joiner_core.proofs.Fitting.{same-rows, rows-held}
 use Rattle.joiner_core.specs.Standing.{StandsBy, Stands}
 use Rattle.joiner_core.specs.Taking.{TookOfFeeder, TookOfJoiner}
-use Rattle.joiner_core.specs.Tests.{TakesOfJoiner}
+use Rattle.joiner_core.specs.Tests.{TakesOfFeeder, TakesOfJoiner}
 use Rattle.joiner_core.specs.Whole.{IsSound, Accepts}
 use Rattle.joiner_core.specs.declared.opened.Opened.{Opened}
 use Rattle.joiner_core.specs.declared.epochs.Epochs.{Epochs}
@@ -93,9 +93,9 @@ stands-received s t lists f g w m is = stands-other s t lists f g lists.to_colle
 
 -- ---- a message of a feeder
 
-pub accepts-taken-feeder : (old new : Machine) (p : ℕ) (m : ToJoiner) (w w' : List Pair) (before after : List Post) → IsSound old → p < old.epochs.feeders → held_at old.of_feeders p ≡ []
+pub accepts-taken-feeder : (old new : Machine) (p : ℕ) (m : ToJoiner) (w w' : List Pair) (before after : List Post) → IsSound old → p < old.epochs.feeders → held_at old.of_feeders p ≡ [] → TakesOfFeeder old.epochs p m
     → new ≡ record old { epochs = new.epochs } → TookOfFeeder p m old.epochs new.epochs w w' before after → Accepts (Feeder p) m old new w w' before after
-accepts-taken-feeder old new p m w w' before after sound low clear state took =
+accepts-taken-feeder old new p m w w' before after sound low clear can state took =
     let own : new.of_feeders ≡ old.of_feeders = ap (λ (z : Machine). z.of_feeders) state in
     let other : new.of_joiners ≡ old.of_joiners = ap (λ (z : Machine). z.of_joiners) state in
     record {
@@ -110,6 +110,7 @@ accepts-taken-feeder old new p m w w' before after sound low clear state took =
       sends = took.sends;
       quiet = took.quiet;
       own = took.own;
+      taken = inl (record { clear = clear; can = can; feeders = own; joiners = other });
       told = ap (λ (z : Machine). z.told) state;
       fixed = record { k = took.k; id = took.id; feeders = took.feeders; theta = took.theta };
       rests = λ at. let n = sound.within.ended in absurd (false≢true (sym took.going ∙ at.ended p (omega arith)));
@@ -152,6 +153,7 @@ accepts-held-feeder old queues p m w before sound low row put =
       sends = sym (append-nil before);
       quiet = refl;
       own = own-none old.epochs;
+      taken = inr (ap (λ qs. record old { of_feeders = qs }) put);
       told = refl;
       fixed = record { k = refl; id = refl; feeders = refl; theta = refl };
       rests = λ at. (refl, refl);
@@ -192,6 +194,7 @@ accepts-taken-joiner old new q m w w' before after sound clear can state takes =
       sends = took.sends;
       quiet = took.quiet;
       own = took.own;
+      taken = inl (record { clear = clear; can = can; feeders = other; joiners = own });
       told = ap (λ (z : Machine). z.told) state;
       fixed = record { k = took.k; id = took.id; feeders = took.feeders; theta = took.theta };
       rests = λ at. absurd (took.opened at.closed);
@@ -233,6 +236,7 @@ accepts-held-joiner old queues q m w before sound low row put =
       sends = sym (append-nil before);
       quiet = refl;
       own = own-none old.epochs;
+      taken = inr (ap (λ qs. record old { of_joiners = qs }) put);
       told = refl;
       fixed = record { k = refl; id = refl; feeders = refl; theta = refl };
       rests = λ at. (refl, refl);

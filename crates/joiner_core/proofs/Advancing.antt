@@ -4,6 +4,7 @@ use Rattle.std.specs.Prelude.{slice_set, sum_by, slice_index_or}
 use Rattle.std.proofs.Math.ListN.{length-set}
 use Rattle.std.proofs.lemmas.List.Sums.{sum_by-cons}
 use Rattle.std.proofs.lemmas.Bool.{cases_eq, false≢true}
+use Rattle.epoch_tags.specs.declared.actor.Actor.TheVariants.{Feeder, Joiner as Joiner'}
 use Rattle.epoch_tags.specs.declared.tuple.Pair.{Pair}
 use Rattle.epoch_tags.specs.declared.message.Post.{Post}
 use Rattle.epoch_tags.specs.declared.message.ToJoiner.{ToJoiner}
@@ -139,7 +140,7 @@ fewer-of old new i m low first rest = let n = sum-fewer old i m (held_at new i) 
 
 pub took-held-feeder : (old new : Machine) (queues : List (List ToJoiner)) (p : ℕ) (m : ToJoiner) (w w' : List Pair) (before after : List Post) → IsSound old → p < old.epochs.feeders
     → held_at old.of_feeders p ≡ m ∷ held_at queues p → queues ≡ slice_set old.of_feeders p (held_at queues p)
-    → new ≡ record old { of_feeders = queues; epochs = new.epochs } → TookOfFeeder p m old.epochs new.epochs w w' before after → TookHeld old new w w' before after
+    → new ≡ record old { of_feeders = queues; epochs = new.epochs } → TookOfFeeder p m old.epochs new.epochs w w' before after → TookHeld (Feeder p) old new w w' before after
 took-held-feeder old new queues p m w w' before after sound low first rest state took =
     let f : new.of_feeders ≡ queues = ap (λ (z : Machine). z.of_feeders) state in
     let j : new.of_joiners ≡ old.of_joiners = ap (λ (z : Machine). z.of_joiners) state in
@@ -156,6 +157,7 @@ took-held-feeder old new queues p m w w' before after sound low first rest state
         joiner_rows = same-rows _ _ _ _ took.theta j sound.joiner_rows;
       };
       advances = advances-held old new p m w w' before after within (sym sound.feeders) (let n = sound.within.ended in omega arith) took first' rest' j (ap (λ (z : Machine). z.told) state);
+      given = (record { first = m; rest = first'; others = rest' }, j);
       fewer = let n = fewer-of old.of_feeders new.of_feeders p m within first' rest' in let e : sum_by length new.of_joiners ≡ sum_by length old.of_joiners = ap (λ qs. sum_by length qs) j in omega arith;
     }
 
@@ -164,7 +166,7 @@ same-first x y xs ys zs one two = ap (λ ms. slice_index_or ms 0 x) (sym one ∙
 
 pub took-held-joiner : (old new : Machine) (queues : List (List ToJoiner)) (q : ℕ) (m : ToJoiner) (w w' : List Pair) (before after : List Post) → IsSound old → IsReadyOfJoiner old q
     → held_at old.of_joiners q ≡ m ∷ held_at queues q → queues ≡ slice_set old.of_joiners q (held_at queues q)
-    → new ≡ record old { of_joiners = queues; epochs = new.epochs } → ((j : ℕ) → TakesOfJoiner old.epochs j m → TookOfJoiner j m old.epochs new.epochs w w' before after) → TookHeld old new w w' before after
+    → new ≡ record old { of_joiners = queues; epochs = new.epochs } → ((j : ℕ) → TakesOfJoiner old.epochs j m → TookOfJoiner j m old.epochs new.epochs w w' before after) → TookHeld (Joiner' q) old new w w' before after
 took-held-joiner old new queues q m w w' before after sound ready first rest state takes =
     let f : new.of_joiners ≡ queues = ap (λ (z : Machine). z.of_joiners) state in
     let j : new.of_feeders ≡ old.of_feeders = ap (λ (z : Machine). z.of_feeders) state in
@@ -184,5 +186,6 @@ took-held-joiner old new queues q m w w' before after sound ready first rest sta
         joiner_rows = same-rows _ _ _ _ took.theta refl (rows-taken old.epochs.theta.now old.of_joiners new.of_joiners q m within first' rest' sound.joiner_rows);
       };
       advances = advances-held-joiner old new q m w w' before after took first' rest' j (ap (λ (z : Machine). z.told) state);
+      given = (record { first = m; rest = first'; others = rest' }, j);
       fewer = let n = fewer-of old.of_joiners new.of_joiners q m within first' rest' in let e : sum_by length new.of_feeders ≡ sum_by length old.of_feeders = ap (λ qs. sum_by length qs) j in omega arith;
     }

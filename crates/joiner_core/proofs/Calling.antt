@@ -41,6 +41,7 @@ takes from m old new before after is = record {
   over = all-over old.machine.epochs is.added is.own;
   rows = all-rows old.machine.epochs is.added is.own;
   order = is.order;
+  tried = is.tried;
   same = record { of_k = is.fixed.k; of_id = is.fixed.id; of_feeders = is.fixed.feeders; of_theta = is.fixed.theta };
   stands = λ s lists stands. with-law s (with_sent (with_message from m lists) is.added) new (is.stands s lists stands.machine.between);
 }

@@ -25,7 +25,7 @@ use Rattle.joiner_core.specs.Standing.{StandsBy, Stands}
 use Rattle.joiner_core.specs.Taking.{HasSomeTurn}
 use Rattle.joiner_core.specs.Taking.{IsFixed}
 use Rattle.joiner_core.proofs.Advancing.{fixed-then}
-use Rattle.joiner_core.specs.Whole.{StandsWithin, StandsBetween, IsStart, Collects, IsResting, IsOfGrid, Advances, IsSound, IsStuck, Accepts, Receives, TellsFin, HasFinished, with_message, found_posts, fin_posts, fin_of, StandInOrder, IsLastAtMost, post_to_collector}
+use Rattle.joiner_core.specs.Whole.{StandsWithin, StandsBetween, IsStart, Collects, IsResting, IsOfGrid, Advances, IsSound, IsStuck, Accepts, Receives, TellsFin, HasFinished, with_message, found_posts, fin_posts, fin_of, StandInOrder, AreTried, IsLastAtMost, post_to_collector}
 use Rattle.joiner_core.specs.declared.opened.Opened.{Opened}
 use Rattle.joiner_core.specs.declared.epochs.Epochs.{Epochs}
 use Rattle.joiner_core.specs.declared.machine.Machine.{Machine}
@@ -247,14 +247,16 @@ in-order a1 a2 w now b one two = record {
 }
 
 -- the call as a whole
-pub receives : (from : Actor) (m : ToJoiner) (old a b new : Machine) (w0 w1 w2 : List Pair) (p0 p1 p2 p3 p4 : List Post) → IsOfGrid from old.epochs → w0 ≡ [] → Accepts from m old a w0 w1 p0 p1 → IsSound b → Advances a b w1 w2 p1 p2 → IsStuck b
+pub receives : (from : Actor) (m : ToJoiner) (old a b new : Machine) (w0 w1 w2 : List Pair) (p0 p1 p2 p3 p4 : List Post) → IsOfGrid from old.epochs → w0 ≡ [] → Accepts from m old a w0 w1 p0 p1 → IsSound b → Advances a b w1 w2 p1 p2 → AreTried a b → IsStuck b
     → p3 ≡ p2 ++ found_posts w2 → new ≡ record b { told = new.told } → TellsFin b new.told p3 p4 → Receives from m old new p0 p4
-receives from m old a b new w0 w1 w2 p0 p1 p2 p3 p4 grid none accepts sound advances stuck found state tells =
+receives from m old a b new w0 w1 w2 p0 p1 p2 p3 p4 grid none accepts sound advances tried stuck found state tells =
     let a1 = accepts.added in
     let a2 = advances.added in
     let a3 = found_posts w2 in
     let a4 = fin_posts tells.now b in
     let fixed : IsFixed old.epochs b.epochs = fixed-then old.epochs a.epochs b.epochs accepts.fixed advances.fixed in
+    let same : b ≡ record new { told = a.told } =
+    ap (λ t. record b { told = t }) advances.told ∙ sym (ap (λ (z : Machine). record z { told = a.told }) state) in
     let sound' : IsSound new = subst (λ (z : Machine). IsSound z) (sym state) (record { within = sound.within; feeders = sound.feeders; joiners = sound.joiners; feeder_rows = sound.feeder_rows; joiner_rows = sound.joiner_rows }) in
     let stuck' : IsStuck new = subst (λ (z : Machine). IsStuck z) (sym state) (record { feeders = stuck.feeders; joiners = stuck.joiners }) in
     record {
@@ -264,6 +266,7 @@ receives from m old a b new w0 w1 w2 p0 p1 p2 p3 p4 grid none accepts sound adva
       sends = tells.sends ∙ ap (λ zs. zs ++ a4) (found ∙ ap (λ zs. zs ++ a3) (advances.sends ∙ ap (λ zs. zs ++ a2) accepts.sends ∙ append_assoc p0 a1 a2) ∙ append_assoc p0 (a1 ++ a2) a3) ∙ append_assoc p0 ((a1 ++ a2) ++ a3) a4;
       own = own-append old.epochs ((a1 ++ a2) ++ a3) a4 (own-append old.epochs (a1 ++ a2) a3 (own-append old.epochs a1 a2 accepts.own (own-before old.epochs a.epochs a2 accepts.fixed advances.own))
           (own-before old.epochs b.epochs a3 fixed (own-found b.epochs w2 sound.within.id))) (own-before old.epochs b.epochs a4 fixed (own-fin b tells.now sound.within.id));
+      tried = record { accepted = a; message = accepts.taken; tried = subst (λ (z : Machine). AreTried a z) same tried };
       order = in-order a1 a2 w2 tells.now b accepts.quiet advances.quiet;
       stands = λ s lists is.
           let ls = with_message from m lists in

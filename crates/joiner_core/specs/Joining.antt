@@ -9,7 +9,7 @@ use Rattle.epoch_tags.specs.Posts.{AllGoOver}
 use Rattle.theta_pred.specs.Formula.{Meaning}
 use Rattle.joiner_law.specs.Law.{JoinerStart, JoinerLists, JoinerLaw, Taken}
 use Rattle.joiner_law.specs.Standing.{with_sent}
-use Rattle.joiner_core.specs.Whole.{StandsAt, StandInOrder, with_message}
+use Rattle.joiner_core.specs.Whole.{StandsAt, StandInOrder, TakesInOrder, with_message}
 use Rattle.joiner_core.specs.Widths.{AllSendRows}
 use Rattle.joiner_core.specs.declared.joiner.Joiner.{Joiner}
 
@@ -58,6 +58,7 @@ pub record TakesMessage (from : Actor) (m : ToJoiner) (old new : Joiner) (before
   pub over : AllGoOver (k_of old) (feeders_of old) (Joiner' (id_of old)) added
   pub rows : AllSendRows (theta_of old) added
   pub order : StandInOrder added
+  pub tried : TakesInOrder from m old.machine new.machine
   pub same : IsJoiner (k_of old) (id_of old) (feeders_of old) (theta_of old) new
   pub stands : (start : JoinerStart) (lists : JoinerLists) → StandsFor start lists old
       → StandsFor start (with_sent (with_message from m lists) added) new

@@ -1,5 +1,5 @@
 -- The lists for which a joiner stands, with the messages that it holds.
-use Rattle.std.specs.Prelude.{◌≡◌, ℕ, ◌+◌, ◌^◌, ◌<◌, ◌≤◌, min, map, Bool, true, false, Some, None, ⊤, List, [], ◌∷◌, ◌++◌, length, sum_by, count_by}
+use Rattle.std.specs.Prelude.{◌≡◌, ℕ, ◌+◌, ◌^◌, ◌<◌, ◌≤◌, min, map, slice_set, ◌⊎◌, Bool, true, false, Some, None, ⊤, List, [], ◌∷◌, ◌++◌, length, sum_by, count_by}
 use Rattle.std.specs.List.{AllByRecursion}
 use Rattle.epoch_tags.specs.declared.tuple.Pair.{Pair}
 use Rattle.epoch_tags.specs.declared.message.ToCollector.{ToCollector}
@@ -106,10 +106,68 @@ pub record IsStuck (m : Machine) : Type 0 where
   pub feeders : AreStuckOfFeeders m.epochs.feeders m
   pub joiners : AreStuckOfJoiners (2 ^ m.epochs.k) m
 
--- one held message was taken
-pub record TookHeld (old new : Machine) (waiting waiting' : List Pair) (before after : List Post) : Type 0 where
+-- ---- in which order held messages are tried
+
+-- the link is the first, feeders rising and then joiners rising, whose first held message can be taken
+abbrev pub IsFirstReady : Actor → Machine → Type 0
+IsFirstReady (Feeder p) m = IsReadyOfFeeder m p × AreStuckOfFeeders p m
+IsFirstReady (Joiner' q) m = IsReadyOfJoiner m q × AreStuckOfFeeders m.epochs.feeders m × AreStuckOfJoiners q m
+IsFirstReady Controller m = ⊥
+IsFirstReady Collector m = ⊥
+
+-- the first message held of one sender is gone, and the others stand as they did
+pub record IsWithoutFirst (sender : ℕ) (old new : List (List ToJoiner)) : Type 0 where
+  pub first : ToJoiner
+  pub rest : held_at old sender ≡ first ∷ held_at new sender
+  pub others : new ≡ slice_set old sender (held_at new sender)
+
+-- the link gave its first held message
+abbrev pub HasGiven : Actor → Machine → Machine → Type 0
+HasGiven (Feeder p) old new = IsWithoutFirst p old.of_feeders new.of_feeders × (new.of_joiners ≡ old.of_joiners)
+HasGiven (Joiner' q) old new = IsWithoutFirst q old.of_joiners new.of_joiners × (new.of_feeders ≡ old.of_feeders)
+HasGiven Controller old new = ⊥
+HasGiven Collector old new = ⊥
+
+-- the first link that was ready gave a message
+pub record HasTakenNext (old new : Machine) : Type 0 where
+  pub from : Actor
+  pub first : IsFirstReady from old
+  pub given : HasGiven from old new
+
+-- the held messages were tried, again after each one that was taken, until none could be taken
+pub data AreTried : Machine → Machine → Type 0 where
+  none_ready : {m : Machine} → IsStuck m → AreTried m m
+  next : {a b c : Machine} → HasTakenNext a b → AreTried b c → AreTried a c
+
+-- what is held stands as it did, since the message could be taken and nothing of its link was held
+pub record IsTakenAtOnce (held : List ToJoiner) (can_take : Type 0) (old new : Machine) : Type 0 where
+  pub clear : held ≡ []
+  pub can : can_take
+  pub feeders : new.of_feeders ≡ old.of_feeders
+  pub joiners : new.of_joiners ≡ old.of_joiners
+
+-- the message was taken at once, or is the last that is held of its link
+abbrev pub IsTakenOrHeld : Actor → ToJoiner → Machine → Machine → Type 0
+IsTakenOrHeld (Feeder p) m old new =
+    IsTakenAtOnce (held_at old.of_feeders p) (TakesOfFeeder old.epochs p m) old new
+    ⊎ (new ≡ record old { of_feeders = slice_set old.of_feeders p (held_at old.of_feeders p ++ m ∷ []) })
+IsTakenOrHeld (Joiner' q) m old new =
+    IsTakenAtOnce (held_at old.of_joiners q) (TakesOfJoiner old.epochs q m) old new
+    ⊎ (new ≡ record old { of_joiners = slice_set old.of_joiners q (held_at old.of_joiners q ++ m ∷ []) })
+IsTakenOrHeld Controller m old new = ⊥
+IsTakenOrHeld Collector m old new = ⊥
+
+-- a call takes or holds its message, and then tries the held ones
+pub record TakesInOrder (from : Actor) (m : ToJoiner) (old new : Machine) : Type 0 where
+  pub accepted : Machine
+  pub message : IsTakenOrHeld from m old accepted
+  pub tried : AreTried accepted (record new { told = accepted.told })
+
+-- one held message of this link was taken
+pub record TookHeld (from : Actor) (old new : Machine) (waiting waiting' : List Pair) (before after : List Post) : Type 0 where
   pub sound : IsSound new
   pub advances : Advances old new waiting waiting' before after
+  pub given : HasGiven from old new
   pub fewer : held_in_all new < held_in_all old
 
 -- all feeders have ended, no step is open, and nothing is held
@@ -175,6 +233,7 @@ IsOfGrid Collector m = ⊥
 -- a message was taken or held
 pub record Accepts (from : Actor) (m : ToJoiner) (old new : Machine) (waiting waiting' : List Pair) (before after : List Post) : Type 0 where
   pub sound : IsSound new
+  pub taken : IsTakenOrHeld from m old new
   pub added : List Post
   pub sends : after ≡ before ++ added
   pub quiet : posted_to_collector added ≡ []
@@ -227,6 +286,7 @@ pub record Receives (from : Actor) (m : ToJoiner) (old new : Machine) (before af
   pub sends : after ≡ before ++ added
   pub own : AreOwnPosts old.epochs added
   pub order : StandInOrder added
+  pub tried : TakesInOrder from m old new
   pub stands : (s : JoinerStart) (lists : JoinerLists) → StandsBetween s lists old → StandsBetween s (with_sent (with_message from m lists) added) new
 
 -- ---- the beginning

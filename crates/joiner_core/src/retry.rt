@@ -1,6 +1,7 @@
 // The held messages, which are tried again after each one that was taken.
 ghost use Rattle.std.specs.Prelude.{◌≡◌, ◌<◌, ◌^◌, true, false, OnOk, IfOk, IfSome, MatchOption};
-ghost use Rattle.joiner_core.specs.Whole.{Advances, IsSound, IsStuck, AreStuckOfFeeders, AreStuckOfJoiners, IsReadyOfFeeder, IsReadyOfJoiner, TookHeld, held_in_all};
+ghost use Rattle.joiner_core.specs.Whole.{Advances, IsSound, IsStuck, AreStuckOfFeeders, AreStuckOfJoiners, IsReadyOfFeeder, IsReadyOfJoiner, TookHeld, HasTakenNext, AreTried, held_in_all};
+ghost use Rattle.epoch_tags.specs.declared.actor.Actor.TheVariants.{Feeder, Joiner as Joiner'};
 
 use crate::machine::Machine;
 use epoch_tags::{Pairs, Sends};
@@ -16,6 +17,7 @@ impl<'a> Machine<'a> {
         requires { IsSound self.old }
         ensures sound { OnOk result (IsSound self.new) }
         ensures took { OnOk result (Advances self.old self.new found.old found.new sends.old sends.new) }
+        ensures tried { OnOk result (AreTried self.old self.new) }
         ensures stuck { OnOk result (IsStuck self.new) }
     {
         'trial: while self.take_one_held(found, sends)? {}
@@ -32,6 +34,8 @@ impl<'a> Machine<'a> {
         ensures sound { OnOk result (IsSound self.new) }
         ensures took { OnOk result (Advances self.old self.new found.old found.new sends.old sends.new) }
         ensures fewer { IfOk result (λ more. more ≡ true → held_in_all self.new < held_in_all self.old) }
+        ensures next { IfOk result (λ more. more ≡ true → HasTakenNext self.old self.new) }
+        ensures none { IfOk result (λ more. more ≡ false → self.new ≡ self.old) }
         ensures stuck { IfOk result (λ more. more ≡ false → IsStuck self.new) }
     {
         match self.ready_feeder() {
@@ -58,7 +62,7 @@ impl<'a> Machine<'a> {
     ) -> Result<(), AllocError>
         requires sound { IsSound self.old }
         requires ready { IsReadyOfFeeder self.old p }
-        ensures { OnOk result (TookHeld self.old self.new found.old found.new sends.old sends.new) }
+        ensures { OnOk result (TookHeld (Feeder p) self.old self.new found.old found.new sends.old sends.new) }
     {
         if let Some(m) = self.of_feeders.take_first(p as usize) {
             self.take_of_feeder(p, m, found, sends)?;
@@ -75,7 +79,7 @@ impl<'a> Machine<'a> {
     ) -> Result<(), AllocError>
         requires sound { IsSound self.old }
         requires ready { IsReadyOfJoiner self.old q }
-        ensures { OnOk result (TookHeld self.old self.new found.old found.new sends.old sends.new) }
+        ensures { OnOk result (TookHeld (Joiner' q) self.old self.new found.old found.new sends.old sends.new) }
     {
         if let Some(m) = self.of_joiners.take_first(q as usize) {
             self.take_of_joiner(m, found, sends)?;

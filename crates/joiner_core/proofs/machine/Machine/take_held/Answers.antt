@@ -1,11 +1,22 @@
+use Rattle.std.proofs.Common.{sym, subst}
+use Rattle.joiner_core.specs.Whole.{AreTried, none_ready, next}
+use Rattle.joiner_core.specs.declared.machine.Machine.{Machine}
 use Rattle.joiner_core.proofs.Advancing.{advances-none, advances-then}
 use Rattle.joiner_core.proofs.machine.Machine.take_held.Goals as goal
 
 pub trial-init : goal.trial-init
-trial-init c = (c.requires, advances-none _ _ _)
+trial-init c = record { sound = c.requires; took = advances-none _ _ _; tried = λ last tried. tried }
 
 pub trial-preserved : goal.trial-preserved
-trial-preserved c = (c.in_ok-take_one_held.ensures.sound, advances-then _ _ _ _ _ _ _ _ _ c.trial.invariant.1 c.in_ok-take_one_held.ensures.took)
+trial-preserved c = record {
+  sound = c.in_ok-take_one_held.ensures.sound;
+  took = advances-then _ _ _ _ _ _ _ _ _ c.trial.invariant.took c.in_ok-take_one_held.ensures.took;
+  tried = λ last tried. c.trial.invariant.tried last (next (c.in_ok-take_one_held.ensures.next c.if-branch.true) tried);
+}
 
 pub returns-clause-took : goal.returns-clause-took
-returns-clause-took c = advances-then _ _ _ _ _ _ _ _ _ c.trial.invariant.1 c.in_ok-take_one_held.ensures.took
+returns-clause-took c = advances-then _ _ _ _ _ _ _ _ _ c.trial.invariant.took c.in_ok-take_one_held.ensures.took
+
+pub returns-clause-tried : goal.returns-clause-tried
+returns-clause-tried c =
+    c.trial.invariant.tried _ (subst (λ (z : Machine). AreTried z c.take_one_held.new.self) (c.in_ok-take_one_held.ensures.none c.if-branch.false) (none_ready (c.in_ok-take_one_held.ensures.stuck c.if-branch.false)))
