@@ -94,6 +94,29 @@ fn settled(joiner: u32, epoch: u32) -> (Actor, ToController) {
     (Actor::Joiner(joiner), ToController::Settled { epoch })
 }
 
+fn tell(
+    controller: &mut Controller,
+    message: (Actor, ToController),
+    sends: &mut Sends,
+) -> Result<(), AllocError> {
+    controller.on(message.0, message.1, sends)
+}
+
+// Joiners 1 to 7 settle the steps of these epochs.
+fn settle(
+    controller: &mut Controller,
+    first: u32,
+    last: u32,
+    sends: &mut Sends,
+) -> Result<(), AllocError> {
+    for epoch in first..=last {
+        for joiner in 1..8u32 {
+            tell(controller, settled(joiner, epoch), sends)?;
+        }
+    }
+    Ok(())
+}
+
 // Posts and lines of a run are those that are wanted.
 fn expect(
     rt: &impl Abort,
@@ -266,5 +289,32 @@ fn it_is_idle_while_no_step_is_under_way(rt: HostRuntime) -> Result<(), Fail> {
         &mut sends,
     )?;
     assert!(rt; !controller.idle(), "in a step");
+    Ok(())
+}
+
+// Of eight joiners: the first has said all that it will settle before the first step, and the others
+// settle step by step. Rows of S make two steps, then rows of R three, and rows of S three more.
+#[test]
+fn eight_held_messages_are_counted_in_eight_steps(rt: HostRuntime) -> Result<(), Fail> {
+    let alloc = rt.alloc();
+    let mut controller = Controller::start(alloc, 3, 1, None)?;
+    let mut sends = Sends::new(alloc);
+    for epoch in 1..9u32 {
+        tell(&mut controller, settled(0, epoch), &mut sends)?;
+    }
+    for (batch, first, last) in [
+        (ask(0, 0, 1), 1, 2),
+        (ask(0, 64, 0), 3, 5),
+        (ask(0, 0, 4096), 6, 8),
+    ] {
+        tell(&mut controller, batch, &mut sends)?;
+        settle(&mut controller, first, last, &mut sends)?;
+    }
+    let journal = controller.journal().as_slice();
+    assert_eq!(rt; journal.len(), 68, "lines");
+    let last = journal
+        .last()
+        .map(|line| (line.epoch, line.shift, line.moving));
+    assert_eq!(rt; last, Some((8, 3, false)), "the last line");
     Ok(())
 }

@@ -52,3 +52,26 @@ fn collects_until_each_joiner_has_ended(rt: HostRuntime) -> Result<(), Fail> {
     assert!(rt; loads.as_slice() == held.as_slice());
     Ok(())
 }
+
+#[test]
+fn collects_of_three_joiners(rt: HostRuntime) -> Result<(), Fail> {
+    let alloc = rt.alloc();
+    let mut collector = Collector::start(alloc, 3)?;
+    for (joiner, pair, moves) in [(2, (0, 7), 1), (0, (5, 0), 2), (1, (5, 1), 4)] {
+        assert!(rt; !collector.complete());
+        collector.on(Actor::Joiner(joiner), found(alloc, &[pair, pair])?)?;
+        collector.on(Actor::Joiner(joiner), fin(alloc, 1, 2, &[0, moves])?)?;
+    }
+    assert!(rt; collector.complete());
+    let Collected {
+        pairs,
+        made,
+        moved,
+        ..
+    } = collector.finish()?;
+    let wanted = [(0, 7), (0, 7), (5, 0), (5, 0), (5, 1), (5, 1)].map(|(i, j)| Pair { i, j });
+    assert!(rt; pairs.as_slice() == wanted.as_slice());
+    assert!(rt; made.as_slice() == [2, 2, 2].as_slice());
+    assert!(rt; moved.as_slice() == [0, 7].as_slice());
+    Ok(())
+}

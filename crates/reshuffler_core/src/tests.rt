@@ -120,3 +120,26 @@ fn goes_on_from_a_later_epoch(rt: HostRuntime) -> Result<(), Fail> {
     assert_sent(&rt, &sends, wanted.as_slice(), "order of epoch 4");
     Ok(())
 }
+
+// Of eight joiners: a grant and three orders wait until the first batch is asked for.
+#[test]
+fn four_held_messages_are_taken_in_order(rt: HostRuntime) -> Result<(), Fail> {
+    let alloc = rt.alloc();
+    let mut feeder = Feeder::start(alloc, 3, 0, 0, load(alloc)?, 3);
+    let mut sends = Sends::new(alloc);
+    feeder.on(GRANT, &mut sends)?;
+    for epoch in 1..4u32 {
+        let order = ToFeeder::Order {
+            epoch,
+            shift: epoch,
+        };
+        feeder.on(order, &mut sends)?;
+    }
+    assert_sent(&rt, &sends, [].as_slice(), "before it asked");
+    assert_eq!(rt; feeder.begin(&mut sends)?, true);
+    // One request, ten copies of its three rows, and three turns for each joiner.
+    assert_eq!(rt; sends.as_slice().len(), 35, "all posts");
+    let last = sends.as_slice().last().map(what_it_carries);
+    assert_eq!(rt; last, Some(Seen::Turn(7, 3, 3)), "the last post");
+    Ok(())
+}
