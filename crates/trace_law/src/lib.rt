@@ -16,3 +16,6 @@ pub use laws::{
 };
 pub use run::Run;
 pub use setting::Setting;
+
+#[cfg(test)]
+mod tests;

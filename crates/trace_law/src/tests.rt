@@ -1,0 +1,65 @@
+use crate::{Input, Setting};
+use join_rows::{Bytes, MapShelf, Table, read_table};
+use row_tickets::Feed;
+use std::alloc::{AllocError, Global};
+use std::test::Fail;
+use theta_pred::Theta;
+
+#[test]
+fn settings_at_their_limits(rt: HostRuntime) -> Result<(), Fail> {
+    let cases = [
+        ((0, 1, 1, 1), None, true),
+        ((6, 8, 16, 4096), Some(6), true),
+        ((7, 8, 16, 4096), None, false),
+        ((6, 0, 16, 4096), None, false),
+        ((6, 9, 16, 4096), None, false),
+        ((6, 8, 0, 4096), None, false),
+        ((6, 8, 17, 4096), None, false),
+        ((6, 8, 16, 0), None, false),
+        ((6, 8, 16, 4097), None, false),
+        ((2, 8, 16, 4096), Some(3), false),
+    ];
+    for ((k, feeders, workers, batch), fixed, wanted) in cases {
+        let setting = Setting {
+            k,
+            feeders,
+            workers,
+            batch,
+            feed: Feed::Alternate,
+            fixed,
+        };
+        assert_eq!(rt; setting.valid(), wanted, "{setting:?}");
+    }
+    Ok(())
+}
+
+// The table of a file with this text.
+fn table(alloc: Global, text: &str) -> Result<Table, AllocError> {
+    let mut shelf = MapShelf::new(alloc);
+    shelf.add("t", text.as_bytes())?;
+    match read_table(alloc, &mut shelf, "t") {
+        Ok(table) => Ok(table),
+        Err(_) => Err(AllocError),
+    }
+}
+
+#[test]
+fn inputs_with_tickets_and_widths(rt: HostRuntime) -> Result<(), Fail> {
+    let cases = [
+        ("a\n1\n2\n", "a,b\n", [3, 255].as_slice(), true),
+        ("a\n1\n2\n", "a,b\n", [3].as_slice(), false),
+        ("a,b\n1,2\n2,3\n", "a,b\n", [3, 255].as_slice(), false),
+        ("a\n1\n2\n", "a\n", [3, 255].as_slice(), false),
+    ];
+    for (file_r, file_s, tickets, wanted) in cases {
+        let input = Input {
+            table_r: table(rt.alloc(), file_r)?,
+            table_s: table(rt.alloc(), file_s)?,
+            theta: Theta::first_texts(rt.alloc(), 1, 2)?,
+            tickets_r: Bytes::from_slice(rt.alloc(), tickets)?,
+            tickets_s: Bytes::new(rt.alloc()),
+        };
+        assert_eq!(rt; input.valid(), wanted, "{file_r} and {file_s}");
+    }
+    Ok(())
+}
