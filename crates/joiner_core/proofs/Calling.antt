@@ -14,7 +14,7 @@ use Rattle.epoch_tags.specs.Links.{HasLink, feeder_joiner, joiner_joiner, contro
 use Rattle.joiner_law.specs.Law.{JoinerStart, JoinerLists}
 use Rattle.joiner_core.specs.Queues.{held_at, DifferInOneBit}
 use Rattle.joiner_law.specs.Standing.{with_sent}
-use Rattle.joiner_core.specs.Whole.{StandsBetween, StandsAt, Receives, IsOfGrid, IsSound, IsKept, with_message}
+use Rattle.joiner_core.specs.Whole.{StandsBetween, Receives, IsOfGrid, IsSound, IsKept, with_message}
 use Rattle.joiner_core.specs.Flags.{flag_at}
 use Rattle.theta_pred.specs.Formula.{Meaning}
 use Rattle.joiner_core.specs.Widths.{AreRows}

@@ -1,4 +1,4 @@
-use Rattle.std.proofs.Common.{sym, subst}
+use Rattle.std.proofs.Common.{subst}
 use Rattle.joiner_core.specs.Whole.{AreTried, none_ready, next}
 use Rattle.joiner_core.specs.declared.machine.Machine.{Machine}
 use Rattle.joiner_core.proofs.Advancing.{advances-none, advances-then}
