@@ -31,10 +31,10 @@ fn what_it_carries(post: &Post) -> Seen {
     }
 }
 
-fn assert_sent(rt: &impl Abort, sends: &Sends, wanted: &[Seen], step: &str) {
-    assert_eq!(rt; sends.as_slice().len(), wanted.len(), "{step}");
+fn assert_sent(rt: &impl Abort, sends: &Sends, wanted: &[Seen]) {
+    assert_eq!(rt; sends.as_slice().len(), wanted.len());
     for (post, want) in sends.as_slice().iter().zip(wanted) {
-        assert_eq!(rt; what_it_carries(post), *want, "{step}");
+        assert_eq!(rt; what_it_carries(post), *want);
     }
 }
 
@@ -53,28 +53,70 @@ fn load(alloc: Global) -> Result<Tuples, AllocError> {
     Ok(load)
 }
 
-const GRANT: ToFeeder = ToFeeder::Grant;
+// What is done with a feeder.
+#[derive(Clone, Copy)]
+enum Step {
+    // It begins, where that is possible, or not.
+    Begin(bool),
+    Take(ToFeeder),
+}
 
-const ORDER: ToFeeder = ToFeeder::Order { epoch: 1, shift: 1 };
+const GRANT: Step = Step::Take(ToFeeder::Grant);
+
+const STOP: Step = Step::Take(ToFeeder::Stop);
+
+fn order(epoch: u32, shift: u32) -> Step {
+    Step::Take(ToFeeder::Order { epoch, shift })
+}
+
+fn do_step(
+    rt: &impl Abort,
+    feeder: &mut Feeder,
+    step: &Step,
+    sends: &mut Sends,
+) -> Result<(), AllocError> {
+    match step {
+        Step::Begin(can) => {
+            assert_eq!(rt; feeder.can_begin(), *can);
+            assert_eq!(rt; feeder.begin(sends)?, *can);
+            Ok(())
+        }
+        Step::Take(m) => feeder.on(*m, sends),
+    }
+}
+
+// What a feeder sends for these steps, and whether it has stopped, are what is wanted.
+fn expect(
+    rt: &impl Abort,
+    alloc: Global,
+    mut feeder: Feeder,
+    steps: &[Step],
+    wanted: &[Seen],
+    stopped: bool,
+) -> Result<(), AllocError> {
+    let mut sends = Sends::new(alloc);
+    for step in steps {
+        do_step(rt, &mut feeder, step, &mut sends)?;
+    }
+    assert_sent(rt, &sends, wanted);
+    assert_eq!(rt; feeder.stopped(), stopped);
+    Ok(())
+}
 
 #[test]
 fn follows_an_order_and_sends_what_is_granted(rt: HostRuntime) -> Result<(), Fail> {
     let alloc = rt.alloc();
-    let mut feeder = Feeder::start(alloc, 1, 0, 0, load(alloc)?, 2);
-    let mut sends = Sends::new(alloc);
-    assert!(rt; feeder.can_begin());
-    assert_eq!(rt; feeder.begin(&mut sends)?, true);
-    assert!(rt; !feeder.can_begin());
-    assert_eq!(rt; feeder.begin(&mut sends)?, false);
-    feeder.on(ORDER, &mut sends)?;
-    feeder.on(GRANT, &mut sends)?;
-    assert_eq!(rt; feeder.begin(&mut sends)?, true);
-    feeder.on(GRANT, &mut sends)?;
-    assert_eq!(rt; feeder.begin(&mut sends)?, true);
-    assert_eq!(rt; feeder.begin(&mut sends)?, false);
-    assert!(rt; !feeder.stopped());
-    feeder.on(ToFeeder::Stop, &mut sends)?;
-    assert!(rt; feeder.stopped());
+    let steps = [
+        Step::Begin(true),
+        Step::Begin(false),
+        order(1, 1),
+        GRANT,
+        Step::Begin(true),
+        GRANT,
+        Step::Begin(true),
+        Step::Begin(false),
+        STOP,
+    ];
     let wanted = [
         Seen::Ask(2, 0),
         Seen::Turn(0, 1, 1),
@@ -89,35 +131,39 @@ fn follows_an_order_and_sends_what_is_granted(rt: HostRuntime) -> Result<(), Fai
         Seen::End(0),
         Seen::End(1),
     ];
-    assert_sent(&rt, &sends, wanted.as_slice(), "whole run");
+    let feeder = Feeder::start(alloc, 1, 0, 0, load(alloc)?, 2);
+    expect(&rt, alloc, feeder, &steps, &wanted, true)?;
     Ok(())
 }
 
 #[test]
 fn holds_a_grant_that_comes_first(rt: HostRuntime) -> Result<(), Fail> {
     let alloc = rt.alloc();
-    let mut feeder = Feeder::start(alloc, 1, 0, 0, load(alloc)?, 2);
-    let mut sends = Sends::new(alloc);
-    feeder.on(GRANT, &mut sends)?;
-    assert_sent(&rt, &sends, [].as_slice(), "before it asked");
-    assert_eq!(rt; feeder.begin(&mut sends)?, true);
     let wanted = [
         Seen::Ask(2, 0),
         Seen::Tup(0, Side::R, 0, 0),
         Seen::Tup(1, Side::R, 1, 0),
     ];
-    assert_sent(&rt, &sends, wanted.as_slice(), "after it asked");
+    let feeder = Feeder::start(alloc, 1, 0, 0, load(alloc)?, 2);
+    expect(&rt, alloc, feeder, &[GRANT], &[], false)?;
+    let feeder = Feeder::start(alloc, 1, 0, 0, load(alloc)?, 2);
+    expect(
+        &rt,
+        alloc,
+        feeder,
+        &[GRANT, Step::Begin(true)],
+        &wanted,
+        false,
+    )?;
     Ok(())
 }
 
 #[test]
 fn goes_on_from_a_later_epoch(rt: HostRuntime) -> Result<(), Fail> {
     let alloc = rt.alloc();
-    let mut feeder = Feeder::start_at(alloc, 1, 0, 3, 0, load(alloc)?, 2);
-    let mut sends = Sends::new(alloc);
-    feeder.on(ToFeeder::Order { epoch: 4, shift: 1 }, &mut sends)?;
     let wanted = [Seen::Turn(0, 4, 1), Seen::Turn(1, 4, 1)];
-    assert_sent(&rt, &sends, wanted.as_slice(), "order of epoch 4");
+    let feeder = Feeder::start_at(alloc, 1, 0, 3, 0, load(alloc)?, 2);
+    expect(&rt, alloc, feeder, &[order(4, 1)], &wanted, false)?;
     Ok(())
 }
 
@@ -127,16 +173,11 @@ fn four_held_messages_are_taken_in_order(rt: HostRuntime) -> Result<(), Fail> {
     let alloc = rt.alloc();
     let mut feeder = Feeder::start(alloc, 3, 0, 0, load(alloc)?, 3);
     let mut sends = Sends::new(alloc);
-    feeder.on(GRANT, &mut sends)?;
-    for epoch in 1..4u32 {
-        let order = ToFeeder::Order {
-            epoch,
-            shift: epoch,
-        };
-        feeder.on(order, &mut sends)?;
+    for step in [GRANT, order(1, 1), order(2, 2), order(3, 3)] {
+        do_step(&rt, &mut feeder, &step, &mut sends)?;
     }
-    assert_sent(&rt, &sends, [].as_slice(), "before it asked");
-    assert_eq!(rt; feeder.begin(&mut sends)?, true);
+    assert_eq!(rt; sends.as_slice().len(), 0, "before it asked");
+    do_step(&rt, &mut feeder, &Step::Begin(true), &mut sends)?;
     // One request, ten copies of its three rows, and three turns for each joiner.
     assert_eq!(rt; sends.as_slice().len(), 35, "all posts");
     let last = sends.as_slice().last().map(what_it_carries);
