@@ -1,13 +1,17 @@
 //! Work to be timed, chosen by a word: `holds` evaluates a predicate four million times, `store` probes a store of
-//! 20,000 tuples with as many.
+//! 20,000 tuples with as many, `inbox1`, `inbox8` and `inbox72` put and take 7.2 million messages in turn, of so many
+//! senders.
 #![tactic(auto)]
 
 ghost use Rattle.std.specs.Prelude.{◌≡◌, length, All, IfOk};
+ghost use Rattle.ruled_links.specs.Inboxes.{Differ};
 ghost use Rattle.store_parts.specs.Stored.{HaveWidths};
 
-use epoch_tags::{Pairs, Tuple};
+use epoch_tags::{Actor, Envelope, Msg, Pairs, ToController, Tuple};
 use join_rows::{Bytes, Cell, Cells, Items, Names, Side};
+use ruled_links::{Actors, Inbox, Mouth, inbox};
 use std::alloc::{AllocError, Global};
+use std::sync::Wait;
 use std::{env, io};
 use store_parts::{Store, Which};
 use theta_pred::{Theta, parse, resolve};
@@ -129,16 +133,57 @@ fn probes(alloc: Global) -> Result<u64, AllocError> {
     Ok(found.len())
 }
 
+// The feeders 0, 1, .. , so many.
+fn feeders(alloc: Global, count: u32) -> Result<Actors, AllocError>
+    ensures { IfOk result Differ }
+{
+    let mut actors = Actors::new(alloc);
+    for number in 0..count {
+        actors.push(Actor::Feeder(number))?;
+    }
+    Ok(actors)
+}
+
+// Each mouth puts one message, and the inbox takes one after each. The answer is how many were taken.
+fn put_and_take<R: Wait>(rt: &R, mouths: &mut [Mouth], inbox: &mut Inbox) -> u64 {
+    let mut taken = 0u64;
+    for mouth in mouths.iter_mut() {
+        let message = Envelope {
+            from: mouth.sender(),
+            msg: Msg::Controller(ToController::Drained),
+        };
+        if mouth.put(rt, message).is_ok() && inbox.take(rt).is_some() {
+            taken = taken.wrapping_add(1);
+        }
+    }
+    taken
+}
+
+// How many messages are put and taken in so many rounds.
+fn exchange<R: Wait>(rt: &R, alloc: Global, count: u32, rounds: u32) -> Result<u64, AllocError> {
+    let senders = feeders(alloc, count)?;
+    let (mut inbox, mouths) = inbox(alloc, Actor::Controller, &senders)?;
+    let mut mouths = mouths.into_vec();
+    let mut taken = 0u64;
+    for _ in 0..rounds {
+        taken = taken.wrapping_add(put_and_take(rt, mouths.as_mut_slice(), &mut inbox));
+    }
+    Ok(taken)
+}
+
 fn main(rt: HostRuntime) -> io::Result<()> {
     let alloc = rt.alloc();
     let Some(word) = env::args(&rt)?.nth(1) else {
-        println!(rt; "holds or store")?;
+        println!(rt; "holds, store, inbox1, inbox8 or inbox72")?;
         return Ok(());
     };
     match word.as_str() {
         "holds" => println!(rt; "{}", holds(alloc)?)?,
         "store" => println!(rt; "{}", probes(alloc)?)?,
-        _ => println!(rt; "holds or store")?,
+        "inbox1" => println!(rt; "{}", exchange(&rt, alloc, 1, 7_200_000)?)?,
+        "inbox8" => println!(rt; "{}", exchange(&rt, alloc, 8, 900_000)?)?,
+        "inbox72" => println!(rt; "{}", exchange(&rt, alloc, 72, 100_000)?)?,
+        _ => println!(rt; "holds, store, inbox1, inbox8 or inbox72")?,
     }
     Ok(())
 }
