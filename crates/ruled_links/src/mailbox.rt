@@ -199,9 +199,8 @@ impl Mouth {
     }
 }
 
-/// Holds an inbox and one of its mouths together, and answers how many messages of that mouth are left. It takes no
-/// memory.
-pub fn gather_mouth<R: Wait>(mouth: &mut Mouth, inbox: &mut Inbox, rt: &R) -> u64
+// The one pass that both have for a while, its look, and the parting.
+fn look_together<R: Wait>(mouth: &mut Mouth, inbox: &mut Inbox, rt: &R) -> u64
     requires { IsMouthOf mouth.old inbox.old }
     ensures left { AreLeft mouth.old.sent (messages_of mouth.old.from inbox.old.received) result }
     ensures known { inbox.new ≡ record inbox.old { senders = told mouth.old.from result inbox.old.senders } }
@@ -220,4 +219,17 @@ pub fn gather_mouth<R: Wait>(mouth: &mut Mouth, inbox: &mut Inbox, rt: &R) -> u6
     let left = mouth.count - inbox.parts.taken_of(from);
     inbox.parts.tell(from, left);
     left
+}
+
+/// Holds an inbox and one of its mouths together, and answers how many messages of that mouth are left. It takes no
+/// memory.
+pub fn gather_mouth<R: Wait>(mouth: &mut Mouth, inbox: &mut Inbox, rt: &R) -> u64
+    requires { IsMouthOf mouth.old inbox.old }
+    ensures left { AreLeft mouth.old.sent (messages_of mouth.old.from inbox.old.received) result }
+    ensures known { inbox.new ≡ record inbox.old { senders = told mouth.old.from result inbox.old.senders } }
+    ensures sender { is_sender mouth.old.from inbox.old.senders ≡ true }
+    ensures same { mouth.new ≡ mouth.old }
+    ensures inbox { IsSameInbox inbox.old inbox.new }
+{
+    look_together(mouth, inbox, rt)
 }

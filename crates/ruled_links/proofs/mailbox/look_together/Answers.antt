@@ -9,8 +9,8 @@ use Rattle.ruled_links.specs.Parts.{set_known, has_part, seen, AreCounted}
 use Rattle.ruled_links.proofs.DeliveryLemmas.{meets, parts, looks}
 use Rattle.ruled_links.proofs.KnownLemmas.{counted_tell}
 use Rattle.ruled_links.proofs.PartsLemmas.{looked, parted, found_taken, told_tells, named_seen, senders_told}
-use Rattle.ruled_links.proofs.mailbox.gather_mouth.Given.{Over}
-use Rattle.ruled_links.proofs.mailbox.gather_mouth.Goals as goal
+use Rattle.ruled_links.proofs.mailbox.look_together.Given.{Over}
+use Rattle.ruled_links.proofs.mailbox.look_together.Goals as goal
 
 pub absorb-requires-clause-rule : goal.absorb-requires-clause-rule
 absorb-requires-clause-rule g c = meets _ _ _ _ (search rules) (search rules) (search rules)
