@@ -50,8 +50,10 @@ wrote_front told asked old new planned bytes found front same =
     record { planned = planned; found = found; front = subst (AppendsFront old new) same front }
 
 -- words ask for one thing
+pub asked_one : (words : List (List ℕ)) (given wanted : Asked) → asked_of words ≡ Ok given → asked_of words ≡ Ok wanted → given ≡ wanted
+asked_one words given wanted is is_wanted = ap (λ r. result_unwrap_or r given) (sym is ∙ is_wanted)
+
 pub asked_text : (words : List (List ℕ)) (given wanted : Asked) (fault : TextFault) → asked_of words ≡ Ok given → asked_of words ≡ Ok wanted
     → IsTrueOf given.on fault → IsTrueOf wanted.on fault
 asked_text words given wanted fault is is_wanted true_of =
-    let same : given ≡ wanted = ap (λ r. result_unwrap_or r given) (sym is ∙ is_wanted) in
-    subst (λ asked. IsTrueOf asked.on fault) same true_of
+    subst (λ asked. IsTrueOf asked.on fault) (asked_one words given wanted is is_wanted) true_of

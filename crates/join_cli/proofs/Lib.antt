@@ -6,3 +6,5 @@ pub mod Bad
 pub mod Picked
 pub mod Asking
 pub mod Worked
+pub mod Seeing
+pub mod Ending

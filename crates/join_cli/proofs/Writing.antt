@@ -1,5 +1,5 @@
 -- Pieces put one after the other are the whole.
-use Rattle.std.proofs.Common.{◌≡◌, ◌≤◌, ◌+◌, ◌-◌, min, ℕ, zero, suc, refl, ◌∙◌, ap, arith, List, [], ◌∷◌, ◌++◌, take, drop, append_assoc, Option, Some, None}
+use Rattle.std.proofs.Common.{◌≡◌, ◌≤◌, ◌+◌, ◌-◌, min, ℕ, zero, suc, refl, ◌∙◌, ap, arith, List, [], ◌∷◌, ◌++◌, length, take, drop, length-take, length-drop, append_assoc, Option, Some, None}
 use Rattle.std.specs.Io.KnownBytes.{append_known}
 use Rattle.std.proofs.lemmas.List.{append-nil}
 use Rattle.join_rows.specs.Sinks.{AppendsFront}
@@ -41,3 +41,7 @@ piece_cut known before after xs p e front (n, is) = (
       ∙ ap (λ ys. append_known known (take p xs ++ ys)) (twice n (e - p) (drop p xs))
       ∙ ap (append_known known) (joined p (min n (e - p)) xs),
 )
+
+-- what is left behind a piece
+pub piece_left : (xs : List ℕ) (p e : ℕ) → p ≤ e → e ≤ length xs → length (take (e - p) (drop p xs)) + (length xs - e) ≡ length xs - p
+piece_left xs p e below within = omega (arith, below, within, length-take (e - p) (drop p xs), length-drop p xs)

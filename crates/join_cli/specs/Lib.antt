@@ -5,3 +5,4 @@ pub mod Columns
 pub mod Numbers
 pub mod Plan
 pub mod Ends
+pub mod Seen

@@ -43,10 +43,13 @@ abbrev pub table_found : Side → Option (List ℕ) → Result Table Refusal
 table_found side None = Err Read
 table_found side (Some bytes) = or_refused side (table_of bytes)
 
--- the tables under two names, R before S
+-- the tables in two files, R before S
+abbrev pub tables_in : Option (List ℕ) → Option (List ℕ) → Result Tables Refusal
+tables_in file_r file_s = then_of (table_found R file_r) (λ r. then_of (table_found S file_s) (λ s. Ok (record { of_r = r; of_s = s })))
+
+-- and under two names
 abbrev pub tables_of : (List ℕ → Option (List ℕ)) → List ℕ → List ℕ → Result Tables Refusal
-tables_of files name_r name_s =
-    then_of (table_found R (files name_r)) (λ r. then_of (table_found S (files name_s)) (λ s. Ok (record { of_r = r; of_s = s })))
+tables_of files name_r name_s = tables_in (files name_r) (files name_s)
 
 -- ---- the predicate over them
 

@@ -6,12 +6,13 @@ ghost use Rattle.join_rows.specs.Records.{IsTable};
 ghost use Rattle.join_rows.specs.declared.table.Side.{Side};
 ghost use Rattle.theta_text.specs.Grammar.{Tree};
 ghost use Rattle.theta_text.specs.declared.fault.PredFault.{PredFault};
-ghost use Rattle.theta_text.specs.Texts.{IsFaultOf, limits};
+ghost use Rattle.theta_text.specs.Texts.{IsFaultOf, TextReads, limits};
 ghost use Rattle.join_words.specs.Words.{asked};
 ghost use Rattle.join_cli.specs.declared.outcome.TextFault.{TextFault};
 ghost use Rattle.join_cli.specs.Texts.{IsRead, IsTrueOf, RefusesText};
 ghost use Rattle.join_cli.specs.Plan;
 ghost use Rattle.join_cli.specs.Plan.{IsFit, plan_of};
+ghost use Rattle.join_cli.specs.Seen.{PlanSeen};
 ghost use Rattle.join_cli.specs.Ends.{IsAsked, LacksOne, StandsPast, name_of};
 
 use crate::columns::theta;
@@ -65,6 +66,10 @@ pub(crate) fn prepare<H: Shelf>(
         → H.told shelf.old ≡ Some files → IsRead options.now.on.now reading
         → H.faults shelf.new ≡ H.faults shelf.old
         → (result ≡ Err Refusal.Memory) ⊎ (result ≡ plan_of (asked options.now) reading files) }
+    ensures seen { (tree : Tree) → TextReads limits options.now.on.now tree
+        → (result ≡ Err Refusal.Read → ⊥) → (result ≡ Err Refusal.Memory → ⊥)
+        → PlanSeen (H.told shelf.old) (H.picked shelf.new) (asked options.now) tree result }
+    ensures sound { H.sound shelf.old → H.faults shelf.new ≡ H.faults shelf.old }
     ensures early { (fault : PredFault) → IsFaultOf limits options.now.on.now fault
         → RefusesText fault result × (shelf.new ≡ shelf.old) }
     ensures asked { IfOk result (IsAsked (H.told shelf.old) (asked options.now)) }

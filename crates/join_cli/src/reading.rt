@@ -7,6 +7,7 @@ ghost use Rattle.join_rows.specs.declared.table.Side.{Side};
 ghost use Rattle.join_cli.specs.declared.outcome.TextFault.{TextFault};
 ghost use Rattle.join_cli.specs.Plan.{tables_of, table_found};
 ghost use Rattle.join_cli.specs.Ends.{StandsPast, name_on};
+ghost use Rattle.join_cli.specs.Seen.{IsSeen, TablesSeen};
 
 use crate::outcome::LimitFault;
 use crate::refusal::{Refusal, file_refused};
@@ -30,6 +31,9 @@ fn table<H: Shelf>(alloc: Global, shelf: &mut H, side: Side, name: &str) -> Resu
         → (result ≡ Err Refusal.Memory) ⊎ (result ≡ table_found side (files name.now)) }
     ensures found { IfOk result (λ table. (files : List ℕ → Option (List ℕ)) → H.told shelf.old ≡ Some files
         → table_found side (files name.now) ≡ Ok table) }
+    ensures seen { (result ≡ Err Refusal.Read → ⊥) → (result ≡ Err Refusal.Memory → ⊥)
+        → IsSeen (H.told shelf.old) (H.picked shelf.new) side name.now result }
+    ensures sound { H.sound shelf.old → H.sound shelf.new × (H.faults shelf.new ≡ H.faults shelf.old) }
     ensures read { result ≡ Err Refusal.Read
         → (H.faults shelf.old < H.faults shelf.new) ⊎ Lacks (H.told shelf.old) name.now }
     ensures counts { (result ≡ Err Refusal.Read → ⊥) → H.faults shelf.new ≡ H.faults shelf.old }
@@ -59,6 +63,9 @@ pub(crate) fn read_tables<H: Shelf>(
         → (result ≡ Err Refusal.Memory) ⊎ (result ≡ tables_of files name_r.now name_s.now) }
     ensures found { IfOk result (λ tables. (files : List ℕ → Option (List ℕ)) → H.told shelf.old ≡ Some files
         → tables_of files name_r.now name_s.now ≡ Ok tables) }
+    ensures seen { (result ≡ Err Refusal.Read → ⊥) → (result ≡ Err Refusal.Memory → ⊥)
+        → TablesSeen (H.told shelf.old) (H.picked shelf.new) name_r.now name_s.now result }
+    ensures sound { H.sound shelf.old → H.sound shelf.new × (H.faults shelf.new ≡ H.faults shelf.old) }
     ensures read { result ≡ Err Refusal.Read → (H.faults shelf.old < H.faults shelf.new)
         ⊎ (Lacks (H.told shelf.old) name_r.now ⊎ Lacks (H.told shelf.old) name_s.now) }
     ensures counts { (result ≡ Err Refusal.Read → ⊥) → H.faults shelf.new ≡ H.faults shelf.old }

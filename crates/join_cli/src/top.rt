@@ -1,16 +1,19 @@
 // The top call.
 
-ghost use Rattle.std.specs.Prelude.{◌≡◌, ◌≢◌, ◌⊎◌, ◌<◌, ◌≤◌, ℕ, List, Result, Ok, Err, IfSome, map, string_bytes};
+ghost use Rattle.std.specs.Prelude.{◌≡◌, ◌≢◌, ◌⊎◌, ◌<◌, ◌≤◌, ℕ, List, Option, Some, Result, Ok, Err, IfSome, length, map, string_bytes};
 ghost use Rattle.join_rows.specs.Shelves.{last_fault};
 ghost use Rattle.join_rows.specs.declared.table.Side.{Side};
 ghost use Rattle.theta_text.specs.Grammar.{Tree};
 ghost use Rattle.theta_text.specs.declared.fault.PredFault.{PredFault};
-ghost use Rattle.theta_text.specs.Texts.{IsFaultOf, limits};
+ghost use Rattle.theta_text.specs.Texts.{IsFaultOf, TextReads, limits};
 ghost use Rattle.join_words.specs.Words.{Asked, asked, asked_of};
 ghost use Rattle.join_words.specs.declared.options.WordsFault.{WordsFault};
 ghost use Rattle.join_cli.specs.declared.outcome.TextFault.{TextFault};
 ghost use Rattle.join_cli.specs.Refusals.{refused_as, text_refusal};
 ghost use Rattle.join_cli.specs.Texts.{IsRead, IsTrueOf};
+ghost use Rattle.join_cli.specs.declared.plan.Planned.{Planned};
+ghost use Rattle.join_cli.specs.Plan.{output_of, plan_of};
+ghost use Rattle.join_cli.specs.Seen.{EndsOver};
 ghost use Rattle.join_cli.specs.Ends.{EndsAs, EndsEarly, Wrote, WroteFront, LacksOne, StandsPast, name_of};
 
 use crate::outcome::{LimitFault, Outcome};
@@ -39,6 +42,15 @@ fn join_files<H: Shelf, K: Sink>(
     ensures answer { (reading : Result Tree PredFault) → IsRead options.now.on.now reading
         → H.faults shelf.new ≡ H.faults shelf.old → K.faults sink.new ≡ K.faults sink.old
         → EndsAs (H.told shelf.old) (asked options.now) reading result }
+    ensures seen { (tree : Tree) → TextReads limits options.now.on.now tree
+        → result ≢ Outcome.Read → result ≢ Outcome.Memory
+        → EndsOver (H.told shelf.old) (H.picked shelf.new) (asked options.now) tree
+        (K.written sink.old) (K.written sink.new) result }
+    ensures complete { (files : List ℕ → Option (List ℕ)) (tree : Tree) (planned : Planned)
+        → H.told shelf.old ≡ Some files → TextReads limits options.now.on.now tree
+        → plan_of (asked options.now) (Ok tree) files ≡ Ok planned → H.sound shelf.old
+        → K.takes sink.old (length (output_of (asked options.now) planned))
+        → (result ≡ Outcome.Done) ⊎ (result ≡ Outcome.Memory) }
     ensures done { result ≡ Outcome.Done
         → Wrote (H.told shelf.old) (asked options.now) (K.written sink.old) (K.written sink.new) }
     ensures front { result ≡ Outcome.Write
@@ -91,6 +103,16 @@ pub fn join_main<H: Shelf, K: Sink>(
         → IsRead asked.on reading
         → H.faults shelf.new ≡ H.faults shelf.old → K.faults sink.new ≡ K.faults sink.old
         → EndsAs (H.told shelf.old) asked reading result }
+    ensures seen { (asked : Asked) (tree : Tree) → asked_of (map string_bytes words.now) ≡ Ok asked
+        → TextReads limits asked.on tree → result ≢ Outcome.Read → result ≢ Outcome.Memory
+        → EndsOver (H.told shelf.old) (H.picked shelf.new) asked tree
+        (K.written sink.old) (K.written sink.new) result }
+    ensures complete { (asked : Asked) (files : List ℕ → Option (List ℕ)) (tree : Tree) (planned : Planned)
+        → asked_of (map string_bytes words.now) ≡ Ok asked
+        → H.told shelf.old ≡ Some files → TextReads limits asked.on tree
+        → plan_of asked (Ok tree) files ≡ Ok planned → H.sound shelf.old
+        → K.takes sink.old (length (output_of asked planned))
+        → (result ≡ Outcome.Done) ⊎ (result ≡ Outcome.Memory) }
     ensures done { result ≡ Outcome.Done → (asked : Asked) × (asked_of (map string_bytes words.now) ≡ Ok asked)
         × Wrote (H.told shelf.old) asked (K.written sink.old) (K.written sink.new) }
     ensures front { result ≡ Outcome.Write → (asked : Asked) × (asked_of (map string_bytes words.now) ≡ Ok asked)

@@ -1,6 +1,6 @@
 // Writing an output in pieces.
 
-ghost use Rattle.std.specs.Prelude.{◌≡◌, ◌<◌, ◌≤◌, OnOk, OnErr};
+ghost use Rattle.std.specs.Prelude.{◌≡◌, ◌<◌, ◌≤◌, OnOk, OnErr, IsOk, length};
 ghost use Rattle.std.specs.Io.KnownBytes.{append_known};
 ghost use Rattle.join_rows.specs.Shelves.{Faulted, last_fault};
 ghost use Rattle.join_rows.specs.Sinks.{AppendsFront};
@@ -17,6 +17,7 @@ pub(crate) fn put_all<K: Sink>(sink: &mut K, bytes: &[u8]) -> Result<(), Failed>
     ensures counts { OnOk result (K.faults sink.new ≡ K.faults sink.old) }
     ensures front { OnErr result (AppendsFront (K.written sink.old) (K.written sink.new) bytes.now) }
     ensures fails { OnErr result (K.faults sink.old < K.faults sink.new) }
+    ensures takes { K.takes sink.old (length bytes.now) → IsOk result }
 {
     let mut place = 0;
     while place < bytes.len() {

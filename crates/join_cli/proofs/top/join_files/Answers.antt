@@ -1,4 +1,9 @@
-use Rattle.std.proofs.Common.{◌∙◌}
+use Rattle.std.proofs.Common.{◌≡◌, ◌∙◌, Ok, ap, length, subst}
+use Rattle.std.specs.Io.KnownBytes.{append_known}
+use Rattle.join_rows.specs.Sinks.{AppendsFront}
+use Rattle.join_cli.specs.Plan.{output_of, plan_of}
+use Rattle.join_cli.proofs.Ending.{complete_made, complete_refused, ends_done}
+use Rattle.join_cli.proofs.Seeing.{end_done, end_front, end_refused, not_refused_memory, not_refused_read}
 use Rattle.join_words.specs.Words.{asked}
 use Rattle.join_cli.proofs.Asking.{wrote_front}
 use Rattle.join_cli.proofs.top.join_files.Goals as goal
@@ -7,3 +12,42 @@ pub returns-clause-front : goal.returns-clause-front
 returns-clause-front g c = λ is.
     wrote_front (g.H.Shelf.told c.args.shelf.now) (asked c.args.options.now) (g.K.Sink.written c.args.sink.now) (g.K.Sink.written c.put_all.new.sink)
     c.in-Ok.planned c.as_bytes.result.now c.in-Ok.ensures.asked c.in-Err-put_all.ensures.front (c.as_bytes.ensures.value ∙ c.in-Ok-output.ensures)
+
+pub returns-in-Err-clause-seen : goal.returns-in-Err-clause-seen
+returns-in-Err-clause-seen g c tree reads read memory =
+    let seen = c.in-Err.ensures.seen tree reads (not_refused_read c.in-Err.refusal (rw c.refused.ensures at read)) (not_refused_memory c.in-Err.refusal (rw c.refused.ensures at memory)) in
+    rw c.refused.ensures (end_refused (g.H.Shelf.told c.args.shelf.now) (g.H.Shelf.picked c.prepare.new.shelf) (asked c.args.options.now) tree (g.K.Sink.written c.args.sink.now) c.in-Err.refusal seen)
+
+pub returns-in-Err-clause-complete : goal.returns-in-Err-clause-complete
+returns-in-Err-clause-complete g c files tree planned told reads plan sound takes =
+    rw c.refused.ensures
+    (complete_refused c.in-Err.refusal (plan_of (asked c.args.options.now) (Ok tree) files) planned (c.in-Err.ensures.answer files (Ok tree) told reads (c.in-Err.ensures.sound sound)) plan)
+
+pub returns-in-Ok-put_all-clause-early : goal.returns-in-Ok-put_all-clause-early
+returns-in-Ok-put_all-clause-early g c fault is = absurd (c.in-Ok.ensures.early fault is).0
+
+pub returns-in-Ok-put_all-clause-answer : goal.returns-in-Ok-put_all-clause-answer
+returns-in-Ok-put_all-clause-answer g c reading is same same_sink =
+    ends_done (g.H.Shelf.told c.args.shelf.now) (asked c.args.options.now) reading c.in-Ok.planned (λ files told. c.in-Ok.ensures.answer files reading told is same)
+
+pub returns-in-Ok-put_all-clause-seen : goal.returns-in-Ok-put_all-clause-seen
+returns-in-Ok-put_all-clause-seen g c tree reads read memory =
+    end_done (g.H.Shelf.told c.args.shelf.now) (g.H.Shelf.picked c.prepare.new.shelf) (asked c.args.options.now) tree (g.K.Sink.written c.args.sink.now) (g.K.Sink.written c.put_all.new.sink)
+    c.in-Ok.planned (c.in-Ok.ensures.seen tree reads (λ e. cc e) (λ e. cc e))
+    (c.in-Ok-put_all.ensures.written ∙ ap (append_known (g.K.Sink.written c.args.sink.now)) (c.as_bytes.ensures.value ∙ c.in-Ok-output.ensures))
+
+pub returns-clause-early : goal.returns-clause-early
+returns-clause-early g c fault is = absurd (c.in-Ok.ensures.early fault is).0
+
+pub returns-clause-seen : goal.returns-clause-seen
+returns-clause-seen g c tree reads read memory =
+    end_front (g.H.Shelf.told c.args.shelf.now) (g.H.Shelf.picked c.prepare.new.shelf) (asked c.args.options.now) tree (g.K.Sink.written c.args.sink.now) (g.K.Sink.written c.put_all.new.sink)
+    c.in-Ok.planned (c.in-Ok.ensures.seen tree reads (λ e. cc e) (λ e. cc e))
+    (subst (AppendsFront (g.K.Sink.written c.args.sink.now) (g.K.Sink.written c.put_all.new.sink)) (c.as_bytes.ensures.value ∙ c.in-Ok-output.ensures) c.in-Err-put_all.ensures.front)
+
+pub returns-clause-complete : goal.returns-clause-complete
+returns-clause-complete g c files tree planned told reads plan sound takes =
+    let made = complete_made c.in-Ok.planned planned (plan_of (asked c.args.options.now) (Ok tree) files) (c.in-Ok.ensures.answer files (Ok tree) told reads (c.in-Ok.ensures.sound sound)) plan in
+    let size : length c.as_bytes.result.now ≡ length (output_of (asked c.args.options.now) planned) =
+    ap length (c.as_bytes.ensures.value ∙ c.in-Ok-output.ensures ∙ ap (output_of (asked c.args.options.now)) made) in
+    absurd (cc (c.in-Err-put_all.ensures.takes (rw size takes)))

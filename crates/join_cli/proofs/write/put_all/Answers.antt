@@ -1,5 +1,5 @@
-use Rattle.std.proofs.Common.{◌≤◌, ◌∙◌, arith, rules}
-use Rattle.join_cli.proofs.Writing.{piece_put, piece_cut}
+use Rattle.std.proofs.Common.{◌≡◌, ◌≤◌, ◌+◌, ◌-◌, ◌∙◌, length, take, drop, arith, rules}
+use Rattle.join_cli.proofs.Writing.{piece_put, piece_cut, piece_left}
 use Rattle.join_cli.proofs.write.put_all.Goals as goal
 
 pub returns-in_err-put-clause-front : goal.returns-in_err-put-clause-front
@@ -16,4 +16,15 @@ loop-place-preserved g c =
       written = piece_put (g.K.Sink.written c.args.sink.now) (g.K.Sink.written c.loop-place.sink) (g.K.Sink.written c.put.new.self) c.args.bytes.now c.loop-place.place c.min-end.result
           before c.loop-place.invariant.written c.in_ok-put.ensures.puts;
       counts = c.in_ok-put.ensures.counts ∙ c.loop-place.invariant.counts;
+      takes = λ h.
+          let size : length (take (c.min-end.result - c.loop-place.place) (drop c.loop-place.place c.args.bytes.now)) + (length c.args.bytes.now - c.min-end.result) ≡ length c.args.bytes.now - c.loop-place.place =
+          piece_left c.args.bytes.now c.loop-place.place c.min-end.result before (omega arith) in
+          (c.in_ok-put.ensures.takes (length c.args.bytes.now - c.min-end.result) (rw size (c.loop-place.invariant.takes h))).1;
     }
+
+pub returns-in_err-put-clause-takes : goal.returns-in_err-put-clause-takes
+returns-in_err-put-clause-takes g c h =
+    let before : c.loop-place.place ≤ c.min-end.result = omega arith in
+    let size : length (take (c.min-end.result - c.loop-place.place) (drop c.loop-place.place c.args.bytes.now)) + (length c.args.bytes.now - c.min-end.result) ≡ length c.args.bytes.now - c.loop-place.place =
+    piece_left c.args.bytes.now c.loop-place.place c.min-end.result before (omega arith) in
+    absurd (cc (c.in_err-put.ensures.takes (length c.args.bytes.now - c.min-end.result) (rw size (c.loop-place.invariant.takes h))).0)
