@@ -6,6 +6,7 @@ mod numbers;
 mod outcome;
 mod plan;
 mod predicate;
+mod program;
 mod reading;
 mod refusal;
 mod run;
@@ -15,6 +16,7 @@ mod write;
 
 pub use join_words::WordsFault;
 pub use outcome::{InputFault, LimitFault, Outcome, TextFault};
+pub use program::{exit_code, jm_main, tell};
 pub use top::join_main;
 
 #[cfg(test)]
