@@ -1,3 +1,8 @@
+pub mod KeyBounds
+pub mod KeyLaws
+pub mod KeyMembers
+pub mod KeyPlaces
+pub mod KeySums
 pub mod Left
 pub mod NumericPlaces
 pub mod SumSteps

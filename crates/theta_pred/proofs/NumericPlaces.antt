@@ -29,7 +29,7 @@ place_if_on-within width_r width_s S S place h = All-cons (Under width_r width_s
 place_if_on-within width_r width_s R S place h = All-nil (Under width_r width_s R)
 place_if_on-within width_r width_s S R place h = All-nil (Under width_r width_s S)
 
-number_places-within : (width_r width_s : ℕ) (side : Side) (number : Number) → IsNumberWithin width_r width_s number
+pub number_places-within : (width_r width_s : ℕ) (side : Side) (number : Number) → IsNumberWithin width_r width_s number
     → All (Under width_r width_s side) (number_places side number)
 number_places-within width_r width_s side (Given value) h = All-nil (Under width_r width_s side)
 number_places-within width_r width_s side (Cell column) h =

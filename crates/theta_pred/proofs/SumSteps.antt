@@ -8,7 +8,7 @@ use Rattle.theta_pred.specs.Sizes.{IsAtMost}
 use Rattle.theta_pred.specs.Sound.{AreWithin, IsNumberWithin}
 use Rattle.theta_pred.specs.Sums.{plus, addend_of, sum_of}
 
-plus_assoc : (v x : ℤ) (rest : Option ℤ) → plus (Some (v +ℤ x)) rest ≡ plus (Some v) (plus (Some x) rest)
+pub plus_assoc : (v x : ℤ) (rest : Option ℤ) → plus (Some (v +ℤ x)) rest ≡ plus (Some v) (plus (Some x) rest)
 plus_assoc v x None = refl
 plus_assoc v x (Some y) = let e : (v +ℤ x) +ℤ y ≡ v +ℤ (x +ℤ y) = omega (arith, ints) in ap Some e
 

@@ -1,5 +1,7 @@
 pub mod Formula
 pub mod FormulaCode
+pub mod Keys
+pub mod Linear
 pub mod Names
 pub mod Numeric
 pub mod Resolved

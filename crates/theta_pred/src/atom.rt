@@ -1,8 +1,10 @@
 // The test that an index of stored rows serves.
 
-ghost use Rattle.std.specs.Prelude.{◌≡◌, IfOk};
+ghost use Rattle.std.specs.Prelude.{◌≡◌, ◌≤◌, ◌<◌, ◌^◌, length, IfOk, IfSome};
+ghost use Rattle.std.specs.Option.{ForSome};
+ghost use Rattle.theta_pred.specs.Sizes.{IsAtMost};
 
-use join_rows::Items;
+use join_rows::{Cells, Items};
 use std::alloc::{AllocError, Global};
 
 /// A column of one side with its sign, its place counted from 0.
@@ -14,13 +16,44 @@ pub struct Part {
 
 pub type Parts = Items<Part>;
 
+impl Part {
+    ghost use Rattle.theta_pred.specs.Linear.{part_of};
+
+    // The number of the part's cell with its sign.
+    fn value(self, row: &Cells) -> Option<i128>
+        requires { self.column < length row.now }
+        ensures value { result ≡ part_of self row.now }
+        ensures small { IfSome result (IsAtMost (2 ^ 63)) }
+    {
+        let value = i128::from(row.at(self.column).num?);
+        Some(if self.minus { -value } else { value })
+    }
+}
+
 /// A sum of columns of one side. A column that occurs twice stands twice.
 #[derive(Debug, Drop)]
 pub struct Linear {
     pub parts: Parts,
+    pub ghost short: { length parts ≤ 32 },
 }
 
 impl Linear {
+    ghost use Rattle.theta_pred.specs.Linear.{value_of, AreBelow};
+
+    /// The whole number that the sum is over a row, or none where a cell of the sum is empty or no
+    /// number. It takes no memory.
+    pub fn value(&self, row: &Cells) -> Option<i128>
+        requires { AreBelow (length row.now) self.now.parts }
+        ensures value { result ≡ value_of self.now.parts row.now }
+        ensures small { IfSome result (IsAtMost (2 ^ 68)) }
+    {
+        let mut value = 0;
+        for part in self.parts.as_slice() {
+            value += part.value(row)?;
+        }
+        Some(value)
+    }
+
     /// An equal sum.
     pub fn copy(&self, alloc: Global) -> Result<Linear, AllocError>
         ensures { IfOk result (λ sum. sum ≡ self.now) }
@@ -38,6 +71,8 @@ pub struct KeyAtom {
     pub s_sum: Linear,
     pub low: Option<i128>,
     pub high: Option<i128>,
+    pub ghost low_small: { ForSome low (IsAtMost (2 ^ 100)) },
+    pub ghost high_small: { ForSome high (IsAtMost (2 ^ 100)) },
 }
 
 impl KeyAtom {

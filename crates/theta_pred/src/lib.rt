@@ -2,8 +2,11 @@
 #![tactic(auto)]
 
 mod atom;
+mod bounds;
 mod copies;
 mod fault;
+mod key;
+mod kind;
 mod named;
 mod numeric;
 mod resolver;

@@ -75,7 +75,7 @@ fn add_sum_places(sum: &Addends, side: Side, places: &mut Vec<u64>) -> Result<()
 }
 
 // The place of the term's column, where it is on the side.
-fn place_of(number: Number, side: Side) -> Option<u64>
+pub(crate) fn place_of(number: Number, side: Side) -> Option<u64>
     ensures { option_to_list result ≡ number_places side number }
 {
     match number {

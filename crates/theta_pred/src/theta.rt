@@ -1,12 +1,15 @@
 // A predicate over the places of columns.
 
-ghost use Rattle.std.specs.Prelude.{◌≡◌, ◌<◌, IfOk};
+ghost use Rattle.std.specs.Prelude.{◌≡◌, ◌<◌, IfOk, option_map, Some};
 ghost use Rattle.theta_pred.specs.Formula.{formula_of};
+ghost use Rattle.theta_pred.specs.Keys.{atom_of, key_of, Atom, IsKeyOf};
 ghost use Rattle.theta_pred.specs.Numeric.{AreNumeric};
 ghost use Rattle.theta_pred.specs.Sound.{IsSound};
 ghost use Rattle.theta_pred.specs.Truth.{holds, width_of, IsRowOf, first_texts_are_equal};
 
+use crate::atom::KeyAtom;
 use crate::copies::copy_of;
+use crate::key::{atom_in, key_law, key_member};
 use crate::numeric::numeric_places;
 use crate::tree::{Column, Columns, Text, Tree};
 use crate::truth::is_true;
@@ -116,6 +119,26 @@ impl Theta {
             Side::R => &self.numeric_r,
             Side::S => &self.numeric_s,
         }
+    }
+
+    /// The test that an index of stored rows serves: the first equality of the top conjunction's
+    /// members that names a column of each side; where there is none, the first band of these,
+    /// which is a test that an absolute value is at most or below a number; where there is none,
+    /// the first inequality. A conjunction inside another member isn't looked into.
+    pub fn key_atom(&self) -> Result<Option<KeyAtom>, AllocError>
+        ensures { IfOk result (λ key. option_map atom_of key ≡ key_of self.now.formula) }
+    {
+        match key_member(&self.tree) {
+            Some(member) => atom_in(self.alloc, member, self.width_r, self.width_s),
+            None => Ok(None),
+        }
+    }
+
+    /// What the key atom says of the predicate. It has no code.
+    pub fn key_law(&self)
+        ensures { (atom : Atom) → key_of self.now.formula ≡ Some atom → IsKeyOf self.now atom }
+    {
+        key_law(&self.tree, self.width_r, self.width_s);
     }
 
     /// Whether the predicate is true of a row of R and a row of S. It takes no memory.
