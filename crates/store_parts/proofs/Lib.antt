@@ -1,3 +1,9 @@
+pub mod Columns
 pub mod Kept
+pub mod Keys
+pub mod MapRanges
+pub mod MapSums
+pub mod Rising
 pub mod Scanning
+pub mod Seeking
 pub mod Sides

@@ -21,6 +21,9 @@ pub matches-take_more : (theta : Meaning) (t : Tuple) (which : Which) (xs : List
     → matches theta t which (take (i + 1) xs) ≡ matches theta t which (take i xs) ++ matches theta t which (x ∷ [])
 matches-take_more theta t which xs i x low is = ap (matches theta t which) (take_one xs i x low is) ∙ matches-append theta t which (take i xs) (x ∷ [])
 
+pub count_by-append : {X : Type 0} (p : X → Bool) (xs ys : List X) → count_by p (xs ++ ys) ≡ count_by p xs + count_by p ys
+count_by-append p xs ys = sum_by-append (λ x. cond (p x) 1 0) xs ys
+
 pub count_by-take_more : {X : Type 0} (p : X → Bool) (xs : List X) (i : ℕ) (x : X) → i < length xs → x ≡ get_or xs i x → count_by p (take (i + 1) xs) ≡ count_by p (take i xs) + count_by p (x ∷ [])
 count_by-take_more p xs i x low is = ap (count_by p) (take_one xs i x low is) ∙ sum_by-append (λ y. cond (p y) 1 0) (take i xs) (x ∷ [])
 

@@ -1,2 +1,4 @@
+pub mod Keyed
 pub mod Matches
+pub mod Places
 pub mod Stored

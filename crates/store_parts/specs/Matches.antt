@@ -1,5 +1,5 @@
 -- What a probe finds, and how many tuples it evaluates.
-use Rattle.std.specs.Prelude.{◌≡◌, ℕ, ◌==◌, Bool, true, ◌&&◌, Option, List, ◌++◌, map, filter, count_by}
+use Rattle.std.specs.Prelude.{◌≡◌, ℕ, ◌==◌, Bool, true, ◌&&◌, Option, Some, None, List, ◌++◌, map, filter, count_by}
 use Rattle.join_rows.specs.declared.table.Side.{Side}
 use Rattle.join_rows.specs.declared.table.Side.TheVariants.{R, S}
 use Rattle.join_rows.specs.Lists.{IsPrefix}
@@ -8,6 +8,7 @@ use Rattle.epoch_tags.specs.declared.tuple.Pair.{Pair}
 use Rattle.theta_pred.specs.Formula.{Meaning}
 use Rattle.theta_pred.specs.Truth.{holds, IsRowOf}
 use Rattle.theta_pred.specs.declared.atom.KeyAtom.{KeyAtom}
+use Rattle.store_parts.specs.Keyed.{is_key_true}
 use Rattle.store_parts.specs.declared.which.Which.{Which}
 use Rattle.store_parts.specs.declared.which.Which.TheVariants.{All, OnlyStamp}
 
@@ -48,10 +49,11 @@ is_found theta t which other = does_match theta t other && is_named which other
 abbrev pub matches : Meaning → Tuple → Which → List Tuple → List Pair
 matches theta t which others = map (pair_of t) (filter (is_found theta t which) others)
 
--- whether a store with this key evaluates the predicate for a stored tuple: it searches by no key yet, and so for
--- each that is named
+-- whether a store with this key evaluates the predicate for a stored tuple: where it is named, and the key atom, if
+-- there is one, is true
 abbrev pub is_evaluated : Option KeyAtom → Tuple → Which → Tuple → Bool
-is_evaluated key t which other = is_named which other
+is_evaluated None t which other = is_named which other
+is_evaluated (Some key) t which other = is_named which other && is_key_true key t other
 
 -- how many of the others a probe evaluates
 abbrev pub evaluated : Option KeyAtom → Tuple → Which → List Tuple → ℕ

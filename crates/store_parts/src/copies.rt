@@ -1,11 +1,7 @@
-// Copies of what a joiner keeps.
+// Copies of a key.
 
-ghost use Rattle.std.specs.Prelude.{◌≡◌, ◌<◌, ◌≤◌, ◌^◌, filter, IfOk};
-ghost use Rattle.migration_plan.specs.Steps.{holds};
+ghost use Rattle.std.specs.Prelude.{◌≡◌, IfOk};
 
-use epoch_tags::{Tuple, Tuples};
-use grid_map::Shape;
-use migration_plan::kept;
 use std::alloc::{AllocError, Global};
 use theta_pred::KeyAtom;
 
@@ -17,25 +13,4 @@ pub(crate) fn key_copy(alloc: Global, key: &Option<KeyAtom>) -> Result<Option<Ke
         Some(atom) => Ok(Some(atom.copy(alloc)?)),
         None => Ok(None),
     }
-}
-
-// Copies of those that the joiner holds in a grid of this shape, in their order.
-pub(crate) fn kept_copies(
-    alloc: Global,
-    tuples: &[Tuple],
-    shape: Shape,
-    id: u32,
-) -> Result<Tuples, AllocError>
-    requires shift { shape.shift ≤ shape.k }
-    requires k { shape.k ≤ 8 }
-    requires id { id < 2 ^ shape.k }
-    ensures { IfOk result (λ copies. copies ≡ filter (holds shape.k shape.shift id) tuples.now) }
-{
-    let mut copies = Tuples::new(alloc);
-    for tuple in tuples {
-        if kept(shape, id, tuple) {
-            copies.push(tuple.copy()?)?;
-        }
-    }
-    Ok(copies)
 }

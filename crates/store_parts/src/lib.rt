@@ -1,7 +1,10 @@
 //! The tuples that a joiner holds, and the pairs that a tuple makes with them.
 #![tactic(auto)]
 
+mod band;
 mod copies;
+mod index;
+mod kept_side;
 mod probe;
 mod steps;
 mod store;

@@ -1,15 +1,29 @@
 // The pairs of a tuple with stored ones.
 
-ghost use Rattle.std.specs.Prelude.{◌≡◌, ◌+◌, [], ◌∷◌, ◌++◌, All, count_by, OnOk, OnErr};
-ghost use Rattle.store_parts.specs.Matches.{does_match, is_named, matches, other_side, pair_of, AppendsFront, HasWidth};
+ghost use Rattle.std.specs.Prelude.{◌≡◌, ◌+◌, ◌<◌, [], ◌∷◌, ◌++◌, length, All, count_by, filter, slice_get, Some, IfOk, OnOk, OnErr};
+ghost use Rattle.store_parts.specs.Keyed.{at_places, is_key_true, values_at, HasColumns};
+ghost use Rattle.store_parts.specs.Matches.{
+  does_match,
+  evaluated,
+  is_named,
+  matches,
+  other_side,
+  pair_of,
+  AppendsFront,
+  HasWidth,
+};
+ghost use Rattle.store_parts.specs.Places.{IsMapOf};
+ghost use Rattle.theta_pred.specs.Keys.{atom_of, key_of};
 
+use crate::band::{greatest, least, value_of};
+use crate::index::Index;
 use crate::steps::Steps;
 use crate::which::Which;
 use epoch_tags::{Pair, Pairs, Tuple};
 use join_rows::Side;
-use std::alloc::AllocError;
+use std::alloc::{AllocError, Global};
 use std::sync::ledger::Ledger;
-use theta_pred::Theta;
+use theta_pred::{KeyAtom, Theta};
 
 // The pair of two tuples of different sides.
 fn pair_of(tuple: &Tuple, other: &Tuple) -> Pair
@@ -83,4 +97,87 @@ pub(crate) fn scan<L: Ledger>(
         try_one(tuple, other, theta, which, found, steps)?;
     }
     Ok(())
+}
+
+// The tuple at a place, counted from 0.
+fn at(others: &[Tuple], place: u64) -> &Tuple
+    requires { place < length others.now }
+    ensures { slice_get others.now place ≡ Some result.now }
+{
+    &others[place as usize]
+}
+
+// The stored tuples at these places.
+fn try_places<L: Ledger>(
+    tuple: &Tuple,
+    others: &[Tuple],
+    places: &[u64],
+    theta: &Theta,
+    which: Which,
+    found: &mut Pairs,
+    steps: &mut Steps<L>,
+) -> Result<(), AllocError>
+    requires width { HasWidth theta.now tuple.now.side tuple.now }
+    requires other_widths { All (HasWidth theta.now (other_side tuple.now.side)) others.now }
+    requires places { All (λ place. place < length others.now) places.now }
+    ensures ok { OnOk result (found.new ≡ found.old
+        ++ matches theta.now tuple.now which (at_places others.now places.now)) }
+    ensures err { OnErr result (AppendsFront found.old found.new
+        (matches theta.now tuple.now which (at_places others.now places.now))) }
+    ensures steps { OnOk result (steps.new ≡ steps.old
+        + count_by (is_named which) (at_places others.now places.now)) }
+{
+    for place in places {
+        try_one(tuple, at(others, *place), theta, which, found, steps)?;
+    }
+    Ok(())
+}
+
+// The places, rising, of the stored tuples with which the key atom is true.
+fn candidates(
+    alloc: Global,
+    tuple: &Tuple,
+    others: &[Tuple],
+    index: &Index,
+    key: &KeyAtom,
+) -> Result<Vec<u64>, AllocError>
+    requires columns { HasColumns key.now tuple.now.side tuple.now }
+    requires index { IsMapOf (values_at key.now (other_side tuple.now.side) others.now) index.now.map.entries }
+    ensures keyed { IfOk result (λ places.
+        at_places others.now places.items ≡ filter (is_key_true key.now tuple.now) others.now) }
+    ensures below { IfOk result (λ places. All (λ place. place < length others.now) places.items) }
+{
+    let Some(value) = value_of(key, tuple.side, tuple) else {
+        return Ok(Vec::new(alloc));
+    };
+    index.between(
+        alloc,
+        least(key, tuple.side, value),
+        greatest(key, tuple.side, value),
+    )
+}
+
+// The tuples of the other side with which the key atom is true.
+pub(crate) fn seek<L: Ledger>(
+    alloc: Global,
+    tuple: &Tuple,
+    others: &[Tuple],
+    index: &Index,
+    key: &KeyAtom,
+    theta: &Theta,
+    which: Which,
+    found: &mut Pairs,
+    steps: &mut Steps<L>,
+) -> Result<(), AllocError>
+    requires width { HasWidth theta.now tuple.now.side tuple.now }
+    requires other_widths { All (HasWidth theta.now (other_side tuple.now.side)) others.now }
+    requires own { key_of theta.now.formula ≡ Some (atom_of key.now) }
+    requires index { IsMapOf (values_at key.now (other_side tuple.now.side) others.now) index.now.map.entries }
+    ensures ok { OnOk result (found.new ≡ found.old ++ matches theta.now tuple.now which others.now) }
+    ensures err { OnErr result (AppendsFront found.old found.new (matches theta.now tuple.now which others.now)) }
+    ensures steps { OnOk result (steps.new ≡ steps.old + evaluated (Some key.now) tuple.now which others.now) }
+{
+    theta.key_law();
+    let places = candidates(alloc, tuple, others, index, key)?;
+    try_places(tuple, others, &places, theta, which, found, steps)
 }

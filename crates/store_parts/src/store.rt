@@ -1,11 +1,14 @@
 // The store.
 
 ghost use Rattle.std.specs.Prelude.{◌≡◌, ◌+◌, ◌<◌, ◌≤◌, ◌^◌, [], ◌++◌, All, IfOk, OnOk, OnErr};
+ghost use Rattle.store_parts.specs.Keyed.{FitsKey, IsOwn};
 ghost use Rattle.store_parts.specs.Matches.{evaluated, matches, AppendsFront, HasWidth};
 ghost use Rattle.store_parts.specs.Stored.{kept_of, others_of, side_of, with_tuple, HaveWidths};
 
-use crate::copies::{kept_copies, key_copy};
-use crate::probe::scan;
+use crate::copies::key_copy;
+use crate::index::Index;
+use crate::kept_side::{add_to, kept_side};
+use crate::probe::{scan, seek};
 use crate::steps::Steps;
 use crate::which::Which;
 use epoch_tags::{Pairs, Tuple, Tuples};
@@ -21,18 +24,24 @@ use theta_pred::{KeyAtom, Theta};
 pub struct Store {
     key: Option<KeyAtom>,
     r: Tuples,
+    r_index: Index,
     s: Tuples,
+    s_index: Index,
     alloc: Global,
 }
 
 impl Model for Store {
+    ghost use Rattle.join_rows.specs.declared.table.Side.TheVariants.{R, S};
+    ghost use Rattle.store_parts.specs.Keyed.{IsIndexed};
     ghost use Rattle.store_parts.specs.Stored.{Stored, AreSided};
 
     ghost Value = { Stored };
 
     ghost view = { λ store. record { key = store.key; r = store.r; s = store.s } };
 
-    ghost invariant = { λ store. AreSided store.r store.s };
+    ghost invariant = { λ store. AreSided store.r store.s
+        × IsIndexed store.key R store.r store.r_index.map.entries
+        × IsIndexed store.key S store.s store.s_index.map.entries };
 }
 
 // A probe that counts from this blank on.
@@ -46,6 +55,7 @@ fn probe_from<L: Ledger>(
 ) -> Result<(), AllocError>
     requires width { HasWidth theta.now tuple.now.side tuple.now }
     requires widths { HaveWidths theta.now store.now }
+    requires own { IsOwn theta.now store.now.key }
     requires name { blank.name ≡ L.name }
     requires parts { blank.parts ≡ L.parts }
     requires some { 0 < blank.parts }
@@ -66,21 +76,47 @@ impl Store {
         Store {
             key,
             r: Tuples::new(alloc),
+            r_index: Index::new(alloc),
             s: Tuples::new(alloc),
+            s_index: Index::new(alloc),
             alloc,
         }
     }
 
     /// Adds a tuple to those of its side, as the last. It is dropped where memory is wanting.
     pub fn add(&mut self, tuple: Tuple) -> Result<(), AllocError>
+        requires { FitsKey self.old.key tuple }
         ensures ok { OnOk result (self.new ≡ with_tuple self.old tuple) }
         ensures err { OnErr result (self.new ≡ self.old) }
     {
+        let alloc = self.alloc;
         match tuple.side {
-            Side::R => self.r.push(tuple)?,
-            Side::S => self.s.push(tuple)?,
+            Side::R => add_to(
+                alloc,
+                &mut self.r,
+                &mut self.r_index,
+                &self.key,
+                Side::R,
+                tuple,
+            ),
+            Side::S => add_to(
+                alloc,
+                &mut self.s,
+                &mut self.s_index,
+                &self.key,
+                Side::S,
+                tuple,
+            ),
         }
-        Ok(())
+    }
+
+    /// That a row of the predicate's width fits the predicate's own key. It has no code.
+    pub fn fits_key(&self, theta: &Theta, tuple: &Tuple)
+        requires width { HasWidth theta.now tuple.now.side tuple.now }
+        requires own { IsOwn theta.now self.now.key }
+        ensures { FitsKey self.now.key tuple.now }
+    {
+        theta.key_law();
     }
 
     /// The tuples of a side.
@@ -107,6 +143,7 @@ impl Store {
     ) -> Result<(), AllocError>
         requires width { HasWidth theta.now tuple.now.side tuple.now }
         requires widths { HaveWidths theta.now self.now }
+        requires own { IsOwn theta.now self.now.key }
         ensures ok { let others = others_of self.now tuple.now in
             OnOk result (found.new ≡ found.old ++ matches theta.now tuple.now which others) }
         ensures err { let others = others_of self.now tuple.now in
@@ -114,9 +151,15 @@ impl Store {
         ensures steps { let others = others_of self.now tuple.now in
             OnOk result (steps.new ≡ steps.old + evaluated self.now.key tuple.now which others) }
     {
-        match tuple.side {
-            Side::R => scan(tuple, self.s.as_slice(), theta, which, found, steps),
-            Side::S => scan(tuple, self.r.as_slice(), theta, which, found, steps),
+        let (others, index) = match tuple.side {
+            Side::R => (self.s.as_slice(), &self.s_index),
+            Side::S => (self.r.as_slice(), &self.r_index),
+        };
+        match &self.key {
+            Some(key) => seek(
+                self.alloc, tuple, others, index, key, theta, which, found, steps,
+            ),
+            None => scan(tuple, others, theta, which, found, steps),
         }
     }
 
@@ -130,6 +173,7 @@ impl Store {
     ) -> Result<(), AllocError>
         requires width { HasWidth theta.now tuple.now.side tuple.now }
         requires widths { HaveWidths theta.now self.now }
+        requires own { IsOwn theta.now self.now.key }
         ensures ok { let others = others_of self.now tuple.now in
             OnOk result (found.new ≡ found.old ++ matches theta.now tuple.now which others) }
         ensures err { let others = others_of self.now tuple.now in
@@ -145,10 +189,31 @@ impl Store {
         requires id { id < 2 ^ shape.k }
         ensures { IfOk result (λ kept. kept ≡ kept_of shape id self.now) }
     {
+        let key = key_copy(self.alloc, &self.key)?;
+        let (r, r_index) = kept_side(
+            self.alloc,
+            self.r.as_slice(),
+            &self.r_index,
+            &self.key,
+            Side::R,
+            shape,
+            id,
+        )?;
+        let (s, s_index) = kept_side(
+            self.alloc,
+            self.s.as_slice(),
+            &self.s_index,
+            &self.key,
+            Side::S,
+            shape,
+            id,
+        )?;
         Ok(Store {
-            key: key_copy(self.alloc, &self.key)?,
-            r: kept_copies(self.alloc, self.r.as_slice(), shape, id)?,
-            s: kept_copies(self.alloc, self.s.as_slice(), shape, id)?,
+            key,
+            r,
+            r_index,
+            s,
+            s_index,
             alloc: self.alloc,
         })
     }

@@ -1,0 +1,143 @@
+-- What a range of a map from values to places gives.
+use Rattle.std.proofs.Common.{◌≡◌, ℕ, ◌+◌, ◌≤◌, ℤ, pos, negsuc, Bool, true, false, cond, not, ◌&&◌, Option, Some, None, List, [], ◌∷◌, ◌++◌, refl, sym, ap, ◌∙◌, arith}
+use Rattle.std.specs.Prelude.{filter, flat_map, sum_by, int_lt, int_le, Vec}
+use Rattle.std.specs.Global.{Global}
+use Rattle.std.specs.declared.cmp.Ordering.TheVariants.{Less, Equal, Greater}
+use Rattle.std.specs.Ordering.{nat_cmp, int_cmp, is_lt, is_le}
+use Rattle.std.specs.List.Sorted.{IsPermutation, IsSorted}
+use Rattle.std.specs.BTreeMap.Range.{range_contains}
+use Rattle.std.proofs.lemmas.Grind.{common_steps}
+use Rattle.std.proofs.lemmas.List.Sums.{sum_by-cons, sum_by-append}
+use Rattle.std.proofs.lemmas.List.Sorted.{sum_by-IsPermutation, IsNonDecreasingBy-from_sort}
+use Rattle.std.proofs.lemmas.Bool.{false≢true}
+use Rattle.std.proofs.lemmas.Bool.Decides.{nat_tests}
+use Rattle.std.proofs.lemmas.Int.{ints}
+use Rattle.store_parts.specs.Places.{entries_from, is_backward, lies, places_between}
+use Rattle.store_parts.proofs.Rising.{Rises, same_rising, rises_from_sorted}
+use Rattle.store_parts.specs.Places.{at_each, IsMapOf, start_of, end_of}
+
+-- ---- the test of a key
+
+le_plain : (p q : Bool) → (p ≡ true → q ≡ false) → is_le (cond p Less (cond q Greater Equal)) ≡ not q
+le_plain true q apart = ap not (sym (apart refl))
+le_plain false true apart = refl
+le_plain false false apart = refl
+
+ge_plain : (p q : Bool) → not (is_lt (cond p Less (cond q Greater Equal))) ≡ not p
+ge_plain true q = refl
+ge_plain false true = refl
+ge_plain false false = refl
+
+int_le-not : (x y : ℤ) → int_le x y ≡ not (int_lt y x)
+int_le-not (pos a) (pos b) = grind (arith, nat_tests)
+int_le-not (pos a) (negsuc b) = refl
+int_le-not (negsuc a) (pos b) = refl
+int_le-not (negsuc a) (negsuc b) = grind (arith, nat_tests)
+
+int_lt-asym : (x y : ℤ) → int_lt x y ≡ true → int_lt y x ≡ false
+int_lt-asym (pos a) (pos b) less = grind (arith, nat_tests)
+int_lt-asym (pos a) (negsuc b) less = grind (arith, nat_tests)
+int_lt-asym (negsuc a) (pos b) less = refl
+int_lt-asym (negsuc a) (negsuc b) less = grind (arith, nat_tests)
+
+both : (a b c d : Bool) → a ≡ b → c ≡ d → (a && c) ≡ (b && d)
+both a b c d p q = cc
+
+low_is : (x v : ℤ) → is_le (int_cmp x v) ≡ int_le x v
+low_is x v = le_plain (int_lt x v) (int_lt v x) (int_lt-asym x v) ∙ sym (int_le-not x v)
+
+high_is : (y v : ℤ) → not (is_lt (int_cmp y v)) ≡ int_le v y
+high_is y v = ge_plain (int_lt y v) (int_lt v y) ∙ sym (int_le-not v y)
+
+in_range : (from to : Option ℤ) (v : ℤ) → range_contains int_cmp (start_of from) (end_of to) v ≡ lies from to (Some v)
+in_range None None v = refl
+in_range None (Some y) v = high_is y v
+in_range (Some x) None v = ap (λ b. b && true) (low_is x v)
+in_range (Some x) (Some y) v = both _ _ _ _ (low_is x v) (high_is y v)
+
+-- ---- sums
+
+-- f where the test passes, else 0
+abbrev only : (ℤ → Bool) → (ℕ → ℕ) → ℤ × ℕ → ℕ
+only test f e = cond (test e.0) (f e.1) 0
+
+zeros : (ps : List ℕ) → sum_by (λ (_ : ℕ). 0) ps ≡ 0
+zeros [] = refl
+zeros (p ∷ ps) = omega (arith, sum_by-cons (λ _. 0) p ps, zeros ps)
+
+each_only : (b : Bool) (f : ℕ → ℕ) (ps : List ℕ) → sum_by (λ p. cond b (f p) 0) ps ≡ cond b (sum_by f ps) 0
+each_only true f ps = refl
+each_only false f ps = zeros ps
+
+sum_kept : (f : ℕ → ℕ) (b : Bool) (e : ℤ × Vec ℕ Global) (es : List (ℤ × Vec ℕ Global))
+    → sum_by f (flat_map (λ e. e.1.items) (cond b (e ∷ es) es)) ≡ cond b (sum_by f e.1.items) 0 + sum_by f (flat_map (λ e. e.1.items) es)
+sum_kept f true e es = sum_by-append f e.1.items (flat_map (λ e. e.1.items) es)
+sum_kept f false e es = omega arith
+
+sum_of_range : (test : ℤ → Bool) (f : ℕ → ℕ) (es : List (ℤ × Vec ℕ Global)) → sum_by f (flat_map (λ e. e.1.items) (filter (λ e. test e.0) es)) ≡ sum_by (at_each (only test f)) es
+sum_of_range test f [] = refl
+sum_of_range test f (e ∷ es) =
+    omega (
+      arith,
+      sum_kept f (test e.0) e (filter (λ e. test e.0) es),
+      sum_of_range test f es,
+      sum_by-cons (at_each (only test f)) e es,
+      each_only (test e.0) f e.1.items,
+    )
+
+sum_cond : (f : ℕ → ℕ) (b : Bool) (n : ℕ) (ps : List ℕ) → sum_by f (cond b (n ∷ ps) ps) ≡ cond b (f n) 0 + sum_by f ps
+sum_cond f true n ps = sum_by-cons f n ps
+sum_cond f false n ps = omega arith
+
+sum_of_places : (from to : Option ℤ) (test : ℤ → Bool) (f : ℕ → ℕ) → ((v : ℤ) → test v ≡ lies from to (Some v)) → (n : ℕ) (values : List (Option ℤ))
+    → sum_by (only test f) (entries_from n values) ≡ sum_by f (places_between from to n values)
+sum_of_places from to test f same n [] = refl
+sum_of_places from to test f same n (None ∷ values) = sum_of_places from to test f same (n + 1) values
+sum_of_places from to test f same n (Some v ∷ values) =
+    let here = ap (λ b. cond b (f n) 0) (same v) in
+    omega (
+      arith,
+      here,
+      sum_by-cons (only test f) (v, n) (entries_from (n + 1) values),
+      sum_of_places from to test f same (n + 1) values,
+      sum_cond f (lies from to (Some v)) n (places_between from to (n + 1) values),
+    )
+
+rises_take_in : (b : Bool) (low n : ℕ) (ps : List ℕ) → low ≤ n → Rises n ps → Rises low ps → Rises low (cond b (n ∷ ps) ps)
+rises_take_in true low n ps le here skipped = (le, here)
+rises_take_in false low n ps le here skipped = skipped
+
+pub places_rise : (from to : Option ℤ) (low n : ℕ) (values : List (Option ℤ)) → low ≤ n → Rises low (places_between from to n values)
+places_rise from to low n [] le = tt
+places_rise from to low n (v ∷ values) le =
+    rises_take_in (lies from to v) low n (places_between from to (n + 1) values) le
+    (places_rise from to n (n + 1) values (omega arith)) (places_rise from to low (n + 1) values (omega arith))
+
+pub sorted_map_range : (from to : Option ℤ) (values : List (Option ℤ)) (entries : List (ℤ × Vec ℕ Global)) (found sorted : List ℕ)
+    → IsMapOf values entries → found ≡ flat_map (λ e. e.1.items) (filter (λ e. range_contains int_cmp (start_of from) (end_of to) e.0) entries)
+    → IsPermutation found sorted → IsSorted nat_cmp sorted → sorted ≡ places_between from to 0 values
+sorted_map_range from to values entries found sorted indexed is moved in_order =
+    same_rising 0 0 sorted (places_between from to 0 values)
+    (rises_from_sorted sorted (IsNonDecreasingBy-from_sort (λ x. x) sorted in_order))
+    (places_rise from to 0 0 values (omega arith))
+    (λ f. sum_by-IsPermutation f found sorted moved ∙ ap (sum_by f) is
+    ∙ sum_of_range (range_contains int_cmp (start_of from) (end_of to)) f entries
+    ∙ indexed.sums (only (range_contains int_cmp (start_of from) (end_of to)) f)
+    ∙ sum_of_places from to (range_contains int_cmp (start_of from) (end_of to)) f (in_range from to) 0 values)
+
+pub all_taken : (left : List (ℤ × Vec ℕ Global)) (taken all : List ℕ) → left ≡ [] → taken ++ flat_map (λ e. e.1.items) left ≡ all → taken ≡ all
+all_taken left taken all none is = grind (arith, common_steps)
+
+-- ---- bounds that run backwards
+
+none_lies : (a b v : ℤ) → int_lt b a ≡ true → (int_le a v && int_le v b) ≡ false
+none_lies a b v less = grind (arith, ints)
+
+pub places_backward : (from to : Option ℤ) (n : ℕ) (values : List (Option ℤ)) → is_backward from to ≡ true → places_between from to n values ≡ []
+places_backward from to n [] back = refl
+places_backward from to n (None ∷ values) back = places_backward from to (n + 1) values back
+places_backward None to n (Some v ∷ values) back = absurd (false≢true back)
+places_backward (Some a) None n (Some v ∷ values) back = absurd (false≢true back)
+places_backward (Some a) (Some b) n (Some v ∷ values) back =
+    ap (λ t. cond t (n ∷ places_between (Some a) (Some b) (n + 1) values) (places_between (Some a) (Some b) (n + 1) values)) (none_lies a b v back)
+    ∙ places_backward (Some a) (Some b) (n + 1) values back

@@ -1,0 +1,130 @@
+-- Sums over a map from values to places.
+use Rattle.std.proofs.Common.{◌≡◌, ℕ, ◌+◌, ℤ, Bool, true, false, cond, Option, Some, None, List, [], ◌∷◌, ◌++◌, length, refl, sym, ap, ◌∙◌, arith}
+use Rattle.std.specs.Prelude.{sum_by, Vec}
+use Rattle.std.specs.declared.cmp.Ordering.{Ordering}
+use Rattle.std.specs.declared.cmp.Ordering.TheVariants.{Less, Equal, Greater}
+use Rattle.std.specs.Ordering.{int_cmp, is_eq, match_ordering}
+use Rattle.std.specs.Map.{lookup, set_value}
+use Rattle.std.specs.BTreeMap.{is_at, insert_entry}
+use Rattle.std.proofs.lemmas.List.Sums.{sum_by-cons, sum_by-append}
+use Rattle.std.specs.Global.{Global}
+use Rattle.std.proofs.lemmas.Map.Lookups.{exact_signed}
+use Rattle.store_parts.specs.Places.{at_each, IsMapOf}
+use Rattle.store_parts.specs.Places.{entries_from}
+
+-- the entries with one more value
+pub entries_more : (n : ℕ) (values : List (Option ℤ)) (v : Option ℤ) → entries_from n (values ++ v ∷ []) ≡ entries_from n values ++ entries_from (n + length values) (v ∷ [])
+entries_more n [] v = ap (λ m. entries_from m (v ∷ [])) (omega arith)
+entries_more n (None ∷ values) v = entries_more (n + 1) values v ∙ ap (λ m. entries_from (n + 1) values ++ entries_from m (v ∷ [])) (omega arith)
+entries_more n (Some w ∷ values) v = ap (λ es. (w, n) ∷ es) (entries_more (n + 1) values v ∙ ap (λ m. entries_from (n + 1) values ++ entries_from m (v ∷ [])) (omega arith))
+
+-- ---- a new key
+
+insert_at : {K X : Type 0} (cmp : K → K → Ordering) (F : K × X → ℕ) (k : K) (v : X) (e : K × X) (es : List (K × X)) (o : Ordering)
+    → is_eq o ≡ false → sum_by F (insert_entry cmp es k v) ≡ F (k, v) + sum_by F es
+    → sum_by F (match_ordering o ((k, v) ∷ e ∷ es) ((e.0, v) ∷ es) (e ∷ insert_entry cmp es k v)) ≡ F (k, v) + sum_by F (e ∷ es)
+insert_at cmp F k v e es Less apart rest = sum_by-cons F (k, v) (e ∷ es)
+insert_at cmp F k v e es Equal apart rest = absurd (cc)
+insert_at cmp F k v e es Greater apart rest = omega (arith, sum_by-cons F e (insert_entry cmp es k v), sum_by-cons F e es, rest)
+
+apart_at : {X : Type 0} (b : Bool) (x : X) (o : Option X) → cond b (Some x) o ≡ None → (b ≡ false) × (o ≡ None)
+apart_at true x o none = absurd (cc)
+apart_at false x o none = (refl, none)
+
+pub sum-insert_entry : {K X : Type 0} (cmp : K → K → Ordering) (F : K × X → ℕ) (k : K) (v : X) (es : List (K × X)) → lookup (is_at (cmp k)) es ≡ None
+    → sum_by F (insert_entry cmp es k v) ≡ F (k, v) + sum_by F es
+sum-insert_entry cmp F k v [] none = sum_by-cons F (k, v) []
+sum-insert_entry cmp F k v (e ∷ es) none =
+    let apart = apart_at (is_at (cmp k) e.0) e.1 (lookup (is_at (cmp k)) es) none in
+    insert_at cmp F k v e es (cmp k e.0) apart.0 (sum-insert_entry cmp F k v es apart.1)
+
+-- ---- another value at a key
+
+set_at : {K X : Type 0} (test : K → Bool) (F : K × X → ℕ) (v w : X) (more : ℕ) (b : Bool) (e : K × X) (es : List (K × X))
+    → test e.0 ≡ b → ((q : K) → test q ≡ true → F (q, w) ≡ F (q, v) + more)
+    → cond b (Some e.1) (lookup test es) ≡ Some v → (lookup test es ≡ Some v → sum_by F (set_value test es w) ≡ sum_by F es + more)
+    → sum_by F (cond b ((e.0, w) ∷ es) (e ∷ set_value test es w)) ≡ sum_by F (e ∷ es) + more
+set_at test F v w more true e es here grows found rest =
+    let was : e.1 ≡ v = cc in
+    let old = ap (λ x. F (e.0, x)) was in
+    let new = grows e.0 here in
+    omega (arith, sum_by-cons F (e.0, w) es, sum_by-cons F e es, old, new)
+set_at test F v w more false e es here grows found rest = omega (arith, sum_by-cons F e (set_value test es w), sum_by-cons F e es, rest found)
+
+pub sum-set_value : {K X : Type 0} (test : K → Bool) (F : K × X → ℕ) (v w : X) (more : ℕ) (es : List (K × X))
+    → ((q : K) → test q ≡ true → F (q, w) ≡ F (q, v) + more) → lookup test es ≡ Some v → sum_by F (set_value test es w) ≡ sum_by F es + more
+sum-set_value test F v w more [] grows found = absurd (cc)
+sum-set_value test F v w more (e ∷ es) grows found = set_at test F v w more (test e.0) e es refl grows found (sum-set_value test F v w more es grows)
+
+-- ---- the map after an add
+
+-- a query that finds the key v alone
+abbrev pub FindsOnly : (ℤ → Ordering) → ℤ → Type 0
+FindsOnly compare v = (q : ℤ) → is_at compare q ≡ true → q ≡ v
+
+no_more : (f : ℤ × ℕ → ℕ) (q : ℤ) (p w : Vec ℕ Global) → w.items ≡ p.items → at_each f (q, w) ≡ at_each f (q, p) + 0
+no_more f q p w same = omega (arith, ap (λ xs. sum_by (λ x. f (q, x)) xs) same)
+
+one_more : (f : ℤ × ℕ → ℕ) (q v : ℤ) (n : ℕ) (p w : Vec ℕ Global) → w.items ≡ p.items ++ n ∷ [] → q ≡ v → at_each f (q, w) ≡ at_each f (q, p) + f (v, n)
+one_more f q v n p w pushed same =
+    let whole = ap (λ xs. sum_by (λ x. f (q, x)) xs) pushed in
+    let parts = sum_by-append (λ x. f (q, x)) p.items (n ∷ []) in
+    let last = sum_by-cons (λ x. f (q, x)) n [] in
+    let at_v = ap (λ z. f (z, n)) same in
+    omega (arith, whole, parts, last, at_v)
+
+value_more : (f : ℤ × ℕ → ℕ) (values : List (Option ℤ)) (v : ℤ) (n : ℕ) → length values ≡ n → sum_by f (entries_from 0 (values ++ Some v ∷ [])) ≡ sum_by f (entries_from 0 values) + f (v, n)
+value_more f values v n at_end =
+    let more = ap (sum_by f) (entries_more 0 values (Some v)) in
+    let joined = sum_by-append f (entries_from 0 values) ((v, 0 + length values) ∷ []) in
+    let last = sum_by-cons f (v, 0 + length values) [] in
+    let place : f (v, 0 + length values) ≡ f (v, n) = ap (λ m. f (v, m)) (omega (arith, at_end)) in
+    omega (arith, more, joined, last, place)
+
+pub map_kept : (compare : ℤ → Ordering) (values : List (Option ℤ)) (old new : List (ℤ × Vec ℕ Global)) (p w : Vec ℕ Global)
+    → lookup (is_at compare) old ≡ Some p → new ≡ set_value (is_at compare) old w → w.items ≡ p.items → IsMapOf values old → IsMapOf values new
+map_kept compare values old new p w found written same h = record {
+  sums = λ f.
+      let whole = ap (λ es. sum_by (at_each f) es) written in
+      let set = sum-set_value (is_at compare) (at_each f) p w 0 old (λ q hit. no_more f q p w same) found in
+      omega (arith, whole, set, h.sums f);
+}
+
+pub map_pushed : (compare : ℤ → Ordering) (values : List (Option ℤ)) (v : ℤ) (n : ℕ) (old new : List (ℤ × Vec ℕ Global)) (p w : Vec ℕ Global)
+    → FindsOnly compare v → lookup (is_at compare) old ≡ Some p → new ≡ set_value (is_at compare) old w → w.items ≡ p.items ++ n ∷ []
+    → length values ≡ n → IsMapOf values old → IsMapOf (values ++ Some v ∷ []) new
+map_pushed compare values v n old new p w exact found written pushed at_end h = record {
+  sums = λ f.
+      let whole = ap (λ es. sum_by (at_each f) es) written in
+      let set = sum-set_value (is_at compare) (at_each f) p w (f (v, n)) old (λ q hit. one_more f q v n p w pushed (exact q hit)) found in
+      omega (arith, whole, set, h.sums f, value_more f values v n at_end);
+}
+
+pub map_inserted : (values : List (Option ℤ)) (v : ℤ) (n : ℕ) (old new : List (ℤ × Vec ℕ Global)) (w : Vec ℕ Global)
+    → lookup (is_at (int_cmp v)) old ≡ None → new ≡ insert_entry int_cmp old v w → w.items ≡ n ∷ []
+    → length values ≡ n → IsMapOf values old → IsMapOf (values ++ Some v ∷ []) new
+map_inserted values v n old new w none written made at_end h = record {
+  sums = λ f.
+      let whole = ap (λ es. sum_by (at_each f) es) written in
+      let set = sum-insert_entry int_cmp (at_each f) v w old none in
+      let term = ap (λ xs. sum_by (λ x. f (v, x)) xs) made in
+      let last = sum_by-cons (λ x. f (v, x)) n [] in
+      omega (arith, whole, set, term, last, h.sums f, value_more f values v n at_end);
+}
+
+pub map_no_value : (value : Option ℤ) (values : List (Option ℤ)) (entries : List (ℤ × Vec ℕ Global)) → ((v : ℤ) → value ≡ Some v → ⊥) → IsMapOf values entries → IsMapOf (values ++ value ∷ []) entries
+map_no_value None values entries never h = record {
+  sums = λ f.
+      let more = ap (sum_by f) (entries_more 0 values None) in
+      let joined = sum_by-append f (entries_from 0 values) [] in
+      omega (arith, more, joined, h.sums f);
+}
+map_no_value (Some v) values entries never h = absurd (never v refl)
+
+pub finds_only : (v : ℤ) → FindsOnly (int_cmp v) v
+finds_only v q hit = sym (exact_signed v q (equal_from_test (int_cmp v q) hit))
+  where
+    equal_from_test : (o : Ordering) → is_eq o ≡ true → o ≡ Equal
+    equal_from_test Less e = absurd (cc)
+    equal_from_test Equal e = refl
+    equal_from_test Greater e = absurd (cc)

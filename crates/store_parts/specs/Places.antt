@@ -1,0 +1,45 @@
+-- An index of values: from each value to the places at which it stands.
+use Rattle.std.specs.Prelude.{◌≡◌, ℕ, ◌+◌, ℤ, int_lt, Bool, false, ◌&&◌, Option, Some, None, List, [], ◌∷◌, sum_by, if◌then◌else◌, Vec}
+use Rattle.std.specs.Global.{Global}
+use Rattle.std.specs.declared.ops.Bound.{Bound}
+use Rattle.std.specs.declared.ops.Bound.TheVariants.{Included, Unbounded}
+use Rattle.theta_pred.specs.Keys.{is_from, is_up_to}
+
+-- each value with its place, counted from n; what has no value is left out
+abbrev pub entries_from : ℕ → List (Option ℤ) → List (ℤ × ℕ)
+entries_from n [] = []
+entries_from n (None ∷ values) = entries_from (n + 1) values
+entries_from n (Some v ∷ values) = (v, n) ∷ entries_from (n + 1) values
+
+-- the term of a value with all its places
+abbrev pub at_each : (ℤ × ℕ → ℕ) → ℤ × Vec ℕ Global → ℕ
+at_each f e = sum_by (λ p. f (e.0, p)) e.1.items
+
+-- the map has these values with their places, each once, in some order
+pub record IsMapOf (values : List (Option ℤ)) (entries : List (ℤ × Vec ℕ Global)) : Type 0 where
+  pub sums : (f : ℤ × ℕ → ℕ) → sum_by (at_each f) entries ≡ sum_by f (entries_from 0 values)
+
+-- whether there is a value, and it lies between two bounds
+abbrev pub lies : Option ℤ → Option ℤ → Option ℤ → Bool
+lies from to None = false
+lies from to (Some v) = is_from from v && is_up_to to v
+
+-- the places, counted from n, of the values between two bounds, rising
+abbrev pub places_between : Option ℤ → Option ℤ → ℕ → List (Option ℤ) → List ℕ
+places_between from to n [] = []
+places_between from to n (v ∷ values) =
+    if lies from to v then n ∷ places_between from to (n + 1) values else places_between from to (n + 1) values
+
+abbrev pub start_of : Option ℤ → Bound ℤ
+start_of None = Unbounded
+start_of (Some v) = Included v
+
+abbrev pub end_of : Option ℤ → Bound ℤ
+end_of None = Unbounded
+end_of (Some v) = Included v
+
+-- the second bound is below the first
+abbrev pub is_backward : Option ℤ → Option ℤ → Bool
+is_backward None to = false
+is_backward (Some from) None = false
+is_backward (Some from) (Some to) = int_lt to from

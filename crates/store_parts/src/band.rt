@@ -1,0 +1,84 @@
+// The values of the other side with which a key atom is true.
+
+ghost use Rattle.std.specs.Prelude.{◌≡◌, ◌^◌, ◌+ℤ◌, ◌-ℤ◌, option_map, IfSome};
+ghost use Rattle.std.specs.Option.{ForSome};
+ghost use Rattle.store_parts.specs.Keyed.{greatest_at, least_at, value_at, HasColumns};
+ghost use Rattle.theta_pred.specs.Sizes.{IsAtMost};
+
+use epoch_tags::Tuple;
+use join_rows::Side;
+use theta_pred::KeyAtom;
+
+fn difference(value: i128, bound: i128) -> i128
+    requires value { IsAtMost (2 ^ 68) value }
+    requires bound { IsAtMost (2 ^ 100) bound }
+    ensures { result ≡ value -ℤ bound }
+{
+    value - bound
+}
+
+fn total(value: i128, bound: i128) -> i128
+    requires value { IsAtMost (2 ^ 68) value }
+    requires bound { IsAtMost (2 ^ 100) bound }
+    ensures { result ≡ value +ℤ bound }
+{
+    value + bound
+}
+
+// The value less a bound.
+fn less(value: i128, bound: Option<i128>) -> Option<i128>
+    requires value { IsAtMost (2 ^ 68) value }
+    requires bound { ForSome bound (IsAtMost (2 ^ 100)) }
+    ensures { result ≡ option_map (λ b. value -ℤ b) bound }
+{
+    match bound {
+        Some(bound) => Some(difference(value, bound)),
+        None => None,
+    }
+}
+
+// The value and a bound.
+fn plus(value: i128, bound: Option<i128>) -> Option<i128>
+    requires value { IsAtMost (2 ^ 68) value }
+    requires bound { ForSome bound (IsAtMost (2 ^ 100)) }
+    ensures { result ≡ option_map (λ b. value +ℤ b) bound }
+{
+    match bound {
+        Some(bound) => Some(total(value, bound)),
+        None => None,
+    }
+}
+
+// The least value of the other side, if there is one.
+pub(crate) fn least(key: &KeyAtom, side: Side, value: i128) -> Option<i128>
+    requires { IsAtMost (2 ^ 68) value }
+    ensures { result ≡ least_at side key.now value }
+{
+    match side {
+        Side::R => less(value, key.high),
+        Side::S => plus(value, key.low),
+    }
+}
+
+// The greatest value of the other side, if there is one.
+pub(crate) fn greatest(key: &KeyAtom, side: Side, value: i128) -> Option<i128>
+    requires { IsAtMost (2 ^ 68) value }
+    ensures { result ≡ greatest_at side key.now value }
+{
+    match side {
+        Side::R => less(value, key.low),
+        Side::S => plus(value, key.high),
+    }
+}
+
+// The value of a tuple that stands for a row of this side.
+pub(crate) fn value_of(key: &KeyAtom, side: Side, tuple: &Tuple) -> Option<i128>
+    requires { HasColumns key.now side tuple.now }
+    ensures value { result ≡ value_at key.now side tuple.now }
+    ensures small { IfSome result (IsAtMost (2 ^ 68)) }
+{
+    match side {
+        Side::R => key.r_sum.value(&tuple.cells),
+        Side::S => key.s_sum.value(&tuple.cells),
+    }
+}
