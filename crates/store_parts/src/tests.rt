@@ -1,8 +1,8 @@
-ghost use Rattle.std.specs.Prelude.{◌≡◌, ◌<◌, [], length, IfOk};
+ghost use Rattle.std.specs.Prelude.{◌≡◌, ◌<◌, length, IfOk, None};
 ghost use Rattle.store_parts.specs.Matches.{HasWidth};
 ghost use Rattle.store_parts.specs.Stored.{HaveWidths};
 
-use crate::{KeyAtom, Steps, Store, Which};
+use crate::{Steps, Store, Which};
 use epoch_tags::{Pair, Pairs, Tuple, Tuples};
 use grid_map::Shape;
 use join_rows::{Bytes, Cell, Cells, Side};
@@ -11,7 +11,7 @@ use std::marker::Brand;
 use std::process::Abort;
 use std::sync::ledger::{Blank, Ledger};
 use std::test::*;
-use theta_pred::{Linear, Parts, Theta};
+use theta_pred::Theta;
 
 // The row of one cell.
 fn cells(alloc: Global, text: &[u8]) -> Result<Cells, AllocError>
@@ -25,23 +25,6 @@ fn cells(alloc: Global, text: &[u8]) -> Result<Cells, AllocError>
     Ok(cells)
 }
 
-fn empty(alloc: Global) -> Store
-    ensures r { result.r ≡ [] }
-    ensures s { result.s ≡ [] }
-{
-    let key = KeyAtom {
-        r_sum: Linear {
-            parts: Parts::new(alloc),
-        },
-        s_sum: Linear {
-            parts: Parts::new(alloc),
-        },
-        low: Some(-1),
-        high: None,
-    };
-    Store::new(alloc, Some(key))
-}
-
 fn indices(alloc: Global, tuples: &Tuples) -> Result<Vec<u32>, AllocError> {
     let mut indices = Vec::new(alloc);
     for tuple in tuples.as_slice() {
@@ -50,16 +33,24 @@ fn indices(alloc: Global, tuples: &Tuples) -> Result<Vec<u32>, AllocError> {
     Ok(indices)
 }
 
+fn add_without_key(store: &mut Store, tuple: Tuple) -> Result<(), AllocError>
+    requires { store.old.key ≡ None }
+    ensures { store.new.key ≡ None }
+{
+    store.add(tuple)
+}
+
 fn of_tickets(alloc: Global, rows: &[(Side, u32, u8)]) -> Result<Store, AllocError> {
-    let mut store = empty(alloc);
+    let mut store = Store::new(alloc, None);
     for (side, index, ticket) in rows {
-        store.add(Tuple {
+        let tuple = Tuple {
             side: *side,
             index: *index,
             ticket: *ticket,
             stamp: 0,
             cells: Cells::new(alloc),
-        })?;
+        };
+        add_without_key(&mut store, tuple)?;
     }
     Ok(store)
 }
@@ -127,7 +118,9 @@ fn add(store: &mut Store, theta: &Theta, tuple: Tuple) -> Result<(), AllocError>
     requires s { theta.now.width_s ≡ 1 }
     requires width { length tuple.cells ≡ 1 }
     requires widths { HaveWidths theta.now store.old }
-    ensures { HaveWidths theta.now store.new }
+    requires key { store.old.key ≡ None }
+    ensures widths { HaveWidths theta.now store.new }
+    ensures key { store.new.key ≡ None }
 {
     store.add(tuple)
 }
@@ -139,9 +132,10 @@ fn of_texts(
 ) -> Result<Store, AllocError>
     requires r { theta.now.width_r ≡ 1 }
     requires s { theta.now.width_s ≡ 1 }
-    ensures { IfOk result (λ store. HaveWidths theta.now store) }
+    ensures widths { IfOk result (λ store. HaveWidths theta.now store) }
+    ensures key { IfOk result (λ store. store.key ≡ None) }
 {
-    let mut store = empty(alloc);
+    let mut store = Store::new(alloc, None);
     for (side, index, stamp, text) in rows {
         let tuple = tuple(alloc, *side, *index, *stamp, *text)?;
         add(&mut store, theta, tuple)?;
@@ -159,6 +153,7 @@ fn counted<L: Ledger>(
 ) -> Result<Pairs, AllocError>
     requires width { HasWidth theta.now tuple.now.side tuple.now }
     requires widths { HaveWidths theta.now store.now }
+    requires key { store.now.key ≡ None }
     requires name { blank.name ≡ L.name }
     requires parts { blank.parts ≡ L.parts }
     requires some { 0 < blank.parts }
@@ -178,6 +173,7 @@ fn found(
 ) -> Result<Pairs, AllocError>
     requires width { HasWidth theta.now tuple.now.side tuple.now }
     requires widths { HaveWidths theta.now store.now }
+    requires key { store.now.key ≡ None }
 {
     counted::<Brand>(alloc, store, tuple, theta, which, Blank::new(1))
 }
@@ -191,6 +187,7 @@ fn found_uncounted(
 ) -> Result<Pairs, AllocError>
     requires width { HasWidth theta.now tuple.now.side tuple.now }
     requires widths { HaveWidths theta.now store.now }
+    requires key { store.now.key ≡ None }
 {
     let mut found = Pairs::new(alloc);
     store.probe_uncounted(tuple, theta, which, &mut found)?;
@@ -208,6 +205,7 @@ fn find(
     requires r { theta.now.width_r ≡ 1 }
     requires s { theta.now.width_s ≡ 1 }
     requires widths { HaveWidths theta.now store.now }
+    requires key { store.now.key ≡ None }
 {
     for (side, text, which, wanted) in cases {
         let tuple = tuple(alloc, *side, 9, 0, *text)?;
