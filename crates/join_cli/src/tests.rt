@@ -1,4 +1,4 @@
-use crate::join_main;
+use crate::jm_main;
 use join_rows::{ListSink, MapShelf};
 use std::alloc::{AllocError, Global};
 
@@ -18,8 +18,8 @@ fn words(alloc: Global, texts: &[&str]) -> Result<Vec<String>, AllocError> {
     Ok(words)
 }
 
-// Whether a run over these files `r` and `s` ends with this status and this line and writes these
-// bytes, where a pick, a read and a put of these numbers fail.
+// Whether a run over these files `r` and `s` ends with this status, puts this line alone on standard
+// error and writes these bytes, where a pick, a read and a put of these numbers fail.
 fn ends(
     alloc: Global,
     texts: &[&str],
@@ -36,8 +36,12 @@ fn ends(
     let mut sink = ListSink::new(alloc, 10000)?;
     sink.fail_put(put)?;
     let words = words(alloc, texts)?;
-    let outcome = join_main(alloc, &words, &mut shelf, &mut sink);
-    let line = format!(in alloc; "{outcome}")?;
-    let (status, text, written) = wanted;
-    Ok(outcome.status() == status && line.as_str() == text && sink.written() == written.as_bytes())
+    let mut errors = ListSink::new(alloc, 200)?;
+    let outcome = jm_main(alloc, &words, &mut shelf, &mut sink, &mut errors);
+    let (status, line, written) = wanted;
+    Ok(
+        outcome.status() == status
+            && errors.written() == line.as_bytes()
+            && sink.written() == written.as_bytes(),
+    )
 }

@@ -13,11 +13,11 @@ const S: &str = "id,y\n1,20\n2,30\n3,20\n";
 #[test]
 fn tells_failing_calls(rt: HostRuntime) -> Result<(), Fail> {
     let cases = [
-        (NEVER, 1, NEVER, 6, "read: failed"),
-        (NEVER, 3, NEVER, 6, "read: failed"),
-        (1, NEVER, NEVER, 6, "read: failed"),
-        (2, NEVER, 1, 6, "read: failed"),
-        (NEVER, NEVER, 1, 7, "write: failed"),
+        (NEVER, 1, NEVER, 6, "read: failed\n"),
+        (NEVER, 3, NEVER, 6, "read: failed\n"),
+        (1, NEVER, NEVER, 6, "read: failed\n"),
+        (2, NEVER, 1, 6, "read: failed\n"),
+        (NEVER, NEVER, 1, 7, "write: failed\n"),
     ];
     for (pick, read, put, status, line) in cases {
         let texts = ["jm", "--on", "r.x = s.y", "r", "s"];

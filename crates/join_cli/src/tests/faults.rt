@@ -8,7 +8,7 @@ const R: &str = "id,x\n1,10\n2,20\n3,30\n";
 
 const S: &str = "id,y\n1,20\n2,30\n3,20\n";
 
-const USAGE: &str = "usage: jm --on TEXT [options] R.csv S.csv";
+const USAGE: &str = "usage: jm --on TEXT [options] R.csv S.csv\n";
 
 // Whether the words are refused so.
 fn refuses(
@@ -63,23 +63,23 @@ fn refuses_words(rt: HostRuntime) -> Result<(), Fail> {
 #[test]
 fn refuses_predicates(rt: HostRuntime) -> Result<(), Fail> {
     let cases = [
-        ("", "predicate: not understood at byte 0"),
-        ("r.x = ", "predicate: not understood at byte 6"),
-        ("r.x == s.y", "predicate: not understood at byte 5"),
+        ("", "predicate: not understood at byte 0\n"),
+        ("r.x = ", "predicate: not understood at byte 6\n"),
+        ("r.x == s.y", "predicate: not understood at byte 5\n"),
         (
             "r.x = 9223372036854775808",
-            "predicate: number too large at byte 6",
+            "predicate: number too large at byte 6\n",
         ),
         (
             "(((((((((((((((((((((((((((((((((",
-            "predicate: nested too deep at byte 32",
+            "predicate: nested too deep at byte 32\n",
         ),
         (
             "1+1+1+1+1+1+1+1+1+1+1+1+1+1+1+1+1 = 1",
-            "predicate: sum too long at byte 31",
+            "predicate: sum too long at byte 31\n",
         ),
-        ("r.z = s.y", "predicate: R has no column z"),
-        ("r.x = s.\"\u{e9}\"", "predicate: S has no column \u{e9}"),
+        ("r.z = s.y", "predicate: R has no column z\n"),
+        ("r.x = s.\"\u{e9}\"", "predicate: S has no column \u{e9}\n"),
     ];
     for (on, line) in cases {
         let same = refuses(rt.alloc(), &["jm", "--on", on, "r", "s"], (R, S), 3, line)?;
@@ -91,28 +91,33 @@ fn refuses_predicates(rt: HostRuntime) -> Result<(), Fail> {
 #[test]
 fn refuses_files(rt: HostRuntime) -> Result<(), Fail> {
     let cases = [
-        ("", "", 4, "input: R has no header"),
-        (R, "\n", 4, "input: S has no header"),
-        ("a,b\n1,2\n3", S, 4, "input: R row 2 has 1 fields"),
+        ("", "", 4, "input: R has no header\n"),
+        (R, "\n", 4, "input: S has no header\n"),
+        ("a,b\n1,2\n3", S, 4, "input: R row 2 has 1 fields\n"),
         (
             R,
             "id,y\n1,20\n2,30\n3,4x\n",
             4,
-            "input: S row 3 column 2 is no number",
+            "input: S row 3 column 2 is no number\n",
         ),
         (
             "x,x\n1,2\n",
             "id,y\n1,4x\n",
             3,
-            "predicate: R has column x more than once",
+            "predicate: R has column x more than once\n",
         ),
         (
             "id,x\n1,a\n",
             "id,y\n1,4x\n",
             4,
-            "input: R row 1 column 2 is no number",
+            "input: R row 1 column 2 is no number\n",
         ),
-        ("id,x\n1,a\n", "id,y\n1\n", 4, "input: S row 1 has 1 fields"),
+        (
+            "id,x\n1,a\n",
+            "id,y\n1\n",
+            4,
+            "input: S row 1 has 1 fields\n",
+        ),
     ];
     for (r, s, status, line) in cases {
         let texts = ["jm", "--on", "r.x = s.y", "r", "s"];
@@ -124,8 +129,8 @@ fn refuses_files(rt: HostRuntime) -> Result<(), Fail> {
 
 #[test]
 fn looks_in_order(rt: HostRuntime) -> Result<(), Fail> {
-    let narrow = "input: R row 2 has 1 fields";
-    let syntax = "predicate: not understood at byte 2";
+    let narrow = "input: R row 2 has 1 fields\n";
+    let syntax = "predicate: not understood at byte 2\n";
     let cases = [
         (
             ["jm", "--on", "r.x = s.y", "r", "none"].as_slice(),
@@ -136,12 +141,12 @@ fn looks_in_order(rt: HostRuntime) -> Result<(), Fail> {
         (
             ["jm", "--on", "1 = 1", "none", "r"].as_slice(),
             6,
-            "read: failed",
+            "read: failed\n",
         ),
         (
             ["jm", "--on", "1 = 1", "s", "none"].as_slice(),
             6,
-            "read: failed",
+            "read: failed\n",
         ),
     ];
     for (texts, status, line) in cases {
