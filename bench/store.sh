@@ -1,3 +1,7 @@
 #!/bin/sh
-# Times 20,000 probes of a store of 20,000 tuples by a band: at most 12 s of processor time are wanted.
-exec "$(dirname "$0")/timed.sh" store 400000000
+# Times 262,144 tuples added to a store, at most 0.35 s of processor time; the same and one probe for each, by a band
+# and by an inequality, at most 0.5 s more.
+set -eu
+for word in add store beyond; do
+    "$(dirname "$0")/timed.sh" $word 262144
+done

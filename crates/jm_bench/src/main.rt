@@ -1,10 +1,11 @@
-//! Work to be timed, chosen by a word: `holds` evaluates a predicate four million times, `store` probes a store of
-//! 20,000 tuples with as many, `inbox1`, `inbox8` and `inbox72` put and take 7.2 million messages in turn, of so many
-//! senders.
+//! Work to be timed, chosen by a word: `holds` evaluates a predicate four million times, `add` makes a store of 262,144
+//! tuples, `store` probes it by a band with as many, and `beyond` by an inequality; `inbox1`, `inbox8` and `inbox72` put
+//! and take 7.2 million messages in turn, of so many senders.
 #![tactic(auto)]
 
-ghost use Rattle.std.specs.Prelude.{◌≡◌, length, All, IfOk};
+ghost use Rattle.std.specs.Prelude.{◌≡◌, ◌<◌, length, All, IfOk};
 ghost use Rattle.ruled_links.specs.Inboxes.{Differ};
+ghost use Rattle.store_parts.specs.Keyed.{IsOwn};
 ghost use Rattle.store_parts.specs.Stored.{HaveWidths};
 
 use epoch_tags::{Actor, Envelope, Msg, Pairs, ToController, Tuple};
@@ -24,14 +25,20 @@ fn header(alloc: Global, word: &[u8]) -> Result<Names, AllocError>
     Ok(names)
 }
 
-// The test that R's only column, x, and S's, y, are at most two apart.
-fn band(alloc: Global) -> Result<Theta, AllocError>
+// That R's only column, x, and S's, y, are at most two apart.
+const BAND: &str = "abs(r.x - s.y) <= 2";
+
+// That S's is less.
+const BEYOND: &str = "r.x > s.y";
+
+// A predicate over these two columns.
+fn predicate(alloc: Global, text: &str) -> Result<Theta, AllocError>
     ensures r { IfOk result (λ theta. theta.width_r ≡ 1) }
     ensures s { IfOk result (λ theta. theta.width_s ≡ 1) }
 {
     let names_r = header(alloc, b"x")?;
     let names_s = header(alloc, b"y")?;
-    let Ok(pred) = parse(alloc, "abs(r.x - s.y) <= 2") else {
+    let Ok(pred) = parse(alloc, text) else {
         return Err(AllocError);
     };
     let Ok(theta) = resolve(alloc, &pred, &names_r, &names_s) else {
@@ -79,7 +86,7 @@ fn matching(theta: &Theta, r: &Cells, rows: &Items<Cells>) -> u32
 
 // How many of 2,000 rows by 2,000 match.
 fn holds(alloc: Global) -> Result<u32, AllocError> {
-    let theta = band(alloc)?;
+    let theta = predicate(alloc, BAND)?;
     let rows = rows(alloc, 2000)?;
     let mut count = 0u32;
     for r in rows.as_slice() {
@@ -104,30 +111,47 @@ fn tuple(alloc: Global, side: Side, number: u32) -> Result<Tuple, AllocError>
 fn add(alloc: Global, store: &mut Store, theta: &Theta, number: u32) -> Result<(), AllocError>
     requires s { theta.now.width_s ≡ 1 }
     requires widths { HaveWidths theta.now store.old }
-    ensures { HaveWidths theta.now store.new }
+    requires own { IsOwn theta.now store.old.key }
+    ensures widths { HaveWidths theta.now store.new }
+    ensures own { IsOwn theta.now store.new.key }
 {
-    store.add(tuple(alloc, Side::S, number)?)
+    let tuple = tuple(alloc, Side::S, number)?;
+    store.fits_key(theta, &tuple);
+    store.add(tuple)
 }
 
 // A store of this many tuples of S.
 fn filled(alloc: Global, theta: &Theta, count: u32) -> Result<Store, AllocError>
     requires s { theta.now.width_s ≡ 1 }
-    ensures { IfOk result (λ store. HaveWidths theta.now store) }
+    ensures widths { IfOk result (λ store. HaveWidths theta.now store) }
+    ensures own { IfOk result (λ store. IsOwn theta.now store.key) }
 {
-    let mut store = Store::new(alloc, None);
+    let mut store = Store::new(alloc, theta.key_atom()?);
     for number in 0..count {
         add(alloc, &mut store, theta, number)?;
     }
     Ok(store)
 }
 
-// How many pairs 20,000 probes of 20,000 tuples find.
-fn probes(alloc: Global) -> Result<u64, AllocError> {
-    let theta = band(alloc)?;
-    let store = filled(alloc, &theta, 20000)?;
+// How many tuples a store has, and as many probes.
+const COUNT: u32 = 262144;
+
+// The store alone.
+fn adds(alloc: Global) -> Result<u64, AllocError> {
+    let theta = predicate(alloc, BAND)?;
+    let store = filled(alloc, &theta, COUNT)?;
+    Ok(store.side(Side::S).len())
+}
+
+// How many pairs the probes find, the numbers of the probing rows being taken by this modulus.
+fn probes(alloc: Global, text: &str, modulus: u32) -> Result<u64, AllocError>
+    requires { 0 < modulus }
+{
+    let theta = predicate(alloc, text)?;
+    let store = filled(alloc, &theta, COUNT)?;
     let mut found = Pairs::new(alloc);
-    for number in 0..20000 {
-        let tuple = tuple(alloc, Side::R, number)?;
+    for number in 0..COUNT {
+        let tuple = tuple(alloc, Side::R, number % modulus)?;
         store.probe_uncounted(&tuple, &theta, Which::All, &mut found)?;
     }
     Ok(found.len())
@@ -179,11 +203,13 @@ fn main(rt: HostRuntime) -> io::Result<()> {
     };
     match word.as_str() {
         "holds" => println!(rt; "{}", holds(alloc)?)?,
-        "store" => println!(rt; "{}", probes(alloc)?)?,
+        "add" => println!(rt; "{}", adds(alloc)?)?,
+        "store" => println!(rt; "{}", probes(alloc, BAND, COUNT)?)?,
+        "beyond" => println!(rt; "{}", probes(alloc, BEYOND, 4)?)?,
         "inbox1" => println!(rt; "{}", exchange(&rt, alloc, 1, 7_200_000)?)?,
         "inbox8" => println!(rt; "{}", exchange(&rt, alloc, 8, 900_000)?)?,
         "inbox72" => println!(rt; "{}", exchange(&rt, alloc, 72, 100_000)?)?,
-        _ => println!(rt; "holds, store, inbox1, inbox8 or inbox72")?,
+        _ => println!(rt; "holds, add, store, beyond, inbox1, inbox8 or inbox72")?,
     }
     Ok(())
 }

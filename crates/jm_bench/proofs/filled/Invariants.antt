@@ -1,5 +1,9 @@
+use Rattle.store_parts.specs.Keyed.{IsOwn}
 use Rattle.store_parts.specs.Stored.{HaveWidths}
 use Rattle.jm_bench.proofs.filled.Given as goal
 
 abbrev pub invariant-loop-number : goal.invariant-loop-number
-invariant-loop-number l = HaveWidths l.theta l.store
+invariant-loop-number l = record {
+  widths : HaveWidths l.theta l.store;
+  own : IsOwn l.theta l.store.key;
+}
