@@ -1,0 +1,101 @@
+-- A world whose actors are all over answers its run.
+use Rattle.std.proofs.Common.{◌≡◌, ℕ, suc, ◌+◌, ◌^◌, refl, sym, ap, subst, ◌∙◌, Option, Some, None, List, [], ◌∷◌, ◌++◌, length, arith}
+use Rattle.std.specs.Prelude.{slice_get, ⊤}
+use Rattle.std.proofs.lemmas.List.{map-append, length-append}
+use Rattle.epoch_tags.specs.declared.actor.Actor.{Actor}
+use Rattle.epoch_tags.specs.declared.actor.Actor.TheVariants.{Controller, Collector}
+use Rattle.load_controller.specs.declared.line.TurnLine.{TurnLine}
+use Rattle.load_controller.specs.Standing.{ControllerState}
+use Rattle.pair_collector.specs.Law.{CollectorLists}
+use Rattle.pair_collector.specs.Standing.{CollectorState, StandsFor as CollectorStands}
+use Rattle.trace_law.specs.declared.input.Input.{Input}
+use Rattle.trace_law.specs.declared.setting.Setting.{Setting}
+use Rattle.trace_law.specs.declared.run.Run.{Run}
+use Rattle.trace_law.specs.Validity.{IsValid}
+use Rattle.trace_law.specs.Runs.{IsRunOf, run_of}
+use Rattle.trace_law.specs.Laws.{FinishedAnswers}
+use Rattle.link_trace.specs.Lists.{ActorLists, collector_lists}
+use Rattle.link_trace.specs.Standing.{Stands, OfCollector, IsOver}
+use Rattle.link_trace.specs.Families.{start_for, IsActor, family_of, journal_of}
+use Rattle.link_trace.specs.Numbers.{number, at_number}
+use Rattle.link_trace.specs.Worlds.{WorldState, StandsFor, IsAllAt, IsAnswerOf, WorldAgrees, core_of, left_of, cores_of}
+use Rattle.link_trace.specs.declared.machines.Core.{Core}
+use Rattle.link_trace.specs.declared.machines.Core.TheVariants.{Controller as TheController, Collector as TheCollector}
+use Rattle.link_trace.specs.declared.places.Place.{Place}
+use Rattle.link_trace.proofs.Balances.{balanced_fronts}
+use Rattle.link_trace.proofs.Families.{agrees, is_finished}
+use Rattle.link_trace.proofs.OwnNumbers.{some_is, none_some}
+
+-- ---- the last two of a list
+
+last_of : {X : Type 0} (xs : List X) (x y : X) → slice_get ((xs ++ x ∷ []) ++ y ∷ []) (length xs + 1) ≡ Some y
+last_of [] x y = refl
+last_of (z ∷ xs) x y =
+    let next : suc (length xs + 1) ≡ suc (length xs) + 1 = omega arith in
+    subst (λ n. slice_get (((z ∷ xs) ++ x ∷ []) ++ y ∷ []) n ≡ Some y) next (last_of xs x y)
+
+before_last : {X : Type 0} (xs : List X) (x y : X) → slice_get ((xs ++ x ∷ []) ++ y ∷ []) (length xs) ≡ Some x
+before_last [] x y = refl
+before_last (z ∷ xs) x y = before_last xs x y
+
+plus_two : (n : ℕ) → n + 1 + 1 ≡ n + 2
+plus_two n = omega arith
+
+-- ---- what holds at each number holds of each actor's machine
+
+there : (P : Core → Type 0) (cores : List Core) (n : Option ℕ) (core : Core) → at_number None n (λ k. slice_get cores k) ≡ Some core → IsAllAt P cores → P core
+there P cores None core is all = absurd (none_some core is)
+there P cores (Some n) core is all = all n core is
+
+-- ---- the run
+
+module _ (finished_answers : FinishedAnswers) (input : Input) (setting : Setting) (w : WorldState) (lists : Actor → ActorLists) (valid : IsValid input setting) (stands : StandsFor input setting w lists) (over : IsAllAt IsOver w.cores) where
+  machines : (a : Actor) → IsActor setting a → (core : Core) × Stands (start_for input setting a) (lists a) core
+  machines a is = let own = stands.stands a is in (own.0, own.2)
+
+  all_over : ⊤ → (a : Actor) (is : IsActor setting a) → IsOver (machines a is).0
+  unfolding machines
+  all_over u a is = let own = stands.stands a is in there IsOver w.cores (number w.joiners w.feeders a) own.0 own.1 over
+
+  pub ends : (controller : ControllerState) (collector : CollectorState) → core_of w Controller ≡ Some (TheController controller) → core_of w Collector ≡ Some (TheCollector collector)
+      → (bouts : ℕ) (run : Run) → ((joiners : ℕ) (ls : CollectorLists) → CollectorStands joiners ls collector → IsAnswerOf joiners ls controller.journal bouts run)
+      → IsRunOf input setting run.journal run
+  unfolding machines
+  ends controller collector is_controller is_collector bouts run answers =
+      let fronts = balanced_fronts lists (left_of w) stands.balanced in
+      let own = stands.stands Controller tt in
+      let last = stands.stands Collector tt in
+      let journal_is : journal_of own.0 ≡ controller.journal = ap journal_of (some_is own.0 (TheController controller) (sym own.1 ∙ is_controller)) in
+      let its = subst (λ core. Stands (OfCollector (2 ^ setting.k)) (lists Collector) core) (some_is last.0 (TheCollector collector) (sym last.1 ∙ is_collector)) last.2 in
+      let answer = answers (2 ^ setting.k) (collector_lists (lists Collector)) its in
+      let law = finished_answers input setting (family_of (journal_of own.0) lists) valid (agrees input setting lists machines fronts ⊤ all_over) (is_finished input setting lists machines fronts ⊤ all_over tt) answer.collected answer.collects bouts in
+      let told = subst (λ (j : List TurnLine). IsRunOf input setting j (run_of answer.collected j bouts)) journal_is law in
+      subst (λ (r : Run). IsRunOf input setting r.journal r) (sym answer.run_is) told
+
+pub agree : WorldAgrees
+agree input setting w lists stands =
+    agrees input setting lists (λ a is. ((stands.stands a is).0, (stands.stands a is).2)) (balanced_fronts lists (left_of w) stands.balanced) ⊥ (λ none a is. absurd none)
+
+-- ---- the two machines are the last
+
+module _ (places rest : List Place) (controller collector : Place) (is : places ≡ (rest ++ controller ∷ []) ++ collector ∷ []) where
+  cores_are : cores_of places ≡ (cores_of rest ++ controller.core ∷ []) ++ collector.core ∷ []
+  cores_are = ap cores_of is ∙ map-append (λ (p : Place). p.core) (rest ++ controller ∷ []) (collector ∷ []) ∙ ap (λ cs. cs ++ collector.core ∷ []) (map-append (λ (p : Place). p.core) rest (controller ∷ []))
+
+  long : (n : ℕ) → length (cores_of places) ≡ n + 2 → n ≡ length (cores_of rest)
+  long n e =
+      let whole = sym e ∙ (ap length cores_are ∙ (length-append (cores_of rest ++ controller.core ∷ []) (collector.core ∷ []) ∙ ap (λ m. m + 1) (length-append (cores_of rest) (controller.core ∷ [])))) in
+      omega arith
+
+  pub collector_there : (n : ℕ) → length (cores_of places) ≡ n + 2 → slice_get (cores_of places) (n + 1) ≡ Some collector.core
+  collector_there n e = ap (λ cs. slice_get cs (n + 1)) cores_are ∙ (ap (λ m. slice_get ((cores_of rest ++ controller.core ∷ []) ++ collector.core ∷ []) (m + 1)) (long n e) ∙ last_of (cores_of rest) controller.core collector.core)
+
+  pub controller_there : (n : ℕ) → length (cores_of places) ≡ n + 2 → slice_get (cores_of places) n ≡ Some controller.core
+  controller_there n e = ap (λ cs. slice_get cs n) cores_are ∙ (ap (λ m. slice_get ((cores_of rest ++ controller.core ∷ []) ++ collector.core ∷ []) m) (long n e) ∙ before_last (cores_of rest) controller.core collector.core)
+
+  pub last_over : (P : Core → Type 0) → IsAllAt P (cores_of places) → P collector.core
+  last_over P all =
+      let many : length (cores_of places) ≡ length (cores_of rest) + 2 =
+      ap length cores_are
+      ∙ (length-append (cores_of rest ++ controller.core ∷ []) (collector.core ∷ []) ∙ (ap (λ m. m + 1) (length-append (cores_of rest) (controller.core ∷ [])) ∙ plus_two (length (cores_of rest)))) in
+      all (length (cores_of rest) + 1) collector.core (collector_there (length (cores_of rest)) many)

@@ -1,0 +1,5 @@
+use Rattle.link_trace.proofs.Finishing.{agree}
+use Rattle.link_trace.proofs.laws.world_agrees.Goals as goal
+
+pub returns : goal.returns
+returns c = agree

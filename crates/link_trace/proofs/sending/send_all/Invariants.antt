@@ -1,0 +1,9 @@
+use Rattle.std.proofs.Common.{◌≡◌}
+use Rattle.link_trace.specs.Families.{put_on}
+use Rattle.link_trace.specs.Worlds.{waiting_of, cores_of, left_in}
+use Rattle.link_trace.proofs.sending.send_all.Given as goal
+
+abbrev pub invariant-loop-post : goal.invariant-loop-post
+invariant-loop-post l =
+    (cores_of l.places.items ≡ cores_of l.initial.places.items)
+    × (left_in l.joiners l.feeders (waiting_of l.places.items) ≡ put_on l.from l.yielded (left_in l.joiners l.feeders (waiting_of l.initial.places.items)))

@@ -1,0 +1,159 @@
+-- A world: its machines, and what is left on each link.
+use Rattle.std.specs.Prelude.{◌≡◌, ℕ, ◌+◌, ◌<◌, ◌^◌, Option, Some, None, List, [], ◌∷◌, ◌++◌, map, slice_get, slice_index_or, slice_set, length, ◌&&◌, if◌then◌else◌}
+use Rattle.epoch_tags.specs.declared.actor.Actor.{Actor}
+use Rattle.epoch_tags.specs.declared.actor.Actor.TheVariants.{Controller}
+use Rattle.epoch_tags.specs.declared.message.Msg.{Msg}
+use Rattle.epoch_tags.specs.declared.message.Post.{Post}
+use Rattle.load_controller.specs.declared.line.TurnLine.{TurnLine}
+use Rattle.pair_collector.specs.declared.collected.Collected.{Collected}
+use Rattle.pair_collector.specs.Law.{CollectorLists}
+use Rattle.pair_collector.specs.Answer.{Collects}
+use Rattle.trace_law.specs.declared.run.Run.{Run}
+use Rattle.trace_law.specs.Runs.{run_of}
+use Rattle.trace_law.specs.Family.{IsAgreeing}
+use Rattle.trace_law.specs.declared.input.Input.{Input}
+use Rattle.trace_law.specs.declared.setting.Setting.{Setting}
+use Rattle.link_trace.specs.Lists.{ActorLists, Cause, Took, same_actor, no_lists}
+use Rattle.link_trace.specs.Standing.{Stands, Occurs}
+use Rattle.link_trace.specs.Families.{start_for, IsActor, IsBalanced, after_event, family_of, journal_of}
+use Rattle.link_trace.specs.Numbers.{number, actor_at, at_number}
+use Rattle.link_trace.specs.declared.machines.Core.{Core}
+use Rattle.link_trace.specs.declared.places.Place.{Place}
+use Rattle.link_trace.specs.declared.world.World.{World}
+
+-- ---- what is kept, by the numbers of actors
+
+-- the machines
+abbrev pub cores_of : List Place → List Core
+cores_of places = map (λ place. place.core) places
+
+-- what waits at an actor, sender by sender
+abbrev pub waiting_at : Place → List (List Msg)
+waiting_at place = map (λ queue. queue.items) place.waiting.items
+
+abbrev pub waiting_of : List Place → List (List (List Msg))
+waiting_of places = map waiting_at places
+
+-- what waits at one actor of one sender
+abbrev pub waits : List (List (List Msg)) → ℕ → ℕ → List Msg
+waits waiting receiver sender = slice_index_or (slice_index_or waiting receiver []) sender []
+
+-- the same with this list there
+abbrev pub with_waiting : List (List (List Msg)) → ℕ → ℕ → List Msg → List (List (List Msg))
+with_waiting waiting receiver sender ms = slice_set waiting receiver (slice_set (slice_index_or waiting receiver []) sender ms)
+
+-- there is a place for what this actor sends to that one
+pub record HasRoom (waiting : List (List (List Msg))) (receiver sender : ℕ) : Type 0 where
+  pub receiver_is : receiver < length waiting
+  pub sender_is : sender < length (slice_index_or waiting receiver [])
+
+-- the first message that waits there was taken off
+pub record TakesOff (receiver sender : ℕ) (m : Msg) (old new : List (List (List Msg))) : Type 0 where
+  pub room : HasRoom old receiver sender
+  pub rest : List Msg
+  pub first : waits old receiver sender ≡ m ∷ rest
+  pub left : new ≡ with_waiting old receiver sender rest
+
+-- one message more waits there
+pub record PutsOn (receiver sender : ℕ) (m : Msg) (old new : List (List (List Msg))) : Type 0 where
+  pub room : HasRoom old receiver sender
+  pub left : new ≡ with_waiting old receiver sender (waits old receiver sender ++ m ∷ [])
+
+-- one machine made an event
+pub record OccursAt (at : ℕ) (cause : Cause) (old new : List Core) (before after : List Post) : Type 0 where
+  pub core : Core
+  pub next : Core
+  pub was : slice_get old at ≡ Some core
+  pub now : new ≡ slice_set old at next
+  pub occurs : Occurs cause core next before after
+
+-- ---- the same by actors
+
+-- how many joiners and feeders there are, the machines, and what waits
+pub record WorldState : Type 0 where
+  pub joiners : ℕ
+  pub feeders : ℕ
+  pub cores : List Core
+  pub waiting : List (List (List Msg))
+
+abbrev pub core_in : ℕ → ℕ → List Core → Actor → Option Core
+core_in joiners feeders cores a = at_number None (number joiners feeders a) (λ n. slice_get cores n)
+
+-- what is left on the link from one actor to another
+abbrev pub left_in : ℕ → ℕ → List (List (List Msg)) → Actor → Actor → List Msg
+left_in joiners feeders waiting from to =
+    at_number [] (number joiners feeders to) (λ receiver. at_number [] (number joiners feeders from) (λ sender. waits waiting receiver sender))
+
+abbrev pub core_of : WorldState → Actor → Option Core
+core_of w a = core_in w.joiners w.feeders w.cores a
+
+abbrev pub left_of : WorldState → Actor → Actor → List Msg
+left_of w from to = left_in w.joiners w.feeders w.waiting from to
+
+abbrev pub state_of : World → WorldState
+state_of w = record { joiners = w.joiners; feeders = w.feeders; cores = cores_of w.places.items; waiting = waiting_of w.places.items }
+
+-- one message more on the link between them
+abbrev pub put_one : Actor → Actor → Msg → (Actor → Actor → List Msg) → Actor → Actor → List Msg
+put_one from to m left x y = if same_actor from x && same_actor to y then left x y ++ m ∷ [] else left x y
+
+-- these lists are what its actors have received and sent
+pub record StandsFor (input : Input) (setting : Setting) (w : WorldState) (f : Actor → ActorLists) : Type 0 where
+  pub joiners : w.joiners ≡ 2 ^ setting.k
+  pub feeders : w.feeders ≡ setting.feeders
+  pub all : length w.cores ≡ w.feeders + w.joiners + 2
+  pub stands : (a : Actor) → IsActor setting a → (core : Core) × (core_of w a ≡ Some core) × Stands (start_for input setting a) (f a) core
+  pub balanced : IsBalanced f (left_of w)
+
+-- so many actors at the beginning of a run: each machine stands for empty lists, and nothing waits
+pub record AreNew (input : Input) (setting : Setting) (count : ℕ) (places : List Place) : Type 0 where
+  pub all : length places ≡ count
+  pub fresh : (n : ℕ) (core : Core) → slice_get (cores_of places) n ≡ Some core → Stands (start_for input setting (actor_at (2 ^ setting.k) setting.feeders n)) no_lists core
+  pub empty : (receiver sender : ℕ) → waits (waiting_of places) receiver sender ≡ []
+
+-- the run that a collector with these lists answers, with this journal
+pub record IsAnswerOf (joiners : ℕ) (lists : CollectorLists) (journal : List TurnLine) (bouts : ℕ) (run : Run) : Type 0 where
+  pub collected : Collected
+  pub collects : Collects joiners lists collected
+  pub run_is : run ≡ run_of collected journal bouts
+
+-- P of the one at this place, if there is one
+abbrev pub IsAt : {X : Type 0} → (X → Type 0) → ℕ → List X → Type 0
+IsAt {X} P place xs = (there : X) → slice_get xs place ≡ Some there → P there
+
+-- P of the one at each place
+abbrev pub IsAllAt : {X : Type 0} → (X → Type 0) → List X → Type 0
+IsAllAt {X} P xs = (place : ℕ) (there : X) → slice_get xs place ≡ Some there → P there
+
+-- P of the one at some place
+pub record IsSomeAt {X : Type 0} (P : X → Type 0) (xs : List X) : Type 0 where
+  pub place : ℕ
+  pub there : X
+  pub is : slice_get xs place ≡ Some there
+  pub holds : P there
+
+-- one event of the actor `self`: whatever the lists were, they are the same with the event at their ends
+pub record MakesEvent (self : Actor) (cause : Cause) (old new : WorldState) : Type 0 where
+  pub posts : List Post
+  pub stands : (input : Input) (setting : Setting) (f : Actor → ActorLists) → StandsFor input setting old f → StandsFor input setting new (after_event self cause posts f)
+
+-- the first message of a link was handed to its receiver
+pub record Delivers (from to : Actor) (old new : WorldState) : Type 0 where
+  pub m : Msg
+  pub rest : List Msg
+  pub first : left_of old from to ≡ m ∷ rest
+  pub event : MakesEvent to (Took from m) old new
+
+-- it stands for some lists of this input and setting
+pub record IsReached (input : Input) (setting : Setting) (w : WorldState) : Type 0 where
+  pub lists : Actor → ActorLists
+  pub stands : StandsFor input setting w lists
+
+-- no event, or some
+abbrev pub LeadsTo : WorldState → WorldState → Type 0
+LeadsTo old new = (input : Input) (setting : Setting) → IsReached input setting old → IsReached input setting new
+
+-- the lists for which a world stands are an agreeing family
+abbrev pub WorldAgrees : Type 0
+WorldAgrees = (input : Input) (setting : Setting) (w : WorldState) (lists : Actor → ActorLists) → (stands : StandsFor input setting w lists)
+    → IsAgreeing input setting (family_of (journal_of (stands.stands Controller tt).0) lists)

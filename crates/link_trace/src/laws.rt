@@ -1,0 +1,8 @@
+// Laws of worlds. Each is the contract of a function with an empty body, so that calls above can cite it.
+
+ghost use Rattle.link_trace.specs.Worlds.{WorldAgrees};
+
+/// The lists for which a world stands are an agreeing family of its input and setting.
+pub fn world_agrees()
+    ensures { WorldAgrees }
+{}

@@ -1,0 +1,88 @@
+// The machines behind one enum.
+ghost use Rattle.std.specs.Prelude.{◌≡◌, Ok, true, false, OnOk};
+ghost use Rattle.link_trace.specs.Lists.{Took, Began};
+ghost use Rattle.link_trace.specs.Standing.{Occurs, IsOver, GoesOn, Waits};
+
+use epoch_tags::{Actor, Msg, Sends};
+use joiner_core::Joiner;
+use load_controller::Controller;
+use pair_collector::Collector;
+use reshuffler_core::Feeder;
+use std::alloc::AllocError;
+
+/// An actor's machine.
+#[derive(Drop)]
+pub enum Core<'a> {
+    Feeder(Feeder),
+    Joiner(Joiner<'a>),
+    Controller(Controller),
+    Collector(Collector),
+}
+
+impl<'a> Core<'a> {
+    /// Takes a message and appends what it sends. A strange message answers the error too.
+    pub fn on(&mut self, from: Actor, msg: Msg, sends: &mut Sends) -> Result<(), AllocError>
+        ensures { OnOk result (Occurs (Took from msg) self.old self.new sends.old sends.new) }
+    {
+        match self {
+            Core::Feeder(feeder) => match (from, msg) {
+                (Actor::Controller, Msg::Feeder(m)) => feeder.on(m, sends),
+                _ => Err(AllocError),
+            },
+            Core::Joiner(joiner) => match msg {
+                Msg::Joiner(m) => {
+                    if joiner.is_spent() || !joiner.hears(from) || !joiner.fits(&m) {
+                        return Err(AllocError);
+                    }
+                    joiner.on(from, m, sends)
+                }
+                _ => Err(AllocError),
+            },
+            Core::Controller(controller) => match msg {
+                Msg::Controller(m) => controller.on(from, m, sends),
+                _ => Err(AllocError),
+            },
+            Core::Collector(collector) => match msg {
+                Msg::Collector(m) => collector.on(from, m),
+                _ => Err(AllocError),
+            },
+        }
+    }
+
+    /// Lets a feeder begin. `Ok(false)`: nothing was done.
+    pub fn begin(&mut self, sends: &mut Sends) -> Result<bool, AllocError>
+        ensures begins { result ≡ Ok true → Occurs Began self.old self.new sends.old sends.new }
+        ensures waits { result ≡ Ok false → (self.new ≡ self.old) × (sends.new ≡ sends.old) }
+        ensures idle { result ≡ Ok false → Waits self.old }
+        ensures free { result ≡ Ok true → ¬ Waits self.old }
+    {
+        match self {
+            Core::Feeder(feeder) => feeder.begin(sends),
+            Core::Joiner(_) => Ok(false),
+            Core::Controller(_) => Ok(false),
+            Core::Collector(_) => Ok(false),
+        }
+    }
+
+    /// Whether its work is over: a feeder has stopped, a joiner is finished, the collector is complete. The
+    /// controller has no end of its own.
+    pub fn is_over(&self) -> bool
+        ensures over { result ≡ true → IsOver self.now }
+        ensures goes_on { result ≡ false → GoesOn self.now }
+    {
+        match self {
+            Core::Feeder(feeder) => feeder.stopped(),
+            Core::Joiner(joiner) => joiner.finished(),
+            Core::Controller(_) => true,
+            Core::Collector(collector) => collector.complete(),
+        }
+    }
+
+    /// Whether a feeder would begin.
+    pub fn can_begin(&self) -> bool {
+        match self {
+            Core::Feeder(feeder) => feeder.can_begin(),
+            _ => false,
+        }
+    }
+}

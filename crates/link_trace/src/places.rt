@@ -1,0 +1,145 @@
+// An actor's machine, and what waits for it.
+
+ghost use Rattle.std.specs.Prelude.{◌≡◌, ◌++◌, ◌∷◌, [], ℕ, List, ◌<◌, MatchOption, OnOk, IfOk, MatchBool, Ok, true, false, length, slice_set, slice_index_or, Some, None};
+ghost use Rattle.link_trace.specs.Lists.{Took, Began};
+ghost use Rattle.link_trace.specs.Standing.{Occurs, Waits};
+ghost use Rattle.link_trace.specs.Worlds.{waiting_at, waiting_of, cores_of, waits, TakesOff, PutsOn, OccursAt, IsAt};
+
+use crate::machines::Core;
+use epoch_tags::{Actor, Msg, Sends};
+use std::alloc::AllocError;
+use std::collections::VecDeque;
+
+/// An actor's machine, and the messages on their way to it, by the numbers of their senders.
+#[derive(Drop)]
+pub(crate) struct Place<'a> {
+    pub(crate) core: Core<'a>,
+    pub(crate) waiting: Vec<VecDeque<Msg>>,
+}
+
+impl<'a> Place<'a> {
+    fn pop(&mut self, sender: usize) -> Option<Msg>
+        ensures core { self.new.core ≡ self.old.core }
+        ensures waiting { MatchOption result
+            ((waiting_at self.new ≡ waiting_at self.old) × (slice_index_or (waiting_at self.old) sender [] ≡ []))
+            (λ m. (rest : List Msg) × (sender < length (waiting_at self.old)) × (slice_index_or (waiting_at self.old) sender [] ≡ m ∷ rest)
+            × (waiting_at self.new ≡ slice_set (waiting_at self.old) sender rest)) }
+    {
+        if sender < self.waiting.len() {
+            pop_first(&mut self.waiting[sender])
+        } else {
+            None
+        }
+    }
+}
+
+fn push_behind(queue: &mut VecDeque<Msg>, msg: Msg) -> Result<(), AllocError>
+    ensures { OnOk result (queue.new.items ≡ queue.old.items ++ msg ∷ []) }
+{
+    match queue.push_back(msg) {
+        Ok(()) => Ok(()),
+        Err(_) => Err(AllocError),
+    }
+}
+
+fn pop_first(queue: &mut VecDeque<Msg>) -> Option<Msg>
+    ensures { MatchOption result
+        ((queue.new.items ≡ queue.old.items) × (queue.old.items ≡ []))
+        (λ m. queue.old.items ≡ m ∷ queue.new.items) }
+{
+    queue.pop_front()
+}
+
+impl<'a> Place<'a> {
+    fn push(&mut self, sender: usize, msg: Msg) -> Result<(), AllocError>
+        ensures core { self.new.core ≡ self.old.core }
+        ensures waiting { OnOk result ((sender < length (waiting_at self.old)) × (waiting_at self.new
+            ≡ slice_set (waiting_at self.old) sender (slice_index_or (waiting_at self.old) sender [] ++ msg ∷ []))) }
+    {
+        if sender < self.waiting.len() {
+            push_behind(&mut self.waiting[sender], msg)
+        } else {
+            Err(AllocError)
+        }
+    }
+}
+
+impl<'a> Place<'a> {
+    fn begin(&mut self, sends: &mut Sends) -> Result<bool, AllocError>
+        ensures waiting { waiting_at self.new ≡ waiting_at self.old }
+        ensures occurs { IfOk result (λ begun. MatchBool begun (Occurs Began self.old.core self.new.core sends.old sends.new) (self.new.core ≡ self.old.core)) }
+        ensures idle { result ≡ Ok false → Waits self.old.core }
+        ensures free { result ≡ Ok true → ¬ Waits self.old.core }
+    {
+        self.core.begin(sends)
+    }
+}
+
+// Takes off the first message that waits at the receiver of that sender. None: nothing waits there.
+pub(crate) fn take(places: &mut Vec<Place>, receiver: usize, sender: usize) -> Option<Msg>
+    ensures cores { cores_of places.new.items ≡ cores_of places.old.items }
+    ensures waiting { MatchOption result
+        ((waiting_of places.new.items ≡ waiting_of places.old.items) × (waits (waiting_of places.old.items) receiver sender ≡ []))
+        (λ m. TakesOff receiver sender m (waiting_of places.old.items) (waiting_of places.new.items)) }
+{
+    if receiver < places.len() {
+        places[receiver].pop(sender)
+    } else {
+        None
+    }
+}
+
+// Puts a message behind those that wait at the receiver of that sender.
+pub(crate) fn put(
+    places: &mut Vec<Place>,
+    receiver: usize,
+    sender: usize,
+    msg: Msg,
+) -> Result<(), AllocError>
+    ensures cores { cores_of places.new.items ≡ cores_of places.old.items }
+    ensures waiting { OnOk result (PutsOn receiver sender msg (waiting_of places.old.items) (waiting_of places.new.items)) }
+{
+    if receiver < places.len() {
+        places[receiver].push(sender, msg)
+    } else {
+        Err(AllocError)
+    }
+}
+
+// Hands a message to a machine.
+pub(crate) fn hand(
+    places: &mut Vec<Place>,
+    receiver: usize,
+    from: Actor,
+    msg: Msg,
+    sends: &mut Sends,
+) -> Result<(), AllocError>
+    ensures waiting { waiting_of places.new.items ≡ waiting_of places.old.items }
+    ensures occurs { OnOk result (OccursAt receiver (Took from msg) (cores_of places.old.items) (cores_of places.new.items) sends.old sends.new) }
+{
+    if receiver < places.len() {
+        places[receiver].core.on(from, msg, sends)
+    } else {
+        Err(AllocError)
+    }
+}
+
+// Lets a machine begin. `Ok(false)`: it did nothing.
+pub(crate) fn begin(
+    places: &mut Vec<Place>,
+    at: usize,
+    sends: &mut Sends,
+) -> Result<bool, AllocError>
+    ensures waiting { waiting_of places.new.items ≡ waiting_of places.old.items }
+    ensures occurs { IfOk result (λ begun. MatchBool begun
+        (OccursAt at Began (cores_of places.old.items) (cores_of places.new.items) sends.old sends.new)
+        (cores_of places.new.items ≡ cores_of places.old.items)) }
+    ensures idle { result ≡ Ok false → IsAt Waits at (cores_of places.old.items) }
+    ensures free { result ≡ Ok true → IsAt (λ core. ¬ Waits core) at (cores_of places.old.items) }
+{
+    if at < places.len() {
+        places[at].begin(sends)
+    } else {
+        Err(AllocError)
+    }
+}

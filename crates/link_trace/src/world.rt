@@ -1,0 +1,271 @@
+// All machines of a run on one thread, and what is under way between them.
+
+ghost use Rattle.std.specs.Prelude.{ℕ, ◌≡◌, [], All, Ok, Some, IfOk, OnOk, OnErr, true, false};
+ghost use Rattle.epoch_tags.specs.declared.actor.Actor.TheVariants.{Feeder as Feeder'};
+ghost use Rattle.link_trace.specs.declared.step.Step.TheVariants.{Took as Took', Idle as Idle'};
+ghost use Rattle.epoch_tags.specs.declared.actor.Actor.{Actor as Actor'};
+ghost use Rattle.pair_collector.specs.Law.{CollectorLists};
+ghost use Rattle.pair_collector.specs.Standing.{is_complete, StandsFor as CollectorStands};
+ghost use Rattle.trace_law.specs.declared.input.Input.{Input as Input'};
+ghost use Rattle.trace_law.specs.declared.setting.Setting.{Setting as Setting'};
+ghost use Rattle.trace_law.specs.Validity.{IsValidInput, IsValidSetting, IsValid};
+ghost use Rattle.trace_law.specs.Runs.{IsRunOf};
+ghost use Rattle.link_trace.specs.Lists.{Began, ActorLists, no_lists};
+ghost use Rattle.link_trace.specs.Standing.{IsOver, GoesOn, Waits};
+ghost use Rattle.link_trace.specs.declared.machines.Core.{Core as Core'};
+ghost use Rattle.link_trace.specs.Numbers.{number as number'};
+ghost use Rattle.link_trace.specs.Worlds.{state_of, left_of, core_of, cores_of, IsAnswerOf, StandsFor, AreNew, IsAllAt, IsSomeAt, Delivers, MakesEvent};
+
+use crate::machines::Core;
+use crate::numbers::number;
+use crate::places::{Place, begin, hand, take};
+use crate::sending::send_all;
+use crate::start::{core_at, joiners_of};
+use crate::step::Step;
+use epoch_tags::{Actor, Msg, Sends};
+use load_controller::{Controller, Journal};
+use pair_collector::Collector;
+use std::alloc::{AllocError, Global};
+use std::collections::VecDeque;
+use trace_law::{Input, Run, Setting, finished_answers};
+
+/// The machines of all actors of a run, and the messages that are left on each link.
+#[derive(Drop)]
+pub struct World<'a> {
+    pub(crate) alloc: Global,
+    pub(crate) joiners: u32,
+    pub(crate) feeders: u32,
+    pub(crate) places: Vec<Place<'a>>,
+    pub(crate) spent: bool,
+}
+
+// No messages, from each of so many senders.
+fn no_messages(alloc: Global, senders: u32) -> Result<Vec<VecDeque<Msg>>, AllocError>
+    ensures { IfOk result (λ waiting. All (λ queue. queue.items ≡ []) waiting.items) }
+{
+    let mut waiting = Vec::new(alloc);
+    for _ in 0..senders {
+        waiting.push(VecDeque::new(alloc))?;
+    }
+    Ok(waiting)
+}
+
+// All actors of a run at its beginning, by their numbers.
+fn new_places<'a>(
+    alloc: Global,
+    input: &'a Input,
+    setting: &Setting,
+    count: u32,
+) -> Result<Vec<Place<'a>>, AllocError>
+    requires input { IsValidInput input.now }
+    requires setting { IsValidSetting setting.now }
+    ensures { IfOk result (λ places. AreNew input.now setting.now count places.items) }
+{
+    let mut places = Vec::new(alloc);
+    for n in 0..count {
+        let core = core_at(alloc, input, setting, n)?;
+        let waiting = no_messages(alloc, count)?;
+        places.push(Place { core, waiting })?;
+    }
+    Ok(places)
+}
+
+// Whether the work of all is over.
+fn all_are_over(places: &[Place]) -> bool
+    ensures over { result ≡ true → IsAllAt IsOver (cores_of places.now) }
+    ensures goes_on { result ≡ false → IsSomeAt GoesOn (cores_of places.now) }
+{
+    for place in places {
+        if !place.core.is_over() {
+            return false;
+        }
+    }
+    true
+}
+
+// The lines of a journal.
+fn copied(alloc: Global, journal: &Journal) -> Result<Journal, AllocError>
+    ensures { IfOk result (λ copy. copy ≡ journal.now) }
+{
+    let mut copy = Journal::with_room(alloc, journal.len() as usize)?;
+    for line in journal.as_slice() {
+        copy.push(*line)?;
+    }
+    Ok(copy)
+}
+
+// What a controller and a complete collector have to tell.
+fn answer(
+    alloc: Global,
+    controller: &Controller,
+    collector: Collector,
+    bouts: u64,
+) -> Result<Run, AllocError>
+    requires { is_complete collector ≡ true }
+    ensures run { IfOk result (λ run. (joiners : ℕ) (lists : CollectorLists) → CollectorStands joiners lists collector
+        → IsAnswerOf joiners lists controller.now.journal bouts run) }
+    ensures bouts { IfOk result (λ run. run.bouts ≡ bouts) }
+{
+    let journal = copied(alloc, controller.journal())?;
+    let collected = collector.finish()?;
+    Ok(Run {
+        pairs: collected.pairs,
+        made: collected.made,
+        loads: collected.loads,
+        moved: collected.moved,
+        journal,
+        bouts,
+    })
+}
+
+impl<'a> World<'a> {
+    /// All actors of a run before its first event. The world borrows the input.
+    pub fn start(
+        alloc: Global,
+        input: &'a Input,
+        setting: &Setting,
+    ) -> Result<World<'a>, AllocError>
+        requires input { IsValidInput input.now }
+        requires setting { IsValidSetting setting.now }
+        ensures fresh { IfOk result (λ world. StandsFor input.now setting.now (state_of world) (λ actor. no_lists)) }
+        ensures at_work { IfOk result (λ world. world.spent ≡ false) }
+    {
+        let joiners = joiners_of(setting);
+        let count = setting.feeders + joiners + 2;
+        let places = new_places(alloc, input, setting, count)?;
+        Ok(World {
+            alloc,
+            joiners,
+            feeders: setting.feeders,
+            places,
+            spent: false,
+        })
+    }
+
+    /// Whether each feeder has stopped, each joiner is finished and the collector is complete. It takes no memory.
+    pub fn done(&self) -> bool
+        ensures done { result ≡ true → IsAllAt IsOver (state_of self.now).cores }
+        ensures goes_on { result ≡ false → IsSomeAt GoesOn (state_of self.now).cores }
+    {
+        all_are_over(&self.places)
+    }
+
+    /// The answer of a run that is done, with so many rounds. After `AllocError` the world is gone.
+    pub fn finish(self, bouts: u64) -> Result<Run, AllocError>
+        requires { IsAllAt IsOver (state_of self).cores }
+        ensures run { IfOk result (λ run. (input : Input') (setting : Setting') (lists : Actor' → ActorLists)
+            → IsValid input setting → StandsFor input setting (state_of self.entry) lists → IsRunOf input setting run.journal run) }
+        ensures bouts { IfOk result (λ run. run.bouts ≡ bouts) }
+    {
+        finished_answers();
+        let World {
+            alloc,
+            mut places,
+            ..
+        } = self;
+        let (Some(collector), Some(controller)) = (places.pop(), places.pop()) else {
+            return Err(AllocError);
+        };
+        match (controller.core, collector.core) {
+            (Core::Controller(controller), Core::Collector(collector)) => {
+                answer(alloc, &controller, collector, bouts)
+            }
+            _ => Err(AllocError),
+        }
+    }
+
+    /// Hands the first message of the link to its receiver, and puts what that sends on its links.
+    /// `Idle`: nothing is left there.
+    pub fn deliver(&mut self, from: Actor, to: Actor) -> Result<Step, AllocError>
+        ensures took { result ≡ Ok Took' → Delivers from to (state_of self.old) (state_of self.new) }
+        ensures idle { result ≡ Ok Idle' → (left_of (state_of self.old) from to ≡ []) × (state_of self.new ≡ state_of self.old) }
+        ensures goes_on { OnOk result ((self.old.spent ≡ false) × (self.new.spent ≡ false)) }
+        ensures fails { OnErr result (self.new.spent ≡ true) }
+        ensures spent { self.old.spent ≡ true → self.new ≡ self.old }
+    {
+        if self.spent {
+            return Err(AllocError);
+        }
+        match (
+            number(self.joiners, self.feeders, from),
+            number(self.joiners, self.feeders, to),
+        ) {
+            (Some(sender), Some(receiver)) => self.deliver_at(from, to, sender, receiver),
+            _ => Ok(Step::Idle),
+        }
+    }
+
+    fn deliver_at(
+        &mut self,
+        from: Actor,
+        to: Actor,
+        sender: usize,
+        receiver: usize,
+    ) -> Result<Step, AllocError>
+        requires sender { number' self.old.joiners self.old.feeders from ≡ Some sender }
+        requires receiver { number' self.old.joiners self.old.feeders to ≡ Some receiver }
+        requires going { self.old.spent ≡ false }
+        ensures took { result ≡ Ok Took' → Delivers from to (state_of self.old) (state_of self.new) }
+        ensures idle { result ≡ Ok Idle' → (left_of (state_of self.old) from to ≡ []) × (state_of self.new ≡ state_of self.old) }
+        ensures goes_on { OnOk result (self.new.spent ≡ false) }
+        ensures fails { OnErr result (self.new.spent ≡ true) }
+    {
+        let Some(msg) = take(&mut self.places, receiver, sender) else {
+            return Ok(Step::Idle);
+        };
+        self.spent = true;
+        let mut sends = Sends::new(self.alloc);
+        hand(&mut self.places, receiver, from, msg, &mut sends)?;
+        send_all(&mut self.places, self.joiners, self.feeders, to, sends)?;
+        self.spent = false;
+        Ok(Step::Took)
+    }
+
+    /// Lets feeder `p`, counted from 0, ask for its next batch, or say that it has drained. `Idle`: the
+    /// last batch that it asked for isn't granted, or it has drained.
+    pub fn begin(&mut self, p: u32) -> Result<Step, AllocError>
+        ensures took { result ≡ Ok Took' → MakesEvent (Feeder' p) Began (state_of self.old) (state_of self.new) }
+        ensures idle { result ≡ Ok Idle' → state_of self.new ≡ state_of self.old }
+        ensures waits { result ≡ Ok Idle' → (core : Core') → core_of (state_of self.old) (Feeder' p) ≡ Some core → Waits core }
+        ensures free { result ≡ Ok Took' → (core : Core') → core_of (state_of self.old) (Feeder' p) ≡ Some core → ¬ Waits core }
+        ensures goes_on { OnOk result ((self.old.spent ≡ false) × (self.new.spent ≡ false)) }
+        ensures fails { OnErr result (self.new.spent ≡ true) }
+        ensures spent { self.old.spent ≡ true → self.new ≡ self.old }
+    {
+        if self.spent {
+            return Err(AllocError);
+        }
+        match number(self.joiners, self.feeders, Actor::Feeder(p)) {
+            Some(at) => self.begin_at(p, at),
+            None => Ok(Step::Idle),
+        }
+    }
+
+    fn begin_at(&mut self, p: u32, at: usize) -> Result<Step, AllocError>
+        requires at { number' self.old.joiners self.old.feeders (Feeder' p) ≡ Some at }
+        requires going { self.old.spent ≡ false }
+        ensures took { result ≡ Ok Took' → MakesEvent (Feeder' p) Began (state_of self.old) (state_of self.new) }
+        ensures idle { result ≡ Ok Idle' → state_of self.new ≡ state_of self.old }
+        ensures waits { result ≡ Ok Idle' → (core : Core') → core_of (state_of self.old) (Feeder' p) ≡ Some core → Waits core }
+        ensures free { result ≡ Ok Took' → (core : Core') → core_of (state_of self.old) (Feeder' p) ≡ Some core → ¬ Waits core }
+        ensures goes_on { OnOk result (self.new.spent ≡ false) }
+        ensures fails { OnErr result (self.new.spent ≡ true) }
+    {
+        self.spent = true;
+        let mut sends = Sends::new(self.alloc);
+        let begun = begin(&mut self.places, at, &mut sends)?;
+        if !begun {
+            self.spent = false;
+            return Ok(Step::Idle);
+        }
+        send_all(
+            &mut self.places,
+            self.joiners,
+            self.feeders,
+            Actor::Feeder(p),
+            sends,
+        )?;
+        self.spent = false;
+        Ok(Step::Took)
+    }
+}
