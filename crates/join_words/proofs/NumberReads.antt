@@ -25,13 +25,14 @@ number_parsed text (Err e) parses = go (is_unsigned_in 0 18446744073709551615 te
     go false e = rw e refl
 
 -- a number that is there or not, from a text that lies in bounds
-pub number_at_most : (low high other : ℕ) (first : Option (List ℕ)) → ((text : List ℕ) → first ≡ Some text → IsUnsignedIn low high text) → other ≤ high
-    → unwrap_or (option_and_then number_of first) other ≤ high
-number_at_most low high other None each less = less
-number_at_most low high other (Some text) each less =
+pub number_between : (low high other : ℕ) (first : Option (List ℕ)) → ((text : List ℕ) → first ≡ Some text → IsUnsignedIn low high text)
+    → (low ≤ other) × (other ≤ high)
+    → (low ≤ unwrap_or (option_and_then number_of first) other) × (unwrap_or (option_and_then number_of first) other ≤ high)
+number_between low high other None each within = within
+number_between low high other (Some text) each within =
     let in_bounds = each text refl in
     let low0 : 0 ≤ digits_value 10 (without_leading_plus text) = omega arith in
     let high0 : digits_value 10 (without_leading_plus text) ≤ 18446744073709551615 = omega (arith, in_bounds.1) in
     let passes : IsUnsignedIn 0 18446744073709551615 text = (in_bounds.0, in_bounds.1, low0, high0) in
     let fits : is_unsigned_in 0 18446744073709551615 text ≡ true = Accepts-accepts false (vp.Unsigned 0 18446744073709551615) text passes in
-    rw fits in_bounds.3
+    rw fits (in_bounds.2, in_bounds.3)

@@ -18,7 +18,8 @@ use Rattle.join_words.specs.declared.options.WordsError.{WordsError}
 use Rattle.join_words.specs.declared.options.WordsError.TheVariants.{Fault, Memory}
 use Rattle.join_words.specs.declared.options.WordsFault.{WordsFault}
 use Rattle.join_words.specs.declared.options.WordsFault.TheVariants.{NoMatch}
-use Rattle.join_words.proofs.NumberReads.{number_at_most}
+use Rattle.join_words.proofs.NumberReads.{number_between}
+use Rattle.join_words.proofs.RangeLemmas.{AreIn}
 
 -- the fault that an answer tells
 pub same_fault : (told fault : WordsFault) → Fault told ≡ Fault fault → told ≡ fault
@@ -67,11 +68,15 @@ tells app words error told fault command kinds memory others is =
 
 -- a parse that gave a match
 pub is_match : (app : App) (words : List Text) (matches : ArgMatches) → IsCommand app → fault_of app words ≡ [] → HasMatchesOf app words matches
-    → ((text : Text) → first_value (found_of matches) (codes "joiners") ≡ Some text → IsUnsignedIn 1 64 text) → IsMatch words (rows_of (found_of matches))
-is_match app words matches command none has joiners = record {
+    → AreIn matches → IsMatch words (rows_of (found_of matches))
+is_match app words matches command none has are = record {
   no_fault = subst (λ (a : App). fault_of a words ≡ []) command.is none;
   rows_are = (has (simple app command)).0 ∙ ap (λ (a : App). matches_of a words) command.is;
-  few_joiners = number_at_most 1 64 4 (first_of (codes "joiners") (rows_of (found_of matches))) (λ text is. joiners text (first_value-rows (found_of matches) (codes "joiners") ∙ is)) (omega arith);
+  bounded = record {
+    joiners = (number_between 1 64 4 (first_of (codes "joiners") (rows_of (found_of matches))) (λ text is. are.joiners text (first_value-rows (found_of matches) (codes "joiners") ∙ is)) (omega arith, omega arith)).1;
+    feeders = number_between 1 8 2 (first_of (codes "feeders") (rows_of (found_of matches))) (λ text is. are.feeders text (first_value-rows (found_of matches) (codes "feeders") ∙ is)) (omega arith, omega arith);
+    batch = number_between 1 4096 64 (first_of (codes "batch") (rows_of (found_of matches))) (λ text is. are.batch text (first_value-rows (found_of matches) (codes "batch") ∙ is)) (omega arith, omega arith);
+  };
 }
 
 -- what the words ask for, where there is a match

@@ -18,6 +18,10 @@ number_rule id least most = record (new_rule id) { long = Some id; parser = Some
 abbrev pub default_rule : Text → ℕ → ℕ → Text → Rule
 default_rule id least most value = record (number_rule id least most) { defaults = value ∷ [] }
 
+-- `--id TEXT`, or else this value
+abbrev pub text_or_rule : Text → Text → Rule
+text_or_rule id value = record (new_rule id) { long = Some id; defaults = value ∷ [] }
+
 -- `--id`, without a value
 abbrev pub flag_rule : Text → Rule
 flag_rule id = record (new_rule id) { long = Some id; action = Some SetTrue }
@@ -30,8 +34,12 @@ files_rule id = record (new_rule id) { range = Some (record { start_inclusive = 
 abbrev pub rules : List Rule
 rules = text_rule (codes "on")
     ∷ default_rule (codes "joiners") 1 64 (codes "4")
+    ∷ default_rule (codes "feeders") 1 8 (codes "2")
+    ∷ default_rule (codes "batch") 1 4096 (codes "64")
+    ∷ text_or_rule (codes "feed") (codes "alternate")
     ∷ default_rule (codes "seed") 0 18446744073709551615 (codes "1")
     ∷ number_rule (codes "fixed") 0 6
+    ∷ number_rule (codes "replay") 0 18446744073709551615
     ∷ flag_rule (codes "report")
     ∷ files_rule (codes "files") ∷ []
 

@@ -4,6 +4,8 @@ use Rattle.std.specs.Int.{is_power_of_two, trailing_zeros, w64}
 use Rattle.std.specs.Borrow.{Bor}
 use Rattle.std.specs.Str.{bytes_eq}
 use Rattle.std.specs.Str.Parse.{digits_value, without_leading_plus}
+use Rattle.row_tickets.specs.declared.place.Feed.{Feed}
+use Rattle.row_tickets.specs.declared.place.Feed.TheVariants.{Alternate, RFirst, SFirst}
 use Rattle.clap.specs.ValueTests.{is_unsigned_in}
 use Rattle.clap.specs.Walk.{Row, Text, all_of, first_of}
 use Rattle.clap.specs.Simple.{matches_of}
@@ -14,13 +16,18 @@ use Rattle.join_words.specs.declared.options.Options.{Options}
 use Rattle.join_words.specs.declared.options.WordsFault.{WordsFault}
 use Rattle.join_words.specs.declared.options.WordsFault.TheVariants.{NoMatch, Joiners, Fixed, Files}
 
--- what the words ask for: the predicate's text, 2^k joiners, whether the grid stays at 2^fixed parts
--- of R, the seed of the tickets, whether a report is wanted, and the names of the two files
+-- what the words ask for: the predicate's text; 2^k joiners; the feeders, how many rows each asks for at once
+-- and in which order; the shift at which the grid stays, where one is given; the seed of the tickets; the
+-- seed of the order, where one is given; whether a report is wanted; and the names of the two files
 pub record Asked : Type 0 where
   pub on : List ℕ
   pub k : ℕ
+  pub feeders : ℕ
+  pub batch : ℕ
+  pub feed : Feed
   pub fixed : Option ℕ
   pub seed : ℕ
+  pub replay : Option ℕ
   pub report : Bool
   pub name_r : List ℕ
   pub name_s : List ℕ
@@ -30,8 +37,12 @@ abbrev pub asked : Options → Asked
 asked options = record {
   on = options.on.now;
   k = options.k;
+  feeders = options.feeders;
+  batch = options.batch;
+  feed = options.feed;
   fixed = options.fixed;
   seed = options.seed;
+  replay = options.replay;
   report = options.report;
   name_r = options.name_r.now;
   name_s = options.name_s.now;
@@ -56,12 +67,28 @@ flag_at id rows = bytes_eq (text_at id rows) (codes "true")
 abbrev pub joiners_at : List Row → ℕ
 joiners_at rows = unwrap_or (number_at (codes "joiners") rows) 4
 
+-- how many feeders
+abbrev pub feeders_at : List Row → ℕ
+feeders_at rows = unwrap_or (number_at (codes "feeders") rows) 2
+
+-- how many rows a feeder asks for at once
+abbrev pub batch_at : List Row → ℕ
+batch_at rows = unwrap_or (number_at (codes "batch") rows) 64
+
 -- ---- the checks, in their order
 
 -- one check after another
 abbrev pub then_of : {A B : Type 0} → Result A WordsFault → (A → Result B WordsFault) → Result B WordsFault
 then_of (Ok x) next = next x
 then_of (Err fault) next = Err fault
+
+-- the order in which a feeder takes its rows; a name of none is no match
+abbrev pub feed_named : Text → Result Feed WordsFault
+feed_named name =
+    if bytes_eq name (codes "alternate") then Ok Alternate
+    else (if bytes_eq name (codes "rfirst") then Ok RFirst
+    else (if bytes_eq name (codes "sfirst") then Ok SFirst
+    else Err NoMatch))
 
 -- k of 2^k joiners
 abbrev pub exponent_of : ℕ → Result ℕ WordsFault
@@ -83,17 +110,22 @@ files_at rows = two_names (unwrap_or (all_of (codes "files") rows) [])
 -- what a match asks for, or the first check that it fails
 abbrev pub asked_by : List Row → Result Asked WordsFault
 asked_by rows =
+    then_of (feed_named (text_at (codes "feed") rows)) (λ feed.
     then_of (exponent_of (joiners_at rows)) (λ k.
     then_of (fixed_within k (number_at (codes "fixed") rows)) (λ fixed.
     then_of (files_at rows) (λ names. Ok (record {
       on = text_at (codes "on") rows;
       k = k;
+      feeders = feeders_at rows;
+      batch = batch_at rows;
+      feed = feed;
       fixed = fixed;
       seed = unwrap_or (number_at (codes "seed") rows) 1;
+      replay = number_at (codes "replay") rows;
       report = flag_at (codes "report") rows;
       name_r = names.0;
       name_s = names.1;
-    }))))
+    })))))
 
 -- ---- the words
 
@@ -106,11 +138,17 @@ asked_unless (kind ∷ kinds) rows = Err NoMatch
 unfoldable pub asked_of : List Text → Result Asked WordsFault
 asked_of words = asked_unless (fault_of jm_command words) (matches_of jm_command words)
 
+-- the numbers of a match are within the bounds of their arguments
+pub record AreBounded (rows : List Row) : Type 0 where
+  pub joiners : joiners_at rows ≤ 64
+  pub feeders : (1 ≤ feeders_at rows) × (feeders_at rows ≤ 8)
+  pub batch : (1 ≤ batch_at rows) × (batch_at rows ≤ 4096)
+
 -- the command has a match for the words, and these are its rows
 pub record IsMatch (words : List Text) (rows : List Row) : Type 0 where
   pub no_fault : fault_of jm_command words ≡ []
   pub rows_are : rows ≡ matches_of jm_command words
-  pub few_joiners : joiners_at rows ≤ 64
+  pub bounded : AreBounded rows
 
 -- ---- what a call answers
 

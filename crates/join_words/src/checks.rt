@@ -1,13 +1,14 @@
 // The checks of a match, in the order of their faults.
 
-ghost use Rattle.std.specs.Prelude.{◌≡◌, ◌≤◌, IfOk, IfSome};
+ghost use Rattle.std.specs.Prelude.{◌≡◌, ◌≤◌, ◌<◌, ◌^◌, IfOk, IfSome, unwrap_or};
 ghost use Rattle.clap.specs.Matches.{found_of};
 ghost use Rattle.clap.specs.Walk.{rows_of, texts};
-ghost use Rattle.join_words.specs.Words.{Gives, GivesFiles, asked_by, exponent_of, files_at, fixed_within, joiners_at, two_names};
+ghost use Rattle.join_words.specs.Words.{AreBounded, Gives, GivesFiles, asked_by, exponent_of, feed_named, files_at, fixed_within, number_at, two_names};
 
 use crate::found::{flag, number, text};
 use crate::options::{Options, WordsFault};
 use clap::ArgMatches;
+use row_tickets::Feed;
 
 /// k of 2^k joiners.
 fn exponent(joiners: u64) -> Result<u32, WordsFault>
@@ -33,6 +34,27 @@ fn within(k: u32, fixed: Option<u64>) -> Result<Option<u32>, WordsFault>
     }
 }
 
+/// The number of an option that is less than 2^32, or else this one.
+fn small_number(matches: &ArgMatches<'_>, id: &str, other: u32) -> u32
+    requires { unwrap_or (number_at id.now (rows_of (found_of matches.now))) other < 2 ^ 32 }
+    ensures { result ≡ unwrap_or (number_at id.now (rows_of (found_of matches.now))) other }
+{
+    number(matches, id).unwrap_or(u64::from(other)) as u32
+}
+
+/// The order of this name. It is looked at here and not by clap, since a command's list of names
+/// is told by its address.
+fn feed(name: &str) -> Result<Feed, WordsFault>
+    ensures { result ≡ feed_named name.now }
+{
+    match name {
+        "alternate" => Ok(Feed::Alternate),
+        "rfirst" => Ok(Feed::RFirst),
+        "sfirst" => Ok(Feed::SFirst),
+        _ => Err(WordsFault::NoMatch),
+    }
+}
+
 /// Just two names.
 fn two<'a>(names: &[&'a str]) -> Result<(&'a str, &'a str), WordsFault>
     ensures { GivesFiles (two_names (texts names.now)) result }
@@ -55,18 +77,26 @@ fn files<'a>(matches: &ArgMatches<'a>) -> Result<(&'a str, &'a str), WordsFault>
 
 /// What a match asks for, or the first check that it fails.
 pub(crate) fn checked<'a>(matches: &ArgMatches<'a>) -> Result<Options<'a>, WordsFault>
+    requires bounded { AreBounded (rows_of (found_of matches.now)) }
     ensures exact { Gives (asked_by (rows_of (found_of matches.now))) result }
-    ensures small { joiners_at (rows_of (found_of matches.now)) ≤ 64 → IfOk result (λ options. options.k ≤ 6) }
+    ensures small { IfOk result (λ options. options.k ≤ 6) }
     ensures fits { IfOk result (λ options. IfSome options.fixed (λ fixed. fixed ≤ options.k)) }
+    ensures feeders { IfOk result (λ options. (1 ≤ options.feeders) × (options.feeders ≤ 8)) }
+    ensures batch { IfOk result (λ options. (1 ≤ options.batch) × (options.batch ≤ 4096)) }
 {
+    let feed = feed(text(matches, "feed"))?;
     let k = exponent(number(matches, "joiners").unwrap_or(4))?;
     let fixed = within(k, number(matches, "fixed"))?;
     let (name_r, name_s) = files(matches)?;
     Ok(Options {
         on: text(matches, "on"),
         k,
+        feeders: small_number(matches, "feeders", 2),
+        batch: small_number(matches, "batch", 64),
+        feed,
         fixed,
         seed: number(matches, "seed").unwrap_or(1),
+        replay: number(matches, "replay"),
         report: flag(matches, "report"),
         name_r,
         name_s,

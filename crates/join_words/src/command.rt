@@ -3,7 +3,7 @@
 ghost use Rattle.std.specs.Prelude.{◌≡◌, IfOk, false};
 ghost use Rattle.clap.specs.Walk.{rule_of};
 ghost use Rattle.clap.specs.Simple.{app_of};
-ghost use Rattle.join_words.specs.Command.{IsCommand, default_rule, files_rule, flag_rule, number_rule, text_rule};
+ghost use Rattle.join_words.specs.Command.{IsCommand, default_rule, files_rule, flag_rule, number_rule, text_or_rule, text_rule};
 
 use clap::builder::ValueParser;
 use clap::{Arg, ArgAction, Command};
@@ -35,6 +35,14 @@ fn number_or<'a>(alloc: Global, id: &'a str, least: u64, most: u64, value: &'a s
     number(alloc, id, least, most).default_value(value)
 }
 
+/// `--id TEXT`, or else `value`.
+fn text_or<'a>(alloc: Global, id: &'a str, value: &'a str) -> Arg<'a>
+    ensures rule { rule_of result ≡ text_or_rule id.entry.now value.entry.now }
+    ensures local { result.global ≡ false }
+{
+    Arg::new(alloc, id).long(id).default_value(value)
+}
+
 /// `--id`, without a value.
 fn flag<'a>(alloc: Global, id: &'a str) -> Arg<'a>
     ensures rule { rule_of result ≡ flag_rule id.entry.now }
@@ -58,8 +66,12 @@ pub(crate) fn command<'a>(alloc: Global) -> Result<Command<'a>, AllocError>
     Command::new(alloc, "jm")
         .arg(text(alloc, "on"))?
         .arg(number_or(alloc, "joiners", 1, 64, "4"))?
+        .arg(number_or(alloc, "feeders", 1, 8, "2"))?
+        .arg(number_or(alloc, "batch", 1, 4096, "64"))?
+        .arg(text_or(alloc, "feed", "alternate"))?
         .arg(number_or(alloc, "seed", 0, u64::MAX, "1"))?
         .arg(number(alloc, "fixed", 0, 6))?
+        .arg(number(alloc, "replay", 0, u64::MAX))?
         .arg(flag(alloc, "report"))?
         .arg(files(alloc, "files"))
 }

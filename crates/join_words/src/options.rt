@@ -1,5 +1,7 @@
 // What the words ask for, and what may be wrong with them.
 
+use row_tickets::Feed;
+
 /// What the words ask for.
 #[derive(Clone, Copy, Debug, PartialEq, Eq)]
 pub struct Options<'a> {
@@ -7,10 +9,18 @@ pub struct Options<'a> {
     pub on: &'a str,
     /// There are 2^k joiners.
     pub k: u32,
+    /// How many feeders share the rows, 1 to 8.
+    pub feeders: u32,
+    /// How many rows a feeder asks for at once, 1 to 4,096.
+    pub batch: u32,
+    /// In which order a feeder takes its rows.
+    pub feed: Feed,
     /// The grid's shift, where it was given: the grid then has 2^fixed columns.
     pub fixed: Option<u32>,
     /// The seed of the tickets.
     pub seed: u64,
+    /// The seed of the order of a replay, where one was asked for.
+    pub replay: Option<u64>,
     /// A report is wanted beside the output.
     pub report: bool,
     /// The name of the file of R.
@@ -22,8 +32,8 @@ pub struct Options<'a> {
 /// What is wrong with the words. Where several things are, the first in this order is told.
 #[derive(Clone, Copy, Debug, PartialEq, Eq)]
 pub enum WordsFault {
-    /// The list of words is empty, or the command has no match for it. A request for help or for the
-    /// version is no match.
+    /// The list of words is empty, or the command has no match for it, or `--feed` has no order's name. A
+    /// request for help or for the version is no match.
     NoMatch,
     /// The number of joiners isn't a power of two.
     Joiners,

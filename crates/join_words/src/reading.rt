@@ -51,6 +51,8 @@ pub fn read_words<'a>(alloc: Global, words: &'a [String]) -> Result<Options<'a>,
         → asked_of (map string_bytes words.now) ≡ Err fault }
     ensures small { IfOk result (λ options. options.k ≤ 6) }
     ensures fits { IfOk result (λ options. IfSome options.fixed (λ fixed. fixed ≤ options.k)) }
+    ensures feeders { IfOk result (λ options. (1 ≤ options.feeders) × (options.feeders ≤ 8)) }
+    ensures batch { IfOk result (λ options. (1 ≤ options.batch) × (options.batch ≤ 4096)) }
 {
     let matches = matched(alloc, words)?;
     match checked(&matches) {

@@ -1,4 +1,5 @@
 use crate::{Options, WordsError, WordsFault, read_words};
+use row_tickets::Feed;
 use std::alloc::{AllocError, Global};
 use std::test::Fail;
 
@@ -16,8 +17,12 @@ fn words(alloc: Global, line: &str) -> Result<Vec<String>, AllocError> {
 const PLAIN: Options<'static> = Options {
     on: "p",
     k: 2,
+    feeders: 2,
+    batch: 64,
+    feed: Feed::Alternate,
     fixed: None,
     seed: 1,
+    replay: None,
     report: false,
     name_r: "r",
     name_s: "s",
@@ -25,6 +30,22 @@ const PLAIN: Options<'static> = Options {
 
 fn grid(k: u32, fixed: Option<u32>) -> Options<'static> {
     Options { k, fixed, ..PLAIN }
+}
+
+fn feeders(feeders: u32, batch: u32, feed: Feed) -> Options<'static> {
+    Options {
+        feeders,
+        batch,
+        feed,
+        ..PLAIN
+    }
+}
+
+fn replay(seed: u64) -> Options<'static> {
+    Options {
+        replay: Some(seed),
+        ..PLAIN
+    }
 }
 
 fn on(text: &'static str) -> Options<'static> {
@@ -58,6 +79,21 @@ fn reads_what_the_words_ask_for(rt: HostRuntime) -> Result<(), Fail> {
         ("jm|--on|p|--fixed|2|r|s", grid(2, Some(2))),
         ("jm|--on|p|--joiners|+8|r|s", grid(3, None)),
         ("jm|--on|p|--joiners|008|r|s", grid(3, None)),
+        (
+            "jm|--on|p|--feeders|1|--batch|4096|r|s",
+            feeders(1, 4096, Feed::Alternate),
+        ),
+        (
+            "jm|--feed=rfirst|--on|p|--batch|1|--feeders|8|r|s",
+            feeders(8, 1, Feed::RFirst),
+        ),
+        ("jm|--on|p|r|s|--feed|sfirst", feeders(2, 64, Feed::SFirst)),
+        ("jm|--on|p|--feed|alternate|r|s", PLAIN),
+        ("jm|--on|p|--replay|0|r|s", replay(0)),
+        (
+            "jm|--on|p|--replay|18446744073709551615|r|s",
+            replay(u64::MAX),
+        ),
         ("jm|--on|p|--seed|0|r|s", seed(0)),
         ("jm|--on|p|--seed|18446744073709551615|r|s", seed(u64::MAX)),
         ("jm|--on| -r.x = s.y|r|s", on(" -r.x = s.y")),
@@ -97,6 +133,14 @@ fn tells_the_first_fault(rt: HostRuntime) -> Result<(), Fail> {
         ("jm|--on|p|--joiners|65|r|s", WordsFault::NoMatch),
         ("jm|--on|p|--joiners|four|r|s", WordsFault::NoMatch),
         ("jm|--on|p|--joiners||r|s", WordsFault::NoMatch),
+        ("jm|--on|p|--feeders|0|r|s", WordsFault::NoMatch),
+        ("jm|--on|p|--feeders|9|r|s", WordsFault::NoMatch),
+        ("jm|--on|p|--batch|0|r|s", WordsFault::NoMatch),
+        ("jm|--on|p|--batch|4097|r|s", WordsFault::NoMatch),
+        ("jm|--on|p|--feed|RFirst|r|s", WordsFault::NoMatch),
+        ("jm|--on|p|--feed||r|s", WordsFault::NoMatch),
+        ("jm|--on|p|--replay|-1|r|s", WordsFault::NoMatch),
+        ("jm|--on|p|--joiners|3|--feed|both|r", WordsFault::NoMatch),
         ("jm|--on|p|--fixed|7|r|s", WordsFault::NoMatch),
         ("jm|--on|p|--fixed|-1|r|s", WordsFault::NoMatch),
         (

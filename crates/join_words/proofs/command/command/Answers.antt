@@ -3,7 +3,7 @@ use Rattle.std.proofs.lemmas.Result.{IfOk-weaker}
 use Rattle.clap.specs.Built.{AddsArg}
 use Rattle.clap.specs.Walk.{Rule}
 use Rattle.clap.specs.Simple.{App, app_of, new_app, with_rule}
-use Rattle.join_words.specs.Command.{IsCommand, jm_command, default_rule, files_rule, flag_rule, number_rule, text_rule}
+use Rattle.join_words.specs.Command.{IsCommand, jm_command, default_rule, files_rule, flag_rule, number_rule, text_or_rule, text_rule}
 use Rattle.join_words.proofs.Building.{IsApp, added}
 use Rattle.join_words.proofs.command.command.Goals as goal
 
@@ -18,15 +18,27 @@ returns c =
     let r2 : Rule = default_rule (codes "joiners") 1 64 (codes "4") in
     let a2 : App = with_rule a1 r2 in
     let e2 : IsApp c.in_ok-arg-2.field-0 a2 = added a1 c.in_ok-arg.field-0 c.in_ok-arg-2.field-0 c.number_or.result r2 e1 c.number_or.ensures.local c.number_or.ensures.rule c.in_ok-arg-2.ensures in
-    let r3 : Rule = default_rule (codes "seed") 0 18446744073709551615 (codes "1") in
+    let r3 : Rule = default_rule (codes "feeders") 1 8 (codes "2") in
     let a3 : App = with_rule a2 r3 in
     let e3 : IsApp c.in_ok-arg-3.field-0 a3 = added a2 c.in_ok-arg-2.field-0 c.in_ok-arg-3.field-0 c.number_or-2.result r3 e2 c.number_or-2.ensures.local c.number_or-2.ensures.rule c.in_ok-arg-3.ensures in
-    let r4 : Rule = number_rule (codes "fixed") 0 6 in
+    let r4 : Rule = default_rule (codes "batch") 1 4096 (codes "64") in
     let a4 : App = with_rule a3 r4 in
-    let e4 : IsApp c.in_ok-arg-4.field-0 a4 = added a3 c.in_ok-arg-3.field-0 c.in_ok-arg-4.field-0 c.number.result r4 e3 c.number.ensures.local c.number.ensures.rule c.in_ok-arg-4.ensures in
-    let r5 : Rule = flag_rule (codes "report") in
+    let e4 : IsApp c.in_ok-arg-4.field-0 a4 = added a3 c.in_ok-arg-3.field-0 c.in_ok-arg-4.field-0 c.number_or-3.result r4 e3 c.number_or-3.ensures.local c.number_or-3.ensures.rule c.in_ok-arg-4.ensures in
+    let r5 : Rule = text_or_rule (codes "feed") (codes "alternate") in
     let a5 : App = with_rule a4 r5 in
-    let e5 : IsApp c.in_ok-arg-5.field-0 a5 = added a4 c.in_ok-arg-4.field-0 c.in_ok-arg-5.field-0 c.flag.result r5 e4 c.flag.ensures.local c.flag.ensures.rule c.in_ok-arg-5.ensures in
-    IfOk-weaker c.arg-6.result (λ r. AddsArg c.in_ok-arg-5.field-0 c.files.result r) (λ r. IsCommand (app_of r)) (λ r adds.
-    let e6 : IsApp r (with_rule a5 (files_rule (codes "files"))) = added a5 c.in_ok-arg-5.field-0 r c.files.result (files_rule (codes "files")) e5 c.files.ensures.local c.files.ensures.rule adds in
-    record { is = e6.is }) c.arg-6.ensures
+    let e5 : IsApp c.in_ok-arg-5.field-0 a5 = added a4 c.in_ok-arg-4.field-0 c.in_ok-arg-5.field-0 c.text_or.result r5 e4 c.text_or.ensures.local c.text_or.ensures.rule c.in_ok-arg-5.ensures in
+    let r6 : Rule = default_rule (codes "seed") 0 18446744073709551615 (codes "1") in
+    let a6 : App = with_rule a5 r6 in
+    let e6 : IsApp c.in_ok-arg-6.field-0 a6 = added a5 c.in_ok-arg-5.field-0 c.in_ok-arg-6.field-0 c.number_or-4.result r6 e5 c.number_or-4.ensures.local c.number_or-4.ensures.rule c.in_ok-arg-6.ensures in
+    let r7 : Rule = number_rule (codes "fixed") 0 6 in
+    let a7 : App = with_rule a6 r7 in
+    let e7 : IsApp c.in_ok-arg-7.field-0 a7 = added a6 c.in_ok-arg-6.field-0 c.in_ok-arg-7.field-0 c.number.result r7 e6 c.number.ensures.local c.number.ensures.rule c.in_ok-arg-7.ensures in
+    let r8 : Rule = number_rule (codes "replay") 0 18446744073709551615 in
+    let a8 : App = with_rule a7 r8 in
+    let e8 : IsApp c.in_ok-arg-8.field-0 a8 = added a7 c.in_ok-arg-7.field-0 c.in_ok-arg-8.field-0 c.number-2.result r8 e7 c.number-2.ensures.local c.number-2.ensures.rule c.in_ok-arg-8.ensures in
+    let r9 : Rule = flag_rule (codes "report") in
+    let a9 : App = with_rule a8 r9 in
+    let e9 : IsApp c.in_ok-arg-9.field-0 a9 = added a8 c.in_ok-arg-8.field-0 c.in_ok-arg-9.field-0 c.flag.result r9 e8 c.flag.ensures.local c.flag.ensures.rule c.in_ok-arg-9.ensures in
+    IfOk-weaker c.arg-10.result (λ r. AddsArg c.in_ok-arg-9.field-0 c.files.result r) (λ r. IsCommand (app_of r)) (λ r adds.
+    let e10 : IsApp r (with_rule a9 (files_rule (codes "files"))) = added a9 c.in_ok-arg-9.field-0 r c.files.result (files_rule (codes "files")) e9 c.files.ensures.local c.files.ensures.rule adds in
+    record { is = e10.is }) c.arg-10.ensures
