@@ -1,2 +1,3 @@
-mod Joiners
+mod Journals
+mod Numbered
 mod Worked

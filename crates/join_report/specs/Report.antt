@@ -1,14 +1,34 @@
--- The report of a run whose grid stayed as it was: 2 ^ k joiners at shift b, with x rows of R and y of S.
-use Rattle.std.specs.Prelude.{ℕ, List, ◌++◌, flat_map, zip, codes}
+-- The report of a run of this setting, with x rows of R and y of S.
+use Rattle.std.specs.Prelude.{ℕ, ◌+◌, ◌≤◌, All, List, ◌++◌, flat_map, zip, codes}
 use Rattle.std.specs.List.{enumerate_from}
 use Rattle.std.specs.Fmt.{decimal}
 use Rattle.grid_map.specs.Grid.{rows, columns}
 use Rattle.grid_map.specs.Load.{copies, best_shift}
+use Rattle.load_controller.specs.declared.line.TurnLine.{TurnLine}
+use Rattle.load_controller.specs.Journal.{last_epoch}
 use Rattle.pair_collector.specs.declared.collected.Held.{Held}
+use Rattle.trace_law.specs.declared.setting.Setting.{Setting}
+use Rattle.trace_law.specs.declared.run.Run.{Run}
+use Rattle.trace_law.specs.Family.{shift_by}
+
+-- the shifts of a journal are those of a grid of 2 ^ k joiners
+abbrev pub AreWithin : ℕ → List TurnLine → Type 0
+AreWithin k journal = All (λ line. line.shift ≤ k) journal
 
 -- the numbers of rows
 abbrev pub input_line : ℕ → ℕ → List ℕ
 input_line x y = codes "input " ++ decimal x ++ codes " " ++ decimal y ++ codes "\n"
+
+-- the rows and columns of the grid of an epoch at shift b, and how many rows moved in the step to it
+abbrev pub grid_line : ℕ → ℕ → ℕ → ℕ → List ℕ
+grid_line k epoch b moved =
+    codes "grid " ++ decimal epoch ++ codes " " ++ decimal (rows k b) ++ codes " " ++ decimal (columns b)
+    ++ codes " moved " ++ decimal moved ++ codes "\n"
+
+-- the lines of all steps, the first of which leads to epoch 1
+abbrev pub grid_lines : Setting → List TurnLine → List ℕ → List ℕ
+grid_lines setting journal moved =
+    flat_map (λ step. grid_line setting.k (step.0 + 1) (shift_by setting journal (step.0 + 1)) step.1) (enumerate_from 0 moved)
 
 -- the fewest copies that the joiners can hold at any shift
 abbrev pub least_copies : ℕ → ℕ → ℕ → ℕ → ℕ
@@ -29,7 +49,14 @@ joiner_line id held made =
 -- the lines of all joiners, numbered from 0
 abbrev pub joiner_lines : List Held → List ℕ → List ℕ
 joiner_lines loads made =
-    flat_map (λ numbered. joiner_line numbered.0 numbered.1.0 numbered.1.1) (enumerate_from 0 (zip loads made))
+    flat_map (λ joiner. joiner_line joiner.0 joiner.1.0 joiner.1.1) (enumerate_from 0 (zip loads made))
 
-abbrev pub report_of : ℕ → ℕ → ℕ → ℕ → List ℕ → List Held → List ℕ
-report_of k b x y made loads = input_line x y ++ final_line k b x y ++ joiner_lines loads made
+-- the shift of the last epoch
+abbrev pub last_shift : Setting → List TurnLine → ℕ
+last_shift setting journal = shift_by setting journal (last_epoch journal)
+
+-- the numbers of rows, the steps, the last grid, and the joiners
+abbrev pub report_of : Setting → ℕ → ℕ → Run → List ℕ
+report_of setting x y run =
+    input_line x y ++ grid_lines setting run.journal run.moved ++ final_line setting.k (last_shift setting run.journal) x y
+    ++ joiner_lines run.loads run.made

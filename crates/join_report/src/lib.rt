@@ -1,4 +1,4 @@
-//! The texts of an output: the pairs, and the report of a grid.
+//! The texts of an output: the pairs, and the report of a run.
 #![tactic(auto)]
 
 mod pairs;

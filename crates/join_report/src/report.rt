@@ -1,19 +1,113 @@
-// The report of a grid that stayed as it was.
+// The report of a run.
 
-ghost use Rattle.std.specs.Prelude.{◌≡◌, ◌≤◌, ◌^◌, ◌++◌, IfOk, OnOk, string_bytes};
-ghost use Rattle.join_report.specs.Report.{input_line, final_line, joiner_line, joiner_lines, report_of};
+ghost use Rattle.std.specs.Prelude.{◌≡◌, ◌<◌, ◌≤◌, ◌^◌, ◌++◌, ℕ, IfOk, OnOk, length, string_bytes};
+ghost use Rattle.load_controller.specs.Journal.{last_epoch as last_epoch', shift_at as shift_at'};
+ghost use Rattle.trace_law.specs.Validity.{IsValidSetting};
+ghost use Rattle.trace_law.specs.Family.{first_line};
+ghost use Rattle.join_report.specs.Report.{AreWithin, final_line, grid_line, grid_lines, input_line, joiner_line, joiner_lines, last_shift as last_shift', report_of};
 ghost use Rattle.join_report.specs.Report as report;
 
 use epoch_tags::Counts;
 use grid_map::{Shape, best_shift, copies};
+use load_controller::Journal;
 use pair_collector::{Held, Loads};
 use std::alloc::{AllocError, Global};
+use trace_law::{Run, Setting};
+
+/// The shift of the lines of an epoch: that of the first of them, or `first` where there is none.
+fn shift_at(journal: &Journal, first: u32, epoch: u32) -> u32
+    ensures shift { result ≡ shift_at' first epoch journal.now }
+    ensures within { (k : ℕ) → first ≤ k → AreWithin k journal.now → result ≤ k }
+{
+    for line in journal.as_slice() {
+        if line.epoch == epoch {
+            return line.shift;
+        }
+    }
+    first
+}
+
+/// The last epoch, 0 where there is no line.
+fn last_epoch(journal: &Journal) -> u32
+    ensures { result ≡ last_epoch' journal.now }
+{
+    let mut epoch = 0;
+    for line in journal.as_slice() {
+        epoch = line.epoch;
+    }
+    epoch
+}
+
+/// The shift of the first epoch.
+fn first_shift(setting: &Setting) -> u32
+    requires { IsValidSetting setting.now }
+    ensures shift { result ≡ (first_line setting.now).shift }
+    ensures within { result ≤ setting.now.k }
+{
+    setting.fixed.unwrap_or(setting.k / 2)
+}
+
+/// The shift of the last epoch.
+fn last_shift(setting: &Setting, journal: &Journal) -> u32
+    requires setting { IsValidSetting setting.now }
+    requires shifts { AreWithin setting.now.k journal.now }
+    ensures shift { result ≡ last_shift' setting.now journal.now }
+    ensures within { result ≤ setting.now.k }
+{
+    shift_at(journal, first_shift(setting), last_epoch(journal))
+}
 
 /// Adds the line of the numbers of rows.
 fn write_input(text: &mut String, x: u64, y: u64) -> Result<(), AllocError>
     ensures { OnOk result (string_bytes text.new ≡ string_bytes text.old ++ input_line x y) }
 {
     write!(text, "input {x} {y}\n")
+}
+
+/// Two to this power.
+fn power(exponent: u32) -> u32
+    requires { exponent ≤ 8 }
+    ensures { result ≡ 2 ^ exponent }
+{
+    1 << exponent
+}
+
+/// Adds the line of the step to an epoch.
+fn write_grid(text: &mut String, epoch: u64, shape: Shape, moved: u64) -> Result<(), AllocError>
+    requires shift { shape.shift ≤ shape.k }
+    requires k { shape.k ≤ 8 }
+    ensures { OnOk result (string_bytes text.new
+        ≡ string_bytes text.old ++ grid_line shape.k epoch shape.shift moved) }
+{
+    let n = power(shape.k - shape.shift);
+    let m = power(shape.shift);
+    write!(text, "grid {epoch} {n} {m} moved {moved}\n")
+}
+
+/// Adds the lines of all steps.
+fn write_grids(
+    text: &mut String,
+    setting: &Setting,
+    journal: &Journal,
+    moved: &Counts,
+) -> Result<(), AllocError>
+    requires setting { IsValidSetting setting.now }
+    requires shifts { AreWithin setting.now.k journal.now }
+    requires few { length moved.now < 2 ^ 32 }
+    ensures { OnOk result (string_bytes text.new
+        ≡ string_bytes text.old ++ grid_lines setting.now journal.now moved.now) }
+{
+    let first = first_shift(setting);
+    for step in 0..moved.len() {
+        let epoch = step + 1;
+        let shift = shift_at(journal, first, epoch as u32);
+        let shape = Shape {
+            k: setting.k,
+            shift,
+        };
+        write_grid(text, epoch, shape, *moved.at(step))?;
+    }
+    Ok(())
 }
 
 /// The fewest copies at any shift.
@@ -26,14 +120,6 @@ fn least_copies(shape: Shape, x: u64, y: u64) -> u64
 {
     let shift = best_shift(shape, x, y);
     copies(Shape { k: shape.k, shift }, x, y)
-}
-
-/// Two to this power.
-fn power(exponent: u32) -> u32
-    requires { exponent ≤ 8 }
-    ensures { result ≡ 2 ^ exponent }
-{
-    1 << exponent
 }
 
 /// Adds the line of the grid and of what it costs.
@@ -75,30 +161,35 @@ fn write_joiners(text: &mut String, loads: &Loads, made: &Counts) -> Result<(), 
     Ok(())
 }
 
-/// The report of a grid that stayed as it was, with `rows_r` rows of R and `rows_s` of S: a line
-/// `input x y` of the numbers of rows; a line `final n m copies c best d` of the grid's rows, its
-/// columns, its copies and the fewest copies at any shift; and for each joiner, ids rising from 0, a
-/// line `joiner id held r s made p` of the rows of R and of S that it holds and the pairs that it made.
-/// `made` and `loads` have an entry for each joiner; what the longer one has past the end of the other
-/// is passed over.
+/// The report of a run of this setting, with `rows_r` rows of R and `rows_s` of S: a line `input x y` of the
+/// numbers of rows; for each step a line `grid e n m moved q` of the epoch that it led to, counted from 1, its
+/// grid's rows and columns, and how many rows moved; a line `final n m copies c best d` of the last grid's rows,
+/// its columns, its copies and the fewest copies at any shift; and for each joiner, ids rising from 0, a line
+/// `joiner id held r s made p` of the rows of R and of S that it holds and the pairs that it made. Of the run's
+/// `made` and `loads`, what the longer one has past the end of the other is passed over.
 pub fn report_text(
     alloc: Global,
-    shape: Shape,
+    setting: &Setting,
     rows_r: u64,
     rows_s: u64,
-    made: &Counts,
-    loads: &Loads,
+    run: &Run,
 ) -> Result<String, AllocError>
-    requires shift { shape.shift ≤ shape.k }
-    requires k { shape.k ≤ 8 }
+    requires setting { IsValidSetting setting.now }
+    requires shifts { AreWithin setting.now.k run.now.journal }
+    requires steps { length run.now.moved < 2 ^ 32 }
     requires rows_r { rows_r ≤ 2 ^ 32 }
     requires rows_s { rows_s ≤ 2 ^ 32 }
-    ensures { IfOk result (λ text. string_bytes text
-        ≡ report_of shape.k shape.shift rows_r rows_s made.now loads.now) }
+    ensures { IfOk result (λ text. string_bytes text ≡ report_of setting.now rows_r rows_s run.now) }
 {
     let mut text = String::new(alloc);
     write_input(&mut text, rows_r, rows_s)?;
+    write_grids(&mut text, setting, &run.journal, &run.moved)?;
+    let shift = last_shift(setting, &run.journal);
+    let shape = Shape {
+        k: setting.k,
+        shift,
+    };
     write_final(&mut text, shape, rows_r, rows_s)?;
-    write_joiners(&mut text, loads, made)?;
+    write_joiners(&mut text, &run.loads, &run.made)?;
     Ok(text)
 }

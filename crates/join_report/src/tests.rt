@@ -1,11 +1,18 @@
+ghost use Rattle.std.specs.Prelude.{◌≡◌, IfOk};
+ghost use Rattle.join_report.specs.Report.{AreWithin};
+
 use crate::{pairs_text, report_text};
-use epoch_tags::{Counts, Pair};
-use grid_map::Shape;
+use epoch_tags::{Counts, Pair, Pairs};
+use load_controller::{Cause, Journal, TurnLine};
 use pair_collector::{Held, Loads};
+use row_tickets::Feed;
 use std::alloc::{AllocError, Global};
 use std::test::Fail;
+use trace_law::{Run, Setting};
 
-fn counts(alloc: Global, numbers: &[u64]) -> Result<Counts, AllocError> {
+fn counts(alloc: Global, numbers: &[u64]) -> Result<Counts, AllocError>
+    ensures { IfOk result (λ counts. counts ≡ numbers.now) }
+{
     let mut counts = Counts::new(alloc);
     for number in numbers {
         counts.push(*number)?;
@@ -35,12 +42,80 @@ fn pairs_are_counted_from_1(rt: HostRuntime) -> Result<(), Fail> {
     Ok(())
 }
 
+fn line(epoch: u32, shift: u32) -> TurnLine
+    ensures { result.shift ≡ shift }
+{
+    TurnLine {
+        cause: Cause::Start,
+        rows_r: 0,
+        rows_s: 0,
+        base_r: 0,
+        base_s: 0,
+        epoch,
+        shift,
+        goal: shift,
+        moving: false,
+    }
+}
+
+// A journal with lines of these epochs and shifts, 2 at most.
+fn journal(alloc: Global, lines: &[(u32, u32)]) -> Result<Journal, AllocError>
+    ensures { IfOk result (AreWithin 2) }
+{
+    let mut journal = Journal::new(alloc);
+    for (epoch, shift) in lines {
+        journal.push(line(*epoch, (*shift).min(2)))?;
+    }
+    Ok(journal)
+}
+
+// Eight rows a side in a grid of four that goes to shift 0 and back.
 #[test]
-fn a_report_tells_of_each_joiner(rt: HostRuntime) -> Result<(), Fail> {
-    let shape = Shape { k: 2, shift: 0 };
-    let made = counts(rt.alloc(), &[0, 2, 1, 0])?;
-    let loads = loads(rt.alloc(), &[(0, 3), (1, 3), (2, 3), (0, 3)])?;
-    let text = report_text(rt.alloc(), shape, 3, 3, &made, &loads)?;
+fn a_report_tells_of_steps_and_joiners(rt: HostRuntime) -> Result<(), Fail> {
+    let alloc = rt.alloc();
+    let setting = Setting {
+        k: 2,
+        feeders: 1,
+        workers: 4,
+        batch: 4,
+        feed: Feed::RFirst,
+        fixed: None,
+    };
+    let run = Run {
+        pairs: Pairs::new(alloc),
+        made: counts(alloc, &[16, 16, 16, 16])?,
+        loads: loads(alloc, &[(4, 4), (4, 4), (4, 4), (4, 4)])?,
+        moved: counts(alloc, &[0, 8])?,
+        journal: journal(alloc, &[(0, 1), (1, 0), (1, 0), (2, 1)])?,
+        bouts: 0,
+    };
+    let text = report_text(alloc, &setting, 8, 8, &run)?;
+    let wanted =
+        "input 8 8\ngrid 1 4 1 moved 0\ngrid 2 2 2 moved 8\nfinal 2 2 copies 32 best 32\njoiner 0 held 4 4 made 16\njoiner 1 held 4 4 made 16\njoiner 2 held 4 4 made 16\njoiner 3 held 4 4 made 16\n";
+    assert!(rt; text.as_str() == wanted);
+    Ok(())
+}
+
+#[test]
+fn a_fixed_grid_has_no_steps(rt: HostRuntime) -> Result<(), Fail> {
+    let alloc = rt.alloc();
+    let setting = Setting {
+        k: 2,
+        feeders: 2,
+        workers: 4,
+        batch: 64,
+        feed: Feed::Alternate,
+        fixed: Some(0),
+    };
+    let run = Run {
+        pairs: Pairs::new(alloc),
+        made: counts(alloc, &[0, 2, 1, 0])?,
+        loads: loads(alloc, &[(0, 3), (1, 3), (2, 3), (0, 3)])?,
+        moved: Counts::new(alloc),
+        journal: Journal::new(alloc),
+        bouts: 0,
+    };
+    let text = report_text(alloc, &setting, 3, 3, &run)?;
     let wanted =
         "input 3 3\nfinal 4 1 copies 15 best 12\njoiner 0 held 0 3 made 0\njoiner 1 held 1 3 made 2\njoiner 2 held 2 3 made 1\njoiner 3 held 0 3 made 0\n";
     assert!(rt; text.as_str() == wanted);
