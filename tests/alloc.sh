@@ -18,6 +18,7 @@ tests=320
 use crate::join_main;
 use join_rows::{ListSink, MapShelf};
 use std::alloc::{AllocError, Global};
+use std::sync::Wait;
 use std::test::Fail;
 
 fn words(alloc: Global) -> Result<Vec<String>, AllocError> {
@@ -29,7 +30,7 @@ fn words(alloc: Global) -> Result<Vec<String>, AllocError> {
 }
 
 // Whether the output is right, or else memory is wanting and nothing is written.
-fn joins_after(alloc: Global, taken: u32) -> Result<bool, AllocError> {
+fn joins_after<R: Wait>(rt: &R, alloc: Global, taken: u32) -> Result<bool, AllocError> {
     for _ in 0..taken {
         let byte = Vec::from_slice(alloc, b"x")?;
         drop(byte);
@@ -39,7 +40,7 @@ fn joins_after(alloc: Global, taken: u32) -> Result<bool, AllocError> {
     shelf.add("s", b"k\n7\n9\n7\n")?;
     let mut sink = ListSink::new(alloc, 100)?;
     let words = words(alloc)?;
-    let outcome = join_main(alloc, &words, &mut shelf, &mut sink);
+    let outcome = join_main(rt, alloc, &words, &mut shelf, &mut sink);
     if outcome.status() == 8 && sink.written().is_empty() {
         return Err(AllocError);
     }
@@ -48,7 +49,7 @@ fn joins_after(alloc: Global, taken: u32) -> Result<bool, AllocError> {
 RT
     n=0
     while [ "$n" -lt "$tests" ]; do
-        printf '\n#[test]\nfn after_%d(rt: HostRuntime) -> Result<(), Fail> {\n    assert!(rt; joins_after(rt.alloc(), %d)?);\n    Ok(())\n}\n' "$n" "$n"
+        printf '\n#[test]\nfn after_%d(rt: HostRuntime) -> Result<(), Fail> {\n    assert!(rt; joins_after(&rt, rt.alloc(), %d)?);\n    Ok(())\n}\n' "$n" "$n"
         n=$((n + 1))
     done
 } >src/tests.rt

@@ -61,6 +61,24 @@ for joiners in 1 2 4 8 16 32 64; do
 done
 check 0 '2,1\n2,3\n3,2\ninput 3 3\nfinal 4 1 copies 15 best 12\njoiner 0 held 0 3 made 0\njoiner 1 held 1 3 made 2\njoiner 2 held 2 3 made 1\njoiner 3 held 0 3 made 0\n' '' \
     --on 'r.x = s.y' --joiners 4 --fixed 0 --seed 42 --report r.csv s.csv
+check 0 'input 0 3\ngrid 1 1 4 moved 0\nfinal 1 4 copies 3 best 3\njoiner 0 held 0 0 made 0\njoiner 1 held 0 2 made 0\njoiner 2 held 0 1 made 0\njoiner 3 held 0 0 made 0\n' '' \
+    --on 'r.x = s.y' --report header.csv s.csv
+for feed in alternate rfirst sfirst; do
+    check 0 '2,1\n2,3\n3,2\n' '' --on 'r.x = s.y' --feed $feed --feeders 3 --batch 1 r.csv s.csv
+done
+for replay in 0 7 18446744073709551615; do
+    check 0 '2,1\n2,3\n3,2\n' '' --on 'r.x = s.y' --replay $replay --feeders 8 --batch 1 --joiners 64 r.csv s.csv
+done
+
+# the same words twice give the same output, with the report
+"$jm" --on 'r.x < s.y' --replay 7 --batch 1 --report three.csv s.csv >once.out
+"$jm" --on 'r.x < s.y' --replay 7 --batch 1 --report three.csv s.csv >twice.out
+if cmp -s once.out twice.out && grep -q '^final ' once.out; then
+    passed=$((passed + 1))
+else
+    failed=$((failed + 1))
+    echo 'failed: two replays of one number differ' >&2
+fi
 
 check 2 '' "$usage"
 check 2 '' "$usage" --help
@@ -69,6 +87,10 @@ check 2 '' "$usage" --on 'r.x = s.y' r.csv
 check 2 '' "$usage" --on 'r.x = s.y' --joiners 3 r.csv s.csv
 check 2 '' "$usage" --on 'r.x = s.y' --joiners 4 --fixed 3 r.csv s.csv
 check 2 '' "$usage" --on 'r.x = s.y' --unknown r.csv s.csv
+check 2 '' "$usage" --on 'r.x = s.y' --feeders 9 r.csv s.csv
+check 2 '' "$usage" --on 'r.x = s.y' --batch 0 r.csv s.csv
+check 2 '' "$usage" --on 'r.x = s.y' --feed first r.csv s.csv
+check 2 '' "$usage" --on 'r.x = s.y' --replay seven r.csv s.csv
 
 check 3 '' 'predicate: not understood at byte 0' --on '' r.csv s.csv
 check 3 '' 'predicate: not understood at byte 6' --on 'r.x = ' r.csv s.csv

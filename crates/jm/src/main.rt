@@ -22,10 +22,18 @@ fn main(rt: HostRuntime) -> ExitCode {
     let alloc = rt.alloc();
     let mut sink = StdSink::new(rt.stdout());
     let mut errors = StdSink::new(rt.stderr());
-    let Ok(words) = words(&rt) else {
+    let files: Result<_, _> = rt.clone();
+    let (Ok(words), Ok(files)) = (words(&rt), files) else {
         tell(alloc, &Outcome::Memory, &mut errors);
         return exit_code(&Outcome::Memory);
     };
-    let mut shelf = DiskShelf::new(alloc, rt);
-    exit_code(&jm_main(alloc, &words, &mut shelf, &mut sink, &mut errors))
+    let mut shelf = DiskShelf::new(alloc, files);
+    exit_code(&jm_main(
+        &rt,
+        alloc,
+        &words,
+        &mut shelf,
+        &mut sink,
+        &mut errors,
+    ))
 }

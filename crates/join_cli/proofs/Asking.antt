@@ -15,8 +15,11 @@ use Rattle.join_cli.specs.declared.plan.Planned.{Planned}
 use Rattle.join_cli.specs.declared.reading.Tables.{Tables}
 use Rattle.join_cli.specs.declared.refusal.Refusal.{Refusal}
 use Rattle.join_cli.specs.Columns.{theta_over}
-use Rattle.join_cli.specs.Plan.{checked, fitted, output_of, tables_of, then_of}
-use Rattle.join_cli.specs.Ends.{IsAsked, WroteFront}
+use Rattle.std.specs.Io.KnownBytes.{append_known}
+use Rattle.load_controller.specs.declared.line.TurnLine.{TurnLine}
+use Rattle.join_cli.specs.declared.outcome.Outcome.TheVariants as outcomes
+use Rattle.join_cli.specs.Plan.{IsJournalOf, checked, fitted, output_of, tables_of, then_of}
+use Rattle.join_cli.specs.Ends.{IsAsked, Wrote, WroteFront}
 
 pub is_asked : (told : Told) (asked : Asked) (tree : Tree) (tables : Tables) (theta : Meaning) (planned : Planned)
     → TextReads limits asked.on tree
@@ -44,10 +47,17 @@ pub asked_if : (told : Told) (asked : Asked) (tree : Tree) (tables : Tables) (th
 asked_if told asked tree tables theta (Ok planned) reads over is same found = is_asked told asked tree tables theta planned reads over is same found
 asked_if told asked tree tables theta (Err refusal) reads over is same found = tt
 
-pub wrote_front : (told : Told) (asked : Asked) (old new : Option (List ℕ)) (planned : Planned) (bytes : List ℕ)
-    → IsAsked told asked planned → AppendsFront old new bytes → bytes ≡ output_of asked planned → WroteFront told asked old new
-wrote_front told asked old new planned bytes found front same =
-    record { planned = planned; found = found; front = subst (AppendsFront old new) same front }
+pub wrote : (told : Told) (asked : Asked) (old new : Option (List ℕ)) (planned : Planned) (made journal : List TurnLine) (bytes : List ℕ)
+    → IsAsked told asked planned → IsJournalOf asked planned made → new ≡ append_known old bytes → bytes ≡ output_of asked planned made
+    → outcomes.Done made ≡ outcomes.Done journal → Wrote told asked journal old new
+wrote told asked old new planned made journal bytes found lawful written same is =
+    let one : made ≡ journal = cc is in
+    subst (λ j. Wrote told asked j old new) one (record { planned = planned; found = found; lawful = lawful; written = written ∙ ap (append_known old) same })
+
+pub wrote_front : (told : Told) (asked : Asked) (old new : Option (List ℕ)) (planned : Planned) (journal : List TurnLine) (bytes : List ℕ)
+    → IsAsked told asked planned → IsJournalOf asked planned journal → AppendsFront old new bytes → bytes ≡ output_of asked planned journal → WroteFront told asked old new
+wrote_front told asked old new planned journal bytes found lawful front same =
+    record { planned = planned; found = found; journal = journal; lawful = lawful; front = subst (AppendsFront old new) same front }
 
 -- words ask for one thing
 pub asked_one : (words : List (List ℕ)) (given wanted : Asked) → asked_of words ≡ Ok given → asked_of words ≡ Ok wanted → given ≡ wanted

@@ -8,3 +8,6 @@ pub mod Asking
 pub mod Worked
 pub mod Seeing
 pub mod Ending
+pub mod Inputs
+pub mod Reports
+pub mod FixedOutput

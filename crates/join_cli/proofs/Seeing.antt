@@ -21,7 +21,8 @@ use Rattle.join_cli.specs.declared.plan.Planned.{Planned}
 use Rattle.join_cli.specs.declared.outcome.Outcome.TheVariants as outcomes
 use Rattle.join_cli.specs.Columns.{theta_over}
 use Rattle.join_cli.specs.Texts.{tree_or_refused}
-use Rattle.join_cli.specs.Plan.{checked, fitted, or_refused, output_of, table_found, tables_in, then_of}
+use Rattle.load_controller.specs.declared.line.TurnLine.{TurnLine}
+use Rattle.join_cli.specs.Plan.{IsJournalOf, checked, fitted, or_refused, output_of, table_found, tables_in, then_of}
 use Rattle.join_cli.specs.Refusals.{file_refusal, refused_as}
 use Rattle.join_cli.specs.declared.outcome.LimitFault.TheVariants.{TooLong}
 use Rattle.join_cli.specs.Ends.{StandsPast}
@@ -219,20 +220,22 @@ not_refused_read refusal h e = let same : refusal ≡ refusals.Read = cc e in h 
 pub not_refused_memory : (refusal : Refusal) → (refused_as refusal ≡ outcomes.Memory → ⊥) → no_plan refusal ≡ Err refusals.Memory → ⊥
 not_refused_memory refusal h e = let same : refusal ≡ refusals.Memory = cc e in h (ap refused_as same)
 
-pub end_done : (told : Told) (spot : Spot) (asked : Asked) (tree : Tree) (old new : Option (List ℕ)) (planned : Planned) → PlanSeen told spot asked tree (Ok planned)
-    → new ≡ append_known old (output_of asked planned) → EndsOver told spot asked tree old new outcomes.Done
-end_done told spot asked tree old new planned is written = record {
+pub end_done : (told : Told) (spot : Spot) (asked : Asked) (tree : Tree) (old new : Option (List ℕ)) (planned : Planned) (journal : List TurnLine)
+    → PlanSeen told spot asked tree (Ok planned) → IsJournalOf asked planned journal
+    → new ≡ append_known old (output_of asked planned journal) → EndsOver told spot asked tree old new (outcomes.Done journal)
+end_done told spot asked tree old new planned journal is lawful written = record {
   seen_r = is.seen_r;
   seen_s = is.seen_s;
   are = is.are;
-  ends = subst (λ p. Ends asked old new p outcomes.Done) is.answer written;
+  ends = subst (λ p. Ends asked old new p (outcomes.Done journal)) is.answer (lawful, written);
 }
 
-pub end_front : (told : Told) (spot : Spot) (asked : Asked) (tree : Tree) (old new : Option (List ℕ)) (planned : Planned) → PlanSeen told spot asked tree (Ok planned)
-    → AppendsFront old new (output_of asked planned) → EndsOver told spot asked tree old new outcomes.Write
-end_front told spot asked tree old new planned is front = record {
+pub end_front : (told : Told) (spot : Spot) (asked : Asked) (tree : Tree) (old new : Option (List ℕ)) (planned : Planned) (journal : List TurnLine)
+    → PlanSeen told spot asked tree (Ok planned) → IsJournalOf asked planned journal
+    → AppendsFront old new (output_of asked planned journal) → EndsOver told spot asked tree old new outcomes.Write
+end_front told spot asked tree old new planned journal is lawful front = record {
   seen_r = is.seen_r;
   seen_s = is.seen_s;
   are = is.are;
-  ends = subst (λ p. Ends asked old new p outcomes.Write) is.answer front;
+  ends = subst (λ p. Ends asked old new p outcomes.Write) is.answer (journal, lawful, front);
 }

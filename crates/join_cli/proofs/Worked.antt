@@ -10,6 +10,7 @@ use Rattle.join_rows.specs.Records.{after_marks, table_of, table_of_records, fau
 use Rattle.theta_text.specs.Grammar.{Tree, txt, negation}
 use Rattle.theta_text.specs.declared.tree.Op.TheVariants.{Eq}
 use Rattle.theta_text.specs.declared.tree.TextSide.TheVariants.{Col}
+use Rattle.row_tickets.specs.declared.place.Feed.TheVariants.{Alternate}
 use Rattle.join_words.specs.Words.{Asked}
 use Rattle.join_cli.specs.declared.refusal.Refusal.{Refusal}
 use Rattle.join_cli.specs.declared.refusal.Refusal.TheVariants.{Input, Predicate}
@@ -27,13 +28,13 @@ equal_keys = txt (Col (record { side = sides.R; word = codes "k" })) Eq (Col (re
 
 -- the files `r` and `s` are joined by four joiners, without a report
 four : Asked
-four = record { on = []; k = 2; fixed = None; seed = 1; report = false; name_r = codes "r"; name_s = codes "s" }
+four = record { on = []; k = 2; feeders = 2; batch = 64; feed = Alternate; fixed = None; seed = 1; replay = None; report = false; name_r = codes "r"; name_s = codes "s" }
 
 -- the output of two files by a tree, or the refusal
 joined : Tree → List ℕ → List ℕ → Result (List ℕ) Refusal
 joined tree of_r of_s =
     then_of (plan_of four (Ok tree) (λ name. if bytes_eq name (codes "r") then Some of_r else (if bytes_eq name (codes "s") then Some of_s else None)))
-    (λ planned. Ok (output_of four planned))
+    (λ planned. Ok (output_of four planned []))
 
 of_r : List ℕ
 of_r = lines (codes "k,v" ∷ codes "7,a" ∷ codes "8,b" ∷ codes "7,c" ∷ [])

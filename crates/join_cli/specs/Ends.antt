@@ -1,5 +1,5 @@
 -- How a run ends, and what it leaves.
-use Rattle.std.specs.Prelude.{◌≡◌, ◌⊎◌, ◌<◌, ◌^◌, ℕ, ⊤, List, Option, None, Some, Result, Ok, Err}
+use Rattle.std.specs.Prelude.{◌≡◌, ◌⊎◌, ◌<◌, ◌^◌, ℕ, ⊤, List, length, Option, None, Some, Result, Ok, Err}
 use Rattle.std.specs.Io.KnownBytes.{append_known}
 use Rattle.join_rows.specs.declared.table.Side.{Side}
 use Rattle.join_rows.specs.declared.table.Side.TheVariants.{R, S}
@@ -8,22 +8,30 @@ use Rattle.join_rows.specs.Sinks.{AppendsFront}
 use Rattle.theta_text.specs.Grammar.{Tree}
 use Rattle.theta_text.specs.Texts.{TextReads, limits}
 use Rattle.theta_text.specs.declared.fault.PredFault.{PredFault}
+use Rattle.load_controller.specs.declared.line.TurnLine.{TurnLine}
 use Rattle.join_words.specs.Words.{Asked}
 use Rattle.join_cli.specs.declared.outcome.Outcome.{Outcome}
 use Rattle.join_cli.specs.declared.outcome.Outcome.TheVariants.{Done, Memory}
 use Rattle.join_cli.specs.declared.refusal.Refusal.{Refusal}
 use Rattle.join_cli.specs.declared.plan.Planned.{Planned}
 use Rattle.join_cli.specs.Refusals.{refused_as, text_refusal}
-use Rattle.join_cli.specs.Plan.{fitted, plan_of, output_of, tables_of}
+use Rattle.join_cli.specs.Plan.{IsJournalOf, fitted, plan_of, output_of, tables_of}
 
-abbrev pub outcome_of : Result Planned Refusal → Outcome
-outcome_of (Ok planned) = Done
-outcome_of (Err refusal) = refused_as refusal
+-- the output was written whole
+abbrev pub IsDone : Outcome → Type 0
+IsDone (Done journal) = ⊤
+IsDone outcome = ⊥
 
--- where the shelf tells its files, the outcome is that of the plan, or memory ran out
+-- a plan was carried out, and the journal that is answered is one of a lawful controller for it, or it was refused
+abbrev pub IsOutcomeOf : Asked → Result Planned Refusal → Outcome → Type 0
+IsOutcomeOf asked (Ok planned) (Done journal) = IsJournalOf asked planned journal
+IsOutcomeOf asked (Ok planned) outcome = ⊥
+IsOutcomeOf asked (Err refusal) outcome = outcome ≡ refused_as refusal
+
+-- where the shelf tells its files, the outcome is one of the plan, or memory ran out
 abbrev pub EndsAs : Told → Asked → Result Tree PredFault → Outcome → Type 0
 EndsAs None asked reading outcome = ⊤
-EndsAs (Some files) asked reading outcome = (outcome ≡ Memory) ⊎ (outcome ≡ outcome_of (plan_of asked reading files))
+EndsAs (Some files) asked reading outcome = (outcome ≡ Memory) ⊎ IsOutcomeOf asked (plan_of asked reading files) outcome
 
 -- these are tables and a predicate that were asked for: the predicate's text has a tree which fits the tables, and they are those of the told files
 pub record IsAsked (told : Told) (asked : Asked) (planned : Planned) : Type 0 where
@@ -32,16 +40,24 @@ pub record IsAsked (told : Told) (asked : Asked) (planned : Planned) : Type 0 wh
   pub fits : fitted tree planned.tables ≡ Ok planned
   pub files : (files : List ℕ → Option (List ℕ)) → told ≡ Some files → tables_of files asked.name_r asked.name_s ≡ Ok planned.tables
 
--- the output of what was asked for was written, or a front of it
-pub record Wrote (told : Told) (asked : Asked) (old new : Option (List ℕ)) : Type 0 where
+-- the output of what was asked for, over this journal of a lawful controller, was written
+pub record Wrote (told : Told) (asked : Asked) (journal : List TurnLine) (old new : Option (List ℕ)) : Type 0 where
   pub planned : Planned
   pub found : IsAsked told asked planned
-  pub written : new ≡ append_known old (output_of asked planned)
+  pub lawful : IsJournalOf asked planned journal
+  pub written : new ≡ append_known old (output_of asked planned journal)
 
+-- a front of the output over some such journal was written
 pub record WroteFront (told : Told) (asked : Asked) (old new : Option (List ℕ)) : Type 0 where
   pub planned : Planned
   pub found : IsAsked told asked planned
-  pub front : AppendsFront old new (output_of asked planned)
+  pub journal : List TurnLine
+  pub lawful : IsJournalOf asked planned journal
+  pub front : AppendsFront old new (output_of asked planned journal)
+
+-- the output over each such journal is taken
+abbrev pub TakesEach : (ℕ → Type 0) → Asked → Planned → Type 0
+TakesEach takes asked planned = (journal : List TurnLine) → IsJournalOf asked planned journal → takes (length (output_of asked planned journal))
 
 -- one of the two names isn't there
 abbrev pub LacksOne : Told → Asked → Type 0

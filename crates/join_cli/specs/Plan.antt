@@ -1,5 +1,5 @@
 -- What the words and the files come to, in the order in which they are looked at.
-use Rattle.std.specs.Prelude.{◌≡◌, ◌/◌, ◌^◌, ◌++◌, ℕ, List, [], map, length, Option, None, Some, unwrap_or, Result, Ok, Err, if◌then◌else◌}
+use Rattle.std.specs.Prelude.{◌≡◌, ◌^◌, ◌++◌, ℕ, Bool, All, List, [], map, length, Option, None, Some, Result, Ok, Err, if◌then◌else◌}
 use Rattle.std.specs.List.{range_with_len}
 use Rattle.join_rows.specs.declared.table.Side.{Side}
 use Rattle.join_rows.specs.declared.table.Side.TheVariants.{R, S}
@@ -12,8 +12,14 @@ use Rattle.theta_text.specs.declared.fault.PredFault.{PredFault}
 use Rattle.theta_pred.specs.Formula.{Meaning}
 use Rattle.row_tickets.specs.Tickets.{ticket_of}
 use Rattle.trace_law.specs.declared.input.Input.{Input}
-use Rattle.trace_law.specs.Join.{nested_loop, held, rows_of}
-use Rattle.join_grid.specs.Answer.{made_at}
+use Rattle.trace_law.specs.declared.run.Run.{Run}
+use Rattle.trace_law.specs.declared.setting.Setting.{Setting}
+use Rattle.trace_law.specs.Join.{nested_loop, row_count}
+use Rattle.trace_law.specs.Batches.{size_of}
+use Rattle.trace_law.specs.Family.{batches, rules_of}
+use Rattle.trace_law.specs.Runs.{AreNear, StaysAt, load_over, made_over, moved_over}
+use Rattle.load_controller.specs.declared.line.TurnLine.{TurnLine}
+use Rattle.load_controller.specs.Journal.{IsLawful, last_epoch}
 use Rattle.join_report.specs.PairLines.{pair_lines}
 use Rattle.join_report.specs.Report.{report_of}
 use Rattle.join_words.specs.Words.{Asked}
@@ -77,33 +83,67 @@ pub record IsFit (planned : Planned) : Type 0 where
   pub width_r : planned.theta.width_r ≡ length planned.tables.of_r.names
   pub width_s : planned.theta.width_s ≡ length planned.tables.of_s.names
 
--- ---- the output
+-- ---- the run
 
 -- the tickets of a side's rows
 abbrev pub tickets_of : ℕ → Side → List (List Cell) → List ℕ
 tickets_of seed side rows = map (ticket_of seed side) (range_with_len 0 (length rows))
 
+-- what is joined: the tables and the predicate, with the tickets of a seed
 abbrev pub input_of : ℕ → Planned → Input
 input_of seed planned = record {
   table_r = planned.tables.of_r;
   table_s = planned.tables.of_s;
+  theta = planned.theta;
   tickets_r = tickets_of seed R planned.tables.of_r.rows;
   tickets_s = tickets_of seed S planned.tables.of_s.rows;
-  theta = planned.theta;
 }
 
--- the grid stays at the shift that is asked for, or at the middle one
-abbrev pub shift_of : ℕ → Option ℕ → ℕ
-shift_of k fixed = unwrap_or fixed (k / 2)
+-- the setting that the words ask for; they don't tell a number of workers yet
+abbrev pub setting_of : Asked → Setting
+setting_of asked = record {
+  k = asked.k;
+  feeders = asked.feeders;
+  workers = 4;
+  batch = asked.batch;
+  feed = asked.feed;
+  fixed = asked.fixed;
+}
 
--- the report of a grid of 2 ^ k joiners at shift b
-abbrev pub report_over : Input → ℕ → ℕ → List ℕ
-report_over input k b = report_of k b (length (rows_of input R)) (length (rows_of input S))
-    (map (made_at input k b) (range_with_len 0 (2 ^ k)))
-    (map (λ j. record { rows_r = held input k b R j; rows_s = held input k b S j }) (range_with_len 0 (2 ^ k)))
+-- the journal of a lawful controller of this run; each line that isn't moving is near the best grid for its counts, and where
+-- the shift is fixed there is one epoch, whose lines all have it
+pub record IsJournalOf (asked : Asked) (planned : Planned) (journal : List TurnLine) : Type 0 where
+  pub lawful : IsLawful (rules_of (setting_of asked)) (λ p. map size_of (batches (input_of asked.seed planned) (setting_of asked) p)) journal
+  pub near : asked.fixed ≡ None → AreNear asked.k journal
+  pub one_epoch : (shift : ℕ) → asked.fixed ≡ Some shift → last_epoch journal ≡ 0
+  pub stays : (shift : ℕ) → asked.fixed ≡ Some shift → All (StaysAt shift) journal
+
+-- ---- the output
+
+-- the run with this journal: the nested loop's pairs, and the numbers of the closed formulas over the journal
+abbrev pub run_over : Input → Setting → List TurnLine → Run
+run_over input setting journal = record {
+  pairs = nested_loop input;
+  made = map (made_over input setting journal) (range_with_len 0 (2 ^ setting.k));
+  loads = map (load_over input setting journal) (range_with_len 0 (2 ^ setting.k));
+  moved = map (moved_over input setting journal) (range_with_len 0 (last_epoch journal));
+  journal = journal;
+  bouts = 0;
+}
+
+-- its report
+abbrev pub report_over : Input → Setting → List TurnLine → List ℕ
+report_over input setting journal = report_of setting (row_count input R) (row_count input S) (run_over input setting journal)
 
 -- the nested loop's pairs, and then the report where one is asked for
-abbrev pub output_of : Asked → Planned → List ℕ
-output_of asked planned =
-    let input = input_of asked.seed planned in
-    pair_lines (nested_loop input) ++ (if asked.report then report_over input asked.k (shift_of asked.k asked.fixed) else [])
+abbrev pub text_of : Input → Setting → Bool → List TurnLine → List ℕ
+text_of input setting report journal = pair_lines (nested_loop input) ++ (if report then report_over input setting journal else [])
+
+-- the output that is asked for of a plan, over a journal
+abbrev pub output_of : Asked → Planned → List TurnLine → List ℕ
+output_of asked planned journal = text_of (input_of asked.seed planned) (setting_of asked) asked.report journal
+
+-- with a fixed shift the output is the same over each such journal
+abbrev pub FixedOutputIsOne : Type 0
+FixedOutputIsOne = (asked : Asked) (planned : Planned) (shift : ℕ) (one other : List TurnLine) → asked.fixed ≡ Some shift
+    → IsJournalOf asked planned one → IsJournalOf asked planned other → output_of asked planned one ≡ output_of asked planned other

@@ -7,6 +7,7 @@ use Rattle.join_rows.specs.Sinks.{AppendsFront}
 use Rattle.join_rows.specs.declared.table.Side.{Side}
 use Rattle.join_rows.specs.declared.table.Table.{Table}
 use Rattle.theta_text.specs.Grammar.{Tree}
+use Rattle.load_controller.specs.declared.line.TurnLine.{TurnLine}
 use Rattle.join_words.specs.Words.{Asked}
 use Rattle.join_cli.specs.declared.outcome.Outcome.{Outcome}
 use Rattle.join_cli.specs.declared.outcome.Outcome.TheVariants.{Done, Write}
@@ -14,7 +15,7 @@ use Rattle.join_cli.specs.declared.reading.Tables.{Tables}
 use Rattle.join_cli.specs.declared.plan.Planned.{Planned}
 use Rattle.join_cli.specs.declared.refusal.Refusal.{Refusal}
 use Rattle.join_cli.specs.Refusals.{refused_as}
-use Rattle.join_cli.specs.Plan.{fitted, output_of, table_found, tables_in, then_of}
+use Rattle.join_cli.specs.Plan.{IsJournalOf, fitted, output_of, table_found, tables_in, then_of}
 
 -- a told file begins with these bytes, and they are all of it or one more than the limit
 abbrev pub BeginsWith : Told → List ℕ → List ℕ → Type 0
@@ -50,10 +51,11 @@ pub record PlanSeen (told : Told) (spot : Spot) (asked : Asked) (tree : Tree) (r
   pub are : AreSeen told spot asked.name_r asked.name_s seen_r seen_s
   pub answer : result ≡ plan_over tree seen_r seen_s
 
--- a plan was carried out, and its output written whole or in part, or it was refused and nothing written
+-- a plan was carried out, and its output over a lawful controller's journal written whole or in part, or it was refused and
+-- nothing written
 abbrev pub Ends : Asked → Option (List ℕ) → Option (List ℕ) → Result Planned Refusal → Outcome → Type 0
-Ends asked old new (Ok planned) Done = new ≡ append_known old (output_of asked planned)
-Ends asked old new (Ok planned) Write = AppendsFront old new (output_of asked planned)
+Ends asked old new (Ok planned) (Done journal) = IsJournalOf asked planned journal × (new ≡ append_known old (output_of asked planned journal))
+Ends asked old new (Ok planned) Write = (journal : List TurnLine) × IsJournalOf asked planned journal × AppendsFront old new (output_of asked planned journal)
 Ends asked old new (Ok planned) outcome = ⊥
 Ends asked old new (Err refusal) outcome = (outcome ≡ refused_as refusal) × (new ≡ old)
 

@@ -1,7 +1,8 @@
-//! The top call of `jm`: the words, two files, a predicate, and the output.
+//! The top call of `jm`: the words, two files, a predicate, the run of their join, and the output.
 #![tactic(auto)]
 
 mod columns;
+mod laws;
 mod numbers;
 mod outcome;
 mod plan;
@@ -15,6 +16,7 @@ mod top;
 mod write;
 
 pub use join_words::WordsFault;
+pub use laws::fixed_output_is_one;
 pub use outcome::{InputFault, LimitFault, Outcome, TextFault};
 pub use program::{exit_code, jm_main, tell};
 pub use top::join_main;

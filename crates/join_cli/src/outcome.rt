@@ -5,6 +5,7 @@ ghost use Rattle.join_cli.specs.Outcomes.{status_of};
 
 use join_rows::{Bytes, Side};
 use join_words::WordsFault;
+use load_controller::Journal;
 
 /// What is wrong with the predicate. A place is the offset of a byte in its text, counted from 0.
 #[derive(Debug, Drop)]
@@ -50,8 +51,8 @@ pub enum LimitFault {
 /// How a run ended.
 #[derive(Debug, Drop)]
 pub enum Outcome {
-    /// The output was written whole.
-    Done,
+    /// The output was written whole; the journal is that of the run's controller.
+    Done { journal: Journal },
     Words(WordsFault),
     Predicate(TextFault),
     Input(InputFault),
@@ -70,7 +71,7 @@ impl Outcome {
         ensures { result ≡ status_of self.now }
     {
         match self {
-            Outcome::Done => 0,
+            Outcome::Done { .. } => 0,
             Outcome::Words(_) => 2,
             Outcome::Predicate(_) => 3,
             Outcome::Input(_) => 4,

@@ -3,12 +3,13 @@
 ghost use Rattle.std.specs.Prelude.{◌≡◌, ◌≢◌, ◌⊎◌, ◌<◌, ℕ, List, Result, Ok, Err, map, string_bytes};
 ghost use Rattle.std.specs.Process.{exit_status};
 ghost use Rattle.join_rows.specs.Shelves.{last_fault};
+ghost use Rattle.load_controller.specs.declared.line.TurnLine.{TurnLine};
 ghost use Rattle.theta_text.specs.Grammar.{Tree};
 ghost use Rattle.theta_text.specs.Texts.{TextReads, limits};
 ghost use Rattle.join_words.specs.Words.{Asked, asked_of};
 ghost use Rattle.join_words.specs.declared.options.WordsFault.{WordsFault};
 ghost use Rattle.join_cli.specs.Outcomes.{status_of};
-ghost use Rattle.join_cli.specs.Ends.{LacksOne};
+ghost use Rattle.join_cli.specs.Ends.{IsDone, LacksOne, Wrote};
 ghost use Rattle.join_cli.specs.Seen.{EndsOver};
 
 use crate::outcome::Outcome;
@@ -16,6 +17,7 @@ use crate::top::join_main;
 use join_rows::{Shelf, Sink};
 use std::alloc::Global;
 use std::process::ExitCode;
+use std::sync::Wait;
 
 /// The exit code of an outcome. It takes no memory.
 pub fn exit_code(outcome: &Outcome) -> ExitCode
@@ -27,9 +29,9 @@ pub fn exit_code(outcome: &Outcome) -> ExitCode
 /// Puts the outcome's line, ended by LF, on standard error; `Done` has none. A line that can't be put is
 /// passed over, since the status says the rest.
 pub fn tell<E: Sink>(alloc: Global, outcome: &Outcome, errors: &mut E)
-    ensures { outcome.now ≡ Outcome.Done → errors.new ≡ errors.old }
+    ensures { IsDone outcome.now → errors.new ≡ errors.old }
 {
-    if let Outcome::Done = outcome {
+    if let Outcome::Done { .. } = outcome {
         return;
     }
     if let Ok(line) = format!(in alloc; "{outcome}\n") {
@@ -38,8 +40,10 @@ pub fn tell<E: Sink>(alloc: Global, outcome: &Outcome, errors: &mut E)
 }
 
 /// Runs `jm` with these words, the program's name first, as `join_main` does, and puts the line of an outcome
-/// that isn't `Done` on `errors`. Nothing else is put there, and the line is put nowhere else.
-pub fn jm_main<H: Shelf, K: Sink, E: Sink>(
+/// that isn't `Done` on `errors`. Nothing else is put there, and the line is put nowhere else. What it promises holds
+/// if it returns.
+pub fn jm_main<R: Wait, H: Shelf, K: Sink, E: Sink>(
+    rt: &R,
     alloc: Global,
     words: &[String],
     shelf: &mut H,
@@ -52,6 +56,9 @@ pub fn jm_main<H: Shelf, K: Sink, E: Sink>(
         → (result ≡ Outcome.Words fault) ⊎ (result ≡ Outcome.Memory) }
     ensures only_words { (fault : WordsFault) → result ≡ Outcome.Words fault
         → asked_of (map string_bytes words.now) ≡ Err fault }
+    ensures done { (journal : List TurnLine) → result ≡ Outcome.Done journal
+        → (asked : Asked) × (asked_of (map string_bytes words.now) ≡ Ok asked)
+        × Wrote (H.told shelf.old) asked journal (K.written sink.old) (K.written sink.new) }
     ensures seen { (asked : Asked) (tree : Tree) → asked_of (map string_bytes words.now) ≡ Ok asked
         → TextReads limits asked.on tree → result ≢ Outcome.Read → result ≢ Outcome.Memory
         → EndsOver (H.told shelf.old) (H.picked shelf.new) asked tree
@@ -59,10 +66,10 @@ pub fn jm_main<H: Shelf, K: Sink, E: Sink>(
     ensures read { (asked : Asked) → asked_of (map string_bytes words.now) ≡ Ok asked → result ≡ Outcome.Read
         → (H.faults shelf.old < H.faults shelf.new) ⊎ LacksOne (H.told shelf.old) asked }
     ensures write { result ≡ Outcome.Write → K.faults sink.old < K.faults sink.new }
-    ensures nothing { result ≢ Outcome.Done → result ≢ Outcome.Write → sink.new ≡ sink.old }
-    ensures quiet { result ≡ Outcome.Done → errors.new ≡ errors.old }
+    ensures nothing { (IsDone result → ⊥) → result ≢ Outcome.Write → sink.new ≡ sink.old }
+    ensures quiet { IsDone result → errors.new ≡ errors.old }
 {
-    let outcome = join_main(alloc, words, shelf, sink);
+    let outcome = join_main(rt, alloc, words, shelf, sink);
     tell(alloc, &outcome, errors);
     outcome
 }

@@ -1,86 +1,131 @@
 // The output of two tables and a predicate.
 
-ghost use Rattle.std.specs.Prelude.{◌≡◌, ◌≤◌, IfOk, IfSome, string_bytes};
-ghost use Rattle.join_grid.specs.Answer.{JoinsInGrid};
+ghost use Rattle.std.specs.Prelude.{◌≡◌, ◌<◌, ◌≤◌, ◌^◌, All, IfOk, IfSome, string_bytes};
+ghost use Rattle.trace_law.specs.Validity.{IsValidInput, IsValidSetting};
 ghost use Rattle.join_words.specs.Words.{asked};
-ghost use Rattle.join_cli.specs.Plan.{IsFit, input_of, output_of, shift_of};
+ghost use Rattle.trace_law.specs.Runs.{IsRunOf};
+ghost use Rattle.join_cli.specs.Plan.{IsFit, IsJournalOf, input_of, output_of, setting_of, text_of, tickets_of};
 
 use crate::plan::Planned;
-use grid_map::Shape;
-use join_grid::grid_run;
 use join_report::{pairs_text, report_text};
-use join_rows::Side;
+use join_rows::{Bytes, Side, Table};
 use join_words::Options;
-use pair_collector::Collected;
+use link_trace::{Input, Run, Setting, replay};
+use load_controller::Journal;
 use row_tickets::tickets;
 use std::alloc::{AllocError, Global};
+use std::sync::Wait;
 
-/// The grid that the options ask for.
-fn shape(options: &Options<'_>) -> Shape
+/// How many threads are to work the actors. A replay has none of them.
+const WORKERS: u32 = 4;
+
+/// The text of an output, and the journal of its run.
+#[derive(Drop)]
+pub(crate) struct Joined {
+    pub(crate) text: String,
+    pub(crate) journal: Journal,
+}
+
+/// The setting that the options ask for.
+fn setting(options: &Options<'_>) -> Setting
+    requires small { options.now.k ≤ 6 }
+    requires feeders { (1 ≤ options.now.feeders) × (options.now.feeders ≤ 8) }
+    requires batch { (1 ≤ options.now.batch) × (options.now.batch ≤ 4096) }
     requires fits { IfSome options.now.fixed (λ fixed. fixed ≤ options.now.k) }
-    ensures k { result.k ≡ options.now.k }
-    ensures shift { result.shift ≡ shift_of options.now.k options.now.fixed }
-    ensures within { result.shift ≤ result.k }
+    ensures is { result ≡ setting_of (asked options.now) }
+    ensures valid { IsValidSetting result }
 {
-    Shape {
+    Setting {
         k: options.k,
-        shift: options.fixed.unwrap_or(options.k / 2),
+        feeders: options.feeders,
+        workers: WORKERS,
+        batch: options.batch,
+        feed: options.feed,
+        fixed: options.fixed,
     }
 }
 
-/// The join in a grid, by the tickets of a seed.
-fn joined(
-    alloc: Global,
-    shape: Shape,
-    seed: u64,
-    planned: &Planned,
-) -> Result<Collected, AllocError>
-    requires fit { IsFit planned.now }
-    requires shift { shape.shift ≤ shape.k }
-    requires k { shape.k ≤ 6 }
-    ensures { IfOk result (JoinsInGrid (input_of seed planned.now) shape.k shape.shift) }
+/// What is in a list of bytes is below 256.
+fn are_bytes(tickets: &[u8])
+    ensures { All (λ ticket. ticket < 2 ^ 8) tickets.now }
 {
-    let table_r = &planned.tables.of_r;
-    let table_s = &planned.tables.of_s;
-    let tickets_r = tickets(alloc, seed, Side::R, table_r.rows.len())?;
-    let tickets_s = tickets(alloc, seed, Side::S, table_s.rows.len())?;
-    grid_run(
-        alloc,
-        shape,
+    let _count = tickets.len();
+}
+
+/// The tickets of a table's rows.
+fn drawn(alloc: Global, seed: u64, side: Side, table: &Table) -> Result<Bytes, AllocError>
+    ensures is { IfOk result (λ drawn. drawn ≡ tickets_of seed side table.now.rows) }
+    ensures bytes { IfOk result (λ drawn. All (λ ticket. ticket < 2 ^ 8) drawn) }
+{
+    let drawn = tickets(alloc, seed, side, table.rows.len())?;
+    are_bytes(drawn.as_slice());
+    Ok(drawn)
+}
+
+/// What is joined, with the tickets of a seed.
+fn input(alloc: Global, seed: u64, planned: Planned) -> Result<Input, AllocError>
+    requires { IsFit planned }
+    ensures is { IfOk result (λ input. input ≡ input_of seed planned) }
+    ensures valid { IfOk result IsValidInput }
+{
+    let table_r = planned.tables.of_r;
+    let table_s = planned.tables.of_s;
+    let tickets_r = drawn(alloc, seed, Side::R, &table_r)?;
+    let tickets_s = drawn(alloc, seed, Side::S, &table_s)?;
+    Ok(Input {
         table_r,
         table_s,
-        &planned.theta,
-        &tickets_r,
-        &tickets_s,
-    )
+        theta: planned.theta,
+        tickets_r,
+        tickets_s,
+    })
 }
 
 /// The text of the pairs, and then the report where one is asked for.
-pub(crate) fn output(
+fn text(
     alloc: Global,
-    options: &Options<'_>,
-    planned: &Planned,
+    report: bool,
+    input: &Input,
+    setting: &Setting,
+    run: &Run,
 ) -> Result<String, AllocError>
-    requires fit { IsFit planned.now }
-    requires small { options.now.k ≤ 6 }
-    requires fits { IfSome options.now.fixed (λ fixed. fixed ≤ options.now.k) }
-    ensures { IfOk result (λ text. string_bytes text ≡ output_of (asked options.now) planned.now) }
+    requires input { IsValidInput input.now }
+    requires setting { IsValidSetting setting.now }
+    requires run { IsRunOf input.now setting.now run.now.journal run.now }
+    ensures { IfOk result (λ text. string_bytes text ≡ text_of input.now setting.now report run.now.journal) }
 {
-    let shape = shape(options);
-    let collected = joined(alloc, shape, options.seed, planned)?;
-    let mut text = pairs_text(alloc, collected.pairs.as_slice())?;
-    if options.report {
-        let rows_r = planned.tables.of_r.rows.len();
-        let rows_s = planned.tables.of_s.rows.len();
-        let report = report_text(
-            alloc,
-            shape,
-            rows_r,
-            rows_s,
-            &collected.made,
-            &collected.loads,
-        )?;
-        text.push_str(report.as_str())?;
+    let mut text = pairs_text(alloc, run.pairs.as_slice())?;
+    if report {
+        let rows_r = input.table_r.rows.len();
+        let rows_s = input.table_s.rows.len();
+        let lines = report_text(alloc, setting, rows_r, rows_s, run)?;
+        text.push_str(lines.as_str())?;
     }
     Ok(text)
+}
+
+/// The output that the options ask for of a plan, by a replay.
+pub(crate) fn output<R: Wait>(
+    rt: &R,
+    alloc: Global,
+    options: &Options<'_>,
+    planned: Planned,
+) -> Result<Joined, AllocError>
+    requires fit { IsFit planned }
+    requires small { options.now.k ≤ 6 }
+    requires feeders { (1 ≤ options.now.feeders) × (options.now.feeders ≤ 8) }
+    requires batch { (1 ≤ options.now.batch) × (options.now.batch ≤ 4096) }
+    requires fits { IfSome options.now.fixed (λ fixed. fixed ≤ options.now.k) }
+    ensures lawful { IfOk result (λ joined. IsJournalOf (asked options.now) planned joined.journal) }
+    ensures text { IfOk result (λ joined. string_bytes joined.text
+        ≡ output_of (asked options.now) planned joined.journal) }
+{
+    let setting = setting(options);
+    let input = input(alloc, options.seed, planned)?;
+    let run = replay(rt, alloc, &input, &setting, options.replay.unwrap_or(0))?;
+    let text = text(alloc, options.report, &input, &setting, &run)?;
+    Ok(Joined {
+        text,
+        journal: run.journal,
+    })
 }

@@ -1,9 +1,12 @@
 use crate::jm_main;
 use join_rows::{ListSink, MapShelf};
 use std::alloc::{AllocError, Global};
+use std::sync::Wait;
 
 mod calls;
 mod faults;
+mod replays;
+mod reports;
 mod rows;
 
 // The number of a call that isn't made.
@@ -20,7 +23,8 @@ fn words(alloc: Global, texts: &[&str]) -> Result<Vec<String>, AllocError> {
 
 // Whether a run over these files `r` and `s` ends with this status, puts this line alone on standard
 // error and writes these bytes, where a pick, a read and a put of these numbers fail.
-fn ends(
+fn ends<R: Wait>(
+    rt: &R,
     alloc: Global,
     texts: &[&str],
     files: (&str, &str),
@@ -37,7 +41,7 @@ fn ends(
     sink.fail_put(put)?;
     let words = words(alloc, texts)?;
     let mut errors = ListSink::new(alloc, 200)?;
-    let outcome = jm_main(alloc, &words, &mut shelf, &mut sink, &mut errors);
+    let outcome = jm_main(rt, alloc, &words, &mut shelf, &mut sink, &mut errors);
     let (status, line, written) = wanted;
     Ok(
         outcome.status() == status

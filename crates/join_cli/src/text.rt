@@ -82,7 +82,7 @@ impl fmt::Display for LimitFault {
 impl fmt::Display for Outcome {
     fn fmt<W: fmt::Write>(&self, f: &mut fmt::Formatter<W>) -> fmt::Result {
         match self {
-            Outcome::Done => Ok(()),
+            Outcome::Done { .. } => Ok(()),
             Outcome::Words(_) => write!(f, "usage: jm --on TEXT [options] R.csv S.csv"),
             Outcome::Predicate(fault) => write!(f, "{fault}"),
             Outcome::Input(fault) => write!(f, "{fault}"),

@@ -1,8 +1,9 @@
 // The top call.
 
-ghost use Rattle.std.specs.Prelude.{◌≡◌, ◌≢◌, ◌⊎◌, ◌<◌, ◌≤◌, ℕ, List, Option, Some, Result, Ok, Err, IfSome, length, map, string_bytes};
+ghost use Rattle.std.specs.Prelude.{◌≡◌, ◌≢◌, ◌⊎◌, ◌<◌, ◌≤◌, ℕ, List, Option, Some, Result, Ok, Err, IfSome, map, string_bytes};
 ghost use Rattle.join_rows.specs.Shelves.{last_fault};
 ghost use Rattle.join_rows.specs.declared.table.Side.{Side};
+ghost use Rattle.load_controller.specs.declared.line.TurnLine.{TurnLine};
 ghost use Rattle.theta_text.specs.Grammar.{Tree};
 ghost use Rattle.theta_text.specs.declared.fault.PredFault.{PredFault};
 ghost use Rattle.theta_text.specs.Texts.{IsFaultOf, TextReads, limits};
@@ -12,21 +13,23 @@ ghost use Rattle.join_cli.specs.declared.outcome.TextFault.{TextFault};
 ghost use Rattle.join_cli.specs.Refusals.{refused_as, text_refusal};
 ghost use Rattle.join_cli.specs.Texts.{IsRead, IsTrueOf};
 ghost use Rattle.join_cli.specs.declared.plan.Planned.{Planned};
-ghost use Rattle.join_cli.specs.Plan.{output_of, plan_of};
+ghost use Rattle.join_cli.specs.Plan.{plan_of};
 ghost use Rattle.join_cli.specs.Seen.{EndsOver};
-ghost use Rattle.join_cli.specs.Ends.{EndsAs, EndsEarly, Wrote, WroteFront, LacksOne, StandsPast, name_of};
+ghost use Rattle.join_cli.specs.Ends.{EndsAs, EndsEarly, IsDone, LacksOne, StandsPast, TakesEach, Wrote, WroteFront, name_of};
 
 use crate::outcome::{LimitFault, Outcome};
 use crate::plan::prepare;
 use crate::refusal::refused;
-use crate::run::output;
+use crate::run::{Joined, output};
 use crate::write::put_all;
 use join_rows::{Failed, Shelf, Sink};
 use join_words::{Options, WordsError, read_words};
 use std::alloc::{AllocError, Global};
+use std::sync::Wait;
 
-/// Joins what the options ask for.
-fn join_files<H: Shelf, K: Sink>(
+/// Joins what the options ask for. What it promises holds if it returns.
+fn join_files<R: Wait, H: Shelf, K: Sink>(
+    rt: &R,
     alloc: Global,
     options: &Options<'_>,
     shelf: &mut H,
@@ -35,6 +38,8 @@ fn join_files<H: Shelf, K: Sink>(
     requires shelf { H.faults shelf.old < last_fault }
     requires sink { K.faults sink.old < last_fault }
     requires small { options.now.k ≤ 6 }
+    requires feeders { (1 ≤ options.now.feeders) × (options.now.feeders ≤ 8) }
+    requires batch { (1 ≤ options.now.batch) × (options.now.batch ≤ 4096) }
     requires fits { IfSome options.now.fixed (λ fixed. fixed ≤ options.now.k) }
     ensures words { (fault : WordsFault) → result ≢ Outcome.Words fault }
     ensures early { (fault : PredFault) → IsFaultOf limits options.now.on.now fault
@@ -49,13 +54,13 @@ fn join_files<H: Shelf, K: Sink>(
     ensures complete { (files : List ℕ → Option (List ℕ)) (tree : Tree) (planned : Planned)
         → H.told shelf.old ≡ Some files → TextReads limits options.now.on.now tree
         → plan_of (asked options.now) (Ok tree) files ≡ Ok planned → H.sound shelf.old
-        → K.takes sink.old (length (output_of (asked options.now) planned))
-        → (result ≡ Outcome.Done) ⊎ (result ≡ Outcome.Memory) }
-    ensures done { result ≡ Outcome.Done
-        → Wrote (H.told shelf.old) (asked options.now) (K.written sink.old) (K.written sink.new) }
+        → TakesEach (K.takes sink.old) (asked options.now) planned
+        → IsDone result ⊎ (result ≡ Outcome.Memory) }
+    ensures done { (journal : List TurnLine) → result ≡ Outcome.Done journal
+        → Wrote (H.told shelf.old) (asked options.now) journal (K.written sink.old) (K.written sink.new) }
     ensures front { result ≡ Outcome.Write
         → WroteFront (H.told shelf.old) (asked options.now) (K.written sink.old) (K.written sink.new) }
-    ensures nothing { result ≢ Outcome.Done → result ≢ Outcome.Write → sink.new ≡ sink.old }
+    ensures nothing { (IsDone result → ⊥) → result ≢ Outcome.Write → sink.new ≡ sink.old }
     ensures text { (fault : TextFault) → result ≡ Outcome.Predicate fault
         → IsTrueOf options.now.on.now fault }
     ensures long { (side : Side) → result ≡ Outcome.Limit (LimitFault.TooLong side)
@@ -71,21 +76,22 @@ fn join_files<H: Shelf, K: Sink>(
         Ok(planned) => planned,
         Err(refusal) => return refused(refusal),
     };
-    let text = match output(alloc, options, &planned) {
-        Ok(text) => text,
+    let Joined { text, journal } = match output(rt, alloc, options, planned) {
+        Ok(joined) => joined,
         Err(AllocError) => return Outcome::Memory,
     };
     match put_all(sink, text.as_bytes()) {
-        Ok(()) => Outcome::Done,
+        Ok(()) => Outcome::Done { journal },
         Err(Failed) => Outcome::Write,
     }
 }
 
 /// Runs `jm` with these words, the program's name first. The first of these that applies is
 /// answered: the words, the text of the predicate, the file of R, the file of S, the columns, the
-/// numbers of R and then of S; then the output is made whole, and then it is written. Memory may
-/// run out at each of them.
-pub fn join_main<H: Shelf, K: Sink>(
+/// numbers of R and then of S; then the join is run and its output made whole, and then it is written.
+/// Memory may run out at each of them. What it promises holds if it returns.
+pub fn join_main<R: Wait, H: Shelf, K: Sink>(
+    rt: &R,
     alloc: Global,
     words: &[String],
     shelf: &mut H,
@@ -111,13 +117,14 @@ pub fn join_main<H: Shelf, K: Sink>(
         → asked_of (map string_bytes words.now) ≡ Ok asked
         → H.told shelf.old ≡ Some files → TextReads limits asked.on tree
         → plan_of asked (Ok tree) files ≡ Ok planned → H.sound shelf.old
-        → K.takes sink.old (length (output_of asked planned))
-        → (result ≡ Outcome.Done) ⊎ (result ≡ Outcome.Memory) }
-    ensures done { result ≡ Outcome.Done → (asked : Asked) × (asked_of (map string_bytes words.now) ≡ Ok asked)
-        × Wrote (H.told shelf.old) asked (K.written sink.old) (K.written sink.new) }
+        → TakesEach (K.takes sink.old) asked planned
+        → IsDone result ⊎ (result ≡ Outcome.Memory) }
+    ensures done { (journal : List TurnLine) → result ≡ Outcome.Done journal
+        → (asked : Asked) × (asked_of (map string_bytes words.now) ≡ Ok asked)
+        × Wrote (H.told shelf.old) asked journal (K.written sink.old) (K.written sink.new) }
     ensures front { result ≡ Outcome.Write → (asked : Asked) × (asked_of (map string_bytes words.now) ≡ Ok asked)
         × WroteFront (H.told shelf.old) asked (K.written sink.old) (K.written sink.new) }
-    ensures nothing { result ≢ Outcome.Done → result ≢ Outcome.Write → sink.new ≡ sink.old }
+    ensures nothing { (IsDone result → ⊥) → result ≢ Outcome.Write → sink.new ≡ sink.old }
     ensures text { (asked : Asked) (fault : TextFault) → asked_of (map string_bytes words.now) ≡ Ok asked
         → result ≡ Outcome.Predicate fault → IsTrueOf asked.on fault }
     ensures long { (asked : Asked) (side : Side) → asked_of (map string_bytes words.now) ≡ Ok asked
@@ -130,7 +137,7 @@ pub fn join_main<H: Shelf, K: Sink>(
     ensures told { H.told shelf.new ≡ H.told shelf.old }
 {
     match read_words(alloc, words) {
-        Ok(options) => join_files(alloc, &options, shelf, sink),
+        Ok(options) => join_files(rt, alloc, &options, shelf, sink),
         Err(WordsError::Fault(fault)) => Outcome::Words(fault),
         Err(WordsError::Memory) => Outcome::Memory,
     }

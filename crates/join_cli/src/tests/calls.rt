@@ -4,6 +4,7 @@ use super::{NEVER, ends, words};
 use crate::join_main;
 use join_rows::{ListSink, MapShelf};
 use std::alloc::{AllocError, Global};
+use std::sync::Wait;
 use std::test::Fail;
 
 const R: &str = "id,x\n1,10\n2,20\n3,30\n";
@@ -23,14 +24,14 @@ fn tells_failing_calls(rt: HostRuntime) -> Result<(), Fail> {
         let texts = ["jm", "--on", "r.x = s.y", "r", "s"];
         let calls = (pick, read, put);
         let wanted = (status, line, "");
-        let same = ends(rt.alloc(), texts.as_slice(), (R, S), calls, wanted)?;
+        let same = ends(&rt, rt.alloc(), texts.as_slice(), (R, S), calls, wanted)?;
         assert!(rt; same);
     }
     Ok(())
 }
 
 // A file of a header and 40 lines.
-fn forty(alloc: Global, header: &str) -> Result<String, AllocError> {
+pub(super) fn forty(alloc: Global, header: &str) -> Result<String, AllocError> {
     let mut text = String::from_str(alloc, header)?;
     for _ in 0..40 {
         text.push_str("1\n")?;
@@ -39,7 +40,7 @@ fn forty(alloc: Global, header: &str) -> Result<String, AllocError> {
 }
 
 // The status, and the number of bytes that 1,600 pairs leave in a sink, where a put fails.
-fn of_forty(alloc: Global, put: u64) -> Result<(u8, u64), AllocError> {
+fn of_forty<R: Wait>(rt: &R, alloc: Global, put: u64) -> Result<(u8, u64), AllocError> {
     let r = forty(alloc, "x\n")?;
     let s = forty(alloc, "y\n")?;
     let mut shelf = MapShelf::new(alloc);
@@ -49,7 +50,7 @@ fn of_forty(alloc: Global, put: u64) -> Result<(u8, u64), AllocError> {
     sink.fail_put(put)?;
     let texts = ["jm", "--on", "1 = 1", "r", "s"];
     let words = words(alloc, texts.as_slice())?;
-    let outcome = join_main(alloc, &words, &mut shelf, &mut sink);
+    let outcome = join_main(rt, alloc, &words, &mut shelf, &mut sink);
     Ok((outcome.status(), sink.written().len() as u64))
 }
 
@@ -57,7 +58,7 @@ fn of_forty(alloc: Global, put: u64) -> Result<(u8, u64), AllocError> {
 fn puts_pieces(rt: HostRuntime) -> Result<(), Fail> {
     let cases = [(1, 7, 0), (2, 7, 4096), (3, 7, 8192), (4, 0, 8880)];
     for (put, status, length) in cases {
-        let found = of_forty(rt.alloc(), put)?;
+        let found = of_forty(&rt, rt.alloc(), put)?;
         assert_eq!(rt; found, (status, length));
     }
     Ok(())

@@ -2,6 +2,7 @@
 
 use super::{NEVER, ends};
 use std::alloc::{AllocError, Global};
+use std::sync::Wait;
 use std::test::Fail;
 
 const R: &str = "id,x\n1,10\n2,20\n3,30\n";
@@ -11,7 +12,8 @@ const S: &str = "id,y\n1,20\n2,30\n3,20\n";
 const USAGE: &str = "usage: jm --on TEXT [options] R.csv S.csv\n";
 
 // Whether the words are refused so.
-fn refuses(
+fn refuses<R: Wait>(
+    rt: &R,
     alloc: Global,
     texts: &[&str],
     files: (&str, &str),
@@ -19,7 +21,7 @@ fn refuses(
     line: &str,
 ) -> Result<bool, AllocError> {
     let calls = (NEVER, NEVER, NEVER);
-    ends(alloc, texts, files, calls, (status, line, ""))
+    ends(rt, alloc, texts, files, calls, (status, line, ""))
 }
 
 #[test]
@@ -54,7 +56,7 @@ fn refuses_words(rt: HostRuntime) -> Result<(), Fail> {
         ),
     ];
     for (texts, name) in cases {
-        let same = refuses(rt.alloc(), texts, (R, S), 2, USAGE)?;
+        let same = refuses(&rt, rt.alloc(), texts, (R, S), 2, USAGE)?;
         assert!(rt; same, "{name}");
     }
     Ok(())
@@ -82,7 +84,14 @@ fn refuses_predicates(rt: HostRuntime) -> Result<(), Fail> {
         ("r.x = s.\"\u{e9}\"", "predicate: S has no column \u{e9}\n"),
     ];
     for (on, line) in cases {
-        let same = refuses(rt.alloc(), &["jm", "--on", on, "r", "s"], (R, S), 3, line)?;
+        let same = refuses(
+            &rt,
+            rt.alloc(),
+            &["jm", "--on", on, "r", "s"],
+            (R, S),
+            3,
+            line,
+        )?;
         assert!(rt; same, "of {on}");
     }
     Ok(())
@@ -121,7 +130,7 @@ fn refuses_files(rt: HostRuntime) -> Result<(), Fail> {
     ];
     for (r, s, status, line) in cases {
         let texts = ["jm", "--on", "r.x = s.y", "r", "s"];
-        let same = refuses(rt.alloc(), texts.as_slice(), (r, s), status, line)?;
+        let same = refuses(&rt, rt.alloc(), texts.as_slice(), (r, s), status, line)?;
         assert!(rt; same, "for {line}");
     }
     Ok(())
@@ -150,7 +159,7 @@ fn looks_in_order(rt: HostRuntime) -> Result<(), Fail> {
         ),
     ];
     for (texts, status, line) in cases {
-        let same = refuses(rt.alloc(), texts, ("a,b\n1,2\n3\n", S), status, line)?;
+        let same = refuses(&rt, rt.alloc(), texts, ("a,b\n1,2\n3\n", S), status, line)?;
         assert!(rt; same, "for {line}");
     }
     Ok(())

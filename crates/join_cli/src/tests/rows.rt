@@ -1,7 +1,10 @@
 // Worked rows that end well.
 
-use super::{NEVER, ends};
+use super::{NEVER, ends, words};
+use crate::join_main;
+use join_rows::{ListSink, MapShelf};
 use std::alloc::{AllocError, Global};
+use std::sync::Wait;
 use std::test::Fail;
 
 const R: &str = "id,x\n1,10\n2,20\n3,30\n";
@@ -9,7 +12,8 @@ const R: &str = "id,x\n1,10\n2,20\n3,30\n";
 const S: &str = "id,y\n1,20\n2,30\n3,20\n";
 
 // Whether the words write these bytes.
-fn writes(
+fn writes<R: Wait>(
+    rt: &R,
     alloc: Global,
     texts: &[&str],
     r: &str,
@@ -17,7 +21,7 @@ fn writes(
     written: &str,
 ) -> Result<bool, AllocError> {
     let calls = (NEVER, NEVER, NEVER);
-    ends(alloc, texts, (r, s), calls, (0, "", written))
+    ends(rt, alloc, texts, (r, s), calls, (0, "", written))
 }
 
 #[test]
@@ -50,7 +54,14 @@ fn writes_the_matching_pairs(rt: HostRuntime) -> Result<(), Fail> {
         ),
     ];
     for (on, r, s, written) in cases {
-        let same = writes(rt.alloc(), &["jm", "--on", on, "r", "s"], r, s, written)?;
+        let same = writes(
+            &rt,
+            rt.alloc(),
+            &["jm", "--on", on, "r", "s"],
+            r,
+            s,
+            written,
+        )?;
         assert!(rt; same, "by {on}");
     }
     Ok(())
@@ -60,12 +71,53 @@ fn writes_the_matching_pairs(rt: HostRuntime) -> Result<(), Fail> {
 fn joins_a_file_with_itself(rt: HostRuntime) -> Result<(), Fail> {
     let texts = ["jm", "--on", "r.x < s.x", "r", "r"];
     let same = writes(
+        &rt,
         rt.alloc(),
         texts.as_slice(),
         "x\n1\n2\n3\n",
         "",
         "1,2\n1,3\n2,3\n",
     )?;
+    assert!(rt; same);
+    Ok(())
+}
+
+// The output of these words.
+fn output<R: Wait>(rt: &R, alloc: Global, texts: &[&str]) -> Result<Vec<u8>, AllocError> {
+    let mut shelf = MapShelf::new(alloc);
+    shelf.add("r", R.as_bytes())?;
+    shelf.add("s", S.as_bytes())?;
+    let mut sink = ListSink::new(alloc, 10000)?;
+    let words = words(alloc, texts)?;
+    let _outcome = join_main(rt, alloc, &words, &mut shelf, &mut sink);
+    Vec::from_slice(alloc, sink.written())
+}
+
+#[test]
+fn replays_twice(rt: HostRuntime) -> Result<(), Fail> {
+    let texts = [
+        "jm",
+        "--on",
+        "r.x = s.y",
+        "--replay",
+        "7",
+        "--report",
+        "r",
+        "s",
+    ];
+    let once = output(&rt, rt.alloc(), texts.as_slice())?;
+    let twice = output(&rt, rt.alloc(), texts.as_slice())?;
+    assert!(rt; once.starts_with(b"2,1\n2,3\n3,2\ninput 3 3\n"));
+    assert!(rt; once == twice);
+    Ok(())
+}
+
+#[test]
+fn one_side_has_no_rows(rt: HostRuntime) -> Result<(), Fail> {
+    let texts = ["jm", "--on", "r.x = s.y", "--report", "r", "s"];
+    let wide =
+        "input 0 3\ngrid 1 1 4 moved 0\nfinal 1 4 copies 3 best 3\njoiner 0 held 0 0 made 0\njoiner 1 held 0 2 made 0\njoiner 2 held 0 1 made 0\njoiner 3 held 0 0 made 0\n";
+    let same = writes(&rt, rt.alloc(), texts.as_slice(), "id,x\n", S, wide)?;
     assert!(rt; same);
     Ok(())
 }
@@ -93,13 +145,17 @@ fn reports_the_grid(rt: HostRuntime) -> Result<(), Fail> {
         ),
         (["jm", "--joiners", "1", "--report"].as_slice(), one),
         (["jm", "--joiners", "1"].as_slice(), pairs),
+        (
+            ["jm", "--feed", "rfirst", "--feeders", "3", "--batch", "1"].as_slice(),
+            pairs,
+        ),
         (["jm", "--joiners", "64", "--seed", "7"].as_slice(), pairs),
     ];
     for (options, written) in cases {
         let mut texts = Vec::new(rt.alloc());
         texts.extend_from_slice(options)?;
         texts.extend_from_slice(["--on", "r.x = s.y", "r", "s"].as_slice())?;
-        let same = writes(rt.alloc(), texts.as_slice(), R, S, written)?;
+        let same = writes(&rt, rt.alloc(), texts.as_slice(), R, S, written)?;
         assert!(rt; same, "of {written}");
     }
     Ok(())

@@ -1,3 +1,0 @@
-pub mod Holding
-pub mod Meeting
-pub mod Gathering
