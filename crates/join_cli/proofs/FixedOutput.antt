@@ -1,5 +1,5 @@
 -- With a fixed shift the numbers of a run are those of that shift, whatever the journal.
-use Rattle.std.proofs.Common.{◌≡◌, ◌∙◌, ◌/◌, ◌^◌, ◌==◌, ℕ, Bool, true, false, List, [], ◌∷◌, ◌++◌, Option, Some, map, refl, sym, ap, subst}
+use Rattle.std.proofs.Common.{◌≡◌, ◌∙◌, ◌/◌, ◌^◌, ◌==◌, ℕ, Bool, true, false, List, [], ◌∷◌, ◌++◌, Some, map, refl, sym, ap}
 use Rattle.std.specs.Prelude.{All, if◌then◌else◌, unwrap_or}
 use Rattle.std.specs.List.{AllByRecursion, range_with_len}
 use Rattle.std.proofs.lemmas.List.Elements.{recursion_from_All}
@@ -17,7 +17,7 @@ use Rattle.join_report.specs.PairLines.{pair_lines}
 use Rattle.join_report.specs.Report.{final_line, grid_lines, input_line, joiner_lines}
 use Rattle.join_words.specs.Words.{Asked}
 use Rattle.join_cli.specs.declared.plan.Planned.{Planned}
-use Rattle.join_cli.specs.Plan.{IsJournalOf, input_of, output_of, report_over, run_over, setting_of, text_of}
+use Rattle.join_cli.specs.Plan.{IsJournalOf, input_of, output_of, report_over, setting_of, text_of}
 
 shift_stays : (b e : ℕ) (journal : List TurnLine) → AllByRecursion (StaysAt b) journal → shift_at b e journal ≡ b
 shift_stays b e [] h = refl

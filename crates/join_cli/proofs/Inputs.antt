@@ -1,5 +1,5 @@
 -- What is joined is a valid input, and the journal of its run one of a lawful controller.
-use Rattle.std.proofs.Common.{◌≡◌, ◌<◌, ◌^◌, ℕ, List, Option, Some, None, All, length, map, sym, ◌∙◌, ap, subst}
+use Rattle.std.proofs.Common.{◌≡◌, ◌<◌, ◌^◌, ℕ, List, All, length, sym, ◌∙◌, ap, subst}
 use Rattle.std.proofs.lemmas.List.FromFn.{length-map-range_with_len}
 use Rattle.join_rows.specs.Records.{IsTable}
 use Rattle.join_rows.specs.declared.table.Side.{Side}

@@ -1,6 +1,6 @@
 -- What a report asks of a run.
-use Rattle.std.proofs.Common.{◌≡◌, ◌∙◌, ◌<◌, ◌≤◌, ◌*◌, ◌+◌, ◌^◌, ℕ, List, [], ◌∷◌, Some, length, refl, sym, ap, subst, arith}
-use Rattle.std.specs.Prelude.{All, IfSome, reverse}
+use Rattle.std.proofs.Common.{◌≡◌, ◌∙◌, ◌<◌, ◌≤◌, ◌*◌, ◌+◌, ◌^◌, List, [], ◌∷◌, length, refl, sym, ap, subst, arith}
+use Rattle.std.specs.Prelude.{IfSome, reverse}
 use Rattle.std.specs.List.{AllByRecursion}
 use Rattle.std.proofs.lemmas.List.Elements.{All-from_recursion}
 use Rattle.std.proofs.lemmas.List.FromFn.{length-map-range_with_len}
@@ -8,13 +8,12 @@ use mathlib.Core.List.{reverse-reverse}
 use Rattle.join_rows.proofs.Everywhere.{all-reverse}
 use Rattle.join_rows.specs.declared.table.Side.TheVariants.{R, S}
 use Rattle.load_controller.specs.declared.line.TurnLine.{TurnLine}
-use Rattle.load_controller.specs.Journal.{Follows, IsLawfulSoFar, last_epoch, start_line}
+use Rattle.load_controller.specs.Journal.{Follows, last_epoch, start_line}
 use Rattle.load_controller.proofs.Bound.{shifts_within}
 use Rattle.trace_law.specs.declared.input.Input.{Input}
 use Rattle.trace_law.specs.declared.run.Run.{Run}
 use Rattle.trace_law.specs.declared.setting.Setting.{Setting}
 use Rattle.trace_law.specs.Family.{rules_of}
-use Rattle.trace_law.specs.Join.{row_count}
 use Rattle.trace_law.specs.Runs.{IsRunOf, moved_over}
 use Rattle.trace_law.specs.Validity.{IsValidInput, IsValidSetting}
 use Rattle.trace_law.proofs.Bounds.{bounded}

@@ -22,11 +22,11 @@ use Rattle.join_cli.specs.declared.outcome.Outcome.TheVariants as outcomes
 use Rattle.join_cli.specs.Columns.{theta_over}
 use Rattle.join_cli.specs.Texts.{tree_or_refused}
 use Rattle.load_controller.specs.declared.line.TurnLine.{TurnLine}
-use Rattle.join_cli.specs.Plan.{IsJournalOf, checked, fitted, or_refused, output_of, table_found, tables_in, then_of}
+use Rattle.join_cli.specs.Plan.{IsJournalOf, checked, fitted, or_refused, output_of, table_found, then_of}
 use Rattle.join_cli.specs.Refusals.{file_refusal, refused_as}
 use Rattle.join_cli.specs.declared.outcome.LimitFault.TheVariants.{TooLong}
 use Rattle.join_cli.specs.Ends.{StandsPast}
-use Rattle.join_cli.specs.Seen.{AreSeen, BeginsWith, Ends, EndsOver, IsSeen, PlanSeen, TablesSeen}
+use Rattle.join_cli.specs.Seen.{BeginsWith, Ends, EndsOver, IsSeen, PlanSeen, TablesSeen}
 
 abbrev pub refused_table : TableFault → Result Table TableFault
 refused_table fault = Err fault

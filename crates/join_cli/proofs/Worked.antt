@@ -1,13 +1,13 @@
 -- Worked joins: what the definitions alone say of a few files, by computation.
-use Rattle.std.proofs.Common.{◌≡◌, refl, ℕ, Bool, false, true, List, [], ◌∷◌, ◌++◌}
-use Rattle.std.specs.Prelude.{Option, None, Some, Result, Ok, Err, codes, flat_map, if◌then◌else◌}
+use Rattle.std.proofs.Common.{◌≡◌, refl, ℕ, false, List, [], ◌∷◌, ◌++◌}
+use Rattle.std.specs.Prelude.{None, Some, Result, Ok, Err, codes, flat_map, if◌then◌else◌}
 use Rattle.std.specs.Fmt.{digits}
 use Rattle.std.specs.Str.{bytes_eq}
 use Rattle.csv.specs.Reading.{records_from}
 use Rattle.csv.specs.Machine.{next_record}
 use Rattle.join_rows.specs.declared.table.Side.TheVariants as sides
 use Rattle.join_rows.specs.Records.{after_marks, table_of, table_of_records, fault_of_rows}
-use Rattle.theta_text.specs.Grammar.{Tree, txt, negation}
+use Rattle.theta_text.specs.Grammar.{Tree, txt}
 use Rattle.theta_text.specs.declared.tree.Op.TheVariants.{Eq}
 use Rattle.theta_text.specs.declared.tree.TextSide.TheVariants.{Col}
 use Rattle.row_tickets.specs.declared.place.Feed.TheVariants.{Alternate}

@@ -1,4 +1,4 @@
-use Rattle.std.proofs.Common.{◌≡◌, ◌<◌, Ok, Err, inl, inr}
+use Rattle.std.proofs.Common.{◌≡◌, Ok, Err, inl, inr}
 use Rattle.join_cli.proofs.Seeing.{file_seen, long_file, not_memory, not_read, not_rose, table_told, table_told_ok}
 use Rattle.join_cli.proofs.reading.table.Goals as goal
 

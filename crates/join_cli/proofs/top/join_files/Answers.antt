@@ -1,7 +1,7 @@
-use Rattle.std.proofs.Common.{◌≡◌, ◌∙◌, Ok, ap, length, subst}
+use Rattle.std.proofs.Common.{◌∙◌, Ok, ap, subst}
 use Rattle.std.specs.Io.KnownBytes.{append_known}
 use Rattle.join_rows.specs.Sinks.{AppendsFront}
-use Rattle.join_cli.specs.Plan.{output_of, plan_of}
+use Rattle.join_cli.specs.Plan.{plan_of}
 use Rattle.join_cli.proofs.Ending.{complete_made, complete_refused, ends_done, ends_refused, takes_made}
 use Rattle.join_cli.proofs.Seeing.{end_done, end_front, end_refused, not_refused_memory, not_refused_read}
 use Rattle.join_words.specs.Words.{asked}
