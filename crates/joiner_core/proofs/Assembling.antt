@@ -194,12 +194,12 @@ closed-fin s t lists w m start is =
     let count = closed-count s t lists w m start.some is in
     let st = is.stands in
     let steps = st.steps in
-    let held : SameBag m.store (store s t n) = SameBag-trans st.store (SameBag-sym (store-is s t is.cur is.past steps.history)) in
+    let held : SameBag m.store.tuples (store s t n) = SameBag-trans st.store (SameBag-sym (store-is s t is.cur is.past steps.history)) in
     let moved : m.moved ≡ map (λ i. length (sent_in_step s lists i)) (counting_from 0 n) =
     is.moved ∙ counts-law s lists t true is.cur is.past steps.history steps.sent
     (λ i less. partner-within s t i start.id (by_one-law s t is.cur is.past i steps.history steps.by_one less) (history-within s t (is.cur ∷ is.past) i steps.history (omega arith)) (history-within s t (is.cur ∷ is.past) (i + 1) steps.history (omega arith)))
     (λ i less q some. (of-partner s t (is.cur ∷ is.past) q i steps.history (has-moved _ _ (s.epoch + i + 1) (lists.to_joiner q) (steps.to_partner q) some)).1) in
-    fin-same _ _ _ _ _ _ (count-bag (is_of R) m.store (store s t n) held) (count-bag (is_of S) m.store (store s t n) held) moved
+    fin-same _ _ _ _ _ _ (count-bag (is_of R) m.store.tuples (store s t n) held) (count-bag (is_of S) m.store.tuples (store s t n) held) moved
     ∙ ap (λ i. Fin (count_by (is_of R) (store s t i)) (count_by (is_of S) (store s t i)) (map (λ j. length (sent_in_step s lists j)) (counting_from 0 i))) (sym count)
 
 fin-by : (s : JoinerStart) (t : Taken) (lists : JoinerLists) (w : List Pair) (m : Epochs) → IsStart s → (step : Option Opened) → step ≡ None → StandsBy s t lists w m step → fin_of m ≡ fin s lists t
@@ -269,15 +269,15 @@ machine-done s lists m is = done-by s is.within.taken lists m.epochs is.done is.
 
 -- ---- what is read off the lists
 
-store-by : (s : JoinerStart) (t : Taken) (lists : JoinerLists) (m : Epochs) (done : ℕ) → m.epoch ≡ s.epoch + done → (step : Option Opened) → StandsBy s t lists [] m step → SameBag m.store (store s t done)
+store-by : (s : JoinerStart) (t : Taken) (lists : JoinerLists) (m : Epochs) (done : ℕ) → m.epoch ≡ s.epoch + done → (step : Option Opened) → StandsBy s t lists [] m step → SameBag m.store.tuples (store s t done)
 store-by s t lists m done epoch None is =
     let at = is.epoch in
     let same : length is.past ≡ done = omega arith in
-    subst (λ (n : ℕ). SameBag m.store (store s t n)) same (SameBag-trans is.stands.store (SameBag-sym (store-is s t is.cur is.past is.stands.steps.history)))
+    subst (λ (n : ℕ). SameBag m.store.tuples (store s t n)) same (SameBag-trans is.stands.store (SameBag-sym (store-is s t is.cur is.past is.stands.steps.history)))
 store-by s t lists m done epoch (Some o) is =
     let at = is.epoch in
     let same : length is.past ≡ done = omega arith in
-    subst (λ (n : ℕ). SameBag m.store (store s t n)) same (SameBag-trans is.stands.store (SameBag-sym (store-is s t is.cur is.past is.stands.steps.history.1)))
+    subst (λ (n : ℕ). SameBag m.store.tuples (store s t n)) same (SameBag-trans is.stands.store (SameBag-sym (store-is s t is.cur is.past is.stands.steps.history.1)))
 
-pub store-law : (s : JoinerStart) (lists : JoinerLists) (m : Machine) (is : StandsBetween s lists m) → SameBag m.epochs.store (store s is.within.taken is.done)
+pub store-law : (s : JoinerStart) (lists : JoinerLists) (m : Machine) (is : StandsBetween s lists m) → SameBag m.epochs.store.tuples (store s is.within.taken is.done)
 store-law s lists m is = store-by s is.within.taken lists m.epochs is.done is.settled m.epochs.step is.within.stands.now

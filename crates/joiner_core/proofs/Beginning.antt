@@ -13,12 +13,13 @@ use Rattle.joiner_core.specs.Flags.{flag_at}
 use Rattle.joiner_core.specs.Matching.{does_hold}
 use Rattle.joiner_core.specs.Changes.{IsReady}
 use Rattle.theta_pred.specs.Formula.{Meaning}
-use Rattle.joiner_core.specs.Widths.{AreRows}
+use Rattle.joiner_core.specs.Widths.{IsStock}
+use Rattle.joiner_core.specs.Stocks.{Stocked}
 use Rattle.joiner_core.proofs.Fitting.{rows-none}
 use Rattle.joiner_core.specs.declared.opened.Opened.{Opened}
 use Rattle.joiner_core.specs.declared.machine.Machine.{Machine}
 use Rattle.joiner_core.specs.Standing.{IsClosed, StandsBy}
-use Rattle.joiner_core.specs.Taking.{AreStepRows, IsStepWithin, IsCounted, HasSomeTurn}
+use Rattle.joiner_core.specs.Taking.{IsStepStock, IsStepWithin, IsCounted, HasSomeTurn}
 use Rattle.joiner_core.specs.Whole.{IsSound, IsStuck, IsMade, StandsBetween, nothing_yet, start_of}
 use Rattle.joiner_core.proofs.Keeping.{append-nil, same-ends}
 use Rattle.joiner_core.proofs.Reporting.{stands-for}
@@ -70,13 +71,13 @@ settled-start k id shift epoch feeders theta base low = record {
   taken_up_to = λ q. tt;
 }
 
-closed-start : (k id shift epoch feeders : ℕ) (theta : Meaning) (base : List Tuple) (m : Machine) → shift ≤ k → IsMade k id shift epoch feeders theta base m
-    → IsClosed (start_of k id shift epoch feeders theta base) (nothing_taken shift) nothing_yet [] m.epochs
+closed-start : (k id shift epoch feeders : ℕ) (theta : Meaning) (base : Stocked) (m : Machine) → shift ≤ k → IsMade k id shift epoch feeders theta base m
+    → IsClosed (start_of k id shift epoch feeders theta base.tuples) (nothing_taken shift) nothing_yet [] m.epochs
 closed-start k id shift epoch feeders theta base m low made = record {
-  cur = first_step shift base;
+  cur = first_step shift base.tuples;
   past = [];
-  stands = subst (λ (a : List Tuple). StandsSettled (start_of k id shift epoch feeders theta base) (nothing_taken shift) nothing_yet [] (flag_at m.epochs.ended.items) a (first_step shift base) []) (sym made.store)
-      (same-ends (start_of k id shift epoch feeders theta base) (nothing_taken shift) nothing_yet [] (λ p. false) (flag_at m.epochs.ended.items) base (first_step shift base) [] (λ p. sym (made.down p)) (settled-start k id shift epoch feeders theta base low));
+  stands = subst (λ (a : List Tuple). StandsSettled (start_of k id shift epoch feeders theta base.tuples) (nothing_taken shift) nothing_yet [] (flag_at m.epochs.ended.items) a (first_step shift base.tuples) []) (ap (λ (stock : Stocked). stock.tuples) (sym made.store))
+      (same-ends (start_of k id shift epoch feeders theta base.tuples) (nothing_taken shift) nothing_yet [] (λ p. false) (flag_at m.epochs.ended.items) base.tuples (first_step shift base.tuples) [] (λ p. sym (made.down p)) (settled-start k id shift epoch feeders theta base.tuples low));
   epoch = let e = made.at_epoch in omega arith;
   shift = made.at_shift;
   ended_count = made.ended;
@@ -86,8 +87,8 @@ closed-start k id shift epoch feeders theta base m low made = record {
 none-stuck : (queue : List ToJoiner) (x : ToJoiner) (rest : List ToJoiner) → queue ≡ [] → queue ≡ x ∷ rest → ⊥
 none-stuck queue x rest none is = let a = ap length none in let b : length queue ≡ length (x ∷ rest) = ap length is in absurd (omega arith)
 
-pub made-sound : (k id shift epoch feeders : ℕ) (theta : Meaning) (base : List Tuple) (m : Machine) → k < 9 → shift ≤ k → id < 2 ^ k → AreRows theta base → IsMade k id shift epoch feeders theta base m → IsSound m
-made-sound k id shift epoch feeders theta base m small low few rows made =
+pub made-sound : (k id shift epoch feeders : ℕ) (theta : Meaning) (base : Stocked) (m : Machine) → k < 9 → shift ≤ k → id < 2 ^ k → IsStock theta base → IsMade k id shift epoch feeders theta base m → IsSound m
+made-sound k id shift epoch feeders theta base m small low few stock made =
     let same_k = made.at_k in
     let same_shift = made.at_shift in
     record {
@@ -100,8 +101,8 @@ made-sound k id shift epoch feeders theta base m small low few rows made =
         begun = subst (λ (z : Option Opened). HasSomeTurn m.epochs.feeders z) (sym made.step) tt;
         rests = subst (λ (z : Option Opened). IsReady z → ⊥) (sym made.step) (λ never. never);
         id = subst (λ (n : ℕ). m.epochs.id < 2 ^ n) (sym made.at_k) (subst (λ (n : ℕ). n < 2 ^ k) (sym made.at_id) few);
-        rows = subst (λ (th : Meaning). AreRows th m.epochs.store) (sym made.at_theta) (subst (AreRows theta) (sym made.store) rows);
-        step_rows = subst (λ (z : Option Opened). AreStepRows m.epochs.theta.now z) (sym made.step) tt;
+        stock = subst (λ (th : Meaning). IsStock th m.epochs.store) (sym made.at_theta) (subst (IsStock theta) (sym made.store) stock);
+        step_stock = subst (λ (z : Option Opened). IsStepStock m.epochs.theta.now z) (sym made.step) tt;
       };
       feeders = made.of_feeders ∙ sym made.at_feeders;
       joiners = made.of_joiners ∙ ap (λ n. 2 ^ n) (sym made.at_k);
@@ -109,15 +110,15 @@ made-sound k id shift epoch feeders theta base m small low few rows made =
       joiner_rows = rows-none m.epochs.theta.now m.of_joiners made.no_joiners;
     }
 
-pub made-stands : (k id shift epoch feeders : ℕ) (theta : Meaning) (base : List Tuple) (m : Machine) → k < 9 → shift ≤ k → id < 2 ^ k → 0 < feeders → AllByRecursion (λ (x : Tuple). x.stamp ≤ epoch) base → AreRows theta base
-    → IsMade k id shift epoch feeders theta base m → StandsBetween (start_of k id shift epoch feeders theta base) nothing_yet m
-made-stands k id shift epoch feeders theta base m small low few some older rows made =
-    let sound = made-sound k id shift epoch feeders theta base m small low few rows made in
+pub made-stands : (k id shift epoch feeders : ℕ) (theta : Meaning) (base : Stocked) (m : Machine) → k < 9 → shift ≤ k → id < 2 ^ k → 0 < feeders → AllByRecursion (λ (x : Tuple). x.stamp ≤ epoch) base.tuples → IsStock theta base
+    → IsMade k id shift epoch feeders theta base m → StandsBetween (start_of k id shift epoch feeders theta base.tuples) nothing_yet m
+made-stands k id shift epoch feeders theta base m small low few some older stock made =
+    let sound = made-sound k id shift epoch feeders theta base m small low few stock made in
     let stuck : IsStuck m = record {
       feeders = λ p less x rest is can. none-stuck _ x rest (made.no_feeders p) is;
       joiners = λ q less x rest is can. none-stuck _ x rest (made.no_joiners q) is;
     } in
-    stands-for (start_of k id shift epoch feeders theta base) nothing_yet m
+    stands-for (start_of k id shift epoch feeders theta base.tuples) nothing_yet m
     (record { within = low; id = few; some = some; base = older })
     sound stuck
     (record {
@@ -134,7 +135,7 @@ made-stands k id shift epoch feeders theta base m small low few some older rows 
       taken = nothing_taken shift;
       stands = record {
         fixed = record { k = made.at_k; id = made.at_id; feeders = made.at_feeders; matches = ap (λ (th : Meaning). does_hold th) made.at_theta; small = small };
-        now = subst (λ (z : Option Opened). StandsBy (start_of k id shift epoch feeders theta base) (nothing_taken shift) nothing_yet [] m.epochs z) (sym made.step) (closed-start k id shift epoch feeders theta base m low made);
+        now = subst (λ (z : Option Opened). StandsBy (start_of k id shift epoch feeders theta base.tuples) (nothing_taken shift) nothing_yet [] m.epochs z) (sym made.step) (closed-start k id shift epoch feeders theta base m low made);
       };
       feeders = λ p less. made.no_feeders p;
       joiners = λ q less. made.no_joiners q;

@@ -17,11 +17,11 @@ use Rattle.joiner_law.specs.Standing.{with_sent}
 use Rattle.joiner_core.specs.Whole.{StandsBetween, Receives, IsOfGrid, IsSound, IsKept, with_message}
 use Rattle.joiner_core.specs.Flags.{flag_at}
 use Rattle.theta_pred.specs.Formula.{Meaning}
-use Rattle.joiner_core.specs.Widths.{AreRows}
+use Rattle.joiner_core.specs.Widths.{IsStock}
 use Rattle.joiner_core.proofs.Fitting.{to-rows, from-rows}
-use Rattle.joiner_core.specs.Taking.{AreStepRows, IsStepWithin, IsCounted, HasSomeTurn}
+use Rattle.joiner_core.specs.Taking.{IsStepStock, IsStepWithin, IsCounted, HasSomeTurn}
 use Rattle.joiner_core.specs.declared.opened.Opened.{Opened}
-use Rattle.joiner_core.specs.Joining.{StandsFor, TakesMessage, held_number}
+use Rattle.joiner_core.specs.Joining.{IsSpent, StandsFor, TakesMessage, held_number}
 use Rattle.joiner_core.specs.declared.epochs.Epochs.{Epochs}
 use Rattle.joiner_core.specs.declared.machine.Machine.{Machine}
 use Rattle.joiner_core.specs.declared.joiner.Joiner.{Joiner}
@@ -78,9 +78,9 @@ step-begun : (n : ℕ) (step : Option Opened) → ((o : Opened) → step ≡ Som
 step-begun n None all = tt
 step-begun n (Some o) all = some-flag n (flag_at o.turned.items) (all o refl)
 
-step-rows : (theta : Meaning) (step : Option Opened) → ((o : Opened) → step ≡ Some o → AreRows theta o.store) → AreStepRows theta step
-step-rows theta None all = tt
-step-rows theta (Some o) all = all o refl
+step-stock : (theta : Meaning) (step : Option Opened) → ((o : Opened) → step ≡ Some o → IsStock theta o.store) → IsStepStock theta step
+step-stock theta None all = tt
+step-stock theta (Some o) all = all o refl
 
 pub to-sound : (m : Machine) → IsKept m → IsSound m
 to-sound m is = record {
@@ -93,14 +93,21 @@ to-sound m is = record {
     begun = step-begun m.epochs.feeders m.epochs.step is.begun;
     rests = is.rests;
     id = is.id;
-    rows = is.rows;
-    step_rows = step-rows m.epochs.theta.now m.epochs.step is.step_rows;
+    stock = is.stock;
+    step_stock = step-stock m.epochs.theta.now m.epochs.step is.step_stock;
   };
   feeders = is.feeders;
   joiners = is.joiners;
   feeder_rows = to-rows m.epochs.theta.now m.of_feeders is.feeder_rows;
   joiner_rows = to-rows m.epochs.theta.now m.of_joiners is.joiner_rows;
 }
+
+-- a joiner that isn't spent is sound
+pub kept-at-work : (joiner : Joiner) → ¬ (IsSpent joiner) → IsKept joiner.machine
+kept-at-work joiner going = elim (cases_Bool joiner.spent) [
+  | inl up ↦ absurd (going up)
+  | inr down ↦ joiner.sound down
+]
 
 step-of : (m : Machine) (o : Opened) → m.epochs.step ≡ Some o → IsSound m → IsStepWithin m.epochs.k m.epochs.shift (Some o)
 step-of m o opens is = subst (λ (z : Option Opened). IsStepWithin m.epochs.k m.epochs.shift z) opens is.within.step
@@ -120,8 +127,8 @@ from-sound m is = record {
   feeders = is.feeders;
   joiners = is.joiners;
   id = is.within.id;
-  rows = is.within.rows;
-  step_rows = λ o opens. subst (λ (z : Option Opened). AreStepRows m.epochs.theta.now z) opens is.within.step_rows;
+  stock = is.within.stock;
+  step_stock = λ o opens. subst (λ (z : Option Opened). IsStepStock m.epochs.theta.now z) opens is.within.step_stock;
   feeder_rows = from-rows m.epochs.theta.now m.of_feeders is.feeder_rows;
   joiner_rows = from-rows m.epochs.theta.now m.of_joiners is.joiner_rows;
 }

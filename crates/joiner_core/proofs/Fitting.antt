@@ -10,16 +10,16 @@ use Rattle.epoch_tags.specs.declared.message.ToJoiner.TheVariants.{Tup, Turn, En
 use Rattle.migration_plan.specs.Steps.{holds, is_of}
 use Rattle.theta_pred.specs.Formula.{Meaning}
 use Rattle.joiner_core.specs.Queues.{held_at}
-use Rattle.joiner_core.specs.Stocks.{placed}
-use Rattle.joiner_core.specs.Widths.{IsRow, AreRows, HasRow, HoldsRows, Carries, CarriesRows}
+use Rattle.joiner_core.specs.Stocks.{Stocked, placed, with_placed, kept_stock}
+use Rattle.joiner_core.specs.Widths.{IsRow, AreRows, IsStock, HasRow, HoldsRows, Carries, CarriesRows}
 use Rattle.joiner_core.specs.Changes.{kept_at_end, open_old, step_new, part_by, HasBegun, HasTurned}
-use Rattle.joiner_core.specs.Taking.{AreStepRows}
+use Rattle.joiner_core.specs.Taking.{IsStepStock}
 use Rattle.joiner_core.specs.declared.opened.Opened.{Opened}
 use Rattle.joiner_core.specs.declared.epochs.Epochs.{Epochs}
 
 -- ---- stores
 
-pub rows-placed : (theta : Meaning) (xs : List Tuple) (x : Tuple) → AreRows theta xs → IsRow theta x → AreRows theta (placed x xs)
+rows-placed : (theta : Meaning) (xs : List Tuple) (x : Tuple) → AreRows theta xs → IsRow theta x → AreRows theta (placed x xs)
 rows-placed theta xs x rows row =
     let all = All-push (IsRow theta) xs x rows row in
     All-append (IsRow theta) (filter (is_of R) (xs ++ x ∷ [])) (filter (is_of S) (xs ++ x ∷ []))
@@ -29,27 +29,33 @@ rows-kept : (theta : Meaning) (kept : Bool) (x : Tuple) (b : List Tuple) → Are
 rows-kept theta true x b rows row = rows-placed theta b x rows row
 rows-kept theta false x b rows row = rows
 
-pub rows-old : (theta : Meaning) (m : Epochs) (x : Tuple) (step : Option Opened) → AreStepRows theta step → IsRow theta x → AreStepRows theta (open_old m x step)
-rows-old theta m x None rows row = tt
-rows-old theta m x (Some o) rows row = rows-kept theta (holds m.k o.shift m.id x) x o.store rows row
+pub stock-placed : (theta : Meaning) (x : Tuple) (stock : Stocked) → IsStock theta stock → IsRow theta x → IsStock theta (with_placed x stock)
+stock-placed theta x stock is row = record { rows = rows-placed theta stock.tuples x is.rows row; key = is.key }
 
-pub rows-new : (theta : Meaning) (x : Tuple) (step : Option Opened) → AreStepRows theta step → IsRow theta x → AreStepRows theta (step_new x step)
-rows-new theta x None rows row = tt
-rows-new theta x (Some o) rows row = rows-placed theta o.store x rows row
+pub stock-old : (theta : Meaning) (m : Epochs) (x : Tuple) (step : Option Opened) → IsStepStock theta step → IsRow theta x → IsStepStock theta (open_old m x step)
+stock-old theta m x None is row = tt
+stock-old theta m x (Some o) is row = record { rows = rows-kept theta (holds m.k o.shift m.id x) x o.store.tuples is.rows row; key = is.key }
 
-pub rows-part : (theta : Meaning) (step : Option Opened) → AreStepRows theta step → AreStepRows theta (part_by step)
-rows-part theta None rows = tt
-rows-part theta (Some o) rows = rows
+pub stock-new : (theta : Meaning) (x : Tuple) (step : Option Opened) → IsStepStock theta step → IsRow theta x → IsStepStock theta (step_new x step)
+stock-new theta x None is row = tt
+stock-new theta x (Some o) is row = stock-placed theta x o.store is row
 
-pub rows-begun : (theta : Meaning) (m : Epochs) (epoch shift : ℕ) (step step' : Option Opened) → AreRows theta m.store → AreStepRows theta step → HasBegun m epoch shift step step' → AreStepRows theta step'
-rows-begun theta m epoch shift None None rows is has = tt
-rows-begun theta m epoch shift None (Some o) rows is has = subst (AreRows theta) (sym has.store) (All-filter (holds m.k shift m.id) (IsRow theta) m.store rows)
-rows-begun theta m epoch shift (Some o) step' rows is has = subst (AreStepRows theta) (sym has) is
+pub stock-part : (theta : Meaning) (step : Option Opened) → IsStepStock theta step → IsStepStock theta (part_by step)
+stock-part theta None is = tt
+stock-part theta (Some o) is = is
 
-pub rows-turned : (theta : Meaning) (p : ℕ) (step step' : Option Opened) → HasTurned p step step' → AreStepRows theta step → AreStepRows theta step'
-rows-turned theta p None step' has rows = subst (AreStepRows theta) (sym has) tt
-rows-turned theta p (Some o) None has rows = absurd has
-rows-turned theta p (Some o) (Some o') has rows = subst (AreRows theta) (sym (ap (λ (z : Opened). z.store) has.0)) rows
+stock-kept : (theta : Meaning) (k shift id : ℕ) (stock : Stocked) → IsStock theta stock → IsStock theta (kept_stock k shift id stock)
+stock-kept theta k shift id stock is = record { rows = All-filter (holds k shift id) (IsRow theta) stock.tuples is.rows; key = is.key }
+
+pub stock-begun : (theta : Meaning) (m : Epochs) (epoch shift : ℕ) (step step' : Option Opened) → IsStock theta m.store → IsStepStock theta step → HasBegun m epoch shift step step' → IsStepStock theta step'
+stock-begun theta m epoch shift None None stock is has = tt
+stock-begun theta m epoch shift None (Some o) stock is has = subst (IsStock theta) (sym has.store) (stock-kept theta m.k shift m.id m.store stock)
+stock-begun theta m epoch shift (Some o) step' stock is has = subst (IsStepStock theta) (sym has) is
+
+pub stock-turned : (theta : Meaning) (p : ℕ) (step step' : Option Opened) → HasTurned p step step' → IsStepStock theta step → IsStepStock theta step'
+stock-turned theta p None step' has is = subst (IsStepStock theta) (sym has) tt
+stock-turned theta p (Some o) None has is = absurd has
+stock-turned theta p (Some o) (Some o') has is = subst (IsStock theta) (sym (ap (λ (z : Opened). z.store) has.0)) is
 
 -- ---- held messages
 

@@ -27,12 +27,12 @@ use Rattle.joiner_core.specs.declared.epochs.Epochs.{Epochs}
 use Rattle.joiner_core.specs.Changes.{after_old, found_old, posts_old, late_found, late_posts, open_old, opened_late, found_late, posts_late, with_new, after_new, found_new, step_new, new_found, IsOpened, posts_opened, settled_by, IsReady, turned_in, settle_posts, posts_settled, after_settle, HasTurned, AreAllUp, end_posts, posts_turned, HasBegun, begun_posts}
 use Rattle.joiner_core.specs.Standing.{IsMachineOf, IsClosed, IsOpen, StandsBy, Stands}
 use Rattle.theta_pred.specs.Formula.{Meaning}
-use Rattle.joiner_core.specs.Stocks.{placed}
-use Rattle.joiner_core.specs.Widths.{IsRow, AreRows}
-use Rattle.joiner_core.proofs.Fitting.{rows-placed, rows-old, rows-new, rows-begun, rows-turned}
+use Rattle.joiner_core.specs.Stocks.{placed, with_placed}
+use Rattle.joiner_core.specs.Widths.{IsRow, IsStock}
+use Rattle.joiner_core.proofs.Fitting.{stock-placed, stock-old, stock-new, stock-begun, stock-turned}
 use Rattle.joiner_core.proofs.Posting.{beside, own-none, own-append, own-late, own-begun, own-turned, own-settled, own-before}
 use Rattle.joiner_core.proofs.Bagging.{settled-placed, open-placed, both-placed}
-use Rattle.joiner_core.specs.Taking.{AreStepRows, IsWithin, IsFixed, IsStepWithin, IsCounted, HasSomeTurn, TupFits, CanTakeTup, TurnFits, CanTakeTurn, TookOfFeeder}
+use Rattle.joiner_core.specs.Taking.{IsStepStock, IsWithin, IsFixed, IsStepWithin, IsCounted, HasSomeTurn, TupFits, CanTakeTup, TurnFits, CanTakeTurn, TookOfFeeder}
 use Rattle.epoch_tags.specs.declared.message.Post.{Post}
 
 pub append-nil : {A : Type 0} (xs : List A) → xs ++ [] ≡ xs
@@ -46,13 +46,13 @@ not_true false never = refl
 -- with no step open
 closed-old : (s : JoinerStart) (t : Taken) (lists : JoinerLists) (waiting : List Pair) (m : Epochs) (x : Tuple) (p : ℕ) → IsMachineOf s m → p < s.feeders → flag_at m.ended.items p ≡ false → x.stamp ≡ m.epoch
     → IsClosed s t lists waiting m
-    → IsClosed s (took_of_feeder p (Tup x) t) lists (waiting ++ (probed (does_hold m.theta.now) all_tuples x m.store ++ [])) (record m { store = placed x m.store; step = None })
+    → IsClosed s (took_of_feeder p (Tup x) t) lists (waiting ++ (probed (does_hold m.theta.now) all_tuples x m.store.tuples ++ [])) (record m { store = with_placed x m.store; step = None })
 closed-old s t lists waiting m x p fixed low going stamp is =
     let at = is.epoch in
     record {
       cur = with_arrived x is.cur;
       past = is.past;
-      stands = rw (append-nil (probed (does_hold m.theta.now) all_tuples x m.store), fixed.matches) (settled-placed s _ lists _ _ m.store x _ is.past (settled-tup s t lists waiting (flag_at m.ended.items) m.store is.cur is.past p x low going (omega arith) is.stands));
+      stands = rw (append-nil (probed (does_hold m.theta.now) all_tuples x m.store.tuples), fixed.matches) (settled-placed s _ lists _ _ m.store.tuples x _ is.past (settled-tup s t lists waiting (flag_at m.ended.items) m.store.tuples is.cur is.past p x low going (omega arith) is.stands));
       epoch = is.epoch;
       shift = is.shift;
       ended_count = is.ended_count;
@@ -72,22 +72,22 @@ open-old : (s : JoinerStart) (t : Taken) (lists : JoinerLists) (waiting : List P
     → IsOpen s t lists waiting m o
     → IsOpen s (took_of_feeder p (Tup x) t)
     (with_sent lists (posts_late (exchanged_side m.shift o.shift) (partner_in_step m.shift o.shift m.id) o.epoch x))
-    (waiting ++ (probed (does_hold m.theta.now) all_tuples x m.store ++ found_late (does_hold m.theta.now) m.k m.id o x))
-    (record m { store = placed x m.store; step = Some (opened_late m.k m.id o x) }) (opened_late m.k m.id o x)
+    (waiting ++ (probed (does_hold m.theta.now) all_tuples x m.store.tuples ++ found_late (does_hold m.theta.now) m.k m.id o x))
+    (record m { store = with_placed x m.store; step = Some (opened_late m.k m.id o x) }) (opened_late m.k m.id o x)
 open-old s t lists waiting m o x p fixed low going still stamp is =
     let at = is.epoch in
     let not_all : is.all_turned ≡ false = not_true is.all_turned (λ yes. false≢true (sym still ∙ is.all yes p low)) in
-    let before : StandsOpen s t lists waiting (flag_at o.turned.items) (flag_at m.ended.items) false o.partner_ended m.store o.store is.new is.cur is.past = rw not_all at is.stands in
+    let before : StandsOpen s t lists waiting (flag_at o.turned.items) (flag_at m.ended.items) false o.partner_ended m.store.tuples o.store.tuples is.new is.cur is.past = rw not_all at is.stands in
     let next : s.epoch + length is.past + 1 ≡ s.epoch + length (is.cur ∷ is.past) = omega arith in
     let epoch : o.epoch ≡ s.epoch + length (is.cur ∷ is.past) = is.step_epoch ∙ next in
     let posts_epoch = is.step_epoch in
-    let after = open-late s t lists waiting (flag_at o.turned.items) (flag_at m.ended.items) o.partner_ended m.store o.store is.new is.cur is.past p x low going still (omega arith) before in
+    let after = open-late s t lists waiting (flag_at o.turned.items) (flag_at m.ended.items) o.partner_ended m.store.tuples o.store.tuples is.new is.cur is.past p x low going still (omega arith) before in
     record {
       new = is.new;
       cur = with_arrived x is.cur;
       past = is.past;
       all_turned = false;
-      stands = rw (fixed.matches, fixed.k, fixed.id, is.shift, is.step_shift) (both-placed s _ _ _ _ _ _ _ m.store o.store x (holds s.k is.new.shift s.id x) is.new _ is.past (at_epoch s (took_of_feeder p (Tup x) t) lists waiting _ _ _ m.store _ o.store _ is.new is.cur _ is.past (exchanged_side is.cur.shift is.new.shift) (partner_in_step is.cur.shift is.new.shift s.id) x (holds s.k is.new.shift s.id x) (s.epoch + length is.past + 1) (s.epoch + length (is.cur ∷ is.past)) o.epoch is.step_epoch epoch after));
+      stands = rw (fixed.matches, fixed.k, fixed.id, is.shift, is.step_shift) (both-placed s _ _ _ _ _ _ _ m.store.tuples o.store.tuples x (holds s.k is.new.shift s.id x) is.new _ is.past (at_epoch s (took_of_feeder p (Tup x) t) lists waiting _ _ _ m.store.tuples _ o.store.tuples _ is.new is.cur _ is.past (exchanged_side is.cur.shift is.new.shift) (partner_in_step is.cur.shift is.new.shift s.id) x (holds s.k is.new.shift s.id x) (s.epoch + length is.past + 1) (s.epoch + length (is.cur ∷ is.past)) o.epoch is.step_epoch epoch after));
       epoch = is.epoch;
       shift = is.shift;
       step_epoch = is.step_epoch;
@@ -111,9 +111,9 @@ with_sent-none lists = λ i. record {
 
 old-by : (s : JoinerStart) (t : Taken) (lists : JoinerLists) (waiting : List Pair) (m : Epochs) (x : Tuple) (p : ℕ) → IsMachineOf s m → p < s.feeders → flag_at m.ended.items p ≡ false → x.stamp ≡ m.epoch
     → (step : Option Opened) → turned_in step p ≡ false → StandsBy s t lists waiting m step
-    → StandsBy s (took_of_feeder p (Tup x) t) (with_sent lists (late_posts m x step)) (waiting ++ (probed (does_hold m.theta.now) all_tuples x m.store ++ late_found m x step)) (record m { store = placed x m.store; step = open_old m x step }) (open_old m x step)
+    → StandsBy s (took_of_feeder p (Tup x) t) (with_sent lists (late_posts m x step)) (waiting ++ (probed (does_hold m.theta.now) all_tuples x m.store.tuples ++ late_found m x step)) (record m { store = with_placed x m.store; step = open_old m x step }) (open_old m x step)
 old-by s t lists waiting m x p fixed low going stamp None still is =
-    subst (λ (ls : JoinerLists). IsClosed s (took_of_feeder p (Tup x) t) ls (waiting ++ (probed (does_hold m.theta.now) all_tuples x m.store ++ [])) (record m { store = placed x m.store; step = None })) (sym (with_sent-none lists)) (closed-old s t lists waiting m x p fixed low going stamp is)
+    subst (λ (ls : JoinerLists). IsClosed s (took_of_feeder p (Tup x) t) ls (waiting ++ (probed (does_hold m.theta.now) all_tuples x m.store.tuples ++ [])) (record m { store = with_placed x m.store; step = None })) (sym (with_sent-none lists)) (closed-old s t lists waiting m x p fixed low going stamp is)
 old-by s t lists waiting m x p fixed low going stamp (Some o) still is = open-old s t lists waiting m o x p fixed low going still stamp is
 
 -- a tuple of the settled epoch
@@ -138,7 +138,7 @@ stands-shift s t lists waiting m is = shift-by s t lists waiting m is.fixed m.st
 
 open-new : (s : JoinerStart) (t : Taken) (lists : JoinerLists) (waiting : List Pair) (m : Epochs) (o : Opened) (x : Tuple) (p : ℕ) → IsMachineOf s m → p < s.feeders → flag_at m.ended.items p ≡ false → flag_at o.turned.items p ≡ true → x.stamp ≡ o.epoch
     → IsOpen s t lists waiting m o
-    → IsOpen s (took_of_feeder p (Tup x) t) lists (waiting ++ probed (does_hold m.theta.now) all_tuples x o.store) (record m { step = Some (with_new o x) }) (with_new o x)
+    → IsOpen s (took_of_feeder p (Tup x) t) lists (waiting ++ probed (does_hold m.theta.now) all_tuples x o.store.tuples) (record m { step = Some (with_new o x) }) (with_new o x)
 open-new s t lists waiting m o x p fixed low going has stamp is =
     let at = is.step_epoch in
     record {
@@ -146,7 +146,7 @@ open-new s t lists waiting m o x p fixed low going has stamp is =
       cur = is.cur;
       past = is.past;
       all_turned = is.all_turned;
-      stands = rw fixed.matches (open-placed s _ _ _ _ _ _ _ m.store o.store x _ is.cur is.past (open-tup s t lists waiting (flag_at o.turned.items) (flag_at m.ended.items) is.all_turned o.partner_ended m.store o.store is.new is.cur is.past p x low going has (omega arith) is.stands));
+      stands = rw fixed.matches (open-placed s _ _ _ _ _ _ _ m.store.tuples o.store.tuples x _ is.cur is.past (open-tup s t lists waiting (flag_at o.turned.items) (flag_at m.ended.items) is.all_turned o.partner_ended m.store.tuples o.store.tuples is.new is.cur is.past p x low going has (omega arith) is.stands));
       epoch = is.epoch;
       shift = is.shift;
       step_epoch = is.step_epoch;
@@ -170,19 +170,19 @@ partner-is s t lists waiting m o fixed is =
     ∙ ap (λ i. partner_in_step m.shift o.shift i) (sym fixed.id)
 
 pub open-part : (s : JoinerStart) (t : Taken) (lists : JoinerLists) (waiting : List Pair) (m : Epochs) (o : Opened) (x : Tuple) → IsMachineOf s m → (is : IsOpen s t lists waiting m o)
-    → IsOpen s (took_of_joiner (partner_in_step m.shift o.shift m.id) (Moved o.epoch x) t) lists (waiting ++ probed (does_hold m.theta.now) (only_stamp o.epoch) x o.store) (record m { step = Some (with_new o x) }) (with_new o x)
+    → IsOpen s (took_of_joiner (partner_in_step m.shift o.shift m.id) (Moved o.epoch x) t) lists (waiting ++ probed (does_hold m.theta.now) (only_stamp o.epoch) x o.store.tuples) (record m { step = Some (with_new o x) }) (with_new o x)
 open-part s t lists waiting m o x fixed is =
     let at = is.step_epoch in
     let next : o.epoch ≡ s.epoch + length (is.cur ∷ is.past) = omega arith in
-    let after = open-moved s t lists waiting (flag_at o.turned.items) (flag_at m.ended.items) is.all_turned o.partner_ended m.store o.store is.new is.cur is.past o.epoch x is.step_epoch is.stands in
+    let after = open-moved s t lists waiting (flag_at o.turned.items) (flag_at m.ended.items) is.all_turned o.partner_ended m.store.tuples o.store.tuples is.new is.cur is.past o.epoch x is.step_epoch is.stands in
     record {
       new = with_came x is.new;
       cur = is.cur;
       past = is.past;
       all_turned = is.all_turned;
-      stands = rw fixed.matches (open-placed s _ _ _ _ _ _ _ m.store o.store x _ is.cur is.past
-          (subst (λ (q : ℕ). StandsOpen s (took_of_joiner q (Moved o.epoch x) t) lists (waiting ++ probed s.matches (only_stamp o.epoch) x o.store) (flag_at o.turned.items) (flag_at m.ended.items) is.all_turned o.partner_ended m.store (o.store ++ x ∷ []) (with_came x is.new) is.cur is.past) (partner-is s t lists waiting m o fixed is)
-          (subst (λ (e : ℕ). StandsOpen s (took_of_joiner (partner_of s t (length is.past)) (Moved o.epoch x) t) lists (waiting ++ probed s.matches (only_stamp e) x o.store) (flag_at o.turned.items) (flag_at m.ended.items) is.all_turned o.partner_ended m.store (o.store ++ x ∷ []) (with_came x is.new) is.cur is.past) (sym next) after)));
+      stands = rw fixed.matches (open-placed s _ _ _ _ _ _ _ m.store.tuples o.store.tuples x _ is.cur is.past
+          (subst (λ (q : ℕ). StandsOpen s (took_of_joiner q (Moved o.epoch x) t) lists (waiting ++ probed s.matches (only_stamp o.epoch) x o.store.tuples) (flag_at o.turned.items) (flag_at m.ended.items) is.all_turned o.partner_ended m.store.tuples (o.store.tuples ++ x ∷ []) (with_came x is.new) is.cur is.past) (partner-is s t lists waiting m o fixed is)
+          (subst (λ (e : ℕ). StandsOpen s (took_of_joiner (partner_of s t (length is.past)) (Moved o.epoch x) t) lists (waiting ++ probed s.matches (only_stamp e) x o.store.tuples) (flag_at o.turned.items) (flag_at m.ended.items) is.all_turned o.partner_ended m.store.tuples (o.store.tuples ++ x ∷ []) (with_came x is.new) is.cur is.past) (sym next) after)));
       epoch = is.epoch;
       shift = is.shift;
       step_epoch = is.step_epoch;
@@ -197,14 +197,14 @@ open-part s t lists waiting m o x fixed is =
 pub open-part_end : (s : JoinerStart) (t : Taken) (lists : JoinerLists) (waiting : List Pair) (m : Epochs) (o : Opened) → IsMachineOf s m → o.partner_ended ≡ false → (is : IsOpen s t lists waiting m o)
     → IsOpen s (took_of_joiner (partner_in_step m.shift o.shift m.id) (MovedEnd o.epoch) t) lists waiting (record m { step = Some (record o { partner_ended = true }) }) (record o { partner_ended = true })
 open-part_end s t lists waiting m o fixed going is =
-    let before : StandsOpen s t lists waiting (flag_at o.turned.items) (flag_at m.ended.items) is.all_turned false m.store o.store is.new is.cur is.past = rw going at is.stands in
-    let after = open-moved_end s t lists waiting (flag_at o.turned.items) (flag_at m.ended.items) is.all_turned m.store o.store is.new is.cur is.past o.epoch is.step_epoch before in
+    let before : StandsOpen s t lists waiting (flag_at o.turned.items) (flag_at m.ended.items) is.all_turned false m.store.tuples o.store.tuples is.new is.cur is.past = rw going at is.stands in
+    let after = open-moved_end s t lists waiting (flag_at o.turned.items) (flag_at m.ended.items) is.all_turned m.store.tuples o.store.tuples is.new is.cur is.past o.epoch is.step_epoch before in
     record {
       new = is.new;
       cur = is.cur;
       past = is.past;
       all_turned = is.all_turned;
-      stands = subst (λ (q : ℕ). StandsOpen s (took_of_joiner q (MovedEnd o.epoch) t) lists waiting (flag_at o.turned.items) (flag_at m.ended.items) is.all_turned true m.store o.store is.new is.cur is.past) (partner-is s t lists waiting m o fixed is) after;
+      stands = subst (λ (q : ℕ). StandsOpen s (took_of_joiner q (MovedEnd o.epoch) t) lists waiting (flag_at o.turned.items) (flag_at m.ended.items) is.all_turned true m.store.tuples o.store.tuples is.new is.cur is.past) (partner-is s t lists waiting m o fixed is) after;
       epoch = is.epoch;
       shift = is.shift;
       step_epoch = is.step_epoch;
@@ -255,13 +255,13 @@ closed-opened s t lists waiting m o epoch shift fixed next within near some open
     let now : epoch ≡ s.epoch + length is.past + 1 = omega arith in
     let near' : AreNeighbours is.cur.shift shift = subst (λ (b : ℕ). AreNeighbours b shift) is.shift near in
     let within' : shift ≤ s.k = let k = fixed.k in omega arith in
-    let after = opened-step s t lists waiting (flag_at m.ended.items) m.store is.cur is.past shift within' near' is.stands in
+    let after = opened-step s t lists waiting (flag_at m.ended.items) m.store.tuples is.cur is.past shift within' near' is.stands in
     record {
       new = new_step shift;
       cur = is.cur;
       past = is.past;
       all_turned = false;
-      stands = rw (opened.store, opened.partner_ended, fixed.k, fixed.id, is.shift, now) (same-flags s _ _ waiting (λ p. false) (flag_at o.turned.items) _ false false m.store _ _ is.cur is.past (λ p. sym (opened.turned p)) after);
+      stands = rw (opened.store, opened.partner_ended, fixed.k, fixed.id, is.shift, now) (same-flags s _ _ waiting (λ p. false) (flag_at o.turned.items) _ false false m.store.tuples _ _ is.cur is.past (λ p. sym (opened.turned p)) after);
       epoch = is.epoch;
       shift = is.shift;
       step_epoch = opened.epoch ∙ now;
@@ -278,22 +278,22 @@ closed-opened s t lists waiting m o epoch shift fixed next within near some open
 open-settled : (s : JoinerStart) (t : Taken) (lists : JoinerLists) (waiting : List Pair) (m : Epochs) (o : Opened) → IsMachineOf s m → o.partner_ended ≡ true → (is : IsOpen s t lists waiting m o) → is.all_turned ≡ true
     → IsClosed s t (with_sent lists (settled_post o.epoch ∷ [])) waiting (settled_by m (Some o))
 open-settled s t lists waiting m o fixed part is turned =
-    let before : StandsOpen s t lists waiting (flag_at o.turned.items) (flag_at m.ended.items) true o.partner_ended m.store o.store is.new is.cur is.past = rw turned at is.stands in
-    let before' : StandsOpen s t lists waiting (flag_at o.turned.items) (flag_at m.ended.items) true true m.store o.store is.new is.cur is.past = rw part at before in
-    let after = settled-step s t lists waiting (flag_at o.turned.items) (flag_at m.ended.items) m.store o.store is.new is.cur is.past (is.all turned) before' in
+    let before : StandsOpen s t lists waiting (flag_at o.turned.items) (flag_at m.ended.items) true o.partner_ended m.store.tuples o.store.tuples is.new is.cur is.past = rw turned at is.stands in
+    let before' : StandsOpen s t lists waiting (flag_at o.turned.items) (flag_at m.ended.items) true true m.store.tuples o.store.tuples is.new is.cur is.past = rw part at before in
+    let after = settled-step s t lists waiting (flag_at o.turned.items) (flag_at m.ended.items) m.store.tuples o.store.tuples is.new is.cur is.past (is.all turned) before' in
     let at = is.step_epoch in
     let here = stored s.k s.id (is.cur ∷ is.past) in
-    let same : count_by (is_of (exchanged_side m.shift o.shift)) m.store ≡ count_by (is_of (exchanged_side is.cur.shift is.new.shift)) here =
-    ap (λ b. count_by (is_of (exchanged_side b o.shift)) m.store) is.shift
-    ∙ ap (λ b. count_by (is_of (exchanged_side is.cur.shift b)) m.store) is.step_shift
-    ∙ count-bag (is_of (exchanged_side is.cur.shift is.new.shift)) m.store here is.stands.store in
-    let counted : m.moved ++ count_by (is_of (exchanged_side m.shift o.shift)) m.store ∷ [] ≡ moved_counts s.k s.id (is.new ∷ (is.cur ∷ is.past)) =
-    ap (λ zs. zs ++ count_by (is_of (exchanged_side m.shift o.shift)) m.store ∷ []) is.moved
+    let same : count_by (is_of (exchanged_side m.shift o.shift)) m.store.tuples ≡ count_by (is_of (exchanged_side is.cur.shift is.new.shift)) here =
+    ap (λ b. count_by (is_of (exchanged_side b o.shift)) m.store.tuples) is.shift
+    ∙ ap (λ b. count_by (is_of (exchanged_side is.cur.shift b)) m.store.tuples) is.step_shift
+    ∙ count-bag (is_of (exchanged_side is.cur.shift is.new.shift)) m.store.tuples here is.stands.store in
+    let counted : m.moved ++ count_by (is_of (exchanged_side m.shift o.shift)) m.store.tuples ∷ [] ≡ moved_counts s.k s.id (is.new ∷ (is.cur ∷ is.past)) =
+    ap (λ zs. zs ++ count_by (is_of (exchanged_side m.shift o.shift)) m.store.tuples ∷ []) is.moved
     ∙ ap (λ n. moved_counts s.k s.id (is.cur ∷ is.past) ++ n ∷ []) same in
     record {
       cur = is.new;
       past = is.cur ∷ is.past;
-      stands = subst (λ (e : ℕ). StandsSettled s t (with_sent lists (settled_post e ∷ [])) waiting (flag_at m.ended.items) o.store is.new (is.cur ∷ is.past)) (sym is.step_epoch) after;
+      stands = subst (λ (e : ℕ). StandsSettled s t (with_sent lists (settled_post e ∷ [])) waiting (flag_at m.ended.items) o.store.tuples is.new (is.cur ∷ is.past)) (sym is.step_epoch) after;
       epoch = omega arith;
       shift = is.step_shift;
       ended_count = is.ended_count;
@@ -343,18 +343,18 @@ open-turned : (s : JoinerStart) (t : Taken) (lists : JoinerLists) (waiting : Lis
     → IsOpen s (took_of_feeder p (Turn epoch shift) t) (with_sent lists (cond last (moved_end_post (partner_in_step m.shift o.shift m.id) o.epoch ∷ []) [])) waiting (record m { step = Some (record o { turned = o'.turned }) }) (record o { turned = o'.turned })
 open-turned s t lists waiting m o o' p epoch shift last fixed low going still now same flags up down is =
     let not_all : is.all_turned ≡ false = not_true is.all_turned (λ all. false≢true (sym still ∙ is.all all p low)) in
-    let before : StandsOpen s t lists waiting (flag_at o.turned.items) (flag_at m.ended.items) false o.partner_ended m.store o.store is.new is.cur is.past = rw not_all at is.stands in
+    let before : StandsOpen s t lists waiting (flag_at o.turned.items) (flag_at m.ended.items) false o.partner_ended m.store.tuples o.store.tuples is.new is.cur is.past = rw not_all at is.stands in
     let within : p < length o.turned.items = let n = is.count in omega arith in
-    let turned = open-turn s t lists waiting (flag_at o.turned.items) (flag_at m.ended.items) o.partner_ended m.store o.store is.new is.cur is.past p epoch shift low going still (now ∙ is.step_epoch) (same ∙ is.step_shift) before in
-    let known : StandsOpen s (took_of_feeder p (Turn epoch shift) t) lists waiting (flag_at o'.turned.items) (flag_at m.ended.items) false o.partner_ended m.store o.store is.new is.cur is.past =
-    same-flags s (took_of_feeder p (Turn epoch shift) t) lists waiting _ (flag_at o'.turned.items) _ false o.partner_ended m.store o.store is.new is.cur is.past (λ q. flag-set o.turned.items p q within ∙ ap (λ fs. flag_at fs q) (sym flags)) turned in
+    let turned = open-turn s t lists waiting (flag_at o.turned.items) (flag_at m.ended.items) o.partner_ended m.store.tuples o.store.tuples is.new is.cur is.past p epoch shift low going still (now ∙ is.step_epoch) (same ∙ is.step_shift) before in
+    let known : StandsOpen s (took_of_feeder p (Turn epoch shift) t) lists waiting (flag_at o'.turned.items) (flag_at m.ended.items) false o.partner_ended m.store.tuples o.store.tuples is.new is.cur is.past =
+    same-flags s (took_of_feeder p (Turn epoch shift) t) lists waiting _ (flag_at o'.turned.items) _ false o.partner_ended m.store.tuples o.store.tuples is.new is.cur is.past (λ q. flag-set o.turned.items p q within ∙ ap (λ fs. flag_at fs q) (sym flags)) turned in
     let many : length o'.turned.items ≡ s.feeders = ap length flags ∙ length-set o.turned.items p true ∙ is.count in
     record {
       new = is.new;
       cur = is.cur;
       past = is.past;
       all_turned = last;
-      stands = rw (fixed.id, is.shift, is.step_shift, is.step_epoch) (by_last s (took_of_feeder p (Turn epoch shift) t) lists waiting (flag_at o'.turned.items) (flag_at m.ended.items) o.partner_ended m.store o.store is.new is.cur is.past last known);
+      stands = rw (fixed.id, is.shift, is.step_shift, is.step_epoch) (by_last s (took_of_feeder p (Turn epoch shift) t) lists waiting (flag_at o'.turned.items) (flag_at m.ended.items) o.partner_ended m.store.tuples o.store.tuples is.new is.cur is.past last known);
       epoch = is.epoch;
       shift = is.shift;
       step_epoch = is.step_epoch;
@@ -372,11 +372,11 @@ pub closed-end : (s : JoinerStart) (t : Taken) (lists : JoinerLists) (waiting : 
     → IsClosed s t lists waiting m → IsClosed s (took_of_feeder p End t) lists waiting (record m { ended = m'.ended })
 closed-end s t lists waiting m m' p low going flags is =
     let within : p < length m.ended.items = let n = is.ended_count in omega arith in
-    let after = settled-end s t lists waiting (flag_at m.ended.items) m.store is.cur is.past p low going is.stands in
+    let after = settled-end s t lists waiting (flag_at m.ended.items) m.store.tuples is.cur is.past p low going is.stands in
     record {
       cur = is.cur;
       past = is.past;
-      stands = same-ends s (took_of_feeder p End t) lists waiting _ (flag_at m'.ended.items) m.store is.cur is.past (λ q. flag-set m.ended.items p q within ∙ ap (λ fs. flag_at fs q) (sym flags)) after;
+      stands = same-ends s (took_of_feeder p End t) lists waiting _ (flag_at m'.ended.items) m.store.tuples is.cur is.past (λ q. flag-set m.ended.items p q within ∙ ap (λ fs. flag_at fs q) (sym flags)) after;
       epoch = is.epoch;
       shift = is.shift;
       ended_count = ap length flags ∙ length-set m.ended.items p true ∙ is.ended_count;
@@ -437,7 +437,7 @@ rests-new x None rests ready = ready
 rests-new x (Some o) rests ready = rests ready
 
 pub new-within : (m : Epochs) (x : Tuple) → IsWithin m → IsRow m.theta.now x → IsWithin (after_new m x)
-new-within m x within row = record { small = within.small; shift = within.shift; step = within-new m.k m.shift x m.step within.step; ended = within.ended; count = count-new m.feeders x m.step within.count; begun = begun-new m.feeders x m.step within.begun; rests = rests-new x m.step within.rests; id = within.id; rows = within.rows; step_rows = rows-new m.theta.now x m.step within.step_rows row }
+new-within m x within row = record { small = within.small; shift = within.shift; step = within-new m.k m.shift x m.step within.step; ended = within.ended; count = count-new m.feeders x m.step within.count; begun = begun-new m.feeders x m.step within.begun; rests = rests-new x m.step within.rests; id = within.id; stock = within.stock; step_stock = stock-new m.theta.now x m.step within.step_stock row }
 
 pub quiet-moved : (to epoch : ℕ) (xs : List Tuple) → posted_to_collector (map (moved_post to epoch) xs) ≡ []
 quiet-moved to epoch [] = refl
@@ -451,7 +451,7 @@ quiet-late m x None = refl
 quiet-late m x (Some o) = quiet-moved (partner_in_step m.shift o.shift m.id) o.epoch (cond (is_of (exchanged_side m.shift o.shift) x) (x ∷ []) [])
 
 quiet-begun : (m : Epochs) (epoch shift : ℕ) (step : Option Opened) → posted_to_collector (begun_posts m epoch shift step) ≡ []
-quiet-begun m epoch shift None = quiet-moved (partner_in_step m.shift shift m.id) epoch (filter (is_of (exchanged_side m.shift shift)) m.store)
+quiet-begun m epoch shift None = quiet-moved (partner_in_step m.shift shift m.id) epoch (filter (is_of (exchanged_side m.shift shift)) m.store.tuples)
 quiet-begun m epoch shift (Some o) = refl
 
 quiet-ends : (m : Epochs) (step : Option Opened) → posted_to_collector (end_posts m step) ≡ []
@@ -477,7 +477,7 @@ took-old m m' x p found found' before after within can row still state more post
   sends = refl;
   quiet = quiet-late m x m.step;
   own = own-late m x m.step within.id within.step row;
-  within = record { small = within.small; shift = within.shift; step = within-old m.k m.shift m x m.step within.step; ended = within.ended; count = count-old m.feeders m x m.step within.count; begun = begun-old m.feeders m x m.step within.begun; rests = rests-old m x m.step within.rests; id = within.id; rows = rows-placed m.theta.now m.store x within.rows row; step_rows = rows-old m.theta.now m x m.step within.step_rows row };
+  within = record { small = within.small; shift = within.shift; step = within-old m.k m.shift m x m.step within.step; ended = within.ended; count = count-old m.feeders m x m.step within.count; begun = begun-old m.feeders m x m.step within.begun; rests = rests-old m x m.step within.rests; id = within.id; stock = stock-placed m.theta.now x m.store within.stock row; step_stock = stock-old m.theta.now m x m.step within.step_stock row };
   k = refl;
   id = refl;
   feeders = refl;
@@ -610,15 +610,15 @@ turned-some n p None step' low has is = subst (λ (z : Option Opened). HasSomeTu
 turned-some n p (Some o) None low has is = absurd has
 turned-some n p (Some o) (Some o') low has is = (p, low, ap (λ fs. flag_at fs p) has.1 ∙ get_or-set_same o.turned.items p true false (omega arith))
 
-settled-within-step : (m : Epochs) (step : Option Opened) → IsReady step → m.k < 9 → IsStepWithin m.k m.shift step → length m.ended.items ≡ m.feeders → m.id < 2 ^ m.k → AreStepRows m.theta.now step → IsWithin (settled_by m step)
-settled-within-step m None ready small step ended id rows = absurd ready
-settled-within-step m (Some o) ready small step ended id rows = record { small = small; shift = step.0; step = tt; ended = ended; count = tt; begun = tt; rests = λ never. never; id = id; rows = rows; step_rows = tt }
+settled-within-step : (m : Epochs) (step : Option Opened) → IsReady step → m.k < 9 → IsStepWithin m.k m.shift step → length m.ended.items ≡ m.feeders → m.id < 2 ^ m.k → IsStepStock m.theta.now step → IsWithin (settled_by m step)
+settled-within-step m None ready small step ended id stock = absurd ready
+settled-within-step m (Some o) ready small step ended id stock = record { small = small; shift = step.0; step = tt; ended = ended; count = tt; begun = tt; rests = λ never. never; id = id; stock = stock; step_stock = tt }
 
 pub settled-within : (m : Epochs) (ready : Bool) → (ready ≡ true → IsReady m.step) → (ready ≡ false → IsReady m.step → ⊥)
     → m.k < 9 → m.shift ≤ m.k → IsStepWithin m.k m.shift m.step → length m.ended.items ≡ m.feeders → IsCounted m.feeders m.step → HasSomeTurn m.feeders m.step
-    → m.id < 2 ^ m.k → AreRows m.theta.now m.store → AreStepRows m.theta.now m.step → IsWithin (after_settle ready m)
-settled-within m true settles not_yet small low step ended count begun id rows step_rows = settled-within-step m m.step (settles refl) small step ended id step_rows
-settled-within m false settles not_yet small low step ended count begun id rows step_rows = record { small = small; shift = low; step = step; ended = ended; count = count; begun = begun; rests = not_yet refl; id = id; rows = rows; step_rows = step_rows }
+    → m.id < 2 ^ m.k → IsStock m.theta.now m.store → IsStepStock m.theta.now m.step → IsWithin (after_settle ready m)
+settled-within m true settles not_yet small low step ended count begun id stock step_stock = settled-within-step m m.step (settles refl) small step ended id step_stock
+settled-within m false settles not_yet small low step ended count begun id stock step_stock = record { small = small; shift = low; step = step; ended = ended; count = count; begun = begun; rests = not_yet refl; id = id; stock = stock; step_stock = step_stock }
 
 pub settled-k : (m : Epochs) (ready : Bool) → (after_settle ready m).k ≡ m.k
 settled-k m true = by m.step
@@ -670,8 +670,8 @@ took-turn m m1 m2 m3 p epoch shift last ready waiting before s1 s2 after few wit
     let i2 : m2.id ≡ m.id = ap (λ (z : Epochs). z.id) rest2 ∙ ap (λ (z : Epochs). z.id) rest1 in
     let th2 : m2.theta.now ≡ m.theta.now = ap (λ (z : Epochs). z.theta.now) rest2 ∙ ap (λ (z : Epochs). z.theta.now) rest1 in
     let store2 : m2.store ≡ m.store = ap (λ (z : Epochs). z.store) rest2 ∙ ap (λ (z : Epochs). z.store) rest1 in
-    let rows1 : AreStepRows m.theta.now m1.step = rows-begun m.theta.now m epoch shift m.step m1.step within.rows within.step_rows begun in
-    let rows2 : AreStepRows m.theta.now m2.step = rows-turned m.theta.now p m1.step m2.step turned rows1 in
+    let stock1 : IsStepStock m.theta.now m1.step = stock-begun m.theta.now m epoch shift m.step m1.step within.stock within.step_stock begun in
+    let stock2 : IsStepStock m.theta.now m2.step = stock-turned m.theta.now p m1.step m2.step turned stock1 in
     let fixed1 : IsFixed m m1 = record { k = k1; id = ap (λ (z : Epochs). z.id) rest1; feeders = ap (λ (z : Epochs). z.feeders) rest1; theta = ap (λ (z : Epochs). z.theta.now) rest1 } in
     let id1 : m1.id < 2 ^ m1.k = subst (λ (n : ℕ). m1.id < 2 ^ n) (sym k1) (subst (λ (n : ℕ). n < 2 ^ m.k) (sym fixed1.id) within.id) in
     let id2 : m2.id < 2 ^ m2.k = subst (λ (n : ℕ). m2.id < 2 ^ n) (sym k2) (subst (λ (n : ℕ). n < 2 ^ m.k) (sym i2) within.id) in
@@ -682,8 +682,8 @@ took-turn m m1 m2 m3 p epoch shift last ready waiting before s1 s2 after few wit
     (subst (λ (n : ℕ). IsCounted n m2.step) (sym n2) (turned-count m.feeders p m1.step m2.step turned count1))
     (subst (λ (n : ℕ). HasSomeTurn n m2.step) (sym n2) (turned-some m.feeders p m1.step m2.step few turned count1))
     id2
-    (subst (λ (th : Meaning). AreRows th m2.store) (sym th2) (subst (AreRows m.theta.now) (sym store2) within.rows))
-    (subst (λ (th : Meaning). AreStepRows th m2.step) (sym th2) rows2) in
+    (subst (λ (th : Meaning). IsStock th m2.store) (sym th2) (subst (IsStock m.theta.now) (sym store2) within.stock))
+    (subst (λ (th : Meaning). IsStepStock th m2.step) (sym th2) stock2) in
     record {
       added = begun_posts m epoch shift m.step ++ posts_turned m1 last ++ posts_settled ready m2;
       sends = posts3 ∙ ap (λ zs. zs ++ posts_settled ready m2) (posts2 ∙ ap (λ zs. zs ++ posts_turned m1 last) posts1)

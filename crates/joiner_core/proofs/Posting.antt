@@ -46,7 +46,7 @@ own-late m x (Some o) id within row = own-moves m o.shift o.epoch _ id within.1 
 
 pub own-begun : (m : Epochs) (p epoch shift : ℕ) (step : Option Opened) → IsWithin m → TurnFits m p epoch shift step → AreOwnPosts m (begun_posts m epoch shift step)
 own-begun m p epoch shift None within fits =
-    own-moves m shift epoch _ within.id (beside m.k m.shift shift within.shift fits.1 fits.2) (All-filter (is_of (exchanged_side m.shift shift)) (IsRow m.theta.now) m.store within.rows)
+    own-moves m shift epoch _ within.id (beside m.k m.shift shift within.shift fits.1 fits.2) (All-filter (is_of (exchanged_side m.shift shift)) (IsRow m.theta.now) m.store.tuples within.stock.rows)
 own-begun m p epoch shift (Some o) within fits = All-nil (IsOwnPost m.k m.feeders m.id m.theta.now)
 
 own-ends : (m : Epochs) (step : Option Opened) → m.id < 2 ^ m.k → IsStepWithin m.k m.shift step → AreOwnPosts m (end_posts m step)

@@ -19,7 +19,7 @@ use Rattle.joiner_core.specs.Standing.{IsMachineOf, IsOpen, StandsBy, Stands}
 use Rattle.joiner_core.specs.Taking.{IsWithin, IsFixed, IsStepWithin, IsCounted, HasSomeTurn, TookOfFeeder, TookOfJoiner}
 use Rattle.joiner_core.specs.Widths.{IsRow}
 use Rattle.joiner_core.specs.Tests.{PartFits}
-use Rattle.joiner_core.proofs.Fitting.{rows-part}
+use Rattle.joiner_core.proofs.Fitting.{stock-part}
 use Rattle.joiner_core.proofs.Posting.{own-none, own-settled, own-before}
 use Rattle.joiner_core.proofs.Keeping.{quiet-settled, append-nil, closed-end, flag-set, open-part, open-part_end, stands-settled, settled-within, settled-k, settled-id, settled-feeders, settled-theta, new-within, with_sent-none}
 
@@ -53,13 +53,13 @@ open-ended : (s : JoinerStart) (t : Taken) (lists : JoinerLists) (waiting : List
     → IsOpen s t lists waiting m o → IsOpen s (took_of_feeder p End t) lists waiting (record m { ended = m'.ended }) o
 open-ended s t lists waiting m m' o p low going flags is =
     let within : p < length m.ended.items = let n = is.ended_count in omega arith in
-    let after = open-end s t lists waiting (flag_at o.turned.items) (flag_at m.ended.items) is.all_turned o.partner_ended m.store o.store is.new is.cur is.past p low going is.stands in
+    let after = open-end s t lists waiting (flag_at o.turned.items) (flag_at m.ended.items) is.all_turned o.partner_ended m.store.tuples o.store.tuples is.new is.cur is.past p low going is.stands in
     record {
       new = is.new;
       cur = is.cur;
       past = is.past;
       all_turned = is.all_turned;
-      stands = same-ends-open s (took_of_feeder p End t) lists waiting (flag_at o.turned.items) _ (flag_at m'.ended.items) is.all_turned o.partner_ended m.store o.store is.new is.cur is.past (λ q. flag-set m.ended.items p q within ∙ ap (λ fs. flag_at fs q) (sym flags)) after;
+      stands = same-ends-open s (took_of_feeder p End t) lists waiting (flag_at o.turned.items) _ (flag_at m'.ended.items) is.all_turned o.partner_ended m.store.tuples o.store.tuples is.new is.cur is.past (λ q. flag-set m.ended.items p q within ∙ ap (λ fs. flag_at fs q) (sym flags)) after;
       epoch = is.epoch;
       shift = is.shift;
       step_epoch = is.step_epoch;
@@ -83,7 +83,7 @@ took-end m m' p waiting before within going state flags = record {
   sends = sym (append-nil before);
   quiet = refl;
   own = own-none m;
-  within = subst (λ (z : Epochs). IsWithin z) (sym state) (record { small = within.small; shift = within.shift; step = within.step; ended = ap length flags ∙ length-set m.ended.items p true ∙ within.ended; count = within.count; begun = within.begun; rests = within.rests; id = within.id; rows = within.rows; step_rows = within.step_rows });
+  within = subst (λ (z : Epochs). IsWithin z) (sym state) (record { small = within.small; shift = within.shift; step = within.step; ended = ap length flags ∙ length-set m.ended.items p true ∙ within.ended; count = within.count; begun = within.begun; rests = within.rests; id = within.id; stock = within.stock; step_stock = within.step_stock });
   k = ap (λ (z : Epochs). z.k) state;
   id = ap (λ (z : Epochs). z.id) state;
   feeders = ap (λ (z : Epochs). z.feeders) state;
@@ -164,7 +164,7 @@ part-begun n (Some o) is = is
 
 ended-within : (m m1 : Epochs) (ready : Bool) → IsWithin m → m1 ≡ after_part m → (ready ≡ true → IsReady m1.step) → (ready ≡ false → IsReady m1.step → ⊥) → IsWithin (after_settle ready m1)
 ended-within m m1 ready within part = subst (λ (z : Epochs). (ready ≡ true → IsReady z.step) → (ready ≡ false → IsReady z.step → ⊥) → IsWithin (after_settle ready z)) (sym part)
-    (λ settles not_yet. settled-within (after_part m) ready settles not_yet within.small within.shift (part-within m.k m.shift m.step within.step) within.ended (part-count m.feeders m.step within.count) (part-begun m.feeders m.step within.begun) within.id within.rows (rows-part m.theta.now m.step within.step_rows))
+    (λ settles not_yet. settled-within (after_part m) ready settles not_yet within.small within.shift (part-within m.k m.shift m.step within.step) within.ended (part-count m.feeders m.step within.count) (part-begun m.feeders m.step within.begun) within.id within.stock (stock-part m.theta.now m.step within.step_stock))
 
 part-fixed : (m m1 : Epochs) → m1 ≡ after_part m → IsFixed m m1
 part-fixed m m1 part = subst (λ (z : Epochs). IsFixed m z) (sym part) (record { k = refl; id = refl; feeders = refl; theta = refl })

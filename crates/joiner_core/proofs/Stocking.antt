@@ -1,5 +1,5 @@
 -- A store as one list.
-use Rattle.std.proofs.Common.{◌≡◌, ℕ, ◌+◌, refl, sym, ◌∙◌, ap, subst, arith, Bool, true, false, cond, List, [], ◌∷◌, ◌++◌, length, filter, sum_by, count_by, All, append-nil}
+use Rattle.std.proofs.Common.{◌≡◌, ℕ, ◌+◌, refl, sym, ◌∙◌, ap, subst, arith, Bool, true, false, cond, Option, List, [], ◌∷◌, ◌++◌, length, filter, sum_by, count_by, All, append-nil}
 use Rattle.std.specs.Prelude.{slice_index_or}
 use Rattle.std.proofs.lemmas.List.Elements.{filter-append, All-filter, All-push, All-head, All-tail}
 use Rattle.std.proofs.lemmas.List.Sums.{sum_by-cons, sum_by-append, length-filter}
@@ -9,18 +9,21 @@ use Rattle.join_rows.specs.declared.table.Side.TheVariants.{R, S}
 use Rattle.grid_map.specs.declared.shape.Shape.{Shape}
 use Rattle.epoch_tags.specs.declared.tuple.Tuple.{Tuple}
 use Rattle.migration_plan.specs.Steps.{holds, same_side, is_of}
+use Rattle.theta_pred.specs.declared.atom.KeyAtom.{KeyAtom}
 use Rattle.theta_pred.specs.Formula.{Meaning}
+use Rattle.theta_pred.specs.Keys.{Atom}
 use Rattle.theta_pred.specs.Truth.{holds as is_true}
 use Rattle.store_parts.specs.declared.which.Which.{Which}
 use Rattle.store_parts.specs.declared.which.Which.TheVariants.{All as All', OnlyStamp}
+use Rattle.store_parts.specs.Keyed.{IsOwn}
 use Rattle.store_parts.specs.Matches.{is_named, matches, HasWidth}
 use Rattle.store_parts.specs.Stored.{Stored, side_of, others_of, with_tuple_at, with_tuple, kept_of, AreSided, HaveWidths}
 use Rattle.store_parts.proofs.Sides.{matches-both, probed_at as probed_at'}
 use Rattle.joiner_law.specs.History.{probed_at, probed}
 use Rattle.joiner_core.specs.Matching.{does_hold}
 use Rattle.joiner_core.specs.Probes.{named_by}
-use Rattle.joiner_core.specs.Stocks.{tuples_of, by_side, placed}
-use Rattle.joiner_core.specs.Widths.{IsRow, AreRows}
+use Rattle.joiner_core.specs.Stocks.{Stocked, tuples_of, by_side, placed, stocked_of, with_placed, kept_stock, IsKeyOf}
+use Rattle.joiner_core.specs.Widths.{IsRow, AreRows, IsStock}
 
 -- ---- the two sides are the whole, as a bag
 
@@ -97,20 +100,28 @@ sided-at : (side : Side) (store : Stored) (x : Tuple) → x.side ≡ side → Ar
 sided-at R store x own are = record { r = All-push (λ (t : Tuple). t.side ≡ R) store.r x are.r own; s = are.s }
 sided-at S store x own are = record { r = are.r; s = All-push (λ (t : Tuple). t.side ≡ S) store.s x are.s own }
 
-key-at : (side : Side) (store : Stored) (x : Tuple) → (with_tuple_at side store x).key ≡ store.key
-key-at R store x = refl
-key-at S store x = refl
+stocked-at : (side : Side) (store : Stored) (x : Tuple) (tuples : List Tuple) → tuples_of (with_tuple_at side store x) ≡ tuples → stocked_of (with_tuple_at side store x) ≡ record { tuples = tuples; key = store.key }
+stocked-at R store x tuples is = ap (λ (xs : List Tuple). record { tuples = xs; key = store.key }) is
+stocked-at S store x tuples is = ap (λ (xs : List Tuple). record { tuples = xs; key = store.key }) is
 
 pub sided-with : (store : Stored) (x : Tuple) → AreSided store.r store.s → AreSided (with_tuple store x).r (with_tuple store x).s
 sided-with store x are = sided-at x.side store x refl are
 
-pub key-with : (store : Stored) (x : Tuple) → (with_tuple store x).key ≡ store.key
-key-with store x = key-at x.side store x
+-- a store with one tuple more, as one list with its key
+pub stocked-with : (store : Stored) (x : Tuple) → AreSided store.r store.s → stocked_of (with_tuple store x) ≡ with_placed x (stocked_of store)
+stocked-with store x are = stocked-at x.side store x (placed x (tuples_of store)) (placed-is store x are)
+
+-- the predicate's own key is its key atom
+pub own-key : (theta : Meaning) (key : Option KeyAtom) → IsKeyOf theta key → IsOwn theta key
+own-key theta key is = λ (atom : Atom) has. sym is ∙ has
 
 -- ---- what is kept
 
-pub kept-is : (shape : Shape) (id : ℕ) (store : Stored) → tuples_of (kept_of shape id store) ≡ filter (holds shape.k shape.shift id) (tuples_of store)
+kept-is : (shape : Shape) (id : ℕ) (store : Stored) → tuples_of (kept_of shape id store) ≡ filter (holds shape.k shape.shift id) (tuples_of store)
 kept-is shape id store = sym (filter-append (holds shape.k shape.shift id) store.r store.s)
+
+pub stocked-kept : (shape : Shape) (id : ℕ) (store : Stored) → stocked_of (kept_of shape id store) ≡ kept_stock shape.k shape.shift id (stocked_of store)
+stocked-kept shape id store = ap (λ (xs : List Tuple). record { tuples = xs; key = store.key }) (kept-is shape id store)
 
 pub sided-kept : (shape : Shape) (id : ℕ) (store : Stored) → AreSided store.r store.s → AreSided (kept_of shape id store).r (kept_of shape id store).s
 sided-kept shape id store are = record {

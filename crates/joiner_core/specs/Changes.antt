@@ -8,7 +8,7 @@ use Rattle.migration_plan.specs.Steps.{holds, is_of, exchanged_side, partner_in_
 use Rattle.joiner_law.specs.History.{probed, all_tuples, only_stamp}
 use Rattle.joiner_law.specs.Posting.{moved_post, moved_end_post, settled_post}
 use Rattle.joiner_core.specs.Matching.{does_hold}
-use Rattle.joiner_core.specs.Stocks.{placed}
+use Rattle.joiner_core.specs.Stocks.{placed, with_placed, kept_stock}
 use Rattle.joiner_core.specs.Flags.{flag_at, IsEachUp}
 use Rattle.joiner_core.specs.declared.opened.Opened.{Opened}
 use Rattle.joiner_core.specs.declared.epochs.Epochs.{Epochs}
@@ -20,10 +20,10 @@ kept_at_end kept x b = cond kept (placed x b) b
 -- ---- a late tuple
 
 abbrev pub opened_late : ℕ → ℕ → Opened → Tuple → Opened
-opened_late k id o x = record o { store = kept_at_end (holds k o.shift id x) x o.store }
+opened_late k id o x = record o { store = record o.store { tuples = kept_at_end (holds k o.shift id x) x o.store.tuples } }
 
 abbrev pub found_late : (Tuple → Tuple → Bool) → ℕ → ℕ → Opened → Tuple → List Pair
-found_late matches k id o x = cond (holds k o.shift id x) (probed matches (only_stamp o.epoch) x o.store) []
+found_late matches k id o x = cond (holds k o.shift id x) (probed matches (only_stamp o.epoch) x o.store.tuples) []
 
 abbrev pub posts_late : Side → ℕ → ℕ → Tuple → List Post
 posts_late side to epoch x = map (moved_post to epoch) (cond (is_of side x) (x ∷ []) [])
@@ -35,14 +35,14 @@ open_old m x None = None
 open_old m x (Some o) = Some (opened_late m.k m.id o x)
 
 abbrev pub after_old : Epochs → Tuple → Epochs
-after_old m x = record m { store = placed x m.store; step = open_old m x m.step }
+after_old m x = record m { store = with_placed x m.store; step = open_old m x m.step }
 
 abbrev pub late_found : Epochs → Tuple → Option Opened → List Pair
 late_found m x None = []
 late_found m x (Some o) = found_late (does_hold m.theta.now) m.k m.id o x
 
 abbrev pub found_old : Epochs → Tuple → List Pair
-found_old m x = probed (does_hold m.theta.now) all_tuples x m.store ++ late_found m x m.step
+found_old m x = probed (does_hold m.theta.now) all_tuples x m.store.tuples ++ late_found m x m.step
 
 abbrev pub late_posts : Epochs → Tuple → Option Opened → List Post
 late_posts m x None = []
@@ -54,7 +54,7 @@ posts_old m x = late_posts m x m.step
 -- ---- a tuple of the open step
 
 abbrev pub with_new : Opened → Tuple → Opened
-with_new o x = record o { store = placed x o.store }
+with_new o x = record o { store = with_placed x o.store }
 
 abbrev pub step_new : Tuple → Option Opened → Option Opened
 step_new x None = None
@@ -65,7 +65,7 @@ after_new m x = record m { step = step_new x m.step }
 
 abbrev pub new_found : Epochs → Tuple → Option Opened → List Pair
 new_found m x None = []
-new_found m x (Some o) = probed (does_hold m.theta.now) all_tuples x o.store
+new_found m x (Some o) = probed (does_hold m.theta.now) all_tuples x o.store.tuples
 
 abbrev pub found_new : Epochs → Tuple → List Pair
 found_new m x = new_found m x m.step
@@ -77,7 +77,7 @@ after_moved m x = after_new m x
 
 abbrev pub moved_found : Epochs → Tuple → Option Opened → List Pair
 moved_found m x None = []
-moved_found m x (Some o) = probed (does_hold m.theta.now) (only_stamp o.epoch) x o.store
+moved_found m x (Some o) = probed (does_hold m.theta.now) (only_stamp o.epoch) x o.store.tuples
 
 abbrev pub found_moved : Epochs → Tuple → List Pair
 found_moved m x = moved_found m x m.step
@@ -85,7 +85,7 @@ found_moved m x = moved_found m x m.step
 -- ---- the first turn
 
 abbrev pub posts_opened : Epochs → ℕ → ℕ → List Post
-posts_opened m epoch shift = map (moved_post (partner_in_step m.shift shift m.id) epoch) (filter (is_of (exchanged_side m.shift shift)) m.store)
+posts_opened m epoch shift = map (moved_post (partner_in_step m.shift shift m.id) epoch) (filter (is_of (exchanged_side m.shift shift)) m.store.tuples)
 
 -- the step that was opened, to this epoch and shift
 pub record IsOpened (m : Epochs) (e b : ℕ) (o : Opened) : Type 0 where
@@ -93,7 +93,7 @@ pub record IsOpened (m : Epochs) (e b : ℕ) (o : Opened) : Type 0 where
   pub shift : o.shift ≡ b
   pub count : length o.turned.items ≡ m.feeders
   pub turned : (p : ℕ) → slice_index_or o.turned.items p false ≡ false
-  pub store : o.store ≡ filter (holds m.k b m.id) m.store
+  pub store : o.store ≡ kept_stock m.k b m.id m.store
   pub partner_ended : o.partner_ended ≡ false
 
 abbrev pub HasOpened : Epochs → ℕ → ℕ → Option Opened → Type 0
@@ -149,7 +149,7 @@ settled_by m (Some o) = record m {
   shift = o.shift;
   store = o.store;
   step = None;
-  moved = m.moved ++ count_by (is_of (exchanged_side m.shift o.shift)) m.store ∷ [];
+  moved = m.moved ++ count_by (is_of (exchanged_side m.shift o.shift)) m.store.tuples ∷ [];
 }
 
 abbrev pub after_settle : Bool → Epochs → Epochs

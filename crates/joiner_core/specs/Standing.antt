@@ -21,7 +21,7 @@ pub record IsMachineOf (s : JoinerStart) (m : Epochs) : Type 0 where
 pub record IsClosed (s : JoinerStart) (t : Taken) (lists : JoinerLists) (waiting : List Pair) (m : Epochs) : Type 0 where
   pub cur : Step
   pub past : List Step
-  pub stands : StandsSettled s t lists waiting (flag_at m.ended.items) m.store cur past
+  pub stands : StandsSettled s t lists waiting (flag_at m.ended.items) m.store.tuples cur past
   pub epoch : m.epoch ≡ s.epoch + length past
   pub shift : m.shift ≡ cur.shift
   pub ended_count : length m.ended.items ≡ s.feeders
@@ -33,7 +33,7 @@ pub record IsOpen (s : JoinerStart) (t : Taken) (lists : JoinerLists) (waiting :
   pub cur : Step
   pub past : List Step
   pub all_turned : Bool
-  pub stands : StandsOpen s t lists waiting (flag_at o.turned.items) (flag_at m.ended.items) all_turned o.partner_ended m.store o.store new cur past
+  pub stands : StandsOpen s t lists waiting (flag_at o.turned.items) (flag_at m.ended.items) all_turned o.partner_ended m.store.tuples o.store.tuples new cur past
   pub epoch : m.epoch ≡ s.epoch + length past
   pub shift : m.shift ≡ cur.shift
   pub step_epoch : o.epoch ≡ s.epoch + length past + 1

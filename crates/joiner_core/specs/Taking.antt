@@ -8,7 +8,7 @@ use Rattle.epoch_tags.specs.Posts.{posted_to_collector}
 use Rattle.joiner_law.specs.Law.{JoinerStart, JoinerLists, Taken}
 use Rattle.joiner_law.specs.Standing.{grown, with_sent}
 use Rattle.joiner_core.specs.Flags.{flag_at}
-use Rattle.joiner_core.specs.Widths.{AreRows, IsOwnPost}
+use Rattle.joiner_core.specs.Widths.{IsStock, IsOwnPost}
 use Rattle.theta_pred.specs.Formula.{Meaning}
 use Rattle.joiner_core.specs.Standing.{Stands}
 use Rattle.joiner_core.specs.Changes.{IsReady}
@@ -29,10 +29,10 @@ abbrev pub IsCounted : ℕ → Option Opened → Type 0
 IsCounted feeders None = ⊤
 IsCounted feeders (Some o) = length o.turned.items ≡ feeders
 
--- the rows of the open step's store have the predicate's widths
-abbrev pub AreStepRows : Meaning → Option Opened → Type 0
-AreStepRows theta None = ⊤
-AreStepRows theta (Some o) = AreRows theta o.store
+-- the open step's store is one of a joiner with this predicate
+abbrev pub IsStepStock : Meaning → Option Opened → Type 0
+IsStepStock theta None = ⊤
+IsStepStock theta (Some o) = IsStock theta o.store
 
 -- what holds of the machine between two messages
 pub record IsWithin (m : Epochs) : Type 0 where
@@ -44,8 +44,8 @@ pub record IsWithin (m : Epochs) : Type 0 where
   pub begun : HasSomeTurn m.feeders m.step
   pub rests : IsReady m.step → ⊥
   pub id : m.id < 2 ^ m.k
-  pub rows : AreRows m.theta.now m.store
-  pub step_rows : AreStepRows m.theta.now m.step
+  pub stock : IsStock m.theta.now m.store
+  pub step_stock : IsStepStock m.theta.now m.step
 
 abbrev pub TupFits : Epochs → ℕ → ℕ → Option Opened → Type 0
 TupFits m p stamp None = stamp ≡ m.epoch

@@ -13,12 +13,12 @@ use Rattle.migration_plan.specs.Steps.{is_of}
 use Rattle.joiner_core.specs.Flags.{IsEachUp, flag_at}
 use Rattle.joiner_core.specs.Matching.{does_hold}
 use Rattle.theta_pred.specs.Formula.{Meaning}
-use Rattle.joiner_core.specs.Widths.{AreRows, HoldsRows, CarriesRows}
+use Rattle.joiner_core.specs.Widths.{IsStock, HoldsRows, CarriesRows}
 use Rattle.epoch_tags.specs.declared.tuple.Tuple.{Tuple}
 use Rattle.joiner_law.specs.Law.{JoinerStart, JoinerLists, Taken, CanTakeOfFeeder, CanTakeOfJoiner, IsTakenOf, received_count}
 use Rattle.joiner_law.specs.Standing.{grown, with_sent}
-use Rattle.joiner_core.specs.Queues.{held_at}
-use Rattle.joiner_core.specs.Queues.{BeginsWith}
+use Rattle.joiner_core.specs.Queues.{held_at, BeginsWith}
+use Rattle.joiner_core.specs.Stocks.{Stocked}
 use Rattle.joiner_core.specs.Taking.{IsWithin, IsFixed, AreOwnPosts}
 use Rattle.joiner_core.specs.Changes.{IsReady}
 use Rattle.joiner_core.specs.declared.opened.Opened.{Opened}
@@ -77,8 +77,8 @@ pub record IsKept (m : Machine) : Type 0 where
   pub feeders : length m.of_feeders ≡ m.epochs.feeders
   pub joiners : length m.of_joiners ≡ 2 ^ m.epochs.k
   pub id : m.epochs.id < 2 ^ m.epochs.k
-  pub rows : AreRows m.epochs.theta.now m.epochs.store
-  pub step_rows : (o : Opened) → m.epochs.step ≡ Some o → AreRows m.epochs.theta.now o.store
+  pub stock : IsStock m.epochs.theta.now m.epochs.store
+  pub step_stock : (o : Opened) → m.epochs.step ≡ Some o → IsStock m.epochs.theta.now o.store
   pub feeder_rows : CarriesRows m.epochs.theta.now m.of_feeders
   pub joiner_rows : CarriesRows m.epochs.theta.now m.of_joiners
 
@@ -186,7 +186,7 @@ pub record IsStart (s : JoinerStart) : Type 0 where
 
 -- the last message, as the machine has it
 abbrev pub fin_of : Epochs → ToCollector
-fin_of m = Fin (count_by (is_of R) m.store) (count_by (is_of S) m.store) m.moved
+fin_of m = Fin (count_by (is_of R) m.store.tuples) (count_by (is_of S) m.store.tuples) m.moved
 
 -- what was sent to the collector: pairs, and once, where the machine has finished, the last message
 pub record Collects (s : JoinerStart) (lists : JoinerLists) (m : Machine) : Type 0 where
@@ -300,7 +300,7 @@ start_of k id shift epoch feeders theta base =
     record { k = k; feeders = feeders; id = id; matches = does_hold theta; epoch = epoch; shift = shift; base = base }
 
 -- how the code makes it
-pub record IsMade (k id shift epoch feeders : ℕ) (theta : Meaning) (base : List Tuple) (m : Machine) : Type 0 where
+pub record IsMade (k id shift epoch feeders : ℕ) (theta : Meaning) (base : Stocked) (m : Machine) : Type 0 where
   pub at_k : m.epochs.k ≡ k
   pub at_id : m.epochs.id ≡ id
   pub at_shift : m.epochs.shift ≡ shift

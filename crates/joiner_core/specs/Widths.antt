@@ -11,6 +11,7 @@ use Rattle.epoch_tags.specs.declared.message.ToJoiner.TheVariants.{Tup, Turn, En
 use Rattle.theta_pred.specs.Formula.{Meaning}
 use Rattle.store_parts.specs.Matches.{HasWidth}
 use Rattle.joiner_core.specs.Queues.{held_at}
+use Rattle.joiner_core.specs.Stocks.{Stocked, IsKeyOf}
 
 -- the tuple has a cell for each column of its side
 abbrev pub IsRow : Meaning → Tuple → Type 0
@@ -18,6 +19,11 @@ IsRow theta x = HasWidth theta x.side x
 
 abbrev pub AreRows : Meaning → List Tuple → Type 0
 AreRows theta xs = All (IsRow theta) xs
+
+-- what a joiner with this predicate has of an epoch: rows of the widths, and the predicate's own key
+pub record IsStock (theta : Meaning) (stock : Stocked) : Type 0 where
+  pub rows : AreRows theta stock.tuples
+  pub key : IsKeyOf theta stock.key
 
 -- so has the tuple that a message carries, if it carries one
 abbrev pub HasRow : Meaning → ToJoiner → Type 0

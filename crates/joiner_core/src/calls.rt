@@ -1,5 +1,5 @@
 // What callers do with a joiner.
-ghost use Rattle.std.specs.Prelude.{◌≡◌, ◌+◌, ◌-◌, ◌<◌, ◌^◌, ◌≤◌, ◌↔◌, min, IsTrue, [], OnOk, OnErr, IfOk, Err, None, alloc_error};
+ghost use Rattle.std.specs.Prelude.{◌≡◌, ◌+◌, ◌-◌, ◌<◌, ◌^◌, ◌≤◌, ◌↔◌, min, IsTrue, [], OnOk, OnErr, IfOk, Err, alloc_error};
 ghost use Rattle.std.specs.List.{AllByRecursion};
 ghost use Rattle.join_rows.specs.Lists.{SameBag};
 ghost use Rattle.epoch_tags.specs.declared.actor.Actor.TheVariants.{Joiner as Joiner'};
@@ -7,7 +7,7 @@ ghost use Rattle.epoch_tags.specs.declared.tuple.Tuple.{Tuple};
 ghost use Rattle.epoch_tags.specs.Links.{HasLink};
 ghost use Rattle.joiner_law.specs.Law.{JoinerStart, JoinerLists, IsFinished, store};
 ghost use Rattle.joiner_core.specs.Whole.{start_of, nothing_yet};
-ghost use Rattle.joiner_core.specs.Stocks.{tuples_of};
+ghost use Rattle.joiner_core.specs.Stocks.{tuples_of, IsKeyOf};
 ghost use Rattle.joiner_core.specs.Widths.{AreRows, HasRow};
 ghost use Rattle.joiner_core.specs.Joining.{IsSpent, IsJoiner, theta_of, StandsFor, held_number, k_of, id_of, feeders_of, TakesMessage};
 
@@ -47,7 +47,7 @@ impl<'a> Joiner<'a> {
             0,
             feeders,
             theta,
-            Store::new(alloc, None),
+            Store::new(alloc, theta.key_atom()?),
         )
     }
 
@@ -69,7 +69,7 @@ impl<'a> Joiner<'a> {
         requires feeders { 0 < feeders }
         requires base { AllByRecursion (λ (x : Tuple). x.stamp ≤ epoch) (tuples_of base) }
         requires rows { AreRows theta.now (tuples_of base) }
-        requires key { base.key ≡ None }
+        requires key { IsKeyOf theta.now base.key }
         ensures seat { IfOk result (λ joiner. IsJoiner k id feeders theta.now joiner) }
         ensures at_work { IfOk result (λ joiner. ¬ IsSpent joiner) }
         ensures fresh { IfOk result (λ joiner.
@@ -120,7 +120,7 @@ impl<'a> Joiner<'a> {
 
     /// The rows that it holds in its settled epoch.
     pub fn store(&self) -> &Store
-        ensures key { result.now.key ≡ None }
+        ensures key { ¬ IsSpent self.now → IsKeyOf (theta_of self.now) result.now.key }
         ensures tuples { (start : JoinerStart) (lists : JoinerLists) (stands : StandsFor start lists self.now)
             → SameBag (tuples_of result.now) (store start stands.taken stands.law.done) }
     {

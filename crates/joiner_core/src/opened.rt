@@ -3,8 +3,8 @@ ghost use Rattle.std.specs.Prelude.{◌≡◌, ◌++◌, ◌∷◌, [], ◌<◌,
 ghost use Rattle.joiner_law.specs.History.{probed};
 ghost use Rattle.joiner_core.specs.Probes.{named_by};
 ghost use Rattle.joiner_core.specs.Matching.{does_hold};
-ghost use Rattle.joiner_core.specs.Stocks.{placed};
-ghost use Rattle.joiner_core.specs.Widths.{IsRow, AreRows};
+ghost use Rattle.joiner_core.specs.Stocks.{with_placed};
+ghost use Rattle.joiner_core.specs.Widths.{IsRow, IsStock};
 ghost use Rattle.joiner_law.specs.Posting.{moved_post};
 ghost use Rattle.joiner_core.specs.Changes.{found_late, posts_late, opened_late};
 
@@ -85,7 +85,7 @@ impl Opened {
         requires within { self.old.shift ≤ k }
         requires id { id < 2 ^ k }
         requires row { IsRow theta.now tuple.now }
-        requires rows { AreRows theta.now self.old.store }
+        requires stock { IsStock theta.now self.old.store }
         ensures stored { OnOk result (self.new ≡ opened_late k id self.old tuple.now) }
         ensures found { OnOk result (found.new ≡ found.old ++ found_late (does_hold theta.now) k id self.old tuple.now) }
     {
@@ -97,7 +97,7 @@ impl Opened {
             self.store
                 .probe(tuple, theta, Which::OnlyStamp(self.epoch), found)?;
             let copy = tuple.copy()?;
-            self.store.add(copy)?;
+            self.store.add(theta, copy)?;
         }
         Ok(())
     }
@@ -111,11 +111,11 @@ impl Opened {
         found: &mut Pairs,
     ) -> Result<(), AllocError>
         requires row { IsRow theta.now tuple }
-        requires rows { AreRows theta.now self.old.store }
-        ensures stored { OnOk result (self.new ≡ record self.old { store = placed tuple self.old.store }) }
-        ensures found { OnOk result (found.new ≡ found.old ++ probed (does_hold theta.now) (named_by which) tuple self.old.store) }
+        requires stock { IsStock theta.now self.old.store }
+        ensures stored { OnOk result (self.new ≡ record self.old { store = with_placed tuple self.old.store }) }
+        ensures found { OnOk result (found.new ≡ found.old ++ probed (does_hold theta.now) (named_by which) tuple self.old.store.tuples) }
     {
         self.store.probe(&tuple, theta, which, found)?;
-        self.store.add(tuple)
+        self.store.add(theta, tuple)
     }
 }

@@ -1,13 +1,13 @@
 // The tuples of one epoch.
-ghost use Rattle.std.specs.Prelude.{◌≡◌, ◌<◌, ◌≤◌, ◌^◌, ◌++◌, None, filter, map, count_by, IfOk, OnOk};
-ghost use Rattle.migration_plan.specs.Steps.{holds, is_of};
+ghost use Rattle.std.specs.Prelude.{◌≡◌, ◌<◌, ◌≤◌, ◌^◌, ◌++◌, filter, map, count_by, IfOk, OnOk};
+ghost use Rattle.migration_plan.specs.Steps.{is_of};
 ghost use Rattle.store_parts.specs.Stored.{AreSided};
 ghost use Rattle.joiner_law.specs.History.{probed};
 ghost use Rattle.joiner_law.specs.Posting.{moved_post};
 ghost use Rattle.joiner_core.specs.Matching.{does_hold};
 ghost use Rattle.joiner_core.specs.Probes.{named_by};
-ghost use Rattle.joiner_core.specs.Stocks.{tuples_of, placed};
-ghost use Rattle.joiner_core.specs.Widths.{IsRow, AreRows};
+ghost use Rattle.joiner_core.specs.Stocks.{stocked_of, with_placed, kept_stock, IsKeyOf};
+ghost use Rattle.joiner_core.specs.Widths.{IsRow, IsStock};
 
 use crate::opened::move_to;
 use epoch_tags::{Pairs, Sends, Tuple};
@@ -18,23 +18,21 @@ use std::marker::Model;
 use store_parts::{Store, Which};
 use theta_pred::Theta;
 
-// A store with no key, seen as one list.
+// A store, seen as one list with its key.
 #[derive(Drop)]
 pub(crate) struct Stock {
     store: Store,
 }
 
 impl Model for Stock {
-    ghost use Rattle.std.specs.Prelude.{◌≡◌, List, None};
-    ghost use Rattle.epoch_tags.specs.declared.tuple.Tuple.{Tuple};
     ghost use Rattle.store_parts.specs.Stored.{AreSided};
-    ghost use Rattle.joiner_core.specs.Stocks.{tuples_of};
+    ghost use Rattle.joiner_core.specs.Stocks.{Stocked, stocked_of};
 
-    ghost Value = { List Tuple };
+    ghost Value = { Stocked };
 
-    ghost view = { λ stock. tuples_of stock.store };
+    ghost view = { λ stock. stocked_of stock.store };
 
-    ghost invariant = { λ stock. AreSided stock.store.r stock.store.s × (stock.store.key ≡ None) };
+    ghost invariant = { λ stock. AreSided stock.store.r stock.store.s };
 }
 
 // Each tuple of a store stands in the list of its side.
@@ -47,29 +45,30 @@ fn are_sided(store: &Store)
 
 impl Stock {
     pub(crate) fn of(store: Store) -> Stock
-        requires { store.key ≡ None }
-        ensures { result ≡ tuples_of store }
+        ensures { result ≡ stocked_of store }
     {
         are_sided(&store);
         Stock { store }
     }
 
     pub(crate) fn store(&self) -> &Store
-        ensures tuples { tuples_of result.now ≡ self.now }
-        ensures key { result.now.key ≡ None }
+        ensures { stocked_of result.now ≡ self.now }
     {
         &self.store
     }
 
-    pub(crate) fn add(&mut self, tuple: Tuple) -> Result<(), AllocError>
-        ensures { OnOk result (self.new ≡ placed tuple self.old) }
+    pub(crate) fn add(&mut self, theta: &Theta, tuple: Tuple) -> Result<(), AllocError>
+        requires row { IsRow theta.now tuple }
+        requires key { IsKeyOf theta.now self.old.key }
+        ensures { OnOk result (self.new ≡ with_placed tuple self.old) }
     {
+        self.store.fits_key(theta, &tuple);
         self.store.add(tuple)?;
         Ok(())
     }
 
     pub(crate) fn count(&self, side: Side) -> u64
-        ensures { result ≡ count_by (is_of side) self.now }
+        ensures { result ≡ count_by (is_of side) self.now.tuples }
     {
         self.store.side(side).len()
     }
@@ -82,8 +81,8 @@ impl Stock {
         found: &mut Pairs,
     ) -> Result<(), AllocError>
         requires row { IsRow theta.now tuple.now }
-        requires rows { AreRows theta.now self.now }
-        ensures { OnOk result (found.new ≡ found.old ++ probed (does_hold theta.now) (named_by which) tuple.now self.now) }
+        requires stock { IsStock theta.now self.now }
+        ensures { OnOk result (found.new ≡ found.old ++ probed (does_hold theta.now) (named_by which) tuple.now self.now.tuples) }
     {
         self.store.probe_uncounted(tuple, theta, which, found)?;
         Ok(())
@@ -93,7 +92,7 @@ impl Stock {
         requires grid { k < 9 }
         requires within { shift ≤ k }
         requires id { id < 2 ^ k }
-        ensures { IfOk result (λ kept. kept ≡ filter (holds k shift id) self.now) }
+        ensures { IfOk result (λ kept. kept ≡ kept_stock k shift id self.now) }
     {
         let store = self.store.kept_copy(Shape { k, shift }, id)?;
         Ok(Stock { store })
@@ -107,7 +106,7 @@ impl Stock {
         epoch: u32,
         sends: &mut Sends,
     ) -> Result<(), AllocError>
-        ensures { OnOk result (sends.new ≡ sends.old ++ map (moved_post to epoch) (filter (is_of side) self.now)) }
+        ensures { OnOk result (sends.new ≡ sends.old ++ map (moved_post to epoch) (filter (is_of side) self.now.tuples)) }
     {
         send_all(self.store.side(side).as_slice(), to, epoch, sends)?;
         Ok(())

@@ -1,245 +1,360 @@
-ghost use Rattle.std.specs.Prelude.{◌≡◌, ◌≤◌, [], None, IfOk};
+ghost use Rattle.std.specs.Prelude.{◌≡◌, ◌≤◌, ◌<◌, length, IfOk};
 ghost use Rattle.std.specs.List.{AllByRecursion};
 ghost use Rattle.epoch_tags.specs.declared.tuple.Tuple.{Tuple as Tuple'};
-ghost use Rattle.theta_pred.specs.Formula.{Meaning};
-ghost use Rattle.joiner_core.specs.Stocks.{tuples_of};
+ghost use Rattle.joiner_core.specs.Stocks.{tuples_of, IsKeyOf};
 ghost use Rattle.joiner_core.specs.Widths.{AreRows};
 
 use crate::Joiner;
-use epoch_tags::{Actor, Msg, Post, Sends, ToCollector, ToController, ToJoiner, Tuple};
-use join_rows::{Cells, Names, Side};
+use epoch_tags::{Actor, Counts, Msg, Pairs, Post, Sends, ToCollector, ToController, ToJoiner, Tuple};
+use join_rows::{Bytes, Cell, Cells, Names, Side};
 use std::alloc::{AllocError, Global};
 use std::process::Abort;
 use std::test::Fail;
 use store_parts::Store;
 use theta_pred::{Theta, parse, resolve};
 
-// What a joiner is given: a row by side, index, ticket and stamp, and so on.
-#[derive(Clone, Copy, Debug, PartialEq, Eq)]
-enum Given {
-    Row(Side, u32, u8, u32),
-    Turn(u32, u32),
-    End,
-    Moved(u32, u32, u8),
-    MovedEnd(u32),
+// ---- what a joiner is given, as a line
+
+fn number(word: &str) -> u32 {
+    word.parse::<u32>().unwrap_or(0)
 }
 
-// What it sends: of a row that is moved the joiner, the epoch and the index, and so on.
-#[derive(Clone, Copy, Debug, PartialEq, Eq)]
-enum Seen {
-    Moved(u32, u32, u32),
-    MovedEnd(u32, u32),
-    Settled(u32),
-    Found(u32, u32),
-    Fin(u64, u64),
-    Count(u64),
-    Other,
+fn side(word: &str) -> Side {
+    if word == "R" { Side::R } else { Side::S }
 }
 
-fn row(alloc: Global, side: Side, index: u32, ticket: u8, stamp: u32) -> Tuple
-    ensures { result ≡ record { side = side; index = index; ticket = ticket; stamp = stamp; cells = [] } }
+// A row of one cell, whose number is the row's index.
+fn row(alloc: Global, side: Side, index: u32, ticket: u8, stamp: u32) -> Result<Tuple, AllocError>
+    ensures width { IfOk result (λ tuple. length tuple.cells ≡ 1) }
+    ensures stamp { IfOk result (λ tuple. tuple.stamp ≡ stamp) }
 {
-    Tuple {
+    let mut cells = Cells::new(alloc);
+    cells.push(Cell {
+        text: Bytes::new(alloc),
+        num: Some(i64::from(index)),
+    })?;
+    Ok(Tuple {
         side,
         index,
         ticket,
         stamp,
-        cells: Cells::new(alloc),
+        cells,
+    })
+}
+
+fn row_of(
+    alloc: Global,
+    of: &str,
+    index: &str,
+    ticket: &str,
+    stamp: &str,
+) -> Result<Tuple, AllocError> {
+    row(
+        alloc,
+        side(of),
+        number(index),
+        ticket.parse::<u8>().unwrap_or(0),
+        number(stamp),
+    )
+}
+
+fn sender(word: &str) -> Actor {
+    match word {
+        "feeder_0" => Actor::Feeder(0),
+        "feeder_1" => Actor::Feeder(1),
+        "joiner_1" => Actor::Joiner(1),
+        _ => Actor::Joiner(2),
     }
 }
 
-fn message(alloc: Global, given: Given) -> ToJoiner {
-    match given {
-        Given::Row(side, index, ticket, stamp) => {
-            ToJoiner::Tup(row(alloc, side, index, ticket, stamp))
+// A row has its side, index, ticket and stamp; one that the partner moves has the epoch before these.
+fn message(alloc: Global, words: &[&str]) -> Result<ToJoiner, AllocError> {
+    match *words {
+        [_, "row", of, index, ticket, stamp] => {
+            let tuple = row_of(alloc, of, index, ticket, stamp)?;
+            Ok(ToJoiner::Tup(tuple))
         }
-        Given::Turn(epoch, shift) => ToJoiner::Turn { epoch, shift },
-        Given::End => ToJoiner::End,
-        Given::Moved(epoch, index, ticket) => ToJoiner::Moved {
-            epoch,
-            tuple: row(alloc, Side::R, index, ticket, 0),
-        },
-        Given::MovedEnd(epoch) => ToJoiner::MovedEnd { epoch },
+        [_, "moved", epoch, of, index, ticket, stamp] => {
+            let tuple = row_of(alloc, of, index, ticket, stamp)?;
+            Ok(ToJoiner::Moved {
+                epoch: number(epoch),
+                tuple,
+            })
+        }
+        [_, "turn", epoch, shift] => Ok(ToJoiner::Turn {
+            epoch: number(epoch),
+            shift: number(shift),
+        }),
+        [_, "moved_end", epoch] => Ok(ToJoiner::MovedEnd {
+            epoch: number(epoch),
+        }),
+        _ => Ok(ToJoiner::End),
     }
 }
 
-// What a post carries otherwise than to the collector.
-fn what_it_carries(post: &Post) -> Seen {
-    match (&post.to, &post.msg) {
-        (Actor::Joiner(to), Msg::Joiner(ToJoiner::Moved { epoch, tuple })) => {
-            Seen::Moved(*to, *epoch, tuple.index)
+// ---- what it sends, as a text
+
+fn write_moved(text: &mut String, to: Actor, m: &ToJoiner) -> Result<(), AllocError> {
+    match m {
+        ToJoiner::Moved { epoch, tuple } => {
+            let index = tuple.index;
+            write!(text, "[{to:?} moved {epoch} {index}]")
         }
-        (Actor::Joiner(to), Msg::Joiner(ToJoiner::MovedEnd { epoch })) => {
-            Seen::MovedEnd(*to, *epoch)
-        }
-        (Actor::Controller, Msg::Controller(ToController::Settled { epoch })) => {
-            Seen::Settled(*epoch)
-        }
-        _ => Seen::Other,
+        ToJoiner::MovedEnd { epoch } => write!(text, "[{to:?} moved_end {epoch}]"),
+        _ => write!(text, "[{to:?}]"),
     }
 }
 
-// What a post carries, pair by pair and number by number.
-fn add_seen(post: &Post, seen: &mut Vec<Seen>) -> Result<(), AllocError> {
-    match &post.msg {
-        Msg::Collector(ToCollector::Found(pairs)) => {
-            for pair in pairs.as_slice() {
-                seen.push(Seen::Found(pair.i, pair.j))?;
-            }
-        }
-        Msg::Collector(
-            ToCollector::Fin {
-                rows_r,
-                rows_s,
-                moved,
-            },
-        ) => {
-            seen.push(Seen::Fin(*rows_r, *rows_s))?;
-            for count in moved.as_slice() {
-                seen.push(Seen::Count(*count))?;
-            }
-        }
-        _ => seen.push(what_it_carries(post))?,
+fn write_last(text: &mut String, r: u64, s: u64, moved: &Counts) -> Result<(), AllocError> {
+    write!(text, "[fin {r} {s} moved")?;
+    for count in moved.as_slice() {
+        write!(text, " {count}")?;
+    }
+    write!(text, "]")
+}
+
+fn write_found(text: &mut String, pairs: &Pairs) -> Result<(), AllocError> {
+    for pair in pairs.as_slice() {
+        let i = pair.i;
+        let j = pair.j;
+        write!(text, "[found {i} {j}]")?;
     }
     Ok(())
 }
 
-fn all_seen(alloc: Global, sends: &Sends) -> Result<Vec<Seen>, AllocError> {
-    let mut seen = Vec::new(alloc);
-    for post in sends.as_slice() {
-        add_seen(post, &mut seen)?;
+fn write_told(text: &mut String, m: &ToCollector) -> Result<(), AllocError> {
+    match m {
+        ToCollector::Found(pairs) => write_found(text, pairs),
+        ToCollector::Fin {
+            rows_r,
+            rows_s,
+            moved,
+        } => write_last(text, *rows_r, *rows_s, moved),
     }
-    Ok(seen)
 }
 
-// The predicate `1 = 1` over two tables with no columns.
-fn always(alloc: Global) -> Result<Theta, AllocError>
-    ensures r { IfOk result (λ theta. theta.width_r ≡ 0) }
-    ensures s { IfOk result (λ theta. theta.width_s ≡ 0) }
-{
-    let none = Names::new(alloc);
-    let Ok(pred) = parse(alloc, "1 = 1") else {
-        return Err(AllocError);
-    };
-    let Ok(theta) = resolve(alloc, &pred, &none, &none) else {
-        return Err(AllocError);
-    };
-    Ok(theta)
+fn write_post(text: &mut String, post: &Post) -> Result<(), AllocError> {
+    match &post.msg {
+        Msg::Joiner(m) => write_moved(text, post.to, m),
+        Msg::Collector(m) => write_told(text, m),
+        Msg::Controller(ToController::Settled { epoch }) => write!(text, "[settled {epoch}]"),
+        _ => write!(text, "[other]"),
+    }
 }
 
-// Gives it a message. It sends what is wanted, and holds so many messages.
+fn sent(alloc: Global, sends: &Sends) -> Result<String, AllocError> {
+    let mut text = String::new(alloc);
+    for post in sends.as_slice() {
+        write_post(&mut text, post)?;
+    }
+    Ok(text)
+}
+
+// ---- steps
+
+// A message as a line, how many messages are held then, and what is sent.
+type Step<'a> = (&'a str, u64, &'a str);
+
 fn give(
     rt: &impl Abort,
     alloc: Global,
     joiner: &mut Joiner<'_>,
     from: Actor,
-    given: Given,
-    held: u64,
-    wanted: &[Seen],
-) -> Result<(), Fail> {
-    let m = message(alloc, given);
+    m: ToJoiner,
+) -> Result<String, AllocError> {
     let mut sends = Sends::new(alloc);
     assert!(rt; !joiner.is_spent());
     assert!(rt; joiner.hears(from));
     assert!(rt; joiner.fits(&m));
     joiner.on(from, m, &mut sends)?;
-    let seen = all_seen(alloc, &sends)?;
-    assert_eq!(rt; seen.as_slice(), wanted, "{given:?}");
-    assert_eq!(rt; joiner.held_count(), held, "{given:?}");
+    sent(alloc, &sends)
+}
+
+fn step(
+    rt: &impl Abort,
+    alloc: Global,
+    joiner: &mut Joiner<'_>,
+    line: &str,
+) -> Result<String, AllocError> {
+    let words: Vec<&str> = line.split_whitespace().collect(alloc)?;
+    let m = message(alloc, &words)?;
+    let from = match *words {
+        [word, ..] => sender(word),
+        [] => Actor::Collector,
+    };
+    give(rt, alloc, joiner, from, m)
+}
+
+fn play(
+    rt: &impl Abort,
+    alloc: Global,
+    joiner: &mut Joiner<'_>,
+    steps: &[Step<'_>],
+) -> Result<(), AllocError> {
+    for (line, held, wanted) in steps {
+        let text = step(rt, alloc, joiner, line)?;
+        assert_eq!(rt; text.as_str(), *wanted, "{line}");
+        assert_eq!(rt; joiner.held_count(), *held, "{line}");
+    }
     Ok(())
 }
 
-const FEEDER: Actor = Actor::Feeder(0);
+// ---- joiners
 
-const OTHER: Actor = Actor::Feeder(1);
+// A predicate over tables of one column, `x`.
+fn theta(alloc: Global, text: &str) -> Result<Theta, AllocError>
+    ensures r { IfOk result (λ theta. theta.width_r ≡ 1) }
+    ensures s { IfOk result (λ theta. theta.width_s ≡ 1) }
+{
+    let mut names = Names::new(alloc);
+    names.push(Bytes::from_slice(alloc, b"x")?)?;
+    let Ok(pred) = parse(alloc, text) else {
+        return Err(AllocError);
+    };
+    let Ok(theta) = resolve(alloc, &pred, &names, &names) else {
+        return Err(AllocError);
+    };
+    Ok(theta)
+}
 
-const PARTNER: Actor = Actor::Joiner(1);
+// A joiner at the beginning of a run goes through these steps.
+fn run(
+    rt: &impl Abort,
+    alloc: Global,
+    predicate: &str,
+    k: u32,
+    feeders: u32,
+    steps: &[Step<'_>],
+) -> Result<(), AllocError>
+    requires k { k < 9 }
+    requires feeders { 0 < feeders }
+{
+    let theta = theta(alloc, predicate)?;
+    let mut joiner = Joiner::start(alloc, k, 0, 0, feeders, &theta)?;
+    play(rt, alloc, &mut joiner, steps)
+}
 
 #[test]
 fn a_step_finds_each_pair_once(rt: HostRuntime) -> Result<(), Fail> {
-    let theta = always(rt.alloc())?;
-    let mut joiner = Joiner::start(rt.alloc(), 1, 0, 0, 2, &theta)?;
-    let steps: [(Actor, Given, &[Seen]); 9] = [
-        (FEEDER, Given::Row(Side::R, 0, 0, 0), &[]),
-        (FEEDER, Given::Turn(1, 1), &[Seen::Moved(1, 1, 0)]),
-        (OTHER, Given::Row(Side::S, 0, 1, 0), &[Seen::Found(0, 0)]),
-        (FEEDER, Given::Row(Side::S, 1, 0, 1), &[Seen::Found(0, 1)]),
-        (PARTNER, Given::Moved(1, 1, 255), &[Seen::Found(1, 1)]),
-        (OTHER, Given::Turn(1, 1), &[Seen::MovedEnd(1, 1)]),
-        (PARTNER, Given::MovedEnd(1), &[Seen::Settled(1)]),
-        (FEEDER, Given::End, &[]),
-        (OTHER, Given::End, &[Seen::Fin(2, 1), Seen::Count(1)]),
+    let steps = [
+        ("feeder_0 row R 0 0 0", 0, ""),
+        ("feeder_0 turn 1 1", 0, "[Joiner(1) moved 1 0]"),
+        ("feeder_1 row S 0 1 0", 0, "[found 0 0]"),
+        ("feeder_0 row S 1 0 1", 0, "[found 0 1]"),
+        ("joiner_1 moved 1 R 1 255 0", 0, "[found 1 1]"),
+        ("feeder_1 turn 1 1", 0, "[Joiner(1) moved_end 1]"),
+        ("joiner_1 moved_end 1", 0, "[settled 1]"),
+        ("feeder_0 end", 0, ""),
+        ("feeder_1 end", 0, "[fin 2 1 moved 1]"),
     ];
-    for (from, given, wanted) in steps {
-        give(&rt, rt.alloc(), &mut joiner, from, given, 0, wanted)?;
-    }
-    assert_eq!(rt; joiner.settled_epoch(), 1);
-    assert!(rt; joiner.finished());
-    assert_eq!(rt; joiner.store().side(Side::R).len(), 2);
+    run(&rt, rt.alloc(), "1 = 1", 1, 2, &steps)?;
     Ok(())
 }
 
 #[test]
 fn an_early_row_waits_for_its_step(rt: HostRuntime) -> Result<(), Fail> {
-    let theta = always(rt.alloc())?;
-    let mut joiner = Joiner::start(rt.alloc(), 1, 0, 0, 2, &theta)?;
-    let steps: [(Actor, Given, u64, &[Seen]); 9] = [
-        (FEEDER, Given::Row(Side::R, 0, 0, 0), 0, &[]),
-        (PARTNER, Given::Moved(1, 1, 255), 1, &[]),
-        (FEEDER, Given::Turn(1, 1), 0, &[Seen::Moved(1, 1, 0)]),
-        (OTHER, Given::Row(Side::S, 0, 1, 0), 0, &[Seen::Found(0, 0)]),
-        (
-            FEEDER,
-            Given::Row(Side::S, 1, 0, 1),
-            0,
-            &[Seen::Found(0, 1), Seen::Found(1, 1)],
-        ),
-        (OTHER, Given::Turn(1, 1), 0, &[Seen::MovedEnd(1, 1)]),
-        (PARTNER, Given::MovedEnd(1), 0, &[Seen::Settled(1)]),
-        (FEEDER, Given::End, 0, &[]),
-        (OTHER, Given::End, 0, &[Seen::Fin(2, 1), Seen::Count(1)]),
+    let steps = [
+        ("feeder_0 row R 0 0 0", 0, ""),
+        ("joiner_1 moved 1 R 1 255 0", 1, ""),
+        ("feeder_0 turn 1 1", 0, "[Joiner(1) moved 1 0]"),
+        ("feeder_1 row S 0 1 0", 0, "[found 0 0]"),
+        ("feeder_0 row S 1 0 1", 0, "[found 0 1][found 1 1]"),
+        ("feeder_1 turn 1 1", 0, "[Joiner(1) moved_end 1]"),
+        ("joiner_1 moved_end 1", 0, "[settled 1]"),
+        ("feeder_0 end", 0, ""),
+        ("feeder_1 end", 0, "[fin 2 1 moved 1]"),
     ];
-    for (from, given, held, wanted) in steps {
-        give(&rt, rt.alloc(), &mut joiner, from, given, held, wanted)?;
-    }
+    run(&rt, rt.alloc(), "1 = 1", 1, 2, &steps)?;
     Ok(())
 }
 
 #[test]
 fn a_turn_to_the_same_shift_is_held(rt: HostRuntime) -> Result<(), Fail> {
-    let theta = always(rt.alloc())?;
-    let mut joiner = Joiner::start(rt.alloc(), 0, 0, 0, 1, &theta)?;
-    let steps = [(Given::Turn(1, 0), 1), (Given::Row(Side::R, 0, 0, 0), 2)];
-    for (given, held) in steps {
-        give(&rt, rt.alloc(), &mut joiner, FEEDER, given, held, &[])?;
-    }
-    assert!(rt; !joiner.finished());
+    let steps = [
+        ("feeder_0 turn 1 0", 1, ""),
+        ("feeder_0 row R 0 0 0", 2, ""),
+    ];
+    run(&rt, rt.alloc(), "1 = 1", 0, 1, &steps)?;
+    Ok(())
+}
+
+#[test]
+fn three_steps_are_held_at_once(rt: HostRuntime) -> Result<(), Fail> {
+    let steps = [
+        ("feeder_0 row R 0 0 0", 0, ""),
+        ("feeder_0 row S 0 0 0", 0, "[found 0 0]"),
+        ("feeder_0 turn 1 1", 0, "[Joiner(1) moved 1 0][Joiner(1) moved_end 1]"),
+        ("feeder_0 row R 1 0 1", 0, "[found 1 0]"),
+        ("feeder_0 turn 2 2", 1, ""),
+        ("feeder_0 row S 1 0 2", 2, ""),
+        ("feeder_0 turn 3 1", 3, ""),
+        ("feeder_0 row S 2 0 3", 4, ""),
+        ("feeder_0 end", 5, ""),
+        ("joiner_1 moved 1 R 7 0 0", 5, ""),
+        (
+            "joiner_1 moved_end 1",
+            3,
+            "[settled 1][Joiner(2) moved 2 0][Joiner(2) moved 2 1][Joiner(2) moved 2 7][Joiner(2) moved_end 2][found 0 1][found 1 1][found 7 1]",
+        ),
+        (
+            "joiner_2 moved_end 2",
+            0,
+            "[settled 2][Joiner(2) moved 3 0][Joiner(2) moved 3 1][Joiner(2) moved_end 3][found 0 2][found 1 2][found 7 2]",
+        ),
+        ("joiner_2 moved_end 3", 0, "[settled 3][fin 3 3 moved 1 3 2]"),
+    ];
+    run(&rt, rt.alloc(), "1 = 1", 3, 1, &steps)?;
+    Ok(())
+}
+
+#[test]
+fn a_key_serves_all_stores(rt: HostRuntime) -> Result<(), Fail> {
+    let steps = [
+        ("feeder_0 row R 4 0 0", 0, ""),
+        ("feeder_0 row S 3 0 0", 0, ""),
+        ("feeder_0 turn 1 1", 0, "[Joiner(1) moved 1 4][Joiner(1) moved_end 1]"),
+        ("feeder_0 row S 4 0 1", 0, "[found 4 4]"),
+        ("feeder_0 row S 5 0 1", 0, ""),
+        ("joiner_1 moved 1 R 5 200 0", 0, "[found 5 5]"),
+        ("joiner_1 moved_end 1", 0, "[settled 1]"),
+        ("feeder_0 row R 3 0 1", 0, "[found 3 3]"),
+        ("feeder_0 end", 0, "[fin 3 3 moved 1]"),
+    ];
+    run(&rt, rt.alloc(), "r.x = s.x", 1, 1, &steps)?;
     Ok(())
 }
 
 // R row 0 and S row 0, both of stamp 1.
-fn base(alloc: Global) -> Result<Store, AllocError>
-    ensures key { IfOk result (λ store. store.key ≡ None) }
+fn base(alloc: Global, theta: &Theta) -> Result<Store, AllocError>
+    requires r { theta.now.width_r ≡ 1 }
+    requires s { theta.now.width_s ≡ 1 }
+    ensures key { IfOk result (λ store. IsKeyOf theta.now store.key) }
     ensures stamps { IfOk result (λ store. AllByRecursion (λ (x : Tuple'). x.stamp ≤ 2) (tuples_of store)) }
-    ensures rows { IfOk result (λ store. (theta : Meaning) → theta.width_r ≡ 0 → theta.width_s ≡ 0 → AreRows theta (tuples_of store)) }
+    ensures rows { IfOk result (λ store. AreRows theta.now (tuples_of store)) }
 {
-    let mut store = Store::new(alloc, None);
-    store.add(row(alloc, Side::R, 0, 0, 1))?;
-    store.add(row(alloc, Side::S, 0, 0, 1))?;
+    let mut store = Store::new(alloc, theta.key_atom()?);
+    let first = row(alloc, Side::R, 0, 0, 1)?;
+    store.fits_key(theta, &first);
+    store.add(first)?;
+    let second = row(alloc, Side::S, 0, 0, 1)?;
+    store.fits_key(theta, &second);
+    store.add(second)?;
     Ok(store)
 }
 
 #[test]
 fn a_base_is_not_joined_again(rt: HostRuntime) -> Result<(), Fail> {
-    let theta = always(rt.alloc())?;
-    let base = base(rt.alloc())?;
-    let mut joiner = Joiner::start_at(rt.alloc(), 0, 0, 0, 2, 1, &theta, base)?;
-    let steps: [(Given, &[Seen]); 2] = [
-        (Given::Row(Side::S, 1, 0, 2), &[Seen::Found(0, 1)]),
-        (Given::End, &[Seen::Fin(1, 2)]),
+    let alloc = rt.alloc();
+    let theta = theta(alloc, "1 = 1")?;
+    let base = base(alloc, &theta)?;
+    let mut joiner = Joiner::start_at(alloc, 0, 0, 0, 2, 1, &theta, base)?;
+    let steps = [
+        ("feeder_0 row S 1 0 2", 0, "[found 0 1]"),
+        ("feeder_0 end", 0, "[fin 1 2 moved]"),
     ];
-    for (given, wanted) in steps {
-        give(&rt, rt.alloc(), &mut joiner, FEEDER, given, 0, wanted)?;
-    }
+    play(&rt, alloc, &mut joiner, &steps)?;
+    assert_eq!(rt; joiner.settled_epoch(), 2);
+    assert!(rt; joiner.finished());
+    assert_eq!(rt; joiner.store().side(Side::S).len(), 2);
     Ok(())
 }

@@ -77,7 +77,7 @@ impl<'a> Epochs<'a> {
             )?;
             open.keep(self.k, self.id, self.theta, &tuple, found)?;
         }
-        self.store.add(tuple)
+        self.store.add(self.theta, tuple)
     }
 
     // A tuple of the open step's epoch.

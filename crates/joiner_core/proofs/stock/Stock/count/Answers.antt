@@ -1,5 +1,6 @@
 use Rattle.std.proofs.Common.{ap, ◌∙◌, length, count_by}
 use Rattle.migration_plan.specs.Steps.{is_of}
+use Rattle.joiner_core.specs.Stocks.{Stocked}
 use Rattle.joiner_core.proofs.Stocking.{count-side}
 use Rattle.joiner_core.proofs.stock.Stock.count.Goals as goal
 
@@ -7,5 +8,5 @@ pub returns : goal.returns
 returns c =
     c.len.ensures
     ∙ ap length c.side.ensures.tuples
-    ∙ count-side c.args.side c.self.inside.store c.self.invariant.0
-    ∙ ap (count_by (is_of c.args.side)) c.self.view_is
+    ∙ count-side c.args.side c.self.inside.store c.self.invariant
+    ∙ ap (λ (z : Stocked). count_by (is_of c.args.side) z.tuples) c.self.view_is

@@ -1,6 +1,7 @@
 use Rattle.std.proofs.Common.{ap, sym, ◌∙◌, ◌++◌, map, filter}
 use Rattle.migration_plan.specs.Steps.{is_of}
 use Rattle.joiner_law.specs.Posting.{moved_post}
+use Rattle.joiner_core.specs.Stocks.{Stocked}
 use Rattle.joiner_core.proofs.Stocking.{own-side}
 use Rattle.joiner_core.proofs.stock.Stock.send_side.Goals as goal
 
@@ -8,4 +9,4 @@ pub returns : goal.returns
 returns c =
     c.in_ok-send_all.ensures
     ∙ ap (λ xs. c.args.sends.now ++ map (moved_post c.args.to c.args.epoch) xs)
-    (c.as_slice.ensures ∙ c.side.ensures.tuples ∙ sym (own-side c.args.side c.self.inside.store c.self.invariant.0) ∙ ap (filter (is_of c.args.side)) c.self.view_is)
+    (c.as_slice.ensures ∙ c.side.ensures.tuples ∙ sym (own-side c.args.side c.self.inside.store c.self.invariant) ∙ ap (λ (z : Stocked). filter (is_of c.args.side) z.tuples) c.self.view_is)
