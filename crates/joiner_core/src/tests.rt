@@ -5,7 +5,9 @@ ghost use Rattle.joiner_core.specs.Stocks.{tuples_of, IsKeyOf};
 ghost use Rattle.joiner_core.specs.Widths.{AreRows};
 
 use crate::Joiner;
-use epoch_tags::{Actor, Counts, Msg, Pairs, Post, Sends, ToCollector, ToController, ToJoiner, Tuple};
+use epoch_tags::{
+    Actor, Counts, Msg, Pairs, Post, Sends, ToCollector, ToController, ToJoiner, Tuple,
+};
 use join_rows::{Bytes, Cell, Cells, Names, Side};
 use std::alloc::{AllocError, Global};
 use std::process::Abort;
@@ -201,19 +203,26 @@ fn play(
 
 // ---- joiners
 
+fn resolved(alloc: Global, text: &str, names: &Names) -> Result<Theta, AllocError> {
+    let Ok(pred) = parse(alloc, text) else {
+        return Err(AllocError);
+    };
+    match resolve(alloc, &pred, names, names) {
+        Ok(theta) => Ok(theta),
+        Err(_) => Err(AllocError),
+    }
+}
+
 // A predicate over tables of one column, `x`.
-fn theta(alloc: Global, text: &str) -> Result<Theta, AllocError>
+fn theta(rt: &impl Abort, alloc: Global, text: &str) -> Result<Theta, AllocError>
     ensures r { IfOk result (λ theta. theta.width_r ≡ 1) }
     ensures s { IfOk result (λ theta. theta.width_s ≡ 1) }
 {
     let mut names = Names::new(alloc);
     names.push(Bytes::from_slice(alloc, b"x")?)?;
-    let Ok(pred) = parse(alloc, text) else {
-        return Err(AllocError);
-    };
-    let Ok(theta) = resolve(alloc, &pred, &names, &names) else {
-        return Err(AllocError);
-    };
+    let theta = resolved(alloc, text, &names)?;
+    assert_eq!(rt; theta.width_r(), 1);
+    assert_eq!(rt; theta.width_s(), 1);
     Ok(theta)
 }
 
@@ -229,7 +238,7 @@ fn run(
     requires k { k < 9 }
     requires feeders { 0 < feeders }
 {
-    let theta = theta(alloc, predicate)?;
+    let theta = theta(rt, alloc, predicate)?;
     let mut joiner = Joiner::start(alloc, k, 0, 0, feeders, &theta)?;
     play(rt, alloc, &mut joiner, steps)
 }
@@ -283,7 +292,11 @@ fn three_steps_are_held_at_once(rt: HostRuntime) -> Result<(), Fail> {
     let steps = [
         ("feeder_0 row R 0 0 0", 0, ""),
         ("feeder_0 row S 0 0 0", 0, "[found 0 0]"),
-        ("feeder_0 turn 1 1", 0, "[Joiner(1) moved 1 0][Joiner(1) moved_end 1]"),
+        (
+            "feeder_0 turn 1 1",
+            0,
+            "[Joiner(1) moved 1 0][Joiner(1) moved_end 1]",
+        ),
         ("feeder_0 row R 1 0 1", 0, "[found 1 0]"),
         ("feeder_0 turn 2 2", 1, ""),
         ("feeder_0 row S 1 0 2", 2, ""),
@@ -301,7 +314,11 @@ fn three_steps_are_held_at_once(rt: HostRuntime) -> Result<(), Fail> {
             0,
             "[settled 2][Joiner(2) moved 3 0][Joiner(2) moved 3 1][Joiner(2) moved_end 3][found 0 2][found 1 2][found 7 2]",
         ),
-        ("joiner_2 moved_end 3", 0, "[settled 3][fin 3 3 moved 1 3 2]"),
+        (
+            "joiner_2 moved_end 3",
+            0,
+            "[settled 3][fin 3 3 moved 1 3 2]",
+        ),
     ];
     run(&rt, rt.alloc(), "1 = 1", 3, 1, &steps)?;
     Ok(())
@@ -312,7 +329,11 @@ fn a_key_serves_all_stores(rt: HostRuntime) -> Result<(), Fail> {
     let steps = [
         ("feeder_0 row R 4 0 0", 0, ""),
         ("feeder_0 row S 3 0 0", 0, ""),
-        ("feeder_0 turn 1 1", 0, "[Joiner(1) moved 1 4][Joiner(1) moved_end 1]"),
+        (
+            "feeder_0 turn 1 1",
+            0,
+            "[Joiner(1) moved 1 4][Joiner(1) moved_end 1]",
+        ),
         ("feeder_0 row S 4 0 1", 0, "[found 4 4]"),
         ("feeder_0 row S 5 0 1", 0, ""),
         ("joiner_1 moved 1 R 5 200 0", 0, "[found 5 5]"),
@@ -345,7 +366,7 @@ fn base(alloc: Global, theta: &Theta) -> Result<Store, AllocError>
 #[test]
 fn a_base_is_not_joined_again(rt: HostRuntime) -> Result<(), Fail> {
     let alloc = rt.alloc();
-    let theta = theta(alloc, "1 = 1")?;
+    let theta = theta(&rt, alloc, "1 = 1")?;
     let base = base(alloc, &theta)?;
     let mut joiner = Joiner::start_at(alloc, 0, 0, 0, 2, 1, &theta, base)?;
     let steps = [
