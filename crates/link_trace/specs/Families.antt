@@ -21,6 +21,7 @@ start_for input setting (Joiner j) = OfJoiner (joiner_start input setting j)
 start_for input setting Controller = OfController (record { rules = rules_of setting; first = first_line setting })
 start_for input setting Collector = OfCollector (2 ^ setting.k)
 
+-- the actor is one of the run
 abbrev pub IsActor : Setting → Actor → Type 0
 IsActor setting (Feeder p) = p < setting.feeders
 IsActor setting (Joiner j) = j < 2 ^ setting.k
@@ -34,6 +35,7 @@ journal_of (TheJoiner j) = []
 journal_of (TheController c) = c.journal
 journal_of (TheCollector c) = []
 
+-- the lists of all actors as a family with this journal
 abbrev pub family_of : List TurnLine → (Actor → ActorLists) → Family
 family_of journal f = record {
   feeder = λ p. feeder_lists (f (Feeder p));
@@ -52,25 +54,29 @@ IsBalanced f left = (from to : Actor) → (f to).received from ++ left from to �
 
 -- ---- one event of one actor
 
--- the value at this actor
+-- the function with this value at this actor
 abbrev pub changed : {X : Type 0} → Actor → X → (Actor → X) → Actor → X
 changed at x f a = if same_actor at a then x else f a
 
+-- all lists after an event of one actor
 abbrev pub after_event : Actor → Cause → List Post → (Actor → ActorLists) → Actor → ActorLists
 after_event self cause posts f = changed self (with_event cause posts (f self)) f
 
--- what is left: without the message taken, and with the posts
+-- what is left, where this rest is left from one actor to another
 abbrev pub taken_off : Actor → Actor → List Msg → (Actor → Actor → List Msg) → Actor → Actor → List Msg
 taken_off from to rest left x y = if same_actor from x && same_actor to y then rest else left x y
 
+-- what is left, with the posts of this actor
 abbrev pub put_on : Actor → List Post → (Actor → Actor → List Msg) → Actor → Actor → List Msg
 put_on self posts left x y = if same_actor self x then left x y ++ posted_to y posts else left x y
 
+-- a message taken off its link, and what its receiver sends put on, keep the balance
 abbrev pub DeliveryBalances : Type 0
 DeliveryBalances = (from to : Actor) (m : Msg) (rest : List Msg) (posts : List Post) (f : Actor → ActorLists) (left : Actor → Actor → List Msg)
     → IsBalanced f left → left from to ≡ m ∷ rest
     → IsBalanced (after_event to (Took from m) posts f) (put_on to posts (taken_off from to rest left))
 
+-- what a feeder sends at a beginning keeps the balance
 abbrev pub BeginningBalances : Type 0
 BeginningBalances = (self : Actor) (posts : List Post) (f : Actor → ActorLists) (left : Actor → Actor → List Msg)
     → IsBalanced f left → IsBalanced (after_event self Began posts f) (put_on self posts left)

@@ -12,15 +12,18 @@ use Rattle.load_controller.specs.declared.line.TurnLine.{TurnLine}
 use Rattle.load_controller.specs.Law.{ControllerLists}
 use Rattle.pair_collector.specs.Law.{CollectorLists}
 
+-- what one actor received, sender by sender, and what it sent, receiver by receiver
 pub record ActorLists : Type 0 where
   pub received : Actor → List Msg
   pub sent : Actor → List Msg
 
+-- nothing was received and nothing sent
 abbrev pub no_lists : ActorLists
 no_lists = record { received = λ a. []; sent = λ a. [] }
 
 -- ---- the typed lists
 
+-- of a feeder: what the controller sent it, and what it sent the controller and each joiner
 abbrev pub feeder_lists : ActorLists → FeederLists
 feeder_lists ls = record {
   received = filter_map feeder_msg (ls.received Controller);
@@ -28,6 +31,7 @@ feeder_lists ls = record {
   to_joiner = λ j. filter_map joiner_msg (ls.sent (Joiner j));
 }
 
+-- of a joiner: what each feeder and each joiner sent it, and what it sent joiners, controller and collector
 abbrev pub joiner_lists : ActorLists → JoinerLists
 joiner_lists ls = record {
   from_feeder = λ p. filter_map joiner_msg (ls.received (Feeder p));
@@ -37,7 +41,7 @@ joiner_lists ls = record {
   to_collector = filter_map collector_msg (ls.sent Collector);
 }
 
--- the journal is no list of messages: it is the machine's
+-- of the controller: what each feeder and joiner sent it, and what it sent each feeder; the journal is the machine's
 abbrev pub controller_lists : List TurnLine → ActorLists → ControllerLists
 controller_lists journal ls = record {
   from_feeder = λ p. filter_map controller_msg (ls.received (Feeder p));
@@ -46,11 +50,13 @@ controller_lists journal ls = record {
   journal = journal;
 }
 
+-- of the collector: what each joiner sent it
 abbrev pub collector_lists : ActorLists → CollectorLists
 collector_lists ls = record { from_joiner = λ j. filter_map collector_msg (ls.received (Joiner j)) }
 
 -- ---- one event more
 
+-- whether two names are one actor's
 abbrev pub same_actor : Actor → Actor → Bool
 same_actor (Feeder p) (Feeder q) = p == q
 same_actor (Feeder p) (Joiner q) = false
@@ -73,10 +79,12 @@ same_actor Collector Collector = true
 abbrev pub posted_to : Actor → List Post → List Msg
 posted_to a posts = filter_map (λ post. if same_actor post.to a then Some post.msg else None) posts
 
+-- what an actor acts on: a message from that sender, or nothing, where it begins
 pub data Cause : Type 0 where
   Took : Actor → Msg → Cause
   Began : Cause
 
+-- what was received, with the message of this cause
 abbrev pub with_cause : Cause → (Actor → List Msg) → Actor → List Msg
 with_cause (Took from m) f a = if same_actor from a then f a ++ m ∷ [] else f a
 with_cause Began f a = f a

@@ -1,5 +1,5 @@
--- The numbers of a run's actors, and what is found under them.
-use Rattle.std.specs.Prelude.{ℕ, ◌+◌, ◌-◌, ◌==◌, nat_lt, Option, Some, None, if◌then◌else◌}
+-- The numbers of a run's actors, what is found under them, and who sends to whom.
+use Rattle.std.specs.Prelude.{◌≡◌, ◌<◌, ◌^◌, ℕ, ◌+◌, ◌-◌, ◌==◌, nat_lt, bit_xor, Option, Some, None, if◌then◌else◌}
 use Rattle.epoch_tags.specs.declared.actor.Actor.{Actor}
 use Rattle.epoch_tags.specs.declared.actor.Actor.TheVariants.{Feeder, Joiner, Controller, Collector}
 
@@ -22,3 +22,28 @@ actor_at joiners feeders n =
 abbrev pub at_number : {Y : Type 0} → Y → Option ℕ → (ℕ → Y) → Y
 at_number other None f = other
 at_number other (Some n) f = f n
+
+-- the ids of two joiners of so many differ in one bit
+pub record DifferInOneBit (joiners from to : ℕ) : Type 0 where
+  pub low : ℕ
+  pub below : 2 ^ low < joiners
+  pub other : to ≡ bit_xor from (2 ^ low)
+
+-- an actor sends to another, in a run with so many joiners and feeders
+abbrev pub AreJoined : ℕ → ℕ → Actor → Actor → Type 0
+AreJoined joiners feeders (Feeder p) (Feeder q) = ⊥
+AreJoined joiners feeders (Feeder p) (Joiner j) = (p < feeders) × (j < joiners)
+AreJoined joiners feeders (Feeder p) Controller = p < feeders
+AreJoined joiners feeders (Feeder p) Collector = ⊥
+AreJoined joiners feeders (Joiner i) (Feeder q) = ⊥
+AreJoined joiners feeders (Joiner i) (Joiner j) = (i < joiners) × DifferInOneBit joiners i j
+AreJoined joiners feeders (Joiner i) Controller = i < joiners
+AreJoined joiners feeders (Joiner i) Collector = i < joiners
+AreJoined joiners feeders Controller (Feeder q) = q < feeders
+AreJoined joiners feeders Controller (Joiner j) = ⊥
+AreJoined joiners feeders Controller Controller = ⊥
+AreJoined joiners feeders Controller Collector = ⊥
+AreJoined joiners feeders Collector (Feeder q) = ⊥
+AreJoined joiners feeders Collector (Joiner j) = ⊥
+AreJoined joiners feeders Collector Controller = ⊥
+AreJoined joiners feeders Collector Collector = ⊥

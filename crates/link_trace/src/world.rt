@@ -1,6 +1,7 @@
 // All machines of a run on one thread, and what is under way between them.
 
-ghost use Rattle.std.specs.Prelude.{ℕ, ◌≡◌, [], All, Ok, Some, IfOk, OnOk, OnErr, true, false};
+ghost use Rattle.std.specs.Prelude.{ℕ, ◌≡◌, [], All, Ok, Some, IfOk, OnOk, OnErr, IsTrue, ◌↔◌, true, false};
+ghost use Rattle.epoch_tags.specs.Links.{HasLink};
 ghost use Rattle.epoch_tags.specs.declared.actor.Actor.TheVariants.{Feeder as Feeder'};
 ghost use Rattle.link_trace.specs.declared.step.Step.TheVariants.{Took as Took', Idle as Idle'};
 ghost use Rattle.epoch_tags.specs.declared.actor.Actor.{Actor as Actor'};
@@ -16,6 +17,7 @@ ghost use Rattle.link_trace.specs.declared.machines.Core.{Core as Core'};
 ghost use Rattle.link_trace.specs.Numbers.{number as number'};
 ghost use Rattle.link_trace.specs.Worlds.{state_of, left_of, core_of, cores_of, IsAnswerOf, StandsFor, AreNew, IsAllAt, IsSomeAt, Delivers, MakesEvent};
 
+use crate::links::has_link;
 use crate::machines::Core;
 use crate::numbers::number;
 use crate::places::{Place, begin, hand, take};
@@ -140,6 +142,15 @@ impl<'a> World<'a> {
             places,
             spent: false,
         })
+    }
+
+    /// Whether the run has a link from one actor to the other. It takes no memory.
+    pub fn has(&self, from: Actor, to: Actor) -> bool
+        ensures { (input : Input') (setting : Setting') (lists : Actor' → ActorLists)
+            → StandsFor input setting (state_of self.now) lists
+            → (IsTrue result ↔ HasLink setting.k setting.feeders from to) }
+    {
+        has_link(self.joiners, self.feeders, from, to)
     }
 
     /// Whether each feeder has stopped, each joiner is finished and the collector is complete. It takes no memory.

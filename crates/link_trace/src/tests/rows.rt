@@ -1,0 +1,80 @@
+// Small inputs through a replay.
+
+use super::inputs::input;
+use super::seeds::replayed;
+use crate::{Run, Setting};
+use row_tickets::Feed;
+use std::alloc::{AllocError, Global};
+use std::sync::Wait;
+use std::test::Fail;
+
+// The replay of three rows of S and these rows of R, all with this ticket, where equal numbers match.
+fn equal_numbers<R: Wait>(
+    rt: &R,
+    alloc: Global,
+    numbers: &[u8],
+    ticket: u8,
+    k: u32,
+) -> Result<Run, AllocError> {
+    let tickets = [ticket; 3];
+    let input = input(
+        alloc,
+        "r.x = s.y",
+        (numbers, &tickets[..numbers.len().min(3)]),
+        (&[20, 30, 20], &tickets),
+    )?;
+    let setting = Setting {
+        k,
+        feeders: 1,
+        workers: 1,
+        batch: 64,
+        feed: Feed::Alternate,
+        fixed: None,
+    };
+    replayed(rt, alloc, &input, &setting, 7)
+}
+
+// The pairs as digits: each row of R and of S.
+fn pairs_number(run: &Run) -> u64 {
+    let mut number = 0u64;
+    for pair in run.pairs.as_slice() {
+        let digits = (pair.i as u64).wrapping_mul(10).wrapping_add(pair.j as u64);
+        number = number.wrapping_mul(100).wrapping_add(digits);
+    }
+    number
+}
+
+fn last_shift(run: &Run) -> Option<u32> {
+    run.journal.as_slice().last().map(|line| line.shift)
+}
+
+fn last_epoch(run: &Run) -> Option<u32> {
+    run.journal.as_slice().last().map(|line| line.epoch)
+}
+
+#[test]
+fn an_empty_side_has_no_pairs(rt: HostRuntime) -> Result<(), Fail> {
+    let run = equal_numbers(&rt, rt.alloc(), &[], 0, 2)?;
+    assert_eq!(rt; run.pairs.len(), 0, "pairs");
+    assert_eq!(rt; last_shift(&run), Some(2), "the last grid is 1 by 4");
+    Ok(())
+}
+
+#[test]
+fn one_joiner_holds_all_rows(rt: HostRuntime) -> Result<(), Fail> {
+    let run = equal_numbers(&rt, rt.alloc(), &[10, 20, 30], 100, 0)?;
+    assert_eq!(rt; pairs_number(&run), 10_12_21, "pairs");
+    assert_eq!(rt; last_epoch(&run), Some(0), "epoch");
+    assert_eq!(rt; run.bouts, 17, "events");
+    assert_eq!(rt; run.loads.len(), 1, "joiners");
+    assert_eq!(rt; (run.loads.at(0).rows_r, run.loads.at(0).rows_s), (3, 3), "rows");
+    Ok(())
+}
+
+#[test]
+fn equal_tickets_meet_in_one_joiner(rt: HostRuntime) -> Result<(), Fail> {
+    let run = equal_numbers(&rt, rt.alloc(), &[10, 20, 30], 0, 2)?;
+    assert_eq!(rt; pairs_number(&run), 10_12_21, "pairs");
+    assert_eq!(rt; run.made.as_slice(), [3, 0, 0, 0].as_slice(), "made");
+    Ok(())
+}

@@ -1,0 +1,106 @@
+// The order of a replay, by a world that a test drives itself.
+
+use super::by_hand::deliver;
+use super::inputs::{eight_rows_a_side, four_joiners};
+use crate::{Input, Run, Setting, Step, World, replay};
+use rand_core::utils::NextWord;
+use rand_pcg::Lcg64Xsh32;
+use std::alloc::{AllocError, Global};
+use std::sync::Wait;
+use std::test::Fail;
+
+// Makes the event of the slot of this number, if it has one: first the feeder's beginning, then the links.
+fn make(world: &mut World, number: usize) -> Result<Step, AllocError> {
+    if number == 0 {
+        world.begin(0)
+    } else {
+        deliver(world, number - 1)
+    }
+}
+
+// Makes the event of the first slot that has one, from the one that the word names.
+fn make_first(world: &mut World, word: usize) -> Result<u64, AllocError> {
+    for i in 0..23 {
+        if make(world, word.wrapping_add(i) % 23)? == Step::Took {
+            return Ok(1);
+        }
+    }
+    Ok(0)
+}
+
+// The run of a world that is driven to its end by the words of this seed.
+fn driven(
+    alloc: Global,
+    input: &Input,
+    setting: &Setting,
+    seed: u64,
+) -> Result<Run, AllocError> {
+    if !input.valid() || !setting.valid() {
+        return Err(AllocError);
+    }
+    let mut world = World::start(alloc, input, setting)?;
+    let mut draws = Lcg64Xsh32::new(seed, 56);
+    let mut events = 0u64;
+    for _ in 0..1000 {
+        if !world.done() {
+            let word = draws.next_word();
+            events = events.wrapping_add(make_first(&mut world, word as usize)?);
+        }
+    }
+    if !world.done() {
+        return Err(AllocError);
+    }
+    world.finish(events)
+}
+
+/// The replay of a valid input and setting.
+pub(super) fn replayed<R: Wait>(
+    rt: &R,
+    alloc: Global,
+    input: &Input,
+    setting: &Setting,
+    seed: u64,
+) -> Result<Run, AllocError> {
+    if !input.valid() || !setting.valid() {
+        return Err(AllocError);
+    }
+    replay(rt, alloc, input, setting, seed)
+}
+
+// The first field in which two runs differ.
+fn difference(one: &Run, other: &Run) -> &'static str {
+    if one.pairs.as_slice() != other.pairs.as_slice() {
+        "pairs"
+    } else if one.made.as_slice() != other.made.as_slice() {
+        "made"
+    } else if one.loads.as_slice() != other.loads.as_slice() {
+        "loads"
+    } else if one.moved.as_slice() != other.moved.as_slice() {
+        "moved"
+    } else if one.journal.as_slice() != other.journal.as_slice() {
+        "journal"
+    } else if one.bouts != other.bouts {
+        "bouts"
+    } else {
+        "none"
+    }
+}
+
+#[test]
+fn a_replay_makes_the_events_in_its_order(rt: HostRuntime) -> Result<(), Fail> {
+    let alloc = rt.alloc();
+    let input = eight_rows_a_side(alloc)?;
+    let setting = four_joiners();
+    let first = driven(alloc, &input, &setting, 0)?;
+    let mut others = 0u64;
+    for seed in 0..32 {
+        let wanted = driven(alloc, &input, &setting, seed)?;
+        let run = replayed(&rt, alloc, &input, &setting, seed)?;
+        assert_eq!(rt; difference(&run, &wanted), "none", "seed {seed}");
+        if wanted.journal.as_slice() != first.journal.as_slice() {
+            others = others.wrapping_add(1);
+        }
+    }
+    assert!(rt; others > 0, "the journals aren't all equal");
+    Ok(())
+}
