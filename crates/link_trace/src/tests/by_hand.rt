@@ -66,7 +66,11 @@ fn make_all(world: &mut World) -> Result<u64, AllocError> {
 fn rightly_stamped(tuples: &Tuples) -> u64 {
     let mut count = 0u64;
     for tuple in tuples.as_slice() {
-        let stamp = if tuple.side == Side::S && tuple.index >= 4 { 2 } else { 1 };
+        let stamp = if tuple.side == Side::S && tuple.index >= 4 {
+            2
+        } else {
+            1
+        };
         if tuple.stamp == stamp {
             count = count.wrapping_add(1);
         }
@@ -107,10 +111,7 @@ fn drain_place(journal: &Journal) -> Option<usize> {
         .position(|line| line.cause == Cause::Drain { feeder: 0 })
 }
 
-fn made_by_hand(
-    alloc: Global,
-    input: &Input,
-) -> Result<(u64, Run), AllocError> {
+fn made_by_hand(alloc: Global, input: &Input) -> Result<(u64, Run), AllocError> {
     let setting = four_joiners();
     if !input.valid() || !setting.valid() {
         return Err(AllocError);
@@ -129,8 +130,16 @@ fn eight_rows_a_side_by_hand(rt: HostRuntime) -> Result<(), Fail> {
     let input = eight_rows_a_side(rt.alloc())?;
     let (stored, run) = made_by_hand(rt.alloc(), &input)?;
     assert_eq!(rt; stored, 32, "rows that are stored with their stamps");
-    assert_eq!(rt; epochs_number(&run.journal), 1_1111_1122_2222, "an epoch a line");
-    assert_eq!(rt; drain_place(&run.journal), Some(9), "the line where the feeder drains");
+    assert_eq!(rt;
+        epochs_number(&run.journal),
+        1_1111_1122_2222,
+        "an epoch a line"
+    );
+    assert_eq!(rt;
+        drain_place(&run.journal),
+        Some(9),
+        "the line where the feeder drains"
+    );
     assert_eq!(rt; run.moved.as_slice(), [0, 8].as_slice(), "moved");
     assert_eq!(rt; run.made.as_slice(), [16, 16, 16, 16].as_slice(), "made");
     assert_eq!(rt; run.pairs.len(), 64, "pairs");

@@ -67,7 +67,11 @@ fn one_joiner_holds_all_rows(rt: HostRuntime) -> Result<(), Fail> {
     assert_eq!(rt; last_epoch(&run), Some(0), "epoch");
     assert_eq!(rt; run.bouts, 17, "events");
     assert_eq!(rt; run.loads.len(), 1, "joiners");
-    assert_eq!(rt; (run.loads.at(0).rows_r, run.loads.at(0).rows_s), (3, 3), "rows");
+    assert_eq!(rt;
+        (run.loads.at(0).rows_r, run.loads.at(0).rows_s),
+        (3, 3),
+        "rows"
+    );
     Ok(())
 }
 

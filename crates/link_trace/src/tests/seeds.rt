@@ -29,12 +29,7 @@ fn make_first(world: &mut World, word: usize) -> Result<u64, AllocError> {
 }
 
 // The run of a world that is driven to its end by the words of this seed.
-fn driven(
-    alloc: Global,
-    input: &Input,
-    setting: &Setting,
-    seed: u64,
-) -> Result<Run, AllocError> {
+fn driven(alloc: Global, input: &Input, setting: &Setting, seed: u64) -> Result<Run, AllocError> {
     if !input.valid() || !setting.valid() {
         return Err(AllocError);
     }
