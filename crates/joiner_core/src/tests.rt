@@ -226,7 +226,7 @@ fn theta(rt: &impl Abort, alloc: Global, text: &str) -> Result<Theta, AllocError
     Ok(theta)
 }
 
-// A joiner at the beginning of a run goes through these steps.
+// Joiner 0 at the beginning of a run goes through these steps.
 fn run(
     rt: &impl Abort,
     alloc: Global,
@@ -234,13 +234,23 @@ fn run(
     k: u32,
     feeders: u32,
     steps: &[Step<'_>],
-) -> Result<(), AllocError>
-    requires k { k < 9 }
-    requires feeders { 0 < feeders }
-{
+) -> Result<(), AllocError> {
     let theta = theta(rt, alloc, predicate)?;
-    let mut joiner = Joiner::start(alloc, k, 0, 0, feeders, &theta)?;
-    play(rt, alloc, &mut joiner, steps)
+    let mut joiner = first(alloc, k, feeders, &theta)?;
+    play(rt, alloc, &mut joiner, steps)?;
+    Ok(())
+}
+
+fn first<'a>(
+    alloc: Global,
+    k: u32,
+    feeders: u32,
+    theta: &'a Theta,
+) -> Result<Joiner<'a>, AllocError> {
+    if k > 8 || feeders == 0 {
+        return Err(AllocError);
+    }
+    Joiner::start(alloc, k, 0, 0, feeders, theta)
 }
 
 #[test]
@@ -363,19 +373,40 @@ fn base(alloc: Global, theta: &Theta) -> Result<Store, AllocError>
     Ok(store)
 }
 
+// A joiner with that base, at epoch 2.
+fn with_base<'a>(alloc: Global, theta: &'a Theta) -> Result<Joiner<'a>, AllocError>
+    requires r { theta.now.width_r ≡ 1 }
+    requires s { theta.now.width_s ≡ 1 }
+{
+    let rows = base(alloc, theta)?;
+    Joiner::start_at(alloc, 0, 0, 0, 2, 1, theta, rows)
+}
+
+fn has_finished(rt: &impl Abort, joiner: &Joiner<'_>, epoch: u32, rows_s: u64) {
+    assert_eq!(rt; joiner.settled_epoch(), epoch);
+    assert!(rt; joiner.finished());
+    assert_eq!(rt; joiner.store().side(Side::S).len(), rows_s);
+}
+
+fn run_with_base(
+    rt: &impl Abort,
+    alloc: Global,
+    predicate: &str,
+    steps: &[Step<'_>],
+) -> Result<(), AllocError> {
+    let theta = theta(rt, alloc, predicate)?;
+    let mut joiner = with_base(alloc, &theta)?;
+    play(rt, alloc, &mut joiner, steps)?;
+    has_finished(rt, &joiner, 2, 2);
+    Ok(())
+}
+
 #[test]
 fn a_base_is_not_joined_again(rt: HostRuntime) -> Result<(), Fail> {
-    let alloc = rt.alloc();
-    let theta = theta(&rt, alloc, "1 = 1")?;
-    let base = base(alloc, &theta)?;
-    let mut joiner = Joiner::start_at(alloc, 0, 0, 0, 2, 1, &theta, base)?;
     let steps = [
         ("feeder_0 row S 1 0 2", 0, "[found 0 1]"),
         ("feeder_0 end", 0, "[fin 1 2 moved]"),
     ];
-    play(&rt, alloc, &mut joiner, &steps)?;
-    assert_eq!(rt; joiner.settled_epoch(), 2);
-    assert!(rt; joiner.finished());
-    assert_eq!(rt; joiner.store().side(Side::S).len(), 2);
+    run_with_base(&rt, rt.alloc(), "1 = 1", &steps)?;
     Ok(())
 }
