@@ -5,8 +5,6 @@ use std::sync::Wait;
 
 mod calls;
 mod faults;
-mod replays;
-mod reports;
 mod rows;
 
 // The number of a call that isn't made.
