@@ -5,6 +5,7 @@ use std::sync::Wait;
 
 mod calls;
 mod faults;
+mod replays;
 mod rows;
 
 // The number of a call that isn't made.
