@@ -82,3 +82,10 @@ Waits (TheFeeder f) = IsWaiting f
 Waits (TheJoiner j) = ⊤
 Waits (TheController c) = ⊤
 Waits (TheCollector c) = ⊤
+
+-- it is no feeder for which a call found no memory
+abbrev pub IsLive : Core → Type 0
+IsLive (TheFeeder f) = f.spent ≡ false
+IsLive (TheJoiner j) = ⊤
+IsLive (TheController c) = ⊤
+IsLive (TheCollector c) = ⊤

@@ -1,7 +1,7 @@
 // The machines behind one enum.
 ghost use Rattle.std.specs.Prelude.{◌≡◌, Ok, true, false, OnOk};
 ghost use Rattle.link_trace.specs.Lists.{Took, Began};
-ghost use Rattle.link_trace.specs.Standing.{Occurs, IsOver, GoesOn, Waits};
+ghost use Rattle.link_trace.specs.Standing.{Occurs, IsOver, GoesOn, Waits, IsLive};
 
 use epoch_tags::{Actor, Msg, Sends};
 use joiner_core::Joiner;
@@ -22,7 +22,8 @@ pub enum Core<'a> {
 impl<'a> Core<'a> {
     /// Takes a message and appends what it sends. A strange message answers the error too.
     pub fn on(&mut self, from: Actor, msg: Msg, sends: &mut Sends) -> Result<(), AllocError>
-        ensures { OnOk result (Occurs (Took from msg) self.old self.new sends.old sends.new) }
+        ensures occurs { OnOk result (Occurs (Took from msg) self.old self.new sends.old sends.new) }
+        ensures live { OnOk result (IsLive self.new) }
     {
         match self {
             Core::Feeder(feeder) => match (from, msg) {
@@ -55,6 +56,7 @@ impl<'a> Core<'a> {
         ensures waits { result ≡ Ok false → (self.new ≡ self.old) × (sends.new ≡ sends.old) }
         ensures idle { result ≡ Ok false → Waits self.old }
         ensures free { result ≡ Ok true → ¬ Waits self.old }
+        ensures live { OnOk result (IsLive self.new) }
     {
         match self {
             Core::Feeder(feeder) => feeder.begin(sends),
@@ -78,8 +80,11 @@ impl<'a> Core<'a> {
         }
     }
 
-    /// Whether a feeder would begin.
-    pub fn can_begin(&self) -> bool {
+    /// Whether [`Core::begin`] would not answer `Ok(false)`. It takes no memory.
+    pub fn can_begin(&self) -> bool
+        ensures waits { result ≡ false → Waits self.now }
+        ensures free { result ≡ true → IsLive self.now → ¬ Waits self.now }
+    {
         match self {
             Core::Feeder(feeder) => feeder.can_begin(),
             _ => false,

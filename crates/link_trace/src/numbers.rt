@@ -5,8 +5,8 @@ ghost use Rattle.link_trace.specs.Numbers as numbers;
 
 use epoch_tags::Actor;
 
-// The number of an actor in a run with so many joiners and feeders, or none where it isn't there.
-pub(crate) fn number(joiners: u32, feeders: u32, actor: Actor) -> Option<usize>
+/// The number of an actor in a run with so many joiners and feeders, or none where it isn't there. It takes no memory.
+pub fn number(joiners: u32, feeders: u32, actor: Actor) -> Option<usize>
     ensures { result ≡ numbers.number joiners feeders actor }
 {
     match actor {

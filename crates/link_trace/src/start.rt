@@ -7,7 +7,7 @@ ghost use Rattle.trace_law.specs.Join.{row_count};
 ghost use Rattle.trace_law.specs.Validity.{IsValidInput, IsValidSetting};
 ghost use Rattle.trace_law.specs.Family.{tuple_of, feeder_start, joiner_start, rules_of, first_line};
 ghost use Rattle.link_trace.specs.Lists.{no_lists};
-ghost use Rattle.link_trace.specs.Standing.{Stands, OfFeeder, OfJoiner, OfController, OfCollector};
+ghost use Rattle.link_trace.specs.Standing.{Stands, IsLive, OfFeeder, OfJoiner, OfController, OfCollector};
 ghost use Rattle.link_trace.specs.Families.{start_for};
 ghost use Rattle.link_trace.specs.Numbers.{actor_at};
 
@@ -37,8 +37,8 @@ fn power(exponent: u32) -> u32
     1 << exponent
 }
 
-// How many joiners there are.
-pub(crate) fn joiners_of(setting: &Setting) -> u32
+/// How many joiners there are. It takes no memory.
+pub fn joiners_of(setting: &Setting) -> u32
     requires { setting.now.k ≤ 6 }
     ensures value { result ≡ 2 ^ setting.now.k }
     ensures few { result ≤ 64 }
@@ -97,7 +97,8 @@ fn feeder<'a>(
     requires input { IsValidInput input.now }
     requires setting { IsValidSetting setting.now }
     requires feeder { p < setting.now.feeders }
-    ensures { IfOk result (λ core. Stands (OfFeeder p setting.now.feeders (feeder_start input.now setting.now p)) no_lists core) }
+    ensures stands { IfOk result (λ core. Stands (OfFeeder p setting.now.feeders (feeder_start input.now setting.now p)) no_lists core) }
+    ensures live { IfOk result IsLive }
 {
     let load = load(alloc, input, setting, p)?;
     let shift = first_shift(setting);
@@ -112,7 +113,8 @@ fn joiner<'a>(
 ) -> Result<Core<'a>, AllocError>
     requires setting { IsValidSetting setting.now }
     requires joiner { j < 2 ^ setting.now.k }
-    ensures { IfOk result (λ core. Stands (OfJoiner (joiner_start input.now setting.now j)) no_lists core) }
+    ensures stands { IfOk result (λ core. Stands (OfJoiner (joiner_start input.now setting.now j)) no_lists core) }
+    ensures live { IfOk result IsLive }
 {
     let shift = first_shift(setting);
     let joiner = Joiner::start(alloc, setting.k, j, shift, setting.feeders, &input.theta)?;
@@ -121,20 +123,22 @@ fn joiner<'a>(
 
 fn controller<'a>(alloc: Global, setting: &Setting) -> Result<Core<'a>, AllocError>
     requires setting { IsValidSetting setting.now }
-    ensures { IfOk result (λ core. Stands (OfController (record { rules = rules_of setting.now; first = first_line setting.now })) no_lists core) }
+    ensures stands { IfOk result (λ core. Stands (OfController (record { rules = rules_of setting.now; first = first_line setting.now })) no_lists core) }
+    ensures live { IfOk result IsLive }
 {
     Ok(Core::Controller(Controller::start(alloc, setting.k, setting.feeders, setting.fixed)?))
 }
 
 fn collector<'a>(alloc: Global, setting: &Setting) -> Result<Core<'a>, AllocError>
     requires setting { IsValidSetting setting.now }
-    ensures { IfOk result (λ core. Stands (OfCollector (2 ^ setting.now.k)) no_lists core) }
+    ensures stands { IfOk result (λ core. Stands (OfCollector (2 ^ setting.now.k)) no_lists core) }
+    ensures live { IfOk result IsLive }
 {
     Ok(Core::Collector(Collector::start(alloc, joiners_of(setting))?))
 }
 
-// The machine of the actor with this number.
-pub(crate) fn core_at<'a>(
+/// The machine of the actor with this number, at the beginning of a run.
+pub fn core_at<'a>(
     alloc: Global,
     input: &'a Input,
     setting: &Setting,
@@ -142,7 +146,8 @@ pub(crate) fn core_at<'a>(
 ) -> Result<Core<'a>, AllocError>
     requires input { IsValidInput input.now }
     requires setting { IsValidSetting setting.now }
-    ensures { IfOk result (λ core. Stands (start_for input.now setting.now (actor_at (2 ^ setting.now.k) setting.now.feeders n)) no_lists core) }
+    ensures stands { IfOk result (λ core. Stands (start_for input.now setting.now (actor_at (2 ^ setting.now.k) setting.now.feeders n)) no_lists core) }
+    ensures live { IfOk result IsLive }
 {
     let joiners = joiners_of(setting);
     if n < setting.feeders {

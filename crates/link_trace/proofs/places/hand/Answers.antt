@@ -14,4 +14,4 @@ returns-then-receiver-len-clause-occurs c =
     let place = c.index_mut.result.now in
     on_ok_weaker c.on.result
     (occurs_at c.args.places.now.items c.args.receiver place (record { core = c.on.new.self; waiting = place.waiting }) c.index_mut.ensures.value (subst (λ n. c.args.receiver < n) (c.len.ensures ∙ c.args.places.now.ok.0) c.if-receiver-len.true) (Took c.args.from c.args.msg) c.args.sends.now c.on.new.sends)
-    c.on.ensures
+    c.on.ensures.occurs

@@ -2,5 +2,5 @@ use Rattle.trace_law.specs.Family.{rules_of, first_line}
 use Rattle.link_trace.proofs.Fresh.{fresh_controller}
 use Rattle.link_trace.proofs.start.controller.Goals as goal
 
-pub returns : goal.returns
-returns c = fresh_controller (rules_of c.args.setting.now) (first_line c.args.setting.now) c.in_ok-start.field-0 c.in_ok-start.ensures
+pub returns-clause-stands : goal.returns-clause-stands
+returns-clause-stands c = fresh_controller (rules_of c.args.setting.now) (first_line c.args.setting.now) c.in_ok-start.field-0 c.in_ok-start.ensures

@@ -11,8 +11,8 @@ use Rattle.link_trace.specs.Lists.{no_lists, feeder_lists}
 use Rattle.link_trace.proofs.Beginnings.{map-cut}
 use Rattle.link_trace.proofs.start.feeder.Goals as goal
 
-pub returns : goal.returns
-returns c =
+pub returns-clause-stands : goal.returns-clause-stands
+returns-clause-stands c =
     let input = c.args.input.now in
     let setting = c.args.setting.now in
     let rows = share setting.feed setting.feeders c.args.p (row_count input R) (row_count input S) in

@@ -4,8 +4,8 @@ use Rattle.joiner_core.specs.Joining.{StandsFor}
 use Rattle.link_trace.specs.Lists.{no_lists, joiner_lists}
 use Rattle.link_trace.proofs.start.joiner.Goals as goal
 
-pub returns : goal.returns
-returns c =
+pub returns-clause-stands : goal.returns-clause-stands
+returns-clause-stands c =
     let setting = c.args.setting.now in
     subst (λ (shift : ℕ). StandsFor (start_of setting.k c.args.j shift 0 setting.feeders c.args.input.now.theta []) (joiner_lists no_lists) c.in_ok-joiner.joiner)
     c.first_shift-shift.ensures c.in_ok-joiner.ensures.fresh
