@@ -1,0 +1,137 @@
+-- What a bout does to the seats of a run.
+use Rattle.std.proofs.Common.{◌≡◌, ℕ, zero, suc, ◌<◌, ◌≤◌, inl, inr, refl, sym, ap, subst, ◌∙◌, Bool, true, false, true≢false, Option, Some, None, List, [], ◌∷◌, get_or, map, length, arith}
+use Rattle.std.specs.Prelude.{slice_get}
+use Rattle.std.proofs.lemmas.Option.{slice_get-get_or, get_or_from_slice_get, slice_get_within, slice_get_past}
+use Rattle.join_rows.specs.Lists.{IsPrefix}
+use Rattle.epoch_tags.specs.declared.actor.Actor.{Actor}
+use Rattle.trace_law.specs.declared.input.Input.{Input}
+use Rattle.trace_law.specs.declared.setting.Setting.{Setting}
+use Rattle.link_trace.specs.Lists.{ActorLists, no_lists}
+use Rattle.link_trace.specs.Standing.{Stands}
+use Rattle.link_trace.specs.Families.{start_for, IsActor}
+use Rattle.link_trace.specs.Numbers.{number, at_number}
+use Rattle.link_trace.proofs.OwnNumbers.{none_some}
+use Rattle.join_runtime.specs.Views.{SeatView, lists_of, frame_of}
+use Rattle.join_runtime.specs.Turns.{Advances, IsAlike, Works, AllWork}
+use Rattle.join_runtime.specs.Joins.{AreSettled, AreGathered}
+use Rattle.join_runtime.specs.Bouts.{SeatsView, StandsFor, Extends, AllAdvance, NoneSpent, seat_of, lists_at, lists_in}
+use Rattle.join_runtime.proofs.Making.{runs_alike}
+use Rattle.join_runtime.proofs.Placing.{frames_same}
+use Rattle.join_runtime.proofs.Running.{runs_stand, runs_live, runs_hear, runs_received, runs_sent, prefix_self}
+
+slice_get_none : {X : Type 0} (xs : List X) (n : ℕ) → slice_get xs n ≡ None → length xs ≤ n
+slice_get_none [] n is = omega arith
+slice_get_none (x ∷ xs) zero is = absurd (none_some x (sym is))
+slice_get_none (x ∷ xs) (suc n) is = let rest = slice_get_none xs n is in omega arith
+
+-- ---- one seat
+
+advanced : (s t : SeatView) → Works s t → t.spent ≡ false → Advances s t
+advanced s t works none = elim works.advances [
+  | inl spent ↦ absurd (true≢false (sym spent ∙ none))
+  | inr advances ↦ advances
+]
+
+advances_alike : (s t u : SeatView) → Advances s t → IsAlike t u → Advances s u
+advances_alike s t u a alike = record { count = a.count; runs = runs_alike a.count s t u a.runs alike; none = a.none }
+
+-- ---- all seats
+
+pub all_advance : (old middle new : List SeatView) → length middle ≡ length old → AllWork old middle → NoneSpent middle
+    → ((n : ℕ) (d : SeatView) → n < length middle → IsAlike (get_or middle n d) (get_or new n d)) → AllAdvance old new
+all_advance old middle new long works none alike n d low =
+    let low' : n < length middle = omega (arith, long) in
+    advances_alike (get_or old n d) (get_or middle n d) (get_or new n d) (advanced (get_or old n d) (get_or middle n d) (works n d low) (none n d low')) (alike n d low')
+
+pub frames_worked : (old new : List SeatView) → length new ≡ length old → AllWork old new → map frame_of new ≡ map frame_of old
+frames_worked old new long works = frames_same old new long (λ n d low. (works n d low).frame)
+
+pub still_settled : (old new : List SeatView) → length new ≡ length old → AllAdvance old new → AreGathered new → AreSettled old → AreSettled new
+still_settled old new long advance gathered settled = record {
+  hear = λ n d low.
+      let a = advance n d (omega (arith, long)) in
+      runs_hear a.count (get_or old n d) (get_or new n d) a.runs (settled.hear n d (omega (arith, long)));
+  live = λ n d low.
+      let a = advance n d (omega (arith, long)) in
+      runs_live a.count (get_or old n d) (get_or new n d) a.runs (settled.live n d (omega (arith, long)));
+  gathered = gathered;
+}
+
+-- ---- the lists
+
+module _ (old new : SeatsView) (joiners_are : new.joiners ≡ old.joiners) (feeders_are : new.feeders ≡ old.feeders) (long : length new.seats ≡ length old.seats) (advance : AllAdvance old.seats new.seats) where
+  same_number : (a : Actor) → number new.joiners new.feeders a ≡ number old.joiners old.feeders a
+  same_number a = ap (λ j. number j new.feeders a) joiners_are ∙ ap (λ f. number old.joiners f a) feeders_are
+
+  -- an actor's seat before and after
+  lists_before : (a : Actor) (n : ℕ) → number old.joiners old.feeders a ≡ Some n → lists_in old a ≡ lists_at (slice_get old.seats n)
+  lists_before a n is = ap (λ (o : Option ℕ). lists_at (at_number None o (λ k. slice_get old.seats k))) is
+
+  lists_after : (a : Actor) (n : ℕ) → number old.joiners old.feeders a ≡ Some n → lists_in new a ≡ lists_at (slice_get new.seats n)
+  lists_after a n is = ap (λ (o : Option ℕ). lists_at (at_number None o (λ k. slice_get new.seats k))) (same_number a ∙ is)
+
+  none_there : (a : Actor) → number old.joiners old.feeders a ≡ None → (lists_in old a ≡ no_lists) × (lists_in new a ≡ no_lists)
+  none_there a is = (
+    ap (λ (o : Option ℕ). lists_at (at_number None o (λ k. slice_get old.seats k))) is,
+    ap (λ (o : Option ℕ). lists_at (at_number None o (λ k. slice_get new.seats k))) (same_number a ∙ is),
+  )
+
+  -- whatever relates a seat before to the same after, and empty lists to themselves
+  of_lists : (P : ActorLists → ActorLists → Type 0) → P no_lists no_lists → ((s t : SeatView) → Advances s t → P (lists_of s) (lists_of t)) → (a : Actor) → P (lists_in old a) (lists_in new a)
+  of_lists P none some a = go (number old.joiners old.feeders a) refl
+    where
+      there : (n : ℕ) → number old.joiners old.feeders a ≡ Some n → (o : Option SeatView) → slice_get old.seats n ≡ o → P (lists_in old a) (lists_in new a)
+      there n is None gone =
+          let high = slice_get_none old.seats n gone in
+          subst (λ ls. P ls (lists_in new a)) (sym (lists_before a n is ∙ ap lists_at gone))
+          (subst (P no_lists) (sym (lists_after a n is ∙ ap lists_at (slice_get_past new.seats n (omega (arith, long))))) none)
+      there n is (Some s) here =
+          let low = slice_get_within old.seats n s here in
+          let before : get_or old.seats n s ≡ s = get_or_from_slice_get old.seats n s s here in
+          subst (λ ls. P ls (lists_in new a)) (sym (lists_before a n is ∙ ap lists_at here))
+          (subst (P (lists_of s)) (sym (lists_after a n is ∙ ap lists_at (slice_get-get_or new.seats n s (omega (arith, long)))))
+          (subst (λ (z : SeatView). P (lists_of z) (lists_of (get_or new.seats n s))) before (some (get_or old.seats n s) (get_or new.seats n s) (advance n s low))))
+
+      go : (i : Option ℕ) → number old.joiners old.feeders a ≡ i → P (lists_in old a) (lists_in new a)
+      go None is = subst (λ ls. P ls (lists_in new a)) (sym (none_there a is).0) (subst (P no_lists) (sym (none_there a is).1) none)
+      go (Some n) is = there n is (slice_get old.seats n) refl
+
+  pub extends : Extends (lists_in old) (lists_in new)
+  extends = record {
+    received = λ from to. of_lists (λ ls ls'. IsPrefix (ls.received from) (ls'.received from)) (prefix_self [] [] refl) (λ s t a. runs_received a.count s t a.runs from) to;
+    sent = λ from to. of_lists (λ ls ls'. IsPrefix (ls.sent to) (ls'.sent to)) (prefix_self [] [] refl) (λ s t a. runs_sent a.count s t a.runs to) from;
+  }
+
+  pub still_stand : (input : Input) (setting : Setting) → StandsFor input setting old → StandsFor input setting new
+  still_stand input setting st = record {
+    joiners_are = joiners_are ∙ st.joiners_are;
+    feeders_are = feeders_are ∙ st.feeders_are;
+    stands = stands;
+  }
+    where
+      stands : (a : Actor) → IsActor setting a → (seat : SeatView) × (seat_of new a ≡ Some seat) × Stands (start_for input setting a) (lists_of seat) seat.core
+      stands a is = go (number old.joiners old.feeders a) refl
+        where
+          one : (seat : SeatView) × (seat_of old a ≡ Some seat) × Stands (start_for input setting a) (lists_of seat) seat.core
+          one = st.stands a is
+
+          go : (i : Option ℕ) → number old.joiners old.feeders a ≡ i → (seat : SeatView) × (seat_of new a ≡ Some seat) × Stands (start_for input setting a) (lists_of seat) seat.core
+          go None num = absurd (none_some one.0 (sym (ap (λ (o : Option ℕ). at_number None o (λ k. slice_get old.seats k)) num) ∙ one.1))
+          go (Some n) num =
+              let s = one.0 in
+              let here : slice_get old.seats n ≡ Some s = sym (ap (λ (o : Option ℕ). at_number None o (λ k. slice_get old.seats k)) num) ∙ one.1 in
+              let low = slice_get_within old.seats n s here in
+              let before : get_or old.seats n s ≡ s = get_or_from_slice_get old.seats n s s here in
+              let a' = advance n s low in
+              let t = get_or new.seats n s in
+              let stood = subst (λ (z : SeatView). Stands (start_for input setting a) (lists_of z) z.core) (sym before) one.2 in (
+                t,
+                ap (λ (o : Option ℕ). at_number None o (λ k. slice_get new.seats k)) (same_number a ∙ num) ∙ slice_get-get_or new.seats n s (omega (arith, long)),
+                runs_stand a'.count (get_or old.seats n s) t a'.runs (start_for input setting a) stood,
+              )
+
+-- ---- a bout by its answer
+
+pub settled_after : (went : Bool) (old new : List SeatView) → length new ≡ length old → (went ≡ true → AllAdvance old new) → (went ≡ true → AreGathered new) → (went ≡ false → new ≡ old) → AreSettled old → AreSettled new
+settled_after true old new long advance gathered same settled = still_settled old new long (advance refl) (gathered refl) settled
+settled_after false old new long advance gathered same settled = subst AreSettled (sym (same refl)) settled

@@ -1,0 +1,254 @@
+-- Seats whose mouths all came to their senders are joined, and have empty lists.
+use Rattle.std.proofs.Common.{◌≡◌, ℕ, zero, suc, ◌+◌, ◌<◌, ◌^◌, ◌++◌, lt-ltb, refl, sym, ap, subst, ◌∙◌, Bool, true, false, Option, Some, None, List, [], ◌∷◌, get_or, map, length, arith, true≢false, eqb, cond, eq-eqb, eqb-true}
+use Rattle.std.specs.Prelude.{slice_get, IsSome, Contains}
+use Rattle.std.proofs.lemmas.List.Elements.{All-contains}
+use Rattle.std.proofs.lemmas.List.{length-map, get_or-map, get_or_default}
+use Rattle.std.proofs.lemmas.Option.{slice_get-get_or}
+use Rattle.epoch_tags.specs.declared.actor.Actor.{Actor}
+use Rattle.epoch_tags.specs.declared.actor.Actor.TheVariants.{Feeder, Joiner, Controller, Collector}
+use Rattle.ruled_links.specs.Ends.{Sending}
+use Rattle.ruled_links.specs.Delivery.{number_of}
+use Rattle.ruled_links.specs.Inboxes.{InboxView, OfSender, is_sender, fresh, opened, messages_of}
+use Rattle.ruled_links.proofs.PartsLemmas.{name_once}
+use Rattle.trace_law.specs.declared.input.Input.{Input}
+use Rattle.trace_law.specs.declared.setting.Setting.{Setting}
+use Rattle.link_trace.specs.Lists.{no_lists}
+use Rattle.link_trace.specs.Standing.{Stands, IsLive}
+use Rattle.link_trace.specs.Families.{start_for, IsActor}
+use Rattle.link_trace.specs.Numbers.{number, at_number}
+use Rattle.link_trace.proofs.OwnNumbers.{number_actor}
+use Rattle.join_runtime.specs.Views.{SeatView, Frame, frame_of, lists_of, address_of, contents, sent_by, sent_at}
+use Rattle.join_runtime.specs.Joins.{AreJoined, AreSettled, AllLead, IsPlaced, Leads, HasMouthTo, IsGathered, Knows, slot_of}
+use Rattle.join_runtime.specs.Bouts.{StandsFor}
+use Rattle.join_runtime.specs.Seating.{IsNewSeat, AreNew, AreFilled}
+use Rattle.join_runtime.proofs.Knowing.{is_sender-named}
+use Rattle.join_runtime.proofs.Placing.{address_at}
+use Rattle.join_runtime.proofs.Linking.{there, number_low}
+
+-- ---- members of lists
+
+contains_map : {X Y : Type 0} (g : X → Y) (xs : List X) (y : Y) → Contains (map g xs) y → (x : X) × Contains xs x × (g x ≡ y)
+contains_map g [] y has = absurd (let low = has.1 in omega (arith, low))
+contains_map g (x ∷ xs) y has = go has.0 has.1 has.2
+  where
+    go : (k : ℕ) → k < length (map g (x ∷ xs)) → get_or (map g (x ∷ xs)) k y ≡ y → (z : _) × Contains (x ∷ xs) z × (g z ≡ y)
+    go k low is =
+        let low' : k < length (x ∷ xs) = subst (λ n. k < n) (length-map (x ∷ xs) g) low in
+        let z = get_or (x ∷ xs) k x in
+        (z, (k, low', get_or_default (x ∷ xs) k z x low'), sym (get_or-map g (x ∷ xs) k x y low') ∙ is)
+
+map_contains : {X Y : Type 0} (g : X → Y) (xs : List X) (x : X) → Contains xs x → Contains (map g xs) (g x)
+map_contains g xs x has = (has.0, subst (λ n. has.0 < n) (sym (length-map xs g)) has.1, get_or-map g xs has.0 x (g x) has.1 ∙ ap g has.2)
+
+-- a sender of a new inbox is one of the names
+named : (a : Actor) (names : List Actor) → is_sender a (map fresh names) ≡ true → Contains names a
+named a [] is = absurd (true≢false (sym is))
+named a (x ∷ names) is = go (eqb (number_of x) (number_of a)) refl is (λ is'. named a names is')
+  where
+    go : (b : Bool) → eqb (number_of x) (number_of a) ≡ b → cond b true (is_sender a (map fresh names)) ≡ true → (is_sender a (map fresh names) ≡ true → Contains names a) → Contains (x ∷ names) a
+    go true e is' rest = (0, omega arith, name_once x a (eqb-true (number_of x) (number_of a) e))
+    go false e is' rest = let later = rest is' in (suc later.0, omega (arith, later.1), later.2)
+
+-- and each name is a sender
+is_named : (a : Actor) (names : List Actor) → Contains names a → is_sender a (map fresh names) ≡ true
+is_named a [] has = absurd (let low = has.1 in omega (arith, low))
+is_named a (x ∷ names) has = go has.0 has.1 has.2 (λ rest. is_named a names rest)
+  where
+    go : (k : ℕ) → k < length (x ∷ names) → get_or (x ∷ names) k a ≡ a → (Contains names a → is_sender a (map fresh names) ≡ true) → cond (eqb (number_of x) (number_of a)) true (is_sender a (map fresh names)) ≡ true
+    go zero low is rest = ap (λ b. cond b true (is_sender a (map fresh names))) (eq-eqb (number_of x) (number_of a) (ap number_of is))
+    go (suc k) low is rest = later (eqb (number_of x) (number_of a)) (rest (k, omega arith, is))
+      where
+        later : (b : Bool) → is_sender a (map fresh names) ≡ true → cond b true (is_sender a (map fresh names)) ≡ true
+        later true e = refl
+        later false e = e
+
+knows_fresh : (from : Actor) (names : List Actor) → Knows from 0 (map fresh names)
+knows_fresh from [] = tt
+knows_fresh from (x ∷ names) = ((λ e. refl), knows_fresh from names)
+
+has_some : (o : Option ℕ) → IsSome o → (n : ℕ) × (o ≡ Some n)
+has_some None is = absurd (true≢false (sym is))
+has_some (Some n) is = (n, refl)
+
+some_address : (o : Option Sending) → IsSome o → IsSome (address_of o)
+some_address None is = is
+some_address (Some mouth) is = refl
+
+has_number : (setting : Setting) (a : Actor) → IsActor setting a → (n : ℕ) × (number (2 ^ setting.k) setting.feeders a ≡ Some n)
+has_number setting (Feeder p) is = (p, ap (λ b. cond b (Some p) None) (lt-ltb p setting.feeders is))
+has_number setting (Joiner j) is = (setting.feeders + j, ap (λ b. cond b (Some (setting.feeders + j)) None) (lt-ltb j (2 ^ setting.k) is))
+has_number setting Controller is = (setting.feeders + 2 ^ setting.k, refl)
+has_number setting Collector is = (setting.feeders + 2 ^ setting.k + 1, refl)
+
+-- ---- frames of seats
+
+lead_frames : (seats : List SeatView) → ((n r : ℕ) (d : SeatView) → n < length seats → r < length seats → Leads (address_of (slot_of seats d n r)) (frame_of (get_or seats n d)) (frame_of (get_or seats r d)))
+    → AllLead (map frame_of seats)
+lead_frames seats leads n r f low low' =
+    let here = subst (λ z. n < z) (length-map seats frame_of) low in
+    let there' = subst (λ z. r < z) (length-map seats frame_of) low' in
+    let d = (there seats n here).0 in
+    let one = get_or-map frame_of seats n d f here in
+    let other = get_or-map frame_of seats r d f there' in
+    subst (λ (x : Frame). Leads (get_or x.addresses r None) x (get_or (map frame_of seats) r f)) (sym one)
+    (subst (λ (x : Frame). Leads (get_or (frame_of (get_or seats n d)).addresses r None) (frame_of (get_or seats n d)) x) (sym other)
+    (subst (λ a. Leads a (frame_of (get_or seats n d)) (frame_of (get_or seats r d))) (sym (address_at (get_or seats n d).mouths r)) (leads n r d here there')))
+
+-- ---- the seats
+
+module _ (input : Input) (setting : Setting) (count : ℕ) (first seats : List SeatView) (mouths : List (List Sending)) (new : AreNew input setting count first mouths) (filled : AreFilled (2 ^ setting.k) setting.feeders count mouths first seats) (many : count ≡ setting.feeders + 2 ^ setting.k + 2) where
+  long : length seats ≡ count
+  long = filled.all ∙ new.all
+
+  low_of : (n : ℕ) → n < length seats → n < count
+  low_of n low = subst (λ z. n < z) long low
+
+  made : (n : ℕ) (d : SeatView) → n < count → IsNewSeat input setting n (get_or first n d) (get_or mouths n [])
+  made n d low = new.new n d low
+
+  still : (n : ℕ) (d : SeatView) → n < count → get_or seats n d ≡ record (get_or first n d) { mouths = (get_or seats n d).mouths }
+  still n d low = filled.same n d (subst (λ z. n < z) (sym new.all) low)
+
+  inbox_is : (n : ℕ) (d : SeatView) → n < count → (get_or seats n d).inbox ≡ (get_or first n d).inbox
+  inbox_is n d low = ap (λ (s : SeatView). s.inbox) (still n d low)
+
+  -- a mouth of the seat n to the seat r is one that was opened for n
+  opened_is : (n r : ℕ) (d : SeatView) (mouth : Sending) → n < count → slot_of seats d n r ≡ Some mouth
+      → (r < count) × (number (2 ^ setting.k) setting.feeders mouth.from ≡ Some n) × ((names : List Actor) → (get_or first r d).inbox.senders ≡ map fresh names → is_sender mouth.from (map fresh names) ≡ true) × ((a : Actor) × (opened (get_or first r d).inbox.link (get_or first r d).inbox.to a ≡ mouth))
+  opened_is n r d mouth low is =
+      let own = filled.own n r d mouth (subst (λ z. n < z) (sym new.all) low) is in
+      let one = new.new r d own.0 in
+      let inbox = (get_or first r d).inbox in
+      let found = contains_map (opened inbox.link inbox.to) one.names mouth (subst (λ ms. Contains ms mouth) one.mouths_are own.1.one) in
+      let from_is : found.0 ≡ mouth.from = ap (λ (m : Sending). m.from) found.2 in (
+        own.0,
+        own.1.sender,
+        λ names same. subst (λ (ss : List OfSender). is_sender mouth.from ss ≡ true) (sym one.senders ∙ same) (subst (λ a. is_sender a (map fresh one.names) ≡ true) from_is (is_named found.0 one.names found.1)),
+        (found.0, found.2),
+      )
+
+  leads : (n r : ℕ) (d : SeatView) → n < length seats → r < length seats → Leads (address_of (slot_of seats d n r)) (frame_of (get_or seats n d)) (frame_of (get_or seats r d))
+  leads n r d low low' = go (slot_of seats d n r) refl
+    where
+      go : (slot : Option Sending) → slot_of seats d n r ≡ slot → Leads (address_of slot) (frame_of (get_or seats n d)) (frame_of (get_or seats r d))
+      go None is = tt
+      go (Some mouth) is =
+          let own = opened_is n r d mouth (low_of n low) is in
+          let inbox = inbox_is r d (low_of r low') in
+          let actor = ap (λ (s : SeatView). s.actor) (still n d (low_of n low)) ∙ (made n d (low_of n low)).actor in
+          record {
+            link = ap (λ (i : InboxView). i.link) inbox ∙ ap (λ (m : Sending). m.link) own.3.1;
+            to = ap (λ (i : InboxView). i.to) inbox ∙ ap (λ (m : Sending). m.to) own.3.1;
+            from = sym (number_actor (2 ^ setting.k) setting.feeders mouth.from n own.1) ∙ sym actor;
+          }
+
+  placed : (n : ℕ) (f : Frame) → n < length (map frame_of seats) → IsPlaced (2 ^ setting.k) setting.feeders n (get_or (map frame_of seats) n f)
+  placed n f low =
+      let here = subst (λ z. n < z) (length-map seats frame_of) low in
+      let d = (there seats n here).0 in
+      let same = still n d (low_of n here) in
+      let one = made n d (low_of n here) in
+      subst (IsPlaced (2 ^ setting.k) setting.feeders n) (sym (get_or-map frame_of seats n d f here)) (record {
+        joiners_are = ap (λ (s : SeatView). s.joiners) same ∙ one.joiners_are;
+        feeders_are = ap (λ (s : SeatView). s.feeders) same ∙ one.feeders_are;
+        actor = ap (λ (s : SeatView). s.actor) same ∙ one.actor;
+        to = ap (λ (s : SeatView). s.inbox.to) same ∙ (one.to ∙ sym (ap (λ (s : SeatView). s.actor) same));
+      })
+
+  heard : (r : ℕ) (a : Actor) (f : Frame) → r < length (map frame_of seats) → is_sender a (map fresh (get_or (map frame_of seats) r f).senders) ≡ true → HasMouthTo (2 ^ setting.k) setting.feeders (map frame_of seats) r a
+  heard r a f low is =
+      let here = subst (λ z. r < z) (length-map seats frame_of) low in
+      let d = (there seats r here).0 in
+      let one = made r d (low_of r here) in
+      let senders_are = ap (λ (i : InboxView). i.senders) (inbox_is r d (low_of r here)) ∙ one.senders in
+      let is_one = sym (is_sender-named a (get_or seats r d).inbox.senders) ∙ subst (λ (x : Frame). is_sender a (map fresh x.senders) ≡ true) (get_or-map frame_of seats r d f here) is in
+      let name = named a one.names (subst (λ (ss : List OfSender). is_sender a ss ≡ true) senders_are is_one) in
+      let num = has_some (number (2 ^ setting.k) setting.feeders a) (All-contains (λ x. IsSome (number (2 ^ setting.k) setting.feeders x)) one.names a one.numbers name) in
+      let inbox = (get_or first r d).inbox in
+      let mouth = opened inbox.link inbox.to a in
+      let has = subst (λ ms. Contains ms mouth) (sym one.mouths_are) (map_contains (opened inbox.link inbox.to) one.names a name) in
+      let given = filled.has num.0 r d mouth (low_of r here) (record { one = has; sender = num.1 }) in
+      let low_n : num.0 < length seats = subst (λ z. num.0 < z) (sym filled.all) given.0 in
+      record {
+        sender = num.0;
+        is = num.1;
+        there = subst (λ z. num.0 < z) (sym (length-map seats frame_of)) low_n;
+        mouth = λ g.
+            subst (λ (x : Frame). IsSome (get_or x.addresses r None)) (sym (get_or-map frame_of seats num.0 d g low_n))
+            (subst IsSome (sym (address_at (get_or seats num.0 d).mouths r)) (some_address (slot_of seats d num.0 r) given.1));
+      }
+
+  pub all_joined : AreJoined (2 ^ setting.k) setting.feeders (map frame_of seats)
+  all_joined = record {
+    all = length-map seats frame_of ∙ (long ∙ many);
+    placed = placed;
+    leads = lead_frames seats leads;
+    heard = heard;
+  }
+
+  nothing_sent : (n r : ℕ) (d : SeatView) → n < count → sent_by (slot_of seats d n r) ≡ []
+  nothing_sent n r d low = go (slot_of seats d n r) refl
+    where
+      go : (slot : Option Sending) → slot_of seats d n r ≡ slot → sent_by slot ≡ []
+      go None is = refl
+      go (Some mouth) is = ap (λ (m : Sending). contents m.sent) (sym (opened_is n r d mouth low is).3.1)
+
+  nothing_received : (n : ℕ) (d : SeatView) → n < count → (get_or seats n d).inbox.received ≡ []
+  nothing_received n d low = ap (λ (i : InboxView). i.received) (inbox_is n d low) ∙ (made n d low).received
+
+  gathered : (n r : ℕ) (d : SeatView) → n < length seats → r < length seats → IsGathered (slot_of seats d n r) (get_or seats r d).inbox
+  gathered n r d low low' = go (slot_of seats d n r) refl
+    where
+      go : (slot : Option Sending) → slot_of seats d n r ≡ slot → IsGathered slot (get_or seats r d).inbox
+      go None is = tt
+      go (Some mouth) is =
+          let own = opened_is n r d mouth (low_of n low) is in
+          let one = made r d (low_of r low') in
+          let senders_are : (get_or seats r d).inbox.senders ≡ map fresh one.names = ap (λ (i : InboxView). i.senders) (inbox_is r d (low_of r low')) ∙ one.senders in
+          let none : messages_of mouth.from (get_or seats r d).inbox.received ≡ [] = ap (messages_of mouth.from) (nothing_received r d (low_of r low')) in
+          let unsent : mouth.sent ≡ [] = ap (λ (m : Sending). m.sent) (sym own.3.1) in
+          record {
+            count = 0;
+            agrees = record { prefix = record { rest = []; joins = ap (λ xs. xs ++ []) none ∙ sym unsent }; left = refl };
+            knows = subst (Knows mouth.from 0) (sym senders_are) (knows_fresh mouth.from one.names);
+            sender = subst (λ (ss : List OfSender). is_sender mouth.from ss ≡ true) (sym senders_are) (own.2 one.names one.senders);
+          }
+
+  pub all_settled : AreSettled seats
+  all_settled = record {
+    hear = λ n d low from none. ap (λ xs. contents (messages_of from xs)) (nothing_received n d (low_of n low));
+    live = λ n d low. subst IsLive (sym (ap (λ (s : SeatView). s.core) (still n d (low_of n low)))) (made n d (low_of n low)).live;
+    gathered = gathered;
+  }
+
+  -- each machine stands for empty lists, and these are its seat's
+  empty_lists : (n : ℕ) (d : SeatView) → n < count → lists_of (get_or seats n d) ≡ no_lists
+  empty_lists n d low = λ i. record { received = λ from. none_of from i; sent = λ to. none_to to i }
+    where
+      none_of : (from : Actor) → (lists_of (get_or seats n d)).received from ≡ []
+      none_of from = ap (λ xs. contents (messages_of from xs)) (nothing_received n d low)
+
+      none_to : (to : Actor) → (lists_of (get_or seats n d)).sent to ≡ []
+      none_to to = go (number (get_or seats n d).joiners (get_or seats n d).feeders to)
+        where
+          go : (o : Option ℕ) → at_number [] o (sent_at (get_or seats n d).mouths) ≡ []
+          go None = refl
+          go (Some r) = nothing_sent n r d low
+
+  pub all_stand : (spent : Bool) → StandsFor input setting (record { joiners = 2 ^ setting.k; feeders = setting.feeders; seats = seats; spent = spent })
+  all_stand spent = record {
+    joiners_are = refl;
+    feeders_are = refl;
+    stands = λ a is.
+        let num = has_number setting a is in
+        let low = subst (λ z. num.0 < z) (sym many) (number_low (2 ^ setting.k) setting.feeders a num.0 num.1) in
+        let low' = subst (λ z. num.0 < z) (sym long) low in
+        let d = (there seats num.0 low').0 in
+        let one = made num.0 d low in (
+          get_or seats num.0 d,
+          ap (λ (o : Option ℕ). at_number None o (λ k. slice_get seats k)) num.1 ∙ slice_get-get_or seats num.0 d low',
+          subst (λ ls. Stands (start_for input setting a) ls (get_or seats num.0 d).core) (sym (empty_lists num.0 d low))
+              (subst (λ c. Stands (start_for input setting a) no_lists c) (sym (ap (λ (s : SeatView). s.core) (still num.0 d low)))
+              (subst (λ z. Stands (start_for input setting z) no_lists (get_or first num.0 d).core) (number_actor (2 ^ setting.k) setting.feeders a num.0 num.1) one.stands)),
+        );
+  }

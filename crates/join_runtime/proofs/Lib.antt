@@ -1,0 +1,12 @@
+pub mod Posting
+pub mod Taking
+pub mod Making
+pub mod Knowing
+pub mod Placing
+pub mod Gathering
+pub mod Running
+pub mod Linking
+pub mod Filling
+pub mod Built
+pub mod Bouting
+pub mod Sent

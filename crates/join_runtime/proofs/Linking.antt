@@ -1,0 +1,208 @@
+-- What was received and sent between two actors of a run, once the two ends of each link were held together.
+use Rattle.std.proofs.Common.{◌≡◌, ℕ, zero, suc, ◌+◌, ◌<◌, ◌⊎◌, inl, inr, ltb, true≢false, refl, sym, ap, subst, ◌∙◌, Bool, true, false, cond, Option, Some, None, List, [], ◌∷◌, ◌++◌, get_or, map, length, append-nil, arith}
+use Rattle.std.specs.Prelude.{slice_get, IsSome}
+use Rattle.std.proofs.lemmas.Bool.{ltb-true}
+use Rattle.std.proofs.lemmas.List.{length-map, map-append}
+use Rattle.std.proofs.lemmas.Option.{slice_get-get_or}
+use Rattle.join_rows.specs.Lists.{IsPrefix}
+use Rattle.epoch_tags.specs.declared.actor.Actor.{Actor}
+use Rattle.epoch_tags.specs.declared.actor.Actor.TheVariants.{Feeder, Joiner, Controller, Collector}
+use Rattle.epoch_tags.specs.declared.message.Msg.{Msg}
+use Rattle.epoch_tags.specs.declared.message.Envelope.{Envelope}
+use Rattle.ruled_links.specs.Ends.{Sending}
+use Rattle.ruled_links.specs.Inboxes.{messages_of, is_sender, fresh, all_known}
+use Rattle.link_trace.specs.Lists.{ActorLists, no_lists}
+use Rattle.link_trace.specs.Families.{AreFronts}
+use Rattle.link_trace.specs.Numbers.{number, actor_at, at_number}
+use Rattle.link_trace.proofs.OwnNumbers.{number_actor, none_some, some_is}
+use Rattle.join_runtime.specs.Views.{SeatView, Frame, lists_of, frame_of, address_of, contents, received_of, sent_by, sent_at, sent_through}
+use Rattle.join_runtime.specs.Joins.{AreJoined, ActorsDiffer, Leads, AreSettled, HasMouthTo, IsKnown, IsGathered, slot_of}
+use Rattle.join_runtime.specs.Bouts.{SeatsView, lists_at, lists_in, AllRest}
+use Rattle.join_runtime.proofs.Knowing.{is_sender-named, knows_none}
+use Rattle.join_runtime.proofs.Placing.{actors_differ, frame_at, address_at}
+use Rattle.join_runtime.proofs.Gathering.{within, leads_at}
+
+-- a number is below that of all actors
+pub number_low : (joiners feeders : ℕ) (a : Actor) (n : ℕ) → number joiners feeders a ≡ Some n → n < feeders + joiners + 2
+number_low joiners feeders (Feeder p) n is = go (ltb p feeders) refl is
+  where
+    go : (b : Bool) → ltb p feeders ≡ b → cond b (Some p) None ≡ Some n → n < feeders + joiners + 2
+    go true e is' = let low = ltb-true p feeders e in let same = some_is p n is' in omega arith
+    go false e is' = absurd (none_some n is')
+number_low joiners feeders (Joiner j) n is = go (ltb j joiners) refl is
+  where
+    go : (b : Bool) → ltb j joiners ≡ b → cond b (Some (feeders + j)) None ≡ Some n → n < feeders + joiners + 2
+    go true e is' = let low = ltb-true j joiners e in let same = some_is (feeders + j) n is' in omega arith
+    go false e is' = absurd (none_some n is')
+number_low joiners feeders Controller n is = let same = some_is (feeders + joiners) n is in omega arith
+number_low joiners feeders Collector n is = let same = some_is (feeders + joiners + 1) n is in omega arith
+
+pub there : {X : Type 0} (xs : List X) (n : ℕ) → n < length xs → (x : X) × (slice_get xs n ≡ Some x)
+there [] n low = absurd (omega arith)
+there (x ∷ xs) zero low = (x, refl)
+there (x ∷ xs) (suc n) low = there xs n (omega arith)
+
+-- no two seats of a run are of one actor
+pub differ_of : (v : SeatsView) → AreJoined v.joiners v.feeders (map frame_of v.seats) → ActorsDiffer (map frame_of v.seats)
+differ_of v joined k n d before low same =
+    let frames = map frame_of v.seats in
+    let is : k ≡ n = actors_differ v.joiners v.feeders k n (omega (arith, joined.all)) (omega (arith, joined.all)) (sym (joined.placed k d (omega arith)).actor ∙ (same ∙ (joined.placed n d low).actor)) in
+    omega arith
+
+-- what one actor received of another, and what that one sent to it
+pub record HasNone (s t : SeatView) (from to : Actor) : Type 0 where
+  pub sent : (lists_of s).sent to ≡ []
+  pub received : (lists_of t).received from ≡ []
+
+pub record HasMouth (s t : SeatView) (from to : Actor) : Type 0 where
+  pub mouth : Sending
+  pub sent : (lists_of s).sent to ≡ contents mouth.sent
+  pub received : (lists_of t).received from ≡ contents (messages_of mouth.from t.inbox.received)
+  pub known : IsKnown mouth t.inbox
+
+some_slot : (slot : Option Sending) → IsSome (address_of slot) → (mouth : Sending) × (slot ≡ Some mouth)
+some_slot None is = absurd (true≢false (sym is))
+some_slot (Some mouth) is = (mouth, refl)
+
+module _ (v : SeatsView) (joined : AreJoined v.joiners v.feeders (map frame_of v.seats)) (settled : AreSettled v.seats) where
+  many : length v.seats ≡ v.feeders + v.joiners + 2
+  many = sym (length-map v.seats frame_of) ∙ joined.all
+
+  low_of : (a : Actor) (n : ℕ) → number v.joiners v.feeders a ≡ Some n → n < length v.seats
+  low_of a n is = subst (λ z. n < z) (sym many) (number_low v.joiners v.feeders a n is)
+
+  pub lists_there : (a : Actor) (n : ℕ) (d : SeatView) → number v.joiners v.feeders a ≡ Some n → lists_in v a ≡ lists_of (get_or v.seats n d)
+  lists_there a n d is =
+      ap (λ (o : Option ℕ). lists_at (at_number None o (λ k. slice_get v.seats k))) is
+      ∙ ap lists_at (slice_get-get_or v.seats n d (low_of a n is))
+
+  pub lists_none : (a : Actor) → number v.joiners v.feeders a ≡ None → lists_in v a ≡ no_lists
+  lists_none a is = ap (λ (o : Option ℕ). lists_at (at_number None o (λ k. slice_get v.seats k))) is
+
+  module _ (d : SeatView) where
+    -- a sender has a mouth
+    heard_at : (r : ℕ) (from : Actor) → r < length v.seats → is_sender from (get_or v.seats r d).inbox.senders ≡ true → HasMouthTo v.joiners v.feeders (map frame_of v.seats) r from
+    heard_at r from low is =
+        joined.heard r from (frame_of d) (within v.seats r low)
+        (subst (λ (f : Frame). is_sender from (map fresh f.senders) ≡ true) (sym (frame_at v.seats r d low)) (is_sender-named from (get_or v.seats r d).inbox.senders ∙ is))
+
+    sent_there : (n r : ℕ) (to : Actor) → n < length v.seats → number v.joiners v.feeders to ≡ Some r → (lists_of (get_or v.seats n d)).sent to ≡ sent_by (slot_of v.seats d n r)
+    sent_there n r to low is =
+        let s = get_or v.seats n d in
+        let placed = subst (λ (f : Frame). (f.joiners ≡ v.joiners) × (f.feeders ≡ v.feeders)) (frame_at v.seats n d low) (let p = joined.placed n (frame_of d) (within v.seats n low) in (p.joiners_are, p.feeders_are)) in
+        ap (λ k. sent_through k s.feeders s.mouths to) placed.0 ∙ (ap (λ k. sent_through v.joiners k s.mouths to) placed.1 ∙ ap (λ (o : Option ℕ). at_number [] o (sent_at s.mouths)) is)
+
+    pub sent_nowhere : (n : ℕ) (to : Actor) → n < length v.seats → number v.joiners v.feeders to ≡ None → (lists_of (get_or v.seats n d)).sent to ≡ []
+    sent_nowhere n to low is =
+        let s = get_or v.seats n d in
+        let placed = subst (λ (f : Frame). (f.joiners ≡ v.joiners) × (f.feeders ≡ v.feeders)) (frame_at v.seats n d low) (let p = joined.placed n (frame_of d) (within v.seats n low) in (p.joiners_are, p.feeders_are)) in
+        ap (λ k. sent_through k s.feeders s.mouths to) placed.0 ∙ (ap (λ k. sent_through v.joiners k s.mouths to) placed.1 ∙ ap (λ (o : Option ℕ). at_number [] o (sent_at s.mouths)) is)
+
+    -- of an actor that isn't there nothing was received
+    pub received_of_none : (r : ℕ) (from : Actor) → r < length v.seats → number v.joiners v.feeders from ≡ None → (lists_of (get_or v.seats r d)).received from ≡ []
+    received_of_none r from low is = go (is_sender from (get_or v.seats r d).inbox.senders) refl
+      where
+        go : (b : Bool) → is_sender from (get_or v.seats r d).inbox.senders ≡ b → (lists_of (get_or v.seats r d)).received from ≡ []
+        go true e = let has = heard_at r from low e in absurd (none_some has.sender (sym is ∙ has.is))
+        go false e = settled.hear r d low from e
+
+    pub between : (n r : ℕ) (from to : Actor) → number v.joiners v.feeders from ≡ Some n → number v.joiners v.feeders to ≡ Some r
+        → HasNone (get_or v.seats n d) (get_or v.seats r d) from to ⊎ HasMouth (get_or v.seats n d) (get_or v.seats r d) from to
+    between n r from to from_is to_is = go (slot_of v.seats d n r) refl
+      where
+        low : n < length v.seats
+        low = low_of from n from_is
+
+        low' : r < length v.seats
+        low' = low_of to r to_is
+
+        actor_is : (get_or v.seats n d).actor ≡ from
+        actor_is = subst (λ (f : Frame). f.actor ≡ actor_at v.joiners v.feeders n) (frame_at v.seats n d low) (joined.placed n (frame_of d) (within v.seats n low)).actor ∙ number_actor v.joiners v.feeders from n from_is
+
+        from_of : (mouth : Sending) → slot_of v.seats d n r ≡ Some mouth → mouth.from ≡ from
+        from_of mouth is =
+            (subst (λ (o : Option Sending). Leads (address_of o) (frame_of (get_or v.seats n d)) (frame_of (get_or v.seats r d))) is (leads_at v.seats joined.leads (differ_of v joined) d n r low low')).from ∙ actor_is
+
+        silent : slot_of v.seats d n r ≡ None → (b : Bool) → is_sender from (get_or v.seats r d).inbox.senders ≡ b → (lists_of (get_or v.seats r d)).received from ≡ []
+        silent none true e =
+            let has = heard_at r from low' e in
+            let same : n ≡ has.sender = some_is n has.sender (sym from_is ∙ has.is) in
+            let at = has.mouth (frame_of d) in
+            let here = subst (λ z. IsSome (get_or (get_or (map frame_of v.seats) z (frame_of d)).addresses r None)) (sym same) at in
+            let mine = subst (λ (f : Frame). IsSome (get_or f.addresses r None)) (frame_at v.seats n d low) here in
+            let slot = some_slot (slot_of v.seats d n r) (subst IsSome (address_at (get_or v.seats n d).mouths r) mine) in
+            absurd (none_some slot.0 (sym none ∙ slot.1))
+        silent none false e = settled.hear r d low' from e
+
+        go : (slot : Option Sending) → slot_of v.seats d n r ≡ slot → HasNone (get_or v.seats n d) (get_or v.seats r d) from to ⊎ HasMouth (get_or v.seats n d) (get_or v.seats r d) from to
+        go None e = inl (record {
+          sent = sent_there n r to low to_is ∙ ap sent_by e;
+          received = silent e (is_sender from (get_or v.seats r d).inbox.senders) refl;
+        })
+        go (Some mouth) e = inr (record {
+          mouth = mouth;
+          sent = sent_there n r to low to_is ∙ ap sent_by e;
+          received = ap (λ a. received_of (get_or v.seats r d).inbox.received a) (sym (from_of mouth e));
+          known = subst (λ (o : Option Sending). IsGathered o (get_or v.seats r d).inbox) e (settled.gathered n r d low low');
+        })
+
+-- ---- fronts
+
+pub contents_front : (xs ys : List Envelope) → IsPrefix xs ys → IsPrefix (contents xs) (contents ys)
+contents_front xs ys front = record { rest = contents front.rest; joins = sym (map-append (λ (e : Envelope). e.msg) xs front.rest) ∙ ap contents front.joins }
+
+front_of_none : (xs ys : List Msg) → xs ≡ [] → IsPrefix xs ys
+front_of_none xs ys e = record { rest = ys; joins = ap (λ zs. zs ++ ys) e }
+
+front_between : (s t : SeatView) (from to : Actor) → HasNone s t from to ⊎ HasMouth s t from to → IsPrefix ((lists_of t).received from) ((lists_of s).sent to)
+front_between s t from to (inl none) = front_of_none _ _ none.received
+front_between s t from to (inr has) =
+    let front = contents_front (messages_of has.mouth.from t.inbox.received) has.mouth.sent has.known.agrees.prefix in
+    subst (λ ms. IsPrefix ms ((lists_of s).sent to)) (sym has.received) (subst (λ ms. IsPrefix (contents (messages_of has.mouth.from t.inbox.received)) ms) (sym has.sent) front)
+
+no_rest : {X : Type 0} (xs ys rest : List X) → xs ++ rest ≡ ys → length rest ≡ 0 → xs ≡ ys
+no_rest xs ys [] e long = sym (append-nil xs) ∙ e
+no_rest xs ys (z ∷ rest) e long = absurd (omega arith)
+
+-- where nothing is known to be left, all was received
+quiet_between : (s t : SeatView) (from to : Actor) → all_known t.inbox.senders ≡ 0 → HasNone s t from to ⊎ HasMouth s t from to → (lists_of t).received from ≡ (lists_of s).sent to
+quiet_between s t from to rest (inl none) = none.received ∙ sym none.sent
+quiet_between s t from to rest (inr has) =
+    let known = has.known in
+    let left = known.agrees.left ∙ knows_none has.mouth.from known.count t.inbox.senders rest known.sender known.knows in
+    has.received ∙ (ap contents (no_rest (messages_of has.mouth.from t.inbox.received) has.mouth.sent known.agrees.prefix.rest known.agrees.prefix.joins left) ∙ sym has.sent)
+
+module _ (v : SeatsView) (joined : AreJoined v.joiners v.feeders (map frame_of v.seats)) (settled : AreSettled v.seats) where
+  pub fronts : AreFronts (lists_in v)
+  fronts from to = go (number v.joiners v.feeders from) (number v.joiners v.feeders to) refl refl
+    where
+      go : (i k : Option ℕ) → number v.joiners v.feeders from ≡ i → number v.joiners v.feeders to ≡ k → IsPrefix ((lists_in v to).received from) ((lists_in v from).sent to)
+      go i None from_is to_is = front_of_none _ _ (ap (λ (ls : ActorLists). ls.received from) (lists_none v joined settled to to_is))
+      go None (Some r) from_is to_is =
+          let t = there v.seats r (low_of v joined settled to r to_is) in
+          front_of_none _ _ (ap (λ (ls : ActorLists). ls.received from) (lists_there v joined settled to r t.0 to_is) ∙ received_of_none v joined settled t.0 r from (low_of v joined settled to r to_is) from_is)
+      go (Some n) (Some r) from_is to_is =
+          let d = (there v.seats r (low_of v joined settled to r to_is)).0 in
+          let front = front_between (get_or v.seats n d) (get_or v.seats r d) from to (between v joined settled d n r from to from_is to_is) in
+          subst (λ (ls : ActorLists). IsPrefix (ls.received from) ((lists_in v from).sent to)) (sym (lists_there v joined settled to r d to_is))
+          (subst (λ (ls : ActorLists). IsPrefix ((lists_of (get_or v.seats r d)).received from) (ls.sent to)) (sym (lists_there v joined settled from n d from_is)) front)
+
+  pub all_received : AllRest v.seats → (from to : Actor) → (lists_in v to).received from ≡ (lists_in v from).sent to
+  all_received rest from to = go (number v.joiners v.feeders from) (number v.joiners v.feeders to) refl refl
+    where
+      go : (i k : Option ℕ) → number v.joiners v.feeders from ≡ i → number v.joiners v.feeders to ≡ k → (lists_in v to).received from ≡ (lists_in v from).sent to
+      go None None from_is to_is =
+          ap (λ (ls : ActorLists). ls.received from) (lists_none v joined settled to to_is) ∙ sym (ap (λ (ls : ActorLists). ls.sent to) (lists_none v joined settled from from_is))
+      go (Some n) None from_is to_is =
+          let d = (there v.seats n (low_of v joined settled from n from_is)).0 in
+          ap (λ (ls : ActorLists). ls.received from) (lists_none v joined settled to to_is)
+          ∙ sym (ap (λ (ls : ActorLists). ls.sent to) (lists_there v joined settled from n d from_is) ∙ sent_nowhere v joined settled d n to (low_of v joined settled from n from_is) to_is)
+      go None (Some r) from_is to_is =
+          let d = (there v.seats r (low_of v joined settled to r to_is)).0 in
+          (ap (λ (ls : ActorLists). ls.received from) (lists_there v joined settled to r d to_is) ∙ received_of_none v joined settled d r from (low_of v joined settled to r to_is) from_is)
+          ∙ sym (ap (λ (ls : ActorLists). ls.sent to) (lists_none v joined settled from from_is))
+      go (Some n) (Some r) from_is to_is =
+          let d = (there v.seats r (low_of v joined settled to r to_is)).0 in
+          ap (λ (ls : ActorLists). ls.received from) (lists_there v joined settled to r d to_is)
+          ∙ (quiet_between (get_or v.seats n d) (get_or v.seats r d) from to (rest r d (low_of v joined settled to r to_is)).none_known (between v joined settled d n r from to from_is to_is)
+          ∙ sym (ap (λ (ls : ActorLists). ls.sent to) (lists_there v joined settled from n d from_is)))

@@ -1,0 +1,38 @@
+use Rattle.std.proofs.Common.{◌≡◌, ◌∙◌, Ok, sym, ap, subst, false, map, length}
+use Rattle.std.proofs.lemmas.List.{with_items_is}
+use Rattle.join_runtime.specs.Views.{frame_of}
+use Rattle.join_runtime.specs.Joins.{AreJoined}
+use Rattle.join_runtime.proofs.Linking.{fronts, all_received}
+use Rattle.join_runtime.proofs.Bouting.{settled_after}
+use Rattle.join_runtime.proofs.bouts.bout.Goals as goal
+
+pub invariant_of-seats-2 : goal.invariant_of-seats-2
+invariant_of-seats-2 g c =
+    let seats = c.seats.inside.seats in
+    let new = c.bout_of.new.seats in
+    let value = c.as_mut_slice.ensures.value in
+    let long : length new ≡ length seats.items = c.bout_of.auto.seats ∙ ap length value in
+    let items = with_items_is seats new (long ∙ sym seats.ok.0) in
+    let said = rw value at c.in_ok-went.ensures in
+    let joined = subst (AreJoined c.seats.inside.joiners c.seats.inside.feeders) (sym (c.bout_of.ensures.frames ∙ ap (map frame_of) value)) c.seats.invariant.0 in
+    let settled = settled_after c.in_ok-went.went seats.items new long (λ is. said.went (ap Ok is)) (λ is. said.gathered (ap Ok is)) (λ is. said.same (ap Ok is)) (c.seats.invariant.1 c.if-seats.false) in
+    rw items (joined, λ z. settled)
+
+pub returns-clause-agrees : goal.returns-clause-agrees
+returns-clause-agrees g c =
+    let seats = c.seats.inside.seats in
+    let new = c.bout_of.new.seats in
+    let value = c.as_mut_slice.ensures.value in
+    let long : length new ≡ length seats.items = c.bout_of.auto.seats ∙ ap length value in
+    let items = with_items_is seats new (long ∙ sym seats.ok.0) in
+    let said = rw value at c.in_ok-went.ensures in
+    let joined = subst (AreJoined c.seats.inside.joiners c.seats.inside.feeders) (sym (c.bout_of.ensures.frames ∙ ap (map frame_of) value)) c.seats.invariant.0 in
+    let settled = settled_after c.in_ok-went.went seats.items new long (λ is. said.went (ap Ok is)) (λ is. said.gathered (ap Ok is)) (λ is. said.same (ap Ok is)) (c.seats.invariant.1 c.if-seats.false) in
+    rw items (fronts (record { joiners = c.seats.inside.joiners; feeders = c.seats.inside.feeders; seats = new; spent = false }) joined settled)
+
+pub returns-clause-all_received : goal.returns-clause-all_received
+returns-clause-all_received g c =
+    let said = rw c.as_mut_slice.ensures.value at c.in_ok-went.ensures in
+    λ is.
+    rw (← c.seats.view_is)
+    (all_received (record { joiners = c.seats.inside.joiners; feeders = c.seats.inside.feeders; seats = c.seats.inside.seats.items; spent = c.seats.inside.spent }) c.seats.invariant.0 (c.seats.invariant.1 c.if-seats.false) (said.rest is))

@@ -1,0 +1,19 @@
+use Rattle.std.proofs.Common.{◌∙◌, refl, sym, subst}
+use Rattle.join_runtime.specs.Joins.{AllLead, ActorsDiffer}
+use Rattle.join_runtime.proofs.Bouting.{all_advance, frames_worked}
+use Rattle.join_runtime.proofs.bouts.bout_of.Goals as goal
+
+pub returns-then-any_spent-clause-frames : goal.returns-then-any_spent-clause-frames
+returns-then-any_spent-clause-frames g c = frames_worked c.args.seats.now c.work.new.seats c.work.auto.seats c.work.ensures
+
+pub gather_all-requires-clause-leads : goal.gather_all-requires-clause-leads
+gather_all-requires-clause-leads g c = subst AllLead (sym (frames_worked c.args.seats.now c.work.new.seats c.work.auto.seats c.work.ensures)) c.requires.leads
+
+pub gather_all-requires-clause-differ : goal.gather_all-requires-clause-differ
+gather_all-requires-clause-differ g c = subst ActorsDiffer (sym (frames_worked c.args.seats.now c.work.new.seats c.work.auto.seats c.work.ensures)) c.requires.differ
+
+pub returns-clause-frames : goal.returns-clause-frames
+returns-clause-frames g c = c.gather_all.ensures.frames ∙ frames_worked c.args.seats.now c.work.new.seats c.work.auto.seats c.work.ensures
+
+pub returns-clause-went : goal.returns-clause-went
+returns-clause-went g c = λ ok. all_advance c.args.seats.now c.work.new.seats c.gather_all.new.seats c.work.auto.seats c.work.ensures (c.if-any_spent.ensures refl) c.gather_all.ensures.alike

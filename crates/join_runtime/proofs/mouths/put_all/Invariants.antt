@@ -1,0 +1,11 @@
+use Rattle.std.proofs.Common.{◌≡◌, ◌++◌, map}
+use Rattle.epoch_tags.specs.declared.actor.Actor.{Actor}
+use Rattle.link_trace.specs.Lists.{posted_to}
+use Rattle.join_runtime.specs.Views.{address_of, sent_through}
+use Rattle.join_runtime.proofs.mouths.put_all.Given as goal
+
+abbrev pub invariant-loop-post : goal.invariant-loop-post
+invariant-loop-post g l = record {
+  same : map address_of l.mouths.items ≡ map address_of l.initial.mouths.items;
+  sent : (a : Actor) → sent_through l.joiners l.feeders l.mouths.items a ≡ sent_through l.joiners l.feeders l.initial.mouths.items a ++ posted_to a l.yielded;
+}

@@ -1,0 +1,71 @@
+-- All seats of a run, their lists, and what a bout does.
+use Rattle.std.specs.Prelude.{◌≡◌, ◌<◌, ◌^◌, ◌⊎◌, ℕ, Bool, false, Option, Some, None, List, length, slice_get, slice_index_or}
+use Rattle.join_rows.specs.Lists.{IsPrefix}
+use Rattle.epoch_tags.specs.declared.actor.Actor.{Actor}
+use Rattle.ruled_links.specs.Inboxes.{all_known}
+use Rattle.trace_law.specs.declared.input.Input.{Input}
+use Rattle.trace_law.specs.declared.setting.Setting.{Setting}
+use Rattle.link_trace.specs.Lists.{ActorLists, no_lists}
+use Rattle.link_trace.specs.Standing.{Stands, Waits, IsLive}
+use Rattle.link_trace.specs.Families.{start_for, IsActor}
+use Rattle.link_trace.specs.Numbers.{number, at_number}
+use Rattle.join_runtime.specs.Views.{SeatView, lists_of}
+use Rattle.join_runtime.specs.Turns.{Rests, Advances}
+
+-- the seats of a run with so many joiners and feeders, by the numbers of actors
+pub record SeatsView : Type 0 where
+  pub joiners : ℕ
+  pub feeders : ℕ
+  pub seats : List SeatView
+  pub spent : Bool
+
+-- the seat of an actor, where there is one
+abbrev pub seat_of : SeatsView → Actor → Option SeatView
+seat_of v a = at_number None (number v.joiners v.feeders a) (λ n. slice_get v.seats n)
+
+abbrev pub lists_at : Option SeatView → ActorLists
+lists_at None = no_lists
+lists_at (Some seat) = lists_of seat
+
+-- what each actor has received and sent
+abbrev pub lists_in : SeatsView → Actor → ActorLists
+lists_in v a = lists_at (seat_of v a)
+
+-- each machine began as this input and setting say, and stands for the lists of its seat
+pub record StandsFor (input : Input) (setting : Setting) (v : SeatsView) : Type 0 where
+  pub joiners_are : v.joiners ≡ 2 ^ setting.k
+  pub feeders_are : v.feeders ≡ setting.feeders
+  pub stands : (a : Actor) → IsActor setting a → (seat : SeatView) × (seat_of v a ≡ Some seat) × Stands (start_for input setting a) (lists_of seat) seat.core
+
+-- each list is a front of the later one
+pub record Extends (old new : Actor → ActorLists) : Type 0 where
+  pub received : (from to : Actor) → IsPrefix ((old to).received from) ((new to).received from)
+  pub sent : (from to : Actor) → IsPrefix ((old from).sent to) ((new from).sent to)
+
+-- what was sent from whomever to whomever was received
+abbrev pub AllReceived : (Actor → ActorLists) → Type 0
+AllReceived f = (from to : Actor) → (f to).received from ≡ (f from).sent to
+
+-- each seat made some events, and none only where it rested
+abbrev pub AllAdvance : List SeatView → List SeatView → Type 0
+AllAdvance old new = (n : ℕ) (d : SeatView) → n < length old → Advances (slice_index_or old n d) (slice_index_or new n d)
+
+-- nothing is known to be left for any seat, and no machine would begin
+abbrev pub AllRest : List SeatView → Type 0
+AllRest seats = (n : ℕ) (d : SeatView) → n < length seats → Rests (slice_index_or seats n d).core (slice_index_or seats n d).inbox
+
+-- a message is known to be left for the seat, or its machine would begin
+abbrev pub IsReady : SeatView → Type 0
+IsReady seat = (0 < all_known seat.inbox.senders) ⊎ (¬ Waits seat.core)
+
+-- so it is of some seat
+pub record SomeReady (seats : List SeatView) : Type 0 where
+  pub place : ℕ
+  pub there : place < length seats
+  pub ready : (d : SeatView) → IsReady (slice_index_or seats place d)
+
+abbrev pub NoneSpent : List SeatView → Type 0
+NoneSpent seats = (n : ℕ) (d : SeatView) → n < length seats → (slice_index_or seats n d).spent ≡ false
+
+abbrev pub AllLive : List SeatView → Type 0
+AllLive seats = (n : ℕ) (d : SeatView) → n < length seats → IsLive (slice_index_or seats n d).core

@@ -1,0 +1,5 @@
+pub mod Views
+pub mod Turns
+pub mod Joins
+pub mod Bouts
+pub mod Seating

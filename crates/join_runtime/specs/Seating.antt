@@ -1,0 +1,70 @@
+-- The seats of a run at its beginning, and how mouths come to their senders.
+use Rattle.std.specs.Prelude.{◌≡◌, ◌≢◌, ◌<◌, ◌^◌, ◌⊎◌, ℕ, Some, None, IsSome, All, Contains, List, [], map, length, slice_set, slice_index_or}
+use Rattle.epoch_tags.specs.declared.actor.Actor.{Actor}
+use Rattle.ruled_links.specs.Ends.{Sending}
+use Rattle.ruled_links.specs.Inboxes.{fresh, opened}
+use Rattle.trace_law.specs.declared.input.Input.{Input}
+use Rattle.trace_law.specs.declared.setting.Setting.{Setting}
+use Rattle.link_trace.specs.Lists.{no_lists}
+use Rattle.link_trace.specs.Standing.{Stands, IsLive}
+use Rattle.link_trace.specs.Families.{start_for}
+use Rattle.link_trace.specs.Numbers.{number, actor_at}
+use Rattle.join_runtime.specs.Views.{SeatView}
+use Rattle.join_runtime.specs.Joins.{slot_of}
+
+-- each of these actors is one of the run
+abbrev pub AllHaveNumbers : ℕ → ℕ → List Actor → Type 0
+AllHaveNumbers joiners feeders actors = All (λ a. IsSome (number joiners feeders a)) actors
+
+-- the seat of the actor with this number as it was made, and the mouths of its inbox
+pub record IsNewSeat (input : Input) (setting : Setting) (n : ℕ) (seat : SeatView) (mouths : List Sending) : Type 0 where
+  pub joiners_are : seat.joiners ≡ 2 ^ setting.k
+  pub feeders_are : seat.feeders ≡ setting.feeders
+  pub actor : seat.actor ≡ actor_at (2 ^ setting.k) setting.feeders n
+  pub to : seat.inbox.to ≡ seat.actor
+  pub received : seat.inbox.received ≡ []
+  pub names : List Actor
+  pub numbers : AllHaveNumbers (2 ^ setting.k) setting.feeders names
+  pub senders : seat.inbox.senders ≡ map fresh names
+  pub mouths_are : mouths ≡ map (opened seat.inbox.link seat.inbox.to) names
+  pub no_mouth : (r : ℕ) → slice_index_or seat.mouths r None ≡ None
+  pub stands : Stands (start_for input setting (actor_at (2 ^ setting.k) setting.feeders n)) no_lists seat.core
+  pub live : IsLive seat.core
+
+-- so many seats, with the mouths of their inboxes
+pub record AreNew (input : Input) (setting : Setting) (count : ℕ) (seats : List SeatView) (mouths : List (List Sending)) : Type 0 where
+  pub all : length seats ≡ count
+  pub each : length mouths ≡ count
+  pub new : (n : ℕ) (d : SeatView) → n < count → IsNewSeat input setting n (slice_index_or seats n d) (slice_index_or mouths n [])
+
+-- the mouth came to its sender, as that one's to the actor with the number `receiver`
+pub record Puts (joiners feeders receiver : ℕ) (mouth : Sending) (old new : List SeatView) : Type 0 where
+  pub sender : ℕ
+  pub is : number joiners feeders mouth.from ≡ Some sender
+  pub there : sender < length old
+  pub room : (d : SeatView) → receiver < length (slice_index_or old sender d).mouths
+  pub now : (d : SeatView) → let seat = slice_index_or old sender d in
+      new ≡ slice_set old sender (record seat { mouths = slice_set seat.mouths receiver (Some mouth) })
+
+-- a mouth of these, of the sender with the number n
+pub record IsOneOf (joiners feeders n : ℕ) (mouths : List Sending) (mouth : Sending) : Type 0 where
+  pub one : Contains mouths mouth
+  pub sender : number joiners feeders mouth.from ≡ Some n
+
+-- these mouths came to their senders, and nothing else changed
+pub record Places (joiners feeders receiver : ℕ) (mouths : List Sending) (old new : List SeatView) : Type 0 where
+  pub all : length new ≡ length old
+  pub same : (n : ℕ) (d : SeatView) → n < length old → slice_index_or new n d ≡ record (slice_index_or old n d) { mouths = (slice_index_or new n d).mouths }
+  pub others : (n r : ℕ) (d : SeatView) → n < length old → r ≢ receiver → slot_of new d n r ≡ slot_of old d n r
+  pub own : (n : ℕ) (d : SeatView) (mouth : Sending) → n < length old → slot_of new d n receiver ≡ Some mouth
+      → (slot_of old d n receiver ≡ Some mouth) ⊎ IsOneOf joiners feeders n mouths mouth
+  pub has : (n : ℕ) (d : SeatView) (mouth : Sending) → IsOneOf joiners feeders n mouths mouth → (n < length old) × IsSome (slot_of new d n receiver)
+
+-- of the receivers below this number, each mouth came to its sender
+pub record AreFilled (joiners feeders below : ℕ) (mouths : List (List Sending)) (old new : List SeatView) : Type 0 where
+  pub all : length new ≡ length old
+  pub same : (n : ℕ) (d : SeatView) → n < length old → slice_index_or new n d ≡ record (slice_index_or old n d) { mouths = (slice_index_or new n d).mouths }
+  pub own : (n r : ℕ) (d : SeatView) (mouth : Sending) → n < length old → slot_of new d n r ≡ Some mouth
+      → (r < below) × IsOneOf joiners feeders n (slice_index_or mouths r []) mouth
+  pub has : (n r : ℕ) (d : SeatView) (mouth : Sending) → r < below → IsOneOf joiners feeders n (slice_index_or mouths r []) mouth
+      → (n < length old) × IsSome (slot_of new d n r)

@@ -1,0 +1,69 @@
+-- What a turn of a seat does, and several turns.
+use Rattle.std.specs.Prelude.{◌≡◌, ◌<◌, ◌⊎◌, ⊤, ℕ, zero, suc, true, List, length, slice_index_or}
+use Rattle.epoch_tags.specs.declared.actor.Actor.{Actor}
+use Rattle.epoch_tags.specs.declared.message.Post.{Post}
+use Rattle.ruled_links.specs.Inboxes.{InboxView, OfSender, all_known, is_sender}
+use Rattle.link_trace.specs.Lists.{Cause, Took, Began, with_event, with_cause}
+use Rattle.link_trace.specs.Standing.{Event, Occurs, Waits, IsLive}
+use Rattle.link_trace.specs.declared.machines.Core.{Core}
+use Rattle.link_trace.specs.declared.step.Step.{Step}
+use Rattle.link_trace.specs.declared.step.Step.TheVariants.{Took as TookStep, Idle}
+use Rattle.join_runtime.specs.Views.{SeatView, lists_of, frame_of, received_of}
+
+-- a message that was taken is of one of the inbox's senders
+abbrev pub IsHeard : Cause → List OfSender → Type 0
+IsHeard (Took from m) senders = is_sender from senders ≡ true
+IsHeard Began senders = ⊤
+
+-- one event of the machine: a message that it took came out of the inbox, and what it sent went into the mouths, in order
+pub record MakesEvent (old new : SeatView) : Type 0 where
+  pub cause : Cause
+  pub posts : List Post
+  pub event : Event cause old.core new.core posts
+  pub heard : IsHeard cause old.inbox.senders
+  pub live : IsLive new.core
+  pub lists : lists_of new ≡ with_event cause posts (lists_of old)
+  pub frame : frame_of new ≡ frame_of old
+
+-- nothing is known to be left for the seat, and its machine would not begin
+pub record Rests (core : Core) (inbox : InboxView) : Type 0 where
+  pub none_known : all_known inbox.senders ≡ 0
+  pub waits : Waits core
+
+-- the first half of an event: the message or the beginning, and the machine's call
+pub record IsCaused (old new : Core) (before after : InboxView) (none sends : List Post) : Type 0 where
+  pub cause : Cause
+  pub occurs : Occurs cause old new none sends
+  pub heard : IsHeard cause before.senders
+  pub live : IsLive new
+  pub received : (from : Actor) → received_of after.received from ≡ with_cause cause (received_of before.received) from
+
+abbrev pub Opens : Step → Core → Core → InboxView → InboxView → List Post → List Post → Type 0
+Opens TookStep old new before after none sends = IsCaused old new before after none sends
+Opens Idle old new before after none sends = (new ≡ old) × (after ≡ before) × Rests old before
+
+-- the two have the same machine and lists: they differ at most in what is known to be left
+pub record IsAlike (old new : SeatView) : Type 0 where
+  pub core : new.core ≡ old.core
+  pub lists : lists_of new ≡ lists_of old
+  pub frame : frame_of new ≡ frame_of old
+
+-- so many events, one after another
+abbrev pub Runs : ℕ → SeatView → SeatView → Type 0
+Runs zero old new = IsAlike old new
+Runs (suc n) old new = (middle : SeatView) × Runs n old middle × MakesEvent middle new
+
+-- some events, and none only where the seat rested
+pub record Advances (old new : SeatView) : Type 0 where
+  pub count : ℕ
+  pub runs : Runs count old new
+  pub none : count ≡ 0 → Rests old.core old.inbox
+
+-- the turns of one seat in a bout: it is spent, or has advanced
+pub record Works (old new : SeatView) : Type 0 where
+  pub frame : frame_of new ≡ frame_of old
+  pub advances : (new.spent ≡ true) ⊎ Advances old new
+
+-- the turns of all seats
+abbrev pub AllWork : List SeatView → List SeatView → Type 0
+AllWork old new = (n : ℕ) (d : SeatView) → n < length old → Works (slice_index_or old n d) (slice_index_or new n d)

@@ -1,0 +1,173 @@
+// A bout: turns of all seats side by side, and then the two ends of each link held together.
+
+ghost use Rattle.std.specs.Prelude.{◌≡◌, ◌<◌, ℕ, true, false, Ok, OnOk, OnErr, None, length, map, slice_index_or};
+ghost use Rattle.link_trace.specs.Families.{AreFronts};
+ghost use Rattle.join_runtime.specs.Views.{SeatView, frame_of};
+ghost use Rattle.join_runtime.specs.Turns.{AllWork, IsAlike};
+ghost use Rattle.join_runtime.specs.Joins.{ActorsDiffer, AllLead, AreGathered, IsSlotOf, Tells, slot_of};
+ghost use Rattle.join_runtime.specs.Bouts.{AllAdvance, AllLive, AllReceived, AllRest, NoneSpent, SomeReady, lists_in};
+
+use crate::crossing::shares_predicates;
+use crate::seat::Seat;
+use ruled_links::Mouth;
+use std::alloc::AllocError;
+use std::marker::Model;
+use std::sync::Wait;
+use std::thread;
+use std::thread::Threads;
+use worker_gate::Gate;
+
+// The turns of all seats, which are cut into as many chunks as there are workers.
+fn work<R: Threads + Wait + Sync, G: Gate>(rt: &R, seats: &mut [Seat], workers: u32, gate: &G)
+    requires { 0 < workers }
+    ensures { AllWork seats.old seats.new }
+{
+    shares_predicates();
+    thread::for_each_mut(rt, seats, workers as usize, &|_, seat| seat.turns(rt, gate));
+}
+
+fn all_rest(seats: &[Seat]) -> bool
+    requires { AllLive seats.now }
+    ensures rest { result ≡ true → AllRest seats.now }
+    ensures ready { result ≡ false → SomeReady seats.now }
+{
+    for seat in seats {
+        if !seat.rests() {
+            return false;
+        }
+    }
+    true
+}
+
+fn any_spent(seats: &[Seat]) -> bool
+    ensures { result ≡ false → NoneSpent seats.now }
+{
+    for seat in seats {
+        if seat.is_spent() {
+            return true;
+        }
+    }
+    false
+}
+
+// Holds each mouth of a seat and the inbox to which it leads together.
+fn gather_row<R: Wait>(rt: &R, mouths: &mut Vec<Option<Mouth>>, seats: &mut [Seat])
+    requires { (r : ℕ) (d : SeatView) → r < length seats.old → IsSlotOf (slice_index_or mouths.old.items r None) (slice_index_or seats.old r d).inbox }
+    ensures mouths { mouths.new.items ≡ mouths.old.items }
+    ensures told { (r : ℕ) (d : SeatView) → r < length seats.old → Tells (slice_index_or mouths.old.items r None) (slice_index_or seats.old r d) (slice_index_or seats.new r d) }
+{
+    for place in 0..seats.len() {
+        if place < mouths.len() {
+            seats[place].gather(rt, &mut mouths[place]);
+        }
+    }
+}
+
+fn gather_from<R: Wait>(rt: &R, seats: &mut [Seat], sender: usize)
+    requires sender { sender < length seats.old }
+    requires joined { (r : ℕ) (d : SeatView) → r < length seats.old → IsSlotOf (slot_of seats.old d sender r) (slice_index_or seats.old r d).inbox }
+    ensures told { (r : ℕ) (d : SeatView) → r < length seats.old → Tells (slot_of seats.old d sender r) (slice_index_or seats.old r d) (slice_index_or seats.new r d) }
+{
+    let mut mouths = seats[sender].take_mouths();
+    gather_row(rt, &mut mouths, seats);
+    seats[sender].give_mouths(mouths);
+}
+
+// Holds the two ends of each link together.
+fn gather_all<R: Wait>(rt: &R, seats: &mut [Seat])
+    requires leads { AllLead (map frame_of seats.old) }
+    requires differ { ActorsDiffer (map frame_of seats.old) }
+    ensures frames { map frame_of seats.new ≡ map frame_of seats.old }
+    ensures alike { (n : ℕ) (d : SeatView) → n < length seats.old → IsAlike (slice_index_or seats.old n d) (slice_index_or seats.new n d) }
+    ensures gathered { AreGathered seats.new }
+{
+    for sender in 0..seats.len() {
+        gather_from(rt, seats, sender);
+    }
+}
+
+// A bout of these seats. `Ok(false)`: all rest.
+fn bout_of<R: Threads + Wait + Sync, G: Gate>(
+    rt: &R,
+    seats: &mut [Seat],
+    workers: u32,
+    gate: &G,
+) -> Result<bool, AllocError>
+    requires workers { 0 < workers }
+    requires leads { AllLead (map frame_of seats.old) }
+    requires differ { ActorsDiffer (map frame_of seats.old) }
+    requires live { AllLive seats.old }
+    ensures frames { map frame_of seats.new ≡ map frame_of seats.old }
+    ensures went { result ≡ Ok true → AllAdvance seats.old seats.new }
+    ensures ready { result ≡ Ok true → SomeReady seats.old }
+    ensures gathered { result ≡ Ok true → AreGathered seats.new }
+    ensures rest { result ≡ Ok false → AllRest seats.old }
+    ensures same { result ≡ Ok false → seats.new ≡ seats.old }
+{
+    if all_rest(seats) {
+        return Ok(false);
+    }
+    work(rt, seats, workers, gate);
+    if any_spent(seats) {
+        return Err(AllocError);
+    }
+    gather_all(rt, seats);
+    Ok(true)
+}
+
+/// The seats of all actors of a run.
+#[derive(Drop)]
+pub struct Seats<'a> {
+    joiners: u32,
+    feeders: u32,
+    // By the numbers of actors.
+    seats: Vec<Seat<'a>>,
+    // Whether a bout found no memory.
+    spent: bool,
+}
+
+impl<'a> Model for Seats<'a> {
+    ghost use Rattle.std.specs.Prelude.{◌≡◌, false, map};
+    ghost use Rattle.join_runtime.specs.Views.{frame_of};
+    ghost use Rattle.join_runtime.specs.Joins.{AreJoined, AreSettled};
+    ghost use Rattle.join_runtime.specs.Bouts.{SeatsView};
+    ghost use Rattle.std.specs.Coded.{codes};
+    ghost use Rattle.theta_pred.specs.FormulaCode.{formula_code};
+
+    ghost Value = { SeatsView };
+
+    ghost coded = { Prim.hlevel (codes, formula_code (Prim.hlevel codes)) };
+
+    ghost view = { λ s. record { joiners = s.joiners; feeders = s.feeders; seats = s.seats.items; spent = s.spent } };
+
+    ghost invariant = { λ s. AreJoined s.joiners s.feeders (map frame_of s.seats.items) × (s.spent ≡ false → AreSettled s.seats.items) };
+}
+
+/// One bout: each seat has turns until it is idle or has had 256, in as many chunks side by side as there are workers;
+/// then the two ends of each link are held together. `Ok(false)`: nothing was left on any link, and no feeder would
+/// begin; then nothing changed. After an error the seats are spent.
+pub fn bout<R: Threads + Wait + Sync, G: Gate>(
+    rt: &R,
+    seats: &mut Seats,
+    workers: u32,
+    gate: &G,
+) -> Result<bool, AllocError>
+    requires { 0 < workers }
+    ensures went { result ≡ Ok true → AllAdvance seats.old.seats seats.new.seats }
+    ensures ready { result ≡ Ok true → SomeReady seats.old.seats }
+    ensures rest { result ≡ Ok false → AllRest seats.old.seats }
+    ensures same { result ≡ Ok false → seats.new ≡ seats.old }
+    ensures agrees { OnOk result (AreFronts (lists_in seats.new)) }
+    ensures all_received { result ≡ Ok false → AllReceived (lists_in seats.old) }
+    ensures goes_on { OnOk result ((seats.old.spent ≡ false) × (seats.new.spent ≡ false)) }
+    ensures fails { OnErr result (seats.new.spent ≡ true) }
+    ensures actors { (seats.new.joiners ≡ seats.old.joiners) × (seats.new.feeders ≡ seats.old.feeders) }
+{
+    if seats.spent {
+        return Err(AllocError);
+    }
+    seats.spent = true;
+    let went = bout_of(rt, seats.seats.as_mut_slice(), workers, gate)?;
+    seats.spent = false;
+    Ok(went)
+}

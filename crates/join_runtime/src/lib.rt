@@ -1,0 +1,10 @@
+//! Seats, each an actor's machine with its inbox and its mouths; their turns, and bouts of turns side by side in threads.
+#![tactic(auto)]
+
+mod bouts;
+mod crossing;
+mod mouths;
+mod seat;
+
+pub use bouts::{Seats, bout};
+pub use seat::Seat;

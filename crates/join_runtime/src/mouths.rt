@@ -1,0 +1,83 @@
+// What a machine sends goes into its seat's mouths.
+
+ghost use Rattle.std.specs.Prelude.{◌≡◌, ◌++◌, ◌∷◌, ◌==◌, [], ℕ, ◌<◌, map, OnOk, if◌then◌else◌};
+ghost use Rattle.epoch_tags.specs.declared.actor.Actor.{Actor as Actor'};
+ghost use Rattle.link_trace.specs.Lists.{posted_to};
+ghost use Rattle.join_runtime.specs.Views.{address_of, sent_by, sent_at, sent_through};
+
+use epoch_tags::{Envelope, Msg, Post, Sends};
+use link_trace::number;
+use ruled_links::Mouth;
+use std::alloc::AllocError;
+use std::sync::Wait;
+
+// Sends a message through a mouth. An error too where there is none.
+fn put_into<R: Wait>(rt: &R, slot: &mut Option<Mouth>, msg: Msg) -> Result<(), AllocError>
+    ensures same { address_of slot.new ≡ address_of slot.old }
+    ensures sent { OnOk result (sent_by slot.new ≡ sent_by slot.old ++ msg ∷ []) }
+{
+    match slot {
+        Some(mouth) => {
+            let from = mouth.sender();
+            match mouth.put(rt, Envelope { from, msg }) {
+                Ok(()) => Ok(()),
+                Err(_) => Err(AllocError),
+            }
+        }
+        None => Err(AllocError),
+    }
+}
+
+// Sends a message to the actor of this number.
+fn put_at<R: Wait>(
+    rt: &R,
+    mouths: &mut Vec<Option<Mouth>>,
+    place: usize,
+    msg: Msg,
+) -> Result<(), AllocError>
+    ensures same { map address_of mouths.new.items ≡ map address_of mouths.old.items }
+    ensures sent { OnOk result ((n : ℕ) → sent_at mouths.new.items n
+        ≡ (if place == n then sent_at mouths.old.items n ++ msg ∷ [] else sent_at mouths.old.items n)) }
+{
+    if place < mouths.len() {
+        put_into(rt, &mut mouths[place], msg)
+    } else {
+        Err(AllocError)
+    }
+}
+
+fn put_post<R: Wait>(
+    rt: &R,
+    mouths: &mut Vec<Option<Mouth>>,
+    joiners: u32,
+    feeders: u32,
+    post: Post,
+) -> Result<(), AllocError>
+    ensures same { map address_of mouths.new.items ≡ map address_of mouths.old.items }
+    ensures sent { OnOk result ((a : Actor') → sent_through joiners feeders mouths.new.items a
+        ≡ sent_through joiners feeders mouths.old.items a ++ posted_to a (post ∷ [])) }
+{
+    let Post { to, msg } = post;
+    match number(joiners, feeders, to) {
+        Some(place) => put_at(rt, mouths, place, msg),
+        None => Err(AllocError),
+    }
+}
+
+// Sends all posts, in order.
+pub(crate) fn put_all<R: Wait>(
+    rt: &R,
+    mouths: &mut Vec<Option<Mouth>>,
+    joiners: u32,
+    feeders: u32,
+    sends: Sends,
+) -> Result<(), AllocError>
+    ensures same { map address_of mouths.new.items ≡ map address_of mouths.old.items }
+    ensures sent { OnOk result ((a : Actor') → sent_through joiners feeders mouths.new.items a
+        ≡ sent_through joiners feeders mouths.old.items a ++ posted_to a sends) }
+{
+    for post in sends.into_vec() {
+        put_post(rt, mouths, joiners, feeders, post)?;
+    }
+    Ok(())
+}

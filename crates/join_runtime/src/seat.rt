@@ -1,0 +1,226 @@
+// An actor's machine with its inbox and its mouths.
+
+ghost use Rattle.std.specs.Prelude.{◌≡◌, ◌<◌, ◌+◌, ◌^◌, ℕ, Ok, true, false, None, Some, [], OnOk, OnErr, IfOk, length, slice_set, slice_index_or};
+ghost use Rattle.link_trace.specs.declared.step.Step.TheVariants.{Took as Took', Idle as Idle'};
+ghost use Rattle.link_trace.specs.Standing.{Waits, IsLive};
+ghost use Rattle.ruled_links.specs.Inboxes.{IsSameInbox, all_known};
+ghost use Rattle.join_runtime.specs.Views.{frame_of};
+ghost use Rattle.join_runtime.specs.Turns.{MakesEvent, Opens, Rests, Works};
+ghost use Rattle.join_runtime.specs.Joins.{IsSlotOf, Tells};
+ghost use Rattle.join_runtime.specs.Bouts.{IsReady};
+
+use crate::mouths::put_all;
+use epoch_tags::{Actor, Envelope, Sends};
+use link_trace::{Core, Step};
+use ruled_links::{Inbox, Mouth, gather_mouth};
+use std::alloc::{AllocError, Global};
+use std::marker::Model;
+use std::mem;
+use std::sync::Wait;
+use worker_gate::{Gate, Spot};
+
+// The most turns of one seat in one bout.
+const TURNS: u64 = 256;
+
+/// An actor's machine with its inbox, and a mouth for each actor to which it sends.
+#[derive(Drop)]
+pub struct Seat<'a> {
+    joiners: u32,
+    feeders: u32,
+    actor: Actor,
+    core: Core<'a>,
+    inbox: Inbox,
+    // By the numbers of actors.
+    mouths: Vec<Option<Mouth>>,
+    turns: u64,
+    spent: bool,
+    alloc: Global,
+}
+
+impl<'a> Model for Seat<'a> {
+    ghost use Rattle.join_runtime.specs.Views.{SeatView};
+    ghost use Rattle.std.specs.Coded.{codes};
+    ghost use Rattle.theta_pred.specs.FormulaCode.{formula_code};
+
+    ghost Value = { SeatView };
+
+    ghost coded = { Prim.hlevel (codes, formula_code (Prim.hlevel codes)) };
+
+    ghost view = { λ seat. record { joiners = seat.joiners; feeders = seat.feeders; actor = seat.actor; core = seat.core; inbox = seat.inbox; mouths = seat.mouths.items; spent = seat.spent } };
+}
+
+// Takes a message, or begins where there is none, and calls the machine.
+fn open<R: Wait>(
+    rt: &R,
+    core: &mut Core,
+    inbox: &mut Inbox,
+    sends: &mut Sends,
+) -> Result<Step, AllocError>
+    ensures inbox { IsSameInbox inbox.old inbox.new }
+    ensures opens { IfOk result (λ step. Opens step core.old core.new inbox.old inbox.new sends.old sends.new) }
+{
+    match inbox.take(rt) {
+        Some(Envelope { from, msg }) => {
+            core.on(from, msg, sends)?;
+            Ok(Step::Took)
+        }
+        None => {
+            if core.begin(sends)? {
+                Ok(Step::Took)
+            } else {
+                Ok(Step::Idle)
+            }
+        }
+    }
+}
+
+// So many places for mouths.
+fn no_mouths(alloc: Global, count: u32) -> Result<Vec<Option<Mouth>>, AllocError>
+    ensures { IfOk result (λ mouths. (n : ℕ) → slice_index_or mouths.items n None ≡ None) }
+{
+    let mut mouths = Vec::new(alloc);
+    for _ in 0..count {
+        mouths.push(None)?;
+    }
+    Ok(mouths)
+}
+
+impl<'a> Seat<'a> {
+    // A seat that has had no turn, without mouths.
+    pub(crate) fn new(
+        alloc: Global,
+        joiners: u32,
+        feeders: u32,
+        actor: Actor,
+        core: Core<'a>,
+        inbox: Inbox,
+    ) -> Result<Seat<'a>, AllocError>
+        requires { feeders + joiners + 2 < 2 ^ 32 }
+        ensures seat { IfOk result (λ seat. seat ≡ record { joiners = joiners; feeders = feeders; actor = actor; core = core.entry; inbox = inbox; mouths = seat.mouths; spent = false }) }
+        ensures mouths { IfOk result (λ seat. (n : ℕ) → slice_index_or seat.mouths n None ≡ None) }
+    {
+        let mouths = no_mouths(alloc, feeders + joiners + 2)?;
+        Ok(Seat {
+            joiners,
+            feeders,
+            actor,
+            core,
+            inbox,
+            mouths,
+            turns: 0,
+            spent: false,
+            alloc,
+        })
+    }
+
+    // Takes a mouth to the actor with this number.
+    pub(crate) fn put_mouth(&mut self, receiver: usize, mouth: Mouth) -> Result<(), AllocError>
+        ensures { OnOk result ((receiver < length self.old.mouths)
+            × (self.new ≡ record self.old { mouths = slice_set self.old.mouths receiver (Some mouth) })) }
+    {
+        if receiver < self.mouths.len() {
+            self.mouths[receiver] = Some(mouth);
+            Ok(())
+        } else {
+            Err(AllocError)
+        }
+    }
+
+    /// Passes the gate, and makes one event: takes one message, or where there is none and the machine is a feeder's,
+    /// begins; then puts what the machine sends, in order. `Idle`: this turn's pop found none, and no feeder began. A
+    /// strange message is answered by the error. After an error the seat is spent.
+    pub fn turn<R: Wait, G: Gate>(&mut self, rt: &R, gate: &G) -> Result<Step, AllocError>
+        ensures took { result ≡ Ok Took' → MakesEvent self.old self.new }
+        ensures idle { result ≡ Ok Idle' → self.new ≡ self.old }
+        ensures none_known { result ≡ Ok Idle' → all_known self.old.inbox.senders ≡ 0 }
+        ensures waits { result ≡ Ok Idle' → Waits self.old.core }
+        ensures goes_on { OnOk result ((self.old.spent ≡ false) × (self.new.spent ≡ false)) }
+        ensures fails { OnErr result (self.new.spent ≡ true) }
+        ensures frame { frame_of self.new ≡ frame_of self.old }
+    {
+        gate.pass(Spot {
+            actor: self.actor,
+            turn: self.turns,
+        });
+        self.turns = self.turns.saturating_add(1);
+        if self.spent {
+            return Err(AllocError);
+        }
+        self.spent = true;
+        let step = self.event(rt)?;
+        self.spent = false;
+        Ok(step)
+    }
+
+    fn event<R: Wait>(&mut self, rt: &R) -> Result<Step, AllocError>
+        ensures took { result ≡ Ok Took' → MakesEvent self.old self.new }
+        ensures idle { result ≡ Ok Idle' → self.new ≡ self.old }
+        ensures none_known { result ≡ Ok Idle' → all_known self.old.inbox.senders ≡ 0 }
+        ensures waits { result ≡ Ok Idle' → Waits self.old.core }
+        ensures frame { frame_of self.new ≡ frame_of self.old }
+        ensures spent { self.new.spent ≡ self.old.spent }
+    {
+        let mut sends = Sends::new(self.alloc);
+        match open(rt, &mut self.core, &mut self.inbox, &mut sends)? {
+            Step::Idle => Ok(Step::Idle),
+            Step::Took => {
+                put_all(rt, &mut self.mouths, self.joiners, self.feeders, sends)?;
+                Ok(Step::Took)
+            }
+        }
+    }
+
+    // Whether nothing is known to be left for it, and its machine would not begin.
+    pub(crate) fn rests(&self) -> bool
+        ensures rests { result ≡ true → Rests self.now.core self.now.inbox }
+        ensures ready { result ≡ false → IsLive self.now.core → IsReady self.now }
+    {
+        self.inbox.known() == 0 && !self.core.can_begin()
+    }
+
+    pub(crate) fn is_spent(&self) -> bool
+        ensures { result ≡ self.now.spent }
+    {
+        self.spent
+    }
+
+    pub(crate) fn take_mouths(&mut self) -> Vec<Option<Mouth>>
+        ensures mouths { result.items ≡ self.old.mouths }
+        ensures rest { self.new ≡ record self.old { mouths = [] } }
+    {
+        mem::replace(&mut self.mouths, Vec::new(self.alloc))
+    }
+
+    pub(crate) fn give_mouths(&mut self, mouths: Vec<Option<Mouth>>)
+        ensures { self.new ≡ record self.old { mouths = mouths.items } }
+    {
+        self.mouths = mouths;
+    }
+
+    // Holds its inbox and a mouth that leads there together, where there is one.
+    pub(crate) fn gather<R: Wait>(&mut self, rt: &R, slot: &mut Option<Mouth>)
+        requires { IsSlotOf slot.old self.old.inbox }
+        ensures slot { slot.new ≡ slot.old }
+        ensures told { Tells slot.old self.old self.new }
+    {
+        match slot {
+            Some(mouth) => {
+                gather_mouth(mouth, &mut self.inbox, rt);
+            }
+            None => {}
+        }
+    }
+
+    // The turns of one bout: until the seat is idle or has had 256.
+    pub(crate) fn turns<R: Wait, G: Gate>(&mut self, rt: &R, gate: &G)
+        ensures { Works self.old self.new }
+    {
+        for round in 0..TURNS {
+            match self.turn(rt, gate) {
+                Ok(Step::Took) => {}
+                Ok(Step::Idle) => return,
+                Err(_) => return,
+            }
+        }
+    }
+}
