@@ -1,5 +1,5 @@
 -- One machine's event is one event of the world.
-use Rattle.std.proofs.Common.{◌≡◌, ℕ, zero, suc, ◌==◌, ◌<◌, refl, sym, ap, subst, ◌∙◌, Bool, true, false, cond, Option, Some, None, List, [], ◌∷◌, ◌++◌, set, length, ◌≢◌, eqb-true, true≢false, MatchBool, arith}
+use Rattle.std.proofs.Common.{◌≡◌, ℕ, zero, suc, ◌==◌, ◌<◌, refl, sym, ap, subst, ◌∙◌, Bool, true, false, cond, Option, Some, None, List, [], ◌∷◌, ◌++◌, set, length, ◌≢◌, ◌&&◌, eqb-true, true≢false, MatchBool, arith}
 use borrow.Author.Tests.{eqb-false}
 use Rattle.std.specs.Prelude.{slice_get}
 use Rattle.std.proofs.lemmas.Option.{slice_get_within}
@@ -10,11 +10,11 @@ use Rattle.epoch_tags.specs.declared.message.Msg.{Msg}
 use Rattle.epoch_tags.specs.declared.message.Post.{Post}
 use Rattle.trace_law.specs.declared.input.Input.{Input}
 use Rattle.trace_law.specs.declared.setting.Setting.{Setting}
-use Rattle.link_trace.specs.Lists.{ActorLists, Cause, Took, Began, same_actor, with_event}
+use Rattle.link_trace.specs.Lists.{ActorLists, Cause, Took, Began, same_actor, posted_to, with_event}
 use Rattle.link_trace.specs.Standing.{Stands, Event}
-use Rattle.link_trace.specs.Families.{start_for, IsActor, changed, put_on, after_event}
+use Rattle.link_trace.specs.Families.{start_for, IsActor, changed, put_on, taken_off, after_event}
 use Rattle.link_trace.specs.Numbers.{number, at_number}
-use Rattle.link_trace.specs.Worlds.{MakesEvent, Delivers, OccursAt, TakesOff, core_in, left_in}
+use Rattle.link_trace.specs.Worlds.{MakesEvent, Delivers, OccursAt, TakesOff, KeepsOthers, core_in, left_in}
 use Rattle.link_trace.specs.declared.machines.Core.{Core}
 use Rattle.link_trace.proofs.Balances.{same_is, delivery_balances, beginning_balances}
 use Rattle.link_trace.proofs.OwnNumbers.{same_number, none_some, some_is}
@@ -71,12 +71,21 @@ stands_after self cause core next old new posts was now event input setting f st
     go false e = stands a is
 
 -- a machine made an event, and its posts were put on their links
-module _ (joiners feeders : ℕ) (self : Actor) (n : ℕ) (at : number joiners feeders self ≡ Some n) (cause : Cause) (cores cores' : List Core) (ws middle ws' : List (List (List Msg))) (sends : List Post) (occurs : OccursAt n cause cores cores' [] sends) (put : left_in joiners feeders ws' ≡ put_on self sends (left_in joiners feeders middle)) where
+module _ (joiners feeders : ℕ) (self : Actor) (n : ℕ) (at : number joiners feeders self ≡ Some n) (cause : Cause) (cores cores' : List Core) (ws middle ws' : List (List (List Msg))) (sends : List Post) (occurs : OccursAt n cause cores cores' [] sends) (put : left_in joiners feeders ws' ≡ put_on self sends (left_in joiners feeders middle)) (empties : (x y : Actor) → left_in joiners feeders ws x y ≡ [] → left_in joiners feeders middle x y ≡ []) where
   was : core_in joiners feeders cores self ≡ Some occurs.core
   was = ap (λ (i : Option ℕ). at_number None i (λ k. slice_get cores k)) at ∙ occurs.was
 
   now : core_in joiners feeders cores' ≡ changed self (Some occurs.next) (core_in joiners feeders cores)
   now = ap (core_in joiners feeders) occurs.now ∙ core-set joiners feeders cores self n occurs.next at (slice_get_within cores n occurs.core occurs.was)
+
+  others : KeepsOthers self (record { joiners = joiners; feeders = feeders; cores = cores; waiting = ws }) (record { joiners = joiners; feeders = feeders; cores = cores'; waiting = ws' })
+  others = record {
+    machines = λ a other. ap (λ (f : Actor → Option Core). f a) now ∙ ap (λ (b : Bool). cond b (Some occurs.next) (core_in joiners feeders cores a)) other;
+    links = λ from to other none.
+        ap (λ (l : Actor → Actor → List Msg). l from to) put
+        ∙ ap (λ (b : Bool). cond b (left_in joiners feeders middle from to ++ posted_to to sends) (left_in joiners feeders middle from to)) other
+        ∙ empties from to none;
+  }
 
   pub makes_event : ((f : Actor → ActorLists) → ((x y : Actor) → (f y).received x ++ left_in joiners feeders ws x y ≡ (f x).sent y)
       → (x y : Actor) → (after_event self cause occurs.occurs.added f y).received x ++ put_on self occurs.occurs.added (left_in joiners feeders middle) x y ≡ (after_event self cause occurs.occurs.added f x).sent y)
@@ -93,13 +102,33 @@ module _ (joiners feeders : ℕ) (self : Actor) (n : ℕ) (at : number joiners f
           (ap (λ ps. put_on self ps (left_in joiners feeders middle)) (sym occurs.occurs.sends) ∙ sym put)
           (balances f w.balanced);
     };
+    others = others;
   }
+
+is_full : List Msg → Bool
+is_full [] = false
+is_full (m ∷ ms) = true
+
+full : (m : Msg) (rest : List Msg) → m ∷ rest ≡ [] → ⊥
+unfolding is_full
+full m rest e = true≢false (ap is_full e)
+
+-- where nothing was left, nothing is with a message taken off
+emptied : (from to : Actor) (m : Msg) (rest : List Msg) (left : Actor → Actor → List Msg) → left from to ≡ m ∷ rest → (x y : Actor) → left x y ≡ [] → taken_off from to rest left x y ≡ []
+emptied from to m rest left first x y none = go (same_actor from x) (same_actor to y) refl refl
+  where
+    go : (b c : Bool) → same_actor from x ≡ b → same_actor to y ≡ c → cond (b && c) rest (left x y) ≡ []
+    go true true e d =
+        let there : left x y ≡ m ∷ rest = subst (λ z. left z y ≡ m ∷ rest) (same_is from x e) (subst (λ z. left from z ≡ m ∷ rest) (same_is to y d) first) in
+        absurd (full m rest (sym there ∙ none))
+    go true false e d = none
+    go false c e d = none
 
 pub begins : (joiners feeders : ℕ) (self : Actor) (n : ℕ) → number joiners feeders self ≡ Some n → (cores cores' : List Core) (ws ws' : List (List (List Msg))) (sends : List Post)
     → OccursAt n Began cores cores' [] sends → left_in joiners feeders ws' ≡ put_on self sends (left_in joiners feeders ws)
     → MakesEvent self Began (record { joiners = joiners; feeders = feeders; cores = cores; waiting = ws }) (record { joiners = joiners; feeders = feeders; cores = cores'; waiting = ws' })
 begins joiners feeders self n at cores cores' ws ws' sends occurs put =
-    makes_event joiners feeders self n at Began cores cores' ws ws ws' sends occurs put
+    makes_event joiners feeders self n at Began cores cores' ws ws ws' sends occurs put (λ x y none. none)
     (λ f balanced. beginning_balances self occurs.occurs.added f (left_in joiners feeders ws) balanced)
 
 pub delivers : (joiners feeders : ℕ) (from to : Actor) (sender receiver : ℕ) → number joiners feeders from ≡ Some sender → number joiners feeders to ≡ Some receiver
@@ -114,6 +143,7 @@ delivers joiners feeders from to sender receiver from_is to_is m cores cores' ws
       rest = took.rest;
       first = first;
       event = makes_event joiners feeders to receiver to_is (Took from m) cores cores' ws middle ws' sends occurs put
+          (λ x y none. ap (λ (l : Actor → Actor → List Msg). l x y) off ∙ emptied from to m took.rest (left_in joiners feeders ws) first x y none)
           (λ f balanced. subst (λ l. (x y : Actor) → (after_event to (Took from m) occurs.occurs.added f y).received x ++ put_on to occurs.occurs.added l x y ≡ (after_event to (Took from m) occurs.occurs.added f x).sent y) (sym off)
           (delivery_balances from to m took.rest occurs.occurs.added f (left_in joiners feeders ws) balanced first));
     }

@@ -99,3 +99,8 @@ module _ (places rest : List Place) (controller collector : Place) (is : places 
       ap length cores_are
       ∙ (length-append (cores_of rest ++ controller.core ∷ []) (collector.core ∷ []) ∙ (ap (λ m. m + 1) (length-append (cores_of rest) (controller.core ∷ [])) ∙ plus_two (length (cores_of rest)))) in
       all (length (cores_of rest) + 1) collector.core (collector_there (length (cores_of rest)) many)
+
+  -- the controller's journal is that of the machine found under its name
+  pub journal_there : (n : ℕ) → length (cores_of places) ≡ n + 2 → (told : ControllerState) → controller.core ≡ TheController told → (core : Core) → slice_get (cores_of places) n ≡ Some core
+      → told.journal ≡ journal_of core
+  journal_there n e told is_told core there = ap journal_of (sym is_told ∙ some_is controller.core core (sym (controller_there n e) ∙ there))

@@ -1,5 +1,5 @@
 -- A world: its machines, and what is left on each link.
-use Rattle.std.specs.Prelude.{◌≡◌, ℕ, ◌+◌, ◌<◌, ◌^◌, Option, Some, None, List, [], ◌∷◌, ◌++◌, map, slice_get, slice_index_or, slice_set, length, ◌&&◌, if◌then◌else◌}
+use Rattle.std.specs.Prelude.{◌≡◌, ℕ, ◌+◌, ◌<◌, ◌^◌, Option, Some, None, List, [], ◌∷◌, ◌++◌, map, slice_get, slice_index_or, slice_set, length, ◌&&◌, false, if◌then◌else◌}
 use Rattle.epoch_tags.specs.declared.actor.Actor.{Actor}
 use Rattle.epoch_tags.specs.declared.actor.Actor.TheVariants.{Controller}
 use Rattle.epoch_tags.specs.declared.message.Msg.{Msg}
@@ -31,6 +31,7 @@ cores_of places = map (λ place. place.core) places
 abbrev pub waiting_at : Place → List (List Msg)
 waiting_at place = map (λ queue. queue.items) place.waiting.items
 
+-- what waits at each actor
 abbrev pub waiting_of : List Place → List (List (List Msg))
 waiting_of places = map waiting_at places
 
@@ -76,6 +77,7 @@ pub record WorldState : Type 0 where
   pub cores : List Core
   pub waiting : List (List (List Msg))
 
+-- the machine of an actor, if it is one of the run
 abbrev pub core_in : ℕ → ℕ → List Core → Actor → Option Core
 core_in joiners feeders cores a = at_number None (number joiners feeders a) (λ n. slice_get cores n)
 
@@ -84,12 +86,15 @@ abbrev pub left_in : ℕ → ℕ → List (List (List Msg)) → Actor → Actor 
 left_in joiners feeders waiting from to =
     at_number [] (number joiners feeders to) (λ receiver. at_number [] (number joiners feeders from) (λ sender. waits waiting receiver sender))
 
+-- the machine of an actor of the world
 abbrev pub core_of : WorldState → Actor → Option Core
 core_of w a = core_in w.joiners w.feeders w.cores a
 
+-- what is left on a link of the world
 abbrev pub left_of : WorldState → Actor → Actor → List Msg
 left_of w from to = left_in w.joiners w.feeders w.waiting from to
 
+-- what contracts see of a world
 abbrev pub state_of : World → WorldState
 state_of w = record { joiners = w.joiners; feeders = w.feeders; cores = cores_of w.places.items; waiting = waiting_of w.places.items }
 
@@ -132,10 +137,17 @@ pub record IsSomeAt {X : Type 0} (P : X → Type 0) (xs : List X) : Type 0 where
   pub is : slice_get xs place ≡ Some there
   pub holds : P there
 
+-- every other actor has the machine that it had, and where nothing was left of what it sends, nothing is
+pub record KeepsOthers (self : Actor) (old new : WorldState) : Type 0 where
+  pub machines : (a : Actor) → same_actor self a ≡ false → core_of new a ≡ core_of old a
+  pub links : (from to : Actor) → same_actor self from ≡ false → left_of old from to ≡ [] → left_of new from to ≡ []
+
 -- one event of the actor `self`: whatever the lists were, they are the same with the event at their ends
 pub record MakesEvent (self : Actor) (cause : Cause) (old new : WorldState) : Type 0 where
   pub posts : List Post
-  pub stands : (input : Input) (setting : Setting) (f : Actor → ActorLists) → StandsFor input setting old f → StandsFor input setting new (after_event self cause posts f)
+  pub stands : (input : Input) (setting : Setting) (f : Actor → ActorLists) → StandsFor input setting old f
+      → StandsFor input setting new (after_event self cause posts f)
+  pub others : KeepsOthers self old new
 
 -- the first message of a link was handed to its receiver
 pub record Delivers (from to : Actor) (old new : WorldState) : Type 0 where
@@ -143,15 +155,6 @@ pub record Delivers (from to : Actor) (old new : WorldState) : Type 0 where
   pub rest : List Msg
   pub first : left_of old from to ≡ m ∷ rest
   pub event : MakesEvent to (Took from m) old new
-
--- it stands for some lists of this input and setting
-pub record IsReached (input : Input) (setting : Setting) (w : WorldState) : Type 0 where
-  pub lists : Actor → ActorLists
-  pub stands : StandsFor input setting w lists
-
--- no event, or some
-abbrev pub LeadsTo : WorldState → WorldState → Type 0
-LeadsTo old new = (input : Input) (setting : Setting) → IsReached input setting old → IsReached input setting new
 
 -- the lists for which a world stands are an agreeing family
 abbrev pub WorldAgrees : Type 0

@@ -1,12 +1,12 @@
 // A run on one thread, in an order that a number names.
 
-ghost use Rattle.std.specs.Prelude.{OnOk, IfOk};
+ghost use Rattle.std.specs.Prelude.{◌≡◌, ℕ, ◌+◌, ◌-◌, ◌^◌, min, IfOk, Some, false, length, slice_get, if◌then◌else◌};
 ghost use Rattle.trace_law.specs.Validity.{IsValidInput, IsValidSetting};
 ghost use Rattle.trace_law.specs.Runs.{IsRunOf};
-ghost use Rattle.link_trace.specs.Worlds.{state_of, LeadsTo};
+ghost use Rattle.link_trace.specs.Order.{IsReplay};
 
-use crate::slots::{Slot, slots_of};
-use crate::step::Step;
+use crate::order::make_first;
+use crate::slots::slots_of;
 use crate::world::World;
 use rand_core::utils::NextWord;
 use rand_pcg::Lcg64Xsh32;
@@ -17,28 +17,23 @@ use trace_law::{Input, Run, Setting};
 // The stream of the generator that orders a replay.
 const STREAM: u64 = 56;
 
-// Makes the event of a slot, if it has one.
-fn make(world: &mut World, slot: Slot) -> Result<Step, AllocError>
-    ensures { OnOk result (LeadsTo (state_of world.old) (state_of world.new)) }
+// A mark for each of so many slots.
+fn all_marked(alloc: Global, count: usize) -> Result<Vec<bool>, AllocError>
+    ensures each { IfOk result (λ marks. length marks.items ≡ count) }
+    ensures marked { IfOk result (λ marks. (n : ℕ) → ¬ (slice_get marks.items n ≡ Some false)) }
 {
-    match slot {
-        Slot::Begin(p) => world.begin(p),
-        Slot::Link { from, to } => world.deliver(from, to),
-    }
+    vec![in alloc; true; count]
 }
 
-// Makes the event of the first slot that has one, going round from the place that a word draws. False: none has.
-fn make_next(world: &mut World, slots: &[Slot], word: u32) -> Result<bool, AllocError>
-    ensures { OnOk result (LeadsTo (state_of world.old) (state_of world.new)) }
+// The number of events, with the one that was made.
+fn counted(events: u64, made: bool) -> u64
+    ensures { result ≡ (if made then min (events + 1) (2 ^ 64 - 1) else events) }
 {
-    let count = slots.len();
-    for i in 0..count {
-        let at = (word as usize + i) % count;
-        if make(world, slots[at])? == Step::Took {
-            return Ok(true);
-        }
+    if made {
+        events.saturating_add(1)
+    } else {
+        events
     }
-    Ok(false)
 }
 
 /// Runs a world of this input and setting until it is done. As long as it isn't, one word of the generator with this
@@ -53,9 +48,11 @@ pub fn replay<R: Wait>(
 ) -> Result<Run, AllocError>
     requires input { IsValidInput input.now }
     requires setting { IsValidSetting setting.now }
-    ensures { IfOk result (λ run. IsRunOf input.now setting.now run.journal run) }
+    ensures run { IfOk result (λ run. IsRunOf input.now setting.now run.journal run) }
+    ensures order { IfOk result (λ run. IsReplay input.now setting.now seed run) }
 {
     let slots = slots_of(alloc, setting)?;
+    let mut marks = all_marked(alloc, slots.len())?;
     let mut draws = Lcg64Xsh32::new(seed, STREAM);
     let mut world = World::start(alloc, input, setting)?;
     let mut events = 0u64;
@@ -64,9 +61,8 @@ pub fn replay<R: Wait>(
             break;
         }
         let word = draws.next_word();
-        if make_next(&mut world, &slots, word)? {
-            events = events.saturating_add(1);
-        }
+        let made = make_first(&mut world, &slots, &mut marks, word)?;
+        events = counted(events, made);
     }
     world.finish(events)
 }

@@ -104,8 +104,10 @@ fn answer(
     bouts: u64,
 ) -> Result<Run, AllocError>
     requires { is_complete collector ≡ true }
-    ensures run { IfOk result (λ run. (joiners : ℕ) (lists : CollectorLists) → CollectorStands joiners lists collector
+    ensures run { IfOk result (λ run. (joiners : ℕ) (lists : CollectorLists)
+        → CollectorStands joiners lists collector
         → IsAnswerOf joiners lists controller.now.journal bouts run) }
+    ensures journal { IfOk result (λ run. run.journal ≡ controller.now.journal) }
     ensures bouts { IfOk result (λ run. run.bouts ≡ bouts) }
 {
     let journal = copied(alloc, controller.journal())?;
@@ -129,7 +131,8 @@ impl<'a> World<'a> {
     ) -> Result<World<'a>, AllocError>
         requires input { IsValidInput input.now }
         requires setting { IsValidSetting setting.now }
-        ensures fresh { IfOk result (λ world. StandsFor input.now setting.now (state_of world) (λ actor. no_lists)) }
+        ensures fresh { IfOk result (λ world.
+            StandsFor input.now setting.now (state_of world) (λ actor. no_lists)) }
         ensures at_work { IfOk result (λ world. world.spent ≡ false) }
     {
         let joiners = joiners_of(setting);
@@ -165,7 +168,8 @@ impl<'a> World<'a> {
     pub fn finish(self, bouts: u64) -> Result<Run, AllocError>
         requires { IsAllAt IsOver (state_of self).cores }
         ensures run { IfOk result (λ run. (input : Input') (setting : Setting') (lists : Actor' → ActorLists)
-            → IsValid input setting → StandsFor input setting (state_of self.entry) lists → IsRunOf input setting run.journal run) }
+            → IsValid input setting → StandsFor input setting (state_of self.entry) lists
+            → IsRunOf input setting run.journal run) }
         ensures bouts { IfOk result (λ run. run.bouts ≡ bouts) }
     {
         finished_answers();
@@ -189,7 +193,8 @@ impl<'a> World<'a> {
     /// `Idle`: nothing is left there.
     pub fn deliver(&mut self, from: Actor, to: Actor) -> Result<Step, AllocError>
         ensures took { result ≡ Ok Took' → Delivers from to (state_of self.old) (state_of self.new) }
-        ensures idle { result ≡ Ok Idle' → (left_of (state_of self.old) from to ≡ []) × (state_of self.new ≡ state_of self.old) }
+        ensures idle { result ≡ Ok Idle' → (left_of (state_of self.old) from to ≡ [])
+            × (state_of self.new ≡ state_of self.old) }
         ensures goes_on { OnOk result ((self.old.spent ≡ false) × (self.new.spent ≡ false)) }
         ensures fails { OnErr result (self.new.spent ≡ true) }
         ensures spent { self.old.spent ≡ true → self.new ≡ self.old }
@@ -217,7 +222,8 @@ impl<'a> World<'a> {
         requires receiver { number' self.old.joiners self.old.feeders to ≡ Some receiver }
         requires going { self.old.spent ≡ false }
         ensures took { result ≡ Ok Took' → Delivers from to (state_of self.old) (state_of self.new) }
-        ensures idle { result ≡ Ok Idle' → (left_of (state_of self.old) from to ≡ []) × (state_of self.new ≡ state_of self.old) }
+        ensures idle { result ≡ Ok Idle' → (left_of (state_of self.old) from to ≡ [])
+            × (state_of self.new ≡ state_of self.old) }
         ensures goes_on { OnOk result (self.new.spent ≡ false) }
         ensures fails { OnErr result (self.new.spent ≡ true) }
     {
@@ -235,10 +241,13 @@ impl<'a> World<'a> {
     /// Lets feeder `p`, counted from 0, ask for its next batch, or say that it has drained. `Idle`: the
     /// last batch that it asked for isn't granted, or it has drained.
     pub fn begin(&mut self, p: u32) -> Result<Step, AllocError>
-        ensures took { result ≡ Ok Took' → MakesEvent (Feeder' p) Began (state_of self.old) (state_of self.new) }
+        ensures took { result ≡ Ok Took'
+            → MakesEvent (Feeder' p) Began (state_of self.old) (state_of self.new) }
         ensures idle { result ≡ Ok Idle' → state_of self.new ≡ state_of self.old }
-        ensures waits { result ≡ Ok Idle' → (core : Core') → core_of (state_of self.old) (Feeder' p) ≡ Some core → Waits core }
-        ensures free { result ≡ Ok Took' → (core : Core') → core_of (state_of self.old) (Feeder' p) ≡ Some core → ¬ Waits core }
+        ensures waits { result ≡ Ok Idle' → (core : Core')
+            → core_of (state_of self.old) (Feeder' p) ≡ Some core → Waits core }
+        ensures free { result ≡ Ok Took' → (core : Core')
+            → core_of (state_of self.old) (Feeder' p) ≡ Some core → ¬ Waits core }
         ensures goes_on { OnOk result ((self.old.spent ≡ false) × (self.new.spent ≡ false)) }
         ensures fails { OnErr result (self.new.spent ≡ true) }
         ensures spent { self.old.spent ≡ true → self.new ≡ self.old }
@@ -255,10 +264,13 @@ impl<'a> World<'a> {
     fn begin_at(&mut self, p: u32, at: usize) -> Result<Step, AllocError>
         requires at { number' self.old.joiners self.old.feeders (Feeder' p) ≡ Some at }
         requires going { self.old.spent ≡ false }
-        ensures took { result ≡ Ok Took' → MakesEvent (Feeder' p) Began (state_of self.old) (state_of self.new) }
+        ensures took { result ≡ Ok Took'
+            → MakesEvent (Feeder' p) Began (state_of self.old) (state_of self.new) }
         ensures idle { result ≡ Ok Idle' → state_of self.new ≡ state_of self.old }
-        ensures waits { result ≡ Ok Idle' → (core : Core') → core_of (state_of self.old) (Feeder' p) ≡ Some core → Waits core }
-        ensures free { result ≡ Ok Took' → (core : Core') → core_of (state_of self.old) (Feeder' p) ≡ Some core → ¬ Waits core }
+        ensures waits { result ≡ Ok Idle' → (core : Core')
+            → core_of (state_of self.old) (Feeder' p) ≡ Some core → Waits core }
+        ensures free { result ≡ Ok Took' → (core : Core')
+            → core_of (state_of self.old) (Feeder' p) ≡ Some core → ¬ Waits core }
         ensures goes_on { OnOk result (self.new.spent ≡ false) }
         ensures fails { OnErr result (self.new.spent ≡ true) }
     {

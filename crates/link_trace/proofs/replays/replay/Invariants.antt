@@ -1,5 +1,6 @@
-use Rattle.link_trace.specs.Worlds.{state_of, IsReached}
+use Rattle.link_trace.specs.Worlds.{state_of}
+use Rattle.link_trace.proofs.Replaying.{IsUnderWay}
 use Rattle.link_trace.proofs.replays.replay.Given as goal
 
 abbrev pub invariant-loop : goal.invariant-loop
-invariant-loop g l = IsReached l.input l.setting (state_of l.world)
+invariant-loop g l = IsUnderWay l.input l.setting l.seed l.marks.items l.draws l.events (state_of l.world)

@@ -1,0 +1,96 @@
+-- What can happen next in a world, and the order in which a replay makes it happen.
+use Rattle.std.specs.Prelude.{◌≡◌, ℕ, ◌+◌, ◌-◌, ◌%◌, ◌^◌, ◌<◌, min, List, ◌++◌, length, [], map, flat_map, slice_get, Some, bit_xor}
+use Rattle.std.specs.List.{range_with_len}
+use Rattle.epoch_tags.specs.declared.actor.Actor.{Actor}
+use Rattle.epoch_tags.specs.declared.actor.Actor.TheVariants.{Feeder, Joiner, Controller, Collector}
+use Rattle.rand_pcg.specs.Lcg.{Lcg, advance, started, increment_of}
+use Rattle.rand_pcg.specs.Pcg.{multiplier_64, pcg32}
+use Rattle.trace_law.specs.declared.input.Input.{Input}
+use Rattle.trace_law.specs.declared.setting.Setting.{Setting}
+use Rattle.trace_law.specs.declared.run.Run.{Run}
+use Rattle.link_trace.specs.declared.slots.Slot.{Slot}
+use Rattle.link_trace.specs.declared.slots.Slot.TheVariants.{Begin, Link}
+use Rattle.link_trace.specs.declared.machines.Core.{Core}
+use Rattle.link_trace.specs.Lists.{Began, no_lists}
+use Rattle.link_trace.specs.Standing.{IsOver, GoesOn, Waits}
+use Rattle.link_trace.specs.Worlds.{WorldState, StandsFor, MakesEvent, Delivers, IsAllAt, IsSomeAt, core_of, left_of}
+
+-- ---- slots
+
+-- the links from a feeder to each joiner
+abbrev pub to_joiners : ℕ → ℕ → List Slot
+to_joiners joiners p = map (λ j. Link (Feeder p) (Joiner j)) (range_with_len 0 joiners)
+
+-- the links from a joiner to those whose id differs in one bit, lowest bit first
+abbrev pub to_partners : ℕ → ℕ → List Slot
+to_partners k i = map (λ bit. Link (Joiner i) (Joiner (bit_xor i (2 ^ bit)))) (range_with_len 0 k)
+
+-- the links from each joiner to this actor
+abbrev pub from_joiners : ℕ → Actor → List Slot
+from_joiners joiners to = map (λ i. Link (Joiner i) to) (range_with_len 0 joiners)
+
+-- all slots of a run in their order: beginnings, then links; actors rise
+abbrev pub slots_of : Setting → List Slot
+slots_of setting =
+    map Begin (range_with_len 0 setting.feeders)
+    ++ flat_map (to_joiners (2 ^ setting.k)) (range_with_len 0 setting.feeders)
+    ++ flat_map (to_partners setting.k) (range_with_len 0 (2 ^ setting.k))
+    ++ map (λ p. Link Controller (Feeder p)) (range_with_len 0 setting.feeders)
+    ++ map (λ p. Link (Feeder p) Controller) (range_with_len 0 setting.feeders)
+    ++ from_joiners (2 ^ setting.k) Controller
+    ++ from_joiners (2 ^ setting.k) Collector
+
+-- ---- what happens at a slot
+
+-- the slot has no event: the feeder would not begin, or nothing is left on the link
+abbrev pub IsIdle : WorldState → Slot → Type 0
+IsIdle w (Begin p) = (core : Core) → core_of w (Feeder p) ≡ Some core → Waits core
+IsIdle w (Link from to) = left_of w from to ≡ []
+
+-- the feeder at this number would begin
+abbrev pub IsFree : WorldState → ℕ → Type 0
+IsFree w p = (core : Core) → core_of w (Feeder p) ≡ Some core → ¬ Waits core
+
+-- the slot's event is made
+abbrev pub Happens : Slot → WorldState → WorldState → Type 0
+Happens (Begin p) old new = IsFree old p × MakesEvent (Feeder p) Began old new
+Happens (Link from to) old new = Delivers from to old new
+
+-- from the place that a word names on, going round, so many slots have no event
+abbrev pub AreIdleFrom : List Slot → ℕ → ℕ → WorldState → Type 0
+AreIdleFrom slots word count w = (i : ℕ) (slot : Slot) → i < count → slice_get slots ((word + i) % length slots) ≡ Some slot → IsIdle w slot
+
+-- the event of the first slot that has one is made, going round from the place that a word names
+pub record MakesFirst (slots : List Slot) (word : ℕ) (old new : WorldState) : Type 0 where
+  pub skipped : ℕ
+  pub slot : Slot
+  pub once : skipped < length slots
+  pub idle : AreIdleFrom slots word skipped old
+  pub there : slice_get slots ((word + skipped) % length slots) ≡ Some slot
+  pub happens : Happens slot old new
+
+-- ---- a replay
+
+-- word n of the generator with this seed, on the stream of replays
+abbrev pub word_of : ℕ → ℕ → ℕ
+word_of seed n = (pcg32 (advance 64 multiplier_64 n (started 64 multiplier_64 seed (increment_of 64 56)))).0
+
+-- after so many words and events, from this world to that one: as long as the work of some goes on, a word is drawn, and
+-- the first slot that has an event makes it; where none has, the word is lost
+pub data Replays (slots : List Slot) (seed : ℕ) (first : WorldState) : ℕ → ℕ → WorldState → Type 0 where
+  start : Replays slots seed first 0 0 first
+  event : {drawn events : ℕ} {old new : WorldState} → Replays slots seed first drawn events old → IsSomeAt GoesOn old.cores
+      → MakesFirst slots (word_of seed drawn) old new → Replays slots seed first (drawn + 1) (events + 1) new
+  lost : {drawn events : ℕ} {old : WorldState} → Replays slots seed first drawn events old → IsSomeAt GoesOn old.cores
+      → AreIdleFrom slots (word_of seed drawn) (length slots) old → Replays slots seed first (drawn + 1) events old
+
+-- the run is that of a world of this input and setting which was driven to its end in the order of this seed
+pub record IsReplay (input : Input) (setting : Setting) (seed : ℕ) (run : Run) : Type 0 where
+  pub first : WorldState
+  pub last : WorldState
+  pub drawn : ℕ
+  pub events : ℕ
+  pub fresh : StandsFor input setting first (λ actor. no_lists)
+  pub replays : Replays (slots_of setting) seed first drawn events last
+  pub over : IsAllAt IsOver last.cores
+  pub bouts : run.bouts ≡ min events (2 ^ 64 - 1)
