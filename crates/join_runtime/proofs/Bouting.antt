@@ -135,3 +135,19 @@ module _ (old new : SeatsView) (joiners_are : new.joiners ≡ old.joiners) (feed
 pub settled_after : (went : Bool) (old new : List SeatView) → length new ≡ length old → (went ≡ true → AllAdvance old new) → (went ≡ true → AreGathered new) → (went ≡ false → new ≡ old) → AreSettled old → AreSettled new
 settled_after true old new long advance gathered same settled = still_settled old new long (advance refl) (gathered refl) settled
 settled_after false old new long advance gathered same settled = subst AreSettled (sym (same refl)) settled
+
+extends_self : (f : Actor → ActorLists) → Extends f f
+extends_self f = record {
+  received = λ from to. prefix_self ((f to).received from) ((f to).received from) refl;
+  sent = λ from to. prefix_self ((f from).sent to) ((f from).sent to) refl;
+}
+
+pub extends_after : (went : Bool) (old : SeatsView) (new : List SeatView) (spent : Bool) → length new ≡ length old.seats → (went ≡ true → AllAdvance old.seats new) → (went ≡ false → new ≡ old.seats)
+    → Extends (lists_in old) (lists_in (record old { seats = new; spent = spent }))
+extends_after true old new spent long advance same = extends old (record old { seats = new; spent = spent }) refl refl long (advance refl)
+extends_after false old new spent long advance same = subst (λ xs. Extends (lists_in old) (lists_in (record old { seats = xs; spent = spent }))) (sym (same refl)) (extends_self (lists_in old))
+
+pub stands_after : (went : Bool) (old : SeatsView) (new : List SeatView) (spent : Bool) → length new ≡ length old.seats → (went ≡ true → AllAdvance old.seats new) → (went ≡ false → new ≡ old.seats)
+    → (input : Input) (setting : Setting) → StandsFor input setting old → StandsFor input setting (record old { seats = new; spent = spent })
+stands_after true old new spent long advance same input setting st = still_stand old (record old { seats = new; spent = spent }) refl refl long (advance refl) input setting st
+stands_after false old new spent long advance same input setting st = subst (λ xs. StandsFor input setting (record old { seats = xs; spent = spent })) (sym (same refl)) (record { joiners_are = st.joiners_are; feeders_are = st.feeders_are; stands = st.stands })

@@ -19,7 +19,7 @@ use Rattle.link_trace.specs.Numbers.{number, at_number}
 use Rattle.link_trace.proofs.OwnNumbers.{number_actor}
 use Rattle.join_runtime.specs.Views.{SeatView, Frame, frame_of, lists_of, address_of, contents, sent_by, sent_at}
 use Rattle.join_runtime.specs.Joins.{AreJoined, AreSettled, AllLead, IsPlaced, Leads, HasMouthTo, IsGathered, Knows, slot_of}
-use Rattle.join_runtime.specs.Bouts.{StandsFor}
+use Rattle.join_runtime.specs.Bouts.{StandsFor, lists_at, lists_in}
 use Rattle.join_runtime.specs.Seating.{IsNewSeat, AreNew, AreFilled}
 use Rattle.join_runtime.proofs.Knowing.{is_sender-named}
 use Rattle.join_runtime.proofs.Placing.{address_at}
@@ -65,10 +65,6 @@ is_named a (x ∷ names) has = go has.0 has.1 has.2 (λ rest. is_named a names r
 knows_fresh : (from : Actor) (names : List Actor) → Knows from 0 (map fresh names)
 knows_fresh from [] = tt
 knows_fresh from (x ∷ names) = ((λ e. refl), knows_fresh from names)
-
-has_some : (o : Option ℕ) → IsSome o → (n : ℕ) × (o ≡ Some n)
-has_some None is = absurd (true≢false (sym is))
-has_some (Some n) is = (n, refl)
 
 some_address : (o : Option Sending) → IsSome o → IsSome (address_of o)
 some_address None is = is
@@ -163,7 +159,8 @@ module _ (input : Input) (setting : Setting) (count : ℕ) (first seats : List S
       let senders_are = ap (λ (i : InboxView). i.senders) (inbox_is r d (low_of r here)) ∙ one.senders in
       let is_one = sym (is_sender-named a (get_or seats r d).inbox.senders) ∙ subst (λ (x : Frame). is_sender a (map fresh x.senders) ≡ true) (get_or-map frame_of seats r d f here) is in
       let name = named a one.names (subst (λ (ss : List OfSender). is_sender a ss ≡ true) senders_are is_one) in
-      let num = has_some (number (2 ^ setting.k) setting.feeders a) (All-contains (λ x. IsSome (number (2 ^ setting.k) setting.feeders x)) one.names a one.numbers name) in
+      let given_name = one.numbers.each name.0 a name.1 in
+      let num : (n : ℕ) × (number (2 ^ setting.k) setting.feeders a ≡ Some n) = (given_name.0, subst (λ x. number (2 ^ setting.k) setting.feeders x ≡ Some given_name.0) name.2 given_name.1) in
       let inbox = (get_or first r d).inbox in
       let mouth = opened inbox.link inbox.to a in
       let has = subst (λ ms. Contains ms mouth) (sym one.mouths_are) (map_contains (opened inbox.link inbox.to) one.names a name) in
@@ -252,3 +249,35 @@ module _ (input : Input) (setting : Setting) (count : ℕ) (first seats : List S
               (subst (λ z. Stands (start_for input setting z) no_lists (get_or first num.0 d).core) (number_actor (2 ^ setting.k) setting.feeders a num.0 num.1) one.stands)),
         );
   }
+
+  pub all_empty : (spent : Bool) (a : Actor) → lists_in (record { joiners = 2 ^ setting.k; feeders = setting.feeders; seats = seats; spent = spent }) a ≡ no_lists
+  all_empty spent a = go (number (2 ^ setting.k) setting.feeders a) refl
+    where
+      go : (o : Option ℕ) → number (2 ^ setting.k) setting.feeders a ≡ o → lists_at (at_number None o (λ k. slice_get seats k)) ≡ no_lists
+      go None is = refl
+      go (Some n) is =
+          let low = subst (λ z. n < z) (sym many) (number_low (2 ^ setting.k) setting.feeders a n is) in
+          let low' = subst (λ z. n < z) (sym long) low in
+          let d = (there seats n low').0 in
+          ap lists_at (slice_get-get_or seats n d low') ∙ empty_lists n d low
+
+-- ---- the same from what each call says
+
+module _ (input : Input) (setting : Setting) (joiners : ℕ) (first seats : List SeatView) (mouths : List (List Sending)) (is : joiners ≡ 2 ^ setting.k) (new : AreNew input setting (setting.feeders + joiners + 2) first mouths) (filled : AreFilled joiners setting.feeders (length mouths) mouths first seats) where
+  count_is : setting.feeders + joiners + 2 ≡ setting.feeders + 2 ^ setting.k + 2
+  count_is = ap (λ n. setting.feeders + n + 2) is
+
+  all_filled : AreFilled (2 ^ setting.k) setting.feeders (setting.feeders + joiners + 2) mouths first seats
+  all_filled = subst (λ j. AreFilled j setting.feeders (setting.feeders + joiners + 2) mouths first seats) is (subst (λ n. AreFilled joiners setting.feeders n mouths first seats) new.each filled)
+
+  pub start_joined : AreJoined joiners setting.feeders (map frame_of seats)
+  start_joined = subst (λ j. AreJoined j setting.feeders (map frame_of seats)) (sym is) (all_joined input setting (setting.feeders + joiners + 2) first seats mouths new all_filled count_is)
+
+  pub start_settled : AreSettled seats
+  start_settled = all_settled input setting (setting.feeders + joiners + 2) first seats mouths new all_filled count_is
+
+  pub start_stands : (spent : Bool) → StandsFor input setting (record { joiners = joiners; feeders = setting.feeders; seats = seats; spent = spent })
+  start_stands spent = subst (λ j. StandsFor input setting (record { joiners = j; feeders = setting.feeders; seats = seats; spent = spent })) (sym is) (all_stand input setting (setting.feeders + joiners + 2) first seats mouths new all_filled count_is spent)
+
+  pub start_empty : (spent : Bool) (a : Actor) → lists_in (record { joiners = joiners; feeders = setting.feeders; seats = seats; spent = spent }) a ≡ no_lists
+  start_empty spent a = subst (λ j. lists_in (record { joiners = j; feeders = setting.feeders; seats = seats; spent = spent }) a ≡ no_lists) (sym is) (all_empty input setting (setting.feeders + joiners + 2) first seats mouths new all_filled count_is spent a)

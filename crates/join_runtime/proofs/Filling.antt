@@ -1,16 +1,21 @@
 -- Mouths that come to their senders, one after another.
 use Rattle.std.proofs.Common.{◌≡◌, ◌≢◌, ℕ, ◌+◌, ◌==◌, ◌<◌, ◌⊎◌, inl, inr, eqb-true, refl, sym, ap, subst, ◌∙◌, Bool, true, false, Option, Some, None, List, [], ◌∷◌, ◌++◌, get_or, set, length, arith}
 use borrow.Author.Tests.{eqb-false}
+use Rattle.std.proofs.lemmas.Bool.{cases_lt}
 use Rattle.std.specs.Prelude.{IsSome, Contains}
-use Rattle.std.proofs.lemmas.List.{length-set, get_or-set_same, get_or-set_other}
+use Rattle.std.proofs.Math.Seq.{get_or-append_seam}
+use Rattle.std.proofs.lemmas.List.{length-set, length-append, get_or_append_left, get_or-set_same, get_or-set_other}
 use Rattle.std.proofs.lemmas.List.Elements.{Contains-push, Contains-append_left, Contains-push_cases}
+use Rattle.epoch_tags.specs.declared.actor.Actor.{Actor}
 use Rattle.ruled_links.specs.Ends.{Sending}
+use Rattle.trace_law.specs.declared.input.Input.{Input}
+use Rattle.trace_law.specs.declared.setting.Setting.{Setting}
 use Rattle.link_trace.specs.Numbers.{number}
 use Rattle.link_trace.proofs.OwnNumbers.{none_some, some_is}
 use Rattle.join_runtime.specs.Views.{SeatView}
 use Rattle.join_runtime.specs.Joins.{slot_of}
 use Rattle.join_runtime.proofs.Linking.{there}
-use Rattle.join_runtime.specs.Seating.{Puts, IsOneOf, Places, AreFilled}
+use Rattle.join_runtime.specs.Seating.{AreBelow, AreNew, IsNewSeat, Puts, IsOneOf, Places, AreFilled}
 
 -- ---- one mouth
 
@@ -173,3 +178,83 @@ filled_more joiners feeders below mouths first old new before places = record {
             let other = eqb-false r below e in
             let past = before.has n r d m (omega arith) is in
             (past.0, subst IsSome (sym (places.others n r d (subst (λ z. n < z) (sym before.all) past.0) other)) past.1)
+
+-- ---- the senders of an inbox
+
+pub below_none : (joiners feeders : ℕ) → AreBelow joiners feeders 0 []
+below_none joiners feeders = record {
+  each = λ k d low. absurd (omega arith);
+  differ = λ i k d before low. absurd (omega arith);
+}
+
+pub below_more : (joiners feeders n : ℕ) (actors : List Actor) → AreBelow joiners feeders n actors → AreBelow joiners feeders (n + 1) actors
+below_more joiners feeders n actors below = record {
+  each = λ k d low. let old = below.each k d low in (old.0, old.1, omega (arith, old.2));
+  differ = below.differ;
+}
+
+-- one actor more, of the number n
+pub below_push : (joiners feeders n : ℕ) (actors : List Actor) (last : Actor) → number joiners feeders last ≡ Some n → AreBelow joiners feeders n actors → AreBelow joiners feeders (n + 1) (actors ++ last ∷ [])
+below_push joiners feeders n actors last is below = record { each = each; differ = differ }
+  where
+    long : length (actors ++ last ∷ []) ≡ length actors + 1
+    long = length-append actors (last ∷ [])
+
+    each : (k : ℕ) (d : Actor) → k < length (actors ++ last ∷ []) → (m : ℕ) × (number joiners feeders (get_or (actors ++ last ∷ []) k d) ≡ Some m) × (m < n + 1)
+    each k d low = elim (cases_lt k (length actors)) [
+      | inl less ↦
+          let old = below.each k d less in
+          (old.0, ap (number joiners feeders) (get_or_append_left actors (last ∷ []) d k less) ∙ old.1, omega (arith, old.2))
+      | inr more ↦
+          let at : length actors ≡ k = omega (arith, long) in
+          (n, ap (number joiners feeders) (subst (λ z. get_or (actors ++ last ∷ []) z d ≡ last) at (get_or-append_seam actors last [] d)) ∙ is, omega arith)
+    ]
+
+    differ : (i k : ℕ) (d : Actor) → i < k → k < length (actors ++ last ∷ []) → get_or (actors ++ last ∷ []) i d ≢ get_or (actors ++ last ∷ []) k d
+    differ i k d before low same = elim (cases_lt k (length actors)) [
+      | inl less ↦
+          let left = get_or_append_left actors (last ∷ []) d i (omega arith) in
+          let right = get_or_append_left actors (last ∷ []) d k less in
+          below.differ i k d before less (sym left ∙ (same ∙ right))
+      | inr more ↦
+          let at : length actors ≡ k = omega (arith, long) in
+          let left = get_or_append_left actors (last ∷ []) d i (omega arith) in
+          let right = subst (λ z. get_or (actors ++ last ∷ []) z d ≡ last) at (get_or-append_seam actors last [] d) in
+          let old = below.each i d (omega arith) in
+          let equal : old.0 ≡ n = some_is old.0 n (sym old.1 ∙ (ap (number joiners feeders) (sym left ∙ (same ∙ right)) ∙ is)) in
+          let low' = old.2 in
+          omega (arith, equal, low')
+    ]
+
+-- ---- seats as they are made
+
+pub new_none : (input : Input) (setting : Setting) → AreNew input setting 0 [] []
+new_none input setting = record { all = refl; each = refl; new = λ n d low. absurd (omega arith) }
+
+pub new_more : (input : Input) (setting : Setting) (count : ℕ) (seats : List SeatView) (mouths : List (List Sending)) (seat : SeatView) (own : List Sending) → AreNew input setting count seats mouths
+    → IsNewSeat input setting count seat own → AreNew input setting (count + 1) (seats ++ seat ∷ []) (mouths ++ own ∷ [])
+new_more input setting count seats mouths seat own old one = record {
+  all = length-append seats (seat ∷ []) ∙ ap (λ n. n + 1) old.all;
+  each = length-append mouths (own ∷ []) ∙ ap (λ n. n + 1) old.each;
+  new = new;
+}
+  where
+    new : (n : ℕ) (d : SeatView) → n < count + 1 → IsNewSeat input setting n (get_or (seats ++ seat ∷ []) n d) (get_or (mouths ++ own ∷ []) n [])
+    new n d low = elim (cases_lt n count) [
+      | inl less ↦
+          let left = get_or_append_left seats (seat ∷ []) d n (omega (arith, old.all)) in
+          let right = get_or_append_left mouths (own ∷ []) [] n (omega (arith, old.each)) in
+          subst (λ s. IsNewSeat input setting n s (get_or (mouths ++ own ∷ []) n [])) (sym left)
+          (subst (IsNewSeat input setting n (get_or seats n d)) (sym right) (old.new n d less))
+      | inr more ↦
+          let is : count ≡ n = omega arith in
+          let here : length seats ≡ n = old.all ∙ is in
+          let there' : length mouths ≡ n = old.each ∙ is in
+          let left = subst (λ z. get_or (seats ++ seat ∷ []) z d ≡ seat) here (get_or-append_seam seats seat [] d) in
+          let right = subst (λ z. get_or (mouths ++ own ∷ []) z [] ≡ own) there' (get_or-append_seam mouths own [] []) in
+          subst (λ s. IsNewSeat input setting n s (get_or (mouths ++ own ∷ []) n [])) (sym left)
+          (subst (IsNewSeat input setting n seat) (sym right) (subst (λ z. IsNewSeat input setting z seat own) is one))
+    ]
+
+pub new_mouthless : (input : Input) (setting : Setting) (count : ℕ) (seats : List SeatView) (mouths : List (List Sending)) → AreNew input setting count seats mouths → (n r : ℕ) (d : SeatView) → n < length seats → slot_of seats d n r ≡ None
+new_mouthless input setting count seats mouths new n r d low = (new.new n d (subst (λ z. n < z) new.all low)).no_mouth r

@@ -1,8 +1,8 @@
 -- What was received and sent between two actors of a run, once the two ends of each link were held together.
-use Rattle.std.proofs.Common.{◌≡◌, ℕ, zero, suc, ◌+◌, ◌<◌, ◌⊎◌, inl, inr, ltb, true≢false, refl, sym, ap, subst, ◌∙◌, Bool, true, false, cond, Option, Some, None, List, [], ◌∷◌, ◌++◌, get_or, map, length, append-nil, arith}
+use Rattle.std.proofs.Common.{◌≡◌, ◌≢◌, ℕ, zero, suc, ◌+◌, ◌<◌, ◌⊎◌, inl, inr, ltb, true≢false, refl, sym, ap, subst, ◌∙◌, Bool, true, false, cond, Option, Some, None, List, [], ◌∷◌, ◌++◌, get_or, map, length, append-nil, arith}
 use Rattle.std.specs.Prelude.{slice_get, IsSome}
 use Rattle.std.proofs.lemmas.Bool.{ltb-true}
-use Rattle.std.proofs.lemmas.List.{length-map, map-append}
+use Rattle.std.proofs.lemmas.List.{length-map, length-append, map-append}
 use Rattle.std.proofs.lemmas.Option.{slice_get-get_or}
 use Rattle.join_rows.specs.Lists.{IsPrefix}
 use Rattle.epoch_tags.specs.declared.actor.Actor.{Actor}
@@ -16,10 +16,10 @@ use Rattle.link_trace.specs.Families.{AreFronts}
 use Rattle.link_trace.specs.Numbers.{number, actor_at, at_number}
 use Rattle.link_trace.proofs.OwnNumbers.{number_actor, none_some, some_is}
 use Rattle.join_runtime.specs.Views.{SeatView, Frame, lists_of, frame_of, address_of, contents, received_of, sent_by, sent_at, sent_through}
-use Rattle.join_runtime.specs.Joins.{AreJoined, ActorsDiffer, Leads, AreSettled, HasMouthTo, IsKnown, IsGathered, slot_of}
-use Rattle.join_runtime.specs.Bouts.{SeatsView, lists_at, lists_in, AllRest}
-use Rattle.join_runtime.proofs.Knowing.{is_sender-named, knows_none}
-use Rattle.join_runtime.proofs.Placing.{actors_differ, frame_at, address_at}
+use Rattle.join_runtime.specs.Joins.{AreJoined, ActorsDiffer, Leads, AreSettled, HasMouthTo, IsKnown, IsGathered, Knows, slot_of}
+use Rattle.join_runtime.specs.Bouts.{SeatsView, lists_at, lists_in, AllRest, IsReady, IsStill, SomeReady}
+use Rattle.join_runtime.proofs.Knowing.{is_sender-named, knows_none, knows_some}
+use Rattle.join_runtime.proofs.Placing.{actors_differ, frame_at, address_at, number_there}
 use Rattle.join_runtime.proofs.Gathering.{within, leads_at}
 
 -- a number is below that of all actors
@@ -53,9 +53,11 @@ differ_of v joined k n d before low same =
 pub record HasNone (s t : SeatView) (from to : Actor) : Type 0 where
   pub sent : (lists_of s).sent to ≡ []
   pub received : (lists_of t).received from ≡ []
+  pub foreign : is_sender from t.inbox.senders ≡ false
 
 pub record HasMouth (s t : SeatView) (from to : Actor) : Type 0 where
   pub mouth : Sending
+  pub from_is : mouth.from ≡ from
   pub sent : (lists_of s).sent to ≡ contents mouth.sent
   pub received : (lists_of t).received from ≡ contents (messages_of mouth.from t.inbox.received)
   pub known : IsKnown mouth t.inbox
@@ -123,7 +125,7 @@ module _ (v : SeatsView) (joined : AreJoined v.joiners v.feeders (map frame_of v
         from_of mouth is =
             (subst (λ (o : Option Sending). Leads (address_of o) (frame_of (get_or v.seats n d)) (frame_of (get_or v.seats r d))) is (leads_at v.seats joined.leads (differ_of v joined) d n r low low')).from ∙ actor_is
 
-        silent : slot_of v.seats d n r ≡ None → (b : Bool) → is_sender from (get_or v.seats r d).inbox.senders ≡ b → (lists_of (get_or v.seats r d)).received from ≡ []
+        silent : slot_of v.seats d n r ≡ None → (b : Bool) → is_sender from (get_or v.seats r d).inbox.senders ≡ b → is_sender from (get_or v.seats r d).inbox.senders ≡ false
         silent none true e =
             let has = heard_at r from low' e in
             let same : n ≡ has.sender = some_is n has.sender (sym from_is ∙ has.is) in
@@ -132,15 +134,17 @@ module _ (v : SeatsView) (joined : AreJoined v.joiners v.feeders (map frame_of v
             let mine = subst (λ (f : Frame). IsSome (get_or f.addresses r None)) (frame_at v.seats n d low) here in
             let slot = some_slot (slot_of v.seats d n r) (subst IsSome (address_at (get_or v.seats n d).mouths r) mine) in
             absurd (none_some slot.0 (sym none ∙ slot.1))
-        silent none false e = settled.hear r d low' from e
+        silent none false e = e
 
         go : (slot : Option Sending) → slot_of v.seats d n r ≡ slot → HasNone (get_or v.seats n d) (get_or v.seats r d) from to ⊎ HasMouth (get_or v.seats n d) (get_or v.seats r d) from to
         go None e = inl (record {
           sent = sent_there n r to low to_is ∙ ap sent_by e;
-          received = silent e (is_sender from (get_or v.seats r d).inbox.senders) refl;
+          received = settled.hear r d low' from (silent e (is_sender from (get_or v.seats r d).inbox.senders) refl);
+          foreign = silent e (is_sender from (get_or v.seats r d).inbox.senders) refl;
         })
         go (Some mouth) e = inr (record {
           mouth = mouth;
+          from_is = from_of mouth e;
           sent = sent_there n r to low to_is ∙ ap sent_by e;
           received = ap (λ a. received_of (get_or v.seats r d).inbox.received a) (sym (from_of mouth e));
           known = subst (λ (o : Option Sending). IsGathered o (get_or v.seats r d).inbox) e (settled.gathered n r d low low');
@@ -206,3 +210,36 @@ module _ (v : SeatsView) (joined : AreJoined v.joiners v.feeders (map frame_of v
           ap (λ (ls : ActorLists). ls.received from) (lists_there v joined settled to r d to_is)
           ∙ (quiet_between (get_or v.seats n d) (get_or v.seats r d) from to (rest r d (low_of v joined settled to r to_is)).none_known (between v joined settled d n r from to from_is to_is)
           ∙ sym (ap (λ (ls : ActorLists). ls.sent to) (lists_there v joined settled from n d from_is)))
+
+-- ---- where something is known to be left, some link isn't empty
+
+left_between : (s t : SeatView) (from to : Actor) → is_sender from t.inbox.senders ≡ true → ((n : ℕ) → Knows from n t.inbox.senders → 0 < n) → HasNone s t from to ⊎ HasMouth s t from to → (lists_of t).received from ≢ (lists_of s).sent to
+left_between s t from to is some (inl none) same = true≢false (sym is ∙ none.foreign)
+left_between s t from to is some (inr has) same =
+    let known = has.known in
+    let got = messages_of has.mouth.from t.inbox.received in
+    let more = some known.count (subst (λ a. Knows a known.count t.inbox.senders) has.from_is known.knows) in
+    let long = ap length (sym has.received ∙ (same ∙ has.sent)) in
+    let one = length-map got (λ (e : Envelope). e.msg) in
+    let other = length-map has.mouth.sent (λ (e : Envelope). e.msg) in
+    let whole = sym (ap length known.agrees.prefix.joins) ∙ length-append got known.agrees.prefix.rest in
+    let left = known.agrees.left in
+    omega (arith, more, long, one, other, whole, left)
+
+module _ (v : SeatsView) (joined : AreJoined v.joiners v.feeders (map frame_of v.seats)) (settled : AreSettled v.seats) where
+  pub still : AllRest v.seats → IsStill v
+  still rest = record { received = all_received v joined settled rest; waits = λ n d low. (rest n d low).waits }
+
+  ready_moves : (r : ℕ) (d : SeatView) → r < length v.seats → IsReady (get_or v.seats r d) → ¬ IsStill v
+  ready_moves r d low (inr free) is = free (is.waits r d low)
+  ready_moves r d low (inl some) is =
+      let found = knows_some (get_or v.seats r d).inbox.senders some in
+      let from = found.0 in
+      let has = heard_at v joined settled d r from low found.1 in
+      let to = actor_at v.joiners v.feeders r in
+      let to_is = number_there v.joiners v.feeders r (subst (λ z. r < z) (many v joined settled) low) in
+      let same = ap (λ (ls : ActorLists). ls.received from) (sym (lists_there v joined settled to r d to_is)) ∙ (is.received from to ∙ ap (λ (ls : ActorLists). ls.sent to) (lists_there v joined settled from has.sender d has.is)) in
+      left_between (get_or v.seats has.sender d) (get_or v.seats r d) from to found.1 found.2 (between v joined settled d has.sender r from to has.is to_is) same
+
+  pub busy : SomeReady v.seats → ¬ IsStill v
+  busy some = let d = (there v.seats some.place some.there).0 in ready_moves some.place d some.there (some.ready d)

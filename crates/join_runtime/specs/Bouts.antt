@@ -46,6 +46,11 @@ pub record Extends (old new : Actor → ActorLists) : Type 0 where
 abbrev pub AllReceived : (Actor → ActorLists) → Type 0
 AllReceived f = (from to : Actor) → (f to).received from ≡ (f from).sent to
 
+-- nothing is left on any link, and no machine would begin
+pub record IsStill (v : SeatsView) : Type 0 where
+  pub received : AllReceived (lists_in v)
+  pub waits : (n : ℕ) (d : SeatView) → n < length v.seats → Waits (slice_index_or v.seats n d).core
+
 -- each seat made some events, and none only where it rested
 abbrev pub AllAdvance : List SeatView → List SeatView → Type 0
 AllAdvance old new = (n : ℕ) (d : SeatView) → n < length old → Advances (slice_index_or old n d) (slice_index_or new n d)

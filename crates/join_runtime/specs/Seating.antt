@@ -2,7 +2,7 @@
 use Rattle.std.specs.Prelude.{◌≡◌, ◌≢◌, ◌<◌, ◌^◌, ◌⊎◌, ℕ, Some, None, IsSome, All, Contains, List, [], map, length, slice_set, slice_index_or}
 use Rattle.epoch_tags.specs.declared.actor.Actor.{Actor}
 use Rattle.ruled_links.specs.Ends.{Sending}
-use Rattle.ruled_links.specs.Inboxes.{fresh, opened}
+use Rattle.ruled_links.specs.Inboxes.{Differ, fresh, opened}
 use Rattle.trace_law.specs.declared.input.Input.{Input}
 use Rattle.trace_law.specs.declared.setting.Setting.{Setting}
 use Rattle.link_trace.specs.Lists.{no_lists}
@@ -12,9 +12,10 @@ use Rattle.link_trace.specs.Numbers.{number, actor_at}
 use Rattle.join_runtime.specs.Views.{SeatView}
 use Rattle.join_runtime.specs.Joins.{slot_of}
 
--- each of these actors is one of the run
-abbrev pub AllHaveNumbers : ℕ → ℕ → List Actor → Type 0
-AllHaveNumbers joiners feeders actors = All (λ a. IsSome (number joiners feeders a)) actors
+-- different actors, each with a number below this one
+pub record AreBelow (joiners feeders below : ℕ) (actors : List Actor) : Type 0 where
+  pub each : (k : ℕ) (d : Actor) → k < length actors → (n : ℕ) × (number joiners feeders (slice_index_or actors k d) ≡ Some n) × (n < below)
+  pub differ : Differ actors
 
 -- the seat of the actor with this number as it was made, and the mouths of its inbox
 pub record IsNewSeat (input : Input) (setting : Setting) (n : ℕ) (seat : SeatView) (mouths : List Sending) : Type 0 where
@@ -24,7 +25,8 @@ pub record IsNewSeat (input : Input) (setting : Setting) (n : ℕ) (seat : SeatV
   pub to : seat.inbox.to ≡ seat.actor
   pub received : seat.inbox.received ≡ []
   pub names : List Actor
-  pub numbers : AllHaveNumbers (2 ^ setting.k) setting.feeders names
+  pub below : ℕ
+  pub numbers : AreBelow (2 ^ setting.k) setting.feeders below names
   pub senders : seat.inbox.senders ≡ map fresh names
   pub mouths_are : mouths ≡ map (opened seat.inbox.link seat.inbox.to) names
   pub no_mouth : (r : ℕ) → slice_index_or seat.mouths r None ≡ None

@@ -1,11 +1,13 @@
 // A bout: turns of all seats side by side, and then the two ends of each link held together.
 
 ghost use Rattle.std.specs.Prelude.{◌≡◌, ◌<◌, ℕ, true, false, Ok, OnOk, OnErr, None, length, map, slice_index_or};
+ghost use Rattle.trace_law.specs.declared.input.Input.{Input as Input'};
+ghost use Rattle.trace_law.specs.declared.setting.Setting.{Setting as Setting'};
 ghost use Rattle.link_trace.specs.Families.{AreFronts};
 ghost use Rattle.join_runtime.specs.Views.{SeatView, frame_of};
 ghost use Rattle.join_runtime.specs.Turns.{AllWork, IsAlike};
 ghost use Rattle.join_runtime.specs.Joins.{ActorsDiffer, AllLead, AreGathered, IsSlotOf, Tells, slot_of};
-ghost use Rattle.join_runtime.specs.Bouts.{AllAdvance, AllLive, AllReceived, AllRest, NoneSpent, SomeReady, lists_in};
+ghost use Rattle.join_runtime.specs.Bouts.{AllAdvance, AllLive, AllRest, Extends, IsStill, NoneSpent, SomeReady, StandsFor, lists_in};
 
 use crate::crossing::shares_predicates;
 use crate::seat::Seat;
@@ -118,12 +120,12 @@ fn bout_of<R: Threads + Wait + Sync, G: Gate>(
 /// The seats of all actors of a run.
 #[derive(Drop)]
 pub struct Seats<'a> {
-    joiners: u32,
-    feeders: u32,
+    pub(crate) joiners: u32,
+    pub(crate) feeders: u32,
     // By the numbers of actors.
-    seats: Vec<Seat<'a>>,
+    pub(crate) seats: Vec<Seat<'a>>,
     // Whether a bout found no memory.
-    spent: bool,
+    pub(crate) spent: bool,
 }
 
 impl<'a> Model for Seats<'a> {
@@ -154,11 +156,13 @@ pub fn bout<R: Threads + Wait + Sync, G: Gate>(
 ) -> Result<bool, AllocError>
     requires { 0 < workers }
     ensures went { result ≡ Ok true → AllAdvance seats.old.seats seats.new.seats }
-    ensures ready { result ≡ Ok true → SomeReady seats.old.seats }
-    ensures rest { result ≡ Ok false → AllRest seats.old.seats }
     ensures same { result ≡ Ok false → seats.new ≡ seats.old }
+    ensures still { result ≡ Ok false → IsStill seats.old }
+    ensures busy { result ≡ Ok true → ¬ IsStill seats.old }
     ensures agrees { OnOk result (AreFronts (lists_in seats.new)) }
-    ensures all_received { result ≡ Ok false → AllReceived (lists_in seats.old) }
+    ensures extends { OnOk result (Extends (lists_in seats.old) (lists_in seats.new)) }
+    ensures stands { OnOk result ((input : Input') (setting : Setting')
+        → StandsFor input setting seats.old → StandsFor input setting seats.new) }
     ensures goes_on { OnOk result ((seats.old.spent ≡ false) × (seats.new.spent ≡ false)) }
     ensures fails { OnErr result (seats.new.spent ≡ true) }
     ensures actors { (seats.new.joiners ≡ seats.old.joiners) × (seats.new.feeders ≡ seats.old.feeders) }

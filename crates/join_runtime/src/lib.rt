@@ -5,6 +5,7 @@ mod bouts;
 mod crossing;
 mod mouths;
 mod seat;
+mod seating;
 
 pub use bouts::{Seats, bout};
 pub use seat::Seat;

@@ -1,9 +1,9 @@
-use Rattle.std.proofs.Common.{◌≡◌, ◌∙◌, Ok, sym, ap, subst, false, map, length}
+use Rattle.std.proofs.Common.{◌≡◌, ◌∙◌, Ok, ap, false, length, map, subst, sym}
 use Rattle.std.proofs.lemmas.List.{with_items_is}
 use Rattle.join_runtime.specs.Views.{frame_of}
 use Rattle.join_runtime.specs.Joins.{AreJoined}
-use Rattle.join_runtime.proofs.Linking.{fronts, all_received}
-use Rattle.join_runtime.proofs.Bouting.{settled_after}
+use Rattle.join_runtime.proofs.Linking.{busy, fronts, still}
+use Rattle.join_runtime.proofs.Bouting.{extends_after, settled_after, stands_after}
 use Rattle.join_runtime.proofs.bouts.bout.Goals as goal
 
 pub invariant_of-seats-2 : goal.invariant_of-seats-2
@@ -30,9 +30,38 @@ returns-clause-agrees g c =
     let settled = settled_after c.in_ok-went.went seats.items new long (λ is. said.went (ap Ok is)) (λ is. said.gathered (ap Ok is)) (λ is. said.same (ap Ok is)) (c.seats.invariant.1 c.if-seats.false) in
     rw items (fronts (record { joiners = c.seats.inside.joiners; feeders = c.seats.inside.feeders; seats = new; spent = false }) joined settled)
 
-pub returns-clause-all_received : goal.returns-clause-all_received
-returns-clause-all_received g c =
+pub returns-clause-still : goal.returns-clause-still
+returns-clause-still g c =
     let said = rw c.as_mut_slice.ensures.value at c.in_ok-went.ensures in
     λ is.
     rw (← c.seats.view_is)
-    (all_received (record { joiners = c.seats.inside.joiners; feeders = c.seats.inside.feeders; seats = c.seats.inside.seats.items; spent = c.seats.inside.spent }) c.seats.invariant.0 (c.seats.invariant.1 c.if-seats.false) (said.rest is))
+    (still (record { joiners = c.seats.inside.joiners; feeders = c.seats.inside.feeders; seats = c.seats.inside.seats.items; spent = c.seats.inside.spent }) c.seats.invariant.0 (c.seats.invariant.1 c.if-seats.false) (said.rest is))
+
+pub returns-clause-busy : goal.returns-clause-busy
+returns-clause-busy g c =
+    let said = rw c.as_mut_slice.ensures.value at c.in_ok-went.ensures in
+    λ is.
+    rw (← c.seats.view_is)
+    (busy (record { joiners = c.seats.inside.joiners; feeders = c.seats.inside.feeders; seats = c.seats.inside.seats.items; spent = c.seats.inside.spent }) c.seats.invariant.0 (c.seats.invariant.1 c.if-seats.false) (said.ready is))
+
+pub returns-clause-extends : goal.returns-clause-extends
+returns-clause-extends g c =
+    let seats = c.seats.inside.seats in
+    let new = c.bout_of.new.seats in
+    let value = c.as_mut_slice.ensures.value in
+    let long : length new ≡ length seats.items = c.bout_of.auto.seats ∙ ap length value in
+    let items = with_items_is seats new (long ∙ sym seats.ok.0) in
+    let said = rw value at c.in_ok-went.ensures in
+    rw (← c.seats.view_is, items)
+    (extends_after c.in_ok-went.went (record { joiners = c.seats.inside.joiners; feeders = c.seats.inside.feeders; seats = seats.items; spent = c.seats.inside.spent }) new false long (λ is. said.went (ap Ok is)) (λ is. said.same (ap Ok is)))
+
+pub returns-clause-stands : goal.returns-clause-stands
+returns-clause-stands g c =
+    let seats = c.seats.inside.seats in
+    let new = c.bout_of.new.seats in
+    let value = c.as_mut_slice.ensures.value in
+    let long : length new ≡ length seats.items = c.bout_of.auto.seats ∙ ap length value in
+    let items = with_items_is seats new (long ∙ sym seats.ok.0) in
+    let said = rw value at c.in_ok-went.ensures in
+    rw (← c.seats.view_is, items)
+    (stands_after c.in_ok-went.went (record { joiners = c.seats.inside.joiners; feeders = c.seats.inside.feeders; seats = seats.items; spent = c.seats.inside.spent }) new false long (λ is. said.went (ap Ok is)) (λ is. said.same (ap Ok is)))

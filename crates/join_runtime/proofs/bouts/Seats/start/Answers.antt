@@ -1,0 +1,22 @@
+use Rattle.std.proofs.Common.{refl, false}
+use Rattle.join_runtime.proofs.Built.{start_empty, start_joined, start_settled, start_stands}
+use Rattle.join_runtime.proofs.bouts.Seats.start.Goals as goal
+
+pub invariant_of-result : goal.invariant_of-result
+invariant_of-result c =
+    let input = c.args.input.now in
+    let setting = c.args.setting.now in
+    let first = c.in_ok-seats.seats.items in
+    let seats = c.give_all.new.seats.items in
+    let mouths = c.in_ok-seats.mouths.items in (
+      start_joined input setting c.joiners_of-joiners.result first seats mouths c.joiners_of-joiners.ensures.value c.in_ok-seats.ensures c.in_ok-give_all.ensures,
+      λ z. start_settled input setting c.joiners_of-joiners.result first seats mouths c.joiners_of-joiners.ensures.value c.in_ok-seats.ensures c.in_ok-give_all.ensures,
+    )
+
+pub returns-clause-stands : goal.returns-clause-stands
+returns-clause-stands c =
+    start_stands c.args.input.now c.args.setting.now c.joiners_of-joiners.result c.in_ok-seats.seats.items c.give_all.new.seats.items c.in_ok-seats.mouths.items c.joiners_of-joiners.ensures.value c.in_ok-seats.ensures c.in_ok-give_all.ensures false
+
+pub returns-clause-empty : goal.returns-clause-empty
+returns-clause-empty c =
+    start_empty c.args.input.now c.args.setting.now c.joiners_of-joiners.result c.in_ok-seats.seats.items c.give_all.new.seats.items c.in_ok-seats.mouths.items c.joiners_of-joiners.ensures.value c.in_ok-seats.ensures c.in_ok-give_all.ensures false

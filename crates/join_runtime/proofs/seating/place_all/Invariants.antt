@@ -1,0 +1,5 @@
+use Rattle.join_runtime.specs.Seating.{Places}
+use Rattle.join_runtime.proofs.seating.place_all.Given as goal
+
+abbrev pub invariant-loop-mouth : goal.invariant-loop-mouth
+invariant-loop-mouth l = Places l.joiners l.feeders l.receiver l.yielded l.initial.seats.items l.seats.items

@@ -1,0 +1,5 @@
+use Rattle.join_runtime.specs.Seating.{AreBelow}
+use Rattle.join_runtime.proofs.seating.senders_of.Given as goal
+
+abbrev pub invariant-loop-n : goal.invariant-loop-n
+invariant-loop-n l = AreBelow l.joiners l.feeders l.n l.senders

@@ -1,0 +1,196 @@
+// The seats of a run at its beginning.
+
+ghost use Rattle.std.specs.Prelude.{◌≡◌, ◌<◌, ◌≤◌, ◌+◌, ◌^◌, ℕ, true, false, None, Some, IfOk, OnOk, length, map, slice_set, slice_index_or};
+ghost use Rattle.epoch_tags.specs.declared.actor.Actor.{Actor as Actor'};
+ghost use Rattle.trace_law.specs.Validity.{IsValidInput, IsValidSetting};
+ghost use Rattle.link_trace.specs.Numbers.{actor_at};
+ghost use Rattle.ruled_links.specs.Inboxes.{Differ};
+ghost use Rattle.link_trace.specs.Lists.{no_lists};
+ghost use Rattle.join_runtime.specs.Views.{SeatView};
+ghost use Rattle.join_runtime.specs.Joins.{slot_of};
+ghost use Rattle.join_runtime.specs.Seating.{AreBelow, AreFilled, AreNew, IsNewSeat, Puts, Places};
+ghost use Rattle.join_runtime.specs.Bouts.{StandsFor, lists_in};
+
+use crate::bouts::Seats;
+use crate::seat::Seat;
+use epoch_tags::Actor;
+use link_trace::{core_at, joiners_of, number};
+use ruled_links::{Actors, Mouth, Mouths, inbox};
+use std::alloc::{AllocError, Global};
+use std::mem;
+use trace_law::{Input, Setting};
+
+// The actor of this number.
+fn actor_of(joiners: u32, feeders: u32, n: u32) -> Actor
+    requires { feeders + joiners < 2 ^ 32 }
+    ensures { result ≡ actor_at joiners feeders n }
+{
+    if n < feeders {
+        Actor::Feeder(n)
+    } else if n < feeders + joiners {
+        Actor::Joiner(n - feeders)
+    } else if n == feeders + joiners {
+        Actor::Controller
+    } else {
+        Actor::Collector
+    }
+}
+
+// Whether the one sends to the other.
+fn sends_to(from: Actor, to: Actor) -> bool {
+    match (from, to) {
+        (Actor::Feeder(_), Actor::Joiner(_)) => true,
+        (Actor::Joiner(i), Actor::Joiner(j)) => (i ^ j).is_power_of_two(),
+        (Actor::Controller, Actor::Feeder(_)) => true,
+        (Actor::Feeder(_), Actor::Controller) => true,
+        (Actor::Joiner(_), Actor::Controller) => true,
+        (Actor::Joiner(_), Actor::Collector) => true,
+        _ => false,
+    }
+}
+
+// Those of the first `count` actors that send to this one, their numbers rising.
+fn senders_of(
+    alloc: Global,
+    joiners: u32,
+    feeders: u32,
+    count: u32,
+    to: Actor,
+) -> Result<Actors, AllocError>
+    requires few { feeders + joiners < 2 ^ 32 }
+    requires all { count ≤ feeders + joiners + 2 }
+    ensures { IfOk result (λ senders. AreBelow joiners feeders count senders) }
+{
+    let mut senders = Actors::new(alloc);
+    for n in 0..count {
+        let from = actor_of(joiners, feeders, n);
+        if sends_to(from, to) {
+            senders.push(from)?;
+        }
+    }
+    Ok(senders)
+}
+
+// The seat of the actor with this number, which has no mouth yet, and the mouths of its inbox.
+fn seat_at<'a>(
+    alloc: Global,
+    input: &'a Input,
+    setting: &Setting,
+    n: u32,
+) -> Result<(Seat<'a>, Mouths), AllocError>
+    requires input { IsValidInput input.now }
+    requires setting { IsValidSetting setting.now }
+    ensures { IfOk result (λ made. IsNewSeat input.now setting.now n made.0 made.1) }
+{
+    let joiners = joiners_of(setting);
+    let feeders = setting.feeders;
+    let actor = actor_of(joiners, feeders, n);
+    let core = core_at(alloc, input, setting, n)?;
+    let senders = senders_of(alloc, joiners, feeders, feeders + joiners + 2, actor)?;
+    let (inbox, mouths) = inbox(alloc, actor, &senders)?;
+    let seat = Seat::new(alloc, joiners, feeders, actor, core, inbox)?;
+    Ok((seat, mouths))
+}
+
+// Gives a mouth that leads to the actor with this number to its sender.
+fn place(
+    seats: &mut Vec<Seat>,
+    joiners: u32,
+    feeders: u32,
+    receiver: usize,
+    mouth: Mouth,
+) -> Result<(), AllocError>
+    ensures { OnOk result (Puts joiners feeders receiver mouth seats.old.items seats.new.items) }
+{
+    match number(joiners, feeders, mouth.sender()) {
+        Some(sender) => {
+            if sender < seats.len() {
+                seats[sender].put_mouth(receiver, mouth)
+            } else {
+                Err(AllocError)
+            }
+        }
+        None => Err(AllocError),
+    }
+}
+
+fn place_all(
+    seats: &mut Vec<Seat>,
+    joiners: u32,
+    feeders: u32,
+    receiver: usize,
+    mouths: Mouths,
+) -> Result<(), AllocError>
+    ensures { OnOk result (Places joiners feeders receiver mouths seats.old.items seats.new.items) }
+{
+    for mouth in mouths.into_vec() {
+        place(seats, joiners, feeders, receiver, mouth)?;
+    }
+    Ok(())
+}
+
+// Each mouth goes to its sender. The places of the list are the numbers of the receivers.
+fn give_all(
+    alloc: Global,
+    seats: &mut Vec<Seat>,
+    joiners: u32,
+    feeders: u32,
+    mut mouths: Vec<Mouths>,
+) -> Result<(), AllocError>
+    requires { (n r : ℕ) (d : SeatView) → n < length seats.old.items → slot_of seats.old.items d n r ≡ None }
+    ensures { OnOk result (AreFilled joiners feeders (length mouths.items) mouths.items seats.old.items seats.new.items) }
+{
+    for receiver in 0..mouths.len() {
+        let own = mem::replace(&mut mouths[receiver], Mouths::new(alloc));
+        place_all(seats, joiners, feeders, receiver, own)?;
+    }
+    Ok(())
+}
+
+// The seats of so many actors, without mouths, and the mouths of each one's inbox.
+fn new_seats<'a>(
+    alloc: Global,
+    input: &'a Input,
+    setting: &Setting,
+    count: u32,
+) -> Result<(Vec<Seat<'a>>, Vec<Mouths>), AllocError>
+    requires input { IsValidInput input.now }
+    requires setting { IsValidSetting setting.now }
+    ensures { IfOk result (λ made. AreNew input.now setting.now count made.0.items made.1.items) }
+{
+    let mut seats = Vec::new(alloc);
+    let mut all_mouths = Vec::new(alloc);
+    for n in 0..count {
+        let (seat, mouths) = seat_at(alloc, input, setting, n)?;
+        seats.push(seat)?;
+        all_mouths.push(mouths)?;
+    }
+    Ok((seats, all_mouths))
+}
+
+impl<'a> Seats<'a> {
+    /// The seats of all actors of a run before its first event: the feeders', the joiners', the controller's and the
+    /// collector's, joined by all links. The seats borrow the input.
+    pub fn start(
+        alloc: Global,
+        input: &'a Input,
+        setting: &Setting,
+    ) -> Result<Seats<'a>, AllocError>
+        requires input { IsValidInput input.now }
+        requires setting { IsValidSetting setting.now }
+        ensures stands { IfOk result (StandsFor input.now setting.now) }
+        ensures empty { IfOk result (λ seats. (a : Actor') → lists_in seats a ≡ no_lists) }
+        ensures at_work { IfOk result (λ seats. seats.spent ≡ false) }
+    {
+        let joiners = joiners_of(setting);
+        let feeders = setting.feeders;
+        let (mut seats, mouths) = new_seats(alloc, input, setting, feeders + joiners + 2)?;
+        give_all(alloc, &mut seats, joiners, feeders, mouths)?;
+        Ok(Seats {
+            joiners,
+            feeders,
+            seats,
+            spent: false,
+        })
+    }
+}
