@@ -19,6 +19,7 @@ use Rattle.link_trace.specs.Standing.{Stands, OfCollector, IsOver}
 use Rattle.link_trace.specs.Families.{start_for, IsActor, family_of, journal_of}
 use Rattle.link_trace.specs.Numbers.{number, at_number}
 use Rattle.link_trace.specs.Worlds.{WorldState, StandsFor, IsAllAt, IsAnswerOf, WorldAgrees, core_of, left_of, cores_of}
+use Rattle.link_trace.specs.Endings.{AreLast}
 use Rattle.link_trace.specs.declared.machines.Core.{Core}
 use Rattle.link_trace.specs.declared.machines.Core.TheVariants.{Controller as TheController, Collector as TheCollector}
 use Rattle.link_trace.specs.declared.places.Place.{Place}
@@ -82,25 +83,30 @@ module _ (places rest : List Place) (controller collector : Place) (is : places 
   cores_are : cores_of places ≡ (cores_of rest ++ controller.core ∷ []) ++ collector.core ∷ []
   cores_are = ap cores_of is ∙ map-append (λ (p : Place). p.core) (rest ++ controller ∷ []) (collector ∷ []) ∙ ap (λ cs. cs ++ collector.core ∷ []) (map-append (λ (p : Place). p.core) rest (controller ∷ []))
 
-  long : (n : ℕ) → length (cores_of places) ≡ n + 2 → n ≡ length (cores_of rest)
-  long n e =
-      let whole = sym e ∙ (ap length cores_are ∙ (length-append (cores_of rest ++ controller.core ∷ []) (collector.core ∷ []) ∙ ap (λ m. m + 1) (length-append (cores_of rest) (controller.core ∷ [])))) in
-      omega arith
-
-  pub collector_there : (n : ℕ) → length (cores_of places) ≡ n + 2 → slice_get (cores_of places) (n + 1) ≡ Some collector.core
-  collector_there n e = ap (λ cs. slice_get cs (n + 1)) cores_are ∙ (ap (λ m. slice_get ((cores_of rest ++ controller.core ∷ []) ++ collector.core ∷ []) (m + 1)) (long n e) ∙ last_of (cores_of rest) controller.core collector.core)
-
-  pub controller_there : (n : ℕ) → length (cores_of places) ≡ n + 2 → slice_get (cores_of places) n ≡ Some controller.core
-  controller_there n e = ap (λ cs. slice_get cs n) cores_are ∙ (ap (λ m. slice_get ((cores_of rest ++ controller.core ∷ []) ++ collector.core ∷ []) m) (long n e) ∙ before_last (cores_of rest) controller.core collector.core)
-
-  pub last_over : (P : Core → Type 0) → IsAllAt P (cores_of places) → P collector.core
-  last_over P all =
-      let many : length (cores_of places) ≡ length (cores_of rest) + 2 =
+  many_are : length (cores_of places) ≡ length (cores_of rest) + 2
+  many_are =
       ap length cores_are
-      ∙ (length-append (cores_of rest ++ controller.core ∷ []) (collector.core ∷ []) ∙ (ap (λ m. m + 1) (length-append (cores_of rest) (controller.core ∷ [])) ∙ plus_two (length (cores_of rest)))) in
-      all (length (cores_of rest) + 1) collector.core (collector_there (length (cores_of rest)) many)
+      ∙ (length-append (cores_of rest ++ controller.core ∷ []) (collector.core ∷ []) ∙ (ap (λ m. m + 1) (length-append (cores_of rest) (controller.core ∷ [])) ∙ plus_two (length (cores_of rest))))
+
+  pub last_two : (told : ControllerState) (kept : CollectorState) → controller.core ≡ TheController told → collector.core ≡ TheCollector kept → AreLast (cores_of places) told kept
+  last_two told kept is_told is_kept = record {
+    before = length (cores_of rest);
+    many = many_are;
+    controller_is = ap (λ cs. slice_get cs (length (cores_of rest))) cores_are ∙ (before_last (cores_of rest) controller.core collector.core ∙ ap Some is_told);
+    collector_is = ap (λ cs. slice_get cs (length (cores_of rest) + 1)) cores_are ∙ (last_of (cores_of rest) controller.core collector.core ∙ ap Some is_kept);
+  }
+
+-- in a world, they are the controller's and the collector's
+module _ (input : Input) (setting : Setting) (w : WorldState) (lists : Actor → ActorLists) (stands : StandsFor input setting w lists) (controller : ControllerState) (collector : CollectorState) (last : AreLast w.cores controller collector) where
+  place_is : last.before ≡ w.feeders + w.joiners
+  place_is = let whole = sym last.many ∙ stands.all in omega arith
+
+  pub controller_named : core_of w Controller ≡ Some (TheController controller)
+  controller_named = subst (λ n. slice_get w.cores n ≡ Some (TheController controller)) place_is last.controller_is
+
+  pub collector_named : core_of w Collector ≡ Some (TheCollector collector)
+  collector_named = subst (λ n. slice_get w.cores (n + 1) ≡ Some (TheCollector collector)) place_is last.collector_is
 
   -- the controller's journal is that of the machine found under its name
-  pub journal_there : (n : ℕ) → length (cores_of places) ≡ n + 2 → (told : ControllerState) → controller.core ≡ TheController told → (core : Core) → slice_get (cores_of places) n ≡ Some core
-      → told.journal ≡ journal_of core
-  journal_there n e told is_told core there = ap journal_of (sym is_told ∙ some_is controller.core core (sym (controller_there n e) ∙ there))
+  pub journal_there : (core : Core) → core_of w Controller ≡ Some core → controller.journal ≡ journal_of core
+  journal_there core there = ap journal_of (some_is (TheController controller) core (sym controller_named ∙ there))

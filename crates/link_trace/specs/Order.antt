@@ -13,6 +13,7 @@ use Rattle.link_trace.specs.declared.slots.Slot.TheVariants.{Begin, Link}
 use Rattle.link_trace.specs.declared.machines.Core.{Core}
 use Rattle.link_trace.specs.Lists.{Began, no_lists}
 use Rattle.link_trace.specs.Standing.{IsOver, GoesOn, Waits}
+use Rattle.link_trace.specs.Families.{journal_of}
 use Rattle.link_trace.specs.Worlds.{WorldState, StandsFor, MakesEvent, Delivers, IsAllAt, IsSomeAt, core_of, left_of}
 
 -- ---- slots
@@ -93,4 +94,5 @@ pub record IsReplay (input : Input) (setting : Setting) (seed : ℕ) (run : Run)
   pub fresh : StandsFor input setting first (λ actor. no_lists)
   pub replays : Replays (slots_of setting) seed first drawn events last
   pub over : IsAllAt IsOver last.cores
+  pub journal : (core : Core) → core_of last Controller ≡ Some core → run.journal ≡ journal_of core
   pub bouts : run.bouts ≡ min events (2 ^ 64 - 1)

@@ -1,8 +1,8 @@
 // All machines of a run on one thread, and what is under way between them.
 
-ghost use Rattle.std.specs.Prelude.{ℕ, ◌≡◌, [], All, Ok, Some, IfOk, OnOk, OnErr, IsTrue, ◌↔◌, true, false};
+ghost use Rattle.std.specs.Prelude.{ℕ, ◌≡◌, [], All, Ok, Some, IfOk, IfSome, OnOk, OnErr, IsTrue, ◌↔◌, true, false};
 ghost use Rattle.epoch_tags.specs.Links.{HasLink};
-ghost use Rattle.epoch_tags.specs.declared.actor.Actor.TheVariants.{Feeder as Feeder'};
+ghost use Rattle.epoch_tags.specs.declared.actor.Actor.TheVariants.{Feeder as Feeder', Controller as Controller'};
 ghost use Rattle.link_trace.specs.declared.step.Step.TheVariants.{Took as Took', Idle as Idle'};
 ghost use Rattle.epoch_tags.specs.declared.actor.Actor.{Actor as Actor'};
 ghost use Rattle.pair_collector.specs.Law.{CollectorLists};
@@ -12,6 +12,8 @@ ghost use Rattle.trace_law.specs.declared.setting.Setting.{Setting as Setting'};
 ghost use Rattle.trace_law.specs.Validity.{IsValidInput, IsValidSetting, IsValid};
 ghost use Rattle.trace_law.specs.Runs.{IsRunOf};
 ghost use Rattle.link_trace.specs.Lists.{Began, ActorLists, no_lists};
+ghost use Rattle.link_trace.specs.Families.{journal_of};
+ghost use Rattle.link_trace.specs.Endings.{AreLast};
 ghost use Rattle.link_trace.specs.Standing.{IsOver, GoesOn, Waits};
 ghost use Rattle.link_trace.specs.declared.machines.Core.{Core as Core'};
 ghost use Rattle.link_trace.specs.Numbers.{number as number'};
@@ -122,6 +124,19 @@ fn answer(
     })
 }
 
+// The last two machines, a controller and a collector.
+fn parted<'a>(mut places: Vec<Place<'a>>) -> Option<(Controller, Collector)>
+    ensures { IfSome result (λ two. AreLast (cores_of places.entry.items) two.0 two.1) }
+{
+    let (Some(collector), Some(controller)) = (places.pop(), places.pop()) else {
+        return None;
+    };
+    match (controller.core, collector.core) {
+        (Core::Controller(controller), Core::Collector(collector)) => Some((controller, collector)),
+        _ => None,
+    }
+}
+
 impl<'a> World<'a> {
     /// All actors of a run before its first event. The world borrows the input.
     pub fn start(
@@ -170,23 +185,17 @@ impl<'a> World<'a> {
         ensures run { IfOk result (λ run. (input : Input') (setting : Setting') (lists : Actor' → ActorLists)
             → IsValid input setting → StandsFor input setting (state_of self.entry) lists
             → IsRunOf input setting run.journal run) }
+        ensures journal { IfOk result (λ run. (input : Input') (setting : Setting') (lists : Actor' → ActorLists)
+            → StandsFor input setting (state_of self.entry) lists → (core : Core')
+            → core_of (state_of self.entry) Controller' ≡ Some core → run.journal ≡ journal_of core) }
         ensures bouts { IfOk result (λ run. run.bouts ≡ bouts) }
     {
         finished_answers();
-        let World {
-            alloc,
-            mut places,
-            ..
-        } = self;
-        let (Some(collector), Some(controller)) = (places.pop(), places.pop()) else {
+        let World { alloc, places, .. } = self;
+        let Some((controller, collector)) = parted(places) else {
             return Err(AllocError);
         };
-        match (controller.core, collector.core) {
-            (Core::Controller(controller), Core::Collector(collector)) => {
-                answer(alloc, &controller, collector, bouts)
-            }
-            _ => Err(AllocError),
-        }
+        answer(alloc, &controller, collector, bouts)
     }
 
     /// Hands the first message of the link to its receiver, and puts what that sends on its links.

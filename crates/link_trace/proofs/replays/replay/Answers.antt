@@ -1,8 +1,12 @@
-use Rattle.std.proofs.Common.{ℕ, ◌∙◌, ap, Ok}
+use Rattle.std.proofs.Common.{ℕ, ◌≡◌, ◌∙◌, true, false, ap, Ok}
 use Rattle.rand_pcg.specs.Lcg.{Lcg}
 use Rattle.link_trace.specs.Worlds.{state_of}
-use Rattle.link_trace.proofs.Replaying.{begins, goes_on_over, answers}
+use Rattle.link_trace.proofs.Replaying.{begins, goes_on_over, answers, replayed}
 use Rattle.link_trace.proofs.replays.replay.Goals as goal
+use Rattle.link_trace.proofs.replays.replay.Goals.{in-None, in-Some+then-done}
+
+differ : false ≡ true → ⊥
+differ e = cc
 
 pub loop-init : goal.loop-init
 loop-init g c =
@@ -21,3 +25,8 @@ pub returns-clause-run : goal.returns-clause-run
 returns-clause-run g c =
     answers c.args.input.now c.args.setting.now c.args.seed c.loop.marks.items c.loop.draws c.loop.events (state_of c.loop.world) c.loop.invariant c.finish.result
     c.requires.input c.requires.setting c.finish.ensures.run
+
+pub returns-clause-order : goal.returns-clause-order
+returns-clause-order g c =
+    replayed c.args.input.now c.args.setting.now c.args.seed c.loop.marks.items c.loop.draws c.loop.events (state_of c.loop.world) c.loop.invariant c.finish.result
+    (elim c.match-next.branch [ in-None w ↦ absurd (differ w.in-None.ensures.steps) | in-Some+then-done w ↦ w.done.ensures.done w.if-done.true ]) c.finish.ensures.journal c.finish.ensures.bouts

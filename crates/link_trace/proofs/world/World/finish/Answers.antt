@@ -1,32 +1,33 @@
-use Rattle.std.proofs.Common.{◌∙◌, ◌++◌, ◌∷◌, [], ◌+◌, ap, subst, Some}
-use Rattle.std.specs.Option.{option_to_list}
+use Rattle.std.proofs.Common.{◌∙◌, ◌+◌}
 use Rattle.std.proofs.lemmas.Result.{IfOk-weaker}
-use Rattle.link_trace.specs.Standing.{IsOver}
 use Rattle.link_trace.specs.Worlds.{state_of}
-use Rattle.link_trace.proofs.Finishing.{ends, last_over, controller_there, collector_there}
+use Rattle.link_trace.specs.declared.machines.Core.TheVariants.{Collector as TheCollector}
+use Rattle.link_trace.proofs.Finishing.{ends, controller_named, collector_named, journal_there}
 use Rattle.link_trace.proofs.world.World.finish.Goals as goal
 
 pub answer-requires : goal.answer-requires
 answer-requires c =
-    let controller = c.in-Some-Some.controller in
-    let collector = c.in-Some-Some.collector in
-    let all =
-    c.pop.ensures.items ∙ (ap (λ o. c.pop.new.self.items ++ option_to_list o) c.in-Some-Some.is-0
-    ∙ ap (λ xs. xs ++ collector ∷ []) (c.pop-2.ensures.items ∙ ap (λ o. c.pop-2.new.self.items ++ option_to_list o) c.in-Some-Some.is-1)) in
-    subst IsOver c.in-Controller-Collector.is-1 (last_over c.args.self.places.items c.pop-2.new.self.items controller collector all IsOver c.requires)
+    let last = c.in-Some.ensures in
+    c.requires (last.before + 1) (TheCollector c.in-Some.collector) last.collector_is
 
-pub returns-in-Controller-Collector-clause-run : goal.returns-in-Controller-Collector-clause-run
-returns-in-Controller-Collector-clause-run c =
+pub returns-clause-run : goal.returns-clause-run
+returns-clause-run c =
     let self = c.args.self in
-    let controller = c.in-Some-Some.controller in
-    let collector = c.in-Some-Some.collector in
-    let all =
-    c.pop.ensures.items ∙ (ap (λ o. c.pop.new.self.items ++ option_to_list o) c.in-Some-Some.is-0
-    ∙ ap (λ xs. xs ++ collector ∷ []) (c.pop-2.ensures.items ∙ ap (λ o. c.pop-2.new.self.items ++ option_to_list o) c.in-Some-Some.is-1)) in
+    let controller = c.in-Some.controller in
+    let collector = c.in-Some.collector in
+    let last = c.in-Some.ensures in
     IfOk-weaker c.answer.result _ _
     (λ run answers input setting lists valid stands.
-    ends c.finished_answers.ensures input setting (state_of self) lists valid stands c.requires c.in-Controller-Collector.controller c.in-Controller-Collector.collector
-    (controller_there self.places.items c.pop-2.new.self.items controller collector all (self.feeders + self.joiners) stands.all ∙ ap Some c.in-Controller-Collector.is-0)
-    (collector_there self.places.items c.pop-2.new.self.items controller collector all (self.feeders + self.joiners) stands.all ∙ ap Some c.in-Controller-Collector.is-1)
+    ends c.finished_answers.ensures input setting (state_of self) lists valid stands c.requires controller collector
+    (controller_named input setting (state_of self) lists stands controller collector last)
+    (collector_named input setting (state_of self) lists stands controller collector last)
     c.args.bouts run answers)
     c.answer.ensures.run
+
+pub returns-clause-journal : goal.returns-clause-journal
+returns-clause-journal c =
+    let self = c.args.self in
+    IfOk-weaker c.answer.result _ _
+    (λ run same input setting lists stands core there.
+    same ∙ journal_there input setting (state_of self) lists stands c.in-Some.controller c.in-Some.collector c.in-Some.ensures core there)
+    c.answer.ensures.journal
