@@ -110,7 +110,7 @@ module _ (input : Input) (setting : Setting) (seed : ℕ) (marks marks' : List B
 module _ (input : Input) (setting : Setting) (seed : ℕ) (marks : List Bool) (draws : Lcg) (count : ℕ) (w : WorldState) (under : IsUnderWay input setting seed marks draws count w) where
   pub replayed : (result : Result Run AllocError) → IsAllAt IsOver w.cores
       → IfOk result (λ run. (input' : Input) (setting' : Setting) (lists : Actor → ActorLists) → StandsFor input' setting' w lists
-          → (core : Core) → core_of w Controller ≡ Some core → run.journal ≡ journal_of core)
+      → (core : Core) → core_of w Controller ≡ Some core → run.journal ≡ journal_of core)
       → IfOk result (λ run. run.bouts ≡ count) → IfOk result (λ run. IsReplay input setting seed run)
   replayed (Ok run) over journal bouts =
       let reached = replays_reach input setting (slots_of setting) seed under.first under.drawn under.events w under.replays (record { lists = λ actor. no_lists; stands = under.fresh }) in
