@@ -28,12 +28,5 @@ fn main(rt: HostRuntime) -> ExitCode {
         return exit_code(&Outcome::Memory);
     };
     let mut shelf = DiskShelf::new(alloc, files);
-    exit_code(&jm_main(
-        &rt,
-        alloc,
-        &words,
-        &mut shelf,
-        &mut sink,
-        &mut errors,
-    ))
+    exit_code(&jm_main(&rt, alloc, &words, &mut shelf, &mut sink, &mut errors))
 }
