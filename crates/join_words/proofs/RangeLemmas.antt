@@ -151,21 +151,26 @@ command_accepts old m p command k id q is t value =
 feeders_is : IsArg rules 2 (codes "feeders") (vp.Unsigned 1 8)
 feeders_is = record { in_range = omega arith; is_id = λ d. refl; has_parser = λ d. refl; in_case = λ d. refl; is_only = refl; no_help = refl; no_version = refl; named = refl }
 
-batch_is : IsArg rules 3 (codes "batch") (vp.Unsigned 1 4096)
+workers_is : IsArg rules 3 (codes "workers") (vp.Unsigned 1 16)
+workers_is = record { in_range = omega arith; is_id = λ d. refl; has_parser = λ d. refl; in_case = λ d. refl; is_only = refl; no_help = refl; no_version = refl; named = refl }
+
+batch_is : IsArg rules 4 (codes "batch") (vp.Unsigned 1 4096)
 batch_is = record { in_range = omega arith; is_id = λ d. refl; has_parser = λ d. refl; in_case = λ d. refl; is_only = refl; no_help = refl; no_version = refl; named = refl }
 
 joiners_is : IsArg rules 1 (codes "joiners") (vp.Unsigned 1 64)
 joiners_is = record { in_range = omega arith; is_id = λ d. refl; has_parser = λ d. refl; in_case = λ d. refl; is_only = refl; no_help = refl; no_version = refl; named = refl }
 
--- the first value of `--joiners`, of `--feeders` and of `--batch`
+-- the first value of `--joiners`, of `--feeders`, of `--workers` and of `--batch`
 pub record AreIn (m : ArgMatches) : Type 0 where
   pub joiners : (t : Text) → first_value (found_of m) (codes "joiners") ≡ Some t → IsUnsignedIn 1 64 t
   pub feeders : (t : Text) → first_value (found_of m) (codes "feeders") ≡ Some t → IsUnsignedIn 1 8 t
+  pub workers : (t : Text) → first_value (found_of m) (codes "workers") ≡ Some t → IsUnsignedIn 1 16 t
   pub batch : (t : Text) → first_value (found_of m) (codes "batch") ≡ Some t → IsUnsignedIn 1 4096 t
 
 pub are_in : (old : Command) (m : ArgMatches) → IsParsedFrom old m → IsCommand (app_of old) → AreIn m
 are_in old m p command = record {
   joiners = command_accepts old m p command 1 (codes "joiners") (vp.Unsigned 1 64) joiners_is;
   feeders = command_accepts old m p command 2 (codes "feeders") (vp.Unsigned 1 8) feeders_is;
-  batch = command_accepts old m p command 3 (codes "batch") (vp.Unsigned 1 4096) batch_is;
+  workers = command_accepts old m p command 3 (codes "workers") (vp.Unsigned 1 16) workers_is;
+  batch = command_accepts old m p command 4 (codes "batch") (vp.Unsigned 1 4096) batch_is;
 }

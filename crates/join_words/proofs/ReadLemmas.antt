@@ -75,6 +75,7 @@ is_match app words matches command none has are = record {
   bounded = record {
     joiners = (number_between 1 64 4 (first_of (codes "joiners") (rows_of (found_of matches))) (λ text is. are.joiners text (first_value-rows (found_of matches) (codes "joiners") ∙ is)) (omega arith, omega arith)).1;
     feeders = number_between 1 8 2 (first_of (codes "feeders") (rows_of (found_of matches))) (λ text is. are.feeders text (first_value-rows (found_of matches) (codes "feeders") ∙ is)) (omega arith, omega arith);
+    workers = number_between 1 16 4 (first_of (codes "workers") (rows_of (found_of matches))) (λ text is. are.workers text (first_value-rows (found_of matches) (codes "workers") ∙ is)) (omega arith, omega arith);
     batch = number_between 1 4096 64 (first_of (codes "batch") (rows_of (found_of matches))) (λ text is. are.batch text (first_value-rows (found_of matches) (codes "batch") ∙ is)) (omega arith, omega arith);
   };
 }

@@ -35,6 +35,7 @@ abbrev pub rules : List Rule
 rules = text_rule (codes "on")
     ∷ default_rule (codes "joiners") 1 64 (codes "4")
     ∷ default_rule (codes "feeders") 1 8 (codes "2")
+    ∷ default_rule (codes "workers") 1 16 (codes "4")
     ∷ default_rule (codes "batch") 1 4096 (codes "64")
     ∷ text_or_rule (codes "feed") (codes "alternate")
     ∷ default_rule (codes "seed") 0 18446744073709551615 (codes "1")

@@ -16,13 +16,14 @@ use Rattle.join_words.specs.declared.options.Options.{Options}
 use Rattle.join_words.specs.declared.options.WordsFault.{WordsFault}
 use Rattle.join_words.specs.declared.options.WordsFault.TheVariants.{NoMatch, Joiners, Fixed, Files}
 
--- what the words ask for: the predicate's text; 2^k joiners; the feeders, how many rows each asks for at once
--- and in which order; the shift at which the grid stays, where one is given; the seed of the tickets; the
+-- what the words ask for: the predicate's text; 2^k joiners; the feeders; the workers, which are the threads of a
+-- run that isn't replayed; how many rows each feeder asks for at once and in which order; the shift at which the grid stays, where one is given; the seed of the tickets; the
 -- seed of the order, where one is given; whether a report is wanted; and the names of the two files
 pub record Asked : Type 0 where
   pub on : List ℕ
   pub k : ℕ
   pub feeders : ℕ
+  pub workers : ℕ
   pub batch : ℕ
   pub feed : Feed
   pub fixed : Option ℕ
@@ -38,6 +39,7 @@ asked options = record {
   on = options.on.now;
   k = options.k;
   feeders = options.feeders;
+  workers = options.workers;
   batch = options.batch;
   feed = options.feed;
   fixed = options.fixed;
@@ -70,6 +72,10 @@ joiners_at rows = unwrap_or (number_at (codes "joiners") rows) 4
 -- how many feeders
 abbrev pub feeders_at : List Row → ℕ
 feeders_at rows = unwrap_or (number_at (codes "feeders") rows) 2
+
+-- how many workers
+abbrev pub workers_at : List Row → ℕ
+workers_at rows = unwrap_or (number_at (codes "workers") rows) 4
 
 -- how many rows a feeder asks for at once
 abbrev pub batch_at : List Row → ℕ
@@ -117,6 +123,7 @@ asked_by rows =
       on = text_at (codes "on") rows;
       k = k;
       feeders = feeders_at rows;
+      workers = workers_at rows;
       batch = batch_at rows;
       feed = feed;
       fixed = fixed;
@@ -142,6 +149,7 @@ asked_of words = asked_unless (fault_of jm_command words) (matches_of jm_command
 pub record AreBounded (rows : List Row) : Type 0 where
   pub joiners : joiners_at rows ≤ 64
   pub feeders : (1 ≤ feeders_at rows) × (feeders_at rows ≤ 8)
+  pub workers : (1 ≤ workers_at rows) × (workers_at rows ≤ 16)
   pub batch : (1 ≤ batch_at rows) × (batch_at rows ≤ 4096)
 
 -- the command has a match for the words, and these are its rows

@@ -82,6 +82,7 @@ pub(crate) fn checked<'a>(matches: &ArgMatches<'a>) -> Result<Options<'a>, Words
     ensures small { IfOk result (λ options. options.k ≤ 6) }
     ensures fits { IfOk result (λ options. IfSome options.fixed (λ fixed. fixed ≤ options.k)) }
     ensures feeders { IfOk result (λ options. (1 ≤ options.feeders) × (options.feeders ≤ 8)) }
+    ensures workers { IfOk result (λ options. (1 ≤ options.workers) × (options.workers ≤ 16)) }
     ensures batch { IfOk result (λ options. (1 ≤ options.batch) × (options.batch ≤ 4096)) }
 {
     let feed = feed(text(matches, "feed"))?;
@@ -92,6 +93,7 @@ pub(crate) fn checked<'a>(matches: &ArgMatches<'a>) -> Result<Options<'a>, Words
         on: text(matches, "on"),
         k,
         feeders: small_number(matches, "feeders", 2),
+        workers: small_number(matches, "workers", 4),
         batch: small_number(matches, "batch", 64),
         feed,
         fixed,

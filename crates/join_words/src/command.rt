@@ -67,6 +67,7 @@ pub(crate) fn command<'a>(alloc: Global) -> Result<Command<'a>, AllocError>
         .arg(text(alloc, "on"))?
         .arg(number_or(alloc, "joiners", 1, 64, "4"))?
         .arg(number_or(alloc, "feeders", 1, 8, "2"))?
+        .arg(number_or(alloc, "workers", 1, 16, "4"))?
         .arg(number_or(alloc, "batch", 1, 4096, "64"))?
         .arg(text_or(alloc, "feed", "alternate"))?
         .arg(number_or(alloc, "seed", 0, u64::MAX, "1"))?

@@ -11,6 +11,8 @@ pub struct Options<'a> {
     pub k: u32,
     /// How many feeders share the rows, 1 to 8.
     pub feeders: u32,
+    /// How many threads work the run, 1 to 16. A replay has one thread, whatever stands here.
+    pub workers: u32,
     /// How many rows a feeder asks for at once, 1 to 4,096.
     pub batch: u32,
     /// In which order a feeder takes its rows.

@@ -52,6 +52,7 @@ pub fn read_words<'a>(alloc: Global, words: &'a [String]) -> Result<Options<'a>,
     ensures small { IfOk result (λ options. options.k ≤ 6) }
     ensures fits { IfOk result (λ options. IfSome options.fixed (λ fixed. fixed ≤ options.k)) }
     ensures feeders { IfOk result (λ options. (1 ≤ options.feeders) × (options.feeders ≤ 8)) }
+    ensures workers { IfOk result (λ options. (1 ≤ options.workers) × (options.workers ≤ 16)) }
     ensures batch { IfOk result (λ options. (1 ≤ options.batch) × (options.batch ≤ 4096)) }
 {
     let matches = matched(alloc, words)?;

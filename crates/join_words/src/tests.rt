@@ -18,6 +18,7 @@ const PLAIN: Options<'static> = Options {
     on: "p",
     k: 2,
     feeders: 2,
+    workers: 4,
     batch: 64,
     feed: Feed::Alternate,
     fixed: None,
@@ -39,6 +40,10 @@ fn feeders(feeders: u32, batch: u32, feed: Feed) -> Options<'static> {
         feed,
         ..PLAIN
     }
+}
+
+fn workers(workers: u32) -> Options<'static> {
+    Options { workers, ..PLAIN }
 }
 
 fn replay(seed: u64) -> Options<'static> {
@@ -89,6 +94,8 @@ fn reads_what_the_words_ask_for(rt: HostRuntime) -> Result<(), Fail> {
         ),
         ("jm|--on|p|r|s|--feed|sfirst", feeders(2, 64, Feed::SFirst)),
         ("jm|--on|p|--feed|alternate|r|s", PLAIN),
+        ("jm|--on|p|--workers|1|r|s", workers(1)),
+        ("jm|--on|p|r|s|--workers=16", workers(16)),
         ("jm|--on|p|--replay|0|r|s", replay(0)),
         (
             "jm|--on|p|--replay|18446744073709551615|r|s",
@@ -124,7 +131,8 @@ fn tells_the_first_fault(rt: HostRuntime) -> Result<(), Fail> {
         ("jm|r|s|--on", WordsFault::NoMatch),
         ("jm|--on|-r.x = s.y|r|s", WordsFault::NoMatch),
         ("jm|--on|p|--on|p|r|s", WordsFault::NoMatch),
-        ("jm|--on|p|--workers|4|r|s", WordsFault::NoMatch),
+        ("jm|--on|p|--workers|0|r|s", WordsFault::NoMatch),
+        ("jm|--on|p|--workers|17|r|s", WordsFault::NoMatch),
         ("jm|--on|p|--repor|r|s", WordsFault::NoMatch),
         ("jm|--on|p|--report=true|r|s", WordsFault::NoMatch),
         ("jm|--on|p|--report|--report|r|s", WordsFault::NoMatch),
