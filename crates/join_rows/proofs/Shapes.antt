@@ -72,7 +72,7 @@ all_wide width (row ∷ rows) h (suc k) d e = all_wide width rows h.1 k d (omega
 pub cell-number : (text : List ℕ) → HasItsNumber (cell_of text)
 cell-number text number = (number_of-writes text number, number_of-written text number)
 
-cells_numbers : (fields : List (List ℕ)) → All HasItsNumber (cells_of fields)
+pub cells_numbers : (fields : List (List ℕ)) → All HasItsNumber (cells_of fields)
 cells_numbers [] k d e = absurd (omega (arith, e))
 cells_numbers (field ∷ fields) zero d e = cell-number field
 cells_numbers (field ∷ fields) (suc k) d e = cells_numbers fields k d (omega (arith, e))

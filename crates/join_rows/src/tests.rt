@@ -1,3 +1,4 @@
+mod made;
 mod numbers;
 mod reading;
 mod real;
