@@ -1,3 +1,4 @@
 pub mod Taking
 pub mod Sorting
+pub mod Fresh
 pub mod Ending

@@ -108,12 +108,12 @@ module _ (state : CollectorState) (lists : CollectorLists) where
 
 -- ---- a message
 
-pub joiner_takes : (old : CollectorState) (spent : Bool) (j : ℕ) (m : ToCollector) (kept : Kept) → j < length old.joiners → kept ≡ get_or old.joiners j kept
-    → TakesMessage (Joiner j) m old (record { joiners = set old.joiners j (kept_after kept m); spent = spent })
-joiner_takes old spent j m kept low is = record {
+pub joiner_takes : (old : CollectorState) (given : List ℕ) (spent : Bool) (j : ℕ) (m : ToCollector) (kept : Kept) → j < length old.joiners → kept ≡ get_or old.joiners j kept
+    → TakesMessage (Joiner j) m old (record { joiners = set old.joiners j (kept_after kept m); given = given; spent = spent })
+joiner_takes old given spent j m kept low is = record {
   start = length-set old.joiners j (kept_after kept m);
   stands = λ joiners lists stands.
-      let new : CollectorState = record { joiners = set old.joiners j (kept_after kept m); spent = spent } in
+      let new : CollectorState = record { joiners = set old.joiners j (kept_after kept m); given = given; spent = spent } in
       stand new (with_message (Joiner j) m lists) joiners (length-set old.joiners j (kept_after kept m) ∙ stands.began) (λ i k at.
       let within : i < length old.joiners = rw (length-set old.joiners j (kept_after kept m)) at (slice_get_within new.joiners i k at) in
       let value : get_or new.joiners i k ≡ k = get_or_from_slice_get new.joiners i k k at in
@@ -173,25 +173,25 @@ complete_says joiners lists state stands = (
       subst (λ (k : Kept). is_some k.last ≡ true) (sym (stands.each j kept there)) (has_last (lists.from_joiner j) (each j low))),
 )
 
-abbrev pub state_of : List Kept → Bool → CollectorState
-state_of xs spent = record { joiners = xs; spent = spent }
+abbrev pub state_of : List Kept → List ℕ → Bool → CollectorState
+state_of xs given spent = record { joiners = xs; given = given; spent = spent }
 
 -- what comes behind a `Fin` changes nothing
-pub passes_over : (r : Result (Unit {0}) AllocError) (xs : List Kept) (j : ℕ) (m : ToCollector) (kept after : Kept) (spent : Bool) → spent ≡ is_err r → OnOk r (after ≡ kept_after kept m)
+pub passes_over : (r : Result (Unit {0}) AllocError) (xs : List Kept) (given : List ℕ) (j : ℕ) (m : ToCollector) (kept after : Kept) (spent : Bool) → spent ≡ is_err r → OnOk r (after ≡ kept_after kept m)
     → j < length xs → kept ≡ get_or xs j kept
-    → OnOk r (IsPassedOver (record { joiners = xs; spent = false }) (Joiner j) → state_of (set xs j after) spent ≡ state_of xs false)
-passes_over (Ok x) xs j m kept after spent none is low at = λ passed.
+    → OnOk r (IsPassedOver (state_of xs given false) (Joiner j) → state_of (set xs j after) given spent ≡ state_of xs given false)
+passes_over (Ok x) xs given j m kept after spent none is low at = λ passed.
     let there : slice_get xs j ≡ Some kept = slice_get-get_or xs j kept low ∙ ap Some (sym at) in
     let same : after ≡ kept = is ∙ passed_over kept m (passed kept there) in
     let back : set xs j after ≡ xs = ap (set xs j) (same ∙ at) ∙ set-get_or xs j kept in
-    ap (λ s. state_of (set xs j after) s) none ∙ ap (λ ys. state_of ys false) back
-passes_over (Err e) xs j m kept after spent none is low at = tt
+    ap (λ s. state_of (set xs j after) given s) none ∙ ap (λ ys. state_of ys given false) back
+passes_over (Err e) xs given j m kept after spent none is low at = tt
 
 -- ---- the beginning
 
-pub fresh_stands : (joiners n : ℕ) (xs : List Kept) (spent : Bool) → n ≡ joiners → xs ≡ replicate n nothing_kept → StandsFor joiners nothing_yet (record { joiners = xs; spent = spent })
-fresh_stands joiners n xs spent all is =
-    stand (record { joiners = xs; spent = spent }) nothing_yet joiners (ap length is ∙ length-replicate n nothing_kept ∙ all) (λ j kept at. nothing_at n j kept (rw is at at))
+pub fresh_stands : (joiners n : ℕ) (xs : List Kept) (given : List ℕ) (spent : Bool) → n ≡ joiners → xs ≡ replicate n nothing_kept → StandsFor joiners nothing_yet (state_of xs given spent)
+fresh_stands joiners n xs given spent all is =
+    stand (state_of xs given spent) nothing_yet joiners (ap length is ∙ length-replicate n nothing_kept ∙ all) (λ j kept at. nothing_at n j kept (rw is at at))
   where
     nothing_at : (n j : ℕ) (kept : Kept) → slice_get (replicate n nothing_kept) j ≡ Some kept → kept ≡ nothing_kept
     nothing_at zero j kept at = absurd (cc)

@@ -53,8 +53,10 @@ moved_by joiners step n = total n (λ j. slice_index (moves_of (slice_index_or j
 
 -- ---- of the machine
 
+-- `given` has how many pairs of each joiner were given, and 0 past its end
 pub record CollectorState : Type 0 where
   pub joiners : List Kept
+  pub given : List ℕ
   pub spent : Bool
 
 -- the pairs of all joiners

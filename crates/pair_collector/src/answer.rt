@@ -2,6 +2,7 @@
 
 ghost use Rattle.std.specs.Prelude.{◌≡◌, ◌-◌, ◌^◌, min, map, flat_map, length, slice_index, slice_index_or, IfOk};
 ghost use Rattle.std.specs.List.{range_with_len};
+ghost use Rattle.pair_collector.specs.Fresh.{kept_behind};
 ghost use Rattle.pair_collector.specs.Standing.{held_of, longest, moved_by};
 
 use crate::collected::Loads;
@@ -73,6 +74,34 @@ pub(crate) fn all_pairs(alloc: Global, parts: Vec<Part>) -> Result<Vec<Pair>, Al
     let mut pairs = Vec::new(alloc);
     for part in parts {
         pairs.extend_from_slice(part.pairs())?;
+    }
+    Ok(pairs)
+}
+
+/// The number at a place, and 0 past the end.
+fn number_at(numbers: &Counts, place: u64) -> u64
+    ensures { result ≡ slice_index numbers.now place }
+{
+    if place < numbers.len() {
+        *numbers.at(place)
+    } else {
+        0
+    }
+}
+
+/// The pairs of all joiners behind so many of each, one joiner after the other. Past the end of
+/// `given` it's 0.
+pub(crate) fn fresh_pairs(
+    alloc: Global,
+    parts: &[Part],
+    given: &Counts,
+) -> Result<Vec<Pair>, AllocError>
+    ensures { IfOk result (λ pairs. pairs.items ≡ kept_behind given.now parts.now (length parts.now)) }
+{
+    let mut pairs = Vec::new(alloc);
+    for joiner in 0..parts.len() {
+        let known = number_at(given, joiner as u64);
+        pairs.extend_from_slice(parts[joiner].pairs_behind(known))?;
     }
     Ok(pairs)
 }

@@ -1,16 +1,18 @@
 // The collector.
 
-ghost use Rattle.std.specs.Prelude.{◌≡◌, ◌↔◌, IsTrue, true, false, ℕ, Err, IfOk, OnOk, OnErr, length, is_some, alloc_error};
+ghost use Rattle.std.specs.Prelude.{◌≡◌, ◌↔◌, IsTrue, true, false, ℕ, Err, IfOk, OnOk, OnErr, length, is_some, alloc_error, IsPermutation};
 ghost use Rattle.std.specs.List.{list_all};
 ghost use Rattle.pair_collector.specs.Law.{CollectorLists, IsComplete};
 ghost use Rattle.pair_collector.specs.Standing.{StandsFor, TakesMessage, IsPassedOver, is_complete, nothing_yet};
+ghost use Rattle.pair_collector.specs.Fresh.{HasGiven, pairs_since};
+ghost use Rattle.pair_collector.specs.Order.{InOrder};
 ghost use Rattle.pair_collector.specs.Answer.{Collects};
 
-use crate::answer::{all_pairs, loads, made, moved};
+use crate::answer::{all_pairs, fresh_pairs, loads, made, moved};
 use crate::collected::Collected;
 use crate::order::sorted;
 use crate::part::Part;
-use epoch_tags::{Actor, ToCollector};
+use epoch_tags::{Actor, Counts, Pairs, ToCollector};
 use std::alloc::{AllocError, Global};
 use std::marker::Model;
 
@@ -19,6 +21,8 @@ use std::marker::Model;
 pub struct Collector {
     alloc: Global,
     parts: Vec<Part>,
+    // How many pairs of each joiner `fresh` gave, and 0 past its end.
+    given: Counts,
     spent: bool,
 }
 
@@ -27,7 +31,7 @@ impl Model for Collector {
 
     ghost Value = { CollectorState };
 
-    ghost view = { λ c. record { joiners = c.parts.items; spent = c.spent } };
+    ghost view = { λ c. record { joiners = c.parts.items; given = c.given; spent = c.spent } };
 }
 
 // Whether each joiner has ended.
@@ -42,6 +46,7 @@ impl Collector {
     pub fn start(alloc: Global, joiners: u32) -> Result<Collector, AllocError>
         ensures start { IfOk result (λ c. length c.joiners ≡ joiners) }
         ensures fresh { IfOk result (λ c. StandsFor joiners nothing_yet c) }
+        ensures given { IfOk result (λ c. HasGiven joiners nothing_yet c) }
         ensures at_work { IfOk result (λ c. c.spent ≡ false) }
     {
         let mut parts = Vec::with_capacity(alloc, joiners as usize)?;
@@ -51,6 +56,7 @@ impl Collector {
         Ok(Collector {
             alloc,
             parts,
+            given: Counts::new(alloc),
             spent: false,
         })
     }
@@ -60,6 +66,7 @@ impl Collector {
     pub fn on(&mut self, from: Actor, m: ToCollector) -> Result<(), AllocError>
         ensures takes { OnOk result (TakesMessage from m self.old self.new) }
         ensures passes { OnOk result (IsPassedOver self.old from → self.new ≡ self.old) }
+        ensures given { self.new.given ≡ self.old.given }
         ensures goes_on { OnOk result ((self.old.spent ≡ false) × (self.new.spent ≡ false)) }
         ensures fails { OnErr result (self.new ≡ record self.old { spent = true }) }
         ensures spent { self.old.spent ≡ true → (result ≡ Err alloc_error) × (self.new ≡ self.old) }
@@ -76,6 +83,26 @@ impl Collector {
         let taken = self.parts[joiner as usize].take(m);
         self.spent = taken.is_err();
         taken
+    }
+
+    /// The pairs that were taken since the last call of this that answered `Ok`, by the row of R and
+    /// then by the row of S. After `AllocError` nothing counts as given.
+    pub fn fresh(&mut self) -> Result<Pairs, AllocError>
+        ensures gives { IfOk result (λ pairs. (joiners : ℕ) (earlier lists : CollectorLists)
+            → StandsFor joiners lists self.old → HasGiven joiners earlier self.old
+            → IsPermutation (pairs_since joiners earlier lists) pairs) }
+        ensures order { IfOk result InOrder }
+        ensures given { OnOk result ((joiners : ℕ) (lists : CollectorLists)
+            → StandsFor joiners lists self.old → HasGiven joiners lists self.new) }
+        ensures stands { (joiners : ℕ) (lists : CollectorLists)
+            → StandsFor joiners lists self.old → StandsFor joiners lists self.new }
+        ensures keeps { self.new ≡ record self.old { given = self.new.given } }
+        ensures fails { OnErr result (self.new ≡ self.old) }
+    {
+        let given = made(self.alloc, &self.parts)?;
+        let pairs = fresh_pairs(self.alloc, &self.parts, &self.given)?;
+        self.given = given;
+        Ok(sorted(pairs))
     }
 
     /// Whether each joiner has ended. It takes no memory.

@@ -1,6 +1,6 @@
 // What is kept of one joiner.
 
-ghost use Rattle.std.specs.Prelude.{◌≡◌, OnOk, OnErr, length, is_some, slice_index};
+ghost use Rattle.std.specs.Prelude.{◌≡◌, OnOk, OnErr, length, drop, is_some, slice_index};
 ghost use Rattle.pair_collector.specs.Standing.{kept_after, nothing_kept, moves_of, held_of};
 
 use crate::collected::Held;
@@ -74,6 +74,14 @@ impl Part {
         ensures { result.now ≡ self.now.pairs }
     {
         &self.pairs
+    }
+
+    /// The pairs behind so many, and none where there are fewer.
+    pub(crate) fn pairs_behind(&self, given: u64) -> &[Pair]
+        ensures { result.now ≡ drop given self.now.pairs }
+    {
+        let given = (given as usize).min(self.pairs.len());
+        &self.pairs[given..]
     }
 
     /// What the joiner holds, and nothing before its end.

@@ -128,3 +128,27 @@ fn collects_of_three_joiners(rt: HostRuntime) -> Result<(), Fail> {
     );
     Ok(())
 }
+
+fn given(pairs: &Pairs, wanted: &[(u32, u32)]) -> bool {
+    pairs
+        .as_slice()
+        .iter()
+        .map(|pair| (pair.i, pair.j))
+        .eq(wanted.iter().copied())
+}
+
+#[test]
+fn fresh_pairs_are_given_once(rt: HostRuntime) -> Result<(), Fail> {
+    let alloc = rt.alloc();
+    let mut collector = Collector::start(alloc, 2)?;
+    collector.on(Actor::Joiner(0), found(alloc, &[(1, 0)])?)?;
+    collector.on(Actor::Joiner(1), found(alloc, &[(0, 2)])?)?;
+    let first = collector.fresh()?;
+    let second = collector.fresh()?;
+    collector.on(Actor::Joiner(1), found(alloc, &[(0, 2)])?)?;
+    let third = collector.fresh()?;
+    assert!(rt; given(&first, &[(0, 2), (1, 0)]));
+    assert!(rt; given(&second, &[]));
+    assert!(rt; given(&third, &[(0, 2)]));
+    Ok(())
+}
