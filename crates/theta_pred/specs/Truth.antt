@@ -8,7 +8,6 @@ use Rattle.join_rows.specs.declared.table.Side.{Side}
 use Rattle.theta_text.specs.declared.tree.Op.{Op}
 use Rattle.theta_text.specs.declared.tree.Op.TheVariants.{Eq, Ne, Lt, Le, Gt, Ge}
 use Rattle.join_rows.specs.declared.table.Side.TheVariants.{R, S}
-use Rattle.theta_pred.specs.declared.tree.Text.TheVariants as texts
 use Rattle.theta_pred.specs.Formula.{Formula, any, every, negation, num, band, txt, Formulas, no_formula, formula, Meaning}
 use Rattle.theta_pred.specs.Sums.{of_side, sum_of, text_of}
 
@@ -53,10 +52,6 @@ width_of theta side = of_side theta.width_r theta.width_s side
 -- the row has a cell for each column of its side
 abbrev pub IsRowOf : Meaning → Side → List Cell → Type 0
 IsRowOf theta side row = length row ≡ width_of theta side
-
--- the texts of the two first columns are equal
-abbrev pub first_texts_are_equal : Formula
-first_texts_are_equal = txt (texts.Cell (record { side = R; place = 0 })) Eq (texts.Cell (record { side = S; place = 0 }))
 
 -- whether the predicate is true of the two rows
 abbrev pub holds : Meaning → List Cell → List Cell → Bool

@@ -1,6 +1,8 @@
 ghost use Rattle.std.specs.Prelude.{◌<◌, length};
 ghost use Rattle.join_rows.specs.Records.{IsTable};
 
+mod keys;
+
 use crate::{
     Name, Op, Pred, ResolveFault, Signed, Sum, Term, TextSide, Theta, longest_sum, resolve,
 };
@@ -240,10 +242,6 @@ fn texts_compare_byte_by_byte(rt: HostRuntime) -> Result<(), Fail> {
     both_answer(&rt, alloc, &either, (b"u", None), (b"7", Some(7)), true)?;
     both_answer(&rt, alloc, &either, (b"7", Some(7)), (b"7", Some(7)), true)?;
     both_answer(&rt, alloc, &either, (b"v", None), (b"7", Some(7)), false)?;
-    let first = Theta::first_texts(alloc, 2, 2)?;
-    let r = row(alloc, (b"a", None), (b"b", None))?;
-    let s = row(alloc, (b"a", None), (b"c", None))?;
-    assert!(rt; answer(&rt, &first, &r, &s));
     Ok(())
 }
 

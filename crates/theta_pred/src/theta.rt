@@ -1,22 +1,21 @@
 // A predicate over the places of columns.
 
-ghost use Rattle.std.specs.Prelude.{◌≡◌, ◌<◌, IfOk, option_map, Some};
+ghost use Rattle.std.specs.Prelude.{◌≡◌, IfOk, option_map, Some};
 ghost use Rattle.theta_pred.specs.Formula.{formula_of};
 ghost use Rattle.theta_pred.specs.Keys.{atom_of, key_of, Atom, IsKeyOf};
 ghost use Rattle.theta_pred.specs.Numeric.{AreNumeric};
 ghost use Rattle.theta_pred.specs.Sound.{IsSound};
-ghost use Rattle.theta_pred.specs.Truth.{holds, width_of, IsRowOf, first_texts_are_equal};
+ghost use Rattle.theta_pred.specs.Truth.{holds, width_of, IsRowOf};
 
 use crate::atom::KeyAtom;
 use crate::copies::copy_of;
 use crate::key::{atom_in, key_law, key_member};
 use crate::numeric::numeric_places;
-use crate::tree::{Column, Columns, Text, Tree};
+use crate::tree::{Columns, Tree};
 use crate::truth::is_true;
 use join_rows::{Cells, Side};
 use std::alloc::{AllocError, Global};
 use std::marker::Model;
-use theta_text::Op;
 
 /// A predicate over the rows of two tables.
 #[derive(Drop)]
@@ -71,21 +70,6 @@ impl Theta {
             numeric_r,
             numeric_s,
         })
-    }
-
-    /// The test that the texts of the two first columns are equal.
-    pub fn first_texts(alloc: Global, width_r: u64, width_s: u64) -> Result<Theta, AllocError>
-        requires width_r { 0 < width_r }
-        requires width_s { 0 < width_s }
-        ensures { IfOk result (λ theta.
-            theta ≡ record { formula = first_texts_are_equal; width_r = width_r; width_s = width_s }) }
-    {
-        let tree = Tree::Txt {
-            left: first_text(Side::R),
-            op: Op::Eq,
-            right: first_text(Side::S),
-        };
-        Theta::over(alloc, tree, width_r, width_s)
     }
 
     /// An equal predicate.
@@ -149,10 +133,4 @@ impl Theta {
     {
         is_true(&self.tree, r, s)
     }
-}
-
-fn first_text(side: Side) -> Text
-    ensures { result ≡ Text.Cell (record { side = side; place = 0 }) }
-{
-    Text::Cell(Column { side, place: 0 })
 }

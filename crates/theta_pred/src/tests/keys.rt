@@ -1,0 +1,162 @@
+// The key atoms of predicates, and the values of sums.
+
+ghost use Rattle.std.specs.Prelude.{◌≡◌, length, IfOk};
+ghost use Rattle.theta_pred.specs.Linear.{AreBelow};
+
+use crate::{KeyAtom, Linear, Part, Parts, Theta, parse, resolve};
+use join_rows::{Bytes, Cell, Cells, Names};
+use std::alloc::{AllocError, Global};
+use std::test::*;
+
+// The predicate of a text over two tables with the columns x and a.
+fn over_x_and_a(alloc: Global, text: &str) -> Result<Theta, AllocError> {
+    let mut names = Names::new(alloc);
+    names.push(Bytes::from_slice(alloc, b"x")?)?;
+    names.push(Bytes::from_slice(alloc, b"a")?)?;
+    let Ok(pred) = parse(alloc, text) else {
+        return Err(AllocError);
+    };
+    match resolve(alloc, &pred, &names, &names) {
+        Ok(theta) => Ok(theta),
+        Err(_) => Err(AllocError),
+    }
+}
+
+fn write_sum(text: &mut String, sum: &Linear) -> Result<(), AllocError> {
+    for part in sum.parts.as_slice() {
+        let sign = if part.minus { '-' } else { '+' };
+        let column = part.column;
+        write!(text, "{sign}{column}")?;
+    }
+    Ok(())
+}
+
+fn write_number(text: &mut String, number: Option<i128>) -> Result<(), AllocError> {
+    match number {
+        Some(number) => write!(text, "{number}"),
+        None => write!(text, "none"),
+    }
+}
+
+fn write_atom(text: &mut String, atom: &KeyAtom) -> Result<(), AllocError> {
+    write_sum(text, &atom.r_sum)?;
+    write!(text, " ")?;
+    write_sum(text, &atom.s_sum)?;
+    write!(text, " ")?;
+    write_number(text, atom.low)?;
+    write!(text, " ")?;
+    write_number(text, atom.high)
+}
+
+// R's columns, S's columns, the least and the greatest difference.
+fn told(alloc: Global, key: &Option<KeyAtom>) -> Result<String, AllocError> {
+    let mut text = String::new(alloc);
+    match key {
+        Some(atom) => write_atom(&mut text, atom)?,
+        None => write!(text, "no key")?,
+    }
+    Ok(text)
+}
+
+fn copied(alloc: Global, key: &Option<KeyAtom>) -> Result<Option<KeyAtom>, AllocError> {
+    match key {
+        Some(atom) => Ok(Some(atom.copy(alloc)?)),
+        None => Ok(None),
+    }
+}
+
+#[test]
+fn predicates_with_their_keys(rt: HostRuntime) -> Result<(), Fail> {
+    let alloc = rt.alloc();
+    let cases = [
+        "r.x = s.a | +0 +1 0 0",
+        "r.x + 5 = s.a | +0 +1 -5 -5",
+        "s.a - r.x = 3 | -0 -1 3 3",
+        "r.x + r.x - r.a = s.x + s.x | +0+0-1 +0+0 0 0",
+        "r.x = s.x - 9223372036854775807 | +0 +0 -9223372036854775807 -9223372036854775807",
+        "abs(r.a - s.a) <= 2 and r.x >= s.x | +1 +1 -2 2",
+        "abs(r.x - s.a + 1) < 3 | +0 +1 -3 1",
+        "abs(r.x - s.x) < 0 | +0 +0 1 -1",
+        "r.x - s.x <= 4 | +0 +0 none 4",
+        "r.x < s.x and text(r.a) = 'u' | +0 +0 none -1",
+        "r.x >= s.x | +0 +0 0 none",
+        "r.x > s.x + 2 | +0 +0 3 none",
+        "r.x < s.x and abs(r.a - s.x) <= 2 and r.x = s.a and r.a = s.x | +0 +1 0 0",
+        "r.x < s.x and (r.x = s.a and r.a = s.x) | +0 +0 none -1",
+        "(r.x < s.x and r.x = s.a) | +0 +1 0 0",
+        "r.x = 3 and r.x > s.x | +0 +0 1 none",
+        "r.x = 3 | no key",
+        "r.x = s.x or 1 = 1 | no key",
+        "not r.x = s.x | no key",
+        "r.x != s.x | no key",
+        "text(r.x) = text(s.x) | no key",
+    ];
+    for case in cases {
+        let Some((text, wanted)) = case.split_once(" | ") else {
+            return Err(Fail::from(AllocError));
+        };
+        let key = over_x_and_a(alloc, text)?.key_atom()?;
+        assert_eq!(rt; told(alloc, &key)?.as_str(), wanted, "{text}");
+        let copy = copied(alloc, &key)?;
+        assert_eq!(rt; told(alloc, &copy)?.as_str(), wanted, "of the copy, {text}");
+    }
+    Ok(())
+}
+
+// A cell without a text; one that is no number is empty.
+fn cell(alloc: Global, number: &str) -> Cell {
+    Cell {
+        text: Bytes::new(alloc),
+        num: number.parse::<i64>().ok(),
+    }
+}
+
+fn row(alloc: Global, first: &str, second: &str) -> Result<Cells, AllocError>
+    ensures { IfOk result (λ row. length row ≡ 2) }
+{
+    let mut row = Cells::new(alloc);
+    row.push(cell(alloc, first))?;
+    row.push(cell(alloc, second))?;
+    Ok(row)
+}
+
+// The first column less the second.
+fn difference(alloc: Global) -> Result<Linear, AllocError>
+    ensures { IfOk result (λ sum. AreBelow 2 sum.parts) }
+{
+    let mut parts = Parts::new(alloc);
+    parts.push(Part {
+        minus: false,
+        column: 0,
+    })?;
+    parts.push(Part {
+        minus: true,
+        column: 1,
+    })?;
+    Ok(Linear { parts })
+}
+
+#[test]
+fn sums_with_their_values(rt: HostRuntime) -> Result<(), Fail> {
+    let alloc = rt.alloc();
+    let sum = difference(alloc)?;
+    let copy = sum.copy(alloc)?;
+    let cases = [
+        ("5", "7", "-2"),
+        (
+            "9223372036854775807",
+            "-9223372036854775808",
+            "18446744073709551615",
+        ),
+        ("-", "7", "none"),
+        ("5", "-", "none"),
+    ];
+    for (first, second, wanted) in cases {
+        let row = row(alloc, first, second)?;
+        let mut text = String::new(alloc);
+        write_number(&mut text, sum.value(&row))?;
+        assert_eq!(rt; text.as_str(), wanted, "{first} less {second}");
+        assert_eq!(rt; copy.value(&row), sum.value(&row), "{first} less {second}");
+    }
+    Ok(())
+}
