@@ -7,3 +7,4 @@ pub mod Rising
 pub mod Scanning
 pub mod Seeking
 pub mod Sides
+pub mod Worked

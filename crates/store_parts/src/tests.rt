@@ -1,29 +1,18 @@
 ghost use Rattle.std.specs.Prelude.{◌≡◌, ◌<◌, length, IfOk, None};
+ghost use Rattle.store_parts.specs.Keyed.{IsOwn};
 ghost use Rattle.store_parts.specs.Matches.{HasWidth};
 ghost use Rattle.store_parts.specs.Stored.{HaveWidths};
 
-use crate::{Steps, Store, Which};
-use epoch_tags::{Pair, Pairs, Tuple, Tuples};
+use crate::{KeyAtom, Steps, Store, Which};
+use epoch_tags::{Pairs, Tuple, Tuples};
 use grid_map::Shape;
-use join_rows::{Bytes, Cell, Cells, Side};
+use join_rows::{Bytes, Cell, Cells, Names, Side};
 use std::alloc::{AllocError, Global};
 use std::marker::Brand;
 use std::process::Abort;
 use std::sync::ledger::{Blank, Ledger};
 use std::test::*;
-use theta_pred::Theta;
-
-// The row of one cell.
-fn cells(alloc: Global, text: &[u8]) -> Result<Cells, AllocError>
-    ensures { IfOk result (λ cells. length cells ≡ 1) }
-{
-    let mut cells = Cells::new(alloc);
-    cells.push(Cell {
-        text: Bytes::from_slice(alloc, text)?,
-        num: None,
-    })?;
-    Ok(cells)
-}
+use theta_pred::{Theta, parse, resolve};
 
 fn indices(alloc: Global, tuples: &Tuples) -> Result<Vec<u32>, AllocError> {
     let mut indices = Vec::new(alloc);
@@ -95,54 +84,98 @@ fn a_joiner_keeps_what_it_holds(rt: HostRuntime) -> Result<(), Fail> {
     Ok(())
 }
 
-fn tuple(
+// ---- probes
+
+fn number(word: &str) -> u32 {
+    word.parse::<u32>().unwrap_or(0)
+}
+
+fn side(word: &str) -> Side {
+    if word == "R" { Side::R } else { Side::S }
+}
+
+// A cell of this text; one that is no number is empty for a test on numbers.
+fn cell(alloc: Global, text: &str) -> Result<Cell, AllocError> {
+    Ok(Cell {
+        text: Bytes::from_slice(alloc, text.as_bytes())?,
+        num: text.parse::<i64>().ok(),
+    })
+}
+
+fn row(
     alloc: Global,
     side: Side,
     index: u32,
     stamp: u32,
-    text: &[u8],
+    first: Cell,
+    second: Cell,
 ) -> Result<Tuple, AllocError>
-    ensures { IfOk result (λ tuple. length tuple.cells ≡ 1) }
+    ensures { IfOk result (λ tuple. length tuple.cells ≡ 2) }
 {
+    let mut cells = Cells::new(alloc);
+    cells.push(first)?;
+    cells.push(second)?;
     Ok(Tuple {
         side,
         index,
         ticket: 0,
         stamp,
-        cells: cells(alloc, text)?,
+        cells,
     })
 }
 
-fn add(store: &mut Store, theta: &Theta, tuple: Tuple) -> Result<(), AllocError>
-    requires r { theta.now.width_r ≡ 1 }
-    requires s { theta.now.width_s ≡ 1 }
-    requires width { length tuple.cells ≡ 1 }
-    requires widths { HaveWidths theta.now store.old }
-    requires key { store.old.key ≡ None }
-    ensures widths { HaveWidths theta.now store.new }
-    ensures key { store.new.key ≡ None }
+// The row of a line: its side, index, stamp and two cells.
+fn tuple(alloc: Global, line: &str) -> Result<Tuple, AllocError>
+    ensures { IfOk result (λ tuple. length tuple.cells ≡ 2) }
 {
+    let words: Vec<&str> = line.split_whitespace().collect(alloc)?;
+    let [of, index, stamp, first, second] = *words else {
+        return Err(AllocError);
+    };
+    row(
+        alloc,
+        side(of),
+        number(index),
+        number(stamp),
+        cell(alloc, first)?,
+        cell(alloc, second)?,
+    )
+}
+
+fn add(store: &mut Store, theta: &Theta, tuple: Tuple) -> Result<(), AllocError>
+    requires r { theta.now.width_r ≡ 2 }
+    requires s { theta.now.width_s ≡ 2 }
+    requires width { length tuple.cells ≡ 2 }
+    requires widths { HaveWidths theta.now store.old }
+    requires own { IsOwn theta.now store.old.key }
+    ensures widths { HaveWidths theta.now store.new }
+    ensures own { IsOwn theta.now store.new.key }
+{
+    store.fits_key(theta, &tuple);
     store.add(tuple)
 }
 
-fn of_texts(
+fn stored(
     alloc: Global,
     theta: &Theta,
-    rows: &[(Side, u32, u32, &[u8])],
+    key: Option<KeyAtom>,
+    lines: &[&str],
 ) -> Result<Store, AllocError>
-    requires r { theta.now.width_r ≡ 1 }
-    requires s { theta.now.width_s ≡ 1 }
+    requires r { theta.now.width_r ≡ 2 }
+    requires s { theta.now.width_s ≡ 2 }
+    requires own { IsOwn theta.now key }
     ensures widths { IfOk result (λ store. HaveWidths theta.now store) }
-    ensures key { IfOk result (λ store. store.key ≡ None) }
+    ensures own { IfOk result (λ store. IsOwn theta.now store.key) }
 {
-    let mut store = Store::new(alloc, None);
-    for (side, index, stamp, text) in rows {
-        let tuple = tuple(alloc, *side, *index, *stamp, *text)?;
+    let mut store = Store::new(alloc, key);
+    for line in lines {
+        let tuple = tuple(alloc, line)?;
         add(&mut store, theta, tuple)?;
     }
     Ok(store)
 }
 
+// How many tuples a probe evaluates can't be read: a step has no code.
 fn counted<L: Ledger>(
     alloc: Global,
     store: &Store,
@@ -153,7 +186,7 @@ fn counted<L: Ledger>(
 ) -> Result<Pairs, AllocError>
     requires width { HasWidth theta.now tuple.now.side tuple.now }
     requires widths { HaveWidths theta.now store.now }
-    requires key { store.now.key ≡ None }
+    requires own { IsOwn theta.now store.now.key }
     requires name { blank.name ≡ L.name }
     requires parts { blank.parts ≡ L.parts }
     requires some { 0 < blank.parts }
@@ -173,80 +206,175 @@ fn found(
 ) -> Result<Pairs, AllocError>
     requires width { HasWidth theta.now tuple.now.side tuple.now }
     requires widths { HaveWidths theta.now store.now }
-    requires key { store.now.key ≡ None }
+    requires own { IsOwn theta.now store.now.key }
 {
     counted::<Brand>(alloc, store, tuple, theta, which, Blank::new(1))
 }
 
-fn found_uncounted(
-    alloc: Global,
-    store: &Store,
-    tuple: &Tuple,
-    theta: &Theta,
-    which: Which,
-) -> Result<Pairs, AllocError>
-    requires width { HasWidth theta.now tuple.now.side tuple.now }
-    requires widths { HaveWidths theta.now store.now }
-    requires key { store.now.key ≡ None }
-{
-    let mut found = Pairs::new(alloc);
-    store.probe_uncounted(tuple, theta, which, &mut found)?;
-    Ok(found)
+fn text(alloc: Global, pairs: &Pairs) -> Result<String, AllocError> {
+    let mut text = String::new(alloc);
+    for pair in pairs.as_slice() {
+        let i = pair.i;
+        let j = pair.j;
+        write!(text, "[{i} {j}]")?;
+    }
+    Ok(text)
 }
 
-// That tuples find these, counted and uncounted.
+// That a row finds these pairs, counted and uncounted.
+fn finds(
+    rt: &impl Abort,
+    alloc: Global,
+    store: &Store,
+    theta: &Theta,
+    line: &str,
+    which: Which,
+    wanted: &str,
+) -> Result<(), AllocError>
+    requires r { theta.now.width_r ≡ 2 }
+    requires s { theta.now.width_s ≡ 2 }
+    requires widths { HaveWidths theta.now store.now }
+    requires own { IsOwn theta.now store.now.key }
+{
+    let tuple = tuple(alloc, line)?;
+    let first = found(alloc, store, &tuple, theta, which)?;
+    assert_eq!(rt; text(alloc, &first)?.as_str(), wanted, "{line}, {which:?}");
+    let mut second = Pairs::new(alloc);
+    store.probe_uncounted(&tuple, theta, which, &mut second)?;
+    assert_eq!(rt;
+        text(alloc, &second)?.as_str(),
+        wanted,
+        "{line}, {which:?}, uncounted"
+    );
+    Ok(())
+}
+
+fn named(word: &str) -> Which {
+    match word.parse::<u32>() {
+        Ok(stamp) => Which::OnlyStamp(stamp),
+        Err(_) => Which::All,
+    }
+}
+
+// Each probe is a row, the stamp that it looks at or `all`, and the pairs that it finds.
 fn find(
     rt: &impl Abort,
     alloc: Global,
     store: &Store,
     theta: &Theta,
-    cases: &[(Side, &[u8], Which, &[Pair])],
+    probes: &[&str],
 ) -> Result<(), AllocError>
-    requires r { theta.now.width_r ≡ 1 }
-    requires s { theta.now.width_s ≡ 1 }
+    requires r { theta.now.width_r ≡ 2 }
+    requires s { theta.now.width_s ≡ 2 }
     requires widths { HaveWidths theta.now store.now }
-    requires key { store.now.key ≡ None }
+    requires own { IsOwn theta.now store.now.key }
 {
-    for (side, text, which, wanted) in cases {
-        let tuple = tuple(alloc, *side, 9, 0, *text)?;
-        let first = found(alloc, store, &tuple, theta, *which)?;
-        assert_eq!(rt; first.as_slice(), *wanted, "{which:?}");
-        let second = found_uncounted(alloc, store, &tuple, theta, *which)?;
-        assert_eq!(rt; second.as_slice(), *wanted, "{which:?}, uncounted");
+    for probe in probes {
+        let Some((line, rest)) = probe.split_once(" among ") else {
+            return Err(AllocError);
+        };
+        let Some((word, wanted)) = rest.split_once(" finds ") else {
+            return Err(AllocError);
+        };
+        finds(rt, alloc, store, theta, line, named(word), wanted)?;
     }
     Ok(())
 }
 
+fn resolved(alloc: Global, text: &str, names: &Names) -> Result<Theta, AllocError> {
+    let Ok(pred) = parse(alloc, text) else {
+        return Err(AllocError);
+    };
+    match resolve(alloc, &pred, names, names) {
+        Ok(theta) => Ok(theta),
+        Err(_) => Err(AllocError),
+    }
+}
+
+// The predicate of a text over two tables with the columns x and a.
+fn over_x_and_a(rt: &impl Abort, alloc: Global, text: &str) -> Result<Theta, AllocError>
+    ensures r { IfOk result (λ theta. theta.width_r ≡ 2) }
+    ensures s { IfOk result (λ theta. theta.width_s ≡ 2) }
+{
+    let mut names = Names::new(alloc);
+    names.push(Bytes::from_slice(alloc, b"x")?)?;
+    names.push(Bytes::from_slice(alloc, b"a")?)?;
+    let theta = resolved(alloc, text, &names)?;
+    assert_eq!(rt; theta.width_r(), 2);
+    assert_eq!(rt; theta.width_s(), 2);
+    Ok(theta)
+}
+
+fn no_key(theta: &Theta) -> Option<KeyAtom>
+    ensures { IsOwn theta.now result }
+{
+    None
+}
+
+fn key(theta: &Theta) -> Result<Option<KeyAtom>, AllocError>
+    ensures { IfOk result (IsOwn theta.now) }
+{
+    theta.key_atom()
+}
+
+fn key_copy(alloc: Global, theta: &Theta) -> Result<Option<KeyAtom>, AllocError>
+    ensures { IfOk result (IsOwn theta.now) }
+{
+    match theta.key_atom()? {
+        Some(key) => Ok(Some(key.copy(alloc)?)),
+        None => Ok(None),
+    }
+}
+
+fn has_key(theta: &Theta) -> Result<bool, AllocError> {
+    Ok(theta.key_atom()?.is_some())
+}
+
+// That a store with this key finds these.
+fn find_with(
+    rt: &impl Abort,
+    alloc: Global,
+    theta: &Theta,
+    key: Option<KeyAtom>,
+    lines: &[&str],
+    probes: &[&str],
+) -> Result<(), AllocError>
+    requires r { theta.now.width_r ≡ 2 }
+    requires s { theta.now.width_s ≡ 2 }
+    requires own { IsOwn theta.now key }
+{
+    let store = stored(alloc, theta, key, lines)?;
+    find(rt, alloc, &store, theta, probes)
+}
+
+// The same with no key, with the predicate's, and with a copy of it.
+fn find_with_each(
+    rt: &impl Abort,
+    alloc: Global,
+    theta: &Theta,
+    lines: &[&str],
+    probes: &[&str],
+) -> Result<(), AllocError>
+    requires r { theta.now.width_r ≡ 2 }
+    requires s { theta.now.width_s ≡ 2 }
+{
+    find_with(rt, alloc, theta, no_key(theta), lines, probes)?;
+    find_with(rt, alloc, theta, key(theta)?, lines, probes)?;
+    find_with(rt, alloc, theta, key_copy(alloc, theta)?, lines, probes)
+}
+
+// That a store of these lines finds these, whatever its key.
 fn probed(
     rt: &impl Abort,
     alloc: Global,
-    rows: &[(Side, u32, u32, &[u8])],
+    predicate: &str,
+    keyed: bool,
+    lines: &[&str],
+    probes: &[&str],
 ) -> Result<(), AllocError> {
-    let theta = Theta::first_texts(alloc, 1, 1)?;
-    let store = of_texts(alloc, &theta, rows)?;
-    find(
-        rt,
-        alloc,
-        &store,
-        &theta,
-        &[
-            (
-                Side::R,
-                b"a",
-                Which::All,
-                &[
-                    Pair { i: 9, j: 0 },
-                    Pair { i: 9, j: 1 },
-                    Pair { i: 9, j: 3 },
-                ],
-            ),
-            (Side::R, b"a", Which::OnlyStamp(1), &[Pair { i: 9, j: 1 }]),
-            (Side::R, b"z", Which::All, &[]),
-            (Side::S, b"b", Which::All, &[Pair { i: 0, j: 9 }]),
-            (Side::S, b"b", Which::OnlyStamp(1), &[]),
-            (Side::S, b"c", Which::OnlyStamp(1), &[Pair { i: 1, j: 9 }]),
-        ],
-    )
+    let theta = over_x_and_a(rt, alloc, predicate)?;
+    assert_eq!(rt; has_key(&theta)?, keyed, "{predicate}");
+    find_with_each(rt, alloc, &theta, lines, probes)
 }
 
 #[test]
@@ -254,14 +382,154 @@ fn a_probe_finds_the_named_that_match(rt: HostRuntime) -> Result<(), Fail> {
     probed(
         &rt,
         rt.alloc(),
+        "text(r.a) = text(s.a)",
+        false,
         &[
-            (Side::S, 0, 0, b"a"),
-            (Side::R, 0, 0, b"b"),
-            (Side::S, 1, 1, b"a"),
-            (Side::S, 2, 1, b"b"),
-            (Side::R, 1, 1, b"c"),
-            (Side::S, 3, 0, b"a"),
+            "S 0 0 - a",
+            "R 0 0 - b",
+            "S 1 1 - a",
+            "S 2 1 - b",
+            "R 1 1 - c",
+            "S 3 0 - a",
+        ],
+        &[
+            "R 9 0 - a among all finds [9 0][9 1][9 3]",
+            "R 9 0 - a among 1 finds [9 1]",
+            "R 9 0 - z among all finds ",
+            "S 9 0 - b among all finds [0 9]",
+            "S 9 0 - b among 1 finds ",
+            "S 9 0 - c among 1 finds [1 9]",
         ],
     )?;
+    Ok(())
+}
+
+#[test]
+fn a_band_finds_what_a_scan_finds(rt: HostRuntime) -> Result<(), Fail> {
+    probed(
+        &rt,
+        rt.alloc(),
+        "abs(r.a - s.a) <= 2 and r.x >= s.x",
+        true,
+        &["S 0 0 100 898", "S 1 0 101 902", "S 2 0 97 903"],
+        &[
+            "R 0 0 105 900 among all finds [0 0][0 1]",
+            "R 1 0 99 903 among all finds [1 2]",
+        ],
+    )?;
+    Ok(())
+}
+
+#[test]
+fn an_equality_passes_over_empty_cells(rt: HostRuntime) -> Result<(), Fail> {
+    probed(
+        &rt,
+        rt.alloc(),
+        "r.x = s.x",
+        true,
+        &[
+            "S 0 0 5 -",
+            "S 1 0 - -",
+            "R 0 0 - -",
+            "S 2 1 5 -",
+            "R 1 1 4 -",
+            "S 3 0 0 -",
+        ],
+        &[
+            "R 9 0 5 - among all finds [9 0][9 2]",
+            "R 9 0 5 - among 1 finds [9 2]",
+            "R 9 0 - - among all finds ",
+            "R 9 0 0 - among all finds [9 3]",
+            "S 9 0 - - among all finds ",
+            "S 9 0 4 - among all finds [1 9]",
+        ],
+    )?;
+    Ok(())
+}
+
+#[test]
+fn an_order_finds_in_stored_order(rt: HostRuntime) -> Result<(), Fail> {
+    probed(
+        &rt,
+        rt.alloc(),
+        "r.x < s.x and text(r.a) = 'u'",
+        true,
+        &[
+            "S 0 0 8 -",
+            "S 1 0 5 -",
+            "R 0 0 -3 u",
+            "S 2 1 7 -",
+            "R 1 0 6 u",
+        ],
+        &[
+            "R 9 0 5 u among all finds [9 0][9 2]",
+            "R 9 0 5 u among 1 finds [9 2]",
+            "R 9 0 5 v among all finds ",
+            "S 9 0 -2 - among all finds [0 9]",
+            "S 9 0 7 - among all finds [0 9][1 9]",
+            "S 9 0 -3 - among all finds ",
+        ],
+    )?;
+    Ok(())
+}
+
+// ---- many tuples
+
+// A row of S whose number repeats after a thousand rows.
+fn one_of_many(alloc: Global, index: u32) -> Result<Tuple, AllocError>
+    ensures { IfOk result (λ tuple. length tuple.cells ≡ 2) }
+{
+    let first = Cell {
+        text: Bytes::new(alloc),
+        num: Some(i64::from(index % 1000)),
+    };
+    row(alloc, Side::S, index, 0, first, cell(alloc, "-")?)
+}
+
+fn many(alloc: Global, theta: &Theta, key: Option<KeyAtom>) -> Result<Store, AllocError>
+    requires r { theta.now.width_r ≡ 2 }
+    requires s { theta.now.width_s ≡ 2 }
+    requires own { IsOwn theta.now key }
+    ensures widths { IfOk result (λ store. HaveWidths theta.now store) }
+    ensures own { IfOk result (λ store. IsOwn theta.now store.key) }
+{
+    let mut store = Store::new(alloc, key);
+    for index in 0..5000 {
+        let tuple = one_of_many(alloc, index)?;
+        add(&mut store, theta, tuple)?;
+    }
+    Ok(store)
+}
+
+fn find_among_many(
+    rt: &impl Abort,
+    alloc: Global,
+    theta: &Theta,
+    key: Option<KeyAtom>,
+) -> Result<(), AllocError>
+    requires r { theta.now.width_r ≡ 2 }
+    requires s { theta.now.width_s ≡ 2 }
+    requires own { IsOwn theta.now key }
+{
+    let store = many(alloc, theta, key)?;
+    assert_eq!(rt; store.side(Side::S).len(), 5000);
+    finds(
+        rt,
+        alloc,
+        &store,
+        theta,
+        "R 9 0 999 -",
+        Which::All,
+        "[9 999][9 1999][9 2999][9 3999][9 4999]",
+    )?;
+    finds(rt, alloc, &store, theta, "R 9 0 1000 -", Which::All, "")
+}
+
+#[test]
+fn a_store_of_5000_tuples_is_probed(rt: HostRuntime) -> Result<(), Fail> {
+    let alloc = rt.alloc();
+    let theta = over_x_and_a(&rt, alloc, "r.x = s.x")?;
+    find_among_many(&rt, alloc, &theta, no_key(&theta))?;
+    find_among_many(&rt, alloc, &theta, key(&theta)?)?;
     Ok(())
 }

@@ -1,9 +1,9 @@
-use Rattle.std.proofs.Common.{◌≡◌, None}
+use Rattle.store_parts.specs.Keyed.{IsOwn}
 use Rattle.store_parts.specs.Stored.{HaveWidths}
-use Rattle.store_parts.proofs.tests.of_texts.Given as goal
+use Rattle.store_parts.proofs.tests.stored.Given as goal
 
-abbrev pub invariant-loop-side : goal.invariant-loop-side
-invariant-loop-side l = record {
+abbrev pub invariant-loop-line : goal.invariant-loop-line
+invariant-loop-line l = record {
   widths : HaveWidths l.theta l.store;
-  key : l.store.key ≡ None;
+  own : IsOwn l.theta l.store.key;
 }

@@ -1,0 +1,53 @@
+-- Worked rows: two rows of R that probe a store of three rows of S by the key of a band.
+use Rattle.std.specs.Prelude.{◌≡◌, ℕ, pos, neg_ℤ, false, Some, None, List, [], ◌∷◌, count_by, refl}
+use Rattle.std.proofs.Common.{ap}
+use Rattle.join_rows.specs.declared.table.Cell.{Cell}
+use Rattle.join_rows.specs.declared.table.Side.{Side}
+use Rattle.join_rows.specs.declared.table.Side.TheVariants.{R, S}
+use Rattle.epoch_tags.specs.declared.tuple.Tuple.{Tuple}
+use Rattle.theta_pred.specs.declared.atom.KeyAtom.{KeyAtom}
+use Rattle.theta_pred.specs.declared.atom.Part.{Part}
+use Rattle.theta_pred.specs.Keys.{atom_of, is_atom_true, Atom}
+use Rattle.store_parts.specs.Matches.{evaluated}
+use Rattle.store_parts.specs.declared.which.Which.TheVariants.{All}
+
+-- ---- the key of abs(r.at - s.at) <= 2, `at` being the second column of both
+
+abbrev at : List Part
+at = record { minus = false; column = 1 } ∷ []
+
+abbrev band : Atom
+band = record { r_sum = at; s_sum = at; low = Some (neg_ℤ (pos 2)); high = Some (pos 2) }
+
+-- ---- the rows
+
+abbrev cell : ℕ → Cell
+cell n = record { text = []; num = Some (pos n) }
+
+abbrev row : Side → ℕ → ℕ → ℕ → Tuple
+row side index price at =
+    record { side = side; index = index; ticket = 0; stamp = 0; cells = cell price ∷ cell at ∷ [] }
+
+abbrev stored : List Tuple
+stored = row S 0 100 898 ∷ row S 1 101 902 ∷ row S 2 97 903 ∷ []
+
+abbrev first : Tuple
+first = row R 0 105 900
+
+abbrev second : Tuple
+second = row R 1 99 903
+
+-- ---- what the probes evaluate
+
+-- how many of the stored tuples an atom is true of
+abbrev count : Tuple → Atom → ℕ
+count t atom = count_by (λ other. is_atom_true atom t.cells other.cells) stored
+
+pub first_evaluates_2 : (key : KeyAtom) → atom_of key ≡ band → evaluated (Some key) first All stored ≡ 2
+first_evaluates_2 key is_band = ap (count first) is_band
+
+pub second_evaluates_2 : (key : KeyAtom) → atom_of key ≡ band → evaluated (Some key) second All stored ≡ 2
+second_evaluates_2 key is_band = ap (count second) is_band
+
+pub scan_evaluates_3 : evaluated None first All stored ≡ 3
+scan_evaluates_3 = refl
