@@ -1,9 +1,9 @@
 use crate::{Input, Setting};
-use join_rows::{Bytes, MapShelf, Table, read_table};
+use join_rows::{Bytes, MapShelf, Names, Table, read_table};
 use row_tickets::Feed;
 use std::alloc::{AllocError, Global};
 use std::test::Fail;
-use theta_pred::Theta;
+use theta_pred::{Theta, parse, resolve};
 
 #[test]
 fn settings_at_their_limits(rt: HostRuntime) -> Result<(), Fail> {
@@ -43,6 +43,22 @@ fn table(alloc: Global, text: &str) -> Result<Table, AllocError> {
     }
 }
 
+// A predicate over one column of R and two of S.
+fn theta(alloc: Global) -> Result<Theta, AllocError> {
+    let mut names_r = Names::new(alloc);
+    names_r.push(Bytes::from_slice(alloc, b"a")?)?;
+    let mut names_s = Names::new(alloc);
+    names_s.push(Bytes::from_slice(alloc, b"a")?)?;
+    names_s.push(Bytes::from_slice(alloc, b"b")?)?;
+    let Ok(pred) = parse(alloc, "r.a = s.a") else {
+        return Err(AllocError);
+    };
+    match resolve(alloc, &pred, &names_r, &names_s) {
+        Ok(theta) => Ok(theta),
+        Err(_) => Err(AllocError),
+    }
+}
+
 #[test]
 fn inputs_with_tickets_and_widths(rt: HostRuntime) -> Result<(), Fail> {
     let cases = [
@@ -55,7 +71,7 @@ fn inputs_with_tickets_and_widths(rt: HostRuntime) -> Result<(), Fail> {
         let input = Input {
             table_r: table(rt.alloc(), file_r)?,
             table_s: table(rt.alloc(), file_s)?,
-            theta: Theta::first_texts(rt.alloc(), 1, 2)?,
+            theta: theta(rt.alloc())?,
             tickets_r: Bytes::from_slice(rt.alloc(), tickets)?,
             tickets_s: Bytes::new(rt.alloc()),
         };
