@@ -62,7 +62,7 @@ all_asked (batch ∷ batches) (m ∷ sent) rest is some =
 
 -- ---- a joiner that has the end of a link has all of it
 
-ends_whole : (e : ℕ) (xs ys : List ToJoiner) → CountsUp e (xs ++ ys) → 0 < ends xs → ys ≡ []
+pub ends_whole : (e : ℕ) (xs ys : List ToJoiner) → CountsUp e (xs ++ ys) → 0 < ends xs → ys ≡ []
 ends_whole e [] ys up has = absurd (omega arith)
 ends_whole e (Tup x ∷ xs) ys (is, up) has = ends_whole e xs ys up has
 ends_whole e (Turn epoch shift ∷ xs) ys (is, up) has = ends_whole (e + 1) xs ys up has

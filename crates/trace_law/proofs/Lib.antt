@@ -11,6 +11,7 @@ pub mod AtMost
 pub mod Sent
 pub mod Widths
 pub mod Finished
+pub mod Complete
 pub mod Lawful
 pub mod Ends
 pub mod StampOf

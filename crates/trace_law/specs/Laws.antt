@@ -6,7 +6,7 @@ use Rattle.join_rows.specs.Lists.{SameBag, IsWithinBag}
 use Rattle.epoch_tags.specs.declared.tuple.Pair.{Pair}
 use Rattle.load_controller.specs.declared.line.TurnLine.{TurnLine}
 use Rattle.load_controller.specs.Journal.{IsLawful, IsLawfulSoFar, last_epoch, due_lines}
-use Rattle.pair_collector.specs.Law.{pairs_taken}
+use Rattle.pair_collector.specs.Law.{IsComplete, pairs_taken}
 use Rattle.pair_collector.specs.Order.{InOrder}
 use Rattle.trace_law.specs.declared.input.Input.{Input}
 use Rattle.trace_law.specs.Join.{row_count, nested_loop}
@@ -110,6 +110,10 @@ TakenIsDetermined = (input : Input) (setting : Setting) (f : Family) → IsValid
 -- where nothing is under way and no feeder would begin, all is finished
 abbrev pub QuietIsFinished : Type 0
 QuietIsFinished = (input : Input) (setting : Setting) (f : Family) → IsValid input setting → (agrees : IsAgreeing input setting f) → IsQuiet input setting f agrees → IsFinished input setting f agrees
+
+-- where the collector is complete, all is finished
+abbrev pub CompleteIsFinished : Type 0
+CompleteIsFinished = (input : Input) (setting : Setting) (f : Family) → IsValid input setting → (agrees : IsAgreeing input setting f) → IsComplete (2 ^ setting.k) f.collector → IsFinished input setting f agrees
 
 -- a finished family has the nested loop's answer, and its numbers
 abbrev pub AnswersInTheEnd : Type 0

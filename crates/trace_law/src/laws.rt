@@ -1,6 +1,6 @@
 // What every agreeing family keeps to, each law as the contract of a function with an empty body.
 
-ghost use Rattle.trace_law.specs.Laws.{HoldsAMovedRow, FinishedWithAnOldRowMoved, LawfulCountsEachRow, FixedMovesNothing, FixedStays, NoLinkNoMessage, FinishedAnswers, LimitsSuffice, SendsNothingWrong, TakesNothingWrong, StoresWhatItHolds, NoneIsStrange, KeepsALawfulJournal, LawfulIsBounded, EventsAreFew, FinishedAfterTwoMigrations, TakenIsDetermined, QuietIsFinished, AnswersInTheEnd, SortsIntoTheLoop};
+ghost use Rattle.trace_law.specs.Laws.{HoldsAMovedRow, FinishedWithAnOldRowMoved, LawfulCountsEachRow, FixedMovesNothing, FixedStays, NoLinkNoMessage, FinishedAnswers, LimitsSuffice, SendsNothingWrong, TakesNothingWrong, StoresWhatItHolds, NoneIsStrange, KeepsALawfulJournal, LawfulIsBounded, EventsAreFew, FinishedAfterTwoMigrations, TakenIsDetermined, QuietIsFinished, CompleteIsFinished, AnswersInTheEnd, SortsIntoTheLoop};
 
 /// A valid input and a valid setting are what the other laws ask for.
 pub fn limits_suffice()
@@ -70,6 +70,11 @@ pub fn taken_is_determined()
 /// A quiet agreeing family is finished.
 pub fn quiet_is_finished()
     ensures { QuietIsFinished }
+{}
+
+/// An agreeing family whose collector is complete is finished.
+pub fn complete_is_finished()
+    ensures { CompleteIsFinished }
 {}
 
 /// A finished family has the nested loop's pairs, and the numbers of the formulas.
