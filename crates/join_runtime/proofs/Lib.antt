@@ -8,5 +8,7 @@ pub mod Running
 pub mod Linking
 pub mod Filling
 pub mod Built
+pub mod Agreeing
+pub mod Ended
 pub mod Bouting
 pub mod Sent

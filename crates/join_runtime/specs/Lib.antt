@@ -3,3 +3,4 @@ pub mod Turns
 pub mod Joins
 pub mod Bouts
 pub mod Seating
+pub mod Endings

@@ -1,5 +1,5 @@
 -- The seats of a run at its beginning, and how mouths come to their senders.
-use Rattle.std.specs.Prelude.{◌≡◌, ◌≢◌, ◌<◌, ◌^◌, ◌⊎◌, ℕ, Some, None, IsSome, All, Contains, List, [], map, length, slice_set, slice_index_or}
+use Rattle.std.specs.Prelude.{◌≡◌, ◌≢◌, ◌<◌, ◌^◌, ◌⊎◌, ℕ, Some, None, IsSome, Contains, List, [], map, length, slice_set, slice_index_or}
 use Rattle.epoch_tags.specs.declared.actor.Actor.{Actor}
 use Rattle.ruled_links.specs.Ends.{Sending}
 use Rattle.ruled_links.specs.Inboxes.{Differ, fresh, opened}

@@ -12,7 +12,7 @@ ghost use Rattle.join_runtime.specs.Bouts.{AllAdvance, AllLive, AllRest, Extends
 use crate::crossing::shares_predicates;
 use crate::seat::Seat;
 use ruled_links::Mouth;
-use std::alloc::AllocError;
+use std::alloc::{AllocError, Global};
 use std::marker::Model;
 use std::sync::Wait;
 use std::thread;
@@ -120,6 +120,7 @@ fn bout_of<R: Threads + Wait + Sync, G: Gate>(
 /// The seats of all actors of a run.
 #[derive(Drop)]
 pub struct Seats<'a> {
+    pub(crate) alloc: Global,
     pub(crate) joiners: u32,
     pub(crate) feeders: u32,
     // By the numbers of actors.

@@ -3,9 +3,13 @@
 
 mod bouts;
 mod crossing;
+mod ends;
 mod mouths;
+mod runs;
 mod seat;
 mod seating;
 
 pub use bouts::{Seats, bout};
+pub use ends::{End, Ends, Told, Trail};
+pub use runs::run;
 pub use seat::Seat;

@@ -8,7 +8,9 @@ ghost use Rattle.join_runtime.specs.Views.{frame_of};
 ghost use Rattle.join_runtime.specs.Turns.{MakesEvent, Opens, Rests, Works};
 ghost use Rattle.join_runtime.specs.Joins.{IsSlotOf, Tells};
 ghost use Rattle.join_runtime.specs.Bouts.{IsReady};
+ghost use Rattle.join_runtime.specs.Endings.{end_of, is_complete_core};
 
+use crate::ends::End;
 use crate::mouths::put_all;
 use epoch_tags::{Actor, Envelope, Sends};
 use link_trace::{Core, Step};
@@ -168,6 +170,40 @@ impl<'a> Seat<'a> {
                 Ok(Step::Took)
             }
         }
+    }
+
+    // Whether it is a collector that is complete.
+    pub(crate) fn is_complete(&self) -> bool
+        ensures { result ≡ is_complete_core self.now.core }
+    {
+        match &self.core {
+            Core::Collector(collector) => collector.complete(),
+            _ => false,
+        }
+    }
+
+    // Its machine, and what else it leaves.
+    pub(crate) fn into_parts(self) -> (Core<'a>, End)
+        ensures core { result.0 ≡ self.entry.core }
+        ensures end { result.1 ≡ end_of self.entry }
+    {
+        let Seat {
+            joiners,
+            feeders,
+            core,
+            inbox,
+            mouths,
+            ..
+        } = self;
+        (
+            core,
+            End {
+                joiners,
+                feeders,
+                inbox,
+                mouths,
+            },
+        )
     }
 
     // Whether nothing is known to be left for it, and its machine would not begin.

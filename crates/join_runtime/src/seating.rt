@@ -187,6 +187,7 @@ impl<'a> Seats<'a> {
         let (mut seats, mouths) = new_seats(alloc, input, setting, feeders + joiners + 2)?;
         give_all(alloc, &mut seats, joiners, feeders, mouths)?;
         Ok(Seats {
+            alloc,
             joiners,
             feeders,
             seats,

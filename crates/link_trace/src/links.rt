@@ -48,8 +48,8 @@ fn are_joined(joiners: u32, feeders: u32, from: Actor, to: Actor) -> bool
     }
 }
 
-// Whether there is a link between them.
-pub(crate) fn has_link(joiners: u32, feeders: u32, from: Actor, to: Actor) -> bool
+/// Whether a run with so many joiners and feeders has a link from one actor to the other. It takes no memory.
+pub fn has_link(joiners: u32, feeders: u32, from: Actor, to: Actor) -> bool
     ensures { (k : ℕ) → joiners ≡ 2 ^ k → (IsTrue result ↔ HasLink k feeders from to) }
 {
     are_joined(joiners, feeders, from, to)

@@ -98,8 +98,8 @@ fn copied(alloc: Global, journal: &Journal) -> Result<Journal, AllocError>
     Ok(copy)
 }
 
-// What a controller and a complete collector have to tell.
-fn answer(
+/// What a controller and a complete collector have to tell.
+pub fn answer(
     alloc: Global,
     controller: &Controller,
     collector: Collector,

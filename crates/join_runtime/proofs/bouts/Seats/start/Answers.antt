@@ -1,4 +1,4 @@
-use Rattle.std.proofs.Common.{refl, false}
+use Rattle.std.proofs.Common.{false}
 use Rattle.join_runtime.proofs.Built.{start_empty, start_joined, start_settled, start_stands}
 use Rattle.join_runtime.proofs.bouts.Seats.start.Goals as goal
 

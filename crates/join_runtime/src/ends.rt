@@ -1,0 +1,140 @@
+// What finished seats leave.
+
+ghost use Rattle.std.specs.Prelude.{◌≡◌, true, IfOk, map};
+ghost use Rattle.epoch_tags.specs.declared.actor.Actor.{Actor as Actor'};
+ghost use Rattle.trace_law.specs.declared.input.Input.{Input as Input'};
+ghost use Rattle.trace_law.specs.declared.setting.Setting.{Setting as Setting'};
+ghost use Rattle.trace_law.specs.Validity.{IsValid};
+ghost use Rattle.trace_law.specs.Runs.{IsRunOf};
+ghost use Rattle.link_trace.specs.Families.{AreFronts};
+ghost use Rattle.join_runtime.specs.Bouts.{StandsFor, lists_in};
+ghost use Rattle.join_runtime.specs.Endings.{EndsIn, IsFinishedFamily, end_of, is_collected, lists_left};
+
+use crate::bouts::Seats;
+use crate::seat::Seat;
+use join_rows::Items;
+use link_trace::{Core, answer};
+use load_controller::Controller;
+use pair_collector::Collector;
+use ruled_links::{Inbox, Mouth};
+use std::alloc::{AllocError, Global};
+use std::marker::Model;
+use trace_law::{Run, complete_is_finished, finished_answers};
+
+/// What an actor's finished seat leaves: its inbox and its mouths.
+#[derive(Drop)]
+pub struct End {
+    pub(crate) joiners: u32,
+    pub(crate) feeders: u32,
+    pub(crate) inbox: Inbox,
+    pub(crate) mouths: Vec<Option<Mouth>>,
+}
+
+impl Model for End {
+    ghost use Rattle.join_runtime.specs.Endings.{EndView};
+
+    ghost Value = { EndView };
+
+    ghost view = { λ end. record { joiners = end.joiners; feeders = end.feeders; inbox = end.inbox; mouths = end.mouths.items } };
+}
+
+/// What the finished seats of a run leave, by the numbers of actors.
+#[derive(Drop)]
+pub struct Ends {
+    joiners: u32,
+    feeders: u32,
+    ends: Vec<End>,
+}
+
+impl Model for Ends {
+    ghost use Rattle.join_runtime.specs.Endings.{EndsView};
+
+    ghost Value = { EndsView };
+
+    ghost view = { λ ends. record { joiners = ends.joiners; feeders = ends.feeders; ends = ends.ends.items } };
+}
+
+/// The answer of a run, and what its seats leave.
+#[derive(Drop)]
+pub struct Told {
+    pub run: Run,
+    pub ends: Ends,
+}
+
+/// What several runs leave.
+pub type Trail = Items<Ends>;
+
+// The machines of seats, and what else they leave.
+fn parts<'a>(alloc: Global, seats: Vec<Seat<'a>>) -> Result<(Vec<Core<'a>>, Vec<End>), AllocError>
+    ensures cores { IfOk result (λ parts. parts.0.items ≡ map (λ s. s.core) seats.entry.items) }
+    ensures ends { IfOk result (λ parts. parts.1.items ≡ map end_of seats.entry.items) }
+{
+    let mut cores = Vec::new(alloc);
+    let mut ends = Vec::new(alloc);
+    for seat in seats {
+        let (core, end) = seat.into_parts();
+        cores.push(core)?;
+        ends.push(end)?;
+    }
+    Ok((cores, ends))
+}
+
+// The controller's machine and the collector's, which are the last two.
+fn last_machines<'a>(mut cores: Vec<Core<'a>>) -> Result<(Controller, Collector), AllocError>
+    ensures { IfOk result (λ last. EndsIn cores.entry.items last.0 last.1) }
+{
+    let (Some(collector), Some(controller)) = (cores.pop(), cores.pop()) else {
+        return Err(AllocError);
+    };
+    match (controller, collector) {
+        (Core::Controller(controller), Core::Collector(collector)) => Ok((controller, collector)),
+        _ => Err(AllocError),
+    }
+}
+
+impl<'a> Seats<'a> {
+    /// Whether the collector is complete. It takes no memory.
+    pub fn complete(&self) -> bool
+        ensures { result ≡ is_collected self.now }
+    {
+        match self.seats.as_slice().last() {
+            Some(seat) => seat.is_complete(),
+            None => false,
+        }
+    }
+
+    /// The answer of seats whose collector is complete, with so many bouts, and what they leave. After `AllocError` the
+    /// seats are gone.
+    pub fn finish(self, bouts: u64) -> Result<Told, AllocError>
+        requires { is_collected self ≡ true }
+        ensures family { IfOk result (λ told. (input : Input') (setting : Setting') → IsValid input setting
+            → StandsFor input setting self.entry → AreFronts (lists_in self.entry)
+            → IsFinishedFamily input setting told.run.journal (lists_left told.ends)) }
+        ensures run { IfOk result (λ told. (input : Input') (setting : Setting') → IsValid input setting
+            → StandsFor input setting self.entry → AreFronts (lists_in self.entry)
+            → IsRunOf input setting told.run.journal told.run) }
+        ensures ends { IfOk result (λ told. (a : Actor') → lists_left told.ends a ≡ lists_in self.entry a) }
+        ensures bouts { IfOk result (λ told. told.run.bouts ≡ bouts) }
+    {
+        complete_is_finished();
+        finished_answers();
+        let Seats {
+            alloc,
+            joiners,
+            feeders,
+            seats,
+            ..
+        } = self;
+        let (cores, ends) = parts(alloc, seats)?;
+        let (controller, collector) = last_machines(cores)?;
+        let run = answer(alloc, &controller, collector, bouts)?;
+        Ok(Told {
+            run,
+            ends: Ends {
+                joiners,
+                feeders,
+                ends,
+            },
+        })
+    }
+}

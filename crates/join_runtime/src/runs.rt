@@ -1,0 +1,41 @@
+// A run in threads.
+
+ghost use Rattle.std.specs.Prelude.{IfOk};
+ghost use Rattle.trace_law.specs.Validity.{IsValidInput, IsValidSetting};
+ghost use Rattle.trace_law.specs.Runs.{IsRunOf};
+ghost use Rattle.join_runtime.specs.Endings.{IsFinishedFamily, lists_left};
+
+use crate::bouts::{Seats, bout};
+use crate::ends::Told;
+use std::alloc::{AllocError, Global};
+use std::sync::Wait;
+use std::thread::Threads;
+use trace_law::{Input, Setting, limits_suffice};
+use worker_gate::Gate;
+
+/// Runs the seats of this input and setting, in as many threads as there are workers, bout after bout until the collector
+/// is complete. What it promises holds if it returns.
+pub fn run<R: Threads + Wait + Sync, G: Gate>(
+    rt: &R,
+    alloc: Global,
+    input: &Input,
+    setting: &Setting,
+    gate: &G,
+) -> Result<Told, AllocError>
+    requires input { IsValidInput input.now }
+    requires setting { IsValidSetting setting.now }
+    ensures family { IfOk result (λ told. IsFinishedFamily input.now setting.now told.run.journal (lists_left told.ends)) }
+    ensures run { IfOk result (λ told. IsRunOf input.now setting.now told.run.journal told.run) }
+{
+    limits_suffice();
+    let mut seats = Seats::start(alloc, input, setting)?;
+    let mut bouts = 0u64;
+    for _ in rt.forever() {
+        if seats.complete() {
+            break;
+        }
+        bout(rt, &mut seats, setting.workers, gate)?;
+        bouts = bouts.saturating_add(1);
+    }
+    seats.finish(bouts)
+}
