@@ -1,7 +1,10 @@
 //! Work to be timed, chosen by a word: `holds` evaluates a predicate four million times, `add` makes a store of 262,144
 //! tuples, `store` probes it by a band with as many, and `beyond` by an inequality; `inbox1`, `inbox8` and `inbox72` put
-//! and take 7.2 million messages in turn, of so many senders.
+//! and take 7.2 million messages in turn, of so many senders; `replay4` replays the join of 65,536 rows by as many over 4
+//! joiners, and `replay64` of 20,000 by as many over 64 joiners with 8 feeders, and both print the number of events.
 #![tactic(auto)]
+
+mod replays;
 
 ghost use Rattle.std.specs.Prelude.{◌≡◌, ◌<◌, length, All, IfOk};
 ghost use Rattle.ruled_links.specs.Inboxes.{Differ};
@@ -198,7 +201,7 @@ fn exchange<R: Wait>(rt: &R, alloc: Global, count: u32, rounds: u32) -> Result<u
 fn main(rt: HostRuntime) -> io::Result<()> {
     let alloc = rt.alloc();
     let Some(word) = env::args(&rt)?.nth(1) else {
-        println!(rt; "holds, store, inbox1, inbox8 or inbox72")?;
+        println!(rt; "holds, add, store, beyond, inbox1, inbox8, inbox72, replay4 or replay64")?;
         return Ok(());
     };
     match word.as_str() {
@@ -209,7 +212,9 @@ fn main(rt: HostRuntime) -> io::Result<()> {
         "inbox1" => println!(rt; "{}", exchange(&rt, alloc, 1, 7_200_000)?)?,
         "inbox8" => println!(rt; "{}", exchange(&rt, alloc, 8, 900_000)?)?,
         "inbox72" => println!(rt; "{}", exchange(&rt, alloc, 72, 100_000)?)?,
-        _ => println!(rt; "holds, add, store, beyond, inbox1, inbox8 or inbox72")?,
+        "replay4" => println!(rt; "{}", replays::events(&rt, alloc, 65_536, 2, 2)?)?,
+        "replay64" => println!(rt; "{}", replays::events(&rt, alloc, 20_000, 6, 8)?)?,
+        _ => println!(rt; "no such word")?,
     }
     Ok(())
 }
