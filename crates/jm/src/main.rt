@@ -6,6 +6,7 @@ use join_rows::{DiskShelf, StdSink};
 use std::alloc::AllocError;
 use std::env;
 use std::process::ExitCode;
+use worker_gate::NoGate;
 
 /// The words of the command line. Words that aren't UTF-8 have no match, and are taken as none.
 fn words(rt: &HostRuntime) -> Result<Vec<String>, AllocError> {
@@ -28,5 +29,13 @@ fn main(rt: HostRuntime) -> ExitCode {
         return exit_code(&Outcome::Memory);
     };
     let mut shelf = DiskShelf::new(alloc, files);
-    exit_code(&jm_main(&rt, alloc, &words, &mut shelf, &mut sink, &mut errors))
+    exit_code(&jm_main(
+        &rt,
+        alloc,
+        &words,
+        &mut shelf,
+        &mut sink,
+        &mut errors,
+        &NoGate,
+    ))
 }

@@ -19,6 +19,8 @@ use Rattle.std.specs.Io.KnownBytes.{append_known}
 use Rattle.load_controller.specs.declared.line.TurnLine.{TurnLine}
 use Rattle.join_cli.specs.declared.outcome.Outcome.TheVariants as outcomes
 use Rattle.join_cli.specs.Plan.{IsJournalOf, checked, fitted, output_of, tables_of, then_of}
+use Rattle.join_runtime.specs.Endings.{EndsView}
+use Rattle.join_cli.specs.Courses.{IsCourseOf}
 use Rattle.join_cli.specs.Ends.{IsAsked, Wrote, WroteFront}
 
 pub is_asked : (told : Told) (asked : Asked) (tree : Tree) (tables : Tables) (theta : Meaning) (planned : Planned)
@@ -47,12 +49,14 @@ pub asked_if : (told : Told) (asked : Asked) (tree : Tree) (tables : Tables) (th
 asked_if told asked tree tables theta (Ok planned) reads over is same found = is_asked told asked tree tables theta planned reads over is same found
 asked_if told asked tree tables theta (Err refusal) reads over is same found = tt
 
-pub wrote : (told : Told) (asked : Asked) (old new : Option (List ℕ)) (planned : Planned) (made journal : List TurnLine) (bytes : List ℕ)
-    → IsAsked told asked planned → IsJournalOf asked planned made → new ≡ append_known old bytes → bytes ≡ output_of asked planned made
-    → outcomes.Done made ≡ outcomes.Done journal → Wrote told asked journal old new
-wrote told asked old new planned made journal bytes found lawful written same is =
+pub wrote : (told : Told) (asked : Asked) (old new : Option (List ℕ)) (planned : Planned) (made journal : List TurnLine) (left trail : List EndsView) (bytes : List ℕ)
+    → IsAsked told asked planned → IsCourseOf asked planned made left → new ≡ append_known old bytes → bytes ≡ output_of asked planned made
+    → outcomes.Done made left ≡ outcomes.Done journal trail → Wrote told asked journal trail old new
+wrote told asked old new planned made journal left trail bytes found course written same is =
     let one : made ≡ journal = cc is in
-    subst (λ j. Wrote told asked j old new) one (record { planned = planned; found = found; lawful = lawful; written = written ∙ ap (append_known old) same })
+    let same_left : left ≡ trail = cc is in
+    subst (λ j. Wrote told asked j trail old new) one
+    (subst (λ t. Wrote told asked made t old new) same_left (record { planned = planned; found = found; course = course; written = written ∙ ap (append_known old) same }))
 
 pub wrote_front : (told : Told) (asked : Asked) (old new : Option (List ℕ)) (planned : Planned) (journal : List TurnLine) (bytes : List ℕ)
     → IsAsked told asked planned → IsJournalOf asked planned journal → AppendsFront old new bytes → bytes ≡ output_of asked planned journal → WroteFront told asked old new

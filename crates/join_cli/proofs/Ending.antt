@@ -9,20 +9,22 @@ use Rattle.join_cli.specs.declared.refusal.Refusal.{Refusal}
 use Rattle.join_cli.specs.declared.refusal.Refusal.TheVariants as refusals
 use Rattle.join_cli.specs.declared.outcome.Outcome.TheVariants as outcomes
 use Rattle.load_controller.specs.declared.line.TurnLine.{TurnLine}
+use Rattle.join_runtime.specs.Endings.{EndsView}
+use Rattle.join_cli.specs.Courses.{IsCourseOf}
 use Rattle.join_cli.specs.Ends.{EndsAs, IsDone, IsOutcomeOf, TakesEach}
 use Rattle.join_cli.specs.Plan.{IsJournalOf, output_of, plan_of}
 use Rattle.join_cli.specs.Refusals.{refused_as}
 use Rattle.join_cli.proofs.Asking.{asked_one}
 use Rattle.join_cli.proofs.Seeing.{no_plan}
 
--- a lawful journal of the plan that was made is an outcome of it
-pub ends_done : (told : Told) (asked : Asked) (reading : Result Tree PredFault) (planned : Planned) (journal : List TurnLine) → IsJournalOf asked planned journal
+-- a run of the plan that was made is an outcome of it
+pub ends_done : (told : Told) (asked : Asked) (reading : Result Tree PredFault) (planned : Planned) (journal : List TurnLine) (trail : List EndsView) → IsCourseOf asked planned journal trail
     → ((files : List ℕ → Option (List ℕ)) → told ≡ Some files → (Ok planned ≡ Err refusals.Memory) ⊎ (Ok planned ≡ plan_of asked reading files))
-    → EndsAs told asked reading (outcomes.Done journal)
-ends_done None asked reading planned journal lawful h = tt
-ends_done (Some files) asked reading planned journal lawful h = elim (h files refl) [
+    → EndsAs told asked reading (outcomes.Done journal trail)
+ends_done None asked reading planned journal trail course h = tt
+ends_done (Some files) asked reading planned journal trail course h = elim (h files refl) [
   | inl m ↦ absurd (cc m)
-  | inr f ↦ inr (subst (λ p. IsOutcomeOf asked p (outcomes.Done journal)) f lawful)
+  | inr f ↦ inr (subst (λ p. IsOutcomeOf asked p (outcomes.Done journal trail)) f course)
 ]
 
 -- and its refusal is, where it was refused

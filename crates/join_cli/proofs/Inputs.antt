@@ -1,5 +1,5 @@
 -- What is joined is a valid input, and the journal of its run one of a lawful controller.
-use Rattle.std.proofs.Common.{◌≡◌, ◌<◌, ◌^◌, ℕ, List, All, length, sym, ◌∙◌, ap, subst}
+use Rattle.std.proofs.Common.{◌≡◌, ◌<◌, ◌^◌, ℕ, Option, Some, None, List, All, length, sym, ◌∙◌, ap, subst}
 use Rattle.std.proofs.lemmas.List.FromFn.{length-map-range_with_len}
 use Rattle.join_rows.specs.Records.{IsTable}
 use Rattle.join_rows.specs.declared.table.Side.{Side}
@@ -15,6 +15,9 @@ use Rattle.trace_law.proofs.FixedShift.{all_stay, no_migration}
 use Rattle.trace_law.proofs.Validity.{both_sides}
 use Rattle.join_words.specs.Words.{Asked}
 use Rattle.join_cli.specs.declared.plan.Planned.{Planned}
+use Rattle.load_controller.specs.declared.line.TurnLine.{TurnLine}
+use Rattle.join_runtime.specs.Endings.{EndsView}
+use Rattle.join_cli.specs.Courses.{IsCourseOf, WentAs}
 use Rattle.join_cli.specs.Plan.{IsFit, IsJournalOf, input_of, setting_of, tickets_of}
 
 fits : (seed : ℕ) (side : Side) (table : Table) (tickets : List ℕ) (width : ℕ) → IsTable table → tickets ≡ tickets_of seed side table.rows
@@ -48,3 +51,12 @@ journal_of_run asked planned input setting run input_is setting_is is =
       one_epoch = λ shift fixed. no_migration (setting_of asked) run.journal law.lawful.so_far shift fixed;
       stays = λ shift fixed. all_stay (setting_of asked) run.journal law.lawful.so_far shift fixed;
     }
+
+-- and what shows how it went
+pub course_of_run : (asked : Asked) (planned : Planned) (input : Input) (setting : Setting) (run : Run) (trail : List EndsView)
+    → input ≡ input_of asked.seed planned → setting ≡ setting_of asked → IsRunOf input setting run.journal run
+    → WentAs asked.replay input setting run.journal trail → IsCourseOf asked planned run.journal trail
+course_of_run asked planned input setting run trail input_is setting_is is went = record {
+  lawful = journal_of_run asked planned input setting run input_is setting_is is;
+  went = subst (λ i. WentAs asked.replay i (setting_of asked) run.journal trail) input_is (subst (λ s. WentAs asked.replay input s run.journal trail) setting_is went);
+}

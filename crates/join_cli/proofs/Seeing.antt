@@ -22,6 +22,8 @@ use Rattle.join_cli.specs.declared.outcome.Outcome.TheVariants as outcomes
 use Rattle.join_cli.specs.Columns.{theta_over}
 use Rattle.join_cli.specs.Texts.{tree_or_refused}
 use Rattle.load_controller.specs.declared.line.TurnLine.{TurnLine}
+use Rattle.join_runtime.specs.Endings.{EndsView}
+use Rattle.join_cli.specs.Courses.{IsCourseOf}
 use Rattle.join_cli.specs.Plan.{IsJournalOf, checked, fitted, or_refused, output_of, table_found, then_of}
 use Rattle.join_cli.specs.Refusals.{file_refusal, refused_as}
 use Rattle.join_cli.specs.declared.outcome.LimitFault.TheVariants.{TooLong}
@@ -220,14 +222,14 @@ not_refused_read refusal h e = let same : refusal ≡ refusals.Read = cc e in h 
 pub not_refused_memory : (refusal : Refusal) → (refused_as refusal ≡ outcomes.Memory → ⊥) → no_plan refusal ≡ Err refusals.Memory → ⊥
 not_refused_memory refusal h e = let same : refusal ≡ refusals.Memory = cc e in h (ap refused_as same)
 
-pub end_done : (told : Told) (spot : Spot) (asked : Asked) (tree : Tree) (old new : Option (List ℕ)) (planned : Planned) (journal : List TurnLine)
-    → PlanSeen told spot asked tree (Ok planned) → IsJournalOf asked planned journal
-    → new ≡ append_known old (output_of asked planned journal) → EndsOver told spot asked tree old new (outcomes.Done journal)
-end_done told spot asked tree old new planned journal is lawful written = record {
+pub end_done : (told : Told) (spot : Spot) (asked : Asked) (tree : Tree) (old new : Option (List ℕ)) (planned : Planned) (journal : List TurnLine) (trail : List EndsView)
+    → PlanSeen told spot asked tree (Ok planned) → IsCourseOf asked planned journal trail
+    → new ≡ append_known old (output_of asked planned journal) → EndsOver told spot asked tree old new (outcomes.Done journal trail)
+end_done told spot asked tree old new planned journal trail is course written = record {
   seen_r = is.seen_r;
   seen_s = is.seen_s;
   are = is.are;
-  ends = subst (λ p. Ends asked old new p (outcomes.Done journal)) is.answer (lawful, written);
+  ends = subst (λ p. Ends asked old new p (outcomes.Done journal trail)) is.answer (course, written);
 }
 
 pub end_front : (told : Told) (spot : Spot) (asked : Asked) (tree : Tree) (old new : Option (List ℕ)) (planned : Planned) (journal : List TurnLine)

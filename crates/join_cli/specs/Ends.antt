@@ -9,6 +9,7 @@ use Rattle.theta_text.specs.Grammar.{Tree}
 use Rattle.theta_text.specs.Texts.{TextReads, limits}
 use Rattle.theta_text.specs.declared.fault.PredFault.{PredFault}
 use Rattle.load_controller.specs.declared.line.TurnLine.{TurnLine}
+use Rattle.join_runtime.specs.Endings.{EndsView}
 use Rattle.join_words.specs.Words.{Asked}
 use Rattle.join_cli.specs.declared.outcome.Outcome.{Outcome}
 use Rattle.join_cli.specs.declared.outcome.Outcome.TheVariants.{Done, Memory}
@@ -16,15 +17,16 @@ use Rattle.join_cli.specs.declared.refusal.Refusal.{Refusal}
 use Rattle.join_cli.specs.declared.plan.Planned.{Planned}
 use Rattle.join_cli.specs.Refusals.{refused_as, text_refusal}
 use Rattle.join_cli.specs.Plan.{IsJournalOf, fitted, plan_of, output_of, tables_of}
+use Rattle.join_cli.specs.Courses.{IsCourseOf}
 
 -- the output was written whole
 abbrev pub IsDone : Outcome → Type 0
-IsDone (Done journal) = ⊤
+IsDone (Done journal trail) = ⊤
 IsDone outcome = ⊥
 
--- a plan was carried out, and the journal that is answered is one of a lawful controller for it, or it was refused
+-- a plan was carried out, and what is answered is of a run of it, or it was refused
 abbrev pub IsOutcomeOf : Asked → Result Planned Refusal → Outcome → Type 0
-IsOutcomeOf asked (Ok planned) (Done journal) = IsJournalOf asked planned journal
+IsOutcomeOf asked (Ok planned) (Done journal trail) = IsCourseOf asked planned journal trail
 IsOutcomeOf asked (Ok planned) outcome = ⊥
 IsOutcomeOf asked (Err refusal) outcome = outcome ≡ refused_as refusal
 
@@ -40,11 +42,11 @@ pub record IsAsked (told : Told) (asked : Asked) (planned : Planned) : Type 0 wh
   pub fits : fitted tree planned.tables ≡ Ok planned
   pub files : (files : List ℕ → Option (List ℕ)) → told ≡ Some files → tables_of files asked.name_r asked.name_s ≡ Ok planned.tables
 
--- the output of what was asked for, over this journal of a lawful controller, was written
-pub record Wrote (told : Told) (asked : Asked) (journal : List TurnLine) (old new : Option (List ℕ)) : Type 0 where
+-- the output of what was asked for was written, over the journal of a run that went so
+pub record Wrote (told : Told) (asked : Asked) (journal : List TurnLine) (trail : List EndsView) (old new : Option (List ℕ)) : Type 0 where
   pub planned : Planned
   pub found : IsAsked told asked planned
-  pub lawful : IsJournalOf asked planned journal
+  pub course : IsCourseOf asked planned journal trail
   pub written : new ≡ append_known old (output_of asked planned journal)
 
 -- a front of the output over some such journal was written

@@ -4,5 +4,6 @@ pub mod Texts
 pub mod Columns
 pub mod Numbers
 pub mod Plan
+pub mod Courses
 pub mod Ends
 pub mod Seen

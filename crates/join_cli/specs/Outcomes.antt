@@ -5,7 +5,7 @@ use Rattle.join_cli.specs.declared.outcome.Outcome.TheVariants.{Done, Words, Pre
 
 -- the exit status
 abbrev pub status_of : Outcome → ℕ
-status_of (Done journal) = 0
+status_of (Done journal trail) = 0
 status_of (Words fault) = 2
 status_of (Predicate fault) = 3
 status_of (Input fault) = 4

@@ -99,12 +99,12 @@ input_of seed planned = record {
   tickets_s = tickets_of seed S planned.tables.of_s.rows;
 }
 
--- the setting that the words ask for; they don't tell a number of workers yet
+-- the setting that the words ask for
 abbrev pub setting_of : Asked → Setting
 setting_of asked = record {
   k = asked.k;
   feeders = asked.feeders;
-  workers = 4;
+  workers = asked.workers;
   batch = asked.batch;
   feed = asked.feed;
   fixed = asked.fixed;

@@ -15,6 +15,7 @@ use Rattle.join_cli.specs.declared.reading.Tables.{Tables}
 use Rattle.join_cli.specs.declared.plan.Planned.{Planned}
 use Rattle.join_cli.specs.declared.refusal.Refusal.{Refusal}
 use Rattle.join_cli.specs.Refusals.{refused_as}
+use Rattle.join_cli.specs.Courses.{IsCourseOf}
 use Rattle.join_cli.specs.Plan.{IsJournalOf, fitted, output_of, table_found, tables_in, then_of}
 
 -- a told file begins with these bytes, and they are all of it or one more than the limit
@@ -54,7 +55,7 @@ pub record PlanSeen (told : Told) (spot : Spot) (asked : Asked) (tree : Tree) (r
 -- a plan was carried out, and its output over a lawful controller's journal written whole or in part, or it was refused and
 -- nothing written
 abbrev pub Ends : Asked → Option (List ℕ) → Option (List ℕ) → Result Planned Refusal → Outcome → Type 0
-Ends asked old new (Ok planned) (Done journal) = IsJournalOf asked planned journal × (new ≡ append_known old (output_of asked planned journal))
+Ends asked old new (Ok planned) (Done journal trail) = IsCourseOf asked planned journal trail × (new ≡ append_known old (output_of asked planned journal))
 Ends asked old new (Ok planned) Write = (journal : List TurnLine) × IsJournalOf asked planned journal × AppendsFront old new (output_of asked planned journal)
 Ends asked old new (Ok planned) outcome = ⊥
 Ends asked old new (Err refusal) outcome = (outcome ≡ refused_as refusal) × (new ≡ old)

@@ -4,6 +4,7 @@ ghost use Rattle.std.specs.Prelude.{◌≡◌};
 ghost use Rattle.join_cli.specs.Outcomes.{status_of};
 
 use join_rows::{Bytes, Side};
+use join_runtime::Trail;
 use join_words::WordsFault;
 use load_controller::Journal;
 
@@ -49,10 +50,11 @@ pub enum LimitFault {
 }
 
 /// How a run ended.
-#[derive(Debug, Drop)]
+#[derive(Drop)]
 pub enum Outcome {
-    /// The output was written whole; the journal is that of the run's controller.
-    Done { journal: Journal },
+    /// The output was written whole; the journal is that of the run's controller. The trail has what the seats of a run
+    /// in threads left, and is empty after a replay.
+    Done { journal: Journal, trail: Trail },
     Words(WordsFault),
     Predicate(TextFault),
     Input(InputFault),

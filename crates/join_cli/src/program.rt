@@ -6,6 +6,7 @@ ghost use Rattle.join_rows.specs.Shelves.{last_fault};
 ghost use Rattle.load_controller.specs.declared.line.TurnLine.{TurnLine};
 ghost use Rattle.theta_text.specs.Grammar.{Tree};
 ghost use Rattle.theta_text.specs.Texts.{TextReads, limits};
+ghost use Rattle.join_runtime.specs.Endings.{EndsView};
 ghost use Rattle.join_words.specs.Words.{Asked, asked_of};
 ghost use Rattle.join_words.specs.declared.options.WordsFault.{WordsFault};
 ghost use Rattle.join_cli.specs.Outcomes.{status_of};
@@ -18,6 +19,8 @@ use join_rows::{Shelf, Sink};
 use std::alloc::Global;
 use std::process::ExitCode;
 use std::sync::Wait;
+use std::thread::Threads;
+use worker_gate::Gate;
 
 /// The exit code of an outcome. It takes no memory.
 pub fn exit_code(outcome: &Outcome) -> ExitCode
@@ -42,13 +45,14 @@ pub fn tell<E: Sink>(alloc: Global, outcome: &Outcome, errors: &mut E)
 /// Runs `jm` with these words, the program's name first, as `join_main` does, and puts the line of an outcome
 /// that isn't `Done` on `errors`. Nothing else is put there, and the line is put nowhere else. What it promises holds
 /// if it returns.
-pub fn jm_main<R: Wait, H: Shelf, K: Sink, E: Sink>(
+pub fn jm_main<R: Threads + Wait + Sync, H: Shelf, K: Sink, E: Sink, G: Gate>(
     rt: &R,
     alloc: Global,
     words: &[String],
     shelf: &mut H,
     sink: &mut K,
     errors: &mut E,
+    gate: &G,
 ) -> Outcome
     requires shelf { H.faults shelf.old < last_fault }
     requires sink { K.faults sink.old < last_fault }
@@ -56,9 +60,9 @@ pub fn jm_main<R: Wait, H: Shelf, K: Sink, E: Sink>(
         → (result ≡ Outcome.Words fault) ⊎ (result ≡ Outcome.Memory) }
     ensures only_words { (fault : WordsFault) → result ≡ Outcome.Words fault
         → asked_of (map string_bytes words.now) ≡ Err fault }
-    ensures done { (journal : List TurnLine) → result ≡ Outcome.Done journal
+    ensures done { (journal : List TurnLine) (trail : List EndsView) → result ≡ Outcome.Done journal trail
         → (asked : Asked) × (asked_of (map string_bytes words.now) ≡ Ok asked)
-        × Wrote (H.told shelf.old) asked journal (K.written sink.old) (K.written sink.new) }
+        × Wrote (H.told shelf.old) asked journal trail (K.written sink.old) (K.written sink.new) }
     ensures seen { (asked : Asked) (tree : Tree) → asked_of (map string_bytes words.now) ≡ Ok asked
         → TextReads limits asked.on tree → result ≢ Outcome.Read → result ≢ Outcome.Memory
         → EndsOver (H.told shelf.old) (H.picked shelf.new) asked tree
@@ -69,7 +73,7 @@ pub fn jm_main<R: Wait, H: Shelf, K: Sink, E: Sink>(
     ensures nothing { (IsDone result → ⊥) → result ≢ Outcome.Write → sink.new ≡ sink.old }
     ensures quiet { IsDone result → errors.new ≡ errors.old }
 {
-    let outcome = join_main(rt, alloc, words, shelf, sink);
+    let outcome = join_main(rt, alloc, words, shelf, sink, gate);
     tell(alloc, &outcome, errors);
     outcome
 }

@@ -4,32 +4,35 @@ ghost use Rattle.std.specs.Prelude.{◌≡◌, ◌<◌, ◌≤◌, ◌^◌, All,
 ghost use Rattle.trace_law.specs.Validity.{IsValidInput, IsValidSetting};
 ghost use Rattle.join_words.specs.Words.{asked};
 ghost use Rattle.trace_law.specs.Runs.{IsRunOf};
-ghost use Rattle.join_cli.specs.Plan.{IsFit, IsJournalOf, input_of, output_of, setting_of, text_of, tickets_of};
+ghost use Rattle.join_cli.specs.Plan.{IsFit, input_of, output_of, setting_of, text_of, tickets_of};
+ghost use Rattle.join_cli.specs.Courses.{IsCourseOf, IsReplayed, IsRunInThreads, WentAs};
 
 use crate::plan::Planned;
 use join_report::{pairs_text, report_text};
 use join_rows::{Bytes, Side, Table};
+use join_runtime::{Told, Trail, run};
 use join_words::Options;
 use link_trace::{Input, Run, Setting, replay};
 use load_controller::Journal;
 use row_tickets::tickets;
 use std::alloc::{AllocError, Global};
 use std::sync::Wait;
+use std::thread::Threads;
+use worker_gate::Gate;
 
-/// How many threads are to work the actors. A replay has none of them.
-const WORKERS: u32 = 4;
-
-/// The text of an output, and the journal of its run.
+/// The text of an output, with the journal of its run and what the run's seats left.
 #[derive(Drop)]
 pub(crate) struct Joined {
     pub(crate) text: String,
     pub(crate) journal: Journal,
+    pub(crate) trail: Trail,
 }
 
 /// The setting that the options ask for.
 fn setting(options: &Options<'_>) -> Setting
     requires small { options.now.k ≤ 6 }
     requires feeders { (1 ≤ options.now.feeders) × (options.now.feeders ≤ 8) }
+    requires workers { (1 ≤ options.now.workers) × (options.now.workers ≤ 16) }
     requires batch { (1 ≤ options.now.batch) × (options.now.batch ≤ 4096) }
     requires fits { IfSome options.now.fixed (λ fixed. fixed ≤ options.now.k) }
     ensures is { result ≡ setting_of (asked options.now) }
@@ -38,7 +41,7 @@ fn setting(options: &Options<'_>) -> Setting
     Setting {
         k: options.k,
         feeders: options.feeders,
-        workers: WORKERS,
+        workers: options.workers,
         batch: options.batch,
         feed: options.feed,
         fixed: options.fixed,
@@ -104,28 +107,97 @@ fn text(
     Ok(text)
 }
 
-/// The output that the options ask for of a plan, by a replay.
-pub(crate) fn output<R: Wait>(
+/// A run, and what its seats left.
+#[derive(Drop)]
+struct Course {
+    run: Run,
+    trail: Trail,
+}
+
+/// A replay with this number.
+fn replayed<R: Wait>(
+    rt: &R,
+    alloc: Global,
+    input: &Input,
+    setting: &Setting,
+    seed: u64,
+) -> Result<Course, AllocError>
+    requires input { IsValidInput input.now }
+    requires setting { IsValidSetting setting.now }
+    ensures run { IfOk result (λ course. IsRunOf input.now setting.now course.run.journal course.run) }
+    ensures went { IfOk result (λ course. IsReplayed input.now setting.now seed course.run.journal course.trail) }
+{
+    let run = replay(rt, alloc, input, setting, seed)?;
+    Ok(Course {
+        run,
+        trail: Trail::new(alloc),
+    })
+}
+
+/// A run in threads.
+fn threaded<R: Threads + Wait + Sync, G: Gate>(
+    rt: &R,
+    alloc: Global,
+    input: &Input,
+    setting: &Setting,
+    gate: &G,
+) -> Result<Course, AllocError>
+    requires input { IsValidInput input.now }
+    requires setting { IsValidSetting setting.now }
+    ensures run { IfOk result (λ course. IsRunOf input.now setting.now course.run.journal course.run) }
+    ensures went { IfOk result (λ course. IsRunInThreads input.now setting.now course.run.journal course.trail) }
+{
+    let Told { run, ends } = run(rt, alloc, input, setting, gate)?;
+    let mut trail = Trail::new(alloc);
+    trail.push(ends)?;
+    Ok(Course { run, trail })
+}
+
+/// The run that the options ask for: in threads, or as a replay where a number of one is given.
+fn carry_out<R: Threads + Wait + Sync, G: Gate>(
+    rt: &R,
+    alloc: Global,
+    number: Option<u64>,
+    input: &Input,
+    setting: &Setting,
+    gate: &G,
+) -> Result<Course, AllocError>
+    requires input { IsValidInput input.now }
+    requires setting { IsValidSetting setting.now }
+    ensures run { IfOk result (λ course. IsRunOf input.now setting.now course.run.journal course.run) }
+    ensures went { IfOk result (λ course. WentAs number input.now setting.now course.run.journal course.trail) }
+{
+    match number {
+        Some(seed) => replayed(rt, alloc, input, setting, seed),
+        None => threaded(rt, alloc, input, setting, gate),
+    }
+}
+
+/// The output that the options ask for of a plan.
+pub(crate) fn output<R: Threads + Wait + Sync, G: Gate>(
     rt: &R,
     alloc: Global,
     options: &Options<'_>,
     planned: Planned,
+    gate: &G,
 ) -> Result<Joined, AllocError>
     requires fit { IsFit planned }
     requires small { options.now.k ≤ 6 }
     requires feeders { (1 ≤ options.now.feeders) × (options.now.feeders ≤ 8) }
+    requires workers { (1 ≤ options.now.workers) × (options.now.workers ≤ 16) }
     requires batch { (1 ≤ options.now.batch) × (options.now.batch ≤ 4096) }
     requires fits { IfSome options.now.fixed (λ fixed. fixed ≤ options.now.k) }
-    ensures lawful { IfOk result (λ joined. IsJournalOf (asked options.now) planned joined.journal) }
+    ensures course { IfOk result (λ joined. IsCourseOf (asked options.now) planned joined.journal joined.trail) }
     ensures text { IfOk result (λ joined. string_bytes joined.text
         ≡ output_of (asked options.now) planned joined.journal) }
 {
     let setting = setting(options);
     let input = input(alloc, options.seed, planned)?;
-    let run = replay(rt, alloc, &input, &setting, options.replay.unwrap_or(0))?;
+    let Course { run, trail } = carry_out(rt, alloc, options.replay, &input, &setting, gate)?;
     let text = text(alloc, options.report, &input, &setting, &run)?;
     Ok(Joined {
         text,
         journal: run.journal,
+        trail,
     })
 }

@@ -2,11 +2,14 @@ use crate::jm_main;
 use join_rows::{ListSink, MapShelf};
 use std::alloc::{AllocError, Global};
 use std::sync::Wait;
+use std::thread::Threads;
+use worker_gate::NoGate;
 
 mod calls;
 mod faults;
 mod replays;
 mod rows;
+mod threads;
 
 // The number of a call that isn't made.
 const NEVER: u64 = 1000000;
@@ -22,7 +25,7 @@ fn words(alloc: Global, texts: &[&str]) -> Result<Vec<String>, AllocError> {
 
 // Whether a run over these files `r` and `s` ends with this status, puts this line alone on standard
 // error and writes these bytes, where a pick, a read and a put of these numbers fail.
-fn ends<R: Wait>(
+fn ends<R: Threads + Wait + Sync>(
     rt: &R,
     alloc: Global,
     texts: &[&str],
@@ -40,7 +43,15 @@ fn ends<R: Wait>(
     sink.fail_put(put)?;
     let words = words(alloc, texts)?;
     let mut errors = ListSink::new(alloc, 200)?;
-    let outcome = jm_main(rt, alloc, &words, &mut shelf, &mut sink, &mut errors);
+    let outcome = jm_main(
+        rt,
+        alloc,
+        &words,
+        &mut shelf,
+        &mut sink,
+        &mut errors,
+        &NoGate,
+    );
     let (status, line, written) = wanted;
     Ok(
         outcome.status() == status

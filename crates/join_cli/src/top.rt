@@ -7,6 +7,7 @@ ghost use Rattle.load_controller.specs.declared.line.TurnLine.{TurnLine};
 ghost use Rattle.theta_text.specs.Grammar.{Tree};
 ghost use Rattle.theta_text.specs.declared.fault.PredFault.{PredFault};
 ghost use Rattle.theta_text.specs.Texts.{IsFaultOf, TextReads, limits};
+ghost use Rattle.join_runtime.specs.Endings.{EndsView};
 ghost use Rattle.join_words.specs.Words.{Asked, asked, asked_of};
 ghost use Rattle.join_words.specs.declared.options.WordsFault.{WordsFault};
 ghost use Rattle.join_cli.specs.declared.outcome.TextFault.{TextFault};
@@ -26,19 +27,23 @@ use join_rows::{Failed, Shelf, Sink};
 use join_words::{Options, WordsError, read_words};
 use std::alloc::{AllocError, Global};
 use std::sync::Wait;
+use std::thread::Threads;
+use worker_gate::Gate;
 
 /// Joins what the options ask for. What it promises holds if it returns.
-fn join_files<R: Wait, H: Shelf, K: Sink>(
+fn join_files<R: Threads + Wait + Sync, H: Shelf, K: Sink, G: Gate>(
     rt: &R,
     alloc: Global,
     options: &Options<'_>,
     shelf: &mut H,
     sink: &mut K,
+    gate: &G,
 ) -> Outcome
     requires shelf { H.faults shelf.old < last_fault }
     requires sink { K.faults sink.old < last_fault }
     requires small { options.now.k ≤ 6 }
     requires feeders { (1 ≤ options.now.feeders) × (options.now.feeders ≤ 8) }
+    requires workers { (1 ≤ options.now.workers) × (options.now.workers ≤ 16) }
     requires batch { (1 ≤ options.now.batch) × (options.now.batch ≤ 4096) }
     requires fits { IfSome options.now.fixed (λ fixed. fixed ≤ options.now.k) }
     ensures words { (fault : WordsFault) → result ≢ Outcome.Words fault }
@@ -56,8 +61,8 @@ fn join_files<R: Wait, H: Shelf, K: Sink>(
         → plan_of (asked options.now) (Ok tree) files ≡ Ok planned → H.sound shelf.old
         → TakesEach (K.takes sink.old) (asked options.now) planned
         → IsDone result ⊎ (result ≡ Outcome.Memory) }
-    ensures done { (journal : List TurnLine) → result ≡ Outcome.Done journal
-        → Wrote (H.told shelf.old) (asked options.now) journal (K.written sink.old) (K.written sink.new) }
+    ensures done { (journal : List TurnLine) (trail : List EndsView) → result ≡ Outcome.Done journal trail
+        → Wrote (H.told shelf.old) (asked options.now) journal trail (K.written sink.old) (K.written sink.new) }
     ensures front { result ≡ Outcome.Write
         → WroteFront (H.told shelf.old) (asked options.now) (K.written sink.old) (K.written sink.new) }
     ensures nothing { (IsDone result → ⊥) → result ≢ Outcome.Write → sink.new ≡ sink.old }
@@ -76,12 +81,16 @@ fn join_files<R: Wait, H: Shelf, K: Sink>(
         Ok(planned) => planned,
         Err(refusal) => return refused(refusal),
     };
-    let Joined { text, journal } = match output(rt, alloc, options, planned) {
+    let Joined {
+        text,
+        journal,
+        trail,
+    } = match output(rt, alloc, options, planned, gate) {
         Ok(joined) => joined,
         Err(AllocError) => return Outcome::Memory,
     };
     match put_all(sink, text.as_bytes()) {
-        Ok(()) => Outcome::Done { journal },
+        Ok(()) => Outcome::Done { journal, trail },
         Err(Failed) => Outcome::Write,
     }
 }
@@ -89,13 +98,15 @@ fn join_files<R: Wait, H: Shelf, K: Sink>(
 /// Runs `jm` with these words, the program's name first. The first of these that applies is
 /// answered: the words, the text of the predicate, the file of R, the file of S, the columns, the
 /// numbers of R and then of S; then the join is run and its output made whole, and then it is written.
-/// Memory may run out at each of them. What it promises holds if it returns.
-pub fn join_main<R: Wait, H: Shelf, K: Sink>(
+/// Memory may run out at each of them. The run is one in as many threads as there are workers, whose seats pass the gate
+/// at each turn, or a replay in one thread. What it promises holds if it returns.
+pub fn join_main<R: Threads + Wait + Sync, H: Shelf, K: Sink, G: Gate>(
     rt: &R,
     alloc: Global,
     words: &[String],
     shelf: &mut H,
     sink: &mut K,
+    gate: &G,
 ) -> Outcome
     requires shelf { H.faults shelf.old < last_fault }
     requires sink { K.faults sink.old < last_fault }
@@ -119,9 +130,9 @@ pub fn join_main<R: Wait, H: Shelf, K: Sink>(
         → plan_of asked (Ok tree) files ≡ Ok planned → H.sound shelf.old
         → TakesEach (K.takes sink.old) asked planned
         → IsDone result ⊎ (result ≡ Outcome.Memory) }
-    ensures done { (journal : List TurnLine) → result ≡ Outcome.Done journal
+    ensures done { (journal : List TurnLine) (trail : List EndsView) → result ≡ Outcome.Done journal trail
         → (asked : Asked) × (asked_of (map string_bytes words.now) ≡ Ok asked)
-        × Wrote (H.told shelf.old) asked journal (K.written sink.old) (K.written sink.new) }
+        × Wrote (H.told shelf.old) asked journal trail (K.written sink.old) (K.written sink.new) }
     ensures front { result ≡ Outcome.Write → (asked : Asked) × (asked_of (map string_bytes words.now) ≡ Ok asked)
         × WroteFront (H.told shelf.old) asked (K.written sink.old) (K.written sink.new) }
     ensures nothing { (IsDone result → ⊥) → result ≢ Outcome.Write → sink.new ≡ sink.old }
@@ -137,7 +148,7 @@ pub fn join_main<R: Wait, H: Shelf, K: Sink>(
     ensures told { H.told shelf.new ≡ H.told shelf.old }
 {
     match read_words(alloc, words) {
-        Ok(options) => join_files(rt, alloc, &options, shelf, sink),
+        Ok(options) => join_files(rt, alloc, &options, shelf, sink, gate),
         Err(WordsError::Fault(fault)) => Outcome::Words(fault),
         Err(WordsError::Memory) => Outcome::Memory,
     }

@@ -6,6 +6,8 @@ use join_rows::{ListSink, MapShelf};
 use std::alloc::{AllocError, Global};
 use std::sync::Wait;
 use std::test::Fail;
+use std::thread::Threads;
+use worker_gate::NoGate;
 
 const R: &str = "id,x\n1,10\n2,20\n3,30\n";
 
@@ -40,7 +42,11 @@ pub(super) fn forty(alloc: Global, header: &str) -> Result<String, AllocError> {
 }
 
 // The status, and the number of bytes that 1,600 pairs leave in a sink, where a put fails.
-fn of_forty<R: Wait>(rt: &R, alloc: Global, put: u64) -> Result<(u8, u64), AllocError> {
+fn of_forty<R: Threads + Wait + Sync>(
+    rt: &R,
+    alloc: Global,
+    put: u64,
+) -> Result<(u8, u64), AllocError> {
     let r = forty(alloc, "x\n")?;
     let s = forty(alloc, "y\n")?;
     let mut shelf = MapShelf::new(alloc);
@@ -50,7 +56,7 @@ fn of_forty<R: Wait>(rt: &R, alloc: Global, put: u64) -> Result<(u8, u64), Alloc
     sink.fail_put(put)?;
     let texts = ["jm", "--on", "1 = 1", "r", "s"];
     let words = words(alloc, texts.as_slice())?;
-    let outcome = join_main(rt, alloc, &words, &mut shelf, &mut sink);
+    let outcome = join_main(rt, alloc, &words, &mut shelf, &mut sink, &NoGate);
     Ok((outcome.status(), sink.written().len() as u64))
 }
 

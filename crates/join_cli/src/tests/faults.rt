@@ -4,6 +4,7 @@ use super::{NEVER, ends};
 use std::alloc::{AllocError, Global};
 use std::sync::Wait;
 use std::test::Fail;
+use std::thread::Threads;
 
 const R: &str = "id,x\n1,10\n2,20\n3,30\n";
 
@@ -12,7 +13,7 @@ const S: &str = "id,y\n1,20\n2,30\n3,20\n";
 const USAGE: &str = "usage: jm --on TEXT [options] R.csv S.csv\n";
 
 // Whether the words are refused so.
-fn refuses<R: Wait>(
+fn refuses<R: Threads + Wait + Sync>(
     rt: &R,
     alloc: Global,
     texts: &[&str],

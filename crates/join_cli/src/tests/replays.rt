@@ -10,7 +10,9 @@ use row_tickets::{Feed, tickets};
 use std::alloc::{AllocError, Global};
 use std::sync::Wait;
 use std::test::Fail;
+use std::thread::Threads;
 use theta_pred::{Theta, parse, resolve};
+use worker_gate::NoGate;
 
 // The table of a file of 40 rows.
 fn table(alloc: Global, header: &str) -> Result<Table, AllocError> {
@@ -58,7 +60,11 @@ fn batches_of_four() -> Setting {
 }
 
 // The journal of a call with this number.
-fn answered<R: Wait>(rt: &R, alloc: Global, number: &str) -> Result<Journal, AllocError> {
+fn answered<R: Threads + Wait + Sync>(
+    rt: &R,
+    alloc: Global,
+    number: &str,
+) -> Result<Journal, AllocError> {
     let r = forty(alloc, "x\n")?;
     let s = forty(alloc, "y\n")?;
     let mut shelf = MapShelf::new(alloc);
@@ -69,8 +75,8 @@ fn answered<R: Wait>(rt: &R, alloc: Global, number: &str) -> Result<Journal, All
         "jm", "--on", "1 = 1", "--batch", "4", "--replay", number, "r", "s",
     ];
     let words = words(alloc, texts.as_slice())?;
-    match join_main(rt, alloc, &words, &mut shelf, &mut sink) {
-        Outcome::Done { journal } => Ok(journal),
+    match join_main(rt, alloc, &words, &mut shelf, &mut sink, &NoGate) {
+        Outcome::Done { journal, .. } => Ok(journal),
         _ => Err(AllocError),
     }
 }

@@ -6,13 +6,15 @@ use join_rows::{ListSink, MapShelf};
 use std::alloc::{AllocError, Global};
 use std::sync::Wait;
 use std::test::Fail;
+use std::thread::Threads;
+use worker_gate::NoGate;
 
 const R: &str = "id,x\n1,10\n2,20\n3,30\n";
 
 const S: &str = "id,y\n1,20\n2,30\n3,20\n";
 
 // Whether the words write these bytes.
-fn writes<R: Wait>(
+fn writes<R: Threads + Wait + Sync>(
     rt: &R,
     alloc: Global,
     texts: &[&str],
@@ -83,13 +85,17 @@ fn joins_a_file_with_itself(rt: HostRuntime) -> Result<(), Fail> {
 }
 
 // The output of these words.
-fn output<R: Wait>(rt: &R, alloc: Global, texts: &[&str]) -> Result<Vec<u8>, AllocError> {
+fn output<R: Threads + Wait + Sync>(
+    rt: &R,
+    alloc: Global,
+    texts: &[&str],
+) -> Result<Vec<u8>, AllocError> {
     let mut shelf = MapShelf::new(alloc);
     shelf.add("r", R.as_bytes())?;
     shelf.add("s", S.as_bytes())?;
     let mut sink = ListSink::new(alloc, 10000)?;
     let words = words(alloc, texts)?;
-    let _outcome = join_main(rt, alloc, &words, &mut shelf, &mut sink);
+    let _outcome = join_main(rt, alloc, &words, &mut shelf, &mut sink, &NoGate);
     Vec::from_slice(alloc, sink.written())
 }
 

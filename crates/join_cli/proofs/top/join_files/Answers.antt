@@ -9,15 +9,15 @@ use Rattle.join_cli.proofs.Asking.{wrote, wrote_front}
 use Rattle.join_cli.proofs.top.join_files.Goals as goal
 
 pub returns-in-Ok-put_all-clause-done : goal.returns-in-Ok-put_all-clause-done
-returns-in-Ok-put_all-clause-done g c = λ journal is.
+returns-in-Ok-put_all-clause-done g c = λ journal trail is.
     wrote (g.H.Shelf.told c.args.shelf.now) (asked c.args.options.now) (g.K.Sink.written c.args.sink.now) (g.K.Sink.written c.put_all.new.sink)
-    c.in-Ok.planned c.in-Ok-output.joined.journal journal c.as_bytes.result.now c.in-Ok.ensures.asked c.in-Ok-output.ensures.lawful c.in-Ok-put_all.ensures.written
+    c.in-Ok.planned c.in-Ok-output.joined.journal journal c.in-Ok-output.joined.trail trail c.as_bytes.result.now c.in-Ok.ensures.asked c.in-Ok-output.ensures.course c.in-Ok-put_all.ensures.written
     (c.as_bytes.ensures.value ∙ c.in-Ok-output.ensures.text) is
 
 pub returns-clause-front : goal.returns-clause-front
 returns-clause-front g c = λ is.
     wrote_front (g.H.Shelf.told c.args.shelf.now) (asked c.args.options.now) (g.K.Sink.written c.args.sink.now) (g.K.Sink.written c.put_all.new.sink)
-    c.in-Ok.planned c.in-Ok-output.joined.journal c.as_bytes.result.now c.in-Ok.ensures.asked c.in-Ok-output.ensures.lawful c.in-Err-put_all.ensures.front
+    c.in-Ok.planned c.in-Ok-output.joined.journal c.as_bytes.result.now c.in-Ok.ensures.asked c.in-Ok-output.ensures.course.lawful c.in-Err-put_all.ensures.front
     (c.as_bytes.ensures.value ∙ c.in-Ok-output.ensures.text)
 
 pub returns-in-Err-clause-answer : goal.returns-in-Err-clause-answer
@@ -40,13 +40,13 @@ returns-in-Ok-put_all-clause-early g c fault is = absurd (c.in-Ok.ensures.early 
 
 pub returns-in-Ok-put_all-clause-answer : goal.returns-in-Ok-put_all-clause-answer
 returns-in-Ok-put_all-clause-answer g c reading is same same_sink =
-    ends_done (g.H.Shelf.told c.args.shelf.now) (asked c.args.options.now) reading c.in-Ok.planned c.in-Ok-output.joined.journal c.in-Ok-output.ensures.lawful
+    ends_done (g.H.Shelf.told c.args.shelf.now) (asked c.args.options.now) reading c.in-Ok.planned c.in-Ok-output.joined.journal c.in-Ok-output.joined.trail c.in-Ok-output.ensures.course
     (λ files told. c.in-Ok.ensures.answer files reading told is same)
 
 pub returns-in-Ok-put_all-clause-seen : goal.returns-in-Ok-put_all-clause-seen
 returns-in-Ok-put_all-clause-seen g c tree reads read memory =
     end_done (g.H.Shelf.told c.args.shelf.now) (g.H.Shelf.picked c.prepare.new.shelf) (asked c.args.options.now) tree (g.K.Sink.written c.args.sink.now) (g.K.Sink.written c.put_all.new.sink)
-    c.in-Ok.planned c.in-Ok-output.joined.journal (c.in-Ok.ensures.seen tree reads (λ e. cc e) (λ e. cc e)) c.in-Ok-output.ensures.lawful
+    c.in-Ok.planned c.in-Ok-output.joined.journal c.in-Ok-output.joined.trail (c.in-Ok.ensures.seen tree reads (λ e. cc e) (λ e. cc e)) c.in-Ok-output.ensures.course
     (c.in-Ok-put_all.ensures.written ∙ ap (append_known (g.K.Sink.written c.args.sink.now)) (c.as_bytes.ensures.value ∙ c.in-Ok-output.ensures.text))
 
 pub returns-clause-early : goal.returns-clause-early
@@ -55,7 +55,7 @@ returns-clause-early g c fault is = absurd (c.in-Ok.ensures.early fault is).0
 pub returns-clause-seen : goal.returns-clause-seen
 returns-clause-seen g c tree reads read memory =
     end_front (g.H.Shelf.told c.args.shelf.now) (g.H.Shelf.picked c.prepare.new.shelf) (asked c.args.options.now) tree (g.K.Sink.written c.args.sink.now) (g.K.Sink.written c.put_all.new.sink)
-    c.in-Ok.planned c.in-Ok-output.joined.journal (c.in-Ok.ensures.seen tree reads (λ e. cc e) (λ e. cc e)) c.in-Ok-output.ensures.lawful
+    c.in-Ok.planned c.in-Ok-output.joined.journal (c.in-Ok.ensures.seen tree reads (λ e. cc e) (λ e. cc e)) c.in-Ok-output.ensures.course.lawful
     (subst (AppendsFront (g.K.Sink.written c.args.sink.now) (g.K.Sink.written c.put_all.new.sink)) (c.as_bytes.ensures.value ∙ c.in-Ok-output.ensures.text) c.in-Err-put_all.ensures.front)
 
 pub returns-clause-complete : goal.returns-clause-complete
@@ -63,4 +63,4 @@ returns-clause-complete g c files tree planned told reads plan sound takes =
     let made = complete_made c.in-Ok.planned planned (plan_of (asked c.args.options.now) (Ok tree) files) (c.in-Ok.ensures.answer files (Ok tree) told reads (c.in-Ok.ensures.sound sound)) plan in
     absurd (cc (c.in-Err-put_all.ensures.takes
     (takes_made (g.K.Sink.takes c.args.sink.now) (asked c.args.options.now) c.in-Ok.planned planned c.in-Ok-output.joined.journal c.as_bytes.result.now
-    made c.in-Ok-output.ensures.lawful (c.as_bytes.ensures.value ∙ c.in-Ok-output.ensures.text) takes)))
+    made c.in-Ok-output.ensures.course.lawful (c.as_bytes.ensures.value ∙ c.in-Ok-output.ensures.text) takes)))
