@@ -13,3 +13,6 @@ pub use bouts::{Seats, bout};
 pub use ends::{End, Ends, Told, Trail};
 pub use runs::run;
 pub use seat::Seat;
+
+#[cfg(test)]
+mod tests;

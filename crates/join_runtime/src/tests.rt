@@ -1,0 +1,127 @@
+use crate::{Told, run};
+use epoch_tags::Actor;
+use join_rows::{Bytes, Cell, Cells, Names, Rows, Table};
+use row_tickets::Feed;
+use std::alloc::{AllocError, Global};
+use std::sync::Wait;
+use std::test::Fail;
+use std::thread::Threads;
+use theta_pred::{Theta, parse, resolve};
+use trace_law::{Input, Setting};
+use worker_gate::{Gate, NoGate, PairGate};
+
+fn row(alloc: Global, number: i64) -> Result<Cells, AllocError> {
+    let mut row = Cells::new(alloc);
+    row.push(Cell {
+        text: Bytes::new(alloc),
+        num: Some(number),
+    })?;
+    Ok(row)
+}
+
+// A table with one column.
+fn table(alloc: Global, name: &[u8], numbers: [i64; 3]) -> Result<Table, AllocError> {
+    let mut names = Names::new(alloc);
+    names.push(Bytes::from_slice(alloc, name)?)?;
+    let mut rows = Rows::new(alloc);
+    for number in numbers {
+        rows.push(row(alloc, number)?)?;
+    }
+    Ok(Table { names, rows })
+}
+
+fn equality(alloc: Global, table_r: &Table, table_s: &Table) -> Result<Theta, AllocError> {
+    let Ok(pred) = parse(alloc, "r.x = s.y") else {
+        return Err(AllocError);
+    };
+    match resolve(alloc, &pred, &table_r.names, &table_s.names) {
+        Ok(theta) => Ok(theta),
+        Err(_) => Err(AllocError),
+    }
+}
+
+fn three_rows_a_side(alloc: Global, tickets: [u8; 3]) -> Result<Input, AllocError> {
+    let table_r = table(alloc, b"x", [10, 20, 30])?;
+    let table_s = table(alloc, b"y", [20, 30, 20])?;
+    let theta = equality(alloc, &table_r, &table_s)?;
+    Ok(Input {
+        table_r,
+        table_s,
+        theta,
+        tickets_r: Bytes::from_slice(alloc, &tickets)?,
+        tickets_s: Bytes::from_slice(alloc, &tickets)?,
+    })
+}
+
+// Four joiners.
+fn setting(feeders: u32, workers: u32) -> Setting {
+    Setting {
+        k: 2,
+        feeders,
+        workers,
+        batch: 1,
+        feed: Feed::Alternate,
+        fixed: None,
+    }
+}
+
+fn run_checked<R: Threads + Wait + Sync, G: Gate>(
+    rt: &R,
+    alloc: Global,
+    input: &Input,
+    setting: &Setting,
+    gate: &G,
+) -> Result<Told, AllocError> {
+    if input.valid() && setting.valid() {
+        run(rt, alloc, input, setting, gate)
+    } else {
+        Err(AllocError)
+    }
+}
+
+// Whether the answer has the three pairs, in order.
+fn has_the_pairs(told: &Told) -> bool {
+    let pairs = told.run.pairs.as_slice();
+    let mut places = pairs.iter().map(|pair| (pair.i, pair.j));
+    places.next() == Some((1, 0))
+        && places.next() == Some((1, 2))
+        && places.next() == Some((2, 1))
+        && places.next() == None
+}
+
+#[test]
+fn any_number_of_workers_finds_the_pairs(rt: HostRuntime) -> Result<(), Fail> {
+    let alloc = rt.alloc();
+    let input = three_rows_a_side(alloc, [161, 123, 186])?;
+    for workers in [1u32, 4, 16] {
+        let told = run_checked(&rt, alloc, &input, &setting(2, workers), &NoGate)?;
+        assert!(rt; has_the_pairs(&told), "with {workers} workers");
+        assert!(rt; told.run.bouts > 0, "bouts with {workers} workers");
+    }
+    Ok(())
+}
+
+#[test]
+fn where_all_tickets_are_0_one_joiner_makes_all(rt: HostRuntime) -> Result<(), Fail> {
+    let alloc = rt.alloc();
+    let input = three_rows_a_side(alloc, [0, 0, 0])?;
+    let told = run_checked(&rt, alloc, &input, &setting(1, 2), &NoGate)?;
+    assert!(rt; has_the_pairs(&told), "pairs");
+    assert_eq!(rt;
+        told.run.made.as_slice().first(),
+        Some(&3),
+        "made by joiner 0"
+    );
+    Ok(())
+}
+
+#[test]
+fn two_workers_meet(rt: HostRuntime) -> Result<(), Fail> {
+    let alloc = rt.alloc();
+    let input = three_rows_a_side(alloc, [161, 123, 186])?;
+    let gate = PairGate::new(Actor::Joiner(0), Actor::Collector, 1 << 27);
+    let told = run_checked(&rt, alloc, &input, &setting(1, 2), &gate)?;
+    assert!(rt; has_the_pairs(&told), "pairs");
+    assert!(rt; gate.met(), "the two met");
+    Ok(())
+}
