@@ -11,13 +11,13 @@ use Rattle.epoch_tags.specs.declared.message.Post.{Post}
 use Rattle.trace_law.specs.declared.input.Input.{Input}
 use Rattle.trace_law.specs.declared.setting.Setting.{Setting}
 use Rattle.link_trace.specs.Lists.{ActorLists, Cause, Took, Began, same_actor, posted_to, with_event}
-use Rattle.link_trace.specs.Standing.{Stands, Event}
+use Rattle.link_trace.specs.Standing.{Stands, Event, GoOut}
 use Rattle.link_trace.specs.Families.{start_for, IsActor, changed, put_on, taken_off, after_event}
 use Rattle.link_trace.specs.Numbers.{number, at_number}
 use Rattle.link_trace.specs.Worlds.{MakesEvent, Delivers, OccursAt, TakesOff, KeepsOthers, core_in, left_in}
 use Rattle.link_trace.specs.declared.machines.Core.{Core}
 use Rattle.link_trace.proofs.Balances.{same_is, delivery_balances, beginning_balances}
-use Rattle.link_trace.proofs.OwnNumbers.{same_number, none_some, some_is}
+use Rattle.link_trace.proofs.OwnNumbers.{same_number, none_some, some_is, is_actor}
 use Rattle.link_trace.proofs.Waiting.{left-with, left_between}
 
 -- ---- machines
@@ -70,6 +70,14 @@ stands_after self cause core next old new posts was now event input setting f st
         (next, refl, event.stands (start_for input setting a) (f self) (subst (λ z. Stands (start_for input setting a) (f z) core) (sym here) stood))
     go false e = stands a is
 
+goes_out : (self : Actor) (cause : Cause) (core next : Core) (old : Actor → Option Core) (posts : List Post) → old self ≡ Some core → Event cause core next posts
+    → (input : Input) (setting : Setting) (f : Actor → ActorLists) → IsActor setting self
+    → ((a : Actor) → IsActor setting a → (c : Core) × (old a ≡ Some c) × Stands (start_for input setting a) (f a) c) → GoOut (start_for input setting self) posts
+goes_out self cause core next old posts was event input setting f is stands =
+    let own = stands self is in
+    let core_is = some_is own.0 core (sym own.1 ∙ was) in
+    event.over (start_for input setting self) (f self) (subst (λ c. Stands (start_for input setting self) (f self) c) core_is own.2)
+
 -- a machine made an event, and its posts were put on their links
 module _ (joiners feeders : ℕ) (self : Actor) (n : ℕ) (at : number joiners feeders self ≡ Some n) (cause : Cause) (cores cores' : List Core) (ws middle ws' : List (List (List Msg))) (sends : List Post) (occurs : OccursAt n cause cores cores' [] sends) (put : left_in joiners feeders ws' ≡ put_on self sends (left_in joiners feeders middle)) (empties : (x y : Actor) → left_in joiners feeders ws x y ≡ [] → left_in joiners feeders middle x y ≡ []) where
   was : core_in joiners feeders cores self ≡ Some occurs.core
@@ -102,6 +110,10 @@ module _ (joiners feeders : ℕ) (self : Actor) (n : ℕ) (at : number joiners f
           (ap (λ ps. put_on self ps (left_in joiners feeders middle)) (sym occurs.occurs.sends) ∙ sym put)
           (balances f w.balanced);
     };
+    over = λ input setting f w.
+        let is = is_actor setting joiners feeders self n w.joiners w.feeders at in
+        (is, goes_out self cause occurs.core occurs.next (core_in joiners feeders cores) occurs.occurs.added was occurs.occurs.event input setting f is w.stands);
+    asks = occurs.occurs.event.asks;
     others = others;
   }
 

@@ -1,5 +1,5 @@
 -- A machine's call is one event.
-use Rattle.std.proofs.Common.{◌≡◌, ℕ, ◌==◌, refl, sym, ap, subst, ◌∙◌, cond, List, [], ◌∷◌, ◌++◌, filter_map, append-nil}
+use Rattle.std.proofs.Common.{◌≡◌, ℕ, ◌==◌, refl, sym, ap, subst, ◌∙◌, cond, List, [], ◌∷◌, ◌++◌, filter_map, append-nil, length}
 use Rattle.epoch_tags.specs.declared.actor.Actor.{Actor}
 use Rattle.epoch_tags.specs.declared.actor.Actor.TheVariants.{Feeder, Joiner, Controller, Collector}
 use Rattle.epoch_tags.specs.declared.message.Msg.{Msg}
@@ -49,7 +49,7 @@ feeder_lists_are m posts ls =
 
 pub feeder_takes : (old new : FeederState) (m : ToFeeder) (before after : List Post) → FeederTakes m old new before after
     → Occurs (Took Controller (Feeder' m)) (TheFeeder old) (TheFeeder new) before after
-feeder_takes old new m before after t = record { added = t.added; sends = t.sends; event = record { stands = stands; over = over } }
+feeder_takes old new m before after t = record { added = t.added; sends = t.sends; event = record { stands = stands; over = over; asks = tt } }
   where
     stands : (s : Start) (ls : ActorLists) → Stands s ls (TheFeeder old) → Stands s (with_event (Took Controller (Feeder' m)) t.added ls) (TheFeeder new)
     stands (OfFeeder p feeders s) ls st = subst (λ x. FeederStands s x new) (feeder_lists_are m t.added ls) (t.stands s (feeder_lists ls) st)
@@ -76,7 +76,7 @@ collector_lists_are Collector m ls = refl
 
 pub collector_takes : (old new : CollectorState) (from : Actor) (m : ToCollector) (before : List Post) → CollectorTakes from m old new
     → Occurs (Took from (Collector' m)) (TheCollector old) (TheCollector new) before before
-collector_takes old new from m before t = record { added = []; sends = sym (append-nil before); event = record { stands = stands; over = over } }
+collector_takes old new from m before t = record { added = []; sends = sym (append-nil before); event = record { stands = stands; over = over; asks = tt } }
   where
     stands : (s : Start) (ls : ActorLists) → Stands s ls (TheCollector old) → Stands s (with_event (Took from (Collector' m)) [] ls) (TheCollector new)
     stands (OfFeeder p feeders s) ls st = st
@@ -100,7 +100,7 @@ feeder_lists_begun posts ls =
 
 pub feeder_begins : (old new : FeederState) (before after : List Post) → Begins old new before after
     → Occurs Began (TheFeeder old) (TheFeeder new) before after
-feeder_begins old new before after t = record { added = t.added; sends = t.sends; event = record { stands = stands; over = over } }
+feeder_begins old new before after t = record { added = t.added; sends = t.sends; event = record { stands = stands; over = over; asks = ap length t.asks_next } }
   where
     stands : (s : Start) (ls : ActorLists) → Stands s ls (TheFeeder old) → Stands s (with_event Began t.added ls) (TheFeeder new)
     stands (OfFeeder p feeders s) ls st = subst (λ x. FeederStands s x new) (feeder_lists_begun t.added ls) (t.stands s (feeder_lists ls) st)
@@ -135,7 +135,7 @@ controller_lists_are Collector m posts old new ls =
 
 pub controller_takes : (old new : ControllerState) (from : Actor) (m : ToController) (before after : List Post) → ControllerTakes from m old new before after
     → Occurs (Took from (Controller' m)) (TheController old) (TheController new) before after
-controller_takes old new from m before after t = record { added = t.added; sends = t.sends; event = record { stands = stands; over = over } }
+controller_takes old new from m before after t = record { added = t.added; sends = t.sends; event = record { stands = stands; over = over; asks = tt } }
   where
     stands : (s : Start) (ls : ActorLists) → Stands s ls (TheController old) → Stands s (with_event (Took from (Controller' m)) t.added ls) (TheController new)
     stands (OfFeeder p feeders s) ls st = st
@@ -181,7 +181,7 @@ joiner_lists_are Collector m posts ls =
 
 pub joiner_takes : (old new : JoinerState) (from : Actor) (m : ToJoiner) (before after : List Post) → JoinerTakes from m old new before after
     → Occurs (Took from (Joiner' m)) (TheJoiner old) (TheJoiner new) before after
-joiner_takes old new from m before after t = record { added = t.added; sends = t.sends; event = record { stands = stands; over = over } }
+joiner_takes old new from m before after t = record { added = t.added; sends = t.sends; event = record { stands = stands; over = over; asks = tt } }
   where
     stands : (s : Start) (ls : ActorLists) → Stands s ls (TheJoiner old) → Stands s (with_event (Took from (Joiner' m)) t.added ls) (TheJoiner new)
     stands (OfFeeder p feeders s) ls st = st

@@ -1,12 +1,12 @@
 -- The links of a run, and who sends to whom.
-use Rattle.std.proofs.Common.{◌≡◌, ℕ, ◌<◌, ◌≤◌, ◌^◌, ◌↔◌, refl, sym, subst, Bool, true, false, inl, inr, true≢false, arith}
+use Rattle.std.proofs.Common.{◌≡◌, ℕ, ◌<◌, ◌^◌, ◌↔◌, refl, sym, subst, Bool, true, false, inl, inr, true≢false, arith}
 use Rattle.std.specs.Prelude.{IsTrue}
 use Rattle.std.proofs.Math.Pow.{pow-lt, pow_mono}
 use Rattle.std.proofs.lemmas.Bool.{cases_lt}
 use Rattle.epoch_tags.specs.Links.{HasLink, feeder_joiner, joiner_joiner, controller_feeder, feeder_controller, joiner_controller, joiner_collector}
 use Rattle.epoch_tags.specs.declared.actor.Actor.{Actor}
 use Rattle.epoch_tags.specs.declared.actor.Actor.TheVariants.{Feeder, Joiner, Controller, Collector}
-use Rattle.link_trace.specs.Numbers.{DifferInOneBit, AreJoined}
+use Rattle.link_trace.specs.Numbers.{AreJoined}
 
 pub below : (low k : ℕ) → 2 ^ low < 2 ^ k → low < k
 below low k less = elim (cases_lt low k) [

@@ -1,29 +1,19 @@
 -- What the marks of a replay keep, and what it has made so far.
-use Rattle.std.proofs.Common.{◌≡◌, ℕ, zero, suc, ◌+◌, ◌-◌, ◌%◌, ◌^◌, ◌<◌, ◌≤◌, refl, sym, ap, subst, ◌∙◌, Bool, true, false, true≢false, inl, inr, List, [], ◌∷◌, length, set, ◌≢◌, Option, Some, None, Result, Ok, Err, min, arith}
+use Rattle.std.proofs.Common.{◌≡◌, ℕ, zero, suc, ◌+◌, ◌<◌, ◌≤◌, refl, sym, ap, subst, ◌∙◌, Bool, true, false, true≢false, inl, inr, List, [], ◌∷◌, length, set, ◌≢◌, Some, arith}
 use Rattle.std.specs.Prelude.{slice_get}
 use Rattle.std.proofs.lemmas.Bool.{cases_eq}
 use Rattle.std.proofs.lemmas.List.{length-set}
 use Rattle.std.proofs.lemmas.Option.{slice_get_within}
-use Rattle.std.specs.Prelude.{IfSome, IfOk, if◌then◌else◌}
-use Rattle.std.specs.declared.alloc.AllocError.{AllocError}
-use Rattle.rand_pcg.specs.Lcg.{Lcg, next, advance, state_after, started, increment_of}
-use Rattle.rand_pcg.specs.Pcg.{multiplier_64, pcg32}
-use Rattle.row_tickets.proofs.Words.{next-advance}
 use Rattle.epoch_tags.specs.declared.actor.Actor.{Actor}
-use Rattle.epoch_tags.specs.declared.actor.Actor.TheVariants.{Feeder, Controller}
+use Rattle.epoch_tags.specs.declared.actor.Actor.TheVariants.{Feeder}
 use Rattle.trace_law.specs.declared.input.Input.{Input}
 use Rattle.trace_law.specs.declared.setting.Setting.{Setting}
-use Rattle.trace_law.specs.declared.run.Run.{Run}
-use Rattle.trace_law.specs.Validity.{IsValidInput, IsValidSetting, IsValid}
-use Rattle.trace_law.specs.Runs.{IsRunOf}
-use Rattle.link_trace.specs.declared.machines.Core.{Core}
 use Rattle.link_trace.specs.declared.slots.Slot.{Slot}
 use Rattle.link_trace.specs.declared.slots.Slot.TheVariants.{Begin, Link}
-use Rattle.link_trace.specs.Lists.{ActorLists, Cause, Took, Began, same_actor, no_lists}
-use Rattle.link_trace.specs.Standing.{GoesOn, IsOver}
-use Rattle.link_trace.specs.Families.{after_event, journal_of}
-use Rattle.link_trace.specs.Worlds.{WorldState, StandsFor, MakesEvent, KeepsOthers, IsSomeAt, IsAllAt, core_of}
-use Rattle.link_trace.specs.Order.{IsIdle, Happens, MakesFirst, AreIdleFrom, Replays, IsReplay, start, event, lost, slots_of, word_of}
+use Rattle.link_trace.specs.Lists.{ActorLists, Cause, Took, Began, same_actor}
+use Rattle.link_trace.specs.Families.{after_event}
+use Rattle.link_trace.specs.Worlds.{WorldState, StandsFor, MakesEvent, KeepsOthers}
+use Rattle.link_trace.specs.Order.{IsIdle, Happens, Replays, start, event, lost}
 use Rattle.link_trace.specs.Marks.{filler_of, maker_of, AreMarked, IsMarkedFor}
 use Rattle.link_trace.proofs.OwnNumbers.{some_is}
 

@@ -1,10 +1,12 @@
 -- The number of an actor is its own.
-use Rattle.std.proofs.Common.{◌≡◌, ℕ, ◌+◌, ◌-◌, ◌==◌, ◌<◌, ltb, eqb-true, eq-eqb, ne_eqb, true≢false, refl, sym, ap, subst, ◌∙◌, Bool, true, false, cond, Some, None, arith}
+use Rattle.std.proofs.Common.{◌≡◌, ℕ, ◌+◌, ◌-◌, ◌==◌, ◌<◌, ◌^◌, ltb, eqb-true, eq-eqb, ne_eqb, true≢false, refl, sym, ap, subst, ◌∙◌, Bool, true, false, cond, Some, None, arith}
 use Rattle.std.specs.Option.{is_none}
 use Rattle.std.proofs.lemmas.Bool.{lt-ltb, le-ltb, ltb-true}
 use Rattle.epoch_tags.specs.declared.actor.Actor.{Actor}
 use Rattle.epoch_tags.specs.declared.actor.Actor.TheVariants.{Feeder, Joiner, Controller, Collector}
+use Rattle.trace_law.specs.declared.setting.Setting.{Setting}
 use Rattle.link_trace.specs.Lists.{same_actor}
+use Rattle.link_trace.specs.Families.{IsActor}
 use Rattle.link_trace.specs.Numbers.{number, actor_at}
 use Rattle.link_trace.proofs.Balances.{same_is}
 
@@ -70,3 +72,15 @@ module _ (joiners feeders : ℕ) where
           let is = eqb-true i k d in
           let same : a ≡ b = sym (number_actor a i at) ∙ (ap (actor_at joiners feeders) is ∙ number_actor b k at') in
           absurd (true≢false (sym (same_self b) ∙ subst (λ z. same_actor z b ≡ false) same e))
+
+-- ---- what has a number is one of the run's actors
+
+below : {X : Type 0} (x : X) (y : X) (n most most' : ℕ) → most ≡ most' → (b : Bool) → ltb n most ≡ b → cond b (Some x) None ≡ Some y → n < most'
+below x y n most most' is true low e = subst (λ z. n < z) is (ltb-true n most low)
+below x y n most most' is false low e = absurd (none_some y e)
+
+pub is_actor : (setting : Setting) (joiners feeders : ℕ) (a : Actor) (n : ℕ) → joiners ≡ 2 ^ setting.k → feeders ≡ setting.feeders → number joiners feeders a ≡ Some n → IsActor setting a
+is_actor setting joiners feeders (Feeder p) n grid many e = below p n p feeders setting.feeders many (ltb p feeders) refl e
+is_actor setting joiners feeders (Joiner j) n grid many e = below (feeders + j) n j joiners (2 ^ setting.k) grid (ltb j joiners) refl e
+is_actor setting joiners feeders Controller n grid many e = tt
+is_actor setting joiners feeders Collector n grid many e = tt

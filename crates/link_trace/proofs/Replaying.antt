@@ -1,16 +1,13 @@
 -- The loop of a replay: what it has made so far, and its answer.
-use Rattle.std.proofs.Common.{◌≡◌, ℕ, zero, suc, ◌+◌, ◌-◌, ◌%◌, ◌^◌, ◌<◌, ◌≤◌, refl, sym, ap, subst, ◌∙◌, Bool, true, false, true≢false, inl, inr, List, [], ◌∷◌, length, set, ◌≢◌, Option, Some, None, Result, Ok, Err, min, arith}
+use Rattle.std.proofs.Common.{◌≡◌, ℕ, ◌+◌, ◌-◌, ◌^◌, ◌≤◌, refl, sym, ap, subst, ◌∙◌, Bool, true, false, List, length, Option, Some, Result, Ok, Err, min, arith}
 use Rattle.std.specs.Prelude.{slice_get}
-use Rattle.std.proofs.lemmas.Bool.{cases_eq}
-use Rattle.std.proofs.lemmas.List.{length-set}
-use Rattle.std.proofs.lemmas.Option.{slice_get_within}
 use Rattle.std.specs.Prelude.{IfSome, IfOk, if◌then◌else◌}
 use Rattle.std.specs.declared.alloc.AllocError.{AllocError}
 use Rattle.rand_pcg.specs.Lcg.{Lcg, next, advance, state_after, started, increment_of}
 use Rattle.rand_pcg.specs.Pcg.{multiplier_64, pcg32}
 use Rattle.row_tickets.proofs.Words.{next-advance}
 use Rattle.epoch_tags.specs.declared.actor.Actor.{Actor}
-use Rattle.epoch_tags.specs.declared.actor.Actor.TheVariants.{Feeder, Controller}
+use Rattle.epoch_tags.specs.declared.actor.Actor.TheVariants.{Controller}
 use Rattle.trace_law.specs.declared.input.Input.{Input}
 use Rattle.trace_law.specs.declared.setting.Setting.{Setting}
 use Rattle.trace_law.specs.declared.run.Run.{Run}
@@ -18,15 +15,13 @@ use Rattle.trace_law.specs.Validity.{IsValidInput, IsValidSetting, IsValid}
 use Rattle.trace_law.specs.Runs.{IsRunOf}
 use Rattle.link_trace.specs.declared.machines.Core.{Core}
 use Rattle.link_trace.specs.declared.slots.Slot.{Slot}
-use Rattle.link_trace.specs.declared.slots.Slot.TheVariants.{Begin, Link}
-use Rattle.link_trace.specs.Lists.{ActorLists, Cause, Took, Began, same_actor, no_lists}
+use Rattle.link_trace.specs.Lists.{ActorLists, no_lists}
 use Rattle.link_trace.specs.Standing.{GoesOn, IsOver}
-use Rattle.link_trace.specs.Families.{after_event, journal_of}
-use Rattle.link_trace.specs.Worlds.{WorldState, StandsFor, MakesEvent, KeepsOthers, IsSomeAt, IsAllAt, core_of}
-use Rattle.link_trace.specs.Order.{IsIdle, Happens, MakesFirst, AreIdleFrom, Replays, IsReplay, start, event, lost, slots_of, word_of}
-use Rattle.link_trace.specs.Marks.{filler_of, maker_of, AreMarked, IsMarkedFor}
-use Rattle.link_trace.proofs.OwnNumbers.{some_is}
-use Rattle.link_trace.proofs.Ordering.{IsReached, replays_reach}
+use Rattle.link_trace.specs.Families.{journal_of}
+use Rattle.link_trace.specs.Worlds.{WorldState, StandsFor, IsSomeAt, IsAllAt, core_of}
+use Rattle.link_trace.specs.Order.{MakesFirst, AreIdleFrom, Replays, IsReplay, start, event, lost, slots_of, word_of}
+use Rattle.link_trace.specs.Marks.{AreMarked}
+use Rattle.link_trace.proofs.Ordering.{replays_reach}
 
 -- ---- the loop of a replay
 
@@ -107,6 +102,15 @@ module _ (input : Input) (setting : Setting) (seed : ℕ) (marks marks' : List B
       goes_on made under goes word_is draws_are (subst (λ s. AreMarked s marks' w') is marked) (λ e. subst (λ s. MakesFirst s word w w') is (happens e))
       (λ e. subst (λ s. AreIdleFrom s word (length s) w) is (idle e)) stays count_is
 
+pub valid_both : (input : Input) (setting : Setting) → IsValidInput input → IsValidSetting setting → IsValid input setting
+valid_both input setting of_input of_setting = record {
+  of_input = of_input;
+  small = let few = of_setting.joiners in omega arith;
+  some = let some = of_setting.some_feeders in omega arith;
+  batch = let some = of_setting.some_rows in omega arith;
+  fixed = λ shift is. subst (λ (o : Option ℕ). IfSome o (λ s. s ≤ setting.k)) is of_setting.fixed;
+}
+
 module _ (input : Input) (setting : Setting) (seed : ℕ) (marks : List Bool) (draws : Lcg) (count : ℕ) (w : WorldState) (under : IsUnderWay input setting seed marks draws count w) where
   pub replayed : (result : Result Run AllocError) → IsAllAt IsOver w.cores
       → IfOk result (λ run. (input' : Input) (setting' : Setting) (lists : Actor → ActorLists) → StandsFor input' setting' w lists
@@ -127,19 +131,10 @@ module _ (input : Input) (setting : Setting) (seed : ℕ) (marks : List Bool) (d
       }
   replayed (Err e) over journal bouts = tt
 
-  valid : IsValidInput input → IsValidSetting setting → IsValid input setting
-  valid of_input of_setting = record {
-    of_input = of_input;
-    small = let few = of_setting.joiners in omega arith;
-    some = let some = of_setting.some_feeders in omega arith;
-    batch = let some = of_setting.some_rows in omega arith;
-    fixed = λ shift is. subst (λ (o : Option ℕ). IfSome o (λ s. s ≤ setting.k)) is of_setting.fixed;
-  }
-
   pub answers : (result : Result Run AllocError) → IsValidInput input → IsValidSetting setting
       → IfOk result (λ run. (input' : Input) (setting' : Setting) (lists : Actor → ActorLists) → IsValid input' setting' → StandsFor input' setting' w lists → IsRunOf input' setting' run.journal run)
       → IfOk result (λ run. IsRunOf input setting run.journal run)
   answers (Ok run) of_input of_setting is =
       let reached = replays_reach input setting (slots_of setting) seed under.first under.drawn under.events w under.replays (record { lists = λ actor. no_lists; stands = under.fresh }) in
-      is input setting reached.lists (valid of_input of_setting) reached.stands
+      is input setting reached.lists (valid_both input setting of_input of_setting) reached.stands
   answers (Err e) of_input of_setting is = tt

@@ -1,5 +1,5 @@
 -- Marks at slots: where there is none, the slot has no event.
-use Rattle.std.specs.Prelude.{◌≡◌, ℕ, List, length, slice_get, Some, Bool, true, false}
+use Rattle.std.specs.Prelude.{◌≡◌, ℕ, List, length, slice_get, Some, Bool, false}
 use Rattle.epoch_tags.specs.declared.actor.Actor.{Actor}
 use Rattle.epoch_tags.specs.declared.actor.Actor.TheVariants.{Feeder}
 use Rattle.link_trace.specs.declared.slots.Slot.{Slot}

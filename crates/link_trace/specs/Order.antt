@@ -1,10 +1,12 @@
 -- What can happen next in a world, and the order in which a replay makes it happen.
-use Rattle.std.specs.Prelude.{◌≡◌, ℕ, ◌+◌, ◌-◌, ◌%◌, ◌^◌, ◌<◌, min, List, ◌++◌, length, [], map, flat_map, slice_get, Some, bit_xor}
+use Rattle.std.specs.Prelude.{◌≡◌, ℕ, ◌+◌, ◌-◌, ◌*◌, ◌%◌, ◌^◌, ◌<◌, min, List, ◌++◌, length, [], map, flat_map, slice_get, Some, bit_xor}
 use Rattle.std.specs.List.{range_with_len}
 use Rattle.epoch_tags.specs.declared.actor.Actor.{Actor}
 use Rattle.epoch_tags.specs.declared.actor.Actor.TheVariants.{Feeder, Joiner, Controller, Collector}
-use Rattle.rand_pcg.specs.Lcg.{Lcg, advance, started, increment_of}
+use Rattle.rand_pcg.specs.Lcg.{advance, started, increment_of}
 use Rattle.rand_pcg.specs.Pcg.{multiplier_64, pcg32}
+use Rattle.join_rows.specs.declared.table.Side.TheVariants.{R, S}
+use Rattle.trace_law.specs.Join.{row_count}
 use Rattle.trace_law.specs.declared.input.Input.{Input}
 use Rattle.trace_law.specs.declared.setting.Setting.{Setting}
 use Rattle.trace_law.specs.declared.run.Run.{Run}
@@ -96,3 +98,7 @@ pub record IsReplay (input : Input) (setting : Setting) (seed : ℕ) (run : Run)
   pub over : IsAllAt IsOver last.cores
   pub journal : (core : Core) → core_of last Controller ≡ Some core → run.journal ≡ journal_of core
   pub bouts : run.bouts ≡ min events (2 ^ 64 - 1)
+
+-- the most events that a run with so many migrations has
+abbrev pub most_events : Input → Setting → ℕ → ℕ
+most_events input setting migrations = 8 * (row_count input R + row_count input S + setting.feeders + 2) * 2 ^ setting.k * (migrations + 2)

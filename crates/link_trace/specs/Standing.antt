@@ -1,15 +1,15 @@
 -- What the machines stand for, and one event.
-use Rattle.std.specs.Prelude.{◌≡◌, ◌<◌, ℕ, ⊤, true, false, List, [], ◌++◌}
+use Rattle.std.specs.Prelude.{◌≡◌, ◌<◌, ℕ, ⊤, true, false, List, [], ◌++◌, length}
 use Rattle.epoch_tags.specs.declared.actor.Actor.TheVariants.{Feeder, Joiner, Controller}
 use Rattle.epoch_tags.specs.declared.message.Post.{Post}
-use Rattle.epoch_tags.specs.Posts.{AllGoOver}
+use Rattle.epoch_tags.specs.Posts.{AllGoOver, posted_to_controller}
 use Rattle.reshuffler_core.specs.Law.{FeederStart}
 use Rattle.reshuffler_core.specs.Standing.{StandsFor as FeederStands, IsWaiting}
 use Rattle.joiner_law.specs.Law.{JoinerStart, JoinerLists, IsFinished}
 use Rattle.joiner_core.specs.Joining.{StandsFor as JoinerStands}
 use Rattle.load_controller.specs.Standing.{ControllerStart, StandsFor as ControllerStands}
 use Rattle.pair_collector.specs.Standing.{StandsFor as CollectorStands, is_complete}
-use Rattle.link_trace.specs.Lists.{ActorLists, Cause, feeder_lists, joiner_lists, controller_lists, collector_lists, with_event}
+use Rattle.link_trace.specs.Lists.{ActorLists, Cause, Took, Began, feeder_lists, joiner_lists, controller_lists, collector_lists, with_event}
 use Rattle.link_trace.specs.declared.machines.Core.{Core}
 use Rattle.link_trace.specs.declared.machines.Core.TheVariants.{Feeder as TheFeeder, Joiner as TheJoiner, Controller as TheController, Collector as TheCollector}
 
@@ -46,11 +46,17 @@ GoOut (OfJoiner s) posts = AllGoOver s.k s.feeders (Joiner s.id) posts
 GoOut (OfController s) posts = AllGoOver s.rules.k s.rules.feeders Controller posts
 GoOut (OfCollector joiners) posts = posts ≡ []
 
+-- a beginning sends the controller one message
+abbrev pub Asks : Cause → List Post → Type 0
+Asks (Took from m) posts = ⊤
+Asks Began posts = length (posted_to_controller posts) ≡ 1
+
 -- one event: for whatever lists the machine stood, it stands for them with the cause received and the posts sent,
 -- and the posts go over its links
 pub record Event (cause : Cause) (old new : Core) (posts : List Post) : Type 0 where
   pub stands : (s : Start) (ls : ActorLists) → Stands s ls old → Stands s (with_event cause posts ls) new
   pub over : (s : Start) (ls : ActorLists) → Stands s ls old → GoOut s posts
+  pub asks : Asks cause posts
 
 -- an event that turned the posts `before` into `after`
 pub record Occurs (cause : Cause) (old new : Core) (before after : List Post) : Type 0 where

@@ -14,7 +14,7 @@ use Rattle.trace_law.specs.Family.{IsAgreeing}
 use Rattle.trace_law.specs.declared.input.Input.{Input}
 use Rattle.trace_law.specs.declared.setting.Setting.{Setting}
 use Rattle.link_trace.specs.Lists.{ActorLists, Cause, Took, same_actor, no_lists}
-use Rattle.link_trace.specs.Standing.{Stands, Occurs}
+use Rattle.link_trace.specs.Standing.{Stands, Occurs, GoOut, Asks}
 use Rattle.link_trace.specs.Families.{start_for, IsActor, IsBalanced, after_event, family_of, journal_of}
 use Rattle.link_trace.specs.Numbers.{number, actor_at, at_number}
 use Rattle.link_trace.specs.declared.machines.Core.{Core}
@@ -142,11 +142,15 @@ pub record KeepsOthers (self : Actor) (old new : WorldState) : Type 0 where
   pub machines : (a : Actor) → same_actor self a ≡ false → core_of new a ≡ core_of old a
   pub links : (from to : Actor) → same_actor self from ≡ false → left_of old from to ≡ [] → left_of new from to ≡ []
 
--- one event of the actor `self`: whatever the lists were, they are the same with the event at their ends
+-- one event of the actor `self`: whatever the lists were, they are the same with the event at their ends; it is one of
+-- the run's actors, and its posts go over its links
 pub record MakesEvent (self : Actor) (cause : Cause) (old new : WorldState) : Type 0 where
   pub posts : List Post
   pub stands : (input : Input) (setting : Setting) (f : Actor → ActorLists) → StandsFor input setting old f
       → StandsFor input setting new (after_event self cause posts f)
+  pub over : (input : Input) (setting : Setting) (f : Actor → ActorLists) → StandsFor input setting old f
+      → IsActor setting self × GoOut (start_for input setting self) posts
+  pub asks : Asks cause posts
   pub others : KeepsOthers self old new
 
 -- the first message of a link was handed to its receiver

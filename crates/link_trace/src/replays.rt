@@ -1,9 +1,10 @@
 // A run on one thread, in an order that a number names.
 
-ghost use Rattle.std.specs.Prelude.{◌≡◌, ℕ, ◌+◌, ◌-◌, ◌^◌, min, IfOk, Some, false, length, slice_get, if◌then◌else◌};
+ghost use Rattle.std.specs.Prelude.{◌≡◌, ◌≤◌, ℕ, ◌+◌, ◌-◌, ◌^◌, min, IfOk, Some, false, length, slice_get, if◌then◌else◌};
 ghost use Rattle.trace_law.specs.Validity.{IsValidInput, IsValidSetting};
 ghost use Rattle.trace_law.specs.Runs.{IsRunOf};
-ghost use Rattle.link_trace.specs.Order.{IsReplay};
+ghost use Rattle.load_controller.specs.Journal.{last_epoch};
+ghost use Rattle.link_trace.specs.Order.{IsReplay, most_events};
 
 use crate::order::make_first;
 use crate::slots::slots_of;
@@ -12,7 +13,7 @@ use rand_core::utils::NextWord;
 use rand_pcg::Lcg64Xsh32;
 use std::alloc::{AllocError, Global};
 use std::sync::Wait;
-use trace_law::{Input, Run, Setting};
+use trace_law::{Input, Run, Setting, events_are_few};
 
 // The stream of the generator that orders a replay.
 const STREAM: u64 = 56;
@@ -50,7 +51,10 @@ pub fn replay<R: Wait>(
     requires setting { IsValidSetting setting.now }
     ensures run { IfOk result (λ run. IsRunOf input.now setting.now run.journal run) }
     ensures order { IfOk result (λ run. IsReplay input.now setting.now seed run) }
+    ensures bound { IfOk result (λ run. run.bouts
+        ≤ most_events input.now setting.now (last_epoch run.journal)) }
 {
+    events_are_few();
     let slots = slots_of(alloc, setting)?;
     let mut marks = all_marked(alloc, slots.len())?;
     let mut draws = Lcg64Xsh32::new(seed, STREAM);

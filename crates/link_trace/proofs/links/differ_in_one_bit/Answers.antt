@@ -1,4 +1,4 @@
-use Rattle.std.proofs.Common.{ℕ, ◌<◌, ◌^◌, arith}
+use Rattle.std.proofs.Common.{◌<◌, ◌^◌, arith}
 use Rattle.link_trace.proofs.Joined.{below}
 use Rattle.link_trace.proofs.links.differ_in_one_bit.Goals as goal
 

@@ -1,4 +1,4 @@
-use Rattle.std.proofs.Common.{◌∙◌, ap, sym, subst, Some, slice_index_or}
+use Rattle.std.proofs.Common.{◌∙◌, sym, subst, slice_index_or}
 use Rattle.std.proofs.lemmas.Option.{slice_get-get_or}
 use Rattle.link_trace.specs.declared.slots.Slot.TheVariants.{Begin}
 use Rattle.link_trace.specs.Worlds.{state_of}

@@ -1,4 +1,4 @@
-use Rattle.std.proofs.Common.{◌≡◌, ◌+◌, ◌%◌, ap, subst, length, slice_index_or, Some, Ok, arith}
+use Rattle.std.proofs.Common.{◌≡◌, ◌+◌, ◌%◌, subst, length, slice_index_or, Some, arith}
 use Rattle.std.specs.Prelude.{slice_get}
 use Rattle.std.proofs.lemmas.Nat.{mod_below}
 use Rattle.std.proofs.lemmas.Option.{slice_get-get_or}

@@ -1,6 +1,7 @@
 use Rattle.std.proofs.Common.{ℕ, ◌≡◌, ◌∙◌, true, false, ap, Ok}
 use Rattle.rand_pcg.specs.Lcg.{Lcg}
 use Rattle.link_trace.specs.Worlds.{state_of}
+use Rattle.link_trace.proofs.Bounds.{bounded}
 use Rattle.link_trace.proofs.Replaying.{begins, goes_on_over, answers, replayed}
 use Rattle.link_trace.proofs.replays.replay.Goals as goal
 use Rattle.link_trace.proofs.replays.replay.Goals.{in-None, in-Some+then-done}
@@ -30,3 +31,9 @@ pub returns-clause-order : goal.returns-clause-order
 returns-clause-order g c =
     replayed c.args.input.now c.args.setting.now c.args.seed c.loop.marks.items c.loop.draws c.loop.events (state_of c.loop.world) c.loop.invariant c.finish.result
     (elim c.match-next.branch [ in-None w ↦ absurd (differ w.in-None.ensures.steps) | in-Some+then-done w ↦ w.done.ensures.done w.if-done.true ]) c.finish.ensures.journal c.finish.ensures.bouts
+
+pub returns-clause-bound : goal.returns-clause-bound
+returns-clause-bound g c =
+    let under = c.loop.invariant in
+    bounded c.args.input.now c.args.setting.now c.args.seed c.loop.events (state_of c.loop.world) c.events_are_few.ensures c.requires.input c.requires.setting
+    under.first under.drawn under.events under.fresh under.replays under.count_is c.finish.result c.finish.ensures.journal c.finish.ensures.bouts

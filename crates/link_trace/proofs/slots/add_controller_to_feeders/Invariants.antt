@@ -1,9 +1,7 @@
 use Rattle.std.proofs.Common.{◌≡◌, ◌++◌, map}
-use Rattle.std.specs.Prelude.{flat_map}
 use Rattle.std.specs.List.{range_with_len}
-use Rattle.epoch_tags.specs.declared.actor.Actor.TheVariants.{Feeder, Joiner, Controller, Collector}
-use Rattle.link_trace.specs.declared.slots.Slot.TheVariants.{Begin, Link}
-use Rattle.link_trace.specs.Order.{to_joiners, to_partners, from_joiners}
+use Rattle.epoch_tags.specs.declared.actor.Actor.TheVariants.{Feeder, Controller}
+use Rattle.link_trace.specs.declared.slots.Slot.TheVariants.{Link}
 use Rattle.link_trace.proofs.slots.add_controller_to_feeders.Given as goal
 
 abbrev pub invariant-loop-p : goal.invariant-loop-p

@@ -1,8 +1,5 @@
-use Rattle.std.specs.Prelude.{bit_xor, ◌^◌}
-use Rattle.epoch_tags.specs.declared.actor.Actor.TheVariants.{Feeder, Joiner, Controller, Collector}
-use Rattle.link_trace.specs.declared.slots.Slot.TheVariants.{Begin, Link}
-use Rattle.link_trace.specs.Order.{to_joiners, to_partners, from_joiners}
-use Rattle.link_trace.proofs.Listing.{one_more, more}
+use Rattle.link_trace.specs.Order.{to_partners}
+use Rattle.link_trace.proofs.Listing.{more}
 use Rattle.link_trace.proofs.slots.add_joiners_to_partners.Goals as goal
 
 pub loop-i-preserved : goal.loop-i-preserved

@@ -1,0 +1,95 @@
+-- A replay's events are those that its lists count, and so they are few.
+use Rattle.std.proofs.Common.{◌≡◌, ℕ, ◌+◌, ◌-◌, ◌^◌, ◌≤◌, min, sym, subst, Some, List, ◌∷◌, ◌++◌, Result, Ok, Err, arith}
+use Rattle.std.specs.Prelude.{IfOk}
+use Rattle.std.specs.declared.alloc.AllocError.{AllocError}
+use Rattle.epoch_tags.specs.declared.actor.Actor.{Actor}
+use Rattle.epoch_tags.specs.declared.actor.Actor.TheVariants.{Feeder, Controller}
+use Rattle.load_controller.specs.declared.line.TurnLine.{TurnLine}
+use Rattle.load_controller.specs.Journal.{last_epoch}
+use Rattle.trace_law.specs.declared.input.Input.{Input}
+use Rattle.trace_law.specs.declared.setting.Setting.{Setting}
+use Rattle.trace_law.specs.declared.run.Run.{Run}
+use Rattle.trace_law.specs.Validity.{IsValidInput, IsValidSetting, IsValid}
+use Rattle.trace_law.specs.Laws.{EventsAreFew}
+use Rattle.link_trace.specs.declared.machines.Core.{Core}
+use Rattle.link_trace.specs.declared.slots.Slot.{Slot}
+use Rattle.link_trace.specs.declared.slots.Slot.TheVariants.{Begin, Link}
+use Rattle.link_trace.specs.Lists.{ActorLists, Took, Began, no_lists}
+use Rattle.link_trace.specs.Families.{journal_of, family_of, after_event}
+use Rattle.link_trace.specs.Worlds.{WorldState, StandsFor, MakesEvent, Delivers, core_of}
+use Rattle.link_trace.specs.Order.{Happens, Replays, start, event, lost, slots_of, most_events}
+use Rattle.link_trace.proofs.Counting.{count, AreLinked, took_counts, began_counts, linked_after, left_linked}
+use Rattle.link_trace.proofs.Finishing.{agree}
+use Rattle.link_trace.proofs.Replaying.{valid_both}
+
+-- it stands for lists of this input and setting, whose messages go over links, and which count so many events at least
+pub record IsCounted (input : Input) (setting : Setting) (w : WorldState) (n : ℕ) : Type 0 where
+  pub lists : Actor → ActorLists
+  pub stands : StandsFor input setting w lists
+  pub linked : AreLinked setting lists
+  pub enough : n ≤ count setting lists
+
+module _ (input : Input) (setting : Setting) where
+  begin_counted : (p n : ℕ) (old new : WorldState) → MakesEvent (Feeder p) Began old new → IsCounted input setting old n → IsCounted input setting new (n + 1)
+  begin_counted p n old new made before =
+      let out = made.over input setting before.lists before.stands in
+      let more = began_counts setting p made.posts before.lists out.0 made.asks in
+      let enough = before.enough in
+      record {
+        lists = after_event (Feeder p) Began made.posts before.lists;
+        stands = made.stands input setting before.lists before.stands;
+        linked = linked_after input setting (Feeder p) Began made.posts before.lists before.linked out.0 out.1;
+        enough = omega arith;
+      }
+
+  delivery_counted : (from to : Actor) (n : ℕ) (old new : WorldState) → Delivers from to old new → IsCounted input setting old n → IsCounted input setting new (n + 1)
+  delivery_counted from to n old new delivers before =
+      let made = delivers.event in
+      let out = made.over input setting before.lists before.stands in
+      let whole : (before.lists to).received from ++ delivers.m ∷ delivers.rest ≡ (before.lists from).sent to =
+      subst (λ l. (before.lists to).received from ++ l ≡ (before.lists from).sent to) delivers.first (before.stands.balanced from to) in
+      let link = left_linked setting from to ((before.lists to).received from) delivers.rest ((before.lists from).sent to) delivers.m whole (before.linked from to) in
+      let more = took_counts setting from to delivers.m made.posts before.lists link.0 out.0 link.1 in
+      let enough = before.enough in
+      record {
+        lists = after_event to (Took from delivers.m) made.posts before.lists;
+        stands = made.stands input setting before.lists before.stands;
+        linked = linked_after input setting to (Took from delivers.m) made.posts before.lists before.linked out.0 out.1;
+        enough = omega arith;
+      }
+
+  pub slot_counted : (slot : Slot) (n : ℕ) (old new : WorldState) → Happens slot old new → IsCounted input setting old n → IsCounted input setting new (n + 1)
+  slot_counted (Begin p) n old new happens before = begin_counted p n old new happens.1 before
+  slot_counted (Link from to) n old new happens before = delivery_counted from to n old new happens before
+
+  pub none_counted : (w : WorldState) → StandsFor input setting w (λ actor. no_lists) → IsCounted input setting w 0
+  none_counted w stands = record { lists = λ actor. no_lists; stands = stands; linked = λ from to. tt; enough = omega arith }
+
+  replays_count : (slots : List Slot) (seed : ℕ) (first : WorldState) (drawn events : ℕ) (w : WorldState) → Replays slots seed first drawn events w → IsCounted input setting first 0 → IsCounted input setting w events
+  replays_count slots seed first _ _ _ start before = before
+  replays_count slots seed first _ _ _ (event {events = events} {old = old} {new = new} earlier goes made) before =
+      slot_counted made.slot events old new made.happens (replays_count slots seed first _ events old earlier before)
+  replays_count slots seed first _ _ _ (lost {events = events} {old = old} earlier goes idle) before = replays_count slots seed first _ events old earlier before
+
+  pub few_events : EventsAreFew → IsValid input setting → (w : WorldState) (n : ℕ) → IsCounted input setting w n → (journal : List TurnLine)
+      → ((core : Core) → core_of w Controller ≡ Some core → journal ≡ journal_of core) → n ≤ most_events input setting (last_epoch journal)
+  few_events few valid w n counted journal told =
+      let own = counted.stands.stands Controller tt in
+      let most = few input setting (family_of (journal_of own.0) counted.lists) valid (agree input setting w counted.lists counted.stands) in
+      let all = subst (λ j. count setting counted.lists ≤ most_events input setting (last_epoch j)) (sym (told own.0 own.1)) most in
+      let enough = counted.enough in
+      omega arith
+
+-- ---- of a replay
+
+module _ (input : Input) (setting : Setting) (seed counted : ℕ) (w : WorldState) where
+  pub bounded : EventsAreFew → IsValidInput input → IsValidSetting setting → (first : WorldState) (drawn events : ℕ) → StandsFor input setting first (λ actor. no_lists)
+      → Replays (slots_of setting) seed first drawn events w → counted ≡ min events (2 ^ 64 - 1) → (result : Result Run AllocError)
+      → IfOk result (λ run. (input' : Input) (setting' : Setting) (lists : Actor → ActorLists) → StandsFor input' setting' w lists
+      → (core : Core) → core_of w Controller ≡ Some core → run.journal ≡ journal_of core)
+      → IfOk result (λ run. run.bouts ≡ counted) → IfOk result (λ run. run.bouts ≤ most_events input setting (last_epoch run.journal))
+  bounded few of_input of_setting first drawn events fresh replays is (Ok run) journal bouts =
+      let reached = replays_count input setting (slots_of setting) seed first drawn events w replays (none_counted input setting first fresh) in
+      let most = few_events input setting few (valid_both input setting of_input of_setting) w events reached run.journal (journal input setting reached.lists reached.stands) in
+      omega arith
+  bounded few of_input of_setting first drawn events fresh replays is (Err e) journal bouts = tt
