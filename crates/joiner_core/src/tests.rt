@@ -60,12 +60,12 @@ fn row_of(
     )
 }
 
+// The feeder or joiner of a word, as feeder_0.
 fn sender(word: &str) -> Actor {
-    match word {
-        "feeder_0" => Actor::Feeder(0),
-        "feeder_1" => Actor::Feeder(1),
-        "joiner_1" => Actor::Joiner(1),
-        _ => Actor::Joiner(2),
+    match word.split_once('_') {
+        Some(("feeder", id)) => Actor::Feeder(number(id)),
+        Some((_, id)) => Actor::Joiner(number(id)),
+        None => Actor::Collector,
     }
 }
 
@@ -154,9 +154,6 @@ fn sent(alloc: Global, sends: &Sends) -> Result<String, AllocError> {
 
 // ---- steps
 
-// A message as a line, how many messages are held then, and what is sent.
-type Step<'a> = (&'a str, u64, &'a str);
-
 fn give(
     rt: &impl Abort,
     alloc: Global,
@@ -187,16 +184,35 @@ fn step(
     give(rt, alloc, joiner, from, m)
 }
 
+fn play_one(
+    rt: &impl Abort,
+    alloc: Global,
+    joiner: &mut Joiner<'_>,
+    line: &str,
+    held: u64,
+    wanted: &str,
+) -> Result<(), AllocError> {
+    let text = step(rt, alloc, joiner, line)?;
+    assert_eq!(rt; text.as_str(), wanted, "{line}");
+    assert_eq!(rt; joiner.held_count(), held, "{line}");
+    Ok(())
+}
+
+// Each step is a message, how many are held then, and what is sent.
 fn play(
     rt: &impl Abort,
     alloc: Global,
     joiner: &mut Joiner<'_>,
-    steps: &[Step<'_>],
+    steps: &[&str],
 ) -> Result<(), AllocError> {
-    for (line, held, wanted) in steps {
-        let text = step(rt, alloc, joiner, line)?;
-        assert_eq!(rt; text.as_str(), *wanted, "{line}");
-        assert_eq!(rt; joiner.held_count(), *held, "{line}");
+    for one in steps {
+        let Some((line, answer)) = one.split_once(" holds ") else {
+            return Err(AllocError);
+        };
+        let Some((held, wanted)) = answer.split_once(" sends ") else {
+            return Err(AllocError);
+        };
+        play_one(rt, alloc, joiner, line, u64::from(number(held)), wanted)?;
     }
     Ok(())
 }
@@ -233,12 +249,22 @@ fn run(
     predicate: &str,
     k: u32,
     feeders: u32,
-    steps: &[Step<'_>],
+    steps: &[&str],
 ) -> Result<(), AllocError> {
     let theta = theta(rt, alloc, predicate)?;
-    let mut joiner = first(alloc, k, feeders, &theta)?;
-    play(rt, alloc, &mut joiner, steps)?;
-    Ok(())
+    run_over(rt, alloc, &theta, k, feeders, steps)
+}
+
+fn run_over(
+    rt: &impl Abort,
+    alloc: Global,
+    theta: &Theta,
+    k: u32,
+    feeders: u32,
+    steps: &[&str],
+) -> Result<(), AllocError> {
+    let mut joiner = first(alloc, k, feeders, theta)?;
+    play(rt, alloc, &mut joiner, steps)
 }
 
 fn first<'a>(
@@ -256,15 +282,15 @@ fn first<'a>(
 #[test]
 fn a_step_finds_each_pair_once(rt: HostRuntime) -> Result<(), Fail> {
     let steps = [
-        ("feeder_0 row R 0 0 0", 0, ""),
-        ("feeder_0 turn 1 1", 0, "[Joiner(1) moved 1 0]"),
-        ("feeder_1 row S 0 1 0", 0, "[found 0 0]"),
-        ("feeder_0 row S 1 0 1", 0, "[found 0 1]"),
-        ("joiner_1 moved 1 R 1 255 0", 0, "[found 1 1]"),
-        ("feeder_1 turn 1 1", 0, "[Joiner(1) moved_end 1]"),
-        ("joiner_1 moved_end 1", 0, "[settled 1]"),
-        ("feeder_0 end", 0, ""),
-        ("feeder_1 end", 0, "[fin 2 1 moved 1]"),
+        "feeder_0 row R 0 0 0 holds 0 sends ",
+        "feeder_0 turn 1 1 holds 0 sends [Joiner(1) moved 1 0]",
+        "feeder_1 row S 0 1 0 holds 0 sends [found 0 0]",
+        "feeder_0 row S 1 0 1 holds 0 sends [found 0 1]",
+        "joiner_1 moved 1 R 1 255 0 holds 0 sends [found 1 1]",
+        "feeder_1 turn 1 1 holds 0 sends [Joiner(1) moved_end 1]",
+        "joiner_1 moved_end 1 holds 0 sends [settled 1]",
+        "feeder_0 end holds 0 sends ",
+        "feeder_1 end holds 0 sends [fin 2 1 moved 1]",
     ];
     run(&rt, rt.alloc(), "1 = 1", 1, 2, &steps)?;
     Ok(())
@@ -273,15 +299,15 @@ fn a_step_finds_each_pair_once(rt: HostRuntime) -> Result<(), Fail> {
 #[test]
 fn an_early_row_waits_for_its_step(rt: HostRuntime) -> Result<(), Fail> {
     let steps = [
-        ("feeder_0 row R 0 0 0", 0, ""),
-        ("joiner_1 moved 1 R 1 255 0", 1, ""),
-        ("feeder_0 turn 1 1", 0, "[Joiner(1) moved 1 0]"),
-        ("feeder_1 row S 0 1 0", 0, "[found 0 0]"),
-        ("feeder_0 row S 1 0 1", 0, "[found 0 1][found 1 1]"),
-        ("feeder_1 turn 1 1", 0, "[Joiner(1) moved_end 1]"),
-        ("joiner_1 moved_end 1", 0, "[settled 1]"),
-        ("feeder_0 end", 0, ""),
-        ("feeder_1 end", 0, "[fin 2 1 moved 1]"),
+        "feeder_0 row R 0 0 0 holds 0 sends ",
+        "joiner_1 moved 1 R 1 255 0 holds 1 sends ",
+        "feeder_0 turn 1 1 holds 0 sends [Joiner(1) moved 1 0]",
+        "feeder_1 row S 0 1 0 holds 0 sends [found 0 0]",
+        "feeder_0 row S 1 0 1 holds 0 sends [found 0 1][found 1 1]",
+        "feeder_1 turn 1 1 holds 0 sends [Joiner(1) moved_end 1]",
+        "joiner_1 moved_end 1 holds 0 sends [settled 1]",
+        "feeder_0 end holds 0 sends ",
+        "feeder_1 end holds 0 sends [fin 2 1 moved 1]",
     ];
     run(&rt, rt.alloc(), "1 = 1", 1, 2, &steps)?;
     Ok(())
@@ -290,8 +316,8 @@ fn an_early_row_waits_for_its_step(rt: HostRuntime) -> Result<(), Fail> {
 #[test]
 fn a_turn_to_the_same_shift_is_held(rt: HostRuntime) -> Result<(), Fail> {
     let steps = [
-        ("feeder_0 turn 1 0", 1, ""),
-        ("feeder_0 row R 0 0 0", 2, ""),
+        "feeder_0 turn 1 0 holds 1 sends ",
+        "feeder_0 row R 0 0 0 holds 2 sends ",
     ];
     run(&rt, rt.alloc(), "1 = 1", 0, 1, &steps)?;
     Ok(())
@@ -300,35 +326,19 @@ fn a_turn_to_the_same_shift_is_held(rt: HostRuntime) -> Result<(), Fail> {
 #[test]
 fn three_steps_are_held_at_once(rt: HostRuntime) -> Result<(), Fail> {
     let steps = [
-        ("feeder_0 row R 0 0 0", 0, ""),
-        ("feeder_0 row S 0 0 0", 0, "[found 0 0]"),
-        (
-            "feeder_0 turn 1 1",
-            0,
-            "[Joiner(1) moved 1 0][Joiner(1) moved_end 1]",
-        ),
-        ("feeder_0 row R 1 0 1", 0, "[found 1 0]"),
-        ("feeder_0 turn 2 2", 1, ""),
-        ("feeder_0 row S 1 0 2", 2, ""),
-        ("feeder_0 turn 3 1", 3, ""),
-        ("feeder_0 row S 2 0 3", 4, ""),
-        ("feeder_0 end", 5, ""),
-        ("joiner_1 moved 1 R 7 0 0", 5, ""),
-        (
-            "joiner_1 moved_end 1",
-            3,
-            "[settled 1][Joiner(2) moved 2 0][Joiner(2) moved 2 1][Joiner(2) moved 2 7][Joiner(2) moved_end 2][found 0 1][found 1 1][found 7 1]",
-        ),
-        (
-            "joiner_2 moved_end 2",
-            0,
-            "[settled 2][Joiner(2) moved 3 0][Joiner(2) moved 3 1][Joiner(2) moved_end 3][found 0 2][found 1 2][found 7 2]",
-        ),
-        (
-            "joiner_2 moved_end 3",
-            0,
-            "[settled 3][fin 3 3 moved 1 3 2]",
-        ),
+        "feeder_0 row R 0 0 0 holds 0 sends ",
+        "feeder_0 row S 0 0 0 holds 0 sends [found 0 0]",
+        "feeder_0 turn 1 1 holds 0 sends [Joiner(1) moved 1 0][Joiner(1) moved_end 1]",
+        "feeder_0 row R 1 0 1 holds 0 sends [found 1 0]",
+        "feeder_0 turn 2 2 holds 1 sends ",
+        "feeder_0 row S 1 0 2 holds 2 sends ",
+        "feeder_0 turn 3 1 holds 3 sends ",
+        "feeder_0 row S 2 0 3 holds 4 sends ",
+        "feeder_0 end holds 5 sends ",
+        "joiner_1 moved 1 R 7 0 0 holds 5 sends ",
+        "joiner_1 moved_end 1 holds 3 sends [settled 1][Joiner(2) moved 2 0][Joiner(2) moved 2 1][Joiner(2) moved 2 7][Joiner(2) moved_end 2][found 0 1][found 1 1][found 7 1]",
+        "joiner_2 moved_end 2 holds 0 sends [settled 2][Joiner(2) moved 3 0][Joiner(2) moved 3 1][Joiner(2) moved_end 3][found 0 2][found 1 2][found 7 2]",
+        "joiner_2 moved_end 3 holds 0 sends [settled 3][fin 3 3 moved 1 3 2]",
     ];
     run(&rt, rt.alloc(), "1 = 1", 3, 1, &steps)?;
     Ok(())
@@ -337,19 +347,15 @@ fn three_steps_are_held_at_once(rt: HostRuntime) -> Result<(), Fail> {
 #[test]
 fn a_key_serves_all_stores(rt: HostRuntime) -> Result<(), Fail> {
     let steps = [
-        ("feeder_0 row R 4 0 0", 0, ""),
-        ("feeder_0 row S 3 0 0", 0, ""),
-        (
-            "feeder_0 turn 1 1",
-            0,
-            "[Joiner(1) moved 1 4][Joiner(1) moved_end 1]",
-        ),
-        ("feeder_0 row S 4 0 1", 0, "[found 4 4]"),
-        ("feeder_0 row S 5 0 1", 0, ""),
-        ("joiner_1 moved 1 R 5 200 0", 0, "[found 5 5]"),
-        ("joiner_1 moved_end 1", 0, "[settled 1]"),
-        ("feeder_0 row R 3 0 1", 0, "[found 3 3]"),
-        ("feeder_0 end", 0, "[fin 3 3 moved 1]"),
+        "feeder_0 row R 4 0 0 holds 0 sends ",
+        "feeder_0 row S 3 0 0 holds 0 sends ",
+        "feeder_0 turn 1 1 holds 0 sends [Joiner(1) moved 1 4][Joiner(1) moved_end 1]",
+        "feeder_0 row S 4 0 1 holds 0 sends [found 4 4]",
+        "feeder_0 row S 5 0 1 holds 0 sends ",
+        "joiner_1 moved 1 R 5 200 0 holds 0 sends [found 5 5]",
+        "joiner_1 moved_end 1 holds 0 sends [settled 1]",
+        "feeder_0 row R 3 0 1 holds 0 sends [found 3 3]",
+        "feeder_0 end holds 0 sends [fin 3 3 moved 1]",
     ];
     run(&rt, rt.alloc(), "r.x = s.x", 1, 1, &steps)?;
     Ok(())
@@ -392,10 +398,22 @@ fn run_with_base(
     rt: &impl Abort,
     alloc: Global,
     predicate: &str,
-    steps: &[Step<'_>],
+    steps: &[&str],
 ) -> Result<(), AllocError> {
     let theta = theta(rt, alloc, predicate)?;
-    let mut joiner = with_base(alloc, &theta)?;
+    run_with_base_over(rt, alloc, &theta, steps)
+}
+
+fn run_with_base_over(
+    rt: &impl Abort,
+    alloc: Global,
+    theta: &Theta,
+    steps: &[&str],
+) -> Result<(), AllocError>
+    requires r { theta.now.width_r ≡ 1 }
+    requires s { theta.now.width_s ≡ 1 }
+{
+    let mut joiner = with_base(alloc, theta)?;
     play(rt, alloc, &mut joiner, steps)?;
     has_finished(rt, &joiner, 2, 2);
     Ok(())
@@ -404,8 +422,8 @@ fn run_with_base(
 #[test]
 fn a_base_is_not_joined_again(rt: HostRuntime) -> Result<(), Fail> {
     let steps = [
-        ("feeder_0 row S 1 0 2", 0, "[found 0 1]"),
-        ("feeder_0 end", 0, "[fin 1 2 moved]"),
+        "feeder_0 row S 1 0 2 holds 0 sends [found 0 1]",
+        "feeder_0 end holds 0 sends [fin 1 2 moved]",
     ];
     run_with_base(&rt, rt.alloc(), "1 = 1", &steps)?;
     Ok(())
