@@ -1,10 +1,13 @@
 -- Seats whose mouths all came to their senders are joined, and have empty lists.
-use Rattle.std.proofs.Common.{◌≡◌, ℕ, zero, suc, ◌+◌, ◌<◌, ◌^◌, ◌++◌, lt-ltb, refl, sym, ap, subst, ◌∙◌, Bool, true, false, Option, Some, None, List, [], ◌∷◌, get_or, map, length, arith, true≢false, eqb, cond, eq-eqb, eqb-true}
+use Rattle.std.proofs.Common.{◌≡◌, ℕ, zero, suc, ◌+◌, ◌<◌, ◌^◌, ◌↔◌, ◌++◌, lt-ltb, refl, sym, ap, subst, ◌∙◌, Bool, true, false, Option, Some, None, List, [], ◌∷◌, get_or, map, length, arith, true≢false, eqb, cond, eq-eqb, eqb-true}
 use Rattle.std.specs.Prelude.{slice_get, IsSome, Contains}
+use Rattle.std.proofs.Math.Pow.{pow-lt}
+use Rattle.std.proofs.lemmas.Nat.{xor_lt}
 use Rattle.std.proofs.lemmas.List.{length-map, get_or-map, get_or_default}
 use Rattle.std.proofs.lemmas.Option.{slice_get-get_or}
 use Rattle.epoch_tags.specs.declared.actor.Actor.{Actor}
 use Rattle.epoch_tags.specs.declared.actor.Actor.TheVariants.{Feeder, Joiner, Controller, Collector}
+use Rattle.epoch_tags.specs.Links.{HasLink, feeder_joiner, joiner_joiner, controller_feeder, feeder_controller, joiner_controller, joiner_collector}
 use Rattle.ruled_links.specs.Ends.{Sending}
 use Rattle.ruled_links.specs.Delivery.{number_of}
 use Rattle.ruled_links.specs.Inboxes.{InboxView, OfSender, is_sender, fresh, opened, messages_of}
@@ -18,7 +21,7 @@ use Rattle.link_trace.specs.Numbers.{number, at_number}
 use Rattle.link_trace.proofs.OwnNumbers.{number_actor}
 use Rattle.join_runtime.specs.Views.{SeatView, Frame, frame_of, lists_of, address_of, contents, sent_by, sent_at}
 use Rattle.join_runtime.specs.Joins.{AreJoined, AreSettled, AllLead, IsPlaced, Leads, HasMouthTo, IsGathered, Knows, slot_of}
-use Rattle.join_runtime.specs.Bouts.{StandsFor, lists_at, lists_in}
+use Rattle.join_runtime.specs.Bouts.{SeatsView, StandsFor, lists_at, lists_in, mouth_at, mouth_of, seat_of}
 use Rattle.join_runtime.specs.Seating.{IsNewSeat, AreNew, AreFilled}
 use Rattle.join_runtime.proofs.Knowing.{is_sender-named}
 use Rattle.join_runtime.proofs.Placing.{address_at}
@@ -74,6 +77,15 @@ has_number setting (Feeder p) is = (p, ap (λ b. cond b (Some p) None) (lt-ltb p
 has_number setting (Joiner j) is = (setting.feeders + j, ap (λ b. cond b (Some (setting.feeders + j)) None) (lt-ltb j (2 ^ setting.k) is))
 has_number setting Controller is = (setting.feeders + 2 ^ setting.k, refl)
 has_number setting Collector is = (setting.feeders + 2 ^ setting.k + 1, refl)
+
+-- the two ends of a link are actors of the run
+actors_linked : (setting : Setting) (from to : Actor) → HasLink setting.k setting.feeders from to → IsActor setting from × IsActor setting to
+actors_linked setting _ _ (feeder_joiner low high) = (low, high)
+actors_linked setting _ _ (joiner_joiner {i = i} {low = low} high within) = (high, xor_lt setting.k i (2 ^ low) high (pow-lt within))
+actors_linked setting _ _ (controller_feeder low) = (tt, low)
+actors_linked setting _ _ (feeder_controller low) = (low, tt)
+actors_linked setting _ _ (joiner_controller low) = (low, tt)
+actors_linked setting _ _ (joiner_collector low) = (low, tt)
 
 -- ---- frames of seats
 
@@ -260,6 +272,71 @@ module _ (input : Input) (setting : Setting) (count : ℕ) (first seats : List S
           let d = (there seats n low').0 in
           ap lists_at (slice_get-get_or seats n d low') ∙ empty_lists n d low
 
+  -- ---- one actor has a mouth to another exactly where there is a link
+
+  module _ (spent : Bool) where
+    abbrev pub v : SeatsView
+    v = record { joiners = 2 ^ setting.k; feeders = setting.feeders; seats = seats; spent = spent }
+
+    mouth_is : (from to : Actor) (n r : ℕ) (d : SeatView) → number (2 ^ setting.k) setting.feeders from ≡ Some n → number (2 ^ setting.k) setting.feeders to ≡ Some r → n < length seats → mouth_of v from to ≡ slot_of seats d n r
+    mouth_is from to n r d is is' low =
+        ap (λ (o : Option ℕ). mouth_at (at_number None o (λ k. slice_get seats k)) (number (2 ^ setting.k) setting.feeders to)) is
+        ∙ ap (mouth_at (slice_get seats n)) is'
+        ∙ ap (λ (o : Option SeatView). mouth_at o (Some r)) (slice_get-get_or seats n d low)
+
+    low_number : (a : Actor) (n : ℕ) → number (2 ^ setting.k) setting.feeders a ≡ Some n → n < count
+    low_number a n is = subst (λ z. n < z) (sym many) (number_low (2 ^ setting.k) setting.feeders a n is)
+
+    link_of : (from to : Actor) → IsSome (mouth_of v from to) → HasLink setting.k setting.feeders from to
+    link_of from to some = go (number (2 ^ setting.k) setting.feeders from) refl
+      where
+        by_mouth : (n r : ℕ) (d : SeatView) → number (2 ^ setting.k) setting.feeders from ≡ Some n → number (2 ^ setting.k) setting.feeders to ≡ Some r → n < count → (slot : Option Sending) → slot_of seats d n r ≡ slot → IsSome slot → HasLink setting.k setting.feeders from to
+        by_mouth n r d is is' low None slot none = absurd (true≢false (sym none))
+        by_mouth n r d is is' low (Some mouth) slot there' =
+            let own = filled.own n r d mouth (subst (λ z. n < z) (sym new.all) low) slot in
+            let one = new.new r d own.0 in
+            let inbox = (get_or first r d).inbox in
+            let found = contains_map (opened inbox.link inbox.to) one.names mouth (subst (λ ms. Contains ms mouth) one.mouths_are own.1.one) in
+            let from_is : found.0 ≡ from =
+            ap (λ (m : Sending). m.from) found.2 ∙ (sym (number_actor (2 ^ setting.k) setting.feeders mouth.from n own.1.sender) ∙ number_actor (2 ^ setting.k) setting.feeders from n is) in
+            subst (λ a. HasLink setting.k setting.feeders a to) from_is
+            (subst (HasLink setting.k setting.feeders found.0) (number_actor (2 ^ setting.k) setting.feeders to r is') (one.links.sound setting.k refl found.0 found.1))
+
+        nowhere : (o : Option SeatView) → mouth_at o None ≡ None
+        nowhere None = refl
+        nowhere (Some seat) = refl
+
+        to_there : (n : ℕ) → number (2 ^ setting.k) setting.feeders from ≡ Some n → (o : Option ℕ) → number (2 ^ setting.k) setting.feeders to ≡ o → HasLink setting.k setting.feeders from to
+        to_there n is None is' = absurd (true≢false (sym (subst IsSome (ap (mouth_at (seat_of v from)) is' ∙ nowhere (seat_of v from)) some)))
+        to_there n is (Some r) is' =
+            let low = low_number from n is in
+            let low' = subst (λ z. n < z) (sym long) low in
+            let d = (there seats n low').0 in
+            by_mouth n r d is is' low (slot_of seats d n r) refl (subst IsSome (mouth_is from to n r d is is' low') some)
+
+        go : (o : Option ℕ) → number (2 ^ setting.k) setting.feeders from ≡ o → HasLink setting.k setting.feeders from to
+        go None is = absurd (true≢false (sym (subst IsSome (ap (λ (o : Option ℕ). mouth_at (at_number None o (λ k. slice_get seats k)) (number (2 ^ setting.k) setting.feeders to)) is) some)))
+        go (Some n) is = to_there n is (number (2 ^ setting.k) setting.feeders to) refl
+
+    has_mouth : (from to : Actor) → HasLink setting.k setting.feeders from to → IsSome (mouth_of v from to)
+    has_mouth from to link =
+        let ends = actors_linked setting from to link in
+        let num = has_number setting from ends.0 in
+        let num' = has_number setting to ends.1 in
+        let low = low_number to num'.0 num'.1 in
+        let low_from = low_number from num.0 num.1 in
+        let low_seat = subst (λ z. num.0 < z) (sym long) low_from in
+        let d = (there seats num.0 low_seat).0 in
+        let one = new.new num'.0 d low in
+        let inbox = (get_or first num'.0 d).inbox in
+        let name = one.links.whole setting.k refl from num.0 num.1 (subst (λ z. num.0 < z) many low_from) (subst (HasLink setting.k setting.feeders from) (sym (number_actor (2 ^ setting.k) setting.feeders to num'.0 num'.1)) link) in
+        let has = subst (λ ms. Contains ms (opened inbox.link inbox.to from)) (sym one.mouths_are) (map_contains (opened inbox.link inbox.to) one.names from name) in
+        let given = filled.has num.0 num'.0 d (opened inbox.link inbox.to from) low (record { one = has; sender = num.1 }) in
+        subst IsSome (sym (mouth_is from to num.0 num'.0 d num.1 num'.1 low_seat)) given.1
+
+    pub all_linked : (from to : Actor) → (IsSome (mouth_of v from to) ↔ HasLink setting.k setting.feeders from to)
+    all_linked from to = (link_of from to, has_mouth from to)
+
 -- ---- the same from what each call says
 
 module _ (input : Input) (setting : Setting) (joiners : ℕ) (first seats : List SeatView) (mouths : List (List Sending)) (is : joiners ≡ 2 ^ setting.k) (new : AreNew input setting (setting.feeders + joiners + 2) first mouths) (filled : AreFilled joiners setting.feeders (length mouths) mouths first seats) where
@@ -280,3 +357,8 @@ module _ (input : Input) (setting : Setting) (joiners : ℕ) (first seats : List
 
   pub start_empty : (spent : Bool) (a : Actor) → lists_in (record { joiners = joiners; feeders = setting.feeders; seats = seats; spent = spent }) a ≡ no_lists
   start_empty spent a = subst (λ j. lists_in (record { joiners = j; feeders = setting.feeders; seats = seats; spent = spent }) a ≡ no_lists) (sym is) (all_empty input setting (setting.feeders + joiners + 2) first seats mouths new all_filled count_is spent a)
+
+  pub start_linked : (spent : Bool) (from to : Actor) → (IsSome (mouth_of (record { joiners = joiners; feeders = setting.feeders; seats = seats; spent = spent }) from to) ↔ HasLink setting.k setting.feeders from to)
+  start_linked spent from to =
+      subst (λ j. IsSome (mouth_of (record { joiners = j; feeders = setting.feeders; seats = seats; spent = spent }) from to) ↔ HasLink setting.k setting.feeders from to) (sym is)
+      (all_linked input setting (setting.feeders + joiners + 2) first seats mouths new all_filled count_is spent from to)

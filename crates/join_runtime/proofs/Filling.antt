@@ -1,5 +1,5 @@
 -- Mouths that come to their senders, one after another.
-use Rattle.std.proofs.Common.{◌≡◌, ◌≢◌, ℕ, ◌+◌, ◌==◌, ◌<◌, ◌⊎◌, inl, inr, eqb-true, refl, sym, ap, subst, ◌∙◌, Bool, true, false, Option, Some, None, List, [], ◌∷◌, ◌++◌, get_or, set, length, arith}
+use Rattle.std.proofs.Common.{◌≡◌, ◌≢◌, ℕ, ◌+◌, ◌^◌, ◌==◌, ◌<◌, ◌⊎◌, inl, inr, eqb-true, refl, sym, ap, subst, ◌∙◌, Bool, true, false, Option, Some, None, List, [], ◌∷◌, ◌++◌, get_or, set, length, arith}
 use borrow.Author.Tests.{eqb-false}
 use Rattle.std.proofs.lemmas.Bool.{cases_lt}
 use Rattle.std.specs.Prelude.{IsSome, Contains}
@@ -7,15 +7,16 @@ use Rattle.std.proofs.Math.Seq.{get_or-append_seam}
 use Rattle.std.proofs.lemmas.List.{length-set, length-append, get_or_append_left, get_or-set_same, get_or-set_other}
 use Rattle.std.proofs.lemmas.List.Elements.{Contains-push, Contains-append_left, Contains-push_cases}
 use Rattle.epoch_tags.specs.declared.actor.Actor.{Actor}
+use Rattle.epoch_tags.specs.Links.{HasLink}
 use Rattle.ruled_links.specs.Ends.{Sending}
 use Rattle.trace_law.specs.declared.input.Input.{Input}
 use Rattle.trace_law.specs.declared.setting.Setting.{Setting}
 use Rattle.link_trace.specs.Numbers.{number}
-use Rattle.link_trace.proofs.OwnNumbers.{none_some, some_is}
+use Rattle.link_trace.proofs.OwnNumbers.{none_some, number_actor, some_is}
 use Rattle.join_runtime.specs.Views.{SeatView}
 use Rattle.join_runtime.specs.Joins.{slot_of}
 use Rattle.join_runtime.proofs.Linking.{there}
-use Rattle.join_runtime.specs.Seating.{AreBelow, AreNew, IsNewSeat, Puts, IsOneOf, Places, AreFilled}
+use Rattle.join_runtime.specs.Seating.{AreBelow, AreLinked, AreNew, IsNewSeat, Puts, IsOneOf, Places, AreFilled}
 
 -- ---- one mouth
 
@@ -224,6 +225,47 @@ below_push joiners feeders n actors last is below = record { each = each; differ
           let equal : old.0 ≡ n = some_is old.0 n (sym old.1 ∙ (ap (number joiners feeders) (sym left ∙ (same ∙ right)) ∙ is)) in
           let low' = old.2 in
           omega (arith, equal, low')
+    ]
+
+pub linked_none : (joiners feeders : ℕ) (to : Actor) → AreLinked joiners feeders 0 to []
+linked_none joiners feeders to = record {
+  sound = λ k grid a has. absurd (omega (arith, has.1));
+  whole = λ k grid a n is low link. absurd (omega arith);
+}
+
+same_actors : (joiners feeders : ℕ) (a b : Actor) (n : ℕ) → number joiners feeders a ≡ Some n → number joiners feeders b ≡ Some n → a ≡ b
+same_actors joiners feeders a b n is is' = sym (number_actor joiners feeders a n is) ∙ number_actor joiners feeders b n is'
+
+-- an actor more, of the number n, that has no link
+pub linked_more : (joiners feeders n : ℕ) (to next : Actor) (actors : List Actor) → number joiners feeders next ≡ Some n → ((k : ℕ) → joiners ≡ 2 ^ k → ¬ HasLink k feeders next to)
+    → AreLinked joiners feeders n to actors → AreLinked joiners feeders (n + 1) to actors
+linked_more joiners feeders n to next actors is none linked = record { sound = linked.sound; whole = whole }
+  where
+    whole : (k : ℕ) → joiners ≡ 2 ^ k → (a : Actor) (m : ℕ) → number joiners feeders a ≡ Some m → m < n + 1 → HasLink k feeders a to → Contains actors a
+    whole k grid a m is' low link = elim (cases_lt m n) [
+      | inl less ↦ linked.whole k grid a m is' less link
+      | inr more ↦
+          let at : m ≡ n = omega arith in
+          absurd (none k grid (subst (λ z. HasLink k feeders z to) (same_actors joiners feeders a next n (is' ∙ ap Some at) is) link))
+    ]
+
+-- and one that has
+pub linked_push : (joiners feeders n : ℕ) (to last : Actor) (actors : List Actor) → number joiners feeders last ≡ Some n → ((k : ℕ) → joiners ≡ 2 ^ k → HasLink k feeders last to)
+    → AreLinked joiners feeders n to actors → AreLinked joiners feeders (n + 1) to (actors ++ last ∷ [])
+linked_push joiners feeders n to last actors is has linked = record { sound = sound; whole = whole }
+  where
+    sound : (k : ℕ) → joiners ≡ 2 ^ k → (a : Actor) → Contains (actors ++ last ∷ []) a → HasLink k feeders a to
+    sound k grid a one = elim (Contains-push_cases actors last a one) [
+      | inl old ↦ linked.sound k grid a old
+      | inr same ↦ subst (λ z. HasLink k feeders z to) same (has k grid)
+    ]
+
+    whole : (k : ℕ) → joiners ≡ 2 ^ k → (a : Actor) (m : ℕ) → number joiners feeders a ≡ Some m → m < n + 1 → HasLink k feeders a to → Contains (actors ++ last ∷ []) a
+    whole k grid a m is' low link = elim (cases_lt m n) [
+      | inl less ↦ Contains-append_left actors (last ∷ []) a (linked.whole k grid a m is' less link)
+      | inr more ↦
+          let at : m ≡ n = omega arith in
+          subst (Contains (actors ++ last ∷ [])) (same_actors joiners feeders last a n is (is' ∙ ap Some at)) (Contains-push actors last)
     ]
 
 -- ---- seats as they are made

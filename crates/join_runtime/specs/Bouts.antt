@@ -2,6 +2,7 @@
 use Rattle.std.specs.Prelude.{◌≡◌, ◌<◌, ◌^◌, ◌⊎◌, ℕ, Bool, false, Option, Some, None, List, length, slice_get, slice_index_or}
 use Rattle.join_rows.specs.Lists.{IsPrefix}
 use Rattle.epoch_tags.specs.declared.actor.Actor.{Actor}
+use Rattle.ruled_links.specs.Ends.{Sending}
 use Rattle.ruled_links.specs.Inboxes.{all_known}
 use Rattle.trace_law.specs.declared.input.Input.{Input}
 use Rattle.trace_law.specs.declared.setting.Setting.{Setting}
@@ -22,6 +23,15 @@ pub record SeatsView : Type 0 where
 -- the seat of an actor, where there is one
 abbrev pub seat_of : SeatsView → Actor → Option SeatView
 seat_of v a = at_number None (number v.joiners v.feeders a) (λ n. slice_get v.seats n)
+
+-- the mouth that leads to the actor of this number, where there is one
+abbrev pub mouth_at : Option SeatView → Option ℕ → Option Sending
+mouth_at None place = None
+mouth_at (Some seat) place = at_number None place (λ n. slice_index_or seat.mouths n None)
+
+-- the mouth of one actor to another
+abbrev pub mouth_of : SeatsView → Actor → Actor → Option Sending
+mouth_of v from to = mouth_at (seat_of v from) (number v.joiners v.feeders to)
 
 abbrev pub lists_at : Option SeatView → ActorLists
 lists_at None = no_lists

@@ -1,6 +1,7 @@
 -- The seats of a run at its beginning, and how mouths come to their senders.
-use Rattle.std.specs.Prelude.{◌≡◌, ◌≢◌, ◌<◌, ◌^◌, ◌⊎◌, ℕ, Some, None, IsSome, Contains, List, [], map, length, slice_set, slice_index_or}
+use Rattle.std.specs.Prelude.{◌≡◌, ◌≢◌, ◌<◌, ◌+◌, ◌^◌, ◌⊎◌, ℕ, Some, None, IsSome, Contains, List, [], map, length, slice_set, slice_index_or}
 use Rattle.epoch_tags.specs.declared.actor.Actor.{Actor}
+use Rattle.epoch_tags.specs.Links.{HasLink}
 use Rattle.ruled_links.specs.Ends.{Sending}
 use Rattle.ruled_links.specs.Inboxes.{Differ, fresh, opened}
 use Rattle.trace_law.specs.declared.input.Input.{Input}
@@ -17,6 +18,11 @@ pub record AreBelow (joiners feeders below : ℕ) (actors : List Actor) : Type 0
   pub each : (k : ℕ) (d : Actor) → k < length actors → (n : ℕ) × (number joiners feeders (slice_index_or actors k d) ≡ Some n) × (n < below)
   pub differ : Differ actors
 
+-- those with a number below this one that have a link to `to`
+pub record AreLinked (joiners feeders below : ℕ) (to : Actor) (actors : List Actor) : Type 0 where
+  pub sound : (k : ℕ) → joiners ≡ 2 ^ k → (a : Actor) → Contains actors a → HasLink k feeders a to
+  pub whole : (k : ℕ) → joiners ≡ 2 ^ k → (a : Actor) (n : ℕ) → number joiners feeders a ≡ Some n → n < below → HasLink k feeders a to → Contains actors a
+
 -- the seat of the actor with this number as it was made, and the mouths of its inbox
 pub record IsNewSeat (input : Input) (setting : Setting) (n : ℕ) (seat : SeatView) (mouths : List Sending) : Type 0 where
   pub joiners_are : seat.joiners ≡ 2 ^ setting.k
@@ -27,6 +33,7 @@ pub record IsNewSeat (input : Input) (setting : Setting) (n : ℕ) (seat : SeatV
   pub names : List Actor
   pub below : ℕ
   pub numbers : AreBelow (2 ^ setting.k) setting.feeders below names
+  pub links : AreLinked (2 ^ setting.k) setting.feeders (setting.feeders + 2 ^ setting.k + 2) (actor_at (2 ^ setting.k) setting.feeders n) names
   pub senders : seat.inbox.senders ≡ map fresh names
   pub mouths_are : mouths ≡ map (opened seat.inbox.link seat.inbox.to) names
   pub no_mouth : (r : ℕ) → slice_index_or seat.mouths r None ≡ None

@@ -1,6 +1,6 @@
 // The seats of a run at its beginning.
 
-ghost use Rattle.std.specs.Prelude.{◌≡◌, ◌<◌, ◌≤◌, ◌+◌, ◌^◌, ℕ, true, false, None, Some, IfOk, OnOk, length, map, slice_set, slice_index_or};
+ghost use Rattle.std.specs.Prelude.{◌≡◌, ◌<◌, ◌≤◌, ◌+◌, ◌^◌, ◌↔◌, ℕ, true, false, None, Some, IsSome, IfOk, OnOk, length, map, slice_set, slice_index_or};
 ghost use Rattle.epoch_tags.specs.declared.actor.Actor.{Actor as Actor'};
 ghost use Rattle.trace_law.specs.Validity.{IsValidInput, IsValidSetting};
 ghost use Rattle.link_trace.specs.Numbers.{actor_at};
@@ -8,13 +8,14 @@ ghost use Rattle.ruled_links.specs.Inboxes.{Differ};
 ghost use Rattle.link_trace.specs.Lists.{no_lists};
 ghost use Rattle.join_runtime.specs.Views.{SeatView};
 ghost use Rattle.join_runtime.specs.Joins.{slot_of};
-ghost use Rattle.join_runtime.specs.Seating.{AreBelow, AreFilled, AreNew, IsNewSeat, Puts, Places};
-ghost use Rattle.join_runtime.specs.Bouts.{StandsFor, lists_in};
+ghost use Rattle.join_runtime.specs.Seating.{AreBelow, AreFilled, AreLinked, AreNew, IsNewSeat, Puts, Places};
+ghost use Rattle.join_runtime.specs.Bouts.{StandsFor, lists_in, mouth_of};
+ghost use Rattle.epoch_tags.specs.Links.{HasLink};
 
 use crate::bouts::Seats;
 use crate::seat::Seat;
 use epoch_tags::Actor;
-use link_trace::{core_at, joiners_of, number};
+use link_trace::{core_at, has_link, joiners_of, number};
 use ruled_links::{Actors, Mouth, Mouths, inbox};
 use std::alloc::{AllocError, Global};
 use std::mem;
@@ -36,20 +37,7 @@ fn actor_of(joiners: u32, feeders: u32, n: u32) -> Actor
     }
 }
 
-// Whether the one sends to the other.
-fn sends_to(from: Actor, to: Actor) -> bool {
-    match (from, to) {
-        (Actor::Feeder(_), Actor::Joiner(_)) => true,
-        (Actor::Joiner(i), Actor::Joiner(j)) => (i ^ j).is_power_of_two(),
-        (Actor::Controller, Actor::Feeder(_)) => true,
-        (Actor::Feeder(_), Actor::Controller) => true,
-        (Actor::Joiner(_), Actor::Controller) => true,
-        (Actor::Joiner(_), Actor::Collector) => true,
-        _ => false,
-    }
-}
-
-// Those of the first `count` actors that send to this one, their numbers rising.
+// Those of the first `count` actors that have a link to this one, their numbers rising.
 fn senders_of(
     alloc: Global,
     joiners: u32,
@@ -59,12 +47,13 @@ fn senders_of(
 ) -> Result<Actors, AllocError>
     requires few { feeders + joiners < 2 ^ 32 }
     requires all { count ≤ feeders + joiners + 2 }
-    ensures { IfOk result (λ senders. AreBelow joiners feeders count senders) }
+    ensures numbers { IfOk result (λ senders. AreBelow joiners feeders count senders) }
+    ensures links { IfOk result (λ senders. AreLinked joiners feeders count to senders) }
 {
     let mut senders = Actors::new(alloc);
     for n in 0..count {
         let from = actor_of(joiners, feeders, n);
-        if sends_to(from, to) {
+        if has_link(joiners, feeders, from, to) {
             senders.push(from)?;
         }
     }
@@ -180,6 +169,7 @@ impl<'a> Seats<'a> {
         requires setting { IsValidSetting setting.now }
         ensures stands { IfOk result (StandsFor input.now setting.now) }
         ensures empty { IfOk result (λ seats. (a : Actor') → lists_in seats a ≡ no_lists) }
+        ensures links { IfOk result (λ seats. (from to : Actor') → (IsSome (mouth_of seats from to) ↔ HasLink setting.now.k setting.now.feeders from to)) }
         ensures at_work { IfOk result (λ seats. seats.spent ≡ false) }
     {
         let joiners = joiners_of(setting);

@@ -1,5 +1,8 @@
-use Rattle.join_runtime.specs.Seating.{AreBelow}
+use Rattle.join_runtime.specs.Seating.{AreBelow, AreLinked}
 use Rattle.join_runtime.proofs.seating.senders_of.Given as goal
 
 abbrev pub invariant-loop-n : goal.invariant-loop-n
-invariant-loop-n l = AreBelow l.joiners l.feeders l.n l.senders
+invariant-loop-n l = record {
+  numbers : AreBelow l.joiners l.feeders l.n l.senders;
+  links : AreLinked l.joiners l.feeders l.n l.to l.senders;
+}

@@ -1,5 +1,5 @@
 use Rattle.std.proofs.Common.{false}
-use Rattle.join_runtime.proofs.Built.{start_empty, start_joined, start_settled, start_stands}
+use Rattle.join_runtime.proofs.Built.{start_empty, start_joined, start_linked, start_settled, start_stands}
 use Rattle.join_runtime.proofs.bouts.Seats.start.Goals as goal
 
 pub invariant_of-result : goal.invariant_of-result
@@ -20,3 +20,7 @@ returns-clause-stands c =
 pub returns-clause-empty : goal.returns-clause-empty
 returns-clause-empty c =
     start_empty c.args.input.now c.args.setting.now c.joiners_of-joiners.result c.in_ok-seats.seats.items c.give_all.new.seats.items c.in_ok-seats.mouths.items c.joiners_of-joiners.ensures.value c.in_ok-seats.ensures c.in_ok-give_all.ensures false
+
+pub returns-clause-links : goal.returns-clause-links
+returns-clause-links c =
+    start_linked c.args.input.now c.args.setting.now c.joiners_of-joiners.result c.in_ok-seats.seats.items c.give_all.new.seats.items c.in_ok-seats.mouths.items c.joiners_of-joiners.ensures.value c.in_ok-seats.ensures c.in_ok-give_all.ensures false
