@@ -26,7 +26,7 @@ fn make(world: &mut World, slot: Slot) -> Result<Step, AllocError>
     }
 }
 
-fn is_same(one: Actor, other: Actor) -> bool
+pub(crate) fn is_same(one: Actor, other: Actor) -> bool
     ensures { result ≡ same_actor one other }
 {
     match one {
@@ -68,7 +68,7 @@ fn filler_of(slot: Slot) -> Actor
 }
 
 // The actor that makes a slot's event.
-fn maker_of(slot: Slot) -> Actor
+pub(crate) fn maker_of(slot: Slot) -> Actor
     ensures { result ≡ marked.maker_of slot }
 {
     match slot {
@@ -90,7 +90,7 @@ fn mark(slots: &[Slot], marks: &mut Vec<bool>, actor: Actor)
 }
 
 // Makes the event of the slot at this place, if it has one, and mends the marks.
-fn make_at(
+pub(crate) fn make_at(
     world: &mut World,
     slots: &[Slot],
     marks: &mut Vec<bool>,

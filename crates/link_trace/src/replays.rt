@@ -19,7 +19,7 @@ use trace_law::{Input, Run, Setting, events_are_few};
 const STREAM: u64 = 56;
 
 // A mark for each of so many slots.
-fn all_marked(alloc: Global, count: usize) -> Result<Vec<bool>, AllocError>
+pub(crate) fn all_marked(alloc: Global, count: usize) -> Result<Vec<bool>, AllocError>
     ensures each { IfOk result (λ marks. length marks.items ≡ count) }
     ensures marked { IfOk result (λ marks. (n : ℕ) → ¬ (slice_get marks.items n ≡ Some false)) }
 {
