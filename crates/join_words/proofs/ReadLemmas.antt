@@ -1,8 +1,8 @@
 -- What a parse by the command gives.
-use Rattle.std.proofs.Common.{◌≡◌, ◌∙◌, arith, inl, inr, List, [], ◌∷◌, true, Some, refl, ap, sym, subst, codes}
+use Rattle.std.proofs.Common.{◌≡◌, ◌∙◌, arith, inl, inr, List, [], ◌∷◌, true, refl, ap, sym, subst, codes}
 use Rattle.std.specs.Prelude.{Err, Result}
-use Rattle.clap.specs.Matches.{first_value, found_of}
-use Rattle.clap.specs.Values.{IsUnsignedIn, kind_of}
+use Rattle.clap.specs.Matches.{found_of}
+use Rattle.clap.specs.Values.{kind_of}
 use Rattle.clap.specs.Walk.{Row, Text, first_of, rows_of}
 use Rattle.clap.specs.Simple.{App, HasMatchesOf, is_simple, matches_of}
 use Rattle.clap.specs.Faults.{fault_of, is_simple_and_free}
@@ -18,7 +18,7 @@ use Rattle.join_words.specs.declared.options.WordsError.{WordsError}
 use Rattle.join_words.specs.declared.options.WordsError.TheVariants.{Fault, Memory}
 use Rattle.join_words.specs.declared.options.WordsFault.{WordsFault}
 use Rattle.join_words.specs.declared.options.WordsFault.TheVariants.{NoMatch}
-use Rattle.join_words.proofs.NumberReads.{number_between}
+use Rattle.join_words.proofs.NumberReads.{number_between, number_within}
 use Rattle.join_words.proofs.RangeLemmas.{AreIn}
 
 -- the fault that an answer tells
@@ -77,6 +77,7 @@ is_match app words matches command none has are = record {
     feeders = number_between 1 8 2 (first_of (codes "feeders") (rows_of (found_of matches))) (λ text is. are.feeders text (first_value-rows (found_of matches) (codes "feeders") ∙ is)) (omega arith, omega arith);
     workers = number_between 1 16 4 (first_of (codes "workers") (rows_of (found_of matches))) (λ text is. are.workers text (first_value-rows (found_of matches) (codes "workers") ∙ is)) (omega arith, omega arith);
     batch = number_between 1 4096 64 (first_of (codes "batch") (rows_of (found_of matches))) (λ text is. are.batch text (first_value-rows (found_of matches) (codes "batch") ∙ is)) (omega arith, omega arith);
+    make = number_within 1 65536 (first_of (codes "make") (rows_of (found_of matches))) (λ text is. are.make text (first_value-rows (found_of matches) (codes "make") ∙ is));
   };
 }
 

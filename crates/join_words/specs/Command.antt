@@ -41,7 +41,9 @@ rules = text_rule (codes "on")
     ∷ default_rule (codes "seed") 0 18446744073709551615 (codes "1")
     ∷ number_rule (codes "fixed") 0 6
     ∷ number_rule (codes "replay") 0 18446744073709551615
+    ∷ number_rule (codes "make") 1 65536
     ∷ flag_rule (codes "report")
+    ∷ flag_rule (codes "rows")
     ∷ files_rule (codes "files") ∷ []
 
 -- a command with these arguments too

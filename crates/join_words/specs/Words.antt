@@ -1,5 +1,5 @@
 -- What the words of the command line ask for.
-use Rattle.std.specs.Prelude.{◌≡◌, ◌≤◌, ℕ, Bool, List, [], ◌∷◌, Option, Some, None, Result, Ok, Err, codes, unwrap_or, option_and_then, nat_le, if◌then◌else◌}
+use Rattle.std.specs.Prelude.{◌≡◌, ◌≤◌, ℕ, Bool, true, false, List, [], ◌∷◌, Option, Some, None, IfSome, Result, Ok, Err, codes, unwrap_or, option_and_then, nat_le, if◌then◌else◌}
 use Rattle.std.specs.Int.{is_power_of_two, trailing_zeros, w64}
 use Rattle.std.specs.Borrow.{Bor}
 use Rattle.std.specs.Str.{bytes_eq}
@@ -14,11 +14,13 @@ use Rattle.clap.specs.Kinds.{Kinds}
 use Rattle.join_words.specs.Command.{jm_command}
 use Rattle.join_words.specs.declared.options.Options.{Options}
 use Rattle.join_words.specs.declared.options.WordsFault.{WordsFault}
-use Rattle.join_words.specs.declared.options.WordsFault.TheVariants.{NoMatch, Joiners, Fixed, Files}
+use Rattle.join_words.specs.declared.options.WordsFault.TheVariants.{NoMatch, Joiners, Fixed, Together, Files}
 
--- what the words ask for: the predicate's text; 2^k joiners; the feeders; the workers, which are the threads of a
--- run that isn't replayed; how many rows each feeder asks for at once and in which order; the shift at which the grid stays, where one is given; the seed of the tickets; the
--- seed of the order, where one is given; whether a report is wanted; and the names of the two files
+-- what the words ask for: the predicate's text; 2^k joiners; the feeders; the workers, which are the threads of a run that
+-- isn't a replay; how many rows each feeder asks for at once and in which order; the shift at which the grid stays, where one
+-- is given; the seed of the tickets; the seed of the order of a replay, where one is given; how many rows a side has, where
+-- tables are to be made; whether a report is wanted; whether joined rows are; and the names of the two files, empty where
+-- there are none
 pub record Asked : Type 0 where
   pub on : List ℕ
   pub k : ℕ
@@ -29,7 +31,9 @@ pub record Asked : Type 0 where
   pub fixed : Option ℕ
   pub seed : ℕ
   pub replay : Option ℕ
+  pub make : Option ℕ
   pub report : Bool
+  pub rows : Bool
   pub name_r : List ℕ
   pub name_s : List ℕ
 
@@ -45,7 +49,9 @@ asked options = record {
   fixed = options.fixed;
   seed = options.seed;
   replay = options.replay;
+  make = options.make;
   report = options.report;
+  rows = options.rows;
   name_r = options.name_r.now;
   name_s = options.name_s.now;
 }
@@ -81,6 +87,10 @@ workers_at rows = unwrap_or (number_at (codes "workers") rows) 4
 abbrev pub batch_at : List Row → ℕ
 batch_at rows = unwrap_or (number_at (codes "batch") rows) 64
 
+-- how many rows a side has, where tables are to be made
+abbrev pub make_at : List Row → Option ℕ
+make_at rows = number_at (codes "make") rows
+
 -- ---- the checks, in their order
 
 -- one check after another
@@ -105,6 +115,12 @@ abbrev pub fixed_within : ℕ → Option ℕ → Result (Option ℕ) WordsFault
 fixed_within k None = Ok None
 fixed_within k (Some fixed) = if nat_le fixed k then Ok (Some fixed) else Err Fixed
 
+-- made tables don't go together with joined rows
+abbrev pub make_apart : Option ℕ → Bool → Result (Option ℕ) WordsFault
+make_apart None joined = Ok None
+make_apart (Some count) false = Ok (Some count)
+make_apart (Some count) true = Err Together
+
 -- just two names
 abbrev pub two_names : List Text → Result (Text × Text) WordsFault
 two_names (name_r ∷ name_s ∷ []) = Ok (name_r, name_s)
@@ -113,13 +129,27 @@ two_names _ = Err Files
 abbrev pub files_at : List Row → Result (Text × Text) WordsFault
 files_at rows = two_names (unwrap_or (all_of (codes "files") rows) [])
 
+-- no name
+abbrev pub no_names : List Text → Result (Text × Text) WordsFault
+no_names [] = Ok ([], [])
+no_names _ = Err Files
+
+abbrev pub no_files_at : List Row → Result (Text × Text) WordsFault
+no_files_at rows = no_names (unwrap_or (all_of (codes "files") rows) [])
+
+-- the names of the two files, and none where tables are made
+abbrev pub names_at : Option ℕ → List Row → Result (Text × Text) WordsFault
+names_at None rows = files_at rows
+names_at (Some count) rows = no_files_at rows
+
 -- what a match asks for, or the first check that it fails
 abbrev pub asked_by : List Row → Result Asked WordsFault
 asked_by rows =
     then_of (feed_named (text_at (codes "feed") rows)) (λ feed.
     then_of (exponent_of (joiners_at rows)) (λ k.
     then_of (fixed_within k (number_at (codes "fixed") rows)) (λ fixed.
-    then_of (files_at rows) (λ names. Ok (record {
+    then_of (make_apart (make_at rows) (flag_at (codes "rows") rows)) (λ make.
+    then_of (names_at make rows) (λ names. Ok (record {
       on = text_at (codes "on") rows;
       k = k;
       feeders = feeders_at rows;
@@ -129,10 +159,12 @@ asked_by rows =
       fixed = fixed;
       seed = unwrap_or (number_at (codes "seed") rows) 1;
       replay = number_at (codes "replay") rows;
+      make = make;
       report = flag_at (codes "report") rows;
+      rows = flag_at (codes "rows") rows;
       name_r = names.0;
       name_s = names.1;
-    })))))
+    }))))))
 
 -- ---- the words
 
@@ -151,6 +183,7 @@ pub record AreBounded (rows : List Row) : Type 0 where
   pub feeders : (1 ≤ feeders_at rows) × (feeders_at rows ≤ 8)
   pub workers : (1 ≤ workers_at rows) × (workers_at rows ≤ 16)
   pub batch : (1 ≤ batch_at rows) × (batch_at rows ≤ 4096)
+  pub make : IfSome (make_at rows) (λ count. (1 ≤ count) × (count ≤ 65536))
 
 -- the command has a match for the words, and these are its rows
 pub record IsMatch (words : List Text) (rows : List Row) : Type 0 where

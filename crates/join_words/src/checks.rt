@@ -1,11 +1,12 @@
 // The checks of a match, in the order of their faults.
 
-ghost use Rattle.std.specs.Prelude.{◌≡◌, ◌≤◌, ◌<◌, ◌^◌, IfOk, IfSome, unwrap_or};
+ghost use Rattle.std.specs.Prelude.{◌≡◌, ◌≤◌, ◌<◌, ◌^◌, IfOk, IfSome, false, unwrap_or};
 ghost use Rattle.clap.specs.Matches.{found_of};
-ghost use Rattle.clap.specs.Walk.{rows_of, texts};
-ghost use Rattle.join_words.specs.Words.{AreBounded, Gives, GivesFiles, asked_by, exponent_of, feed_named, files_at, fixed_within, number_at, two_names};
+ghost use Rattle.clap.specs.Walk.{rows_of};
+ghost use Rattle.join_words.specs.Words.{AreBounded, Gives, asked_by, exponent_of, feed_named, fixed_within, make_apart, number_at};
 
 use crate::found::{flag, number, text};
+use crate::names::names;
 use crate::options::{Options, WordsFault};
 use clap::ArgMatches;
 use row_tickets::Feed;
@@ -55,23 +56,15 @@ fn feed(name: &str) -> Result<Feed, WordsFault>
     }
 }
 
-/// Just two names.
-fn two<'a>(names: &[&'a str]) -> Result<(&'a str, &'a str), WordsFault>
-    ensures { GivesFiles (two_names (texts names.now)) result }
+/// How many rows a side is to have; not where joined rows are wanted.
+fn apart(make: Option<u64>, rows: bool) -> Result<Option<u64>, WordsFault>
+    ensures exact { result ≡ make_apart make rows }
+    ensures same { IfOk result (λ count. count ≡ make) }
+    ensures alone { IfOk result (λ count. IfSome count (λ _. rows ≡ false)) }
 {
-    match names {
-        [name_r, name_s] => Ok((*name_r, *name_s)),
-        _ => Err(WordsFault::Files),
-    }
-}
-
-/// The names of the files.
-fn files<'a>(matches: &ArgMatches<'a>) -> Result<(&'a str, &'a str), WordsFault>
-    ensures { GivesFiles (files_at (rows_of (found_of matches.now))) result }
-{
-    match matches.get_strs("files") {
-        Some(names) => two(names),
-        None => Err(WordsFault::Files),
+    match make {
+        Some(_) if rows => Err(WordsFault::Together),
+        _ => Ok(make),
     }
 }
 
@@ -84,11 +77,15 @@ pub(crate) fn checked<'a>(matches: &ArgMatches<'a>) -> Result<Options<'a>, Words
     ensures feeders { IfOk result (λ options. (1 ≤ options.feeders) × (options.feeders ≤ 8)) }
     ensures workers { IfOk result (λ options. (1 ≤ options.workers) × (options.workers ≤ 16)) }
     ensures batch { IfOk result (λ options. (1 ≤ options.batch) × (options.batch ≤ 4096)) }
+    ensures make { IfOk result (λ options. IfSome options.make (λ count. (1 ≤ count) × (count ≤ 65536))) }
+    ensures apart { IfOk result (λ options. IfSome options.make (λ _. options.rows ≡ false)) }
 {
     let feed = feed(text(matches, "feed"))?;
     let k = exponent(number(matches, "joiners").unwrap_or(4))?;
     let fixed = within(k, number(matches, "fixed"))?;
-    let (name_r, name_s) = files(matches)?;
+    let rows = flag(matches, "rows");
+    let make = apart(number(matches, "make"), rows)?;
+    let (name_r, name_s) = names(matches, make)?;
     Ok(Options {
         on: text(matches, "on"),
         k,
@@ -99,7 +96,9 @@ pub(crate) fn checked<'a>(matches: &ArgMatches<'a>) -> Result<Options<'a>, Words
         fixed,
         seed: number(matches, "seed").unwrap_or(1),
         replay: number(matches, "replay"),
+        make,
         report: flag(matches, "report"),
+        rows,
         name_r,
         name_s,
     })

@@ -5,6 +5,7 @@ mod checks;
 mod command;
 mod found;
 mod laws;
+mod names;
 mod options;
 mod reading;
 

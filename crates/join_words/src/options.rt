@@ -23,11 +23,15 @@ pub struct Options<'a> {
     pub seed: u64,
     /// The seed of the order of a replay, where one was asked for.
     pub replay: Option<u64>,
+    /// How many rows a side has, 1 to 65,536, where tables are to be made. There are no files then.
+    pub make: Option<u64>,
     /// A report is wanted beside the output.
     pub report: bool,
-    /// The name of the file of R.
+    /// The joined rows are wanted in place of their numbers.
+    pub rows: bool,
+    /// The name of the file of R, empty where tables are made.
     pub name_r: &'a str,
-    /// The name of the file of S.
+    /// The name of the file of S, empty where tables are made.
     pub name_s: &'a str,
 }
 
@@ -41,7 +45,9 @@ pub enum WordsFault {
     Joiners,
     /// `--fixed` is given, and is greater than k.
     Fixed,
-    /// There aren't just two names of files.
+    /// `--make` stands with `--rows`.
+    Together,
+    /// There aren't just two names of files, or with `--make` there is one.
     Files,
 }
 

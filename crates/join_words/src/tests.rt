@@ -1,3 +1,5 @@
+mod made;
+
 use crate::{Options, WordsError, WordsFault, read_words};
 use row_tickets::Feed;
 use std::alloc::{AllocError, Global};
@@ -24,7 +26,9 @@ const PLAIN: Options<'static> = Options {
     fixed: None,
     seed: 1,
     replay: None,
+    make: None,
     report: false,
+    rows: false,
     name_r: "r",
     name_s: "s",
 };

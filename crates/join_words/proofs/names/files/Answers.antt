@@ -4,7 +4,7 @@ use Rattle.clap.specs.Matches.{found_of}
 use Rattle.clap.specs.Walk.{Text}
 use Rattle.join_words.specs.Words.{GivesFiles, two_names}
 use Rattle.join_words.proofs.TextReads.{all_is}
-use Rattle.join_words.proofs.checks.files.Goals as goal
+use Rattle.join_words.proofs.names.files.Goals as goal
 
 pub returns-in-Some : goal.returns-in-Some
 returns-in-Some c =
