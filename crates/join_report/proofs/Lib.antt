@@ -1,3 +1,5 @@
 mod Journals
+pub mod LoopSums
 mod Numbered
+mod RowSteps
 mod Worked

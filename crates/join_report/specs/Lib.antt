@@ -1,2 +1,5 @@
 pub mod PairLines
 pub mod Report
+pub mod RowLines
+pub mod Summary
+pub mod Writers

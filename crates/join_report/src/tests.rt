@@ -1,6 +1,8 @@
 ghost use Rattle.std.specs.Prelude.{◌≡◌, IfOk};
 ghost use Rattle.join_report.specs.Report.{AreWithin};
 
+mod joined;
+
 use crate::{pairs_text, report_text};
 use epoch_tags::{Counts, Pair, Pairs};
 use load_controller::{Cause, Journal, TurnLine};
