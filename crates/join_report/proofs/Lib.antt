@@ -2,4 +2,5 @@ mod Journals
 pub mod LoopSums
 mod Numbered
 mod RowSteps
+mod RowsRead
 mod Worked

@@ -1,8 +1,9 @@
 // The text of joined rows.
 
 ghost use Rattle.std.specs.Prelude.{◌≡◌, ◌++◌, ℕ, List, IfOk, OnOk, map};
-ghost use Rattle.csv.specs.Writing.{default_writer, row_text};
-ghost use Rattle.join_report.specs.RowLines.{row_at as row_at', row_lines, texts_of};
+ghost use Rattle.csv.specs.Reading.{default_config, records};
+ghost use Rattle.csv.specs.Writing.{default_writer, read_back, row_text};
+ghost use Rattle.join_report.specs.RowLines.{joined_fields, row_at as row_at', row_lines, texts_of};
 ghost use Rattle.join_report.specs.Writers.{HasWritten};
 
 use csv::{Writer, WriterBuilder};
@@ -61,7 +62,9 @@ pub fn rows_text(
     rows_s: &Rows,
     pairs: &[Pair],
 ) -> Result<Bytes, AllocError>
-    ensures { IfOk result (λ text. text ≡ row_lines rows_r.now rows_s.now pairs.now) }
+    ensures text { IfOk result (λ text. text ≡ row_lines rows_r.now rows_s.now pairs.now) }
+    ensures reads { IfOk result (λ text. records default_config text
+        ≡ map (λ pair. read_back (joined_fields rows_r.now rows_s.now pair)) pairs.now) }
 {
     let mut writer = WriterBuilder::new().from_writer(Vec::new(alloc));
     let mut fields = Vec::new(alloc);
