@@ -18,7 +18,7 @@ use Rattle.join_cli.specs.Columns.{theta_over}
 use Rattle.std.specs.Io.KnownBytes.{append_known}
 use Rattle.load_controller.specs.declared.line.TurnLine.{TurnLine}
 use Rattle.join_cli.specs.declared.outcome.Outcome.TheVariants as outcomes
-use Rattle.join_cli.specs.Plan.{IsJournalOf, checked, fitted, output_of, tables_of, then_of}
+use Rattle.join_cli.specs.Plan.{IsJournalOf, checked, fitted, made_tables, output_of, tables_by, then_of}
 use Rattle.join_runtime.specs.Endings.{EndsView}
 use Rattle.join_cli.specs.Courses.{IsCourseOf}
 use Rattle.join_cli.specs.Ends.{IsAsked, Wrote, WroteFront}
@@ -28,15 +28,17 @@ pub is_asked : (told : Told) (asked : Asked) (tree : Tree) (tables : Tables) (th
     → theta_over tables.of_r.names tables.of_s.names tree ≡ Ok theta
     → Ok planned ≡ checked tables theta
     → planned.tables ≡ tables
-    → ((files : List ℕ → Option (List ℕ)) → told ≡ Some files → tables_of files asked.name_r asked.name_s ≡ Ok tables)
+    → ((files : List ℕ → Option (List ℕ)) → told ≡ Some files → tables_by asked.make files asked.name_r asked.name_s ≡ Ok tables)
+    → ((count : ℕ) → asked.make ≡ Some count → tables ≡ made_tables count)
     → IsAsked told asked planned
-is_asked told asked tree tables theta planned reads over is same found =
+is_asked told asked tree tables theta planned reads over is same found made =
     let fits : fitted tree tables ≡ Ok planned = ap (λ r. then_of r (checked tables)) over ∙ sym is in
     record {
       tree = tree;
       reads = reads;
       fits = subst (λ t. fitted tree t ≡ Ok planned) (sym same) fits;
-      files = λ files told_is. subst (λ t. tables_of files asked.name_r asked.name_s ≡ Ok t) (sym same) (found files told_is);
+      files = λ files told_is. subst (λ t. tables_by asked.make files asked.name_r asked.name_s ≡ Ok t) (sym same) (found files told_is);
+      made = λ count is_made. same ∙ made count is_made;
     }
 
 pub asked_if : (told : Told) (asked : Asked) (tree : Tree) (tables : Tables) (theta : Meaning) (r : Result Planned Refusal)
@@ -44,10 +46,11 @@ pub asked_if : (told : Told) (asked : Asked) (tree : Tree) (tables : Tables) (th
     → theta_over tables.of_r.names tables.of_s.names tree ≡ Ok theta
     → r ≡ checked tables theta
     → IfOk r (λ planned. planned.tables ≡ tables)
-    → ((files : List ℕ → Option (List ℕ)) → told ≡ Some files → tables_of files asked.name_r asked.name_s ≡ Ok tables)
+    → ((files : List ℕ → Option (List ℕ)) → told ≡ Some files → tables_by asked.make files asked.name_r asked.name_s ≡ Ok tables)
+    → ((count : ℕ) → asked.make ≡ Some count → tables ≡ made_tables count)
     → IfOk r (IsAsked told asked)
-asked_if told asked tree tables theta (Ok planned) reads over is same found = is_asked told asked tree tables theta planned reads over is same found
-asked_if told asked tree tables theta (Err refusal) reads over is same found = tt
+asked_if told asked tree tables theta (Ok planned) reads over is same found made = is_asked told asked tree tables theta planned reads over is same found made
+asked_if told asked tree tables theta (Err refusal) reads over is same found made = tt
 
 pub wrote : (told : Told) (asked : Asked) (old new : Option (List ℕ)) (planned : Planned) (made journal : List TurnLine) (left trail : List EndsView) (bytes : List ℕ)
     → IsAsked told asked planned → IsCourseOf asked planned made left → new ≡ append_known old bytes → bytes ≡ output_of asked planned made

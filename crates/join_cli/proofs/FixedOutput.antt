@@ -11,13 +11,12 @@ use Rattle.pair_collector.specs.declared.collected.Held.{Held}
 use Rattle.trace_law.specs.declared.input.Input.{Input}
 use Rattle.trace_law.specs.declared.setting.Setting.{Setting}
 use Rattle.trace_law.specs.Family.{first_line, shift_by, stamp_by}
-use Rattle.trace_law.specs.Join.{held, made, nested_loop, row_count}
+use Rattle.trace_law.specs.Join.{held, made, row_count}
 use Rattle.trace_law.specs.Runs.{StaysAt, load_over, made_over, moved_over}
-use Rattle.join_report.specs.PairLines.{pair_lines}
 use Rattle.join_report.specs.Report.{final_line, grid_lines, input_line, joiner_lines}
 use Rattle.join_words.specs.Words.{Asked}
 use Rattle.join_cli.specs.declared.plan.Planned.{Planned}
-use Rattle.join_cli.specs.Plan.{IsJournalOf, input_of, output_of, report_over, setting_of, text_of}
+use Rattle.join_cli.specs.Plan.{IsJournalOf, answer_of, input_of, output_of, report_over, setting_of, text_of}
 
 shift_stays : (b e : ℕ) (journal : List TurnLine) → AllByRecursion (StaysAt b) journal → shift_at b e journal ≡ b
 shift_stays b e [] h = refl
@@ -82,16 +81,16 @@ report_stays input setting b journal each none =
     (ap (λ f. map f ids) (fun_ext (load_stays input setting b journal each)))
     (ap (λ f. map f ids) (fun_ext (made_stays input setting b journal each)))
 
-abbrev text_at : Input → Setting → Bool → ℕ → List ℕ
-text_at input setting report b = pair_lines (nested_loop input) ++ (if report then report_at input setting b else [])
+abbrev text_at : Asked → Input → Setting → ℕ → List ℕ
+text_at asked input setting b = answer_of asked.make asked.rows input ++ (if asked.report then report_at input setting b else [])
 
-text_stays : (input : Input) (setting : Setting) (report : Bool) (b : ℕ) (journal : List TurnLine) → setting.fixed ≡ Some b → All (StaysAt b) journal → last_epoch journal ≡ 0
-    → text_of input setting report journal ≡ text_at input setting report b
-text_stays input setting report b journal fixed stays none =
-    ap (λ lines. pair_lines (nested_loop input) ++ (if report then lines else [])) (report_stays input setting b journal (each_shift setting b journal fixed stays) none)
+text_stays : (asked : Asked) (input : Input) (setting : Setting) (b : ℕ) (journal : List TurnLine) → setting.fixed ≡ Some b → All (StaysAt b) journal → last_epoch journal ≡ 0
+    → text_of asked input setting journal ≡ text_at asked input setting b
+text_stays asked input setting b journal fixed stays none =
+    ap (λ lines. answer_of asked.make asked.rows input ++ (if asked.report then lines else [])) (report_stays input setting b journal (each_shift setting b journal fixed stays) none)
 
 pub one_output : (asked : Asked) (planned : Planned) (shift : ℕ) (one other : List TurnLine) → asked.fixed ≡ Some shift
     → IsJournalOf asked planned one → IsJournalOf asked planned other → output_of asked planned one ≡ output_of asked planned other
 one_output asked planned shift one other fixed is_one is_other =
-    text_stays (input_of asked.seed planned) (setting_of asked) asked.report shift one fixed (is_one.stays shift fixed) (is_one.one_epoch shift fixed)
-    ∙ sym (text_stays (input_of asked.seed planned) (setting_of asked) asked.report shift other fixed (is_other.stays shift fixed) (is_other.one_epoch shift fixed))
+    text_stays asked (input_of asked.seed planned) (setting_of asked) shift one fixed (is_one.stays shift fixed) (is_one.one_epoch shift fixed)
+    ∙ sym (text_stays asked (input_of asked.seed planned) (setting_of asked) shift other fixed (is_other.stays shift fixed) (is_other.one_epoch shift fixed))

@@ -7,6 +7,7 @@ pub mod Picked
 pub mod Asking
 pub mod Worked
 pub mod Seeing
+pub mod MadeTables
 pub mod Ending
 pub mod Inputs
 pub mod Reports

@@ -16,7 +16,7 @@ use Rattle.join_cli.specs.declared.outcome.Outcome.TheVariants.{Done, Memory}
 use Rattle.join_cli.specs.declared.refusal.Refusal.{Refusal}
 use Rattle.join_cli.specs.declared.plan.Planned.{Planned}
 use Rattle.join_cli.specs.Refusals.{refused_as, text_refusal}
-use Rattle.join_cli.specs.Plan.{IsJournalOf, fitted, plan_of, output_of, tables_of}
+use Rattle.join_cli.specs.Plan.{IsJournalOf, fitted, made_tables, plan_of, output_of, tables_by}
 use Rattle.join_cli.specs.Courses.{IsCourseOf}
 
 -- the output was written whole
@@ -35,12 +35,14 @@ abbrev pub EndsAs : Told → Asked → Result Tree PredFault → Outcome → Typ
 EndsAs None asked reading outcome = ⊤
 EndsAs (Some files) asked reading outcome = (outcome ≡ Memory) ⊎ IsOutcomeOf asked (plan_of asked reading files) outcome
 
--- these are tables and a predicate that were asked for: the predicate's text has a tree which fits the tables, and they are those of the told files
+-- these are tables and a predicate that were asked for: the predicate's text has a tree which fits the tables, and they are
+-- the made ones, or those of the told files
 pub record IsAsked (told : Told) (asked : Asked) (planned : Planned) : Type 0 where
   pub tree : Tree
   pub reads : TextReads limits asked.on tree
   pub fits : fitted tree planned.tables ≡ Ok planned
-  pub files : (files : List ℕ → Option (List ℕ)) → told ≡ Some files → tables_of files asked.name_r asked.name_s ≡ Ok planned.tables
+  pub files : (files : List ℕ → Option (List ℕ)) → told ≡ Some files → tables_by asked.make files asked.name_r asked.name_s ≡ Ok planned.tables
+  pub made : (count : ℕ) → asked.make ≡ Some count → planned.tables ≡ made_tables count
 
 -- the output of what was asked for was written, over the journal of a run that went so
 pub record Wrote (told : Told) (asked : Asked) (journal : List TurnLine) (trail : List EndsView) (old new : Option (List ℕ)) : Type 0 where

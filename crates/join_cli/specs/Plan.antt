@@ -1,11 +1,12 @@
 -- What the words and the files come to, in the order in which they are looked at.
-use Rattle.std.specs.Prelude.{◌≡◌, ◌^◌, ◌++◌, ℕ, Bool, All, List, [], map, length, Option, None, Some, Result, Ok, Err, if◌then◌else◌}
+use Rattle.std.specs.Prelude.{◌≡◌, ◌^◌, ◌++◌, ℕ, Bool, true, false, All, List, [], map, length, Option, None, Some, Result, Ok, Err, if◌then◌else◌}
 use Rattle.std.specs.List.{range_with_len}
 use Rattle.join_rows.specs.declared.table.Side.{Side}
 use Rattle.join_rows.specs.declared.table.Side.TheVariants.{R, S}
 use Rattle.join_rows.specs.declared.table.Cell.{Cell}
 use Rattle.join_rows.specs.declared.table.Table.{Table}
 use Rattle.join_rows.specs.declared.fault.TableFault.{TableFault}
+use Rattle.join_rows.specs.Made.{made_table}
 use Rattle.join_rows.specs.Records.{IsTable, table_of}
 use Rattle.theta_text.specs.Grammar.{Tree}
 use Rattle.theta_text.specs.declared.fault.PredFault.{PredFault}
@@ -22,6 +23,8 @@ use Rattle.load_controller.specs.declared.line.TurnLine.{TurnLine}
 use Rattle.load_controller.specs.Journal.{IsLawful, last_epoch}
 use Rattle.join_report.specs.PairLines.{pair_lines}
 use Rattle.join_report.specs.Report.{report_of}
+use Rattle.join_report.specs.RowLines.{row_lines}
+use Rattle.join_report.specs.Summary.{summary_of}
 use Rattle.join_words.specs.Words.{Asked}
 use Rattle.join_cli.specs.declared.outcome.InputFault.{InputFault}
 use Rattle.join_cli.specs.declared.refusal.Refusal.{Refusal}
@@ -57,6 +60,15 @@ tables_in file_r file_s = then_of (table_found R file_r) (λ r. then_of (table_f
 abbrev pub tables_of : (List ℕ → Option (List ℕ)) → List ℕ → List ℕ → Result Tables Refusal
 tables_of files name_r name_s = tables_in (files name_r) (files name_s)
 
+-- the tables that are made where there are no files
+abbrev pub made_tables : ℕ → Tables
+made_tables count = record { of_r = made_table R count; of_s = made_table S count }
+
+-- made tables, or those of the two files
+abbrev pub tables_by : Option ℕ → (List ℕ → Option (List ℕ)) → List ℕ → List ℕ → Result Tables Refusal
+tables_by None files name_r name_s = tables_of files name_r name_s
+tables_by (Some count) files name_r name_s = Ok (made_tables count)
+
 -- ---- the predicate over them
 
 abbrev pub unless_unfit : Option InputFault → Planned → Result Planned Refusal
@@ -71,10 +83,10 @@ checked tables theta = unless_unfit (number_fault_of tables theta) (record { tab
 abbrev pub fitted : Tree → Tables → Result Planned Refusal
 fitted tree tables = then_of (theta_over tables.of_r.names tables.of_s.names tree) (checked tables)
 
--- the text, the two files, the columns, the numbers
+-- the text, the two tables, the columns, the numbers
 abbrev pub plan_of : Asked → Result Tree PredFault → (List ℕ → Option (List ℕ)) → Result Planned Refusal
 plan_of asked reading files =
-    then_of (tree_or_refused reading) (λ tree. then_of (tables_of files asked.name_r asked.name_s) (fitted tree))
+    then_of (tree_or_refused reading) (λ tree. then_of (tables_by asked.make files asked.name_r asked.name_s) (fitted tree))
 
 -- tables with a predicate over their headers
 pub record IsFit (planned : Planned) : Type 0 where
@@ -135,13 +147,19 @@ run_over input setting journal = record {
 abbrev pub report_over : Input → Setting → List TurnLine → List ℕ
 report_over input setting journal = report_of setting (row_count input R) (row_count input S) (run_over input setting journal)
 
--- the nested loop's pairs, and then the report where one is asked for
-abbrev pub text_of : Input → Setting → Bool → List TurnLine → List ℕ
-text_of input setting report journal = pair_lines (nested_loop input) ++ (if report then report_over input setting journal else [])
+-- the nested loop's pairs: the numbers of their rows, or the rows themselves; of made tables a summary of them
+abbrev pub answer_of : Option ℕ → Bool → Input → List ℕ
+answer_of None false input = pair_lines (nested_loop input)
+answer_of None true input = row_lines input.table_r.rows input.table_s.rows (nested_loop input)
+answer_of (Some count) rows input = summary_of (row_count input R) (row_count input S) (nested_loop input)
+
+-- and then the report where one is asked for
+abbrev pub text_of : Asked → Input → Setting → List TurnLine → List ℕ
+text_of asked input setting journal = answer_of asked.make asked.rows input ++ (if asked.report then report_over input setting journal else [])
 
 -- the output that is asked for of a plan, over a journal
 abbrev pub output_of : Asked → Planned → List TurnLine → List ℕ
-output_of asked planned journal = text_of (input_of asked.seed planned) (setting_of asked) asked.report journal
+output_of asked planned journal = text_of asked (input_of asked.seed planned) (setting_of asked) journal
 
 -- with a fixed shift the output is the same over each such journal
 abbrev pub FixedOutputIsOne : Type 0

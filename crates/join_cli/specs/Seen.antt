@@ -1,5 +1,5 @@
 -- What was read of the two files, whatever the shelf tells of them.
-use Rattle.std.specs.Prelude.{◌≡◌, ◌^◌, ◌+◌, ℕ, List, length, take, Option, Some, Result, Ok, Err, MatchResult}
+use Rattle.std.specs.Prelude.{◌≡◌, ◌^◌, ◌+◌, ℕ, List, length, take, Option, None, Some, Result, Ok, Err, MatchResult}
 use Rattle.std.specs.Io.KnownBytes.{append_known}
 use Rattle.join_rows.specs.Records.{table_of}
 use Rattle.join_rows.specs.Shelves.{Spot, Tells, Told}
@@ -16,7 +16,7 @@ use Rattle.join_cli.specs.declared.plan.Planned.{Planned}
 use Rattle.join_cli.specs.declared.refusal.Refusal.{Refusal}
 use Rattle.join_cli.specs.Refusals.{refused_as}
 use Rattle.join_cli.specs.Courses.{IsCourseOf}
-use Rattle.join_cli.specs.Plan.{IsJournalOf, fitted, output_of, table_found, tables_in, then_of}
+use Rattle.join_cli.specs.Plan.{IsJournalOf, fitted, made_tables, output_of, table_found, tables_in, then_of}
 
 -- a told file begins with these bytes, and they are all of it or one more than the limit
 abbrev pub BeginsWith : Told → List ℕ → List ℕ → Type 0
@@ -42,6 +42,11 @@ pub record TablesSeen (told : Told) (spot : Spot) (name_r name_s : List ℕ) (re
   pub are : AreSeen told spot name_r name_s seen_r seen_s
   pub answer : result ≡ tables_in (Some seen_r) (Some seen_s)
 
+-- the answer is that of such bytes, or made tables
+abbrev pub TablesAsked : Told → Spot → Asked → Option ℕ → Result Tables Refusal → Type 0
+TablesAsked told spot asked None result = TablesSeen told spot asked.name_r asked.name_s result
+TablesAsked told spot asked (Some count) result = result ≡ Ok (made_tables count)
+
 -- what a predicate's tree and two files come to
 abbrev pub plan_over : Tree → List ℕ → List ℕ → Result Planned Refusal
 plan_over tree seen_r seen_s = then_of (tables_in (Some seen_r) (Some seen_s)) (fitted tree)
@@ -51,6 +56,11 @@ pub record PlanSeen (told : Told) (spot : Spot) (asked : Asked) (tree : Tree) (r
   pub seen_s : List ℕ
   pub are : AreSeen told spot asked.name_r asked.name_s seen_r seen_s
   pub answer : result ≡ plan_over tree seen_r seen_s
+
+-- of such bytes, or of made tables
+abbrev pub PlanAsked : Told → Spot → Asked → Option ℕ → Tree → Result Planned Refusal → Type 0
+PlanAsked told spot asked None tree result = PlanSeen told spot asked tree result
+PlanAsked told spot asked (Some count) tree result = result ≡ fitted tree (made_tables count)
 
 -- a plan was carried out, and its output over a lawful controller's journal written whole or in part, or it was refused and
 -- nothing written
@@ -66,3 +76,8 @@ pub record EndsOver (told : Told) (spot : Spot) (asked : Asked) (tree : Tree) (o
   pub seen_s : List ℕ
   pub are : AreSeen told spot asked.name_r asked.name_s seen_r seen_s
   pub ends : Ends asked old new (plan_over tree seen_r seen_s) outcome
+
+-- or as the made tables say
+abbrev pub EndsAsked : Told → Spot → Asked → Option ℕ → Tree → Option (List ℕ) → Option (List ℕ) → Outcome → Type 0
+EndsAsked told spot asked None tree old new outcome = EndsOver told spot asked tree old new outcome
+EndsAsked told spot asked (Some count) tree old new outcome = Ends asked old new (fitted tree (made_tables count)) outcome

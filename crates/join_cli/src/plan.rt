@@ -1,6 +1,6 @@
 // The tables and the predicate that the words ask for.
 
-ghost use Rattle.std.specs.Prelude.{◌≡◌, ◌⊎◌, ◌<◌, ◌≤◌, ℕ, List, Option, Some, Result, Err, IfOk, length};
+ghost use Rattle.std.specs.Prelude.{◌≡◌, ◌⊎◌, ◌<◌, ◌≤◌, ℕ, List, Option, Some, Result, Ok, Err, IfOk, IfSome, length};
 ghost use Rattle.join_rows.specs.Shelves.{last_fault};
 ghost use Rattle.join_rows.specs.Records.{IsTable};
 ghost use Rattle.join_rows.specs.declared.table.Side.{Side};
@@ -11,19 +11,19 @@ ghost use Rattle.join_words.specs.Words.{asked};
 ghost use Rattle.join_cli.specs.declared.outcome.TextFault.{TextFault};
 ghost use Rattle.join_cli.specs.Texts.{IsRead, IsTrueOf, RefusesText};
 ghost use Rattle.join_cli.specs.Plan;
-ghost use Rattle.join_cli.specs.Plan.{IsFit, plan_of};
-ghost use Rattle.join_cli.specs.Seen.{PlanSeen};
+ghost use Rattle.join_cli.specs.Plan.{IsFit, made_tables, plan_of, tables_by};
+ghost use Rattle.join_cli.specs.Seen.{PlanAsked, TablesAsked};
 ghost use Rattle.join_cli.specs.Ends.{IsAsked, LacksOne, StandsPast, name_of};
 
 use crate::columns::theta;
 use crate::numbers::number_fault;
 use crate::outcome::LimitFault;
 use crate::predicate::predicate;
-use crate::reading::{Tables, read_tables};
+use crate::reading::{Tables, made, read_tables};
 use crate::refusal::Refusal;
 use join_rows::Shelf;
 use join_words::Options;
-use std::alloc::Global;
+use std::alloc::{AllocError, Global};
 use theta_pred::Theta;
 
 /// Two tables and a predicate over them.
@@ -52,14 +52,51 @@ fn checked(tables: Tables, theta: Theta) -> Result<Planned, Refusal>
     }
 }
 
+/// The tables that the options ask for, or the first refusal: made ones, for which the shelf isn't called, or those of the
+/// two files.
+fn tables<H: Shelf>(alloc: Global, options: &Options<'_>, shelf: &mut H) -> Result<Tables, Refusal>
+    requires faults { H.faults shelf.old < last_fault }
+    requires make { IfSome options.now.make (λ count. (1 ≤ count) × (count ≤ 65536)) }
+    ensures told { H.told shelf.new ≡ H.told shelf.old }
+    ensures rises { H.faults shelf.old ≤ H.faults shelf.new }
+    ensures answer { (files : List ℕ → Option (List ℕ)) → H.told shelf.old ≡ Some files
+        → H.faults shelf.new ≡ H.faults shelf.old → (result ≡ Err Refusal.Memory)
+        ⊎ (result ≡ tables_by options.now.make files options.now.name_r.now options.now.name_s.now) }
+    ensures found { IfOk result (λ tables. (files : List ℕ → Option (List ℕ)) → H.told shelf.old ≡ Some files
+        → tables_by options.now.make files options.now.name_r.now options.now.name_s.now ≡ Ok tables) }
+    ensures made { (count : ℕ) → options.now.make ≡ Some count → (shelf.new ≡ shelf.old)
+        × ((result ≡ Err Refusal.Memory) ⊎ (result ≡ Ok (made_tables count))) }
+    ensures seen { (result ≡ Err Refusal.Read → ⊥) → (result ≡ Err Refusal.Memory → ⊥)
+        → TablesAsked (H.told shelf.old) (H.picked shelf.new) (asked options.now) options.now.make result }
+    ensures sound { H.sound shelf.old → H.sound shelf.new × (H.faults shelf.new ≡ H.faults shelf.old) }
+    ensures read { result ≡ Err Refusal.Read → (H.faults shelf.old < H.faults shelf.new)
+        ⊎ LacksOne (H.told shelf.old) (asked options.now) }
+    ensures counts { (result ≡ Err Refusal.Read → ⊥) → H.faults shelf.new ≡ H.faults shelf.old }
+    ensures long { (side : Side) → result ≡ Err (Refusal.Limit (LimitFault.TooLong side))
+        → StandsPast (H.picked shelf.new) (name_of side (asked options.now)) }
+    ensures text { (fault : TextFault) → result ≡ Err (Refusal.Predicate fault) → ⊥ }
+    ensures whole_r { IfOk result (λ tables. IsTable tables.of_r) }
+    ensures whole_s { IfOk result (λ tables. IsTable tables.of_s) }
+{
+    match options.make {
+        Some(count) => match made(alloc, count) {
+            Ok(tables) => Ok(tables),
+            Err(AllocError) => Err(Refusal::Memory),
+        },
+        None => read_tables(alloc, shelf, options.name_r, options.name_s),
+    }
+}
+
 /// What the options ask for, or the first refusal: of the text, of the file of R, of that of S, of the
-/// columns, of the numbers. A refusal of the text comes before any call of the shelf.
+/// columns, of the numbers. A refusal of the text comes before any call of the shelf, and where tables are made
+/// there is none.
 pub(crate) fn prepare<H: Shelf>(
     alloc: Global,
     options: &Options<'_>,
     shelf: &mut H,
 ) -> Result<Planned, Refusal>
-    requires { H.faults shelf.old < last_fault }
+    requires faults { H.faults shelf.old < last_fault }
+    requires make { IfSome options.now.make (λ count. (1 ≤ count) × (count ≤ 65536)) }
     ensures told { H.told shelf.new ≡ H.told shelf.old }
     ensures rises { H.faults shelf.old ≤ H.faults shelf.new }
     ensures answer { (files : List ℕ → Option (List ℕ)) (reading : Result Tree PredFault)
@@ -68,7 +105,9 @@ pub(crate) fn prepare<H: Shelf>(
         → (result ≡ Err Refusal.Memory) ⊎ (result ≡ plan_of (asked options.now) reading files) }
     ensures seen { (tree : Tree) → TextReads limits options.now.on.now tree
         → (result ≡ Err Refusal.Read → ⊥) → (result ≡ Err Refusal.Memory → ⊥)
-        → PlanSeen (H.told shelf.old) (H.picked shelf.new) (asked options.now) tree result }
+        → PlanAsked (H.told shelf.old) (H.picked shelf.new) (asked options.now) options.now.make tree result }
+    ensures made { (count : ℕ) → options.now.make ≡ Some count
+        → (shelf.new ≡ shelf.old) × (result ≡ Err Refusal.Read → ⊥) }
     ensures sound { H.sound shelf.old → H.faults shelf.new ≡ H.faults shelf.old }
     ensures early { (fault : PredFault) → IsFaultOf limits options.now.on.now fault
         → RefusesText fault result × (shelf.new ≡ shelf.old) }
@@ -83,7 +122,7 @@ pub(crate) fn prepare<H: Shelf>(
     ensures counts { (result ≡ Err Refusal.Read → ⊥) → H.faults shelf.new ≡ H.faults shelf.old }
 {
     let pred = predicate(alloc, options.on)?;
-    let tables = read_tables(alloc, shelf, options.name_r, options.name_s)?;
+    let tables = tables(alloc, options, shelf)?;
     let theta = theta(alloc, &pred, &tables.of_r.names, &tables.of_s.names)?;
     checked(tables, theta)
 }

@@ -11,7 +11,7 @@ ghost use Rattle.join_words.specs.Words.{Asked, asked_of};
 ghost use Rattle.join_words.specs.declared.options.WordsFault.{WordsFault};
 ghost use Rattle.join_cli.specs.Outcomes.{status_of};
 ghost use Rattle.join_cli.specs.Ends.{IsDone, LacksOne, Wrote};
-ghost use Rattle.join_cli.specs.Seen.{EndsOver};
+ghost use Rattle.join_cli.specs.Seen.{EndsAsked};
 
 use crate::outcome::Outcome;
 use crate::top::join_main;
@@ -65,7 +65,7 @@ pub fn jm_main<R: Threads + Wait + Sync, H: Shelf, K: Sink, E: Sink, G: Gate>(
         × Wrote (H.told shelf.old) asked journal trail (K.written sink.old) (K.written sink.new) }
     ensures seen { (asked : Asked) (tree : Tree) → asked_of (map string_bytes words.now) ≡ Ok asked
         → TextReads limits asked.on tree → result ≢ Outcome.Read → result ≢ Outcome.Memory
-        → EndsOver (H.told shelf.old) (H.picked shelf.new) asked tree
+        → EndsAsked (H.told shelf.old) (H.picked shelf.new) asked asked.make tree
         (K.written sink.old) (K.written sink.new) result }
     ensures read { (asked : Asked) → asked_of (map string_bytes words.now) ≡ Ok asked → result ≡ Outcome.Read
         → (H.faults shelf.old < H.faults shelf.new) ⊎ LacksOne (H.told shelf.old) asked }

@@ -5,20 +5,33 @@ ghost use Rattle.join_rows.specs.Shelves.{Lacks, last_fault};
 ghost use Rattle.join_rows.specs.Records.{IsTable};
 ghost use Rattle.join_rows.specs.declared.table.Side.{Side};
 ghost use Rattle.join_cli.specs.declared.outcome.TextFault.{TextFault};
-ghost use Rattle.join_cli.specs.Plan.{tables_of, table_found};
+ghost use Rattle.join_cli.specs.Plan.{made_tables, tables_of, table_found};
 ghost use Rattle.join_cli.specs.Ends.{StandsPast, name_on};
 ghost use Rattle.join_cli.specs.Seen.{IsSeen, TablesSeen};
 
 use crate::outcome::LimitFault;
 use crate::refusal::{Refusal, file_refused};
-use join_rows::{Shelf, Side, Table, read_table};
-use std::alloc::Global;
+use join_rows::{Shelf, Side, Table, make_table, read_table};
+use std::alloc::{AllocError, Global};
 
 /// The tables of both sides.
 #[derive(Debug, Drop)]
 pub(crate) struct Tables {
     pub(crate) of_r: Table,
     pub(crate) of_s: Table,
+}
+
+/// The tables that are made of so many rows a side.
+pub(crate) fn made(alloc: Global, count: u64) -> Result<Tables, AllocError>
+    requires some { 1 ≤ count }
+    requires few { count ≤ 65536 }
+    ensures made { IfOk result (λ tables. tables ≡ made_tables count) }
+    ensures whole_r { IfOk result (λ tables. IsTable tables.of_r) }
+    ensures whole_s { IfOk result (λ tables. IsTable tables.of_s) }
+{
+    let of_r = make_table(alloc, Side::R, count)?;
+    let of_s = make_table(alloc, Side::S, count)?;
+    Ok(Tables { of_r, of_s })
 }
 
 /// The table of one side.

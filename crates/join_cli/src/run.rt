@@ -4,11 +4,13 @@ ghost use Rattle.std.specs.Prelude.{◌≡◌, ◌<◌, ◌≤◌, ◌^◌, All,
 ghost use Rattle.trace_law.specs.Validity.{IsValidInput, IsValidSetting};
 ghost use Rattle.join_words.specs.Words.{asked};
 ghost use Rattle.trace_law.specs.Runs.{IsRunOf};
-ghost use Rattle.join_cli.specs.Plan.{IsFit, input_of, output_of, setting_of, text_of, tickets_of};
+ghost use Rattle.trace_law.specs.Join.{nested_loop};
+ghost use Rattle.join_cli.specs.Plan.{IsFit, answer_of, input_of, output_of, setting_of, text_of, tickets_of};
 ghost use Rattle.join_cli.specs.Courses.{IsCourseOf, IsReplayed, IsRunInThreads, WentAs};
 
 use crate::plan::Planned;
-use join_report::{pairs_text, report_text};
+use epoch_tags::Pair;
+use join_report::{pairs_text, report_text, rows_text, summary_text};
 use join_rows::{Bytes, Side, Table};
 use join_runtime::{Told, Trail, run};
 use join_words::Options;
@@ -23,7 +25,7 @@ use worker_gate::Gate;
 /// The text of an output, with the journal of its run and what the run's seats left.
 #[derive(Drop)]
 pub(crate) struct Joined {
-    pub(crate) text: String,
+    pub(crate) text: Bytes,
     pub(crate) journal: Journal,
     pub(crate) trail: Trail,
 }
@@ -84,25 +86,52 @@ fn input(alloc: Global, seed: u64, planned: Planned) -> Result<Input, AllocError
     })
 }
 
+/// These bytes.
+fn bytes_of(text: String) -> Bytes
+    ensures { result ≡ string_bytes text }
+{
+    Bytes::from_vec(text.into_bytes())
+}
+
+/// The text of the pairs: the numbers of their rows, or the rows themselves; of made tables a summary.
+fn answer(
+    alloc: Global,
+    options: &Options<'_>,
+    input: &Input,
+    pairs: &[Pair],
+) -> Result<Bytes, AllocError>
+    requires input { IsValidInput input.now }
+    requires pairs { pairs.now ≡ nested_loop input.now }
+    ensures { IfOk result (λ text. text ≡ answer_of options.now.make options.now.rows input.now) }
+{
+    let rows_r = &input.table_r.rows;
+    let rows_s = &input.table_s.rows;
+    match options.make {
+        Some(_) => Ok(bytes_of(summary_text(alloc, rows_r.len(), rows_s.len(), pairs)?)),
+        None if options.rows => rows_text(alloc, rows_r, rows_s, pairs),
+        None => Ok(bytes_of(pairs_text(alloc, pairs)?)),
+    }
+}
+
 /// The text of the pairs, and then the report where one is asked for.
 fn text(
     alloc: Global,
-    report: bool,
+    options: &Options<'_>,
     input: &Input,
     setting: &Setting,
     run: &Run,
-) -> Result<String, AllocError>
+) -> Result<Bytes, AllocError>
     requires input { IsValidInput input.now }
     requires setting { IsValidSetting setting.now }
     requires run { IsRunOf input.now setting.now run.now.journal run.now }
-    ensures { IfOk result (λ text. string_bytes text ≡ text_of input.now setting.now report run.now.journal) }
+    ensures { IfOk result (λ text. text ≡ text_of (asked options.now) input.now setting.now run.now.journal) }
 {
-    let mut text = pairs_text(alloc, run.pairs.as_slice())?;
-    if report {
+    let mut text = answer(alloc, options, input, run.pairs.as_slice())?;
+    if options.report {
         let rows_r = input.table_r.rows.len();
         let rows_s = input.table_s.rows.len();
         let lines = report_text(alloc, setting, rows_r, rows_s, run)?;
-        text.push_str(lines.as_str())?;
+        text.append(lines.as_bytes())?;
     }
     Ok(text)
 }
@@ -188,13 +217,12 @@ pub(crate) fn output<R: Threads + Wait + Sync, G: Gate>(
     requires batch { (1 ≤ options.now.batch) × (options.now.batch ≤ 4096) }
     requires fits { IfSome options.now.fixed (λ fixed. fixed ≤ options.now.k) }
     ensures course { IfOk result (λ joined. IsCourseOf (asked options.now) planned joined.journal joined.trail) }
-    ensures text { IfOk result (λ joined. string_bytes joined.text
-        ≡ output_of (asked options.now) planned joined.journal) }
+    ensures text { IfOk result (λ joined. joined.text ≡ output_of (asked options.now) planned joined.journal) }
 {
     let setting = setting(options);
     let input = input(alloc, options.seed, planned)?;
     let Course { run, trail } = carry_out(rt, alloc, options.replay, &input, &setting, gate)?;
-    let text = text(alloc, options.report, &input, &setting, &run)?;
+    let text = text(alloc, options, &input, &setting, &run)?;
     Ok(Joined {
         text,
         journal: run.journal,

@@ -7,6 +7,7 @@ use worker_gate::NoGate;
 
 mod calls;
 mod faults;
+mod made;
 mod replays;
 mod rows;
 mod threads;

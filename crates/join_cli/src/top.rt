@@ -15,7 +15,7 @@ ghost use Rattle.join_cli.specs.Refusals.{refused_as, text_refusal};
 ghost use Rattle.join_cli.specs.Texts.{IsRead, IsTrueOf};
 ghost use Rattle.join_cli.specs.declared.plan.Planned.{Planned};
 ghost use Rattle.join_cli.specs.Plan.{plan_of};
-ghost use Rattle.join_cli.specs.Seen.{EndsOver};
+ghost use Rattle.join_cli.specs.Seen.{EndsAsked};
 ghost use Rattle.join_cli.specs.Ends.{EndsAs, EndsEarly, IsDone, LacksOne, StandsPast, TakesEach, Wrote, WroteFront, name_of};
 
 use crate::outcome::{LimitFault, Outcome};
@@ -46,6 +46,7 @@ fn join_files<R: Threads + Wait + Sync, H: Shelf, K: Sink, G: Gate>(
     requires workers { (1 ≤ options.now.workers) × (options.now.workers ≤ 16) }
     requires batch { (1 ≤ options.now.batch) × (options.now.batch ≤ 4096) }
     requires fits { IfSome options.now.fixed (λ fixed. fixed ≤ options.now.k) }
+    requires make { IfSome options.now.make (λ count. (1 ≤ count) × (count ≤ 65536)) }
     ensures words { (fault : WordsFault) → result ≢ Outcome.Words fault }
     ensures early { (fault : PredFault) → IsFaultOf limits options.now.on.now fault
         → EndsEarly fault result × (shelf.new ≡ shelf.old) }
@@ -54,8 +55,9 @@ fn join_files<R: Threads + Wait + Sync, H: Shelf, K: Sink, G: Gate>(
         → EndsAs (H.told shelf.old) (asked options.now) reading result }
     ensures seen { (tree : Tree) → TextReads limits options.now.on.now tree
         → result ≢ Outcome.Read → result ≢ Outcome.Memory
-        → EndsOver (H.told shelf.old) (H.picked shelf.new) (asked options.now) tree
+        → EndsAsked (H.told shelf.old) (H.picked shelf.new) (asked options.now) options.now.make tree
         (K.written sink.old) (K.written sink.new) result }
+    ensures made { (count : ℕ) → options.now.make ≡ Some count → (shelf.new ≡ shelf.old) × (result ≢ Outcome.Read) }
     ensures complete { (files : List ℕ → Option (List ℕ)) (tree : Tree) (planned : Planned)
         → H.told shelf.old ≡ Some files → TextReads limits options.now.on.now tree
         → plan_of (asked options.now) (Ok tree) files ≡ Ok planned → H.sound shelf.old
@@ -89,7 +91,7 @@ fn join_files<R: Threads + Wait + Sync, H: Shelf, K: Sink, G: Gate>(
         Ok(joined) => joined,
         Err(AllocError) => return Outcome::Memory,
     };
-    match put_all(sink, text.as_bytes()) {
+    match put_all(sink, text.as_slice()) {
         Ok(()) => Outcome::Done { journal, trail },
         Err(Failed) => Outcome::Write,
     }
@@ -122,8 +124,10 @@ pub fn join_main<R: Threads + Wait + Sync, H: Shelf, K: Sink, G: Gate>(
         → EndsAs (H.told shelf.old) asked reading result }
     ensures seen { (asked : Asked) (tree : Tree) → asked_of (map string_bytes words.now) ≡ Ok asked
         → TextReads limits asked.on tree → result ≢ Outcome.Read → result ≢ Outcome.Memory
-        → EndsOver (H.told shelf.old) (H.picked shelf.new) asked tree
+        → EndsAsked (H.told shelf.old) (H.picked shelf.new) asked asked.make tree
         (K.written sink.old) (K.written sink.new) result }
+    ensures made { (asked : Asked) (count : ℕ) → asked_of (map string_bytes words.now) ≡ Ok asked
+        → asked.make ≡ Some count → (shelf.new ≡ shelf.old) × (result ≢ Outcome.Read) }
     ensures complete { (asked : Asked) (files : List ℕ → Option (List ℕ)) (tree : Tree) (planned : Planned)
         → asked_of (map string_bytes words.now) ≡ Ok asked
         → H.told shelf.old ≡ Some files → TextReads limits asked.on tree

@@ -3,7 +3,8 @@ use Rattle.std.specs.Io.KnownBytes.{append_known}
 use Rattle.join_rows.specs.Sinks.{AppendsFront}
 use Rattle.join_cli.specs.Plan.{plan_of}
 use Rattle.join_cli.proofs.Ending.{complete_made, complete_refused, ends_done, ends_refused, takes_made}
-use Rattle.join_cli.proofs.Seeing.{end_done, end_front, end_refused, not_refused_memory, not_refused_read}
+use Rattle.join_cli.proofs.MadeTables.{asked_done, asked_front, asked_refused}
+use Rattle.join_cli.proofs.Seeing.{not_refused_memory, not_refused_read}
 use Rattle.join_words.specs.Words.{asked}
 use Rattle.join_cli.proofs.Asking.{wrote, wrote_front}
 use Rattle.join_cli.proofs.top.join_files.Goals as goal
@@ -11,14 +12,14 @@ use Rattle.join_cli.proofs.top.join_files.Goals as goal
 pub returns-in-Ok-put_all-clause-done : goal.returns-in-Ok-put_all-clause-done
 returns-in-Ok-put_all-clause-done g c = λ journal trail is.
     wrote (g.H.Shelf.told c.args.shelf.now) (asked c.args.options.now) (g.K.Sink.written c.args.sink.now) (g.K.Sink.written c.put_all.new.sink)
-    c.in-Ok.planned c.in-Ok-output.joined.journal journal c.in-Ok-output.joined.trail trail c.as_bytes.result.now c.in-Ok.ensures.asked c.in-Ok-output.ensures.course c.in-Ok-put_all.ensures.written
-    (c.as_bytes.ensures.value ∙ c.in-Ok-output.ensures.text) is
+    c.in-Ok.planned c.in-Ok-output.joined.journal journal c.in-Ok-output.joined.trail trail c.as_slice.result.now c.in-Ok.ensures.asked c.in-Ok-output.ensures.course c.in-Ok-put_all.ensures.written
+    (c.as_slice.ensures ∙ c.in-Ok-output.ensures.text) is
 
 pub returns-clause-front : goal.returns-clause-front
 returns-clause-front g c = λ is.
     wrote_front (g.H.Shelf.told c.args.shelf.now) (asked c.args.options.now) (g.K.Sink.written c.args.sink.now) (g.K.Sink.written c.put_all.new.sink)
-    c.in-Ok.planned c.in-Ok-output.joined.journal c.as_bytes.result.now c.in-Ok.ensures.asked c.in-Ok-output.ensures.course.lawful c.in-Err-put_all.ensures.front
-    (c.as_bytes.ensures.value ∙ c.in-Ok-output.ensures.text)
+    c.in-Ok.planned c.in-Ok-output.joined.journal c.as_slice.result.now c.in-Ok.ensures.asked c.in-Ok-output.ensures.course.lawful c.in-Err-put_all.ensures.front
+    (c.as_slice.ensures ∙ c.in-Ok-output.ensures.text)
 
 pub returns-in-Err-clause-answer : goal.returns-in-Err-clause-answer
 returns-in-Err-clause-answer g c reading is same same_sink =
@@ -28,7 +29,7 @@ returns-in-Err-clause-answer g c reading is same same_sink =
 pub returns-in-Err-clause-seen : goal.returns-in-Err-clause-seen
 returns-in-Err-clause-seen g c tree reads read memory =
     let seen = c.in-Err.ensures.seen tree reads (not_refused_read c.in-Err.refusal (rw c.refused.ensures at read)) (not_refused_memory c.in-Err.refusal (rw c.refused.ensures at memory)) in
-    rw c.refused.ensures (end_refused (g.H.Shelf.told c.args.shelf.now) (g.H.Shelf.picked c.prepare.new.shelf) (asked c.args.options.now) tree (g.K.Sink.written c.args.sink.now) c.in-Err.refusal seen)
+    rw c.refused.ensures (asked_refused (g.H.Shelf.told c.args.shelf.now) (g.H.Shelf.picked c.prepare.new.shelf) (asked c.args.options.now) c.args.options.now.make tree (g.K.Sink.written c.args.sink.now) c.in-Err.refusal seen)
 
 pub returns-in-Err-clause-complete : goal.returns-in-Err-clause-complete
 returns-in-Err-clause-complete g c files tree planned told reads plan sound takes =
@@ -45,22 +46,22 @@ returns-in-Ok-put_all-clause-answer g c reading is same same_sink =
 
 pub returns-in-Ok-put_all-clause-seen : goal.returns-in-Ok-put_all-clause-seen
 returns-in-Ok-put_all-clause-seen g c tree reads read memory =
-    end_done (g.H.Shelf.told c.args.shelf.now) (g.H.Shelf.picked c.prepare.new.shelf) (asked c.args.options.now) tree (g.K.Sink.written c.args.sink.now) (g.K.Sink.written c.put_all.new.sink)
+    asked_done (g.H.Shelf.told c.args.shelf.now) (g.H.Shelf.picked c.prepare.new.shelf) (asked c.args.options.now) c.args.options.now.make tree (g.K.Sink.written c.args.sink.now) (g.K.Sink.written c.put_all.new.sink)
     c.in-Ok.planned c.in-Ok-output.joined.journal c.in-Ok-output.joined.trail (c.in-Ok.ensures.seen tree reads (λ e. cc e) (λ e. cc e)) c.in-Ok-output.ensures.course
-    (c.in-Ok-put_all.ensures.written ∙ ap (append_known (g.K.Sink.written c.args.sink.now)) (c.as_bytes.ensures.value ∙ c.in-Ok-output.ensures.text))
+    (c.in-Ok-put_all.ensures.written ∙ ap (append_known (g.K.Sink.written c.args.sink.now)) (c.as_slice.ensures ∙ c.in-Ok-output.ensures.text))
 
 pub returns-clause-early : goal.returns-clause-early
 returns-clause-early g c fault is = absurd (c.in-Ok.ensures.early fault is).0
 
 pub returns-clause-seen : goal.returns-clause-seen
 returns-clause-seen g c tree reads read memory =
-    end_front (g.H.Shelf.told c.args.shelf.now) (g.H.Shelf.picked c.prepare.new.shelf) (asked c.args.options.now) tree (g.K.Sink.written c.args.sink.now) (g.K.Sink.written c.put_all.new.sink)
+    asked_front (g.H.Shelf.told c.args.shelf.now) (g.H.Shelf.picked c.prepare.new.shelf) (asked c.args.options.now) c.args.options.now.make tree (g.K.Sink.written c.args.sink.now) (g.K.Sink.written c.put_all.new.sink)
     c.in-Ok.planned c.in-Ok-output.joined.journal (c.in-Ok.ensures.seen tree reads (λ e. cc e) (λ e. cc e)) c.in-Ok-output.ensures.course.lawful
-    (subst (AppendsFront (g.K.Sink.written c.args.sink.now) (g.K.Sink.written c.put_all.new.sink)) (c.as_bytes.ensures.value ∙ c.in-Ok-output.ensures.text) c.in-Err-put_all.ensures.front)
+    (subst (AppendsFront (g.K.Sink.written c.args.sink.now) (g.K.Sink.written c.put_all.new.sink)) (c.as_slice.ensures ∙ c.in-Ok-output.ensures.text) c.in-Err-put_all.ensures.front)
 
 pub returns-clause-complete : goal.returns-clause-complete
 returns-clause-complete g c files tree planned told reads plan sound takes =
     let made = complete_made c.in-Ok.planned planned (plan_of (asked c.args.options.now) (Ok tree) files) (c.in-Ok.ensures.answer files (Ok tree) told reads (c.in-Ok.ensures.sound sound)) plan in
     absurd (cc (c.in-Err-put_all.ensures.takes
-    (takes_made (g.K.Sink.takes c.args.sink.now) (asked c.args.options.now) c.in-Ok.planned planned c.in-Ok-output.joined.journal c.as_bytes.result.now
-    made c.in-Ok-output.ensures.course.lawful (c.as_bytes.ensures.value ∙ c.in-Ok-output.ensures.text) takes)))
+    (takes_made (g.K.Sink.takes c.args.sink.now) (asked c.args.options.now) c.in-Ok.planned planned c.in-Ok-output.joined.journal c.as_slice.result.now
+    made c.in-Ok-output.ensures.course.lawful (c.as_slice.ensures ∙ c.in-Ok-output.ensures.text) takes)))

@@ -1,0 +1,81 @@
+-- What is asked for, whether tables are made or read.
+use Rattle.std.proofs.Common.{◌≡◌, ◌∙◌, ◌⊎◌, inl, inr, ℕ, List, Option, None, Some, Result, Ok, Err, refl, sym, ap, subst}
+use Rattle.join_rows.specs.Shelves.{Spot, Told}
+use Rattle.join_rows.specs.Sinks.{AppendsFront}
+use Rattle.std.specs.Io.KnownBytes.{append_known}
+use Rattle.theta_text.specs.Grammar.{Tree}
+use Rattle.theta_pred.specs.Formula.{Meaning}
+use Rattle.load_controller.specs.declared.line.TurnLine.{TurnLine}
+use Rattle.join_runtime.specs.Endings.{EndsView}
+use Rattle.join_words.specs.Words.{Asked}
+use Rattle.join_cli.specs.declared.plan.Planned.{Planned}
+use Rattle.join_cli.specs.declared.reading.Tables.{Tables}
+use Rattle.join_cli.specs.declared.refusal.Refusal.{Refusal}
+use Rattle.join_cli.specs.declared.refusal.Refusal.TheVariants as refusals
+use Rattle.join_cli.specs.declared.outcome.Outcome.TheVariants as outcomes
+use Rattle.join_cli.specs.Columns.{theta_over}
+use Rattle.join_cli.specs.Courses.{IsCourseOf}
+use Rattle.join_cli.specs.Plan.{IsJournalOf, checked, fitted, made_tables, output_of, then_of}
+use Rattle.join_cli.specs.Refusals.{refused_as}
+use Rattle.join_cli.specs.Seen.{Ends, EndsAsked, PlanAsked, TablesAsked}
+use Rattle.join_cli.specs.Texts.{tree_or_refused}
+use Rattle.join_cli.proofs.Seeing.{end_done, end_front, end_refused, no_plan, no_tables, no_theta, plan_seen, tables_seen, theta_seen}
+
+-- a text with a tree isn't refused
+pub text_asked : (told : Told) (spot : Spot) (asked : Asked) (make : Option ℕ) (tree : Tree) (refusal : Refusal)
+    → (refusal ≡ refusals.Memory) ⊎ (tree_or_refused (Ok tree) ≡ Err refusal) → (no_plan refusal ≡ Err refusals.Memory → ⊥)
+    → PlanAsked told spot asked make tree (no_plan refusal)
+text_asked told spot asked make tree refusal reads memory = elim reads [ inl m ↦ absurd (memory (ap no_plan m)) | inr e ↦ absurd (cc e) ]
+
+pub tables_asked : (told : Told) (spot : Spot) (asked : Asked) (make : Option ℕ) (tree : Tree) (refusal : Refusal)
+    → TablesAsked told spot asked make (no_tables refusal) → PlanAsked told spot asked make tree (no_plan refusal)
+tables_asked told spot asked None tree refusal is = tables_seen told spot asked tree refusal is
+tables_asked told spot asked (Some count) tree refusal is = absurd (cc is)
+
+pub theta_asked : (told : Told) (spot : Spot) (asked : Asked) (make : Option ℕ) (tree : Tree) (tables : Tables) (refusal : Refusal)
+    → TablesAsked told spot asked make (Ok tables)
+    → (no_theta refusal ≡ Err refusals.Memory) ⊎ (no_theta refusal ≡ theta_over tables.of_r.names tables.of_s.names tree) → (no_plan refusal ≡ Err refusals.Memory → ⊥)
+    → PlanAsked told spot asked make tree (no_plan refusal)
+theta_asked told spot asked None tree tables refusal is over memory = theta_seen told spot asked tree tables refusal is over memory
+theta_asked told spot asked (Some count) tree tables refusal is over memory = elim over [
+  | inl m ↦ let same : refusal ≡ refusals.Memory = cc m in absurd (memory (ap no_plan same))
+  | inr e ↦ ap (λ t. then_of t (checked tables)) e ∙ ap (λ r. then_of r (fitted tree)) is
+]
+
+pub plan_asked : (told : Told) (spot : Spot) (asked : Asked) (make : Option ℕ) (tree : Tree) (tables : Tables) (theta : Meaning) (r : Result Planned Refusal)
+    → TablesAsked told spot asked make (Ok tables)
+    → theta_over tables.of_r.names tables.of_s.names tree ≡ Ok theta → r ≡ checked tables theta → PlanAsked told spot asked make tree r
+plan_asked told spot asked None tree tables theta r is over made = plan_seen told spot asked tree tables theta r is over made
+plan_asked told spot asked (Some count) tree tables theta r is over made =
+    made ∙ sym (ap (λ t. then_of t (checked tables)) over) ∙ ap (λ t. then_of t (fitted tree)) is
+
+-- a refusal that is another for a plan is another for its tables
+pub other_refusal_of_plan : (refusal why : Refusal) → (no_plan refusal ≡ no_plan why → ⊥) → no_tables refusal ≡ no_tables why → ⊥
+other_refusal_of_plan refusal why h e = let same : refusal ≡ why = cc e in h (ap no_plan same)
+
+-- made tables are those that were asked for
+pub made_are : (make : Option ℕ) (tables : Tables)
+    → ((count : ℕ) → make ≡ Some count → (Ok tables ≡ Err refusals.Memory) ⊎ (Ok tables ≡ Ok (made_tables count)))
+    → (count : ℕ) → make ≡ Some count → tables ≡ made_tables count
+made_are make tables made count is = elim (made count is) [ inl m ↦ absurd (cc m) | inr e ↦ cc e ]
+
+-- ---- the end
+
+pub asked_refused : (told : Told) (spot : Spot) (asked : Asked) (make : Option ℕ) (tree : Tree) (written : Option (List ℕ)) (refusal : Refusal)
+    → PlanAsked told spot asked make tree (no_plan refusal) → EndsAsked told spot asked make tree written written (refused_as refusal)
+asked_refused told spot asked None tree written refusal is = end_refused told spot asked tree written refusal is
+asked_refused told spot asked (Some count) tree written refusal is = subst (λ p. Ends asked written written p (refused_as refusal)) is (refl, refl)
+
+pub asked_done : (told : Told) (spot : Spot) (asked : Asked) (make : Option ℕ) (tree : Tree) (old new : Option (List ℕ)) (planned : Planned) (journal : List TurnLine)
+    (trail : List EndsView) → PlanAsked told spot asked make tree (Ok planned) → IsCourseOf asked planned journal trail
+    → new ≡ append_known old (output_of asked planned journal) → EndsAsked told spot asked make tree old new (outcomes.Done journal trail)
+asked_done told spot asked None tree old new planned journal trail is course written = end_done told spot asked tree old new planned journal trail is course written
+asked_done told spot asked (Some count) tree old new planned journal trail is course written =
+    subst (λ p. Ends asked old new p (outcomes.Done journal trail)) is (course, written)
+
+pub asked_front : (told : Told) (spot : Spot) (asked : Asked) (make : Option ℕ) (tree : Tree) (old new : Option (List ℕ)) (planned : Planned) (journal : List TurnLine)
+    → PlanAsked told spot asked make tree (Ok planned) → IsJournalOf asked planned journal
+    → AppendsFront old new (output_of asked planned journal) → EndsAsked told spot asked make tree old new outcomes.Write
+asked_front told spot asked None tree old new planned journal is lawful front = end_front told spot asked tree old new planned journal is lawful front
+asked_front told spot asked (Some count) tree old new planned journal is lawful front =
+    subst (λ p. Ends asked old new p outcomes.Write) is (journal, lawful, front)
