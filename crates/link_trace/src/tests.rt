@@ -2,3 +2,4 @@ mod by_hand;
 mod inputs;
 mod rows;
 mod seeds;
+mod starving;

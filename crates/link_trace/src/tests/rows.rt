@@ -64,6 +64,7 @@ fn an_empty_side_has_no_pairs(rt: HostRuntime) -> Result<(), Fail> {
 fn one_joiner_holds_all_rows(rt: HostRuntime) -> Result<(), Fail> {
     let run = equal_numbers(&rt, rt.alloc(), &[10, 20, 30], 100, 0)?;
     assert_eq!(rt; pairs_number(&run), 10_12_21, "pairs");
+    assert_eq!(rt; run.journal.len(), 3, "lines");
     assert_eq!(rt; last_epoch(&run), Some(0), "epoch");
     assert_eq!(rt; run.bouts, 17, "events");
     assert_eq!(rt; run.loads.len(), 1, "joiners");
