@@ -1,5 +1,6 @@
 -- What is asked for, whether tables are made or read.
 use Rattle.std.proofs.Common.{◌≡◌, ◌∙◌, ◌⊎◌, inl, inr, ℕ, List, Option, None, Some, Result, Ok, Err, refl, sym, ap, subst}
+use Rattle.std.specs.Result.{result_unwrap_or}
 use Rattle.join_rows.specs.Shelves.{Spot, Told}
 use Rattle.join_rows.specs.Sinks.{AppendsFront}
 use Rattle.std.specs.Io.KnownBytes.{append_known}
@@ -55,9 +56,9 @@ other_refusal_of_plan refusal why h e = let same : refusal ≡ why = cc e in h (
 
 -- made tables are those that were asked for
 pub made_are : (make : Option ℕ) (tables : Tables)
-    → ((count : ℕ) → make ≡ Some count → (Ok tables ≡ Err refusals.Memory) ⊎ (Ok tables ≡ Ok (made_tables count)))
+    → ((count : ℕ) → make ≡ Some count → (◌≡◌ {A = Result Tables Refusal} (Ok tables) (Err refusals.Memory)) ⊎ (◌≡◌ {A = Result Tables Refusal} (Ok tables) (Ok (made_tables count))))
     → (count : ℕ) → make ≡ Some count → tables ≡ made_tables count
-made_are make tables made count is = elim (made count is) [ inl m ↦ absurd (cc m) | inr e ↦ cc e ]
+made_are make tables made count is = elim (made count is) [ inl m ↦ absurd (cc m) | inr e ↦ ap (λ r. result_unwrap_or r tables) e ]
 
 -- ---- the end
 

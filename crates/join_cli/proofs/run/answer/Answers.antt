@@ -1,0 +1,14 @@
+use Rattle.std.proofs.Common.{◌<◌, ◌^◌, subst, sym}
+use Rattle.std.specs.Prelude.{sum_by}
+use Rattle.join_rows.specs.declared.table.Side.TheVariants.{R, S}
+use Rattle.trace_law.specs.Join.{matches_of, rows_of}
+use Rattle.join_report.specs.Summary.{numbers_of}
+use Rattle.join_report.proofs.LoopSums.{loop_sum_fits}
+use Rattle.join_cli.proofs.run.answer.Goals as goal
+
+pub summary_text-requires : goal.summary_text-requires
+summary_text-requires c = record {
+  small =
+      subst (λ pairs. sum_by numbers_of pairs < 2 ^ 64) (sym c.requires.pairs)
+      (loop_sum_fits (matches_of c.args.input.now) (rows_of c.args.input.now R) (rows_of c.args.input.now S) (c.requires.input.sides R).few (c.requires.input.sides S).few);
+}
