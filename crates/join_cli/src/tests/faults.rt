@@ -52,8 +52,12 @@ fn refuses_words(rt: HostRuntime) -> Result<(), Fail> {
             "too fixed",
         ),
         (
-            ["jm", "--on", "r.", "--rows", "r", "s"].as_slice(),
+            ["jm", "--on", "r.", "--columns", "r", "s"].as_slice(),
             "an unknown word",
+        ),
+        (
+            ["jm", "--on", "r.", "--make", "3", "--rows"].as_slice(),
+            "made tables and joined rows",
         ),
     ];
     for (texts, name) in cases {

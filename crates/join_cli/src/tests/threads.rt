@@ -32,7 +32,7 @@ fn writes_all<R: Threads + Wait + Sync, G: Gate>(
     let words = words(alloc, &texts)?;
     match join_main(rt, alloc, &words, &mut shelf, &mut sink, gate) {
         Outcome::Done { trail, .. } => {
-            Ok(trail.len() == ends && sink.written() == b"2,1\n2,3\n3,2\n")
+            Ok(trail.len() == ends && sink.written() == b"2,1\n2,3\n3,2\n".as_slice())
         }
         _ => Ok(false),
     }
