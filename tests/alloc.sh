@@ -20,6 +20,8 @@ use join_rows::{ListSink, MapShelf};
 use std::alloc::{AllocError, Global};
 use std::sync::Wait;
 use std::test::Fail;
+use std::thread::Threads;
+use worker_gate::NoGate;
 
 fn words(alloc: Global) -> Result<Vec<String>, AllocError> {
     let mut words = Vec::new(alloc);
@@ -30,7 +32,7 @@ fn words(alloc: Global) -> Result<Vec<String>, AllocError> {
 }
 
 // Whether the output is right, or else memory is wanting and nothing is written.
-fn joins_after<R: Wait>(rt: &R, alloc: Global, taken: u32) -> Result<bool, AllocError> {
+fn joins_after<R: Threads + Wait + Sync>(rt: &R, alloc: Global, taken: u32) -> Result<bool, AllocError> {
     for _ in 0..taken {
         let byte = Vec::from_slice(alloc, b"x")?;
         drop(byte);
@@ -40,7 +42,7 @@ fn joins_after<R: Wait>(rt: &R, alloc: Global, taken: u32) -> Result<bool, Alloc
     shelf.add("s", b"k\n7\n9\n7\n")?;
     let mut sink = ListSink::new(alloc, 100)?;
     let words = words(alloc)?;
-    let outcome = join_main(rt, alloc, &words, &mut shelf, &mut sink);
+    let outcome = join_main(rt, alloc, &words, &mut shelf, &mut sink, &NoGate);
     if outcome.status() == 8 && sink.written().is_empty() {
         return Err(AllocError);
     }
@@ -59,7 +61,7 @@ lacking=0
 while :; do
     rt try --test --fail-alloc "$refused" >log 2>&1 || :
     # A test that failed has want of memory as its cause, and no other line than these.
-    if grep -v -e '^tests: ' -e '^test tests::after_.* \(ok\|FAILED\)$' -e '^test result: ' -e '^run=ended ' \
+    if grep -v -e '^tests: ' -e '^test tests::after_.* \(ok\|FAILED\)$' -e '^test result: ' -e '^run=ended ' -e '^races: ' \
         -e '^    error: AllocError$' -e '^    the test failed: its result gives status 1$' \
         -e '^    the test exited with status 101$' log >odd; then
         echo "FAILED where allocation $((refused - tests + 1)) or one of the $((tests - 1)) after it is refused:"
