@@ -106,6 +106,7 @@ module _ (old new : SeatsView) (joiners_are : new.joiners ≡ old.joiners) (feed
   still_stand input setting st = record {
     joiners_are = joiners_are ∙ st.joiners_are;
     feeders_are = feeders_are ∙ st.feeders_are;
+    all = let before = st.all in omega (arith, before, long, joiners_are, feeders_are);
     stands = stands;
   }
     where
@@ -150,4 +151,4 @@ extends_after false old new spent long advance same = subst (λ xs. Extends (lis
 pub stands_after : (went : Bool) (old : SeatsView) (new : List SeatView) (spent : Bool) → length new ≡ length old.seats → (went ≡ true → AllAdvance old.seats new) → (went ≡ false → new ≡ old.seats)
     → (input : Input) (setting : Setting) → StandsFor input setting old → StandsFor input setting (record old { seats = new; spent = spent })
 stands_after true old new spent long advance same input setting st = still_stand old (record old { seats = new; spent = spent }) refl refl long (advance refl) input setting st
-stands_after false old new spent long advance same input setting st = subst (λ xs. StandsFor input setting (record old { seats = xs; spent = spent })) (sym (same refl)) (record { joiners_are = st.joiners_are; feeders_are = st.feeders_are; stands = st.stands })
+stands_after false old new spent long advance same input setting st = subst (λ xs. StandsFor input setting (record old { seats = xs; spent = spent })) (sym (same refl)) (record { joiners_are = st.joiners_are; feeders_are = st.feeders_are; all = st.all; stands = st.stands })

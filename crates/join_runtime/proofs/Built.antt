@@ -247,6 +247,7 @@ module _ (input : Input) (setting : Setting) (count : ℕ) (first seats : List S
   all_stand spent = record {
     joiners_are = refl;
     feeders_are = refl;
+    all = long ∙ many;
     stands = λ a is.
         let num = has_number setting a is in
         let low = subst (λ z. num.0 < z) (sym many) (number_low (2 ^ setting.k) setting.feeders a num.0 num.1) in

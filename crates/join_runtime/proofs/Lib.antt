@@ -11,4 +11,6 @@ pub mod Built
 pub mod Agreeing
 pub mod Ended
 pub mod Bouting
+pub mod Counted
+pub mod Stilled
 pub mod Sent

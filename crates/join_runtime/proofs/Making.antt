@@ -29,6 +29,7 @@ makes_event old new none sends is j f frame caused sent =
       cause = caused.cause;
       posts = occurs.added;
       event = occurs.event;
+      free = caused.free;
       heard = caused.heard;
       live = caused.live;
       lists = λ i. record { received = λ a. caused.received a i; sent = λ a. own a i };
@@ -52,6 +53,7 @@ runs_alike (suc n) s t u runs alike = (
     cause = runs.2.cause;
     posts = runs.2.posts;
     event = subst (λ (c : Core). Event runs.2.cause runs.0.core c runs.2.posts) (sym alike.core) runs.2.event;
+    free = runs.2.free;
     heard = runs.2.heard;
     live = subst IsLive (sym alike.core) runs.2.live;
     lists = alike.lists ∙ runs.2.lists;

@@ -1,5 +1,5 @@
 -- All seats of a run, their lists, and what a bout does.
-use Rattle.std.specs.Prelude.{◌≡◌, ◌<◌, ◌^◌, ◌⊎◌, ℕ, Bool, false, Option, Some, None, List, length, slice_get, slice_index_or}
+use Rattle.std.specs.Prelude.{◌≡◌, ◌<◌, ◌+◌, ◌^◌, ◌⊎◌, ℕ, Bool, false, Option, Some, None, List, length, slice_get, slice_index_or}
 use Rattle.join_rows.specs.Lists.{IsPrefix}
 use Rattle.epoch_tags.specs.declared.actor.Actor.{Actor}
 use Rattle.ruled_links.specs.Ends.{Sending}
@@ -41,10 +41,11 @@ lists_at (Some seat) = lists_of seat
 abbrev pub lists_in : SeatsView → Actor → ActorLists
 lists_in v a = lists_at (seat_of v a)
 
--- each machine began as this input and setting say, and stands for the lists of its seat
+-- there is a seat for each actor; its machine began as this input and setting say, and stands for the lists of the seat
 pub record StandsFor (input : Input) (setting : Setting) (v : SeatsView) : Type 0 where
   pub joiners_are : v.joiners ≡ 2 ^ setting.k
   pub feeders_are : v.feeders ≡ setting.feeders
+  pub all : length v.seats ≡ v.feeders + v.joiners + 2
   pub stands : (a : Actor) → IsActor setting a → (seat : SeatView) × (seat_of v a ≡ Some seat) × Stands (start_for input setting a) (lists_of seat) seat.core
 
 -- each list is a front of the later one

@@ -15,11 +15,17 @@ abbrev pub IsHeard : Cause → List OfSender → Type 0
 IsHeard (Took from m) senders = is_sender from senders ≡ true
 IsHeard Began senders = ⊤
 
+-- an actor begins only where it doesn't wait
+abbrev pub MayBegin : Cause → Core → Type 0
+MayBegin (Took from m) core = ⊤
+MayBegin Began core = ¬ Waits core
+
 -- one event of the machine: a message that it took came out of the inbox, and what it sent went into the mouths, in order
 pub record MakesEvent (old new : SeatView) : Type 0 where
   pub cause : Cause
   pub posts : List Post
   pub event : Event cause old.core new.core posts
+  pub free : MayBegin cause old.core
   pub heard : IsHeard cause old.inbox.senders
   pub live : IsLive new.core
   pub lists : lists_of new ≡ with_event cause posts (lists_of old)
@@ -34,6 +40,7 @@ pub record Rests (core : Core) (inbox : InboxView) : Type 0 where
 pub record IsCaused (old new : Core) (before after : InboxView) (none sends : List Post) : Type 0 where
   pub cause : Cause
   pub occurs : Occurs cause old new none sends
+  pub free : MayBegin cause old
   pub heard : IsHeard cause before.senders
   pub live : IsLive new
   pub received : (from : Actor) → received_of after.received from ≡ with_cause cause (received_of before.received) from

@@ -3,11 +3,13 @@
 ghost use Rattle.std.specs.Prelude.{◌≡◌, ◌<◌, ℕ, true, false, Ok, OnOk, OnErr, None, length, map, slice_index_or};
 ghost use Rattle.trace_law.specs.declared.input.Input.{Input as Input'};
 ghost use Rattle.trace_law.specs.declared.setting.Setting.{Setting as Setting'};
+ghost use Rattle.trace_law.specs.Validity.{IsValid};
 ghost use Rattle.link_trace.specs.Families.{AreFronts};
 ghost use Rattle.join_runtime.specs.Views.{SeatView, frame_of};
 ghost use Rattle.join_runtime.specs.Turns.{AllWork, IsAlike};
 ghost use Rattle.join_runtime.specs.Joins.{ActorsDiffer, AllLead, AreGathered, IsSlotOf, Tells, slot_of};
 ghost use Rattle.join_runtime.specs.Bouts.{AllAdvance, AllLive, AllRest, Extends, IsStill, NoneSpent, SomeReady, StandsFor, lists_in};
+ghost use Rattle.join_runtime.specs.Endings.{is_collected};
 
 use crate::crossing::shares_predicates;
 use crate::seat::Seat;
@@ -17,6 +19,7 @@ use std::marker::Model;
 use std::sync::Wait;
 use std::thread;
 use std::thread::Threads;
+use trace_law::quiet_is_finished;
 use worker_gate::Gate;
 
 // The turns of all seats, which are cut into as many chunks as there are workers.
@@ -148,7 +151,8 @@ impl<'a> Model for Seats<'a> {
 
 /// One bout: each seat has turns until it is idle or has had 256, in as many chunks side by side as there are workers;
 /// then the two ends of each link are held together. `Ok(false)`: nothing was left on any link, and no feeder would
-/// begin; then nothing changed. After an error the seats are spent.
+/// begin; then nothing changed, and of a valid input the collector is complete. After an error the seats are
+/// spent.
 pub fn bout<R: Threads + Wait + Sync, G: Gate>(
     rt: &R,
     seats: &mut Seats,
@@ -160,6 +164,9 @@ pub fn bout<R: Threads + Wait + Sync, G: Gate>(
     ensures same { result ≡ Ok false → seats.new ≡ seats.old }
     ensures still { result ≡ Ok false → IsStill seats.old }
     ensures busy { result ≡ Ok true → ¬ IsStill seats.old }
+    ensures ready { result ≡ Ok true → SomeReady seats.old.seats }
+    ensures collected { result ≡ Ok false → (input : Input') (setting : Setting')
+        → IsValid input setting → StandsFor input setting seats.old → is_collected seats.old ≡ true }
     ensures agrees { OnOk result (AreFronts (lists_in seats.new)) }
     ensures extends { OnOk result (Extends (lists_in seats.old) (lists_in seats.new)) }
     ensures stands { OnOk result ((input : Input') (setting : Setting')
@@ -168,6 +175,7 @@ pub fn bout<R: Threads + Wait + Sync, G: Gate>(
     ensures fails { OnErr result (seats.new.spent ≡ true) }
     ensures actors { (seats.new.joiners ≡ seats.old.joiners) × (seats.new.feeders ≡ seats.old.feeders) }
 {
+    quiet_is_finished();
     if seats.spent {
         return Err(AllocError);
     }

@@ -1,8 +1,10 @@
 // A run in threads.
 
-ghost use Rattle.std.specs.Prelude.{IfOk};
+ghost use Rattle.std.specs.Prelude.{◌≤◌, IfOk};
 ghost use Rattle.trace_law.specs.Validity.{IsValidInput, IsValidSetting};
 ghost use Rattle.trace_law.specs.Runs.{IsRunOf};
+ghost use Rattle.load_controller.specs.Journal.{last_epoch};
+ghost use Rattle.link_trace.specs.Order.{most_events};
 ghost use Rattle.join_runtime.specs.Endings.{IsFinishedFamily, lists_left};
 
 use crate::bouts::{Seats, bout};
@@ -10,11 +12,11 @@ use crate::ends::Told;
 use std::alloc::{AllocError, Global};
 use std::sync::Wait;
 use std::thread::Threads;
-use trace_law::{Input, Setting, limits_suffice};
+use trace_law::{Input, Setting, events_are_few, limits_suffice};
 use worker_gate::Gate;
 
 /// Runs the seats of this input and setting, in as many threads as there are workers, bout after bout until the collector
-/// is complete. What it promises holds if it returns.
+/// is complete. `bouts` stays at 2^64 - 1 once it is there. What it promises holds if it returns.
 pub fn run<R: Threads + Wait + Sync, G: Gate>(
     rt: &R,
     alloc: Global,
@@ -26,8 +28,10 @@ pub fn run<R: Threads + Wait + Sync, G: Gate>(
     requires setting { IsValidSetting setting.now }
     ensures family { IfOk result (λ told. IsFinishedFamily input.now setting.now told.run.journal (lists_left told.ends)) }
     ensures run { IfOk result (λ told. IsRunOf input.now setting.now told.run.journal told.run) }
+    ensures bound { IfOk result (λ told. told.run.bouts ≤ most_events input.now setting.now (last_epoch told.run.journal)) }
 {
     limits_suffice();
+    events_are_few();
     let mut seats = Seats::start(alloc, input, setting)?;
     let mut bouts = 0u64;
     for _ in rt.forever() {

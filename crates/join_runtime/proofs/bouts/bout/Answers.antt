@@ -2,6 +2,8 @@ use Rattle.std.proofs.Common.{◌≡◌, ◌∙◌, Ok, ap, false, length, map, 
 use Rattle.std.proofs.lemmas.List.{with_items_is}
 use Rattle.join_runtime.specs.Views.{frame_of}
 use Rattle.join_runtime.specs.Joins.{AreJoined}
+use Rattle.join_runtime.specs.Bouts.{SeatsView}
+use Rattle.join_runtime.proofs.Stilled.{still_collected}
 use Rattle.join_runtime.proofs.Linking.{busy, fronts, still}
 use Rattle.join_runtime.proofs.Bouting.{extends_after, settled_after, stands_after}
 use Rattle.join_runtime.proofs.bouts.bout.Goals as goal
@@ -43,6 +45,15 @@ returns-clause-busy g c =
     λ is.
     rw (← c.seats.view_is)
     (busy (record { joiners = c.seats.inside.joiners; feeders = c.seats.inside.feeders; seats = c.seats.inside.seats.items; spent = c.seats.inside.spent }) c.seats.invariant.0 (c.seats.invariant.1 c.if-seats.false) (said.ready is))
+
+pub returns-clause-collected : goal.returns-clause-collected
+returns-clause-collected g c =
+    let said = rw c.as_mut_slice.ensures.value at c.in_ok-went.ensures in
+    let v : SeatsView = record { joiners = c.seats.inside.joiners; feeders = c.seats.inside.feeders; seats = c.seats.inside.seats.items; spent = c.seats.inside.spent } in
+    let settled = c.seats.invariant.1 c.if-seats.false in
+    λ is.
+    rw (← c.seats.view_is)
+    (λ input setting valid stands. still_collected v (still v c.seats.invariant.0 settled (said.rest is)) input setting stands (fronts v c.seats.invariant.0 settled) c.quiet_is_finished.ensures valid)
 
 pub returns-clause-extends : goal.returns-clause-extends
 returns-clause-extends g c =
