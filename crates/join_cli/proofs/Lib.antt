@@ -1,4 +1,3 @@
-pub mod Writing
 pub mod Parsed
 pub mod Trees
 pub mod Wrong

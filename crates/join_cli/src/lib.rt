@@ -13,7 +13,6 @@ mod refusal;
 mod run;
 mod text;
 mod top;
-mod write;
 
 pub use join_words::WordsFault;
 pub use laws::fixed_output_is_one;

@@ -22,7 +22,7 @@ use crate::outcome::{LimitFault, Outcome};
 use crate::plan::prepare;
 use crate::refusal::refused;
 use crate::run::{Joined, output};
-use crate::write::put_all;
+use join_report::put_all;
 use join_rows::{Failed, Shelf, Sink};
 use join_words::{Options, WordsError, read_words};
 use std::alloc::{AllocError, Global};

@@ -1,4 +1,4 @@
-use Rattle.std.proofs.Common.{◌∙◌, Ok, ap, subst}
+use Rattle.std.proofs.Common.{◌≡◌, ◌+◌, ◌∙◌, Ok, ap, arith, length, subst}
 use Rattle.std.specs.Io.KnownBytes.{append_known}
 use Rattle.join_rows.specs.Sinks.{AppendsFront}
 use Rattle.join_cli.specs.Plan.{plan_of}
@@ -62,6 +62,8 @@ returns-clause-seen g c tree reads read memory =
 pub returns-clause-complete : goal.returns-clause-complete
 returns-clause-complete g c files tree planned told reads plan sound takes =
     let made = complete_made c.in-Ok.planned planned (plan_of (asked c.args.options.now) (Ok tree) files) (c.in-Ok.ensures.answer files (Ok tree) told reads (c.in-Ok.ensures.sound sound)) plan in
-    absurd (cc (c.in-Err-put_all.ensures.takes
-    (takes_made (g.K.Sink.takes c.args.sink.now) (asked c.args.options.now) c.in-Ok.planned planned c.in-Ok-output.joined.journal c.as_slice.result.now
-    made c.in-Ok-output.ensures.course.lawful (c.as_slice.ensures ∙ c.in-Ok-output.ensures.text) takes)))
+    let bytes = c.as_slice.result.now in
+    let all : length bytes ≡ length bytes + 0 = omega arith in
+    let room = takes_made (g.K.Sink.takes c.args.sink.now) (asked c.args.options.now) c.in-Ok.planned planned c.in-Ok-output.joined.journal bytes
+    made c.in-Ok-output.ensures.course.lawful (c.as_slice.ensures ∙ c.in-Ok-output.ensures.text) takes in
+    absurd (cc (c.in-Err-put_all.ensures.takes 0 (subst (g.K.Sink.takes c.args.sink.now) all room)).0)

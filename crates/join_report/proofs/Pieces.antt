@@ -4,7 +4,7 @@ use Rattle.std.specs.Io.KnownBytes.{append_known}
 use Rattle.std.proofs.lemmas.List.{append-nil}
 use Rattle.join_rows.specs.Sinks.{AppendsFront}
 
-known-append : (known : Option (List ℕ)) (xs ys : List ℕ) → append_known (append_known known xs) ys ≡ append_known known (xs ++ ys)
+pub known-append : (known : Option (List ℕ)) (xs ys : List ℕ) → append_known (append_known known xs) ys ≡ append_known known (xs ++ ys)
 known-append None xs ys = refl
 known-append (Some bytes) xs ys = ap Some (append_assoc bytes xs ys)
 
@@ -42,6 +42,6 @@ piece_cut known before after xs p e front (n, is) = (
       ∙ ap (append_known known) (joined p (min n (e - p)) xs),
 )
 
--- what is left behind a piece
-pub piece_left : (xs : List ℕ) (p e : ℕ) → p ≤ e → e ≤ length xs → length (take (e - p) (drop p xs)) + (length xs - e) ≡ length xs - p
-piece_left xs p e below within = omega (arith, below, within, length-take (e - p) (drop p xs), length-drop p xs)
+-- what is left behind a piece, and more behind that
+pub piece_left : (xs : List ℕ) (p e more : ℕ) → p ≤ e → e ≤ length xs → length (take (e - p) (drop p xs)) + (length xs - e + more) ≡ length xs - p + more
+piece_left xs p e more below within = omega (arith, below, within, length-take (e - p) (drop p xs), length-drop p xs)

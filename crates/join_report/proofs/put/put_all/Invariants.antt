@@ -1,6 +1,6 @@
-use Rattle.std.proofs.Common.{◌≡◌, ◌≤◌, ◌-◌, length, take}
+use Rattle.std.proofs.Common.{◌≡◌, ◌≤◌, ◌+◌, ◌-◌, ℕ, length, take}
 use Rattle.std.specs.Io.KnownBytes.{append_known}
-use Rattle.join_cli.proofs.write.put_all.Given as goal
+use Rattle.join_report.proofs.put.put_all.Given as goal
 
 abbrev pub invariant-loop-place : goal.invariant-loop-place
 invariant-loop-place g l =
@@ -8,7 +8,7 @@ invariant-loop-place g l =
       within : l.place ≤ length l.bytes;
       written : g.K.Sink.written l.sink ≡ append_known (g.K.Sink.written l.initial.sink) (take l.place l.bytes);
       counts : g.K.Sink.faults l.sink ≡ g.K.Sink.faults l.initial.sink;
-      takes : g.K.Sink.takes l.initial.sink (length l.bytes) → g.K.Sink.takes l.sink (length l.bytes - l.place);
+      takes : (more : ℕ) → g.K.Sink.takes l.initial.sink (length l.bytes + more) → g.K.Sink.takes l.sink (length l.bytes - l.place + more);
     }
 
 abbrev pub decreases-loop-place : goal.decreases-loop-place
