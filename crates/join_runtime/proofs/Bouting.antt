@@ -7,7 +7,7 @@ use Rattle.epoch_tags.specs.declared.actor.Actor.{Actor}
 use Rattle.trace_law.specs.declared.input.Input.{Input}
 use Rattle.trace_law.specs.declared.setting.Setting.{Setting}
 use Rattle.link_trace.specs.Lists.{ActorLists, no_lists}
-use Rattle.link_trace.specs.Standing.{Stands}
+use Rattle.link_trace.specs.Standing.{Start, Stands}
 use Rattle.link_trace.specs.Families.{start_for, IsActor}
 use Rattle.link_trace.specs.Numbers.{number, at_number}
 use Rattle.link_trace.proofs.OwnNumbers.{none_some}
@@ -59,7 +59,9 @@ still_settled old new long advance gathered settled = record {
 
 -- ---- the lists
 
-module _ (old new : SeatsView) (joiners_are : new.joiners ≡ old.joiners) (feeders_are : new.feeders ≡ old.feeders) (long : length new.seats ≡ length old.seats) (advance : AllAdvance old.seats new.seats) where
+-- each seat and the same later are so related
+module _ (R : SeatView → SeatView → Type 0) (old new : SeatsView) (joiners_are : new.joiners ≡ old.joiners) (feeders_are : new.feeders ≡ old.feeders) (long : length new.seats ≡ length old.seats)
+    (related : (n : ℕ) (d : SeatView) → n < length old.seats → R (get_or old.seats n d) (get_or new.seats n d)) where
   same_number : (a : Actor) → number new.joiners new.feeders a ≡ number old.joiners old.feeders a
   same_number a = ap (λ j. number j new.feeders a) joiners_are ∙ ap (λ f. number old.joiners f a) feeders_are
 
@@ -76,8 +78,8 @@ module _ (old new : SeatsView) (joiners_are : new.joiners ≡ old.joiners) (feed
     ap (λ (o : Option ℕ). lists_at (at_number None o (λ k. slice_get new.seats k))) (same_number a ∙ is),
   )
 
-  -- whatever relates a seat before to the same after, and empty lists to themselves
-  of_lists : (P : ActorLists → ActorLists → Type 0) → P no_lists no_lists → ((s t : SeatView) → Advances s t → P (lists_of s) (lists_of t)) → (a : Actor) → P (lists_in old a) (lists_in new a)
+  -- what holds of the lists of such seats, and of empty lists
+  pub of_lists : (P : ActorLists → ActorLists → Type 0) → P no_lists no_lists → ((s t : SeatView) → R s t → P (lists_of s) (lists_of t)) → (a : Actor) → P (lists_in old a) (lists_in new a)
   of_lists P none some a = go (number old.joiners old.feeders a) refl
     where
       there : (n : ℕ) → number old.joiners old.feeders a ≡ Some n → (o : Option SeatView) → slice_get old.seats n ≡ o → P (lists_in old a) (lists_in new a)
@@ -90,20 +92,15 @@ module _ (old new : SeatsView) (joiners_are : new.joiners ≡ old.joiners) (feed
           let before : get_or old.seats n s ≡ s = get_or_from_slice_get old.seats n s s here in
           subst (λ ls. P ls (lists_in new a)) (sym (lists_before a n is ∙ ap lists_at here))
           (subst (P (lists_of s)) (sym (lists_after a n is ∙ ap lists_at (slice_get-get_or new.seats n s (omega (arith, long)))))
-          (subst (λ (z : SeatView). P (lists_of z) (lists_of (get_or new.seats n s))) before (some (get_or old.seats n s) (get_or new.seats n s) (advance n s low))))
+          (subst (λ (z : SeatView). P (lists_of z) (lists_of (get_or new.seats n s))) before (some (get_or old.seats n s) (get_or new.seats n s) (related n s low))))
 
       go : (i : Option ℕ) → number old.joiners old.feeders a ≡ i → P (lists_in old a) (lists_in new a)
       go None is = subst (λ ls. P ls (lists_in new a)) (sym (none_there a is).0) (subst (P no_lists) (sym (none_there a is).1) none)
       go (Some n) is = there n is (slice_get old.seats n) refl
 
-  pub extends : Extends (lists_in old) (lists_in new)
-  extends = record {
-    received = λ from to. of_lists (λ ls ls'. IsPrefix (ls.received from) (ls'.received from)) (prefix_self [] [] refl) (λ s t a. runs_received a.count s t a.runs from) to;
-    sent = λ from to. of_lists (λ ls ls'. IsPrefix (ls.sent to) (ls'.sent to)) (prefix_self [] [] refl) (λ s t a. runs_sent a.count s t a.runs to) from;
-  }
-
-  pub still_stand : (input : Input) (setting : Setting) → StandsFor input setting old → StandsFor input setting new
-  still_stand input setting st = record {
+  pub still_stand : ((s t : SeatView) → R s t → (start : Start) → Stands start (lists_of s) s.core → Stands start (lists_of t) t.core)
+      → (input : Input) (setting : Setting) → StandsFor input setting old → StandsFor input setting new
+  still_stand keeps input setting st = record {
     joiners_are = joiners_are ∙ st.joiners_are;
     feeders_are = feeders_are ∙ st.feeders_are;
     all = let before = st.all in omega (arith, before, long, joiners_are, feeders_are);
@@ -123,15 +120,20 @@ module _ (old new : SeatsView) (joiners_are : new.joiners ≡ old.joiners) (feed
               let here : slice_get old.seats n ≡ Some s = sym (ap (λ (o : Option ℕ). at_number None o (λ k. slice_get old.seats k)) num) ∙ one.1 in
               let low = slice_get_within old.seats n s here in
               let before : get_or old.seats n s ≡ s = get_or_from_slice_get old.seats n s s here in
-              let a' = advance n s low in
               let t = get_or new.seats n s in
               let stood = subst (λ (z : SeatView). Stands (start_for input setting a) (lists_of z) z.core) (sym before) one.2 in (
                 t,
                 ap (λ (o : Option ℕ). at_number None o (λ k. slice_get new.seats k)) (same_number a ∙ num) ∙ slice_get-get_or new.seats n s (omega (arith, long)),
-                runs_stand a'.count (get_or old.seats n s) t a'.runs (start_for input setting a) stood,
+                keeps (get_or old.seats n s) t (related n s low) (start_for input setting a) stood,
               )
 
 -- ---- a bout by its answer
+
+extends : (old new : SeatsView) → new.joiners ≡ old.joiners → new.feeders ≡ old.feeders → length new.seats ≡ length old.seats → AllAdvance old.seats new.seats → Extends (lists_in old) (lists_in new)
+extends old new joiners_are feeders_are long advance = record {
+  received = λ from to. of_lists Advances old new joiners_are feeders_are long advance (λ ls ls'. IsPrefix (ls.received from) (ls'.received from)) (prefix_self [] [] refl) (λ s t a. runs_received a.count s t a.runs from) to;
+  sent = λ from to. of_lists Advances old new joiners_are feeders_are long advance (λ ls ls'. IsPrefix (ls.sent to) (ls'.sent to)) (prefix_self [] [] refl) (λ s t a. runs_sent a.count s t a.runs to) from;
+}
 
 pub settled_after : (went : Bool) (old new : List SeatView) → length new ≡ length old → (went ≡ true → AllAdvance old new) → (went ≡ true → AreGathered new) → (went ≡ false → new ≡ old) → AreSettled old → AreSettled new
 settled_after true old new long advance gathered same settled = still_settled old new long (advance refl) (gathered refl) settled
@@ -150,5 +152,6 @@ extends_after false old new spent long advance same = subst (λ xs. Extends (lis
 
 pub stands_after : (went : Bool) (old : SeatsView) (new : List SeatView) (spent : Bool) → length new ≡ length old.seats → (went ≡ true → AllAdvance old.seats new) → (went ≡ false → new ≡ old.seats)
     → (input : Input) (setting : Setting) → StandsFor input setting old → StandsFor input setting (record old { seats = new; spent = spent })
-stands_after true old new spent long advance same input setting st = still_stand old (record old { seats = new; spent = spent }) refl refl long (advance refl) input setting st
+stands_after true old new spent long advance same input setting st =
+    still_stand Advances old (record old { seats = new; spent = spent }) refl refl long (advance refl) (λ s t a. runs_stand a.count s t a.runs) input setting st
 stands_after false old new spent long advance same input setting st = subst (λ xs. StandsFor input setting (record old { seats = xs; spent = spent })) (sym (same refl)) (record { joiners_are = st.joiners_are; feeders_are = st.feeders_are; all = st.all; stands = st.stands })

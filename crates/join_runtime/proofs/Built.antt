@@ -1,6 +1,6 @@
 -- Seats whose mouths all came to their senders are joined, and have empty lists.
 use Rattle.std.proofs.Common.{◌≡◌, ℕ, zero, suc, ◌+◌, ◌<◌, ◌^◌, ◌↔◌, ◌++◌, lt-ltb, refl, sym, ap, subst, ◌∙◌, Bool, true, false, Option, Some, None, List, [], ◌∷◌, get_or, map, length, arith, true≢false, eqb, cond, eq-eqb, eqb-true}
-use Rattle.std.specs.Prelude.{slice_get, IsSome, Contains}
+use Rattle.std.specs.Prelude.{slice_get, slice_index, IsSome, Contains}
 use Rattle.std.proofs.Math.Pow.{pow-lt}
 use Rattle.std.proofs.lemmas.Nat.{xor_lt}
 use Rattle.std.proofs.lemmas.List.{length-map, get_or-map, get_or_default}
@@ -12,10 +12,11 @@ use Rattle.ruled_links.specs.Ends.{Sending}
 use Rattle.ruled_links.specs.Delivery.{number_of}
 use Rattle.ruled_links.specs.Inboxes.{InboxView, OfSender, is_sender, fresh, opened, messages_of}
 use Rattle.ruled_links.proofs.PartsLemmas.{name_once}
+use Rattle.pair_collector.specs.Standing.{nothing_yet}
 use Rattle.trace_law.specs.declared.input.Input.{Input}
 use Rattle.trace_law.specs.declared.setting.Setting.{Setting}
 use Rattle.link_trace.specs.Lists.{no_lists}
-use Rattle.link_trace.specs.Standing.{Stands, IsLive}
+use Rattle.link_trace.specs.Standing.{Stands, IsLive, given_by}
 use Rattle.link_trace.specs.Families.{start_for, IsActor}
 use Rattle.link_trace.specs.Numbers.{number, at_number}
 use Rattle.link_trace.proofs.OwnNumbers.{number_actor}
@@ -23,6 +24,7 @@ use Rattle.join_runtime.specs.Views.{SeatView, Frame, frame_of, lists_of, addres
 use Rattle.join_runtime.specs.Joins.{AreJoined, AreSettled, AllLead, IsPlaced, Leads, HasMouthTo, IsGathered, Knows, slot_of}
 use Rattle.join_runtime.specs.Bouts.{SeatsView, StandsFor, lists_at, lists_in, mouth_at, mouth_of, seat_of}
 use Rattle.join_runtime.specs.Seating.{IsNewSeat, AreNew, AreFilled}
+use Rattle.join_runtime.specs.Early.{AreGiven, given_at, given_in}
 use Rattle.join_runtime.proofs.Knowing.{is_sender-named}
 use Rattle.join_runtime.proofs.Placing.{address_at}
 use Rattle.join_runtime.proofs.Linking.{there, number_low}
@@ -262,6 +264,15 @@ module _ (input : Input) (setting : Setting) (count : ℕ) (first seats : List S
         );
   }
 
+  -- the collector's seat is the last
+  pub none_given : (spent : Bool) → AreGiven (2 ^ setting.k) nothing_yet (given_in (record { joiners = 2 ^ setting.k; feeders = setting.feeders; seats = seats; spent = spent }))
+  none_given spent j below =
+      let place = setting.feeders + 2 ^ setting.k + 1 in
+      let low : place < count = omega (arith, many) in
+      let low' = subst (λ z. place < z) (sym long) low in
+      let d = (there seats place low').0 in
+      ap (λ given. slice_index given j) (ap given_at (slice_get-get_or seats place d low') ∙ ap (λ (s : SeatView). given_by s.core) (still place d low)) ∙ (made place d low).given j below
+
   pub all_empty : (spent : Bool) (a : Actor) → lists_in (record { joiners = 2 ^ setting.k; feeders = setting.feeders; seats = seats; spent = spent }) a ≡ no_lists
   all_empty spent a = go (number (2 ^ setting.k) setting.feeders a) refl
     where
@@ -358,6 +369,11 @@ module _ (input : Input) (setting : Setting) (joiners : ℕ) (first seats : List
 
   pub start_empty : (spent : Bool) (a : Actor) → lists_in (record { joiners = joiners; feeders = setting.feeders; seats = seats; spent = spent }) a ≡ no_lists
   start_empty spent a = subst (λ j. lists_in (record { joiners = j; feeders = setting.feeders; seats = seats; spent = spent }) a ≡ no_lists) (sym is) (all_empty input setting (setting.feeders + joiners + 2) first seats mouths new all_filled count_is spent a)
+
+  pub start_given : (spent : Bool) → AreGiven (2 ^ setting.k) nothing_yet (given_in (record { joiners = joiners; feeders = setting.feeders; seats = seats; spent = spent }))
+  start_given spent =
+      subst (λ j. AreGiven (2 ^ setting.k) nothing_yet (given_in (record { joiners = j; feeders = setting.feeders; seats = seats; spent = spent }))) (sym is)
+      (none_given input setting (setting.feeders + joiners + 2) first seats mouths new all_filled count_is spent)
 
   pub start_linked : (spent : Bool) (from to : Actor) → (IsSome (mouth_of (record { joiners = joiners; feeders = setting.feeders; seats = seats; spent = spent }) from to) ↔ HasLink setting.k setting.feeders from to)
   start_linked spent from to =

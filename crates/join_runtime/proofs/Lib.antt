@@ -14,3 +14,8 @@ pub mod Bouting
 pub mod Counted
 pub mod Stilled
 pub mod Sent
+pub mod Rearranged
+pub mod Written
+pub mod UnderWay
+pub mod Giving
+pub mod Lines

@@ -4,7 +4,7 @@ use Rattle.epoch_tags.specs.declared.actor.Actor.{Actor}
 use Rattle.epoch_tags.specs.declared.message.Post.{Post}
 use Rattle.ruled_links.specs.Inboxes.{IsSameInbox}
 use Rattle.link_trace.specs.Lists.{posted_to}
-use Rattle.link_trace.specs.Standing.{Event, IsLive}
+use Rattle.link_trace.specs.Standing.{Event, IsLive, given_by}
 use Rattle.link_trace.specs.declared.machines.Core.{Core}
 use Rattle.join_runtime.specs.Views.{SeatView, frame_of, sent_through, address_of}
 use Rattle.join_runtime.specs.Turns.{MakesEvent, IsCaused, IsAlike, Runs, Works, Rests}
@@ -32,6 +32,7 @@ makes_event old new none sends is j f frame caused sent =
       free = caused.free;
       heard = caused.heard;
       live = caused.live;
+      given = caused.given;
       lists = λ i. record { received = λ a. caused.received a i; sent = λ a. own a i };
       frame = frame;
     }
@@ -56,6 +57,7 @@ runs_alike (suc n) s t u runs alike = (
     free = runs.2.free;
     heard = runs.2.heard;
     live = subst IsLive (sym alike.core) runs.2.live;
+    given = ap given_by alike.core ∙ runs.2.given;
     lists = alike.lists ∙ runs.2.lists;
     frame = alike.frame ∙ runs.2.frame;
   },

@@ -5,7 +5,7 @@ use Rattle.epoch_tags.specs.declared.actor.Actor.{Actor}
 use Rattle.epoch_tags.specs.declared.message.Msg.{Msg}
 use Rattle.ruled_links.specs.Inboxes.{OfSender, is_sender, fresh}
 use Rattle.link_trace.specs.Lists.{ActorLists, Cause, Took, Began, same_actor, posted_to, with_cause}
-use Rattle.link_trace.specs.Standing.{Start, Stands, IsLive}
+use Rattle.link_trace.specs.Standing.{Start, Stands, IsLive, given_by}
 use Rattle.link_trace.proofs.Balances.{same_is}
 use Rattle.join_runtime.specs.Views.{SeatView, Frame, lists_of, frame_of}
 use Rattle.join_runtime.specs.Turns.{IsHeard, Runs}
@@ -22,6 +22,10 @@ runs_stand (suc n) s t runs start st =
 pub runs_live : (n : ℕ) (s t : SeatView) → Runs n s t → IsLive s.core → IsLive t.core
 runs_live zero s t runs live = subst IsLive (sym runs.core) live
 runs_live (suc n) s t runs live = runs.2.live
+
+pub runs_given : (n : ℕ) (s t : SeatView) → Runs n s t → given_by t.core ≡ given_by s.core
+runs_given zero s t runs = ap given_by runs.core
+runs_given (suc n) s t runs = runs.2.given ∙ runs_given n s runs.0 runs.1
 
 -- ---- of whom it heard
 

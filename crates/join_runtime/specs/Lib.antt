@@ -4,3 +4,4 @@ pub mod Joins
 pub mod Bouts
 pub mod Seating
 pub mod Endings
+pub mod Early

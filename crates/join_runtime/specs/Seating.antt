@@ -7,7 +7,7 @@ use Rattle.ruled_links.specs.Inboxes.{Differ, fresh, opened}
 use Rattle.trace_law.specs.declared.input.Input.{Input}
 use Rattle.trace_law.specs.declared.setting.Setting.{Setting}
 use Rattle.link_trace.specs.Lists.{no_lists}
-use Rattle.link_trace.specs.Standing.{Stands, IsLive}
+use Rattle.link_trace.specs.Standing.{Stands, HasGivenNone, IsLive}
 use Rattle.link_trace.specs.Families.{start_for}
 use Rattle.link_trace.specs.Numbers.{number, actor_at}
 use Rattle.join_runtime.specs.Views.{SeatView}
@@ -39,6 +39,7 @@ pub record IsNewSeat (input : Input) (setting : Setting) (n : ℕ) (seat : SeatV
   pub no_mouth : (r : ℕ) → slice_index_or seat.mouths r None ≡ None
   pub stands : Stands (start_for input setting (actor_at (2 ^ setting.k) setting.feeders n)) no_lists seat.core
   pub live : IsLive seat.core
+  pub given : HasGivenNone (2 ^ setting.k) seat.core
 
 -- so many seats, with the mouths of their inboxes
 pub record AreNew (input : Input) (setting : Setting) (count : ℕ) (seats : List SeatView) (mouths : List (List Sending)) : Type 0 where

@@ -4,7 +4,7 @@ use Rattle.epoch_tags.specs.declared.actor.Actor.{Actor}
 use Rattle.epoch_tags.specs.declared.message.Post.{Post}
 use Rattle.ruled_links.specs.Inboxes.{InboxView, OfSender, all_known, is_sender}
 use Rattle.link_trace.specs.Lists.{Cause, Took, Began, with_event, with_cause}
-use Rattle.link_trace.specs.Standing.{Event, Occurs, Waits, IsLive}
+use Rattle.link_trace.specs.Standing.{Event, Occurs, Waits, IsLive, given_by}
 use Rattle.link_trace.specs.declared.machines.Core.{Core}
 use Rattle.link_trace.specs.declared.step.Step.{Step}
 use Rattle.link_trace.specs.declared.step.Step.TheVariants.{Took as TookStep, Idle}
@@ -28,6 +28,7 @@ pub record MakesEvent (old new : SeatView) : Type 0 where
   pub free : MayBegin cause old.core
   pub heard : IsHeard cause old.inbox.senders
   pub live : IsLive new.core
+  pub given : given_by new.core ≡ given_by old.core
   pub lists : lists_of new ≡ with_event cause posts (lists_of old)
   pub frame : frame_of new ≡ frame_of old
 
@@ -43,6 +44,7 @@ pub record IsCaused (old new : Core) (before after : InboxView) (none sends : Li
   pub free : MayBegin cause old
   pub heard : IsHeard cause before.senders
   pub live : IsLive new
+  pub given : given_by new ≡ given_by old
   pub received : (from : Actor) → received_of after.received from ≡ with_cause cause (received_of before.received) from
 
 abbrev pub Opens : Step → Core → Core → InboxView → InboxView → List Post → List Post → Type 0

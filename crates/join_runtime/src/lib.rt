@@ -3,13 +3,16 @@
 
 mod bouts;
 mod crossing;
+mod early;
 mod ends;
+mod fresh;
 mod mouths;
 mod runs;
 mod seat;
 mod seating;
 
 pub use bouts::{Seats, bout};
+pub use early::{EarlyFault, run_early};
 pub use ends::{End, Ends, Told, Trail};
 pub use runs::run;
 pub use seat::Seat;

@@ -9,10 +9,11 @@ ghost use Rattle.join_runtime.specs.Turns.{MakesEvent, Opens, Rests, Works};
 ghost use Rattle.join_runtime.specs.Joins.{IsSlotOf, Tells};
 ghost use Rattle.join_runtime.specs.Bouts.{IsReady};
 ghost use Rattle.join_runtime.specs.Endings.{end_of, is_complete_core};
+ghost use Rattle.join_runtime.specs.Early.{Gives};
 
 use crate::ends::End;
 use crate::mouths::put_all;
-use epoch_tags::{Actor, Envelope, Sends};
+use epoch_tags::{Actor, Envelope, Pairs, Sends};
 use link_trace::{Core, Step};
 use ruled_links::{Inbox, Mouth, gather_mouth};
 use std::alloc::{AllocError, Global};
@@ -179,6 +180,19 @@ impl<'a> Seat<'a> {
         match &self.core {
             Core::Collector(collector) => collector.complete(),
             _ => false,
+        }
+    }
+
+    // The pairs that its collector took since the last call of this that answered `Ok`; an error too where it is another
+    // actor's.
+    pub(crate) fn fresh(&mut self) -> Result<Pairs, AllocError>
+        ensures gives { IfOk result (λ pairs. Gives self.old.core self.new.core pairs) }
+        ensures rest { self.new ≡ record self.old { core = self.new.core } }
+        ensures fails { OnErr result (self.new ≡ self.old) }
+    {
+        match &mut self.core {
+            Core::Collector(collector) => collector.fresh(),
+            _ => Err(AllocError),
         }
     }
 

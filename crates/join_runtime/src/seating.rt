@@ -10,7 +10,9 @@ ghost use Rattle.join_runtime.specs.Views.{SeatView};
 ghost use Rattle.join_runtime.specs.Joins.{slot_of};
 ghost use Rattle.join_runtime.specs.Seating.{AreBelow, AreFilled, AreLinked, AreNew, IsNewSeat, Puts, Places};
 ghost use Rattle.join_runtime.specs.Bouts.{StandsFor, lists_in, mouth_of};
+ghost use Rattle.join_runtime.specs.Early.{AreGiven, given_in};
 ghost use Rattle.epoch_tags.specs.Links.{HasLink};
+ghost use Rattle.pair_collector.specs.Standing.{nothing_yet};
 
 use crate::bouts::Seats;
 use crate::seat::Seat;
@@ -170,6 +172,7 @@ impl<'a> Seats<'a> {
         ensures stands { IfOk result (StandsFor input.now setting.now) }
         ensures empty { IfOk result (λ seats. (a : Actor') → lists_in seats a ≡ no_lists) }
         ensures links { IfOk result (λ seats. (from to : Actor') → (IsSome (mouth_of seats from to) ↔ HasLink setting.now.k setting.now.feeders from to)) }
+        ensures given { IfOk result (λ seats. AreGiven (2 ^ setting.now.k) nothing_yet (given_in seats)) }
         ensures at_work { IfOk result (λ seats. seats.spent ≡ false) }
     {
         let joiners = joiners_of(setting);

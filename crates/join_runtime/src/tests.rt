@@ -1,3 +1,5 @@
+mod early;
+
 use crate::{Told, run};
 use epoch_tags::Actor;
 use join_rows::{Bytes, Cell, Cells, Names, Rows, Table};

@@ -1,5 +1,5 @@
 -- What the machines stand for, and one event.
-use Rattle.std.specs.Prelude.{◌≡◌, ◌<◌, ℕ, ⊤, true, false, List, [], ◌++◌, length}
+use Rattle.std.specs.Prelude.{◌≡◌, ◌<◌, ℕ, ⊤, true, false, List, [], ◌++◌, length, slice_index}
 use Rattle.epoch_tags.specs.declared.actor.Actor.TheVariants.{Feeder, Joiner, Controller}
 use Rattle.epoch_tags.specs.declared.message.Post.{Post}
 use Rattle.epoch_tags.specs.Posts.{AllGoOver, posted_to_controller}
@@ -95,3 +95,16 @@ IsLive (TheFeeder f) = f.spent ≡ false
 IsLive (TheJoiner j) = ⊤
 IsLive (TheController c) = ⊤
 IsLive (TheCollector c) = ⊤
+
+-- ---- what a collector gave
+
+-- how many pairs of each joiner a collector's machine gave; another machine gives none
+abbrev pub given_by : Core → List ℕ
+given_by (TheFeeder f) = []
+given_by (TheJoiner j) = []
+given_by (TheController c) = []
+given_by (TheCollector c) = c.given
+
+-- it gave no pair of any of so many joiners
+abbrev pub HasGivenNone : ℕ → Core → Type 0
+HasGivenNone joiners core = (j : ℕ) → j < joiners → slice_index (given_by core) j ≡ 0

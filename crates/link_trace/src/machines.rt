@@ -1,7 +1,7 @@
 // The machines behind one enum.
 ghost use Rattle.std.specs.Prelude.{◌≡◌, Ok, true, false, OnOk};
 ghost use Rattle.link_trace.specs.Lists.{Took, Began};
-ghost use Rattle.link_trace.specs.Standing.{Occurs, IsOver, GoesOn, Waits, IsLive};
+ghost use Rattle.link_trace.specs.Standing.{Occurs, IsOver, GoesOn, Waits, IsLive, given_by};
 
 use epoch_tags::{Actor, Msg, Sends};
 use joiner_core::Joiner;
@@ -24,6 +24,7 @@ impl<'a> Core<'a> {
     pub fn on(&mut self, from: Actor, msg: Msg, sends: &mut Sends) -> Result<(), AllocError>
         ensures occurs { OnOk result (Occurs (Took from msg) self.old self.new sends.old sends.new) }
         ensures live { OnOk result (IsLive self.new) }
+        ensures given { given_by self.new ≡ given_by self.old }
     {
         match self {
             Core::Feeder(feeder) => match (from, msg) {
@@ -57,6 +58,7 @@ impl<'a> Core<'a> {
         ensures idle { result ≡ Ok false → Waits self.old }
         ensures free { result ≡ Ok true → ¬ Waits self.old }
         ensures live { OnOk result (IsLive self.new) }
+        ensures given { given_by self.new ≡ given_by self.old }
     {
         match self {
             Core::Feeder(feeder) => feeder.begin(sends),

@@ -7,7 +7,7 @@ ghost use Rattle.trace_law.specs.Join.{row_count};
 ghost use Rattle.trace_law.specs.Validity.{IsValidInput, IsValidSetting};
 ghost use Rattle.trace_law.specs.Family.{tuple_of, feeder_start, joiner_start, rules_of, first_line};
 ghost use Rattle.link_trace.specs.Lists.{no_lists};
-ghost use Rattle.link_trace.specs.Standing.{Stands, IsLive, OfFeeder, OfJoiner, OfController, OfCollector};
+ghost use Rattle.link_trace.specs.Standing.{Stands, HasGivenNone, IsLive, OfFeeder, OfJoiner, OfController, OfCollector};
 ghost use Rattle.link_trace.specs.Families.{start_for};
 ghost use Rattle.link_trace.specs.Numbers.{actor_at};
 
@@ -99,6 +99,7 @@ fn feeder<'a>(
     requires feeder { p < setting.now.feeders }
     ensures stands { IfOk result (λ core. Stands (OfFeeder p setting.now.feeders (feeder_start input.now setting.now p)) no_lists core) }
     ensures live { IfOk result IsLive }
+    ensures given { IfOk result (HasGivenNone (2 ^ setting.now.k)) }
 {
     let load = load(alloc, input, setting, p)?;
     let shift = first_shift(setting);
@@ -115,6 +116,7 @@ fn joiner<'a>(
     requires joiner { j < 2 ^ setting.now.k }
     ensures stands { IfOk result (λ core. Stands (OfJoiner (joiner_start input.now setting.now j)) no_lists core) }
     ensures live { IfOk result IsLive }
+    ensures given { IfOk result (HasGivenNone (2 ^ setting.now.k)) }
 {
     let shift = first_shift(setting);
     let joiner = Joiner::start(alloc, setting.k, j, shift, setting.feeders, &input.theta)?;
@@ -125,6 +127,7 @@ fn controller<'a>(alloc: Global, setting: &Setting) -> Result<Core<'a>, AllocErr
     requires setting { IsValidSetting setting.now }
     ensures stands { IfOk result (λ core. Stands (OfController (record { rules = rules_of setting.now; first = first_line setting.now })) no_lists core) }
     ensures live { IfOk result IsLive }
+    ensures given { IfOk result (HasGivenNone (2 ^ setting.now.k)) }
 {
     Ok(Core::Controller(Controller::start(alloc, setting.k, setting.feeders, setting.fixed)?))
 }
@@ -133,6 +136,7 @@ fn collector<'a>(alloc: Global, setting: &Setting) -> Result<Core<'a>, AllocErro
     requires setting { IsValidSetting setting.now }
     ensures stands { IfOk result (λ core. Stands (OfCollector (2 ^ setting.now.k)) no_lists core) }
     ensures live { IfOk result IsLive }
+    ensures given { IfOk result (HasGivenNone (2 ^ setting.now.k)) }
 {
     Ok(Core::Collector(Collector::start(alloc, joiners_of(setting))?))
 }
@@ -148,6 +152,7 @@ pub fn core_at<'a>(
     requires setting { IsValidSetting setting.now }
     ensures stands { IfOk result (λ core. Stands (start_for input.now setting.now (actor_at (2 ^ setting.now.k) setting.now.feeders n)) no_lists core) }
     ensures live { IfOk result IsLive }
+    ensures given { IfOk result (HasGivenNone (2 ^ setting.now.k)) }
 {
     let joiners = joiners_of(setting);
     if n < setting.feeders {

@@ -1,27 +1,22 @@
 use Rattle.std.proofs.Common.{◌∙◌, subst, sym, arith}
 use Rattle.join_runtime.specs.Endings.{lists_left}
-use Rattle.join_runtime.proofs.Counted.{IsCounted, counted_more, few_bouts, from_three, goes_on, none_counted}
+use Rattle.join_runtime.proofs.Counted.{IsCounted, few_bouts, from_three, goes_on}
 use Rattle.std.proofs.lemmas.Result.{IfOk-weaker}
-use Rattle.join_runtime.proofs.Ended.{fronts_none}
+use Rattle.join_runtime.proofs.UnderWay.{begun, one_bout_more}
 use Rattle.join_runtime.proofs.runs.run.Goals as goal
 
 pub loop-init : goal.loop-init
-loop-init g c = record { stands = c.in_ok-seats.ensures.stands; fronts = fronts_none _ c.in_ok-seats.ensures.empty; counted = none_counted c.args.setting.now c.in_ok-seats.seats c.in_ok-seats.ensures.empty }
+loop-init g c = begun c.args.input.now c.args.setting.now c.in_ok-seats.seats c.in_ok-seats.ensures.stands c.in_ok-seats.ensures.empty
 
 pub loop-preserved : goal.loop-preserved
 loop-preserved g c =
     let input = c.args.input.now in
     let setting = c.args.setting.now in
-    let old = c.loop.invariant in
-    let stands = c.in_ok-bout.ensures.stands input setting old.stands in
+    let said = c.in_ok-bout.ensures in
     let valid = c.limits_suffice.ensures input setting c.requires.input c.requires.setting in
-    let went = goes_on c.in_ok-bout.field-0 _ (λ rested. c.in_ok-bout.ensures.collected rested input setting valid old.stands) (sym c.complete.ensures ∙ c.if-complete.false) in
-    record {
-      stands = stands;
-      fronts = c.in_ok-bout.ensures.agrees;
-      counted = counted_more input setting c.loop.seats c.bout.new.seats old.stands stands (c.in_ok-bout.ensures.went went) (c.in_ok-bout.ensures.ready went) c.in_ok-bout.ensures.extends c.in_ok-bout.ensures.agrees
-          c.loop.bouts c.saturating_add-bouts.result (let sum = c.saturating_add-bouts.ensures in omega (arith, sum)) old.counted;
-    }
+    let went = goes_on c.in_ok-bout.field-0 _ (λ rested. said.collected rested input setting valid c.loop.invariant.stands) (sym c.complete.ensures ∙ c.if-complete.false) in
+    one_bout_more input setting c.loop.seats c.bout.new.seats c.loop.bouts c.saturating_add-bouts.result (said.went went) (said.ready went) said.extends said.agrees (said.stands input setting)
+    (let sum = c.saturating_add-bouts.ensures in omega (arith, sum)) c.loop.invariant
 
 pub returns-clause-family : goal.returns-clause-family
 returns-clause-family g c =

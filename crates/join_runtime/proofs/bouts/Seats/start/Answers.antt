@@ -1,5 +1,5 @@
 use Rattle.std.proofs.Common.{false}
-use Rattle.join_runtime.proofs.Built.{start_empty, start_joined, start_linked, start_settled, start_stands}
+use Rattle.join_runtime.proofs.Built.{start_empty, start_given, start_joined, start_linked, start_settled, start_stands}
 use Rattle.join_runtime.proofs.bouts.Seats.start.Goals as goal
 
 pub invariant_of-result : goal.invariant_of-result
@@ -24,3 +24,7 @@ returns-clause-empty c =
 pub returns-clause-links : goal.returns-clause-links
 returns-clause-links c =
     start_linked c.args.input.now c.args.setting.now c.joiners_of-joiners.result c.in_ok-seats.seats.items c.give_all.new.seats.items c.in_ok-seats.mouths.items c.joiners_of-joiners.ensures.value c.in_ok-seats.ensures c.in_ok-give_all.ensures false
+
+pub returns-clause-given : goal.returns-clause-given
+returns-clause-given c =
+    start_given c.args.input.now c.args.setting.now c.joiners_of-joiners.result c.in_ok-seats.seats.items c.give_all.new.seats.items c.in_ok-seats.mouths.items c.joiners_of-joiners.ensures.value c.in_ok-seats.ensures c.in_ok-give_all.ensures false

@@ -1,0 +1,59 @@
+-- What a run has written that puts the lines of pairs as they come, and what its collector gave.
+use Rattle.std.specs.Prelude.{◌≡◌, ◌<◌, ℕ, Option, Some, None, List, [], length, slice_index, IsPermutation}
+use Rattle.std.specs.Io.KnownBytes.{append_known}
+use Rattle.join_rows.specs.Lists.{IsWithinBag}
+use Rattle.join_rows.specs.Sinks.{AppendsFront}
+use Rattle.epoch_tags.specs.declared.tuple.Pair.{Pair}
+use Rattle.epoch_tags.specs.declared.actor.Actor.TheVariants.{Collector}
+use Rattle.epoch_tags.specs.Messages.{found_before_fin}
+use Rattle.pair_collector.specs.Law.{CollectorLists}
+use Rattle.pair_collector.specs.Fresh.{pairs_since}
+use Rattle.trace_law.specs.declared.input.Input.{Input}
+use Rattle.trace_law.specs.Join.{nested_loop}
+use Rattle.link_trace.specs.Lists.{ActorLists, collector_lists}
+use Rattle.link_trace.specs.Standing.{OfCollector, Start, Stands, IsLive, given_by}
+use Rattle.link_trace.specs.declared.machines.Core.{Core}
+use Rattle.join_report.specs.PairLines.{pair_lines}
+use Rattle.join_runtime.specs.Views.{SeatView}
+use Rattle.join_runtime.specs.Bouts.{SeatsView, seat_of, lists_in}
+
+-- ---- what was written
+
+-- a front of the lines of some pairs was appended, where the bytes are told: pairs of the nested loop, and none of them
+-- more often than it has it
+pub record WroteSome (input : Input) (old new : Option (List ℕ)) : Type 0 where
+  pub pairs : List Pair
+  pub right : IsWithinBag pairs (nested_loop input)
+  pub front : AppendsFront old new (pair_lines pairs)
+
+-- the lines of just these pairs were appended, each whole, in some order
+pub record WroteEach (pairs : List Pair) (old new : Option (List ℕ)) : Type 0 where
+  pub order : List Pair
+  pub each : IsPermutation pairs order
+  pub written : new ≡ append_known old (pair_lines order)
+
+-- ---- what the collector gave
+
+-- what the collector of these seats received
+abbrev pub collected_in : SeatsView → CollectorLists
+collected_in v = collector_lists (lists_in v Collector)
+
+abbrev pub given_at : Option SeatView → List ℕ
+given_at None = []
+given_at (Some seat) = given_by seat.core
+
+-- how many pairs of each joiner it gave
+abbrev pub given_in : SeatsView → List ℕ
+given_in v = given_at (seat_of v Collector)
+
+-- of each joiner as many as these lists have
+abbrev pub AreGiven : ℕ → CollectorLists → List ℕ → Type 0
+AreGiven joiners lists given = (j : ℕ) → j < joiners → slice_index given j ≡ length (found_before_fin (lists.from_joiner j))
+
+-- a collector's machine gave the pairs that it had taken and not yet given; what it stands for is the same
+pub record Gives (old new : Core) (pairs : List Pair) : Type 0 where
+  pub gives : (joiners : ℕ) (earlier : CollectorLists) (ls : ActorLists) → Stands (OfCollector joiners) ls old
+      → AreGiven joiners earlier (given_by old) → IsPermutation (pairs_since joiners earlier (collector_lists ls)) pairs
+  pub given : (joiners : ℕ) (ls : ActorLists) → Stands (OfCollector joiners) ls old → AreGiven joiners (collector_lists ls) (given_by new)
+  pub stands : (start : Start) (ls : ActorLists) → Stands start ls old → Stands start ls new
+  pub live : IsLive old → IsLive new

@@ -1,0 +1,107 @@
+// A run in threads that puts the lines of its pairs as they come.
+
+ghost use Rattle.std.specs.Prelude.{◌≡◌, ◌≢◌, ◌<◌, ◌≤◌, ◌+◌, ℕ, Err, IfOk, OnOk, OnErr, length};
+ghost use Rattle.std.specs.Io.KnownBytes.{append_known};
+ghost use Rattle.join_rows.specs.Shelves.{last_fault};
+ghost use Rattle.join_rows.specs.Sinks.{AppendsFront};
+ghost use Rattle.trace_law.specs.Validity.{IsValidInput, IsValidSetting};
+ghost use Rattle.trace_law.specs.Join.{nested_loop};
+ghost use Rattle.trace_law.specs.Runs.{IsRunOf};
+ghost use Rattle.load_controller.specs.Journal.{last_epoch};
+ghost use Rattle.link_trace.specs.Order.{most_events};
+ghost use Rattle.join_report.specs.PairLines.{pair_lines};
+ghost use Rattle.join_runtime.specs.declared.early.EarlyFault.TheVariants.{Memory as Memory', Write as Write'};
+ghost use Rattle.join_runtime.specs.Endings.{IsFinishedFamily, lists_left};
+ghost use Rattle.join_runtime.specs.Early.{WroteEach, WroteSome};
+
+use crate::bouts::{Seats, bout};
+use crate::ends::Told;
+use epoch_tags::Pair;
+use join_report::{pairs_text, put_all};
+use join_rows::{Failed, Sink};
+use std::alloc::{AllocError, Global};
+use std::sync::Wait;
+use std::thread::Threads;
+use thiserror::Error;
+use trace_law::{
+    Input, Setting, answers_in_the_end, events_are_few, limits_suffice, takes_nothing_wrong,
+};
+use worker_gate::Gate;
+
+/// Why a run that puts its lines early has no answer.
+#[derive(Clone, Copy, Debug, PartialEq, Eq, Error)]
+pub enum EarlyFault {
+    /// A put failed.
+    #[error("the pairs couldn't be written")]
+    Write,
+    #[error("out of memory")]
+    Memory,
+}
+
+impl From<AllocError> for EarlyFault {
+    ghost from_gives = { λ _ fault. fault ≡ Memory' };
+
+    fn from(_: AllocError) -> EarlyFault {
+        EarlyFault::Memory
+    }
+}
+
+// Puts the lines of these pairs.
+fn put_lines<K: Sink>(alloc: Global, pairs: &[Pair], sink: &mut K) -> Result<(), EarlyFault>
+    requires { K.faults sink.old < last_fault }
+    ensures written { OnOk result (K.written sink.new ≡ append_known (K.written sink.old) (pair_lines pairs.now)) }
+    ensures front { OnErr result (AppendsFront (K.written sink.old) (K.written sink.new) (pair_lines pairs.now)) }
+    ensures kept { result ≢ Err Write' → K.faults sink.new ≡ K.faults sink.old }
+    ensures write { result ≡ Err Write' → K.faults sink.old < K.faults sink.new }
+    ensures takes { (more : ℕ) → K.takes sink.old (length (pair_lines pairs.now) + more)
+        → (result ≢ Err Write') × OnOk result (K.takes sink.new more) }
+{
+    let text = pairs_text(alloc, pairs)?;
+    match put_all(sink, text.as_bytes()) {
+        Ok(()) => Ok(()),
+        Err(Failed) => Err(EarlyFault::Write),
+    }
+}
+
+/// Does what [`run`](crate::run) does, and after each bout puts the lines of the pairs that came in it, in pieces of 4,096
+/// bytes. At any answer a front of the lines of pairs of the nested loop was appended, none of them twice, so the last line
+/// may be cut; after `Ok` it is the line of each pair of the run, once and whole, in an order that may differ from run to
+/// run. `Write` comes at the first put that fails, and no put follows it. What it promises holds if it returns.
+pub fn run_early<R: Threads + Wait + Sync, G: Gate, K: Sink>(
+    rt: &R,
+    alloc: Global,
+    input: &Input,
+    setting: &Setting,
+    gate: &G,
+    sink: &mut K,
+) -> Result<Told, EarlyFault>
+    requires input { IsValidInput input.now }
+    requires setting { IsValidSetting setting.now }
+    requires sink { K.faults sink.old < last_fault }
+    ensures family { IfOk result (λ told. IsFinishedFamily input.now setting.now told.run.journal (lists_left told.ends)) }
+    ensures run { IfOk result (λ told. IsRunOf input.now setting.now told.run.journal told.run) }
+    ensures bound { IfOk result (λ told. told.run.bouts ≤ most_events input.now setting.now (last_epoch told.run.journal)) }
+    ensures lines { WroteSome input.now (K.written sink.old) (K.written sink.new) }
+    ensures whole { IfOk result (λ told. WroteEach told.run.pairs (K.written sink.old) (K.written sink.new)) }
+    ensures write { result ≡ Err Write' → K.faults sink.old < K.faults sink.new }
+    ensures kept { result ≢ Err Write' → K.faults sink.new ≡ K.faults sink.old }
+    ensures takes { (more : ℕ) → K.takes sink.old (length (pair_lines (nested_loop input.now)) + more)
+        → (result ≢ Err Write') × OnOk result (K.takes sink.new more) }
+{
+    limits_suffice();
+    events_are_few();
+    takes_nothing_wrong();
+    answers_in_the_end();
+    let mut seats = Seats::start(alloc, input, setting)?;
+    let mut bouts = 0u64;
+    for _ in rt.forever() {
+        if seats.complete() {
+            break;
+        }
+        bout(rt, &mut seats, setting.workers, gate)?;
+        bouts = bouts.saturating_add(1);
+        let fresh = seats.fresh()?;
+        put_lines(alloc, fresh.as_slice(), sink)?;
+    }
+    Ok(seats.finish(bouts)?)
+}

@@ -1,0 +1,34 @@
+// The pairs that came since the collector last gave some.
+
+ghost use Rattle.std.specs.Prelude.{◌≡◌, ◌^◌, IfOk, OnErr, OnOk, IsPermutation};
+ghost use Rattle.epoch_tags.specs.declared.actor.Actor.{Actor as Actor'};
+ghost use Rattle.pair_collector.specs.Law.{CollectorLists};
+ghost use Rattle.pair_collector.specs.Fresh.{pairs_since};
+ghost use Rattle.trace_law.specs.declared.input.Input.{Input as Input'};
+ghost use Rattle.trace_law.specs.declared.setting.Setting.{Setting as Setting'};
+ghost use Rattle.join_runtime.specs.Bouts.{StandsFor, lists_in};
+ghost use Rattle.join_runtime.specs.Early.{AreGiven, collected_in, given_in};
+
+use crate::bouts::Seats;
+use epoch_tags::Pairs;
+use std::alloc::AllocError;
+
+impl<'a> Seats<'a> {
+    // The pairs that the collector took since the last call of this that answered `Ok`. No list changes.
+    pub(crate) fn fresh(&mut self) -> Result<Pairs, AllocError>
+        ensures gives { IfOk result (λ pairs. (input : Input') (setting : Setting') (earlier : CollectorLists)
+            → StandsFor input setting self.old → AreGiven (2 ^ setting.k) earlier (given_in self.old)
+            → IsPermutation (pairs_since (2 ^ setting.k) earlier (collected_in self.old)) pairs) }
+        ensures given { OnOk result ((input : Input') (setting : Setting') → StandsFor input setting self.old
+            → AreGiven (2 ^ setting.k) (collected_in self.old) (given_in self.new)) }
+        ensures stands { (input : Input') (setting : Setting') → StandsFor input setting self.old → StandsFor input setting self.new }
+        ensures lists { (a : Actor') → lists_in self.new a ≡ lists_in self.old a }
+        ensures fails { OnErr result (self.new ≡ self.old) }
+    {
+        let count = self.seats.len();
+        if count == 0 {
+            return Err(AllocError);
+        }
+        self.seats[count - 1].fresh()
+    }
+}
