@@ -1,9 +1,11 @@
-//! Gates that actors pass at each turn, by which a test sees two of them at work at one time.
+//! Gates that actors pass at each turn, by which a test sees two of them at work at one time, or how far a run has come.
 #![tactic(auto)]
 
+mod counting;
 mod gate;
 mod pair;
 
+pub use counting::CountingGate;
 pub use gate::{Gate, NoGate, Spot};
 pub use pair::PairGate;
 

@@ -1,4 +1,4 @@
-use crate::{Gate, NoGate, PairGate, Spot};
+use crate::{CountingGate, Gate, NoGate, PairGate, Spot};
 use epoch_tags::Actor;
 use std::test::*;
 use std::thread;
@@ -20,6 +20,9 @@ fn two_threads_meet(rt: HostRuntime) -> Result<(), Fail> {
     pass_side_by_side(&rt, &gate, a, b);
     assert!(rt; gate.met());
     pass_side_by_side(&rt, &NoGate, a, b);
+    let gate = CountingGate::new();
+    pass_side_by_side(&rt, &gate, a, b);
+    assert!(rt; gate.passes() == 2);
     Ok(())
 }
 
