@@ -42,6 +42,7 @@ rules = text_rule (codes "on")
     ∷ number_rule (codes "fixed") 0 6
     ∷ number_rule (codes "replay") 0 18446744073709551615
     ∷ number_rule (codes "make") 1 65536
+    ∷ flag_rule (codes "early")
     ∷ flag_rule (codes "report")
     ∷ flag_rule (codes "rows")
     ∷ files_rule (codes "files") ∷ []

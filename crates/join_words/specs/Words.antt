@@ -19,8 +19,8 @@ use Rattle.join_words.specs.declared.options.WordsFault.TheVariants.{NoMatch, Jo
 -- what the words ask for: the predicate's text; 2^k joiners; the feeders; the workers, which are the threads of a run that
 -- isn't a replay; how many rows each feeder asks for at once and in which order; the shift at which the grid stays, where one
 -- is given; the seed of the tickets; the seed of the order of a replay, where one is given; how many rows a side has, where
--- tables are to be made; whether a report is wanted; whether joined rows are; and the names of the two files, empty where
--- there are none
+-- tables are to be made; whether the pairs of each bout are wanted early; whether a report is wanted; whether joined rows are;
+-- and the names of the two files, empty where there are none
 pub record Asked : Type 0 where
   pub on : List ℕ
   pub k : ℕ
@@ -32,6 +32,7 @@ pub record Asked : Type 0 where
   pub seed : ℕ
   pub replay : Option ℕ
   pub make : Option ℕ
+  pub early : Bool
   pub report : Bool
   pub rows : Bool
   pub name_r : List ℕ
@@ -50,6 +51,7 @@ asked options = record {
   seed = options.seed;
   replay = options.replay;
   make = options.make;
+  early = options.early;
   report = options.report;
   rows = options.rows;
   name_r = options.name_r.now;
@@ -121,6 +123,14 @@ make_apart None joined = Ok None
 make_apart (Some count) false = Ok (Some count)
 make_apart (Some count) true = Err Together
 
+-- early output doesn't go together with a replay, made tables or joined rows
+abbrev pub early_alone : Bool → Option ℕ → Option ℕ → Bool → Result Bool WordsFault
+early_alone false replay make joined = Ok false
+early_alone true None None false = Ok true
+early_alone true None None true = Err Together
+early_alone true None (Some count) joined = Err Together
+early_alone true (Some order) make joined = Err Together
+
 -- just two names
 abbrev pub two_names : List Text → Result (Text × Text) WordsFault
 two_names (name_r ∷ name_s ∷ []) = Ok (name_r, name_s)
@@ -149,6 +159,7 @@ asked_by rows =
     then_of (exponent_of (joiners_at rows)) (λ k.
     then_of (fixed_within k (number_at (codes "fixed") rows)) (λ fixed.
     then_of (make_apart (make_at rows) (flag_at (codes "rows") rows)) (λ make.
+    then_of (early_alone (flag_at (codes "early") rows) (number_at (codes "replay") rows) make (flag_at (codes "rows") rows)) (λ early.
     then_of (names_at make rows) (λ names. Ok (record {
       on = text_at (codes "on") rows;
       k = k;
@@ -160,11 +171,12 @@ asked_by rows =
       seed = unwrap_or (number_at (codes "seed") rows) 1;
       replay = number_at (codes "replay") rows;
       make = make;
+      early = early;
       report = flag_at (codes "report") rows;
       rows = flag_at (codes "rows") rows;
       name_r = names.0;
       name_s = names.1;
-    }))))))
+    })))))))
 
 -- ---- the words
 

@@ -1,9 +1,9 @@
 // The checks of a match, in the order of their faults.
 
-ghost use Rattle.std.specs.Prelude.{◌≡◌, ◌≤◌, ◌<◌, ◌^◌, IfOk, IfSome, false, unwrap_or};
+ghost use Rattle.std.specs.Prelude.{◌≡◌, ◌≤◌, ◌<◌, ◌^◌, IfOk, IfSome, None, true, false, unwrap_or};
 ghost use Rattle.clap.specs.Matches.{found_of};
 ghost use Rattle.clap.specs.Walk.{rows_of};
-ghost use Rattle.join_words.specs.Words.{AreBounded, Gives, asked_by, exponent_of, feed_named, fixed_within, make_apart, number_at};
+ghost use Rattle.join_words.specs.Words.{AreBounded, Gives, asked_by, early_alone, exponent_of, feed_named, fixed_within, make_apart, number_at};
 
 use crate::found::{flag, number, text};
 use crate::names::names;
@@ -68,6 +68,23 @@ fn apart(make: Option<u64>, rows: bool) -> Result<Option<u64>, WordsFault>
     }
 }
 
+/// Whether pairs are wanted early; not with a replay, made tables or joined rows.
+fn alone(
+    early: bool,
+    replay: Option<u64>,
+    make: Option<u64>,
+    rows: bool,
+) -> Result<bool, WordsFault>
+    ensures exact { result ≡ early_alone early replay make rows }
+    ensures alone { IfOk result (λ early. early ≡ true → (replay ≡ None) × (make ≡ None) × (rows ≡ false)) }
+{
+    match (early, replay, make, rows) {
+        (false, _, _, _) => Ok(false),
+        (true, None, None, false) => Ok(true),
+        _ => Err(WordsFault::Together),
+    }
+}
+
 /// What a match asks for, or the first check that it fails.
 pub(crate) fn checked<'a>(matches: &ArgMatches<'a>) -> Result<Options<'a>, WordsFault>
     requires bounded { AreBounded (rows_of (found_of matches.now)) }
@@ -79,12 +96,15 @@ pub(crate) fn checked<'a>(matches: &ArgMatches<'a>) -> Result<Options<'a>, Words
     ensures batch { IfOk result (λ options. (1 ≤ options.batch) × (options.batch ≤ 4096)) }
     ensures make { IfOk result (λ options. IfSome options.make (λ count. (1 ≤ count) × (count ≤ 65536))) }
     ensures apart { IfOk result (λ options. IfSome options.make (λ _. options.rows ≡ false)) }
+    ensures alone { IfOk result (λ options. options.early ≡ true → (options.replay ≡ None) × (options.make ≡ None) × (options.rows ≡ false)) }
 {
     let feed = feed(text(matches, "feed"))?;
     let k = exponent(number(matches, "joiners").unwrap_or(4))?;
     let fixed = within(k, number(matches, "fixed"))?;
     let rows = flag(matches, "rows");
     let make = apart(number(matches, "make"), rows)?;
+    let replay = number(matches, "replay");
+    let early = alone(flag(matches, "early"), replay, make, rows)?;
     let (name_r, name_s) = names(matches, make)?;
     Ok(Options {
         on: text(matches, "on"),
@@ -95,8 +115,9 @@ pub(crate) fn checked<'a>(matches: &ArgMatches<'a>) -> Result<Options<'a>, Words
         feed,
         fixed,
         seed: number(matches, "seed").unwrap_or(1),
-        replay: number(matches, "replay"),
+        replay,
         make,
+        early,
         report: flag(matches, "report"),
         rows,
         name_r,

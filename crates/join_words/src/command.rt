@@ -74,6 +74,7 @@ pub(crate) fn command<'a>(alloc: Global) -> Result<Command<'a>, AllocError>
         .arg(number(alloc, "fixed", 0, 6))?
         .arg(number(alloc, "replay", 0, u64::MAX))?
         .arg(number(alloc, "make", 1, 65536))?
+        .arg(flag(alloc, "early"))?
         .arg(flag(alloc, "report"))?
         .arg(flag(alloc, "rows"))?
         .arg(files(alloc, "files"))

@@ -25,6 +25,9 @@ pub struct Options<'a> {
     pub replay: Option<u64>,
     /// How many rows a side has, 1 to 65,536, where tables are to be made. There are no files then.
     pub make: Option<u64>,
+    /// The pairs are wanted as they are found, bout by bout. There is no replay then, there are files, and joined rows aren't
+    /// wanted.
+    pub early: bool,
     /// A report is wanted beside the output.
     pub report: bool,
     /// The joined rows are wanted in place of their numbers.
@@ -45,7 +48,7 @@ pub enum WordsFault {
     Joiners,
     /// `--fixed` is given, and is greater than k.
     Fixed,
-    /// `--make` stands with `--rows`.
+    /// `--early` stands with `--replay`, `--make` or `--rows`; or `--make` stands with `--rows`.
     Together,
     /// There aren't just two names of files, or with `--make` there is one.
     Files,

@@ -1,6 +1,6 @@
 // The words, read.
 
-ghost use Rattle.std.specs.Prelude.{◌≡◌, ◌≢◌, ◌≤◌, Ok, Err, IfOk, IfSome, false, map, string_bytes};
+ghost use Rattle.std.specs.Prelude.{◌≡◌, ◌≢◌, ◌≤◌, Ok, Err, IfOk, IfSome, None, true, false, map, string_bytes};
 ghost use Rattle.clap.specs.Matches.{found_of};
 ghost use Rattle.clap.specs.Values.{kind_of};
 ghost use Rattle.clap.specs.Walk.{rows_of};
@@ -56,6 +56,7 @@ pub fn read_words<'a>(alloc: Global, words: &'a [String]) -> Result<Options<'a>,
     ensures batch { IfOk result (λ options. (1 ≤ options.batch) × (options.batch ≤ 4096)) }
     ensures make { IfOk result (λ options. IfSome options.make (λ count. (1 ≤ count) × (count ≤ 65536))) }
     ensures apart { IfOk result (λ options. IfSome options.make (λ _. options.rows ≡ false)) }
+    ensures alone { IfOk result (λ options. options.early ≡ true → (options.replay ≡ None) × (options.make ≡ None) × (options.rows ≡ false)) }
 {
     let matches = matched(alloc, words)?;
     match checked(&matches) {

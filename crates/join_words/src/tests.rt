@@ -1,4 +1,4 @@
-mod made;
+mod together;
 
 use crate::{Options, WordsError, WordsFault, read_words};
 use row_tickets::Feed;
@@ -27,6 +27,7 @@ const PLAIN: Options<'static> = Options {
     seed: 1,
     replay: None,
     make: None,
+    early: false,
     report: false,
     rows: false,
     name_r: "r",

@@ -42,12 +42,15 @@ returns c =
     let r10 : Rule = number_rule (codes "make") 1 65536 in
     let a10 : App = with_rule a9 r10 in
     let e10 : IsApp c.in_ok-arg-10.field-0 a10 = added a9 c.in_ok-arg-9.field-0 c.in_ok-arg-10.field-0 c.number-3.result r10 e9 c.number-3.ensures.local c.number-3.ensures.rule c.in_ok-arg-10.ensures in
-    let r11 : Rule = flag_rule (codes "report") in
+    let r11 : Rule = flag_rule (codes "early") in
     let a11 : App = with_rule a10 r11 in
     let e11 : IsApp c.in_ok-arg-11.field-0 a11 = added a10 c.in_ok-arg-10.field-0 c.in_ok-arg-11.field-0 c.flag.result r11 e10 c.flag.ensures.local c.flag.ensures.rule c.in_ok-arg-11.ensures in
-    let r12 : Rule = flag_rule (codes "rows") in
+    let r12 : Rule = flag_rule (codes "report") in
     let a12 : App = with_rule a11 r12 in
     let e12 : IsApp c.in_ok-arg-12.field-0 a12 = added a11 c.in_ok-arg-11.field-0 c.in_ok-arg-12.field-0 c.flag-2.result r12 e11 c.flag-2.ensures.local c.flag-2.ensures.rule c.in_ok-arg-12.ensures in
-    IfOk-weaker c.arg-13.result (λ r. AddsArg c.in_ok-arg-12.field-0 c.files.result r) (λ r. IsCommand (app_of r)) (λ r adds.
-    let e13 : IsApp r (with_rule a12 (files_rule (codes "files"))) = added a12 c.in_ok-arg-12.field-0 r c.files.result (files_rule (codes "files")) e12 c.files.ensures.local c.files.ensures.rule adds in
-    record { is = e13.is }) c.arg-13.ensures
+    let r13 : Rule = flag_rule (codes "rows") in
+    let a13 : App = with_rule a12 r13 in
+    let e13 : IsApp c.in_ok-arg-13.field-0 a13 = added a12 c.in_ok-arg-12.field-0 c.in_ok-arg-13.field-0 c.flag-3.result r13 e12 c.flag-3.ensures.local c.flag-3.ensures.rule c.in_ok-arg-13.ensures in
+    IfOk-weaker c.arg-14.result (λ r. AddsArg c.in_ok-arg-13.field-0 c.files.result r) (λ r. IsCommand (app_of r)) (λ r adds.
+    let e14 : IsApp r (with_rule a13 (files_rule (codes "files"))) = added a13 c.in_ok-arg-13.field-0 r c.files.result (files_rule (codes "files")) e13 c.files.ensures.local c.files.ensures.rule adds in
+    record { is = e14.is }) c.arg-14.ensures

@@ -12,15 +12,20 @@ fn made(count: u64) -> Options<'static> {
 }
 
 #[test]
-fn made_tables_and_joined_rows(rt: HostRuntime) -> Result<(), Fail> {
+fn made_tables_joined_rows_and_early_pairs(rt: HostRuntime) -> Result<(), Fail> {
     let rows = Options {
         rows: true,
+        ..PLAIN
+    };
+    let early = Options {
+        early: true,
         ..PLAIN
     };
     let cases = [
         ("jm|--on|p|--make|1", made(1)),
         ("jm|--make=65536|--on|p", made(65536)),
         ("jm|--on|p|r|--rows|s", rows),
+        ("jm|--early|--on|p|r|s", early),
     ];
     for (line, wanted) in cases {
         let words = words(rt.alloc(), line)?;
@@ -30,20 +35,23 @@ fn made_tables_and_joined_rows(rt: HostRuntime) -> Result<(), Fail> {
 }
 
 #[test]
-fn faults_of_made_tables_and_joined_rows(rt: HostRuntime) -> Result<(), Fail> {
+fn faults_of_words_that_do_not_go_together(rt: HostRuntime) -> Result<(), Fail> {
     let cases = [
         (
             WordsFault::NoMatch,
-            "jm|--on|p|--make|0\njm|--on|p|--make|65537\njm|--on|p|--make\njm|--on|p|--rows=true|r|s\njm|--on|p|--make|3|--rows|--feed|both",
+            "jm|--on|p|--make|0\njm|--on|p|--make|65537\njm|--on|p|--make\njm|--on|p|--rows=true|r|s\njm|--on|p|--make|3|--rows|--feed|both\njm|--on|p|--early=true|r|s",
         ),
-        (WordsFault::Fixed, "jm|--on|p|--make|3|--rows|--fixed|3"),
+        (
+            WordsFault::Fixed,
+            "jm|--on|p|--make|3|--rows|--fixed|3\njm|--on|p|--early|--replay|7|--fixed|3|r",
+        ),
         (
             WordsFault::Together,
-            "jm|--on|p|--make|3|--rows\njm|--on|p|--rows|--make|3|r|s",
+            "jm|--on|p|--make|3|--rows\njm|--on|p|--rows|--make|3|r|s\njm|--on|p|--early|--rows|r|s\njm|--on|p|--early|--replay|7|r|s\njm|--on|p|--early|--make|3\njm|--on|p|--early|--make|3|--rows|r",
         ),
         (
             WordsFault::Files,
-            "jm|--on|p|--make|3|r|s\njm|--on|p|--make|3|r\njm|--on|p|--rows|r\njm|--on|p|--rows",
+            "jm|--on|p|--make|3|r|s\njm|--on|p|--make|3|r\njm|--on|p|--rows|r\njm|--on|p|--rows\njm|--on|p|--early|r",
         ),
     ];
     for (fault, lines) in cases {
