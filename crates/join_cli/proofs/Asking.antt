@@ -2,7 +2,6 @@
 use Rattle.std.proofs.Common.{◌≡◌, ◌∙◌, ℕ, List, Option, Some, Result, Ok, Err, sym, ap, subst}
 use Rattle.std.specs.Prelude.{IfOk}
 use Rattle.std.specs.Result.{result_unwrap_or}
-use Rattle.join_rows.specs.Sinks.{AppendsFront}
 use Rattle.join_words.specs.Words.{asked_of}
 use Rattle.join_cli.specs.declared.outcome.TextFault.{TextFault}
 use Rattle.join_cli.specs.Texts.{IsTrueOf}
@@ -15,13 +14,8 @@ use Rattle.join_cli.specs.declared.plan.Planned.{Planned}
 use Rattle.join_cli.specs.declared.reading.Tables.{Tables}
 use Rattle.join_cli.specs.declared.refusal.Refusal.{Refusal}
 use Rattle.join_cli.specs.Columns.{theta_over}
-use Rattle.std.specs.Io.KnownBytes.{append_known}
-use Rattle.load_controller.specs.declared.line.TurnLine.{TurnLine}
-use Rattle.join_cli.specs.declared.outcome.Outcome.TheVariants as outcomes
-use Rattle.join_cli.specs.Plan.{IsJournalOf, checked, fitted, made_tables, output_of, tables_by, then_of}
-use Rattle.join_runtime.specs.Endings.{EndsView}
-use Rattle.join_cli.specs.Courses.{IsCourseOf}
-use Rattle.join_cli.specs.Ends.{IsAsked, Wrote, WroteFront}
+use Rattle.join_cli.specs.Plan.{checked, fitted, made_tables, tables_by, then_of}
+use Rattle.join_cli.specs.Ends.{IsAsked}
 
 pub is_asked : (told : Told) (asked : Asked) (tree : Tree) (tables : Tables) (theta : Meaning) (planned : Planned)
     → TextReads limits asked.on tree
@@ -51,20 +45,6 @@ pub asked_if : (told : Told) (asked : Asked) (tree : Tree) (tables : Tables) (th
     → IfOk r (IsAsked told asked)
 asked_if told asked tree tables theta (Ok planned) reads over is same found made = is_asked told asked tree tables theta planned reads over is same found made
 asked_if told asked tree tables theta (Err refusal) reads over is same found made = tt
-
-pub wrote : (told : Told) (asked : Asked) (old new : Option (List ℕ)) (planned : Planned) (made journal : List TurnLine) (left trail : List EndsView) (bytes : List ℕ)
-    → IsAsked told asked planned → IsCourseOf asked planned made left → new ≡ append_known old bytes → bytes ≡ output_of asked planned made
-    → outcomes.Done made left ≡ outcomes.Done journal trail → Wrote told asked journal trail old new
-wrote told asked old new planned made journal left trail bytes found course written same is =
-    let one : made ≡ journal = cc is in
-    let same_left : left ≡ trail = cc is in
-    subst (λ j. Wrote told asked j trail old new) one
-    (subst (λ t. Wrote told asked made t old new) same_left (record { planned = planned; found = found; course = course; written = written ∙ ap (append_known old) same }))
-
-pub wrote_front : (told : Told) (asked : Asked) (old new : Option (List ℕ)) (planned : Planned) (journal : List TurnLine) (bytes : List ℕ)
-    → IsAsked told asked planned → IsJournalOf asked planned journal → AppendsFront old new bytes → bytes ≡ output_of asked planned journal → WroteFront told asked old new
-wrote_front told asked old new planned journal bytes found lawful front same =
-    record { planned = planned; found = found; journal = journal; lawful = lawful; front = subst (AppendsFront old new) same front }
 
 -- words ask for one thing
 pub asked_one : (words : List (List ℕ)) (given wanted : Asked) → asked_of words ≡ Ok given → asked_of words ≡ Ok wanted → given ≡ wanted

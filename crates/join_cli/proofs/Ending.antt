@@ -1,5 +1,5 @@
 -- A run of well-formed files ends well.
-use Rattle.std.proofs.Common.{◌≡◌, ◌∙◌, ◌⊎◌, inl, inr, ℕ, List, Option, None, Some, Result, Ok, Err, refl, sym, ap, subst, length}
+use Rattle.std.proofs.Common.{◌≡◌, ◌∙◌, ◌⊎◌, ◌+◌, inl, inr, ℕ, List, Option, None, Some, Result, Ok, Err, refl, sym, ap, subst, length, arith}
 use Rattle.join_rows.specs.Shelves.{Told}
 use Rattle.theta_text.specs.Grammar.{Tree}
 use Rattle.theta_text.specs.declared.fault.PredFault.{PredFault}
@@ -7,25 +7,62 @@ use Rattle.join_words.specs.Words.{Asked, asked_of}
 use Rattle.join_cli.specs.declared.plan.Planned.{Planned}
 use Rattle.join_cli.specs.declared.refusal.Refusal.{Refusal}
 use Rattle.join_cli.specs.declared.refusal.Refusal.TheVariants as refusals
+use Rattle.join_cli.specs.declared.outcome.Outcome.{Outcome}
 use Rattle.join_cli.specs.declared.outcome.Outcome.TheVariants as outcomes
 use Rattle.load_controller.specs.declared.line.TurnLine.{TurnLine}
 use Rattle.join_runtime.specs.Endings.{EndsView}
-use Rattle.join_cli.specs.Courses.{IsCourseOf}
-use Rattle.join_cli.specs.Ends.{EndsAs, IsDone, IsOutcomeOf, TakesEach}
+use Rattle.join_cli.specs.Ends.{Concludes, EndsAs, IsAsked, IsDone, IsOutcomeOf, TakesEach, Wrote, WroteFront, WroteSoFar}
 use Rattle.join_cli.specs.Plan.{IsJournalOf, output_of, plan_of}
 use Rattle.join_cli.specs.Refusals.{refused_as}
 use Rattle.join_cli.proofs.Asking.{asked_one}
 use Rattle.join_cli.proofs.Seeing.{no_plan}
 
--- a run of the plan that was made is an outcome of it
-pub ends_done : (told : Told) (asked : Asked) (reading : Result Tree PredFault) (planned : Planned) (journal : List TurnLine) (trail : List EndsView) → IsCourseOf asked planned journal trail
+-- a plan that was carried out has an outcome of it, unless a put failed
+pub ends_concluded : (told : Told) (asked : Asked) (reading : Result Tree PredFault) (planned : Planned) (old new : Option (List ℕ)) (outcome : Outcome)
+    → Concludes asked planned old new outcome → (outcome ≡ outcomes.Write → ⊥)
     → ((files : List ℕ → Option (List ℕ)) → told ≡ Some files → (Ok planned ≡ Err refusals.Memory) ⊎ (Ok planned ≡ plan_of asked reading files))
-    → EndsAs told asked reading (outcomes.Done journal trail)
-ends_done None asked reading planned journal trail course h = tt
-ends_done (Some files) asked reading planned journal trail course h = elim (h files refl) [
+    → EndsAs told asked reading outcome
+ends_concluded None asked reading planned old new outcome concludes put h = tt
+ends_concluded (Some files) asked reading planned old new (outcomes.Done journal trail) (course, written) put h = elim (h files refl) [
   | inl m ↦ absurd (cc m)
   | inr f ↦ inr (subst (λ p. IsOutcomeOf asked p (outcomes.Done journal trail)) f course)
 ]
+ends_concluded (Some files) asked reading planned old new outcomes.Memory concludes put h = inl refl
+ends_concluded (Some files) asked reading planned old new outcomes.Write concludes put h = absurd (put refl)
+ends_concluded (Some files) asked reading planned old new (outcomes.Words _) concludes put h = elim concludes [ ]
+ends_concluded (Some files) asked reading planned old new (outcomes.Predicate _) concludes put h = elim concludes [ ]
+ends_concluded (Some files) asked reading planned old new (outcomes.Input _) concludes put h = elim concludes [ ]
+ends_concluded (Some files) asked reading planned old new (outcomes.Limit _) concludes put h = elim concludes [ ]
+ends_concluded (Some files) asked reading planned old new outcomes.Read concludes put h = elim concludes [ ]
+
+-- what was written, by the outcome
+pub wrote : (told : Told) (asked : Asked) (planned : Planned) (old new : Option (List ℕ)) (outcome : Outcome) → IsAsked told asked planned → Concludes asked planned old new outcome
+    → (journal : List TurnLine) (trail : List EndsView) → outcome ≡ outcomes.Done journal trail → Wrote told asked journal trail old new
+wrote told asked planned old new outcome found concludes journal trail is =
+    let ends : Concludes asked planned old new (outcomes.Done journal trail) = subst (Concludes asked planned old new) is concludes in
+    record { planned = planned; found = found; course = ends.0; written = ends.1 }
+
+pub wrote_front : (told : Told) (asked : Asked) (planned : Planned) (old new : Option (List ℕ)) (outcome : Outcome) → IsAsked told asked planned → Concludes asked planned old new outcome
+    → outcome ≡ outcomes.Write → WroteFront told asked old new
+wrote_front told asked planned old new outcome found concludes is =
+    record { planned = planned; found = found; front = subst (Concludes asked planned old new) is concludes }
+
+pub wrote_so_far : (told : Told) (asked : Asked) (planned : Planned) (old new : Option (List ℕ)) (outcome : Outcome) → IsAsked told asked planned → Concludes asked planned old new outcome
+    → outcome ≡ outcomes.Memory → (new ≡ old) ⊎ WroteSoFar told asked old new
+wrote_so_far told asked planned old new outcome found concludes is =
+    inr (record { planned = planned; found = found; lines = subst (Concludes asked planned old new) is concludes })
+
+-- a plan that is carried out isn't refused
+pub concludes_well : (asked : Asked) (planned : Planned) (old new : Option (List ℕ)) (outcome : Outcome) → Concludes asked planned old new outcome
+    → IsDone outcome ⊎ ((outcome ≡ outcomes.Write) ⊎ (outcome ≡ outcomes.Memory))
+concludes_well asked planned old new (outcomes.Done journal trail) concludes = inl tt
+concludes_well asked planned old new outcomes.Write concludes = inr (inl refl)
+concludes_well asked planned old new outcomes.Memory concludes = inr (inr refl)
+concludes_well asked planned old new (outcomes.Words _) concludes = elim concludes [ ]
+concludes_well asked planned old new (outcomes.Predicate _) concludes = elim concludes [ ]
+concludes_well asked planned old new (outcomes.Input _) concludes = elim concludes [ ]
+concludes_well asked planned old new (outcomes.Limit _) concludes = elim concludes [ ]
+concludes_well asked planned old new outcomes.Read concludes = elim concludes [ ]
 
 -- and its refusal is, where it was refused
 pub ends_refused : (told : Told) (asked : Asked) (reading : Result Tree PredFault) (refusal : Refusal)
@@ -50,10 +87,9 @@ pub complete_made : (made planned : Planned) (plan : Result Planned Refusal) →
 complete_made made planned plan found is = elim found [ inl m ↦ absurd (cc m) | inr f ↦ cc (f ∙ is) ]
 
 -- a sink that takes the output over each lawful journal takes the bytes of one
-pub takes_made : (takes : ℕ → Type 0) (asked : Asked) (made planned : Planned) (journal : List TurnLine) (bytes : List ℕ) → made ≡ planned
-    → IsJournalOf asked made journal → bytes ≡ output_of asked made journal → TakesEach takes asked planned → takes (length bytes)
-takes_made takes asked made planned journal bytes same lawful is each =
-    subst takes (ap length (sym is)) (subst (TakesEach takes asked) (sym same) each journal lawful)
+pub takes_made : (takes : ℕ → Type 0) (asked : Asked) (planned : Planned) (journal : List TurnLine) (bytes : List ℕ)
+    → IsJournalOf asked planned journal → bytes ≡ output_of asked planned journal → TakesEach takes asked planned → takes (length bytes + 0)
+takes_made takes asked planned journal bytes lawful is each = let none : length bytes ≡ length bytes + 0 = omega arith in subst takes none (subst takes (ap length (sym is)) (each.each journal lawful))
 
 -- what holds of what the words ask for
 pub asked_same : (P : Asked → Type 0) (words : List (List ℕ)) (given wanted : Asked) → asked_of words ≡ Ok given → asked_of words ≡ Ok wanted → P given → P wanted

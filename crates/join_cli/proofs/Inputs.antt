@@ -17,7 +17,7 @@ use Rattle.join_words.specs.Words.{Asked}
 use Rattle.join_cli.specs.declared.plan.Planned.{Planned}
 use Rattle.load_controller.specs.declared.line.TurnLine.{TurnLine}
 use Rattle.join_runtime.specs.Endings.{EndsView}
-use Rattle.join_cli.specs.Courses.{IsCourseOf, WentAs}
+use Rattle.join_cli.specs.Courses.{IsCourseOf, IsRunInThreads, WentAs}
 use Rattle.join_cli.specs.Plan.{IsFit, IsJournalOf, input_of, setting_of, tickets_of}
 
 fits : (seed : ℕ) (side : Side) (table : Table) (tickets : List ℕ) (width : ℕ) → IsTable table → tickets ≡ tickets_of seed side table.rows
@@ -60,3 +60,9 @@ course_of_run asked planned input setting run trail input_is setting_is is went 
   lawful = journal_of_run asked planned input setting run input_is setting_is is;
   went = subst (λ i. WentAs asked.replay i (setting_of asked) run.journal trail) input_is (subst (λ s. WentAs asked.replay input s run.journal trail) setting_is went);
 }
+
+pub course_in_threads : (asked : Asked) (planned : Planned) (input : Input) (setting : Setting) (run : Run) (trail : List EndsView)
+    → input ≡ input_of asked.seed planned → setting ≡ setting_of asked → asked.replay ≡ None → IsRunOf input setting run.journal run
+    → IsRunInThreads input setting run.journal trail → IsCourseOf asked planned run.journal trail
+course_in_threads asked planned input setting run trail input_is setting_is threads is went =
+    course_of_run asked planned input setting run trail input_is setting_is is (rw threads went)

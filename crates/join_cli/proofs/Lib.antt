@@ -8,6 +8,7 @@ pub mod Worked
 pub mod Seeing
 pub mod MadeTables
 pub mod Ending
+pub mod EarlyOutput
 pub mod Inputs
 pub mod Reports
 pub mod FixedOutput

@@ -2,25 +2,21 @@
 use Rattle.std.proofs.Common.{◌≡◌, ◌∙◌, ◌⊎◌, inl, inr, ℕ, List, Option, None, Some, Result, Ok, Err, refl, sym, ap, subst}
 use Rattle.std.specs.Result.{result_unwrap_or}
 use Rattle.join_rows.specs.Shelves.{Spot, Told}
-use Rattle.join_rows.specs.Sinks.{AppendsFront}
-use Rattle.std.specs.Io.KnownBytes.{append_known}
 use Rattle.theta_text.specs.Grammar.{Tree}
 use Rattle.theta_pred.specs.Formula.{Meaning}
-use Rattle.load_controller.specs.declared.line.TurnLine.{TurnLine}
-use Rattle.join_runtime.specs.Endings.{EndsView}
 use Rattle.join_words.specs.Words.{Asked}
 use Rattle.join_cli.specs.declared.plan.Planned.{Planned}
 use Rattle.join_cli.specs.declared.reading.Tables.{Tables}
 use Rattle.join_cli.specs.declared.refusal.Refusal.{Refusal}
 use Rattle.join_cli.specs.declared.refusal.Refusal.TheVariants as refusals
-use Rattle.join_cli.specs.declared.outcome.Outcome.TheVariants as outcomes
 use Rattle.join_cli.specs.Columns.{theta_over}
-use Rattle.join_cli.specs.Courses.{IsCourseOf}
-use Rattle.join_cli.specs.Plan.{IsJournalOf, checked, fitted, made_tables, output_of, then_of}
+use Rattle.join_cli.specs.declared.outcome.Outcome.{Outcome}
+use Rattle.join_cli.specs.Ends.{Concludes}
+use Rattle.join_cli.specs.Plan.{checked, fitted, made_tables, then_of}
 use Rattle.join_cli.specs.Refusals.{refused_as}
 use Rattle.join_cli.specs.Seen.{Ends, EndsAsked, PlanAsked, TablesAsked}
 use Rattle.join_cli.specs.Texts.{tree_or_refused}
-use Rattle.join_cli.proofs.Seeing.{end_done, end_front, end_refused, no_plan, no_tables, no_theta, plan_seen, tables_seen, theta_seen}
+use Rattle.join_cli.proofs.Seeing.{end_concluded, end_refused, no_plan, no_tables, no_theta, plan_seen, tables_seen, theta_seen}
 
 -- a text with a tree isn't refused
 pub text_asked : (told : Told) (spot : Spot) (asked : Asked) (make : Option ℕ) (tree : Tree) (refusal : Refusal)
@@ -67,16 +63,7 @@ pub asked_refused : (told : Told) (spot : Spot) (asked : Asked) (make : Option �
 asked_refused told spot asked None tree written refusal is = end_refused told spot asked tree written refusal is
 asked_refused told spot asked (Some count) tree written refusal is = subst (λ p. Ends asked written written p (refused_as refusal)) is (refl, refl)
 
-pub asked_done : (told : Told) (spot : Spot) (asked : Asked) (make : Option ℕ) (tree : Tree) (old new : Option (List ℕ)) (planned : Planned) (journal : List TurnLine)
-    (trail : List EndsView) → PlanAsked told spot asked make tree (Ok planned) → IsCourseOf asked planned journal trail
-    → new ≡ append_known old (output_of asked planned journal) → EndsAsked told spot asked make tree old new (outcomes.Done journal trail)
-asked_done told spot asked None tree old new planned journal trail is course written = end_done told spot asked tree old new planned journal trail is course written
-asked_done told spot asked (Some count) tree old new planned journal trail is course written =
-    subst (λ p. Ends asked old new p (outcomes.Done journal trail)) is (course, written)
-
-pub asked_front : (told : Told) (spot : Spot) (asked : Asked) (make : Option ℕ) (tree : Tree) (old new : Option (List ℕ)) (planned : Planned) (journal : List TurnLine)
-    → PlanAsked told spot asked make tree (Ok planned) → IsJournalOf asked planned journal
-    → AppendsFront old new (output_of asked planned journal) → EndsAsked told spot asked make tree old new outcomes.Write
-asked_front told spot asked None tree old new planned journal is lawful front = end_front told spot asked tree old new planned journal is lawful front
-asked_front told spot asked (Some count) tree old new planned journal is lawful front =
-    subst (λ p. Ends asked old new p outcomes.Write) is (journal, lawful, front)
+pub asked_concluded : (told : Told) (spot : Spot) (asked : Asked) (make : Option ℕ) (tree : Tree) (old new : Option (List ℕ)) (planned : Planned) (outcome : Outcome)
+    → PlanAsked told spot asked make tree (Ok planned) → Concludes asked planned old new outcome → EndsAsked told spot asked make tree old new outcome
+asked_concluded told spot asked None tree old new planned outcome is concludes = end_concluded told spot asked tree old new planned outcome is concludes
+asked_concluded told spot asked (Some count) tree old new planned outcome is concludes = subst (λ p. Ends asked old new p outcome) is concludes

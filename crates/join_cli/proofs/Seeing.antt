@@ -12,22 +12,18 @@ use Rattle.join_rows.specs.declared.table.Table.{Table}
 use Rattle.join_cli.specs.declared.reading.Tables.{Tables}
 use Rattle.join_cli.specs.declared.refusal.Refusal.{Refusal}
 use Rattle.join_cli.specs.declared.refusal.Refusal.TheVariants as refusals
-use Rattle.std.specs.Io.KnownBytes.{append_known}
-use Rattle.join_rows.specs.Sinks.{AppendsFront}
 use Rattle.theta_text.specs.Grammar.{Tree}
 use Rattle.theta_pred.specs.Formula.{Meaning}
 use Rattle.join_words.specs.Words.{Asked}
 use Rattle.join_cli.specs.declared.plan.Planned.{Planned}
+use Rattle.join_cli.specs.declared.outcome.Outcome.{Outcome}
 use Rattle.join_cli.specs.declared.outcome.Outcome.TheVariants as outcomes
 use Rattle.join_cli.specs.Columns.{theta_over}
 use Rattle.join_cli.specs.Texts.{tree_or_refused}
-use Rattle.load_controller.specs.declared.line.TurnLine.{TurnLine}
-use Rattle.join_runtime.specs.Endings.{EndsView}
-use Rattle.join_cli.specs.Courses.{IsCourseOf}
-use Rattle.join_cli.specs.Plan.{IsJournalOf, checked, fitted, or_refused, output_of, table_found, then_of}
+use Rattle.join_cli.specs.Plan.{checked, fitted, or_refused, table_found, then_of}
 use Rattle.join_cli.specs.Refusals.{file_refusal, refused_as}
 use Rattle.join_cli.specs.declared.outcome.LimitFault.TheVariants.{TooLong}
-use Rattle.join_cli.specs.Ends.{StandsPast}
+use Rattle.join_cli.specs.Ends.{Concludes, StandsPast}
 use Rattle.join_cli.specs.Seen.{BeginsWith, Ends, EndsOver, IsSeen, PlanSeen, TablesSeen}
 
 abbrev pub refused_table : TableFault → Result Table TableFault
@@ -222,22 +218,11 @@ not_refused_read refusal h e = let same : refusal ≡ refusals.Read = cc e in h 
 pub not_refused_memory : (refusal : Refusal) → (refused_as refusal ≡ outcomes.Memory → ⊥) → no_plan refusal ≡ Err refusals.Memory → ⊥
 not_refused_memory refusal h e = let same : refusal ≡ refusals.Memory = cc e in h (ap refused_as same)
 
-pub end_done : (told : Told) (spot : Spot) (asked : Asked) (tree : Tree) (old new : Option (List ℕ)) (planned : Planned) (journal : List TurnLine) (trail : List EndsView)
-    → PlanSeen told spot asked tree (Ok planned) → IsCourseOf asked planned journal trail
-    → new ≡ append_known old (output_of asked planned journal) → EndsOver told spot asked tree old new (outcomes.Done journal trail)
-end_done told spot asked tree old new planned journal trail is course written = record {
+pub end_concluded : (told : Told) (spot : Spot) (asked : Asked) (tree : Tree) (old new : Option (List ℕ)) (planned : Planned) (outcome : Outcome)
+    → PlanSeen told spot asked tree (Ok planned) → Concludes asked planned old new outcome → EndsOver told spot asked tree old new outcome
+end_concluded told spot asked tree old new planned outcome is concludes = record {
   seen_r = is.seen_r;
   seen_s = is.seen_s;
   are = is.are;
-  ends = subst (λ p. Ends asked old new p (outcomes.Done journal trail)) is.answer (course, written);
-}
-
-pub end_front : (told : Told) (spot : Spot) (asked : Asked) (tree : Tree) (old new : Option (List ℕ)) (planned : Planned) (journal : List TurnLine)
-    → PlanSeen told spot asked tree (Ok planned) → IsJournalOf asked planned journal
-    → AppendsFront old new (output_of asked planned journal) → EndsOver told spot asked tree old new outcomes.Write
-end_front told spot asked tree old new planned journal is lawful front = record {
-  seen_r = is.seen_r;
-  seen_s = is.seen_s;
-  are = is.are;
-  ends = subst (λ p. Ends asked old new p outcomes.Write) is.answer (journal, lawful, front);
+  ends = subst (λ p. Ends asked old new p outcome) is.answer concludes;
 }

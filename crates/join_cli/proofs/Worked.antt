@@ -28,7 +28,23 @@ equal_keys = txt (Col (record { side = sides.R; word = codes "k" })) Eq (Col (re
 
 -- the files `r` and `s` are joined by four joiners, without a report
 four : Asked
-four = record { on = []; k = 2; feeders = 2; workers = 4; batch = 64; feed = Alternate; fixed = None; seed = 1; replay = None; make = None; report = false; rows = false; name_r = codes "r"; name_s = codes "s" }
+four = record {
+  on = [];
+  k = 2;
+  feeders = 2;
+  workers = 4;
+  batch = 64;
+  feed = Alternate;
+  fixed = None;
+  seed = 1;
+  replay = None;
+  make = None;
+  early = false;
+  report = false;
+  rows = false;
+  name_r = codes "r";
+  name_s = codes "s";
+}
 
 -- the output of two files by a tree, or the refusal
 joined : Tree → List ℕ → List ℕ → Result (List ℕ) Refusal

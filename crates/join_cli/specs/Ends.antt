@@ -1,10 +1,8 @@
 -- How a run ends, and what it leaves.
-use Rattle.std.specs.Prelude.{◌≡◌, ◌⊎◌, ◌<◌, ◌^◌, ℕ, ⊤, List, length, Option, None, Some, Result, Ok, Err}
-use Rattle.std.specs.Io.KnownBytes.{append_known}
+use Rattle.std.specs.Prelude.{◌≡◌, ◌⊎◌, ◌<◌, ◌^◌, ℕ, ⊤, true, List, length, Option, None, Some, Result, Ok, Err}
 use Rattle.join_rows.specs.declared.table.Side.{Side}
 use Rattle.join_rows.specs.declared.table.Side.TheVariants.{R, S}
 use Rattle.join_rows.specs.Shelves.{Told, Lacks, Spot}
-use Rattle.join_rows.specs.Sinks.{AppendsFront}
 use Rattle.theta_text.specs.Grammar.{Tree}
 use Rattle.theta_text.specs.Texts.{TextReads, limits}
 use Rattle.theta_text.specs.declared.fault.PredFault.{PredFault}
@@ -12,12 +10,15 @@ use Rattle.load_controller.specs.declared.line.TurnLine.{TurnLine}
 use Rattle.join_runtime.specs.Endings.{EndsView}
 use Rattle.join_words.specs.Words.{Asked}
 use Rattle.join_cli.specs.declared.outcome.Outcome.{Outcome}
-use Rattle.join_cli.specs.declared.outcome.Outcome.TheVariants.{Done, Memory}
+use Rattle.join_cli.specs.declared.outcome.Outcome.TheVariants.{Done, Memory, Write}
 use Rattle.join_cli.specs.declared.refusal.Refusal.{Refusal}
 use Rattle.join_cli.specs.declared.plan.Planned.{Planned}
 use Rattle.join_cli.specs.Refusals.{refused_as, text_refusal}
-use Rattle.join_cli.specs.Plan.{IsJournalOf, fitted, made_tables, plan_of, output_of, tables_by}
+use Rattle.trace_law.specs.Join.{nested_loop}
+use Rattle.join_report.specs.PairLines.{pair_lines}
+use Rattle.join_cli.specs.Plan.{IsJournalOf, fitted, input_of, made_tables, plan_of, output_of, tables_by}
 use Rattle.join_cli.specs.Courses.{IsCourseOf}
+use Rattle.join_cli.specs.Early.{StoppedAt, WroteLines, WroteOutput}
 
 -- the output was written whole
 abbrev pub IsDone : Outcome → Type 0
@@ -49,19 +50,31 @@ pub record Wrote (told : Told) (asked : Asked) (journal : List TurnLine) (trail 
   pub planned : Planned
   pub found : IsAsked told asked planned
   pub course : IsCourseOf asked planned journal trail
-  pub written : new ≡ append_known old (output_of asked planned journal)
+  pub written : WroteOutput asked planned journal old new
 
--- a front of the output over some such journal was written
+-- a front of the output over some such journal was written; of early output perhaps no more than some lines
 pub record WroteFront (told : Told) (asked : Asked) (old new : Option (List ℕ)) : Type 0 where
   pub planned : Planned
   pub found : IsAsked told asked planned
-  pub journal : List TurnLine
-  pub lawful : IsJournalOf asked planned journal
-  pub front : AppendsFront old new (output_of asked planned journal)
+  pub front : StoppedAt asked.early asked planned old new
 
--- the output over each such journal is taken
-abbrev pub TakesEach : (ℕ → Type 0) → Asked → Planned → Type 0
-TakesEach takes asked planned = (journal : List TurnLine) → IsJournalOf asked planned journal → takes (length (output_of asked planned journal))
+-- nothing was written, or early output had begun
+pub record WroteSoFar (told : Told) (asked : Asked) (old new : Option (List ℕ)) : Type 0 where
+  pub planned : Planned
+  pub found : IsAsked told asked planned
+  pub lines : WroteLines asked.early asked planned old new
+
+-- how a plan that is carried out ends, and what it leaves
+abbrev pub Concludes : Asked → Planned → Option (List ℕ) → Option (List ℕ) → Outcome → Type 0
+Concludes asked planned old new (Done journal trail) = IsCourseOf asked planned journal trail × WroteOutput asked planned journal old new
+Concludes asked planned old new Write = StoppedAt asked.early asked planned old new
+Concludes asked planned old new Memory = WroteLines asked.early asked planned old new
+Concludes asked planned old new outcome = ⊥
+
+-- the output over each such journal is taken, and early the lines of all pairs alone
+pub record TakesEach (takes : ℕ → Type 0) (asked : Asked) (planned : Planned) : Type 0 where
+  pub each : (journal : List TurnLine) → IsJournalOf asked planned journal → takes (length (output_of asked planned journal))
+  pub early : asked.early ≡ true → takes (length (pair_lines (nested_loop (input_of asked.seed planned))))
 
 -- one of the two names isn't there
 abbrev pub LacksOne : Told → Asked → Type 0

@@ -5,5 +5,6 @@ pub mod Columns
 pub mod Numbers
 pub mod Plan
 pub mod Courses
+pub mod Early
 pub mod Ends
 pub mod Seen

@@ -153,9 +153,13 @@ answer_of None false input = pair_lines (nested_loop input)
 answer_of None true input = row_lines input.table_r.rows input.table_s.rows (nested_loop input)
 answer_of (Some count) rows input = summary_of (row_count input R) (row_count input S) (nested_loop input)
 
--- and then the report where one is asked for
+-- the report where one is asked for
+abbrev pub report_asked : Bool → Input → Setting → List TurnLine → List ℕ
+report_asked report input setting journal = if report then report_over input setting journal else []
+
+-- the answer, and then the report
 abbrev pub text_of : Asked → Input → Setting → List TurnLine → List ℕ
-text_of asked input setting journal = answer_of asked.make asked.rows input ++ (if asked.report then report_over input setting journal else [])
+text_of asked input setting journal = answer_of asked.make asked.rows input ++ report_asked asked.report input setting journal
 
 -- the output that is asked for of a plan, over a journal
 abbrev pub output_of : Asked → Planned → List TurnLine → List ℕ

@@ -1,22 +1,18 @@
 -- What was read of the two files, whatever the shelf tells of them.
 use Rattle.std.specs.Prelude.{◌≡◌, ◌^◌, ◌+◌, ℕ, List, length, take, Option, None, Some, Result, Ok, Err, MatchResult}
-use Rattle.std.specs.Io.KnownBytes.{append_known}
 use Rattle.join_rows.specs.Records.{table_of}
 use Rattle.join_rows.specs.Shelves.{Spot, Tells, Told}
-use Rattle.join_rows.specs.Sinks.{AppendsFront}
 use Rattle.join_rows.specs.declared.table.Side.{Side}
 use Rattle.join_rows.specs.declared.table.Table.{Table}
 use Rattle.theta_text.specs.Grammar.{Tree}
-use Rattle.load_controller.specs.declared.line.TurnLine.{TurnLine}
 use Rattle.join_words.specs.Words.{Asked}
 use Rattle.join_cli.specs.declared.outcome.Outcome.{Outcome}
-use Rattle.join_cli.specs.declared.outcome.Outcome.TheVariants.{Done, Write}
 use Rattle.join_cli.specs.declared.reading.Tables.{Tables}
 use Rattle.join_cli.specs.declared.plan.Planned.{Planned}
 use Rattle.join_cli.specs.declared.refusal.Refusal.{Refusal}
 use Rattle.join_cli.specs.Refusals.{refused_as}
-use Rattle.join_cli.specs.Courses.{IsCourseOf}
-use Rattle.join_cli.specs.Plan.{IsJournalOf, fitted, made_tables, output_of, table_found, tables_in, then_of}
+use Rattle.join_cli.specs.Ends.{Concludes}
+use Rattle.join_cli.specs.Plan.{fitted, made_tables, table_found, tables_in, then_of}
 
 -- a told file begins with these bytes, and they are all of it or one more than the limit
 abbrev pub BeginsWith : Told → List ℕ → List ℕ → Type 0
@@ -62,12 +58,9 @@ abbrev pub PlanAsked : Told → Spot → Asked → Option ℕ → Tree → Resul
 PlanAsked told spot asked None tree result = PlanSeen told spot asked tree result
 PlanAsked told spot asked (Some count) tree result = result ≡ fitted tree (made_tables count)
 
--- a plan was carried out, and its output over a lawful controller's journal written whole or in part, or it was refused and
--- nothing written
+-- a plan was carried out, or it was refused and nothing written
 abbrev pub Ends : Asked → Option (List ℕ) → Option (List ℕ) → Result Planned Refusal → Outcome → Type 0
-Ends asked old new (Ok planned) (Done journal trail) = IsCourseOf asked planned journal trail × (new ≡ append_known old (output_of asked planned journal))
-Ends asked old new (Ok planned) Write = (journal : List TurnLine) × IsJournalOf asked planned journal × AppendsFront old new (output_of asked planned journal)
-Ends asked old new (Ok planned) outcome = ⊥
+Ends asked old new (Ok planned) outcome = Concludes asked planned old new outcome
 Ends asked old new (Err refusal) outcome = (outcome ≡ refused_as refusal) × (new ≡ old)
 
 -- a run ends as what it has read of the two files says

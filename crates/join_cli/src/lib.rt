@@ -2,6 +2,8 @@
 #![tactic(auto)]
 
 mod columns;
+mod conclude;
+mod early;
 mod laws;
 mod numbers;
 mod outcome;

@@ -63,7 +63,7 @@ pub enum Outcome {
     Read,
     /// The output couldn't be written whole.
     Write,
-    /// Memory ran out before anything was written.
+    /// Memory ran out before anything was written, unless pairs were wanted early.
     Memory,
 }
 

@@ -1,6 +1,6 @@
 // What the program does with the outcome.
 
-ghost use Rattle.std.specs.Prelude.{◌≡◌, ◌≢◌, ◌⊎◌, ◌<◌, ℕ, List, Result, Ok, Err, map, string_bytes};
+ghost use Rattle.std.specs.Prelude.{◌≡◌, ◌≢◌, ◌⊎◌, ◌<◌, ℕ, List, Result, Ok, Err, false, map, string_bytes};
 ghost use Rattle.std.specs.Process.{exit_status};
 ghost use Rattle.join_rows.specs.Shelves.{last_fault};
 ghost use Rattle.load_controller.specs.declared.line.TurnLine.{TurnLine};
@@ -70,7 +70,9 @@ pub fn jm_main<R: Threads + Wait + Sync, H: Shelf, K: Sink, E: Sink, G: Gate>(
     ensures read { (asked : Asked) → asked_of (map string_bytes words.now) ≡ Ok asked → result ≡ Outcome.Read
         → (H.faults shelf.old < H.faults shelf.new) ⊎ LacksOne (H.told shelf.old) asked }
     ensures write { result ≡ Outcome.Write → K.faults sink.old < K.faults sink.new }
-    ensures nothing { (IsDone result → ⊥) → result ≢ Outcome.Write → sink.new ≡ sink.old }
+    ensures spared { (asked : Asked) → asked_of (map string_bytes words.now) ≡ Ok asked → asked.early ≡ false
+        → result ≡ Outcome.Memory → sink.new ≡ sink.old }
+    ensures nothing { (IsDone result → ⊥) → result ≢ Outcome.Write → result ≢ Outcome.Memory → sink.new ≡ sink.old }
     ensures quiet { IsDone result → errors.new ≡ errors.old }
 {
     let outcome = join_main(rt, alloc, words, shelf, sink, gate);

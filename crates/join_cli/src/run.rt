@@ -5,7 +5,7 @@ ghost use Rattle.trace_law.specs.Validity.{IsValidInput, IsValidSetting};
 ghost use Rattle.join_words.specs.Words.{asked};
 ghost use Rattle.trace_law.specs.Runs.{IsRunOf};
 ghost use Rattle.trace_law.specs.Join.{nested_loop};
-ghost use Rattle.join_cli.specs.Plan.{IsFit, answer_of, input_of, output_of, setting_of, text_of, tickets_of};
+ghost use Rattle.join_cli.specs.Plan.{IsFit, answer_of, input_of, output_of, report_asked, setting_of, text_of, tickets_of};
 ghost use Rattle.join_cli.specs.Courses.{IsCourseOf, IsReplayed, IsRunInThreads, WentAs};
 
 use crate::plan::Planned;
@@ -31,7 +31,7 @@ pub(crate) struct Joined {
 }
 
 /// The setting that the options ask for.
-fn setting(options: &Options<'_>) -> Setting
+pub(crate) fn setting(options: &Options<'_>) -> Setting
     requires small { options.now.k ≤ 6 }
     requires feeders { (1 ≤ options.now.feeders) × (options.now.feeders ≤ 8) }
     requires workers { (1 ≤ options.now.workers) × (options.now.workers ≤ 16) }
@@ -68,7 +68,7 @@ fn drawn(alloc: Global, seed: u64, side: Side, table: &Table) -> Result<Bytes, A
 }
 
 /// What is joined, with the tickets of a seed.
-fn input(alloc: Global, seed: u64, planned: Planned) -> Result<Input, AllocError>
+pub(crate) fn input(alloc: Global, seed: u64, planned: Planned) -> Result<Input, AllocError>
     requires { IsFit planned }
     ensures is { IfOk result (λ input. input ≡ input_of seed planned) }
     ensures valid { IfOk result IsValidInput }
@@ -113,6 +113,27 @@ fn answer(
     }
 }
 
+/// The report where one is asked for, and else no bytes.
+pub(crate) fn report(
+    alloc: Global,
+    options: &Options<'_>,
+    input: &Input,
+    setting: &Setting,
+    run: &Run,
+) -> Result<Bytes, AllocError>
+    requires input { IsValidInput input.now }
+    requires setting { IsValidSetting setting.now }
+    requires run { IsRunOf input.now setting.now run.now.journal run.now }
+    ensures { IfOk result (λ lines. lines ≡ report_asked options.now.report input.now setting.now run.now.journal) }
+{
+    if !options.report {
+        return Ok(Bytes::new(alloc));
+    }
+    let rows_r = input.table_r.rows.len();
+    let rows_s = input.table_s.rows.len();
+    Ok(bytes_of(report_text(alloc, setting, rows_r, rows_s, run)?))
+}
+
 /// The text of the pairs, and then the report where one is asked for.
 fn text(
     alloc: Global,
@@ -127,20 +148,16 @@ fn text(
     ensures { IfOk result (λ text. text ≡ text_of (asked options.now) input.now setting.now run.now.journal) }
 {
     let mut text = answer(alloc, options, input, run.pairs.as_slice())?;
-    if options.report {
-        let rows_r = input.table_r.rows.len();
-        let rows_s = input.table_s.rows.len();
-        let lines = report_text(alloc, setting, rows_r, rows_s, run)?;
-        text.append(lines.as_bytes())?;
-    }
+    let report = report(alloc, options, input, setting, run)?;
+    text.append(report.as_slice())?;
     Ok(text)
 }
 
 /// A run, and what its seats left.
 #[derive(Drop)]
-struct Course {
-    run: Run,
-    trail: Trail,
+pub(crate) struct Course {
+    pub(crate) run: Run,
+    pub(crate) trail: Trail,
 }
 
 /// A replay with this number.

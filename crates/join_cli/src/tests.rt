@@ -6,6 +6,7 @@ use std::thread::Threads;
 use worker_gate::NoGate;
 
 mod calls;
+mod early;
 mod faults;
 mod made;
 mod replays;

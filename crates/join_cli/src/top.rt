@@ -1,6 +1,6 @@
 // The top call.
 
-ghost use Rattle.std.specs.Prelude.{◌≡◌, ◌≢◌, ◌⊎◌, ◌<◌, ◌≤◌, ℕ, List, Option, Some, Result, Ok, Err, IfSome, map, string_bytes};
+ghost use Rattle.std.specs.Prelude.{◌≡◌, ◌≢◌, ◌⊎◌, ◌<◌, ◌≤◌, ℕ, List, Option, None, Some, Result, Ok, Err, true, false, IfSome, map, string_bytes};
 ghost use Rattle.join_rows.specs.Shelves.{last_fault};
 ghost use Rattle.join_rows.specs.declared.table.Side.{Side};
 ghost use Rattle.load_controller.specs.declared.line.TurnLine.{TurnLine};
@@ -16,16 +16,15 @@ ghost use Rattle.join_cli.specs.Texts.{IsRead, IsTrueOf};
 ghost use Rattle.join_cli.specs.declared.plan.Planned.{Planned};
 ghost use Rattle.join_cli.specs.Plan.{plan_of};
 ghost use Rattle.join_cli.specs.Seen.{EndsAsked};
-ghost use Rattle.join_cli.specs.Ends.{EndsAs, EndsEarly, IsDone, LacksOne, StandsPast, TakesEach, Wrote, WroteFront, name_of};
+ghost use Rattle.join_cli.specs.Ends.{EndsAs, EndsEarly, IsDone, LacksOne, StandsPast, TakesEach, Wrote, WroteFront, WroteSoFar, name_of};
 
+use crate::conclude::conclude;
 use crate::outcome::{LimitFault, Outcome};
 use crate::plan::prepare;
 use crate::refusal::refused;
-use crate::run::{Joined, output};
-use join_report::put_all;
-use join_rows::{Failed, Shelf, Sink};
+use join_rows::{Shelf, Sink};
 use join_words::{Options, WordsError, read_words};
-use std::alloc::{AllocError, Global};
+use std::alloc::Global;
 use std::sync::Wait;
 use std::thread::Threads;
 use worker_gate::Gate;
@@ -47,6 +46,7 @@ fn join_files<R: Threads + Wait + Sync, H: Shelf, K: Sink, G: Gate>(
     requires batch { (1 ≤ options.now.batch) × (options.now.batch ≤ 4096) }
     requires fits { IfSome options.now.fixed (λ fixed. fixed ≤ options.now.k) }
     requires make { IfSome options.now.make (λ count. (1 ≤ count) × (count ≤ 65536)) }
+    requires alone { options.now.early ≡ true → (options.now.replay ≡ None) × (options.now.make ≡ None) × (options.now.rows ≡ false) }
     ensures words { (fault : WordsFault) → result ≢ Outcome.Words fault }
     ensures early { (fault : PredFault) → IsFaultOf limits options.now.on.now fault
         → EndsEarly fault result × (shelf.new ≡ shelf.old) }
@@ -67,7 +67,10 @@ fn join_files<R: Threads + Wait + Sync, H: Shelf, K: Sink, G: Gate>(
         → Wrote (H.told shelf.old) (asked options.now) journal trail (K.written sink.old) (K.written sink.new) }
     ensures front { result ≡ Outcome.Write
         → WroteFront (H.told shelf.old) (asked options.now) (K.written sink.old) (K.written sink.new) }
-    ensures nothing { (IsDone result → ⊥) → result ≢ Outcome.Write → sink.new ≡ sink.old }
+    ensures memory { result ≡ Outcome.Memory → (K.written sink.new ≡ K.written sink.old)
+        ⊎ WroteSoFar (H.told shelf.old) (asked options.now) (K.written sink.old) (K.written sink.new) }
+    ensures spared { options.now.early ≡ false → result ≡ Outcome.Memory → sink.new ≡ sink.old }
+    ensures nothing { (IsDone result → ⊥) → result ≢ Outcome.Write → result ≢ Outcome.Memory → sink.new ≡ sink.old }
     ensures text { (fault : TextFault) → result ≡ Outcome.Predicate fault
         → IsTrueOf options.now.on.now fault }
     ensures long { (side : Side) → result ≡ Outcome.Limit (LimitFault.TooLong side)
@@ -79,28 +82,16 @@ fn join_files<R: Threads + Wait + Sync, H: Shelf, K: Sink, G: Gate>(
     ensures sink_counts { result ≢ Outcome.Write → K.faults sink.new ≡ K.faults sink.old }
     ensures told { H.told shelf.new ≡ H.told shelf.old }
 {
-    let planned = match prepare(alloc, options, shelf) {
-        Ok(planned) => planned,
-        Err(refusal) => return refused(refusal),
-    };
-    let Joined {
-        text,
-        journal,
-        trail,
-    } = match output(rt, alloc, options, planned, gate) {
-        Ok(joined) => joined,
-        Err(AllocError) => return Outcome::Memory,
-    };
-    match put_all(sink, text.as_slice()) {
-        Ok(()) => Outcome::Done { journal, trail },
-        Err(Failed) => Outcome::Write,
+    match prepare(alloc, options, shelf) {
+        Ok(planned) => conclude(rt, alloc, options, planned, sink, gate),
+        Err(refusal) => refused(refusal),
     }
 }
 
 /// Runs `jm` with these words, the program's name first. The first of these that applies is
 /// answered: the words, the text of the predicate, the file of R, the file of S, the columns, the
 /// numbers of R and then of S; then the join is run and its output made whole, and then it is written.
-/// Memory may run out at each of them. The run is one in as many threads as there are workers, whose seats pass the gate
+/// Early output is written while the join is run. Memory may run out at each of them. The run is one in as many threads as there are workers, whose seats pass the gate
 /// at each turn, or a replay in one thread. What it promises holds if it returns.
 pub fn join_main<R: Threads + Wait + Sync, H: Shelf, K: Sink, G: Gate>(
     rt: &R,
@@ -139,7 +130,12 @@ pub fn join_main<R: Threads + Wait + Sync, H: Shelf, K: Sink, G: Gate>(
         × Wrote (H.told shelf.old) asked journal trail (K.written sink.old) (K.written sink.new) }
     ensures front { result ≡ Outcome.Write → (asked : Asked) × (asked_of (map string_bytes words.now) ≡ Ok asked)
         × WroteFront (H.told shelf.old) asked (K.written sink.old) (K.written sink.new) }
-    ensures nothing { (IsDone result → ⊥) → result ≢ Outcome.Write → sink.new ≡ sink.old }
+    ensures memory { (asked : Asked) → asked_of (map string_bytes words.now) ≡ Ok asked → result ≡ Outcome.Memory
+        → (K.written sink.new ≡ K.written sink.old)
+        ⊎ WroteSoFar (H.told shelf.old) asked (K.written sink.old) (K.written sink.new) }
+    ensures spared { (asked : Asked) → asked_of (map string_bytes words.now) ≡ Ok asked → asked.early ≡ false
+        → result ≡ Outcome.Memory → sink.new ≡ sink.old }
+    ensures nothing { (IsDone result → ⊥) → result ≢ Outcome.Write → result ≢ Outcome.Memory → sink.new ≡ sink.old }
     ensures text { (asked : Asked) (fault : TextFault) → asked_of (map string_bytes words.now) ≡ Ok asked
         → result ≡ Outcome.Predicate fault → IsTrueOf asked.on fault }
     ensures long { (asked : Asked) (side : Side) → asked_of (map string_bytes words.now) ≡ Ok asked

@@ -1,7 +1,7 @@
 use Rattle.std.proofs.Common.{◌≤◌, ◌^◌, length, arith}
 use Rattle.join_rows.specs.declared.table.Side.TheVariants.{R, S}
 use Rattle.join_cli.proofs.Reports.{few_steps, shifts_fit}
-use Rattle.join_cli.proofs.run.text.Goals as goal
+use Rattle.join_cli.proofs.run.report.Goals as goal
 
 pub report_text-requires-clause-shifts : goal.report_text-requires-clause-shifts
 report_text-requires-clause-shifts c = shifts_fit c.args.input.now c.args.setting.now c.args.run.now.journal c.args.run.now c.requires.setting c.requires.run

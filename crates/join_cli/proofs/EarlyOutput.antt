@@ -1,0 +1,136 @@
+-- What early output has written, from the lines of the pairs to the report.
+use Rattle.std.proofs.Common.{◌≡◌, ◌∙◌, ◌+◌, ◌⊎◌, inl, inr, ℕ, Bool, true, false, List, [], ◌++◌, append_assoc, length, length-append, take, arith, Option, None, Some, refl, sym, ap, subst}
+use Rattle.std.specs.Prelude.{IsPermutation}
+use Rattle.std.specs.Io.KnownBytes.{append_known}
+use Rattle.std.proofs.Math.Seq.{take-append-add}
+use Rattle.epoch_tags.specs.declared.tuple.Pair.{Pair}
+use Rattle.join_rows.specs.Sinks.{AppendsFront}
+use Rattle.trace_law.specs.declared.input.Input.{Input}
+use Rattle.trace_law.specs.declared.run.Run.{Run}
+use Rattle.trace_law.specs.declared.setting.Setting.{Setting}
+use Rattle.trace_law.specs.Join.{nested_loop}
+use Rattle.trace_law.specs.Runs.{IsRunOf}
+use Rattle.join_report.specs.PairLines.{pair_lines}
+use Rattle.load_controller.specs.declared.line.TurnLine.{TurnLine}
+use Rattle.join_runtime.specs.Early.{WroteEach, WroteSome}
+use Rattle.join_words.specs.Words.{Asked}
+use Rattle.join_cli.specs.declared.plan.Planned.{Planned}
+use Rattle.join_cli.specs.Early.{CutFound, IsFoundText, IsOutput, PutFound, PutPart, StoppedAt, TakesFound, WroteLines, WroteOutput}
+use Rattle.join_cli.specs.Ends.{TakesEach}
+use Rattle.join_cli.specs.Plan.{IsJournalOf, answer_of, input_of, output_of, report_asked, setting_of}
+use Rattle.join_report.proofs.Pieces.{known-none}
+use Rattle.join_cli.proofs.Inputs.{journal_of_run}
+
+-- bytes, and more behind them
+behind : (known : Option (List ℕ)) (xs ys : List ℕ) → append_known (append_known known xs) ys ≡ append_known known (xs ++ ys)
+behind None xs ys = refl
+behind (Some bytes) xs ys = ap Some (append_assoc bytes xs ys)
+
+front_behind : (old middle new : Option (List ℕ)) (xs ys : List ℕ) → middle ≡ append_known old xs → AppendsFront middle new ys → AppendsFront old new (xs ++ ys)
+front_behind old middle new xs ys is (n, front) = (
+  length xs + n,
+  front ∙ ap (λ m. append_known m (take n ys)) is ∙ behind old xs (take n ys) ∙ ap (append_known old) (sym (take-append-add xs ys n)),
+)
+
+-- the lines of a run's pairs are those of the nested loop's, in another order
+reordered : (input : Input) (setting : Setting) (run : Run) (order : List Pair) → IsRunOf input setting run.journal run → IsPermutation run.pairs order
+    → IsPermutation (nested_loop input) order
+reordered input setting run order is each = subst (λ pairs. IsPermutation pairs order) is.pairs each
+
+pub put_whole : (report : Bool) (input : Input) (setting : Setting) (run : Run) (old middle new : Option (List ℕ)) → IsRunOf input setting run.journal run
+    → WroteEach run.pairs old middle → new ≡ append_known middle (report_asked report input setting run.journal) → PutFound report input setting run.journal old new
+put_whole report input setting run old middle new is_run wrote more =
+    let lines = report_asked report input setting run.journal in
+    record {
+      text = pair_lines wrote.order ++ lines;
+      is = record { found = wrote.order; all = reordered input setting run wrote.order is_run wrote.each; is = refl };
+      written = more ∙ ap (λ m. append_known m lines) wrote.written ∙ behind old (pair_lines wrote.order) lines;
+    }
+
+pub put_cut : (report : Bool) (input : Input) (setting : Setting) (run : Run) (old middle new : Option (List ℕ)) → IsRunOf input setting run.journal run
+    → WroteEach run.pairs old middle → AppendsFront middle new (report_asked report input setting run.journal) → CutFound report input setting old new
+put_cut report input setting run old middle new is_run wrote front =
+    let lines = report_asked report input setting run.journal in
+    record {
+      run = run;
+      is_run = is_run;
+      text = pair_lines wrote.order ++ lines;
+      is = record { found = wrote.order; all = reordered input setting run wrote.order is_run wrote.each; is = refl };
+      front = front_behind old middle new (pair_lines wrote.order) lines wrote.written front;
+    }
+
+-- nothing was written
+pub none_written : (input : Input) (old : Option (List ℕ)) → WroteSome input old old
+none_written input old = record { pairs = []; right = record { sums = λ f. omega arith }; front = (0, sym (known-none old)) }
+
+-- ---- by what is asked for
+
+same_output : (asked : Asked) (planned : Planned) (input : Input) (setting : Setting) (journal : List TurnLine) (text : List ℕ)
+    → input ≡ input_of asked.seed planned → setting ≡ setting_of asked → asked.early ≡ true
+    → IsFoundText asked.report input setting journal text → IsOutput asked.early asked planned journal text
+same_output asked planned input setting journal text input_is setting_is early is =
+    subst (λ e. IsOutput e asked planned journal text) (sym early)
+    (subst (λ i. IsFoundText asked.report i (setting_of asked) journal text) input_is (subst (λ s. IsFoundText asked.report input s journal text) setting_is is))
+
+pub early_written : (asked : Asked) (planned : Planned) (input : Input) (setting : Setting) (journal : List TurnLine) (old new : Option (List ℕ))
+    → input ≡ input_of asked.seed planned → setting ≡ setting_of asked → asked.early ≡ true
+    → PutFound asked.report input setting journal old new → WroteOutput asked planned journal old new
+early_written asked planned input setting journal old new input_is setting_is early put =
+    record { text = put.text; output = same_output asked planned input setting journal put.text input_is setting_is early put.is; written = put.written }
+
+pub early_lines : (asked : Asked) (planned : Planned) (input : Input) (old new : Option (List ℕ)) → input ≡ input_of asked.seed planned → asked.early ≡ true
+    → WroteSome input old new → WroteLines asked.early asked planned old new
+early_lines asked planned input old new input_is early some = rw early (subst (λ i. WroteSome i old new) input_is some)
+
+pub early_stopped : (asked : Asked) (planned : Planned) (input : Input) (setting : Setting) (old new : Option (List ℕ))
+    → input ≡ input_of asked.seed planned → setting ≡ setting_of asked → asked.early ≡ true
+    → PutPart asked.report input setting old new → StoppedAt asked.early asked planned old new
+early_stopped asked planned input setting old new input_is setting_is early put = subst (λ e. StoppedAt e asked planned old new) (sym early) (elim put [
+  | inl some ↦ inl (subst (λ i. WroteSome i old new) input_is some)
+  | inr cut ↦ inr (record {
+    journal = cut.run.journal;
+    lawful = journal_of_run asked planned input setting cut.run input_is setting_is cut.is_run;
+    text = cut.text;
+    output = same_output asked planned input setting cut.run.journal cut.text input_is setting_is early cut.is;
+    front = cut.front;
+  })
+])
+
+pub early_takes : (takes : ℕ → Type 0) (asked : Asked) (planned : Planned) (input : Input) (setting : Setting)
+    → input ≡ input_of asked.seed planned → setting ≡ setting_of asked → asked.early ≡ true → asked.make ≡ None → asked.rows ≡ false
+    → TakesEach takes asked planned → TakesFound takes asked.report input setting
+early_takes takes asked planned input setting input_is setting_is early make rows each =
+    let lines = pair_lines (nested_loop (input_of asked.seed planned)) in
+    let of : Input → Setting → List TurnLine → List ℕ = λ i s journal. report_asked asked.report i s journal in
+    record {
+      lines = subst (λ i. takes (length (pair_lines (nested_loop i)) + 0)) (sym input_is) (subst takes (plus_none (length lines)) (each.early early));
+      each = λ run is.
+          let lawful = journal_of_run asked planned input setting run input_is setting_is is in
+          let same : output_of asked planned run.journal ≡ lines ++ of (input_of asked.seed planned) (setting_of asked) run.journal =
+          ap (λ m. answer_of m asked.rows (input_of asked.seed planned) ++ of (input_of asked.seed planned) (setting_of asked) run.journal) make
+          ∙ ap (λ r. answer_of None r (input_of asked.seed planned) ++ of (input_of asked.seed planned) (setting_of asked) run.journal) rows in
+          subst (λ i. takes (length (pair_lines (nested_loop i)) + (length (of i setting run.journal) + 0))) (sym input_is)
+          (subst (λ s. takes (length lines + (length (of (input_of asked.seed planned) s run.journal) + 0))) (sym setting_is)
+          (subst takes (ap length same ∙ two_parts lines (of (input_of asked.seed planned) (setting_of asked) run.journal)) (each.each run.journal lawful)));
+    }
+  where
+    plus_none : (n : ℕ) → n ≡ n + 0
+    plus_none n = omega arith
+
+    two_parts : (xs ys : List ℕ) → length (xs ++ ys) ≡ length xs + (length ys + 0)
+    two_parts xs ys = omega (arith, length-append xs ys)
+
+-- ---- an output that was made whole
+
+pub whole_written : (asked : Asked) (planned : Planned) (journal : List TurnLine) (text : List ℕ) (old new : Option (List ℕ)) → asked.early ≡ false
+    → text ≡ output_of asked planned journal → new ≡ append_known old text → WroteOutput asked planned journal old new
+whole_written asked planned journal text old new whole is written = record { text = text; output = subst (λ e. IsOutput e asked planned journal text) (sym whole) is; written = written }
+
+pub whole_stopped : (asked : Asked) (planned : Planned) (journal : List TurnLine) (text : List ℕ) (old new : Option (List ℕ)) → asked.early ≡ false
+    → IsJournalOf asked planned journal → text ≡ output_of asked planned journal → AppendsFront old new text → StoppedAt asked.early asked planned old new
+whole_stopped asked planned journal text old new whole lawful is front =
+    subst (λ e. StoppedAt e asked planned old new) (sym whole)
+    (record { journal = journal; lawful = lawful; text = text; output = subst (λ e. IsOutput e asked planned journal text) (sym whole) is; front = front })
+
+pub whole_lines : (asked : Asked) (planned : Planned) (old new : Option (List ℕ)) → asked.early ≡ false → new ≡ old → WroteLines asked.early asked planned old new
+whole_lines asked planned old new whole same = rw whole same

@@ -1,0 +1,77 @@
+-- What early output writes, while the run goes on.
+use Rattle.std.specs.Prelude.{◌≡◌, ◌⊎◌, ◌++◌, ◌+◌, ℕ, Bool, true, false, List, length, Option, IsPermutation}
+use Rattle.std.specs.Io.KnownBytes.{append_known}
+use Rattle.epoch_tags.specs.declared.tuple.Pair.{Pair}
+use Rattle.join_rows.specs.Sinks.{AppendsFront}
+use Rattle.trace_law.specs.declared.input.Input.{Input}
+use Rattle.trace_law.specs.declared.run.Run.{Run}
+use Rattle.trace_law.specs.declared.setting.Setting.{Setting}
+use Rattle.trace_law.specs.Join.{nested_loop}
+use Rattle.trace_law.specs.Runs.{IsRunOf}
+use Rattle.load_controller.specs.declared.line.TurnLine.{TurnLine}
+use Rattle.join_report.specs.PairLines.{pair_lines}
+use Rattle.join_runtime.specs.Early.{WroteSome}
+use Rattle.join_words.specs.Words.{Asked}
+use Rattle.join_cli.specs.declared.plan.Planned.{Planned}
+use Rattle.join_cli.specs.Plan.{IsJournalOf, input_of, output_of, report_asked, setting_of}
+
+-- the lines of the nested loop's pairs, each once in the order in which they were found, and then the report where one is asked
+-- for
+pub record IsFoundText (report : Bool) (input : Input) (setting : Setting) (journal : List TurnLine) (text : List ℕ) : Type 0 where
+  pub found : List Pair
+  pub all : IsPermutation (nested_loop input) found
+  pub is : text ≡ pair_lines found ++ report_asked report input setting journal
+
+-- it was written
+pub record PutFound (report : Bool) (input : Input) (setting : Setting) (journal : List TurnLine) (old new : Option (List ℕ)) : Type 0 where
+  pub text : List ℕ
+  pub is : IsFoundText report input setting journal text
+  pub written : new ≡ append_known old text
+
+-- a front of it was, over the journal of a run
+pub record CutFound (report : Bool) (input : Input) (setting : Setting) (old new : Option (List ℕ)) : Type 0 where
+  pub run : Run
+  pub is_run : IsRunOf input setting run.journal run
+  pub text : List ℕ
+  pub is : IsFoundText report input setting run.journal text
+  pub front : AppendsFront old new text
+
+-- a put failed: some lines were written, or a front of the whole
+abbrev pub PutPart : Bool → Input → Setting → Option (List ℕ) → Option (List ℕ) → Type 0
+PutPart report input setting old new = WroteSome input old new ⊎ CutFound report input setting old new
+
+-- the lines of all pairs are taken, and the report behind them
+pub record TakesFound (takes : ℕ → Type 0) (report : Bool) (input : Input) (setting : Setting) : Type 0 where
+  pub lines : takes (length (pair_lines (nested_loop input)) + 0)
+  pub each : (run : Run) → IsRunOf input setting run.journal run
+      → takes (length (pair_lines (nested_loop input)) + (length (report_asked report input setting run.journal) + 0))
+
+-- the text of an output: early, of what was found, and else the one that is asked for
+abbrev pub IsOutput : Bool → Asked → Planned → List TurnLine → List ℕ → Type 0
+IsOutput false asked planned journal text = text ≡ output_of asked planned journal
+IsOutput true asked planned journal text = IsFoundText asked.report (input_of asked.seed planned) (setting_of asked) journal text
+
+-- the output over this journal was written
+pub record WroteOutput (asked : Asked) (planned : Planned) (journal : List TurnLine) (old new : Option (List ℕ)) : Type 0 where
+  pub text : List ℕ
+  pub output : IsOutput asked.early asked planned journal text
+  pub written : new ≡ append_known old text
+
+-- a front of the output over some journal of a lawful controller was
+pub record WroteCut (asked : Asked) (planned : Planned) (old new : Option (List ℕ)) : Type 0 where
+  pub journal : List TurnLine
+  pub lawful : IsJournalOf asked planned journal
+  pub text : List ℕ
+  pub output : IsOutput asked.early asked planned journal text
+  pub front : AppendsFront old new text
+
+-- nothing was written, but for early output, which may have written a front of the lines of some of the nested loop's pairs,
+-- none twice
+abbrev pub WroteLines : Bool → Asked → Planned → Option (List ℕ) → Option (List ℕ) → Type 0
+WroteLines false asked planned old new = new ≡ old
+WroteLines true asked planned old new = WroteSome (input_of asked.seed planned) old new
+
+-- where a put failed: a front of the output, or such lines
+abbrev pub StoppedAt : Bool → Asked → Planned → Option (List ℕ) → Option (List ℕ) → Type 0
+StoppedAt false asked planned old new = WroteCut asked planned old new
+StoppedAt true asked planned old new = WroteLines true asked planned old new ⊎ WroteCut asked planned old new

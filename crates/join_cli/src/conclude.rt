@@ -1,0 +1,125 @@
+// Carrying out a plan: its run, and the writing of the output.
+
+ghost use Rattle.std.specs.Prelude.{◌≡◌, ◌≢◌, ◌⊎◌, ◌<◌, ◌≤◌, None, true, false, IfSome};
+ghost use Rattle.join_rows.specs.Shelves.{last_fault};
+ghost use Rattle.join_words.specs.Words.{asked};
+ghost use Rattle.join_cli.specs.Plan.{IsFit};
+ghost use Rattle.join_cli.specs.Ends.{Concludes, IsDone, TakesEach};
+
+use crate::early::put_found;
+use crate::outcome::Outcome;
+use crate::plan::Planned;
+use crate::run::{Course, Joined, input, output, setting};
+use join_report::put_all;
+use join_rows::{Failed, Sink};
+use join_runtime::EarlyFault;
+use join_words::Options;
+use std::alloc::{AllocError, Global};
+use std::sync::Wait;
+use std::thread::Threads;
+use worker_gate::Gate;
+
+/// Makes the output whole, and then writes it.
+fn conclude_whole<R: Threads + Wait + Sync, K: Sink, G: Gate>(
+    rt: &R,
+    alloc: Global,
+    options: &Options<'_>,
+    planned: Planned,
+    sink: &mut K,
+    gate: &G,
+) -> Outcome
+    requires fit { IsFit planned }
+    requires sink { K.faults sink.old < last_fault }
+    requires small { options.now.k ≤ 6 }
+    requires feeders { (1 ≤ options.now.feeders) × (options.now.feeders ≤ 8) }
+    requires workers { (1 ≤ options.now.workers) × (options.now.workers ≤ 16) }
+    requires batch { (1 ≤ options.now.batch) × (options.now.batch ≤ 4096) }
+    requires fits { IfSome options.now.fixed (λ fixed. fixed ≤ options.now.k) }
+    requires whole { options.now.early ≡ false }
+    ensures ends { Concludes (asked options.now) planned (K.written sink.old) (K.written sink.new) result }
+    ensures nothing { result ≡ Outcome.Memory → sink.new ≡ sink.old }
+    ensures counts { result ≢ Outcome.Write → K.faults sink.new ≡ K.faults sink.old }
+    ensures fails { result ≡ Outcome.Write → K.faults sink.old < K.faults sink.new }
+    ensures complete { TakesEach (K.takes sink.old) (asked options.now) planned → IsDone result ⊎ (result ≡ Outcome.Memory) }
+{
+    let Joined {
+        text,
+        journal,
+        trail,
+    } = match output(rt, alloc, options, planned, gate) {
+        Ok(joined) => joined,
+        Err(AllocError) => return Outcome::Memory,
+    };
+    match put_all(sink, text.as_slice()) {
+        Ok(()) => Outcome::Done { journal, trail },
+        Err(Failed) => Outcome::Write,
+    }
+}
+
+/// Writes the lines of the pairs as they are found.
+fn conclude_early<R: Threads + Wait + Sync, K: Sink, G: Gate>(
+    rt: &R,
+    alloc: Global,
+    options: &Options<'_>,
+    planned: Planned,
+    sink: &mut K,
+    gate: &G,
+) -> Outcome
+    requires fit { IsFit planned }
+    requires sink { K.faults sink.old < last_fault }
+    requires small { options.now.k ≤ 6 }
+    requires feeders { (1 ≤ options.now.feeders) × (options.now.feeders ≤ 8) }
+    requires workers { (1 ≤ options.now.workers) × (options.now.workers ≤ 16) }
+    requires batch { (1 ≤ options.now.batch) × (options.now.batch ≤ 4096) }
+    requires fits { IfSome options.now.fixed (λ fixed. fixed ≤ options.now.k) }
+    requires early { options.now.early ≡ true }
+    requires alone { (options.now.replay ≡ None) × (options.now.make ≡ None) × (options.now.rows ≡ false) }
+    ensures ends { Concludes (asked options.now) planned (K.written sink.old) (K.written sink.new) result }
+    ensures counts { result ≢ Outcome.Write → K.faults sink.new ≡ K.faults sink.old }
+    ensures fails { result ≡ Outcome.Write → K.faults sink.old < K.faults sink.new }
+    ensures complete { TakesEach (K.takes sink.old) (asked options.now) planned → IsDone result ⊎ (result ≡ Outcome.Memory) }
+{
+    let setting = setting(options);
+    let input = match input(alloc, options.seed, planned) {
+        Ok(input) => input,
+        Err(AllocError) => return Outcome::Memory,
+    };
+    match put_found(rt, alloc, options, &input, &setting, gate, sink) {
+        Ok(Course { run, trail }) => Outcome::Done {
+            journal: run.journal,
+            trail,
+        },
+        Err(EarlyFault::Write) => Outcome::Write,
+        Err(EarlyFault::Memory) => Outcome::Memory,
+    }
+}
+
+/// Carries a plan out: the output is made whole and then written, or early, pair by pair. What it promises holds if it returns.
+pub(crate) fn conclude<R: Threads + Wait + Sync, K: Sink, G: Gate>(
+    rt: &R,
+    alloc: Global,
+    options: &Options<'_>,
+    planned: Planned,
+    sink: &mut K,
+    gate: &G,
+) -> Outcome
+    requires fit { IsFit planned }
+    requires sink { K.faults sink.old < last_fault }
+    requires small { options.now.k ≤ 6 }
+    requires feeders { (1 ≤ options.now.feeders) × (options.now.feeders ≤ 8) }
+    requires workers { (1 ≤ options.now.workers) × (options.now.workers ≤ 16) }
+    requires batch { (1 ≤ options.now.batch) × (options.now.batch ≤ 4096) }
+    requires fits { IfSome options.now.fixed (λ fixed. fixed ≤ options.now.k) }
+    requires alone { options.now.early ≡ true → (options.now.replay ≡ None) × (options.now.make ≡ None) × (options.now.rows ≡ false) }
+    ensures ends { Concludes (asked options.now) planned (K.written sink.old) (K.written sink.new) result }
+    ensures nothing { options.now.early ≡ false → result ≡ Outcome.Memory → sink.new ≡ sink.old }
+    ensures counts { result ≢ Outcome.Write → K.faults sink.new ≡ K.faults sink.old }
+    ensures fails { result ≡ Outcome.Write → K.faults sink.old < K.faults sink.new }
+    ensures complete { TakesEach (K.takes sink.old) (asked options.now) planned → IsDone result ⊎ (result ≡ Outcome.Memory) }
+{
+    if options.early {
+        conclude_early(rt, alloc, options, planned, sink, gate)
+    } else {
+        conclude_whole(rt, alloc, options, planned, sink, gate)
+    }
+}
