@@ -1,6 +1,6 @@
--- A replay's events are those that its lists count, and so they are few.
-use Rattle.std.proofs.Common.{◌≡◌, ℕ, ◌+◌, ◌-◌, ◌^◌, ◌≤◌, min, sym, subst, Some, List, ◌∷◌, ◌++◌, Result, Ok, Err, arith}
-use Rattle.std.specs.Prelude.{IfOk}
+-- A world's events are those that its lists count, and so they are few.
+use Rattle.std.proofs.Common.{◌≡◌, ℕ, ◌+◌, ◌≤◌, sym, subst, Option, Some, List, ◌∷◌, ◌++◌, Result, Ok, Err, arith}
+use Rattle.std.specs.Prelude.{IfOk, IfSome}
 use Rattle.std.specs.declared.alloc.AllocError.{AllocError}
 use Rattle.epoch_tags.specs.declared.actor.Actor.{Actor}
 use Rattle.epoch_tags.specs.declared.actor.Actor.TheVariants.{Feeder, Controller}
@@ -10,6 +10,7 @@ use Rattle.trace_law.specs.declared.input.Input.{Input}
 use Rattle.trace_law.specs.declared.setting.Setting.{Setting}
 use Rattle.trace_law.specs.declared.run.Run.{Run}
 use Rattle.trace_law.specs.Validity.{IsValidInput, IsValidSetting, IsValid}
+use Rattle.trace_law.specs.Runs.{IsRunOf}
 use Rattle.trace_law.specs.Laws.{EventsAreFew}
 use Rattle.link_trace.specs.declared.machines.Core.{Core}
 use Rattle.link_trace.specs.declared.slots.Slot.{Slot}
@@ -17,10 +18,18 @@ use Rattle.link_trace.specs.declared.slots.Slot.TheVariants.{Begin, Link}
 use Rattle.link_trace.specs.Lists.{ActorLists, Took, Began, no_lists}
 use Rattle.link_trace.specs.Families.{journal_of, family_of, after_event}
 use Rattle.link_trace.specs.Worlds.{WorldState, StandsFor, MakesEvent, Delivers, core_of}
-use Rattle.link_trace.specs.Order.{Happens, Replays, start, event, lost, slots_of, most_events}
+use Rattle.link_trace.specs.Order.{Happens, most_events}
 use Rattle.link_trace.proofs.Counting.{count, AreLinked, took_counts, began_counts, linked_after, left_linked}
 use Rattle.link_trace.proofs.Finishing.{agree}
-use Rattle.link_trace.proofs.Replaying.{valid_both}
+
+pub valid_both : (input : Input) (setting : Setting) → IsValidInput input → IsValidSetting setting → IsValid input setting
+valid_both input setting of_input of_setting = record {
+  of_input = of_input;
+  small = let few = of_setting.joiners in omega arith;
+  some = let some = of_setting.some_feeders in omega arith;
+  batch = let some = of_setting.some_rows in omega arith;
+  fixed = λ shift is. subst (λ (o : Option ℕ). IfSome o (λ s. s ≤ setting.k)) is of_setting.fixed;
+}
 
 -- it stands for lists of this input and setting, whose messages go over links, and which count so many events at least
 pub record IsCounted (input : Input) (setting : Setting) (w : WorldState) (n : ℕ) : Type 0 where
@@ -65,12 +74,6 @@ module _ (input : Input) (setting : Setting) where
   pub none_counted : (w : WorldState) → StandsFor input setting w (λ actor. no_lists) → IsCounted input setting w 0
   none_counted w stands = record { lists = λ actor. no_lists; stands = stands; linked = λ from to. tt; enough = omega arith }
 
-  replays_count : (slots : List Slot) (seed : ℕ) (first : WorldState) (drawn events : ℕ) (w : WorldState) → Replays slots seed first drawn events w → IsCounted input setting first 0 → IsCounted input setting w events
-  replays_count slots seed first _ _ _ start before = before
-  replays_count slots seed first _ _ _ (event {events = events} {old = old} {new = new} earlier goes made) before =
-      slot_counted made.slot events old new made.happens (replays_count slots seed first _ events old earlier before)
-  replays_count slots seed first _ _ _ (lost {events = events} {old = old} earlier goes idle) before = replays_count slots seed first _ events old earlier before
-
   pub few_events : EventsAreFew → IsValid input setting → (w : WorldState) (n : ℕ) → IsCounted input setting w n → (journal : List TurnLine)
       → ((core : Core) → core_of w Controller ≡ Some core → journal ≡ journal_of core) → n ≤ most_events input setting (last_epoch journal)
   few_events few valid w n counted journal told =
@@ -80,16 +83,21 @@ module _ (input : Input) (setting : Setting) where
       let enough = counted.enough in
       omega arith
 
--- ---- of a replay
+-- ---- of a run of a world
 
-module _ (input : Input) (setting : Setting) (seed counted : ℕ) (w : WorldState) where
-  pub bounded : EventsAreFew → IsValidInput input → IsValidSetting setting → (first : WorldState) (drawn events : ℕ) → StandsFor input setting first (λ actor. no_lists)
-      → Replays (slots_of setting) seed first drawn events w → counted ≡ min events (2 ^ 64 - 1) → (result : Result Run AllocError)
+-- what a world that made so many events answers
+module _ (input : Input) (setting : Setting) (w : WorldState) (events : ℕ) (reached : IsCounted input setting w events) (of_input : IsValidInput input) (of_setting : IsValidSetting setting) where
+  pub run_answers : (result : Result Run AllocError)
+      → IfOk result (λ run. (input' : Input) (setting' : Setting) (lists : Actor → ActorLists) → IsValid input' setting' → StandsFor input' setting' w lists → IsRunOf input' setting' run.journal run)
+      → IfOk result (λ run. IsRunOf input setting run.journal run)
+  run_answers (Ok run) is = is input setting reached.lists (valid_both input setting of_input of_setting) reached.stands
+  run_answers (Err e) is = tt
+
+  pub run_bounded : EventsAreFew → (result : Result Run AllocError)
       → IfOk result (λ run. (input' : Input) (setting' : Setting) (lists : Actor → ActorLists) → StandsFor input' setting' w lists
       → (core : Core) → core_of w Controller ≡ Some core → run.journal ≡ journal_of core)
-      → IfOk result (λ run. run.bouts ≡ counted) → IfOk result (λ run. run.bouts ≤ most_events input setting (last_epoch run.journal))
-  bounded few of_input of_setting first drawn events fresh replays is (Ok run) journal bouts =
-      let reached = replays_count input setting (slots_of setting) seed first drawn events w replays (none_counted input setting first fresh) in
+      → IfOk result (λ run. run.bouts ≡ events) → IfOk result (λ run. run.bouts ≤ most_events input setting (last_epoch run.journal))
+  run_bounded few (Ok run) journal bouts =
       let most = few_events input setting few (valid_both input setting of_input of_setting) w events reached run.journal (journal input setting reached.lists reached.stands) in
-      omega arith
-  bounded few of_input of_setting first drawn events fresh replays is (Err e) journal bouts = tt
+      subst (λ n. n ≤ most_events input setting (last_epoch run.journal)) (sym bouts) most
+  run_bounded few (Err e) journal bouts = tt

@@ -1,5 +1,6 @@
 -- The typed family of machines that stand for their lists agrees, and is finished where their work is over.
-use Rattle.std.proofs.Common.{◌≡◌, ℕ, ◌<◌, ◌^◌, ltb, ltb-true, lt-ltb, true≢false, refl, sym, ap, ◌∙◌, Bool, true, false, Option, List, [], filter_map}
+use Rattle.std.proofs.Common.{◌≡◌, ℕ, ◌<◌, ◌^◌, ltb, ltb-true, lt-ltb, true≢false, refl, sym, ap, subst, ◌∙◌, Bool, true, false, Option, List, [], filter_map}
+use Rattle.std.proofs.Math.Bridge.{le_prop}
 use Rattle.std.proofs.lemmas.List.Elements.{filter_map-append}
 use Rattle.join_rows.specs.Lists.{IsPrefix}
 use Rattle.epoch_tags.specs.declared.actor.Actor.{Actor}
@@ -17,7 +18,7 @@ use Rattle.trace_law.specs.declared.input.Input.{Input}
 use Rattle.trace_law.specs.declared.setting.Setting.{Setting}
 use Rattle.trace_law.specs.Family.{IsAgreeing, IsFinished, feeder_start, joiner_start, rules_of, first_line}
 use Rattle.link_trace.specs.Lists.{ActorLists, feeder_lists, joiner_lists, controller_lists, collector_lists}
-use Rattle.link_trace.specs.Standing.{OfFeeder, OfJoiner, OfController, OfCollector, Stands, IsOver}
+use Rattle.link_trace.specs.Standing.{OfFeeder, OfJoiner, OfController, OfCollector, Stands, IsOver, GoesOn}
 use Rattle.link_trace.specs.Families.{AreFronts, IsActor, start_for, family_of, journal_of}
 use Rattle.link_trace.specs.declared.machines.Core.{Core}
 use Rattle.link_trace.specs.declared.machines.Core.TheVariants.{Feeder as TheFeeder, Joiner as TheJoiner, Controller as TheController, Collector as TheCollector}
@@ -25,16 +26,16 @@ use Rattle.link_trace.specs.declared.machines.Core.TheVariants.{Feeder as TheFee
 -- ---- the laws, read off
 
 pub feeder_law : (p feeders : ℕ) (s : FeederStart) (ls : ActorLists) (core : Core) → Stands (OfFeeder p feeders s) ls core
-    → (taken : List ToFeeder) × FeederLaw s (feeder_lists ls) taken × (IsOver core → 0 < stops taken)
-feeder_law p feeders s ls (TheFeeder f) st = (st.taken, st.law, λ over. st.stopped.0 over)
+    → (taken : List ToFeeder) × FeederLaw s (feeder_lists ls) taken × (IsOver core → 0 < stops taken) × (0 < stops taken → ¬ GoesOn core)
+feeder_law p feeders s ls (TheFeeder f) st = (st.taken, st.law, (λ over. st.stopped.0 over), (λ stopped goes. true≢false (sym (st.stopped.1 stopped) ∙ goes)))
 feeder_law p feeders s ls (TheJoiner j) st = absurd st
 feeder_law p feeders s ls (TheController c) st = absurd st
 feeder_law p feeders s ls (TheCollector c) st = absurd st
 
 pub joiner_law : (s : JoinerStart) (ls : ActorLists) (core : Core) → Stands (OfJoiner s) ls core
-    → (taken : Taken) × JoinerLaw s (joiner_lists ls) taken × (IsOver core → IsFinishedJoiner s (joiner_lists ls) taken)
+    → (taken : Taken) × JoinerLaw s (joiner_lists ls) taken × (IsOver core → IsFinishedJoiner s (joiner_lists ls) taken) × (IsFinishedJoiner s (joiner_lists ls) taken → ¬ GoesOn core)
 joiner_law s ls (TheFeeder f) st = absurd st
-joiner_law s ls (TheJoiner j) st = (st.taken, st.law, λ over. over s (joiner_lists ls) st)
+joiner_law s ls (TheJoiner j) st = (st.taken, st.law, (λ over. over s (joiner_lists ls) st), (λ finished goes. goes s (joiner_lists ls) st finished))
 joiner_law s ls (TheController c) st = absurd st
 joiner_law s ls (TheCollector c) st = absurd st
 
@@ -44,11 +45,23 @@ controller_law s ls (TheJoiner j) st = absurd st
 controller_law s ls (TheController c) st = st.law
 controller_law s ls (TheCollector c) st = absurd st
 
+controller_goes : (s : ControllerStart) (ls : ActorLists) (core : Core) → Stands (OfController s) ls core → ¬ GoesOn core
+controller_goes s ls (TheFeeder f) st = absurd st
+controller_goes s ls (TheJoiner j) st = absurd st
+controller_goes s ls (TheController c) st = λ goes. goes
+controller_goes s ls (TheCollector c) st = absurd st
+
 pub collector_over : (n : ℕ) (ls : ActorLists) (core : Core) → Stands (OfCollector n) ls core → IsOver core → IsComplete n (collector_lists ls)
 collector_over n ls (TheFeeder f) st = absurd st
 collector_over n ls (TheJoiner j) st = absurd st
 collector_over n ls (TheController c) st = absurd st
 collector_over n ls (TheCollector c) st = λ over. (complete_says n (collector_lists ls) c st).0 over
+
+collector_goes : (n : ℕ) (ls : ActorLists) (core : Core) → Stands (OfCollector n) ls core → IsComplete n (collector_lists ls) → ¬ GoesOn core
+collector_goes n ls (TheFeeder f) st = absurd st
+collector_goes n ls (TheJoiner j) st = absurd st
+collector_goes n ls (TheController c) st = absurd st
+collector_goes n ls (TheCollector c) st = λ all goes. true≢false (sym ((complete_says n (collector_lists ls) c st).1 all) ∙ goes)
 
 -- ---- one choice for each index below n
 
@@ -76,14 +89,29 @@ read_front kind front whole prefix =
 -- the machines of a run, each standing for its actor's lists; where W holds, their work is over
 module _ (input : Input) (setting : Setting) (f : Actor → ActorLists) (cores : (a : Actor) → IsActor setting a → (core : Core) × Stands (start_for input setting a) (f a) core) (fronts : AreFronts f)
     (W : Type 0) (over : W → (a : Actor) (is : IsActor setting a) → IsOver (cores a is).0) where
-  feeders : (taken : ℕ → List ToFeeder) × ((p : ℕ) → p < setting.feeders → FeederLaw (feeder_start input setting p) (feeder_lists (f (Feeder p))) (taken p) × (W → 0 < stops (taken p)))
-  feeders = choice (λ p taken. FeederLaw (feeder_start input setting p) (feeder_lists (f (Feeder p))) taken × (W → 0 < stops taken)) setting.feeders []
-      (λ p low. let law = feeder_law p setting.feeders (feeder_start input setting p) (f (Feeder p)) (cores (Feeder p) low).0 (cores (Feeder p) low).1 in (law.0, (law.1, λ w. law.2 (over w (Feeder p) low))))
+  abbrev feeder_took : ℕ → List ToFeeder → Type 0
+  feeder_took p taken =
+      FeederLaw (feeder_start input setting p) (feeder_lists (f (Feeder p))) taken × (W → 0 < stops taken)
+      × ((is : p < setting.feeders) → 0 < stops taken → ¬ GoesOn (cores (Feeder p) is).0)
 
-  joiners : (taken : ℕ → Taken) × ((j : ℕ) → j < 2 ^ setting.k → JoinerLaw (joiner_start input setting j) (joiner_lists (f (Joiner j))) (taken j) × (W → IsFinishedJoiner (joiner_start input setting j) (joiner_lists (f (Joiner j))) (taken j)))
-  joiners = choice (λ j taken. JoinerLaw (joiner_start input setting j) (joiner_lists (f (Joiner j))) taken × (W → IsFinishedJoiner (joiner_start input setting j) (joiner_lists (f (Joiner j))) taken)) (2 ^ setting.k)
-      (record { from_feeder = λ p. []; from_joiner = λ q. []; shift_at = λ e. 0 })
-      (λ j low. let law = joiner_law (joiner_start input setting j) (f (Joiner j)) (cores (Joiner j) low).0 (cores (Joiner j) low).1 in (law.0, (law.1, λ w. law.2 (over w (Joiner j) low))))
+  feeders : (taken : ℕ → List ToFeeder) × ((p : ℕ) → p < setting.feeders → feeder_took p (taken p))
+  feeders = choice feeder_took setting.feeders [] (λ p low.
+      let law = feeder_law p setting.feeders (feeder_start input setting p) (f (Feeder p)) (cores (Feeder p) low).0 (cores (Feeder p) low).1 in (
+        law.0,
+        (law.1, (λ w. law.2 (over w (Feeder p) low)), (λ is stopped. subst (λ (l : p < setting.feeders). ¬ GoesOn (cores (Feeder p) l).0) (le_prop low is) (law.3 stopped))),
+      ))
+
+  abbrev joiner_took : ℕ → Taken → Type 0
+  joiner_took j taken =
+      JoinerLaw (joiner_start input setting j) (joiner_lists (f (Joiner j))) taken × (W → IsFinishedJoiner (joiner_start input setting j) (joiner_lists (f (Joiner j))) taken)
+      × ((is : j < 2 ^ setting.k) → IsFinishedJoiner (joiner_start input setting j) (joiner_lists (f (Joiner j))) taken → ¬ GoesOn (cores (Joiner j) is).0)
+
+  joiners : (taken : ℕ → Taken) × ((j : ℕ) → j < 2 ^ setting.k → joiner_took j (taken j))
+  joiners = choice joiner_took (2 ^ setting.k) (record { from_feeder = λ p. []; from_joiner = λ q. []; shift_at = λ e. 0 }) (λ j low.
+      let law = joiner_law (joiner_start input setting j) (f (Joiner j)) (cores (Joiner j) low).0 (cores (Joiner j) low).1 in (
+        law.0,
+        (law.1, (λ w. law.2 (over w (Joiner j) low)), (λ is finished. subst (λ (l : j < 2 ^ setting.k). ¬ GoesOn (cores (Joiner j) l).0) (le_prop low is) (law.3 finished))),
+      ))
 
   pub agrees : IsAgreeing input setting (family_of (journal_of (cores Controller tt).0) f)
   agrees = record {
@@ -107,3 +135,11 @@ module _ (input : Input) (setting : Setting) (f : Actor → ActorLists) (cores :
     joiners = λ j low. (joiners.1 j low).1 w;
     collector = collector_over (2 ^ setting.k) (f Collector) (cores Collector tt).0 (cores Collector tt).1 (over w Collector tt);
   }
+
+  -- where the family is finished, the work of none goes on
+  pub none_goes : IsFinished input setting (family_of (journal_of (cores Controller tt).0) f) agrees → (a : Actor) (is : IsActor setting a) → ¬ GoesOn (cores a is).0
+  unfolding agrees
+  none_goes finished (Feeder p) is = (feeders.1 p is).2 is (finished.feeders p is)
+  none_goes finished (Joiner j) is = (joiners.1 j is).2 is (finished.joiners j is)
+  none_goes finished Controller is = controller_goes (record { rules = rules_of setting; first = first_line setting }) (f Controller) (cores Controller is).0 (cores Controller is).1
+  none_goes finished Collector is = collector_goes (2 ^ setting.k) (f Collector) (cores Collector is).0 (cores Collector is).1 finished.collector

@@ -1,4 +1,4 @@
--- What the marks of a replay keep, and what it has made so far.
+-- What the marks of a replay keep.
 use Rattle.std.proofs.Common.{◌≡◌, ℕ, zero, suc, ◌+◌, ◌<◌, ◌≤◌, refl, sym, ap, subst, ◌∙◌, Bool, true, false, true≢false, inl, inr, List, [], ◌∷◌, length, set, ◌≢◌, Some, arith}
 use Rattle.std.specs.Prelude.{slice_get}
 use Rattle.std.proofs.lemmas.Bool.{cases_eq}
@@ -6,18 +6,13 @@ use Rattle.std.proofs.lemmas.List.{length-set}
 use Rattle.std.proofs.lemmas.Option.{slice_get_within}
 use Rattle.epoch_tags.specs.declared.actor.Actor.{Actor}
 use Rattle.epoch_tags.specs.declared.actor.Actor.TheVariants.{Feeder}
-use Rattle.trace_law.specs.declared.input.Input.{Input}
-use Rattle.trace_law.specs.declared.setting.Setting.{Setting}
 use Rattle.link_trace.specs.declared.slots.Slot.{Slot}
 use Rattle.link_trace.specs.declared.slots.Slot.TheVariants.{Begin, Link}
-use Rattle.link_trace.specs.Lists.{ActorLists, Cause, Took, Began, same_actor}
-use Rattle.link_trace.specs.Families.{after_event}
-use Rattle.link_trace.specs.Worlds.{WorldState, StandsFor, MakesEvent, KeepsOthers}
-use Rattle.link_trace.specs.Order.{IsIdle, Happens, Replays, start, event, lost}
+use Rattle.link_trace.specs.Lists.{same_actor}
+use Rattle.link_trace.specs.Worlds.{WorldState, KeepsOthers}
+use Rattle.link_trace.specs.Order.{IsIdle, Happens}
 use Rattle.link_trace.specs.Marks.{filler_of, maker_of, AreMarked, IsMarkedFor}
 use Rattle.link_trace.proofs.OwnNumbers.{some_is}
-
--- ---- marks
 
 stays_idle : (self : Actor) (old new : WorldState) → KeepsOthers self old new → (slot : Slot) → same_actor self (filler_of slot) ≡ false → IsIdle old slot → IsIdle new slot
 stays_idle self old new keeps (Begin p) other idle = λ core is. idle core (sym (keeps.machines (Feeder p) other) ∙ is)
@@ -97,26 +92,3 @@ all_passed actor slots old new done all below = record {
   was = below.was;
   other = λ n slot is none. below.other n slot (let low = slice_get_within slots n slot is in omega arith) is none;
 }
-
--- ---- what was reached
-
--- it stands for some lists of this input and setting
-pub record IsReached (input : Input) (setting : Setting) (w : WorldState) : Type 0 where
-  pub lists : Actor → ActorLists
-  pub stands : StandsFor input setting w lists
-
-module _ (input : Input) (setting : Setting) where
-  event_leads : (self : Actor) (cause : Cause) (old new : WorldState) → MakesEvent self cause old new → IsReached input setting old → IsReached input setting new
-  event_leads self cause old new made reached = record {
-    lists = after_event self cause made.posts reached.lists;
-    stands = made.stands input setting reached.lists reached.stands;
-  }
-
-  slot_leads : (slot : Slot) (old new : WorldState) → Happens slot old new → IsReached input setting old → IsReached input setting new
-  slot_leads (Begin p) old new happens reached = event_leads (Feeder p) Began old new happens.1 reached
-  slot_leads (Link from to) old new happens reached = event_leads to (Took from happens.m) old new happens.event reached
-
-  pub replays_reach : (slots : List Slot) (seed : ℕ) (first : WorldState) (drawn events : ℕ) (w : WorldState) → Replays slots seed first drawn events w → IsReached input setting first → IsReached input setting w
-  replays_reach slots seed first _ _ _ start reached = reached
-  replays_reach slots seed first _ _ _ (event {old = old} {new = new} before goes made) reached = slot_leads made.slot old new made.happens (replays_reach slots seed first _ _ old before reached)
-  replays_reach slots seed first _ _ _ (lost {old = old} before goes idle) reached = replays_reach slots seed first _ _ old before reached

@@ -1,7 +1,7 @@
 -- The number of an actor is its own.
-use Rattle.std.proofs.Common.{◌≡◌, ℕ, ◌+◌, ◌-◌, ◌==◌, ◌<◌, ◌^◌, ltb, eqb-true, eq-eqb, ne_eqb, true≢false, refl, sym, ap, subst, ◌∙◌, Bool, true, false, cond, Some, None, arith}
+use Rattle.std.proofs.Common.{◌≡◌, ◌≢◌, ℕ, ◌+◌, ◌-◌, ◌==◌, ◌<◌, ◌≤◌, ◌^◌, ltb, eqb-true, eq-eqb, ne_eqb, true≢false, refl, sym, ap, subst, ◌∙◌, Bool, true, false, cond, Some, None, arith}
 use Rattle.std.specs.Option.{is_none}
-use Rattle.std.proofs.lemmas.Bool.{lt-ltb, le-ltb, ltb-true}
+use Rattle.std.proofs.lemmas.Bool.{lt-ltb, le-ltb, ltb-true, ltb-false}
 use Rattle.epoch_tags.specs.declared.actor.Actor.{Actor}
 use Rattle.epoch_tags.specs.declared.actor.Actor.TheVariants.{Feeder, Joiner, Controller, Collector}
 use Rattle.trace_law.specs.declared.setting.Setting.{Setting}
@@ -72,6 +72,29 @@ module _ (joiners feeders : ℕ) where
           let is = eqb-true i k d in
           let same : a ≡ b = sym (number_actor a i at) ∙ (ap (actor_at joiners feeders) is ∙ number_actor b k at') in
           absurd (true≢false (sym (same_self b) ∙ subst (λ z. same_actor z b ≡ false) same e))
+
+-- the number of the actor at a place is that place
+pub number_there : (joiners feeders n : ℕ) → n < feeders + joiners + 2 → number joiners feeders (actor_at joiners feeders n) ≡ Some n
+number_there joiners feeders n low = first (ltb n feeders) refl
+  where
+    last : (d : Bool) → (n == feeders + joiners) ≡ d → feeders + joiners ≤ n → number joiners feeders (cond d Controller Collector) ≡ Some n
+    last true e high = ap Some (sym (eqb-true n (feeders + joiners) e))
+    last false e high =
+        let other : n ≢ feeders + joiners = λ is. true≢false (sym (eq-eqb n (feeders + joiners) is) ∙ e) in
+        let is : feeders + joiners + 1 ≡ n = omega arith in
+        ap Some is
+
+    second : (c : Bool) → ltb n (feeders + joiners) ≡ c → feeders ≤ n → number joiners feeders (cond c (Joiner (n - feeders)) (cond (n == feeders + joiners) Controller Collector)) ≡ Some n
+    second true e high =
+        let under = ltb-true n (feeders + joiners) e in
+        let low' : n - feeders < joiners = omega arith in
+        let is : feeders + (n - feeders) ≡ n = omega arith in
+        ap (λ b. cond b (Some (feeders + (n - feeders))) None) (lt-ltb (n - feeders) joiners low') ∙ ap Some is
+    second false e high = last (n == feeders + joiners) refl (ltb-false n (feeders + joiners) e)
+
+    first : (b : Bool) → ltb n feeders ≡ b → number joiners feeders (cond b (Feeder n) (cond (ltb n (feeders + joiners)) (Joiner (n - feeders)) (cond (n == feeders + joiners) Controller Collector))) ≡ Some n
+    first true e = ap (λ b. cond b (Some n) None) e
+    first false e = second (ltb n (feeders + joiners)) refl (ltb-false n feeders e)
 
 -- ---- what has a number is one of the run's actors
 

@@ -1,27 +1,24 @@
--- A run in which one actor is served last: its events, and its answer.
-use Rattle.std.proofs.Common.{◌≡◌, ℕ, ◌+◌, ◌≤◌, sym, subst, inl, inr, Bool, true, Some, List, Result, Ok, Err, arith}
+-- The loop of a run in which one actor is served last: what it has made so far, and its answer.
+use Rattle.std.proofs.Common.{◌≡◌, ℕ, ◌+◌, refl, sym, ap, subst, ◌∙◌, inl, inr, Bool, true, false, Some, List, length, Result, Ok, Err, arith}
 use Rattle.std.specs.Prelude.{IfOk, slice_get}
 use Rattle.std.proofs.lemmas.Bool.{cases_eq}
 use Rattle.std.specs.declared.alloc.AllocError.{AllocError}
 use Rattle.epoch_tags.specs.declared.actor.Actor.{Actor}
 use Rattle.epoch_tags.specs.declared.actor.Actor.TheVariants.{Controller}
-use Rattle.load_controller.specs.Journal.{last_epoch}
 use Rattle.trace_law.specs.declared.input.Input.{Input}
 use Rattle.trace_law.specs.declared.setting.Setting.{Setting}
 use Rattle.trace_law.specs.declared.run.Run.{Run}
-use Rattle.trace_law.specs.Validity.{IsValidInput, IsValidSetting, IsValid}
-use Rattle.trace_law.specs.Runs.{IsRunOf}
-use Rattle.trace_law.specs.Laws.{EventsAreFew}
 use Rattle.link_trace.specs.declared.machines.Core.{Core}
 use Rattle.link_trace.specs.declared.slots.Slot.{Slot}
 use Rattle.link_trace.specs.Lists.{ActorLists, no_lists}
-use Rattle.link_trace.specs.Standing.{IsOver}
+use Rattle.link_trace.specs.Standing.{GoesOn, IsOver}
 use Rattle.link_trace.specs.Families.{journal_of}
-use Rattle.link_trace.specs.Worlds.{WorldState, StandsFor, IsAllAt, core_of}
-use Rattle.link_trace.specs.Order.{IsIdle, Happens, slots_of, most_events}
+use Rattle.link_trace.specs.Worlds.{WorldState, StandsFor, IsAllAt, IsSomeAt, core_of}
+use Rattle.link_trace.specs.Order.{IsIdle, Happens, slots_of}
+use Rattle.link_trace.specs.Marks.{AreMarked}
 use Rattle.link_trace.specs.Starving.{may_go, AreIdleBelow, MakesStarving, Starves, IsStarvingReplay, start, event}
-use Rattle.link_trace.proofs.Bounds.{IsCounted, slot_counted, none_counted, few_events}
-use Rattle.link_trace.proofs.Replaying.{valid_both}
+use Rattle.link_trace.proofs.Bounds.{IsCounted, none_counted, slot_counted}
+use Rattle.link_trace.proofs.Replaying.{all_unsure}
 
 -- one slot more has no event
 pub idle_more : (all : Bool) (starved : Actor) (slots : List Slot) (place : ℕ) (w : WorldState) → AreIdleBelow all starved slots place w
@@ -35,42 +32,48 @@ starving_happens : (starved : Actor) (slots : List Slot) (old new : WorldState) 
 starving_happens starved slots old new (inl least) = (least.slot, least.happens)
 starving_happens starved slots old new (inr (idle, least)) = (least.slot, least.happens)
 
-module _ (input : Input) (setting : Setting) where
-  starves_count : (slots : List Slot) (starved : Actor) (first : WorldState) (events : ℕ) (w : WorldState) → Starves slots starved first events w → IsCounted input setting first 0 → IsCounted input setting w events
-  starves_count slots starved first _ _ start before = before
-  starves_count slots starved first _ _ (event {events = events} {old = old} {new = new} earlier goes made) before =
-      let one = starving_happens starved slots old new made in
-      slot_counted input setting one.0 events old new one.1 (starves_count slots starved first events old earlier before)
+-- so far: the events made, marks that are sound, and lists that count the events
+pub record IsServedSo (input : Input) (setting : Setting) (starved : Actor) (marks : List Bool) (events : ℕ) (w : WorldState) : Type 0 where
+  pub first : WorldState
+  pub fresh : StandsFor input setting first (λ actor. no_lists)
+  pub starves : Starves (slots_of setting) starved first events w
+  pub marked : AreMarked (slots_of setting) marks w
+  pub counted : IsCounted input setting w events
 
-  module _ (starved : Actor) (first w : WorldState) (events : ℕ) (fresh : StandsFor input setting first (λ actor. no_lists)) (starves : Starves (slots_of setting) starved first events w) where
-    reached : IsCounted input setting w events
-    reached = starves_count (slots_of setting) starved first events w starves (none_counted input setting first fresh)
+pub begins : (input : Input) (setting : Setting) (starved : Actor) (marks : List Bool) (slots : List Slot) (w : WorldState) → StandsFor input setting w (λ actor. no_lists)
+    → slots ≡ slots_of setting → length marks ≡ length slots → ((n : ℕ) → ¬ (slice_get marks n ≡ Some false)) → IsServedSo input setting starved marks 0 w
+begins input setting starved marks slots w fresh is long all = record {
+  first = w;
+  fresh = fresh;
+  starves = start;
+  marked = all_unsure (slots_of setting) marks w (long ∙ ap length is) all;
+  counted = none_counted input setting w fresh;
+}
 
-    pub starved_answers : (result : Result Run AllocError) → IsValidInput input → IsValidSetting setting
-        → IfOk result (λ run. (input' : Input) (setting' : Setting) (lists : Actor → ActorLists) → IsValid input' setting' → StandsFor input' setting' w lists → IsRunOf input' setting' run.journal run)
-        → IfOk result (λ run. IsRunOf input setting run.journal run)
-    starved_answers (Ok run) of_input of_setting is = is input setting reached.lists (valid_both input setting of_input of_setting) reached.stands
-    starved_answers (Err e) of_input of_setting is = tt
-
-    pub starved_order : (result : Result Run AllocError) → IsAllAt IsOver w.cores
-        → IfOk result (λ run. (input' : Input) (setting' : Setting) (lists : Actor → ActorLists) → StandsFor input' setting' w lists
-        → (core : Core) → core_of w Controller ≡ Some core → run.journal ≡ journal_of core)
-        → IfOk result (λ run. run.bouts ≡ events) → IfOk result (λ run. IsStarvingReplay input setting starved run)
-    starved_order (Ok run) over journal bouts = record {
-      first = first;
-      last = w;
-      fresh = fresh;
-      starves = subst (λ n. Starves (slots_of setting) starved first n w) (sym bouts) starves;
-      over = over;
-      journal = journal input setting reached.lists reached.stands;
+pub goes_on : (input : Input) (setting : Setting) (starved : Actor) (marks marks' : List Bool) (events : ℕ) (w w' : WorldState) → IsServedSo input setting starved marks events w
+    → (slots : List Slot) → slots ≡ slots_of setting → IsSomeAt GoesOn w.cores → AreMarked slots marks' w' → MakesStarving starved slots w w'
+    → IsServedSo input setting starved marks' (events + 1) w'
+goes_on input setting starved marks marks' events w w' so slots is goes marked made =
+    let one = starving_happens starved slots w w' made in
+    record {
+      first = so.first;
+      fresh = so.fresh;
+      starves = event so.starves goes (subst (λ s. MakesStarving starved s w w') is made);
+      marked = subst (λ s. AreMarked s marks' w') is marked;
+      counted = slot_counted input setting one.0 events w w' one.1 so.counted;
     }
-    starved_order (Err e) over journal bouts = tt
 
-    pub starved_bound : EventsAreFew → IsValidInput input → IsValidSetting setting → (result : Result Run AllocError)
-        → IfOk result (λ run. (input' : Input) (setting' : Setting) (lists : Actor → ActorLists) → StandsFor input' setting' w lists
-        → (core : Core) → core_of w Controller ≡ Some core → run.journal ≡ journal_of core)
-        → IfOk result (λ run. run.bouts ≡ events) → IfOk result (λ run. run.bouts ≤ most_events input setting (last_epoch run.journal))
-    starved_bound few of_input of_setting (Ok run) journal bouts =
-        let most = few_events input setting few (valid_both input setting of_input of_setting) w events reached run.journal (journal input setting reached.lists reached.stands) in
-        subst (λ n. n ≤ most_events input setting (last_epoch run.journal)) (sym bouts) most
-    starved_bound few of_input of_setting (Err e) journal bouts = tt
+pub starved_order : (input : Input) (setting : Setting) (starved : Actor) (marks : List Bool) (events : ℕ) (w : WorldState) → IsServedSo input setting starved marks events w
+    → (result : Result Run AllocError) → IsAllAt IsOver w.cores
+    → IfOk result (λ run. (input' : Input) (setting' : Setting) (lists : Actor → ActorLists) → StandsFor input' setting' w lists
+    → (core : Core) → core_of w Controller ≡ Some core → run.journal ≡ journal_of core)
+    → IfOk result (λ run. run.bouts ≡ events) → IfOk result (λ run. IsStarvingReplay input setting starved run)
+starved_order input setting starved marks events w so (Ok run) over journal bouts = record {
+  first = so.first;
+  last = w;
+  fresh = so.fresh;
+  starves = subst (λ n. Starves (slots_of setting) starved so.first n w) (sym bouts) so.starves;
+  over = over;
+  journal = journal input setting so.counted.lists so.counted.stands;
+}
+starved_order input setting starved marks events w so (Err e) over journal bouts = tt

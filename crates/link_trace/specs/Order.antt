@@ -1,19 +1,21 @@
 -- What can happen next in a world, and the order in which a replay makes it happen.
-use Rattle.std.specs.Prelude.{◌≡◌, ℕ, ◌+◌, ◌-◌, ◌*◌, ◌%◌, ◌^◌, ◌<◌, min, List, ◌++◌, length, [], map, flat_map, slice_get, Some, bit_xor}
+use Rattle.std.specs.Prelude.{◌≡◌, ℕ, ◌+◌, ◌-◌, ◌*◌, ◌%◌, ◌^◌, ◌<◌, List, ◌++◌, length, [], map, flat_map, slice_get, Some, bit_xor}
 use Rattle.std.specs.List.{range_with_len}
 use Rattle.epoch_tags.specs.declared.actor.Actor.{Actor}
 use Rattle.epoch_tags.specs.declared.actor.Actor.TheVariants.{Feeder, Joiner, Controller, Collector}
 use Rattle.rand_pcg.specs.Lcg.{advance, started, increment_of}
 use Rattle.rand_pcg.specs.Pcg.{multiplier_64, pcg32}
 use Rattle.join_rows.specs.declared.table.Side.TheVariants.{R, S}
+use Rattle.load_controller.specs.Journal.{last_epoch}
 use Rattle.trace_law.specs.Join.{row_count}
+use Rattle.trace_law.specs.Validity.{IsValidInput, IsValidSetting}
 use Rattle.trace_law.specs.declared.input.Input.{Input}
 use Rattle.trace_law.specs.declared.setting.Setting.{Setting}
 use Rattle.trace_law.specs.declared.run.Run.{Run}
 use Rattle.link_trace.specs.declared.slots.Slot.{Slot}
 use Rattle.link_trace.specs.declared.slots.Slot.TheVariants.{Begin, Link}
 use Rattle.link_trace.specs.declared.machines.Core.{Core}
-use Rattle.link_trace.specs.Lists.{Began, no_lists}
+use Rattle.link_trace.specs.Lists.{ActorLists, Began, no_lists}
 use Rattle.link_trace.specs.Standing.{IsOver, GoesOn, Waits}
 use Rattle.link_trace.specs.Families.{journal_of}
 use Rattle.link_trace.specs.Worlds.{WorldState, StandsFor, MakesEvent, Delivers, IsAllAt, IsSomeAt, core_of, left_of}
@@ -78,27 +80,30 @@ pub record MakesFirst (slots : List Slot) (word : ℕ) (old new : WorldState) : 
 abbrev pub word_of : ℕ → ℕ → ℕ
 word_of seed n = (pcg32 (advance 64 multiplier_64 n (started 64 multiplier_64 seed (increment_of 64 56)))).0
 
--- after so many words and events, from this world to that one: as long as the work of some goes on, a word is drawn, and
--- the first slot that has an event makes it; where none has, the word is lost
-pub data Replays (slots : List Slot) (seed : ℕ) (first : WorldState) : ℕ → ℕ → WorldState → Type 0 where
-  start : Replays slots seed first 0 0 first
-  event : {drawn events : ℕ} {old new : WorldState} → Replays slots seed first drawn events old → IsSomeAt GoesOn old.cores
-      → MakesFirst slots (word_of seed drawn) old new → Replays slots seed first (drawn + 1) (events + 1) new
-  lost : {drawn events : ℕ} {old : WorldState} → Replays slots seed first drawn events old → IsSomeAt GoesOn old.cores
-      → AreIdleFrom slots (word_of seed drawn) (length slots) old → Replays slots seed first (drawn + 1) events old
+-- after so many events, from this world to that one: as long as the work of some goes on, a word is drawn, and the first
+-- slot that has an event makes it
+pub data Replays (slots : List Slot) (seed : ℕ) (first : WorldState) : ℕ → WorldState → Type 0 where
+  start : Replays slots seed first 0 first
+  event : {events : ℕ} {old new : WorldState} → Replays slots seed first events old → IsSomeAt GoesOn old.cores
+      → MakesFirst slots (word_of seed events) old new → Replays slots seed first (events + 1) new
 
--- the run is that of a world of this input and setting which was driven to its end in the order of this seed
+-- the run is that of a world of this input and setting which was driven to its end in the order of this seed; `bouts` is
+-- the number of its events
 pub record IsReplay (input : Input) (setting : Setting) (seed : ℕ) (run : Run) : Type 0 where
   pub first : WorldState
   pub last : WorldState
-  pub drawn : ℕ
-  pub events : ℕ
   pub fresh : StandsFor input setting first (λ actor. no_lists)
-  pub replays : Replays (slots_of setting) seed first drawn events last
+  pub replays : Replays (slots_of setting) seed first run.bouts last
   pub over : IsAllAt IsOver last.cores
   pub journal : (core : Core) → core_of last Controller ≡ Some core → run.journal ≡ journal_of core
-  pub bouts : run.bouts ≡ min events (2 ^ 64 - 1)
+
+-- ---- how many events there are
 
 -- the most events that a run with so many migrations has
 abbrev pub most_events : Input → Setting → ℕ → ℕ
 most_events input setting migrations = 8 * (row_count input R + row_count input S + setting.feeders + 2) * 2 ^ setting.k * (migrations + 2)
+
+-- a world's controller never has a journal by which a run could have more events than a number of 64 bits counts
+abbrev pub EventsFit : Type 0
+EventsFit = (input : Input) (setting : Setting) (w : WorldState) (lists : Actor → ActorLists) → IsValidInput input → IsValidSetting setting
+    → (stands : StandsFor input setting w lists) → most_events input setting (last_epoch (journal_of (stands.stands Controller tt).0)) < 2 ^ 64 - 1

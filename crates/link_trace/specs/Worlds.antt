@@ -1,7 +1,8 @@
 -- A world: its machines, and what is left on each link.
 use Rattle.std.specs.Prelude.{◌≡◌, ℕ, ◌+◌, ◌<◌, ◌^◌, Option, Some, None, List, [], ◌∷◌, ◌++◌, map, slice_get, slice_index_or, slice_set, length, ◌&&◌, false, if◌then◌else◌}
 use Rattle.epoch_tags.specs.declared.actor.Actor.{Actor}
-use Rattle.epoch_tags.specs.declared.actor.Actor.TheVariants.{Controller}
+use Rattle.epoch_tags.specs.declared.actor.Actor.TheVariants.{Feeder, Controller}
+use Rattle.epoch_tags.specs.Links.{HasLink}
 use Rattle.epoch_tags.specs.declared.message.Msg.{Msg}
 use Rattle.epoch_tags.specs.declared.message.Post.{Post}
 use Rattle.load_controller.specs.declared.line.TurnLine.{TurnLine}
@@ -14,7 +15,7 @@ use Rattle.trace_law.specs.Family.{IsAgreeing}
 use Rattle.trace_law.specs.declared.input.Input.{Input}
 use Rattle.trace_law.specs.declared.setting.Setting.{Setting}
 use Rattle.link_trace.specs.Lists.{ActorLists, Cause, Took, same_actor, no_lists}
-use Rattle.link_trace.specs.Standing.{Stands, Occurs, GoOut, Asks}
+use Rattle.link_trace.specs.Standing.{Stands, Occurs, GoOut, Asks, Waits}
 use Rattle.link_trace.specs.Families.{start_for, IsActor, IsBalanced, after_event, family_of, journal_of}
 use Rattle.link_trace.specs.Numbers.{number, actor_at, at_number}
 use Rattle.link_trace.specs.declared.machines.Core.{Core}
@@ -159,6 +160,11 @@ pub record Delivers (from to : Actor) (old new : WorldState) : Type 0 where
   pub rest : List Msg
   pub first : left_of old from to ≡ m ∷ rest
   pub event : MakesEvent to (Took from m) old new
+
+-- nothing is left on any link of the run, and no feeder would begin
+pub record IsStill (setting : Setting) (w : WorldState) : Type 0 where
+  pub links : (from to : Actor) → HasLink setting.k setting.feeders from to → left_of w from to ≡ []
+  pub waits : (p : ℕ) → p < setting.feeders → (core : Core) → core_of w (Feeder p) ≡ Some core → Waits core
 
 -- the lists for which a world stands are an agreeing family
 abbrev pub WorldAgrees : Type 0

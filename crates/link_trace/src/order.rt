@@ -4,8 +4,8 @@ ghost use Rattle.std.specs.Prelude.{◌≡◌, ℕ, ◌+◌, ◌%◌, ◌<◌, l
 ghost use Rattle.link_trace.specs.declared.step.Step.TheVariants.{Took as Took', Idle as Idle'};
 ghost use Rattle.link_trace.specs.declared.slots.Slot.{Slot as Slot'};
 ghost use Rattle.link_trace.specs.Lists.{same_actor};
-ghost use Rattle.link_trace.specs.Worlds.{state_of};
-ghost use Rattle.link_trace.specs.Order.{IsIdle, Happens, AreIdleFrom, MakesFirst};
+ghost use Rattle.link_trace.specs.Worlds.{state_of, IsAllAt};
+ghost use Rattle.link_trace.specs.Order.{IsIdle, Happens, MakesFirst};
 ghost use Rattle.link_trace.specs.Marks.{AreMarked, IsMarkedFor};
 ghost use Rattle.link_trace.specs.Marks as marked;
 
@@ -121,25 +121,24 @@ pub(crate) fn make_at(
     }
 }
 
-// Makes the event of the first slot that has one, going round from the place that a word names. False: none has.
+// Makes the event of the first slot that has one, going round from the place that a word names.
 pub(crate) fn make_first(
     world: &mut World,
     slots: &[Slot],
     marks: &mut Vec<bool>,
     word: u32,
-) -> Result<bool, AllocError>
-    requires { AreMarked slots.now marks.old.items (state_of world.old) }
+) -> Result<(), AllocError>
+    requires marks { AreMarked slots.now marks.old.items (state_of world.old) }
+    requires ready { ¬ IsAllAt (IsIdle (state_of world.old)) slots.now }
     ensures marks { OnOk result (AreMarked slots.now marks.new.items (state_of world.new)) }
-    ensures made { result ≡ Ok true → MakesFirst slots.now word (state_of world.old) (state_of world.new) }
-    ensures idle { result ≡ Ok false → AreIdleFrom slots.now word (length slots.now) (state_of world.old) }
-    ensures stays { result ≡ Ok false → state_of world.new ≡ state_of world.old }
+    ensures made { OnOk result (MakesFirst slots.now word (state_of world.old) (state_of world.new)) }
 {
     let count = slots.len();
     for i in 0..count {
         let at = (word as usize + i) % count;
         if make_at(world, slots, marks, at)? {
-            return Ok(true);
+            return Ok(());
         }
     }
-    Ok(false)
+    unreachable!()
 }

@@ -1,13 +1,17 @@
 // A run on one thread, in an order that a number names.
 
-ghost use Rattle.std.specs.Prelude.{◌≡◌, ◌≤◌, ℕ, ◌+◌, ◌-◌, ◌^◌, min, IfOk, Some, false, length, slice_get, if◌then◌else◌};
+ghost use Rattle.std.specs.Prelude.{◌≡◌, ◌≤◌, ◌<◌, ℕ, ◌+◌, ◌-◌, ◌^◌, IfOk, OnOk, Some, false, length, slice_get};
+ghost use Rattle.rand_pcg.specs.Pcg.{pcg32};
 ghost use Rattle.trace_law.specs.Validity.{IsValidInput, IsValidSetting};
 ghost use Rattle.trace_law.specs.Runs.{IsRunOf};
 ghost use Rattle.load_controller.specs.Journal.{last_epoch};
-ghost use Rattle.link_trace.specs.Order.{IsReplay, most_events};
+ghost use Rattle.link_trace.specs.Worlds.{state_of, IsAllAt};
+ghost use Rattle.link_trace.specs.Marks.{AreMarked};
+ghost use Rattle.link_trace.specs.Order.{IsIdle, IsReplay, MakesFirst, most_events};
 
+use crate::laws::events_fit;
 use crate::order::make_first;
-use crate::slots::slots_of;
+use crate::slots::{Slot, slots_of};
 use crate::world::World;
 use rand_core::utils::NextWord;
 use rand_pcg::Lcg64Xsh32;
@@ -26,15 +30,27 @@ pub(crate) fn all_marked(alloc: Global, count: usize) -> Result<Vec<bool>, Alloc
     vec![in alloc; true; count]
 }
 
-// The number of events, with the one that was made.
-fn counted(events: u64, made: bool) -> u64
-    ensures { result ≡ (if made then min (events + 1) (2 ^ 64 - 1) else events) }
+// Draws a word, makes the event of the first slot that has one, going round from the place that the word names, and
+// counts it.
+fn make_next(
+    world: &mut World,
+    slots: &[Slot],
+    marks: &mut Vec<bool>,
+    draws: &mut Lcg64Xsh32,
+    events: &mut u64,
+) -> Result<(), AllocError>
+    requires marks { AreMarked slots.now marks.old.items (state_of world.old) }
+    requires ready { ¬ IsAllAt (IsIdle (state_of world.old)) slots.now }
+    requires few { events.old < 2 ^ 64 - 1 }
+    ensures marks { OnOk result (AreMarked slots.now marks.new.items (state_of world.new)) }
+    ensures made { OnOk result (MakesFirst slots.now (pcg32 draws.old).0 (state_of world.old) (state_of world.new)) }
+    ensures drawn { OnOk result (draws.new ≡ (pcg32 draws.old).1) }
+    ensures counted { OnOk result (events.new ≡ events.old + 1) }
 {
-    if made {
-        events.saturating_add(1)
-    } else {
-        events
-    }
+    let word = draws.next_word();
+    make_first(world, slots, marks, word)?;
+    *events += 1;
+    Ok(())
 }
 
 /// Runs a world of this input and setting until it is done. As long as it isn't, one word of the generator with this
@@ -55,6 +71,7 @@ pub fn replay<R: Wait>(
         ≤ most_events input.now setting.now (last_epoch run.journal)) }
 {
     events_are_few();
+    events_fit();
     let slots = slots_of(alloc, setting)?;
     let mut marks = all_marked(alloc, slots.len())?;
     let mut draws = Lcg64Xsh32::new(seed, STREAM);
@@ -64,9 +81,7 @@ pub fn replay<R: Wait>(
         if world.done() {
             break;
         }
-        let word = draws.next_word();
-        let made = make_first(&mut world, &slots, &mut marks, word)?;
-        events = counted(events, made);
+        make_next(&mut world, &slots, &mut marks, &mut draws, &mut events)?;
     }
     world.finish(events)
 }

@@ -5,13 +5,13 @@ ghost use Rattle.load_controller.specs.Journal.{last_epoch};
 ghost use Rattle.trace_law.specs.Validity.{IsValidInput, IsValidSetting};
 ghost use Rattle.trace_law.specs.Runs.{IsRunOf};
 ghost use Rattle.link_trace.specs.declared.slots.Slot.{Slot as Slot'};
-ghost use Rattle.link_trace.specs.Standing.{IsOver};
 ghost use Rattle.link_trace.specs.Worlds.{state_of, IsAllAt};
 ghost use Rattle.link_trace.specs.Order.{IsIdle, Happens, most_events};
 ghost use Rattle.link_trace.specs.Marks.{AreMarked};
-ghost use Rattle.link_trace.specs.Starving.{AreIdleBelow, MakesLeast, MakesStarving, Starves, IsStarvingReplay};
+ghost use Rattle.link_trace.specs.Starving.{AreIdleBelow, MakesLeast, MakesStarving, IsStarvingReplay};
 ghost use Rattle.link_trace.specs.Starving as starving;
 
+use crate::laws::events_fit;
 use crate::order::{is_same, make_at, maker_of};
 use crate::replays::all_marked;
 use crate::slots::{Slot, slots_of};
@@ -76,44 +76,25 @@ fn make_least(
     Ok(false)
 }
 
-// Makes the event of the least slot of another actor; where none has one, that of the least slot. False: none has.
+// Makes the event of the least slot of another actor; where none has one, that of the least slot.
 fn make_starving(
     world: &mut World,
     slots: &[Slot],
     marks: &mut Vec<bool>,
     starved: Actor,
-) -> Result<bool, AllocError>
-    requires { AreMarked slots.now marks.old.items (state_of world.old) }
+) -> Result<(), AllocError>
+    requires marks { AreMarked slots.now marks.old.items (state_of world.old) }
+    requires ready { ¬ IsAllAt (IsIdle (state_of world.old)) slots.now }
     ensures marks { OnOk result (AreMarked slots.now marks.new.items (state_of world.new)) }
-    ensures made { result ≡ Ok true → MakesStarving starved slots.now (state_of world.old) (state_of world.new) }
+    ensures made { OnOk result (MakesStarving starved slots.now (state_of world.old) (state_of world.new)) }
 {
     if make_least(world, slots, marks, starved, false)? {
-        return Ok(true);
+        return Ok(());
     }
-    make_least(world, slots, marks, starved, true)
-}
-
-// Drives a world to its end, and tells the number of events.
-fn drive(
-    world: &mut World,
-    slots: &[Slot],
-    marks: &mut Vec<bool>,
-    starved: Actor,
-) -> Result<u64, AllocError>
-    requires { AreMarked slots.now marks.old.items (state_of world.old) }
-    ensures over { OnOk result (IsAllAt IsOver (state_of world.new).cores) }
-    ensures starves { IfOk result (λ events.
-        Starves slots.now starved (state_of world.old) events (state_of world.new)) }
-{
-    for events in 0..u64::MAX {
-        if world.done() {
-            return Ok(events);
-        }
-        if !make_starving(world, slots, marks, starved)? {
-            return Err(AllocError);
-        }
+    if make_least(world, slots, marks, starved, true)? {
+        return Ok(());
     }
-    Err(AllocError)
+    unreachable!()
 }
 
 /// Runs a world of this input and setting until it is done, and serves one actor last: each event is that of the
@@ -133,9 +114,15 @@ pub fn replay_starving(
         ≤ most_events input.now setting.now (last_epoch run.journal)) }
 {
     events_are_few();
+    events_fit();
     let slots = slots_of(alloc, setting)?;
     let mut marks = all_marked(alloc, slots.len())?;
     let mut world = World::start(alloc, input, setting)?;
-    let events = drive(&mut world, &slots, &mut marks, starved)?;
-    world.finish(events)
+    for events in 0..u64::MAX {
+        if world.done() {
+            return world.finish(events);
+        }
+        make_starving(&mut world, &slots, &mut marks, starved)?;
+    }
+    unreachable!()
 }

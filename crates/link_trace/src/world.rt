@@ -17,7 +17,7 @@ ghost use Rattle.link_trace.specs.Endings.{AreLast};
 ghost use Rattle.link_trace.specs.Standing.{IsOver, GoesOn, Waits};
 ghost use Rattle.link_trace.specs.declared.machines.Core.{Core as Core'};
 ghost use Rattle.link_trace.specs.Numbers.{number as number'};
-ghost use Rattle.link_trace.specs.Worlds.{state_of, left_of, core_of, cores_of, IsAnswerOf, StandsFor, AreNew, IsAllAt, IsSomeAt, Delivers, MakesEvent};
+ghost use Rattle.link_trace.specs.Worlds.{state_of, left_of, core_of, cores_of, IsAnswerOf, StandsFor, AreNew, IsAllAt, IsSomeAt, IsStill, Delivers, MakesEvent};
 
 use crate::links::has_link;
 use crate::machines::Core;
@@ -31,7 +31,7 @@ use load_controller::{Controller, Journal};
 use pair_collector::Collector;
 use std::alloc::{AllocError, Global};
 use std::collections::VecDeque;
-use trace_law::{Input, Run, Setting, finished_answers};
+use trace_law::{Input, Run, Setting, finished_answers, quiet_is_finished};
 
 /// The machines of all actors of a run, and the messages that are left on each link.
 #[derive(Drop)]
@@ -175,7 +175,11 @@ impl<'a> World<'a> {
     pub fn done(&self) -> bool
         ensures done { result ≡ true → IsAllAt IsOver (state_of self.now).cores }
         ensures goes_on { result ≡ false → IsSomeAt GoesOn (state_of self.now).cores }
+        ensures still { (input : Input') (setting : Setting') (lists : Actor' → ActorLists)
+            → IsValid input setting → StandsFor input setting (state_of self.now) lists
+            → IsStill setting (state_of self.now) → result ≡ true }
     {
+        quiet_is_finished();
         all_are_over(&self.places)
     }
 

@@ -2,6 +2,7 @@
 
 use super::by_hand::actor;
 use super::inputs::{eight_rows_a_side, four_joiners, input};
+use super::seeds::replayed;
 use crate::{Input, Run, Setting, replay_starving};
 use std::alloc::{AllocError, Global};
 use std::test::Fail;
@@ -43,10 +44,13 @@ fn one_joiner_needs_as_many_events(rt: HostRuntime) -> Result<(), Fail> {
     let mut setting = four_joiners();
     setting.k = 0;
     setting.batch = 64;
+    for seed in 0..32 {
+        let run = replayed(&rt, alloc, &input, &setting, seed)?;
+        assert_eq!(rt; (run.bouts, run.journal.len()), (17, 3), "seed {seed}");
+    }
     for letter in b"f0co" {
         let run = starving(alloc, &input, &setting, *letter)?;
-        assert_eq!(rt; run.bouts, 17, "events");
-        assert_eq!(rt; run.journal.len(), 3, "lines");
+        assert_eq!(rt; (run.bouts, run.journal.len()), (17, 3), "events and lines");
     }
     Ok(())
 }

@@ -1,8 +1,9 @@
-use Rattle.std.proofs.Common.{ℕ, ◌≡◌, ◌∙◌, true, false, ap, Ok}
-use Rattle.rand_pcg.specs.Lcg.{Lcg}
+use Rattle.std.proofs.Common.{◌≡◌, ◌∙◌, true, false}
 use Rattle.link_trace.specs.Worlds.{state_of}
-use Rattle.link_trace.proofs.Bounds.{bounded}
-use Rattle.link_trace.proofs.Replaying.{begins, goes_on_over, answers, replayed}
+use Rattle.link_trace.proofs.Bounds.{run_answers, run_bounded, valid_both}
+use Rattle.link_trace.proofs.Fitting.{counts_on}
+use Rattle.link_trace.proofs.Replaying.{begins, goes_on, replayed}
+use Rattle.link_trace.proofs.AllSlots.{some_has_one}
 use Rattle.link_trace.proofs.replays.replay.Goals as goal
 use Rattle.link_trace.proofs.replays.replay.Goals.{in-None, in-Some+then-done}
 
@@ -15,17 +16,25 @@ loop-init g c =
     c.in_ok-world.ensures.fresh c.new-draws.ensures c.in_ok-slots.ensures
     (c.in_ok-marks.ensures.each ∙ (c.len.ensures ∙ c.in_ok-slots.slots.ok.0)) c.in_ok-marks.ensures.marked
 
+pub make_next-requires-clause-ready : goal.make_next-requires-clause-ready
+make_next-requires-clause-ready g c =
+    let counted = c.loop.invariant.counted in
+    some_has_one c.args.input.now c.args.setting.now (state_of c.loop.world) counted.lists (valid_both c.args.input.now c.args.setting.now c.requires.input c.requires.setting) counted.stands
+    c.deref.result.now (c.deref.ensures.value ∙ c.in_ok-slots.ensures) c.done.result c.done.ensures.still c.if-done.false
+
+pub make_next-requires-clause-few : goal.make_next-requires-clause-few
+make_next-requires-clause-few g c =
+    counts_on c.events_are_few.ensures c.events_fit.ensures c.args.input.now c.args.setting.now c.requires.input c.requires.setting (state_of c.loop.world) c.loop.events c.loop.invariant.counted
+
 pub loop-preserved : goal.loop-preserved
 loop-preserved g c =
-    goes_on_over c.args.input.now c.args.setting.now c.args.seed c.loop.marks.items c.make_first.new.marks.items c.loop.draws c.next_word-word.new.self c.loop.events
-    c.counted-events.result (state_of c.loop.world) (state_of c.make_first.new.world) c.next_word-word.result c.deref.result.now (c.deref.ensures.value ∙ c.in_ok-slots.ensures) c.in_ok-made.made c.loop.invariant
-    (c.done.ensures.goes_on c.if-done.false) (ap (λ (p : ℕ × Lcg). p.0) c.next_word-word.ensures) (ap (λ (p : ℕ × Lcg). p.1) c.next_word-word.ensures)
-    c.in_ok-made.ensures.marks (λ e. c.in_ok-made.ensures.made (ap Ok e)) (λ e. c.in_ok-made.ensures.idle (ap Ok e)) (λ e. c.in_ok-made.ensures.stays (ap Ok e)) c.counted-events.ensures
+    goes_on c.args.input.now c.args.setting.now c.args.seed c.loop.marks.items c.make_next.new.marks.items c.loop.draws c.make_next.new.draws c.loop.events c.make_next.new.events
+    (state_of c.loop.world) (state_of c.make_next.new.world) c.loop.invariant c.deref.result.now (c.deref.ensures.value ∙ c.in_ok-slots.ensures) (c.done.ensures.goes_on c.if-done.false)
+    c.in_ok-make_next.ensures.marks c.in_ok-make_next.ensures.made c.in_ok-make_next.ensures.drawn c.in_ok-make_next.ensures.counted
 
 pub returns-clause-run : goal.returns-clause-run
 returns-clause-run g c =
-    answers c.args.input.now c.args.setting.now c.args.seed c.loop.marks.items c.loop.draws c.loop.events (state_of c.loop.world) c.loop.invariant c.finish.result
-    c.requires.input c.requires.setting c.finish.ensures.run
+    run_answers c.args.input.now c.args.setting.now (state_of c.loop.world) c.loop.events c.loop.invariant.counted c.requires.input c.requires.setting c.finish.result c.finish.ensures.run
 
 pub returns-clause-order : goal.returns-clause-order
 returns-clause-order g c =
@@ -34,6 +43,5 @@ returns-clause-order g c =
 
 pub returns-clause-bound : goal.returns-clause-bound
 returns-clause-bound g c =
-    let under = c.loop.invariant in
-    bounded c.args.input.now c.args.setting.now c.args.seed c.loop.events (state_of c.loop.world) c.events_are_few.ensures c.requires.input c.requires.setting
-    under.first under.drawn under.events under.fresh under.replays under.count_is c.finish.result c.finish.ensures.journal c.finish.ensures.bouts
+    run_bounded c.args.input.now c.args.setting.now (state_of c.loop.world) c.loop.events c.loop.invariant.counted c.requires.input c.requires.setting c.events_are_few.ensures c.finish.result
+    c.finish.ensures.journal c.finish.ensures.bouts

@@ -1,23 +1,44 @@
-use Rattle.std.proofs.Common.{◌∙◌, subst}
+use Rattle.std.proofs.Common.{◌∙◌, ◌<◌, ◌-◌, ◌^◌, arith}
 use Rattle.link_trace.specs.Worlds.{state_of}
-use Rattle.link_trace.specs.Starving.{Starves}
-use Rattle.link_trace.proofs.ServedLast.{starved_answers, starved_order, starved_bound}
+use Rattle.link_trace.proofs.Bounds.{run_answers, run_bounded, valid_both}
+use Rattle.link_trace.proofs.Fitting.{counts_on}
+use Rattle.link_trace.proofs.ServedLast.{begins, goes_on, starved_order}
+use Rattle.link_trace.proofs.AllSlots.{some_has_one}
 use Rattle.link_trace.proofs.starving.replay_starving.Goals as goal
 
-pub returns-clause-run : goal.returns-clause-run
-returns-clause-run c =
-    let starves = subst (λ slots. Starves slots c.args.starved (state_of c.in_ok-world.world) c.in_ok-events.events (state_of c.drive.new.world)) (c.deref.ensures.value ∙ c.in_ok-slots.ensures) c.in_ok-events.ensures.starves in
-    starved_answers c.args.input.now c.args.setting.now c.args.starved (state_of c.in_ok-world.world) (state_of c.drive.new.world) c.in_ok-events.events c.in_ok-world.ensures.fresh starves
-    c.finish.result c.requires.input c.requires.setting c.finish.ensures.run
+pub loop-events-init : goal.loop-events-init
+loop-events-init c =
+    begins c.args.input.now c.args.setting.now c.args.starved c.in_ok-marks.marks.items c.in_ok-slots.slots.items (state_of c.in_ok-world.world)
+    c.in_ok-world.ensures.fresh c.in_ok-slots.ensures (c.in_ok-marks.ensures.each ∙ (c.len.ensures ∙ c.in_ok-slots.slots.ok.0)) c.in_ok-marks.ensures.marked
 
-pub returns-clause-order : goal.returns-clause-order
-returns-clause-order c =
-    let starves = subst (λ slots. Starves slots c.args.starved (state_of c.in_ok-world.world) c.in_ok-events.events (state_of c.drive.new.world)) (c.deref.ensures.value ∙ c.in_ok-slots.ensures) c.in_ok-events.ensures.starves in
-    starved_order c.args.input.now c.args.setting.now c.args.starved (state_of c.in_ok-world.world) (state_of c.drive.new.world) c.in_ok-events.events c.in_ok-world.ensures.fresh starves
-    c.finish.result c.in_ok-events.ensures.over c.finish.ensures.journal c.finish.ensures.bouts
+pub make_starving-requires-clause-ready : goal.make_starving-requires-clause-ready
+make_starving-requires-clause-ready c =
+    let counted = c.loop-events.invariant.counted in
+    some_has_one c.args.input.now c.args.setting.now (state_of c.loop-events.world) counted.lists (valid_both c.args.input.now c.args.setting.now c.requires.input c.requires.setting) counted.stands
+    c.deref.result.now (c.deref.ensures.value ∙ c.in_ok-slots.ensures) c.done.result c.done.ensures.still c.if-done.false
 
-pub returns-clause-bound : goal.returns-clause-bound
-returns-clause-bound c =
-    let starves = subst (λ slots. Starves slots c.args.starved (state_of c.in_ok-world.world) c.in_ok-events.events (state_of c.drive.new.world)) (c.deref.ensures.value ∙ c.in_ok-slots.ensures) c.in_ok-events.ensures.starves in
-    starved_bound c.args.input.now c.args.setting.now c.args.starved (state_of c.in_ok-world.world) (state_of c.drive.new.world) c.in_ok-events.events c.in_ok-world.ensures.fresh starves
-    c.events_are_few.ensures c.requires.input c.requires.setting c.finish.result c.finish.ensures.journal c.finish.ensures.bouts
+pub loop-events-preserved : goal.loop-events-preserved
+loop-events-preserved c =
+    goes_on c.args.input.now c.args.setting.now c.args.starved c.loop-events.marks.items c.make_starving.new.marks.items c.loop-events.events
+    (state_of c.loop-events.world) (state_of c.make_starving.new.world) c.loop-events.invariant c.deref.result.now (c.deref.ensures.value ∙ c.in_ok-slots.ensures)
+    (c.done.ensures.goes_on c.if-done.false) c.in_ok-make_starving.ensures.marks c.in_ok-make_starving.ensures.made
+
+pub returns-then-done-clause-run : goal.returns-then-done-clause-run
+returns-then-done-clause-run c =
+    run_answers c.args.input.now c.args.setting.now (state_of c.loop-events.world) c.loop-events.events c.loop-events.invariant.counted c.requires.input c.requires.setting c.finish.result c.finish.ensures.run
+
+pub returns-then-done-clause-order : goal.returns-then-done-clause-order
+returns-then-done-clause-order c =
+    starved_order c.args.input.now c.args.setting.now c.args.starved c.loop-events.marks.items c.loop-events.events (state_of c.loop-events.world) c.loop-events.invariant c.finish.result
+    (c.done.ensures.done c.if-done.true) c.finish.ensures.journal c.finish.ensures.bouts
+
+pub returns-then-done-clause-bound : goal.returns-then-done-clause-bound
+returns-then-done-clause-bound c =
+    run_bounded c.args.input.now c.args.setting.now (state_of c.loop-events.world) c.loop-events.events c.loop-events.invariant.counted c.requires.input c.requires.setting c.events_are_few.ensures
+    c.finish.result c.finish.ensures.journal c.finish.ensures.bouts
+
+pub unreachable-requires : goal.unreachable-requires
+unreachable-requires c =
+    let end = c.loop-events-test.false in
+    let few = counts_on c.events_are_few.ensures c.events_fit.ensures c.args.input.now c.args.setting.now c.requires.input c.requires.setting (state_of c.loop-events.world) c.loop-events.events c.loop-events.invariant.counted in
+    omega arith

@@ -1,0 +1,5 @@
+use Rattle.link_trace.proofs.Fitting.{fit}
+use Rattle.link_trace.proofs.laws.events_fit.Goals as goal
+
+pub returns : goal.returns
+returns c = fit c.keeps_a_lawful_journal.ensures c.lawful_is_bounded.ensures

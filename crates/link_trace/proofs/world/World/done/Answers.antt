@@ -1,0 +1,10 @@
+use Rattle.std.proofs.Common.{subst}
+use Rattle.link_trace.specs.Standing.{GoesOn}
+use Rattle.link_trace.specs.Worlds.{state_of, cores_of, IsSomeAt}
+use Rattle.link_trace.proofs.Stilled.{still_is_done}
+use Rattle.link_trace.proofs.world.World.done.Goals as goal
+
+pub returns-clause-still : goal.returns-clause-still
+returns-clause-still c input setting lists valid stands still =
+    still_is_done input setting (state_of c.args.self.now) lists stands still c.quiet_is_finished.ensures valid c.all_are_over.result
+    (λ goes. subst (λ places. IsSomeAt GoesOn (cores_of places)) c.deref.ensures.value (c.all_are_over.ensures.goes_on goes))
