@@ -23,11 +23,11 @@ use Rattle.theta_pred.proofs.KeyPlaces.{difference-below}
 
 -- ---- which member it is
 
-and_left : (p q : Bool) → (p && q) ≡ true → p ≡ true
+pub and_left : (p q : Bool) → (p && q) ≡ true → p ≡ true
 and_left true q e = refl
 and_left false q e = absurd (false≢true e)
 
-and_right : (p q : Bool) → (p && q) ≡ true → q ≡ true
+pub and_right : (p q : Bool) → (p && q) ≡ true → q ≡ true
 and_right true q e = e
 and_right false q e = absurd (false≢true e)
 
@@ -74,7 +74,7 @@ chosen width_r width_s fs m is =
     (chosen_first width_r width_s Band fs) (chosen_first width_r width_s Inequality fs) later)
     is
 
-conjuncts-sound : (width_r width_s : ℕ) (f : Formula) → IsSound width_r width_s f → AreSound width_r width_s (conjuncts f)
+pub conjuncts-sound : (width_r width_s : ℕ) (f : Formula) → IsSound width_r width_s f → AreSound width_r width_s (conjuncts f)
 conjuncts-sound width_r width_s (any fs) sound = (sound, tt)
 conjuncts-sound width_r width_s (every fs) sound = sound
 conjuncts-sound width_r width_s (negation f) sound = (sound, tt)
@@ -85,7 +85,7 @@ conjuncts-sound width_r width_s (txt left op right) sound = (sound, tt)
 alone : (b : Bool) → b ≡ true → (b && true) ≡ true
 alone b is = ap (λ c. c && true) is
 
-conjuncts-true : (r s : List Cell) (f : Formula) → is_true r s f ≡ true → each_is_true r s (conjuncts f) ≡ true
+pub conjuncts-true : (r s : List Cell) (f : Formula) → is_true r s f ≡ true → each_is_true r s (conjuncts f) ≡ true
 conjuncts-true r s (any fs) is = alone _ is
 conjuncts-true r s (every fs) is = is
 conjuncts-true r s (negation f) is = alone _ is

@@ -6,4 +6,5 @@ pub mod KeySums
 pub mod Left
 pub mod NumericPlaces
 pub mod SumSteps
+pub mod TextEqualities
 pub mod Wrong

@@ -9,6 +9,7 @@ pub mod Standing
 pub mod Sizes
 pub mod Sound
 pub mod Sums
+pub mod TextAtoms
 pub mod Truth
 pub use Rattle.theta_text.specs.Faults
 pub use Rattle.theta_text.specs.Grammar

@@ -15,6 +15,7 @@ mod sums;
 mod terms;
 #[cfg(test)]
 mod tests;
+mod text_atom;
 mod theta;
 mod tree;
 mod truth;
@@ -23,6 +24,7 @@ pub use atom::{KeyAtom, Linear, Part, Parts};
 pub use fault::ResolveFault;
 pub use resolver::resolve;
 pub use short::longest_sum;
+pub use text_atom::TextAtom;
 pub use theta::Theta;
 pub use theta_text::{Name, Op, Pred, PredFault, Signed, Sum, Term, TextSide, parse};
 pub use tree::{Column, Columns};

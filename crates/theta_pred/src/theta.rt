@@ -5,12 +5,14 @@ ghost use Rattle.theta_pred.specs.Formula.{formula_of};
 ghost use Rattle.theta_pred.specs.Keys.{atom_of, key_of, Atom, IsKeyOf};
 ghost use Rattle.theta_pred.specs.Numeric.{AreNumeric};
 ghost use Rattle.theta_pred.specs.Sound.{IsSound};
+ghost use Rattle.theta_pred.specs.TextAtoms.{text_atom_of, IsTextAtomOf};
 ghost use Rattle.theta_pred.specs.Truth.{holds, width_of, IsRowOf};
 
 use crate::atom::KeyAtom;
 use crate::copies::copy_of;
 use crate::key::{atom_in, key_law, key_member};
 use crate::numeric::numeric_places;
+use crate::text_atom::{TextAtom, text_atom, text_law};
 use crate::tree::{Columns, Tree};
 use crate::truth::is_true;
 use join_rows::{Cells, Side};
@@ -123,6 +125,21 @@ impl Theta {
         ensures { (atom : Atom) → key_of self.now.formula ≡ Some atom → IsKeyOf self.now atom }
     {
         key_law(&self.tree, self.width_r, self.width_s);
+    }
+
+    /// The columns of the first of the top conjunction's members that is an equality of a text of R
+    /// and one of S. A conjunction inside another member isn't looked into. It takes no memory.
+    pub fn text_atom(&self) -> Option<TextAtom>
+        ensures { result ≡ text_atom_of self.now.formula }
+    {
+        text_atom(&self.tree)
+    }
+
+    /// What the text atom says of the predicate. It has no code.
+    pub fn text_law(&self)
+        ensures { (atom : TextAtom) → text_atom_of self.now.formula ≡ Some atom → IsTextAtomOf self.now atom }
+    {
+        text_law(&self.tree, self.width_r, self.width_s);
     }
 
     /// Whether the predicate is true of a row of R and a row of S. It takes no memory.

@@ -3,7 +3,7 @@
 ghost use Rattle.std.specs.Prelude.{◌≡◌, length, IfOk};
 ghost use Rattle.theta_pred.specs.Linear.{AreBelow};
 
-use crate::{KeyAtom, Linear, Part, Parts, Theta, parse, resolve};
+use crate::{KeyAtom, Linear, Part, Parts, TextAtom, Theta, parse, resolve};
 use join_rows::{Bytes, Cell, Cells, Names};
 use std::alloc::{AllocError, Global};
 use std::test::*;
@@ -99,6 +99,39 @@ fn predicates_with_their_keys(rt: HostRuntime) -> Result<(), Fail> {
         assert_eq!(rt; told(alloc, &key)?.as_str(), wanted, "{text}");
         let copy = copied(alloc, &key)?;
         assert_eq!(rt; told(alloc, &copy)?.as_str(), wanted, "of the copy, {text}");
+    }
+    Ok(())
+}
+
+// R's column and S's.
+fn told_text(alloc: Global, atom: Option<TextAtom>) -> Result<String, AllocError> {
+    let mut text = String::new(alloc);
+    match atom {
+        Some(TextAtom { r, s }) => write!(text, "{r} {s}")?,
+        None => write!(text, "none")?,
+    }
+    Ok(text)
+}
+
+#[test]
+fn predicates_with_their_text_atoms(rt: HostRuntime) -> Result<(), Fail> {
+    let alloc = rt.alloc();
+    let cases = [
+        "text(r.x) = text(s.a) | 0 1",
+        "text(s.a) = text(r.x) | 0 1",
+        "r.x < s.x and text(r.a) = text(s.x) and text(r.x) = text(s.a) | 1 0",
+        "text(r.x) = text(r.a) and text(s.x) = 'u' | none",
+        "text(r.x) < text(s.a) | none",
+        "text(r.x) = text(s.a) or 1 = 1 | none",
+        "not text(r.x) = text(s.a) | none",
+        "1 = 1 and (text(r.x) = text(s.a) and 2 = 2) | none",
+    ];
+    for case in cases {
+        let Some((text, wanted)) = case.split_once(" | ") else {
+            return Err(Fail::from(AllocError));
+        };
+        let atom = over_x_and_a(alloc, text)?.text_atom();
+        assert_eq!(rt; told_text(alloc, atom)?.as_str(), wanted, "{text}");
     }
     Ok(())
 }
