@@ -4,6 +4,7 @@ pub mod Keys
 pub mod MapRanges
 pub mod MapSums
 pub mod Rising
+pub mod SameTexts
 pub mod Scanning
 pub mod Seeking
 pub mod Sides

@@ -86,7 +86,7 @@ key_at : (side : Side) (theta : Meaning) (key : KeyAtom) (t other : Tuple) → I
 key_at R theta key t other law own holds = (law (atom_of key) own).follows t.cells other.cells holds
 key_at S theta key t other law own holds = (law (atom_of key) own).follows other.cells t.cells holds
 
-left_true : (a b : Bool) → (a && b) ≡ true → a ≡ true
+pub left_true : (a b : Bool) → (a && b) ≡ true → a ≡ true
 left_true true b both = refl
 left_true false b both = absurd (false≢true both)
 
@@ -99,7 +99,7 @@ below_take_in : (b : Bool) (n m : ℕ) (ps : List ℕ) → n < m → All (λ p. 
 below_take_in true n m ps here rest = All-cons (λ p. p < m) n ps here rest
 below_take_in false n m ps here rest = rest
 
-places_below : (from to : Option ℤ) (n m : ℕ) (values : List (Option ℤ)) → n + length values ≤ m → All (λ p. p < m) (places_between from to n values)
+pub places_below : (from to : Option ℤ) (n m : ℕ) (values : List (Option ℤ)) → n + length values ≤ m → All (λ p. p < m) (places_between from to n values)
 places_below from to n m [] fits = λ k d less. absurd (omega arith)
 places_below from to n m (v ∷ values) fits =
     below_take_in (lies from to v) n m (places_between from to (n + 1) values) (omega arith) (places_below from to (n + 1) m values (omega arith))
@@ -142,7 +142,7 @@ take_at xs i x here = take_one xs i x (slice_get_within xs i x here) (sym (get_o
 pub at_places-append : {X : Type 0} (xs : List X) (ps qs : List ℕ) → at_places xs (ps ++ qs) ≡ at_places xs ps ++ at_places xs qs
 at_places-append xs ps qs = filter_map-append (slice_get xs) ps qs
 
-at_place : {X : Type 0} (xs : List X) (p : ℕ) (x : X) → slice_get xs p ≡ Some x → at_places xs (p ∷ []) ≡ x ∷ []
+pub at_place : {X : Type 0} (xs : List X) (p : ℕ) (x : X) → slice_get xs p ≡ Some x → at_places xs (p ∷ []) ≡ x ∷ []
 at_place xs p x here = ap (λ o. cons_option o []) here
 
 pub at_places_more : {X : Type 0} (xs : List X) (places : List ℕ) (i p : ℕ) (x : X) → slice_get places i ≡ Some p → slice_get xs p ≡ Some x

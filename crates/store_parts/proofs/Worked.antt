@@ -8,7 +8,7 @@ use Rattle.epoch_tags.specs.declared.tuple.Tuple.{Tuple}
 use Rattle.theta_pred.specs.declared.atom.KeyAtom.{KeyAtom}
 use Rattle.theta_pred.specs.declared.atom.Part.{Part}
 use Rattle.theta_pred.specs.Keys.{atom_of, is_atom_true, Atom}
-use Rattle.store_parts.specs.Matches.{evaluated}
+use Rattle.store_parts.specs.Matches.{evaluated, evaluated_by_text}
 use Rattle.store_parts.specs.declared.which.Which.TheVariants.{All}
 
 -- ---- the key of abs(r.at - s.at) <= 2, `at` being the second column of both
@@ -51,3 +51,14 @@ second_evaluates_2 key is_band = ap (count second) is_band
 
 pub scan_evaluates_3 : evaluated None first All stored ≡ 3
 scan_evaluates_3 = refl
+
+-- ---- rows of one text, and the text atom of text(r.x) = text(s.x)
+
+abbrev word : Side → List ℕ → Tuple
+word side text = record { side = side; index = 0; ticket = 0; stamp = 0; cells = record { text = text; num = None } ∷ [] }
+
+abbrev words : List Tuple
+words = word S (97 ∷ []) ∷ word S (98 ∷ []) ∷ word S (97 ∷ []) ∷ word S [] ∷ []
+
+pub text_evaluates_2 : evaluated_by_text (record { r = 0; s = 0 }) (word R (97 ∷ [])) All words ≡ 2
+text_evaluates_2 = refl

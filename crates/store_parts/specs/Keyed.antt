@@ -1,15 +1,17 @@
 -- The key of a store: the values of its tuples, and what a probe by the key is left to evaluate.
-use Rattle.std.specs.Prelude.{◌≡◌, ℕ, ℤ, ◌+ℤ◌, ◌-ℤ◌, Bool, Option, Some, None, List, length, map, filter_map, slice_get, option_map, ⊤, All, Vec}
+use Rattle.std.specs.Prelude.{◌≡◌, ℕ, ℤ, pos, ◌+ℤ◌, ◌-ℤ◌, Bool, Option, Some, None, List, length, map, filter_map, slice_get, option_map, ⊤, All, Vec}
 use Rattle.std.specs.Global.{Global}
 use Rattle.join_rows.specs.declared.table.Side.{Side}
 use Rattle.join_rows.specs.declared.table.Side.TheVariants.{R, S}
 use Rattle.epoch_tags.specs.declared.tuple.Tuple.{Tuple}
 use Rattle.theta_pred.specs.declared.atom.KeyAtom.{KeyAtom}
 use Rattle.theta_pred.specs.declared.atom.Part.{Part}
+use Rattle.theta_pred.specs.declared.text_atom.TextAtom.{TextAtom}
 use Rattle.theta_pred.specs.Formula.{Meaning}
 use Rattle.theta_pred.specs.Keys.{Atom, atom_of, is_atom_true, key_of}
 use Rattle.theta_pred.specs.Linear.{value_of, AreBelow}
 use Rattle.store_parts.specs.Places.{IsMapOf}
+use Rattle.store_parts.specs.Texts.{text_of, number_of}
 
 -- the columns of the key's sum of a side
 abbrev pub sum_at : Side → KeyAtom → List Part
@@ -48,15 +50,21 @@ FitsKey key t = FitsKeyAt key t.side t
 abbrev pub IsOwn : Meaning → Option KeyAtom → Type 0
 IsOwn theta key = (atom : Atom) → option_map atom_of key ≡ Some atom → key_of theta.formula ≡ Some atom
 
--- the index of a side's tuples, which have the key's columns
-pub record IsSideIndex (key : KeyAtom) (side : Side) (ts : List Tuple) (entries : List (ℤ × Vec ℕ Global)) : Type 0 where
-  pub index : IsMapOf (values_at key side ts) entries
-  pub columns : All (HasColumns key side) ts
+-- by what number a tuple of this side stands in the index: the key's value; where there is no key, its text's number
+abbrev pub indexed_at : Option KeyAtom → Option TextAtom → Side → Tuple → Option ℤ
+indexed_at (Some key) text side t = value_at key side t
+indexed_at None (Some text) side t = Some (pos (number_of (text_of text side t)))
+indexed_at None None side t = None
 
--- the same, where there is a key
-abbrev pub IsIndexed : Option KeyAtom → Side → List Tuple → List (ℤ × Vec ℕ Global) → Type 0
-IsIndexed None side ts entries = ⊤
-IsIndexed (Some key) side ts entries = IsSideIndex key side ts entries
+-- the numbers of the texts of tuples of this side
+abbrev pub numbers_at : TextAtom → Side → List Tuple → List (Option ℤ)
+numbers_at text side ts = map (indexed_at None (Some text) side) ts
+
+-- the index of a side's tuples, which have the key's columns
+pub record IsIndexed (key : Option KeyAtom) (text : Option TextAtom) (side : Side) (ts : List Tuple)
+    (entries : List (ℤ × Vec ℕ Global)) : Type 0 where
+  pub index : IsMapOf (map (indexed_at key text side) ts) entries
+  pub columns : All (FitsKeyAt key side) ts
 
 -- the tuples at these places
 abbrev pub at_places : {X : Type 0} → List X → List ℕ → List X

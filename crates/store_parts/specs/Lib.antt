@@ -2,3 +2,4 @@ pub mod Keyed
 pub mod Matches
 pub mod Places
 pub mod Stored
+pub mod Texts

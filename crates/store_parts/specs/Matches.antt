@@ -1,5 +1,6 @@
 -- What a probe finds, and how many tuples it evaluates.
 use Rattle.std.specs.Prelude.{◌≡◌, ℕ, ◌==◌, Bool, true, ◌&&◌, Option, Some, None, List, ◌++◌, map, filter, count_by}
+use Rattle.std.specs.Str.{bytes_eq}
 use Rattle.join_rows.specs.declared.table.Side.{Side}
 use Rattle.join_rows.specs.declared.table.Side.TheVariants.{R, S}
 use Rattle.join_rows.specs.Lists.{IsPrefix}
@@ -8,7 +9,9 @@ use Rattle.epoch_tags.specs.declared.tuple.Pair.{Pair}
 use Rattle.theta_pred.specs.Formula.{Meaning}
 use Rattle.theta_pred.specs.Truth.{holds, IsRowOf}
 use Rattle.theta_pred.specs.declared.atom.KeyAtom.{KeyAtom}
+use Rattle.theta_pred.specs.declared.text_atom.TextAtom.{TextAtom}
 use Rattle.store_parts.specs.Keyed.{is_key_true}
+use Rattle.store_parts.specs.Texts.{text_of}
 use Rattle.store_parts.specs.declared.which.Which.{Which}
 use Rattle.store_parts.specs.declared.which.Which.TheVariants.{All, OnlyStamp}
 
@@ -58,6 +61,14 @@ is_evaluated (Some key) t which other = is_named which other && is_key_true key 
 -- how many of the others a probe evaluates
 abbrev pub evaluated : Option KeyAtom → Tuple → Which → List Tuple → ℕ
 evaluated key t which others = count_by (is_evaluated key t which) others
+
+-- whether a tuple that probes and a stored one have equal texts
+abbrev pub has_same_text : TextAtom → Tuple → Tuple → Bool
+has_same_text text t other = bytes_eq (text_of text t.side t) (text_of text (other_side t.side) other)
+
+-- how many of the others a probe by their texts evaluates: those that are named and have the tuple's own text
+abbrev pub evaluated_by_text : TextAtom → Tuple → Which → List Tuple → ℕ
+evaluated_by_text text t which others = count_by (λ other. is_named which other && has_same_text text t other) others
 
 -- a front of the whole was appended
 pub record AppendsFront {X : Type 0} (old new whole : List X) : Type 0 where

@@ -5,15 +5,15 @@ ghost use Rattle.epoch_tags.specs.declared.tuple.Tuple.{Tuple};
 ghost use Rattle.migration_plan.specs.Steps.{holds};
 ghost use Rattle.store_parts.specs.Keyed.{FitsKeyAt, IsIndexed};
 
-use crate::band::value_of;
 use crate::index::Index;
+use crate::texts::indexed_at;
 use epoch_tags::{Tuple, Tuples};
 use grid_map::Shape;
 use join_rows::Side;
 use migration_plan::kept;
 use std::alloc::{AllocError, Global};
 use std::mem;
-use theta_pred::KeyAtom;
+use theta_pred::{KeyAtom, TextAtom};
 
 // Drops the last tuple. It takes no memory.
 fn drop_last(alloc: Global, tuples: &mut Tuples)
@@ -24,25 +24,23 @@ fn drop_last(alloc: Global, tuples: &mut Tuples)
     *tuples = Tuples::from_vec(held);
 }
 
-// Appends a tuple, and notes its value.
+// Appends a tuple, and notes its number, if it has one.
 pub(crate) fn add_to(
     alloc: Global,
     tuples: &mut Tuples,
     index: &mut Index,
     key: &Option<KeyAtom>,
+    text: Option<TextAtom>,
     side: Side,
     tuple: Tuple,
 ) -> Result<(), AllocError>
     requires columns { FitsKeyAt key.now side tuple }
-    requires indexed { IsIndexed key.now side tuples.old index.old.map.entries }
+    requires indexed { IsIndexed key.now text side tuples.old index.old.map.entries }
     ensures ok { OnOk result (tuples.new ≡ tuples.old ++ tuple ∷ []) }
     ensures err { OnErr result (tuples.new ≡ tuples.old) }
-    ensures indexed { IsIndexed key.now side tuples.new index.new.map.entries }
+    ensures indexed { IsIndexed key.now text side tuples.new index.new.map.entries }
 {
-    let Some(key) = key else {
-        return tuples.push(tuple);
-    };
-    let value = value_of(key, side, &tuple);
+    let value = indexed_at(key, text, side, &tuple);
     let place = tuples.len();
     tuples.push(tuple)?;
     if let Err(refused) = index.add(alloc, value, place) {
@@ -58,16 +56,17 @@ pub(crate) fn kept_side(
     tuples: &[Tuple],
     index: &Index,
     key: &Option<KeyAtom>,
+    text: Option<TextAtom>,
     side: Side,
     shape: Shape,
     id: u32,
 ) -> Result<(Tuples, Index), AllocError>
-    requires indexed { IsIndexed key.now side tuples.now index.now.map.entries }
+    requires indexed { IsIndexed key.now text side tuples.now index.now.map.entries }
     requires shift { shape.shift ≤ shape.k }
     requires k { shape.k ≤ 8 }
     requires id { id < 2 ^ shape.k }
     ensures kept { IfOk result (λ kept. kept.0 ≡ filter (holds shape.k shape.shift id) tuples.now) }
-    ensures indexed { IfOk result (λ kept. IsIndexed key.now side kept.0 kept.1.map.entries) }
+    ensures indexed { IfOk result (λ kept. IsIndexed key.now text side kept.0 kept.1.map.entries) }
 {
     let mut copies = Tuples::new(alloc);
     let mut copies_index = Index::new(alloc);
@@ -78,6 +77,7 @@ pub(crate) fn kept_side(
                 &mut copies,
                 &mut copies_index,
                 key,
+                text,
                 side,
                 tuple.copy()?,
             )?;

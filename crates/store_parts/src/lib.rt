@@ -8,11 +8,12 @@ mod kept_side;
 mod probe;
 mod steps;
 mod store;
+mod texts;
 mod which;
 
 pub use steps::Steps;
 pub use store::Store;
-pub use theta_pred::KeyAtom;
+pub use theta_pred::{KeyAtom, TextAtom};
 pub use which::Which;
 
 #[cfg(test)]

@@ -1,10 +1,12 @@
 // The pairs of a tuple with stored ones.
 
 ghost use Rattle.std.specs.Prelude.{◌≡◌, ◌+◌, ◌<◌, [], ◌∷◌, ◌++◌, length, All, count_by, filter, slice_get, Some, IfOk, OnOk, OnErr};
-ghost use Rattle.store_parts.specs.Keyed.{at_places, is_key_true, values_at, HasColumns};
+ghost use Rattle.store_parts.specs.Keyed.{at_places, is_key_true, numbers_at, values_at, HasColumns};
 ghost use Rattle.store_parts.specs.Matches.{
   does_match,
   evaluated,
+  evaluated_by_text,
+  has_same_text,
   is_named,
   matches,
   other_side,
@@ -14,16 +16,18 @@ ghost use Rattle.store_parts.specs.Matches.{
 };
 ghost use Rattle.store_parts.specs.Places.{IsMapOf};
 ghost use Rattle.theta_pred.specs.Keys.{atom_of, key_of};
+ghost use Rattle.theta_pred.specs.TextAtoms.{text_atom_of};
 
 use crate::band::{greatest, least, value_of};
 use crate::index::Index;
 use crate::steps::Steps;
+use crate::texts::{has_same_text, text_number};
 use crate::which::Which;
 use epoch_tags::{Pair, Pairs, Tuple};
 use join_rows::Side;
 use std::alloc::{AllocError, Global};
 use std::sync::ledger::Ledger;
-use theta_pred::{KeyAtom, Theta};
+use theta_pred::{KeyAtom, TextAtom, Theta};
 
 // The pair of two tuples of different sides.
 fn pair_of(tuple: &Tuple, other: &Tuple) -> Pair
@@ -180,4 +184,69 @@ pub(crate) fn seek<L: Ledger>(
     theta.key_law();
     let places = candidates(alloc, tuple, others, index, key)?;
     try_places(tuple, others, &places, theta, which, found, steps)
+}
+
+// Of these places those of the stored tuples with the tuple's text.
+fn places_of_same_text(
+    alloc: Global,
+    tuple: &Tuple,
+    others: &[Tuple],
+    text: TextAtom,
+    places: &[u64],
+) -> Result<Vec<u64>, AllocError>
+    requires { All (λ place. place < length others.now) places.now }
+    ensures same { IfOk result (λ kept. at_places others.now kept.items
+        ≡ filter (has_same_text text tuple.now) (at_places others.now places.now)) }
+    ensures below { IfOk result (λ kept. All (λ place. place < length others.now) kept.items) }
+{
+    let mut kept = Vec::new(alloc);
+    for place in places {
+        if has_same_text(text, tuple, at(others, *place)) {
+            kept.push(*place)?;
+        }
+    }
+    Ok(kept)
+}
+
+// The places, rising, of the stored tuples with the number of the tuple's text.
+fn places_of_number(
+    alloc: Global,
+    tuple: &Tuple,
+    others: &[Tuple],
+    index: &Index,
+    text: TextAtom,
+) -> Result<Vec<u64>, AllocError>
+    requires { IsMapOf (numbers_at text (other_side tuple.now.side) others.now) index.now.map.entries }
+    ensures texts { IfOk result (λ places. filter (has_same_text text tuple.now) (at_places others.now places.items)
+        ≡ filter (has_same_text text tuple.now) others.now) }
+    ensures below { IfOk result (λ places. All (λ place. place < length others.now) places.items) }
+{
+    let number = text_number(text, tuple.side, tuple);
+    index.between(alloc, Some(number), Some(number))
+}
+
+// The tuples of the other side with the tuple's text.
+pub(crate) fn seek_text<L: Ledger>(
+    alloc: Global,
+    tuple: &Tuple,
+    others: &[Tuple],
+    index: &Index,
+    text: TextAtom,
+    theta: &Theta,
+    which: Which,
+    found: &mut Pairs,
+    steps: &mut Steps<L>,
+) -> Result<(), AllocError>
+    requires width { HasWidth theta.now tuple.now.side tuple.now }
+    requires other_widths { All (HasWidth theta.now (other_side tuple.now.side)) others.now }
+    requires own { text_atom_of theta.now.formula ≡ Some text }
+    requires index { IsMapOf (numbers_at text (other_side tuple.now.side) others.now) index.now.map.entries }
+    ensures ok { OnOk result (found.new ≡ found.old ++ matches theta.now tuple.now which others.now) }
+    ensures err { OnErr result (AppendsFront found.old found.new (matches theta.now tuple.now which others.now)) }
+    ensures steps { OnOk result (steps.new ≡ steps.old + evaluated_by_text text tuple.now which others.now) }
+{
+    theta.text_law();
+    let places = places_of_number(alloc, tuple, others, index, text)?;
+    let kept = places_of_same_text(alloc, tuple, others, text, &places)?;
+    try_places(tuple, others, &kept, theta, which, found, steps)
 }

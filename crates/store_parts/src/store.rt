@@ -1,15 +1,17 @@
 // The store.
 
-ghost use Rattle.std.specs.Prelude.{◌≡◌, ◌+◌, ◌<◌, ◌≤◌, ◌^◌, [], ◌++◌, All, IfOk, OnOk, OnErr};
+ghost use Rattle.std.specs.Prelude.{◌≡◌, ◌+◌, ◌<◌, ◌≤◌, ◌^◌, [], ◌++◌, Some, None, All, IfOk, OnOk, OnErr};
 ghost use Rattle.store_parts.specs.Keyed.{FitsKey, IsOwn};
-ghost use Rattle.store_parts.specs.Matches.{evaluated, matches, AppendsFront, HasWidth};
+ghost use Rattle.store_parts.specs.Matches.{evaluated, evaluated_by_text, matches, AppendsFront, HasWidth};
 ghost use Rattle.store_parts.specs.Stored.{kept_of, others_of, side_of, with_tuple, HaveWidths};
+ghost use Rattle.store_parts.specs.Texts.{text_by};
 
 use crate::copies::key_copy;
 use crate::index::Index;
 use crate::kept_side::{add_to, kept_side};
-use crate::probe::{scan, seek};
+use crate::probe::{scan, seek, seek_text};
 use crate::steps::Steps;
+use crate::texts::own_text;
 use crate::which::Which;
 use epoch_tags::{Pairs, Tuple, Tuples};
 use grid_map::Shape;
@@ -17,12 +19,13 @@ use join_rows::Side;
 use std::alloc::{AllocError, Global};
 use std::marker::{Brand, Model};
 use std::sync::ledger::{Blank, Ledger};
-use theta_pred::{KeyAtom, Theta};
+use theta_pred::{KeyAtom, TextAtom, Theta};
 
 /// The tuples of both sides that a joiner holds, those of a side in the order of adding.
 #[derive(Drop)]
 pub struct Store {
     key: Option<KeyAtom>,
+    text: Option<TextAtom>,
     r: Tuples,
     r_index: Index,
     s: Tuples,
@@ -37,11 +40,11 @@ impl Model for Store {
 
     ghost Value = { Stored };
 
-    ghost view = { λ store. record { key = store.key; r = store.r; s = store.s } };
+    ghost view = { λ store. record { key = store.key; text = store.text; r = store.r; s = store.s } };
 
     ghost invariant = { λ store. AreSided store.r store.s
-        × IsIndexed store.key R store.r store.r_index.map.entries
-        × IsIndexed store.key S store.s store.s_index.map.entries };
+        × IsIndexed store.key store.text R store.r store.r_index.map.entries
+        × IsIndexed store.key store.text S store.s store.s_index.map.entries };
 }
 
 // A probe that counts from this blank on.
@@ -71,10 +74,27 @@ fn probe_from<L: Ledger>(
 impl Store {
     /// A store with no tuples. It takes no memory.
     pub fn new(alloc: Global, key: Option<KeyAtom>) -> Store
-        ensures { result ≡ record { key = key; r = []; s = [] } }
+        ensures { result ≡ record { key = key; text = None; r = []; s = [] } }
     {
         Store {
             key,
+            text: None,
+            r: Tuples::new(alloc),
+            r_index: Index::new(alloc),
+            s: Tuples::new(alloc),
+            s_index: Index::new(alloc),
+            alloc,
+        }
+    }
+
+    /// A store with no tuples and no key, whose probes look by the texts of these columns where the predicate has this
+    /// text atom. It takes no memory.
+    pub fn by_text(alloc: Global, text: TextAtom) -> Store
+        ensures { result ≡ record { key = None; text = Some text; r = []; s = [] } }
+    {
+        Store {
+            key: None,
+            text: Some(text),
             r: Tuples::new(alloc),
             r_index: Index::new(alloc),
             s: Tuples::new(alloc),
@@ -96,6 +116,7 @@ impl Store {
                 &mut self.r,
                 &mut self.r_index,
                 &self.key,
+                self.text,
                 Side::R,
                 tuple,
             ),
@@ -104,6 +125,7 @@ impl Store {
                 &mut self.s,
                 &mut self.s_index,
                 &self.key,
+                self.text,
                 Side::S,
                 tuple,
             ),
@@ -148,8 +170,11 @@ impl Store {
             OnOk result (found.new ≡ found.old ++ matches theta.now tuple.now which others) }
         ensures err { let others = others_of self.now tuple.now in
             OnErr result (AppendsFront found.old found.new (matches theta.now tuple.now which others)) }
-        ensures steps { let others = others_of self.now tuple.now in
-            OnOk result (steps.new ≡ steps.old + evaluated self.now.key tuple.now which others) }
+        ensures steps { let others = others_of self.now tuple.now in text_by theta.now self.now.key self.now.text ≡ None
+            → OnOk result (steps.new ≡ steps.old + evaluated self.now.key tuple.now which others) }
+        ensures text_steps { let others = others_of self.now tuple.now in
+            (text : TextAtom) → text_by theta.now self.now.key self.now.text ≡ Some text
+            → OnOk result (steps.new ≡ steps.old + evaluated_by_text text tuple.now which others) }
     {
         let (others, index) = match tuple.side {
             Side::R => (self.s.as_slice(), &self.s_index),
@@ -159,7 +184,12 @@ impl Store {
             Some(key) => seek(
                 self.alloc, tuple, others, index, key, theta, which, found, steps,
             ),
-            None => scan(tuple, others, theta, which, found, steps),
+            None => match own_text(theta, self.text) {
+                Some(text) => seek_text(
+                    self.alloc, tuple, others, index, text, theta, which, found, steps,
+                ),
+                None => scan(tuple, others, theta, which, found, steps),
+            },
         }
     }
 
@@ -182,7 +212,7 @@ impl Store {
         probe_from::<Brand>(self, tuple, theta, which, found, Blank::new(1))
     }
 
-    /// A store with the same key, and copies of the tuples that the joiner holds in a grid of this shape.
+    /// A store with the same key and text atom, and copies of the tuples that the joiner holds in a grid of this shape.
     pub fn kept_copy(&self, shape: Shape, id: u32) -> Result<Store, AllocError>
         requires shift { shape.shift ≤ shape.k }
         requires k { shape.k ≤ 8 }
@@ -195,6 +225,7 @@ impl Store {
             self.r.as_slice(),
             &self.r_index,
             &self.key,
+            self.text,
             Side::R,
             shape,
             id,
@@ -204,12 +235,14 @@ impl Store {
             self.s.as_slice(),
             &self.s_index,
             &self.key,
+            self.text,
             Side::S,
             shape,
             id,
         )?;
         Ok(Store {
             key,
+            text: self.text,
             r,
             r_index,
             s,

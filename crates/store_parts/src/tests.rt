@@ -12,7 +12,7 @@ use std::marker::Brand;
 use std::process::Abort;
 use std::sync::ledger::{Blank, Ledger};
 use std::test::*;
-use theta_pred::{Theta, parse, resolve};
+use theta_pred::{TextAtom, Theta, parse, resolve};
 
 fn indices(alloc: Global, tuples: &Tuples) -> Result<Vec<u32>, AllocError> {
     let mut indices = Vec::new(alloc);
@@ -155,19 +155,16 @@ fn add(store: &mut Store, theta: &Theta, tuple: Tuple) -> Result<(), AllocError>
     store.add(tuple)
 }
 
-fn stored(
-    alloc: Global,
-    theta: &Theta,
-    key: Option<KeyAtom>,
-    lines: &[&str],
-) -> Result<Store, AllocError>
+// That store, with the tuples of these lines.
+fn filled(alloc: Global, theta: &Theta, store: Store, lines: &[&str]) -> Result<Store, AllocError>
     requires r { theta.now.width_r ≡ 2 }
     requires s { theta.now.width_s ≡ 2 }
-    requires own { IsOwn theta.now key }
+    requires widths { HaveWidths theta.now store }
+    requires own { IsOwn theta.now store.key }
     ensures widths { IfOk result (λ store. HaveWidths theta.now store) }
     ensures own { IfOk result (λ store. IsOwn theta.now store.key) }
 {
-    let mut store = Store::new(alloc, key);
+    let mut store = store;
     for line in lines {
         let tuple = tuple(alloc, line)?;
         add(&mut store, theta, tuple)?;
@@ -343,11 +340,32 @@ fn find_with(
     requires s { theta.now.width_s ≡ 2 }
     requires own { IsOwn theta.now key }
 {
-    let store = stored(alloc, theta, key, lines)?;
+    let store = filled(alloc, theta, Store::new(alloc, key), lines)?;
     find(rt, alloc, &store, theta, probes)
 }
 
-// The same with no key, with the predicate's, and with a copy of it.
+// That a store by these texts finds these.
+fn find_by_text(
+    rt: &impl Abort,
+    alloc: Global,
+    theta: &Theta,
+    text: TextAtom,
+    lines: &[&str],
+    probes: &[&str],
+) -> Result<(), AllocError>
+    requires r { theta.now.width_r ≡ 2 }
+    requires s { theta.now.width_s ≡ 2 }
+{
+    let store = filled(alloc, theta, Store::by_text(alloc, text), lines)?;
+    find(rt, alloc, &store, theta, probes)
+}
+
+// The predicate's text atom, or an atom that isn't its own and is of a column that no row has.
+fn text_atom(theta: &Theta) -> TextAtom {
+    theta.text_atom().unwrap_or(TextAtom { r: 0, s: 2 })
+}
+
+// The same with no key, with the predicate's, with a copy of it, and by texts.
 fn find_with_each(
     rt: &impl Abort,
     alloc: Global,
@@ -360,7 +378,8 @@ fn find_with_each(
 {
     find_with(rt, alloc, theta, no_key(theta), lines, probes)?;
     find_with(rt, alloc, theta, key(theta)?, lines, probes)?;
-    find_with(rt, alloc, theta, key_copy(alloc, theta)?, lines, probes)
+    find_with(rt, alloc, theta, key_copy(alloc, theta)?, lines, probes)?;
+    find_by_text(rt, alloc, theta, text_atom(theta), lines, probes)
 }
 
 // That a store of these lines finds these, whatever its key.
@@ -391,9 +410,11 @@ fn a_probe_finds_the_named_that_match(rt: HostRuntime) -> Result<(), Fail> {
             "S 2 1 - b",
             "R 1 1 - c",
             "S 3 0 - a",
+            "S 4 0 - \0a", // its text has the number of a
         ],
         &[
             "R 9 0 - a among all finds [9 0][9 1][9 3]",
+            "R 9 0 - \0a among all finds [9 4]",
             "R 9 0 - a among 1 finds [9 1]",
             "R 9 0 - z among all finds ",
             "S 9 0 - b among all finds [0 9]",
