@@ -20,6 +20,20 @@ use std::alloc::{AllocError, Global};
 use store_parts::Store;
 use theta_pred::Theta;
 
+// A store with no tuples and the predicate's key atom; where there is none, by its text atom.
+fn empty_store(alloc: Global, theta: &Theta) -> Result<Store, AllocError>
+    ensures empty { IfOk result (λ store. tuples_of store ≡ []) }
+    ensures key { IfOk result (λ store. IsKeyOf theta.now store.key) }
+{
+    if let Some(key) = theta.key_atom()? {
+        return Ok(Store::new(alloc, Some(key)));
+    }
+    match theta.text_atom() {
+        Some(text) => Ok(Store::by_text(alloc, text)),
+        None => Ok(Store::new(alloc, None)),
+    }
+}
+
 impl<'a> Joiner<'a> {
     /// Joiner `id` of `2^k`, at epoch 0 and with an empty store. Each feeder has a link to it.
     pub fn start(
@@ -47,7 +61,7 @@ impl<'a> Joiner<'a> {
             0,
             feeders,
             theta,
-            Store::new(alloc, theta.key_atom()?),
+            empty_store(alloc, theta)?,
         )
     }
 
