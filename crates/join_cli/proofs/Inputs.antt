@@ -1,5 +1,5 @@
 -- What is joined is a valid input, and the journal of its run one of a lawful controller.
-use Rattle.std.proofs.Common.{◌≡◌, ◌<◌, ◌^◌, ℕ, Option, Some, None, List, All, length, sym, ◌∙◌, ap, subst}
+use Rattle.std.proofs.Common.{◌≡◌, ◌<◌, ◌^◌, ℕ, None, List, All, length, sym, ◌∙◌, ap, subst}
 use Rattle.std.proofs.lemmas.List.FromFn.{length-map-range_with_len}
 use Rattle.join_rows.specs.Records.{IsTable}
 use Rattle.join_rows.specs.declared.table.Side.{Side}
@@ -15,7 +15,6 @@ use Rattle.trace_law.proofs.FixedShift.{all_stay, no_migration}
 use Rattle.trace_law.proofs.Validity.{both_sides}
 use Rattle.join_words.specs.Words.{Asked}
 use Rattle.join_cli.specs.declared.plan.Planned.{Planned}
-use Rattle.load_controller.specs.declared.line.TurnLine.{TurnLine}
 use Rattle.join_runtime.specs.Endings.{EndsView}
 use Rattle.join_cli.specs.Courses.{IsCourseOf, IsRunInThreads, WentAs}
 use Rattle.join_cli.specs.Plan.{IsFit, IsJournalOf, input_of, setting_of, tickets_of}

@@ -12,3 +12,4 @@ pub mod EarlyOutput
 pub mod Inputs
 pub mod Reports
 pub mod FixedOutput
+pub mod Past

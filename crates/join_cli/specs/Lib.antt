@@ -8,3 +8,5 @@ pub mod Courses
 pub mod Early
 pub mod Ends
 pub mod Seen
+pub mod Programs
+pub mod Past

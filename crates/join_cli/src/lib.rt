@@ -4,6 +4,7 @@
 mod columns;
 mod conclude;
 mod early;
+mod entry;
 mod laws;
 mod numbers;
 mod outcome;
@@ -16,8 +17,9 @@ mod run;
 mod text;
 mod top;
 
+pub use entry::{Ended, command_words, jm_program};
 pub use join_words::WordsFault;
-pub use laws::fixed_output_is_one;
+pub use laws::{fixed_output_is_one, past_is_too_long};
 pub use outcome::{InputFault, LimitFault, Outcome, TextFault};
 pub use program::{exit_code, jm_main, tell};
 pub use top::join_main;

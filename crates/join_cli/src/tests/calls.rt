@@ -1,6 +1,6 @@
 // Calls that fail, and pieces.
 
-use super::{NEVER, ends, words};
+use super::{NEVER, ROOM, ends_within, words};
 use crate::join_main;
 use join_rows::{ListSink, MapShelf};
 use std::alloc::{AllocError, Global};
@@ -13,21 +13,34 @@ const R: &str = "id,x\n1,10\n2,20\n3,30\n";
 
 const S: &str = "id,y\n1,20\n2,30\n3,20\n";
 
+const PAIRS: &str = "2,1\n2,3\n3,2\n";
+
 #[test]
 fn tells_failing_calls(rt: HostRuntime) -> Result<(), Fail> {
     let cases = [
-        (NEVER, 1, NEVER, 6, "read: failed\n"),
-        (NEVER, 3, NEVER, 6, "read: failed\n"),
-        (1, NEVER, NEVER, 6, "read: failed\n"),
-        (2, NEVER, 1, 6, "read: failed\n"),
-        (NEVER, NEVER, 1, 7, "write: failed\n"),
+        (1, NEVER, NEVER, ROOM, (6, "read: failed\n", "")),
+        (2, NEVER, NEVER, ROOM, (6, "read: failed\n", "")),
+        (NEVER, 1, NEVER, ROOM, (6, "read: failed\n", "")),
+        (NEVER, 2, NEVER, ROOM, (6, "read: failed\n", "")),
+        (NEVER, 3, NEVER, ROOM, (6, "read: failed\n", "")),
+        (NEVER, 4, 1, ROOM, (6, "read: failed\n", "")),
+        (3, 5, 2, ROOM, (0, "", PAIRS)),
+        (NEVER, NEVER, 1, ROOM, (7, "write: failed\n", "")),
+        (NEVER, NEVER, NEVER, 0, (7, "write: failed\n", "")),
     ];
-    for (pick, read, put, status, line) in cases {
+    for (pick, read, put, room, wanted) in cases {
         let texts = ["jm", "--on", "r.x = s.y", "r", "s"];
         let calls = (pick, read, put);
-        let wanted = (status, line, "");
-        let same = ends(&rt, rt.alloc(), texts.as_slice(), (R, S), calls, wanted)?;
-        assert!(rt; same);
+        let same = ends_within(
+            &rt,
+            rt.alloc(),
+            texts.as_slice(),
+            (R, S),
+            calls,
+            room,
+            wanted,
+        )?;
+        assert!(rt; same, "pick {pick}, read {read}, put {put}");
     }
     Ok(())
 }

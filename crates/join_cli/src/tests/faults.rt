@@ -12,7 +12,7 @@ const S: &str = "id,y\n1,20\n2,30\n3,20\n";
 
 const USAGE: &str = "usage: jm --on TEXT [options] R.csv S.csv\n";
 
-// Whether the words are refused so.
+// Whether the words are refused so, or write nothing.
 fn refuses<R: Threads + Wait + Sync>(
     rt: &R,
     alloc: Global,
@@ -165,6 +165,28 @@ fn looks_in_order(rt: HostRuntime) -> Result<(), Fail> {
     ];
     for (texts, status, line) in cases {
         let same = refuses(&rt, rt.alloc(), texts, ("a,b\n1,2\n3\n", S), status, line)?;
+        assert!(rt; same, "for {line}");
+    }
+    Ok(())
+}
+
+#[test]
+fn reads_files_that_are_cut(rt: HostRuntime) -> Result<(), Fail> {
+    let on = "abs(r.at - s.at) <= 2 and r.\"Unit Price\" >= s.bid";
+    let r = "\u{feff}trade,\"Unit Price\",at\r\nT1,105,900\r\n\"T,2\",99,903\r\n";
+    let cases = [
+        ("", 4, "input: S has no header\n"),
+        ("quote,bid,at", 0, ""),
+        ("quote,bid,at\r\n", 0, ""),
+        (
+            "quote,bid,at\r\nQ1,100,898\r\nQ2,101,902\r\nQ3,97",
+            4,
+            "input: S row 3 has 2 fields\n",
+        ),
+    ];
+    for (s, status, line) in cases {
+        let texts = ["jm", "--on", on, "r", "s"];
+        let same = refuses(&rt, rt.alloc(), texts.as_slice(), (r, s), status, line)?;
         assert!(rt; same, "for {line}");
     }
     Ok(())

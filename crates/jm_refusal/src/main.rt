@@ -1,0 +1,16 @@
+//! `jm` again, for a stored run of a refusal.
+#![tactic(auto)]
+
+use join_cli::{Ended, command_words, jm_program};
+use join_rows::{DiskShelf, StdSink};
+
+fn main(rt: HostRuntime) -> Ended {
+    jm_program(
+        &rt,
+        rt.alloc(),
+        command_words(&rt),
+        &mut DiskShelf::new(rt.alloc(), &rt),
+        &mut StdSink::new(rt.stdout()),
+        &mut StdSink::new(rt.stderr()),
+    )
+}

@@ -1,0 +1,5 @@
+use Rattle.join_cli.proofs.Past.{past_is_too_long}
+use Rattle.join_cli.proofs.laws.past_is_too_long.Goals as goal
+
+pub returns : goal.returns
+returns c = λ told spot asked tree old new outcome name place over is past. past_is_too_long told spot asked tree old new outcome name place over is past

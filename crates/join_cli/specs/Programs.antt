@@ -1,0 +1,21 @@
+-- What a run of the program with its words leaves.
+use Rattle.std.specs.Prelude.{◌≡◌, ℕ, List, Option, Ok}
+use Rattle.join_rows.specs.Shelves.{Told}
+use Rattle.load_controller.specs.declared.line.TurnLine.{TurnLine}
+use Rattle.join_runtime.specs.Endings.{EndsView}
+use Rattle.join_words.specs.Words.{Asked, asked_of}
+use Rattle.join_cli.specs.Ends.{Wrote, WroteFront}
+
+-- the output of what these words ask for was written, over the journal of a run of it
+pub record WroteBy (words : List (List ℕ)) (told : Told) (old new : Option (List ℕ)) : Type 0 where
+  pub asked : Asked
+  pub are : asked_of words ≡ Ok asked
+  pub journal : List TurnLine
+  pub trail : List EndsView
+  pub wrote : Wrote told asked journal trail old new
+
+-- a front of such an output was written
+pub record WroteFrontBy (words : List (List ℕ)) (told : Told) (old new : Option (List ℕ)) : Type 0 where
+  pub asked : Asked
+  pub are : asked_of words ≡ Ok asked
+  pub wrote : WroteFront told asked old new

@@ -1,0 +1,111 @@
+// The whole program, over its words, a shelf and two streams.
+
+ghost use Rattle.std.specs.Prelude.{◌≡◌, ◌≢◌, ◌⊎◌, ◌<◌, ◌≤◌, Ok, false, IfErr, IsErr, IsOkAnd, map, string_bytes};
+ghost use Rattle.std.specs.Process.{exit_status};
+ghost use Rattle.join_rows.specs.Shelves.{last_fault};
+ghost use Rattle.join_words.specs.Words.{Asked, asked_of};
+ghost use Rattle.join_cli.specs.Ends.{LacksOne};
+ghost use Rattle.join_cli.specs.Programs.{WroteBy, WroteFrontBy};
+
+use crate::outcome::Outcome;
+use crate::program::{exit_code, jm_main, tell};
+use join_rows::{Shelf, Sink};
+use std::alloc::{AllocError, Global};
+use std::marker::Model;
+use std::process::{ExitCode, Termination};
+use std::rt::Env;
+use std::sync::Wait;
+use std::thread::Threads;
+use std::{env, io};
+use worker_gate::NoGate;
+
+/// The exit status of a run of the program. Only `jm_program` makes one, so a `main` that answers it ends with no other.
+#[derive(Drop)]
+pub struct Ended {
+    code: ExitCode,
+}
+
+impl Model for Ended {
+    ghost use Rattle.std.specs.Prelude.{ℕ};
+    ghost use Rattle.std.specs.Process.{exit_status};
+
+    ghost Value = { ℕ };
+
+    ghost view = { λ ended. exit_status ended.code };
+}
+
+impl Ended {
+    /// The exit code.
+    pub fn code(&self) -> ExitCode
+        ensures { exit_status result ≡ self.now }
+    {
+        self.code
+    }
+}
+
+impl Termination for Ended {
+    fn report<R: Eprint>(self, _rt: &R) -> ExitCode
+        ensures { exit_status result ≡ self }
+    {
+        self.code
+    }
+}
+
+/// The words of the command line, the program's name first. Words of which one isn't UTF-8 have no match, and are taken
+/// as none.
+pub fn command_words<V: Env + AllocGlobal>(process: &V) -> Result<Vec<String>, AllocError> {
+    let mut words = Vec::new(process.alloc());
+    match env::args(process) {
+        Ok(args) => {
+            for word in args {
+                words.push(word)?;
+            }
+        }
+        Err(error) if error.kind() == io::ErrorKind::OutOfMemory => return Err(AllocError),
+        Err(_) => {}
+    }
+    Ok(words)
+}
+
+/// The program `jm`: runs what the words ask for, puts the output on `sink` and the one line of an outcome that isn't
+/// `Done` on `errors`, and answers the exit status; with no words for want of memory, too. What it promises holds if it
+/// returns.
+pub fn jm_program<R: Threads + Wait + Sync, H: Shelf, K: Sink, E: Sink>(
+    rt: &R,
+    alloc: Global,
+    words: Result<Vec<String>, AllocError>,
+    shelf: &mut H,
+    sink: &mut K,
+    errors: &mut E,
+) -> Ended
+    requires shelf { H.faults shelf.old < last_fault }
+    requires sink { K.faults sink.old < last_fault }
+    ensures done { result ≡ 0 → IsOkAnd words (λ given.
+        WroteBy (map string_bytes given.items) (H.told shelf.old) (K.written sink.old) (K.written sink.new)) }
+    ensures quiet { result ≡ 0 → errors.new ≡ errors.old }
+    ensures nothing { result ≢ 0 → result ≢ 7 → result ≢ 8 → sink.new ≡ sink.old }
+    ensures spared { (asked : Asked) → IsOkAnd words (λ given. asked_of (map string_bytes given.items) ≡ Ok asked)
+        → asked.early ≡ false → result ≡ 8 → sink.new ≡ sink.old }
+    ensures words { IsOkAnd words (λ given. IsErr (asked_of (map string_bytes given.items)))
+        → ((result ≡ 2) ⊎ (result ≡ 8)) × (sink.new ≡ sink.old) }
+    ensures only_words { result ≡ 2
+        → IsOkAnd words (λ given. IsErr (asked_of (map string_bytes given.items))) }
+    ensures read { (asked : Asked) → IsOkAnd words (λ given. asked_of (map string_bytes given.items) ≡ Ok asked)
+        → result ≡ 6 → (H.faults shelf.old < H.faults shelf.new) ⊎ LacksOne (H.told shelf.old) asked }
+    ensures write { result ≡ 7 → K.faults sink.old < K.faults sink.new }
+    ensures front { result ≡ 7 → IsOkAnd words (λ given.
+        WroteFrontBy (map string_bytes given.items) (H.told shelf.old) (K.written sink.old) (K.written sink.new)) }
+    ensures memory { IfErr words (λ fault. (result ≡ 8) × (sink.new ≡ sink.old)) }
+    ensures statuses { (result ≡ 0) ⊎ ((2 ≤ result) × (result ≤ 8)) }
+{
+    let outcome = match words {
+        Ok(words) => jm_main(rt, alloc, &words, shelf, sink, errors, &NoGate),
+        Err(AllocError) => {
+            tell(alloc, &Outcome::Memory, errors);
+            Outcome::Memory
+        }
+    };
+    Ended {
+        code: exit_code(&outcome),
+    }
+}
