@@ -1,0 +1,13 @@
+use Rattle.std.proofs.Common.{◌≡◌, ◌∙◌, sym, drop, length, arith}
+use Rattle.std.proofs.lemmas.Bool.Decides.{Decides-eqb}
+use Rattle.std.proofs.lemmas.Slice.{between_to_end}
+use Rattle.std.proofs.lemmas.Slice.Eq.{slice_eq-Decides}
+use Rattle.report_picture.proofs.Endings.{ends}
+use Rattle.report_picture.proofs.read.ends_with.Goals as goal
+
+pub returns-then-begins_line : goal.returns-then-begins_line
+returns-then-begins_line c same =
+    let rest : drop c.args.place c.args.text.now ≡ c.args.end.now =
+    sym (between_to_end c.args.text.now c.args.place (length c.args.text.now) (omega arith))
+    ∙ (slice_eq-Decides Decides-eqb _ _ _ c.eq.ensures).0 same in
+    ends c.args.text.now c.args.end.now c.args.place (c.begins_line.ensures c.if-begins_line.true) rest

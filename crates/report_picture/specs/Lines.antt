@@ -1,0 +1,76 @@
+-- The lines of a report.
+use Rattle.std.specs.Prelude.{◌≡◌, ◌≤◌, ◌<◌, ◌+◌, ◌*◌, ◌^◌, ◌++◌, ◌⊎◌, ℕ, All, List, [], ◌∷◌, flat_map, length, codes}
+use Rattle.std.specs.List.{enumerate_from}
+use Rattle.std.specs.Fmt.{decimal}
+use Rattle.report_picture.specs.declared.report.Step.{Step}
+use Rattle.report_picture.specs.declared.report.Joiner.{Joiner}
+use Rattle.report_picture.specs.declared.report.Report.{Report}
+
+-- the numbers of rows
+abbrev pub input_line : ℕ → ℕ → List ℕ
+input_line x y = codes "input " ++ decimal x ++ codes " " ++ decimal y ++ codes "\n"
+
+-- the grid of an epoch, and how many rows moved in the step to it
+abbrev pub grid_line : ℕ → Step → List ℕ
+grid_line epoch step =
+    codes "grid " ++ decimal epoch ++ codes " " ++ decimal step.n ++ codes " " ++ decimal step.m
+    ++ codes " moved " ++ decimal step.moved ++ codes "\n"
+
+-- the lines of all steps, the first of which leads to epoch 1
+abbrev pub grid_lines : List Step → List ℕ
+grid_lines steps = flat_map (λ step. grid_line (step.0 + 1) step.1) (enumerate_from 0 steps)
+
+-- the last grid, its copies, and the fewest
+abbrev pub final_line : ℕ → ℕ → ℕ → ℕ → List ℕ
+final_line n m copies best =
+    codes "final " ++ decimal n ++ codes " " ++ decimal m
+    ++ codes " copies " ++ decimal copies ++ codes " best " ++ decimal best ++ codes "\n"
+
+-- the rows that a joiner holds, and the pairs that it made
+abbrev pub joiner_line : ℕ → Joiner → List ℕ
+joiner_line id joiner =
+    codes "joiner " ++ decimal id ++ codes " held " ++ decimal joiner.rows_r ++ codes " " ++ decimal joiner.rows_s
+    ++ codes " made " ++ decimal joiner.made ++ codes "\n"
+
+-- the lines of all joiners, numbered from 0
+abbrev pub joiner_lines : List Joiner → List ℕ
+joiner_lines joiners = flat_map (λ joiner. joiner_line joiner.0 joiner.1) (enumerate_from 0 joiners)
+
+-- the numbers of rows, the steps, the last grid, and the joiners
+abbrev pub report_lines : Report → List ℕ
+report_lines report =
+    input_line report.x report.y ++ grid_lines report.steps.items ++ final_line report.n report.m report.copies report.best
+    ++ joiner_lines report.joiners.items
+
+-- a number of rows or columns of a grid
+abbrev pub IsSide : ℕ → Type 0
+IsSide n = (0 < n) × (n ≤ 64)
+
+abbrev pub HasSides : Step → Type 0
+HasSides step = IsSide step.n × IsSide step.m
+
+-- each grid has 1 to 64 rows and as many columns, and there are at most 2 ^ 16 steps
+pub record HasGrids (report : Report) : Type 0 where
+  pub steps : All HasSides report.steps.items
+  pub few : length report.steps.items ≤ 2 ^ 16
+  pub n : IsSide report.n
+  pub m : IsSide report.m
+
+-- and the last grid has all its joiners
+pub record IsWhole (report : Report) : Type 0 where
+  pub grids : HasGrids report
+  pub joiners : length report.joiners.items ≡ report.n * report.m
+
+-- lines that end with line feeds, or nothing
+abbrev pub AreLines : List ℕ → Type 0
+AreLines text = (text ≡ []) ⊎ ((front : List ℕ) × (text ≡ front ++ 10 ∷ []))
+
+-- some lines, and then just this text
+pub record EndsWith (text end : List ℕ) : Type 0 where
+  pub before : List ℕ
+  pub lines : AreLines before
+  pub joined : text ≡ before ++ end
+
+-- some lines, and then just the lines of this report
+abbrev pub EndsWithReport : List ℕ → Report → Type 0
+EndsWithReport text report = EndsWith text (report_lines report)

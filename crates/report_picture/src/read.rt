@@ -1,0 +1,195 @@
+// A report's numbers, read back from its text. The lines are read loosely, each number by its place in its line,
+// into a report that is whole in any case; the text of that report is then compared with the one that was read.
+
+ghost use Rattle.std.specs.Prelude.{◌≡◌, ◌≤◌, ◌<◌, ◌+◌, ℕ, Err, IfOk, IsTrue, OnOk, length, take};
+ghost use Rattle.report_picture.specs.Lines.{AreLines, EndsWith, EndsWithReport, HasGrids, IsSide, IsWhole};
+ghost use Rattle.report_picture.specs.declared.error.ReportError.TheVariants.{Line};
+
+use crate::error::ReportError;
+use crate::lines::lines_text;
+use crate::report::{Joiner, Report, Step};
+use std::alloc::{AllocError, Global};
+use std::str;
+
+// The number that a word of a line writes, the words parted by spaces; 0 where there is none.
+fn number(line: &[u8], place: usize) -> u64 {
+    let Some(word) = line.split(|byte| *byte == b' ').nth(place) else {
+        return 0;
+    };
+    let Ok(word) = str::from_utf8(word) else {
+        return 0;
+    };
+    word.parse().unwrap_or(0)
+}
+
+// The same as a number of rows or columns, the nearest one.
+fn side(line: &[u8], place: usize) -> u64
+    ensures { IsSide result }
+{
+    number(line, place).clamp(1, 64)
+}
+
+// As many steps as a report has at most.
+const MOST_STEPS: usize = 65536;
+
+fn take_grid(report: &mut Report, line: &[u8]) -> Result<(), AllocError>
+    requires { HasGrids report.old }
+    ensures { HasGrids report.new }
+{
+    if report.steps.len() < MOST_STEPS {
+        report.steps.push(Step {
+            n: side(line, 2),
+            m: side(line, 3),
+            moved: number(line, 5),
+        })?;
+    }
+    Ok(())
+}
+
+fn take_final(report: &mut Report, line: &[u8])
+    requires { HasGrids report.old }
+    ensures { HasGrids report.new }
+{
+    report.n = side(line, 1);
+    report.m = side(line, 2);
+    report.copies = number(line, 4);
+    report.best = number(line, 6);
+}
+
+fn take_joiner(report: &mut Report, line: &[u8]) -> Result<(), AllocError>
+    requires { HasGrids report.old }
+    ensures { HasGrids report.new }
+{
+    report.joiners.push(Joiner {
+        rows_r: number(line, 3),
+        rows_s: number(line, 4),
+        made: number(line, 6),
+    })?;
+    Ok(())
+}
+
+fn take_line(report: &mut Report, line: &[u8]) -> Result<(), AllocError>
+    requires { HasGrids report.old }
+    ensures { HasGrids report.new }
+{
+    if line.starts_with(b"input ") {
+        report.x = number(line, 1);
+        report.y = number(line, 2);
+    } else if line.starts_with(b"grid ") {
+        take_grid(report, line)?;
+    } else if line.starts_with(b"final ") {
+        take_final(report, line);
+    } else if line.starts_with(b"joiner ") {
+        take_joiner(report, line)?;
+    }
+    Ok(())
+}
+
+// As many joiners as the last grid has: what is too much goes, what is missing holds nothing.
+fn fit_joiners(report: &mut Report) -> Result<(), AllocError>
+    requires { HasGrids report.old }
+    ensures { OnOk result (IsWhole report.new) }
+{
+    let nothing = Joiner {
+        rows_r: 0,
+        rows_s: 0,
+        made: 0,
+    };
+    let joiners = (report.n * report.m) as usize;
+    report.joiners.resize(joiners, nothing)
+}
+
+// The report that the lines of a text come nearest to.
+fn nearest(alloc: Global, text: &[u8]) -> Result<Report, AllocError>
+    ensures { IfOk result IsWhole }
+{
+    let mut report = Report {
+        x: 0,
+        y: 0,
+        steps: Vec::new(alloc),
+        n: 1,
+        m: 1,
+        copies: 0,
+        best: 0,
+        joiners: Vec::new(alloc),
+    };
+    for line in text.split(|byte| *byte == b'\n') {
+        take_line(&mut report, line)?;
+    }
+    fit_joiners(&mut report)?;
+    Ok(report)
+}
+
+// How many bytes a line has without its line feed.
+fn line_len(text: &[u8]) -> usize
+    ensures { result ≤ length text.now }
+{
+    text.iter().take_while(|byte| **byte != b'\n').count()
+}
+
+// Where the last line begins that begins with `input `; the text's end where there is none.
+fn report_start(text: &[u8]) -> usize
+    ensures { result ≤ length text.now }
+{
+    let mut start = text.len();
+    let mut place = 0;
+    while place < text.len() {
+        let rest = &text[place..];
+        if rest.starts_with(b"input ") {
+            start = place;
+        }
+        place += line_len(rest) + 1;
+    }
+    start
+}
+
+// Whether a line may begin here.
+fn begins_line(text: &[u8], place: usize) -> bool
+    requires { place ≤ length text.now }
+    ensures { IsTrue result → AreLines (take place text.now) }
+{
+    place == 0 || text[place - 1] == b'\n'
+}
+
+// Whether the text is lines up to this place, and then just another text.
+fn ends_with(text: &[u8], place: usize, end: &[u8]) -> bool
+    requires { place ≤ length text.now }
+    ensures { IsTrue result → EndsWith text.now end.now }
+{
+    begins_line(text, place) && &text[place..] == end
+}
+
+fn line_feeds(text: &[u8]) -> usize
+    ensures { result ≤ length text.now }
+{
+    text.iter().filter(|byte| **byte == b'\n').count()
+}
+
+// How many bytes two texts begin with alike.
+fn alike(text: &[u8], other: &[u8]) -> usize
+    ensures { result ≤ length text.now }
+{
+    text.iter()
+        .zip(other.iter())
+        .take_while(|(byte, wanted)| *byte == *wanted)
+        .count()
+}
+
+/// The report that a text ends with. Lines before it are passed over: it begins at the last line that begins with
+/// `input `. A report has at most 65,536 `grid` lines.
+pub fn read_report(alloc: Global, text: &[u8]) -> Result<Report, ReportError>
+    ensures ok { IfOk result (EndsWithReport text.now) }
+    ensures whole { IfOk result IsWhole }
+    ensures line { (line : ℕ) → result ≡ Err (Line line) → (0 < line) × (line ≤ length text.now + 1) }
+{
+    let start = report_start(text);
+    let rest = &text[start..];
+    let report = nearest(alloc, rest)?;
+    let wanted = lines_text(alloc, &report)?;
+    if ends_with(text, start, wanted.as_bytes()) {
+        return Ok(report);
+    }
+    let place = start + alike(rest, wanted.as_bytes());
+    let line = line_feeds(&text[..place]) as u64 + 1;
+    Err(ReportError::Line { line })
+}

@@ -1,0 +1,33 @@
+// A report's numbers.
+
+use std::alloc::Global;
+
+/// A change of the grid: its rows and columns since, and how many rows moved.
+#[derive(Clone, Copy)]
+pub struct Step {
+    pub n: u64,
+    pub m: u64,
+    pub moved: u64,
+}
+
+/// The rows of R and of S that a joiner holds, and the pairs that it made.
+#[derive(Clone, Copy)]
+pub struct Joiner {
+    pub rows_r: u64,
+    pub rows_s: u64,
+    pub made: u64,
+}
+
+/// The numbers of a report. Epochs and joiners aren't among them: a step stands at the place of its epoch,
+/// counted from 1, and a joiner at its id, counted from 0.
+#[derive(Drop)]
+pub struct Report {
+    pub x: u64,
+    pub y: u64,
+    pub steps: Vec<Step>,
+    pub n: u64,
+    pub m: u64,
+    pub copies: u64,
+    pub best: u64,
+    pub joiners: Vec<Joiner>,
+}

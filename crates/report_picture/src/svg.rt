@@ -1,0 +1,63 @@
+// The picture of a report.
+
+ghost use Rattle.std.specs.Prelude.{◌≡◌, ◌≤◌, ◌++◌, IfOk, OnOk, string_bytes};
+ghost use Rattle.report_picture.specs.Lines.{IsSide, IsWhole};
+ghost use Rattle.report_picture.specs.Drawing as drawing;
+
+use crate::field::{write_copies, write_joiners, write_last};
+use crate::life::{write_first, write_steps};
+use crate::report::Report;
+use std::alloc::{AllocError, Global};
+
+fn write_head(text: &mut String, width: u64, height: u64) -> Result<(), AllocError>
+    ensures { OnOk result (string_bytes text.new ≡ string_bytes text.old ++ drawing.head_of width height) }
+{
+    write!(
+        text,
+        "<svg xmlns='http://www.w3.org/2000/svg' width='{width}' height='{height}' viewBox='0 0 {width} {height}' font-family='monospace' font-size='11' text-anchor='middle' fill='#1c2733'>\n<rect width='100%' height='100%' fill='#ffffff'/>\n"
+    )
+}
+
+fn write_title(text: &mut String, x: u64, y: u64) -> Result<(), AllocError>
+    ensures { OnOk result (string_bytes text.new ≡ string_bytes text.old ++ drawing.title_of x y) }
+{
+    write!(
+        text,
+        "<text x='24' y='32' text-anchor='start' font-size='15'>R: {x} rows, S: {y} rows</text>\n"
+    )
+}
+
+fn width(report: &Report) -> u64
+    requires { IsWhole report.now }
+    ensures { result ≡ drawing.width_of report.now }
+{
+    let life = 24 + 208 * (report.steps.len() as u64 + 1);
+    let field = 48 + 124 * report.m;
+    life.max(field).max(640)
+}
+
+fn height(report: &Report) -> u64
+    requires { IsWhole report.now }
+    ensures { result ≡ drawing.height_of report.now }
+{
+    376 + 72 * report.n
+}
+
+/// A report as an SVG, from above to below: the numbers of rows; the grid's shapes from the first over each step to
+/// the last, between them the rows that moved; the copies beside the fewest; and the joiners at their places in the
+/// last grid, with the rows that they hold and the pairs that they made, shaded by these rows.
+pub fn picture(alloc: Global, report: &Report) -> Result<String, AllocError>
+    requires { IsWhole report.now }
+    ensures { IfOk result (λ text. string_bytes text ≡ drawing.picture_of report.now) }
+{
+    let mut text = String::new(alloc);
+    write_head(&mut text, width(report), height(report))?;
+    write_title(&mut text, report.x, report.y)?;
+    write_first(&mut text, report)?;
+    write_steps(&mut text, &report.steps)?;
+    write_copies(&mut text, report.copies, report.best)?;
+    write_last(&mut text, report.n, report.m)?;
+    write_joiners(&mut text, report)?;
+    text.push_str("</svg>\n")?;
+    Ok(text)
+}
