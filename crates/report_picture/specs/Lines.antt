@@ -1,5 +1,5 @@
 -- The lines of a report.
-use Rattle.std.specs.Prelude.{◌≡◌, ◌≤◌, ◌<◌, ◌+◌, ◌*◌, ◌^◌, ◌++◌, ◌⊎◌, ℕ, All, List, [], ◌∷◌, flat_map, length, codes}
+use Rattle.std.specs.Prelude.{◌≡◌, ◌≤◌, ◌<◌, ◌+◌, ◌*◌, ◌^◌, ◌==◌, ◌++◌, ◌⊎◌, ℕ, All, List, [], ◌∷◌, flat_map, count_by, length, codes}
 use Rattle.std.specs.List.{enumerate_from}
 use Rattle.std.specs.Fmt.{decimal}
 use Rattle.report_picture.specs.declared.report.Step.{Step}
@@ -64,6 +64,10 @@ pub record IsWhole (report : Report) : Type 0 where
 -- lines that end with line feeds, or nothing
 abbrev pub AreLines : List ℕ → Type 0
 AreLines text = (text ≡ []) ⊎ ((front : List ℕ) × (text ≡ front ++ 10 ∷ []))
+
+-- how many line feeds a text has
+abbrev pub feeds_in : List ℕ → ℕ
+feeds_in text = count_by (λ byte. byte == 10) text
 
 -- some lines, and then just this text
 pub record EndsWith (text end : List ℕ) : Type 0 where

@@ -2,7 +2,7 @@
 // into a report that is whole in any case; the text of that report is then compared with the one that was read.
 
 ghost use Rattle.std.specs.Prelude.{◌≡◌, ◌≤◌, ◌<◌, ◌+◌, ℕ, Err, IfOk, IsTrue, OnOk, length, take};
-ghost use Rattle.report_picture.specs.Lines.{AreLines, EndsWith, EndsWithReport, HasGrids, IsSide, IsWhole};
+ghost use Rattle.report_picture.specs.Lines.{AreLines, EndsWith, EndsWithReport, HasGrids, IsSide, IsWhole, feeds_in};
 ghost use Rattle.report_picture.specs.declared.error.ReportError.TheVariants.{Line};
 
 use crate::error::ReportError;
@@ -160,7 +160,8 @@ fn ends_with(text: &[u8], place: usize, end: &[u8]) -> bool
 }
 
 fn line_feeds(text: &[u8]) -> usize
-    ensures { result ≤ length text.now }
+    ensures count { result ≡ feeds_in text.now }
+    ensures within { result ≤ length text.now }
 {
     text.iter().filter(|byte| **byte == b'\n').count()
 }
@@ -180,7 +181,7 @@ fn alike(text: &[u8], other: &[u8]) -> usize
 pub fn read_report(alloc: Global, text: &[u8]) -> Result<Report, ReportError>
     ensures ok { IfOk result (EndsWithReport text.now) }
     ensures whole { IfOk result IsWhole }
-    ensures line { (line : ℕ) → result ≡ Err (Line line) → (0 < line) × (line ≤ length text.now + 1) }
+    ensures line { (line : ℕ) → result ≡ Err (Line line) → (0 < line) × (line ≤ feeds_in text.now + 1) }
 {
     let start = report_start(text);
     let rest = &text[start..];
