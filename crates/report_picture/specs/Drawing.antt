@@ -13,6 +13,7 @@ head_of width height =
     ++ (codes "' height='" ++ (decimal height ++ (codes "' viewBox='0 0 " ++ (decimal width
     ++ (codes " " ++ (decimal height ++ codes "' font-family='monospace' font-size='11' text-anchor='middle' fill='#1c2733'>\n<rect width='100%' height='100%' fill='#ffffff'/>\n")))))))
 
+-- the numbers of rows
 unfoldable pub title_of : ℕ → ℕ → List ℕ
 title_of x y =
     codes "<text x='24' y='32' text-anchor='start' font-size='15'>R: " ++ (decimal x
@@ -45,9 +46,11 @@ columns_at_start joiners =
 abbrev pub first_columns : Report → ℕ
 first_columns report = if length report.steps.items == 0 then report.m else columns_at_start (report.n * report.m)
 
+-- what stands above the first grid
 unfoldable pub first_name : List ℕ
 first_name = codes "<text x='64' y='-10'>first</text></g>\n"
 
+-- the first grid, without numbers
 abbrev pub first_of : Report → List ℕ
 first_of report =
     opening_of 24 ++ square_of 0 ((report.n * report.m) / first_columns report) (first_columns report) ++ first_name
@@ -64,6 +67,7 @@ names_of epoch step =
     codes "<text x='64' y='-10'>epoch " ++ (decimal epoch ++ (codes "</text><text x='64' y='148'>" ++ (decimal step.n
     ++ (codes " &#215; " ++ (decimal step.m ++ codes "</text>\n")))))
 
+-- the grid of a step
 abbrev pub step_of : ℕ → Step → List ℕ
 step_of epoch step =
     opening_of (24 + 208 * epoch) ++ square_of epoch step.n step.m ++ names_of epoch step ++ moved_of step.moved
@@ -84,9 +88,11 @@ bars_of held copies fewest best =
     ++ (codes "</text>\n<text y='36'>best</text><rect x='64' y='24' width='" ++ (decimal fewest
     ++ (codes "' height='16' fill='#9aa7b4'/><text x='480' y='36'>" ++ (decimal best ++ codes "</text></g>\n")))))))
 
+-- the two bars, the longer one 400 wide
 abbrev pub copies_of : ℕ → ℕ → List ℕ
 copies_of copies best = bars_of (bar_of copies (max copies best)) copies (bar_of best (max copies best)) best
 
+-- the words above the last grid
 unfoldable pub last_of : ℕ → ℕ → List ℕ
 last_of n m =
     codes "<text x='24' y='336' text-anchor='start' font-size='13'>last grid: " ++ (decimal n
@@ -98,11 +104,13 @@ shade_of report joiner =
     if report.copies == 0 then 1
     else 1 + 2 * min ((joiner.rows_r + joiner.rows_s) * (2 * (report.n * report.m)) / report.copies) 4
 
+-- the cell of a joiner, at this place and with this shade
 unfoldable pub cell_of : ℕ → ℕ → ℕ → List ℕ
 cell_of x y shade =
     codes "<g transform='translate(" ++ (decimal x ++ (codes " " ++ (decimal y
     ++ (codes ")'><rect width='120' height='68' fill='#4c9be8' fill-opacity='." ++ (decimal shade ++ codes "' stroke='#1f5fa8'/>")))))
 
+-- what stands in the cell of a joiner
 unfoldable pub labels_of : ℕ → Joiner → List ℕ
 labels_of id joiner =
     codes "<text x='60' y='15'>joiner " ++ (decimal id
@@ -119,6 +127,7 @@ joiner_of report id joiner =
 abbrev pub cells_of : Report → List Joiner → List ℕ
 cells_of report joiners = flat_map (λ joiner. joiner_of report joiner.0 joiner.1) (enumerate_from 0 joiners)
 
+-- the joiners of the last grid
 abbrev pub joiners_of : Report → List ℕ
 joiners_of report = cells_of report report.joiners.items
 
@@ -126,6 +135,7 @@ joiners_of report = cells_of report report.joiners.items
 abbrev pub width_of : Report → ℕ
 width_of report = max 640 (max (24 + 208 * (length report.steps.items + 1)) (48 + 124 * report.m))
 
+-- the same from above to below
 abbrev pub height_of : Report → ℕ
 height_of report = 376 + 72 * report.n
 
