@@ -13,6 +13,7 @@ use Rattle.epoch_tags.specs.declared.message.ToCollector.TheVariants.{Found, Fin
 
 -- ---- to a joiner
 
+-- the tuple that a feeder sent, where it is one
 abbrev pub tup_of : ToJoiner → Option Tuple
 tup_of (Tup t) = Some t
 tup_of (Turn epoch shift) = None
@@ -87,12 +88,14 @@ order_epochs (Order epoch shift ∷ ms) = epoch ∷ order_epochs ms
 order_epochs (Grant ∷ ms) = order_epochs ms
 order_epochs (Stop ∷ ms) = order_epochs ms
 
+-- how many `Grant`s there are
 abbrev pub grants : List ToFeeder → ℕ
 grants [] = 0
 grants (Order epoch shift ∷ ms) = grants ms
 grants (Grant ∷ ms) = grants ms + 1
 grants (Stop ∷ ms) = grants ms
 
+-- how many `Stop`s there are
 abbrev pub stops : List ToFeeder → ℕ
 stops [] = 0
 stops (Order epoch shift ∷ ms) = stops ms
@@ -101,25 +104,28 @@ stops (Stop ∷ ms) = stops ms + 1
 
 -- ---- to the controller
 
+-- how many `Ask`s there are
 abbrev pub asks : List ToController → ℕ
 asks [] = 0
 asks (Ask dr ds ∷ ms) = asks ms + 1
 asks (Drained ∷ ms) = asks ms
 asks (Settled epoch ∷ ms) = asks ms
 
+-- how many `Drained`s there are
 abbrev pub draineds : List ToController → ℕ
 draineds [] = 0
 draineds (Ask dr ds ∷ ms) = draineds ms
 draineds (Drained ∷ ms) = draineds ms + 1
 draineds (Settled epoch ∷ ms) = draineds ms
 
--- how many rows of R, and of S, they ask for
+-- how many rows of R they ask for
 abbrev pub asked_r : List ToController → ℕ
 asked_r [] = 0
 asked_r (Ask dr ds ∷ ms) = asked_r ms + dr
 asked_r (Drained ∷ ms) = asked_r ms
 asked_r (Settled epoch ∷ ms) = asked_r ms
 
+-- how many rows of S they ask for
 abbrev pub asked_s : List ToController → ℕ
 asked_s [] = 0
 asked_s (Ask dr ds ∷ ms) = asked_s ms + ds
@@ -135,6 +141,7 @@ settled_epochs (Settled epoch ∷ ms) = epoch ∷ settled_epochs ms
 
 -- ---- to the collector
 
+-- the pairs that a `Found` carries
 abbrev pub pairs_found : ToCollector → List Pair
 pairs_found (Found pairs) = pairs
 pairs_found (Fin rows_r rows_s moved) = []

@@ -11,65 +11,75 @@ use Rattle.epoch_tags.specs.declared.message.ToController.{ToController}
 use Rattle.epoch_tags.specs.declared.message.ToCollector.{ToCollector}
 use Rattle.epoch_tags.specs.Links.{HasLink}
 
--- the message, where it is of that actor's kind
+-- the message, where it is one to a joiner
 abbrev pub joiner_msg : Msg → Option ToJoiner
 joiner_msg (Joiner m) = Some m
 joiner_msg (Feeder m) = None
 joiner_msg (Controller m) = None
 joiner_msg (Collector m) = None
 
+-- where it is one to the controller
 abbrev pub controller_msg : Msg → Option ToController
 controller_msg (Joiner m) = None
 controller_msg (Feeder m) = None
 controller_msg (Controller m) = Some m
 controller_msg (Collector m) = None
 
+-- the message of a post to this actor, where it is for joiner j
 abbrev pub for_joiner : ℕ → Actor → Msg → Option ToJoiner
 for_joiner j (Feeder' p) m = None
 for_joiner j (Joiner' id) m = if id == j then joiner_msg m else None
 for_joiner j Controller' m = None
 for_joiner j Collector' m = None
 
+-- and where it is for the controller
 abbrev pub for_controller : Actor → Msg → Option ToController
 for_controller (Feeder' p) m = None
 for_controller (Joiner' id) m = None
 for_controller Controller' m = controller_msg m
 for_controller Collector' m = None
 
--- what the posts carry to joiner j, and to the controller
+-- what the posts carry to joiner j, in their order
 abbrev pub posted_to_joiner : ℕ → List Post → List ToJoiner
 posted_to_joiner j posts = filter_map (λ post. for_joiner j post.to post.msg) posts
 
+-- what they carry to the controller
 abbrev pub posted_to_controller : List Post → List ToController
 posted_to_controller posts = filter_map (λ post. for_controller post.to post.msg) posts
 
+-- the message, where it is one to the collector
 abbrev pub collector_msg : Msg → Option ToCollector
 collector_msg (Joiner m) = None
 collector_msg (Feeder m) = None
 collector_msg (Controller m) = None
 collector_msg (Collector m) = Some m
 
+-- the message of a post to this actor, where it is for the collector
 abbrev pub for_collector : Actor → Msg → Option ToCollector
 for_collector (Feeder' p) m = None
 for_collector (Joiner' id) m = None
 for_collector Controller' m = None
 for_collector Collector' m = collector_msg m
 
+-- what the posts carry to the collector
 abbrev pub posted_to_collector : List Post → List ToCollector
 posted_to_collector posts = filter_map (λ post. for_collector post.to post.msg) posts
 
+-- the message, where it is one to a feeder
 abbrev pub feeder_msg : Msg → Option ToFeeder
 feeder_msg (Joiner m) = None
 feeder_msg (Feeder m) = Some m
 feeder_msg (Controller m) = None
 feeder_msg (Collector m) = None
 
+-- the message of a post to this actor, where it is for feeder p
 abbrev pub for_feeder : ℕ → Actor → Msg → Option ToFeeder
 for_feeder p (Feeder' id) m = if id == p then feeder_msg m else None
 for_feeder p (Joiner' id) m = None
 for_feeder p Controller' m = None
 for_feeder p Collector' m = None
 
+-- what the posts carry to feeder p
 abbrev pub posted_to_feeder : ℕ → List Post → List ToFeeder
 posted_to_feeder p posts = filter_map (λ post. for_feeder p post.to post.msg) posts
 
@@ -99,5 +109,6 @@ pub record GoesOver (k feeders : ℕ) (self : Actor) (post : Post) : Type 0 wher
   pub link : HasLink k feeders self post.to
   pub kind : IsOfKind post.to post.msg
 
+-- so does each of the posts
 abbrev pub AllGoOver : ℕ → ℕ → Actor → List Post → Type 0
 AllGoOver k feeders self posts = All (GoesOver k feeders self) posts

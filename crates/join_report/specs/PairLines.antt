@@ -7,5 +7,6 @@ use Rattle.epoch_tags.specs.declared.tuple.Pair.{Pair}
 abbrev pub pair_line : Pair → List ℕ
 pair_line pair = decimal (pair.i + 1) ++ codes "," ++ decimal (pair.j + 1) ++ codes "\n"
 
+-- the lines of pairs, in their order
 abbrev pub pair_lines : List Pair → List ℕ
 pair_lines pairs = flat_map pair_line pairs

@@ -21,5 +21,6 @@ joined_fields rows_r rows_s pair = texts_of (row_at rows_r pair.i) ++ texts_of (
 abbrev pub row_line : List (List Cell) → List (List Cell) → Pair → List ℕ
 row_line rows_r rows_s pair = row_text default_writer (joined_fields rows_r rows_s pair)
 
+-- the lines of pairs, in their order
 abbrev pub row_lines : List (List Cell) → List (List Cell) → List Pair → List ℕ
 row_lines rows_r rows_s pairs = flat_map (row_line rows_r rows_s) pairs

@@ -33,6 +33,7 @@ mouth_at (Some seat) place = at_number None place (λ n. slice_index_or seat.mou
 abbrev pub mouth_of : SeatsView → Actor → Actor → Option Sending
 mouth_of v from to = mouth_at (seat_of v from) (number v.joiners v.feeders to)
 
+-- the lists of a seat, where there is one
 abbrev pub lists_at : Option SeatView → ActorLists
 lists_at None = no_lists
 lists_at (Some seat) = lists_of seat
@@ -80,8 +81,10 @@ pub record SomeReady (seats : List SeatView) : Type 0 where
   pub there : place < length seats
   pub ready : (d : SeatView) → IsReady (slice_index_or seats place d)
 
+-- no seat is spent
 abbrev pub NoneSpent : List SeatView → Type 0
 NoneSpent seats = (n : ℕ) (d : SeatView) → n < length seats → (slice_index_or seats n d).spent ≡ false
 
+-- no seat's machine is spent
 abbrev pub AllLive : List SeatView → Type 0
 AllLive seats = (n : ℕ) (d : SeatView) → n < length seats → IsLive (slice_index_or seats n d).core

@@ -38,6 +38,7 @@ pub record WroteEach (pairs : List Pair) (old new : Option (List ℕ)) : Type 0 
 abbrev pub collected_in : SeatsView → CollectorLists
 collected_in v = collector_lists (lists_in v Collector)
 
+-- how many pairs of each joiner a seat's machine gave, where there is a seat
 abbrev pub given_at : Option SeatView → List ℕ
 given_at None = []
 given_at (Some seat) = given_by seat.core

@@ -25,6 +25,7 @@ pub record EndView : Type 0 where
   pub inbox : InboxView
   pub mouths : List (Option Sending)
 
+-- the inbox and the mouths of a seat
 abbrev pub end_of : SeatView → EndView
 end_of seat = record { joiners = seat.joiners; feeders = seat.feeders; inbox = seat.inbox; mouths = seat.mouths }
 
@@ -34,6 +35,7 @@ pub record EndsView : Type 0 where
   pub feeders : ℕ
   pub ends : List EndView
 
+-- what was received and sent at an end, where there is one
 abbrev pub lists_at_end : Option EndView → ActorLists
 lists_at_end None = no_lists
 lists_at_end (Some end) = record { received = received_of end.inbox.received; sent = sent_through end.joiners end.feeders end.mouths }
@@ -47,6 +49,7 @@ abbrev pub journal_at : Option SeatView → List TurnLine
 journal_at None = []
 journal_at (Some seat) = journal_of seat.core
 
+-- the journal of the controller among these seats
 abbrev pub journal_in : SeatsView → List TurnLine
 journal_in v = journal_at (seat_of v Controller)
 
@@ -66,6 +69,7 @@ is_complete_core (TheJoiner j) = false
 is_complete_core (TheController c) = false
 is_complete_core (TheCollector c) = is_complete c
 
+-- the same of a seat, where there is one
 abbrev pub is_complete_at : Option SeatView → Bool
 is_complete_at None = false
 is_complete_at (Some seat) = is_complete_core seat.core

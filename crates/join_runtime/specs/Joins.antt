@@ -21,6 +21,7 @@ pub record IsMouthBetween (mouth : Address) (one other : Frame) : Type 0 where
   pub to : other.to ≡ mouth.to
   pub from : mouth.from ≡ one.actor
 
+-- the same of a mouth that may not be there
 abbrev pub Leads : Option Address → Frame → Frame → Type 0
 Leads None one other = ⊤
 Leads (Some mouth) one other = IsMouthBetween mouth one other
@@ -64,6 +65,7 @@ pub record IsTold (mouth : Sending) (old new : SeatView) : Type 0 where
   pub sender : is_sender mouth.from old.inbox.senders ≡ true
   pub now : new ≡ record old { inbox = record old.inbox { senders = told mouth.from count old.inbox.senders } }
 
+-- and where there is no mouth, nothing changed
 abbrev pub Tells : Option Sending → SeatView → SeatView → Type 0
 Tells None old new = new ≡ old
 Tells (Some mouth) old new = IsTold mouth old new
@@ -80,6 +82,7 @@ pub record IsKnown (mouth : Sending) (inbox : InboxView) : Type 0 where
   pub knows : Knows mouth.from count inbox.senders
   pub sender : is_sender mouth.from inbox.senders ≡ true
 
+-- the same of a mouth that may not be there
 abbrev pub IsGathered : Option Sending → InboxView → Type 0
 IsGathered None inbox = ⊤
 IsGathered (Some mouth) inbox = IsKnown mouth inbox
@@ -92,6 +95,7 @@ slot_of seats d n r = slice_index_or (slice_index_or seats n d).mouths r None
 abbrev pub AreGatheredBelow : ℕ → List SeatView → Type 0
 AreGatheredBelow below seats = (n r : ℕ) (d : SeatView) → n < below → r < length seats → IsGathered (slot_of seats d n r) (slice_index_or seats r d).inbox
 
+-- of all seats, so is each mouth
 abbrev pub AreGathered : List SeatView → Type 0
 AreGathered seats = AreGatheredBelow (length seats) seats
 

@@ -47,6 +47,7 @@ pub record IsCaused (old new : Core) (before after : InboxView) (none sends : Li
   pub given : given_by new ≡ given_by old
   pub received : (from : Actor) → received_of after.received from ≡ with_cause cause (received_of before.received) from
 
+-- by what the step tells: the first half of an event, or nothing was to be done
 abbrev pub Opens : Step → Core → Core → InboxView → InboxView → List Post → List Post → Type 0
 Opens TookStep old new before after none sends = IsCaused old new before after none sends
 Opens Idle old new before after none sends = (new ≡ old) × (after ≡ before) × Rests old before

@@ -33,10 +33,11 @@ abbrev pub sent_by : Option Sending → List Msg
 sent_by None = []
 sent_by (Some mouth) = contents mouth.sent
 
--- what was sent to the actor of this number, and to this actor
+-- what was sent to the actor of this number
 abbrev pub sent_at : List (Option Sending) → ℕ → List Msg
 sent_at mouths n = sent_by (slice_index_or mouths n None)
 
+-- what was sent to this actor
 abbrev pub sent_through : ℕ → ℕ → List (Option Sending) → Actor → List Msg
 sent_through joiners feeders mouths to = at_number [] (number joiners feeders to) (sent_at mouths)
 
@@ -53,6 +54,7 @@ pub record Address : Type 0 where
   pub from : Actor
   pub to : Actor
 
+-- the address of a mouth, where there is one
 abbrev pub address_of : Option Sending → Option Address
 address_of None = None
 address_of (Some mouth) = Some (record { link = mouth.link; from = mouth.from; to = mouth.to })
@@ -67,6 +69,7 @@ pub record Frame : Type 0 where
   pub senders : List Actor
   pub addresses : List (Option Address)
 
+-- the frame of a seat
 abbrev pub frame_of : SeatView → Frame
 frame_of seat = record {
   joiners = seat.joiners;

@@ -64,12 +64,15 @@ asked options = record {
 abbrev pub number_of : Text → Option ℕ
 number_of text = if is_unsigned_in 0 18446744073709551615 text then Some (digits_value 10 (without_leading_plus text)) else None
 
+-- the number of an argument's first value, where it is one
 abbrev pub number_at : Text → List Row → Option ℕ
 number_at id rows = option_and_then number_of (first_of id rows)
 
+-- the first value of an argument, empty where there is none
 abbrev pub text_at : Text → List Row → Text
 text_at id rows = unwrap_or (first_of id rows) []
 
+-- whether an argument is set
 abbrev pub flag_at : Text → List Row → Bool
 flag_at id rows = bytes_eq (text_at id rows) (codes "true")
 
@@ -136,6 +139,7 @@ abbrev pub two_names : List Text → Result (Text × Text) WordsFault
 two_names (name_r ∷ name_s ∷ []) = Ok (name_r, name_s)
 two_names _ = Err Files
 
+-- the names of the two files
 abbrev pub files_at : List Row → Result (Text × Text) WordsFault
 files_at rows = two_names (unwrap_or (all_of (codes "files") rows) [])
 
@@ -144,6 +148,7 @@ abbrev pub no_names : List Text → Result (Text × Text) WordsFault
 no_names [] = Ok ([], [])
 no_names _ = Err Files
 
+-- where tables are made, no file is named
 abbrev pub no_files_at : List Row → Result (Text × Text) WordsFault
 no_files_at rows = no_names (unwrap_or (all_of (codes "files") rows) [])
 

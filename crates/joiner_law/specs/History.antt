@@ -32,6 +32,7 @@ all_found matches epoch k id (step ∷ past) =
     all_found matches epoch k id past
     ++ pairs_by (counts_at matches epoch past) (stored k id (step ∷ past)) (stored k id (step ∷ past))
 
+-- no stamp is above e
 abbrev pub AllUpTo : ℕ → List Tuple → Type 0
 AllUpTo e xs = AllByRecursion (λ (x : Tuple). x.stamp ≤ e) xs
 
@@ -46,25 +47,29 @@ abbrev pub ArrivedInTime : ℕ → List Step → Type 0
 ArrivedInTime epoch [] = ⊤
 ArrivedInTime epoch (step ∷ past) = AllByRecursion (λ (x : Tuple). x.stamp ≡ epoch + length past) step.arrived × ArrivedInTime epoch past
 
--- the step with one tuple more
+-- the step with one tuple more that arrived
 abbrev pub with_arrived : Tuple → Step → Step
 with_arrived x step = record step { arrived = x ∷ step.arrived }
 
+-- the step with one tuple more that came
 abbrev pub with_came : Tuple → Step → Step
 with_came x step = record step { came = x ∷ step.came }
 
+-- a step in which nothing came or arrived yet
 abbrev pub new_step : ℕ → Step
 new_step shift = record { shift = shift; came = []; arrived = [] }
 
 -- ---- probes
 
--- a probe of all stored tuples, or of those of one epoch alone
+-- the test of a probe of all stored tuples
 abbrev pub all_tuples : Tuple → Bool
 all_tuples other = true
 
+-- the test of a probe of the stored tuples of one epoch
 abbrev pub only_stamp : ℕ → Tuple → Bool
 only_stamp stamp other = other.stamp == stamp
 
+-- the pairs of a tuple of this side, R first in each
 abbrev pub probed_at : Side → (Tuple → Tuple → Bool) → (Tuple → Bool) → Tuple → List Tuple → List Pair
 probed_at R matches names x ys = map (pair_of x) (filter (λ q. is_of S q && (matches x q && names q)) ys)
 probed_at S matches names x ys = map (λ r. pair_of r x) (filter (λ r. is_of R r && (matches r x && names r)) ys)

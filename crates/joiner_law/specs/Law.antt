@@ -51,10 +51,11 @@ opened s t = greatest s.feeders (λ p. turns (t.from_feeder p))
 abbrev pub shift_after : JoinerStart → Taken → ℕ → ℕ
 shift_after s t n = t.shift_at (s.epoch + n)
 
--- its partner in step n, and the side that they exchange
+-- its partner in step n
 abbrev pub partner_of : JoinerStart → Taken → ℕ → ℕ
 partner_of s t n = partner_in_step (shift_after s t n) (shift_after s t (n + 1)) s.id
 
+-- the side that they exchange
 abbrev pub exchanged : JoinerStart → Taken → ℕ → Side
 exchanged s t n = exchanged_side (shift_after s t n) (shift_after s t (n + 1))
 
@@ -82,6 +83,7 @@ store s t (suc n) =
 
 -- ---- pairs
 
+-- the pair that a tuple of R and one of S make
 abbrev pub pair_of : Tuple → Tuple → Pair
 pair_of r q = record { i = r.index; j = q.index }
 
@@ -104,6 +106,7 @@ found s t (suc n) =
 
 -- ---- what can be taken, with `done` steps settled
 
+-- of feeder p: tuples of the epoch in which it is, its turn once all steps before are settled, and its end, the last
 abbrev pub CanTakeOfFeeder : JoinerStart → Taken → ℕ → ℕ → ToJoiner → Type 0
 CanTakeOfFeeder s t done p (Tup x) = (ends (t.from_feeder p) ≡ 0) × (x.stamp ≡ s.epoch + turns (t.from_feeder p))
 CanTakeOfFeeder s t done p (Turn epoch shift) =
@@ -120,6 +123,7 @@ IsOpenPart s t done q epoch =
     (done < opened s t) × (epoch ≡ s.epoch + done + 1) × (q ≡ partner_of s t done)
     × (moved_ends epoch (t.from_joiner q) ≡ 0)
 
+-- of joiner q: what it moves here in the open step
 abbrev pub CanTakeOfJoiner : JoinerStart → Taken → ℕ → ℕ → ToJoiner → Type 0
 CanTakeOfJoiner s t done q (Tup x) = ⊥
 CanTakeOfJoiner s t done q (Turn epoch shift) = ⊥

@@ -16,12 +16,15 @@ use Rattle.joiner_law.specs.History.{Step, stored, all_found, CameOlder, Arrived
 
 -- ---- one message more
 
+-- the lists with one more message in that of number p
 abbrev pub grown : ℕ → ToJoiner → (ℕ → List ToJoiner) → ℕ → List ToJoiner
 grown p m f q = cond (q == p) (f q ++ m ∷ []) (f q)
 
+-- the messages taken, and this one of feeder p
 abbrev pub took_of_feeder : ℕ → ToJoiner → Taken → Taken
 took_of_feeder p m t = record t { from_feeder = grown p m t.from_feeder }
 
+-- the messages taken, and this one of joiner q
 abbrev pub took_of_joiner : ℕ → ToJoiner → Taken → Taken
 took_of_joiner q m t = record t { from_joiner = grown q m t.from_joiner }
 
@@ -31,6 +34,7 @@ with_shift epoch shift t = record t { shift_at = λ e. cond (e == epoch) shift (
 
 -- ---- orders and turns
 
+-- 1 where it is so, and 0 where it isn't
 abbrev pub one_if : Bool → ℕ
 one_if b = cond b 1 0
 
@@ -48,6 +52,7 @@ abbrev pub came_in : JoinerStart → Taken → ℕ → List Tuple
 came_in s t zero = s.base
 came_in s t (suc n) = moved_of (s.epoch + n + 1) (t.from_joiner (partner_of s t n))
 
+-- step n of what was taken, with what came and arrived in any order
 pub record IsStep (s : JoinerStart) (t : Taken) (n : ℕ) (step : Step) : Type 0 where
   pub shift : shift_after s t n ≡ step.shift
   pub within : step.shift ≤ s.k

@@ -16,38 +16,42 @@ pub record Rules : Type 0 where
 
 -- ---- what a line's cause tells
 
--- how many rows of R and of S it counts
+-- how many rows of R it counts
 abbrev pub counted_r : Cause → ℕ
 counted_r Start = 0
 counted_r (Count feeder dr ds) = dr
 counted_r (Settle joiner) = 0
 counted_r (Drain feeder) = 0
 
+-- how many rows of S it counts
 abbrev pub counted_s : Cause → ℕ
 counted_s Start = 0
 counted_s (Count feeder dr ds) = ds
 counted_s (Settle joiner) = 0
 counted_s (Drain feeder) = 0
 
--- whether it is a joiner's, and this feeder's
+-- whether it is a joiner's
 abbrev pub is_settle : Cause → Bool
 is_settle Start = false
 is_settle (Count feeder dr ds) = false
 is_settle (Settle joiner) = true
 is_settle (Drain feeder) = false
 
+-- whether it is joiner j's
 abbrev pub is_settle_of : ℕ → Cause → Bool
 is_settle_of j Start = false
 is_settle_of j (Count feeder dr ds) = false
 is_settle_of j (Settle joiner) = joiner == j
 is_settle_of j (Drain feeder) = false
 
+-- whether it is that feeder p has drained
 abbrev pub is_drain_of : ℕ → Cause → Bool
 is_drain_of p Start = false
 is_drain_of p (Count feeder dr ds) = false
 is_drain_of p (Settle joiner) = false
 is_drain_of p (Drain feeder) = feeder == p
 
+-- whether it is that rows of feeder p are counted
 abbrev pub is_count_of : ℕ → Cause → Bool
 is_count_of p Start = false
 is_count_of p (Count feeder dr ds) = feeder == p
@@ -62,10 +66,11 @@ since_begun [] = []
 since_begun (line ∷ []) = []
 since_begun (line ∷ before ∷ past) = if line.epoch == before.epoch then line ∷ since_begun (before ∷ past) else []
 
--- how many joiners have settled in the current epoch, and whether j has
+-- how many joiners have settled in the current epoch
 abbrev pub settled_count : List TurnLine → ℕ
 settled_count past = length (filter (λ line. is_settle line.cause) (since_begun past))
 
+-- joiner j has settled in the current epoch
 abbrev pub has_settled : ℕ → List TurnLine → Bool
 has_settled j past = list_any (λ line. is_settle_of j line.cause) (since_begun past)
 
@@ -150,10 +155,12 @@ causes_of p journal = filter (λ cause. is_count_of p cause || is_drain_of p cau
 abbrev pub all_causes : ℕ → List (ℕ × ℕ) → List Cause
 all_causes p sizes = map (λ size. Count p size.0 size.1) sizes ++ Drain p ∷ []
 
+-- at every moment: each line follows from those before, and each feeder's causes begin those that it will have
 pub record IsLawfulSoFar (rules : Rules) (batches : ℕ → List (ℕ × ℕ)) (journal : List TurnLine) : Type 0 where
   pub follows : Follows rules (start_line rules) (reverse journal)
   pub counts : (p : ℕ) → p < rules.feeders → IsPrefix (causes_of p journal) (all_causes p (batches p))
 
+-- in the end: each feeder's batches are counted and it has drained, and no step is open
 pub record IsLawful (rules : Rules) (batches : ℕ → List (ℕ × ℕ)) (journal : List TurnLine) : Type 0 where
   pub so_far : IsLawfulSoFar rules batches journal
   pub counted : (p : ℕ) → p < rules.feeders → causes_of p journal ≡ all_causes p (batches p)

@@ -113,6 +113,7 @@ sent_by rules p [] = []
 sent_by rules p (line ∷ []) = []
 sent_by rules p (line ∷ before ∷ past) = sent_by rules p (before ∷ past) ++ sent_for rules p line before past
 
+-- the law of a controller that has these lists
 pub record ControllerLaw (rules : Rules) (first : TurnLine) (lists : ControllerLists) : Type 0 where
   -- the journal read backwards: its last line, and the past before it
   pub line : TurnLine

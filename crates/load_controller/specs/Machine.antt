@@ -21,9 +21,11 @@ use Rattle.load_controller.specs.Next.{line_by}
 use Rattle.load_controller.specs.Flags.{flag_at}
 use Rattle.load_controller.specs.Standing.{ControllerState, IsNearWhereStill, held_at, with_message, with_sent, to_each, grant_for, posts_by, with_all_held, state_after}
 
+-- the rules that the ledger keeps
 abbrev pub rules_of : Ledger → Rules
 rules_of c = record { k = c.k; feeders = c.feeders; fixed = c.fixed }
 
+-- the ledger as the machine's state
 abbrev pub state_of : Ledger → Bool → ControllerState
 state_of c spent = record { rules = rules_of c; journal = c.journal; held = c.held; spent = spent }
 

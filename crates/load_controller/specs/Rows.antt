@@ -12,12 +12,15 @@ abbrev pub past_of : Rules → TurnLine → List TurnLine → List Cause → Lis
 past_of rules before past [] = before ∷ past
 past_of rules before past (cause ∷ causes) = past_of rules (line_after rules before past cause) (before ∷ past) causes
 
+-- of a line its epoch, its shift, and whether a step is open
 abbrev pub epoch_shift_moving : TurnLine → ℕ × ℕ × Bool
 epoch_shift_moving line = (line.epoch, line.shift, line.moving)
 
+-- four joiners and one feeder
 abbrev pub growing : Rules
 growing = record { k = 2; feeders = 1; fixed = None }
 
+-- R grows, then S: a step to shift 0, and one back to shift 1, the last line first
 pub growing_lines : map epoch_shift_moving (past_of growing (start_line growing) [] (
     Count 0 4 0 ∷ Settle 0 ∷ Settle 1 ∷ Settle 2 ∷ Settle 3 ∷ Count 0 4 0 ∷ Count 0 0 4 ∷ Count 0 0 4 ∷ Drain 0
     ∷ Settle 3 ∷ Settle 2 ∷ Settle 1 ∷ Settle 0 ∷ []))
@@ -32,16 +35,19 @@ pub growing_sends : sent_by growing 0 (past_of growing (start_line growing) [] (
     ≡ Order 1 0 ∷ Grant ∷ Grant ∷ Grant ∷ Order 2 1 ∷ Grant ∷ Stop ∷ []
 growing_sends = refl
 
--- at counts 255 and 64 over bases 128 and 64 no decision is due; at 256 and 64 one is, and a step to shift 1 starts
+-- sixteen joiners and one feeder
 abbrev pub uneven : Rules
 uneven = record { k = 4; feeders = 1; fixed = None }
 
+-- a line with twice as many rows of R as of S
 abbrev pub uneven_line : TurnLine
 uneven_line = record { cause = Start; rows_r = 128; rows_s = 64; base_r = 128; base_s = 64; epoch = 0; shift = 2; goal = 2; moving = false }
 
+-- of a line its bases, its epoch, its shift and its goal
 abbrev pub bases_and_goal : TurnLine → List ℕ
 bases_and_goal line = line.base_r ∷ line.base_s ∷ line.epoch ∷ line.shift ∷ line.goal ∷ []
 
+-- at counts 255 and 64 over bases 128 and 64 no decision is due; at 256 and 64 one is, and a step to shift 1 starts
 pub uneven_lines : map bases_and_goal (past_of uneven uneven_line [] (Count 0 127 0 ∷ Count 0 1 0 ∷ []))
     ≡ (256 ∷ 64 ∷ 1 ∷ 1 ∷ 1 ∷ []) ∷ (128 ∷ 64 ∷ 0 ∷ 2 ∷ 2 ∷ []) ∷ (128 ∷ 64 ∷ 0 ∷ 2 ∷ 2 ∷ []) ∷ []
 uneven_lines = refl
@@ -50,11 +56,14 @@ uneven_lines = refl
 abbrev pub empty : Rules
 empty = record { k = 2; feeders = 2; fixed = None }
 
+-- both feeders drain at once
 abbrev pub empty_past : List TurnLine
 empty_past = reverse (past_of empty (start_line empty) [] (Drain 0 ∷ Drain 1 ∷ []))
 
+-- the last line first
 pub empty_lines : map epoch_shift_moving empty_past ≡ (0, 1, false) ∷ (0, 1, false) ∷ (0, 1, false) ∷ []
 empty_lines = refl
 
+-- what the two feeders are sent
 pub empty_sends : sent_by empty 0 (reverse empty_past) ++ sent_by empty 1 (reverse empty_past) ≡ Stop ∷ Stop ∷ []
 empty_sends = refl

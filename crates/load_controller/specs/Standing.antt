@@ -18,6 +18,7 @@ use Rattle.load_controller.specs.declared.line.TurnLine.{TurnLine}
 use Rattle.load_controller.specs.Journal.{Rules, line_after, has_drained, has_settled}
 use Rattle.load_controller.specs.Law.{ControllerLists, ControllerLaw, IsInPlace, cause_of, is_over}
 
+-- what it follows, its journal, and the messages of joiners that are not in place yet
 pub record ControllerState : Type 0 where
   pub rules : Rules
   pub journal : List TurnLine
@@ -65,6 +66,7 @@ with_sent lists posts journal = record lists { to_feeder = λ p. lists.to_feeder
 
 -- ---- what is sent for a line, and to whom, in order
 
+-- the post of a message to feeder p
 abbrev pub post_to : ToFeeder → ℕ → Post
 post_to m p = record { to = Feeder p; msg = Feeder' m }
 
@@ -94,11 +96,12 @@ posts_by rules (line ∷ before ∷ past) = posts_by rules (before ∷ past) ++ 
 
 -- ---- what a call leaves, by what the machine held and the message
 
--- the journal with the line of this cause, and with it the machine
+-- the journal with the line of this cause
 abbrev pub journal_with : Rules → Cause → List TurnLine → List TurnLine → List TurnLine
 journal_with rules cause journal [] = journal
 journal_with rules cause journal (before ∷ past) = journal ++ line_after rules before past cause ∷ []
 
+-- the machine with the line of this cause in its journal
 abbrev pub with_line : Cause → ControllerState → ControllerState
 with_line cause state = record state { journal = journal_with state.rules cause state.journal (reverse state.journal) }
 
@@ -116,6 +119,7 @@ lowest_ready rules (before ∷ past) held = find (λ j. is_ready before past j (
 abbrev pub with_settled : ℕ → ControllerState → ControllerState
 with_settled j state = with_line (Settle j) (record state { held = slice_set state.held j (drop 1 (held_at state.held j)) })
 
+-- what follows once the first held epoch of this joiner, if there is one, is counted
 abbrev pub with_next : (ControllerState → ControllerState) → ControllerState → Option ℕ → ControllerState
 with_next later state None = state
 with_next later state (Some j) = later (with_settled j state)
@@ -136,6 +140,7 @@ is_in_place before past p (Ask dr ds) = not (has_drained p (before ∷ past)) &&
 is_in_place before past p Drained = not (has_drained p (before ∷ past))
 is_in_place before past p (Settled epoch) = false
 
+-- a message of this feeder is counted: the feeder is one of the grid, and the message is in place
 abbrev pub counts_feeder : Rules → List TurnLine → ℕ → ToController → Bool
 counts_feeder rules [] p m = false
 counts_feeder rules (before ∷ past) p m = nat_lt p rules.feeders && is_in_place before past p m

@@ -14,5 +14,6 @@ pub record StepKeeps (k b c id : ℕ) (t : Tuple) : Type 0 where
   -- of the other side it holds a part of what it held
   pub lessens : t.side ≢ exchanged_side b c → IsTrue (holds k c id t) → IsTrue (holds k b id t)
 
+-- whatever the grid, its joiner and its tuple, each step to a neighbouring shift does this
 abbrev pub OneStep : Type 0
 OneStep = (k b c id : ℕ) → k ≤ 8 → b ≤ k → c ≤ k → AreNeighbours b c → (t : Tuple) → StepKeeps k b c id t

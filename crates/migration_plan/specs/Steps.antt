@@ -5,6 +5,7 @@ use Rattle.join_rows.specs.declared.table.Side.TheVariants.{R, S}
 use Rattle.epoch_tags.specs.declared.tuple.Tuple.{Tuple}
 use Rattle.grid_map.specs.Grid.{holds_r, holds_s, partner}
 
+-- the two shifts differ by 1
 abbrev pub AreNeighbours : ℕ → ℕ → Type 0
 AreNeighbours old new = (new ≡ old + 1) ⊎ (old ≡ new + 1)
 

@@ -7,6 +7,7 @@ use Rattle.epoch_tags.specs.declared.tuple.Pair.{Pair}
 abbrev pub IsBefore : Pair → Pair → Type 0
 IsBefore p q = (p.i < q.i) ⊎ ((p.i ≡ q.i) × (p.j ≤ q.j))
 
+-- each pair comes before all behind it
 abbrev pub InOrder : List Pair → Type 0
 InOrder [] = ⊤
 InOrder (p ∷ ps) = AllByRecursion (IsBefore p) ps × InOrder ps

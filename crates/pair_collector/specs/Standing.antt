@@ -25,6 +25,7 @@ last_of (Fin rows_r rows_s moved ∷ ms) = Some (record { held = record { rows_r
 abbrev pub kept_of : List ToCollector → Kept
 kept_of ms = record { pairs = found_before_fin ms; last = last_of ms }
 
+-- before any message
 abbrev pub nothing_kept : Kept
 nothing_kept = record { pairs = []; last = None }
 
@@ -34,20 +35,21 @@ kept_after kept (Found pairs) = if is_some kept.last then kept else record kept 
 kept_after kept (Fin rows_r rows_s moved) =
     if is_some kept.last then kept else record kept { last = Some (record { held = record { rows_r = rows_r; rows_s = rows_s }; moved = moved }) }
 
--- the rows that a joiner holds in the end, and those that it moved in each step
+-- the rows that a joiner holds in the end
 abbrev pub held_of : Option Last → Held
 held_of None = record { rows_r = 0; rows_s = 0 }
 held_of (Some last) = last.held
 
+-- how many rows it moved in each step
 abbrev pub moves_of : Option Last → List ℕ
 moves_of None = []
 moves_of (Some last) = last.moved
 
--- of the joiners at the places below n: how many steps the longest list of moves has, and how many rows moved in a step,
--- a shorter list counting as 0 past its end
+-- of the joiners at the places below n, how many steps the longest list of moves has
 abbrev pub longest : List Kept → ℕ → ℕ
 longest joiners n = greatest n (λ j. length (moves_of (slice_index_or joiners j nothing_kept).last))
 
+-- how many rows these joiners moved in a step, a shorter list counting as 0 past its end
 abbrev pub moved_by : List Kept → ℕ → ℕ → ℕ
 moved_by joiners step n = total n (λ j. slice_index (moves_of (slice_index_or joiners j nothing_kept).last) step)
 

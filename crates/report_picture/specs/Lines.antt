@@ -46,6 +46,7 @@ report_lines report =
 abbrev pub IsSide : ℕ → Type 0
 IsSide n = (0 < n) × (n ≤ 64)
 
+-- the grid that a step leads to has a number of rows and of columns
 abbrev pub HasSides : Step → Type 0
 HasSides step = IsSide step.n × IsSide step.m
 

@@ -52,6 +52,7 @@ pub record Goes (s : FeederState) (lists : FeederLists) (taken : List ToFeeder) 
   pub is_drained : IsTrue s.drained ↔ (0 < draineds lists.to_controller)
   pub is_stopped : IsTrue s.stopped ↔ (0 < stops taken)
 
+-- the same for some messages that it took
 pub record StillGoes (s : FeederState) (lists : FeederLists) : Type 0 where
   pub taken : List ToFeeder
   pub goes : Goes s lists taken
@@ -70,6 +71,7 @@ pub record Advances (old new : FeederState) (before after : List Post) : Type 0 
 
 -- ---- what the fields keep to
 
+-- a grid of at most 256 joiners, a shift that fits it, a size of batches, and rows of which a front is sent
 pub record IsWithin (k shift batch sent rows : ℕ) : Type 0 where
   pub grid : k ≤ 8
   pub shape : shift ≤ k

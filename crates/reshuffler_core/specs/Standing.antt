@@ -16,6 +16,7 @@ use Rattle.epoch_tags.specs.Messages.{order_epochs, grants, stops, asks, drained
 use Rattle.epoch_tags.specs.Posts.{AllGoOver, posted_to_joiner, posted_to_controller}
 use Rattle.reshuffler_core.specs.Law.{FeederLists, FeederStart, FeederLaw, ask_for, shift_now, stamped}
 
+-- how it began, its epoch and shift, the batches that no grant has released, and the messages that it can't take yet
 pub record FeederState : Type 0 where
   pub start : FeederStart
   pub epoch : ℕ
@@ -79,6 +80,7 @@ state_after s (Order epoch shift) = record s { epoch = epoch; shift = shift }
 state_after s Grant = record s { to_come = drop 1 s.to_come; asked = false }
 state_after s Stop = record s { stopped = true }
 
+-- the first of the batches, or nothing
 abbrev pub first_batch : {X : Type 0} → List (List X) → List X
 first_batch [] = []
 first_batch (batch ∷ batches) = batch
@@ -117,6 +119,7 @@ posts_of_held s (m ∷ rest) = if can_take s m then posts_for s m ++ posts_of_he
 
 -- ---- what a beginning does
 
+-- the post of a message to the controller
 abbrev pub to_controller : ToController → Post
 to_controller m = record { to = Controller'; msg = Controller m }
 

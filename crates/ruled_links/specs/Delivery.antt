@@ -20,6 +20,7 @@ number_of Collector = 3
 abbrev pub of_sender : ℕ → List Envelope → List Envelope
 of_sender n ms = filter (λ m. eqb (number_of m.from) n) ms
 
+-- what a pass of an inbox's queue may do, and what it has
 abbrev pub inbox_hand : Bool → Bool → ℕ → List Envelope → List Envelope → List (ℕ × List Envelope) → InboxHand
 inbox_hand puts takes sender sent received known =
     record { puts = puts; takes = takes; sender = sender; sent = sent; received = received; known = known }

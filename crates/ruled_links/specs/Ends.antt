@@ -29,12 +29,13 @@ pub record AreEnds (out : Sending) (inn : Receiving) : Type 0 where
   pub from : inn.from ≡ out.from
   pub to : inn.to ≡ out.to
 
--- it is still that end of that link
+-- it is still that sending end of that link
 pub record IsSameOut (old new : Sending) : Type 0 where
   pub link : new.link ≡ old.link
   pub from : new.from ≡ old.from
   pub to : new.to ≡ old.to
 
+-- it is still that receiving end of that link
 pub record IsSameIn (old new : Receiving) : Type 0 where
   pub link : new.link ≡ old.link
   pub from : new.from ≡ old.from

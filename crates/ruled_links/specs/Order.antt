@@ -6,6 +6,7 @@ use Rattle.join_rows.specs.Lists.{IsPrefix}
 use Rattle.epoch_tags.specs.declared.message.Envelope.{Envelope}
 use Rattle.ruled_links.specs.declared.rule.Hand.{Hand}
 
+-- what a pass of a link's queue may do, and what it has
 abbrev pub hand : Bool → Bool → List Envelope → List Envelope → List Envelope → Hand
 hand puts takes sent received known =
     record { puts = puts; takes = takes; sent = sent; received = received; known = known }

@@ -22,9 +22,11 @@ sum_at S key = key.s_sum.parts
 abbrev pub value_at : KeyAtom → Side → Tuple → Option ℤ
 value_at key side t = value_of (sum_at side key) t.cells
 
+-- the values of tuples of this side
 abbrev pub values_at : KeyAtom → Side → List Tuple → List (Option ℤ)
 values_at key side ts = map (value_at key side) ts
 
+-- whether the key atom is true of a tuple of this side and one of the other
 abbrev pub is_key_true_at : Side → KeyAtom → Tuple → Tuple → Bool
 is_key_true_at R key t other = is_atom_true (atom_of key) t.cells other.cells
 is_key_true_at S key t other = is_atom_true (atom_of key) other.cells t.cells
@@ -70,11 +72,12 @@ pub record IsIndexed (key : Option KeyAtom) (text : Option TextAtom) (side : Sid
 abbrev pub at_places : {X : Type 0} → List X → List ℕ → List X
 at_places xs places = filter_map (slice_get xs) places
 
--- the least and the greatest value of the other side with which the key atom is true, beside a value of this side
+-- the least value of the other side with which the key atom is true, beside a value of this side
 abbrev pub least_at : Side → KeyAtom → ℤ → Option ℤ
 least_at R key v = option_map (λ high. v -ℤ high) key.high
 least_at S key v = option_map (λ low. v +ℤ low) key.low
 
+-- and the greatest
 abbrev pub greatest_at : Side → KeyAtom → ℤ → Option ℤ
 greatest_at R key v = option_map (λ low. v -ℤ low) key.low
 greatest_at S key v = option_map (λ high. v +ℤ high) key.high

@@ -15,6 +15,7 @@ use Rattle.store_parts.specs.Texts.{text_of}
 use Rattle.store_parts.specs.declared.which.Which.{Which}
 use Rattle.store_parts.specs.declared.which.Which.TheVariants.{All, OnlyStamp}
 
+-- the side that isn't this one
 abbrev pub other_side : Side → Side
 other_side R = S
 other_side S = R
@@ -28,6 +29,7 @@ abbrev pub is_named : Which → Tuple → Bool
 is_named All other = true
 is_named (OnlyStamp stamp) other = other.stamp == stamp
 
+-- whether the predicate is true of a tuple of this side and one of the other
 abbrev pub does_match_at : Side → Meaning → Tuple → Tuple → Bool
 does_match_at R theta t other = holds theta t.cells other.cells
 does_match_at S theta t other = holds theta other.cells t.cells
@@ -36,6 +38,7 @@ does_match_at S theta t other = holds theta other.cells t.cells
 abbrev pub does_match : Meaning → Tuple → Tuple → Bool
 does_match theta t other = does_match_at t.side theta t other
 
+-- the pair of a tuple of this side and one of the other
 abbrev pub pair_at : Side → Tuple → Tuple → Pair
 pair_at R t other = record { i = t.index; j = other.index }
 pair_at S t other = record { i = other.index; j = t.index }

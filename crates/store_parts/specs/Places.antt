@@ -30,10 +30,12 @@ places_between from to n [] = []
 places_between from to n (v ∷ values) =
     if lies from to v then n ∷ places_between from to (n + 1) values else places_between from to (n + 1) values
 
+-- the bound from which a map is read
 abbrev pub start_of : Option ℤ → Bound ℤ
 start_of None = Unbounded
 start_of (Some v) = Included v
 
+-- the bound up to which it is read
 abbrev pub end_of : Option ℤ → Bound ℤ
 end_of None = Unbounded
 end_of (Some v) = Included v

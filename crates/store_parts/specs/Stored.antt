@@ -17,6 +17,7 @@ pub record Stored : Type 0 where
   pub r : List Tuple
   pub s : List Tuple
 
+-- the tuples of a side
 abbrev pub side_of : Stored → Side → List Tuple
 side_of store R = store.r
 side_of store S = store.s
@@ -25,6 +26,7 @@ side_of store S = store.s
 abbrev pub others_of : Stored → Tuple → List Tuple
 others_of store t = side_of store (other_side t.side)
 
+-- the tuple is the last of this side
 abbrev pub with_tuple_at : Side → Stored → Tuple → Stored
 with_tuple_at R store t = record store { r = store.r ++ t ∷ [] }
 with_tuple_at S store t = record store { s = store.s ++ t ∷ [] }

@@ -8,6 +8,7 @@ use Rattle.theta_pred.specs.declared.text_atom.TextAtom.{TextAtom}
 use Rattle.theta_pred.specs.Formula.{Meaning}
 use Rattle.theta_pred.specs.TextAtoms.{text_at, text_atom_of}
 
+-- the column of a text atom on a side
 abbrev pub column_at : Side → TextAtom → ℕ
 column_at R text = text.r
 column_at S text = text.s

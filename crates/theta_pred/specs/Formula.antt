@@ -16,14 +16,17 @@ mutual
     band : List Addend → Op → ℤ → Formula
     txt : Text → Op → Text → Formula
 
+  -- the members of a formula
   pub data Formulas : Type 0 where
     no_formula : Formulas
     formula : Formula → Formulas → Formulas
 
+-- the members of a list
 abbrev pub formulas : List Formula → Formulas
 formulas [] = no_formula
 formulas (f ∷ fs) = formula f (formulas fs)
 
+-- a tree with formulas in the places of its members
 abbrev pub formula_step : Tree-F Formula → Formula
 formula_step (Tree-F.Or members) = any (formulas members.items)
 formula_step (Tree-F.And members) = every (formulas members.items)
@@ -32,6 +35,7 @@ formula_step (Tree-F.Num left op right) = num left op right
 formula_step (Tree-F.Abs sum op bound) = band sum op bound
 formula_step (Tree-F.Txt left op right) = txt left op right
 
+-- what a tree says
 abbrev pub formula_of : Tree → Formula
 formula_of = fold-Tree Formula formula_step
 

@@ -27,14 +27,16 @@ pub record Atom : Type 0 where
   pub low : Option ℤ
   pub high : Option ℤ
 
+-- the atom of a key that was made
 abbrev pub atom_of : KeyAtom → Atom
 atom_of key = record { r_sum = key.r_sum.parts; s_sum = key.s_sum.parts; low = key.low; high = key.high }
 
--- a bound that is absent is no bound
+-- a number lies at a lower bound or above; a bound that is absent is no bound
 abbrev pub is_from : Option ℤ → ℤ → Bool
 is_from None gap = true
 is_from (Some low) gap = int_le low gap
 
+-- a number lies at an upper bound or below
 abbrev pub is_up_to : Option ℤ → ℤ → Bool
 is_up_to None gap = true
 is_up_to (Some high) gap = int_le gap high
@@ -50,10 +52,12 @@ is_atom_true atom r s = is_between atom.low atom.high (value_of atom.r_sum r) (v
 
 -- ---- the parts of a sum
 
+-- the sign of a term, or the other one where turned
 abbrev pub flipped : Bool → Bool → Bool
 flipped false minus = minus
 flipped true minus = not minus
 
+-- the column of a term, where it is one of this side, with this sign
 abbrev pub number_columns : Side → Bool → Number → List Part
 number_columns side minus number =
     map (λ place. record { minus = minus; column = place }) (number_places side number)
@@ -64,6 +68,7 @@ columns_of side turned [] = []
 columns_of side turned (addend ∷ addends) =
     number_columns side (flipped turned addend.minus) addend.number ++ columns_of side turned addends
 
+-- the constant that a term is, and 0 for a column
 abbrev pub constant_in : Number → ℤ
 constant_in (numbers.Given value) = value
 constant_in (numbers.Cell column) = pos 0
@@ -75,6 +80,7 @@ constant_of (addend ∷ addends) = with_sign addend.minus (constant_in addend.nu
 
 -- ---- the members that split
 
+-- whether there is a place
 abbrev pub is_some_place : List ℕ → Bool
 is_some_place [] = false
 is_some_place (place ∷ places) = true
@@ -88,6 +94,7 @@ names_side side (addend ∷ addends) = is_some_place (number_places side addend.
 abbrev pub splits : List Addend → List Addend → Bool
 splits left right = (names_side R left || names_side R right) && (names_side S left || names_side S right)
 
+-- whether a comparison of two sums is of this kind
 abbrev pub is_num_kind : Kind → Op → Bool
 is_num_kind Equality Eq = true
 is_num_kind Inequality Lt = true
@@ -96,6 +103,7 @@ is_num_kind Inequality Gt = true
 is_num_kind Inequality Ge = true
 is_num_kind _ _ = false
 
+-- whether a bound on a sum's size is of this kind
 abbrev pub is_band_kind : Kind → Op → Bool
 is_band_kind Band Lt = true
 is_band_kind Band Le = true
@@ -109,13 +117,14 @@ is_of_kind kind _ = false
 
 -- ---- the bounds
 
--- the bounds of R's columns less S's, where the whole difference has this constant beside them
+-- the lower bound of R's columns less S's, where the whole difference has this constant beside them
 abbrev pub num_low : Op → ℤ → Option ℤ
 num_low Eq constant = Some (neg_ℤ constant)
 num_low Ge constant = Some (neg_ℤ constant)
 num_low Gt constant = Some (pos 1 -ℤ constant)
 num_low _ constant = None
 
+-- their upper bound
 abbrev pub num_high : Op → ℤ → Option ℤ
 num_high Eq constant = Some (neg_ℤ constant)
 num_high Le constant = Some (neg_ℤ constant)
@@ -127,9 +136,11 @@ abbrev pub reach : Op → ℤ → ℤ
 reach Lt bound = bound -ℤ pos 1
 reach _ bound = bound
 
+-- the lower bound of the columns in a band whose sum has this constant beside them
 abbrev pub band_low : Op → ℤ → ℤ → Option ℤ
 band_low op bound constant = Some (neg_ℤ (reach op bound) -ℤ constant)
 
+-- their upper bound
 abbrev pub band_high : Op → ℤ → ℤ → Option ℤ
 band_high op bound constant = Some (reach op bound -ℤ constant)
 
@@ -142,6 +153,7 @@ difference left right low high = record {
   high = high;
 }
 
+-- the atom of a member, if it can have one
 abbrev pub atom_in : Formula → Option Atom
 atom_in (num left op right) =
     let constant = constant_of left -ℤ constant_of right in
@@ -158,10 +170,12 @@ abbrev pub conjuncts : Formula → Formulas
 conjuncts (every fs) = fs
 conjuncts f = formula f no_formula
 
+-- the first member of this kind that splits
 abbrev pub first_of : Kind → Formulas → Option Formula
 first_of kind no_formula = None
 first_of kind (formula f fs) = if is_of_kind kind f then Some f else first_of kind fs
 
+-- the first of the two that is there
 abbrev pub first_there : Option Formula → Option Formula → Option Formula
 first_there (Some f) other = Some f
 first_there None other = other

@@ -21,22 +21,27 @@ places_from place word (name ∷ names) =
 abbrev pub places_of : List (List ℕ) → List (List ℕ) → Name → List ℕ
 places_of names_r names_s name = places_from 0 name.word (of_side names_r names_s name.side)
 
+-- the name of a term, where it is a column
 abbrev pub term_names : Term → List Name
 term_names (terms.Const value) = []
 term_names (terms.Col name) = name ∷ []
 
+-- the names of a sum
 abbrev pub sum_names : List Signed → List Name
 sum_names [] = []
 sum_names (signed ∷ sum) = term_names signed.term ++ sum_names sum
 
+-- the name of a side of a test on texts, where it is a column
 abbrev pub side_names : TextSide → List Name
 side_names (sides.Lit bytes) = []
 side_names (sides.Col name) = name ∷ []
 
+-- the names of all members
 abbrev pub joined : List (List Name) → List Name
 joined [] = []
 joined (names ∷ others) = names ++ joined others
 
+-- the names of a predicate, with those of its members in their places
 abbrev pub names_step : Pred-F (List Name) → List Name
 names_step (Pred-F.Or members) = joined members.items
 names_step (Pred-F.And members) = joined members.items

@@ -15,6 +15,7 @@ place_if_on R R place = place ∷ []
 place_if_on S S place = place ∷ []
 place_if_on _ _ place = []
 
+-- the place of a term's column, where it is one of this side
 abbrev pub number_places : Side → Number → List ℕ
 number_places side (Given value) = []
 number_places side (Cell column) = place_if_on side column.side column.place
@@ -34,6 +35,7 @@ abbrev mutual
   sum_places side (band sum op bound) = addend_places side sum
   sum_places side (txt left op right) = []
 
+  -- and in those of all members
   pub all_sum_places : Side → Formulas → List ℕ
   all_sum_places side no_formula = []
   all_sum_places side (formula f fs) = sum_places side f ++ all_sum_places side fs

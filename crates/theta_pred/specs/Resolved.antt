@@ -19,6 +19,7 @@ use Rattle.theta_pred.specs.declared.fault.ResolveFault.TheVariants as faults
 use Rattle.theta_pred.specs.Formula.{Formula, any, every, negation, num, band, txt, formulas}
 use Rattle.theta_pred.specs.Names.{places_of, IsFirstWrong}
 
+-- the first of the places, 0 where there is none
 abbrev pub first_place : List ℕ → ℕ
 first_place [] = 0
 first_place (place ∷ places) = place
@@ -27,20 +28,25 @@ first_place (place ∷ places) = place
 abbrev pub column_of : List (List ℕ) → List (List ℕ) → Name → Column
 column_of names_r names_s name = record { side = name.side; place = first_place (places_of names_r names_s name) }
 
+-- a term with its name replaced by the column
 abbrev pub resolved_term : List (List ℕ) → List (List ℕ) → Term → Number
 resolved_term names_r names_s (terms.Const value) = numbers.Given value
 resolved_term names_r names_s (terms.Col name) = numbers.Cell (column_of names_r names_s name)
 
+-- and with its sign
 abbrev pub resolved_addend : List (List ℕ) → List (List ℕ) → Signed → Addend
 resolved_addend names_r names_s signed = record { minus = signed.minus; number = resolved_term names_r names_s signed.term }
 
+-- each term of a sum
 abbrev pub resolved_sum : List (List ℕ) → List (List ℕ) → List Signed → List Addend
 resolved_sum names_r names_s sum = map (resolved_addend names_r names_s) sum
 
+-- a side of a test on texts
 abbrev pub resolved_side : List (List ℕ) → List (List ℕ) → TextSide → Text
 resolved_side names_r names_s (sides.Lit bytes) = texts.Given bytes
 resolved_side names_r names_s (sides.Col name) = texts.Cell (column_of names_r names_s name)
 
+-- a predicate, with formulas in the places of its members
 abbrev pub resolved_step : List (List ℕ) → List (List ℕ) → Pred-F Formula → Formula
 resolved_step names_r names_s (Pred-F.Or members) = any (formulas members.items)
 resolved_step names_r names_s (Pred-F.And members) = every (formulas members.items)

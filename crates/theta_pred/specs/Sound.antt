@@ -13,14 +13,17 @@ use Rattle.theta_pred.specs.declared.tree.Text.TheVariants as texts
 abbrev pub IsWithin : ℕ → ℕ → Column → Type 0
 IsWithin width_r width_s column = column.place < of_side width_r width_s column.side
 
+-- the same of a term, where it is a column
 abbrev pub IsNumberWithin : ℕ → ℕ → Number → Type 0
 IsNumberWithin width_r width_s (numbers.Given value) = ⊤
 IsNumberWithin width_r width_s (numbers.Cell column) = IsWithin width_r width_s column
 
+-- the same of a side of a test on texts, where it is a column
 abbrev pub IsTextWithin : ℕ → ℕ → Text → Type 0
 IsTextWithin width_r width_s (texts.Given bytes) = ⊤
 IsTextWithin width_r width_s (texts.Cell column) = IsWithin width_r width_s column
 
+-- the same of each term of a sum
 abbrev pub AreWithin : ℕ → ℕ → List Addend → Type 0
 AreWithin width_r width_s [] = ⊤
 AreWithin width_r width_s (addend ∷ addends) = IsNumberWithin width_r width_s addend.number × AreWithin width_r width_s addends
@@ -31,6 +34,7 @@ pub record IsSum (width_r width_s : ℕ) (addends : List Addend) : Type 0 where
   pub within : AreWithin width_r width_s addends
 
 abbrev mutual
+  -- each sum of the formula is one that i128 holds, and each column is there
   pub IsSound : ℕ → ℕ → Formula → Type 0
   IsSound width_r width_s (any fs) = AreSound width_r width_s fs
   IsSound width_r width_s (every fs) = AreSound width_r width_s fs
@@ -39,6 +43,7 @@ abbrev mutual
   IsSound width_r width_s (band sum op bound) = IsSum width_r width_s sum
   IsSound width_r width_s (txt left op right) = IsTextWithin width_r width_s left × IsTextWithin width_r width_s right
 
+  -- the same of each member
   pub AreSound : ℕ → ℕ → Formulas → Type 0
   AreSound width_r width_s no_formula = ⊤
   AreSound width_r width_s (formula f fs) = IsSound width_r width_s f × AreSound width_r width_s fs

@@ -28,6 +28,7 @@ abbrev pub number_of : List Cell → List Cell → Number → Option ℤ
 number_of r s (numbers.Given value) = Some value
 number_of r s (numbers.Cell column) = number_at r s column
 
+-- a number with its sign, turned where there is a minus
 abbrev pub with_sign : Bool → ℤ → ℤ
 with_sign false value = value
 with_sign true value = neg_ℤ value
@@ -37,6 +38,7 @@ abbrev pub plus : Option ℤ → Option ℤ → Option ℤ
 plus (Some x) (Some y) = Some (x +ℤ y)
 plus _ _ = None
 
+-- what a term with its sign stands for
 abbrev pub addend_of : List Cell → List Cell → Addend → Option ℤ
 addend_of r s addend = option_map (with_sign addend.minus) (number_of r s addend.number)
 
@@ -45,6 +47,7 @@ abbrev pub sum_of : List Cell → List Cell → List Addend → Option ℤ
 sum_of r s [] = Some (pos 0)
 sum_of r s (addend ∷ addends) = plus (addend_of r s addend) (sum_of r s addends)
 
+-- the text of a cell, empty where there is no cell
 abbrev pub text_in : Option Cell → List ℕ
 text_in (Some cell) = cell.text
 text_in None = []

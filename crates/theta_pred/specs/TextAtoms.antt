@@ -18,6 +18,7 @@ of_sides R S left right = Some (record { r = left; s = right })
 of_sides S R left right = Some (record { r = right; s = left })
 of_sides _ _ left right = None
 
+-- two columns, where they are of different sides
 abbrev pub of_columns : Column → Column → Option TextAtom
 of_columns left right = of_sides left.side right.side left.place right.place
 
@@ -26,6 +27,7 @@ abbrev pub of_member : Formula → Option TextAtom
 of_member (txt (texts.Cell left) Eq (texts.Cell right)) = of_columns left right
 of_member _ = None
 
+-- the first of the two that is there
 abbrev pub first_there : Option TextAtom → Option TextAtom → Option TextAtom
 first_there (Some atom) other = Some atom
 first_there None other = other

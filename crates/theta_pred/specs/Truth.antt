@@ -25,10 +25,12 @@ abbrev pub compares : Op → Option ℤ → Option ℤ → Bool
 compares op (Some x) (Some y) = allows op (int_cmp x y)
 compares op _ _ = false
 
+-- a number without its sign
 abbrev pub size_of : ℤ → ℤ
 size_of value = pos (unsigned_abs value)
 
 abbrev mutual
+  -- whether the formula is true of a row of R and a row of S
   pub is_true : List Cell → List Cell → Formula → Bool
   is_true r s (any fs) = some_is_true r s fs
   is_true r s (every fs) = each_is_true r s fs
@@ -37,10 +39,12 @@ abbrev mutual
   is_true r s (band sum op bound) = compares op (option_map size_of (sum_of r s sum)) (Some bound)
   is_true r s (txt left op right) = allows op (slice_cmp nat_cmp (text_of r s left) (text_of r s right))
 
+  -- whether some member is
   pub some_is_true : List Cell → List Cell → Formulas → Bool
   some_is_true r s no_formula = false
   some_is_true r s (formula f fs) = is_true r s f || some_is_true r s fs
 
+  -- whether each member is
   pub each_is_true : List Cell → List Cell → Formulas → Bool
   each_is_true r s no_formula = true
   each_is_true r s (formula f fs) = is_true r s f && each_is_true r s fs

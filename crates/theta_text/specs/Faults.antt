@@ -47,10 +47,12 @@ IsNesting (Word Not w) = ⊤
 IsNesting Open = ⊤
 IsNesting _ = ⊥
 
+-- a sign of a sum
 abbrev pub IsSign : Token → Type 0
 IsSign (Sign m) = ⊤
 IsSign _ = ⊥
 
+-- a number
 abbrev pub IsNumber : Token → Type 0
 IsNumber (Number v) = ⊤
 IsNumber _ = ⊥
@@ -63,12 +65,15 @@ deeper limits = record { nesting = suc limits.nesting; more = limits.more; great
 abbrev pub wider : Limits → Limits
 wider limits = record { nesting = limits.nesting; more = suc limits.more; greatest = limits.greatest }
 
+-- the token at the place nests deeper than the limit
 abbrev pub IsDeepFault : Limits → List Placed → ℕ → Type 0
 IsDeepFault limits tokens place = Passes limits (deeper limits) tokens place IsNesting
 
+-- the sign at the place is of a term too many
 abbrev pub IsWideFault : Limits → List Placed → ℕ → Type 0
 IsWideFault limits tokens place = Passes limits (wider limits) tokens place IsSign
 
+-- the number at the place is greater than the limit
 abbrev pub IsLiteralFault : Limits → List Placed → ℕ → Type 0
 IsLiteralFault limits tokens place =
     (greatest : ℕ) × Passes limits (record { nesting = limits.nesting; more = limits.more; greatest = greatest }) tokens place IsNumber

@@ -5,6 +5,7 @@ use Rattle.theta_text.specs.declared.kind.Kind.{Kind}
 use Rattle.theta_text.specs.declared.kind.Kind.TheVariants.{Word, Number, Literal, Name, Open, Close, Dot, Plus, Minus, Eq, Ne, Lt, Le, Gt, Ge}
 use Rattle.theta_text.specs.Tokens.{is_letter, is_digit, is_word}
 
+-- a kind of token and how many bytes it has, where a token begins here
 abbrev pub Found : Type 0
 Found = Option (Kind × ℕ)
 
@@ -27,10 +28,12 @@ abbrev pub with_equals : Kind → Kind → List ℕ → Found
 with_equals one two [] = Some (one, 1)
 with_equals one two (c ∷ bs) = cond (c == 61) (Some (two, 2)) (Some (one, 1))
 
+-- the sign `!=`, behind its first byte
 abbrev pub not_equals : List ℕ → Found
 not_equals [] = None
 not_equals (c ∷ bs) = cond (c == 61) (Some (Ne, 2)) None
 
+-- the token that begins with this byte, where that is neither a letter, a digit nor a quote
 abbrev pub sign : ℕ → List ℕ → Found
 sign b bs =
     cond (b == 40) (Some (Open, 1))
@@ -43,6 +46,7 @@ sign b bs =
     (cond (b == 60) (with_equals Lt Le bs)
     (cond (b == 62) (with_equals Gt Ge bs) None))))))))
 
+-- the longest token at the front of the text
 abbrev pub front : List ℕ → Found
 front [] = None
 front (b ∷ bs) =

@@ -25,6 +25,7 @@ mutual
     band : List Signed → Op → ℤ → Tree
     txt : TextSide → Op → TextSide → Tree
 
+  -- the members of a tree
   pub data Trees : Type 0 where
     no_trees : Trees
     tree : Tree → Trees → Trees

@@ -7,6 +7,7 @@ use Rattle.theta_text.specs.declared.token.Token.TheVariants as tokens
 use Rattle.theta_text.specs.declared.tree.Op.TheVariants as ops
 use Rattle.theta_text.specs.Tokens.{IsWord, IsNumber, in_quotes, keyword_of}
 
+-- the bytes are some content between these quotes
 abbrev pub IsQuoted : ℕ → List ℕ → Type 0
 IsQuoted q bytes = (content : List ℕ) × (bytes ≡ in_quotes q content)
 
@@ -29,15 +30,18 @@ SpellsKind Gt bytes = bytes ≡ 62 ∷ []
 SpellsKind Ge bytes = bytes ≡ 62 ∷ 61 ∷ []
 SpellsKind Stray bytes = ⊥
 
+-- the text begins with a token of this kind and n bytes, and with no longer token of any kind
 pub record IsLongestKind (text : List ℕ) (kind : Kind) (n : ℕ) : Type 0 where
   pub spelled : SpellsKind kind (take n text)
   pub within : n ≤ length text
   pub longest : (other : Kind) (m : ℕ) → m ≤ length text → SpellsKind other (take m text) → m ≤ n
 
+-- no token of any kind begins here, so the rest of the text is none
 pub record IsStrayKind (text : List ℕ) (n : ℕ) : Type 0 where
   pub all : n ≡ length text
   pub no_token : (kind : Kind) (m : ℕ) → m ≤ length text → SpellsKind kind (take m text) → ⊥
 
+-- what kind of token stands at the front of the text, and how many bytes it has
 abbrev pub IsNextKind : List ℕ → Kind → ℕ → Type 0
 IsNextKind text Stray n = IsStrayKind text n
 IsNextKind text kind n = IsLongestKind text kind n

@@ -8,6 +8,7 @@ use Rattle.join_rows.specs.declared.table.Side.TheVariants as sides
 use Rattle.theta_text.specs.declared.units.Start.{Start}
 use Rattle.theta_text.specs.declared.units.Start.TheVariants.{StartNot, StartOpen, StartBand, StartTxt, StartNum}
 
+-- which unit begins with this token: a test on numbers, where it is none of the others
 abbrev pub unit_start : Token → Start
 unit_start (Word Not w) = StartNot
 unit_start Open = StartOpen
@@ -16,11 +17,13 @@ unit_start (Word Text w) = StartTxt
 unit_start (Literal w) = StartTxt
 unit_start _ = StartNum
 
+-- the side that a name begins with
 abbrev pub named_side : Token → Option Side
 named_side (Word R w) = Some sides.R
 named_side (Word S w) = Some sides.S
 named_side _ = None
 
+-- whether the token is the word `text`
 abbrev pub is_text : Token → Bool
 is_text (Word Text w) = true
 is_text _ = false

@@ -28,6 +28,7 @@ use Rattle.trace_law.specs.Batches.{size_of, stamp_of}
 
 -- ---- how the actors of a run begin
 
+-- the cells of a row; one that isn't there has none
 abbrev pub cells_of : Input → Side → ℕ → List Cell
 cells_of input side index = slice_index_or (rows_of input side) index []
 
@@ -40,22 +41,27 @@ tuple_of input stamp place =
 abbrev pub batches : Input → Setting → ℕ → List (List Place)
 batches input setting p = cut setting.batch (share setting.feed setting.feeders p (row_count input R) (row_count input S))
 
+-- the rules of the controller
 abbrev pub rules_of : Setting → Rules
 rules_of setting = record { k = setting.k; feeders = setting.feeders; fixed = setting.fixed }
 
+-- the first line of its journal
 abbrev pub first_line : Setting → TurnLine
 first_line setting = start_line (rules_of setting)
 
+-- how feeder p begins: at epoch 0, with its batches
 abbrev pub feeder_start : Input → Setting → ℕ → FeederStart
 feeder_start input setting p =
     record { k = setting.k; epoch = 0; shift = (first_line setting).shift; batches = map (λ batch. map (tuple_of input 0) batch) (batches input setting p) }
 
+-- how joiner j begins: at epoch 0, with an empty store
 abbrev pub joiner_start : Input → Setting → ℕ → JoinerStart
 joiner_start input setting j =
     record { k = setting.k; feeders = setting.feeders; id = j; matches = λ r q. matches_of input r.cells q.cells; epoch = 0; shift = (first_line setting).shift; base = [] }
 
 -- ---- families
 
+-- what each actor received and sent
 pub record Family : Type 0 where
   pub feeder : ℕ → FeederLists
   pub joiner : ℕ → JoinerLists
@@ -106,10 +112,11 @@ stamp_at input setting journal place = stamp_of setting.feed setting.feeders set
 abbrev pub stamp_by : Input → Setting → List TurnLine → Side → ℕ → ℕ
 stamp_by input setting journal side index = unwrap_or (stamp_at input setting journal (place_at side index)) 0
 
--- and by the family's journal
+-- the shift of each epoch by the family's journal
 abbrev pub shift_of : Setting → Family → ℕ → ℕ
 shift_of setting f e = shift_by setting f.controller.journal e
 
+-- the stamp of each row by the family's journal
 abbrev pub stamp_in : Input → Setting → Family → Side → ℕ → ℕ
 stamp_in input setting f side index = stamp_by input setting f.controller.journal side index
 

@@ -14,11 +14,13 @@ use Rattle.row_tickets.specs.declared.place.Feed.TheVariants.{RFirst}
 use Rattle.row_tickets.specs.Share.{place_at}
 use Rattle.trace_law.specs.Batches.{stamp_of}
 
+-- the journal of this run
 abbrev pub journal : List TurnLine
 journal = reverse (past_of growing (start_line growing) [] (
     Count 0 4 0 ∷ Settle 0 ∷ Settle 1 ∷ Settle 2 ∷ Settle 3 ∷ Count 0 4 0 ∷ Count 0 0 4 ∷ Count 0 0 4 ∷ Drain 0
     ∷ Settle 3 ∷ Settle 2 ∷ Settle 1 ∷ Settle 0 ∷ []))
 
+-- eight rows on each side, a predicate that is true of all, and the tickets spread over the grid
 abbrev pub input : Input
 input = record {
   table_r = record { names = []; rows = replicate 8 [] };
@@ -28,20 +30,26 @@ input = record {
   tickets_s = 0 ∷ 1 ∷ 2 ∷ 3 ∷ 4 ∷ 5 ∷ 6 ∷ 7 ∷ [];
 }
 
+-- the stamp of a row
 abbrev pub stamp : Side → ℕ → ℕ
 stamp side index = unwrap_or (stamp_of RFirst 1 4 8 8 journal (place_at side index)) 0
 
+-- the shift of an epoch
 abbrev pub shift : ℕ → ℕ
 shift e = shift_at 1 e journal
 
+-- the rows of R are of epoch 1, those of S of epoch 1 and then of epoch 2
 pub stamps : stamp R 0 ∷ stamp R 7 ∷ stamp S 3 ∷ stamp S 4 ∷ [] ≡ 1 ∷ 1 ∷ 1 ∷ 2 ∷ []
 stamps = refl
 
+-- each of the four joiners makes sixteen of the 64 pairs
 pub each_makes_16 : map (made input 2 stamp shift) (0 ∷ 1 ∷ 2 ∷ 3 ∷ []) ≡ 16 ∷ 16 ∷ 16 ∷ 16 ∷ []
 each_makes_16 = refl
 
+-- in the end joiners 0 and 3 hold four rows of either side
 pub each_holds_4_and_4 : held input 2 1 R 0 ∷ held input 2 1 S 0 ∷ held input 2 1 R 3 ∷ held input 2 1 S 3 ∷ [] ≡ 4 ∷ 4 ∷ 4 ∷ 4 ∷ []
 each_holds_4_and_4 = refl
 
+-- in the first step no row moves, for S has none yet; in the second each row of R does, once
 pub moved_0_and_8 : moved input 2 stamp shift 1 ∷ moved input 2 stamp shift 2 ∷ [] ≡ 0 ∷ 8 ∷ []
 moved_0_and_8 = refl

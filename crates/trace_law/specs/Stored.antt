@@ -35,6 +35,7 @@ counted_rows input setting journal = filter_map (λ place. option_map (λ e. tup
 abbrev pub rows_held : Input → Setting → Family → ℕ → ℕ → List Tuple
 rows_held input setting f n j = filter (is_stored setting.k (shift_of setting f n) n j) (counted_rows input setting f.controller.journal)
 
+-- what each joiner stores is told by the input, the setting and the journal
 pub record StoresItsRows (input : Input) (setting : Setting) (f : Family) (agrees : IsAgreeing input setting f) : Type 0 where
   -- a joiner stores at most those of an epoch or older that it holds
   pub at_most : (n j : ℕ) → j < 2 ^ setting.k → n ≤ opened (joiner_start input setting j) (agrees.taken_by_joiner j)
