@@ -53,7 +53,9 @@ pub fn meet(shape: Shape, t: u8, u: u8) -> u32
     requires k { shape.k ≤ 8 }
     ensures value { result ≡ grid.meet shape.k shape.shift t u }
     ensures below { result < 2 ^ shape.k }
-    ensures alone { (id : ℕ) → (grid.holds_r shape.k shape.shift id t && grid.holds_s shape.shift id u) ≡ (id == result) }
+    ensures alone { (id : ℕ)
+        → (grid.holds_r shape.k shape.shift id t && grid.holds_s shape.shift id u)
+        ≡ (id == result) }
 {
     row_of(shape, t) * power(shape.shift) + col_of(shape, u)
 }

@@ -13,11 +13,14 @@ const PIECE: usize = 4096;
 /// Puts the bytes in pieces of 4,096; no bytes make no put. Ends at the first put that fails.
 pub fn put_all<K: Sink>(sink: &mut K, bytes: &[u8]) -> Result<(), Failed>
     requires { K.faults sink.old < last_fault }
-    ensures written { OnOk result (K.written sink.new ≡ append_known (K.written sink.old) bytes.now) }
+    ensures written { OnOk result
+        (K.written sink.new ≡ append_known (K.written sink.old) bytes.now) }
     ensures counts { OnOk result (K.faults sink.new ≡ K.faults sink.old) }
-    ensures front { OnErr result (AppendsFront (K.written sink.old) (K.written sink.new) bytes.now) }
+    ensures front { OnErr result
+        (AppendsFront (K.written sink.old) (K.written sink.new) bytes.now) }
     ensures fails { OnErr result (K.faults sink.old < K.faults sink.new) }
-    ensures takes { (more : ℕ) → K.takes sink.old (length bytes.now + more) → IsOk result × K.takes sink.new more }
+    ensures takes { (more : ℕ) → K.takes sink.old (length bytes.now + more)
+        → IsOk result × K.takes sink.new more }
 {
     let mut place = 0;
     while place < bytes.len() {

@@ -140,7 +140,8 @@ fn write_final(text: &mut String, shape: Shape, x: u64, y: u64) -> Result<(), Al
 
 /// Adds the line of a joiner.
 fn write_joiner(text: &mut String, id: u64, held: Held, made: u64) -> Result<(), AllocError>
-    ensures { OnOk result (string_bytes text.new ≡ string_bytes text.old ++ joiner_line id held made) }
+    ensures { OnOk result
+        (string_bytes text.new ≡ string_bytes text.old ++ joiner_line id held made) }
 {
     let r = held.rows_r;
     let s = held.rows_s;
@@ -179,7 +180,8 @@ pub fn report_text(
     requires steps { length run.now.moved < 2 ^ 32 }
     requires rows_r { rows_r ≤ 2 ^ 32 }
     requires rows_s { rows_s ≤ 2 ^ 32 }
-    ensures { IfOk result (λ text. string_bytes text ≡ report_of setting.now rows_r rows_s run.now) }
+    ensures { IfOk result (λ text.
+        string_bytes text ≡ report_of setting.now rows_r rows_s run.now) }
 {
     let mut text = String::new(alloc);
     write_input(&mut text, rows_r, rows_s)?;

@@ -41,7 +41,8 @@ fn write_row<'a>(
     row_s: &'a [Cell],
 ) -> Result<(), AllocError>
     ensures { OnOk result ((text : List ℕ) → HasWritten writer.old text
-        → HasWritten writer.new (text ++ row_text default_writer (texts_of row_r.now ++ texts_of row_s.now))) }
+        → HasWritten writer.new
+        (text ++ row_text default_writer (texts_of row_r.now ++ texts_of row_s.now))) }
 {
     fields.clear();
     push_texts(fields, row_r)?;

@@ -57,9 +57,12 @@ fn any_spent(seats: &[Seat]) -> bool
 
 // Holds each mouth of a seat and the inbox to which it leads together.
 fn gather_row<R: Wait>(rt: &R, mouths: &mut Vec<Option<Mouth>>, seats: &mut [Seat])
-    requires { (r : ℕ) (d : SeatView) → r < length seats.old → IsSlotOf (slice_index_or mouths.old.items r None) (slice_index_or seats.old r d).inbox }
+    requires { (r : ℕ) (d : SeatView) → r < length seats.old
+        → IsSlotOf (slice_index_or mouths.old.items r None) (slice_index_or seats.old r d).inbox }
     ensures mouths { mouths.new.items ≡ mouths.old.items }
-    ensures told { (r : ℕ) (d : SeatView) → r < length seats.old → Tells (slice_index_or mouths.old.items r None) (slice_index_or seats.old r d) (slice_index_or seats.new r d) }
+    ensures told { (r : ℕ) (d : SeatView) → r < length seats.old
+        → Tells (slice_index_or mouths.old.items r None) (slice_index_or seats.old r d)
+        (slice_index_or seats.new r d) }
 {
     for place in 0..seats.len() {
         if place < mouths.len() {
@@ -70,8 +73,11 @@ fn gather_row<R: Wait>(rt: &R, mouths: &mut Vec<Option<Mouth>>, seats: &mut [Sea
 
 fn gather_from<R: Wait>(rt: &R, seats: &mut [Seat], sender: usize)
     requires sender { sender < length seats.old }
-    requires joined { (r : ℕ) (d : SeatView) → r < length seats.old → IsSlotOf (slot_of seats.old d sender r) (slice_index_or seats.old r d).inbox }
-    ensures told { (r : ℕ) (d : SeatView) → r < length seats.old → Tells (slot_of seats.old d sender r) (slice_index_or seats.old r d) (slice_index_or seats.new r d) }
+    requires joined { (r : ℕ) (d : SeatView) → r < length seats.old
+        → IsSlotOf (slot_of seats.old d sender r) (slice_index_or seats.old r d).inbox }
+    ensures told { (r : ℕ) (d : SeatView) → r < length seats.old
+        → Tells (slot_of seats.old d sender r) (slice_index_or seats.old r d)
+        (slice_index_or seats.new r d) }
 {
     let mut mouths = seats[sender].take_mouths();
     gather_row(rt, &mut mouths, seats);
@@ -83,7 +89,8 @@ fn gather_all<R: Wait>(rt: &R, seats: &mut [Seat])
     requires leads { AllLead (map frame_of seats.old) }
     requires differ { ActorsDiffer (map frame_of seats.old) }
     ensures frames { map frame_of seats.new ≡ map frame_of seats.old }
-    ensures alike { (n : ℕ) (d : SeatView) → n < length seats.old → IsAlike (slice_index_or seats.old n d) (slice_index_or seats.new n d) }
+    ensures alike { (n : ℕ) (d : SeatView) → n < length seats.old
+        → IsAlike (slice_index_or seats.old n d) (slice_index_or seats.new n d) }
     ensures gathered { AreGathered seats.new }
 {
     for sender in 0..seats.len() {
@@ -166,14 +173,16 @@ pub fn bout<R: Threads + Wait + Sync, G: Gate>(
     ensures busy { result ≡ Ok true → ¬ IsStill seats.old }
     ensures ready { result ≡ Ok true → SomeReady seats.old.seats }
     ensures collected { result ≡ Ok false → (input : Input') (setting : Setting')
-        → IsValid input setting → StandsFor input setting seats.old → is_collected seats.old ≡ true }
+        → IsValid input setting → StandsFor input setting seats.old
+        → is_collected seats.old ≡ true }
     ensures agrees { OnOk result (AreFronts (lists_in seats.new)) }
     ensures extends { OnOk result (Extends (lists_in seats.old) (lists_in seats.new)) }
     ensures stands { OnOk result ((input : Input') (setting : Setting')
         → StandsFor input setting seats.old → StandsFor input setting seats.new) }
     ensures goes_on { OnOk result ((seats.old.spent ≡ false) × (seats.new.spent ≡ false)) }
     ensures fails { OnErr result (seats.new.spent ≡ true) }
-    ensures actors { (seats.new.joiners ≡ seats.old.joiners) × (seats.new.feeders ≡ seats.old.feeders) }
+    ensures actors { (seats.new.joiners ≡ seats.old.joiners)
+        × (seats.new.feeders ≡ seats.old.feeders) }
 {
     quiet_is_finished();
     if seats.spent {

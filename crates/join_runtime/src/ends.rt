@@ -107,13 +107,16 @@ impl<'a> Seats<'a> {
     /// seats are gone.
     pub fn finish(self, bouts: u64) -> Result<Told, AllocError>
         requires { is_collected self ≡ true }
-        ensures family { IfOk result (λ told. (input : Input') (setting : Setting') → IsValid input setting
+        ensures family { IfOk result (λ told.
+            (input : Input') (setting : Setting') → IsValid input setting
             → StandsFor input setting self.entry → AreFronts (lists_in self.entry)
             → IsFinishedFamily input setting told.run.journal (lists_left told.ends)) }
-        ensures run { IfOk result (λ told. (input : Input') (setting : Setting') → IsValid input setting
+        ensures run { IfOk result (λ told.
+            (input : Input') (setting : Setting') → IsValid input setting
             → StandsFor input setting self.entry → AreFronts (lists_in self.entry)
             → IsRunOf input setting told.run.journal told.run) }
-        ensures ends { IfOk result (λ told. (a : Actor') → lists_left told.ends a ≡ lists_in self.entry a) }
+        ensures ends { IfOk result (λ told.
+            (a : Actor') → lists_left told.ends a ≡ lists_in self.entry a) }
         ensures bouts { IfOk result (λ told. told.run.bouts ≡ bouts) }
     {
         complete_is_finished();

@@ -16,12 +16,16 @@ use std::alloc::AllocError;
 impl<'a> Seats<'a> {
     // The pairs that the collector took since the last call of this that answered `Ok`. No list changes.
     pub(crate) fn fresh(&mut self) -> Result<Pairs, AllocError>
-        ensures gives { IfOk result (λ pairs. (input : Input') (setting : Setting') (earlier : CollectorLists)
-            → StandsFor input setting self.old → AreGiven (2 ^ setting.k) earlier (given_in self.old)
+        ensures gives { IfOk result (λ pairs.
+            (input : Input') (setting : Setting') (earlier : CollectorLists)
+            → StandsFor input setting self.old
+            → AreGiven (2 ^ setting.k) earlier (given_in self.old)
             → IsPermutation (pairs_since (2 ^ setting.k) earlier (collected_in self.old)) pairs) }
-        ensures given { OnOk result ((input : Input') (setting : Setting') → StandsFor input setting self.old
+        ensures given { OnOk result ((input : Input') (setting : Setting')
+            → StandsFor input setting self.old
             → AreGiven (2 ^ setting.k) (collected_in self.old) (given_in self.new)) }
-        ensures stands { (input : Input') (setting : Setting') → StandsFor input setting self.old → StandsFor input setting self.new }
+        ensures stands { (input : Input') (setting : Setting') → StandsFor input setting self.old
+            → StandsFor input setting self.new }
         ensures lists { (a : Actor') → lists_in self.new a ≡ lists_in self.old a }
         ensures fails { OnErr result (self.new ≡ self.old) }
     {

@@ -37,7 +37,8 @@ fn put_at<R: Wait>(
 ) -> Result<(), AllocError>
     ensures same { map address_of mouths.new.items ≡ map address_of mouths.old.items }
     ensures sent { OnOk result ((n : ℕ) → sent_at mouths.new.items n
-        ≡ (if place == n then sent_at mouths.old.items n ++ msg ∷ [] else sent_at mouths.old.items n)) }
+        ≡ (if place == n then sent_at mouths.old.items n ++ msg ∷ []
+        else sent_at mouths.old.items n)) }
 {
     if place < mouths.len() {
         put_into(rt, &mut mouths[place], msg)

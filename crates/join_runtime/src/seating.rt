@@ -128,8 +128,10 @@ fn give_all(
     feeders: u32,
     mut mouths: Vec<Mouths>,
 ) -> Result<(), AllocError>
-    requires { (n r : ℕ) (d : SeatView) → n < length seats.old.items → slot_of seats.old.items d n r ≡ None }
-    ensures { OnOk result (AreFilled joiners feeders (length mouths.items) mouths.items seats.old.items seats.new.items) }
+    requires { (n r : ℕ) (d : SeatView) → n < length seats.old.items
+        → slot_of seats.old.items d n r ≡ None }
+    ensures { OnOk result (AreFilled joiners feeders
+        (length mouths.items) mouths.items seats.old.items seats.new.items) }
 {
     for receiver in 0..mouths.len() {
         let own = mem::replace(&mut mouths[receiver], Mouths::new(alloc));
@@ -171,8 +173,10 @@ impl<'a> Seats<'a> {
         requires setting { IsValidSetting setting.now }
         ensures stands { IfOk result (StandsFor input.now setting.now) }
         ensures empty { IfOk result (λ seats. (a : Actor') → lists_in seats a ≡ no_lists) }
-        ensures links { IfOk result (λ seats. (from to : Actor') → (IsSome (mouth_of seats from to) ↔ HasLink setting.now.k setting.now.feeders from to)) }
-        ensures given { IfOk result (λ seats. AreGiven (2 ^ setting.now.k) nothing_yet (given_in seats)) }
+        ensures links { IfOk result (λ seats. (from to : Actor') → (IsSome (mouth_of seats from to)
+            ↔ HasLink setting.now.k setting.now.feeders from to)) }
+        ensures given { IfOk result (λ seats.
+            AreGiven (2 ^ setting.now.k) nothing_yet (given_in seats)) }
         ensures at_work { IfOk result (λ seats. seats.spent ≡ false) }
     {
         let joiners = joiners_of(setting);

@@ -76,7 +76,8 @@ fn alone(
     rows: bool,
 ) -> Result<bool, WordsFault>
     ensures exact { result ≡ early_alone early replay make rows }
-    ensures alone { IfOk result (λ early. early ≡ true → (replay ≡ None) × (make ≡ None) × (rows ≡ false)) }
+    ensures alone { IfOk result (λ early.
+        early ≡ true → (replay ≡ None) × (make ≡ None) × (rows ≡ false)) }
 {
     match (early, replay, make, rows) {
         (false, _, _, _) => Ok(false),
@@ -94,9 +95,11 @@ pub(crate) fn checked<'a>(matches: &ArgMatches<'a>) -> Result<Options<'a>, Words
     ensures feeders { IfOk result (λ options. (1 ≤ options.feeders) × (options.feeders ≤ 8)) }
     ensures workers { IfOk result (λ options. (1 ≤ options.workers) × (options.workers ≤ 16)) }
     ensures batch { IfOk result (λ options. (1 ≤ options.batch) × (options.batch ≤ 4096)) }
-    ensures make { IfOk result (λ options. IfSome options.make (λ count. (1 ≤ count) × (count ≤ 65536))) }
+    ensures make { IfOk result (λ options.
+        IfSome options.make (λ count. (1 ≤ count) × (count ≤ 65536))) }
     ensures apart { IfOk result (λ options. IfSome options.make (λ _. options.rows ≡ false)) }
-    ensures alone { IfOk result (λ options. options.early ≡ true → (options.replay ≡ None) × (options.make ≡ None) × (options.rows ≡ false)) }
+    ensures alone { IfOk result (λ options. options.early ≡ true
+        → (options.replay ≡ None) × (options.make ≡ None) × (options.rows ≡ false)) }
 {
     let feed = feed(text(matches, "feed"))?;
     let k = exponent(number(matches, "joiners").unwrap_or(4))?;

@@ -18,7 +18,8 @@ use std::alloc::{AllocError, Global};
 /// Why a parse failed.
 fn refusal(error: &Error) -> WordsError
     ensures memory { kind_of error.now ≡ OutOfMemory → result ≡ WordsError.Memory }
-    ensures others { kind_of error.now ≢ OutOfMemory → result ≡ WordsError.Fault WordsFault.NoMatch }
+    ensures others { kind_of error.now ≢ OutOfMemory
+        → result ≡ WordsError.Fault WordsFault.NoMatch }
 {
     if error.kind() == ErrorKind::OutOfMemory {
         WordsError::Memory
@@ -29,7 +30,8 @@ fn refusal(error: &Error) -> WordsError
 
 /// The match of the words by the command.
 fn matched<'a>(alloc: Global, words: &'a [String]) -> Result<ArgMatches<'a>, WordsError>
-    ensures ok { IfOk result (λ matches. IsMatch (map string_bytes words.now) (rows_of (found_of matches))) }
+    ensures ok { IfOk result (λ matches.
+        IsMatch (map string_bytes words.now) (rows_of (found_of matches))) }
     ensures fault { (fault : WordsFault) → result ≡ Err (WordsError.Fault fault)
         → asked_of (map string_bytes words.now) ≡ Err fault }
 {
@@ -46,7 +48,8 @@ fn matched<'a>(alloc: Global, words: &'a [String]) -> Result<ArgMatches<'a>, Wor
 /// Reads the words, of which the first is the program's name. Memory may run out at any list of
 /// words; where it doesn't, the answer is the one that `asked_of` names.
 pub fn read_words<'a>(alloc: Global, words: &'a [String]) -> Result<Options<'a>, WordsError>
-    ensures ok { IfOk result (λ options. asked_of (map string_bytes words.now) ≡ Ok (asked options)) }
+    ensures ok { IfOk result (λ options.
+        asked_of (map string_bytes words.now) ≡ Ok (asked options)) }
     ensures fault { (fault : WordsFault) → result ≡ Err (WordsError.Fault fault)
         → asked_of (map string_bytes words.now) ≡ Err fault }
     ensures small { IfOk result (λ options. options.k ≤ 6) }
@@ -54,9 +57,11 @@ pub fn read_words<'a>(alloc: Global, words: &'a [String]) -> Result<Options<'a>,
     ensures feeders { IfOk result (λ options. (1 ≤ options.feeders) × (options.feeders ≤ 8)) }
     ensures workers { IfOk result (λ options. (1 ≤ options.workers) × (options.workers ≤ 16)) }
     ensures batch { IfOk result (λ options. (1 ≤ options.batch) × (options.batch ≤ 4096)) }
-    ensures make { IfOk result (λ options. IfSome options.make (λ count. (1 ≤ count) × (count ≤ 65536))) }
+    ensures make { IfOk result (λ options.
+        IfSome options.make (λ count. (1 ≤ count) × (count ≤ 65536))) }
     ensures apart { IfOk result (λ options. IfSome options.make (λ _. options.rows ≡ false)) }
-    ensures alone { IfOk result (λ options. options.early ≡ true → (options.replay ≡ None) × (options.make ≡ None) × (options.rows ≡ false)) }
+    ensures alone { IfOk result (λ options. options.early ≡ true
+        → (options.replay ≡ None) × (options.make ≡ None) × (options.rows ≡ false)) }
 {
     let matches = matched(alloc, words)?;
     match checked(&matches) {

@@ -22,7 +22,8 @@ pub enum Core<'a> {
 impl<'a> Core<'a> {
     /// Takes a message and appends what it sends. A strange message answers the error too.
     pub fn on(&mut self, from: Actor, msg: Msg, sends: &mut Sends) -> Result<(), AllocError>
-        ensures occurs { OnOk result (Occurs (Took from msg) self.old self.new sends.old sends.new) }
+        ensures occurs { OnOk result
+            (Occurs (Took from msg) self.old self.new sends.old sends.new) }
         ensures live { OnOk result (IsLive self.new) }
         ensures given { given_by self.new ≡ given_by self.old }
     {

@@ -18,7 +18,8 @@ use std::alloc::AllocError;
 // Makes the event of a slot, if it has one.
 fn make(world: &mut World, slot: Slot) -> Result<Step, AllocError>
     ensures took { result ≡ Ok Took' → Happens slot (state_of world.old) (state_of world.new) }
-    ensures idle { result ≡ Ok Idle' → IsIdle (state_of world.old) slot × (state_of world.new ≡ state_of world.old) }
+    ensures idle { result ≡ Ok Idle'
+        → IsIdle (state_of world.old) slot × (state_of world.new ≡ state_of world.old) }
 {
     match slot {
         Slot::Begin(p) => world.begin(p),
@@ -131,7 +132,8 @@ pub(crate) fn make_first(
     requires marks { AreMarked slots.now marks.old.items (state_of world.old) }
     requires ready { ¬ IsAllAt (IsIdle (state_of world.old)) slots.now }
     ensures marks { OnOk result (AreMarked slots.now marks.new.items (state_of world.new)) }
-    ensures made { OnOk result (MakesFirst slots.now word (state_of world.old) (state_of world.new)) }
+    ensures made { OnOk result
+        (MakesFirst slots.now word (state_of world.old) (state_of world.new)) }
 {
     let count = slots.len();
     for i in 0..count {

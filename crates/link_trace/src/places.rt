@@ -21,8 +21,10 @@ impl<'a> Place<'a> {
     fn pop(&mut self, sender: usize) -> Option<Msg>
         ensures core { self.new.core ≡ self.old.core }
         ensures waiting { MatchOption result
-            ((waiting_at self.new ≡ waiting_at self.old) × (slice_index_or (waiting_at self.old) sender [] ≡ []))
-            (λ m. (rest : List Msg) × (sender < length (waiting_at self.old)) × (slice_index_or (waiting_at self.old) sender [] ≡ m ∷ rest)
+            ((waiting_at self.new ≡ waiting_at self.old)
+            × (slice_index_or (waiting_at self.old) sender [] ≡ []))
+            (λ m. (rest : List Msg) × (sender < length (waiting_at self.old))
+            × (slice_index_or (waiting_at self.old) sender [] ≡ m ∷ rest)
             × (waiting_at self.new ≡ slice_set (waiting_at self.old) sender rest)) }
     {
         if sender < self.waiting.len() {
@@ -53,8 +55,10 @@ fn pop_first(queue: &mut VecDeque<Msg>) -> Option<Msg>
 impl<'a> Place<'a> {
     fn push(&mut self, sender: usize, msg: Msg) -> Result<(), AllocError>
         ensures core { self.new.core ≡ self.old.core }
-        ensures waiting { OnOk result ((sender < length (waiting_at self.old)) × (waiting_at self.new
-            ≡ slice_set (waiting_at self.old) sender (slice_index_or (waiting_at self.old) sender [] ++ msg ∷ []))) }
+        ensures waiting { OnOk result ((sender < length (waiting_at self.old))
+            × (waiting_at self.new
+            ≡ slice_set (waiting_at self.old) sender
+            (slice_index_or (waiting_at self.old) sender [] ++ msg ∷ []))) }
     {
         if sender < self.waiting.len() {
             push_behind(&mut self.waiting[sender], msg)
@@ -67,7 +71,9 @@ impl<'a> Place<'a> {
 impl<'a> Place<'a> {
     fn begin(&mut self, sends: &mut Sends) -> Result<bool, AllocError>
         ensures waiting { waiting_at self.new ≡ waiting_at self.old }
-        ensures occurs { IfOk result (λ begun. MatchBool begun (Occurs Began self.old.core self.new.core sends.old sends.new) (self.new.core ≡ self.old.core)) }
+        ensures occurs { IfOk result (λ begun.
+            MatchBool begun (Occurs Began self.old.core self.new.core sends.old sends.new)
+            (self.new.core ≡ self.old.core)) }
         ensures idle { result ≡ Ok false → Waits self.old.core }
         ensures free { result ≡ Ok true → ¬ Waits self.old.core }
     {
@@ -79,8 +85,10 @@ impl<'a> Place<'a> {
 pub(crate) fn take(places: &mut Vec<Place>, receiver: usize, sender: usize) -> Option<Msg>
     ensures cores { cores_of places.new.items ≡ cores_of places.old.items }
     ensures waiting { MatchOption result
-        ((waiting_of places.new.items ≡ waiting_of places.old.items) × (waits (waiting_of places.old.items) receiver sender ≡ []))
-        (λ m. TakesOff receiver sender m (waiting_of places.old.items) (waiting_of places.new.items)) }
+        ((waiting_of places.new.items ≡ waiting_of places.old.items)
+        × (waits (waiting_of places.old.items) receiver sender ≡ []))
+        (λ m. TakesOff receiver sender m (waiting_of places.old.items)
+        (waiting_of places.new.items)) }
 {
     if receiver < places.len() {
         places[receiver].pop(sender)
@@ -97,7 +105,8 @@ pub(crate) fn put(
     msg: Msg,
 ) -> Result<(), AllocError>
     ensures cores { cores_of places.new.items ≡ cores_of places.old.items }
-    ensures waiting { OnOk result (PutsOn receiver sender msg (waiting_of places.old.items) (waiting_of places.new.items)) }
+    ensures waiting { OnOk result
+        (PutsOn receiver sender msg (waiting_of places.old.items) (waiting_of places.new.items)) }
 {
     if receiver < places.len() {
         places[receiver].push(sender, msg)
@@ -115,7 +124,8 @@ pub(crate) fn hand(
     sends: &mut Sends,
 ) -> Result<(), AllocError>
     ensures waiting { waiting_of places.new.items ≡ waiting_of places.old.items }
-    ensures occurs { OnOk result (OccursAt receiver (Took from msg) (cores_of places.old.items) (cores_of places.new.items) sends.old sends.new) }
+    ensures occurs { OnOk result (OccursAt receiver (Took from msg) (cores_of places.old.items)
+        (cores_of places.new.items) sends.old sends.new) }
 {
     if receiver < places.len() {
         places[receiver].core.on(from, msg, sends)
@@ -132,7 +142,8 @@ pub(crate) fn begin(
 ) -> Result<bool, AllocError>
     ensures waiting { waiting_of places.new.items ≡ waiting_of places.old.items }
     ensures occurs { IfOk result (λ begun. MatchBool begun
-        (OccursAt at Began (cores_of places.old.items) (cores_of places.new.items) sends.old sends.new)
+        (OccursAt at Began (cores_of places.old.items)
+        (cores_of places.new.items) sends.old sends.new)
         (cores_of places.new.items ≡ cores_of places.old.items)) }
     ensures idle { result ≡ Ok false → IsAt Waits at (cores_of places.old.items) }
     ensures free { result ≡ Ok true → IsAt (λ core. ¬ Waits core) at (cores_of places.old.items) }

@@ -43,7 +43,8 @@ fn make_next(
     requires ready { ¬ IsAllAt (IsIdle (state_of world.old)) slots.now }
     requires few { events.old < 2 ^ 64 - 1 }
     ensures marks { OnOk result (AreMarked slots.now marks.new.items (state_of world.new)) }
-    ensures made { OnOk result (MakesFirst slots.now (pcg32 draws.old).0 (state_of world.old) (state_of world.new)) }
+    ensures made { OnOk result
+        (MakesFirst slots.now (pcg32 draws.old).0 (state_of world.old) (state_of world.new)) }
     ensures drawn { OnOk result (draws.new ≡ (pcg32 draws.old).1) }
     ensures counted { OnOk result (events.new ≡ events.old + 1) }
 {

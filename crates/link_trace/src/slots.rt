@@ -21,7 +21,8 @@ pub enum Slot {
 }
 
 fn add_begins(slots: &mut Vec<Slot>, feeders: u32) -> Result<(), AllocError>
-    ensures { OnOk result (slots.new.items ≡ slots.old.items ++ map Begin' (range_with_len 0 feeders)) }
+    ensures { OnOk result
+        (slots.new.items ≡ slots.old.items ++ map Begin' (range_with_len 0 feeders)) }
 {
     for p in 0..feeders {
         slots.push(Slot::Begin(p))?;

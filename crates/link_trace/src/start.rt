@@ -76,7 +76,8 @@ fn load(alloc: Global, input: &Input, setting: &Setting, p: u32) -> Result<Tuple
     requires input { IsValidInput input.now }
     requires feeder { p < setting.now.feeders }
     ensures { IfOk result (λ tuples. tuples ≡ map (tuple_of input.now 0)
-        (share' setting.now.feed setting.now.feeders p (row_count input.now R') (row_count input.now S'))) }
+        (share' setting.now.feed setting.now.feeders p (row_count input.now R')
+        (row_count input.now S'))) }
 {
     let rows_r = input.table_r.rows.len();
     let rows_s = input.table_s.rows.len();
@@ -97,7 +98,8 @@ fn feeder<'a>(
     requires input { IsValidInput input.now }
     requires setting { IsValidSetting setting.now }
     requires feeder { p < setting.now.feeders }
-    ensures stands { IfOk result (λ core. Stands (OfFeeder p setting.now.feeders (feeder_start input.now setting.now p)) no_lists core) }
+    ensures stands { IfOk result (λ core. Stands
+        (OfFeeder p setting.now.feeders (feeder_start input.now setting.now p)) no_lists core) }
     ensures live { IfOk result IsLive }
     ensures given { IfOk result (HasGivenNone (2 ^ setting.now.k)) }
 {
@@ -114,7 +116,8 @@ fn joiner<'a>(
 ) -> Result<Core<'a>, AllocError>
     requires setting { IsValidSetting setting.now }
     requires joiner { j < 2 ^ setting.now.k }
-    ensures stands { IfOk result (λ core. Stands (OfJoiner (joiner_start input.now setting.now j)) no_lists core) }
+    ensures stands { IfOk result (λ core.
+        Stands (OfJoiner (joiner_start input.now setting.now j)) no_lists core) }
     ensures live { IfOk result IsLive }
     ensures given { IfOk result (HasGivenNone (2 ^ setting.now.k)) }
 {
@@ -125,7 +128,8 @@ fn joiner<'a>(
 
 fn controller<'a>(alloc: Global, setting: &Setting) -> Result<Core<'a>, AllocError>
     requires setting { IsValidSetting setting.now }
-    ensures stands { IfOk result (λ core. Stands (OfController (record { rules = rules_of setting.now; first = first_line setting.now })) no_lists core) }
+    ensures stands { IfOk result (λ core. Stands (OfController
+        (record { rules = rules_of setting.now; first = first_line setting.now })) no_lists core) }
     ensures live { IfOk result IsLive }
     ensures given { IfOk result (HasGivenNone (2 ^ setting.now.k)) }
 {
@@ -150,7 +154,8 @@ pub fn core_at<'a>(
 ) -> Result<Core<'a>, AllocError>
     requires input { IsValidInput input.now }
     requires setting { IsValidSetting setting.now }
-    ensures stands { IfOk result (λ core. Stands (start_for input.now setting.now (actor_at (2 ^ setting.now.k) setting.now.feeders n)) no_lists core) }
+    ensures stands { IfOk result (λ core. Stands (start_for input.now setting.now
+        (actor_at (2 ^ setting.now.k) setting.now.feeders n)) no_lists core) }
     ensures live { IfOk result IsLive }
     ensures given { IfOk result (HasGivenNone (2 ^ setting.now.k)) }
 {

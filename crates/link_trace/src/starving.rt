@@ -64,8 +64,10 @@ fn make_least(
 ) -> Result<bool, AllocError>
     requires { AreMarked slots.now marks.old.items (state_of world.old) }
     ensures marks { OnOk result (AreMarked slots.now marks.new.items (state_of world.new)) }
-    ensures made { result ≡ Ok true → MakesLeast all starved slots.now (state_of world.old) (state_of world.new) }
-    ensures idle { result ≡ Ok false → AreIdleBelow all starved slots.now (length slots.now) (state_of world.old) }
+    ensures made { result ≡ Ok true
+        → MakesLeast all starved slots.now (state_of world.old) (state_of world.new) }
+    ensures idle { result ≡ Ok false
+        → AreIdleBelow all starved slots.now (length slots.now) (state_of world.old) }
     ensures stays { result ≡ Ok false → state_of world.new ≡ state_of world.old }
 {
     for at in 0..slots.len() {
@@ -86,7 +88,8 @@ fn make_starving(
     requires marks { AreMarked slots.now marks.old.items (state_of world.old) }
     requires ready { ¬ IsAllAt (IsIdle (state_of world.old)) slots.now }
     ensures marks { OnOk result (AreMarked slots.now marks.new.items (state_of world.new)) }
-    ensures made { OnOk result (MakesStarving starved slots.now (state_of world.old) (state_of world.new)) }
+    ensures made { OnOk result
+        (MakesStarving starved slots.now (state_of world.old) (state_of world.new)) }
 {
     if make_least(world, slots, marks, starved, false)? {
         return Ok(());

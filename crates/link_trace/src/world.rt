@@ -186,12 +186,15 @@ impl<'a> World<'a> {
     /// The answer of a run that is done, with so many rounds. After `AllocError` the world is gone.
     pub fn finish(self, bouts: u64) -> Result<Run, AllocError>
         requires { IsAllAt IsOver (state_of self).cores }
-        ensures run { IfOk result (λ run. (input : Input') (setting : Setting') (lists : Actor' → ActorLists)
+        ensures run { IfOk result (λ run.
+            (input : Input') (setting : Setting') (lists : Actor' → ActorLists)
             → IsValid input setting → StandsFor input setting (state_of self.entry) lists
             → IsRunOf input setting run.journal run) }
-        ensures journal { IfOk result (λ run. (input : Input') (setting : Setting') (lists : Actor' → ActorLists)
+        ensures journal { IfOk result (λ run.
+            (input : Input') (setting : Setting') (lists : Actor' → ActorLists)
             → StandsFor input setting (state_of self.entry) lists → (core : Core')
-            → core_of (state_of self.entry) Controller' ≡ Some core → run.journal ≡ journal_of core) }
+            → core_of (state_of self.entry) Controller' ≡ Some core
+            → run.journal ≡ journal_of core) }
         ensures bouts { IfOk result (λ run. run.bouts ≡ bouts) }
     {
         finished_answers();
@@ -205,7 +208,8 @@ impl<'a> World<'a> {
     /// Hands the first message of the link to its receiver, and puts what that sends on its links.
     /// `Idle`: nothing is left there.
     pub fn deliver(&mut self, from: Actor, to: Actor) -> Result<Step, AllocError>
-        ensures took { result ≡ Ok Took' → Delivers from to (state_of self.old) (state_of self.new) }
+        ensures took { result ≡ Ok Took'
+            → Delivers from to (state_of self.old) (state_of self.new) }
         ensures idle { result ≡ Ok Idle' → (left_of (state_of self.old) from to ≡ [])
             × (state_of self.new ≡ state_of self.old) }
         ensures goes_on { OnOk result ((self.old.spent ≡ false) × (self.new.spent ≡ false)) }
@@ -234,7 +238,8 @@ impl<'a> World<'a> {
         requires sender { number' self.old.joiners self.old.feeders from ≡ Some sender }
         requires receiver { number' self.old.joiners self.old.feeders to ≡ Some receiver }
         requires going { self.old.spent ≡ false }
-        ensures took { result ≡ Ok Took' → Delivers from to (state_of self.old) (state_of self.new) }
+        ensures took { result ≡ Ok Took'
+            → Delivers from to (state_of self.old) (state_of self.new) }
         ensures idle { result ≡ Ok Idle' → (left_of (state_of self.old) from to ≡ [])
             × (state_of self.new ≡ state_of self.old) }
         ensures goes_on { OnOk result (self.new.spent ≡ false) }

@@ -45,7 +45,8 @@ impl Controller {
         requires k { k ≤ 8 }
         requires shift { ForSome fixed (λ shift. shift ≤ k) }
         ensures { IfOk result (λ controller.
-            IsFresh (rules_with k feeders fixed) (start_line (rules_with k feeders fixed)) controller) }
+            IsFresh (rules_with k feeders fixed)
+            (start_line (rules_with k feeders fixed)) controller) }
     {
         let shift = fixed.unwrap_or(k / 2);
         let line = TurnLine {

@@ -36,7 +36,8 @@ impl Held {
 
     // The epoch held first of a joiner.
     pub(crate) fn first(&self, joiner: usize) -> Option<u32>
-        ensures { MatchOption result (held_at self.now joiner ≡ []) (λ epoch. held_at self.now joiner ≡ epoch ∷ drop 1 (held_at self.now joiner)) }
+        ensures { MatchOption result (held_at self.now joiner ≡ []) (λ epoch.
+            held_at self.now joiner ≡ epoch ∷ drop 1 (held_at self.now joiner)) }
     {
         if joiner < self.queues.len() {
             self.queues[joiner].front().copied()
@@ -49,7 +50,8 @@ impl Held {
     pub(crate) fn hold(&mut self, joiner: usize, epoch: u32) -> Result<(), AllocError>
         requires { joiner < length self.old }
         ensures len { length self.new ≡ length self.old }
-        ensures ok { OnOk result (self.new ≡ slice_set self.old joiner (held_at self.old joiner ++ epoch ∷ [])) }
+        ensures ok { OnOk result
+            (self.new ≡ slice_set self.old joiner (held_at self.old joiner ++ epoch ∷ [])) }
     {
         let queue = &mut self.queues[joiner];
         queue.push_back(epoch)?;

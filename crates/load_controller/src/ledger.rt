@@ -81,7 +81,8 @@ impl Ledger {
 
     // Adds the line to the journal. On an error nothing is changed.
     fn note(&mut self, line: TurnLine) -> Result<(), AllocError>
-        requires grid { IsOfGrid (length self.old.drained.items) (length self.old.settled.items) line.cause }
+        requires grid { IsOfGrid (length self.old.drained.items)
+            (length self.old.settled.items) line.cause }
         requires count { self.old.settled_count + 1 < 2 ^ 32 }
         ensures ok { OnOk result (Notes line self.old self.new) }
         ensures err { OnErr result (self.new ≡ self.old) }

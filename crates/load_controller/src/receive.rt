@@ -55,9 +55,12 @@ impl Ledger {
     ) -> Result<(), AllocError>
         requires { IsSound self.old }
         ensures sound { IsSound self.new }
-        ensures takes { OnOk result (TakesMessage (Feeder feeder) m (state_of self.old false) (state_of self.new false) sends.old sends.new) }
-        ensures passes { OnOk result ((line : TurnLine) (past : List TurnLine) → reverse self.old.journal ≡ line ∷ past
-            → IsPassedOver (rules_of self.old) line past (Feeder feeder) m → PassesOver (state_of self.old false) (state_of self.new false) sends.old sends.new) }
+        ensures takes { OnOk result (TakesMessage (Feeder feeder) m (state_of self.old false)
+            (state_of self.new false) sends.old sends.new) }
+        ensures passes { OnOk result ((line : TurnLine) (past : List TurnLine)
+            → reverse self.old.journal ≡ line ∷ past
+            → IsPassedOver (rules_of self.old) line past (Feeder feeder) m
+            → PassesOver (state_of self.old false) (state_of self.new false) sends.old sends.new) }
     {
         if !self.has_place(feeder, m) {
             return Ok(());
@@ -76,9 +79,12 @@ impl Ledger {
     ) -> Result<(), AllocError>
         requires { IsSound self.old }
         ensures sound { IsSound self.new }
-        ensures takes { OnOk result (TakesMessage (Joiner joiner) m (state_of self.old false) (state_of self.new false) sends.old sends.new) }
-        ensures passes { OnOk result ((line : TurnLine) (past : List TurnLine) → reverse self.old.journal ≡ line ∷ past
-            → IsPassedOver (rules_of self.old) line past (Joiner joiner) m → PassesOver (state_of self.old false) (state_of self.new false) sends.old sends.new) }
+        ensures takes { OnOk result (TakesMessage (Joiner joiner) m (state_of self.old false)
+            (state_of self.new false) sends.old sends.new) }
+        ensures passes { OnOk result ((line : TurnLine) (past : List TurnLine)
+            → reverse self.old.journal ≡ line ∷ past
+            → IsPassedOver (rules_of self.old) line past (Joiner joiner) m
+            → PassesOver (state_of self.old false) (state_of self.new false) sends.old sends.new) }
     {
         match m {
             ToController::Ask { .. } => Ok(()),
@@ -103,9 +109,12 @@ impl Ledger {
     ) -> Result<(), AllocError>
         requires { IsSound self.old }
         ensures sound { IsSound self.new }
-        ensures takes { OnOk result (TakesMessage from m (state_of self.old false) (state_of self.new false) sends.old sends.new) }
-        ensures passes { OnOk result ((line : TurnLine) (past : List TurnLine) → reverse self.old.journal ≡ line ∷ past
-            → IsPassedOver (rules_of self.old) line past from m → PassesOver (state_of self.old false) (state_of self.new false) sends.old sends.new) }
+        ensures takes { OnOk result (TakesMessage from m (state_of self.old false)
+            (state_of self.new false) sends.old sends.new) }
+        ensures passes { OnOk result ((line : TurnLine) (past : List TurnLine)
+            → reverse self.old.journal ≡ line ∷ past
+            → IsPassedOver (rules_of self.old) line past from m
+            → PassesOver (state_of self.old false) (state_of self.new false) sends.old sends.new) }
     {
         match from {
             Actor::Feeder(feeder) => self.receive_of_feeder(feeder, m, sends)?,

@@ -65,7 +65,8 @@ impl Ledger {
         requires { IsSound self.old }
         ensures sound { IsSound self.new }
         ensures took { OnOk result (Advances self.old self.new sends.old sends.new) }
-        ensures fewer { IfOk result (λ more. more ≡ true → held_in_all self.new < held_in_all self.old) }
+        ensures fewer { IfOk result (λ more.
+            more ≡ true → held_in_all self.new < held_in_all self.old) }
         ensures stuck { IfOk result (λ more. more ≡ false → IsStuck self.new) }
     {
         match self.next_ready() {

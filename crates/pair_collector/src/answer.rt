@@ -96,7 +96,8 @@ pub(crate) fn fresh_pairs(
     parts: &[Part],
     given: &Counts,
 ) -> Result<Vec<Pair>, AllocError>
-    ensures { IfOk result (λ pairs. pairs.items ≡ kept_behind given.now parts.now (length parts.now)) }
+    ensures { IfOk result (λ pairs.
+        pairs.items ≡ kept_behind given.now parts.now (length parts.now)) }
 {
     let mut pairs = Vec::new(alloc);
     for joiner in 0..parts.len() {

@@ -24,7 +24,8 @@ fn write_bars(
     fewest: u128,
     best: u64,
 ) -> Result<(), AllocError>
-    ensures { OnOk result (string_bytes text.new ≡ string_bytes text.old ++ drawing.bars_of held copies fewest best) }
+    ensures { OnOk result
+        (string_bytes text.new ≡ string_bytes text.old ++ drawing.bars_of held copies fewest best) }
 {
     write!(
         text,
@@ -34,7 +35,8 @@ fn write_bars(
 
 /// Adds the copies above the fewest.
 pub(crate) fn write_copies(text: &mut String, copies: u64, best: u64) -> Result<(), AllocError>
-    ensures { OnOk result (string_bytes text.new ≡ string_bytes text.old ++ drawing.copies_of copies best) }
+    ensures { OnOk result
+        (string_bytes text.new ≡ string_bytes text.old ++ drawing.copies_of copies best) }
 {
     let most = copies.max(best);
     write_bars(text, bar(copies, most), copies, bar(best, most), best)
@@ -63,7 +65,8 @@ fn shade(report: &Report, joiner: Joiner) -> u128
 }
 
 fn write_cell(text: &mut String, x: u64, y: u64, shade: u128) -> Result<(), AllocError>
-    ensures { OnOk result (string_bytes text.new ≡ string_bytes text.old ++ drawing.cell_of x y shade) }
+    ensures { OnOk result
+        (string_bytes text.new ≡ string_bytes text.old ++ drawing.cell_of x y shade) }
 {
     write!(
         text,
@@ -72,7 +75,8 @@ fn write_cell(text: &mut String, x: u64, y: u64, shade: u128) -> Result<(), Allo
 }
 
 fn write_labels(text: &mut String, id: u64, joiner: Joiner) -> Result<(), AllocError>
-    ensures { OnOk result (string_bytes text.new ≡ string_bytes text.old ++ drawing.labels_of id joiner) }
+    ensures { OnOk result
+        (string_bytes text.new ≡ string_bytes text.old ++ drawing.labels_of id joiner) }
 {
     let Joiner {
         rows_r,
@@ -93,7 +97,8 @@ fn write_joiner(
 ) -> Result<(), AllocError>
     requires whole { IsWhole report.now }
     requires id { id < report.now.n * report.now.m }
-    ensures { OnOk result (string_bytes text.new ≡ string_bytes text.old ++ drawing.joiner_of report.now id joiner) }
+    ensures { OnOk result
+        (string_bytes text.new ≡ string_bytes text.old ++ drawing.joiner_of report.now id joiner) }
 {
     let x = 24 + 124 * (id % report.m);
     let y = 352 + 72 * (id / report.m);
@@ -104,7 +109,8 @@ fn write_joiner(
 fn write_all(text: &mut String, report: &Report, joiners: &[Joiner]) -> Result<(), AllocError>
     requires whole { IsWhole report.now }
     requires few { length joiners.now ≤ report.now.n * report.now.m }
-    ensures { OnOk result (string_bytes text.new ≡ string_bytes text.old ++ drawing.cells_of report.now joiners.now) }
+    ensures { OnOk result
+        (string_bytes text.new ≡ string_bytes text.old ++ drawing.cells_of report.now joiners.now) }
 {
     for id in 0..joiners.len() {
         write_joiner(text, report, id as u64, joiners[id])?;
@@ -115,7 +121,8 @@ fn write_all(text: &mut String, report: &Report, joiners: &[Joiner]) -> Result<(
 /// Adds all joiners of the last grid.
 pub(crate) fn write_joiners(text: &mut String, report: &Report) -> Result<(), AllocError>
     requires { IsWhole report.now }
-    ensures { OnOk result (string_bytes text.new ≡ string_bytes text.old ++ drawing.joiners_of report.now) }
+    ensures { OnOk result
+        (string_bytes text.new ≡ string_bytes text.old ++ drawing.joiners_of report.now) }
 {
     write_all(text, report, &report.joiners)
 }

@@ -10,7 +10,8 @@ use std::alloc::AllocError;
 fn write_pattern(text: &mut String, id: u64, n: u64, m: u64) -> Result<(), AllocError>
     requires n { 0 < n }
     requires m { 0 < m }
-    ensures { OnOk result (string_bytes text.new ≡ string_bytes text.old ++ drawing.pattern_of id n m) }
+    ensures { OnOk result
+        (string_bytes text.new ≡ string_bytes text.old ++ drawing.pattern_of id n m) }
 {
     let width = 128 / m;
     let height = 128 / n;
@@ -32,7 +33,8 @@ fn write_filled(text: &mut String, id: u64) -> Result<(), AllocError>
 fn write_square(text: &mut String, id: u64, n: u64, m: u64) -> Result<(), AllocError>
     requires n { 0 < n }
     requires m { 0 < m }
-    ensures { OnOk result (string_bytes text.new ≡ string_bytes text.old ++ drawing.square_of id n m) }
+    ensures { OnOk result
+        (string_bytes text.new ≡ string_bytes text.old ++ drawing.square_of id n m) }
 {
     write_pattern(text, id, n, m)?;
     write_filled(text, id)
@@ -82,7 +84,8 @@ fn first_columns(report: &Report) -> u64
 /// Adds the grid that a run begins with.
 pub(crate) fn write_first(text: &mut String, report: &Report) -> Result<(), AllocError>
     requires { IsWhole report.now }
-    ensures { OnOk result (string_bytes text.new ≡ string_bytes text.old ++ drawing.first_of report.now) }
+    ensures { OnOk result
+        (string_bytes text.new ≡ string_bytes text.old ++ drawing.first_of report.now) }
 {
     let columns = first_columns(report);
     write_opening(text, 24)?;
@@ -91,7 +94,8 @@ pub(crate) fn write_first(text: &mut String, report: &Report) -> Result<(), Allo
 }
 
 fn write_moved(text: &mut String, moved: u64) -> Result<(), AllocError>
-    ensures { OnOk result (string_bytes text.new ≡ string_bytes text.old ++ drawing.moved_of moved) }
+    ensures { OnOk result
+        (string_bytes text.new ≡ string_bytes text.old ++ drawing.moved_of moved) }
 {
     write!(
         text,
@@ -100,7 +104,8 @@ fn write_moved(text: &mut String, moved: u64) -> Result<(), AllocError>
 }
 
 fn write_names(text: &mut String, epoch: u64, step: Step) -> Result<(), AllocError>
-    ensures { OnOk result (string_bytes text.new ≡ string_bytes text.old ++ drawing.names_of epoch step) }
+    ensures { OnOk result
+        (string_bytes text.new ≡ string_bytes text.old ++ drawing.names_of epoch step) }
 {
     let n = step.n;
     let m = step.m;
@@ -113,7 +118,8 @@ fn write_names(text: &mut String, epoch: u64, step: Step) -> Result<(), AllocErr
 fn write_step(text: &mut String, epoch: u64, step: Step) -> Result<(), AllocError>
     requires sides { HasSides step }
     requires few { epoch ≤ 2 ^ 16 }
-    ensures { OnOk result (string_bytes text.new ≡ string_bytes text.old ++ drawing.step_of epoch step) }
+    ensures { OnOk result
+        (string_bytes text.new ≡ string_bytes text.old ++ drawing.step_of epoch step) }
 {
     write_opening(text, 24 + 208 * epoch)?;
     write_square(text, epoch, step.n, step.m)?;
@@ -125,7 +131,8 @@ fn write_step(text: &mut String, epoch: u64, step: Step) -> Result<(), AllocErro
 pub(crate) fn write_steps(text: &mut String, steps: &[Step]) -> Result<(), AllocError>
     requires sides { All HasSides steps.now }
     requires few { length steps.now ≤ 2 ^ 16 }
-    ensures { OnOk result (string_bytes text.new ≡ string_bytes text.old ++ drawing.steps_of steps.now) }
+    ensures { OnOk result
+        (string_bytes text.new ≡ string_bytes text.old ++ drawing.steps_of steps.now) }
 {
     for index in 0..steps.len() {
         write_step(text, index as u64 + 1, steps[index])?;

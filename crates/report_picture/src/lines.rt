@@ -13,14 +13,16 @@ fn write_input(text: &mut String, x: u64, y: u64) -> Result<(), AllocError>
 }
 
 fn write_grid(text: &mut String, epoch: u64, step: Step) -> Result<(), AllocError>
-    ensures { OnOk result (string_bytes text.new ≡ string_bytes text.old ++ lines.grid_line epoch step) }
+    ensures { OnOk result
+        (string_bytes text.new ≡ string_bytes text.old ++ lines.grid_line epoch step) }
 {
     let Step { n, m, moved } = step;
     write!(text, "grid {epoch} {n} {m} moved {moved}\n")
 }
 
 fn write_grids(text: &mut String, steps: &[Step]) -> Result<(), AllocError>
-    ensures { OnOk result (string_bytes text.new ≡ string_bytes text.old ++ lines.grid_lines steps.now) }
+    ensures { OnOk result
+        (string_bytes text.new ≡ string_bytes text.old ++ lines.grid_lines steps.now) }
 {
     for index in 0..steps.len() {
         write_grid(text, index as u64 + 1, steps[index])?;
@@ -29,13 +31,15 @@ fn write_grids(text: &mut String, steps: &[Step]) -> Result<(), AllocError>
 }
 
 fn write_final(text: &mut String, n: u64, m: u64, copies: u64, best: u64) -> Result<(), AllocError>
-    ensures { OnOk result (string_bytes text.new ≡ string_bytes text.old ++ lines.final_line n m copies best) }
+    ensures { OnOk result
+        (string_bytes text.new ≡ string_bytes text.old ++ lines.final_line n m copies best) }
 {
     write!(text, "final {n} {m} copies {copies} best {best}\n")
 }
 
 fn write_joiner(text: &mut String, id: u64, joiner: Joiner) -> Result<(), AllocError>
-    ensures { OnOk result (string_bytes text.new ≡ string_bytes text.old ++ lines.joiner_line id joiner) }
+    ensures { OnOk result
+        (string_bytes text.new ≡ string_bytes text.old ++ lines.joiner_line id joiner) }
 {
     let Joiner {
         rows_r,
@@ -46,7 +50,8 @@ fn write_joiner(text: &mut String, id: u64, joiner: Joiner) -> Result<(), AllocE
 }
 
 fn write_joiners(text: &mut String, joiners: &[Joiner]) -> Result<(), AllocError>
-    ensures { OnOk result (string_bytes text.new ≡ string_bytes text.old ++ lines.joiner_lines joiners.now) }
+    ensures { OnOk result
+        (string_bytes text.new ≡ string_bytes text.old ++ lines.joiner_lines joiners.now) }
 {
     for id in 0..joiners.len() {
         write_joiner(text, id as u64, joiners[id])?;

@@ -181,7 +181,8 @@ fn alike(text: &[u8], other: &[u8]) -> usize
 pub fn read_report(alloc: Global, text: &[u8]) -> Result<Report, ReportError>
     ensures ok { IfOk result (EndsWithReport text.now) }
     ensures whole { IfOk result IsWhole }
-    ensures line { (line : ℕ) → result ≡ Err (Line line) → (0 < line) × (line ≤ feeds_in text.now + 1) }
+    ensures line { (line : ℕ) → result ≡ Err (Line line)
+        → (0 < line) × (line ≤ feeds_in text.now + 1) }
 {
     let start = report_start(text);
     let rest = &text[start..];

@@ -10,7 +10,8 @@ use crate::report::Report;
 use std::alloc::{AllocError, Global};
 
 fn write_head(text: &mut String, width: u64, height: u64) -> Result<(), AllocError>
-    ensures { OnOk result (string_bytes text.new ≡ string_bytes text.old ++ drawing.head_of width height) }
+    ensures { OnOk result
+        (string_bytes text.new ≡ string_bytes text.old ++ drawing.head_of width height) }
 {
     write!(
         text,

@@ -80,7 +80,8 @@ pub(crate) fn send_batch(
 ) -> Result<(), AllocError>
     requires grid { shape.k ≤ 8 }
     requires shift { shape.shift ≤ shape.k }
-    ensures { OnOk result (sends.new ≡ sends.old ++ posts_of_batch shape.k epoch shape.shift batch.now) }
+    ensures { OnOk result
+        (sends.new ≡ sends.old ++ posts_of_batch shape.k epoch shape.shift batch.now) }
 {
     for tuple in batch {
         send_tuple(sends, shape, epoch, tuple)?;
@@ -91,7 +92,8 @@ pub(crate) fn send_batch(
 fn send_tuple(sends: &mut Sends, shape: Shape, epoch: u32, tuple: &Tuple) -> Result<(), AllocError>
     requires grid { shape.k ≤ 8 }
     requires shift { shape.shift ≤ shape.k }
-    ensures { OnOk result (sends.new ≡ sends.old ++ posts_of_tuple shape.k (2 ^ shape.k) epoch shape.shift tuple.now) }
+    ensures { OnOk result (sends.new
+        ≡ sends.old ++ posts_of_tuple shape.k (2 ^ shape.k) epoch shape.shift tuple.now) }
 {
     for id in 0..1u32 << shape.k {
         send_if_held(sends, shape, epoch, id, tuple)?;
@@ -110,7 +112,8 @@ fn send_if_held(
     requires shift { shape.shift ≤ shape.k }
     requires id { id < 2 ^ shape.k }
     ensures { OnOk result (sends.new ≡ sends.old
-        ++ (if holds shape.k shape.shift id tuple.now then post_to (Tup (stamped epoch tuple.now)) id ∷ [] else [])) }
+        ++ (if holds shape.k shape.shift id tuple.now
+        then post_to (Tup (stamped epoch tuple.now)) id ∷ [] else [])) }
 {
     if is_held_by(shape, id, tuple) {
         send_copy(sends, epoch, id, tuple)?;
@@ -119,7 +122,8 @@ fn send_if_held(
 }
 
 fn send_copy(sends: &mut Sends, epoch: u32, id: u32, tuple: &Tuple) -> Result<(), AllocError>
-    ensures { OnOk result (sends.new ≡ sends.old ++ post_to (Tup (stamped epoch tuple.now)) id ∷ []) }
+    ensures { OnOk result
+        (sends.new ≡ sends.old ++ post_to (Tup (stamped epoch tuple.now)) id ∷ []) }
 {
     let mut copy = tuple.copy()?;
     copy.stamp = epoch;

@@ -69,7 +69,8 @@ fn add_both(
     requires rows_r { rows_r ≤ 2 ^ 18 }
     requires rows_s { rows_s ≤ 2 ^ 18 }
     ensures { OnOk result
-        (places.new ≡ places.old ++ flat_map (both_at rows_r rows_s) (indices feeders p (max rows_r rows_s))) }
+        (places.new
+        ≡ places.old ++ flat_map (both_at rows_r rows_s) (indices feeders p (max rows_r rows_s))) }
 {
     let rows = rows_r.max(rows_s);
     let mut i = u64::from(p);

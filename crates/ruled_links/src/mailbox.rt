@@ -87,7 +87,9 @@ fn new_pass<J: Named>(queue: &Queue, pass: &mut Pass, sender: u64) -> Pass
     requires may { (pass.old.me.view.client.takes ≡ true) × (pass.old.me.view.client.puts ≡ false) }
     requires new { has_sender pass.old.me.view.client.known sender ≡ false }
     ensures queue { IsSegPassOf queue.now pass.new × IsSegPassOf queue.now result }
-    ensures receiver { pass.new.me.view.client ≡ inbox_hand false true 0 [] pass.old.me.view.client.received ((sender, []) ∷ pass.old.me.view.client.known) }
+    ensures receiver { pass.new.me.view.client
+        ≡ inbox_hand false true 0 [] pass.old.me.view.client.received
+        ((sender, []) ∷ pass.old.me.view.client.known) }
     ensures sender { result.me.view.client ≡ inbox_hand true false sender [] [] [] }
 {
     queue.another::<Opened<J>>(pass)
@@ -96,7 +98,8 @@ fn new_pass<J: Named>(queue: &Queue, pass: &mut Pass, sender: u64) -> Pass
 impl Inbox {
     // An inbox with no sender yet.
     pub(crate) fn new(alloc: Global, to: Actor) -> Result<Inbox, AllocError>
-        ensures { IfOk result (λ inbox. (inbox.to ≡ to) × (inbox.received ≡ []) × (inbox.senders ≡ [])) }
+        ensures { IfOk result (λ inbox.
+            (inbox.to ≡ to) × (inbox.received ≡ []) × (inbox.senders ≡ [])) }
     {
         let (queue, pass) = RuledSegQueue::with_rule(alloc)?;
         let Ok(line) = Arc::new(alloc, Line { queue }) else {
@@ -114,7 +117,8 @@ impl Inbox {
     pub(crate) fn open(&mut self, from: Actor) -> Result<Mouth, AllocError>
         requires fresh { self.old.received ≡ [] }
         requires new { is_sender from self.old.senders ≡ false }
-        ensures inbox { (self.new.link ≡ self.old.link) × (self.new.to ≡ self.old.to) × (self.new.received ≡ []) }
+        ensures inbox { (self.new.link ≡ self.old.link) × (self.new.to ≡ self.old.to)
+            × (self.new.received ≡ []) }
         ensures mouth { IfOk result (λ mouth. mouth ≡ opened self.old.link self.old.to from) }
         ensures senders { OnOk result (self.new.senders ≡ self.old.senders ++ fresh from ∷ []) }
     {
@@ -134,8 +138,10 @@ impl Inbox {
     /// takes doesn't grow with the senders. It takes no memory.
     pub fn take<R: Wait>(&mut self, rt: &R) -> Option<Envelope>
         ensures some { IfSome result (λ m. self.new.received ≡ self.old.received ++ m ∷ []) }
-        ensures own { IfSome result (λ m. messages_of m.from self.new.received ≡ messages_of m.from self.old.received ++ m ∷ []) }
-        ensures others { IfSome result (λ m. (from : Actor) → from ≢ m.from → messages_of from self.new.received ≡ messages_of from self.old.received) }
+        ensures own { IfSome result (λ m.
+            messages_of m.from self.new.received ≡ messages_of m.from self.old.received ++ m ∷ []) }
+        ensures others { IfSome result (λ m. (from : Actor) → from ≢ m.from
+            → messages_of from self.new.received ≡ messages_of from self.old.received) }
         ensures sender { IfSome result (λ m. is_sender m.from self.old.senders ≡ true) }
         ensures known { IfSome result (λ m. self.new.senders ≡ lowered m.from self.old.senders) }
         ensures none { IfNone result (all_known self.old.senders ≡ 0) }
@@ -203,7 +209,8 @@ impl Mouth {
 fn look_together<R: Wait>(mouth: &mut Mouth, inbox: &mut Inbox, rt: &R) -> u64
     requires { IsMouthOf mouth.old inbox.old }
     ensures left { AreLeft mouth.old.sent (messages_of mouth.old.from inbox.old.received) result }
-    ensures known { inbox.new ≡ record inbox.old { senders = told mouth.old.from result inbox.old.senders } }
+    ensures known { inbox.new
+        ≡ record inbox.old { senders = told mouth.old.from result inbox.old.senders } }
     ensures sender { is_sender mouth.old.from inbox.old.senders ≡ true }
     ensures same { mouth.new ≡ mouth.old }
     ensures inbox { IsSameInbox inbox.old inbox.new }
@@ -226,7 +233,8 @@ fn look_together<R: Wait>(mouth: &mut Mouth, inbox: &mut Inbox, rt: &R) -> u64
 pub fn gather_mouth<R: Wait>(mouth: &mut Mouth, inbox: &mut Inbox, rt: &R) -> u64
     requires { IsMouthOf mouth.old inbox.old }
     ensures left { AreLeft mouth.old.sent (messages_of mouth.old.from inbox.old.received) result }
-    ensures known { inbox.new ≡ record inbox.old { senders = told mouth.old.from result inbox.old.senders } }
+    ensures known { inbox.new
+        ≡ record inbox.old { senders = told mouth.old.from result inbox.old.senders } }
     ensures sender { is_sender mouth.old.from inbox.old.senders ≡ true }
     ensures same { mouth.new ≡ mouth.old }
     ensures inbox { IsSameInbox inbox.old inbox.new }

@@ -54,7 +54,8 @@ fn make_room(places: &mut Vec<usize>, number: u64) -> Result<(), AllocError>
     requires { number < 2 ^ 34 }
     ensures room { OnOk result (number < length places.new.items) }
     ensures longer { length places.old.items ≤ length places.new.items }
-    ensures same { (k : ℕ) → k < length places.old.items → slice_index places.new.items k ≡ slice_index places.old.items k }
+    ensures same { (k : ℕ) → k < length places.old.items
+        → slice_index places.new.items k ≡ slice_index places.old.items k }
 {
     let room = number as usize + 1;
     if places.len() < room {
@@ -67,7 +68,8 @@ fn note_at(parts: &mut Vec<Part>, place: usize, sender: u64)
     requires place { place < length parts.old.items }
     requires few { (d : Part) → (slice_index_or parts.old.items place d).taken < 2 ^ 62 }
     requires is { (d : Part) → number_of (slice_index_or parts.old.items place d).from ≡ sender }
-    ensures { (d : Part) → parts.new.items ≡ slice_set parts.old.items place (noted sender (slice_index_or parts.old.items place d)) }
+    ensures { (d : Part) → parts.new.items
+        ≡ slice_set parts.old.items place (noted sender (slice_index_or parts.old.items place d)) }
 {
     let part = &mut parts[place];
     part.taken += 1;
@@ -77,7 +79,8 @@ fn note_at(parts: &mut Vec<Part>, place: usize, sender: u64)
 fn tell_at(parts: &mut Vec<Part>, place: usize, sender: u64, left: u64)
     requires place { place < length parts.old.items }
     requires is { (d : Part) → number_of (slice_index_or parts.old.items place d).from ≡ sender }
-    ensures { (d : Part) → parts.new.items ≡ slice_set parts.old.items place (set_known sender left (slice_index_or parts.old.items place d)) }
+    ensures { (d : Part) → parts.new.items ≡ slice_set parts.old.items place
+        (set_known sender left (slice_index_or parts.old.items place d)) }
 {
     let part = &mut parts[place];
     part.known = left;
@@ -95,7 +98,9 @@ impl Parts {
 
     // Where this sender's part stands.
     fn place_of(&self, sender: u64) -> Option<usize>
-        ensures { MatchOption result (has_part sender self.now ≡ false) (λ place. (place < length self.now) × ((d : Part) → number_of (slice_index_or self.now place d).from ≡ sender)) }
+        ensures { MatchOption result (has_part sender self.now ≡ false) (λ place.
+            (place < length self.now)
+            × ((d : Part) → number_of (slice_index_or self.now place d).from ≡ sender)) }
     {
         if sender >= self.places.len() as u64 {
             return None;
@@ -111,7 +116,8 @@ impl Parts {
     // A part for a new sender.
     pub fn push(&mut self, from: Actor) -> Result<(), AllocError>
         requires { has_part (number_of from) self.old ≡ false }
-        ensures ok { OnOk result (self.new ≡ self.old ++ record { from = from; taken = 0; known = 0 } ∷ []) }
+        ensures ok { OnOk result
+            (self.new ≡ self.old ++ record { from = from; taken = 0; known = 0 } ∷ []) }
         ensures err { OnErr result (self.new ≡ self.old) }
     {
         self.parts.reserve(1)?;
@@ -148,7 +154,8 @@ impl Parts {
     // How many messages of this sender were taken.
     pub fn taken_of(&self, sender: u64) -> u64
         requires { has_part sender self.now ≡ true }
-        ensures { (p : Part) × Contains self.now p × (number_of p.from ≡ sender) × (result ≡ p.taken) }
+        ensures { (p : Part) × Contains self.now p × (number_of p.from ≡ sender)
+            × (result ≡ p.taken) }
     {
         let Some(place) = self.place_of(sender) else {
             unreachable!();

@@ -57,7 +57,8 @@ impl Index {
         value: Option<i128>,
         place: u64,
     ) -> Result<(), AllocError>
-        ensures ok { (values : List (Option ℤ)) → length values ≡ place → IsMapOf values self.old.map.entries
+        ensures ok { (values : List (Option ℤ)) → length values ≡ place
+            → IsMapOf values self.old.map.entries
             → OnOk result (IsMapOf (values ++ value ∷ []) self.new.map.entries) }
         ensures err { (values : List (Option ℤ)) → IsMapOf values self.old.map.entries
             → OnErr result (IsMapOf values self.new.map.entries) }
@@ -82,7 +83,8 @@ impl Index {
         from: Option<i128>,
         to: Option<i128>,
     ) -> Result<Vec<u64>, AllocError>
-        ensures { IfOk result (λ found. (values : List (Option ℤ)) → IsMapOf values self.now.map.entries
+        ensures { IfOk result (λ found.
+            (values : List (Option ℤ)) → IsMapOf values self.now.map.entries
             → found.items ≡ places_between from to 0 values) }
     {
         let mut found = Vec::new(alloc);

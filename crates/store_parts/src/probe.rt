@@ -68,7 +68,8 @@ fn try_one<L: Ledger>(
 ) -> Result<(), AllocError>
     requires width { HasWidth theta.now tuple.now.side tuple.now }
     requires other_width { HasWidth theta.now (other_side tuple.now.side) other.now }
-    ensures ok { OnOk result (found.new ≡ found.old ++ matches theta.now tuple.now which (other.now ∷ [])) }
+    ensures ok { OnOk result
+        (found.new ≡ found.old ++ matches theta.now tuple.now which (other.now ∷ [])) }
     ensures err { OnErr result (found.new ≡ found.old) }
     ensures steps { steps.new ≡ steps.old + count_by (is_named which) (other.now ∷ []) }
 {
@@ -93,8 +94,10 @@ pub(crate) fn scan<L: Ledger>(
 ) -> Result<(), AllocError>
     requires width { HasWidth theta.now tuple.now.side tuple.now }
     requires other_widths { All (HasWidth theta.now (other_side tuple.now.side)) others.now }
-    ensures ok { OnOk result (found.new ≡ found.old ++ matches theta.now tuple.now which others.now) }
-    ensures err { OnErr result (AppendsFront found.old found.new (matches theta.now tuple.now which others.now)) }
+    ensures ok { OnOk result
+        (found.new ≡ found.old ++ matches theta.now tuple.now which others.now) }
+    ensures err { OnErr result
+        (AppendsFront found.old found.new (matches theta.now tuple.now which others.now)) }
     ensures steps { OnOk result (steps.new ≡ steps.old + count_by (is_named which) others.now) }
 {
     for other in others {
@@ -146,7 +149,8 @@ fn candidates(
     key: &KeyAtom,
 ) -> Result<Vec<u64>, AllocError>
     requires columns { HasColumns key.now tuple.now.side tuple.now }
-    requires index { IsMapOf (values_at key.now (other_side tuple.now.side) others.now) index.now.map.entries }
+    requires index { IsMapOf
+        (values_at key.now (other_side tuple.now.side) others.now) index.now.map.entries }
     ensures keyed { IfOk result (λ places.
         at_places others.now places.items ≡ filter (is_key_true key.now tuple.now) others.now) }
     ensures below { IfOk result (λ places. All (λ place. place < length others.now) places.items) }
@@ -176,10 +180,14 @@ pub(crate) fn seek<L: Ledger>(
     requires width { HasWidth theta.now tuple.now.side tuple.now }
     requires other_widths { All (HasWidth theta.now (other_side tuple.now.side)) others.now }
     requires own { key_of theta.now.formula ≡ Some (atom_of key.now) }
-    requires index { IsMapOf (values_at key.now (other_side tuple.now.side) others.now) index.now.map.entries }
-    ensures ok { OnOk result (found.new ≡ found.old ++ matches theta.now tuple.now which others.now) }
-    ensures err { OnErr result (AppendsFront found.old found.new (matches theta.now tuple.now which others.now)) }
-    ensures steps { OnOk result (steps.new ≡ steps.old + evaluated (Some key.now) tuple.now which others.now) }
+    requires index { IsMapOf
+        (values_at key.now (other_side tuple.now.side) others.now) index.now.map.entries }
+    ensures ok { OnOk result
+        (found.new ≡ found.old ++ matches theta.now tuple.now which others.now) }
+    ensures err { OnErr result
+        (AppendsFront found.old found.new (matches theta.now tuple.now which others.now)) }
+    ensures steps { OnOk result
+        (steps.new ≡ steps.old + evaluated (Some key.now) tuple.now which others.now) }
 {
     theta.key_law();
     let places = candidates(alloc, tuple, others, index, key)?;
@@ -216,8 +224,10 @@ fn places_of_number(
     index: &Index,
     text: TextAtom,
 ) -> Result<Vec<u64>, AllocError>
-    requires { IsMapOf (numbers_at text (other_side tuple.now.side) others.now) index.now.map.entries }
-    ensures texts { IfOk result (λ places. filter (has_same_text text tuple.now) (at_places others.now places.items)
+    requires { IsMapOf
+        (numbers_at text (other_side tuple.now.side) others.now) index.now.map.entries }
+    ensures texts { IfOk result (λ places.
+        filter (has_same_text text tuple.now) (at_places others.now places.items)
         ≡ filter (has_same_text text tuple.now) others.now) }
     ensures below { IfOk result (λ places. All (λ place. place < length others.now) places.items) }
 {
@@ -240,10 +250,14 @@ pub(crate) fn seek_text<L: Ledger>(
     requires width { HasWidth theta.now tuple.now.side tuple.now }
     requires other_widths { All (HasWidth theta.now (other_side tuple.now.side)) others.now }
     requires own { text_atom_of theta.now.formula ≡ Some text }
-    requires index { IsMapOf (numbers_at text (other_side tuple.now.side) others.now) index.now.map.entries }
-    ensures ok { OnOk result (found.new ≡ found.old ++ matches theta.now tuple.now which others.now) }
-    ensures err { OnErr result (AppendsFront found.old found.new (matches theta.now tuple.now which others.now)) }
-    ensures steps { OnOk result (steps.new ≡ steps.old + evaluated_by_text text tuple.now which others.now) }
+    requires index { IsMapOf
+        (numbers_at text (other_side tuple.now.side) others.now) index.now.map.entries }
+    ensures ok { OnOk result
+        (found.new ≡ found.old ++ matches theta.now tuple.now which others.now) }
+    ensures err { OnErr result
+        (AppendsFront found.old found.new (matches theta.now tuple.now which others.now)) }
+    ensures steps { OnOk result
+        (steps.new ≡ steps.old + evaluated_by_text text tuple.now which others.now) }
 {
     theta.text_law();
     let places = places_of_number(alloc, tuple, others, index, text)?;

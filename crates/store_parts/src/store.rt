@@ -169,8 +169,10 @@ impl Store {
         ensures ok { let others = others_of self.now tuple.now in
             OnOk result (found.new ≡ found.old ++ matches theta.now tuple.now which others) }
         ensures err { let others = others_of self.now tuple.now in
-            OnErr result (AppendsFront found.old found.new (matches theta.now tuple.now which others)) }
-        ensures steps { let others = others_of self.now tuple.now in text_by theta.now self.now.key self.now.text ≡ None
+            OnErr result
+            (AppendsFront found.old found.new (matches theta.now tuple.now which others)) }
+        ensures steps { let others = others_of self.now tuple.now in
+            text_by theta.now self.now.key self.now.text ≡ None
             → OnOk result (steps.new ≡ steps.old + evaluated self.now.key tuple.now which others) }
         ensures text_steps { let others = others_of self.now tuple.now in
             (text : TextAtom) → text_by theta.now self.now.key self.now.text ≡ Some text
@@ -207,7 +209,8 @@ impl Store {
         ensures ok { let others = others_of self.now tuple.now in
             OnOk result (found.new ≡ found.old ++ matches theta.now tuple.now which others) }
         ensures err { let others = others_of self.now tuple.now in
-            OnErr result (AppendsFront found.old found.new (matches theta.now tuple.now which others)) }
+            OnErr result
+            (AppendsFront found.old found.new (matches theta.now tuple.now which others)) }
     {
         probe_from::<Brand>(self, tuple, theta, which, found, Blank::new(1))
     }

@@ -65,7 +65,8 @@ fn is_of_kind(kind: Kind, tree: &Tree) -> bool
 
 // The first of the members that splits and is of this kind.
 fn first_member(kind: Kind, members: &[Tree]) -> Option<&Tree>
-    ensures { option_map (λ tree. formula_of tree.now) result ≡ first_of kind (formulas (map formula_of members.now)) }
+    ensures { option_map (λ tree. formula_of tree.now) result
+        ≡ first_of kind (formulas (map formula_of members.now)) }
 {
     for member in members {
         if is_of_kind(kind, member) {
@@ -77,7 +78,8 @@ fn first_member(kind: Kind, members: &[Tree]) -> Option<&Tree>
 
 // The first member of the top conjunction that splits and is of this kind.
 fn first_of(kind: Kind, tree: &Tree) -> Option<&Tree>
-    ensures { option_map (λ tree. formula_of tree.now) result ≡ first_of kind (conjuncts (formula_of tree.now)) }
+    ensures { option_map (λ tree. formula_of tree.now) result
+        ≡ first_of kind (conjuncts (formula_of tree.now)) }
 {
     match tree {
         Tree::And(members) => first_member(kind, members.as_slice()),
@@ -117,7 +119,8 @@ fn columns(
 ) -> Result<Linear, AllocError>
     requires left { length left.now ≤ 16 }
     requires right { length right.now ≤ 16 }
-    ensures { IfOk result (λ sum. sum.parts ≡ columns_of side turned left.now ++ columns_of side (not turned) right.now) }
+    ensures { IfOk result (λ sum.
+        sum.parts ≡ columns_of side turned left.now ++ columns_of side (not turned) right.now) }
 {
     let mut parts = Vec::new(alloc);
     add_columns(left, side, turned, &mut parts)?;
@@ -201,7 +204,8 @@ pub(crate) fn atom_in(
 
 // The first equality; where there is none, the first band; where there is none, the first inequality.
 pub(crate) fn key_member(tree: &Tree) -> Option<&Tree>
-    ensures { option_map (λ tree. formula_of tree.now) result ≡ key_member (conjuncts (formula_of tree.now)) }
+    ensures { option_map (λ tree. formula_of tree.now) result
+        ≡ key_member (conjuncts (formula_of tree.now)) }
 {
     if let Some(member) = first_of(Kind::Equality, tree) {
         return Some(member);
@@ -216,5 +220,6 @@ pub(crate) fn key_member(tree: &Tree) -> Option<&Tree>
 pub(crate) fn key_law(tree: &Tree, width_r: u64, width_s: u64)
     requires { IsSound width_r width_s (formula_of tree.now) }
     ensures { (atom : Atom) → key_of (formula_of tree.now) ≡ Some atom
-        → IsKeyOf (record { formula = formula_of tree.now; width_r = width_r; width_s = width_s }) atom }
+        → IsKeyOf
+        (record { formula = formula_of tree.now; width_r = width_r; width_s = width_s }) atom }
 {}

@@ -19,7 +19,8 @@ pub(crate) fn numeric_places(
     width_s: u64,
 ) -> Result<Columns, AllocError>
     requires { IsSound width_r width_s (formula_of tree.now) }
-    ensures { IfOk result (λ places. AreNumeric (formula_of tree.now) side (of_side width_r width_s side) places) }
+    ensures { IfOk result (λ places.
+        AreNumeric (formula_of tree.now) side (of_side width_r width_s side) places) }
 {
     let mut places = Vec::new(alloc);
     add_places(tree, side, &mut places)?;
@@ -30,7 +31,8 @@ pub(crate) fn numeric_places(
 
 // Appends the places of a side's columns that stand in a sum, in the order of writing.
 fn add_places(tree: &Tree, side: Side, places: &mut Vec<u64>) -> Result<(), AllocError>
-    ensures { OnOk result (places.new.items ≡ places.old.items ++ sum_places side (formula_of tree.now)) }
+    ensures { OnOk result
+        (places.new.items ≡ places.old.items ++ sum_places side (formula_of tree.now)) }
 {
     match tree {
         Tree::Or(members) => {

@@ -28,8 +28,10 @@ fn resolved_members(
         map formula_of trees.items ≡ map (resolved names_r.now names_s.now) members.now.items) }
     ensures sound { OnOk result (AreSound (length names_r.now) (length names_s.now)
         (formulas (map (resolved names_r.now names_s.now) members.now.items))) }
-    ensures once { OnOk result (All (StandsOnce names_r.now names_s.now) (joined (map names_in members.now.items))) }
-    ensures err { IfErr result (Tells names_r.now names_s.now (joined (map names_in members.now.items))) }
+    ensures once { OnOk result
+        (All (StandsOnce names_r.now names_s.now) (joined (map names_in members.now.items))) }
+    ensures err { IfErr result
+        (Tells names_r.now names_s.now (joined (map names_in members.now.items))) }
 {
     let mut trees = Vec::with_capacity(alloc, members.len())?;
     for member in members {
@@ -88,13 +90,16 @@ fn resolved_num(
     names_s: &Names,
 ) -> Result<Tree, ResolveFault>
     ensures ok { IfOk result (λ tree. formula_of tree
-        ≡ num (resolved_sum names_r.now names_s.now left.now) op (resolved_sum names_r.now names_s.now right.now)) }
+        ≡ num (resolved_sum names_r.now names_s.now left.now) op
+        (resolved_sum names_r.now names_s.now right.now)) }
     ensures left_within { OnOk result (AreWithin (length names_r.now) (length names_s.now)
         (resolved_sum names_r.now names_s.now left.now)) }
     ensures right_within { OnOk result (AreWithin (length names_r.now) (length names_s.now)
         (resolved_sum names_r.now names_s.now right.now)) }
-    ensures once { OnOk result (All (StandsOnce names_r.now names_s.now) (sum_names left.now ++ sum_names right.now)) }
-    ensures err { IfErr result (Tells names_r.now names_s.now (sum_names left.now ++ sum_names right.now)) }
+    ensures once { OnOk result
+        (All (StandsOnce names_r.now names_s.now) (sum_names left.now ++ sum_names right.now)) }
+    ensures err { IfErr result
+        (Tells names_r.now names_s.now (sum_names left.now ++ sum_names right.now)) }
 {
     let left_sum = resolved_addends(alloc, left, names_r, names_s)?;
     let right_sum = resolved_addends(alloc, right, names_r, names_s)?;
@@ -113,13 +118,16 @@ fn resolved_txt(
     names_s: &Names,
 ) -> Result<Tree, ResolveFault>
     ensures ok { IfOk result (λ tree. formula_of tree
-        ≡ txt (resolved_side names_r.now names_s.now left.now) op (resolved_side names_r.now names_s.now right.now)) }
+        ≡ txt (resolved_side names_r.now names_s.now left.now) op
+        (resolved_side names_r.now names_s.now right.now)) }
     ensures left_within { OnOk result (IsTextWithin (length names_r.now) (length names_s.now)
         (resolved_side names_r.now names_s.now left.now)) }
     ensures right_within { OnOk result (IsTextWithin (length names_r.now) (length names_s.now)
         (resolved_side names_r.now names_s.now right.now)) }
-    ensures once { OnOk result (All (StandsOnce names_r.now names_s.now) (side_names left.now ++ side_names right.now)) }
-    ensures err { IfErr result (Tells names_r.now names_s.now (side_names left.now ++ side_names right.now)) }
+    ensures once { OnOk result
+        (All (StandsOnce names_r.now names_s.now) (side_names left.now ++ side_names right.now)) }
+    ensures err { IfErr result
+        (Tells names_r.now names_s.now (side_names left.now ++ side_names right.now)) }
 {
     let left_text = resolved_text(left, names_r, names_s)?;
     let right_text = resolved_text(right, names_r, names_s)?;

@@ -74,5 +74,6 @@ pub(crate) fn text_atom(tree: &Tree) -> Option<TextAtom>
 pub(crate) fn text_law(tree: &Tree, width_r: u64, width_s: u64)
     requires { IsSound width_r width_s (formula_of tree.now) }
     ensures { (atom : TextAtom) → TextAtoms.text_atom_of (formula_of tree.now) ≡ Some atom
-        → IsTextAtomOf (record { formula = formula_of tree.now; width_r = width_r; width_s = width_s }) atom }
+        → IsTextAtomOf
+        (record { formula = formula_of tree.now; width_r = width_r; width_s = width_s }) atom }
 {}

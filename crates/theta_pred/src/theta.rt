@@ -137,7 +137,8 @@ impl Theta {
 
     /// What the text atom says of the predicate. It has no code.
     pub fn text_law(&self)
-        ensures { (atom : TextAtom) → text_atom_of self.now.formula ≡ Some atom → IsTextAtomOf self.now atom }
+        ensures { (atom : TextAtom) → text_atom_of self.now.formula ≡ Some atom
+            → IsTextAtomOf self.now atom }
     {
         text_law(&self.tree, self.width_r, self.width_s);
     }

@@ -45,7 +45,8 @@ pub(crate) fn is_true(tree: &Tree, r: &Cells, s: &Cells) -> bool
 fn sums_compare(left: &Addends, op: Op, right: &Addends, r: &Cells, s: &Cells) -> bool
     requires left { IsSum (length r.now) (length s.now) left.now }
     requires right { IsSum (length r.now) (length s.now) right.now }
-    ensures { result ≡ Truth.compares op (sum_of r.now s.now left.now) (sum_of r.now s.now right.now) }
+    ensures { result
+        ≡ Truth.compares op (sum_of r.now s.now left.now) (sum_of r.now s.now right.now) }
 {
     match (sum(left, r, s), sum(right, r, s)) {
         (Some(left), Some(right)) => allows(op, left.cmp(&right)),
@@ -56,7 +57,8 @@ fn sums_compare(left: &Addends, op: Op, right: &Addends, r: &Cells, s: &Cells) -
 // Whether a test on a sum's absolute value is true.
 fn size_compares(terms: &Addends, op: Op, bound: i64, r: &Cells, s: &Cells) -> bool
     requires { IsSum (length r.now) (length s.now) terms.now }
-    ensures { result ≡ Truth.compares op (option_map Truth.size_of (sum_of r.now s.now terms.now)) (Some bound) }
+    ensures { result
+        ≡ Truth.compares op (option_map Truth.size_of (sum_of r.now s.now terms.now)) (Some bound) }
 {
     match sum(terms, r, s) {
         Some(value) => allows(op, value.abs().cmp(&i128::from(bound))),

@@ -209,7 +209,8 @@ fn text_word(token: &Token) -> bool
 // "(" name ")", behind "text"
 fn text_of(tokens: &[Placed], end: u64) -> Result<(TextSide, &[Placed]), PredFault>
     ensures read { IfOk result (λ x. ColumnText (words tokens.now) x.0 (words x.1.now)) }
-    ensures run { (s : List Symbol) → Leads (verdict limits end (open' ∷ name ∷ close ∷ s) tokens.now)
+    ensures run { (s : List Symbol)
+        → Leads (verdict limits end (open' ∷ name ∷ close ∷ s) tokens.now)
         (λ x. verdict limits end s x.1.now) result }
     ensures shorter { IfOk result (λ x. length x.1.now < length tokens.now) }
 {

@@ -71,8 +71,10 @@ pub(crate) fn sum_of<'a>(
 // Whether a sign is a minus, its place, and the tokens behind it.
 fn sign(tokens: &[Placed]) -> Option<(bool, u64, &[Placed])>
     ensures { MatchOption result
-        ((p : PlacedToken) (rest : List PlacedToken) → tokens.now ≡ p ∷ rest → (m : Bool) → p.token ≡ Token.Sign m → ⊥)
-        (λ x. (p : PlacedToken) × (tokens.now ≡ p ∷ x.2.now) × (p.token ≡ Token.Sign x.0) × (p.place ≡ x.1)) }
+        ((p : PlacedToken) (rest : List PlacedToken) → tokens.now ≡ p ∷ rest → (m : Bool)
+        → p.token ≡ Token.Sign m → ⊥)
+        (λ x. (p : PlacedToken) × (tokens.now ≡ p ∷ x.2.now) × (p.token ≡ Token.Sign x.0)
+        × (p.place ≡ x.1)) }
 {
     let (first, rest) = next(tokens)?;
     match first.token {

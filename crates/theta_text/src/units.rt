@@ -36,7 +36,8 @@ pub(crate) fn predicate<'a>(
 ) -> Result<(Pred, &'a [Placed]), PredFault>
     ensures read { IfOk result (λ x.
         Predicate (Unit' limits depth) (words tokens.now) (tree_of x.0) (words x.1.now)) }
-    ensures run { (s : List Symbol) → Leads (verdict limits end (unit depth ∷ tail depth ∷ s) tokens.now)
+    ensures run { (s : List Symbol)
+        → Leads (verdict limits end (unit depth ∷ tail depth ∷ s) tokens.now)
         (λ x. verdict limits end s x.1.now) result }
     ensures shorter { IfOk result (λ x. length x.1.now < length tokens.now) }
     ensures narrow { IfOk result (λ x. longest_sum x.0 ≤ 16) }
@@ -61,7 +62,8 @@ fn conj<'a>(
 ) -> Result<(Pred, &'a [Placed]), PredFault>
     ensures read { IfOk result (λ x.
         Conj (Unit' limits depth) (words tokens.now) (tree_of x.0) (words x.1.now)) }
-    ensures run { (s : List Symbol) → Leads (verdict limits end (unit depth ∷ tail depth ∷ s) tokens.now)
+    ensures run { (s : List Symbol)
+        → Leads (verdict limits end (unit depth ∷ tail depth ∷ s) tokens.now)
         (λ x. verdict limits end (tail depth ∷ s) x.1.now) result }
     ensures ends { IfOk result (λ x. BeginsOff IsAnd x.1.now) }
     ensures shorter { IfOk result (λ x. length x.1.now < length tokens.now) }
@@ -172,7 +174,8 @@ fn band_of<'a>(
 ) -> Result<(Pred, &'a [Placed]), PredFault>
     ensures read { IfOk result (λ x.
         BandRest limits (words tokens.now) (tree_of x.0) (words x.1.now)) }
-    ensures run { (s : List Symbol) → Leads (verdict limits end (open' ∷ sum ∷ close ∷ op ∷ bound ∷ s) tokens.now)
+    ensures run { (s : List Symbol)
+        → Leads (verdict limits end (open' ∷ sum ∷ close ∷ op ∷ bound ∷ s) tokens.now)
         (λ x. verdict limits end s x.1.now) result }
     ensures shorter { IfOk result (λ x. length x.1.now < length tokens.now) }
     ensures narrow { IfOk result (λ x. longest_sum x.0 ≤ 16) }
@@ -209,7 +212,8 @@ fn after_or(tokens: &[Placed]) -> Option<&[Placed]>
 fn any_of(first: Pred, others: Vec<Pred>) -> Result<Pred, PredFault>
     ensures tree { OnlyMemory result
         (λ p. tree_of p ≡ joined any (tree_of first) (map tree_of others.items)) }
-    ensures narrow { OnlyMemory result (λ p. longest_sum first ≤ 16 → longest (map longest_sum others.items) ≤ 16
+    ensures narrow { OnlyMemory result (λ p.
+        longest_sum first ≤ 16 → longest (map longest_sum others.items) ≤ 16
         → longest_sum p ≤ 16) }
 {
     let mut all = others;
@@ -223,7 +227,8 @@ fn any_of(first: Pred, others: Vec<Pred>) -> Result<Pred, PredFault>
 fn every_of(first: Pred, others: Vec<Pred>) -> Result<Pred, PredFault>
     ensures tree { OnlyMemory result
         (λ p. tree_of p ≡ joined every (tree_of first) (map tree_of others.items)) }
-    ensures narrow { OnlyMemory result (λ p. longest_sum first ≤ 16 → longest (map longest_sum others.items) ≤ 16
+    ensures narrow { OnlyMemory result (λ p.
+        longest_sum first ≤ 16 → longest (map longest_sum others.items) ≤ 16
         → longest_sum p ≤ 16) }
 {
     let mut all = others;

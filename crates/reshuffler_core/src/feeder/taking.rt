@@ -97,9 +97,11 @@ impl Feeder {
     // Sends the batch that was asked for.
     fn grant(&mut self, sends: &mut Sends) -> Result<(), AllocError>
         ensures spent { self.new.spent ≡ self.old.spent }
-        ensures state { OnOk result (self.new ≡ record self.old { to_come = drop 1 self.old.to_come; asked = false }) }
+        ensures state { OnOk result
+            (self.new ≡ record self.old { to_come = drop 1 self.old.to_come; asked = false }) }
         ensures posts { OnOk result (sends.new ≡ sends.old
-            ++ posts_of_batch self.old.start.k self.old.epoch self.old.shift (first_batch self.old.to_come)) }
+            ++ posts_of_batch self.old.start.k self.old.epoch self.old.shift
+            (first_batch self.old.to_come)) }
     {
         let shape = Shape {
             k: self.k,
@@ -129,7 +131,8 @@ impl Feeder {
     pub(super) fn request(&mut self, sends: &mut Sends) -> Result<(), AllocError>
         ensures spent { self.new.spent ≡ self.old.spent }
         ensures state { OnOk result (self.new ≡ state_begun self.old self.old.to_come) }
-        ensures posts { OnOk result (sends.new ≡ sends.old ++ to_controller (next_request self.old.to_come) ∷ []) }
+        ensures posts { OnOk result
+            (sends.new ≡ sends.old ++ to_controller (next_request self.old.to_come) ∷ []) }
     {
         let request = self.next_request();
         self.mark_begun();
