@@ -270,9 +270,6 @@ linked_push joiners feeders n to last actors is has linked = record { sound = so
 
 -- ---- seats as they are made
 
-pub new_none : (input : Input) (setting : Setting) → AreNew input setting 0 [] []
-new_none input setting = record { all = refl; each = refl; new = λ n d low. absurd (omega arith) }
-
 pub new_more : (input : Input) (setting : Setting) (count : ℕ) (seats : List SeatView) (mouths : List (List Sending)) (seat : SeatView) (own : List Sending) → AreNew input setting count seats mouths
     → IsNewSeat input setting count seat own → AreNew input setting (count + 1) (seats ++ seat ∷ []) (mouths ++ own ∷ [])
 new_more input setting count seats mouths seat own old one = record {
@@ -297,6 +294,3 @@ new_more input setting count seats mouths seat own old one = record {
           subst (λ s. IsNewSeat input setting n s (get_or (mouths ++ own ∷ []) n [])) (sym left)
           (subst (IsNewSeat input setting n seat) (sym right) (subst (λ z. IsNewSeat input setting z seat own) is one))
     ]
-
-pub new_mouthless : (input : Input) (setting : Setting) (count : ℕ) (seats : List SeatView) (mouths : List (List Sending)) → AreNew input setting count seats mouths → (n r : ℕ) (d : SeatView) → n < length seats → slot_of seats d n r ≡ None
-new_mouthless input setting count seats mouths new n r d low = (new.new n d (subst (λ z. n < z) new.all low)).no_mouth r

@@ -10,13 +10,11 @@ use Rattle.epoch_tags.specs.declared.actor.Actor.{Actor}
 use Rattle.epoch_tags.specs.declared.actor.Actor.TheVariants.{Collector}
 use Rattle.epoch_tags.specs.declared.tuple.Pair.{Pair}
 use Rattle.pair_collector.specs.Law.{CollectorLists}
-use Rattle.pair_collector.specs.Fresh.{HasGiven, pairs_since}
-use Rattle.pair_collector.specs.Standing.{CollectorState, StandsFor as CollectorStands}
+use Rattle.pair_collector.specs.Fresh.{pairs_since}
 use Rattle.trace_law.specs.declared.input.Input.{Input}
 use Rattle.trace_law.specs.declared.setting.Setting.{Setting}
-use Rattle.link_trace.specs.Lists.{ActorLists, collector_lists}
-use Rattle.link_trace.specs.Standing.{IsLive, OfCollector, OfController, OfFeeder, OfJoiner, Start, Stands, given_by}
-use Rattle.link_trace.specs.declared.machines.Core.TheVariants.{Collector as TheCollector}
+use Rattle.link_trace.specs.Lists.{ActorLists}
+use Rattle.link_trace.specs.Standing.{IsLive, OfCollector, Start, Stands, given_by}
 use Rattle.link_trace.proofs.OwnNumbers.{some_is}
 use Rattle.join_runtime.specs.Views.{SeatView, frame_of, lists_of}
 use Rattle.join_runtime.specs.Joins.{AreGathered, AreJoined, AreSettled, HearsSenders, IsGathered, slot_of}
@@ -48,27 +46,6 @@ given_kept input setting old new st st' advance =
     ∙ (ap given_at there
     ∙ (runs_given moves.count (get_or old.seats place s) (get_or new.seats place s) moves.runs
     ∙ (ap (λ (z : SeatView). given_by z.core) before ∙ sym (ap given_at own.1))))
-
--- ---- a machine that gives
-
-pub collector_gives : (result : Result (List Pair) AllocError) (old new : CollectorState)
-    → IfOk result (λ pairs. (joiners : ℕ) (earlier lists : CollectorLists) → CollectorStands joiners lists old → HasGiven joiners earlier old → IsPermutation (pairs_since joiners earlier lists) pairs)
-    → OnOk result ((joiners : ℕ) (lists : CollectorLists) → CollectorStands joiners lists old → HasGiven joiners lists new)
-    → ((joiners : ℕ) (lists : CollectorLists) → CollectorStands joiners lists old → CollectorStands joiners lists new)
-    → IfOk result (λ pairs. Gives (TheCollector old) (TheCollector new) pairs)
-collector_gives (Ok pairs) old new gives given stands = record {
-  gives = λ joiners earlier ls st gave. gives joiners earlier (collector_lists ls) st gave;
-  given = λ joiners ls st. given joiners (collector_lists ls) st;
-  stands = still;
-  live = λ live. live;
-}
-  where
-    still : (start : Start) (ls : ActorLists) → Stands start ls (TheCollector old) → Stands start ls (TheCollector new)
-    still (OfFeeder p feeders s) ls st = st
-    still (OfJoiner s) ls st = st
-    still (OfController s) ls st = st
-    still (OfCollector joiners) ls st = stands joiners (collector_lists ls) st
-collector_gives (Err e) old new gives given stands = tt
 
 -- ---- seats of which one gave
 

@@ -6,9 +6,6 @@ use Rattle.ruled_links.specs.Delivery.{number_of}
 use Rattle.ruled_links.specs.Inboxes.{OfSender, all_known, is_sender, told, senders_of, fresh}
 use Rattle.join_runtime.specs.Joins.{Knows}
 
-known_count : OfSender → ℕ
-known_count s = s.known
-
 pub knows_told : (from : Actor) (n : ℕ) (senders : List OfSender) → Knows from n (told from n senders)
 knows_told from n [] = tt
 knows_told from n (s ∷ senders) = ((λ e. ap (λ b. cond b n s.known) (eq-eqb (number_of s.from) (number_of from) e)), knows_told from n senders)

@@ -1,5 +1,4 @@
 pub mod Posting
-pub mod Taking
 pub mod Making
 pub mod Knowing
 pub mod Placing

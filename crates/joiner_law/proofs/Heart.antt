@@ -1,8 +1,7 @@
 -- Stores and pairs as the joiner takes one tuple more, and as it opens a step.
 use Rattle.std.proofs.Common.{◌≡◌, ℕ, ◌+◌, ◌<◌, ◌≤◌, inl, inr, refl, sym, ◌∙◌, ap, subst, arith, Bool, true, false, cond, ◌&&◌, List, [], ◌∷◌, ◌++◌, length, eq-eqb, append_assoc}
-use Rattle.std.specs.Prelude.{◌==◌, max, filter, map, sum_by}
+use Rattle.std.specs.Prelude.{◌==◌, max, filter, sum_by}
 use Rattle.std.specs.List.{AllByRecursion}
-use Rattle.std.proofs.lemmas.List.{map-append}
 use Rattle.std.proofs.lemmas.Bool.{cases_eq, ne_eqb}
 use Rattle.std.proofs.lemmas.List.Sums.{sum_by-cons, sum_by-append}
 use Rattle.join_rows.specs.declared.table.Side.{Side}
@@ -37,9 +36,6 @@ stored-came k id x step past = record {
 -- where the store before has one more, it is there too if it is kept
 abbrev pub if_kept : Bool → Tuple → List Tuple → List Tuple
 if_kept kept x xs = cond kept (x ∷ xs) xs
-
-filter-cons : (keep : Tuple → Bool) (x : Tuple) (xs : List Tuple) → filter keep (x ∷ xs) ≡ if_kept (keep x) x (filter keep xs)
-filter-cons keep x xs = refl
 
 if_kept-append : (kept : Bool) (x : Tuple) (xs ys : List Tuple) → if_kept kept x xs ++ ys ≡ if_kept kept x (xs ++ ys)
 if_kept-append true x xs ys = refl
@@ -290,24 +286,3 @@ found-new m epoch k id shift before past up_to = record {
       let is : sum_by f (pairs_by test xs xs) ≡ double (weight f test) xs xs = sum-pairs f test xs xs in
       rw (sum_by-append f (all_found m epoch k id h) (pairs_by test xs xs)) (omega arith);
 }
-
--- ---- a probe goes through the stored tuples in order
-
-filter-append : {X : Type 0} (p : X → Bool) (xs ys : List X) → filter p (xs ++ ys) ≡ filter p xs ++ filter p ys
-filter-append p [] ys = refl
-filter-append p (x ∷ xs) ys = either (p x) (filter-append p xs ys)
-  where
-    either : (t : Bool) → filter p (xs ++ ys) ≡ filter p xs ++ filter p ys → cond t (x ∷ filter p (xs ++ ys)) (filter p (xs ++ ys)) ≡ cond t (x ∷ filter p xs) (filter p xs) ++ filter p ys
-    either true rest = ap (λ ts. x ∷ ts) rest
-    either false rest = rest
-
-probed_at-append : (side : Side) (m : Tuple → Tuple → Bool) (names : Tuple → Bool) (x : Tuple) (xs ys : List Tuple) → probed_at side m names x (xs ++ ys) ≡ probed_at side m names x xs ++ probed_at side m names x ys
-probed_at-append R m names x xs ys =
-    let keep = λ (q : Tuple). is_of S q && (m x q && names q) in
-    ap (λ zs. map (pair_of x) zs) (filter-append keep xs ys) ∙ map-append (pair_of x) (filter keep xs) (filter keep ys)
-probed_at-append S m names x xs ys =
-    let keep = λ (r : Tuple). is_of R r && (m r x && names r) in
-    ap (λ zs. map (λ r. pair_of r x) zs) (filter-append keep xs ys) ∙ map-append (λ r. pair_of r x) (filter keep xs) (filter keep ys)
-
-pub probed-append : (m : Tuple → Tuple → Bool) (names : Tuple → Bool) (x : Tuple) (xs ys : List Tuple) → probed m names x (xs ++ ys) ≡ probed m names x xs ++ probed m names x ys
-probed-append m names x xs ys = probed_at-append x.side m names x xs ys

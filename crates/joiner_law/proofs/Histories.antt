@@ -156,7 +156,3 @@ history-shift s t epoch shift (step ∷ past) low is = (step-shift s t epoch shi
 pub by_one-arrived : (x : Tuple) (step : Step) (past : List Step) → GoesByOne (step ∷ past) → GoesByOne (with_arrived x step ∷ past)
 by_one-arrived x step [] by = tt
 by_one-arrived x step (before ∷ past) by = by
-
-pub by_one-came : (x : Tuple) (step : Step) (past : List Step) → GoesByOne (step ∷ past) → GoesByOne (with_came x step ∷ past)
-by_one-came x step [] by = tt
-by_one-came x step (before ∷ past) by = by

@@ -26,14 +26,6 @@ same_is Collector Collector e = refl
 
 -- ---- balances
 
--- of one link: what was received grows by `got` (and then what was left loses it), and what was sent grows by `put`
-one_link : (received left sent got rest put : List Msg) → received ++ left ≡ sent → left ≡ got ++ rest → (received ++ got) ++ (rest ++ put) ≡ sent ++ put
-one_link received left sent got rest put e is =
-    append_assoc received got (rest ++ put)
-    ∙ ap (λ xs. received ++ xs) (sym (append_assoc got rest put) ∙ ap (λ xs. xs ++ put) (sym is))
-    ∙ sym (append_assoc received left put)
-    ∙ ap (λ xs. xs ++ put) e
-
 more_sent : (received left sent put : List Msg) → received ++ left ≡ sent → received ++ (left ++ put) ≡ sent ++ put
 more_sent received left sent put e = sym (append_assoc received left put) ∙ ap (λ xs. xs ++ put) e
 

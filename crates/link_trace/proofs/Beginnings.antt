@@ -19,7 +19,7 @@ use Rattle.link_trace.specs.Numbers.{number, actor_at, at_number}
 use Rattle.link_trace.specs.Worlds.{StandsFor, AreNew, cores_of, waiting_at, waiting_of, waits, core_in}
 use Rattle.link_trace.specs.declared.machines.Core.{Core}
 use Rattle.link_trace.specs.declared.places.Place.{Place}
-use Rattle.link_trace.proofs.OwnNumbers.{number_actor, some_is, none_some}
+use Rattle.link_trace.proofs.OwnNumbers.{number_actor, some_is}
 
 -- ---- a feeder's batches
 
@@ -48,13 +48,6 @@ rows_more [] row empty old zero s = empty s
 rows_more [] row empty old (suc r) s = refl
 rows_more (w ∷ ws) row empty old zero s = old zero s
 rows_more (w ∷ ws) row empty old (suc r) s = rows_more ws row empty (λ r' s'. old (suc r') s') r s
-
-pub none_new : (input : Input) (setting : Setting) → AreNew input setting 0 []
-none_new input setting = record {
-  all = refl;
-  fresh = λ n core is. absurd (none_some core is);
-  empty = λ receiver sender. refl;
-}
 
 empty_row : (queues : List (VecDeque Msg Global)) → AllByRecursion (λ queue. queue.items ≡ []) queues → (sender : ℕ) → get_or (map (λ queue. queue.items) queues) sender [] ≡ []
 empty_row [] all sender = refl

@@ -18,13 +18,11 @@ use Rattle.epoch_tags.specs.declared.message.ToController.{ToController}
 use Rattle.epoch_tags.specs.declared.message.ToCollector.{ToCollector}
 use Rattle.epoch_tags.specs.Links.{HasLink, feeder_joiner, joiner_joiner, controller_feeder, feeder_controller, joiner_controller, joiner_collector}
 use Rattle.epoch_tags.specs.Posts.{IsOfKind, GoesOver, joiner_msg, feeder_msg, controller_msg, collector_msg, posted_to_controller}
-use Rattle.load_controller.specs.declared.line.TurnLine.{TurnLine}
 use Rattle.trace_law.specs.declared.input.Input.{Input}
 use Rattle.trace_law.specs.declared.setting.Setting.{Setting}
-use Rattle.trace_law.specs.Family.{events}
 use Rattle.link_trace.specs.Lists.{ActorLists, Cause, Took, Began, same_actor, posted_to, with_cause, with_event}
 use Rattle.link_trace.specs.Standing.{GoOut}
-use Rattle.link_trace.specs.Families.{start_for, IsActor, family_of, after_event}
+use Rattle.link_trace.specs.Families.{start_for, IsActor, after_event}
 use Rattle.link_trace.proofs.Balances.{same_is}
 use Rattle.link_trace.proofs.OwnNumbers.{same_self}
 use Rattle.link_trace.proofs.Reading.{got, appended, controller_posts}
@@ -49,9 +47,6 @@ of_ends f j = length (filter_map controller_msg ((f Controller).received (Joiner
 
 abbrev pub count : Setting → (Actor → ActorLists) → ℕ
 count setting f = total setting.feeders (of_feeder f) + total (2 ^ setting.k) (of_joiner setting f) + total (2 ^ setting.k) (of_ends f)
-
-pub count_is : (setting : Setting) (f : Actor → ActorLists) (journal : List TurnLine) → events setting (family_of journal f) ≡ count setting f
-count_is setting f journal = refl
 
 -- ---- lists that grow
 

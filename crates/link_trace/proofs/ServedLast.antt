@@ -1,7 +1,6 @@
 -- The loop of a run in which one actor is served last: what it has made so far, and its answer.
-use Rattle.std.proofs.Common.{◌≡◌, ℕ, ◌+◌, refl, sym, ap, subst, ◌∙◌, inl, inr, Bool, true, false, Some, List, length, Result, Ok, Err, arith}
+use Rattle.std.proofs.Common.{◌≡◌, ℕ, ◌+◌, sym, ap, subst, ◌∙◌, inl, inr, Bool, false, Some, List, length, Result, Ok, Err}
 use Rattle.std.specs.Prelude.{IfOk, slice_get}
-use Rattle.std.proofs.lemmas.Bool.{cases_eq}
 use Rattle.std.specs.declared.alloc.AllocError.{AllocError}
 use Rattle.epoch_tags.specs.declared.actor.Actor.{Actor}
 use Rattle.epoch_tags.specs.declared.actor.Actor.TheVariants.{Controller}
@@ -14,19 +13,11 @@ use Rattle.link_trace.specs.Lists.{ActorLists, no_lists}
 use Rattle.link_trace.specs.Standing.{GoesOn, IsOver}
 use Rattle.link_trace.specs.Families.{journal_of}
 use Rattle.link_trace.specs.Worlds.{WorldState, StandsFor, IsAllAt, IsSomeAt, core_of}
-use Rattle.link_trace.specs.Order.{IsIdle, Happens, slots_of}
+use Rattle.link_trace.specs.Order.{Happens, slots_of}
 use Rattle.link_trace.specs.Marks.{AreMarked}
-use Rattle.link_trace.specs.Starving.{may_go, AreIdleBelow, MakesStarving, Starves, IsStarvingReplay, start, event}
+use Rattle.link_trace.specs.Starving.{MakesStarving, Starves, IsStarvingReplay, start, event}
 use Rattle.link_trace.proofs.Bounds.{IsCounted, none_counted, slot_counted}
 use Rattle.link_trace.proofs.Replaying.{all_unsure}
-
--- one slot more has no event
-pub idle_more : (all : Bool) (starved : Actor) (slots : List Slot) (place : ℕ) (w : WorldState) → AreIdleBelow all starved slots place w
-    → ((slot : Slot) → slice_get slots place ≡ Some slot → may_go all starved slot ≡ true → IsIdle w slot) → AreIdleBelow all starved slots (place + 1) w
-idle_more all starved slots place w below here n slot low there may = elim (cases_eq n place) [
-  | inl is ↦ here slot (subst (λ z. slice_get slots z ≡ Some slot) is there) may
-  | inr off ↦ below n slot (omega arith) there may
-]
 
 starving_happens : (starved : Actor) (slots : List Slot) (old new : WorldState) → MakesStarving starved slots old new → (slot : Slot) × Happens slot old new
 starving_happens starved slots old new (inl least) = (least.slot, least.happens)

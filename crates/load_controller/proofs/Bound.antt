@@ -1,11 +1,12 @@
 -- A journal has at most k migrations for each decision, and a decision doubles a side.
-use Rattle.std.proofs.Common.{◌≡◌, ℕ, zero, suc, ◌+◌, ◌-◌, ◌*◌, ◌^◌, ◌<◌, ◌≤◌, max, inl, inr, refl, sym, arith, Bool, true, false, not, ◌||◌, ◌&&◌, cond, List, [], ◌∷◌, Option, Some, None, subst}
+use Rattle.std.proofs.Common.{◌≡◌, ℕ, ◌+◌, ◌-◌, ◌*◌, ◌^◌, ◌<◌, ◌≤◌, max, inl, inr, refl, sym, arith, Bool, true, false, not, ◌||◌, ◌&&◌, cond, List, [], ◌∷◌, Option, Some, None, subst}
 use Rattle.std.specs.Prelude.{◌==◌, ◌/◌, nat_lt, nat_le, is_none, unwrap_or}
 use Rattle.std.specs.List.{AllByRecursion}
 use Rattle.std.proofs.Math.Pow.{pow_mono}
 use Rattle.std.proofs.lemmas.Nat.{mul-le, pow_pos, pow-add}
 use Rattle.std.proofs.lemmas.Bool.{cases_lt, and_parts, or_cases, ltb-true, leb-true, eqb-false, lt-ltb, le-ltb, not-true, cond_both}
-use Rattle.grid_map.specs.Load.{copies, smallest_best, best_shift}
+use Rattle.grid_map.specs.Load.{best_shift}
+use Rattle.grid_map.proofs.Best.{best_within}
 use Rattle.migration_plan.specs.Steps.{next_step}
 use Rattle.load_controller.specs.declared.line.Cause.{Cause}
 use Rattle.load_controller.specs.declared.line.TurnLine.{TurnLine}
@@ -14,18 +15,6 @@ use Rattle.load_controller.specs.Journal.{Rules, Follows, line_after, start_line
 -- how many steps lie between two shifts
 abbrev pub gap : ℕ → ℕ → ℕ
 gap a b = (a - b) + (b - a)
-
--- ---- the best shift is a shift
-
-smallest_within : (k top x y : ℕ) → smallest_best k top x y ≤ top
-smallest_within k zero x y = omega arith
-smallest_within k (suc top) x y =
-    let here = smallest_within k top x y in
-    cond_both (nat_lt (copies k (suc top) x y) (copies k (smallest_best k top x y) x y)) (suc top) (smallest_best k top x y) (λ b. b ≤ suc top) (λ e. omega arith) (λ e. omega arith)
-
-pub best_within : (k b x y : ℕ) → b ≤ k → best_shift k b x y ≤ k
-best_within k b x y within =
-    cond_both (nat_le (copies k b x y) (copies k (smallest_best k k x y) x y)) b (smallest_best k k x y) (λ c. c ≤ k) (λ e. within) (λ e. smallest_within k k x y)
 
 -- ---- a step spends what a decision gave
 

@@ -11,7 +11,8 @@ use Rattle.load_controller.specs.declared.line.TurnLine.{TurnLine}
 use Rattle.load_controller.specs.Journal.{Rules, Fits, has_doubled, counted_r, counted_s}
 use Rattle.load_controller.specs.Next.{line_by, decides_by, goal_by, steps_by}
 use Rattle.load_controller.specs.Machine.{IsBounded, IsGuided}
-use Rattle.load_controller.proofs.Bound.{gap, best_within, next_nearer, next_within}
+use Rattle.grid_map.proofs.Best.{best_within}
+use Rattle.load_controller.proofs.Bound.{gap, next_nearer, next_within}
 use Rattle.load_controller.proofs.Still.{chosen, not_doubled}
 
 -- ---- in range

@@ -20,10 +20,10 @@ use Rattle.load_controller.specs.Journal.{Rules, Follows, line_after, has_draine
 use Rattle.load_controller.specs.Law.{ControllerLists, CountsMessages, IsInPlace, SettlesInPlace, cause_of, is_over, sent_by}
 use Rattle.load_controller.specs.Standing.{ControllerState, TakesMessage, PassesOver, IsPassedOver, with_message, with_sent, held_at, posts_for, posts_by, with_all_held}
 use Rattle.epoch_tags.specs.Messages.{settled_epochs}
-use Rattle.load_controller.specs.Machine.{HoldsSettled, IsSound, IsReady, IsStuck, StandsWithin, Advances, Took, HasPlace, CauseFits, CountsCause, rules_of, state_of, posts_of, held_in_all}
+use Rattle.load_controller.specs.Machine.{HoldsSettled, IsSound, IsReady, IsStuck, StandsWithin, Advances, Took, HasPlace, CauseFits, CountsCause, rules_of, state_of, posts_of}
 use Rattle.load_controller.proofs.Keeping.{line_is, rules_kept}
 use Rattle.load_controller.proofs.Posting.{line_over}
-use Rattle.load_controller.proofs.Trying.{placed_counts, line_state, same_left, one_fewer, stays_stuck, passed_stays}
+use Rattle.load_controller.proofs.Trying.{placed_counts, line_state, same_left, stays_stuck, passed_stays}
 use Rattle.load_controller.proofs.Standings.{same_line, feeder_counted, held_counted, joiner_held, message_passed, as_own, within_of, stuck_of, stands_of}
 
 -- ---- posts, one after another
@@ -290,13 +290,6 @@ held_took old new j before after s t ready lowest c =
 pub advances_held : (old mid new : Ledger) (j : ℕ) (before after : List Post) → IsSound old → IsSound new → IsReady old j → ((i : ℕ) → i < j → ¬ IsReady old i)
     → mid ≡ record old { held = without_first old j } → CountsCause (Settle j) mid new before after → Advances old new before after
 advances_held old mid new j before after s t ready lowest is c = held_took old new j before after s t ready lowest (subst (λ x. CountsCause (Settle j) x new before after) is c)
-
-pub fewer_held : (old mid new : Ledger) (j : ℕ) (before after : List Post) → IsSound old → IsReady old j
-    → mid ≡ record old { held = without_first old j } → CountsCause (Settle j) mid new before after → held_in_all new < held_in_all old
-fewer_held old mid new j before after s ready is c =
-    let own : new.held ≡ without_first old j = c.notes.held ∙ ap (λ x. x.held) is in
-    let one = one_fewer old new j s ready own in
-    omega arith
 
 -- ---- a joiner's message
 

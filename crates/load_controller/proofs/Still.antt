@@ -1,43 +1,16 @@
 -- Where a journal isn't moving and no shift is fixed, its shift is near the best.
-use Rattle.std.proofs.Common.{◌≡◌, ℕ, zero, suc, ◌+◌, ◌*◌, ◌≤◌, inl, inr, refl, sym, ◌∙◌, ap, subst, arith, Bool, true, false, not, ◌||◌, ◌&&◌, cond, List, [], ◌∷◌}
+use Rattle.std.proofs.Common.{◌≡◌, ℕ, ◌+◌, ◌*◌, ◌≤◌, inl, inr, refl, sym, ◌∙◌, ap, subst, arith, Bool, true, false, not, ◌||◌, ◌&&◌, cond, List, [], ◌∷◌}
 use Rattle.std.specs.Prelude.{◌==◌, nat_lt, nat_le, is_none}
-use Rattle.std.proofs.lemmas.Bool.{cases_eq, or_parts, and_cases, ltb-true, ltb-false, leb-true, leb-false, eqb-true, cond_both, false≢true, true≢false}
+use Rattle.std.proofs.lemmas.Bool.{or_parts, and_cases, ltb-false, leb-false, eqb-true, false≢true, true≢false}
 use Rattle.std.proofs.lemmas.Bool.Decides.{nat_tests}
-use Rattle.grid_map.specs.Load.{copies, smallest_best, best_shift, HasFewest, IsNear}
+use Rattle.grid_map.specs.Load.{best_shift, HasFewest, IsNear}
+use Rattle.grid_map.proofs.Best.{best_fewest}
 use Rattle.grid_map.proofs.Near.{near_from_best}
 use Rattle.migration_plan.specs.Steps.{next_step}
 use Rattle.load_controller.specs.declared.line.Cause.{Cause}
 use Rattle.load_controller.specs.declared.line.TurnLine.{TurnLine}
 use Rattle.load_controller.specs.Journal.{Rules, Follows, line_after, start_line, has_doubled, counted_r, counted_s, ends_step}
-use Rattle.load_controller.proofs.Bound.{best_within, next_within, fixed_within}
-
--- ---- the best shift is best
-
-smallest_fewest : (k top x y c : ℕ) → c ≤ top → copies k (smallest_best k top x y) x y ≤ copies k c x y
-smallest_fewest k zero x y c low = let is : c ≡ 0 = omega arith in rw is (omega arith)
-smallest_fewest k (suc top) x y c low =
-    let small = smallest_best k top x y in
-    cond_both (nat_lt (copies k (suc top) x y) (copies k small x y)) (suc top) small (λ b. copies k b x y ≤ copies k c x y)
-    (λ e. let less = ltb-true (copies k (suc top) x y) (copies k small x y) e in
-    elim (cases_eq c (suc top)) [
-      | inl is ↦ rw is (omega arith)
-      | inr differ ↦ let rest = smallest_fewest k top x y c (omega arith) in omega arith
-    ])
-    (λ e. let more = ltb-false (copies k (suc top) x y) (copies k small x y) e in
-    elim (cases_eq c (suc top)) [
-      | inl is ↦ rw is more
-      | inr differ ↦ smallest_fewest k top x y c (omega arith)
-    ])
-
-best_fewest : (k b x y : ℕ) → b ≤ k → HasFewest k (best_shift k b x y) x y
-best_fewest k b x y within = record {
-  within = best_within k b x y within;
-  fewest = λ c low.
-      let least = smallest_fewest k k x y c low in
-      cond_both (nat_le (copies k b x y) (copies k (smallest_best k k x y) x y)) b (smallest_best k k x y) (λ d. copies k d x y ≤ copies k c x y)
-      (λ e. let here = leb-true (copies k b x y) (copies k (smallest_best k k x y) x y) e in omega arith)
-      (λ e. least);
-}
+use Rattle.load_controller.proofs.Bound.{next_within, fixed_within}
 
 -- ---- what holds of each line
 

@@ -16,7 +16,6 @@ use Rattle.pair_collector.specs.Kept.{Kept}
 use Rattle.pair_collector.specs.Law.{CollectorLists, pairs_taken}
 use Rattle.pair_collector.specs.Standing.{CollectorState, StandsFor, kept_of, nothing_kept}
 use Rattle.pair_collector.specs.Fresh.{kept_behind, pairs_since, HasGiven}
-use Rattle.pair_collector.proofs.Taking.{stand}
 
 module _ (joiners : ℕ) (lists : CollectorLists) (state : CollectorState) (stands : StandsFor joiners lists state) where
   kept_at : (j : ℕ) → j < joiners → slice_index_or state.joiners j nothing_kept ≡ kept_of (lists.from_joiner j)
@@ -37,10 +36,6 @@ module _ (joiners : ℕ) (lists : CollectorLists) (state : CollectorState) (stan
       ap (λ ns. slice_index ns j) is
       ∙ get_or-map (λ (kept : Kept). length kept.pairs) state.joiners j nothing_kept 0 (rw stands.began low)
       ∙ ap (λ (kept : Kept). length kept.pairs) (kept_at j low)
-
-  -- what was given has no part in the lists
-  pub stands_still : (given : List ℕ) → StandsFor joiners lists (record state { given = given })
-  stands_still given = stand (record state { given = given }) lists joiners stands.began stands.each
 
 -- ---- where lists go on from earlier ones
 

@@ -22,10 +22,6 @@ use Rattle.pair_collector.specs.Standing.{CollectorState, StandsFor, TakesMessag
 
 -- ---- one joiner
 
--- pairs that came before
-in_front : List Pair → Kept → Kept
-in_front pairs kept = record kept { pairs = pairs ++ kept.pairs }
-
 front-after : (found : List Pair) (kept : Kept) (m : ToCollector) → kept_after (record kept { pairs = found ++ kept.pairs }) m ≡ record (kept_after kept m) { pairs = found ++ (kept_after kept m).pairs }
 front-after found kept (Found pairs) = by_last kept.last
   where

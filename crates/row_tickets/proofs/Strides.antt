@@ -1,5 +1,5 @@
 -- Of the indices from one of p's on, p's next is as many further as there are feeders.
-use Rattle.std.proofs.Common.{◌≡◌, ℕ, zero, suc, ◌+◌, ◌-◌, ◌*◌, ◌/◌, ◌%◌, ◌<◌, ◌≤◌, ◌==◌, eqb, inl, inr, true, false, List, [], ◌∷◌, refl, ap, ◌∙◌, arith, eq-eqb}
+use Rattle.std.proofs.Common.{◌≡◌, ℕ, zero, suc, ◌+◌, ◌-◌, ◌*◌, ◌/◌, ◌%◌, ◌<◌, ◌==◌, eqb, inl, inr, true, false, List, ◌∷◌, refl, ap, ◌∙◌, arith, eq-eqb}
 use Rattle.std.specs.Prelude.{filter}
 use Rattle.std.specs.List.{range_with_len}
 use Rattle.std.proofs.lemmas.Nat.{mod-mul-add}
@@ -49,9 +49,6 @@ indices_next feeders p i n below here more =
     let over : n - i - 1 - (feeders - 1) ≡ n - (i + feeders) = omega arith in
     let rest = skipped feeders p (feeders - 1) (i + 1) (n - i - 1) (λ t low. between feeders p i t below here (omega arith)) in
     rw left (rw is_here (ap (λ js. i ∷ js) (rw (far, over) at rest)))
-
-pub indices_end : (feeders p i n : ℕ) → n ≤ i → indices_from feeders p i n ≡ []
-indices_end feeders p i n all = let none : n - i ≡ 0 = omega arith in ap (λ m. filter (λ j. j % feeders == p) (range_with_len i m)) none
 
 pub indices_begin : (feeders p n : ℕ) → p < feeders → indices feeders p n ≡ indices_from feeders p p n
 indices_begin feeders p n below =

@@ -93,11 +93,6 @@ index_push places wider ps p h new room longer same k d lt = let n = number_of p
       ((let a : m < length places = old.0 in omega (arith, length-set {A = ℕ})), get_or-set_other wider n m (length ps) 0 apart ∙ same m old.0 ∙ old.1)
 ]
 
--- the index stays, where the places grow
-pub index_wider : (places wider : List ℕ) (ps : List Part) → IsIndexed places ps → length places ≤ length wider → ((k : ℕ) → k < length places → get_or wider k 0 ≡ get_or places k 0) → IsIndexed wider ps
-index_wider places wider ps h longer same k d lt = let old = h k d lt in let n = number_of (get_or ps k d).from in
-    ((let a : n < length places = old.0 in omega arith), same n old.0 ∙ old.1)
-
 -- the index reads a part's sender alone
 noted_from : (b : Bool) (p : Part) → (cond b (record { from = p.from; taken = p.taken + 1; known = p.known - 1 }) p).from ≡ p.from
 noted_from true p = refl

@@ -9,12 +9,8 @@ use Rattle.ruled_links.specs.declared.delivery.InboxHand.{InboxHand}
 use Rattle.ruled_links.specs.declared.parts.Part.{Part}
 use Rattle.ruled_links.specs.Delivery.{number_of, of_sender, inbox_hand, known_of}
 use Rattle.ruled_links.specs.Inboxes.{OfSender}
-use Rattle.ruled_links.specs.Parts.{noted, set_known, has_part, PartFits, seen, Distinct, known_left, AreCounted}
+use Rattle.ruled_links.specs.Parts.{noted, set_known, has_part, PartFits, Distinct, known_left, AreCounted}
 use Rattle.ruled_links.proofs.PartsLemmas.{named_notes, named_tells, note_from, tell_from, rest_false, notes_fit, tells_fit, fits_new, named_new, named_still}
-
-pub sum_seen : (ps : List Part) → sum_by known_left ps ≡ sum_by (λ (p : OfSender). p.known) (map seen ps)
-sum_seen [] = refl
-sum_seen (p ∷ ps) = sum_by-cons known_left p ps ∙ ap (λ (n : ℕ). p.known + n) (sum_seen ps) ∙ sym (sum_by-cons (λ (q : OfSender). q.known) (seen p) (map seen ps))
 
 pub distinct_notes : (n : ℕ) (ps : List Part) → Distinct ps → Distinct (map (noted n) ps)
 distinct_notes n [] d = tt

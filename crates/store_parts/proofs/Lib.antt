@@ -1,5 +1,4 @@
 pub mod Columns
-pub mod Kept
 pub mod Keys
 pub mod MapRanges
 pub mod MapSums

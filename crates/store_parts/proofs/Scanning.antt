@@ -17,18 +17,8 @@ matches-append theta t which xs ys =
     ap (map (pair_of t)) (filter-append (is_found theta t which) xs ys)
     ∙ map-append (pair_of t) (filter (is_found theta t which) xs) (filter (is_found theta t which) ys)
 
-pub matches-take_more : (theta : Meaning) (t : Tuple) (which : Which) (xs : List Tuple) (i : ℕ) (x : Tuple) → i < length xs → x ≡ get_or xs i x
-    → matches theta t which (take (i + 1) xs) ≡ matches theta t which (take i xs) ++ matches theta t which (x ∷ [])
-matches-take_more theta t which xs i x low is = ap (matches theta t which) (take_one xs i x low is) ∙ matches-append theta t which (take i xs) (x ∷ [])
-
 pub count_by-append : {X : Type 0} (p : X → Bool) (xs ys : List X) → count_by p (xs ++ ys) ≡ count_by p xs + count_by p ys
 count_by-append p xs ys = sum_by-append (λ x. cond (p x) 1 0) xs ys
-
-pub count_by-take_more : {X : Type 0} (p : X → Bool) (xs : List X) (i : ℕ) (x : X) → i < length xs → x ≡ get_or xs i x → count_by p (take (i + 1) xs) ≡ count_by p (take i xs) + count_by p (x ∷ [])
-count_by-take_more p xs i x low is = ap (count_by p) (take_one xs i x low is) ∙ sum_by-append (λ y. cond (p y) 1 0) (take i xs) (x ∷ [])
-
-pub filter-take_more : {X : Type 0} (p : X → Bool) (xs : List X) (i : ℕ) (x : X) → i < length xs → x ≡ get_or xs i x → filter p (take (i + 1) xs) ≡ filter p (take i xs) ++ filter p (x ∷ [])
-filter-take_more p xs i x low is = ap (filter p) (take_one xs i x low is) ∙ filter-append p (take i xs) (x ∷ [])
 
 -- what the first tuples gave is a front of what all give
 pub front_of_matches : (theta : Meaning) (t : Tuple) (which : Which) (xs : List Tuple) (i : ℕ) (old new : List Pair) → new ≡ old ++ matches theta t which (take i xs) → AppendsFront old new (matches theta t which xs)

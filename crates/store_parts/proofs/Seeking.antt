@@ -39,10 +39,6 @@ sum-filter f keep (x ∷ xs) =
 
 -- ---- filters
 
-no_true : (b : Bool) → (b ≡ true → ⊥) → b ≡ false
-no_true true never = absurd (never refl)
-no_true false never = refl
-
 filter_step : {X : Type 0} (p : X → Bool) (a b : Bool) (x : X) (ys zs : List X) → p x ≡ b → (b ≡ true → a ≡ true) → filter p ys ≡ zs → filter p (cond a (x ∷ ys) ys) ≡ cond b (x ∷ zs) zs
 filter_step p true b x ys zs here needs rest = ap (λ c. cond c (x ∷ filter p ys) (filter p ys)) here ∙ ap (λ l. cond b (x ∷ l) l) rest
 filter_step p false true x ys zs here needs rest = absurd (false≢true (needs refl))

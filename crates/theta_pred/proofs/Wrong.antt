@@ -16,15 +16,6 @@ pub IsFirstWrong-one : (names_r names_s : List (List ℕ)) (name : Name) → IsF
 IsFirstWrong-one names_r names_s name =
     record { before = []; after = []; splits = refl; once = All-nil (StandsOnce names_r names_s) }
 
-IsFirstWrong-left : (names_r names_s : List (List ℕ)) (xs ys : List Name) (name : Name)
-    → IsFirstWrong names_r names_s xs name → IsFirstWrong names_r names_s (xs ++ ys) name
-IsFirstWrong-left names_r names_s xs ys name wrong = record {
-  before = wrong.before;
-  after = wrong.after ++ ys;
-  splits = ap (λ zs. zs ++ ys) wrong.splits ∙ append_assoc wrong.before (name ∷ wrong.after) ys;
-  once = wrong.once;
-}
-
 IsFirstWrong-right : (names_r names_s : List (List ℕ)) (xs ys : List Name) (name : Name)
     → All (StandsOnce names_r names_s) xs
     → IsFirstWrong names_r names_s ys name → IsFirstWrong names_r names_s (xs ++ ys) name
@@ -34,14 +25,6 @@ IsFirstWrong-right names_r names_s xs ys name once wrong = record {
   splits = ap (λ zs. xs ++ zs) wrong.splits ∙ sym (append_assoc xs wrong.before (name ∷ wrong.after));
   once = All-append (StandsOnce names_r names_s) xs wrong.before once wrong.once;
 }
-
-pub Tells-left : (names_r names_s : List (List ℕ)) (xs ys : List Name) (fault : ResolveFault)
-    → Tells names_r names_s xs fault → Tells names_r names_s (xs ++ ys) fault
-Tells-left names_r names_s xs ys (NoColumn side word) tells =
-    (IsFirstWrong-left names_r names_s xs ys (record { side = side; word = word }) tells.0, tells.1)
-Tells-left names_r names_s xs ys (TwoColumns side word) tells =
-    (IsFirstWrong-left names_r names_s xs ys (record { side = side; word = word }) tells.0, tells.1)
-Tells-left names_r names_s xs ys Memory tells = tells
 
 pub Tells-right : (names_r names_s : List (List ℕ)) (xs ys : List Name) (fault : ResolveFault)
     → All (StandsOnce names_r names_s) xs → Tells names_r names_s ys fault → Tells names_r names_s (xs ++ ys) fault
@@ -88,17 +71,9 @@ pub record Leads (names_r names_s : List (List ℕ)) (left whole : List Name) : 
   pub once : All (StandsOnce names_r names_s) left → All (StandsOnce names_r names_s) whole
   pub told : (fault : ResolveFault) → Tells names_r names_s left fault → Tells names_r names_s whole fault
 
-pub Leads-self : (names_r names_s : List (List ℕ)) (names : List Name) → Leads names_r names_s names names
-Leads-self names_r names_s names = record { once = λ h. h; told = λ fault h. h }
-
 pub Leads-next : (names_r names_s : List (List ℕ)) (xs rest whole : List Name) → Leads names_r names_s (xs ++ rest) whole
     → All (StandsOnce names_r names_s) xs → Leads names_r names_s rest whole
 Leads-next names_r names_s xs rest whole leads once = record {
   once = λ h. leads.once (All-append (StandsOnce names_r names_s) xs rest once h);
   told = λ fault h. leads.told fault (Tells-right names_r names_s xs rest fault once h);
 }
-
-pub Leads-told : (names_r names_s : List (List ℕ)) (xs rest whole : List Name) (fault : ResolveFault)
-    → Leads names_r names_s (xs ++ rest) whole → Tells names_r names_s xs fault → Tells names_r names_s whole fault
-Leads-told names_r names_s xs rest whole fault leads tells =
-    leads.told fault (Tells-left names_r names_s xs rest fault tells)

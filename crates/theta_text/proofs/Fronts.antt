@@ -7,7 +7,7 @@ use Rattle.theta_text.specs.declared.kind.Kind.TheVariants.{Word, Number, Litera
 use Rattle.theta_text.specs.Tokens.{is_letter, is_digit, is_word, doubled, IsWord, IsNumber}
 use Rattle.theta_text.specs.Kinds.{IsQuoted, SpellsKind, IsLongestKind, IsStrayKind, IsNextKind}
 use Rattle.theta_text.specs.Front.{Found, later, quoted_len, with_equals, not_equals, sign, front}
-use Rattle.theta_text.proofs.Quotes.{Reaches, Ends, reach, closes, front_cons, other, twice, once, last_one}
+use Rattle.theta_text.proofs.Quotes.{Reaches, Ends, reach, closes, front_cons, other, twice}
 
 -- what the rest found, from here on, or else the best so far
 abbrev pub found_by : ℕ → Option ℕ → Option ℕ → Option ℕ
@@ -54,10 +54,6 @@ digit_letter b e =
     let lo = leb-true 48 b p.0 in
     let hi = leb-true b 57 p.1 in
     rw (lt-leb 65 b (omega arith), lt-leb 97 b (omega arith), ne_eqb b 95 (λ h. omega arith)) refl
-
--- a text whose front is a sign
-abbrev StartsSo : ℕ → List ℕ → List ℕ → Type 0
-StartsSo m text bytes = take m text ≡ bytes
 
 at_found : (k : Kind) (m : ℕ) (text text' : List ℕ) → text ≡ text' → AtLeast k m (front text') → AtLeast k m (front text)
 at_found k m text text' e h = subst (λ t. AtLeast k m (front t)) (sym e) h
@@ -239,12 +235,6 @@ turn_twice q at b c best rest e e' = ap (found_by at best) (twice q b c rest e e
     go : (o : Option ℕ) → found_by at best (Some (later o)) ≡ found_by (at + 2) (Some (at + 1)) o
     go None = refl
     go (Some n) = let h : at + suc (suc n) ≡ at + 2 + n = omega arith in ap (λ x. Some x) h
-
-pub turn_once : (q at b c : ℕ) (best : Option ℕ) (rest : List ℕ) → (b == q) ≡ true → (c == q) ≡ false → found_by at best (quoted_len q (b ∷ c ∷ rest)) ≡ Some (at + 1)
-turn_once q at b c best rest e e' = ap (found_by at best) (once q b c rest e e')
-
-pub turn_last : (q at b : ℕ) (best : Option ℕ) → (b == q) ≡ true → found_by at best (quoted_len q (b ∷ [])) ≡ Some (at + 1)
-turn_last q at b best e = ap (found_by at best) (last_one q b e)
 
 -- which token comes next is determined
 is_stray : (k : Kind) → (k ≡ Stray) ⊎ (k ≡ Stray → ⊥)

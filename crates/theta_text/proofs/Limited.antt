@@ -8,8 +8,8 @@ use Rattle.theta_text.specs.Grammar.{Limits, IsOpen}
 use Rattle.theta_text.specs.Tokens.{number_of}
 use Rattle.theta_text.specs.Machine.{Kind, syntax, deep, wide, literal, Symbol, unit, tail, close, open', dot, field, name, term, sum, more, op, bound, side, Step, small, at_field, at_name, at_term, at_sum, at_side, at_unit, step, is_done, start, fine, wrong, go_on, verdict}
 use Rattle.theta_text.specs.Faults.{words, place_of, IsStuck, IsSyntaxFault, Passes, IsNesting, IsSign, IsNumber, IsDeepFault, IsWideFault, IsLiteralFault}
-use Rattle.theta_text.proofs.MachineLaws.{GivesAll, Goes, IfGoes, if_goes_map, Fits, push, pull}
-use Rattle.theta_text.proofs.Runs.{fits, done_spells, spells_done, then_run, run, open_goes, goes_open}
+use Rattle.theta_text.proofs.MachineLaws.{GivesAll, Goes, IfGoes, if_goes_map, Fits, pull}
+use Rattle.theta_text.proofs.Runs.{fits, spells_done, then_run, run, open_goes, goes_open}
 use Rattle.theta_text.proofs.Stops.{stuck_at, stuck_end, goes_ok, if_goes_at}
 
 -- a number, one greater where the flag says so
@@ -352,20 +352,6 @@ pub literal_fault : (L : Limits) (end : ℕ) (tokens : List Placed) (place : ℕ
 literal_fault L end tokens place e =
     let (t, p) = passes L false false (λ t. L.greatest + value_of t) end tokens place literal IsNumber (λ t. omega arith) (λ h. cc) e (λ t b. b) (λ t r f. f (omega arith)) in
     (L.greatest + value_of t, p)
-
--- no fault exactly where the tokens are a predicate
-pub fine_reads : (L : Limits) (end : ℕ) (tokens : List Placed) (s : List Symbol) → verdict L end s tokens ≡ fine → GivesAll L s (words tokens)
-fine_reads L end [] s e = go (is_done s) refl e
-  where
-    go : (b : Bool) → is_done s ≡ b → cond b fine (wrong syntax end) ≡ fine → GivesAll L s []
-    go true h e' = done_spells L s h
-    go false h e' = let no : ⊥ = cc in absurd no
-fine_reads L end (p ∷ ps) s e = go (λ s' e'. fine_reads L end ps s' e') (step L s p.token) (push L s p.token (words ps)) e
-  where
-    go : ((s' : List Symbol) → verdict L end s' ps ≡ fine → GivesAll L s' (words ps))
-        → (r : Step) → IfGoes r (λ s'. GivesAll L s' (words ps) → GivesAll L s (p.token ∷ words ps)) → go_on p.place (λ s'. verdict L end s' ps) r ≡ fine → GivesAll L s (p.token ∷ words ps)
-    go ih (Ok s1) f e' = f (ih s1 e')
-    go ih (Err k) f e' = let no : ⊥ = cc in absurd no
 
 pub reads_fine : (L : Limits) (end : ℕ) (tokens : List Placed) (s : List Symbol) → Fits s → GivesAll L s (words tokens) → verdict L end s tokens ≡ fine
 reads_fine L end [] s f r = ap (λ b. cond b fine (wrong syntax end)) (spells_done L s r)

@@ -136,12 +136,6 @@ finish L (op ∷ s) = let (ts, sp, r) = finish L s in (Compare Eq ∷ ts, (sign_
 finish L (bound ∷ s) = let (ts, sp, r) = finish L s in (nil ∷ ts, (nil_spelled, sp), (ts, (pos 0, (48 ∷ [], refl, refl, omega arith)), r))
 finish L (side ∷ s) = let (ts, sp, r) = finish L s in (Literal [] ∷ ts, ((39 ∷ 39 ∷ [], refl), sp), (ts, (Lit [], (refl, refl)), r))
 
-pub done_spells : (L : Limits) (s : List Symbol) → is_done s ≡ true → GivesAll L s []
-done_spells L [] e = refl
-done_spells L (tail d ∷ s) e = ([], ([], [], [], refl, refl), done_spells L s e)
-done_spells L (more n ∷ s) e = ([], ([], refl), done_spells L s e)
-done_spells L (x ∷ s) e = let bad : ⊥ = cc in absurd bad
-
 no_sum : (L : Limits) (xs : List Signed) (mid : List Token) → SumText L [] xs mid → ⊥
 no_sum L [] mid h = h
 no_sum L (x ∷ xs) mid (to, (e, h), f) = h

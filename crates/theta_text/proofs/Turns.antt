@@ -5,16 +5,13 @@ use Rattle.theta_text.specs.declared.token.Token.TheVariants.{Word, Literal, Ope
 use Rattle.theta_text.specs.declared.token.Keyword.TheVariants.{And, Or, Not, Abs, Text, R, S}
 use Rattle.theta_text.specs.declared.token.Placed.{Placed}
 use Rattle.theta_text.specs.declared.tree.Signed.{Signed}
-use Rattle.theta_text.specs.declared.tree.Term.{Term}
-use Rattle.theta_text.specs.declared.tree.TextSide.TheVariants.{Lit}
-use Rattle.theta_text.specs.declared.tree.Name.{Name}
 use Rattle.join_rows.specs.declared.table.Side.TheVariants as sides
-use Rattle.theta_text.specs.Grammar.{Tree, negation, Limits, Part, Further, IsAnd, IsOr, Predicate, DotText, NameText, TermText, FurtherTerms, FirstText, NumTest, BandRest, SideText, TxtTest, Unit'}
-use Rattle.theta_text.specs.Machine.{Kind, syntax, deep, wide, literal, Symbol, unit, tail, close, open', dot, field, name, term, sum, more, op, bound, side, small, step, Verdict, wrong, go_on, verdict}
+use Rattle.theta_text.specs.Grammar.{Tree, Limits, Part, Further, IsAnd, IsOr, Predicate, TermText, FurtherTerms, NumTest, BandRest, TxtTest, Unit'}
+use Rattle.theta_text.specs.Machine.{Kind, literal, Symbol, unit, tail, close, open', dot, field, name, term, sum, more, op, bound, side, small, step, Verdict, wrong, go_on, verdict}
 use Rattle.theta_text.specs.declared.fault.PredFault.{PredFault}
 use Rattle.theta_text.specs.declared.fault.PredFault.TheVariants as faults
 use Rattle.theta_text.specs.declared.units.Start.TheVariants.{StartNot, StartOpen, StartBand, StartTxt, StartNum}
-use Rattle.std.proofs.Common.{Some, None}
+use Rattle.std.proofs.Common.{Some}
 use Rattle.join_rows.specs.declared.table.Side.{Side}
 use Rattle.theta_text.specs.Starts.{unit_start, named_side, is_text}
 use Rattle.theta_text.specs.Faults.{words}
@@ -66,10 +63,6 @@ pub unit_open : (L : Limits) (d : ℕ) (s : List Symbol) → 0 < d → step L (u
 unit_open L zero s h = absurd (omega arith)
 unit_open L (suc d) s h = let e : d ≡ suc d - 1 = omega arith in ap (λ x. Ok (unit x ∷ tail x ∷ close ∷ s)) e
 
-pub more_wide : (L : Limits) (n : ℕ) (s : List Symbol) (m : Bool) → n ≡ 0 → step L (more n ∷ s) (Sign m) ≡ Err wide
-more_wide L zero s m h = refl
-more_wide L (suc n) s m h = absurd (omega arith)
-
 pub more_sign : (L : Limits) (n : ℕ) (s : List Symbol) (m : Bool) → 0 < n → step L (more n ∷ s) (Sign m) ≡ Ok (term ∷ more (n - 1) ∷ s)
 more_sign L zero s m h = absurd (omega arith)
 more_sign L (suc n) s m h = let e : n ≡ suc n - 1 = omega arith in ap (λ x. Ok (term ∷ more x ∷ s)) e
@@ -98,14 +91,6 @@ past_tail L end d s (p ∷ ps) off off' = ap (go_on p.place (λ s. verdict L end
     go (Word Or w) isnt isnt' = absurd (isnt' (w, refl))
     go t isnt isnt' = refl
 
--- the grammar's side
-pub read_not : (L : Limits) (d : ℕ) (w : List ℕ) (before ts after : List Token) (t : Tree) → 0 < d → before ≡ Word Not w ∷ ts → Unit' L (d - 1) ts t after → Unit' L d before (negation t) after
-read_not L zero w before ts after t h e u = absurd (omega arith)
-read_not L (suc d) w before ts after t h e u =
-    let same : suc d - 1 ≡ d = omega arith in
-    let u' : Unit' L d ts t after = subst (λ x. Unit' L x ts t after) same u in
-    subst (λ x. Unit' L (suc d) x (negation t) after) (sym e) (t, refl, u')
-
 pub read_open : (L : Limits) (d : ℕ) (before ts mid after : List Token) (t : Tree) → 0 < d → before ≡ Open ∷ ts → Predicate (Unit' L (d - 1)) ts t mid → mid ≡ Close ∷ after
     → Unit' L d before t after
 read_open L zero before ts mid after t h e u em = absurd (omega arith)
@@ -133,9 +118,6 @@ same_fault v v' fault e h = subst (λ x. IsFault x fault) (sym e) h
 pub same_leads : {A : Type 0} (v v' : Verdict) (go : A → Verdict) (r : Result A PredFault) → v ≡ v' → Leads v' go r → Leads v go r
 same_leads v v' go r e h = subst (λ x. Leads x go r) (sym e) h
 
-pub no_memory : (v : Verdict) (fault : PredFault) → fault ≡ faults.Memory → IsFault v fault
-no_memory v fault e = subst (λ x. IsFault v x) (sym e) tt
-
 pub if_ok_map : {A E : Type 0} (r : Result A E) (P Q : A → Type 0) → ((x : A) → P x → Q x) → IfOk r P → IfOk r Q
 if_ok_map (Ok x) P Q f p = f x p
 if_ok_map (Err e) P Q f p = p
@@ -143,14 +125,6 @@ if_ok_map (Err e) P Q f p = p
 pub sum_plain : (L : Limits) (s : List Symbol) (t : Token) → ((m : Bool) → t ≡ Sign m → ⊥) → step L (sum ∷ s) t ≡ step L (term ∷ more L.more ∷ s) t
 sum_plain L s (Sign m) isnt = absurd (isnt m refl)
 sum_plain L s t isnt = refl
-
-pub first_plain : (g : ℕ) (before : List Token) (t : Token) (ts : List Token) (x : Term) (mid : List Token) → before ≡ t ∷ ts → ((m : Bool) → t ≡ Sign m → ⊥) → TermText g before x mid
-    → FirstText g before (record { minus = false; term = x }) mid
-first_plain g before t ts x mid e isnt h = subst (λ z. FirstText g z (record { minus = false; term = x }) mid) (sym e) (go t isnt (subst (λ z. TermText g z x mid) e h))
-  where
-    go : (t : Token) → ((m : Bool) → t ≡ Sign m → ⊥) → TermText g (t ∷ ts) x mid → FirstText g (t ∷ ts) (record { minus = false; term = x }) mid
-    go (Sign m) isnt h = absurd (isnt m refl)
-    go t isnt h = (refl, h)
 
 pub starts_num : (L : Limits) (d : ℕ) (s : List Symbol) (t : Token) → unit_start t ≡ StartNum → step L (unit d ∷ s) t ≡ step L (sum ∷ op ∷ sum ∷ s) t
 starts_num L d s (Word Not w) e = let bad : ⊥ = cc in absurd bad
@@ -214,43 +188,11 @@ read_band L d before w ts x mid e h = subst (λ z. Unit' L d z x mid) (sym e) (g
     go zero h = h
     go (suc d) h = h
 
-pub unit_not_deep : (L : Limits) (d : ℕ) (s : List Symbol) (w : List ℕ) → d ≡ 0 → step L (unit d ∷ s) (Word Not w) ≡ Err deep
-unit_not_deep L zero s w h = refl
-unit_not_deep L (suc d) s w h = absurd (omega arith)
-
-pub unit_open_deep : (L : Limits) (d : ℕ) (s : List Symbol) → d ≡ 0 → step L (unit d ∷ s) Open ≡ Err deep
-unit_open_deep L zero s h = refl
-unit_open_deep L (suc d) s h = absurd (omega arith)
-
 pub name_step : (L : Limits) (s : List Symbol) (t : Token) (x : Side) → named_side t ≡ Some x → step L (name ∷ s) t ≡ Ok (dot ∷ field ∷ s)
 name_step L s (Word R w) x e = refl
 name_step L s (Word S w) x e = refl
 name_step L s t x e = let bad : ⊥ = cc in absurd bad
 
-pub name_stop : (L : Limits) (s : List Symbol) (t : Token) → named_side t ≡ None → step L (name ∷ s) t ≡ Err syntax
-name_stop L s (Word R w) e = let bad : ⊥ = cc in absurd bad
-name_stop L s (Word S w) e = let bad : ⊥ = cc in absurd bad
-name_stop L s t e = refl
-
-same_name : (n : Name) (x : Side) → n.side ≡ x → n ≡ record { side = x; word = n.word }
-same_name n x e = ap {A = Side} (λ z. record { side = z; word = n.word }) e
-
-pub read_name : (before : List Token) (t : Token) (ts : List Token) (x : Side) (n : Name) (mid : List Token) → before ≡ t ∷ ts → named_side t ≡ Some x → (n.side ≡ x) × DotText ts n.word mid → NameText before n mid
-read_name before t ts x n mid e es h = subst (λ z. NameText z n mid) (sym e) (go t es h)
-  where
-    go : (t : Token) → named_side t ≡ Some x → (n.side ≡ x) × DotText ts n.word mid → NameText (t ∷ ts) n mid
-    go (Word R w) e' (ex, h') = let is : sides.R ≡ x = cc in (n.word, same_name n x ex ∙ ap (λ z. record { side = z; word = n.word }) (sym is), h')
-    go (Word S w) e' (ex, h') = let is : sides.S ≡ x = cc in (n.word, same_name n x ex ∙ ap (λ z. record { side = z; word = n.word }) (sym is), h')
-    go t e' h = let bad : ⊥ = cc in absurd bad
-
 pub side_column : (t : Token) → is_text t ≡ true → (w : List ℕ) × (t ≡ Word Text w)
 side_column (Word Text w) e = (w, refl)
 side_column t e = let bad : ⊥ = cc in absurd bad
-
-pub side_stop : (L : Limits) (s : List Symbol) (t : Token) → is_text t ≡ false → ((w : List ℕ) → t ≡ Literal w → ⊥) → step L (side ∷ s) t ≡ Err syntax
-side_stop L s (Word Text w) e isnt = let bad : ⊥ = cc in absurd bad
-side_stop L s (Literal w) e isnt = absurd (isnt w refl)
-side_stop L s t e isnt = refl
-
-pub side_literal : (tokens : List Token) (t : Token) (w : List ℕ) (ts : List Token) → tokens ≡ t ∷ ts → t ≡ Literal w → SideText tokens (Lit w) ts
-side_literal tokens t w ts e et = subst (λ z. SideText z (Lit w) ts) (sym (e ∙ ap (λ z. z ∷ ts) et)) (refl, refl)
