@@ -25,9 +25,9 @@ use Rattle.join_runtime.specs.Joins.{AreJoined, AreSettled, AllLead, IsPlaced, L
 use Rattle.join_runtime.specs.Bouts.{SeatsView, StandsFor, lists_at, lists_in, mouth_at, mouth_of, seat_of}
 use Rattle.join_runtime.specs.Seating.{IsNewSeat, AreNew, AreFilled}
 use Rattle.join_runtime.specs.Early.{AreGiven, given_at, given_in}
-use Rattle.join_runtime.proofs.Knowing.{is_sender-named}
-use Rattle.join_runtime.proofs.Placing.{address_at}
-use Rattle.join_runtime.proofs.Linking.{there, number_low}
+use Rattle.join_runtime.proofs.KnownCounts.{is_sender-named}
+use Rattle.join_runtime.proofs.FramePlaces.{address_at}
+use Rattle.join_runtime.proofs.LinkLists.{there, number_low}
 
 -- ---- members of lists
 

@@ -9,7 +9,7 @@ use Rattle.epoch_tags.specs.declared.actor.Actor.TheVariants.{Controller, Collec
 use Rattle.load_controller.specs.Standing.{ControllerState}
 use Rattle.pair_collector.specs.Law.{CollectorLists, IsComplete}
 use Rattle.pair_collector.specs.Standing.{CollectorState, StandsFor as CollectorStands, is_complete}
-use Rattle.pair_collector.proofs.Taking.{complete_says}
+use Rattle.pair_collector.proofs.KeptMessages.{complete_says}
 use Rattle.trace_law.specs.declared.input.Input.{Input}
 use Rattle.trace_law.specs.declared.setting.Setting.{Setting}
 use Rattle.trace_law.specs.declared.run.Run.{Run}
@@ -28,7 +28,7 @@ use Rattle.join_runtime.specs.Views.{SeatView, frame_of}
 use Rattle.join_runtime.specs.Joins.{AreJoined}
 use Rattle.join_runtime.specs.Bouts.{SeatsView, StandsFor, seat_of, lists_at, lists_in}
 use Rattle.join_runtime.specs.Endings.{EndsView, IsFinishedFamily, end_of, family_in, is_collected, is_complete_at, is_complete_core, journal_at, journal_in, lists_at_end, lists_left}
-use Rattle.join_runtime.proofs.Agreeing.{agrees, stands_in}
+use Rattle.join_runtime.proofs.FamilyOfSeats.{agrees, stands_in}
 
 -- ---- what is left of seats
 

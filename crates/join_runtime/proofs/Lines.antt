@@ -27,8 +27,8 @@ use Rattle.join_report.specs.PairLines.{pair_lines}
 use Rattle.join_runtime.specs.Bouts.{AllAdvance, Extends, SeatsView, StandsFor, lists_in}
 use Rattle.join_runtime.specs.Endings.{IsFinishedFamily, family_in}
 use Rattle.join_runtime.specs.Early.{AreGiven, WroteEach, WroteSome, collected_in, given_in}
-use Rattle.join_runtime.proofs.Agreeing.{agrees}
-use Rattle.join_runtime.proofs.Giving.{given_kept}
+use Rattle.join_runtime.proofs.FamilyOfSeats.{agrees}
+use Rattle.join_runtime.proofs.GivenPairs.{given_kept}
 use Rattle.join_runtime.proofs.UnderWay.{IsUnderWay, begun, same_lists}
 use Rattle.join_runtime.proofs.Written.{HasWritten, cut_written, each_written, nothing_written, room_behind, room_within, same_long, some_written, written_more}
 

@@ -10,7 +10,7 @@ use Rattle.epoch_tags.specs.Posts.{joiner_msg, feeder_msg, controller_msg, colle
 use Rattle.reshuffler_core.specs.Law.{FeederLaw, FeederStart}
 use Rattle.reshuffler_core.proofs.TakesAll.{taken_is_one}
 use Rattle.pair_collector.specs.Law.{IsComplete}
-use Rattle.pair_collector.proofs.Taking.{complete_says}
+use Rattle.pair_collector.proofs.KeptMessages.{complete_says}
 use Rattle.trace_law.specs.declared.input.Input.{Input}
 use Rattle.trace_law.specs.declared.setting.Setting.{Setting}
 use Rattle.trace_law.specs.Validity.{IsValid}
@@ -26,7 +26,7 @@ use Rattle.link_trace.proofs.OwnNumbers.{none_some}
 use Rattle.join_runtime.specs.Views.{SeatView}
 use Rattle.join_runtime.specs.Bouts.{IsStill, SeatsView, StandsFor, lists_in, seat_of}
 use Rattle.join_runtime.specs.Endings.{family_in, is_collected, is_complete_at, is_complete_core}
-use Rattle.join_runtime.proofs.Agreeing.{agrees, stands_in}
+use Rattle.join_runtime.proofs.FamilyOfSeats.{agrees, stands_in}
 
 -- a feeder that waits has drained, or its last batch isn't granted
 waits_says : (p feeders : ℕ) (s : FeederStart) (ls : ActorLists) (core : Core) (taken : List ToFeeder) → Stands (OfFeeder p feeders s) ls core → FeederLaw s (feeder_lists ls) taken → Waits core

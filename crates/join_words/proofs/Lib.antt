@@ -1,4 +1,4 @@
-pub mod Building
+pub mod Arguments
 pub mod NumberReads
 pub mod Powers
 pub mod RangeLemmas

@@ -12,7 +12,7 @@ use Rattle.epoch_tags.specs.Messages.{pairs_found}
 use Rattle.joiner_law.specs.Law.{JoinerStart, JoinerLists, Taken}
 use Rattle.joiner_law.specs.History.{Step}
 use Rattle.joiner_law.specs.Standing.{grown, pairs_sent, ArePairs, AreSent, AreSteps}
-use Rattle.joiner_law.proofs.Growing.{grown-same, grown-other}
+use Rattle.joiner_law.proofs.LongerLists.{grown-same, grown-other}
 use Rattle.joiner_core.specs.Queues.{held_at}
 use Rattle.joiner_core.specs.Widths.{HasRow}
 use Rattle.joiner_core.proofs.Fitting.{same-rows, rows-held}

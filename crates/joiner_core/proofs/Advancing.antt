@@ -10,7 +10,7 @@ use Rattle.epoch_tags.specs.declared.message.Post.{Post}
 use Rattle.epoch_tags.specs.declared.message.ToJoiner.{ToJoiner}
 use Rattle.joiner_law.specs.Law.{JoinerLists}
 use Rattle.joiner_law.specs.Standing.{with_sent}
-use Rattle.joiner_law.proofs.Growing.{grown-same, grown-other}
+use Rattle.joiner_law.proofs.LongerLists.{grown-same, grown-other}
 use Rattle.joiner_core.specs.Queues.{held_at}
 use Rattle.joiner_core.proofs.Fitting.{same-rows, rows-taken}
 use Rattle.joiner_core.specs.Taking.{IsFixed, TookOfFeeder, TookOfJoiner}

@@ -15,9 +15,9 @@ use Rattle.migration_plan.specs.Steps.{is_of}
 use Rattle.joiner_law.specs.Law.{JoinerStart, JoinerLists, JoinerLaw, Taken, IsTakenOf, CanTakeOfFeeder, CanTakeOfJoiner, shift_after, partner_of, opened, store, found, fin, received_count, sent_in_step, AllTurned, IsSettled, IsAtRest, IsFinished}
 use Rattle.joiner_law.specs.History.{Step}
 use Rattle.joiner_law.specs.Standing.{one_if, pairs_sent, AreSteps, IsHistory, IsPartOf, IsLink}
-use Rattle.joiner_law.proofs.Following.{pairs-law, older-is, shifts-are, by_one-law, store-is}
+use Rattle.joiner_law.proofs.StepStores.{pairs-law, older-is, shifts-are, by_one-law, store-is}
 use Rattle.joiner_law.proofs.Partners.{has-moved, has-end, part-at, end-at}
-use Rattle.joiner_law.proofs.Sending.{count-bag, moved-law, ended-law, counts-law, partner-within}
+use Rattle.joiner_law.proofs.MovedBySteps.{count-bag, moved-law, ended-law, counts-law, partner-within}
 use Rattle.joiner_core.specs.Changes.{IsReady}
 use Rattle.joiner_core.specs.declared.opened.Opened.{Opened}
 use Rattle.joiner_core.specs.declared.epochs.Epochs.{Epochs}

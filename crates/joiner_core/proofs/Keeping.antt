@@ -18,7 +18,7 @@ use Rattle.joiner_law.specs.Posting.{settled_post, moved_end_post, moved_post}
 use Rattle.joiner_law.specs.History.{Step, probed, with_arrived, with_came, new_step, all_tuples, only_stamp, stored}
 use Rattle.joiner_law.specs.Standing.{grown, took_of_feeder, took_of_joiner, with_sent, with_flag, with_shift, IsOfFeeder, StandsSettled, StandsOpen, moved_counts}
 use Rattle.joiner_law.proofs.Partners.{counts-arrived}
-use Rattle.joiner_law.proofs.Sending.{count-bag}
+use Rattle.joiner_law.proofs.MovedBySteps.{count-bag}
 use Rattle.joiner_law.proofs.Takings.{settled-tup, open-late, open-tup, open-moved, opened-step, open-turn, all-turned, settled-end, open-moved_end, settled-step}
 use Rattle.joiner_core.specs.Matching.{does_hold}
 use Rattle.joiner_core.specs.Flags.{flag_at, IsEachUp}

@@ -29,7 +29,7 @@ use Rattle.joiner_core.specs.Whole.{StandsWithin, StandsBetween, IsStart, Collec
 use Rattle.joiner_core.specs.declared.opened.Opened.{Opened}
 use Rattle.joiner_core.specs.declared.epochs.Epochs.{Epochs}
 use Rattle.joiner_core.specs.declared.machine.Machine.{Machine}
-use Rattle.joiner_law.proofs.Sending.{gathered-more}
+use Rattle.joiner_law.proofs.MovedBySteps.{gathered-more}
 use Rattle.joiner_core.proofs.Posting.{own-append, own-before, own-found, own-fin}
 use Rattle.joiner_core.proofs.Keeping.{quiet-append, append-nil, with_sent-none, with_sent-append}
 use Rattle.joiner_core.proofs.Accepting.{with_other, PairsMove, stands-other}

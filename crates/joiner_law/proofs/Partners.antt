@@ -12,8 +12,8 @@ use Rattle.joiner_law.specs.Law.{JoinerStart, JoinerLists, Taken, partner_of, sh
 use Rattle.joiner_law.specs.History.{Step, with_arrived, with_came, new_step}
 use Rattle.joiner_law.specs.Standing.{grown, IsHistory, IsPartOf, IsEndOf, HasParts, moved_counts, with_sent}
 use Rattle.joiner_law.specs.Posting.{moved_post, moved_end_post}
-use Rattle.joiner_law.proofs.Growing.{grown-same, grown-other}
-use Rattle.joiner_law.proofs.Moving.{posted-here, posted-elsewhere}
+use Rattle.joiner_law.proofs.LongerLists.{grown-same, grown-other}
+use Rattle.joiner_law.proofs.PartnerPosts.{posted-here, posted-elsewhere}
 
 append-nil : {A : Type 0} (xs : List A) → xs ++ [] ≡ xs
 append-nil [] = refl

@@ -19,13 +19,13 @@ use Rattle.joiner_law.specs.Law.{JoinerStart, JoinerLists, Taken, partner_of, sh
 use Rattle.joiner_law.specs.History.{Step, stored, with_arrived, with_came, new_step, all_tuples, only_stamp, probed}
 use Rattle.joiner_law.specs.Standing.{grown, took_of_feeder, took_of_joiner, with_shift, IsOfFeeder, IsStep, IsLink, SentUpTo, reached, AreSent, ArePairs, pairs_sent, AreParts, StandsSettled, StandsOpen, with_sent, with_flag, IsHistory}
 use Rattle.joiner_law.specs.Posting.{moved_post, moved_end_post, settled_post}
-use Rattle.joiner_law.proofs.Growing.{moved_of-append, grown-same, grown-other}
+use Rattle.joiner_law.proofs.LongerLists.{moved_of-append, grown-same, grown-other}
 use Rattle.joiner_law.proofs.Feeders.{feeder-tup, feeder-turn, feeder-end, feeder-settled, feeder-shifts, feeder-none}
 use Rattle.joiner_law.proofs.Heart.{stored-arrived, stored-under, stored-came, stored-new, if_kept}
 use Rattle.joiner_law.proofs.Histories.{history-arrived, history-under, history-came, history-shift, history-quiet, history-part, by_one-arrived}
-use Rattle.joiner_law.proofs.Pairing.{pairs-arrived, pairs-under, pairs-came, pairs-new}
+use Rattle.joiner_law.proofs.WaitingPairs.{pairs-arrived, pairs-under, pairs-came, pairs-new}
 use Rattle.joiner_law.proofs.Partners.{taken-arrived, taken-under, taken-new, taken-came, taken-end, parts_sent-arrived, parts_sent-came, parts_sent-under, parts_sent-new, parts_sent-end, parts_sent-none}
-use Rattle.joiner_law.proofs.Moving.{sent-arrived, sent-under, sent-came, sent-new, link-moved, link-later, link-end, moved_ends-append, none-later, no_end-later, up_to-later, up_to-append, all-quiet, quiet-end}
+use Rattle.joiner_law.proofs.PartnerPosts.{sent-arrived, sent-under, sent-came, sent-new, link-moved, link-later, link-end, moved_ends-append, none-later, no_end-later, up_to-later, up_to-append, all-quiet, quiet-end}
 
 -- a list that had one tuple added at its end
 added : (x : Tuple) (a xs ys : List Tuple) → SameBag a xs → SameBag ys (x ∷ xs) → SameBag (a ++ x ∷ []) ys

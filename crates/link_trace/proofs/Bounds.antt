@@ -19,8 +19,8 @@ use Rattle.link_trace.specs.Lists.{ActorLists, Took, Began, no_lists}
 use Rattle.link_trace.specs.Families.{journal_of, family_of, after_event}
 use Rattle.link_trace.specs.Worlds.{WorldState, StandsFor, MakesEvent, Delivers, core_of}
 use Rattle.link_trace.specs.Order.{Happens, most_events}
-use Rattle.link_trace.proofs.Counting.{count, AreLinked, took_counts, began_counts, linked_after, left_linked}
-use Rattle.link_trace.proofs.Finishing.{agree}
+use Rattle.link_trace.proofs.EventCounts.{count, AreLinked, took_counts, began_counts, linked_after, left_linked}
+use Rattle.link_trace.proofs.WorldAnswer.{agree}
 
 pub valid_both : (input : Input) (setting : Setting) → IsValidInput input → IsValidSetting setting → IsValid input setting
 valid_both input setting of_input of_setting = record {

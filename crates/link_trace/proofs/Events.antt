@@ -24,7 +24,7 @@ use Rattle.pair_collector.specs.Standing.{CollectorState, TakesMessage as Collec
 use Rattle.link_trace.specs.Lists.{ActorLists, Took, Began, feeder_lists, joiner_lists, controller_lists, collector_lists, with_event}
 use Rattle.link_trace.specs.Standing.{Start, OfFeeder, OfJoiner, OfController, OfCollector, Stands, GoOut, Occurs}
 use Rattle.link_trace.specs.declared.machines.Core.TheVariants.{Feeder as TheFeeder, Joiner as TheJoiner, Controller as TheController, Collector as TheCollector}
-use Rattle.link_trace.proofs.Reading.{joiner_posts, feeder_posts, controller_posts, collector_posts, appended, got, eqb-swap}
+use Rattle.link_trace.proofs.TypedLists.{joiner_posts, feeder_posts, controller_posts, collector_posts, appended, got, eqb-swap}
 
 -- ---- a joiner's own numbers
 

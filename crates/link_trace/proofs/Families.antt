@@ -13,7 +13,7 @@ use Rattle.joiner_law.specs.Law.{JoinerStart, JoinerLaw, Taken, IsFinished as Is
 use Rattle.load_controller.specs.Standing.{ControllerStart}
 use Rattle.load_controller.specs.Law.{ControllerLaw}
 use Rattle.pair_collector.specs.Law.{IsComplete}
-use Rattle.pair_collector.proofs.Taking.{complete_says}
+use Rattle.pair_collector.proofs.KeptMessages.{complete_says}
 use Rattle.trace_law.specs.declared.input.Input.{Input}
 use Rattle.trace_law.specs.declared.setting.Setting.{Setting}
 use Rattle.trace_law.specs.Family.{IsAgreeing, IsFinished, feeder_start, joiner_start, rules_of, first_line}

@@ -17,7 +17,7 @@ use Rattle.link_trace.specs.Order.{Happens, slots_of}
 use Rattle.link_trace.specs.Marks.{AreMarked}
 use Rattle.link_trace.specs.Starving.{MakesStarving, Starves, IsStarvingReplay, start, event}
 use Rattle.link_trace.proofs.Bounds.{IsCounted, none_counted, slot_counted}
-use Rattle.link_trace.proofs.Replaying.{all_unsure}
+use Rattle.link_trace.proofs.ReplayLoop.{all_unsure}
 
 starving_happens : (starved : Actor) (slots : List Slot) (old new : WorldState) → MakesStarving starved slots old new → (slot : Slot) × Happens slot old new
 starving_happens starved slots old new (inl least) = (least.slot, least.happens)

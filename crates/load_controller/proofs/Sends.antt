@@ -19,7 +19,7 @@ use Rattle.load_controller.specs.declared.line.TurnLine.{TurnLine}
 use Rattle.load_controller.specs.Journal.{Rules, Follows, IsAllowed, line_after, is_count_of, is_drain_of, has_drained}
 use Rattle.load_controller.specs.Law.{AreCounted, CountsOne, IsInPlace, is_over, sent_for, sent_by}
 use Rattle.load_controller.proofs.Counted.{match_cases, count_lines}
-use Rattle.epoch_tags.proofs.Going.{goes-append}
+use Rattle.epoch_tags.proofs.EpochShifts.{goes-append}
 
 -- ---- lists of messages
 

@@ -18,7 +18,7 @@ use Rattle.load_controller.specs.Journal.{Rules, IsAllowed, line_after, counted_
 use Rattle.load_controller.specs.Law.{ControllerLists, CountsMessages, CountsOne, SettlesOne, AreCounted, AreSettled, IsInPlace, SettlesInPlace, cause_of, sent_by}
 use Rattle.load_controller.specs.Standing.{ControllerStart, ControllerState, StandsFor, grown, with_message, with_sent, held_at, IsPassedOver, posts_for}
 use Rattle.load_controller.specs.Machine.{HoldsSettled, StandsWithin}
-use Rattle.load_controller.proofs.Posting.{posted_for}
+use Rattle.load_controller.proofs.LinePosts.{posted_for}
 
 -- ---- small things
 

@@ -1,4 +1,4 @@
-pub mod Taking
-pub mod Sorting
+pub mod KeptMessages
+pub mod Neighbours
 pub mod Fresh
-pub mod Ending
+pub mod AnswerOfLists

@@ -17,7 +17,7 @@ use Rattle.reshuffler_core.specs.Law.{FeederStart, FeederLists, FeederLaw, CanTa
 use Rattle.epoch_tags.specs.declared.message.ToJoiner.{ToJoiner}
 use Rattle.epoch_tags.specs.declared.message.ToJoiner.TheVariants.{Tup}
 use Rattle.migration_plan.specs.Steps.{holds}
-use Rattle.epoch_tags.proofs.Going.{goes_at}
+use Rattle.epoch_tags.proofs.EpochShifts.{goes_at}
 
 -- ---- what it asks
 

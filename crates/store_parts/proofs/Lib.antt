@@ -2,9 +2,9 @@ pub mod Columns
 pub mod Keys
 pub mod MapRanges
 pub mod MapSums
-pub mod Rising
+pub mod SortedLists
 pub mod SameTexts
-pub mod Scanning
-pub mod Seeking
+pub mod OneMoreTuple
+pub mod KeyProbes
 pub mod Sides
 pub mod Worked

@@ -13,7 +13,7 @@ use Rattle.std.proofs.lemmas.Bool.{false≢true}
 use Rattle.std.proofs.lemmas.Bool.Decides.{nat_tests}
 use Rattle.std.proofs.lemmas.Int.{ints}
 use Rattle.store_parts.specs.Places.{entries_from, is_backward, lies, places_between}
-use Rattle.store_parts.proofs.Rising.{Rises, same_rising, rises_from_sorted}
+use Rattle.store_parts.proofs.SortedLists.{Rises, same_rising, rises_from_sorted}
 use Rattle.store_parts.specs.Places.{at_each, IsMapOf, start_of, end_of}
 
 -- ---- the test of a key

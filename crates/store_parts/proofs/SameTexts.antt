@@ -20,7 +20,7 @@ use Rattle.store_parts.specs.Keyed.{at_places, indexed_at, numbers_at}
 use Rattle.store_parts.specs.Texts.{text_of, number_of}
 use Rattle.store_parts.specs.Matches.{other_side, evaluated_by_text, has_same_text, is_named, is_found, does_match, does_match_at, pair_of, matches}
 use Rattle.store_parts.proofs.Keys.{at_places_between}
-use Rattle.store_parts.proofs.Seeking.{filter_of_filter, count_of_filter, left_true, places_below, at_places-append, at_places_more, at_place}
+use Rattle.store_parts.proofs.KeyProbes.{filter_of_filter, count_of_filter, left_true, places_below, at_places-append, at_places_more, at_place}
 
 -- ---- the places of a number
 

@@ -21,7 +21,7 @@ use Rattle.trace_law.specs.Family.{Family, IsAgreeing, joiner_start, feeder_star
 use Rattle.trace_law.proofs.Stores.{is_stored}
 use Rattle.trace_law.proofs.Membership.{HasAllOf, complete}
 use Rattle.join_rows.proofs.Totals.{gather_same, gather-filter}
-use Rattle.epoch_tags.proofs.Going.{front_goes}
+use Rattle.epoch_tags.proofs.EpochShifts.{front_goes}
 
 -- ---- shifts
 

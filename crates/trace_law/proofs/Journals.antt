@@ -14,7 +14,7 @@ use Rattle.trace_law.proofs.Stores.{is_stored}
 use Rattle.trace_law.proofs.Membership.{HasAllOf}
 use Rattle.trace_law.proofs.Arrivals.{stores_all, all_granted}
 use Rattle.epoch_tags.specs.Orders.{GoesBy}
-use Rattle.epoch_tags.proofs.Going.{goes-front}
+use Rattle.epoch_tags.proofs.EpochShifts.{goes-front}
 use Rattle.load_controller.proofs.Sends.{all_sent_goes}
 
 module _ (input : Input) (setting : Setting) (f : Family) (agrees : IsAgreeing input setting f) where

@@ -31,9 +31,9 @@ pub mod Bounds
 pub mod Events
 pub mod Few
 pub mod OneTaken
-pub mod Migrating
-pub mod MigratingController
-pub mod MigratingLaws
+pub mod TwoMigrations
+pub mod TwoMigrationsController
+pub mod TwoMigrationsLaws
 pub mod Late
 pub mod LateController
 pub mod LateLaws

@@ -22,7 +22,7 @@ use Rattle.trace_law.proofs.Journals.{shift_in, feeders_go, begins}
 use Rattle.trace_law.proofs.Quiet.{can_take_of_joiner}
 use Rattle.join_rows.proofs.Totals.{greatest_above, greatest_same}
 use Rattle.epoch_tags.proofs.Appends.{turns-append, front_falls}
-use Rattle.epoch_tags.proofs.Going.{front_goes, turns_at}
+use Rattle.epoch_tags.proofs.EpochShifts.{front_goes, turns_at}
 use Rattle.reshuffler_core.proofs.Arrivals.{answers_go}
 
 module _ (input : Input) (setting : Setting) (f : Family) (some : 0 < setting.feeders) where

@@ -25,7 +25,7 @@ use Rattle.load_controller.specs.Law.{AreCounted, sent_by, is_over, CountsSettle
 use Rattle.load_controller.proofs.Bound.{shifts_within, fixed_within}
 use Rattle.load_controller.proofs.Shifts.{each_shift, epochs_near, shift_at_within}
 use Rattle.load_controller.proofs.Counted.{HaveLines, undrained}
-use Rattle.load_controller.proofs.Settling.{ends_still}
+use Rattle.load_controller.proofs.SettledCounts.{ends_still}
 use Rattle.load_controller.proofs.Sends.{sends_grants, sends_orders, no_stops, stops_last, stop_sent, going, all_sent_goes}
 use Rattle.load_controller.proofs.Over.{over_drained, over_where, no_drain_lines}
 use Rattle.joiner_law.specs.Law.{JoinerStart, Taken, opened, shift_after, partner_of, AllTurned, IsSettled, IsOpenPart, CanTakeOfFeeder, CanTakeOfJoiner, IsFinished as IsFinishedJoiner}
@@ -42,7 +42,7 @@ use Rattle.trace_law.proofs.Links.{has_link, none_received}
 use Rattle.trace_law.proofs.Lawful.{lines_of}
 use Rattle.epoch_tags.proofs.Appends.{turns-append, moved_ends_both}
 use Rattle.grid_map.proofs.Halves.{partner_below, back_again}
-use Rattle.epoch_tags.proofs.Going.{turns_at}
+use Rattle.epoch_tags.proofs.EpochShifts.{turns_at}
 
 pub can_take_of_joiner : (s : JoinerStart) (t : Taken) (done q e : ℕ) (m : ToJoiner) → IsOfEpoch e m → IsOpenPart s t done q e → CanTakeOfJoiner s t done q m
 can_take_of_joiner s t done q e (Tup x) is part = absurd is

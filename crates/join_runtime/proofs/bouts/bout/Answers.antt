@@ -4,8 +4,8 @@ use Rattle.join_runtime.specs.Views.{frame_of}
 use Rattle.join_runtime.specs.Joins.{AreJoined}
 use Rattle.join_runtime.specs.Bouts.{SeatsView}
 use Rattle.join_runtime.proofs.Stilled.{still_collected}
-use Rattle.join_runtime.proofs.Linking.{busy, fronts, still}
-use Rattle.join_runtime.proofs.Bouting.{extends_after, settled_after, stands_after}
+use Rattle.join_runtime.proofs.LinkLists.{busy, fronts, still}
+use Rattle.join_runtime.proofs.SeatBouts.{extends_after, settled_after, stands_after}
 use Rattle.join_runtime.proofs.bouts.bout.Goals as goal
 
 pub invariant_of-seats-2 : goal.invariant_of-seats-2

@@ -1,6 +1,6 @@
 use Rattle.std.proofs.Common.{◌∙◌, refl, sym, subst}
 use Rattle.join_runtime.specs.Joins.{AllLead, ActorsDiffer}
-use Rattle.join_runtime.proofs.Bouting.{all_advance, frames_worked}
+use Rattle.join_runtime.proofs.SeatBouts.{all_advance, frames_worked}
 use Rattle.join_runtime.proofs.bouts.bout_of.Goals as goal
 
 pub returns-then-any_spent-clause-frames : goal.returns-then-any_spent-clause-frames

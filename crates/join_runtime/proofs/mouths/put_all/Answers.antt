@@ -1,5 +1,5 @@
 use Rattle.std.proofs.Common.{◌∙◌}
-use Rattle.join_runtime.proofs.Posting.{sent_through-more}
+use Rattle.join_runtime.proofs.MouthPosts.{sent_through-more}
 use Rattle.join_runtime.proofs.mouths.put_all.Goals as goal
 
 pub loop-post-preserved : goal.loop-post-preserved

@@ -1,4 +1,4 @@
-use Rattle.join_runtime.proofs.Posting.{addresses-set}
+use Rattle.join_runtime.proofs.MouthPosts.{addresses-set}
 use Rattle.join_runtime.proofs.mouths.put_at.Goals as goal
 
 pub returns-then-place-len-clause-same : goal.returns-then-place-len-clause-same

@@ -1,7 +1,7 @@
 use Rattle.std.proofs.Common.{◌≡◌, ◌<◌, ◌∙◌, [], length, refl, subst, arith}
 use Rattle.std.proofs.lemmas.List.{get_or_default, get_or-set_other, length-set}
 use Rattle.join_runtime.specs.Seating.{AreFilled, Places}
-use Rattle.join_runtime.proofs.Filling.{filled_more, filled_none}
+use Rattle.join_runtime.proofs.MouthRows.{filled_more, filled_none}
 use Rattle.join_runtime.proofs.seating.give_all.Goals as goal
 
 pub loop-receiver-init : goal.loop-receiver-init

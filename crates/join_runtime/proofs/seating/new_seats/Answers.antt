@@ -1,4 +1,4 @@
-use Rattle.join_runtime.proofs.Filling.{new_more}
+use Rattle.join_runtime.proofs.MouthRows.{new_more}
 use Rattle.join_runtime.proofs.seating.new_seats.Goals as goal
 
 pub loop-n-preserved : goal.loop-n-preserved

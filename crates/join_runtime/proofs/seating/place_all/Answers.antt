@@ -1,4 +1,4 @@
-use Rattle.join_runtime.proofs.Filling.{places_more, places_none}
+use Rattle.join_runtime.proofs.MouthRows.{places_more, places_none}
 use Rattle.join_runtime.proofs.seating.place_all.Goals as goal
 
 pub loop-mouth-init : goal.loop-mouth-init

@@ -4,7 +4,7 @@ use Rattle.clap.specs.Built.{AddsArg}
 use Rattle.clap.specs.Walk.{Rule}
 use Rattle.clap.specs.Simple.{App, app_of, new_app, with_rule}
 use Rattle.join_words.specs.Command.{IsCommand, jm_command, default_rule, files_rule, flag_rule, number_rule, text_or_rule, text_rule}
-use Rattle.join_words.proofs.Building.{IsApp, added}
+use Rattle.join_words.proofs.Arguments.{IsApp, added}
 use Rattle.join_words.proofs.command.command.Goals as goal
 
 pub returns : goal.returns

@@ -1,4 +1,4 @@
-use Rattle.link_trace.proofs.Fitting.{fit}
+use Rattle.link_trace.proofs.EventLimit.{fit}
 use Rattle.link_trace.proofs.laws.events_fit.Goals as goal
 
 pub returns : goal.returns

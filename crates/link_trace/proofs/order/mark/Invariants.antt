@@ -1,4 +1,4 @@
-use Rattle.link_trace.proofs.Ordering.{AreMarkedBelow}
+use Rattle.link_trace.proofs.ReplayMarks.{AreMarkedBelow}
 use Rattle.link_trace.proofs.order.mark.Given as goal
 
 abbrev pub invariant-loop-n : goal.invariant-loop-n

@@ -1,5 +1,5 @@
 use Rattle.link_trace.specs.Worlds.{state_of}
-use Rattle.link_trace.proofs.Replaying.{IsUnderWay}
+use Rattle.link_trace.proofs.ReplayLoop.{IsUnderWay}
 use Rattle.link_trace.proofs.replays.replay.Given as goal
 
 abbrev pub invariant-loop : goal.invariant-loop

@@ -1,7 +1,7 @@
 use Rattle.std.proofs.Common.{◌∙◌, sym}
 use Rattle.std.proofs.lemmas.Result.{on_ok_weaker}
 use Rattle.link_trace.specs.Worlds.{waiting_of}
-use Rattle.link_trace.proofs.Waiting.{put_left}
+use Rattle.link_trace.proofs.WaitingMessages.{put_left}
 use Rattle.link_trace.proofs.sending.send.Goals as goal
 
 pub returns-in-Some-Some-clause-left : goal.returns-in-Some-Some-clause-left

@@ -1,6 +1,6 @@
 use Rattle.std.proofs.Common.{◌∙◌, ap, refl}
 use Rattle.link_trace.specs.Worlds.{waiting_of, left_in, put_one}
-use Rattle.link_trace.proofs.Waiting.{put_more, put_none}
+use Rattle.link_trace.proofs.WaitingMessages.{put_more, put_none}
 use Rattle.link_trace.proofs.sending.send_all.Goals as goal
 
 pub loop-post-init : goal.loop-post-init

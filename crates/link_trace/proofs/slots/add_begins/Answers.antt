@@ -1,5 +1,5 @@
 use Rattle.link_trace.specs.declared.slots.Slot.TheVariants.{Begin}
-use Rattle.link_trace.proofs.Listing.{one_more}
+use Rattle.link_trace.proofs.NumberedLists.{one_more}
 use Rattle.link_trace.proofs.slots.add_begins.Goals as goal
 
 pub loop-p-preserved : goal.loop-p-preserved

@@ -1,6 +1,6 @@
 use Rattle.epoch_tags.specs.declared.actor.Actor.TheVariants.{Feeder, Controller}
 use Rattle.link_trace.specs.declared.slots.Slot.TheVariants.{Link}
-use Rattle.link_trace.proofs.Listing.{one_more}
+use Rattle.link_trace.proofs.NumberedLists.{one_more}
 use Rattle.link_trace.proofs.slots.add_controller_to_feeders.Goals as goal
 
 pub loop-p-preserved : goal.loop-p-preserved

@@ -1,5 +1,5 @@
 use Rattle.link_trace.specs.Order.{to_joiners}
-use Rattle.link_trace.proofs.Listing.{more}
+use Rattle.link_trace.proofs.NumberedLists.{more}
 use Rattle.link_trace.proofs.slots.add_feeders_to_joiners.Goals as goal
 
 pub loop-p-preserved : goal.loop-p-preserved

@@ -1,6 +1,6 @@
 use Rattle.epoch_tags.specs.declared.actor.Actor.TheVariants.{Joiner}
 use Rattle.link_trace.specs.declared.slots.Slot.TheVariants.{Link}
-use Rattle.link_trace.proofs.Listing.{one_more}
+use Rattle.link_trace.proofs.NumberedLists.{one_more}
 use Rattle.link_trace.proofs.slots.add_from_joiners.Goals as goal
 
 pub loop-i-preserved : goal.loop-i-preserved

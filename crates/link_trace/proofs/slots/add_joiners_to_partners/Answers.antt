@@ -1,5 +1,5 @@
 use Rattle.link_trace.specs.Order.{to_partners}
-use Rattle.link_trace.proofs.Listing.{more}
+use Rattle.link_trace.proofs.NumberedLists.{more}
 use Rattle.link_trace.proofs.slots.add_joiners_to_partners.Goals as goal
 
 pub loop-i-preserved : goal.loop-i-preserved

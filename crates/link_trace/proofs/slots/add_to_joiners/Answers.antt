@@ -1,6 +1,6 @@
 use Rattle.epoch_tags.specs.declared.actor.Actor.TheVariants.{Feeder, Joiner}
 use Rattle.link_trace.specs.declared.slots.Slot.TheVariants.{Link}
-use Rattle.link_trace.proofs.Listing.{one_more}
+use Rattle.link_trace.proofs.NumberedLists.{one_more}
 use Rattle.link_trace.proofs.slots.add_to_joiners.Goals as goal
 
 pub loop-j-preserved : goal.loop-j-preserved

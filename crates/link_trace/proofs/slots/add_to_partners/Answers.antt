@@ -3,7 +3,7 @@ use Rattle.std.specs.Prelude.{bit_xor}
 use Rattle.std.proofs.lemmas.Nat.{one_shl}
 use Rattle.epoch_tags.specs.declared.actor.Actor.TheVariants.{Joiner}
 use Rattle.link_trace.specs.declared.slots.Slot.TheVariants.{Link}
-use Rattle.link_trace.proofs.Listing.{one_more}
+use Rattle.link_trace.proofs.NumberedLists.{one_more}
 use Rattle.link_trace.proofs.slots.add_to_partners.Goals as goal
 
 pub loop-bit-preserved : goal.loop-bit-preserved

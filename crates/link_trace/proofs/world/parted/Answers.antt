@@ -1,6 +1,6 @@
 use Rattle.std.proofs.Common.{◌∙◌, ◌++◌, ◌∷◌, [], ap}
 use Rattle.std.specs.Option.{option_to_list}
-use Rattle.link_trace.proofs.Finishing.{last_two}
+use Rattle.link_trace.proofs.WorldAnswer.{last_two}
 use Rattle.link_trace.proofs.world.parted.Goals as goal
 
 pub returns-in-Controller-Collector : goal.returns-in-Controller-Collector

@@ -1,6 +1,6 @@
 use Rattle.std.proofs.Common.{◌∙◌, ap, sym, append_assoc, ◌++◌, ◌∷◌, []}
 use Rattle.load_controller.specs.Standing.{to_each, post_to}
-use Rattle.load_controller.proofs.Posting.{to_each_more}
+use Rattle.load_controller.proofs.LinePosts.{to_each_more}
 use Rattle.load_controller.proofs.post.post_to_each.Goals as goal
 
 pub loop-p-preserved : goal.loop-p-preserved

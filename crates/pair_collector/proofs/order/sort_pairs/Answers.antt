@@ -1,7 +1,7 @@
 use Rattle.std.proofs.Common.{◌+◌, get_or, rules, arith}
 use Rattle.std.proofs.lemmas.List.Sorted.{answers_always}
 use Rattle.epoch_tags.specs.declared.tuple.Pair.{Pair}
-use Rattle.pair_collector.proofs.Sorting.{in_order, not_less}
+use Rattle.pair_collector.proofs.Neighbours.{in_order, not_less}
 use Rattle.pair_collector.proofs.order.sort_pairs.Goals as goal
 
 pub returns-clause-order : goal.returns-clause-order

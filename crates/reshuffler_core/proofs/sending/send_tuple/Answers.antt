@@ -3,7 +3,7 @@ use Rattle.epoch_tags.specs.declared.message.ToJoiner.TheVariants.{Tup}
 use Rattle.migration_plan.specs.Steps.{holds}
 use Rattle.reshuffler_core.specs.Law.{stamped}
 use Rattle.reshuffler_core.specs.Standing.{post_to, posts_of_tuple}
-use Rattle.reshuffler_core.proofs.Posting.{tuple-more}
+use Rattle.reshuffler_core.proofs.FeederPosts.{tuple-more}
 use Rattle.reshuffler_core.proofs.sending.send_tuple.Goals as goal
 
 pub loop-id-preserved : goal.loop-id-preserved

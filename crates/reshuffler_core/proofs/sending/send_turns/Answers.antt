@@ -1,7 +1,7 @@
 use Rattle.std.proofs.Common.{◌++◌, ◌∷◌, [], sym, ap, ◌∙◌, append_assoc}
 use Rattle.epoch_tags.specs.declared.message.ToJoiner.TheVariants.{Turn}
 use Rattle.reshuffler_core.specs.Standing.{post_to, posts_to_all}
-use Rattle.reshuffler_core.proofs.Posting.{all-more}
+use Rattle.reshuffler_core.proofs.FeederPosts.{all-more}
 use Rattle.reshuffler_core.proofs.sending.send_turns.Goals as goal
 
 pub loop-id-preserved : goal.loop-id-preserved

@@ -3,7 +3,7 @@ use Rattle.std.proofs.lemmas.Int.{to_z-of_z}
 use mir.Val.{SFits}
 use mir.Syntax.{w128}
 use Rattle.store_parts.specs.Keyed.{at_places}
-use Rattle.store_parts.proofs.Seeking.{band_given, keyed_from_band, below_from_band, no_candidates}
+use Rattle.store_parts.proofs.KeyProbes.{band_given, keyed_from_band, below_from_band, no_candidates}
 use Rattle.store_parts.proofs.probe.candidates.Goals as goal
 
 pub returns-in_default-clause-keyed : goal.returns-in_default-clause-keyed

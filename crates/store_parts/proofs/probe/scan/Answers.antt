@@ -1,6 +1,6 @@
 use Rattle.std.proofs.Common.{◌∙◌}
 use Rattle.std.proofs.lemmas.Result.{err_from_is_err_and}
-use Rattle.store_parts.proofs.Scanning.{front_of_matches}
+use Rattle.store_parts.proofs.OneMoreTuple.{front_of_matches}
 use Rattle.store_parts.proofs.probe.scan.Goals as goal
 
 pub returns-in_err-try_one-clause-err : goal.returns-in_err-try_one-clause-err

@@ -3,7 +3,7 @@ use Rattle.std.specs.Result.{OnOk, OnErr}
 use Rattle.epoch_tags.specs.declared.tuple.Pair.{Pair}
 use Rattle.store_parts.specs.Keyed.{at_places}
 use Rattle.store_parts.specs.Matches.{matches, is_named, AppendsFront}
-use Rattle.store_parts.proofs.Seeking.{matches_by_key, count_by_key}
+use Rattle.store_parts.proofs.KeyProbes.{matches_by_key, count_by_key}
 use Rattle.store_parts.proofs.probe.seek.Goals as goal
 
 pub returns-clause-ok : goal.returns-clause-ok

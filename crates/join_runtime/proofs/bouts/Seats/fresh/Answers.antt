@@ -1,7 +1,7 @@
 use Rattle.std.proofs.Common.{◌≡◌, ◌-◌, ◌<◌, length, arith}
 use Rattle.std.proofs.lemmas.Result.{IfOk-weaker}
 use Rattle.join_runtime.specs.Bouts.{SeatsView}
-use Rattle.join_runtime.proofs.Giving.{all_given, gives_since, joined_still, kin_by, lists_kept, on_ok_by, settled_kept, stands_kept}
+use Rattle.join_runtime.proofs.GivenPairs.{all_given, gives_since, joined_still, kin_by, lists_kept, on_ok_by, settled_kept, stands_kept}
 use Rattle.join_runtime.proofs.bouts.Seats.fresh.Goals as goal
 
 pub invariant_of-self : goal.invariant_of-self

@@ -1,5 +1,5 @@
 use Rattle.std.proofs.Common.{◌∙◌, Ok, ap}
-use Rattle.join_runtime.proofs.Making.{runs_frame, works_rested, works_spent}
+use Rattle.join_runtime.proofs.SeatTurns.{runs_frame, works_rested, works_spent}
 use Rattle.join_runtime.proofs.seat.Seat.turns.Goals as goal
 
 pub returns-in-Ok-Idle : goal.returns-in-Ok-Idle

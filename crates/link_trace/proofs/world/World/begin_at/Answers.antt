@@ -1,6 +1,6 @@
 use Rattle.epoch_tags.specs.declared.actor.Actor.TheVariants.{Feeder}
 use Rattle.link_trace.specs.Worlds.{cores_of, waiting_of}
-use Rattle.link_trace.proofs.Delivering.{begun, when_begun}
+use Rattle.link_trace.proofs.WorldEvents.{begun, when_begun}
 use Rattle.link_trace.proofs.world.World.begin_at.Goals as goal
 
 pub returns-clause-took : goal.returns-clause-took

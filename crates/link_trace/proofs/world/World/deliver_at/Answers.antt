@@ -1,5 +1,5 @@
 use Rattle.link_trace.specs.Worlds.{cores_of, waiting_of}
-use Rattle.link_trace.proofs.Delivering.{delivered}
+use Rattle.link_trace.proofs.WorldEvents.{delivered}
 use Rattle.link_trace.proofs.world.World.deliver_at.Goals as goal
 
 pub returns-clause-took : goal.returns-clause-took

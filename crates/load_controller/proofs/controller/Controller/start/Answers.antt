@@ -1,7 +1,7 @@
 use Rattle.std.proofs.Common.{subst, IfOk}
 use Rattle.load_controller.specs.declared.line.TurnLine.{TurnLine}
 use Rattle.load_controller.specs.Standing.{IsFresh, rules_with}
-use Rattle.load_controller.proofs.Beginning.{start_fits, start_line_is}
+use Rattle.load_controller.proofs.Fresh.{start_fits, start_line_is}
 use Rattle.load_controller.proofs.controller.Controller.start.Goals as goal
 
 pub start_at-requires-clause-fits : goal.start_at-requires-clause-fits

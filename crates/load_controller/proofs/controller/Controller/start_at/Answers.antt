@@ -1,5 +1,5 @@
 use Rattle.load_controller.specs.Standing.{rules_with}
-use Rattle.load_controller.proofs.Beginning.{fresh}
+use Rattle.load_controller.proofs.Fresh.{fresh}
 use Rattle.load_controller.proofs.controller.Controller.start_at.Goals as goal
 
 pub returns : goal.returns

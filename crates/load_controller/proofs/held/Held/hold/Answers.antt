@@ -1,5 +1,5 @@
 use Rattle.std.proofs.Common.{ap, ◌∙◌, ◌++◌, ◌∷◌, [], set}
-use Rattle.load_controller.proofs.Queueing.{put_queue, at_queue}
+use Rattle.load_controller.proofs.Queues.{put_queue, at_queue}
 use Rattle.load_controller.proofs.held.Held.hold.Goals as goal
 
 pub returns-clause-ok : goal.returns-clause-ok

@@ -1,5 +1,5 @@
 use Rattle.load_controller.proofs.Numbers.{epoch_fits}
-use Rattle.load_controller.proofs.Keeping.{count_fits, noted_sound}
+use Rattle.load_controller.proofs.KeptCounts.{count_fits, noted_sound}
 use Rattle.load_controller.proofs.ledger.Ledger.count.Goals as goal
 
 pub keeps_open-opens-requires : goal.keeps_open-opens-requires

@@ -1,4 +1,4 @@
-use Rattle.load_controller.proofs.Receiving.{advances_none, advances_then}
+use Rattle.load_controller.proofs.CallParts.{advances_none, advances_then}
 use Rattle.load_controller.proofs.ledger.Ledger.count_held.Goals as goal
 
 pub trial-init : goal.trial-init

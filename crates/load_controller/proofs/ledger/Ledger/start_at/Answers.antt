@@ -1,5 +1,5 @@
 use Rattle.std.proofs.Common.{refl, ap, ◌∙◌, ◌++◌, ◌∷◌, []}
-use Rattle.load_controller.proofs.Beginning.{begins}
+use Rattle.load_controller.proofs.Fresh.{begins}
 use Rattle.load_controller.proofs.ledger.Ledger.start_at.Goals as goal
 
 pub returns : goal.returns

@@ -3,7 +3,7 @@ use Rattle.std.specs.Prelude.{is_some}
 use Rattle.std.specs.List.{list_all}
 use Rattle.pair_collector.specs.Kept.{Kept}
 use Rattle.pair_collector.specs.Standing.{CollectorState, is_complete}
-use Rattle.pair_collector.proofs.Taking.{complete_says}
+use Rattle.pair_collector.proofs.KeptMessages.{complete_says}
 use Rattle.pair_collector.proofs.collector.Collector.complete.Goals as goal
 
 pub returns-clause-stands : goal.returns-clause-stands

@@ -3,7 +3,7 @@ use Rattle.std.specs.Prelude.{map, flat_map}
 use Rattle.std.specs.List.{range_with_len}
 use Rattle.pair_collector.specs.Kept.{Kept}
 use Rattle.pair_collector.specs.Standing.{CollectorState, held_of, longest, moved_by}
-use Rattle.pair_collector.proofs.Ending.{collects}
+use Rattle.pair_collector.proofs.AnswerOfLists.{collects}
 use Rattle.pair_collector.proofs.collector.Collector.finish.Goals as goal
 
 pub returns : goal.returns

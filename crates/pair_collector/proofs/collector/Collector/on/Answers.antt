@@ -1,6 +1,6 @@
 use Rattle.std.proofs.Common.{arith}
 use Rattle.std.proofs.lemmas.Result.{on_ok_weaker}
-use Rattle.pair_collector.proofs.Taking.{joiner_takes, stranger_takes, passes_over}
+use Rattle.pair_collector.proofs.KeptMessages.{joiner_takes, stranger_takes, passes_over}
 use Rattle.pair_collector.proofs.collector.Collector.on.Goals as goal
 
 pub returns-then-joiner-len-clause-takes : goal.returns-then-joiner-len-clause-takes

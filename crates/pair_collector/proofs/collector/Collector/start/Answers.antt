@@ -1,5 +1,5 @@
 use Rattle.std.proofs.Common.{false, arith}
-use Rattle.pair_collector.proofs.Taking.{fresh_stands}
+use Rattle.pair_collector.proofs.KeptMessages.{fresh_stands}
 use Rattle.pair_collector.proofs.collector.Collector.start.Goals as goal
 
 pub returns-clause-fresh : goal.returns-clause-fresh

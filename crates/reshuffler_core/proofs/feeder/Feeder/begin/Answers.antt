@@ -2,7 +2,7 @@ use Rattle.std.proofs.Common.{◌≡◌, ◌++◌, ◌∷◌, [], true, false, s
 use Rattle.std.proofs.lemmas.Bool.{false≢true}
 use Rattle.reshuffler_core.specs.Standing.{FeederState, Begins, next_request, state_begun, to_controller}
 use Rattle.reshuffler_core.specs.Machine.{Advances}
-use Rattle.reshuffler_core.proofs.Beginning.{begins, is_free}
+use Rattle.reshuffler_core.proofs.Requests.{begins, is_free}
 use Rattle.reshuffler_core.proofs.feeder.Feeder.begin.Goals as goal
 
 pub returns-clause-begins : goal.returns-clause-begins

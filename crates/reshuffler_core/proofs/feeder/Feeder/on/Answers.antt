@@ -1,7 +1,7 @@
 use Rattle.std.proofs.Common.{◌≡◌, ◌++◌, ◌∷◌, [], true, false, sym, ap, ◌∙◌, subst}
 use Rattle.reshuffler_core.specs.Standing.{FeederState, TakesMessage}
 use Rattle.reshuffler_core.specs.Machine.{Advances}
-use Rattle.reshuffler_core.proofs.Assembling.{takes_message}
+use Rattle.reshuffler_core.proofs.WholeCalls.{takes_message}
 use Rattle.reshuffler_core.proofs.feeder.Feeder.on.Goals as goal
 
 pub returns-clause-takes : goal.returns-clause-takes

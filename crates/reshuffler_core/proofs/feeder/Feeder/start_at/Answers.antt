@@ -1,5 +1,5 @@
 use Rattle.std.proofs.Common.{refl}
-use Rattle.reshuffler_core.proofs.Assembling.{fresh}
+use Rattle.reshuffler_core.proofs.WholeCalls.{fresh}
 use Rattle.reshuffler_core.proofs.feeder.Feeder.start_at.Goals as goal
 
 pub returns-clause-fresh : goal.returns-clause-fresh

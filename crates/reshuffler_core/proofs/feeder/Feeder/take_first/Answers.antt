@@ -3,7 +3,7 @@ use Rattle.epoch_tags.specs.declared.message.Post.{Post}
 use Rattle.std.specs.Prelude.{List}
 use Rattle.reshuffler_core.specs.Standing.{FeederState, state_after, posts_for}
 use Rattle.reshuffler_core.specs.Machine.{Takes, Advances}
-use Rattle.reshuffler_core.proofs.Assembling.{one_taken, still_takes, same_held}
+use Rattle.reshuffler_core.proofs.WholeCalls.{one_taken, still_takes, same_held}
 use Rattle.reshuffler_core.proofs.feeder.Feeder.take_first.Goals as goal
 
 pub take-requires : goal.take-requires

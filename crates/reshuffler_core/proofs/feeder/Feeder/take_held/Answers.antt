@@ -1,5 +1,5 @@
 use Rattle.std.proofs.Common.{refl, ◌∙◌}
-use Rattle.reshuffler_core.proofs.Assembling.{stays, further}
+use Rattle.reshuffler_core.proofs.WholeCalls.{stays, further}
 use Rattle.reshuffler_core.proofs.feeder.Feeder.take_held.Goals as goal
 
 pub held-init : goal.held-init

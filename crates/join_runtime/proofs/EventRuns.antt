@@ -10,7 +10,7 @@ use Rattle.link_trace.proofs.Balances.{same_is}
 use Rattle.join_runtime.specs.Views.{SeatView, Frame, lists_of, frame_of}
 use Rattle.join_runtime.specs.Turns.{IsHeard, Runs}
 use Rattle.join_runtime.specs.Joins.{HearsSenders}
-use Rattle.join_runtime.proofs.Knowing.{is_sender-named}
+use Rattle.join_runtime.proofs.KnownCounts.{is_sender-named}
 
 -- ---- what the machine stands for
 

@@ -15,9 +15,9 @@ use Rattle.join_runtime.specs.Views.{SeatView, lists_of, frame_of}
 use Rattle.join_runtime.specs.Turns.{Advances, IsAlike, Works, AllWork}
 use Rattle.join_runtime.specs.Joins.{AreSettled, AreGathered}
 use Rattle.join_runtime.specs.Bouts.{SeatsView, StandsFor, Extends, AllAdvance, NoneSpent, seat_of, lists_at, lists_in}
-use Rattle.join_runtime.proofs.Making.{runs_alike}
-use Rattle.join_runtime.proofs.Placing.{frames_same}
-use Rattle.join_runtime.proofs.Running.{runs_stand, runs_live, runs_hear, runs_received, runs_sent, prefix_self}
+use Rattle.join_runtime.proofs.SeatTurns.{runs_alike}
+use Rattle.join_runtime.proofs.FramePlaces.{frames_same}
+use Rattle.join_runtime.proofs.EventRuns.{runs_stand, runs_live, runs_hear, runs_received, runs_sent, prefix_self}
 
 slice_get_none : {X : Type 0} (xs : List X) (n : ℕ) → slice_get xs n ≡ None → length xs ≤ n
 slice_get_none [] n is = omega arith

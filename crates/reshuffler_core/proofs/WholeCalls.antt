@@ -13,9 +13,9 @@ use Rattle.epoch_tags.specs.Posts.{GoesOver, AllGoOver, posted_to_joiner, posted
 use Rattle.reshuffler_core.specs.Law.{FeederLists, FeederStart, CanTake, requests}
 use Rattle.reshuffler_core.specs.Standing.{FeederState, StandsFor, TakesMessage, nothing_yet, with_sent, with_message, after_held, posts_of_held, state_after, posts_for, first_batch}
 use Rattle.reshuffler_core.specs.Machine.{Takes, IsStuck, IsReady, Goes, Advances, GoesOverLinks}
-use Rattle.reshuffler_core.proofs.Posting.{all-over, batch-over}
-use Rattle.reshuffler_core.proofs.Taking.{took, nothing_asked}
-use Rattle.reshuffler_core.proofs.Trying.{one_state, one_posts, whole_state, whole_posts}
+use Rattle.reshuffler_core.proofs.FeederPosts.{all-over, batch-over}
+use Rattle.reshuffler_core.proofs.TakenMessages.{took, nothing_asked}
+use Rattle.reshuffler_core.proofs.CallResults.{one_state, one_posts, whole_state, whole_posts}
 
 -- ---- lists that are the same, one by one
 

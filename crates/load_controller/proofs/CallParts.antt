@@ -21,9 +21,9 @@ use Rattle.load_controller.specs.Law.{ControllerLists, CountsMessages, IsInPlace
 use Rattle.load_controller.specs.Standing.{ControllerState, TakesMessage, PassesOver, IsPassedOver, with_message, with_sent, held_at, posts_for, posts_by, with_all_held}
 use Rattle.epoch_tags.specs.Messages.{settled_epochs}
 use Rattle.load_controller.specs.Machine.{HoldsSettled, IsSound, IsReady, IsStuck, StandsWithin, Advances, Took, HasPlace, CauseFits, CountsCause, rules_of, state_of, posts_of}
-use Rattle.load_controller.proofs.Keeping.{line_is, rules_kept}
-use Rattle.load_controller.proofs.Posting.{line_over}
-use Rattle.load_controller.proofs.Trying.{placed_counts, line_state, same_left, stays_stuck, passed_stays}
+use Rattle.load_controller.proofs.KeptCounts.{line_is, rules_kept}
+use Rattle.load_controller.proofs.LinePosts.{line_over}
+use Rattle.load_controller.proofs.CallResults.{placed_counts, line_state, same_left, stays_stuck, passed_stays}
 use Rattle.load_controller.proofs.Standings.{same_line, feeder_counted, held_counted, joiner_held, message_passed, as_own, within_of, stuck_of, stands_of}
 
 -- ---- posts, one after another

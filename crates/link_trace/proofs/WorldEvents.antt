@@ -18,7 +18,7 @@ use Rattle.link_trace.specs.Worlds.{MakesEvent, Delivers, OccursAt, TakesOff, Ke
 use Rattle.link_trace.specs.declared.machines.Core.{Core}
 use Rattle.link_trace.proofs.Balances.{same_is, delivery_balances, beginning_balances}
 use Rattle.link_trace.proofs.OwnNumbers.{same_number, none_some, some_is, is_actor}
-use Rattle.link_trace.proofs.Waiting.{left-with, left_between}
+use Rattle.link_trace.proofs.WaitingMessages.{left-with, left_between}
 
 -- ---- machines
 

@@ -8,7 +8,7 @@ use Rattle.load_controller.specs.Journal.{Follows}
 use Rattle.load_controller.specs.Law.{ControllerLaw, CountsMessages, CountsSettled, sent_by}
 use Rattle.trace_law.specs.Family.{rules_of, first_line}
 use Rattle.trace_law.specs.Rows.{journal}
-use Rattle.trace_law.proofs.Migrating.{setting, orders, requests, family}
+use Rattle.trace_law.proofs.TwoMigrations.{setting, orders, requests, family}
 
 follows : Follows (rules_of setting) (first_line setting) (reverse journal)
 follows =

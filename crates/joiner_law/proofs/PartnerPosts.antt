@@ -17,7 +17,7 @@ use Rattle.joiner_law.specs.Law.{JoinerStart, JoinerLists}
 use Rattle.joiner_law.specs.History.{Step, stored, with_arrived, with_came, new_step}
 use Rattle.joiner_law.specs.Standing.{IsSent, AreSent, IsLink, SentUpTo, reached, with_sent}
 use Rattle.joiner_law.specs.Posting.{moved_post, moved_end_post}
-use Rattle.joiner_law.proofs.Growing.{moved_of-append}
+use Rattle.joiner_law.proofs.LongerLists.{moved_of-append}
 use Rattle.joiner_law.proofs.Heart.{stored-arrived}
 
 append-nil : {A : Type 0} (xs : List A) → xs ++ [] ≡ xs

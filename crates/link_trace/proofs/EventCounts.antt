@@ -25,7 +25,7 @@ use Rattle.link_trace.specs.Standing.{GoOut}
 use Rattle.link_trace.specs.Families.{start_for, IsActor, after_event}
 use Rattle.link_trace.proofs.Balances.{same_is}
 use Rattle.link_trace.proofs.OwnNumbers.{same_self}
-use Rattle.link_trace.proofs.Reading.{got, appended, controller_posts}
+use Rattle.link_trace.proofs.TypedLists.{got, appended, controller_posts}
 
 -- ---- what the events of these lists are
 

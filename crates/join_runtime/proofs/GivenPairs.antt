@@ -20,11 +20,11 @@ use Rattle.join_runtime.specs.Views.{SeatView, frame_of, lists_of}
 use Rattle.join_runtime.specs.Joins.{AreGathered, AreJoined, AreSettled, HearsSenders, IsGathered, slot_of}
 use Rattle.join_runtime.specs.Bouts.{AllAdvance, SeatsView, StandsFor, lists_in, seat_of}
 use Rattle.join_runtime.specs.Early.{AreGiven, Gives, collected_in, given_at, given_in}
-use Rattle.join_runtime.proofs.Agreeing.{stands_in}
-use Rattle.join_runtime.proofs.Bouting.{of_lists, still_stand}
+use Rattle.join_runtime.proofs.FamilyOfSeats.{stands_in}
+use Rattle.join_runtime.proofs.SeatBouts.{of_lists, still_stand}
 use Rattle.join_runtime.proofs.Ended.{last_seat}
-use Rattle.join_runtime.proofs.Placing.{frames_same}
-use Rattle.join_runtime.proofs.Running.{runs_given}
+use Rattle.join_runtime.proofs.FramePlaces.{frames_same}
+use Rattle.join_runtime.proofs.EventRuns.{runs_given}
 
 -- ---- a bout gives nothing
 

@@ -13,7 +13,7 @@ use Rattle.pair_collector.specs.Law.{CollectorLists, pairs_taken}
 use Rattle.pair_collector.specs.Order.{InOrder}
 use Rattle.pair_collector.specs.Standing.{CollectorState, StandsFor, kept_of, nothing_kept, pairs_kept, held_of, moves_of, longest, moved_by}
 use Rattle.pair_collector.specs.Answer.{Collects, moves, moved_in}
-use Rattle.pair_collector.proofs.Taking.{as_map, pairs_are}
+use Rattle.pair_collector.proofs.KeptMessages.{as_map, pairs_are}
 
 map_of_map : {X Y Z : Type 0} (g : Y → Z) (f : X → Y) (xs : List X) → map g (map f xs) ≡ map (λ x. g (f x)) xs
 map_of_map g f [] = refl

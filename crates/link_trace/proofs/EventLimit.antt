@@ -14,7 +14,7 @@ use Rattle.link_trace.specs.Families.{family_of, journal_of}
 use Rattle.link_trace.specs.Order.{EventsFit, most_events}
 use Rattle.link_trace.specs.Worlds.{WorldState}
 use Rattle.link_trace.proofs.Bounds.{IsCounted, few_events, valid_both}
-use Rattle.link_trace.proofs.Finishing.{agree}
+use Rattle.link_trace.proofs.WorldAnswer.{agree}
 use Rattle.link_trace.proofs.OwnNumbers.{some_is}
 
 under : (n m most : ℕ) → n ≤ m → m < most → n < most

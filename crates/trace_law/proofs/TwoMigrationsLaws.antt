@@ -21,8 +21,8 @@ use Rattle.trace_law.specs.Family.{IsAgreeing, IsQuiet, IsFinished as IsFinished
 use Rattle.trace_law.specs.Laws.{FinishedAfterTwoMigrations}
 use Rattle.trace_law.specs.Rows.{input}
 use Rattle.grid_map.proofs.Halves.{back_again}
-use Rattle.trace_law.proofs.Migrating.{setting, orders, fed, other, part, passed, found_first, found_then, taken, family}
-use Rattle.trace_law.proofs.MigratingController.{controller_law}
+use Rattle.trace_law.proofs.TwoMigrations.{setting, orders, fed, other, part, passed, found_first, found_then, taken, family}
+use Rattle.trace_law.proofs.TwoMigrationsController.{controller_law}
 
 abbrev start : ℕ → JoinerStart
 start j = joiner_start input setting j

@@ -17,8 +17,8 @@ use Rattle.migration_plan.specs.Steps.{AreNeighbours, is_of, exchanged_side, par
 use Rattle.joiner_law.specs.Law.{JoinerStart, JoinerLists, Taken, partner_of, exchanged, shift_after, store, sent_in_step}
 use Rattle.joiner_law.specs.History.{Step, stored}
 use Rattle.joiner_law.specs.Standing.{grown, one_if, IsHistory, GoesByOne, IsSent, AreSent, moved_counts}
-use Rattle.joiner_law.proofs.Growing.{gather-grown}
-use Rattle.joiner_law.proofs.Following.{store-is}
+use Rattle.joiner_law.proofs.LongerLists.{gather-grown}
+use Rattle.joiner_law.proofs.StepStores.{store-is}
 
 -- ---- bags and their sizes
 

@@ -22,7 +22,7 @@ use Rattle.store_parts.specs.Places.{lies, places_between, IsMapOf}
 use Rattle.store_parts.specs.Keyed.{at_places, is_key_true, is_key_true_at, value_at, values_at, least_at, greatest_at}
 use Rattle.store_parts.specs.Matches.{other_side, evaluated, is_named, is_found, does_match, does_match_at, pair_of, matches, AppendsFront}
 use Rattle.store_parts.proofs.Keys.{band_is_key, no_key, at_places_between}
-use Rattle.store_parts.proofs.Scanning.{matches-append, take_one, count_by-append}
+use Rattle.store_parts.proofs.OneMoreTuple.{matches-append, take_one, count_by-append}
 
 -- ---- sums over filters
 

@@ -15,9 +15,9 @@ use Rattle.epoch_tags.proofs.Appends.{asks-append, draineds-append}
 use Rattle.reshuffler_core.specs.Law.{FeederLists, FeederStart, ask_for}
 use Rattle.reshuffler_core.specs.Standing.{FeederState, StandsFor, Begins, IsWaiting, next_request, with_sent, after_held, posts_of_held, state_begun, to_controller}
 use Rattle.reshuffler_core.specs.Machine.{IsStuck, Goes, Advances}
-use Rattle.reshuffler_core.proofs.Posting.{request-over}
-use Rattle.reshuffler_core.proofs.Trying.{whole_state, whole_posts}
-use Rattle.reshuffler_core.proofs.Assembling.{is_standing, as_own, sent_on, joined-controller}
+use Rattle.reshuffler_core.proofs.FeederPosts.{request-over}
+use Rattle.reshuffler_core.proofs.CallResults.{whole_state, whole_posts}
+use Rattle.reshuffler_core.proofs.WholeCalls.{is_standing, as_own, sent_on, joined-controller}
 
 -- what is left to ask
 left : (batches : List (List Tuple)) (sent rest : List ToController) → sent ++ rest ≡ map ask_for batches ++ Drained ∷ [] → draineds sent ≡ 0

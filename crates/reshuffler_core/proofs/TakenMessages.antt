@@ -16,7 +16,7 @@ use Rattle.epoch_tags.proofs.Appends.{order_epochs-append, grants-append, stops-
 use Rattle.reshuffler_core.specs.Law.{FeederLists, answers, shift_now, copies_for}
 use Rattle.reshuffler_core.specs.Standing.{FeederState, with_sent, state_after, posts_for, posts_of_batch, first_batch}
 use Rattle.reshuffler_core.specs.Machine.{Takes, Goes}
-use Rattle.reshuffler_core.proofs.Posting.{all-joiner, batch-joiner, all-controller, batch-controller}
+use Rattle.reshuffler_core.proofs.FeederPosts.{all-joiner, batch-joiner, all-controller, batch-controller}
 
 -- ---- what it answers, message after message
 
