@@ -19,7 +19,8 @@ use Rattle.joiner_law.specs.History.{Step, probed, with_arrived, with_came, new_
 use Rattle.joiner_law.specs.Standing.{grown, took_of_feeder, took_of_joiner, with_sent, with_flag, with_shift, IsOfFeeder, StandsSettled, StandsOpen, moved_counts}
 use Rattle.joiner_law.proofs.Partners.{counts-arrived}
 use Rattle.joiner_law.proofs.MovedBySteps.{count-bag}
-use Rattle.joiner_law.proofs.Takings.{settled-tup, open-late, open-tup, open-moved, opened-step, open-turn, all-turned, settled-end, open-moved_end, settled-step}
+use Rattle.joiner_law.proofs.TakenTuples.{settled-tup, open-late, open-tup, open-moved}
+use Rattle.joiner_law.proofs.TakenTurns.{opened-step, open-turn, all-turned, settled-end, open-moved_end, settled-step}
 use Rattle.joiner_core.specs.Matching.{does_hold}
 use Rattle.joiner_core.specs.Flags.{flag_at, IsEachUp}
 use Rattle.joiner_core.specs.declared.opened.Opened.{Opened}

@@ -10,7 +10,7 @@ use Rattle.joiner_law.specs.Law.{JoinerStart, JoinerLists, Taken}
 use Rattle.joiner_law.specs.History.{Step}
 use Rattle.joiner_law.specs.Standing.{took_of_feeder, took_of_joiner, with_sent, IsOfFeeder, StandsOpen}
 use Rattle.migration_plan.specs.Steps.{partner_in_step}
-use Rattle.joiner_law.proofs.Takings.{open-end}
+use Rattle.joiner_law.proofs.TakenTurns.{open-end}
 use Rattle.joiner_core.specs.Flags.{flag_at}
 use Rattle.joiner_core.specs.declared.opened.Opened.{Opened}
 use Rattle.joiner_core.specs.declared.epochs.Epochs.{Epochs}

@@ -1,10 +1,9 @@
 -- What a joiner moved, in the law's words: by numbers of steps.
-use Rattle.std.proofs.Common.{◌≡◌, ℕ, zero, suc, ◌+◌, ◌^◌, ◌<◌, ◌≤◌, ◌≢◌, ◌⊎◌, inl, inr, refl, sym, ◌∙◌, ap, subst, arith, Bool, true, false, List, [], ◌∷◌, ◌++◌, length}
-use Rattle.std.specs.Prelude.{map, filter, sum_by, count_by, min}
+use Rattle.std.proofs.Common.{◌≡◌, ℕ, zero, suc, ◌+◌, ◌^◌, ◌<◌, ◌≤◌, ◌≢◌, inl, inr, refl, sym, ◌∙◌, ap, subst, arith, Bool, true, List, [], ◌∷◌, ◌++◌, length}
+use Rattle.std.specs.Prelude.{map, filter, count_by, min}
 use Rattle.std.proofs.lemmas.Bool.{cases_eq}
 use Rattle.std.proofs.lemmas.List.{map-append, length-append}
 use Rattle.std.proofs.lemmas.List.Sums.{length-filter}
-use Rattle.join_rows.specs.declared.table.Side.{Side}
 use Rattle.join_rows.specs.Lists.{SameBag, gather, counting_from}
 use Rattle.join_rows.proofs.Bags.{SameBag-trans, SameBag-sym, SameBag-filter}
 use Rattle.join_rows.proofs.Counting.{counting-more}
@@ -16,7 +15,7 @@ use Rattle.grid_map.proofs.Halves.{partner_below}
 use Rattle.migration_plan.specs.Steps.{AreNeighbours, is_of, exchanged_side, partner_in_step}
 use Rattle.joiner_law.specs.Law.{JoinerStart, JoinerLists, Taken, partner_of, exchanged, shift_after, store, sent_in_step}
 use Rattle.joiner_law.specs.History.{Step, stored}
-use Rattle.joiner_law.specs.Standing.{grown, one_if, IsHistory, GoesByOne, IsSent, AreSent, moved_counts}
+use Rattle.joiner_law.specs.Standing.{grown, one_if, IsHistory, IsSent, AreSent, moved_counts}
 use Rattle.joiner_law.proofs.LongerLists.{gather-grown}
 use Rattle.joiner_law.proofs.StepStores.{store-is}
 
