@@ -1,4 +1,4 @@
-use Rattle.load_controller.proofs.CallParts.{passes_view}
+use Rattle.load_controller.proofs.MessageCalls.{passes_view}
 use Rattle.load_controller.proofs.controller.Controller.on.Goals as goal
 
 pub returns-in-Ok-clause-passes : goal.returns-in-Ok-clause-passes

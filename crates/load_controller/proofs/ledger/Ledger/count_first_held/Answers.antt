@@ -1,5 +1,5 @@
 use Rattle.std.proofs.Common.{ap}
-use Rattle.load_controller.proofs.CallParts.{advances_held}
+use Rattle.load_controller.proofs.MessageCalls.{advances_held}
 use Rattle.load_controller.proofs.ledger.Ledger.count_first_held.Goals as goal
 
 pub returns-clause-took : goal.returns-clause-took

@@ -2,7 +2,7 @@ use Rattle.std.proofs.Common.{subst}
 use Rattle.epoch_tags.specs.declared.actor.Actor.TheVariants.{Controller, Collector}
 use Rattle.load_controller.specs.Standing.{IsPassedOver}
 use Rattle.load_controller.specs.Machine.{rules_of}
-use Rattle.load_controller.proofs.CallParts.{passed_takes}
+use Rattle.load_controller.proofs.MessageCalls.{passed_takes}
 use Rattle.load_controller.proofs.ledger.Ledger.receive.Goals as goal
 
 pub returns-in_ok-receive_of_feeder-in-Feeder-clause-passes : goal.returns-in_ok-receive_of_feeder-in-Feeder-clause-passes

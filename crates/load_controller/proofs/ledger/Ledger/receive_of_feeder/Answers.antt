@@ -2,7 +2,7 @@ use Rattle.std.proofs.Common.{refl, subst}
 use Rattle.std.proofs.lemmas.Bool.{false≢true}
 use Rattle.epoch_tags.specs.declared.actor.Actor.TheVariants.{Feeder}
 use Rattle.load_controller.specs.Machine.{CountsCause}
-use Rattle.load_controller.proofs.CallParts.{passed_takes, no_place, feeder_takes, placed_not_passed}
+use Rattle.load_controller.proofs.MessageCalls.{passed_takes, no_place, feeder_takes, placed_not_passed}
 use Rattle.load_controller.proofs.ledger.Ledger.receive_of_feeder.Goals as goal
 
 pub returns-then-not-has_place-clause-takes : goal.returns-then-not-has_place-clause-takes

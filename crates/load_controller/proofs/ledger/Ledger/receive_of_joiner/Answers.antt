@@ -1,7 +1,7 @@
 use Rattle.std.proofs.Common.{ap, arith}
 use Rattle.epoch_tags.specs.declared.actor.Actor.TheVariants.{Joiner}
 use Rattle.epoch_tags.specs.declared.message.ToController.TheVariants.{Ask, Drained, Settled}
-use Rattle.load_controller.proofs.CallParts.{passed_takes, joiner_takes}
+use Rattle.load_controller.proofs.MessageCalls.{passed_takes, joiner_takes}
 use Rattle.load_controller.proofs.ledger.Ledger.receive_of_joiner.Goals as goal
 
 pub returns-then-joiner-joiners-clause-takes : goal.returns-then-joiner-joiners-clause-takes
