@@ -1,12 +1,12 @@
 -- An agreeing family has few events: one bound for each kind of link, and their sum.
 use Rattle.std.proofs.Common.{◌≡◌, ℕ, zero, suc, ◌+◌, ◌-◌, ◌*◌, ◌^◌, ◌<◌, ◌≤◌, ◌⊎◌, inl, inr, refl, sym, ◌∙◌, ap, subst, arith, List, [], ◌∷◌, ◌++◌, length, length-append, append_assoc}
-use Rattle.std.specs.Prelude.{map, filter, sum_by, reverse, ◌/◌, ◌==◌, ◌&&◌}
+use Rattle.std.specs.Prelude.{map, filter, sum_by, reverse, ◌/◌}
 use Rattle.std.proofs.lemmas.Bool.{cases_eq}
 use Rattle.std.proofs.lemmas.Nat.{pow_pos}
 use Rattle.std.proofs.lemmas.List.{length-map, reverse-append, reverse-reverse}
 use Rattle.std.proofs.lemmas.List.FromFn.{length-map-range_with_len}
 use Rattle.join_rows.specs.declared.table.Side.TheVariants.{R, S}
-use Rattle.join_rows.specs.Lists.{total, greatest, counting_from}
+use Rattle.join_rows.specs.Lists.{total, counting_from}
 use Rattle.join_rows.proofs.Totals.{total_le, total_same, total-add, total-const, length-gather, greatest_above, length_sum, front_length, filter_fewer, total_swap, only_one, total_most}
 use Rattle.join_rows.proofs.Counting.{length-counting_from}
 use Rattle.epoch_tags.specs.declared.message.ToController.{ToController}
@@ -41,6 +41,7 @@ use Rattle.trace_law.proofs.RowSums.{shares_sum}
 use Rattle.trace_law.proofs.Lawful.{lines_of}
 use Rattle.load_controller.proofs.Shifts.{last_is}
 use Rattle.reshuffler_core.proofs.Sizes.{asks_for_batches, answers_are_few, granted_are_few}
+use Rattle.trace_law.proofs.JoinerLemmas.{greatest_most}
 
 -- the sum of all bounds, in numbers: n rows, p feeders, j joiners, l migrations
 sum_of_bounds : (n p j l feeders joiners ends nb received moved : ℕ) → 0 < j → nb ≤ n
@@ -188,10 +189,6 @@ module _ (input : Input) (setting : Setting) (f : Family) (agrees : IsAgreeing i
 
   abbrev took : ℕ → Taken
   took j = agrees.taken_by_joiner j
-
-  greatest_most : (n v : ℕ) (g : ℕ → ℕ) → ((i : ℕ) → i < n → g i ≤ v) → greatest n g ≤ v
-  greatest_most zero v g each = omega arith
-  greatest_most (suc n) v g each = let rest = greatest_most n v g (λ i low. each i (omega arith)) in let here = each n (omega arith) in omega arith
 
   opened_last : (j : ℕ) → j < joiners → opened (start j) (took j) ≤ last
   opened_last j h = greatest_most setting.feeders last (λ p. turns ((took j).from_feeder p)) few

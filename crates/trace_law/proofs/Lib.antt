@@ -25,6 +25,7 @@ pub mod Validity
 pub mod Lines
 pub mod Links
 pub mod FixedShift
+pub mod JoinerLemmas
 pub mod Quiet
 pub mod Shares
 pub mod Bounds

@@ -19,7 +19,7 @@ use Rattle.trace_law.specs.declared.setting.Setting.{Setting}
 use Rattle.trace_law.specs.Family.{Family, IsAgreeing, feeder_start, joiner_start, first_line}
 use Rattle.trace_law.proofs.Arrivals.{front_of, goes_by}
 use Rattle.trace_law.proofs.Journals.{shift_in, feeders_go, begins}
-use Rattle.trace_law.proofs.Quiet.{can_take_of_joiner}
+use Rattle.trace_law.proofs.JoinerLemmas.{can_take_of_joiner}
 use Rattle.join_rows.proofs.Totals.{greatest_above, greatest_same}
 use Rattle.epoch_tags.proofs.Appends.{turns-append, front_falls}
 use Rattle.epoch_tags.proofs.EpochShifts.{front_goes, turns_at}

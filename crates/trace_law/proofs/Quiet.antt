@@ -3,15 +3,12 @@ use Rattle.std.proofs.Common.{◌≡◌, ℕ, zero, suc, ◌+◌, ◌^◌, ◌<�
 use Rattle.std.specs.Prelude.{map}
 use Rattle.std.proofs.lemmas.Bool.{cases_eq, cases_lt, cases_Bool, true≢false, true_from_ne_false}
 use Rattle.std.proofs.lemmas.List.{append-nil}
-use Rattle.join_rows.specs.Lists.{counting_from, greatest}
+use Rattle.join_rows.specs.Lists.{counting_from}
 use Rattle.join_rows.proofs.Counting.{length-counting_from}
 use Rattle.epoch_tags.specs.declared.message.ToController.{ToController}
-use Rattle.epoch_tags.specs.declared.message.ToController.TheVariants.{Settled}
 use Rattle.epoch_tags.specs.declared.message.ToJoiner.{ToJoiner}
-use Rattle.epoch_tags.specs.declared.message.ToJoiner.TheVariants.{Tup, Turn, End, Moved, MovedEnd}
-use Rattle.epoch_tags.specs.declared.message.ToCollector.{ToCollector}
+use Rattle.epoch_tags.specs.declared.message.ToJoiner.TheVariants.{Turn}
 use Rattle.epoch_tags.specs.declared.message.ToCollector.TheVariants.{Found}
-use Rattle.epoch_tags.specs.declared.tuple.Pair.{Pair}
 use Rattle.epoch_tags.specs.Messages.{order_epochs, grants, stops, asks, draineds, turns, ends, moved_ends, settled_epochs, fins}
 use Rattle.epoch_tags.specs.Orders.{CountsUp, NeverFalls, StopsLast, GoesBy, TurnsGoBy}
 use Rattle.grid_map.specs.Grid.{partner}
@@ -28,7 +25,7 @@ use Rattle.load_controller.proofs.Counted.{HaveLines, undrained}
 use Rattle.load_controller.proofs.SettledCounts.{ends_still}
 use Rattle.load_controller.proofs.Sends.{sends_grants, sends_orders, no_stops, stops_last, stop_sent, going, all_sent_goes}
 use Rattle.load_controller.proofs.Over.{over_drained, over_where, no_drain_lines}
-use Rattle.joiner_law.specs.Law.{JoinerStart, Taken, opened, shift_after, partner_of, AllTurned, IsSettled, IsOpenPart, CanTakeOfFeeder, CanTakeOfJoiner, IsFinished as IsFinishedJoiner}
+use Rattle.joiner_law.specs.Law.{JoinerStart, Taken, opened, shift_after, partner_of, AllTurned, IsSettled, CanTakeOfFeeder, CanTakeOfJoiner, IsFinished as IsFinishedJoiner}
 use Rattle.joiner_law.proofs.TakesAll.{counts_ends, counts_at, StandsAt, can_take_of_feeder, can_take_no_turn, IsOfEpoch, at_least, later, sooner, rest_falls, shows}
 use Rattle.trace_law.specs.declared.input.Input.{Input}
 use Rattle.trace_law.specs.declared.setting.Setting.{Setting}
@@ -43,21 +40,7 @@ use Rattle.trace_law.proofs.Lawful.{lines_of}
 use Rattle.epoch_tags.proofs.Appends.{turns-append, moved_ends_both}
 use Rattle.grid_map.proofs.Halves.{partner_below, back_again}
 use Rattle.epoch_tags.proofs.EpochShifts.{turns_at}
-
-pub can_take_of_joiner : (s : JoinerStart) (t : Taken) (done q e : ℕ) (m : ToJoiner) → IsOfEpoch e m → IsOpenPart s t done q e → CanTakeOfJoiner s t done q m
-can_take_of_joiner s t done q e (Tup x) is part = absurd is
-can_take_of_joiner s t done q e (Turn epoch shift) is part = absurd is
-can_take_of_joiner s t done q e End is part = absurd is
-can_take_of_joiner s t done q e (Moved epoch x) is part = subst (λ v. IsOpenPart s t done q v) (sym is) part
-can_take_of_joiner s t done q e (MovedEnd epoch) is part = subst (λ v. IsOpenPart s t done q v) (sym is) part
-
-settled_of : (es : List ℕ) → settled_epochs (map (λ e. Settled e) es) ≡ es
-settled_of [] = refl
-settled_of (e ∷ es) = ap (λ xs. e ∷ xs) (settled_of es)
-
-has_fin : (founds : List (List Pair)) (ms : List ToCollector) → 0 < fins ms → 0 < fins (map (λ ps. Found ps) founds ++ ms)
-has_fin [] ms has = has
-has_fin (ps ∷ founds) ms has = has_fin founds ms has
+use Rattle.trace_law.proofs.JoinerLemmas.{can_take_of_joiner, settled_of, has_fin, greatest_most}
 
 module _ (input : Input) (setting : Setting) (f : Family) (valid : IsValid input setting) (agrees : IsAgreeing input setting f) (quiet : IsQuiet input setting f agrees) where
   abbrev line : TurnLine
@@ -236,10 +219,6 @@ module _ (input : Input) (setting : Setting) (f : Family) (valid : IsValid input
       ap (λ c. partner_in_step c (shift_after (start j) (took j) (n + 1)) j) (goes j h n (omega arith))
       ∙ ap (λ c. partner_in_step (b n) c j) (goes j h (n + 1) (omega arith))
 
-  greatest_most : (n v : ℕ) (g : ℕ → ℕ) → ((i : ℕ) → i < n → g i ≤ v) → greatest n g ≤ v
-  greatest_most zero v g each = omega arith
-  greatest_most (suc n) v g each = let rest = greatest_most n v g (λ i low. each i (omega arith)) in let here = each n (omega arith) in omega arith
-
   opened_last : (j : ℕ) → j < 2 ^ setting.k → opened (start j) (took j) ≤ last
   opened_last j h = greatest_most setting.feeders last (λ p. turns ((took j).from_feeder p)) few
     where
@@ -248,8 +227,7 @@ module _ (input : Input) (setting : Setting) (f : Family) (valid : IsValid input
           let of_p = (agrees.joiners j h).of_feeders p low in
           let all = received_turns j h p low in
           let parts = turns-append ((took j).from_feeder p) of_p.held in
-          let is = ap turns of_p.splits in
-          omega arith
+          let is = ap turns of_p.splits in omega arith
 
   falls : (i j : ℕ) → i < 2 ^ setting.k → j < 2 ^ setting.k → NeverFalls 0 ((f.joiner j).from_joiner i)
   falls i j hi hj = subst (λ ms. NeverFalls 0 ms) (sym (came_all i j hi hj)) ((agrees.joiners i hi).never_falls j)

@@ -1,0 +1,32 @@
+-- What a joiner can take of an open step, and what its counts and its last words say.
+use Rattle.std.proofs.Common.{◌≡◌, ℕ, zero, suc, ◌+◌, ◌<◌, ◌≤◌, refl, sym, ap, subst, arith, List, [], ◌∷◌, ◌++◌}
+use Rattle.std.specs.Prelude.{map}
+use Rattle.join_rows.specs.Lists.{greatest}
+use Rattle.epoch_tags.specs.declared.message.ToController.TheVariants.{Settled}
+use Rattle.epoch_tags.specs.declared.message.ToJoiner.{ToJoiner}
+use Rattle.epoch_tags.specs.declared.message.ToJoiner.TheVariants.{Tup, Turn, End, Moved, MovedEnd}
+use Rattle.epoch_tags.specs.declared.message.ToCollector.{ToCollector}
+use Rattle.epoch_tags.specs.declared.message.ToCollector.TheVariants.{Found}
+use Rattle.epoch_tags.specs.declared.tuple.Pair.{Pair}
+use Rattle.epoch_tags.specs.Messages.{settled_epochs, fins}
+use Rattle.joiner_law.specs.Law.{JoinerStart, Taken, IsOpenPart, CanTakeOfJoiner}
+use Rattle.joiner_law.proofs.TakesAll.{IsOfEpoch}
+
+pub can_take_of_joiner : (s : JoinerStart) (t : Taken) (done q e : ℕ) (m : ToJoiner) → IsOfEpoch e m → IsOpenPart s t done q e → CanTakeOfJoiner s t done q m
+can_take_of_joiner s t done q e (Tup x) is part = absurd is
+can_take_of_joiner s t done q e (Turn epoch shift) is part = absurd is
+can_take_of_joiner s t done q e End is part = absurd is
+can_take_of_joiner s t done q e (Moved epoch x) is part = subst (λ v. IsOpenPart s t done q v) (sym is) part
+can_take_of_joiner s t done q e (MovedEnd epoch) is part = subst (λ v. IsOpenPart s t done q v) (sym is) part
+
+pub settled_of : (es : List ℕ) → settled_epochs (map (λ e. Settled e) es) ≡ es
+settled_of [] = refl
+settled_of (e ∷ es) = ap (λ xs. e ∷ xs) (settled_of es)
+
+pub has_fin : (founds : List (List Pair)) (ms : List ToCollector) → 0 < fins ms → 0 < fins (map (λ ps. Found ps) founds ++ ms)
+has_fin [] ms has = has
+has_fin (ps ∷ founds) ms has = has_fin founds ms has
+
+pub greatest_most : (n v : ℕ) (g : ℕ → ℕ) → ((i : ℕ) → i < n → g i ≤ v) → greatest n g ≤ v
+greatest_most zero v g each = omega arith
+greatest_most (suc n) v g each = let rest = greatest_most n v g (λ i low. each i (omega arith)) in let here = each n (omega arith) in omega arith
