@@ -4,6 +4,7 @@ use Rattle.std.specs.Prelude.{map}
 use Rattle.std.specs.List.{range_with_len}
 use Rattle.std.proofs.lemmas.Bool.{cases_lt}
 use Rattle.std.proofs.lemmas.List.{drop-drop, length-drop, length-take, take_all, drop_all}
+use Rattle.std.proofs.lemmas.List.FromFn.{length-map-range_with_len}
 use Rattle.std.proofs.Math.Nat.{div-eq_of_lt, add-div_right}
 use Rattle.reshuffler_core.specs.Batches.{cut}
 use Rattle.reshuffler_core.specs.Standing.{first_batch}
@@ -42,6 +43,18 @@ pub cut_none : {X : Type 0} (size : ℕ) (xs : List X) → 0 < size → length x
 cut_none size xs some none =
     let count : (length xs + size - 1) / size ≡ 0 = div-eq_of_lt (omega arith) in
     rw count refl
+
+-- how many batches are left of a load
+pub some_left : {X : Type 0} (size sent : ℕ) (xs : List X) → 0 < size → 0 < length xs - sent → (length xs - sent - 1) / size + 1 ≡ length (cut size (drop sent xs))
+some_left size sent xs some more =
+    let left = length xs - sent in
+    let one : (left - 1 + size) / size ≡ (left - 1) / size + 1 = add-div_right (left - 1) some in
+    let at : left - 1 + size ≡ left + size - 1 = omega arith in
+    let count = ap (λ n. (n + size - 1) / size) (length-drop sent xs) in
+    sym one ∙ ap (λ n. n / size) at ∙ sym count ∙ sym (length-map-range_with_len (λ i. take size (drop (i * size) (drop sent xs))) 0 ((length (drop sent xs) + size - 1) / size))
+
+pub none_left : {X : Type 0} (size sent : ℕ) (xs : List X) → 0 < size → length xs - sent ≡ 0 → 0 ≡ length (cut size (drop sent xs))
+none_left size sent xs some none = sym (ap length (cut_none size (drop sent xs) some (length-drop sent xs ∙ none)))
 
 -- the first batch is the front of the load, and the others are those of the rest
 

@@ -2,7 +2,7 @@
 
 mod taking;
 
-ghost use Rattle.std.specs.Prelude.{◌≡◌, ◌+◌, ◌<◌, ◌≤◌, ◌++◌, ◌∷◌, [], ◌↔◌, ◌⊎◌, IsTrue, true, false, OnOk, OnErr, alloc_error};
+ghost use Rattle.std.specs.Prelude.{◌≡◌, ◌+◌, ◌<◌, ◌≤◌, ◌++◌, ◌∷◌, [], ◌↔◌, ◌⊎◌, IsTrue, true, false, OnOk, OnErr, alloc_error, length};
 ghost use Rattle.epoch_tags.specs.Messages.{grants, stops, asks, draineds};
 ghost use Rattle.reshuffler_core.specs.Batches.{cut};
 ghost use Rattle.reshuffler_core.specs.Law.{FeederLists, FeederStart};
@@ -175,5 +175,17 @@ impl Feeder {
             → (stands : StandsFor start lists self.now) → IsTrue result ↔ (0 < stops stands.taken) }
     {
         self.stopped
+    }
+
+    /// How many batches it hasn't sent yet. It takes no memory.
+    pub fn batches_left(&self) -> u64
+        ensures { result ≡ length self.now.to_come }
+    {
+        let left = self.load.len() - self.sent as u64;
+        if left == 0 {
+            0
+        } else {
+            (left - 1) / self.batch as u64 + 1
+        }
     }
 }
