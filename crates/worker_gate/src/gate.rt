@@ -12,6 +12,9 @@ pub struct Spot {
 /// What an actor passes as a turn begins. A pass promises nothing, and takes no memory.
 pub trait Gate: Sync {
     fn pass(&self, spot: Spot);
+
+    /// Is told after each bout how many of the batches of all feeders were sent. It promises nothing, too.
+    fn fed(&self, _sent: u64, _batches: u64) {}
 }
 
 /// A gate that stands open.

@@ -4,10 +4,12 @@
 mod counting;
 mod gate;
 mod pair;
+mod progress;
 
 pub use counting::CountingGate;
 pub use gate::{Gate, NoGate, Spot};
 pub use pair::PairGate;
+pub use progress::{ProgressGate, Screen};
 
 #[cfg(test)]
 mod tests;

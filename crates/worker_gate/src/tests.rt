@@ -1,5 +1,6 @@
-use crate::{CountingGate, Gate, NoGate, PairGate, Spot};
+use crate::{CountingGate, Gate, NoGate, PairGate, ProgressGate, Screen, Spot};
 use epoch_tags::Actor;
+use std::sync::atomic::{AtomicU64, Ordering};
 use std::test::*;
 use std::thread;
 use std::thread::Threads;
@@ -33,6 +34,81 @@ fn one_thread_does_not_meet_itself(rt: HostRuntime) -> Result<(), Fail> {
     for (turn, actor) in [(0, a), (0, b), (1, a), (1, Actor::Joiner(1)), (1, b)] {
         gate.pass(spot(actor, turn));
         assert!(rt; !gate.met(), "at turn {turn} of {actor:?}");
+    }
+    Ok(())
+}
+
+// A screen that keeps how often something was shown on it, and of what was shown last the two bytes of a percentage.
+#[derive(Drop)]
+struct Slip {
+    times: AtomicU64,
+    last: AtomicU64,
+}
+
+impl Screen for &Slip {
+    fn show(&self, text: &[u8]) {
+        self.times.fetch_add(1, Ordering::SeqCst);
+        if let [
+            b'j',
+            b'm',
+            b':',
+            b' ',
+            tens,
+            ones,
+            b' ',
+            b'%',
+            b' ',
+            b'd',
+            b'o',
+            b'n',
+            b'e',
+            b'\r',
+        ] = text
+        {
+            let number = 256 * (*tens as u64) + *ones as u64;
+            self.last.store(number, Ordering::SeqCst);
+        } else if text == b"             \r".as_slice() {
+            self.last.store(0, Ordering::SeqCst);
+        } else {
+            self.last.store(1, Ordering::SeqCst);
+        }
+    }
+}
+
+#[test]
+fn each_percentage_is_shown_once(rt: HostRuntime) -> Result<(), Fail> {
+    let slip = Slip {
+        times: AtomicU64::new(0),
+        last: AtomicU64::new(1),
+    };
+    let gate = ProgressGate::new(&slip);
+    gate.pass(spot(Actor::Feeder(0), 0));
+    for (sent, batches, times, tens, ones) in [
+        (0, 400, 1, b' ', b'0'),
+        (3, 400, 1, b' ', b'0'),
+        (4, 400, 2, b' ', b'1'),
+        (4, 400, 2, b' ', b'1'),
+        (40, 400, 3, b'1', b'0'),
+        (399, 400, 4, b'9', b'9'),
+        (1 << 63, u64::MAX, 5, b'5', b'0'),
+    ] {
+        gate.fed(sent, batches);
+        let number = 256 * (tens as u64) + ones as u64;
+        assert_eq!(rt;
+            slip.times.load(Ordering::SeqCst),
+            times,
+            "after {sent} of {batches}"
+        );
+        assert_eq!(rt;
+            slip.last.load(Ordering::SeqCst),
+            number,
+            "after {sent} of {batches}"
+        );
+    }
+    for (sent, batches) in [(400, 400), (0, 0), (401, 400)] {
+        gate.fed(sent, batches);
+        assert_eq!(rt; slip.times.load(Ordering::SeqCst), 6);
+        assert_eq!(rt; slip.last.load(Ordering::SeqCst), 0);
     }
     Ok(())
 }
