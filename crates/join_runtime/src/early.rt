@@ -93,6 +93,7 @@ pub fn run_early<R: Threads + Wait + Sync, G: Gate, K: Sink>(
     takes_nothing_wrong();
     answers_in_the_end();
     let mut seats = Seats::start(alloc, input, setting)?;
+    let batches = seats.batches_left();
     let mut bouts = 0u64;
     for _ in rt.forever() {
         if seats.complete() {
@@ -102,6 +103,7 @@ pub fn run_early<R: Threads + Wait + Sync, G: Gate, K: Sink>(
         bouts = bouts.saturating_add(1);
         let fresh = seats.fresh()?;
         put_lines(alloc, fresh.as_slice(), sink)?;
+        gate.fed(batches.saturating_sub(seats.batches_left()), batches);
     }
     Ok(seats.finish(bouts)?)
 }

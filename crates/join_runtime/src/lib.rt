@@ -6,6 +6,7 @@ mod crossing;
 mod early;
 mod ends;
 mod fresh;
+mod left;
 mod mouths;
 mod runs;
 mod seat;

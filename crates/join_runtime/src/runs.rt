@@ -33,6 +33,7 @@ pub fn run<R: Threads + Wait + Sync, G: Gate>(
     limits_suffice();
     events_are_few();
     let mut seats = Seats::start(alloc, input, setting)?;
+    let batches = seats.batches_left();
     let mut bouts = 0u64;
     for _ in rt.forever() {
         if seats.complete() {
@@ -40,6 +41,7 @@ pub fn run<R: Threads + Wait + Sync, G: Gate>(
         }
         bout(rt, &mut seats, setting.workers, gate)?;
         bouts = bouts.saturating_add(1);
+        gate.fed(batches.saturating_sub(seats.batches_left()), batches);
     }
     seats.finish(bouts)
 }

@@ -196,6 +196,14 @@ impl<'a> Seat<'a> {
         }
     }
 
+    // How many batches its feeder hasn't sent, if it is one.
+    pub(crate) fn batches_left(&self) -> u64 {
+        match &self.core {
+            Core::Feeder(feeder) => feeder.batches_left(),
+            _ => 0,
+        }
+    }
+
     // Its machine, and what else it leaves.
     pub(crate) fn into_parts(self) -> (Core<'a>, End)
         ensures core { result.0 ≡ self.entry.core }
