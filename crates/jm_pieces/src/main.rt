@@ -3,6 +3,7 @@
 
 use join_cli::{Ended, command_words, jm_program};
 use join_rows::{DiskShelf, StdSink};
+use worker_gate::NoGate;
 
 fn main(rt: HostRuntime) -> Ended {
     jm_program(
@@ -12,5 +13,6 @@ fn main(rt: HostRuntime) -> Ended {
         &mut DiskShelf::new(rt.alloc(), &rt),
         &mut StdSink::new(rt.stdout()),
         &mut StdSink::new(rt.stderr()),
+        &NoGate,
     )
 }

@@ -17,7 +17,7 @@ use std::rt::Env;
 use std::sync::Wait;
 use std::thread::Threads;
 use std::{env, io};
-use worker_gate::NoGate;
+use worker_gate::Gate;
 
 /// The exit status of a run of the program. Only `jm_program` makes one, so a `main` that answers it ends with no other.
 #[derive(Drop)]
@@ -70,13 +70,14 @@ pub fn command_words<V: Env + AllocGlobal>(process: &V) -> Result<Vec<String>, A
 /// The program `jm`: runs what the words ask for, puts the output on `sink` and the one line of an outcome that isn't
 /// `Done` on `errors`, and answers the exit status; with no words for want of memory, too. What it promises holds if it
 /// returns.
-pub fn jm_program<R: Threads + Wait + Sync, H: Shelf, K: Sink, E: Sink>(
+pub fn jm_program<R: Threads + Wait + Sync, H: Shelf, K: Sink, E: Sink, G: Gate>(
     rt: &R,
     alloc: Global,
     words: Result<Vec<String>, AllocError>,
     shelf: &mut H,
     sink: &mut K,
     errors: &mut E,
+    gate: &G,
 ) -> Ended
     requires shelf { H.faults shelf.old < last_fault }
     requires sink { K.faults sink.old < last_fault }
@@ -99,7 +100,7 @@ pub fn jm_program<R: Threads + Wait + Sync, H: Shelf, K: Sink, E: Sink>(
     ensures statuses { (result ≡ 0) ⊎ ((2 ≤ result) × (result ≤ 8)) }
 {
     let outcome = match words {
-        Ok(words) => jm_main(rt, alloc, &words, shelf, sink, errors, &NoGate),
+        Ok(words) => jm_main(rt, alloc, &words, shelf, sink, errors, gate),
         Err(AllocError) => {
             tell(alloc, &Outcome::Memory, errors);
             Outcome::Memory
