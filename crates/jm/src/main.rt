@@ -8,6 +8,7 @@ use std::io::{IsTerminal, Stderr, Write};
 use worker_gate::{ProgressGate, Screen};
 
 // Standard error, where it is a terminal on which no early pairs stand.
+#[derive(Drop)]
 struct Terminal {
     to: Option<Stderr>,
 }
