@@ -4,7 +4,7 @@ ghost use Rattle.std.specs.Prelude.{◌≡◌, ◌≤◌, ◌+◌, ℕ, List, Op
 ghost use Rattle.std.specs.Result.{is_ok};
 ghost use Rattle.std.specs.Io.KnownBytes.{append_known};
 ghost use Rattle.join_rows.specs.Shelves.{Faulted};
-ghost use Rattle.join_rows.specs.Sinks.{AppendsFront};
+ghost use Rattle.join_rows.specs.Sinks.{AppendsFront, PutsFront};
 
 use crate::shelf::Failed;
 
@@ -19,7 +19,8 @@ pub trait Sink {
     /// How many calls failed.
     ghost faults: { Self → ℕ };
 
-    /// No put fails from here on while the pieces together have so many bytes at most.
+    /// No put fails from here on while the pieces together have so many bytes at most. A put that fails takes no more of
+    /// them than it appends.
     ghost takes: { Self → ℕ → Type 0 };
 
     /// Appends the piece, or a front of it where the call fails.
@@ -29,5 +30,7 @@ pub trait Sink {
         ensures counts { OnOk result (faults self.new ≡ faults self.old) }
         ensures front { OnErr result (AppendsFront (written self.old) (written self.new) piece.now) }
         ensures fails { OnErr result (Faulted (faults self.old) (faults self.new)) }
-        ensures takes { (more : ℕ) → takes self.old (length piece.now + more) → IsOk result × takes self.new more };
+        ensures takes { (more : ℕ) → takes self.old (length piece.now + more) → IsOk result × takes self.new more }
+        ensures left { OnErr result (PutsFront (written self.old) (written self.new)
+            (takes self.old) (takes self.new) piece.now) };
 }
