@@ -2,6 +2,7 @@ mod Journals
 pub mod LoopSums
 mod Numbered
 pub mod Pieces
+pub mod Puts
 mod RowSteps
 mod RowsRead
 mod Worked

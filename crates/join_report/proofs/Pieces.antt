@@ -1,8 +1,8 @@
 -- Pieces put one after the other are the whole.
-use Rattle.std.proofs.Common.{◌≡◌, ◌≤◌, ◌+◌, ◌-◌, min, ℕ, zero, suc, refl, ◌∙◌, ap, arith, List, [], ◌∷◌, ◌++◌, length, take, drop, length-take, length-drop, append_assoc, Option, Some, None}
+use Rattle.std.proofs.Common.{◌≡◌, ◌≤◌, ◌+◌, ◌-◌, min, ℕ, zero, suc, refl, ◌∙◌, ap, subst, arith, List, [], ◌∷◌, ◌++◌, length, take, drop, length-take, length-drop, append_assoc, Option, Some, None}
 use Rattle.std.specs.Io.KnownBytes.{append_known}
 use Rattle.std.proofs.lemmas.List.{append-nil}
-use Rattle.join_rows.specs.Sinks.{AppendsFront}
+use Rattle.join_rows.specs.Sinks.{AppendsFront, PutsFront}
 
 pub known-append : (known : Option (List ℕ)) (xs ys : List ℕ) → append_known (append_known known xs) ys ≡ append_known known (xs ++ ys)
 known-append None xs ys = refl
@@ -42,6 +42,23 @@ piece_cut known before after xs p e front (n, is) = (
       ∙ ap (append_known known) (joined p (min n (e - p)) xs),
 )
 
--- what is left behind a piece, and more behind that
-pub piece_left : (xs : List ℕ) (p e more : ℕ) → p ≤ e → e ≤ length xs → length (take (e - p) (drop p xs)) + (length xs - e + more) ≡ length xs - p + more
-piece_left xs p e more below within = omega (arith, below, within, length-take (e - p) (drop p xs), length-drop p xs)
+-- a piece, and what comes behind it
+pub piece_room : (xs : List ℕ) (p e more : ℕ) → p ≤ e → e ≤ length xs → p + (length (take (e - p) (drop p xs)) + more) ≡ e + more
+piece_room xs p e more below within = omega (arith, below, within, length-take (e - p) (drop p xs), length-drop p xs)
+
+-- a front of a piece is one of the whole, behind the pieces before it
+pub piece_failed : (known before after : Option (List ℕ)) (takes takes' takes'' : ℕ → Type 0) (xs : List ℕ) (p e : ℕ) → p ≤ e → e ≤ length xs
+    → before ≡ append_known known (take p xs) → ((more : ℕ) → takes (p + more) → takes' more)
+    → PutsFront before after takes' takes'' (take (e - p) (drop p xs)) → PutsFront known after takes takes'' xs
+unfolding piece_cut
+piece_failed known before after takes takes' takes'' xs p e below within front behind put =
+    let size : put.front ≤ e - p = omega (arith, put.within, below, within, length-take (e - p) (drop p xs), length-drop p xs) in
+    let whole : min put.front (e - p) ≡ put.front = omega (arith, size) in
+    record {
+      front = p + put.front;
+      within = omega (arith, below, within, size);
+      written = subst (λ n. after ≡ append_known known (take (p + n) xs)) whole (piece_cut known before after xs p e front (put.front, put.written)).1;
+      left = λ more has.
+          let behind_both : p + put.front + more ≡ p + (put.front + more) = omega arith in
+          put.left more (behind (put.front + more) (subst takes behind_both has));
+    }

@@ -3,7 +3,7 @@
 ghost use Rattle.std.specs.Prelude.{◌≡◌, ◌<◌, ◌+◌, ℕ, OnOk, OnErr, IsOk, length};
 ghost use Rattle.std.specs.Io.KnownBytes.{append_known};
 ghost use Rattle.join_rows.specs.Shelves.{last_fault};
-ghost use Rattle.join_rows.specs.Sinks.{AppendsFront};
+ghost use Rattle.join_rows.specs.Sinks.{AppendsFront, PutsFront};
 
 use join_rows::{Failed, Sink};
 
@@ -21,6 +21,8 @@ pub fn put_all<K: Sink>(sink: &mut K, bytes: &[u8]) -> Result<(), Failed>
     ensures fails { OnErr result (K.faults sink.old < K.faults sink.new) }
     ensures takes { (more : ℕ) → K.takes sink.old (length bytes.now + more)
         → IsOk result × K.takes sink.new more }
+    ensures left { OnErr result (PutsFront (K.written sink.old) (K.written sink.new)
+        (K.takes sink.old) (K.takes sink.new) bytes.now) }
 {
     let mut place = 0;
     while place < bytes.len() {

@@ -8,7 +8,7 @@ invariant-loop-place g l =
       within : l.place ≤ length l.bytes;
       written : g.K.Sink.written l.sink ≡ append_known (g.K.Sink.written l.initial.sink) (take l.place l.bytes);
       counts : g.K.Sink.faults l.sink ≡ g.K.Sink.faults l.initial.sink;
-      takes : (more : ℕ) → g.K.Sink.takes l.initial.sink (length l.bytes + more) → g.K.Sink.takes l.sink (length l.bytes - l.place + more);
+      left : (more : ℕ) → g.K.Sink.takes l.initial.sink (l.place + more) → g.K.Sink.takes l.sink more;
     }
 
 abbrev pub decreases-loop-place : goal.decreases-loop-place
