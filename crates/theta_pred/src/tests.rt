@@ -19,34 +19,7 @@ fn header(alloc: Global, words: &[&[u8]]) -> Result<Names, AllocError> {
     Ok(names)
 }
 
-fn cell(alloc: Global, text: &[u8], num: Option<i64>) -> Result<Cell, AllocError> {
-    Ok(Cell {
-        text: Bytes::from_slice(alloc, text)?,
-        num,
-    })
-}
-
-// A row of two cells, each a text and its number.
-fn row(
-    alloc: Global,
-    first: (&[u8], Option<i64>),
-    second: (&[u8], Option<i64>),
-) -> Result<Cells, AllocError> {
-    let mut row = Cells::new(alloc);
-    row.push(cell(alloc, first.0, first.1)?)?;
-    row.push(cell(alloc, second.0, second.1)?)?;
-    Ok(row)
-}
-
-// The name that a refusal tells of, with its side and whether it stands there more than once.
-fn wrong_name(answer: Result<Theta, ResolveFault>) -> Option<(bool, Side, Bytes)> {
-    match answer {
-        Err(ResolveFault::TwoColumns { side, name }) => Some((true, side, name)),
-        Err(ResolveFault::NoColumn { side, name }) => Some((false, side, name)),
-        Err(ResolveFault::Memory) => None,
-        Ok(_theta) => None,
-    }
-}
+// ---- predicates
 
 fn name(alloc: Global, side: Side, word: &[u8]) -> Result<Name, AllocError> {
     Ok(Name {
@@ -65,6 +38,12 @@ fn column(alloc: Global, minus: bool, side: Side, word: &[u8]) -> Result<Signed,
 fn one(alloc: Global, term: Signed) -> Result<Sum, AllocError> {
     let mut sum = Sum::new(alloc);
     sum.push(term)?;
+    Ok(sum)
+}
+
+fn two(alloc: Global, first: Signed, second: Signed) -> Result<Sum, AllocError> {
+    let mut sum = one(alloc, first)?;
+    sum.push(second)?;
     Ok(sum)
 }
 
@@ -87,12 +66,80 @@ fn compared(alloc: Global, op: Op) -> Result<Pred, AllocError> {
     })
 }
 
+// not (r.x = s.y)
+fn negated(alloc: Global) -> Result<Pred, AllocError> {
+    Ok(Pred::Not(Box::new(alloc, compared(alloc, Op::Eq)?)?))
+}
+
 // r.x - s.y
 fn difference(alloc: Global) -> Result<Sum, AllocError> {
-    let mut sum = one(alloc, column(alloc, false, Side::R, b"x")?)?;
-    sum.push(column(alloc, true, Side::S, b"y")?)?;
-    Ok(sum)
+    let x = column(alloc, false, Side::R, b"x")?;
+    two(alloc, x, column(alloc, true, Side::S, b"y")?)
 }
+
+// abs(r.x - s.y) <= 5
+fn band(alloc: Global) -> Result<Pred, AllocError> {
+    Ok(Pred::Abs {
+        sum: difference(alloc)?,
+        op: Op::Le,
+        bound: 5,
+    })
+}
+
+// r.x - s.y >= 1
+fn apart(alloc: Global) -> Result<Pred, AllocError> {
+    Ok(Pred::Num {
+        left: difference(alloc)?,
+        op: Op::Ge,
+        right: constant(alloc, 1)?,
+    })
+}
+
+// text(r.x) < text(s.y)
+fn text_below(alloc: Global) -> Result<Pred, AllocError> {
+    Ok(Pred::Txt {
+        left: TextSide::Col(name(alloc, Side::R, b"x")?),
+        op: Op::Lt,
+        right: TextSide::Col(name(alloc, Side::S, b"y")?),
+    })
+}
+
+// text(r.x) = 'u'
+fn text_is_u(alloc: Global) -> Result<Pred, AllocError> {
+    Ok(Pred::Txt {
+        left: TextSide::Col(name(alloc, Side::R, b"x")?),
+        op: Op::Eq,
+        right: TextSide::Lit(Bytes::from_slice(alloc, b"u")?),
+    })
+}
+
+// text(r.x) = 'u' or r.x = s.y
+fn either(alloc: Global) -> Result<Pred, AllocError> {
+    let mut members = Vec::new(alloc);
+    members.push(text_is_u(alloc)?)?;
+    members.push(compared(alloc, Op::Eq)?)?;
+    Ok(Pred::Or(members))
+}
+
+// abs(SUM) < 3
+fn below_3(sum: Sum) -> Pred {
+    Pred::Abs {
+        sum,
+        op: Op::Lt,
+        bound: 3,
+    }
+}
+
+// r.x = s.y and abs(-r.x) < 3
+fn both(alloc: Global) -> Result<Pred, AllocError> {
+    let mut members = Vec::new(alloc);
+    members.push(compared(alloc, Op::Eq)?)?;
+    let sum = one(alloc, column(alloc, true, Side::R, b"x")?)?;
+    members.push(below_3(sum))?;
+    Ok(Pred::And(members))
+}
+
+// ---- what they answer
 
 // The predicate over the columns id, x and y, id.
 fn over_x_and_y(rt: &impl Abort, alloc: Global, pred: &Pred) -> Result<Theta, Fail> {
@@ -100,6 +147,28 @@ fn over_x_and_y(rt: &impl Abort, alloc: Global, pred: &Pred) -> Result<Theta, Fa
     let names_s = header(alloc, &[b"y", b"id"])?;
     assert!(rt; longest_sum(pred) <= 16);
     Ok(resolve(alloc, pred, &names_r, &names_s)?)
+}
+
+fn cell_of(alloc: Global, text: &str, num: Option<i64>) -> Result<Cell, AllocError> {
+    Ok(Cell {
+        text: Bytes::from_slice(alloc, text.as_bytes())?,
+        num,
+    })
+}
+
+// The cell of a word, its text and its number, as 10:10. One without a number has none.
+fn cell(alloc: Global, word: &str) -> Result<Cell, AllocError> {
+    match word.split_once(':') {
+        Some((text, number)) => cell_of(alloc, text, number.parse::<i64>().ok()),
+        None => cell_of(alloc, word, None),
+    }
+}
+
+fn row(alloc: Global, first: &str, second: &str) -> Result<Cells, AllocError> {
+    let mut row = Cells::new(alloc);
+    row.push(cell(alloc, first)?)?;
+    row.push(cell(alloc, second)?)?;
+    Ok(row)
 }
 
 fn answer(rt: &impl Abort, theta: &Theta, r: &Cells, s: &Cells) -> bool {
@@ -113,183 +182,173 @@ fn both_answer(
     rt: &impl Abort,
     alloc: Global,
     theta: &Theta,
-    x: (&[u8], Option<i64>),
-    y: (&[u8], Option<i64>),
+    x: &str,
+    y: &str,
     wanted: bool,
-) -> Result<(), Fail> {
-    let id: (&[u8], Option<i64>) = (b"1", Some(1));
-    let r = row(alloc, id, x)?;
-    let s = row(alloc, y, id)?;
+) -> Result<(), AllocError> {
+    let r = row(alloc, "1:1", x)?;
+    let s = row(alloc, y, "1:1")?;
     let copy = theta.copy()?;
-    assert_eq!(rt; answer(rt, theta, &r, &s), wanted);
-    assert_eq!(rt; answer(rt, &copy, &r, &s), wanted, "of the copy");
+    assert_eq!(rt; answer(rt, theta, &r, &s), wanted, "{x} and {y}");
+    assert_eq!(rt;
+        answer(rt, &copy, &r, &s),
+        wanted,
+        "of the copy, {x} and {y}"
+    );
     Ok(())
 }
 
-const LOWEST: i64 = -9223372036854775808;
+// Each line is x, y and whether the predicate holds.
+fn answers_each(
+    rt: &impl Abort,
+    alloc: Global,
+    theta: &Theta,
+    lines: &[&str],
+) -> Result<(), AllocError> {
+    for line in lines {
+        let Some((cells, wanted)) = line.split_once(" is ") else {
+            return Err(AllocError);
+        };
+        let Some((x, y)) = cells.split_once(' ') else {
+            return Err(AllocError);
+        };
+        both_answer(rt, alloc, theta, x, y, wanted == "true")?;
+    }
+    Ok(())
+}
 
-const GREATEST: i64 = 9223372036854775807;
+fn answers(rt: &impl Abort, alloc: Global, pred: Pred, lines: &[&str]) -> Result<(), Fail> {
+    let theta = over_x_and_y(rt, alloc, &pred)?;
+    answers_each(rt, alloc, &theta, lines)?;
+    Ok(())
+}
 
 #[test]
-fn bands_and_orders_compare_whole_numbers(rt: HostRuntime) -> Result<(), Fail> {
-    let alloc = rt.alloc();
-    let band = Pred::Abs {
-        sum: difference(alloc)?,
-        op: Op::Le,
-        bound: 5,
-    };
-    let theta = over_x_and_y(&rt, alloc, &band)?;
-    both_answer(
-        &rt,
-        alloc,
-        &theta,
-        (b"10", Some(10)),
-        (b"15", Some(15)),
-        true,
-    )?;
-    both_answer(
-        &rt,
-        alloc,
-        &theta,
-        (b"10", Some(10)),
-        (b"26", Some(26)),
-        false,
-    )?;
-    both_answer(
-        &rt,
-        alloc,
-        &theta,
-        (b"10", Some(10)),
-        (b"4", Some(4)),
-        false,
-    )?;
-    both_answer(
-        &rt,
-        alloc,
-        &theta,
-        (b"20", Some(20)),
-        (b"15", Some(15)),
-        true,
-    )?;
-    let apart = Pred::Num {
-        left: difference(alloc)?,
-        op: Op::Ge,
-        right: constant(alloc, 1)?,
-    };
-    let theta = over_x_and_y(&rt, alloc, &apart)?;
-    both_answer(
-        &rt,
-        alloc,
-        &theta,
-        (b"", Some(GREATEST)),
-        (b"", Some(LOWEST)),
-        true,
-    )?;
-    both_answer(
-        &rt,
-        alloc,
-        &theta,
-        (b"", Some(LOWEST)),
-        (b"", Some(GREATEST)),
-        false,
-    )?;
-    let below = compared(alloc, Op::Lt)?;
-    let theta = over_x_and_y(&rt, alloc, &below)?;
-    both_answer(&rt, alloc, &theta, (b"1", Some(1)), (b"2", Some(2)), true)?;
-    both_answer(&rt, alloc, &theta, (b"2", Some(2)), (b"2", Some(2)), false)?;
-    Ok(())
+fn bands_compare_whole_numbers(rt: HostRuntime) -> Result<(), Fail> {
+    let lines = [
+        "10:10 15:15 is true",
+        "10:10 26:26 is false",
+        "10:10 4:4 is false",
+        "20:20 15:15 is true",
+    ];
+    answers(&rt, rt.alloc(), band(rt.alloc())?, &lines)
+}
+
+#[test]
+fn differences_compare_whole_numbers(rt: HostRuntime) -> Result<(), Fail> {
+    let lines = [
+        ":9223372036854775807 :-9223372036854775808 is true",
+        ":-9223372036854775808 :9223372036854775807 is false",
+    ];
+    answers(&rt, rt.alloc(), apart(rt.alloc())?, &lines)
+}
+
+#[test]
+fn orders_compare_whole_numbers(rt: HostRuntime) -> Result<(), Fail> {
+    let lines = ["1:1 2:2 is true", "2:2 2:2 is false"];
+    answers(&rt, rt.alloc(), compared(rt.alloc(), Op::Lt)?, &lines)
 }
 
 #[test]
 fn empty_cells_make_a_test_false(rt: HostRuntime) -> Result<(), Fail> {
     let alloc = rt.alloc();
-    let equal = over_x_and_y(&rt, alloc, &compared(alloc, Op::Eq)?)?;
-    let unequal = over_x_and_y(&rt, alloc, &compared(alloc, Op::Ne)?)?;
-    let negated = Pred::Not(Box::new(alloc, compared(alloc, Op::Eq)?)?);
-    let negated = over_x_and_y(&rt, alloc, &negated)?;
-    let five: (&[u8], Option<i64>) = (b"5", Some(5));
-    let empty: (&[u8], Option<i64>) = (b"", None);
-    both_answer(&rt, alloc, &equal, empty, five, false)?;
-    both_answer(&rt, alloc, &unequal, empty, five, false)?;
-    both_answer(&rt, alloc, &negated, empty, five, true)?;
-    both_answer(&rt, alloc, &equal, five, five, true)?;
-    both_answer(&rt, alloc, &negated, five, five, false)?;
-    Ok(())
+    let equal = [": 5:5 is false", "5:5 5:5 is true"];
+    answers(&rt, alloc, compared(alloc, Op::Eq)?, &equal)?;
+    let unequal = [": 5:5 is false"];
+    answers(&rt, alloc, compared(alloc, Op::Ne)?, &unequal)?;
+    let not_equal = [": 5:5 is true", "5:5 5:5 is false"];
+    answers(&rt, alloc, negated(alloc)?, &not_equal)
 }
 
 #[test]
 fn texts_compare_byte_by_byte(rt: HostRuntime) -> Result<(), Fail> {
-    let alloc = rt.alloc();
-    let below = Pred::Txt {
-        left: TextSide::Col(name(alloc, Side::R, b"x")?),
-        op: Op::Lt,
-        right: TextSide::Col(name(alloc, Side::S, b"y")?),
+    let lines = [
+        "ab abc is true",
+        "abc ab is false",
+        ": a is true",
+        "b abc is false",
+    ];
+    answers(&rt, rt.alloc(), text_below(rt.alloc())?, &lines)
+}
+
+#[test]
+fn one_of_two_is_enough(rt: HostRuntime) -> Result<(), Fail> {
+    let lines = ["u 7:7 is true", "7:7 7:7 is true", "v 7:7 is false"];
+    answers(&rt, rt.alloc(), either(rt.alloc())?, &lines)
+}
+
+// ---- names
+
+// The predicate over the columns a, x, b, b and y.
+fn over_a_to_b(
+    rt: &impl Abort,
+    alloc: Global,
+    pred: &Pred,
+) -> Result<Result<Theta, ResolveFault>, AllocError> {
+    let names_r = header(alloc, &[b"a", b"x", b"b", b"b"])?;
+    let names_s = header(alloc, &[b"y"])?;
+    assert!(rt; longest_sum(pred) <= 16);
+    Ok(resolve(alloc, pred, &names_r, &names_s))
+}
+
+fn has_numeric(rt: &impl Abort, theta: &Theta) {
+    assert_eq!(rt; theta.numeric(Side::R).as_slice(), [1].as_slice());
+    assert_eq!(rt; theta.numeric(Side::S).as_slice(), [0].as_slice());
+}
+
+#[test]
+fn numeric_columns_are_named_once(rt: HostRuntime) -> Result<(), Fail> {
+    let pred = both(rt.alloc())?;
+    let theta = over_a_to_b(&rt, rt.alloc(), &pred)??;
+    has_numeric(&rt, &theta);
+    Ok(())
+}
+
+// The name that a refusal tells of, with its side and whether it stands there more than once.
+fn wrong_name(answer: Result<Theta, ResolveFault>) -> Option<(bool, Side, Bytes)> {
+    match answer {
+        Err(ResolveFault::TwoColumns { side, name }) => Some((true, side, name)),
+        Err(ResolveFault::NoColumn { side, name }) => Some((false, side, name)),
+        Err(ResolveFault::Memory) => None,
+        Ok(_theta) => None,
+    }
+}
+
+fn tells(
+    rt: &impl Abort,
+    alloc: Global,
+    sum: Sum,
+    wanted: (bool, Side, &[u8]),
+) -> Result<(), AllocError> {
+    let pred = below_3(sum);
+    let Some((twice, side, name)) = wrong_name(over_a_to_b(rt, alloc, &pred)?) else {
+        return Err(AllocError);
     };
-    let theta = over_x_and_y(&rt, alloc, &below)?;
-    both_answer(&rt, alloc, &theta, (b"ab", None), (b"abc", None), true)?;
-    both_answer(&rt, alloc, &theta, (b"abc", None), (b"ab", None), false)?;
-    both_answer(&rt, alloc, &theta, (b"", None), (b"a", None), true)?;
-    both_answer(&rt, alloc, &theta, (b"b", None), (b"abc", None), false)?;
-    let literal = Pred::Txt {
-        left: TextSide::Col(name(alloc, Side::R, b"x")?),
-        op: Op::Eq,
-        right: TextSide::Lit(Bytes::from_slice(alloc, b"u")?),
-    };
-    let mut members = Vec::new(alloc);
-    members.push(literal)?;
-    members.push(compared(alloc, Op::Eq)?)?;
-    let either = over_x_and_y(&rt, alloc, &Pred::Or(members))?;
-    both_answer(&rt, alloc, &either, (b"u", None), (b"7", Some(7)), true)?;
-    both_answer(&rt, alloc, &either, (b"7", Some(7)), (b"7", Some(7)), true)?;
-    both_answer(&rt, alloc, &either, (b"v", None), (b"7", Some(7)), false)?;
+    assert_eq!(rt; twice, wanted.0);
+    assert_eq!(rt; side, wanted.1);
+    assert_eq!(rt; name.as_slice(), wanted.2);
     Ok(())
 }
 
 #[test]
 fn the_first_wrong_name_is_told(rt: HostRuntime) -> Result<(), Fail> {
     let alloc = rt.alloc();
-    let names_r = header(alloc, &[b"a", b"x", b"b", b"b"])?;
-    let names_s = header(alloc, &[b"y"])?;
-    let mut members = Vec::new(alloc);
-    members.push(compared(alloc, Op::Eq)?)?;
-    members.push(Pred::Abs {
-        sum: one(alloc, column(alloc, true, Side::R, b"x")?)?,
-        op: Op::Lt,
-        bound: 3,
-    })?;
-    let fits = Pred::And(members);
-    assert!(rt; longest_sum(&fits) <= 16);
-    let theta = resolve(alloc, &fits, &names_r, &names_s)?;
-    assert_eq!(rt; theta.numeric(Side::R).as_slice(), [1].as_slice());
-    assert_eq!(rt; theta.numeric(Side::S).as_slice(), [0].as_slice());
-    let mut sum = one(alloc, column(alloc, false, Side::R, b"b")?)?;
-    sum.push(column(alloc, false, Side::S, b"z")?)?;
-    let doubled = Pred::Abs {
-        sum,
-        op: Op::Lt,
-        bound: 3,
-    };
-    assert!(rt; longest_sum(&doubled) <= 16);
-    let Some((twice, side, name)) = wrong_name(resolve(alloc, &doubled, &names_r, &names_s)) else {
-        return Err(Fail::from(AllocError));
-    };
-    assert!(rt; twice);
-    assert_eq!(rt; side, Side::R);
-    assert_eq!(rt; name.as_slice(), b"b".as_slice());
-    let mut sum = one(alloc, column(alloc, false, Side::S, b"z")?)?;
-    sum.push(column(alloc, false, Side::R, b"b")?)?;
-    let absent = Pred::Abs {
-        sum,
-        op: Op::Lt,
-        bound: 3,
-    };
-    assert!(rt; longest_sum(&absent) <= 16);
-    let Some((twice, side, name)) = wrong_name(resolve(alloc, &absent, &names_r, &names_s)) else {
-        return Err(Fail::from(AllocError));
-    };
-    assert!(rt; !twice);
-    assert_eq!(rt; side, Side::S);
-    assert_eq!(rt; name.as_slice(), b"z".as_slice());
+    let doubled = column(alloc, false, Side::R, b"b")?;
+    let absent = column(alloc, false, Side::S, b"z")?;
+    tells(
+        &rt,
+        alloc,
+        two(alloc, doubled, absent)?,
+        (true, Side::R, b"b"),
+    )?;
+    let absent = column(alloc, false, Side::S, b"z")?;
+    let doubled = column(alloc, false, Side::R, b"b")?;
+    tells(
+        &rt,
+        alloc,
+        two(alloc, absent, doubled)?,
+        (false, Side::S, b"z"),
+    )?;
     Ok(())
 }
 

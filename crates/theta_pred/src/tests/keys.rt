@@ -6,7 +6,8 @@ ghost use Rattle.theta_pred.specs.Linear.{AreBelow};
 use crate::{KeyAtom, Linear, Part, Parts, TextAtom, Theta, parse, resolve};
 use join_rows::{Bytes, Cell, Cells, Names};
 use std::alloc::{AllocError, Global};
-use std::test::*;
+use std::process::Abort;
+use std::test::Fail;
 
 // The predicate of a text over two tables with the columns x and a.
 fn over_x_and_a(alloc: Global, text: &str) -> Result<Theta, AllocError> {
@@ -65,10 +66,48 @@ fn copied(alloc: Global, key: &Option<KeyAtom>) -> Result<Option<KeyAtom>, Alloc
     }
 }
 
+fn key_text(alloc: Global, theta: &Theta) -> Result<String, AllocError> {
+    let key = theta.key_atom()?;
+    told(alloc, &key)
+}
+
+fn copied_key_text(alloc: Global, theta: &Theta) -> Result<String, AllocError> {
+    let key = theta.key_atom()?;
+    let copy = copied(alloc, &key)?;
+    told(alloc, &copy)
+}
+
+// Tells the key of this predicate so, and its copy's.
+fn tells_key(
+    rt: &impl Abort,
+    alloc: Global,
+    theta: &Theta,
+    wanted: &str,
+) -> Result<(), AllocError> {
+    assert_eq!(rt; key_text(alloc, theta)?.as_str(), wanted);
+    assert_eq!(rt;
+        copied_key_text(alloc, theta)?.as_str(),
+        wanted,
+        "of the copy"
+    );
+    Ok(())
+}
+
+// Each line is a predicate and its key.
+fn tells_keys(rt: &impl Abort, alloc: Global, lines: &[&str]) -> Result<(), AllocError> {
+    for line in lines {
+        let Some((text, wanted)) = line.split_once(" | ") else {
+            return Err(AllocError);
+        };
+        let theta = over_x_and_a(alloc, text)?;
+        tells_key(rt, alloc, &theta, wanted)?;
+    }
+    Ok(())
+}
+
 #[test]
 fn predicates_with_their_keys(rt: HostRuntime) -> Result<(), Fail> {
-    let alloc = rt.alloc();
-    let cases = [
+    let lines = [
         "r.x = s.a | +0 +1 0 0",
         "r.x + 5 = s.a | +0 +1 -5 -5",
         "s.a - r.x = 3 | -0 -1 3 3",
@@ -81,25 +120,33 @@ fn predicates_with_their_keys(rt: HostRuntime) -> Result<(), Fail> {
         "r.x < s.x and text(r.a) = 'u' | +0 +0 none -1",
         "r.x >= s.x | +0 +0 0 none",
         "r.x > s.x + 2 | +0 +0 3 none",
+    ];
+    tells_keys(&rt, rt.alloc(), &lines)?;
+    Ok(())
+}
+
+#[test]
+fn the_first_member_has_the_key(rt: HostRuntime) -> Result<(), Fail> {
+    let lines = [
         "r.x < s.x and abs(r.a - s.x) <= 2 and r.x = s.a and r.a = s.x | +0 +1 0 0",
         "r.x < s.x and (r.x = s.a and r.a = s.x) | +0 +0 none -1",
         "(r.x < s.x and r.x = s.a) | +0 +1 0 0",
         "r.x = 3 and r.x > s.x | +0 +0 1 none",
+    ];
+    tells_keys(&rt, rt.alloc(), &lines)?;
+    Ok(())
+}
+
+#[test]
+fn predicates_without_a_key(rt: HostRuntime) -> Result<(), Fail> {
+    let lines = [
         "r.x = 3 | no key",
         "r.x = s.x or 1 = 1 | no key",
         "not r.x = s.x | no key",
         "r.x != s.x | no key",
         "text(r.x) = text(s.x) | no key",
     ];
-    for case in cases {
-        let Some((text, wanted)) = case.split_once(" | ") else {
-            return Err(Fail::from(AllocError));
-        };
-        let key = over_x_and_a(alloc, text)?.key_atom()?;
-        assert_eq!(rt; told(alloc, &key)?.as_str(), wanted, "{text}");
-        let copy = copied(alloc, &key)?;
-        assert_eq!(rt; told(alloc, &copy)?.as_str(), wanted, "of the copy, {text}");
-    }
+    tells_keys(&rt, rt.alloc(), &lines)?;
     Ok(())
 }
 
@@ -113,10 +160,21 @@ fn told_text(alloc: Global, atom: Option<TextAtom>) -> Result<String, AllocError
     Ok(text)
 }
 
+// Each line is a predicate and its text atom.
+fn tells_text_atoms(rt: &impl Abort, alloc: Global, lines: &[&str]) -> Result<(), AllocError> {
+    for line in lines {
+        let Some((text, wanted)) = line.split_once(" | ") else {
+            return Err(AllocError);
+        };
+        let atom = over_x_and_a(alloc, text)?.text_atom();
+        assert_eq!(rt; told_text(alloc, atom)?.as_str(), wanted, "{text}");
+    }
+    Ok(())
+}
+
 #[test]
 fn predicates_with_their_text_atoms(rt: HostRuntime) -> Result<(), Fail> {
-    let alloc = rt.alloc();
-    let cases = [
+    let lines = [
         "text(r.x) = text(s.a) | 0 1",
         "text(s.a) = text(r.x) | 0 1",
         "r.x < s.x and text(r.a) = text(s.x) and text(r.x) = text(s.a) | 1 0",
@@ -126,13 +184,7 @@ fn predicates_with_their_text_atoms(rt: HostRuntime) -> Result<(), Fail> {
         "not text(r.x) = text(s.a) | none",
         "1 = 1 and (text(r.x) = text(s.a) and 2 = 2) | none",
     ];
-    for case in cases {
-        let Some((text, wanted)) = case.split_once(" | ") else {
-            return Err(Fail::from(AllocError));
-        };
-        let atom = over_x_and_a(alloc, text)?.text_atom();
-        assert_eq!(rt; told_text(alloc, atom)?.as_str(), wanted, "{text}");
-    }
+    tells_text_atoms(&rt, rt.alloc(), &lines)?;
     Ok(())
 }
 
@@ -169,27 +221,36 @@ fn difference(alloc: Global) -> Result<Linear, AllocError>
     Ok(Linear { parts })
 }
 
+// The value of the sum and of its copy at a row of these two numbers.
+fn both_values(
+    rt: &impl Abort,
+    alloc: Global,
+    first: &str,
+    second: &str,
+    wanted: &str,
+) -> Result<(), AllocError> {
+    let sum = difference(alloc)?;
+    let row = row(alloc, first, second)?;
+    let mut text = String::new(alloc);
+    write_number(&mut text, sum.value(&row))?;
+    assert_eq!(rt; text.as_str(), wanted, "{first} less {second}");
+    let copy = sum.copy(alloc)?;
+    assert_eq!(rt; copy.value(&row), sum.value(&row), "{first} less {second}");
+    Ok(())
+}
+
 #[test]
 fn sums_with_their_values(rt: HostRuntime) -> Result<(), Fail> {
     let alloc = rt.alloc();
-    let sum = difference(alloc)?;
-    let copy = sum.copy(alloc)?;
-    let cases = [
-        ("5", "7", "-2"),
-        (
-            "9223372036854775807",
-            "-9223372036854775808",
-            "18446744073709551615",
-        ),
-        ("-", "7", "none"),
-        ("5", "-", "none"),
-    ];
-    for (first, second, wanted) in cases {
-        let row = row(alloc, first, second)?;
-        let mut text = String::new(alloc);
-        write_number(&mut text, sum.value(&row))?;
-        assert_eq!(rt; text.as_str(), wanted, "{first} less {second}");
-        assert_eq!(rt; copy.value(&row), sum.value(&row), "{first} less {second}");
-    }
+    both_values(&rt, alloc, "5", "7", "-2")?;
+    both_values(
+        &rt,
+        alloc,
+        "9223372036854775807",
+        "-9223372036854775808",
+        "18446744073709551615",
+    )?;
+    both_values(&rt, alloc, "-", "7", "none")?;
+    both_values(&rt, alloc, "5", "-", "none")?;
     Ok(())
 }
