@@ -15,6 +15,7 @@ file_under (f ∷ files) name = if bytes_eq f.name name then Some f.bytes else f
 abbrev pub spot_in : ℕ → NamedFile → List ℕ × ℕ
 spot_in at file = (file.name, at)
 
+-- what is picked, by its name
 abbrev pub named_spot : List NamedFile → Option Place → Spot
 named_spot files None = None
 named_spot files (Some p) = option_map (spot_in p.at) (slice_get files p.file)

@@ -15,10 +15,12 @@ made_names = codes "id" ∷ codes "key" ∷ codes "val" ∷ []
 abbrev pub made_id : ℕ → ℕ
 made_id i = i + 1
 
+-- the key of a made row
 abbrev pub made_key : Side → ℕ → ℕ
 made_key R i = 7 * i % 1000
 made_key S i = 11 * i % 1000
 
+-- its value
 abbrev pub made_val : Side → ℕ → ℕ
 made_val R i = i % 97
 made_val S i = i % 89

@@ -5,13 +5,15 @@ use Rattle.std.specs.Int.{w64}
 use Rattle.std.specs.List.{AllByRecursion, list_all, prefix_len}
 use Rattle.std.specs.Str.Parse.{IsNumeral, signed_digits_value, without_leading_sign}
 
+-- whether a byte is a space
 abbrev pub is_space : ℕ → Bool
 is_space byte = byte == 32
 
--- how many spaces a text begins with, and how many other bytes
+-- how many spaces a text begins with
 abbrev pub spaces_at : List ℕ → ℕ
 spaces_at text = prefix_len is_space text
 
+-- and how many other bytes
 abbrev pub others_at : List ℕ → ℕ
 others_at text = prefix_len (λ byte. not (is_space byte)) text
 

@@ -17,11 +17,12 @@ pub record IsPast (told : Told) (name : List ℕ) (spot : Spot) : Type 0 where
   pub place : spot ≡ Some (name, length bytes)
   pub first : (file : List ℕ) → Tells told name file → (length bytes ≤ length file) × (bytes ≡ take (length bytes) file)
 
--- the whole bytes of a file, or why there are none: told are the files, old and new are the counts of faults, and spot is where the shelf stands then
+-- the whole bytes of a file: told are the files, old and new are the counts of faults, and spot is where the shelf stands then
 abbrev pub WholeOk : Told → List ℕ → ℕ → ℕ → Spot → List ℕ → Type 0
 WholeOk told name old new spot bytes = (new ≡ old) × (Lacks told name → ⊥) × (spot ≡ Some (name, length bytes)) × (length bytes ≤ 2 ^ 24)
     × ((file : List ℕ) → Tells told name file → bytes ≡ file)
 
+-- or why there are none
 abbrev pub WholeErr : Told → List ℕ → ℕ → ℕ → Spot → TableFault → Type 0
 WholeErr told name old new spot fault.Read = (old < new) ⊎ Lacks told name
 WholeErr told name old new spot fault.TooLong = (new ≡ old) × (Lacks told name → ⊥) × IsPast told name spot

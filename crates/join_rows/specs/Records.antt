@@ -26,10 +26,11 @@ after_marks (a ∷ b ∷ c ∷ rest) = if is_bom a b c then after_marks rest els
 abbrev pub records_of : List ℕ → List (List (List ℕ))
 records_of bytes = records default_config (after_marks bytes)
 
--- the cell of a text, the row of these fields and the rows of these records
+-- the cell of a text
 abbrev pub cell_of : List ℕ → Cell
 cell_of text = record { text = text; num = number_of text }
 
+-- the row of these fields
 abbrev pub cells_of : List (List ℕ) → List Cell
 cells_of fields = map cell_of fields
 
@@ -37,10 +38,11 @@ cells_of fields = map cell_of fields
 abbrev pub HasItsNumber : Cell → Type 0
 HasItsNumber cell = (number : ℤ) → (cell.num ≡ Some number) ↔ IsNumber cell.text number
 
--- a table may have so many bytes, and so many rows under its header
+-- a file may have so many bytes
 abbrev pub most_bytes : ℕ
 most_bytes = 2 ^ 24
 
+-- and a table so many rows under its header
 abbrev pub most_rows : ℕ
 most_rows = 2 ^ 18
 

@@ -25,7 +25,8 @@ impl Table {
     pub fn numbers(&self, column: u64) -> Result<(), BadNumber>
         requires header { column < length self.now.names }
         requires rows { All (λ row. column < length row) self.now.rows }
-        ensures ok { OnOk result ((place : ℕ) (row : List Cell) → slice_get self.now.rows place ≡ Some row
+        ensures ok { OnOk result ((place : ℕ) (row : List Cell)
+            → slice_get self.now.rows place ≡ Some row
             → ¬ (IsBad column row)) }
         ensures first { IfErr result (λ fault. IsFirstBad column self.now.rows fault.row) }
     {

@@ -27,7 +27,8 @@ impl<R: Read> Picked<R> {
         ensures room { IfOk result (λ n. n ≤ length into.old) }
         ensures bytes { IfOk result (λ n.
             Consumes (R.remaining self.old.file) (R.remaining self.new.file) (take n into.new)) }
-        ensures end { IfOk result (λ n. n ≡ 0 → 0 < length into.old → IsAtEnd (R.remaining self.new.file)) }
+        ensures end { IfOk result
+            (λ n. n ≡ 0 → 0 < length into.old → IsAtEnd (R.remaining self.new.file)) }
     {
         let Ok(count) = self.file.read(into) else {
             return Err(Failed);
@@ -112,7 +113,8 @@ impl<F: Files + Drop> Shelf for DiskShelf<F> {
         ensures next { IfOk result (λ n. Nexts None (spot_of self.old) n into.new) }
         ensures bytes { IfOk result (λ n.
             Consumes (left_of F.File.remaining self.old) (left_of F.File.remaining self.new) (take n into.new)) }
-        ensures end { IfOk result (λ n. n ≡ 0 → 0 < length into.old → IsAtEnd (left_of F.File.remaining self.new)) }
+        ensures end { IfOk result
+            (λ n. n ≡ 0 → 0 < length into.old → IsAtEnd (left_of F.File.remaining self.new)) }
         ensures fails { OnErr result (failed_calls self.new ≡ raised (failed_calls self.old)) }
         ensures counts { OnOk result (failed_calls self.new ≡ failed_calls self.old) }
     {

@@ -10,7 +10,8 @@ use crate::named_file::NamedFile;
 // The place of the first file of a name.
 pub(crate) fn find(files: &[NamedFile], name: &[u8]) -> Option<usize>
     ensures { MatchOption result (file_under files.now name.now ≡ None)
-        (λ i. (f : NamedFile) × (slice_get files.now i ≡ Some f) × (f.name ≡ name.now) × (file_under files.now name.now ≡ Some f.bytes)
+        (λ i. (f : NamedFile) × (slice_get files.now i ≡ Some f) × (f.name ≡ name.now)
+        × (file_under files.now name.now ≡ Some f.bytes)
         × (file_under (take i files.now) name.now ≡ None) × (i < length files.now)) }
 {
     for (i, file) in files.iter().enumerate() {

@@ -31,7 +31,8 @@ impl Model for ListSink {
 impl ListSink {
     /// A sink with room for so many bytes, which it takes at once.
     pub fn new(alloc: Global, room: u64) -> Result<ListSink, AllocError>
-        ensures { IfOk result (λ sink. sink ≡ record { bytes = []; room = room; puts = 0; failing = []; faults = 0 }) }
+        ensures { IfOk result
+            (λ sink. sink ≡ record { bytes = []; room = room; puts = 0; failing = []; faults = 0 }) }
     {
         Ok(ListSink {
             bytes: Vec::with_capacity(alloc, room as usize)?,

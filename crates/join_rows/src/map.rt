@@ -145,18 +145,21 @@ impl Shelf for MapShelf {
           faults = self.new.faults;
         } }
         ensures nothing { self.old.picked ≡ None → result ≡ Ok 0 }
-        ensures named { IsSome self.old.picked → is_named self.old.reads self.old.failing_reads ≡ true
+        ensures named { IsSome self.old.picked
+            → is_named self.old.reads self.old.failing_reads ≡ true
             → IsErr result × (self.new.faults ≡ raised self.old.faults) }
         ensures other { is_named self.old.reads self.old.failing_reads ≡ false → IsOk result }
         ensures stays { OnErr result (self.new.picked ≡ self.old.picked) }
-        ensures fills { IfOk result (λ n. Fills self.old.files self.old.picked n into.old into.new) }
+        ensures fills { IfOk result
+            (λ n. Fills self.old.files self.old.picked n into.old into.new) }
         ensures moves { IfOk result (λ n. self.new.picked ≡ moved n self.old.picked) }
         ensures counts { OnOk result (self.new.faults ≡ self.old.faults) }
         ensures faulted { OnErr result (Faulted self.old.faults self.new.faults) }
         ensures rises { self.old.faults ≤ self.new.faults }
         ensures sound { self.old.failing_reads ≡ [] → self.new.faults ≡ self.old.faults }
         ensures room { IfOk result (λ n. n ≤ length into.old) }
-        ensures next { IfOk result (λ n. Nexts (Some (file_under self.old.files)) self.old.picked n into.new) }
+        ensures next { IfOk result
+            (λ n. Nexts (Some (file_under self.old.files)) self.old.picked n into.new) }
         ensures end { IfOk result (λ n. n ≡ 0 → 0 < length into.old
             → AtEnd (Some (file_under self.old.files)) self.old.picked) }
     {

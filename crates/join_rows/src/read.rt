@@ -23,7 +23,8 @@ fn read_whole<H: Shelf>(alloc: Global, shelf: &mut H, name: &str) -> Result<Vec<
     requires { H.faults shelf.old < last_fault }
     ensures told { H.told shelf.new ≡ H.told shelf.old }
     ensures rises { H.faults shelf.old ≤ H.faults shelf.new }
-    ensures sound { H.sound shelf.old → H.sound shelf.new × (H.faults shelf.new ≡ H.faults shelf.old) }
+    ensures sound { H.sound shelf.old
+        → H.sound shelf.new × (H.faults shelf.new ≡ H.faults shelf.old) }
     ensures ok { IfOk result (λ bytes.
         WholeOk (H.told shelf.old) name.now (H.faults shelf.old) (H.faults shelf.new) (H.picked shelf.new) bytes.items) }
     ensures err { IfErr result (
@@ -56,17 +57,20 @@ pub fn read_table<H: Shelf>(alloc: Global, shelf: &mut H, name: &str) -> Result<
     requires { H.faults shelf.old < last_fault }
     ensures read { (result ≡ Err fault.Read)
         ↔ ((H.faults shelf.old < H.faults shelf.new) ⊎ Lacks (H.told shelf.old) name.now) }
-    ensures answer { (file : List ℕ) → Tells (H.told shelf.old) name.now file → H.faults shelf.new ≡ H.faults shelf.old
+    ensures answer { (file : List ℕ) → Tells (H.told shelf.old) name.now file
+        → H.faults shelf.new ≡ H.faults shelf.old
         → (result ≡ Err fault.Memory) ⊎ (result ≡ table_of file) }
     ensures bytes { (result ≡ Err fault.Read → ⊥) → (result ≡ Err fault.Memory → ⊥)
         → IsOfBytes (H.told shelf.old) name.now (H.picked shelf.new) result }
     ensures table { IfOk result IsTable }
-    ensures place { (result ≡ Err fault.Read → ⊥) → (place : ℕ) × (H.picked shelf.new ≡ Some (name.now, place))
+    ensures place { (result ≡ Err fault.Read → ⊥)
+        → (place : ℕ) × (H.picked shelf.new ≡ Some (name.now, place))
         × (place ≤ 2 ^ 24 + 1) × (result ≡ Err fault.TooLong → 2 ^ 24 < place)
         × (2 ^ 24 < place → (result ≡ Err fault.TooLong) ⊎ (result ≡ Err fault.Memory)) }
     ensures told { H.told shelf.new ≡ H.told shelf.old }
     ensures rises { H.faults shelf.old ≤ H.faults shelf.new }
-    ensures sound { H.sound shelf.old → H.sound shelf.new × (H.faults shelf.new ≡ H.faults shelf.old) }
+    ensures sound { H.sound shelf.old
+        → H.sound shelf.new × (H.faults shelf.new ≡ H.faults shelf.old) }
 {
     let bytes = read_whole(alloc, shelf, name)?;
     table_from(alloc, bytes.as_slice())

@@ -31,7 +31,8 @@ pub trait Shelf {
         ensures picks { OnOk result (picked self.new ≡ Some (name.now, 0)) }
         ensures there { OnOk result (Lacks (told self.old) name.now → ⊥) }
         ensures counts { OnOk result (faults self.new ≡ faults self.old) }
-        ensures fails { OnErr result (Lacks (told self.old) name.now ⊎ Faulted (faults self.old) (faults self.new)) }
+        ensures fails { OnErr result (Lacks (told self.old) name.now
+            ⊎ Faulted (faults self.old) (faults self.new)) }
         ensures nothing { OnErr result (picked self.new ≡ None) }
         ensures sound { sound self.old → sound self.new × (faults self.new ≡ faults self.old) };
 

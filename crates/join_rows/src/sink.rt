@@ -30,7 +30,8 @@ pub trait Sink {
         ensures counts { OnOk result (faults self.new ≡ faults self.old) }
         ensures front { OnErr result (AppendsFront (written self.old) (written self.new) piece.now) }
         ensures fails { OnErr result (Faulted (faults self.old) (faults self.new)) }
-        ensures takes { (more : ℕ) → takes self.old (length piece.now + more) → IsOk result × takes self.new more }
+        ensures takes { (more : ℕ) → takes self.old (length piece.now + more)
+            → IsOk result × takes self.new more }
         ensures left { OnErr result (PutsFront (written self.old) (written self.new)
             (takes self.old) (takes self.new) piece.now) };
 }

@@ -26,9 +26,11 @@ pub fn run<R: Threads + Wait + Sync, G: Gate>(
 ) -> Result<Told, AllocError>
     requires input { IsValidInput input.now }
     requires setting { IsValidSetting setting.now }
-    ensures family { IfOk result (λ told. IsFinishedFamily input.now setting.now told.run.journal (lists_left told.ends)) }
+    ensures family { IfOk result
+        (λ told. IsFinishedFamily input.now setting.now told.run.journal (lists_left told.ends)) }
     ensures run { IfOk result (λ told. IsRunOf input.now setting.now told.run.journal told.run) }
-    ensures bound { IfOk result (λ told. told.run.bouts ≤ most_events input.now setting.now (last_epoch told.run.journal)) }
+    ensures bound { IfOk result
+        (λ told. told.run.bouts ≤ most_events input.now setting.now (last_epoch told.run.journal)) }
 {
     limits_suffice();
     events_are_few();

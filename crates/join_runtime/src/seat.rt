@@ -60,7 +60,8 @@ fn open<R: Wait>(
     sends: &mut Sends,
 ) -> Result<Step, AllocError>
     ensures inbox { IsSameInbox inbox.old inbox.new }
-    ensures opens { IfOk result (λ step. Opens step core.old core.new inbox.old inbox.new sends.old sends.new) }
+    ensures opens { IfOk result
+        (λ step. Opens step core.old core.new inbox.old inbox.new sends.old sends.new) }
 {
     match inbox.take(rt) {
         Some(Envelope { from, msg }) => {
@@ -99,7 +100,8 @@ impl<'a> Seat<'a> {
         inbox: Inbox,
     ) -> Result<Seat<'a>, AllocError>
         requires { feeders + joiners + 2 < 2 ^ 32 }
-        ensures seat { IfOk result (λ seat. seat ≡ record { joiners = joiners; feeders = feeders; actor = actor; core = core.entry; inbox = inbox; mouths = seat.mouths; spent = false }) }
+        ensures seat { IfOk result
+            (λ seat. seat ≡ record { joiners = joiners; feeders = feeders; actor = actor; core = core.entry; inbox = inbox; mouths = seat.mouths; spent = false }) }
         ensures mouths { IfOk result (λ seat. (n : ℕ) → slice_index_or seat.mouths n None ≡ None) }
     {
         let mouths = no_mouths(alloc, feeders + joiners + 2)?;
