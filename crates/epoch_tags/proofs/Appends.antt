@@ -115,13 +115,13 @@ tups-append (End ∷ xs) ys = tups-append xs ys
 tups-append (Moved epoch x ∷ xs) ys = tups-append xs ys
 tups-append (MovedEnd epoch ∷ xs) ys = tups-append xs ys
 
-pub moved_ends_both : (e : ℕ) (xs ys : List ToJoiner) → moved_ends e (xs ++ ys) ≡ moved_ends e xs + moved_ends e ys
-moved_ends_both e [] ys = omega arith
-moved_ends_both e (Tup x ∷ xs) ys = moved_ends_both e xs ys
-moved_ends_both e (Turn epoch shift ∷ xs) ys = moved_ends_both e xs ys
-moved_ends_both e (End ∷ xs) ys = moved_ends_both e xs ys
-moved_ends_both e (Moved epoch x ∷ xs) ys = moved_ends_both e xs ys
-moved_ends_both e (MovedEnd epoch ∷ xs) ys = by_test (epoch == e) (moved_ends_both e xs ys)
+pub moved_ends-append : (e : ℕ) (xs ys : List ToJoiner) → moved_ends e (xs ++ ys) ≡ moved_ends e xs + moved_ends e ys
+moved_ends-append e [] ys = omega arith
+moved_ends-append e (Tup x ∷ xs) ys = moved_ends-append e xs ys
+moved_ends-append e (Turn epoch shift ∷ xs) ys = moved_ends-append e xs ys
+moved_ends-append e (End ∷ xs) ys = moved_ends-append e xs ys
+moved_ends-append e (Moved epoch x ∷ xs) ys = moved_ends-append e xs ys
+moved_ends-append e (MovedEnd epoch ∷ xs) ys = by_test (epoch == e) (moved_ends-append e xs ys)
   where
     by_test : (t : Bool) → moved_ends e (xs ++ ys) ≡ moved_ends e xs + moved_ends e ys → cond t (moved_ends e (xs ++ ys) + 1) (moved_ends e (xs ++ ys)) ≡ cond t (moved_ends e xs + 1) (moved_ends e xs) + moved_ends e ys
     by_test true rest = omega arith

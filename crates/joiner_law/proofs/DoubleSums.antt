@@ -11,6 +11,7 @@ use Rattle.epoch_tags.specs.declared.tuple.Tuple.{Tuple}
 use Rattle.epoch_tags.specs.declared.tuple.Pair.{Pair}
 use Rattle.migration_plan.specs.Steps.{is_of, same_side}
 use Rattle.joiner_law.specs.Law.{pair_of, pairs_by}
+use Rattle.join_rows.proofs.Totals.{sum_same_on}
 
 -- what the pair of these two tuples adds, where it is an R tuple and an S tuple that pass the test
 abbrev pub weight : (Pair → ℕ) → (Tuple → Tuple → Bool) → Tuple → Tuple → ℕ
@@ -45,7 +46,7 @@ sum-pairs f test xs ys =
 pub double-bag : (w : Tuple → Tuple → ℕ) (xs xs' ys ys' : List Tuple) → SameBag xs xs' → SameBag ys ys' → double w xs ys ≡ double w xs' ys'
 double-bag w xs xs' ys ys' left right = left.sums (λ r. sum_by (w r) ys) ∙ sum-same (λ r. sum_by (w r) ys) (λ r. sum_by (w r) ys') (λ r. right.sums (w r)) xs'
 
-sum_two : {X : Type 0} (a b : X → ℕ) (xs : List X) → sum_by (λ x. a x + b x) xs ≡ sum_by a xs + sum_by b xs
+pub sum_two : {X : Type 0} (a b : X → ℕ) (xs : List X) → sum_by (λ x. a x + b x) xs ≡ sum_by a xs + sum_by b xs
 sum_two a b [] = refl
 sum_two a b (x ∷ xs) =
     let rest = sum_two a b xs in
@@ -61,14 +62,9 @@ double-add w x xs none =
     let two : sum_by (λ r. w r x + sum_by (w r) xs) xs ≡ sum_by (λ r. w r x) xs + sum_by (λ r. sum_by (w r) xs) xs = sum_two (λ r. w r x) (λ r. sum_by (w r) xs) xs in
     omega arith
 
--- sums that agree on all that the list holds
-pub sum-within : {X : Type 0} (P : X → Type 0) (f g : X → ℕ) → ((x : X) → P x → f x ≡ g x) → (xs : List X) → AllByRecursion P xs → sum_by f xs ≡ sum_by g xs
-sum-within P f g same [] all = refl
-sum-within P f g same (x ∷ xs) all = sum_by-cons f x xs ∙ ap (λ n. n + sum_by f xs) (same x all.0) ∙ ap (λ n. g x + n) (sum-within P f g same xs all.1) ∙ sym (sum_by-cons g x xs)
-
 pub double-none : (P : Tuple → Type 0) (w : Tuple → Tuple → ℕ) (xs : List Tuple) → AllByRecursion P xs → ((r q : Tuple) → P r → P q → w r q ≡ 0) → double w xs xs ≡ 0
 double-none P w xs all none =
-    sum-within P (λ r. sum_by (w r) xs) (λ r. 0) (λ r p. sum-within P (w r) (λ q. 0) (λ q. none r q p) xs all ∙ sum_zero xs) xs all
+    sum_same_on P (λ r. sum_by (w r) xs) (λ r. 0) (λ r p. sum_same_on P (w r) (λ q. 0) (λ q. none r q p) xs all ∙ sum_zero xs) xs all
     ∙ sum_zero xs
 
 -- no tuple is of both sides

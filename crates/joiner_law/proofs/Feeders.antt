@@ -7,7 +7,8 @@ use Rattle.epoch_tags.specs.Messages.{turns, tups_of}
 use Rattle.std.proofs.lemmas.Bool.{ne_eqb}
 use Rattle.epoch_tags.specs.Orders.{CountsUp, TurnsGoBy}
 use Rattle.joiner_law.specs.Standing.{IsOfFeeder, one_if}
-use Rattle.joiner_law.proofs.LongerLists.{turns-append, ends-append, TurnsGoBy-append, CountsUp-append}
+use Rattle.joiner_law.proofs.LongerLists.{TurnsGoBy-append, CountsUp-append}
+use Rattle.epoch_tags.proofs.Appends.{turns-append, ends-append}
 
 pub feeder-tup : (e : ℕ) (b : ℕ → ℕ) (done : ℕ) (turned : Bool) (ms : List ToJoiner) (x : Tuple) → x.stamp ≡ e + (done + one_if turned)
     → IsOfFeeder e b done turned false ms → IsOfFeeder e b done turned false (ms ++ Tup x ∷ [])

@@ -13,7 +13,9 @@ use Rattle.epoch_tags.specs.declared.tuple.Pair.{Pair}
 use Rattle.migration_plan.specs.Steps.{holds, is_of, same_side}
 use Rattle.joiner_law.specs.Law.{pair_of, pairs_by}
 use Rattle.joiner_law.specs.History.{Step, stored, counts_at, all_found, AllUpTo, CameOlder, ArrivedInTime, with_arrived, with_came, new_step, all_tuples, only_stamp, probed_at, probed}
-use Rattle.joiner_law.proofs.DoubleSums.{weight, double, sum-pairs, double-bag, double-add, sum-within, double-none, not_both}
+use Rattle.joiner_law.proofs.DoubleSums.{weight, double, sum-pairs, double-bag, double-add, double-none, not_both}
+use Rattle.std.proofs.lemmas.List.{append-nil}
+use Rattle.join_rows.proofs.Totals.{sum_plus, sum_same_on}
 
 -- ---- stores
 
@@ -48,10 +50,6 @@ stored-under k id x new cur past =
     let below : SameBag (filter keep (stored k id (with_arrived x cur ∷ past))) (filter keep (x ∷ stored k id (cur ∷ past))) = SameBag-filter keep (stored-arrived k id x cur past) in
     let whole : SameBag (filter keep (stored k id (with_arrived x cur ∷ past)) ++ (new.came ++ new.arrived)) (filter keep (x ∷ stored k id (cur ∷ past)) ++ (new.came ++ new.arrived)) = SameBag-append below (SameBag-refl (new.came ++ new.arrived)) in
     subst (λ (zs : List Tuple). SameBag (stored k id (new ∷ (with_arrived x cur ∷ past))) zs) (if_kept-append (keep x) x (filter keep (stored k id (cur ∷ past))) (new.came ++ new.arrived)) whole
-
-append-nil : {A : Type 0} (xs : List A) → xs ++ [] ≡ xs
-append-nil [] = refl
-append-nil (x ∷ xs) = ap (λ ys. x ∷ ys) (append-nil xs)
 
 pub stored-new : (k id shift : ℕ) (past : List Step) → stored k id (new_step shift ∷ past) ≡ filter (holds k shift id) (stored k id past)
 stored-new k id shift past = append-nil (filter (holds k shift id) (stored k id past))
@@ -120,17 +118,11 @@ pub record Agrees (test m : Tuple → Tuple → Bool) (names : Tuple → Bool) (
   pub from_left : (y : Tuple) → P y → test x y ≡ (m x y && names y)
   pub from_right : (y : Tuple) → P y → test y x ≡ (m y x && names y)
 
-sum_both : {X : Type 0} (a b : X → ℕ) (xs : List X) → sum_by a xs + sum_by b xs ≡ sum_by (λ x. a x + b x) xs
-sum_both a b [] = refl
-sum_both a b (x ∷ xs) =
-    let rest = sum_both a b xs in
-    rw (sum_by-cons a x xs, sum_by-cons b x xs, sum_by-cons (λ y. a y + b y) x xs) (omega arith)
-
 sum-agrees : (f : Pair → ℕ) (test m : Tuple → Tuple → Bool) (names : Tuple → Bool) (x : Tuple) (P : Tuple → Type 0) → Agrees test m names x P
     → (ys : List Tuple) → AllByRecursion P ys → sum_by (weight f test x) ys + sum_by (λ r. weight f test r x) ys ≡ sum_by f (probed m names x ys)
 sum-agrees f test m names x P agrees ys all =
-    sum_both (weight f test x) (λ r. weight f test r x) ys
-    ∙ sum-within P _ _ each ys all
+    sum_plus (weight f test x) (λ r. weight f test r x) ys
+    ∙ sum_same_on P _ _ each ys all
     ∙ sym (sum-probed_at x.side f m names x ys)
   where
     each : (y : Tuple) → P y → weight f test x y + weight f test y x ≡ both_ways x.side (m x y && names y) (m y x && names y) y (f (pair_of x y)) (f (pair_of y x))

@@ -13,10 +13,7 @@ use Rattle.joiner_law.specs.Law.{JoinerStart, Taken, shift_after, partner_of, ar
 use Rattle.joiner_law.specs.History.{Step, with_arrived, with_came}
 use Rattle.joiner_law.specs.Standing.{grown, took_of_feeder, took_of_joiner, with_shift, came_in, IsStep, IsHistory, GoesByOne}
 use Rattle.joiner_law.proofs.LongerLists.{tups_of-append, moved_of-append, gather-grown, grown-same, grown-other}
-
-append-nil : {A : Type 0} (xs : List A) → xs ++ [] ≡ xs
-append-nil [] = refl
-append-nil (x ∷ xs) = ap (λ ys. x ∷ ys) (append-nil xs)
+use Rattle.std.proofs.lemmas.List.{append-nil}
 
 arrived-more : (s : JoinerStart) (t : Taken) (p : ℕ) (m : ToJoiner) (e : ℕ) → p < s.feeders → SameBag (arrived s (took_of_feeder p m t) e) (arrived s t e ++ tups_of e (m ∷ []))
 arrived-more s t p m e low = gather-grown (tups_of e) (tups_of-append e) p m t.from_feeder s.feeders low

@@ -34,22 +34,6 @@ moved_of-append e (Moved epoch x ∷ xs) ys = either (epoch == e) (moved_of-appe
     either false rest = rest
 moved_of-append e (MovedEnd epoch ∷ xs) ys = moved_of-append e xs ys
 
-pub turns-append : (xs ys : List ToJoiner) → turns (xs ++ ys) ≡ turns xs + turns ys
-turns-append [] ys = omega arith
-turns-append (Tup x ∷ xs) ys = turns-append xs ys
-turns-append (Turn epoch shift ∷ xs) ys = let rest = turns-append xs ys in omega arith
-turns-append (End ∷ xs) ys = turns-append xs ys
-turns-append (Moved epoch x ∷ xs) ys = turns-append xs ys
-turns-append (MovedEnd epoch ∷ xs) ys = turns-append xs ys
-
-pub ends-append : (xs ys : List ToJoiner) → ends (xs ++ ys) ≡ ends xs + ends ys
-ends-append [] ys = omega arith
-ends-append (Tup x ∷ xs) ys = ends-append xs ys
-ends-append (Turn epoch shift ∷ xs) ys = ends-append xs ys
-ends-append (End ∷ xs) ys = let rest = ends-append xs ys in omega arith
-ends-append (Moved epoch x ∷ xs) ys = ends-append xs ys
-ends-append (MovedEnd epoch ∷ xs) ys = ends-append xs ys
-
 pub TurnsGoBy-append : (b : ℕ → ℕ) (xs ys : List ToJoiner) → TurnsGoBy b xs → TurnsGoBy b ys → TurnsGoBy b (xs ++ ys)
 TurnsGoBy-append b [] ys left right = right
 TurnsGoBy-append b (Tup x ∷ xs) ys left right = TurnsGoBy-append b xs ys left right

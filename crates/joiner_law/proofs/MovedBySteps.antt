@@ -2,7 +2,7 @@
 use Rattle.std.proofs.Common.{◌≡◌, ℕ, zero, suc, ◌+◌, ◌^◌, ◌<◌, ◌≤◌, ◌≢◌, inl, inr, refl, sym, ◌∙◌, ap, subst, arith, Bool, true, List, [], ◌∷◌, ◌++◌, length}
 use Rattle.std.specs.Prelude.{map, filter, count_by, min}
 use Rattle.std.proofs.lemmas.Bool.{cases_eq}
-use Rattle.std.proofs.lemmas.List.{map-append, length-append}
+use Rattle.std.proofs.lemmas.List.{map-append, length-append, append-nil}
 use Rattle.std.proofs.lemmas.List.Sums.{length-filter}
 use Rattle.join_rows.specs.Lists.{SameBag, gather, counting_from}
 use Rattle.join_rows.proofs.Bags.{SameBag-trans, SameBag-sym, SameBag-filter}
@@ -26,10 +26,6 @@ length-bag xs ys same = length_sum xs ∙ same.sums (λ x. 1) ∙ sym (length_su
 
 pub count-bag : (keep : Tuple → Bool) (xs ys : List Tuple) → SameBag xs ys → count_by keep xs ≡ count_by keep ys
 count-bag keep xs ys same = sym (length-filter keep xs) ∙ length-bag (filter keep xs) (filter keep ys) (SameBag-filter keep same) ∙ length-filter keep ys
-
-append-nil : {A : Type 0} (xs : List A) → xs ++ [] ≡ xs
-append-nil [] = refl
-append-nil (x ∷ xs) = ap (λ ys. x ∷ ys) (append-nil xs)
 
 none-gathered : {X : Type 0} (n : ℕ) (f : ℕ → List X) → ((i : ℕ) → i < n → f i ≡ []) → gather n f ≡ []
 none-gathered zero f none = refl

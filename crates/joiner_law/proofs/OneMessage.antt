@@ -18,7 +18,9 @@ use Rattle.joiner_law.specs.History.{Step, with_arrived, with_came, new_step}
 use Rattle.joiner_law.specs.Standing.{grown, took_of_feeder, took_of_joiner, with_shift, IsOfFeeder, IsStep, SentUpTo, ArePairs, pairs_sent, AreParts, with_sent, IsHistory}
 use Rattle.joiner_law.specs.Posting.{moved_post}
 use Rattle.joiner_law.proofs.LongerLists.{grown-same, grown-other}
-use Rattle.joiner_law.proofs.PartnerPosts.{moved_ends-append, up_to-append}
+use Rattle.joiner_law.proofs.PartnerPosts.{up_to-append}
+use Rattle.std.proofs.lemmas.List.{append-nil}
+use Rattle.epoch_tags.proofs.Appends.{moved_ends-append}
 
 -- a list that had one tuple added at its end
 pub added : (x : Tuple) (a xs ys : List Tuple) → SameBag a xs → SameBag ys (x ∷ xs) → SameBag (a ++ x ∷ []) ys
@@ -57,10 +59,6 @@ parts-same s t ended (step ∷ (before ∷ past)) m p is = (is.0, parts-same s t
 pub parts-arrived : (s : JoinerStart) (t : Taken) (ended : Bool) (x : Tuple) (step : Step) (past : List Step) (m : ToJoiner) (p : ℕ) → AreParts s t ended (step ∷ past) → AreParts s (took_of_feeder p m t) ended (with_arrived x step ∷ past)
 parts-arrived s t ended x step [] m p is = tt
 parts-arrived s t ended x step (before ∷ past) m p is = (is.0, parts-same s t true (before ∷ past) m p is.1)
-
-pub append-nil : {A : Type 0} (xs : List A) → xs ++ [] ≡ xs
-append-nil [] = refl
-append-nil (x ∷ xs) = ap (λ ys. x ∷ ys) (append-nil xs)
 
 -- posts of moved tuples go to joiners alone
 pub no_pairs : (to epoch : ℕ) (xs : List Tuple) → posted_to_collector (map (moved_post to epoch) xs) ≡ []

@@ -1,6 +1,6 @@
 -- What is sent to partners, with the posts of one message more.
 use Rattle.std.proofs.Common.{◌≡◌, ℕ, ◌+◌, ◌<◌, ◌≤◌, ◌≢◌, inl, inr, refl, sym, ◌∙◌, ap, subst, arith, Bool, true, false, cond, List, [], ◌∷◌, ◌++◌, length, eq-eqb}
-use Rattle.std.specs.Prelude.{◌==◌, map, filter}
+use Rattle.std.specs.Prelude.{map, filter}
 use Rattle.std.proofs.lemmas.Bool.{cases_eq, ne_eqb}
 use Rattle.std.proofs.lemmas.List.Sums.{sum_by-cons, sum_by-append}
 use Rattle.join_rows.specs.Lists.{SameBag}
@@ -19,10 +19,8 @@ use Rattle.joiner_law.specs.Standing.{IsSent, AreSent, IsLink, SentUpTo, reached
 use Rattle.joiner_law.specs.Posting.{moved_post, moved_end_post}
 use Rattle.joiner_law.proofs.LongerLists.{moved_of-append}
 use Rattle.joiner_law.proofs.Heart.{stored-arrived}
-
-append-nil : {A : Type 0} (xs : List A) → xs ++ [] ≡ xs
-append-nil [] = refl
-append-nil (x ∷ xs) = ap (λ ys. x ∷ ys) (append-nil xs)
+use Rattle.std.proofs.lemmas.List.{append-nil}
+use Rattle.epoch_tags.proofs.Appends.{moved_ends-append}
 
 -- ---- what posts carry
 
@@ -45,18 +43,6 @@ moved-none e epoch (x ∷ xs) differ = rw (ne_eqb epoch e differ) (moved-none e 
 moved-no_ends : (e epoch : ℕ) (xs : List Tuple) → moved_ends e (map (λ x. Moved epoch x) xs) ≡ 0
 moved-no_ends e epoch [] = refl
 moved-no_ends e epoch (x ∷ xs) = moved-no_ends e epoch xs
-
-pub moved_ends-append : (e : ℕ) (xs ys : List ToJoiner) → moved_ends e (xs ++ ys) ≡ moved_ends e xs + moved_ends e ys
-moved_ends-append e [] ys = omega arith
-moved_ends-append e (Tup x ∷ xs) ys = moved_ends-append e xs ys
-moved_ends-append e (Turn epoch shift ∷ xs) ys = moved_ends-append e xs ys
-moved_ends-append e (End ∷ xs) ys = moved_ends-append e xs ys
-moved_ends-append e (Moved epoch x ∷ xs) ys = moved_ends-append e xs ys
-moved_ends-append e (MovedEnd epoch ∷ xs) ys = either (epoch == e) (moved_ends-append e xs ys)
-  where
-    either : (t : Bool) → moved_ends e (xs ++ ys) ≡ moved_ends e xs + moved_ends e ys → cond t (moved_ends e (xs ++ ys) + 1) (moved_ends e (xs ++ ys)) ≡ cond t (moved_ends e xs + 1) (moved_ends e xs) + moved_ends e ys
-    either true rest = omega arith
-    either false rest = rest
 
 -- posts that carry nothing of an epoch
 pub record IsQuietAt (e : ℕ) (posts : List Post) : Type 0 where

@@ -13,10 +13,7 @@ use Rattle.joiner_law.specs.Standing.{grown, IsHistory, IsPartOf, IsEndOf, HasPa
 use Rattle.joiner_law.specs.Posting.{moved_post, moved_end_post}
 use Rattle.joiner_law.proofs.LongerLists.{grown-same, grown-other}
 use Rattle.joiner_law.proofs.PartnerPosts.{posted-here, posted-elsewhere}
-
-append-nil : {A : Type 0} (xs : List A) → xs ++ [] ≡ xs
-append-nil [] = refl
-append-nil (x ∷ xs) = ap (λ ys. x ∷ ys) (append-nil xs)
+use Rattle.std.proofs.lemmas.List.{append-nil}
 
 -- ---- lists of messages
 

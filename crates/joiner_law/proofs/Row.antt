@@ -1,5 +1,5 @@
 -- The worked row of joiner 0 keeps the whole law.
-use Rattle.std.proofs.Common.{◌≡◌, ℕ, zero, suc, ◌+◌, ◌<◌, ◌≤◌, inl, inr, refl, sym, ap, arith, Bool, true, false, cond, List, [], ◌∷◌, ◌++◌, length}
+use Rattle.std.proofs.Common.{◌≡◌, ℕ, zero, suc, ◌+◌, ◌<◌, ◌≤◌, inl, inr, refl, sym, arith, Bool, true, false, cond, List, [], ◌∷◌, length}
 use Rattle.std.specs.Prelude.{◌==◌, filter}
 use Rattle.epoch_tags.specs.Orders.{CountsUp, NeverFalls}
 use Rattle.std.specs.List.{AllByRecursion}
@@ -14,12 +14,9 @@ use Rattle.epoch_tags.specs.Messages.{moved_of, moved_ends, turns, ends, turn_sh
 use Rattle.migration_plan.specs.Steps.{AreNeighbours, is_of}
 use Rattle.joiner_law.specs.Law.{JoinerLists, JoinerLaw, IsTakenOf, IsSettled, AllTurned, shift_after, partner_of, exchanged, store}
 use Rattle.joiner_law.specs.Rows.{of_feeder, of_joiner, joiner_0, all_taken, r_row}
+use Rattle.std.proofs.lemmas.List.{append-nil}
 
-append-nil : {A : Type 0} (xs : List A) → xs ++ [] ≡ xs
-append-nil [] = refl
-append-nil (x ∷ xs) = ap (λ ys. x ∷ ys) (append-nil xs)
-
-all_of : (can_take : ToJoiner → Type 0) (ms : List ToJoiner) → IsTakenOf can_take ms ms
+pub all_of : (can_take : ToJoiner → Type 0) (ms : List ToJoiner) → IsTakenOf can_take ms ms
 all_of can_take ms = record { held = []; splits = append-nil ms; stuck = λ m rest is. absurd (cc) }
 
 abbrev part : List ToJoiner

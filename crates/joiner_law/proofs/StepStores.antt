@@ -16,7 +16,7 @@ use Rattle.migration_plan.specs.Steps.{AreNeighbours, holds}
 use Rattle.joiner_law.specs.Law.{JoinerStart, Taken, shift_after, partner_of, arrived, store, found, pairs_by, is_greater_stamp}
 use Rattle.joiner_law.specs.History.{Step, stored, counts_at, all_found, CameOlder}
 use Rattle.joiner_law.specs.Standing.{IsHistory, GoesByOne, ArePairs}
-use Rattle.joiner_law.proofs.DoubleSums.{weight, double, sum-pairs}
+use Rattle.joiner_law.proofs.DoubleSums.{weight, double, sum-pairs, sum_two}
 use Rattle.joiner_law.proofs.Heart.{pairs-bag}
 
 -- ---- stores
@@ -48,12 +48,6 @@ store-is s t step (before ∷ past) is =
     }
 
 -- ---- pairs
-
-sum_two : {X : Type 0} (a b : X → ℕ) (xs : List X) → sum_by (λ x. a x + b x) xs ≡ sum_by a xs + sum_by b xs
-sum_two a b [] = refl
-sum_two a b (x ∷ xs) =
-    let rest = sum_two a b xs in
-    rw (sum_by-cons a x xs, sum_by-cons b x xs, sum_by-cons (λ y. a y + b y) x xs) (omega arith)
 
 double-right : (w : Tuple → Tuple → ℕ) (xs ys zs : List Tuple) → double w xs (ys ++ zs) ≡ double w xs ys + double w xs zs
 double-right w xs ys zs =

@@ -12,7 +12,7 @@ use Rattle.epoch_tags.specs.Messages.{tups_of, moved_of, moved_ends}
 use Rattle.epoch_tags.specs.Posts.{posted_to_joiner}
 use Rattle.epoch_tags.specs.declared.message.ToController.{ToController}
 use Rattle.epoch_tags.specs.declared.message.ToController.TheVariants.{Settled}
-use Rattle.std.proofs.lemmas.List.{map-append}
+use Rattle.std.proofs.lemmas.List.{map-append, append-nil}
 use Rattle.migration_plan.specs.Steps.{AreNeighbours, is_of, exchanged_side, partner_in_step, holds}
 use Rattle.joiner_law.specs.Law.{JoinerStart, JoinerLists, Taken, partner_of, shift_after}
 use Rattle.joiner_law.specs.History.{Step, stored, new_step}
@@ -24,8 +24,9 @@ use Rattle.joiner_law.proofs.Heart.{stored-new}
 use Rattle.joiner_law.proofs.Histories.{history-shift, history-quiet, history-part}
 use Rattle.joiner_law.proofs.WaitingPairs.{pairs-new}
 use Rattle.joiner_law.proofs.Partners.{taken-new, taken-end, parts_sent-new, parts_sent-end, parts_sent-none}
-use Rattle.joiner_law.proofs.PartnerPosts.{sent-new, link-moved, link-later, link-end, moved_ends-append, none-later, no_end-later, up_to-later, all-quiet, quiet-end}
-use Rattle.joiner_law.proofs.OneMessage.{feeders-grown, parts-same, append-nil, pairs-posted, told-posted, parts-quiet, parts-shift, step-new, who-is, first-kept, up_to-grown}
+use Rattle.joiner_law.proofs.PartnerPosts.{sent-new, link-moved, link-later, link-end, none-later, no_end-later, up_to-later, all-quiet, quiet-end}
+use Rattle.joiner_law.proofs.OneMessage.{feeders-grown, parts-same, pairs-posted, told-posted, parts-quiet, parts-shift, step-new, who-is, first-kept, up_to-grown}
+use Rattle.epoch_tags.proofs.Appends.{moved_ends-append}
 
 -- ---- a step is opened
 

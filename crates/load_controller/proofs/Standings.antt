@@ -19,6 +19,7 @@ use Rattle.load_controller.specs.Law.{ControllerLists, CountsMessages, CountsOne
 use Rattle.load_controller.specs.Standing.{ControllerStart, ControllerState, StandsFor, grown, with_message, with_sent, held_at, IsPassedOver, posts_for}
 use Rattle.load_controller.specs.Machine.{HoldsSettled, StandsWithin}
 use Rattle.load_controller.proofs.LinePosts.{posted_for}
+use Rattle.join_rows.proofs.Everywhere.{weaken}
 
 -- ---- small things
 
@@ -31,10 +32,6 @@ at_false b P Q is q = rw is q
 all_push : {M : Type 0} (P : M → Type 0) (ms : List M) (m : M) → AllByRecursion P ms → P m → AllByRecursion P (ms ++ m ∷ [])
 all_push P [] m all here = (here, tt)
 all_push P (x ∷ ms) m (first, all) here = (first, all_push P ms m all here)
-
-all_weaker : {M : Type 0} (P Q : M → Type 0) → ((m : M) → P m → Q m) → (ms : List M) → AllByRecursion P ms → AllByRecursion Q ms
-all_weaker P Q gives [] all = tt
-all_weaker P Q gives (m ∷ ms) (first, all) = (gives m first, all_weaker P Q gives ms all)
 
 pub grown_same : {M : Type 0} (at : ℕ) (m : M) (lists : ℕ → List M) (i : ℕ) → at ≡ i → grown at m lists i ≡ lists i ++ m ∷ []
 grown_same at m lists i same = rw (eq-eqb at i same) refl
@@ -63,7 +60,7 @@ counts_other rules line past cause q ms other c = record {
   passed = c.passed;
   splits = c.splits;
   are_counted = at_false (is_count_of q cause || is_drain_of q cause) (CountsOne q line past cause (λ earlier. AreCounted q (line ∷ past) earlier) c.counted) (AreCounted q (line ∷ past) c.counted) other c.are_counted;
-  not_in_place = all_weaker (λ m. ¬ IsInPlace line past q m) (λ m. ¬ IsInPlace (line_after rules line past cause) (line ∷ past) q m) (λ m never in_place. never (in_place_before rules line past cause q m in_place)) c.passed c.not_in_place;
+  not_in_place = weaken (λ m. ¬ IsInPlace line past q m) (λ m. ¬ IsInPlace (line_after rules line past cause) (line ∷ past) q m) (λ m never in_place. never (in_place_before rules line past cause q m in_place)) c.passed c.not_in_place;
 }
 
 -- a line of its own

@@ -1,11 +1,11 @@
 -- The answer over what is kept is the answer for the lists.
-use Rattle.std.proofs.Common.{◌≡◌, ◌<◌, ◌-◌, ◌^◌, min, max, ℕ, zero, suc, refl, ◌∙◌, ap, subst, arith, List, [], ◌∷◌, length, get_or}
+use Rattle.std.proofs.Common.{◌≡◌, ◌<◌, ◌-◌, ◌^◌, min, ℕ, refl, ◌∙◌, ap, subst, List, [], ◌∷◌, length, get_or}
 use Rattle.std.specs.Prelude.{map, slice_index, slice_index_or, IsPermutation}
 use Rattle.std.specs.List.{range_with_len}
 use Rattle.std.proofs.lemmas.Option.{slice_get-get_or}
 use Rattle.join_rows.specs.Lists.{greatest}
 use Rattle.join_rows.proofs.Bags.{SameBag-permutation, SameBag-sym}
-use Rattle.join_rows.proofs.Totals.{total_same}
+use Rattle.join_rows.proofs.Totals.{total_same, greatest_same}
 use Rattle.epoch_tags.specs.declared.tuple.Pair.{Pair}
 use Rattle.pair_collector.specs.declared.collected.Collected.{Collected}
 use Rattle.pair_collector.specs.Kept.{Kept}
@@ -22,10 +22,6 @@ map_of_map g f (x ∷ xs) = ap (λ ys. g (f x) ∷ ys) (map_of_map g f xs)
 map_same : {X Y : Type 0} (f g : X → Y) → ((x : X) → f x ≡ g x) → (xs : List X) → map f xs ≡ map g xs
 map_same f g same [] = refl
 map_same f g same (x ∷ xs) = ap (λ y. y ∷ map f xs) (same x) ∙ ap (λ ys. g x ∷ ys) (map_same f g same xs)
-
-greatest_same : (n : ℕ) (g h : ℕ → ℕ) → ((i : ℕ) → i < n → g i ≡ h i) → greatest n g ≡ greatest n h
-greatest_same zero g h same = refl
-greatest_same (suc n) g h same = ap (λ m. max m (g n)) (greatest_same n g h (λ i low. same i (omega arith))) ∙ ap (max (greatest n h)) (same n (omega arith))
 
 module _ (joiners : ℕ) (lists : CollectorLists) (state : CollectorState) (stands : StandsFor joiners lists state) where
   at_place : (j : ℕ) → j < joiners → slice_index_or state.joiners j nothing_kept ≡ kept_of (lists.from_joiner j)

@@ -1,5 +1,5 @@
 -- The next request is the one that the law has next.
-use Rattle.std.proofs.Common.{◌≡◌, ℕ, zero, suc, ◌+◌, ◌<◌, ◌⊎◌, ◌↔◌, inl, inr, refl, sym, ◌∙◌, ap, subst, arith, Bool, true, false, List, [], ◌∷◌, ◌++◌, drop, append_assoc, add-one}
+use Rattle.std.proofs.Common.{◌≡◌, ℕ, ◌+◌, ◌⊎◌, ◌↔◌, inl, inr, refl, sym, ◌∙◌, ap, subst, arith, Bool, true, false, List, [], ◌∷◌, ◌++◌, drop, append_assoc, add-one}
 use Rattle.std.specs.Prelude.{map}
 use Rattle.std.proofs.lemmas.Bool.{false≢true}
 use Rattle.std.proofs.lemmas.List.{append-nil}
@@ -18,6 +18,7 @@ use Rattle.reshuffler_core.specs.Machine.{IsStuck, Goes, Advances}
 use Rattle.reshuffler_core.proofs.FeederPosts.{request-over}
 use Rattle.reshuffler_core.proofs.CallResults.{whole_state, whole_posts}
 use Rattle.reshuffler_core.proofs.WholeCalls.{is_standing, as_own, sent_on, joined-controller}
+use Rattle.reshuffler_core.proofs.TakenMessages.{none_stopped}
 
 -- what is left to ask
 left : (batches : List (List Tuple)) (sent rest : List ToController) → sent ++ rest ≡ map ask_for batches ++ Drained ∷ [] → draineds sent ≡ 0
@@ -31,10 +32,6 @@ left (batch ∷ batches) (Ask dr ds ∷ sent) rest is none =
     rw add-one (left batches sent rest later none)
 left (batch ∷ batches) (Drained ∷ sent) rest is none = absurd (omega arith)
 left (batch ∷ batches) (Settled epoch ∷ sent) rest is none = absurd (cc)
-
-none_yet : (b : Bool) (n : ℕ) → b ≡ false → (b ≡ true ↔ (0 < n)) → n ≡ 0
-none_yet b zero is both = refl
-none_yet b (suc n) is both = absurd (false≢true (sym is ∙ both.1 (omega arith)))
 
 even : (b : Bool) (m n : ℕ) → b ≡ false → (b ≡ true ↔ (m ≡ n + 1)) → (m ≡ n) ⊎ (m ≡ n + 1) → m ≡ n
 even b m n is both (inl same) = same
@@ -52,7 +49,7 @@ module _ (s : FeederState) (lists : FeederLists) (stands : StandsFor s.start lis
   equal = even s.asked (asks lists.to_controller) (grants stands.taken) asked stands.asked stands.law.granted
 
   undrained : draineds lists.to_controller ≡ 0
-  undrained = none_yet s.drained (draineds lists.to_controller) drained stands.drained
+  undrained = none_stopped s.drained (draineds lists.to_controller) drained stands.drained
 
   rest_is : stands.law.asked.rest ≡ map ask_for s.to_come ++ Drained ∷ []
   rest_is = left s.start.batches lists.to_controller stands.law.asked.rest stands.law.asked.joins undrained

@@ -81,7 +81,7 @@ nothing_asked s Stop = all-controller End (2 ^ s.start.k)
 
 -- ---- the message taken
 
-none_stopped : (b : Bool) (n : ℕ) → b ≡ false → (b ≡ true ↔ (0 < n)) → n ≡ 0
+pub none_stopped : (b : Bool) (n : ℕ) → b ≡ false → (b ≡ true ↔ (0 < n)) → n ≡ 0
 none_stopped b zero is both = refl
 none_stopped b (suc n) is both = absurd (false≢true (sym is ∙ both.1 (omega arith)))
 

@@ -7,6 +7,7 @@ use native.Mathlib.Decide.{ℕ_discrete}
 use Rattle.ruled_links.specs.declared.parts.Part.{Part}
 use Rattle.ruled_links.specs.Delivery.{number_of}
 use Rattle.ruled_links.specs.Parts.{noted, set_known, has_part, IsIndexed}
+use Rattle.ruled_links.proofs.PartsLemmas.{note_from, tell_from}
 
 -- a part that is read where there is none
 pub any_part : Part
@@ -93,22 +94,13 @@ index_push places wider ps p h new room longer same k d lt = let n = number_of p
       ((let a : m < length places = old.0 in omega (arith, length-set {A = ℕ})), get_or-set_other wider n m (length ps) 0 apart ∙ same m old.0 ∙ old.1)
 ]
 
--- the index reads a part's sender alone
-noted_from : (b : Bool) (p : Part) → (cond b (record { from = p.from; taken = p.taken + 1; known = p.known - 1 }) p).from ≡ p.from
-noted_from true p = refl
-noted_from false p = refl
-
-told_from : (b : Bool) (left : ℕ) (p : Part) → (cond b (record { from = p.from; taken = p.taken; known = left }) p).from ≡ p.from
-told_from true left p = refl
-told_from false left p = refl
-
 index_map : (f : Part → Part) (places : List ℕ) (ps : List Part) → ((p : Part) → (f p).from ≡ p.from) → IsIndexed places ps → IsIndexed places (map f ps)
 index_map f places ps same h k d lt = let less : k < length ps = omega (arith, length-map ps f) in
     let here : (get_or (map f ps) k d).from ≡ (get_or ps k d).from = ap (λ (p : Part). p.from) (get_or-map f ps k d d less) ∙ same (get_or ps k d) in
     subst (λ (a : Actor). (number_of a < length places) × (get_or places (number_of a) 0 ≡ k)) (sym here) (h k d less)
 
 pub index_notes : (n : ℕ) (places : List ℕ) (ps : List Part) → IsIndexed places ps → IsIndexed places (map (noted n) ps)
-index_notes n places ps h = index_map (noted n) places ps (λ p. noted_from (eqb (number_of p.from) n) p) h
+index_notes n places ps h = index_map (noted n) places ps (λ p. note_from (eqb (number_of p.from) n) p) h
 
 pub index_tells : (n left : ℕ) (places : List ℕ) (ps : List Part) → IsIndexed places ps → IsIndexed places (map (set_known n left) ps)
-index_tells n left places ps h = index_map (set_known n left) places ps (λ p. told_from (eqb (number_of p.from) n) left p) h
+index_tells n left places ps h = index_map (set_known n left) places ps (λ p. tell_from (eqb (number_of p.from) n) left p) h

@@ -23,6 +23,8 @@ use Rattle.store_parts.specs.Keyed.{at_places, is_key_true, is_key_true_at, valu
 use Rattle.store_parts.specs.Matches.{other_side, evaluated, is_named, is_found, does_match, does_match_at, pair_of, matches, AppendsFront}
 use Rattle.store_parts.proofs.Keys.{band_is_key, no_key, at_places_between}
 use Rattle.store_parts.proofs.OneMoreTuple.{matches-append, take_one, count_by-append}
+use Rattle.join_rows.proofs.Bags.{sum-same}
+use Rattle.theta_pred.proofs.KeyMembers.{and_left}
 
 -- ---- sums over filters
 
@@ -53,10 +55,6 @@ pub filter_none : {X : Type 0} (p : X → Bool) → ((x : X) → p x ≡ false) 
 filter_none p none [] = refl
 filter_none p none (x ∷ xs) = ap (λ b. cond b (x ∷ filter p xs) (filter p xs)) (none x) ∙ filter_none p none xs
 
-sum_same : {X : Type 0} (f g : X → ℕ) → ((x : X) → f x ≡ g x) → (xs : List X) → sum_by f xs ≡ sum_by g xs
-sum_same f g same [] = refl
-sum_same f g same (x ∷ xs) = sum_by-cons f x xs ∙ ap (λ n. n + sum_by f xs) (same x) ∙ ap (λ n. g x + n) (sum_same f g same xs) ∙ sym (sum_by-cons g x xs)
-
 -- 1 if true, else 0
 abbrev tally : Bool → ℕ
 tally b = cond b 1 0
@@ -70,7 +68,7 @@ one_if_both false false = refl
 pub count_of_filter : {X : Type 0} (p q r : X → Bool) → ((x : X) → q x ≡ r x) → (xs : List X) → count_by p (filter q xs) ≡ count_by (λ x. p x && r x) xs
 count_of_filter p q r same xs =
     sum-filter (λ x. tally (p x)) q xs
-    ∙ sum_same (λ x. cond (q x) (tally (p x)) 0) (λ x. tally (p x && r x)) (λ x. ap (λ b. cond b (tally (p x)) 0) (same x) ∙ one_if_both (p x) (r x)) xs
+    ∙ sum-same (λ x. cond (q x) (tally (p x)) 0) (λ x. tally (p x && r x)) (λ x. ap (λ b. cond b (tally (p x)) 0) (same x) ∙ one_if_both (p x) (r x)) xs
 
 -- ---- the law of the key
 
@@ -82,12 +80,8 @@ key_at : (side : Side) (theta : Meaning) (key : KeyAtom) (t other : Tuple) → I
 key_at R theta key t other law own holds = (law (atom_of key) own).follows t.cells other.cells holds
 key_at S theta key t other law own holds = (law (atom_of key) own).follows other.cells t.cells holds
 
-pub left_true : (a b : Bool) → (a && b) ≡ true → a ≡ true
-left_true true b both = refl
-left_true false b both = absurd (false≢true both)
-
 found_has_key : (theta : Meaning) (key : KeyAtom) (t : Tuple) (which : Which) (other : Tuple) → IsLaw theta → key_of theta.formula ≡ Some (atom_of key) → is_found theta t which other ≡ true → is_key_true key t other ≡ true
-found_has_key theta key t which other law own found = key_at t.side theta key t other law own (left_true (does_match theta t other) (is_named which other) found)
+found_has_key theta key t which other law own found = key_at t.side theta key t other law own (and_left (does_match theta t other) (is_named which other) found)
 
 -- ---- the places of a band
 

@@ -15,6 +15,7 @@ use Rattle.std.proofs.lemmas.Int.{ints}
 use Rattle.store_parts.specs.Places.{entries_from, is_backward, lies, places_between}
 use Rattle.store_parts.proofs.SortedLists.{Rises, same_rising, rises_from_sorted}
 use Rattle.store_parts.specs.Places.{at_each, IsMapOf, start_of, end_of}
+use Rattle.store_parts.proofs.Keys.{both}
 
 -- ---- the test of a key
 
@@ -39,9 +40,6 @@ int_lt-asym (pos a) (pos b) less = grind (arith, nat_tests)
 int_lt-asym (pos a) (negsuc b) less = grind (arith, nat_tests)
 int_lt-asym (negsuc a) (pos b) less = refl
 int_lt-asym (negsuc a) (negsuc b) less = grind (arith, nat_tests)
-
-both : (a b c d : Bool) → a ≡ b → c ≡ d → (a && c) ≡ (b && d)
-both a b c d p q = cc
 
 low_is : (x v : ℤ) → is_le (int_cmp x v) ≡ int_le x v
 low_is x v = le_plain (int_lt x v) (int_lt v x) (int_lt-asym x v) ∙ sym (int_le-not x v)

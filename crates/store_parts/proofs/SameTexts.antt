@@ -20,7 +20,8 @@ use Rattle.store_parts.specs.Keyed.{at_places, indexed_at, numbers_at}
 use Rattle.store_parts.specs.Texts.{text_of, number_of}
 use Rattle.store_parts.specs.Matches.{other_side, evaluated_by_text, has_same_text, is_named, is_found, does_match, does_match_at, pair_of, matches}
 use Rattle.store_parts.proofs.Keys.{at_places_between}
-use Rattle.store_parts.proofs.KeyProbes.{filter_of_filter, count_of_filter, left_true, places_below, at_places-append, at_places_more, at_place}
+use Rattle.store_parts.proofs.KeyProbes.{filter_of_filter, count_of_filter, places_below, at_places-append, at_places_more, at_place}
+use Rattle.theta_pred.proofs.KeyMembers.{and_left}
 
 -- ---- the places of a number
 
@@ -127,7 +128,7 @@ pub matches_by_text : (theta : Meaning) (text : TextAtom) (t : Tuple) (which : W
     → matches theta t which (filter (has_same_text text t) others) ≡ matches theta t which others
 matches_by_text theta text t which others law =
     ap (map (pair_of t)) (filter_of_filter (is_found theta t which) (has_same_text text t)
-    (λ other found. text_at t.side theta text t other law (left_true (does_match theta t other) (is_named which other) found)) others)
+    (λ other found. text_at t.side theta text t other law (and_left (does_match theta t other) (is_named which other) found)) others)
 
 pub count_by_text : (text : TextAtom) (t : Tuple) (which : Which) (others : List Tuple)
     → count_by (is_named which) (filter (has_same_text text t) others) ≡ evaluated_by_text text t which others

@@ -22,19 +22,9 @@ use Rattle.trace_law.proofs.Stores.{is_stored}
 use Rattle.trace_law.proofs.Membership.{HasAllOf, complete}
 use Rattle.join_rows.proofs.Totals.{gather_same, gather-filter}
 use Rattle.epoch_tags.proofs.EpochShifts.{front_goes}
+use Rattle.joiner_law.proofs.StepStores.{shifts-are}
 
 -- ---- shifts
-
-shifts_go : (b : ℕ → ℕ) (e : ℕ) (ms : List ToJoiner) → TurnsGoBy b ms → AllByRecursion (λ shift. shift ≡ b e) (turn_shifts e ms)
-shifts_go b e [] go = tt
-shifts_go b e (Tup x ∷ ms) go = shifts_go b e ms go
-shifts_go b e (Turn epoch shift ∷ ms) (is, go) = elim (cases_eq epoch e) [
-  | inl same ↦ rw (eq-eqb epoch e same) (is ∙ ap b same, shifts_go b e ms go)
-  | inr differ ↦ rw (ne_eqb epoch e differ) (shifts_go b e ms go)
-]
-shifts_go b e (End ∷ ms) go = shifts_go b e ms go
-shifts_go b e (Moved epoch x ∷ ms) go = shifts_go b e ms go
-shifts_go b e (MovedEnd epoch ∷ ms) go = shifts_go b e ms go
 
 -- a list that has turned to epoch v shows its shift
 has_shift : (e v : ℕ) (ms : List ToJoiner) → CountsUp e ms → e < v → v ≤ e + turns ms → 0 < length (turn_shifts v ms)
@@ -113,7 +103,7 @@ module _ (input : Input) (setting : Setting) (f : Family) (agrees : IsAgreeing i
             let here = has_shift 0 (0 + n) (t.from_feeder at.0) (law.counts_up at.0 at.1) (omega arith) (omega (arith, at.2)) in
             let front = front_of j at.0 h at.1 in
             let all_go = answers_go setting.k j 0 (first_line setting).shift b (feeder_start input setting at.0).batches (agrees.taken_by_feeder at.0) (goes at.0 at.1) in
-            let go = shifts_go b (0 + n) (t.from_feeder at.0) (front_goes b (t.from_feeder at.0) front.0 (subst (λ ms. TurnsGoBy b ms) (sym front.1) all_go)) in
+            let go = shifts-are b (0 + n) (t.from_feeder at.0) (front_goes b (t.from_feeder at.0) front.0 (subst (λ ms. TurnsGoBy b ms) (sym front.1) all_go)) in
             one_value (turn_shifts (0 + n) (t.from_feeder at.0)) (shift_after s t n) (b (0 + n)) (law.same_shifts at.0 n at.1) go here ∙ ap b is
       ]
 

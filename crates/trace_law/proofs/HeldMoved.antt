@@ -25,9 +25,10 @@ use Rattle.load_controller.specs.Rows.{past_of}
 use Rattle.load_controller.specs.Law.{ControllerLaw, CountsMessages, CountsSettled, sent_by}
 use Rattle.trace_law.specs.Family.{Family, IsAgreeing, feeder_start, joiner_start, rules_of, first_line}
 use Rattle.trace_law.specs.Laws.{HoldsAMovedRow}
-use Rattle.trace_law.proofs.TwoMigrationsLaws.{all_of, append-nil}
 use Rattle.trace_law.proofs.Late.{input, setting, r_row, s_row, old_row, pair}
 use Rattle.trace_law.proofs.LateLaws.{valid}
+use Rattle.std.proofs.lemmas.List.{append-nil}
+use Rattle.joiner_law.proofs.Row.{all_of}
 
 -- ---- the lists
 

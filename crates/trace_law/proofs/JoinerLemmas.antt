@@ -1,5 +1,5 @@
 -- What a joiner can take of an open step, and what its counts and its last words say.
-use Rattle.std.proofs.Common.{◌≡◌, ℕ, zero, suc, ◌+◌, ◌<◌, ◌≤◌, refl, sym, ap, subst, arith, List, [], ◌∷◌, ◌++◌}
+use Rattle.std.proofs.Common.{◌≡◌, ℕ, zero, suc, ◌<◌, ◌≤◌, refl, sym, ap, subst, arith, List, [], ◌∷◌, ◌++◌}
 use Rattle.std.specs.Prelude.{map}
 use Rattle.join_rows.specs.Lists.{greatest}
 use Rattle.epoch_tags.specs.declared.message.ToController.TheVariants.{Settled}

@@ -17,9 +17,10 @@ use Rattle.trace_law.specs.Join.{table_of, tickets_of}
 use Rattle.trace_law.specs.Validity.{IsFor, IsValid}
 use Rattle.trace_law.specs.Family.{IsAgreeing, IsQuiet, IsFinished as IsFinishedFamily, feeder_start, joiner_start}
 use Rattle.trace_law.specs.Laws.{FinishedWithAnOldRowMoved}
-use Rattle.trace_law.proofs.TwoMigrationsLaws.{all_of, append-nil}
 use Rattle.trace_law.proofs.Late.{input, setting, orders, requests, fed, passed, founds, last_words, collected, taken, family}
 use Rattle.trace_law.proofs.LateController.{controller_law}
+use Rattle.std.proofs.lemmas.List.{append-nil}
+use Rattle.joiner_law.proofs.Row.{all_of}
 
 abbrev start : ℕ → JoinerStart
 start j = joiner_start input setting j

@@ -37,7 +37,7 @@ use Rattle.trace_law.proofs.Journals.{shift_in, feeders_go, begins}
 use Rattle.join_rows.proofs.Totals.{greatest_above}
 use Rattle.trace_law.proofs.Links.{has_link, none_received}
 use Rattle.trace_law.proofs.Lawful.{lines_of}
-use Rattle.epoch_tags.proofs.Appends.{turns-append, moved_ends_both}
+use Rattle.epoch_tags.proofs.Appends.{turns-append, moved_ends-append}
 use Rattle.grid_map.proofs.Halves.{partner_below, back_again}
 use Rattle.epoch_tags.proofs.EpochShifts.{turns_at}
 use Rattle.trace_law.proofs.JoinerLemmas.{can_take_of_joiner, settled_of, has_fin, greatest_most}
@@ -293,7 +293,7 @@ module _ (input : Input) (setting : Setting) (f : Family) (valid : IsValid input
             | inl none ↦
                 let fall : NeverFalls 0 ((took j).from_joiner q ++ m ∷ rest) = subst (λ ms. NeverFalls 0 ms) (sym splits) (falls q j hq h) in
                 let here = at_least 0 ((took j).from_joiner q) rest m fall in
-                let parts = moved_ends_both (0 + n + 1) ((took j).from_joiner q) (m ∷ rest) in
+                let parts = moved_ends-append (0 + n + 1) ((took j).from_joiner q) (m ∷ rest) in
                 let is = ap (λ ms. moved_ends (0 + n + 1) ms) splits in
                 let tail = rest_falls 0 ((took j).from_joiner q) (m ∷ rest) fall in
                 let few : here.0 ≤ 0 + n + 1 = sooner tail.0 (0 + n + 1) here.0 m rest tail.1 (omega arith) here.1 in

@@ -1,5 +1,5 @@
 -- The actors of the finished family with two migrations keep their laws, and agree.
-use Rattle.std.proofs.Common.{◌≡◌, ℕ, zero, suc, ◌+◌, ◌<◌, ◌≤◌, ◌^◌, ◌==◌, ◌⊎◌, inl, inr, refl, sym, ◌∙◌, ap, subst, arith, Bool, true, false, List, [], ◌∷◌, ◌++◌, length, cond}
+use Rattle.std.proofs.Common.{◌≡◌, ℕ, zero, suc, ◌+◌, ◌<◌, ◌≤◌, ◌^◌, ◌==◌, ◌⊎◌, inl, inr, refl, sym, ◌∙◌, subst, arith, Bool, true, false, [], ◌∷◌, ◌++◌, length, cond}
 use Rattle.std.specs.Prelude.{All, filter}
 use Rattle.std.specs.List.{AllByRecursion}
 use Rattle.std.proofs.lemmas.Bool.{cases_eq, ne_eqb, eq-eqb}
@@ -8,11 +8,10 @@ use Rattle.join_rows.specs.declared.table.Side.TheVariants.{R, S}
 use Rattle.join_rows.specs.Lists.{SameBag}
 use Rattle.epoch_tags.specs.Messages.{moved_of, moved_ends, turn_shifts}
 use Rattle.epoch_tags.specs.Orders.{CountsUp, NeverFalls}
-use Rattle.epoch_tags.specs.declared.message.ToJoiner.{ToJoiner}
 use Rattle.epoch_tags.specs.declared.message.ToCollector.TheVariants.{Fin}
 use Rattle.migration_plan.specs.Steps.{AreNeighbours, is_of}
 use Rattle.reshuffler_core.specs.Law.{FeederLaw, answers}
-use Rattle.joiner_law.specs.Law.{JoinerLaw, JoinerStart, IsTakenOf, IsSettled, AllTurned, IsAtRest, shift_after, partner_of, exchanged, store, found, fin}
+use Rattle.joiner_law.specs.Law.{JoinerLaw, JoinerStart, IsSettled, AllTurned, IsAtRest, shift_after, partner_of, exchanged, store, found, fin}
 use Rattle.std.proofs.lemmas.List.Elements.{All-replicate, All-from_recursion}
 use Rattle.theta_pred.specs.Truth.{width_of}
 use Rattle.trace_law.specs.Join.{table_of, tickets_of}
@@ -23,6 +22,8 @@ use Rattle.trace_law.specs.Rows.{input}
 use Rattle.grid_map.proofs.Halves.{back_again}
 use Rattle.trace_law.proofs.TwoMigrations.{setting, orders, fed, other, part, passed, found_first, found_then, taken, family}
 use Rattle.trace_law.proofs.TwoMigrationsController.{controller_law}
+use Rattle.std.proofs.lemmas.List.{append-nil}
+use Rattle.joiner_law.proofs.Row.{all_of}
 
 abbrev start : ℕ → JoinerStart
 start j = joiner_start input setting j
@@ -51,13 +52,6 @@ feeder_law = record {
 }
 
 -- ---- the joiners: what holds of each
-
-pub append-nil : {A : Type 0} (xs : List A) → xs ++ [] ≡ xs
-append-nil [] = refl
-append-nil (x ∷ xs) = ap (λ ys. x ∷ ys) (append-nil xs)
-
-pub all_of : (can_take : ToJoiner → Type 0) (ms : List ToJoiner) → IsTakenOf can_take ms ms
-all_of can_take ms = record { held = []; splits = append-nil ms; stuck = λ m rest is. absurd (cc) }
 
 counts_up : (j : ℕ) → CountsUp 0 (fed j)
 counts_up j = (refl, (refl, (refl, (refl, (refl, (refl, (refl, (refl, (refl, (refl, refl))))))))))
