@@ -29,14 +29,13 @@ use Rattle.link_trace.specs.Numbers.{actor_at, at_number, number}
 use Rattle.link_trace.specs.declared.machines.Core.{Core}
 use Rattle.link_trace.specs.declared.machines.Core.TheVariants.{Feeder as TheFeeder, Joiner as TheJoiner, Controller as TheController, Collector as TheCollector}
 use Rattle.link_trace.proofs.Balances.{same_is}
-use Rattle.link_trace.proofs.OwnNumbers.{is_actor, same_self}
+use Rattle.link_trace.proofs.OwnNumbers.{is_actor, same_self, number_there}
 use Rattle.link_trace.proofs.EventCounts.{AreLinked, IsLinked, began_counts, count, left_linked, linked_after, took_counts}
 use Rattle.join_runtime.specs.Views.{SeatView, lists_of}
 use Rattle.join_runtime.specs.Turns.{MakesEvent, MayBegin, Rests, Runs}
 use Rattle.join_runtime.specs.Bouts.{AllAdvance, Extends, IsReady, SeatsView, SomeReady, StandsFor, lists_at, lists_in}
 use Rattle.join_runtime.specs.Endings.{IsFinishedFamily}
 use Rattle.join_runtime.proofs.SeatTurns.{alike_self}
-use Rattle.join_runtime.proofs.FramePlaces.{number_there}
 use Rattle.join_runtime.proofs.EventRuns.{prefix_self, runs_received, runs_sent, runs_stand}
 
 -- ---- lists that grow

@@ -51,11 +51,6 @@ knows_some (s ∷ senders) some =
       λ n known. let is = known.0 refl in omega (arith, is, e),
     )
 
--- who the senders are
-pub senders_told : (from : Actor) (n : ℕ) (senders : List OfSender) → senders_of (told from n senders) ≡ senders_of senders
-senders_told from n [] = refl
-senders_told from n (s ∷ senders) = ap (λ ss. s.from ∷ ss) (senders_told from n senders)
-
 pub is_sender-named : (a : Actor) (senders : List OfSender) → is_sender a (map fresh (senders_of senders)) ≡ is_sender a senders
 is_sender-named a [] = refl
 is_sender-named a (s ∷ senders) = ap (λ b. cond (eqb (number_of s.from) (number_of a)) true b) (is_sender-named a senders)

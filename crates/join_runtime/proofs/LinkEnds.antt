@@ -4,11 +4,11 @@ use Rattle.std.proofs.lemmas.Bool.{cases_lt}
 use Rattle.std.proofs.lemmas.List.{length-map}
 use Rattle.ruled_links.specs.Ends.{Sending}
 use Rattle.ruled_links.specs.Delivery.{number_of}
-use Rattle.ruled_links.proofs.PartsLemmas.{name_once}
+use Rattle.ruled_links.proofs.PartsLemmas.{name_once, senders_told}
 use Rattle.join_runtime.specs.Views.{SeatView, Frame, lists_of, frame_of, address_of}
 use Rattle.join_runtime.specs.Turns.{IsAlike}
 use Rattle.join_runtime.specs.Joins.{AllLead, ActorsDiffer, Leads, Tells, IsSlotOf, IsGathered, IsKnown, AreGatheredBelow, slot_of}
-use Rattle.join_runtime.proofs.KnownCounts.{knows_told, knows_other, sender_told, senders_told}
+use Rattle.join_runtime.proofs.KnownCounts.{knows_told, knows_other, sender_told}
 use Rattle.join_runtime.proofs.FramePlaces.{frames_same, frame_at, address_at}
 
 -- ---- one mouth

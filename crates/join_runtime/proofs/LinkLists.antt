@@ -14,12 +14,12 @@ use Rattle.ruled_links.specs.Inboxes.{messages_of, is_sender, fresh, all_known}
 use Rattle.link_trace.specs.Lists.{ActorLists, no_lists}
 use Rattle.link_trace.specs.Families.{AreFronts}
 use Rattle.link_trace.specs.Numbers.{number, actor_at, at_number}
-use Rattle.link_trace.proofs.OwnNumbers.{number_actor, none_some, some_is}
+use Rattle.link_trace.proofs.OwnNumbers.{number_actor, none_some, some_is, number_there}
 use Rattle.join_runtime.specs.Views.{SeatView, Frame, lists_of, frame_of, address_of, contents, received_of, sent_by, sent_at, sent_through}
 use Rattle.join_runtime.specs.Joins.{AreJoined, ActorsDiffer, Leads, AreSettled, HasMouthTo, IsKnown, IsGathered, Knows, slot_of}
 use Rattle.join_runtime.specs.Bouts.{SeatsView, lists_at, lists_in, AllRest, IsReady, IsStill, SomeReady}
 use Rattle.join_runtime.proofs.KnownCounts.{is_sender-named, knows_none, knows_some}
-use Rattle.join_runtime.proofs.FramePlaces.{actors_differ, frame_at, address_at, number_there}
+use Rattle.join_runtime.proofs.FramePlaces.{actors_differ, frame_at, address_at}
 use Rattle.join_runtime.proofs.LinkEnds.{within, leads_at}
 
 -- a number is below that of all actors

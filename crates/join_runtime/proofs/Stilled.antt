@@ -1,14 +1,11 @@
 -- Where seats are still, their collector is complete.
-use Rattle.std.proofs.Common.{◌≡◌, ℕ, ◌^◌, ◌<◌, ◌⊎◌, inl, inr, ap, subst, ◌∙◌, true, Option, Some, None, List, filter_map, arith}
+use Rattle.std.proofs.Common.{◌≡◌, ℕ, ◌^◌, ◌<◌, ◌⊎◌, ap, subst, ◌∙◌, true, Option, Some, None, filter_map}
 use Rattle.std.specs.Prelude.{slice_get}
 use Rattle.std.proofs.lemmas.Option.{get_or_from_slice_get, slice_get_within}
 use Rattle.epoch_tags.specs.declared.actor.Actor.{Actor}
 use Rattle.epoch_tags.specs.declared.actor.Actor.TheVariants.{Feeder, Joiner, Controller, Collector}
-use Rattle.epoch_tags.specs.declared.message.ToFeeder.{ToFeeder}
 use Rattle.epoch_tags.specs.Messages.{asks, draineds, grants}
 use Rattle.epoch_tags.specs.Posts.{joiner_msg, feeder_msg, controller_msg, collector_msg}
-use Rattle.reshuffler_core.specs.Law.{FeederLaw, FeederStart}
-use Rattle.reshuffler_core.proofs.TakesAll.{taken_is_one}
 use Rattle.pair_collector.specs.Law.{IsComplete}
 use Rattle.pair_collector.proofs.KeptMessages.{complete_says}
 use Rattle.trace_law.specs.declared.input.Input.{Input}
@@ -16,8 +13,8 @@ use Rattle.trace_law.specs.declared.setting.Setting.{Setting}
 use Rattle.trace_law.specs.Validity.{IsValid}
 use Rattle.trace_law.specs.Laws.{QuietIsFinished}
 use Rattle.trace_law.specs.Family.{IsQuiet, feeder_start}
-use Rattle.link_trace.specs.Lists.{ActorLists, collector_lists, feeder_lists}
-use Rattle.link_trace.specs.Standing.{OfCollector, OfFeeder, Stands, Waits}
+use Rattle.link_trace.specs.Lists.{ActorLists, collector_lists}
+use Rattle.link_trace.specs.Standing.{OfCollector, Stands, Waits}
 use Rattle.link_trace.specs.Families.{AreFronts}
 use Rattle.link_trace.specs.Numbers.{at_number, number}
 use Rattle.link_trace.specs.declared.machines.Core.{Core}
@@ -27,18 +24,7 @@ use Rattle.join_runtime.specs.Views.{SeatView}
 use Rattle.join_runtime.specs.Bouts.{IsStill, SeatsView, StandsFor, lists_in, seat_of}
 use Rattle.join_runtime.specs.Endings.{family_in, is_collected, is_complete_at, is_complete_core}
 use Rattle.join_runtime.proofs.FamilyOfSeats.{agrees, stands_in}
-
--- a feeder that waits has drained, or its last batch isn't granted
-waits_says : (p feeders : ℕ) (s : FeederStart) (ls : ActorLists) (core : Core) (taken : List ToFeeder) → Stands (OfFeeder p feeders s) ls core → FeederLaw s (feeder_lists ls) taken → Waits core
-    → (0 < draineds (feeder_lists ls).to_controller) ⊎ (grants taken < asks (feeder_lists ls).to_controller)
-waits_says p feeders s ls (TheFeeder f) taken st law (inl asked) =
-    let one = st.asked.0 asked in
-    let same = ap grants (taken_is_one s (feeder_lists ls) st.taken taken st.law law) in
-    inr (omega (arith, one, same))
-waits_says p feeders s ls (TheFeeder f) taken st law (inr drained) = inl (st.drained.0 drained)
-waits_says p feeders s ls (TheJoiner c) taken st law waits = absurd st
-waits_says p feeders s ls (TheController c) taken st law waits = absurd st
-waits_says p feeders s ls (TheCollector c) taken st law waits = absurd st
+use Rattle.link_trace.proofs.Stilled.{waits_says}
 
 -- a collector's machine that took all is complete
 complete_core : (n : ℕ) (ls : ActorLists) (core : Core) → Stands (OfCollector n) ls core → IsComplete n (collector_lists ls) → is_complete_core core ≡ true
