@@ -3,7 +3,7 @@
 ghost use Rattle.std.specs.Prelude.{◌≡◌, ◌≢◌, ◌<◌, ◌≤◌, ◌+◌, ℕ, Err, IfOk, OnOk, OnErr, length};
 ghost use Rattle.std.specs.Io.KnownBytes.{append_known};
 ghost use Rattle.join_rows.specs.Shelves.{last_fault};
-ghost use Rattle.join_rows.specs.Sinks.{AppendsFront};
+ghost use Rattle.join_rows.specs.Sinks.{AppendsFront, PutsSome};
 ghost use Rattle.trace_law.specs.Validity.{IsValidInput, IsValidSetting};
 ghost use Rattle.trace_law.specs.Join.{nested_loop};
 ghost use Rattle.trace_law.specs.Runs.{IsRunOf};
@@ -55,6 +55,7 @@ fn put_lines<K: Sink>(alloc: Global, pairs: &[Pair], sink: &mut K) -> Result<(),
     ensures write { result ≡ Err Write' → K.faults sink.old < K.faults sink.new }
     ensures takes { (more : ℕ) → K.takes sink.old (length (pair_lines pairs.now) + more)
         → (result ≢ Err Write') × OnOk result (K.takes sink.new more) }
+    ensures left { PutsSome (K.written sink.old) (K.written sink.new) (K.takes sink.old) (K.takes sink.new) }
 {
     let text = pairs_text(alloc, pairs)?;
     match put_all(sink, text.as_bytes()) {
@@ -87,6 +88,7 @@ pub fn run_early<R: Threads + Wait + Sync, G: Gate, K: Sink>(
     ensures kept { result ≢ Err Write' → K.faults sink.new ≡ K.faults sink.old }
     ensures takes { (more : ℕ) → K.takes sink.old (length (pair_lines (nested_loop input.now)) + more)
         → (result ≢ Err Write') × OnOk result (K.takes sink.new more) }
+    ensures left { PutsSome (K.written sink.old) (K.written sink.new) (K.takes sink.old) (K.takes sink.new) }
 {
     limits_suffice();
     events_are_few();

@@ -2,6 +2,7 @@ use Rattle.std.proofs.Common.{◌∙◌, ◌^◌, List, refl, sym, subst, arith,
 use Rattle.std.specs.Prelude.{IsPermutation}
 use Rattle.epoch_tags.specs.declared.tuple.Pair.{Pair}
 use Rattle.pair_collector.specs.Fresh.{pairs_since}
+use Rattle.join_report.proofs.Puts.{PutsSome-refl, PutsSome-trans}
 use Rattle.join_runtime.specs.Early.{collected_in}
 use Rattle.join_runtime.specs.Endings.{lists_left}
 use Rattle.join_runtime.proofs.Counted.{IsCounted, few_bouts, goes_on}
@@ -14,6 +15,7 @@ loop-init g c =
     let said = c.in_ok-seats.ensures in
     record {
       put = nothing_put c.args.input.now c.args.setting.now c.in_ok-seats.seats (g.K.Sink.written c.args.sink.now) (g.K.Sink.takes c.args.sink.now) said.stands said.empty said.given;
+      left = PutsSome-refl (g.K.Sink.written c.args.sink.now) (g.K.Sink.takes c.args.sink.now);
       counts = refl;
     }
 
@@ -33,6 +35,8 @@ loop-preserved g c =
           (g.K.Sink.takes c.args.sink.now) (g.K.Sink.takes c.loop.sink) put way (said.went went) said.extends c.as_slice.result.now (λ earlier st gave. subst (λ (ps : List Pair). IsPermutation (pairs_since (2 ^ setting.k) earlier (collected_in c.bout.new.seats)) ps) (sym c.as_slice.ensures) (c.in_ok-fresh.ensures.gives input setting earlier st gave))
           c.fresh.new.self c.fresh.ensures.lists (c.fresh.ensures.stands input setting) (news.given input setting) (g.K.Sink.written c.put_lines.new.sink) c.in_ok-put_lines.ensures.written
           (g.K.Sink.takes c.put_lines.new.sink) (λ more has. (c.in_ok-put_lines.ensures.takes more has).1);
+      left = PutsSome-trans (g.K.Sink.written c.args.sink.now) (g.K.Sink.written c.loop.sink) (g.K.Sink.written c.put_lines.new.sink)
+          (g.K.Sink.takes c.args.sink.now) (g.K.Sink.takes c.loop.sink) (g.K.Sink.takes c.put_lines.new.sink) c.loop.invariant.left c.in_ok-put_lines.ensures.left;
       counts = c.in_ok-put_lines.ensures.kept (λ e. cc e) ∙ c.loop.invariant.counts;
     }
 
@@ -82,6 +86,14 @@ returns-in_err-put_lines-clause-takes g c more has =
     c.takes_nothing_wrong.ensures valid more has in
     let other = (c.in_err-put_lines.ensures.takes _ room).0 in
     (search (rules, other), search rules)
+
+pub returns-in_err-seats-clause-left : goal.returns-in_err-seats-clause-left
+returns-in_err-seats-clause-left g c = PutsSome-refl (g.K.Sink.written c.args.sink.now) (g.K.Sink.takes c.args.sink.now)
+
+pub returns-in_err-put_lines-clause-left : goal.returns-in_err-put_lines-clause-left
+returns-in_err-put_lines-clause-left g c =
+    PutsSome-trans (g.K.Sink.written c.args.sink.now) (g.K.Sink.written c.loop.sink) (g.K.Sink.written c.put_lines.new.sink)
+    (g.K.Sink.takes c.args.sink.now) (g.K.Sink.takes c.loop.sink) (g.K.Sink.takes c.put_lines.new.sink) c.loop.invariant.left c.in_err-put_lines.ensures.left
 
 pub returns-in_err-finish-clause-lines : goal.returns-in_err-finish-clause-lines
 returns-in_err-finish-clause-lines g c =
