@@ -2,12 +2,13 @@
 
 use super::inputs::{eight_rows_a_side, four_joiners};
 use crate::machines::Core;
-use crate::{Input, Run, Step, World};
+use crate::{Input, Run, Setting, Step, World};
 use epoch_tags::{Actor, Tuples};
 use join_rows::Side;
 use joiner_core::Joiner;
 use load_controller::{Cause, Journal};
 use std::alloc::{AllocError, Global};
+use std::process::Abort;
 use std::test::Fail;
 
 // The links of one feeder and four joiners, in the order of a replay, a letter for each end: the feeder, the joiners
@@ -111,25 +112,39 @@ fn drain_place(journal: &Journal) -> Option<usize> {
         .position(|line| line.cause == Cause::Drain { feeder: 0 })
 }
 
-fn made_by_hand(alloc: Global, input: &Input) -> Result<(u64, Run), AllocError> {
-    let setting = four_joiners();
+/// A world of a valid input and setting.
+pub(super) fn started<'a>(
+    alloc: Global,
+    input: &'a Input,
+    setting: &Setting,
+) -> Result<World<'a>, AllocError> {
     if !input.valid() || !setting.valid() {
         return Err(AllocError);
     }
-    let mut world = World::start(alloc, input, &setting)?;
-    let events = make_all(&mut world)?;
-    let stored = rightly_stored(&world);
+    World::start(alloc, input, setting)
+}
+
+/// The run of a world that is done.
+pub(super) fn finished(world: World<'_>, events: u64) -> Result<Run, AllocError> {
     if !world.done() {
         return Err(AllocError);
     }
-    Ok((stored, world.finish(events)?))
+    world.finish(events)
 }
 
-#[test]
-fn eight_rows_a_side_by_hand(rt: HostRuntime) -> Result<(), Fail> {
-    let input = eight_rows_a_side(rt.alloc())?;
-    let (stored, run) = made_by_hand(rt.alloc(), &input)?;
-    assert_eq!(rt; stored, 32, "rows that are stored with their stamps");
+fn made_in(mut world: World<'_>) -> Result<(u64, Run), AllocError> {
+    let events = make_all(&mut world)?;
+    let stored = rightly_stored(&world);
+    let run = finished(world, events)?;
+    Ok((stored, run))
+}
+
+fn made_by_hand(alloc: Global, input: &Input) -> Result<(u64, Run), AllocError> {
+    let world = started(alloc, input, &four_joiners())?;
+    made_in(world)
+}
+
+fn has_each_part(rt: &impl Abort, run: &Run) {
     assert_eq!(rt;
         epochs_number(&run.journal),
         1_1111_1122_2222,
@@ -143,5 +158,13 @@ fn eight_rows_a_side_by_hand(rt: HostRuntime) -> Result<(), Fail> {
     assert_eq!(rt; run.moved.as_slice(), [0, 8].as_slice(), "moved");
     assert_eq!(rt; run.made.as_slice(), [16, 16, 16, 16].as_slice(), "made");
     assert_eq!(rt; run.pairs.len(), 64, "pairs");
+}
+
+#[test]
+fn eight_rows_a_side_by_hand(rt: HostRuntime) -> Result<(), Fail> {
+    let input = eight_rows_a_side(rt.alloc())?;
+    let (stored, run) = made_by_hand(rt.alloc(), &input)?;
+    assert_eq!(rt; stored, 32, "rows that are stored with their stamps");
+    has_each_part(&rt, &run);
     Ok(())
 }

@@ -2,13 +2,35 @@
 
 use super::inputs::input;
 use super::seeds::replayed;
-use crate::{Run, Setting};
+use crate::{Input, Run, Setting};
 use row_tickets::Feed;
 use std::alloc::{AllocError, Global};
+use std::process::Abort;
 use std::sync::Wait;
 use std::test::Fail;
 
-// The replay of three rows of S and these rows of R, all with this ticket, where equal numbers match.
+// These rows of R and three of S, all with this ticket, where equal numbers match.
+fn equal_input(alloc: Global, numbers: &[u8], ticket: u8) -> Result<Input, AllocError> {
+    let tickets = [ticket; 3];
+    input(
+        alloc,
+        "r.x = s.y",
+        (numbers, &tickets[..numbers.len().min(3)]),
+        (&[20, 30, 20], &tickets),
+    )
+}
+
+fn one_feeder(k: u32) -> Setting {
+    Setting {
+        k,
+        feeders: 1,
+        workers: 1,
+        batch: 64,
+        feed: Feed::Alternate,
+        fixed: None,
+    }
+}
+
 fn equal_numbers<R: Wait>(
     rt: &R,
     alloc: Global,
@@ -16,22 +38,8 @@ fn equal_numbers<R: Wait>(
     ticket: u8,
     k: u32,
 ) -> Result<Run, AllocError> {
-    let tickets = [ticket; 3];
-    let input = input(
-        alloc,
-        "r.x = s.y",
-        (numbers, &tickets[..numbers.len().min(3)]),
-        (&[20, 30, 20], &tickets),
-    )?;
-    let setting = Setting {
-        k,
-        feeders: 1,
-        workers: 1,
-        batch: 64,
-        feed: Feed::Alternate,
-        fixed: None,
-    };
-    replayed(rt, alloc, &input, &setting, 7)
+    let input = equal_input(alloc, numbers, ticket)?;
+    replayed(rt, alloc, &input, &one_feeder(k), 7)
 }
 
 // The pairs as digits: each row of R and of S.
@@ -60,19 +68,26 @@ fn an_empty_side_has_no_pairs(rt: HostRuntime) -> Result<(), Fail> {
     Ok(())
 }
 
+// The rows of R and of S that the one joiner holds.
+fn only_load(run: &Run) -> Option<(u64, u64)> {
+    match run.loads.as_slice() {
+        [load] => Some((load.rows_r, load.rows_s)),
+        _ => None,
+    }
+}
+
+fn has_all_rows(rt: &impl Abort, run: &Run) {
+    assert_eq!(rt; pairs_number(run), 10_12_21, "pairs");
+    assert_eq!(rt; run.journal.len(), 3, "lines");
+    assert_eq!(rt; last_epoch(run), Some(0), "epoch");
+    assert_eq!(rt; run.bouts, 17, "events");
+    assert_eq!(rt; only_load(run), Some((3, 3)), "rows of one joiner");
+}
+
 #[test]
 fn one_joiner_holds_all_rows(rt: HostRuntime) -> Result<(), Fail> {
     let run = equal_numbers(&rt, rt.alloc(), &[10, 20, 30], 100, 0)?;
-    assert_eq!(rt; pairs_number(&run), 10_12_21, "pairs");
-    assert_eq!(rt; run.journal.len(), 3, "lines");
-    assert_eq!(rt; last_epoch(&run), Some(0), "epoch");
-    assert_eq!(rt; run.bouts, 17, "events");
-    assert_eq!(rt; run.loads.len(), 1, "joiners");
-    assert_eq!(rt;
-        (run.loads.at(0).rows_r, run.loads.at(0).rows_s),
-        (3, 3),
-        "rows"
-    );
+    has_all_rows(&rt, &run);
     Ok(())
 }
 

@@ -1,11 +1,13 @@
 // The order of a replay, by a world that a test drives itself.
 
-use super::by_hand::deliver;
+use super::by_hand::{deliver, finished, started};
 use super::inputs::{eight_rows_a_side, four_joiners};
 use crate::{Input, Run, Setting, Step, World, replay};
+use load_controller::Journal;
 use rand_core::utils::NextWord;
 use rand_pcg::Lcg64Xsh32;
 use std::alloc::{AllocError, Global};
+use std::process::Abort;
 use std::sync::Wait;
 use std::test::Fail;
 
@@ -28,24 +30,29 @@ fn make_first(world: &mut World, word: usize) -> Result<u64, AllocError> {
     Ok(0)
 }
 
-// The run of a world that is driven to its end by the words of this seed.
-fn driven(alloc: Global, input: &Input, setting: &Setting, seed: u64) -> Result<Run, AllocError> {
-    if !input.valid() || !setting.valid() {
-        return Err(AllocError);
-    }
-    let mut world = World::start(alloc, input, setting)?;
+// Drives a world by the words of this seed, until it is done, and counts the events.
+fn drive(world: &mut World, seed: u64) -> Result<u64, AllocError> {
     let mut draws = Lcg64Xsh32::new(seed, 56);
     let mut events = 0u64;
     for _ in 0..1000 {
-        if !world.done() {
-            let word = draws.next_word();
-            events = events.wrapping_add(make_first(&mut world, word as usize)?);
+        if world.done() {
+            return Ok(events);
         }
+        let word = draws.next_word();
+        events = events.wrapping_add(make_first(world, word as usize)?);
     }
-    if !world.done() {
-        return Err(AllocError);
-    }
-    world.finish(events)
+    Ok(events)
+}
+
+fn driven_in(mut world: World<'_>, seed: u64) -> Result<Run, AllocError> {
+    let events = drive(&mut world, seed)?;
+    finished(world, events)
+}
+
+// The run of a world that is driven to its end by the words of this seed.
+fn driven(alloc: Global, input: &Input, setting: &Setting, seed: u64) -> Result<Run, AllocError> {
+    let world = started(alloc, input, setting)?;
+    driven_in(world, seed)
 }
 
 /// The replay of a valid input and setting.
@@ -81,21 +88,45 @@ fn difference(one: &Run, other: &Run) -> &'static str {
     }
 }
 
+// The run of a world that is driven by the words of this seed. It has to be the replay of the seed.
+fn replayed_as_driven<R: Abort + Wait>(
+    rt: &R,
+    alloc: Global,
+    input: &Input,
+    setting: &Setting,
+    seed: u64,
+) -> Result<Run, AllocError> {
+    let wanted = driven(alloc, input, setting, seed)?;
+    let run = replayed(rt, alloc, input, setting, seed)?;
+    assert_eq!(rt; difference(&run, &wanted), "none", "seed {seed}");
+    Ok(wanted)
+}
+
+// How many of the first 32 seeds have another journal than this one.
+fn other_journals<R: Abort + Wait>(
+    rt: &R,
+    alloc: Global,
+    input: &Input,
+    setting: &Setting,
+    journal: &Journal,
+) -> Result<u64, AllocError> {
+    let mut others = 0u64;
+    for seed in 0..32 {
+        let run = replayed_as_driven(rt, alloc, input, setting, seed)?;
+        if run.journal.as_slice() != journal.as_slice() {
+            others = others.wrapping_add(1);
+        }
+    }
+    Ok(others)
+}
+
 #[test]
 fn a_replay_makes_the_events_in_its_order(rt: HostRuntime) -> Result<(), Fail> {
     let alloc = rt.alloc();
     let input = eight_rows_a_side(alloc)?;
     let setting = four_joiners();
     let first = driven(alloc, &input, &setting, 0)?;
-    let mut others = 0u64;
-    for seed in 0..32 {
-        let wanted = driven(alloc, &input, &setting, seed)?;
-        let run = replayed(&rt, alloc, &input, &setting, seed)?;
-        assert_eq!(rt; difference(&run, &wanted), "none", "seed {seed}");
-        if wanted.journal.as_slice() != first.journal.as_slice() {
-            others = others.wrapping_add(1);
-        }
-    }
+    let others = other_journals(&rt, alloc, &input, &setting, &first.journal)?;
     assert!(rt; others > 0, "the journals aren't all equal");
     Ok(())
 }
