@@ -6,6 +6,7 @@ use Rattle.std.proofs.lemmas.Bool.{false≢true, cases_eq, cases_Bool}
 use Rattle.join_rows.specs.Lists.{total}
 use Rattle.join_rows.proofs.Totals.{total_same}
 use Rattle.grid_map.proofs.Halves.{partner_below}
+use Rattle.migration_plan.specs.Steps.{AreNeighbours}
 use Rattle.epoch_tags.specs.declared.actor.Actor.{Actor}
 use Rattle.epoch_tags.specs.declared.actor.Actor.TheVariants.{Feeder, Joiner as Joiner', Controller, Collector}
 use Rattle.epoch_tags.specs.declared.message.Post.{Post}
@@ -66,9 +67,22 @@ some-flag (suc n) f never = elim (cases_Bool (f n)) [
       (rest.0, omega arith, rest.2)
 ]
 
-step-within : (k shift : ℕ) (step : Option Opened) → ((o : Opened) → step ≡ Some o → o.shift ≤ k) → ((o : Opened) → step ≡ Some o → min shift o.shift < k) → IsStepWithin k shift step
+-- two shifts are neighbours where one is the other and 1
+neighbours-apart : (a b : ℕ) → (a - b) + (b - a) ≡ 1 → AreNeighbours a b
+neighbours-apart a b is = elim (cases_eq b (a + 1)) [
+  | inl up ↦ inl up
+  | inr down ↦ inr (omega arith)
+]
+
+apart-neighbours : (a b : ℕ) → AreNeighbours a b → (a - b) + (b - a) ≡ 1
+apart-neighbours a b next = elim next [
+  | inl up ↦ omega arith
+  | inr down ↦ omega arith
+]
+
+step-within : (k shift : ℕ) (step : Option Opened) → ((o : Opened) → step ≡ Some o → o.shift ≤ k) → ((o : Opened) → step ≡ Some o → (shift - o.shift) + (o.shift - shift) ≡ 1) → IsStepWithin k shift step
 step-within k shift None all apart = tt
-step-within k shift (Some o) all apart = (all o refl, apart o refl)
+step-within k shift (Some o) all apart = (all o refl, neighbours-apart shift o.shift (apart o refl))
 
 step-counted : (n : ℕ) (step : Option Opened) → ((o : Opened) → step ≡ Some o → length o.turned.items ≡ n) → IsCounted n step
 step-counted n None all = tt
@@ -117,7 +131,7 @@ from-sound m is = record {
   small = is.within.small;
   shift = is.within.shift;
   step = λ o opens. (step-of m o opens is).0;
-  apart = λ o opens. (step-of m o opens is).1;
+  apart = λ o opens. apart-neighbours m.epochs.shift o.shift (step-of m o opens is).1;
   ended = is.within.ended;
   count = λ o opens. subst (λ (z : Option Opened). IsCounted m.epochs.feeders z) opens is.within.count;
   begun = λ o opens down.

@@ -1,7 +1,7 @@
 -- The machine stands for its lists after each call.
 use Rattle.std.proofs.Common.{◌≡◌, ℕ, ◌+◌, ◌<◌, ◌≤◌, ◌^◌, refl, sym, ◌∙◌, ap, subst, arith, Bool, true, false, cond, Option, Some, None, List, [], ◌∷◌, ◌++◌, length, inl, inr, eq-eqb, get_or-set_same, get_or-set_other, append_assoc}
 use Rattle.std.proofs.lemmas.Bool.{false≢true, cases_eq, ne_eqb}
-use Rattle.std.specs.Prelude.{slice_set, count_by, min}
+use Rattle.std.specs.Prelude.{slice_set, count_by}
 use Rattle.std.proofs.Math.ListN.{length-set}
 use Rattle.join_rows.specs.declared.table.Side.{Side}
 use Rattle.epoch_tags.specs.declared.tuple.Tuple.{Tuple}
@@ -31,7 +31,7 @@ use Rattle.theta_pred.specs.Formula.{Meaning}
 use Rattle.joiner_core.specs.Stocks.{placed, with_placed}
 use Rattle.joiner_core.specs.Widths.{IsRow, IsStock}
 use Rattle.joiner_core.proofs.Fitting.{stock-placed, stock-old, stock-new, stock-begun, stock-turned}
-use Rattle.joiner_core.proofs.Posting.{beside, own-none, own-append, own-late, own-begun, own-turned, own-settled, own-before}
+use Rattle.joiner_core.proofs.Posting.{own-none, own-append, own-late, own-begun, own-turned, own-settled, own-before}
 use Rattle.joiner_core.proofs.Bagging.{settled-placed, open-placed, both-placed}
 use Rattle.joiner_core.specs.Taking.{IsStepStock, IsWithin, IsFixed, IsStepWithin, IsCounted, HasSomeTurn, TupFits, CanTakeTup, TurnFits, CanTakeTurn, TookOfFeeder}
 use Rattle.epoch_tags.specs.declared.message.Post.{Post}
@@ -477,7 +477,7 @@ took-old m m' x p found found' before after within can row still state more post
   added = posts_old m x;
   sends = refl;
   quiet = quiet-late m x m.step;
-  own = own-late m x m.step within.id within.step row;
+  own = own-late m x m.step within.id within.shift within.step row;
   within = record { small = within.small; shift = within.shift; step = within-old m.k m.shift m x m.step within.step; ended = within.ended; count = count-old m.feeders m x m.step within.count; begun = begun-old m.feeders m x m.step within.begun; rests = rests-old m x m.step within.rests; id = within.id; stock = stock-placed m.theta.now x m.store within.stock row; step_stock = stock-old m.theta.now m x m.step within.step_stock row };
   k = refl;
   id = refl;
@@ -583,18 +583,31 @@ begun-by s t lists waiting m p epoch shift fixed low (Some o) step' fits has is 
 )
 
 -- the shifts stay within the grid
-begun-within : (m : Epochs) (p epoch shift : ℕ) (step step' : Option Opened) → m.shift ≤ m.k → TurnFits m p epoch shift step → IsStepWithin m.k m.shift step → HasBegun m epoch shift step step' → IsStepWithin m.k m.shift step'
-begun-within m p epoch shift None None top fits within has = tt
-begun-within m p epoch shift None (Some o) top fits within has =
-    subst (λ (b : ℕ). (b ≤ m.k) × (min m.shift b < m.k)) (sym has.shift) (fits.1, beside m.k m.shift shift top fits.1 fits.2)
-begun-within m p epoch shift (Some o) step' top fits within has = subst (λ (z : Option Opened). IsStepWithin m.k m.shift z) (sym has) within
+begun-within : (m : Epochs) (p epoch shift : ℕ) (step step' : Option Opened) → TurnFits m p epoch shift step → IsStepWithin m.k m.shift step → HasBegun m epoch shift step step' → IsStepWithin m.k m.shift step'
+begun-within m p epoch shift None None fits within has = tt
+begun-within m p epoch shift None (Some o) fits within has =
+    subst (λ (b : ℕ). (b ≤ m.k) × AreNeighbours m.shift b) (sym has.shift) (fits.1, fits.2)
+begun-within m p epoch shift (Some o) step' fits within has = subst (λ (z : Option Opened). IsStepWithin m.k m.shift z) (sym has) within
 
 turned-within : (k shift p : ℕ) (step step' : Option Opened) → HasTurned p step step' → IsStepWithin k shift step → IsStepWithin k shift step'
 turned-within k shift p None step' has within = subst (λ (z : Option Opened). IsStepWithin k shift z) (sym has) tt
 turned-within k shift p (Some o) None has within = absurd has
 turned-within k shift p (Some o) (Some o') has within =
     let same : o'.shift ≡ o.shift = ap (λ (z : Opened). z.shift) has.0 in
-    subst (λ (b : ℕ). (b ≤ k) × (min shift b < k)) (sym same) within
+    subst (λ (b : ℕ). (b ≤ k) × AreNeighbours shift b) (sym same) within
+
+-- a turn that opens the step leads to a neighbouring shift
+pub turn-next : (m : Epochs) (p epoch shift : ℕ) (step : Option Opened) → TurnFits m p epoch shift step → step ≡ None → AreNeighbours m.shift shift
+turn-next m p epoch shift None fits none = fits.2
+turn-next m p epoch shift (Some o) fits none = absurd (cc)
+
+pub begun-step : (m m1 : Epochs) (p epoch shift : ℕ) → IsWithin m → CanTakeTurn m p epoch shift → m1 ≡ record m { step = m1.step } → HasBegun m epoch shift m.step m1.step → IsStepWithin m1.k m1.shift m1.step
+begun-step m m1 p epoch shift within can rest begun =
+    subst (λ (z : Epochs). IsStepWithin z.k z.shift m1.step) (sym rest) (begun-within m p epoch shift m.step m1.step can.fits within.step begun)
+
+pub turned-step : (m m1 : Epochs) (p : ℕ) → m1 ≡ record m { step = m1.step } → HasTurned p m.step m1.step → IsStepWithin m.k m.shift m.step → IsStepWithin m1.k m1.shift m1.step
+turned-step m m1 p rest turned within =
+    subst (λ (z : Epochs). IsStepWithin z.k z.shift m1.step) (sym rest) (turned-within m.k m.shift p m.step m1.step turned within)
 
 begun-count : (m : Epochs) (epoch shift : ℕ) (step step' : Option Opened) → IsCounted m.feeders step → HasBegun m epoch shift step step' → IsCounted m.feeders step'
 begun-count m epoch shift None None is has = tt
@@ -663,7 +676,7 @@ took-turn m m1 m2 m3 p epoch shift last ready waiting before s1 s2 after few wit
     let k2 : m2.k ≡ m.k = ap (λ (z : Epochs). z.k) rest2 ∙ k1 in
     let b2 : m2.shift ≡ m.shift = ap (λ (z : Epochs). z.shift) rest2 ∙ ap (λ (z : Epochs). z.shift) rest1 in
     let b1 : m1.shift ≡ m.shift = ap (λ (z : Epochs). z.shift) rest1 in
-    let step1 : IsStepWithin m.k m.shift m1.step = begun-within m p epoch shift m.step m1.step within.shift can.fits within.step begun in
+    let step1 : IsStepWithin m.k m.shift m1.step = begun-within m p epoch shift m.step m1.step can.fits within.step begun in
     let step2 : IsStepWithin m.k m.shift m2.step = turned-within m.k m.shift p m1.step m2.step turned step1 in
     let own1 : IsStepWithin m1.k m1.shift m1.step = subst (λ (n : ℕ). IsStepWithin n m1.shift m1.step) (sym k1) (subst (λ (n : ℕ). IsStepWithin m.k n m1.step) (sym b1) step1) in
     let n2 : m2.feeders ≡ m.feeders = ap (λ (z : Epochs). z.feeders) rest2 ∙ ap (λ (z : Epochs). z.feeders) rest1 in
@@ -691,7 +704,7 @@ took-turn m m1 m2 m3 p epoch shift last ready waiting before s1 s2 after few wit
           ∙ four before (begun_posts m epoch shift m.step) (posts_turned m1 last) (posts_settled ready m2);
       quiet = quiet-append (begun_posts m epoch shift m.step ++ posts_turned m1 last) (posts_settled ready m2) (quiet-append (begun_posts m epoch shift m.step) (posts_turned m1 last) (quiet-begun m epoch shift m.step) (quiet-turned m1 last)) (quiet-settled ready m2);
       own = own-append m (begun_posts m epoch shift m.step ++ posts_turned m1 last) (posts_settled ready m2)
-          (own-append m (begun_posts m epoch shift m.step) (posts_turned m1 last) (own-begun m p epoch shift m.step within can.fits) (own-before m m1 (posts_turned m1 last) fixed1 (own-turned m1 last id1 own1)))
+          (own-append m (begun_posts m epoch shift m.step) (posts_turned m1 last) (own-begun m p epoch shift m.step within can.fits) (own-before m m1 (posts_turned m1 last) fixed1 (own-turned m1 last id1 (let low = within.shift in omega arith) own1)))
           (own-before m m2 (posts_settled ready m2) (record { k = k2; id = i2; feeders = n2; theta = th2 }) (own-settled m2 ready id2));
       within = rw state within3;
       k = ap (λ (z : Epochs). z.k) state ∙ settled-k m2 ready ∙ k2;

@@ -40,24 +40,24 @@ rows-if : (theta : Meaning) (yes : Bool) (x : Tuple) → IsRow theta x → AreRo
 rows-if theta true x row = All-cons (IsRow theta) x [] row (All-nil (IsRow theta))
 rows-if theta false x row = All-nil (IsRow theta)
 
-pub own-late : (m : Epochs) (x : Tuple) (step : Option Opened) → m.id < 2 ^ m.k → IsStepWithin m.k m.shift step → IsRow m.theta.now x → AreOwnPosts m (late_posts m x step)
-own-late m x None id within row = All-nil (IsOwnPost m.k m.feeders m.id m.theta.now)
-own-late m x (Some o) id within row = own-moves m o.shift o.epoch _ id within.1 (rows-if m.theta.now (is_of (exchanged_side m.shift o.shift) x) x row)
+pub own-late : (m : Epochs) (x : Tuple) (step : Option Opened) → m.id < 2 ^ m.k → m.shift ≤ m.k → IsStepWithin m.k m.shift step → IsRow m.theta.now x → AreOwnPosts m (late_posts m x step)
+own-late m x None id low within row = All-nil (IsOwnPost m.k m.feeders m.id m.theta.now)
+own-late m x (Some o) id low within row = own-moves m o.shift o.epoch _ id (beside m.k m.shift o.shift low within.0 within.1) (rows-if m.theta.now (is_of (exchanged_side m.shift o.shift) x) x row)
 
 pub own-begun : (m : Epochs) (p epoch shift : ℕ) (step : Option Opened) → IsWithin m → TurnFits m p epoch shift step → AreOwnPosts m (begun_posts m epoch shift step)
 own-begun m p epoch shift None within fits =
     own-moves m shift epoch _ within.id (beside m.k m.shift shift within.shift fits.1 fits.2) (All-filter (is_of (exchanged_side m.shift shift)) (IsRow m.theta.now) m.store.tuples within.stock.rows)
 own-begun m p epoch shift (Some o) within fits = All-nil (IsOwnPost m.k m.feeders m.id m.theta.now)
 
-own-ends : (m : Epochs) (step : Option Opened) → m.id < 2 ^ m.k → IsStepWithin m.k m.shift step → AreOwnPosts m (end_posts m step)
-own-ends m None id within = All-nil (IsOwnPost m.k m.feeders m.id m.theta.now)
-own-ends m (Some o) id within =
+own-ends : (m : Epochs) (step : Option Opened) → m.id < 2 ^ m.k → m.shift ≤ m.k → IsStepWithin m.k m.shift step → AreOwnPosts m (end_posts m step)
+own-ends m None id low within = All-nil (IsOwnPost m.k m.feeders m.id m.theta.now)
+own-ends m (Some o) id low within =
     All-cons (IsOwnPost m.k m.feeders m.id m.theta.now) (moved_end_post (partner_in_step m.shift o.shift m.id) o.epoch) []
-    (record { over = record { link = joiner_joiner id within.1; kind = tt }; row = tt }) (All-nil (IsOwnPost m.k m.feeders m.id m.theta.now))
+    (record { over = record { link = joiner_joiner id (beside m.k m.shift o.shift low within.0 within.1); kind = tt }; row = tt }) (All-nil (IsOwnPost m.k m.feeders m.id m.theta.now))
 
-pub own-turned : (m : Epochs) (last : Bool) → m.id < 2 ^ m.k → IsStepWithin m.k m.shift m.step → AreOwnPosts m (posts_turned m last)
-own-turned m true id within = own-ends m m.step id within
-own-turned m false id within = All-nil (IsOwnPost m.k m.feeders m.id m.theta.now)
+pub own-turned : (m : Epochs) (last : Bool) → m.id < 2 ^ m.k → m.shift ≤ m.k → IsStepWithin m.k m.shift m.step → AreOwnPosts m (posts_turned m last)
+own-turned m true id low within = own-ends m m.step id low within
+own-turned m false id low within = All-nil (IsOwnPost m.k m.feeders m.id m.theta.now)
 
 own-settle : (m : Epochs) (step : Option Opened) → m.id < 2 ^ m.k → AreOwnPosts m (settle_posts step)
 own-settle m None id = All-nil (IsOwnPost m.k m.feeders m.id m.theta.now)

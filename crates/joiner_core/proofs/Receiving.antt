@@ -166,6 +166,9 @@ ended-within : (m m1 : Epochs) (ready : Bool) → IsWithin m → m1 ≡ after_pa
 ended-within m m1 ready within part = subst (λ (z : Epochs). (ready ≡ true → IsReady z.step) → (ready ≡ false → IsReady z.step → ⊥) → IsWithin (after_settle ready z)) (sym part)
     (λ settles not_yet. settled-within (after_part m) ready settles not_yet within.small within.shift (part-within m.k m.shift m.step within.step) within.ended (part-count m.feeders m.step within.count) (part-begun m.feeders m.step within.begun) within.id within.stock (stock-part m.theta.now m.step within.step_stock))
 
+pub part-step : (m m1 : Epochs) → m1 ≡ after_part m → IsStepWithin m.k m.shift m.step → IsStepWithin m1.k m1.shift m1.step
+part-step m m1 part within = subst (λ (z : Epochs). IsStepWithin z.k z.shift z.step) (sym part) (part-within m.k m.shift m.step within)
+
 part-fixed : (m m1 : Epochs) → m1 ≡ after_part m → IsFixed m m1
 part-fixed m m1 part = subst (λ (z : Epochs). IsFixed m z) (sym part) (record { k = refl; id = refl; feeders = refl; theta = refl })
 

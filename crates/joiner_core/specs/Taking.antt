@@ -1,5 +1,5 @@
 -- What the machine can take, and what taking it does to the lists for which the machine stands.
-use Rattle.std.specs.Prelude.{◌≡◌, ℕ, ◌+◌, ◌<◌, ◌≤◌, ◌^◌, min, true, false, Option, Some, None, ⊤, List, [], ◌++◌, length, All}
+use Rattle.std.specs.Prelude.{◌≡◌, ℕ, ◌+◌, ◌<◌, ◌≤◌, ◌^◌, true, false, Option, Some, None, ⊤, List, [], ◌++◌, length, All}
 use Rattle.epoch_tags.specs.declared.tuple.Pair.{Pair}
 use Rattle.epoch_tags.specs.declared.message.Post.{Post}
 use Rattle.epoch_tags.specs.declared.message.ToJoiner.{ToJoiner}
@@ -15,10 +15,10 @@ use Rattle.joiner_core.specs.Changes.{IsReady}
 use Rattle.joiner_core.specs.declared.opened.Opened.{Opened}
 use Rattle.joiner_core.specs.declared.epochs.Epochs.{Epochs}
 
--- the step leads from this shift within the grid, and to another
+-- the step leads from this shift to a neighbouring one within the grid
 abbrev pub IsStepWithin : ℕ → ℕ → Option Opened → Type 0
 IsStepWithin k shift None = ⊤
-IsStepWithin k shift (Some o) = (o.shift ≤ k) × (min shift o.shift < k)
+IsStepWithin k shift (Some o) = (o.shift ≤ k) × AreNeighbours shift o.shift
 
 -- some feeder has turned in the open step, if there is one
 abbrev pub HasSomeTurn : ℕ → Option Opened → Type 0

@@ -1,5 +1,5 @@
 -- The lists for which a joiner stands, with the messages that it holds.
-use Rattle.std.specs.Prelude.{◌≡◌, ℕ, ◌+◌, ◌^◌, ◌<◌, ◌≤◌, min, map, slice_set, ◌⊎◌, Bool, true, false, Some, None, ⊤, List, [], ◌∷◌, ◌++◌, length, sum_by, count_by}
+use Rattle.std.specs.Prelude.{◌≡◌, ℕ, ◌+◌, ◌^◌, ◌<◌, ◌≤◌, ◌-◌, map, slice_set, ◌⊎◌, Bool, true, false, Some, None, ⊤, List, [], ◌∷◌, ◌++◌, length, sum_by, count_by}
 use Rattle.std.specs.List.{AllByRecursion}
 use Rattle.epoch_tags.specs.declared.tuple.Pair.{Pair}
 use Rattle.epoch_tags.specs.declared.message.ToCollector.{ToCollector}
@@ -69,7 +69,7 @@ pub record IsKept (m : Machine) : Type 0 where
   pub small : m.epochs.k < 9
   pub shift : m.epochs.shift ≤ m.epochs.k
   pub step : (o : Opened) → m.epochs.step ≡ Some o → o.shift ≤ m.epochs.k
-  pub apart : (o : Opened) → m.epochs.step ≡ Some o → min m.epochs.shift o.shift < m.epochs.k
+  pub apart : (o : Opened) → m.epochs.step ≡ Some o → (m.epochs.shift - o.shift) + (o.shift - m.epochs.shift) ≡ 1
   pub ended : length m.epochs.ended.items ≡ m.epochs.feeders
   pub count : (o : Opened) → m.epochs.step ≡ Some o → length o.turned.items ≡ m.epochs.feeders
   pub begun : (o : Opened) → m.epochs.step ≡ Some o → ((p : ℕ) → p < m.epochs.feeders → flag_at o.turned.items p ≡ false) → ⊥

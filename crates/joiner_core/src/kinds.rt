@@ -22,7 +22,7 @@ impl<'a> Machine<'a> {
     }
 
     pub(crate) fn can_take_of_joiner(&self, q: u32, m: &ToJoiner) -> bool
-        requires { self.now.epochs.shift < 9 }
+        requires { IsWithin self.now.epochs }
         ensures up { result ≡ true → TakesOfJoiner self.now.epochs q m.now }
         ensures down { result ≡ false → TakesOfJoiner self.now.epochs q m.now → ⊥ }
     {

@@ -6,7 +6,6 @@ mod counts;
 mod end;
 mod epochs;
 mod fits;
-mod grid;
 mod held;
 mod joiner;
 mod kinds;

@@ -1,12 +1,12 @@
 // A joiner's machine: what it has of its epochs, and the messages that it holds.
 ghost use Rattle.std.specs.Prelude.{◌≡◌, ◌<◌, ◌^◌, true, false, OnOk, IfOk};
 ghost use Rattle.epoch_tags.specs.Links.{HasLink};
+ghost use Rattle.joiner_core.specs.Queues.{DifferInOneBit};
 ghost use Rattle.joiner_core.specs.Widths.{HasRow};
 ghost use Rattle.joiner_core.specs.Whole.{IsMade, IsSound, Accepts, IsOfGrid, Receives};
 ghost use Rattle.epoch_tags.specs.declared.actor.Actor.TheVariants.{Feeder, Joiner as Joiner'};
 
 use crate::epochs::{Epochs, all_down};
-use crate::grid::differ_in_one_bit;
 use crate::held::Held;
 use crate::stock::Stock;
 use epoch_tags::{Actor, Counts, Pairs, Sends, ToJoiner};
@@ -20,6 +20,20 @@ pub(crate) struct Machine<'a> {
     pub(crate) of_joiners: Held,
     pub(crate) told: bool,
     pub(crate) alloc: Global,
+}
+
+// Whether two joiners of 2 ^ k differ in one bit of their ids.
+fn differ_in_one_bit(k: u32, from: u32, to: u32) -> bool
+    requires { k < 9 }
+    ensures up { result ≡ true → DifferInOneBit k from to }
+    ensures down { result ≡ false → ¬ DifferInOneBit k from to }
+{
+    for low in 0..k {
+        if from ^ (1u32 << low) == to {
+            return true;
+        }
+    }
+    false
 }
 
 impl<'a> Machine<'a> {

@@ -6,7 +6,7 @@ ghost use Rattle.joiner_core.specs.Tests.{PartFits};
 ghost use Rattle.joiner_core.specs.Changes.{after_moved, found_moved};
 
 use crate::epochs::Epochs;
-use crate::grid::partner;
+use crate::opened::partner_in_step;
 use epoch_tags::{Pairs, Tuple};
 use std::alloc::AllocError;
 use store_parts::Which;
@@ -14,7 +14,7 @@ use store_parts::Which;
 impl<'a> Epochs<'a> {
     // Whether joiner q has this epoch's step open here, as the partner whose part goes on.
     pub(crate) fn can_take_part(&self, q: u32, epoch: u32) -> bool
-        requires { self.now.shift < 9 }
+        requires { IsWithin self.now }
         ensures up { result ≡ true → PartFits self.now q epoch self.now.step }
         ensures down { result ≡ false → PartFits self.now q epoch self.now.step → ⊥ }
     {
@@ -22,7 +22,7 @@ impl<'a> Epochs<'a> {
             Some(open) => {
                 epoch == open.epoch
                     && !open.partner_ended
-                    && q == partner(self.shift, open.shift, self.id)
+                    && q == partner_in_step(self.k, self.shift, open.shift, self.id)
             }
             None => false,
         }

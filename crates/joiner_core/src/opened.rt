@@ -1,5 +1,6 @@
 // An open step.
 ghost use Rattle.std.specs.Prelude.{◌≡◌, ◌++◌, ◌∷◌, [], ◌<◌, ◌≤◌, ◌^◌, true, slice_set, OnOk};
+ghost use Rattle.migration_plan.specs.Steps.{AreNeighbours, is_of, partner_in_step};
 ghost use Rattle.joiner_law.specs.History.{probed};
 ghost use Rattle.joiner_core.specs.Probes.{named_by};
 ghost use Rattle.joiner_core.specs.Matching.{does_hold};
@@ -8,12 +9,11 @@ ghost use Rattle.joiner_core.specs.Widths.{IsRow, IsStock};
 ghost use Rattle.joiner_law.specs.Posting.{moved_post};
 ghost use Rattle.joiner_core.specs.Changes.{found_late, posts_late, opened_late};
 
-use crate::grid::is_of;
 use crate::stock::Stock;
 use epoch_tags::{Actor, Msg, Pairs, Post, Sends, ToJoiner, Tuple};
-use grid_map::Shape;
+use grid_map::{Shape, partner};
 use join_rows::Side;
-use migration_plan::kept;
+use migration_plan::{kept, low_of};
 use std::alloc::{AllocError, Global};
 use store_parts::Which;
 use theta_pred::Theta;
@@ -26,6 +26,31 @@ pub(crate) struct Opened {
     pub(crate) store: Stock,
     pub(crate) partner_ended: bool,
     pub(crate) alloc: Global,
+}
+
+// The joiner with whom joiner `id` exchanges tuples in a step.
+#[tactic(auto, using(crate::proofs::Posting::beside))]
+pub(crate) fn partner_in_step(k: u32, old: u32, new: u32, id: u32) -> u32
+    requires grid { k < 9 }
+    requires from { old ≤ k }
+    requires to { new ≤ k }
+    requires step { AreNeighbours old new }
+    requires id { id < 2 ^ k }
+    ensures { result ≡ partner_in_step old new id }
+{
+    partner(k, low_of(old, new), id)
+}
+
+// Whether the tuple is of that side.
+fn is_of(side: Side, tuple: &Tuple) -> bool
+    ensures { result ≡ is_of side tuple.now }
+{
+    match (side, tuple.side) {
+        (Side::R, Side::R) => true,
+        (Side::S, Side::S) => true,
+        (Side::R, Side::S) => false,
+        (Side::S, Side::R) => false,
+    }
 }
 
 // Sends a copy of a tuple to a joiner.

@@ -1,10 +1,11 @@
 // The end of a step.
 ghost use Rattle.std.specs.Prelude.{◌≡◌, ◌++◌, true, false, IfOk};
+ghost use Rattle.joiner_core.specs.Taking.{IsStepWithin};
 ghost use Rattle.joiner_core.specs.Changes.{after_settle, posts_settled, IsReady};
 
 use crate::epochs::{Epochs, are_all_up};
-use crate::grid::exchanged;
 use epoch_tags::{Actor, Msg, Post, Sends, ToController};
+use migration_plan::exchanged_side;
 use std::alloc::AllocError;
 
 impl<'a> Epochs<'a> {
@@ -21,6 +22,7 @@ impl<'a> Epochs<'a> {
 
     // Settles the open step, if it is ready. Answers whether it was.
     pub(crate) fn settle(&mut self, sends: &mut Sends) -> Result<bool, AllocError>
+        requires { IsStepWithin self.old.k self.old.shift self.old.step }
         ensures up { IfOk result (λ ready. ready ≡ true → IsReady self.old.step) }
         ensures down { IfOk result (λ ready. ready ≡ false → IsReady self.old.step → ⊥) }
         ensures state { IfOk result (λ ready. self.new ≡ after_settle ready self.old) }
@@ -35,7 +37,7 @@ impl<'a> Epochs<'a> {
                 msg: Msg::Controller(ToController::Settled { epoch: open.epoch }),
             })?;
             self.moved
-                .push(self.store.count(exchanged(self.shift, open.shift)))?;
+                .push(self.store.count(exchanged_side(self.shift, open.shift)))?;
             self.epoch = open.epoch;
             self.shift = open.shift;
             self.store = open.store;

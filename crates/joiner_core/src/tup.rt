@@ -6,9 +6,9 @@ ghost use Rattle.joiner_core.specs.Taking.{IsWithin, CanTakeTup, TookOfFeeder};
 ghost use Rattle.joiner_core.specs.Changes.{after_old, found_old, posts_old, after_new, found_new};
 
 use crate::epochs::Epochs;
-use crate::grid::{exchanged, partner};
-use crate::opened::pass_on;
+use crate::opened::{partner_in_step, pass_on};
 use epoch_tags::{Pairs, Sends, Tuple};
+use migration_plan::exchanged_side;
 use std::alloc::AllocError;
 use store_parts::Which;
 
@@ -67,9 +67,9 @@ impl<'a> Epochs<'a> {
     {
         self.store.probe(&tuple, self.theta, Which::All, found)?;
         if let Some(open) = &mut self.step {
-            let to = partner(self.shift, open.shift, self.id);
+            let to = partner_in_step(self.k, self.shift, open.shift, self.id);
             pass_on(
-                exchanged(self.shift, open.shift),
+                exchanged_side(self.shift, open.shift),
                 to,
                 open.epoch,
                 &tuple,

@@ -1,15 +1,24 @@
 // A feeder's turn to the next epoch.
-ghost use Rattle.std.specs.Prelude.{◌≡◌, ◌++◌, ◌<◌, ◌≤◌, ◌^◌, true, false, List, OnOk, IfOk};
-ghost use Rattle.joiner_core.specs.Taking.{IsWithin, CanTakeTurn, TookOfFeeder};
+ghost use Rattle.std.specs.Prelude.{◌≡◌, ◌++◌, ◌<◌, ◌≤◌, ◌^◌, true, false, None, List, OnOk, IfOk};
+ghost use Rattle.migration_plan.specs.Steps.{AreNeighbours};
+ghost use Rattle.joiner_core.specs.Taking.{IsWithin, IsStepWithin, CanTakeTurn, TookOfFeeder};
 ghost use Rattle.epoch_tags.specs.declared.message.ToJoiner.TheVariants.{Turn};
 ghost use Rattle.epoch_tags.specs.declared.tuple.Pair.{Pair};
 ghost use Rattle.joiner_core.specs.Changes.{HasBegun, begun_posts, posts_opened, HasOpened, HasTurned, AreAllUp, posts_turned};
 
 use crate::epochs::{Epochs, all_down, are_all_up};
-use crate::grid::{are_neighbours, exchanged, partner};
-use crate::opened::Opened;
+use crate::opened::{Opened, partner_in_step};
 use epoch_tags::{Actor, Msg, Post, Sends, ToJoiner};
+use migration_plan::exchanged_side;
 use std::alloc::AllocError;
+
+// Whether one of the two shifts is the other and 1.
+fn are_neighbours(old: u32, new: u32) -> bool
+    ensures up { result ≡ true → AreNeighbours old new }
+    ensures down { result ≡ false → AreNeighbours old new → ⊥ }
+{
+    (old < new && new - old == 1) || (new < old && old - new == 1)
+}
 
 impl<'a> Epochs<'a> {
     pub(crate) fn can_take_turn(&self, p: u32, epoch: u32, shift: u32) -> bool
@@ -57,6 +66,7 @@ impl<'a> Epochs<'a> {
     ) -> Result<(), AllocError>
         requires within { IsWithin self.old }
         requires fits { shift ≤ self.old.k }
+        requires next { self.old.step ≡ None → AreNeighbours self.old.shift shift }
         ensures rest { OnOk result (self.new ≡ record self.old { step = self.new.step }) }
         ensures step { OnOk result (HasBegun self.old epoch shift self.old.step self.new.step) }
         ensures posts { OnOk result (sends.new ≡ sends.old ++ begun_posts self.old epoch shift self.old.step) }
@@ -77,15 +87,16 @@ impl<'a> Epochs<'a> {
         requires grid { self.old.k < 9 }
         requires shift { self.old.shift ≤ self.old.k }
         requires within { shift ≤ self.old.k }
+        requires next { AreNeighbours self.old.shift shift }
         requires id { self.old.id < 2 ^ self.old.k }
         ensures rest { OnOk result (self.new ≡ record self.old { step = self.new.step }) }
         ensures opened { OnOk result (HasOpened self.old epoch shift self.new.step) }
         ensures posts { OnOk result (sends.new ≡ sends.old ++ posts_opened self.old epoch shift) }
     {
         let store = self.store.kept_copy(self.k, shift, self.id)?;
-        let to = partner(self.shift, shift, self.id);
+        let to = partner_in_step(self.k, self.shift, shift, self.id);
         self.store
-            .send_side(exchanged(self.shift, shift), to, epoch, sends)?;
+            .send_side(exchanged_side(self.shift, shift), to, epoch, sends)?;
         let turned = all_down(self.alloc, self.feeders)?;
         self.step = Some(Opened {
             epoch,
@@ -100,7 +111,10 @@ impl<'a> Epochs<'a> {
 
     // The last one ends this joiner's part of the step. Answers whether it was the last.
     pub(crate) fn turn(&mut self, p: u32, sends: &mut Sends) -> Result<bool, AllocError>
-        requires { self.old.shift < 9 }
+        requires grid { self.old.k < 9 }
+        requires shift { self.old.shift ≤ self.old.k }
+        requires id { self.old.id < 2 ^ self.old.k }
+        requires step { IsStepWithin self.old.k self.old.shift self.old.step }
         ensures rest { OnOk result (self.new ≡ record self.old { step = self.new.step }) }
         ensures step { OnOk result (HasTurned p self.old.step self.new.step) }
         ensures last { IfOk result (λ last. last ≡ true → AreAllUp self.new.step) }
@@ -111,7 +125,7 @@ impl<'a> Epochs<'a> {
             open.turn(p);
             if are_all_up(&open.turned) {
                 sends.push(Post {
-                    to: Actor::Joiner(partner(self.shift, open.shift, self.id)),
+                    to: Actor::Joiner(partner_in_step(self.k, self.shift, open.shift, self.id)),
                     msg: Msg::Joiner(ToJoiner::MovedEnd { epoch: open.epoch }),
                 })?;
                 return Ok(true);

@@ -3,7 +3,7 @@ use Rattle.epoch_tags.specs.declared.message.ToJoiner.{ToJoiner}
 use Rattle.joiner_core.specs.Taking.{TookOfJoiner}
 use Rattle.joiner_core.specs.Widths.{HasRow}
 use Rattle.joiner_core.specs.Tests.{TakesOfJoiner}
-use Rattle.joiner_core.proofs.Receiving.{took-moved, took-moved_end}
+use Rattle.joiner_core.proofs.Receiving.{took-moved, took-moved_end, part-step}
 use Rattle.joiner_core.proofs.machine.Machine.take_of_joiner.Goals as goal
 
 pub returns-in-Moved-clause-took : goal.returns-in-Moved-clause-took
@@ -18,3 +18,6 @@ returns-in-MovedEnd-clause-took c = λ (q : ℕ) can.
     (took-moved_end c.args.self.now.epochs c.take_moved_end.new.self c.settle.new.self q c.in-MovedEnd.epoch c.in_ok-settle-in-MovedEnd.field-0 c.args.found.now c.args.sends.now c.settle.new.sends c.requires.within c.take_moved_end.ensures
     c.in_ok-settle-in-MovedEnd.ensures.up c.in_ok-settle-in-MovedEnd.ensures.down c.in_ok-settle-in-MovedEnd.ensures.state c.in_ok-settle-in-MovedEnd.ensures.posts
     (subst (λ (z : ToJoiner). TakesOfJoiner c.args.self.now.epochs q z) c.in-MovedEnd.is can))
+
+pub settle-requires : goal.settle-requires
+settle-requires c = part-step c.args.self.now.epochs c.take_moved_end.new.self c.take_moved_end.ensures c.requires.within.step
