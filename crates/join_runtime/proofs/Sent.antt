@@ -3,7 +3,7 @@ use denote.Param.Send.{IsSend, IsSync, sendable}
 use Rattle.std.proofs.Crossing as heap
 use Rattle.joiner_core.proofs.stock.Stock.TheSendSync as stocks
 use Rattle.joiner_core.proofs.held.Held.TheSendSync as helds
-use Rattle.joiner_core.proofs.opened.Opened.TheSendSync as steps
+use Rattle.joiner_core.proofs.epochs.Opened.TheSendSync as steps
 use Rattle.reshuffler_core.proofs.feeder.Feeder.TheSendSync as feeders
 use Rattle.load_controller.proofs.controller.Controller.TheSendSync as controllers
 use Rattle.pair_collector.proofs.collector.Collector.TheSendSync as collectors
@@ -16,7 +16,7 @@ use Rattle.join_runtime.specs.contracts.seat.Seat as seat
 
 -- part by part, since a `search` that goes down through a seat to its machine's parts runs out of steps
 module _ (theta_sync : IsSync theta.the_row) where
-  joiner_send : (κ : _) → IsSend (joiner.the_field κ).row
+  joiner_send : (κ : _) → IsSend (joiner.the_row κ)
   joiner_send κ = search (sendable, heap.crosses, stocks.the_send, helds.the_send, steps.the_send) depth 40 fits 20000
 
   core_send : (κ : _) → IsSend (core.the_field κ).row

@@ -13,14 +13,11 @@ use Rattle.joiner_law.specs.Law.{JoinerStart, JoinerLists, Taken}
 use Rattle.joiner_law.specs.History.{Step}
 use Rattle.joiner_law.specs.Standing.{grown, pairs_sent, ArePairs, AreSent, AreSteps}
 use Rattle.joiner_law.proofs.LongerLists.{grown-same, grown-other}
-use Rattle.joiner_core.specs.Queues.{held_at}
-use Rattle.joiner_core.specs.Widths.{HasRow}
+use Rattle.joiner_core.specs.Stocks.{held_at, HasRow}
 use Rattle.joiner_core.proofs.Fitting.{same-rows, rows-held}
-use Rattle.joiner_core.specs.Standing.{StandsBy, Stands}
-use Rattle.joiner_core.specs.Taking.{TookOfFeeder, TookOfJoiner}
-use Rattle.joiner_core.specs.Tests.{TakesOfFeeder, TakesOfJoiner}
-use Rattle.joiner_core.specs.Whole.{IsSound, Accepts}
-use Rattle.joiner_core.specs.declared.opened.Opened.{Opened}
+use Rattle.joiner_core.specs.Taking.{StandsBy, Stands, TookOfFeeder, TookOfJoiner, TakesOfFeeder, TakesOfJoiner}
+use Rattle.joiner_core.specs.Machine.{IsSound, Accepts}
+use Rattle.joiner_core.specs.declared.epochs.Opened.{Opened}
 use Rattle.joiner_core.specs.declared.epochs.Epochs.{Epochs}
 use Rattle.joiner_core.specs.declared.machine.Machine.{Machine}
 use Rattle.joiner_core.proofs.Posting.{own-none}

@@ -11,11 +11,10 @@ use Rattle.epoch_tags.specs.declared.message.ToJoiner.{ToJoiner}
 use Rattle.joiner_law.specs.Law.{JoinerLists}
 use Rattle.joiner_law.specs.Standing.{with_sent}
 use Rattle.joiner_law.proofs.LongerLists.{grown-same, grown-other}
-use Rattle.joiner_core.specs.Queues.{held_at}
+use Rattle.joiner_core.specs.Stocks.{held_at}
 use Rattle.joiner_core.proofs.Fitting.{same-rows, rows-taken}
-use Rattle.joiner_core.specs.Taking.{IsFixed, TookOfFeeder, TookOfJoiner}
-use Rattle.joiner_core.specs.Tests.{TakesOfJoiner}
-use Rattle.joiner_core.specs.Whole.{StandsWithin, IsResting, Advances, IsSound, IsReadyOfJoiner, TookHeld}
+use Rattle.joiner_core.specs.Taking.{IsFixed, TookOfFeeder, TookOfJoiner, TakesOfJoiner}
+use Rattle.joiner_core.specs.Machine.{StandsWithin, IsResting, Advances, IsSound, IsReadyOfJoiner, TookHeld}
 use Rattle.joiner_core.specs.declared.epochs.Epochs.{Epochs}
 use Rattle.joiner_core.specs.declared.machine.Machine.{Machine}
 use Rattle.joiner_core.proofs.Posting.{own-none, own-append, own-before}

@@ -19,12 +19,11 @@ use Rattle.joiner_law.proofs.StepStores.{pairs-law, older-is, shifts-are, by_one
 use Rattle.joiner_law.proofs.Partners.{has-moved, has-end, part-at, end-at}
 use Rattle.joiner_law.proofs.MovedBySteps.{count-bag, moved-law, ended-law, counts-law, partner-within}
 use Rattle.joiner_core.specs.Changes.{IsReady}
-use Rattle.joiner_core.specs.declared.opened.Opened.{Opened}
+use Rattle.joiner_core.specs.declared.epochs.Opened.{Opened}
 use Rattle.joiner_core.specs.declared.epochs.Epochs.{Epochs}
 use Rattle.joiner_core.specs.declared.machine.Machine.{Machine}
-use Rattle.joiner_core.specs.Standing.{IsClosed, StandsBy}
-use Rattle.joiner_core.specs.Taking.{HasSomeTurn}
-use Rattle.joiner_core.specs.Whole.{IsStart, StandsBetween, fin_of}
+use Rattle.joiner_core.specs.Taking.{IsClosed, StandsBy, HasSomeTurn}
+use Rattle.joiner_core.specs.Machine.{IsStart, StandsBetween, fin_of}
 use Rattle.joiner_core.proofs.Keeping.{append-nil}
 use Rattle.joiner_core.proofs.Testing.{closed-few, open-begun, greatest-above, greatest-below}
 use Rattle.joiner_core.proofs.Finishing.{parts-at, some-up, more-up, rests-law, law-finished}

@@ -9,18 +9,14 @@ use Rattle.epoch_tags.specs.declared.message.ToJoiner.{ToJoiner}
 use Rattle.joiner_law.specs.Law.{Taken, pairs_by}
 use Rattle.joiner_law.specs.History.{Step}
 use Rattle.joiner_law.specs.Standing.{StandsSettled}
-use Rattle.joiner_core.specs.Flags.{flag_at}
-use Rattle.joiner_core.specs.Matching.{does_hold}
-use Rattle.joiner_core.specs.Changes.{IsReady}
+use Rattle.joiner_core.specs.Changes.{flag_at, IsReady}
+use Rattle.joiner_core.specs.Stocks.{does_hold, IsStock, Stocked}
 use Rattle.theta_pred.specs.Formula.{Meaning}
-use Rattle.joiner_core.specs.Widths.{IsStock}
-use Rattle.joiner_core.specs.Stocks.{Stocked}
 use Rattle.joiner_core.proofs.Fitting.{rows-none}
-use Rattle.joiner_core.specs.declared.opened.Opened.{Opened}
+use Rattle.joiner_core.specs.declared.epochs.Opened.{Opened}
 use Rattle.joiner_core.specs.declared.machine.Machine.{Machine}
-use Rattle.joiner_core.specs.Standing.{IsClosed, StandsBy}
-use Rattle.joiner_core.specs.Taking.{IsStepStock, IsStepWithin, IsCounted, HasSomeTurn}
-use Rattle.joiner_core.specs.Whole.{IsSound, IsStuck, IsMade, StandsBetween, nothing_yet, start_of}
+use Rattle.joiner_core.specs.Taking.{IsClosed, StandsBy, IsStepStock, IsStepWithin, IsCounted, HasSomeTurn}
+use Rattle.joiner_core.specs.Machine.{IsSound, IsStuck, IsMade, StandsBetween, nothing_yet, start_of}
 use Rattle.joiner_core.proofs.Keeping.{append-nil, same-ends}
 use Rattle.joiner_core.proofs.Reporting.{stands-for}
 

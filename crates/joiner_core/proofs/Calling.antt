@@ -2,40 +2,32 @@
 use Rattle.std.proofs.Common.{IsTrue, ◌↔◌, ◌≡◌, ℕ, zero, suc, ◌+◌, ◌-◌, ◌^◌, ◌<◌, ◌≤◌, refl, sym, ◌∙◌, ap, subst, arith, inl, inr, Bool, true, false, Option, Some, None, List, ◌++◌, length}
 use Rattle.std.specs.Prelude.{min, ⊤}
 use Rattle.std.proofs.lemmas.List.{length-append}
-use Rattle.std.proofs.lemmas.Bool.{false≢true, cases_eq, cases_Bool}
+use Rattle.std.proofs.lemmas.Bool.{false≢true, cases_Bool}
 use Rattle.join_rows.specs.Lists.{total}
 use Rattle.join_rows.proofs.Totals.{total_same}
 use Rattle.grid_map.proofs.Halves.{partner_below}
-use Rattle.migration_plan.specs.Steps.{AreNeighbours}
 use Rattle.epoch_tags.specs.declared.actor.Actor.{Actor}
 use Rattle.epoch_tags.specs.declared.actor.Actor.TheVariants.{Feeder, Joiner as Joiner', Controller, Collector}
 use Rattle.epoch_tags.specs.declared.message.Post.{Post}
 use Rattle.epoch_tags.specs.declared.message.ToJoiner.{ToJoiner}
 use Rattle.epoch_tags.specs.Links.{HasLink, feeder_joiner, joiner_joiner, controller_feeder, feeder_controller, joiner_controller, joiner_collector}
 use Rattle.joiner_law.specs.Law.{JoinerStart, JoinerLists}
-use Rattle.joiner_core.specs.Queues.{held_at, DifferInOneBit}
+use Rattle.joiner_core.specs.Stocks.{held_at, DifferInOneBit}
 use Rattle.joiner_law.specs.Standing.{with_sent}
-use Rattle.joiner_core.specs.Whole.{StandsBetween, Receives, IsOfGrid, IsSound, IsKept, with_message}
-use Rattle.joiner_core.specs.Flags.{flag_at}
-use Rattle.theta_pred.specs.Formula.{Meaning}
-use Rattle.joiner_core.specs.Widths.{IsStock}
-use Rattle.joiner_core.proofs.Fitting.{to-rows, from-rows}
-use Rattle.joiner_core.specs.Taking.{IsStepStock, IsStepWithin, IsCounted, HasSomeTurn}
-use Rattle.joiner_core.specs.declared.opened.Opened.{Opened}
-use Rattle.joiner_core.specs.Joining.{IsSpent, StandsFor, TakesMessage, held_number}
+use Rattle.joiner_core.specs.Machine.{StandsBetween, Receives, IsOfGrid, IsSound, with_message}
+use Rattle.joiner_core.specs.Standing.{JoinerState, IsSpent, StandsFor, TakesMessage, held_number}
 use Rattle.joiner_core.specs.declared.epochs.Epochs.{Epochs}
 use Rattle.joiner_core.specs.declared.machine.Machine.{Machine}
-use Rattle.joiner_core.specs.declared.joiner.Joiner.{Joiner}
 use Rattle.joiner_core.proofs.Posting.{all-over, all-rows}
 use Rattle.joiner_core.proofs.Assembling.{keeps-law, law-done, machine-done}
 
 -- what the machine stands for keeps the law
-pub with-law : (s : JoinerStart) (lists : JoinerLists) (joiner : Joiner) → StandsBetween s lists joiner.machine → StandsFor s lists joiner
+pub with-law : (s : JoinerStart) (lists : JoinerLists) (joiner : JoinerState) → StandsBetween s lists joiner.machine → StandsFor s lists joiner
 with-law s lists joiner is =
     let law = keeps-law s lists joiner.machine is in
     record { taken = is.within.taken; law = law; machine = record { between = is; taken = refl; done = sym (machine-done s lists joiner.machine is) ∙ law-done s lists is.within.taken law } }
 
-pub takes : (from : Actor) (m : ToJoiner) (old new : Joiner) (before after : List Post) → Receives from m old.machine new.machine before after → TakesMessage from m old new before after
+pub takes : (from : Actor) (m : ToJoiner) (old new : JoinerState) (before after : List Post) → Receives from m old.machine new.machine before after → TakesMessage from m old new before after
 takes from m old new before after is = record {
   added = is.added;
   sends = is.sends;
@@ -52,100 +44,12 @@ pub told-by : {F : Type 0} (b : Bool) → (b ≡ true → F) → (b ≡ false �
 told-by true up down = (λ yes. up refl, λ fact. refl)
 told-by false up down = (λ yes. absurd (false≢true yes), λ fact. absurd (down refl fact))
 
--- ---- between calls
-
-some-flag : (n : ℕ) (f : ℕ → Bool) → (((p : ℕ) → p < n → f p ≡ false) → ⊥) → (p : ℕ) × (p < n) × (f p ≡ true)
-some-flag zero f never = absurd (never (λ p low. absurd (omega arith)))
-some-flag (suc n) f never = elim (cases_Bool (f n)) [
-  | inl up ↦ (n, omega arith, up)
-  | inr down ↦
-      let rest = some-flag n f (λ all. never (λ p low. elim (cases_eq p n) [
-        | inl same ↦ ap f same ∙ down
-        | inr differ ↦ all p (omega arith)
-      ])) in
-      let low = rest.1 in
-      (rest.0, omega arith, rest.2)
-]
-
--- two shifts are neighbours where one is the other and 1
-neighbours-apart : (a b : ℕ) → (a - b) + (b - a) ≡ 1 → AreNeighbours a b
-neighbours-apart a b is = elim (cases_eq b (a + 1)) [
-  | inl up ↦ inl up
-  | inr down ↦ inr (omega arith)
-]
-
-apart-neighbours : (a b : ℕ) → AreNeighbours a b → (a - b) + (b - a) ≡ 1
-apart-neighbours a b next = elim next [
-  | inl up ↦ omega arith
-  | inr down ↦ omega arith
-]
-
-step-within : (k shift : ℕ) (step : Option Opened) → ((o : Opened) → step ≡ Some o → o.shift ≤ k) → ((o : Opened) → step ≡ Some o → (shift - o.shift) + (o.shift - shift) ≡ 1) → IsStepWithin k shift step
-step-within k shift None all apart = tt
-step-within k shift (Some o) all apart = (all o refl, neighbours-apart shift o.shift (apart o refl))
-
-step-counted : (n : ℕ) (step : Option Opened) → ((o : Opened) → step ≡ Some o → length o.turned.items ≡ n) → IsCounted n step
-step-counted n None all = tt
-step-counted n (Some o) all = all o refl
-
-step-begun : (n : ℕ) (step : Option Opened) → ((o : Opened) → step ≡ Some o → ((p : ℕ) → p < n → flag_at o.turned.items p ≡ false) → ⊥) → HasSomeTurn n step
-step-begun n None all = tt
-step-begun n (Some o) all = some-flag n (flag_at o.turned.items) (all o refl)
-
-step-stock : (theta : Meaning) (step : Option Opened) → ((o : Opened) → step ≡ Some o → IsStock theta o.store) → IsStepStock theta step
-step-stock theta None all = tt
-step-stock theta (Some o) all = all o refl
-
-pub to-sound : (m : Machine) → IsKept m → IsSound m
-to-sound m is = record {
-  within = record {
-    small = is.small;
-    shift = is.shift;
-    step = step-within m.epochs.k m.epochs.shift m.epochs.step is.step is.apart;
-    ended = is.ended;
-    count = step-counted m.epochs.feeders m.epochs.step is.count;
-    begun = step-begun m.epochs.feeders m.epochs.step is.begun;
-    rests = is.rests;
-    id = is.id;
-    stock = is.stock;
-    step_stock = step-stock m.epochs.theta.now m.epochs.step is.step_stock;
-  };
-  feeders = is.feeders;
-  joiners = is.joiners;
-  feeder_rows = to-rows m.epochs.theta.now m.of_feeders is.feeder_rows;
-  joiner_rows = to-rows m.epochs.theta.now m.of_joiners is.joiner_rows;
-}
-
 -- a joiner that isn't spent is sound
-pub kept-at-work : (joiner : Joiner) → ¬ (IsSpent joiner) → IsKept joiner.machine
-kept-at-work joiner going = elim (cases_Bool joiner.spent) [
+pub sound-at-work : (joiner : JoinerState) → (joiner.spent ≡ false → IsSound joiner.machine) → ¬ (IsSpent joiner) → IsSound joiner.machine
+sound-at-work joiner sound going = elim (cases_Bool joiner.spent) [
   | inl up ↦ absurd (going up)
-  | inr down ↦ joiner.sound down
+  | inr down ↦ sound down
 ]
-
-step-of : (m : Machine) (o : Opened) → m.epochs.step ≡ Some o → IsSound m → IsStepWithin m.epochs.k m.epochs.shift (Some o)
-step-of m o opens is = subst (λ (z : Option Opened). IsStepWithin m.epochs.k m.epochs.shift z) opens is.within.step
-
-pub from-sound : (m : Machine) → IsSound m → IsKept m
-from-sound m is = record {
-  small = is.within.small;
-  shift = is.within.shift;
-  step = λ o opens. (step-of m o opens is).0;
-  apart = λ o opens. apart-neighbours m.epochs.shift o.shift (step-of m o opens is).1;
-  ended = is.within.ended;
-  count = λ o opens. subst (λ (z : Option Opened). IsCounted m.epochs.feeders z) opens is.within.count;
-  begun = λ o opens down.
-      let some : HasSomeTurn m.epochs.feeders (Some o) = subst (λ (z : Option Opened). HasSomeTurn m.epochs.feeders z) opens is.within.begun in
-      false≢true (sym (down some.0 some.1) ∙ some.2);
-  rests = is.within.rests;
-  feeders = is.feeders;
-  joiners = is.joiners;
-  id = is.within.id;
-  stock = is.within.stock;
-  step_stock = λ o opens. subst (λ (z : Option Opened). IsStepStock m.epochs.theta.now z) opens is.within.step_stock;
-  feeder_rows = from-rows m.epochs.theta.now m.of_feeders is.feeder_rows;
-  joiner_rows = from-rows m.epochs.theta.now m.of_joiners is.joiner_rows;
-}
 
 -- ---- links
 

@@ -8,15 +8,13 @@ use Rattle.epoch_tags.specs.Messages.{moved_ends}
 use Rattle.joiner_law.specs.Law.{JoinerStart, JoinerLists, Taken, partner_of, opened, IsSettled, IsAtRest, IsFinished}
 use Rattle.joiner_law.specs.History.{Step}
 use Rattle.joiner_law.specs.Standing.{one_if, AreParts}
-use Rattle.joiner_core.specs.Flags.{IsEachUp}
-use Rattle.joiner_core.specs.Queues.{held_at}
-use Rattle.joiner_core.specs.Changes.{IsReady}
-use Rattle.joiner_core.specs.declared.opened.Opened.{Opened}
+use Rattle.joiner_core.specs.Changes.{IsEachUp, IsReady}
+use Rattle.joiner_core.specs.Stocks.{held_at}
+use Rattle.joiner_core.specs.declared.epochs.Opened.{Opened}
 use Rattle.joiner_core.specs.declared.epochs.Epochs.{Epochs}
 use Rattle.joiner_core.specs.declared.machine.Machine.{Machine}
-use Rattle.joiner_core.specs.Standing.{IsClosed, IsOpen, StandsBy, Stands}
-use Rattle.joiner_core.specs.Taking.{HasSomeTurn}
-use Rattle.joiner_core.specs.Whole.{IsResting, StandsBetween, HasFinished}
+use Rattle.joiner_core.specs.Taking.{IsClosed, IsOpen, StandsBy, Stands, HasSomeTurn}
+use Rattle.joiner_core.specs.Machine.{IsResting, StandsBetween, HasFinished}
 use Rattle.joiner_core.proofs.Keeping.{append-nil}
 use Rattle.joiner_core.proofs.Testing.{closed-few, open-begun}
 

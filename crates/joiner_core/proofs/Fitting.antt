@@ -6,15 +6,12 @@ use Rattle.std.proofs.lemmas.List.Elements.{All-nil, All-append, All-filter, All
 use Rattle.join_rows.specs.declared.table.Side.TheVariants.{R, S}
 use Rattle.epoch_tags.specs.declared.tuple.Tuple.{Tuple}
 use Rattle.epoch_tags.specs.declared.message.ToJoiner.{ToJoiner}
-use Rattle.epoch_tags.specs.declared.message.ToJoiner.TheVariants.{Tup, Turn, End, Moved, MovedEnd}
 use Rattle.migration_plan.specs.Steps.{holds, is_of}
 use Rattle.theta_pred.specs.Formula.{Meaning}
-use Rattle.joiner_core.specs.Queues.{held_at}
-use Rattle.joiner_core.specs.Stocks.{Stocked, placed, with_placed, kept_stock}
-use Rattle.joiner_core.specs.Widths.{IsRow, AreRows, IsStock, HasRow, HoldsRows, Carries, CarriesRows}
+use Rattle.joiner_core.specs.Stocks.{held_at, Stocked, placed, with_placed, kept_stock, IsRow, AreRows, IsStock, HasRow, HoldsRows}
 use Rattle.joiner_core.specs.Changes.{kept_at_end, open_old, step_new, part_by, HasBegun, HasTurned}
 use Rattle.joiner_core.specs.Taking.{IsStepStock}
-use Rattle.joiner_core.specs.declared.opened.Opened.{Opened}
+use Rattle.joiner_core.specs.declared.epochs.Opened.{Opened}
 use Rattle.joiner_core.specs.declared.epochs.Epochs.{Epochs}
 
 -- ---- stores
@@ -83,25 +80,3 @@ row-first theta qs i m rest first rows = All-head (HasRow theta) m rest (subst (
 
 pub rows-none : (theta : Meaning) (qs : List (List ToJoiner)) → ((i : ℕ) → held_at qs i ≡ []) → HoldsRows theta qs
 rows-none theta qs none = λ i. subst (All (HasRow theta)) (sym (none i)) (All-nil (HasRow theta))
-
--- ---- the same, as a proposition
-
-carried-row : (theta : Meaning) (m : ToJoiner) → ((t : Tuple) → Carries m t → IsRow theta t) → HasRow theta m
-carried-row theta (Tup x) each = each x refl
-carried-row theta (Turn epoch shift) each = tt
-carried-row theta End each = tt
-carried-row theta (Moved epoch x) each = each x refl
-carried-row theta (MovedEnd epoch) each = tt
-
-row-carried : (theta : Meaning) (m : ToJoiner) → HasRow theta m → (t : Tuple) → Carries m t → IsRow theta t
-row-carried theta (Tup x) row t is = subst (IsRow theta) is row
-row-carried theta (Turn epoch shift) row t is = absurd is
-row-carried theta End row t is = absurd is
-row-carried theta (Moved epoch x) row t is = subst (IsRow theta) is row
-row-carried theta (MovedEnd epoch) row t is = absurd is
-
-pub to-rows : (theta : Meaning) (qs : List (List ToJoiner)) → CarriesRows theta qs → HoldsRows theta qs
-to-rows theta qs each = λ i k d low. carried-row theta _ (each i k d low)
-
-pub from-rows : (theta : Meaning) (qs : List (List ToJoiner)) → HoldsRows theta qs → CarriesRows theta qs
-from-rows theta qs rows = λ i k d low. row-carried theta _ (rows i k d low)

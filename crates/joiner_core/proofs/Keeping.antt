@@ -21,19 +21,15 @@ use Rattle.joiner_law.proofs.Partners.{counts-arrived}
 use Rattle.joiner_law.proofs.MovedBySteps.{count-bag}
 use Rattle.joiner_law.proofs.TakenTuples.{settled-tup, open-late, open-tup, open-moved}
 use Rattle.joiner_law.proofs.TakenTurns.{opened-step, open-turn, all-turned, settled-end, open-moved_end, settled-step}
-use Rattle.joiner_core.specs.Matching.{does_hold}
-use Rattle.joiner_core.specs.Flags.{flag_at, IsEachUp}
-use Rattle.joiner_core.specs.declared.opened.Opened.{Opened}
+use Rattle.joiner_core.specs.Stocks.{does_hold, placed, with_placed, IsRow, IsStock}
+use Rattle.joiner_core.specs.Changes.{flag_at, IsEachUp, after_old, found_old, posts_old, late_found, late_posts, open_old, opened_late, found_late, posts_late, with_new, after_new, found_new, step_new, new_found, IsOpened, posts_opened, settled_by, IsReady, turned_in, settle_posts, posts_settled, after_settle, HasTurned, AreAllUp, end_posts, posts_turned, HasBegun, begun_posts}
+use Rattle.joiner_core.specs.declared.epochs.Opened.{Opened}
 use Rattle.joiner_core.specs.declared.epochs.Epochs.{Epochs}
-use Rattle.joiner_core.specs.Changes.{after_old, found_old, posts_old, late_found, late_posts, open_old, opened_late, found_late, posts_late, with_new, after_new, found_new, step_new, new_found, IsOpened, posts_opened, settled_by, IsReady, turned_in, settle_posts, posts_settled, after_settle, HasTurned, AreAllUp, end_posts, posts_turned, HasBegun, begun_posts}
-use Rattle.joiner_core.specs.Standing.{IsMachineOf, IsClosed, IsOpen, StandsBy, Stands}
+use Rattle.joiner_core.specs.Taking.{IsMachineOf, IsClosed, IsOpen, StandsBy, Stands, IsStepStock, IsWithin, IsFixed, IsStepWithin, IsCounted, HasSomeTurn, TupFits, CanTakeTup, TurnFits, CanTakeTurn, TookOfFeeder}
 use Rattle.theta_pred.specs.Formula.{Meaning}
-use Rattle.joiner_core.specs.Stocks.{placed, with_placed}
-use Rattle.joiner_core.specs.Widths.{IsRow, IsStock}
 use Rattle.joiner_core.proofs.Fitting.{stock-placed, stock-old, stock-new, stock-begun, stock-turned}
 use Rattle.joiner_core.proofs.Posting.{own-none, own-append, own-late, own-begun, own-turned, own-settled, own-before}
 use Rattle.joiner_core.proofs.Bagging.{settled-placed, open-placed, both-placed}
-use Rattle.joiner_core.specs.Taking.{IsStepStock, IsWithin, IsFixed, IsStepWithin, IsCounted, HasSomeTurn, TupFits, CanTakeTup, TurnFits, CanTakeTurn, TookOfFeeder}
 use Rattle.epoch_tags.specs.declared.message.Post.{Post}
 
 pub append-nil : {A : Type 0} (xs : List A) → xs ++ [] ≡ xs

@@ -11,11 +11,11 @@ use Rattle.epoch_tags.specs.declared.tuple.Pair.{Pair}
 use Rattle.migration_plan.specs.Steps.{AreNeighbours, is_of, exchanged_side, partner_in_step}
 use Rattle.theta_pred.specs.Formula.{Meaning}
 use Rattle.joiner_law.specs.Posting.{moved_post, moved_end_post, settled_post}
-use Rattle.joiner_core.specs.Widths.{IsRow, AreRows, IsOwnPost, AllSendRows}
+use Rattle.joiner_core.specs.Stocks.{IsRow, AreRows, IsOwnPost, AllSendRows}
 use Rattle.joiner_core.specs.Changes.{late_posts, begun_posts, end_posts, posts_turned, settle_posts, posts_settled}
 use Rattle.joiner_core.specs.Taking.{IsWithin, IsFixed, IsStepWithin, TurnFits, AreOwnPosts}
-use Rattle.joiner_core.specs.Whole.{found_posts, fin_posts}
-use Rattle.joiner_core.specs.declared.opened.Opened.{Opened}
+use Rattle.joiner_core.specs.Machine.{found_posts, fin_posts}
+use Rattle.joiner_core.specs.declared.epochs.Opened.{Opened}
 use Rattle.joiner_core.specs.declared.epochs.Epochs.{Epochs}
 use Rattle.joiner_core.specs.declared.machine.Machine.{Machine}
 

@@ -11,14 +11,11 @@ use Rattle.joiner_law.specs.History.{Step}
 use Rattle.joiner_law.specs.Standing.{took_of_feeder, took_of_joiner, with_sent, IsOfFeeder, StandsOpen}
 use Rattle.migration_plan.specs.Steps.{partner_in_step}
 use Rattle.joiner_law.proofs.TakenTurns.{open-end}
-use Rattle.joiner_core.specs.Flags.{flag_at}
-use Rattle.joiner_core.specs.declared.opened.Opened.{Opened}
+use Rattle.joiner_core.specs.Changes.{flag_at, after_moved, found_moved, moved_found, step_new, with_new, part_by, after_part, IsReady, posts_settled, after_settle}
+use Rattle.joiner_core.specs.declared.epochs.Opened.{Opened}
 use Rattle.joiner_core.specs.declared.epochs.Epochs.{Epochs}
-use Rattle.joiner_core.specs.Changes.{after_moved, found_moved, moved_found, step_new, with_new, part_by, after_part, IsReady, posts_settled, after_settle}
-use Rattle.joiner_core.specs.Standing.{IsMachineOf, IsOpen, StandsBy, Stands}
-use Rattle.joiner_core.specs.Taking.{IsWithin, IsFixed, IsStepWithin, IsCounted, HasSomeTurn, TookOfFeeder, TookOfJoiner}
-use Rattle.joiner_core.specs.Widths.{IsRow}
-use Rattle.joiner_core.specs.Tests.{PartFits}
+use Rattle.joiner_core.specs.Taking.{IsMachineOf, IsOpen, StandsBy, Stands, IsWithin, IsFixed, IsStepWithin, IsCounted, HasSomeTurn, TookOfFeeder, TookOfJoiner, PartFits}
+use Rattle.joiner_core.specs.Stocks.{IsRow}
 use Rattle.joiner_core.proofs.Fitting.{stock-part}
 use Rattle.joiner_core.proofs.Posting.{own-none, own-settled, own-before}
 use Rattle.joiner_core.proofs.Keeping.{quiet-settled, append-nil, closed-end, flag-set, open-part, open-part_end, stands-settled, settled-within, settled-k, settled-id, settled-feeders, settled-theta, new-within, with_sent-none}

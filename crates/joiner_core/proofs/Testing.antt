@@ -9,12 +9,10 @@ use Rattle.epoch_tags.specs.Messages.{turns, moved_ends}
 use Rattle.migration_plan.specs.Steps.{AreNeighbours, partner_in_step}
 use Rattle.joiner_law.specs.Law.{JoinerStart, JoinerLists, Taken, partner_of, shift_after, opened, CanTakeOfFeeder, CanTakeOfJoiner, IsOpenPart}
 use Rattle.joiner_law.specs.Standing.{one_if}
-use Rattle.joiner_core.specs.Flags.{flag_at}
-use Rattle.joiner_core.specs.declared.opened.Opened.{Opened}
+use Rattle.joiner_core.specs.Changes.{flag_at}
+use Rattle.joiner_core.specs.declared.epochs.Opened.{Opened}
 use Rattle.joiner_core.specs.declared.epochs.Epochs.{Epochs}
-use Rattle.joiner_core.specs.Standing.{IsMachineOf, IsClosed, IsOpen, StandsBy, Stands}
-use Rattle.joiner_core.specs.Taking.{TupFits, TurnFits, HasSomeTurn}
-use Rattle.joiner_core.specs.Tests.{PartFits, TakesOfFeeder, TakesOfJoiner}
+use Rattle.joiner_core.specs.Taking.{IsMachineOf, IsClosed, IsOpen, StandsBy, Stands, TupFits, TurnFits, HasSomeTurn, PartFits, TakesOfFeeder, TakesOfJoiner}
 use Rattle.joiner_core.proofs.Keeping.{partner-is}
 
 pub greatest-above : (n : ℕ) (g : ℕ → ℕ) (i : ℕ) → i < n → g i ≤ greatest n g

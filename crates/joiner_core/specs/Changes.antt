@@ -1,5 +1,5 @@
 -- What each call does to the machine, as functions of its state.
-use Rattle.std.specs.Prelude.{◌≡◌, ℕ, Bool, true, false, cond, slice_set, count_by, Option, Some, None, List, [], ◌∷◌, ◌++◌, map, filter, slice_index_or, length}
+use Rattle.std.specs.Prelude.{◌≡◌, ℕ, ◌<◌, Bool, true, false, List, length, slice_index_or, cond, slice_set, count_by, Option, Some, None, [], ◌∷◌, ◌++◌, map, filter}
 use Rattle.join_rows.specs.declared.table.Side.{Side}
 use Rattle.epoch_tags.specs.declared.tuple.Tuple.{Tuple}
 use Rattle.epoch_tags.specs.declared.tuple.Pair.{Pair}
@@ -7,11 +7,15 @@ use Rattle.epoch_tags.specs.declared.message.Post.{Post}
 use Rattle.migration_plan.specs.Steps.{holds, is_of, exchanged_side, partner_in_step}
 use Rattle.joiner_law.specs.History.{probed, all_tuples, only_stamp}
 use Rattle.joiner_law.specs.Posting.{moved_post, moved_end_post, settled_post}
-use Rattle.joiner_core.specs.Matching.{does_hold}
-use Rattle.joiner_core.specs.Stocks.{placed, with_placed, kept_stock}
-use Rattle.joiner_core.specs.Flags.{flag_at, IsEachUp}
-use Rattle.joiner_core.specs.declared.opened.Opened.{Opened}
+use Rattle.joiner_core.specs.Stocks.{does_hold, placed, with_placed, kept_stock}
+use Rattle.joiner_core.specs.declared.epochs.Opened.{Opened}
 use Rattle.joiner_core.specs.declared.epochs.Epochs.{Epochs}
+
+abbrev pub flag_at : List Bool → ℕ → Bool
+flag_at flags p = slice_index_or flags p false
+
+abbrev pub IsEachUp : List Bool → Type 0
+IsEachUp flags = (p : ℕ) → p < length flags → flag_at flags p ≡ true
 
 -- a list to which the tuple was added if it is kept
 abbrev pub kept_at_end : Bool → Tuple → List Tuple → List Tuple

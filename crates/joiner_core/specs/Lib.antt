@@ -1,12 +1,5 @@
-pub mod Flags
-pub mod Queues
-pub mod Matching
-pub mod Probes
 pub mod Stocks
-pub mod Widths
 pub mod Changes
-pub mod Standing
 pub mod Taking
-pub mod Tests
-pub mod Whole
-pub mod Joining
+pub mod Machine
+pub mod Standing

@@ -1,54 +1,69 @@
--- The lists for which a joiner's machine stands in the midst of a call.
-use Rattle.std.specs.Prelude.{◌≡◌, ℕ, ◌+◌, ◌<◌, Bool, true, false, Option, Some, None, List, ◌∷◌, length}
-use Rattle.epoch_tags.specs.declared.tuple.Pair.{Pair}
-use Rattle.joiner_law.specs.Law.{JoinerStart, JoinerLists, Taken}
-use Rattle.joiner_law.specs.History.{Step}
-use Rattle.joiner_law.specs.Standing.{StandsSettled, StandsOpen, moved_counts}
-use Rattle.joiner_core.specs.Matching.{does_hold}
-use Rattle.joiner_core.specs.Flags.{flag_at}
-use Rattle.joiner_core.specs.declared.opened.Opened.{Opened}
-use Rattle.joiner_core.specs.declared.epochs.Epochs.{Epochs}
+-- A joiner as its callers see it, and what a call does to it.
+use Rattle.std.specs.Prelude.{◌≡◌, ℕ, ◌+◌, ◌-◌, ◌^◌, Bool, true, List, ◌++◌, length}
+use Rattle.join_rows.specs.Lists.{total}
+use Rattle.epoch_tags.specs.declared.actor.Actor.{Actor}
+use Rattle.epoch_tags.specs.declared.actor.Actor.TheVariants.{Joiner as Joiner'}
+use Rattle.epoch_tags.specs.declared.message.Post.{Post}
+use Rattle.epoch_tags.specs.declared.message.ToJoiner.{ToJoiner}
+use Rattle.epoch_tags.specs.Posts.{AllGoOver}
+use Rattle.theta_pred.specs.Formula.{Meaning}
+use Rattle.joiner_law.specs.Law.{JoinerStart, JoinerLists, JoinerLaw, Taken}
+use Rattle.joiner_law.specs.Standing.{with_sent}
+use Rattle.joiner_core.specs.Machine.{StandsAt, StandInOrder, TakesInOrder, with_message}
+use Rattle.joiner_core.specs.Stocks.{AllSendRows}
+use Rattle.joiner_core.specs.declared.machine.Machine.{Machine}
 
--- what never changes
-pub record IsMachineOf (s : JoinerStart) (m : Epochs) : Type 0 where
-  pub k : m.k ≡ s.k
-  pub id : m.id ≡ s.id
-  pub feeders : m.feeders ≡ s.feeders
-  pub matches : does_hold m.theta.now ≡ s.matches
-  pub small : s.k < 9
+-- what it holds, and whether want of memory has stopped it
+pub record JoinerState : Type 0 where
+  pub machine : Machine
+  pub spent : Bool
 
--- with no step open
-pub record IsClosed (s : JoinerStart) (t : Taken) (lists : JoinerLists) (waiting : List Pair) (m : Epochs) : Type 0 where
-  pub cur : Step
-  pub past : List Step
-  pub stands : StandsSettled s t lists waiting (flag_at m.ended.items) m.store.tuples cur past
-  pub epoch : m.epoch ≡ s.epoch + length past
-  pub shift : m.shift ≡ cur.shift
-  pub ended_count : length m.ended.items ≡ s.feeders
-  pub moved : m.moved ≡ moved_counts s.k s.id (cur ∷ past)
+-- want of memory has stopped it
+abbrev pub IsSpent : JoinerState → Type 0
+IsSpent joiner = joiner.spent ≡ true
 
--- with a step open
-pub record IsOpen (s : JoinerStart) (t : Taken) (lists : JoinerLists) (waiting : List Pair) (m : Epochs) (o : Opened) : Type 0 where
-  pub new : Step
-  pub cur : Step
-  pub past : List Step
-  pub all_turned : Bool
-  pub stands : StandsOpen s t lists waiting (flag_at o.turned.items) (flag_at m.ended.items) all_turned o.partner_ended m.store.tuples o.store.tuples new cur past
-  pub epoch : m.epoch ≡ s.epoch + length past
-  pub shift : m.shift ≡ cur.shift
-  pub step_epoch : o.epoch ≡ s.epoch + length past + 1
-  pub step_shift : o.shift ≡ new.shift
-  pub ended_count : length m.ended.items ≡ s.feeders
-  pub count : length o.turned.items ≡ s.feeders
-  pub moved : m.moved ≡ moved_counts s.k s.id (cur ∷ past)
-  pub missing : all_turned ≡ false → ((p : ℕ) → p < s.feeders → flag_at o.turned.items p ≡ true) → ⊥
-  pub all : all_turned ≡ true → (p : ℕ) → p < s.feeders → flag_at o.turned.items p ≡ true
+-- the grid's k, its id and the number of feeders
+abbrev pub k_of : JoinerState → ℕ
+k_of joiner = joiner.machine.epochs.k
 
-abbrev pub StandsBy : JoinerStart → Taken → JoinerLists → List Pair → Epochs → Option Opened → Type 0
-StandsBy s t lists waiting m None = IsClosed s t lists waiting m
-StandsBy s t lists waiting m (Some o) = IsOpen s t lists waiting m o
+abbrev pub id_of : JoinerState → ℕ
+id_of joiner = joiner.machine.epochs.id
 
--- of a joiner that began by s, took t, sent these lists and has these pairs waiting
-pub record Stands (s : JoinerStart) (t : Taken) (lists : JoinerLists) (waiting : List Pair) (m : Epochs) : Type 0 where
-  pub fixed : IsMachineOf s m
-  pub now : StandsBy s t lists waiting m m.step
+abbrev pub feeders_of : JoinerState → ℕ
+feeders_of joiner = joiner.machine.epochs.feeders
+
+-- what its predicate says
+abbrev pub theta_of : JoinerState → Meaning
+theta_of joiner = joiner.machine.epochs.theta.now
+
+-- it is joiner `id` of 2 ^ k, hears so many feeders and joins by this predicate
+pub record IsJoiner (k id feeders : ℕ) (theta : Meaning) (joiner : JoinerState) : Type 0 where
+  pub of_k : k_of joiner ≡ k
+  pub of_id : id_of joiner ≡ id
+  pub of_feeders : feeders_of joiner ≡ feeders
+  pub of_theta : theta_of joiner ≡ theta
+
+-- it began by `start`, these lists are what it has received and sent, and they keep the law
+pub record StandsFor (start : JoinerStart) (lists : JoinerLists) (joiner : JoinerState) : Type 0 where
+  pub taken : Taken
+  pub law : JoinerLaw start lists taken
+  pub machine : StandsAt start lists taken law.done joiner.machine
+
+-- how many messages of these lists weren't taken
+abbrev pub held_number : JoinerStart → JoinerLists → Taken → ℕ
+held_number s lists t =
+    total s.feeders (λ p. length (lists.from_feeder p) - length (t.from_feeder p))
+    + total (2 ^ s.k) (λ q. length (lists.from_joiner q) - length (t.from_joiner q))
+
+-- a call that took or held message m: its posts go over links of this joiner, and for whatever lists it stood, it stands
+-- for them with the message and the new posts at their ends
+pub record TakesMessage (from : Actor) (m : ToJoiner) (old new : JoinerState) (before after : List Post) : Type 0 where
+  pub added : List Post
+  pub sends : after ≡ before ++ added
+  pub over : AllGoOver (k_of old) (feeders_of old) (Joiner' (id_of old)) added
+  pub rows : AllSendRows (theta_of old) added
+  pub order : StandInOrder added
+  pub tried : TakesInOrder from m old.machine new.machine
+  pub same : IsJoiner (k_of old) (id_of old) (feeders_of old) (theta_of old) new
+  pub stands : (start : JoinerStart) (lists : JoinerLists) → StandsFor start lists old
+      → StandsFor start (with_sent (with_message from m lists) added) new

@@ -1,12 +1,50 @@
--- What a joiner has of one epoch.
-use Rattle.std.specs.Prelude.{◌≡◌, ℕ, Option, option_map, List, [], ◌∷◌, ◌++◌, filter}
-use Rattle.join_rows.specs.declared.table.Side.TheVariants.{R, S}
+-- What a joiner has of one epoch: tuples of the predicate's widths, and the predicate as a test of two of them; messages held, link by link.
+use Rattle.std.specs.Prelude.{Bool, ◌≡◌, ℕ, ◌<◌, ◌^◌, bit_xor, List, [], ◌∷◌, slice_index_or, Option, option_map, ◌++◌, filter, ⊤, All}
 use Rattle.epoch_tags.specs.declared.tuple.Tuple.{Tuple}
+use Rattle.theta_pred.specs.Formula.{Meaning}
+use Rattle.theta_pred.specs.Truth.{holds as is_true}
+use Rattle.store_parts.specs.declared.which.Which.{Which}
+use Rattle.store_parts.specs.declared.which.Which.TheVariants.{All as All', OnlyStamp}
+use Rattle.joiner_law.specs.History.{all_tuples, only_stamp}
+use Rattle.epoch_tags.specs.declared.message.ToJoiner.{ToJoiner}
+use Rattle.join_rows.specs.declared.table.Side.TheVariants.{R, S}
 use Rattle.migration_plan.specs.Steps.{holds, is_of}
 use Rattle.theta_pred.specs.declared.atom.KeyAtom.{KeyAtom}
-use Rattle.theta_pred.specs.Formula.{Meaning}
 use Rattle.theta_pred.specs.Keys.{atom_of, key_of}
 use Rattle.store_parts.specs.Stored.{Stored}
+use Rattle.epoch_tags.specs.declared.actor.Actor.TheVariants.{Joiner as Joiner'}
+use Rattle.epoch_tags.specs.declared.message.Msg.{Msg}
+use Rattle.epoch_tags.specs.declared.message.Msg.TheVariants.{Joiner, Feeder, Controller, Collector}
+use Rattle.epoch_tags.specs.declared.message.Post.{Post}
+use Rattle.epoch_tags.specs.Posts.{GoesOver}
+use Rattle.epoch_tags.specs.declared.message.ToJoiner.TheVariants.{Tup, Turn, End, Moved, MovedEnd}
+use Rattle.store_parts.specs.Matches.{HasWidth}
+
+-- ---- the predicate
+
+-- whether it is true of the rows of a tuple of R and one of S
+abbrev pub does_hold : Meaning → Tuple → Tuple → Bool
+does_hold theta r q = is_true theta r.cells q.cells
+
+abbrev pub named_by : Which → Tuple → Bool
+named_by All' = all_tuples
+named_by (OnlyStamp stamp) = only_stamp stamp
+
+-- ---- messages held, link by link
+
+abbrev pub held_at : List (List ToJoiner) → ℕ → List ToJoiner
+held_at queues sender = slice_index_or queues sender []
+
+abbrev pub BeginsWith : ToJoiner → List ToJoiner → Type 0
+BeginsWith m queue = (rest : List ToJoiner) × (queue ≡ m ∷ rest)
+
+-- the ids differ in one bit
+pub record DifferInOneBit (k from to : ℕ) : Type 0 where
+  pub low : ℕ
+  pub below : low < k
+  pub other : to ≡ bit_xor from (2 ^ low)
+
+-- ---- the tuples and their key
 
 -- the tuples of a store as one list, those of R first
 abbrev pub tuples_of : Stored → List Tuple
@@ -40,3 +78,46 @@ kept_stock k shift id stock = record stock { tuples = filter (holds k shift id) 
 -- the key is the predicate's key atom, and there is none where the predicate has none
 abbrev pub IsKeyOf : Meaning → Option KeyAtom → Type 0
 IsKeyOf theta key = option_map atom_of key ≡ key_of theta.formula
+
+-- ---- rows of the predicate's widths
+
+-- the tuple has a cell for each column of its side
+abbrev pub IsRow : Meaning → Tuple → Type 0
+IsRow theta x = HasWidth theta x.side x
+
+abbrev pub AreRows : Meaning → List Tuple → Type 0
+AreRows theta xs = All (IsRow theta) xs
+
+-- what a joiner with this predicate has of an epoch: rows of the widths, and the predicate's own key
+pub record IsStock (theta : Meaning) (stock : Stocked) : Type 0 where
+  pub rows : AreRows theta stock.tuples
+  pub key : IsKeyOf theta stock.key
+
+-- so has the tuple that a message carries, if it carries one
+abbrev pub HasRow : Meaning → ToJoiner → Type 0
+HasRow theta (Tup x) = IsRow theta x
+HasRow theta (Turn epoch shift) = ⊤
+HasRow theta End = ⊤
+HasRow theta (Moved epoch x) = IsRow theta x
+HasRow theta (MovedEnd epoch) = ⊤
+
+-- and each that is carried by a held message
+abbrev pub HoldsRows : Meaning → List (List ToJoiner) → Type 0
+HoldsRows theta queues = (sender : ℕ) → All (HasRow theta) (held_at queues sender)
+
+-- ---- of what is sent
+
+-- the row that it carries to a joiner, if it carries one, has the predicate's widths
+abbrev pub SendsRow : Meaning → Msg → Type 0
+SendsRow theta (Joiner m) = HasRow theta m
+SendsRow theta (Feeder m) = ⊤
+SendsRow theta (Controller m) = ⊤
+SendsRow theta (Collector m) = ⊤
+
+abbrev pub AllSendRows : Meaning → List Post → Type 0
+AllSendRows theta posts = All (λ post. SendsRow theta post.msg) posts
+
+-- a post over a link of joiner `id`, with a row of the widths if it carries one
+pub record IsOwnPost (k feeders id : ℕ) (theta : Meaning) (post : Post) : Type 0 where
+  pub over : GoesOver k feeders (Joiner' id) post
+  pub row : SendsRow theta post.msg

@@ -1,19 +1,65 @@
--- What the machine can take, and what taking it does to the lists for which the machine stands.
-use Rattle.std.specs.Prelude.{◌≡◌, ℕ, ◌+◌, ◌<◌, ◌≤◌, ◌^◌, true, false, Option, Some, None, ⊤, List, [], ◌++◌, length, All}
+-- The lists for which what a joiner has of its epochs stands; which messages can be taken, and what taking one does to the lists.
+use Rattle.std.specs.Prelude.{◌≡◌, ℕ, ◌+◌, ◌<◌, Bool, true, false, Option, Some, None, List, ◌∷◌, length, ◌≤◌, ◌^◌, ⊤, [], ◌++◌, All}
 use Rattle.epoch_tags.specs.declared.tuple.Pair.{Pair}
+use Rattle.joiner_law.specs.Law.{JoinerStart, JoinerLists, Taken}
+use Rattle.joiner_law.specs.History.{Step}
+use Rattle.joiner_law.specs.Standing.{StandsSettled, StandsOpen, moved_counts, grown, with_sent}
+use Rattle.joiner_core.specs.Stocks.{does_hold, IsStock, IsOwnPost}
+use Rattle.joiner_core.specs.Changes.{flag_at, IsReady}
+use Rattle.joiner_core.specs.declared.epochs.Opened.{Opened}
+use Rattle.joiner_core.specs.declared.epochs.Epochs.{Epochs}
 use Rattle.epoch_tags.specs.declared.message.Post.{Post}
 use Rattle.epoch_tags.specs.declared.message.ToJoiner.{ToJoiner}
-use Rattle.migration_plan.specs.Steps.{AreNeighbours}
+use Rattle.migration_plan.specs.Steps.{AreNeighbours, partner_in_step}
 use Rattle.epoch_tags.specs.Posts.{posted_to_collector}
-use Rattle.joiner_law.specs.Law.{JoinerStart, JoinerLists, Taken}
-use Rattle.joiner_law.specs.Standing.{grown, with_sent}
-use Rattle.joiner_core.specs.Flags.{flag_at}
-use Rattle.joiner_core.specs.Widths.{IsStock, IsOwnPost}
 use Rattle.theta_pred.specs.Formula.{Meaning}
-use Rattle.joiner_core.specs.Standing.{Stands}
-use Rattle.joiner_core.specs.Changes.{IsReady}
-use Rattle.joiner_core.specs.declared.opened.Opened.{Opened}
-use Rattle.joiner_core.specs.declared.epochs.Epochs.{Epochs}
+use Rattle.epoch_tags.specs.declared.message.ToJoiner.TheVariants.{Tup, Turn, End, Moved, MovedEnd}
+
+-- what never changes
+pub record IsMachineOf (s : JoinerStart) (m : Epochs) : Type 0 where
+  pub k : m.k ≡ s.k
+  pub id : m.id ≡ s.id
+  pub feeders : m.feeders ≡ s.feeders
+  pub matches : does_hold m.theta.now ≡ s.matches
+  pub small : s.k < 9
+
+-- with no step open
+pub record IsClosed (s : JoinerStart) (t : Taken) (lists : JoinerLists) (waiting : List Pair) (m : Epochs) : Type 0 where
+  pub cur : Step
+  pub past : List Step
+  pub stands : StandsSettled s t lists waiting (flag_at m.ended.items) m.store.tuples cur past
+  pub epoch : m.epoch ≡ s.epoch + length past
+  pub shift : m.shift ≡ cur.shift
+  pub ended_count : length m.ended.items ≡ s.feeders
+  pub moved : m.moved ≡ moved_counts s.k s.id (cur ∷ past)
+
+-- with a step open
+pub record IsOpen (s : JoinerStart) (t : Taken) (lists : JoinerLists) (waiting : List Pair) (m : Epochs) (o : Opened) : Type 0 where
+  pub new : Step
+  pub cur : Step
+  pub past : List Step
+  pub all_turned : Bool
+  pub stands : StandsOpen s t lists waiting (flag_at o.turned.items) (flag_at m.ended.items) all_turned o.partner_ended m.store.tuples o.store.tuples new cur past
+  pub epoch : m.epoch ≡ s.epoch + length past
+  pub shift : m.shift ≡ cur.shift
+  pub step_epoch : o.epoch ≡ s.epoch + length past + 1
+  pub step_shift : o.shift ≡ new.shift
+  pub ended_count : length m.ended.items ≡ s.feeders
+  pub count : length o.turned.items ≡ s.feeders
+  pub moved : m.moved ≡ moved_counts s.k s.id (cur ∷ past)
+  pub missing : all_turned ≡ false → ((p : ℕ) → p < s.feeders → flag_at o.turned.items p ≡ true) → ⊥
+  pub all : all_turned ≡ true → (p : ℕ) → p < s.feeders → flag_at o.turned.items p ≡ true
+
+abbrev pub StandsBy : JoinerStart → Taken → JoinerLists → List Pair → Epochs → Option Opened → Type 0
+StandsBy s t lists waiting m None = IsClosed s t lists waiting m
+StandsBy s t lists waiting m (Some o) = IsOpen s t lists waiting m o
+
+-- of a joiner that began by s, took t, sent these lists and has these pairs waiting
+pub record Stands (s : JoinerStart) (t : Taken) (lists : JoinerLists) (waiting : List Pair) (m : Epochs) : Type 0 where
+  pub fixed : IsMachineOf s m
+  pub now : StandsBy s t lists waiting m m.step
+
+-- ---- what can be taken, and what taking it does
 
 -- the step leads from this shift to a neighbouring one within the grid
 abbrev pub IsStepWithin : ℕ → ℕ → Option Opened → Type 0
@@ -115,3 +161,24 @@ pub record TookOfJoiner (q : ℕ) (m : ToJoiner) (old new : Epochs) (waiting wai
   pub opened : old.step ≡ None → ⊥
   pub stands : (s : JoinerStart) (t : Taken) (lists : JoinerLists) → Stands s t lists waiting old
       → (t' : Taken) × IsAfterJoiner q m t t' × Stands s t' (with_sent lists added) waiting' new
+
+-- ---- which messages can be taken, as the machine's tests say
+
+-- a part of the open step, of the partner, before the end of its part
+abbrev pub PartFits : Epochs → ℕ → ℕ → Option Opened → Type 0
+PartFits m q epoch None = ⊥
+PartFits m q epoch (Some o) = (epoch ≡ o.epoch) × (o.partner_ended ≡ false) × (q ≡ partner_in_step m.shift o.shift m.id)
+
+abbrev pub TakesOfFeeder : Epochs → ℕ → ToJoiner → Type 0
+TakesOfFeeder m p (Tup x) = CanTakeTup m p x.stamp
+TakesOfFeeder m p (Turn epoch shift) = CanTakeTurn m p epoch shift
+TakesOfFeeder m p End = flag_at m.ended.items p ≡ false
+TakesOfFeeder m p (Moved epoch x) = ⊥
+TakesOfFeeder m p (MovedEnd epoch) = ⊥
+
+abbrev pub TakesOfJoiner : Epochs → ℕ → ToJoiner → Type 0
+TakesOfJoiner m q (Tup x) = ⊥
+TakesOfJoiner m q (Turn epoch shift) = ⊥
+TakesOfJoiner m q End = ⊥
+TakesOfJoiner m q (Moved epoch x) = PartFits m q epoch m.step
+TakesOfJoiner m q (MovedEnd epoch) = PartFits m q epoch m.step

@@ -2,7 +2,7 @@
 ghost use Rattle.std.specs.Prelude.{◌≡◌, true, false, ℕ, ◌+◌, ◌<◌, List, [], ◌∷◌, ◌++◌, length, slice_set, MatchOption, IfOk, OnOk, min, ◌^◌, ◌-◌};
 ghost use Rattle.join_rows.specs.Lists.{total};
 ghost use Rattle.epoch_tags.specs.declared.message.ToJoiner.{ToJoiner};
-ghost use Rattle.joiner_core.specs.Queues.{held_at, BeginsWith};
+ghost use Rattle.joiner_core.specs.Stocks.{held_at, BeginsWith};
 
 use epoch_tags::ToJoiner;
 use std::alloc::{AllocError, Global};

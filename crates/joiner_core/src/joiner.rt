@@ -1,14 +1,237 @@
 // A joiner as its callers see it.
-ghost use Rattle.std.specs.Prelude.{◌≡◌, false};
-ghost use Rattle.joiner_core.specs.Whole.{IsKept};
+
+ghost use Rattle.std.specs.Prelude.{◌≡◌, ◌+◌, ◌-◌, ◌<◌, ◌^◌, ◌≤◌, ◌↔◌, min, IsTrue, [], OnOk, OnErr, IfOk, Err, alloc_error, true, false};
+ghost use Rattle.std.specs.List.{AllByRecursion};
+ghost use Rattle.join_rows.specs.Lists.{SameBag};
+ghost use Rattle.epoch_tags.specs.declared.actor.Actor.TheVariants.{Joiner as Joiner'};
+ghost use Rattle.epoch_tags.specs.declared.tuple.Tuple.{Tuple};
+ghost use Rattle.epoch_tags.specs.Links.{HasLink};
+ghost use Rattle.joiner_law.specs.Law.{JoinerStart, JoinerLists, IsFinished, store};
+ghost use Rattle.joiner_core.specs.Machine.{start_of, nothing_yet};
+ghost use Rattle.joiner_core.specs.Stocks.{tuples_of, IsKeyOf, AreRows, HasRow, IsRow};
+ghost use Rattle.joiner_core.specs.Standing.{IsSpent, IsJoiner, theta_of, StandsFor, held_number, k_of, id_of, feeders_of, TakesMessage};
 
 use crate::machine::Machine;
+use crate::stock::Stock;
+use epoch_tags::{Actor, Sends, ToJoiner, Tuple};
+use join_rows::Side;
+use std::alloc::{AllocError, Global};
+use std::marker::Model;
+use store_parts::Store;
+use theta_pred::Theta;
 
 /// A joiner of the grid. It stores rows of both sides, finds the pairs that match, and exchanges rows with its partner
 /// in each step. It borrows the predicate.
 #[derive(Drop)]
 pub struct Joiner<'a> {
-    pub(crate) machine: Machine<'a>,
-    pub(crate) spent: bool,
-    ghost sound: { spent ≡ false → IsKept machine },
+    machine: Machine<'a>,
+    spent: bool,
+}
+
+impl<'a> Model for Joiner<'a> {
+    ghost use Rattle.std.specs.Prelude.{◌≡◌, false};
+    ghost use Rattle.std.specs.Coded.{codes};
+    ghost use Rattle.theta_pred.specs.FormulaCode.{formula_code};
+    ghost use Rattle.joiner_core.specs.Standing.{JoinerState};
+    ghost use Rattle.joiner_core.specs.Machine.{IsSound};
+
+    ghost Value = { JoinerState };
+
+    ghost coded = { Prim.hlevel (codes, formula_code (Prim.hlevel codes)) };
+
+    ghost view = { λ joiner. record { machine = joiner.machine; spent = joiner.spent } };
+
+    // In the midst of a call, and after one that found no memory, it is spent.
+    ghost invariant = { λ joiner. joiner.spent ≡ false → IsSound joiner.machine };
+}
+
+// A store with no tuples and the predicate's key atom; where there is none, by its text atom.
+fn empty_store(alloc: Global, theta: &Theta) -> Result<Store, AllocError>
+    ensures empty { IfOk result (λ store. tuples_of store ≡ []) }
+    ensures key { IfOk result (λ store. IsKeyOf theta.now store.key) }
+{
+    if let Some(key) = theta.key_atom()? {
+        return Ok(Store::new(alloc, Some(key)));
+    }
+    match theta.text_atom() {
+        Some(text) => Ok(Store::by_text(alloc, text)),
+        None => Ok(Store::new(alloc, None)),
+    }
+}
+
+impl<'a> Joiner<'a> {
+    /// Joiner `id` of `2^k`, at epoch 0 and with an empty store. Each feeder has a link to it.
+    pub fn start(
+        alloc: Global,
+        k: u32,
+        id: u32,
+        shift: u32,
+        feeders: u32,
+        theta: &'a Theta,
+    ) -> Result<Joiner<'a>, AllocError>
+        requires k { k < 9 }
+        requires shift { shift ≤ k }
+        requires id { id < 2 ^ k }
+        requires feeders { 0 < feeders }
+        ensures seat { IfOk result (λ joiner. IsJoiner k id feeders theta.now joiner) }
+        ensures at_work { IfOk result (λ joiner. ¬ IsSpent joiner) }
+        ensures fresh { IfOk result (λ joiner.
+            StandsFor (start_of k id shift 0 feeders theta.now []) nothing_yet joiner) }
+    {
+        Joiner::start_at(
+            alloc,
+            k,
+            id,
+            shift,
+            0,
+            feeders,
+            theta,
+            empty_store(alloc, theta)?,
+        )
+    }
+
+    /// Joiner `id` of `2^k`, settled at this epoch and shift and with this store. Its last message counts the moves of
+    /// later epochs alone. After want of memory the store is dropped.
+    pub fn start_at(
+        alloc: Global,
+        k: u32,
+        id: u32,
+        shift: u32,
+        epoch: u32,
+        feeders: u32,
+        theta: &'a Theta,
+        base: Store,
+    ) -> Result<Joiner<'a>, AllocError>
+        requires k { k < 9 }
+        requires shift { shift ≤ k }
+        requires id { id < 2 ^ k }
+        requires feeders { 0 < feeders }
+        requires base { AllByRecursion (λ (x : Tuple). x.stamp ≤ epoch) (tuples_of base) }
+        requires rows { AreRows theta.now (tuples_of base) }
+        requires key { IsKeyOf theta.now base.key }
+        ensures seat { IfOk result (λ joiner. IsJoiner k id feeders theta.now joiner) }
+        ensures at_work { IfOk result (λ joiner. ¬ IsSpent joiner) }
+        ensures fresh { IfOk result (λ joiner.
+            StandsFor (start_of k id shift epoch feeders theta.now (tuples_of base)) nothing_yet joiner) }
+    {
+        let machine = Machine::start_at(
+            alloc,
+            k,
+            id,
+            shift,
+            epoch,
+            feeders,
+            theta,
+            Stock::of(base),
+        )?;
+        Ok(Joiner {
+            machine,
+            spent: false,
+        })
+    }
+
+    /// The epoch of the last step that is settled.
+    pub fn settled_epoch(&self) -> u32
+        ensures { (start : JoinerStart) (lists : JoinerLists) (stands : StandsFor start lists self.now)
+            → result ≡ start.epoch + stands.law.done }
+    {
+        self.machine.epochs.epoch
+    }
+
+    /// How many messages are held, or `2^64 - 1` where there are more.
+    pub fn held_count(&self) -> u64
+        ensures { (start : JoinerStart) (lists : JoinerLists) (stands : StandsFor start lists self.now)
+            → result ≡ min (held_number start lists stands.taken) (2 ^ 64 - 1) }
+    {
+        self.machine
+            .of_feeders
+            .count()
+            .saturating_add(self.machine.of_joiners.count())
+    }
+
+    /// Whether all feeders have ended, no step is open and nothing is held.
+    pub fn finished(&self) -> bool
+        ensures { (start : JoinerStart) (lists : JoinerLists) (stands : StandsFor start lists self.now)
+            → IsTrue result ↔ IsFinished start lists stands.taken }
+    {
+        self.machine.finished()
+    }
+
+    /// The rows that it holds in its settled epoch.
+    pub fn store(&self) -> &Store
+        ensures key { ¬ IsSpent self.now → IsKeyOf (theta_of self.now) result.now.key }
+        ensures tuples { (start : JoinerStart) (lists : JoinerLists) (stands : StandsFor start lists self.now)
+            → SameBag (tuples_of result.now) (store start stands.taken stands.law.done) }
+    {
+        self.machine.epochs.store.store()
+    }
+
+    /// Whether want of memory has stopped it.
+    pub fn is_spent(&self) -> bool
+        ensures { IsTrue result ↔ IsSpent self.now }
+    {
+        self.spent
+    }
+
+    /// Whether this sender has a link to this joiner: a feeder of the run, or a joiner whose id differs in one bit.
+    pub fn hears(&self, from: Actor) -> bool
+        requires { ¬ IsSpent self.now }
+        ensures { IsTrue result
+            ↔ HasLink (k_of self.now) (feeders_of self.now) from (Joiner' (id_of self.now)) }
+    {
+        self.machine.hears(from)
+    }
+
+    /// Whether the row that the message carries, if it carries one, has a cell for each column of its side.
+    pub fn fits(&self, m: &ToJoiner) -> bool
+        ensures { IsTrue result ↔ HasRow (theta_of self.now) m.now }
+    {
+        has_row(self.machine.epochs.theta, m)
+    }
+
+    /// Takes a message, or holds it behind its link, and appends what it sends. After want of memory it is spent, and
+    /// every later call answers the same and changes nothing.
+    pub fn on(&mut self, from: Actor, m: ToJoiner, sends: &mut Sends) -> Result<(), AllocError>
+        requires link { ¬ IsSpent self.old
+            → HasLink (k_of self.old) (feeders_of self.old) from (Joiner' (id_of self.old)) }
+        requires row { ¬ IsSpent self.old → HasRow (theta_of self.old) m }
+        ensures takes { OnOk result (TakesMessage from m self.old self.new sends.old sends.new) }
+        ensures goes_on { OnOk result ((¬ IsSpent self.old) × (¬ IsSpent self.new)) }
+        ensures fails { OnErr result (IsSpent self.new) }
+        ensures spent { IsSpent self.old
+            → (result ≡ Err alloc_error) × (self.new ≡ self.old) × (sends.new ≡ sends.old) }
+    {
+        if self.spent {
+            return Err(AllocError);
+        }
+        self.spent = true;
+        self.machine.receive(from, m, sends)?;
+        self.spent = false;
+        Ok(())
+    }
+}
+
+// Whether the tuple has a cell for each column of its side.
+pub(crate) fn is_row(theta: &Theta, tuple: &Tuple) -> bool
+    ensures up { result ≡ true → IsRow theta.now tuple.now }
+    ensures down { result ≡ false → IsRow theta.now tuple.now → ⊥ }
+{
+    match tuple.side {
+        Side::R => tuple.cells.len() == theta.width_r(),
+        Side::S => tuple.cells.len() == theta.width_s(),
+    }
+}
+
+// So has the tuple that a message carries, if it carries one.
+pub(crate) fn has_row(theta: &Theta, m: &ToJoiner) -> bool
+    ensures up { result ≡ true → HasRow theta.now m.now }
+    ensures down { result ≡ false → HasRow theta.now m.now → ⊥ }
+{
+    match m {
+        ToJoiner::Tup(tuple) => is_row(theta, tuple),
+        ToJoiner::Moved { tuple, .. } => is_row(theta, tuple),
+        ToJoiner::Turn { .. } => true,
+        ToJoiner::MovedEnd { .. } => true,
+        ToJoiner::End => true,
+    }
 }

@@ -1,12 +1,11 @@
-// A tuple that the partner moved here.
-ghost use Rattle.std.specs.Prelude.{◌≡◌, true, false, ◌++◌, ◌<◌, OnOk};
-ghost use Rattle.joiner_core.specs.Widths.{IsRow};
-ghost use Rattle.joiner_core.specs.Taking.{IsWithin};
-ghost use Rattle.joiner_core.specs.Tests.{PartFits};
-ghost use Rattle.joiner_core.specs.Changes.{after_moved, found_moved};
+// A tuple that the partner moved here, and the end of its part.
 
-use crate::epochs::Epochs;
-use crate::opened::partner_in_step;
+ghost use Rattle.std.specs.Prelude.{◌≡◌, true, false, ◌++◌, ◌<◌, OnOk};
+ghost use Rattle.joiner_core.specs.Stocks.{IsRow};
+ghost use Rattle.joiner_core.specs.Taking.{IsWithin, PartFits};
+ghost use Rattle.joiner_core.specs.Changes.{after_moved, found_moved, after_part};
+
+use crate::epochs::{Epochs, partner_in_step};
 use epoch_tags::{Pairs, Tuple};
 use std::alloc::AllocError;
 use store_parts::Which;
@@ -38,5 +37,15 @@ impl<'a> Epochs<'a> {
             open.take(self.theta, Which::OnlyStamp(open.epoch), tuple, found)?;
         }
         Ok(())
+    }
+}
+
+impl<'a> Epochs<'a> {
+    pub(crate) fn take_moved_end(&mut self)
+        ensures { self.new ≡ after_part self.old }
+    {
+        if let Some(open) = &mut self.step {
+            open.partner_ended = true;
+        }
     }
 }

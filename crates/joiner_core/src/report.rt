@@ -1,12 +1,12 @@
 // What is sent at the end of a call.
-ghost use Rattle.std.specs.Prelude.{◌≡◌, ◌++◌, true, false, OnOk};
-ghost use Rattle.joiner_core.specs.Whole.{TellsFin, HasFinished, found_posts};
 
-use crate::counts::copy_of;
+ghost use Rattle.std.specs.Prelude.{◌≡◌, ◌++◌, true, false, OnOk, IfOk};
+ghost use Rattle.joiner_core.specs.Machine.{TellsFin, HasFinished, found_posts};
+
 use crate::machine::Machine;
-use epoch_tags::{Actor, Msg, Pairs, Post, Sends, ToCollector};
+use epoch_tags::{Actor, Counts, Msg, Pairs, Post, Sends, ToCollector};
 use join_rows::Side;
-use std::alloc::AllocError;
+use std::alloc::{AllocError, Global};
 
 impl<'a> Machine<'a> {
     // All feeders have ended, no step is open and nothing is held.
@@ -49,4 +49,15 @@ impl<'a> Machine<'a> {
         }
         Ok(())
     }
+}
+
+// Equal numbers.
+pub(crate) fn copy_of(alloc: Global, counts: &Counts) -> Result<Counts, AllocError>
+    ensures { IfOk result (λ copy. copy ≡ counts.now) }
+{
+    let mut copy = Counts::new(alloc);
+    for count in counts.as_slice() {
+        copy.push(*count)?;
+    }
+    Ok(copy)
 }

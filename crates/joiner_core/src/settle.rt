@@ -1,4 +1,5 @@
 // The end of a step.
+
 ghost use Rattle.std.specs.Prelude.{◌≡◌, ◌++◌, true, false, IfOk};
 ghost use Rattle.joiner_core.specs.Taking.{IsStepWithin};
 ghost use Rattle.joiner_core.specs.Changes.{after_settle, posts_settled, IsReady};

@@ -4,12 +4,12 @@ ghost use Rattle.migration_plan.specs.Steps.{is_of};
 ghost use Rattle.store_parts.specs.Stored.{AreSided};
 ghost use Rattle.joiner_law.specs.History.{probed};
 ghost use Rattle.joiner_law.specs.Posting.{moved_post};
-ghost use Rattle.joiner_core.specs.Matching.{does_hold};
-ghost use Rattle.joiner_core.specs.Probes.{named_by};
+ghost use Rattle.joiner_core.specs.Stocks.{does_hold};
+ghost use Rattle.joiner_core.specs.Stocks.{named_by};
 ghost use Rattle.joiner_core.specs.Stocks.{stocked_of, with_placed, kept_stock, IsKeyOf};
-ghost use Rattle.joiner_core.specs.Widths.{IsRow, IsStock};
+ghost use Rattle.joiner_core.specs.Stocks.{IsRow, IsStock};
 
-use crate::opened::move_to;
+use crate::epochs::move_to;
 use epoch_tags::{Pairs, Sends, Tuple};
 use grid_map::Shape;
 use join_rows::Side;

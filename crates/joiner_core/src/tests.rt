@@ -2,7 +2,7 @@ ghost use Rattle.std.specs.Prelude.{◌≡◌, ◌≤◌, ◌<◌, length, IfOk}
 ghost use Rattle.std.specs.List.{AllByRecursion};
 ghost use Rattle.epoch_tags.specs.declared.tuple.Tuple.{Tuple as Tuple'};
 ghost use Rattle.joiner_core.specs.Stocks.{tuples_of, IsKeyOf};
-ghost use Rattle.joiner_core.specs.Widths.{AreRows};
+ghost use Rattle.joiner_core.specs.Stocks.{AreRows};
 
 use crate::Joiner;
 use epoch_tags::{

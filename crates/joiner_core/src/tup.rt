@@ -1,12 +1,12 @@
 // A tuple of a feeder.
+
 ghost use Rattle.std.specs.Prelude.{◌≡◌, ◌++◌, true, false, OnOk};
 ghost use Rattle.epoch_tags.specs.declared.message.ToJoiner.TheVariants.{Tup};
-ghost use Rattle.joiner_core.specs.Widths.{IsRow};
+ghost use Rattle.joiner_core.specs.Stocks.{IsRow};
 ghost use Rattle.joiner_core.specs.Taking.{IsWithin, CanTakeTup, TookOfFeeder};
 ghost use Rattle.joiner_core.specs.Changes.{after_old, found_old, posts_old, after_new, found_new};
 
-use crate::epochs::Epochs;
-use crate::opened::{partner_in_step, pass_on};
+use crate::epochs::{Epochs, partner_in_step, pass_on};
 use epoch_tags::{Pairs, Sends, Tuple};
 use migration_plan::exchanged_side;
 use std::alloc::AllocError;

@@ -1,4 +1,5 @@
 // A feeder's turn to the next epoch.
+
 ghost use Rattle.std.specs.Prelude.{◌≡◌, ◌++◌, ◌<◌, ◌≤◌, ◌^◌, true, false, None, List, OnOk, IfOk};
 ghost use Rattle.migration_plan.specs.Steps.{AreNeighbours};
 ghost use Rattle.joiner_core.specs.Taking.{IsWithin, IsStepWithin, CanTakeTurn, TookOfFeeder};
@@ -6,8 +7,7 @@ ghost use Rattle.epoch_tags.specs.declared.message.ToJoiner.TheVariants.{Turn};
 ghost use Rattle.epoch_tags.specs.declared.tuple.Pair.{Pair};
 ghost use Rattle.joiner_core.specs.Changes.{HasBegun, begun_posts, posts_opened, HasOpened, HasTurned, AreAllUp, posts_turned};
 
-use crate::epochs::{Epochs, all_down, are_all_up};
-use crate::opened::{Opened, partner_in_step};
+use crate::epochs::{Epochs, Opened, all_down, are_all_up, partner_in_step};
 use epoch_tags::{Actor, Msg, Post, Sends, ToJoiner};
 use migration_plan::exchanged_side;
 use std::alloc::AllocError;

@@ -17,9 +17,9 @@ use Rattle.load_controller.specs.Journal.{Rules}
 use Rattle.load_controller.specs.Standing.{ControllerState, TakesMessage as ControllerTakes, with_message as controller_with, with_sent as controller_with_sent, StandsFor as ControllerStands}
 use Rattle.joiner_law.specs.Law.{JoinerStart, JoinerLists}
 use Rattle.joiner_law.specs.Standing.{with_sent as joiner_with_sent}
-use Rattle.joiner_core.specs.Whole.{with_message as joiner_with}
-use Rattle.joiner_core.specs.Joining.{TakesMessage as JoinerTakes, StandsFor as JoinerStands, k_of, id_of, feeders_of}
-use Rattle.joiner_core.specs.declared.joiner.Joiner.{Joiner as JoinerState}
+use Rattle.joiner_core.specs.Machine.{with_message as joiner_with}
+use Rattle.joiner_core.specs.Standing.{TakesMessage as JoinerTakes, StandsFor as JoinerStands, k_of, id_of, feeders_of}
+use Rattle.joiner_core.specs.Standing.{JoinerState}
 use Rattle.pair_collector.specs.Standing.{CollectorState, TakesMessage as CollectorTakes, with_message as collector_with, StandsFor as CollectorStands}
 use Rattle.link_trace.specs.Lists.{ActorLists, Took, Began, feeder_lists, joiner_lists, controller_lists, collector_lists, with_event}
 use Rattle.link_trace.specs.Standing.{Start, OfFeeder, OfJoiner, OfController, OfCollector, Stands, GoOut, Occurs}

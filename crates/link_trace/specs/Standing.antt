@@ -6,7 +6,7 @@ use Rattle.epoch_tags.specs.Posts.{AllGoOver, posted_to_controller}
 use Rattle.reshuffler_core.specs.Law.{FeederStart}
 use Rattle.reshuffler_core.specs.Standing.{StandsFor as FeederStands, IsWaiting}
 use Rattle.joiner_law.specs.Law.{JoinerStart, JoinerLists, IsFinished}
-use Rattle.joiner_core.specs.Joining.{StandsFor as JoinerStands}
+use Rattle.joiner_core.specs.Standing.{StandsFor as JoinerStands}
 use Rattle.load_controller.specs.Standing.{ControllerStart, StandsFor as ControllerStands}
 use Rattle.pair_collector.specs.Standing.{StandsFor as CollectorStands, is_complete}
 use Rattle.link_trace.specs.Lists.{ActorLists, Cause, Took, Began, feeder_lists, joiner_lists, controller_lists, collector_lists, with_event}

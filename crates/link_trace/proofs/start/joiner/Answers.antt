@@ -1,6 +1,6 @@
 use Rattle.std.proofs.Common.{subst, ℕ, []}
-use Rattle.joiner_core.specs.Whole.{start_of}
-use Rattle.joiner_core.specs.Joining.{StandsFor}
+use Rattle.joiner_core.specs.Machine.{start_of}
+use Rattle.joiner_core.specs.Standing.{StandsFor}
 use Rattle.link_trace.specs.Lists.{no_lists, joiner_lists}
 use Rattle.link_trace.proofs.start.joiner.Goals as goal
 

@@ -5,10 +5,10 @@ use Rattle.joiner_core.proofs.Calling.{told-by}
 use Rattle.joiner_core.proofs.joiner.Joiner.finished.Goals as goal
 
 pub returns : goal.returns
-returns c s lists stands =
-    let m = c.args.self.now.machine in
+returns c = rw (← c.self.view_is) (λ s lists stands.
+    let m = c.self.inside.machine in
     let is = stands.machine.between in
     subst (λ (t : Taken). IsTrue c.finished.result ↔ IsFinished s lists t) stands.machine.taken
     (told-by c.finished.result
     (λ up. finished-law s lists m is (c.finished.ensures.up up))
-    (λ down over. c.finished.ensures.down down (law-finished s lists m is over)))
+    (λ down over. c.finished.ensures.down down (law-finished s lists m is over))))

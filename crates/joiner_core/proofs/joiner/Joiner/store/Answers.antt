@@ -5,16 +5,18 @@ use Rattle.joiner_law.specs.Law.{Taken, store}
 use Rattle.joiner_core.specs.Stocks.{Stocked, tuples_of, IsKeyOf}
 use Rattle.joiner_core.proofs.Assembling.{store-law}
 use Rattle.joiner_core.proofs.Beginning.{same-bag}
-use Rattle.joiner_core.proofs.Calling.{kept-at-work}
+use Rattle.joiner_core.proofs.Calling.{sound-at-work}
 use Rattle.joiner_core.proofs.joiner.Joiner.store.Goals as goal
 
 pub returns-clause-tuples : goal.returns-clause-tuples
-returns-clause-tuples c s lists stands =
+returns-clause-tuples c = rw (← c.self.view_is) (λ s lists stands.
     let is = stands.machine.between in
-    let bag = SameBag-trans (same-bag _ _ (ap (λ (z : Stocked). z.tuples) c.store.ensures)) (store-law s lists c.args.self.now.machine is) in
+    let bag = SameBag-trans (same-bag _ _ (ap (λ (z : Stocked). z.tuples) c.store.ensures)) (store-law s lists c.self.inside.machine is) in
     subst (λ (t : Taken). SameBag (tuples_of c.store.result.now) (store s t stands.law.done)) stands.machine.taken
-    (subst (λ (n : ℕ). SameBag (tuples_of c.store.result.now) (store s is.within.taken n)) stands.machine.done bag)
+    (subst (λ (n : ℕ). SameBag (tuples_of c.store.result.now) (store s is.within.taken n)) stands.machine.done bag))
 
 pub returns-clause-key : goal.returns-clause-key
-returns-clause-key c going =
-    subst (λ (z : Stocked). IsKeyOf c.args.self.now.machine.epochs.theta.now z.key) (sym c.store.ensures) (kept-at-work c.args.self.now going).stock.key
+returns-clause-key c = rw (← c.self.view_is) (λ going.
+    let m = c.self.inside.machine in
+    subst (λ (z : Stocked). IsKeyOf m.epochs.theta.now z.key) (sym c.store.ensures)
+    (sound-at-work (record { machine = m; spent = c.self.inside.spent }) c.self.invariant going).within.stock.key)

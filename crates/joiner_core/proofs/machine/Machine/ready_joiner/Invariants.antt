@@ -1,4 +1,4 @@
-use Rattle.joiner_core.specs.Whole.{AreStuckOfJoiners}
+use Rattle.joiner_core.specs.Machine.{AreStuckOfJoiners}
 use Rattle.joiner_core.proofs.machine.Machine.ready_joiner.Given as goal
 
 abbrev pub invariant-loop-q : goal.invariant-loop-q

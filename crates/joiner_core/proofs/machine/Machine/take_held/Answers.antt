@@ -1,5 +1,5 @@
 use Rattle.std.proofs.Common.{subst}
-use Rattle.joiner_core.specs.Whole.{AreTried, none_ready, next}
+use Rattle.joiner_core.specs.Machine.{AreTried, none_ready, next}
 use Rattle.joiner_core.specs.declared.machine.Machine.{Machine}
 use Rattle.joiner_core.proofs.Advancing.{advances-none, advances-then}
 use Rattle.joiner_core.proofs.machine.Machine.take_held.Goals as goal

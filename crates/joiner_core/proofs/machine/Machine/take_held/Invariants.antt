@@ -1,4 +1,4 @@
-use Rattle.joiner_core.specs.Whole.{Advances, IsSound, AreTried, held_in_all}
+use Rattle.joiner_core.specs.Machine.{Advances, IsSound, AreTried, held_in_all}
 use Rattle.joiner_core.specs.declared.machine.Machine.{Machine}
 use Rattle.joiner_core.proofs.machine.Machine.take_held.Given as goal
 

@@ -1,5 +1,5 @@
--- The lists for which a joiner stands, with the messages that it holds.
-use Rattle.std.specs.Prelude.{◌≡◌, ℕ, ◌+◌, ◌^◌, ◌<◌, ◌≤◌, ◌-◌, map, slice_set, ◌⊎◌, Bool, true, false, Some, None, ⊤, List, [], ◌∷◌, ◌++◌, length, sum_by, count_by}
+-- The lists for which a joiner's machine stands, with the messages that it holds.
+use Rattle.std.specs.Prelude.{◌≡◌, ℕ, ◌+◌, ◌^◌, ◌<◌, ◌≤◌, map, slice_set, ◌⊎◌, Bool, true, false, None, ⊤, List, [], ◌∷◌, ◌++◌, length, sum_by, count_by}
 use Rattle.std.specs.List.{AllByRecursion}
 use Rattle.epoch_tags.specs.declared.tuple.Pair.{Pair}
 use Rattle.epoch_tags.specs.declared.message.ToCollector.{ToCollector}
@@ -10,22 +10,15 @@ use Rattle.epoch_tags.specs.declared.message.Msg.TheVariants.{Collector as Colle
 use Rattle.epoch_tags.specs.declared.message.ToCollector.TheVariants.{Found, Fin}
 use Rattle.join_rows.specs.declared.table.Side.TheVariants.{R, S}
 use Rattle.migration_plan.specs.Steps.{is_of}
-use Rattle.joiner_core.specs.Flags.{IsEachUp, flag_at}
-use Rattle.joiner_core.specs.Matching.{does_hold}
+use Rattle.joiner_core.specs.Changes.{IsEachUp, flag_at}
+use Rattle.joiner_core.specs.Stocks.{does_hold, HoldsRows, held_at, BeginsWith, Stocked}
 use Rattle.theta_pred.specs.Formula.{Meaning}
-use Rattle.joiner_core.specs.Widths.{IsStock, HoldsRows, CarriesRows}
 use Rattle.epoch_tags.specs.declared.tuple.Tuple.{Tuple}
 use Rattle.joiner_law.specs.Law.{JoinerStart, JoinerLists, Taken, CanTakeOfFeeder, CanTakeOfJoiner, IsTakenOf, received_count}
 use Rattle.joiner_law.specs.Standing.{grown, with_sent}
-use Rattle.joiner_core.specs.Queues.{held_at, BeginsWith}
-use Rattle.joiner_core.specs.Stocks.{Stocked}
-use Rattle.joiner_core.specs.Taking.{IsWithin, IsFixed, AreOwnPosts}
-use Rattle.joiner_core.specs.Changes.{IsReady}
-use Rattle.joiner_core.specs.declared.opened.Opened.{Opened}
-use Rattle.joiner_core.specs.Tests.{TakesOfFeeder, TakesOfJoiner}
+use Rattle.joiner_core.specs.Taking.{IsWithin, IsFixed, AreOwnPosts, TakesOfFeeder, TakesOfJoiner, Stands}
 use Rattle.epoch_tags.specs.declared.actor.Actor.{Actor}
 use Rattle.epoch_tags.specs.declared.actor.Actor.TheVariants.{Feeder, Joiner as Joiner', Controller, Collector}
-use Rattle.joiner_core.specs.Standing.{Stands}
 use Rattle.joiner_core.specs.declared.epochs.Epochs.{Epochs}
 use Rattle.joiner_core.specs.declared.machine.Machine.{Machine}
 
@@ -63,24 +56,6 @@ pub record IsSound (m : Machine) : Type 0 where
   pub joiners : length m.of_joiners ≡ 2 ^ m.epochs.k
   pub feeder_rows : HoldsRows m.epochs.theta.now m.of_feeders
   pub joiner_rows : HoldsRows m.epochs.theta.now m.of_joiners
-
--- the same, with each fact a proposition
-pub record IsKept (m : Machine) : Type 0 where
-  pub small : m.epochs.k < 9
-  pub shift : m.epochs.shift ≤ m.epochs.k
-  pub step : (o : Opened) → m.epochs.step ≡ Some o → o.shift ≤ m.epochs.k
-  pub apart : (o : Opened) → m.epochs.step ≡ Some o → (m.epochs.shift - o.shift) + (o.shift - m.epochs.shift) ≡ 1
-  pub ended : length m.epochs.ended.items ≡ m.epochs.feeders
-  pub count : (o : Opened) → m.epochs.step ≡ Some o → length o.turned.items ≡ m.epochs.feeders
-  pub begun : (o : Opened) → m.epochs.step ≡ Some o → ((p : ℕ) → p < m.epochs.feeders → flag_at o.turned.items p ≡ false) → ⊥
-  pub rests : IsReady m.epochs.step → ⊥
-  pub feeders : length m.of_feeders ≡ m.epochs.feeders
-  pub joiners : length m.of_joiners ≡ 2 ^ m.epochs.k
-  pub id : m.epochs.id < 2 ^ m.epochs.k
-  pub stock : IsStock m.epochs.theta.now m.epochs.store
-  pub step_stock : (o : Opened) → m.epochs.step ≡ Some o → IsStock m.epochs.theta.now o.store
-  pub feeder_rows : CarriesRows m.epochs.theta.now m.of_feeders
-  pub joiner_rows : CarriesRows m.epochs.theta.now m.of_joiners
 
 -- the first message held of that sender can be taken
 pub record IsReadyOfFeeder (m : Machine) (p : ℕ) : Type 0 where

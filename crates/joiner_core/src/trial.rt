@@ -1,6 +1,7 @@
 // The held messages, which are tried again after each one that was taken.
+
 ghost use Rattle.std.specs.Prelude.{◌≡◌, ◌<◌, ◌^◌, true, false, OnOk, IfOk, IfSome, MatchOption};
-ghost use Rattle.joiner_core.specs.Whole.{Advances, IsSound, IsStuck, AreStuckOfFeeders, AreStuckOfJoiners, IsReadyOfFeeder, IsReadyOfJoiner, TookHeld, HasTakenNext, AreTried, held_in_all};
+ghost use Rattle.joiner_core.specs.Machine.{Advances, IsSound, IsStuck, AreStuckOfFeeders, AreStuckOfJoiners, IsReadyOfFeeder, IsReadyOfJoiner, TookHeld, HasTakenNext, AreTried, held_in_all};
 ghost use Rattle.epoch_tags.specs.declared.actor.Actor.TheVariants.{Feeder, Joiner as Joiner'};
 
 use crate::machine::Machine;
