@@ -2,8 +2,8 @@
 use Rattle.std.proofs.Common.{◌≡◌, ◌≢◌, ℕ, zero, suc, ◌+◌, ◌<◌, ◌≤◌, List, [], ◌∷◌, ◌++◌, length, take, Bool, true, false, cond, ◌==◌, nat_le, Option, Some, None, option_map, MatchOption, refl, sym, ap, subst, ◌∙◌, arith, ◌⊎◌, inl, inr, ap₂}
 use Rattle.std.proofs.lemmas.Bool.{eqb-true, ne_eqb, and_parts, leb-true, lt-leb}
 use Rattle.std.specs.List.{prefix_len, AllByRecursion}
-use Rattle.theta_text.specs.declared.kind.Kind.{Kind}
-use Rattle.theta_text.specs.declared.kind.Kind.TheVariants.{Word, Number, Literal, Name, Open, Close, Dot, Plus, Minus, Eq, Ne, Lt, Le, Gt, Ge, Stray}
+use Rattle.theta_text.specs.declared.lexer.kind.Kind.{Kind}
+use Rattle.theta_text.specs.declared.lexer.kind.Kind.TheVariants.{Word, Number, Literal, Name, Open, Close, Dot, Plus, Minus, Eq, Ne, Lt, Le, Gt, Ge, Stray}
 use Rattle.theta_text.specs.Tokens.{is_letter, is_digit, is_word, doubled, IsWord, IsNumber}
 use Rattle.theta_text.specs.Kinds.{IsQuoted, SpellsKind, IsLongestKind, IsStrayKind, IsNextKind}
 use Rattle.theta_text.specs.Front.{Found, later, quoted_len, with_equals, not_equals, sign, front}

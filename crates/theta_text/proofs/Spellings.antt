@@ -1,8 +1,8 @@
 -- A token and its kind say the same of the bytes.
 use Rattle.std.proofs.Common.{◌≡◌, ℕ, List, [], ◌∷◌, ◌++◌, take, Bool, true, false, cond, ◌&&◌, ◌==◌, refl, sym, ap, ap₂, subst, ◌∙◌}
 use Rattle.std.proofs.lemmas.Bool.{eqb-true}
-use Rattle.theta_text.specs.declared.kind.Kind.{Kind}
-use Rattle.theta_text.specs.declared.kind.Kind.TheVariants as kinds
+use Rattle.theta_text.specs.declared.lexer.kind.Kind.{Kind}
+use Rattle.theta_text.specs.declared.lexer.kind.Kind.TheVariants as kinds
 use Rattle.theta_text.specs.declared.token.Token.{Token}
 use Rattle.theta_text.specs.declared.token.Token.TheVariants.{Word, Number, Literal, Quoted, Open, Close, Dot, Sign, Compare, Stray}
 use Rattle.theta_text.specs.declared.tree.Op.TheVariants.{Eq, Ne, Lt, Le, Gt, Ge}

@@ -5,12 +5,10 @@ use Rattle.theta_text.specs.declared.token.Token.TheVariants.{Word, Literal, Ope
 use Rattle.theta_text.specs.declared.token.Keyword.TheVariants.{And, Or, Not, Abs, Text, R, S}
 use Rattle.theta_text.specs.declared.token.Placed.{Placed}
 use Rattle.theta_text.specs.declared.tree.Signed.{Signed}
-use Rattle.join_rows.specs.declared.table.Side.TheVariants as sides
 use Rattle.theta_text.specs.Grammar.{Tree, Limits, Part, Further, IsAnd, IsOr, Predicate, TermText, FurtherTerms, NumTest, BandRest, TxtTest, Unit'}
 use Rattle.theta_text.specs.Machine.{Kind, literal, Symbol, unit, tail, close, open', dot, field, name, term, sum, more, op, bound, side, small, step, Verdict, wrong, go_on, verdict}
 use Rattle.theta_text.specs.declared.fault.PredFault.{PredFault}
-use Rattle.theta_text.specs.declared.fault.PredFault.TheVariants as faults
-use Rattle.theta_text.specs.declared.units.Start.TheVariants.{StartNot, StartOpen, StartBand, StartTxt, StartNum}
+use Rattle.theta_text.specs.declared.parser.units.Start.TheVariants.{StartNot, StartOpen, StartBand, StartTxt, StartNum}
 use Rattle.std.proofs.Common.{Some}
 use Rattle.join_rows.specs.declared.table.Side.{Side}
 use Rattle.theta_text.specs.Starts.{unit_start, named_side, is_text}

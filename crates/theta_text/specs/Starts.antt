@@ -5,8 +5,8 @@ use Rattle.theta_text.specs.declared.token.Token.TheVariants.{Word, Literal, Ope
 use Rattle.theta_text.specs.declared.token.Keyword.TheVariants.{Not, Abs, Text, R, S}
 use Rattle.join_rows.specs.declared.table.Side.{Side}
 use Rattle.join_rows.specs.declared.table.Side.TheVariants as sides
-use Rattle.theta_text.specs.declared.units.Start.{Start}
-use Rattle.theta_text.specs.declared.units.Start.TheVariants.{StartNot, StartOpen, StartBand, StartTxt, StartNum}
+use Rattle.theta_text.specs.declared.parser.units.Start.{Start}
+use Rattle.theta_text.specs.declared.parser.units.Start.TheVariants.{StartNot, StartOpen, StartBand, StartTxt, StartNum}
 
 -- which unit begins with this token: a test on numbers, where it is none of the others
 abbrev pub unit_start : Token → Start

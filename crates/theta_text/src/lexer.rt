@@ -6,9 +6,13 @@ ghost use Rattle.theta_text.specs.Kinds.{IsNextKind};
 ghost use Rattle.std.specs.List.{prefix_len};
 ghost use Rattle.theta_text.specs.Tokens.{is_blank};
 
-use crate::front::{blank, front_kind};
-use crate::kind::Kind;
-use crate::spelling::token_of;
+mod front;
+mod kind;
+mod spelling;
+
+use crate::lexer::front::{blank, front_kind};
+use crate::lexer::kind::Kind;
+use crate::lexer::spelling::token_of;
 use crate::token::Placed;
 use std::alloc::{AllocError, Global};
 

@@ -2,23 +2,16 @@
 #![tactic(auto)]
 
 mod fault;
-mod front;
-mod kind;
 mod laws;
 mod lexer;
-mod number;
-mod parts;
-mod spelling;
-mod sums;
+mod parser;
 #[cfg(test)]
 mod tests;
-mod text;
 mod token;
 mod tree;
-mod units;
 
 pub use fault::PredFault;
 pub use laws::texts_have_one_tree;
-pub use text::parse;
+pub use parser::parse;
 pub use token::{Keyword, Placed, Token};
 pub use tree::{Name, Op, Pred, Signed, Sum, Term, TextSide};
