@@ -81,24 +81,54 @@ fn run_checked<R: Threads + Wait + Sync, G: Gate>(
     }
 }
 
-// Whether the answer has the three pairs, in order.
-fn has_the_pairs(told: &Told) -> bool {
-    let pairs = told.run.pairs.as_slice();
-    let mut places = pairs.iter().map(|pair| (pair.i, pair.j));
-    places.next() == Some((1, 0))
-        && places.next() == Some((1, 2))
-        && places.next() == Some((2, 1))
-        && places.next() == None
+// The pairs as digits: each row of R and of S.
+fn pairs_number(told: &Told) -> u64 {
+    let mut number = 0u64;
+    for pair in told.run.pairs.as_slice() {
+        let digits = (pair.i as u64).wrapping_mul(10).wrapping_add(pair.j as u64);
+        number = number.wrapping_mul(100).wrapping_add(digits);
+    }
+    number
 }
+
+fn made_by_joiner_0(told: &Told) -> Option<u64> {
+    told.run.made.as_slice().first().copied()
+}
+
+// What is seen of an answer.
+#[derive(Clone, Copy)]
+struct Found {
+    pairs: u64,
+    bouts: u64,
+    made: Option<u64>,
+}
+
+fn seen<R: Threads + Wait + Sync, G: Gate>(
+    rt: &R,
+    alloc: Global,
+    input: &Input,
+    setting: &Setting,
+    gate: &G,
+) -> Result<Found, AllocError> {
+    let told = run_checked(rt, alloc, input, setting, gate)?;
+    Ok(Found {
+        pairs: pairs_number(&told),
+        bouts: told.run.bouts,
+        made: made_by_joiner_0(&told),
+    })
+}
+
+// The three pairs of rows, in order.
+const PAIRS: u64 = 10_12_21;
 
 #[test]
 fn any_number_of_workers_finds_the_pairs(rt: HostRuntime) -> Result<(), Fail> {
     let alloc = rt.alloc();
     let input = three_rows_a_side(alloc, [161, 123, 186])?;
     for workers in [1u32, 4, 16] {
-        let told = run_checked(&rt, alloc, &input, &setting(2, workers), &NoGate)?;
-        assert!(rt; has_the_pairs(&told), "with {workers} workers");
-        assert!(rt; told.run.bouts > 0, "bouts with {workers} workers");
+        let seen = seen(&rt, alloc, &input, &setting(2, workers), &NoGate)?;
+        assert_eq!(rt; seen.pairs, PAIRS, "with {workers} workers");
+        assert!(rt; seen.bouts > 0, "bouts with {workers} workers");
     }
     Ok(())
 }
@@ -107,13 +137,9 @@ fn any_number_of_workers_finds_the_pairs(rt: HostRuntime) -> Result<(), Fail> {
 fn where_all_tickets_are_0_one_joiner_makes_all(rt: HostRuntime) -> Result<(), Fail> {
     let alloc = rt.alloc();
     let input = three_rows_a_side(alloc, [0, 0, 0])?;
-    let told = run_checked(&rt, alloc, &input, &setting(1, 2), &NoGate)?;
-    assert!(rt; has_the_pairs(&told), "pairs");
-    assert_eq!(rt;
-        told.run.made.as_slice().first(),
-        Some(&3),
-        "made by joiner 0"
-    );
+    let seen = seen(&rt, alloc, &input, &setting(1, 2), &NoGate)?;
+    assert_eq!(rt; seen.pairs, PAIRS, "pairs");
+    assert_eq!(rt; seen.made, Some(3), "made by joiner 0");
     Ok(())
 }
 
@@ -122,8 +148,8 @@ fn two_workers_meet(rt: HostRuntime) -> Result<(), Fail> {
     let alloc = rt.alloc();
     let input = three_rows_a_side(alloc, [161, 123, 186])?;
     let gate = PairGate::new(Actor::Joiner(0), Actor::Collector, 1 << 27);
-    let told = run_checked(&rt, alloc, &input, &setting(1, 2), &gate)?;
-    assert!(rt; has_the_pairs(&told), "pairs");
+    let seen = seen(&rt, alloc, &input, &setting(1, 2), &gate)?;
+    assert_eq!(rt; seen.pairs, PAIRS, "pairs");
     assert!(rt; gate.met(), "the two met");
     Ok(())
 }

@@ -4,60 +4,82 @@ ghost use Rattle.std.specs.Prelude.{◌<◌};
 ghost use Rattle.join_rows.specs.Shelves.{last_fault};
 
 use super::{setting, three_rows_a_side};
-use crate::{EarlyFault, Told, run_early};
+use crate::{EarlyFault, run_early};
 use join_rows::{ListSink, Sink};
-use std::alloc::Global;
+use std::alloc::{AllocError, Global};
 use std::sync::Wait;
 use std::test::Fail;
 use std::thread::Threads;
 use trace_law::{Input, Setting};
-use worker_gate::{Gate, NoGate};
+use worker_gate::NoGate;
 
-fn run_early_checked<R: Threads + Wait + Sync, G: Gate, K: Sink>(
+// The fault of an early run, if it has one.
+fn fault_of<R: Threads + Wait + Sync, K: Sink>(
     rt: &R,
     alloc: Global,
     input: &Input,
     setting: &Setting,
-    gate: &G,
     sink: &mut K,
-) -> Result<Told, EarlyFault>
+) -> Option<EarlyFault>
     requires { K.faults sink.old < last_fault }
 {
-    if input.valid() && setting.valid() {
-        run_early(rt, alloc, input, setting, gate, sink)
-    } else {
-        Err(EarlyFault::Memory)
+    if !input.valid() || !setting.valid() {
+        return Some(EarlyFault::Memory);
     }
+    match run_early(rt, alloc, input, setting, &NoGate, sink) {
+        Ok(_) => None,
+        Err(fault) => Some(fault),
+    }
+}
+
+fn has_line(text: &[u8], line: &[u8]) -> bool {
+    for part in text.chunks(4) {
+        if part == line {
+            return true;
+        }
+    }
+    false
 }
 
 // Whether the text is the lines of the three pairs, each once, in some order.
 fn has_each_line(text: &[u8]) -> bool {
-    let lines: [&[u8]; 3] = [b"2,1\n", b"2,3\n", b"3,2\n"];
     text.len() == 12
-        && lines
-            .iter()
-            .all(|line| text.chunks(4).any(|part| part == *line))
+        && has_line(text, b"2,1\n")
+        && has_line(text, b"2,3\n")
+        && has_line(text, b"3,2\n")
+}
+
+// Whether an early run puts each line once, and has no fault.
+fn puts_each_line<R: Threads + Wait + Sync>(
+    rt: &R,
+    alloc: Global,
+    tickets: [u8; 3],
+    feeders: u32,
+    workers: u32,
+) -> Result<bool, AllocError> {
+    let input = three_rows_a_side(alloc, tickets)?;
+    let mut sink = ListSink::new(alloc, 64)?;
+    let fault = fault_of(rt, alloc, &input, &setting(feeders, workers), &mut sink);
+    Ok(fault.is_none() && has_each_line(sink.written()))
 }
 
 #[test]
 fn each_line_is_put_once(rt: HostRuntime) -> Result<(), Fail> {
     let alloc = rt.alloc();
-    for (tickets, feeders, workers) in [
-        ([161u8, 123, 186], 2u32, 1u32),
-        ([161, 123, 186], 2, 4),
-        ([161, 123, 186], 1, 16),
-        ([0, 0, 0], 1, 2),
-    ] {
-        let input = three_rows_a_side(alloc, tickets)?;
-        let mut sink = ListSink::new(alloc, 64)?;
-        let setting = setting(feeders, workers);
-        let told = run_early_checked(&rt, alloc, &input, &setting, &NoGate, &mut sink);
-        assert!(rt; told.is_ok(), "with {workers} workers");
-        assert!(rt;
-            has_each_line(sink.written()),
-            "lines with {workers} workers"
-        );
-    }
+    let tickets = [161, 123, 186];
+    assert!(rt; puts_each_line(&rt, alloc, tickets, 2, 1)?, "with 1 worker");
+    assert!(rt;
+        puts_each_line(&rt, alloc, tickets, 2, 4)?,
+        "with 4 workers"
+    );
+    assert!(rt;
+        puts_each_line(&rt, alloc, tickets, 1, 16)?,
+        "with 16 workers"
+    );
+    assert!(rt;
+        puts_each_line(&rt, alloc, [0, 0, 0], 1, 2)?,
+        "with equal tickets"
+    );
     Ok(())
 }
 
@@ -67,8 +89,8 @@ fn the_first_put_that_fails_ends_it(rt: HostRuntime) -> Result<(), Fail> {
     let input = three_rows_a_side(alloc, [161, 123, 186])?;
     let mut sink = ListSink::new(alloc, 64)?;
     sink.fail_put(1)?;
-    let told = run_early_checked(&rt, alloc, &input, &setting(1, 2), &NoGate, &mut sink);
-    assert!(rt; matches!(told, Err(EarlyFault::Write)), "the fault");
+    let fault = fault_of(&rt, alloc, &input, &setting(1, 2), &mut sink);
+    assert_eq!(rt; fault, Some(EarlyFault::Write), "the fault");
     assert!(rt; sink.written().is_empty(), "what was written");
     Ok(())
 }
