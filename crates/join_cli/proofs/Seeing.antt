@@ -84,7 +84,7 @@ pub long_file : (side : Side) (fault : TableFault) (spot : Spot) (name : List �
     → (of : Side) → no_table (file_refusal side fault) ≡ Err (refusals.Limit (TooLong of)) → (of ≡ side) × StandsPast spot name
 long_file side files.TooLong spot name D h of e =
     let stands = h (λ wrong. cc wrong) in
-    (cc e, (stands.0, stands.1, stands.3 refl))
+    (cc e, (stands.0, stands.1, stands.3 refl, stands.2))
 long_file side files.Read spot name D h of e = cc e
 long_file side files.NoHeader spot name D h of e = cc e
 long_file side (files.Width number found) spot name D h of e = cc e

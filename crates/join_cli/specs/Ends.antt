@@ -1,5 +1,5 @@
 -- How a run ends, and what it leaves.
-use Rattle.std.specs.Prelude.{◌≡◌, ◌⊎◌, ◌<◌, ◌^◌, ℕ, ⊤, true, List, length, Option, None, Some, Result, Ok, Err}
+use Rattle.std.specs.Prelude.{◌≡◌, ◌⊎◌, ◌≤◌, ◌<◌, ◌+◌, ◌^◌, ℕ, ⊤, true, List, length, Option, None, Some, Result, Ok, Err}
 use Rattle.join_rows.specs.declared.table.Side.{Side}
 use Rattle.join_rows.specs.declared.table.Side.TheVariants.{R, S}
 use Rattle.join_rows.specs.Shelves.{Told, Lacks, Spot}
@@ -88,9 +88,9 @@ name_on S name_r name_s = name_s
 abbrev pub name_of : Side → Asked → List ℕ
 name_of side asked = name_on side asked.name_r asked.name_s
 
--- the file is picked, and the place in it is past the greatest length
+-- the file is picked, and the place in it is past the greatest length, by no more than one
 abbrev pub StandsPast : Spot → List ℕ → Type 0
-StandsPast spot name = (place : ℕ) × (spot ≡ Some (name, place)) × (2 ^ 24 < place)
+StandsPast spot name = (place : ℕ) × (spot ≡ Some (name, place)) × (2 ^ 24 < place) × (place ≤ 2 ^ 24 + 1)
 
 -- the text's own fault is answered, or memory ran out
 abbrev pub EndsEarly : PredFault → Outcome → Type 0

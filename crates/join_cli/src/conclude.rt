@@ -2,6 +2,7 @@
 
 ghost use Rattle.std.specs.Prelude.{◌≡◌, ◌≢◌, ◌⊎◌, ◌<◌, ◌≤◌, None, true, false, IfSome};
 ghost use Rattle.join_rows.specs.Shelves.{last_fault};
+ghost use Rattle.join_rows.specs.Sinks.{PutsSome};
 ghost use Rattle.join_words.specs.Words.{asked};
 ghost use Rattle.join_cli.specs.Plan.{IsFit};
 ghost use Rattle.join_cli.specs.Ends.{Concludes, IsDone, TakesEach};
@@ -41,6 +42,7 @@ fn conclude_whole<R: Threads + Wait + Sync, K: Sink, G: Gate>(
     ensures counts { result ≢ Outcome.Write → K.faults sink.new ≡ K.faults sink.old }
     ensures fails { result ≡ Outcome.Write → K.faults sink.old < K.faults sink.new }
     ensures complete { TakesEach (K.takes sink.old) (asked options.now) planned → IsDone result ⊎ (result ≡ Outcome.Memory) }
+    ensures left { PutsSome (K.written sink.old) (K.written sink.new) (K.takes sink.old) (K.takes sink.new) }
 {
     let Joined {
         text,
@@ -78,6 +80,7 @@ fn conclude_early<R: Threads + Wait + Sync, K: Sink, G: Gate>(
     ensures counts { result ≢ Outcome.Write → K.faults sink.new ≡ K.faults sink.old }
     ensures fails { result ≡ Outcome.Write → K.faults sink.old < K.faults sink.new }
     ensures complete { TakesEach (K.takes sink.old) (asked options.now) planned → IsDone result ⊎ (result ≡ Outcome.Memory) }
+    ensures left { PutsSome (K.written sink.old) (K.written sink.new) (K.takes sink.old) (K.takes sink.new) }
 {
     let setting = setting(options);
     let input = match input(alloc, options.seed, planned) {
@@ -116,6 +119,7 @@ pub(crate) fn conclude<R: Threads + Wait + Sync, K: Sink, G: Gate>(
     ensures counts { result ≢ Outcome.Write → K.faults sink.new ≡ K.faults sink.old }
     ensures fails { result ≡ Outcome.Write → K.faults sink.old < K.faults sink.new }
     ensures complete { TakesEach (K.takes sink.old) (asked options.now) planned → IsDone result ⊎ (result ≡ Outcome.Memory) }
+    ensures left { PutsSome (K.written sink.old) (K.written sink.new) (K.takes sink.old) (K.takes sink.new) }
 {
     if options.early {
         conclude_early(rt, alloc, options, planned, sink, gate)

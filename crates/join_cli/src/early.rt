@@ -3,7 +3,7 @@
 ghost use Rattle.std.specs.Prelude.{◌≡◌, ◌≢◌, ◌<◌, ◌+◌, ℕ, [], ◌∷◌, Err, IfOk, OnOk, length};
 ghost use Rattle.std.specs.Io.KnownBytes.{append_known};
 ghost use Rattle.join_rows.specs.Shelves.{last_fault};
-ghost use Rattle.join_rows.specs.Sinks.{AppendsFront};
+ghost use Rattle.join_rows.specs.Sinks.{AppendsFront, PutsSome};
 ghost use Rattle.trace_law.specs.Validity.{IsValidInput, IsValidSetting};
 ghost use Rattle.trace_law.specs.Runs.{IsRunOf};
 ghost use Rattle.join_runtime.specs.Early.{WroteSome};
@@ -58,6 +58,7 @@ fn put_report<K: Sink>(
     ensures fails { result ≡ Err EarlyFault.Write → K.faults sink.old < K.faults sink.new }
     ensures takes { K.takes sink.old (length (report_asked options.now.report input.now setting.now run.now.journal) + 0)
         → result ≢ Err EarlyFault.Write }
+    ensures left { PutsSome (K.written sink.old) (K.written sink.new) (K.takes sink.old) (K.takes sink.new) }
 {
     let lines = match report(alloc, options, input, setting, run) {
         Ok(lines) => lines,
@@ -92,6 +93,7 @@ pub(crate) fn put_found<R: Threads + Wait + Sync, G: Gate, K: Sink>(
     ensures counts { result ≢ Err EarlyFault.Write → K.faults sink.new ≡ K.faults sink.old }
     ensures fails { result ≡ Err EarlyFault.Write → K.faults sink.old < K.faults sink.new }
     ensures takes { TakesFound (K.takes sink.old) options.now.report input.now setting.now → result ≢ Err EarlyFault.Write }
+    ensures left { PutsSome (K.written sink.old) (K.written sink.new) (K.takes sink.old) (K.takes sink.new) }
 {
     let Told { run, ends } = run_early(rt, alloc, input, setting, gate, sink)?;
     let trail = trail_of(alloc, ends)?;

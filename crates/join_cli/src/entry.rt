@@ -1,10 +1,15 @@
 // The whole program, over its words, a shelf and two streams.
 
-ghost use Rattle.std.specs.Prelude.{◌≡◌, ◌≢◌, ◌⊎◌, ◌<◌, ◌≤◌, Ok, false, IfErr, IsErr, IsOkAnd, map, string_bytes};
+ghost use Rattle.std.specs.Prelude.{◌≡◌, ◌≢◌, ◌⊎◌, ◌<◌, ◌≤◌, ℕ, List, Option, Some, Ok, false, IfErr, IsErr, IsOkAnd, map, string_bytes};
 ghost use Rattle.std.specs.Process.{exit_status};
 ghost use Rattle.join_rows.specs.Shelves.{last_fault};
+ghost use Rattle.join_rows.specs.Sinks.{PutsSome};
+ghost use Rattle.theta_text.specs.Grammar.{Tree};
+ghost use Rattle.theta_text.specs.Texts.{TextReads, limits};
 ghost use Rattle.join_words.specs.Words.{Asked, asked_of};
-ghost use Rattle.join_cli.specs.Ends.{LacksOne};
+ghost use Rattle.join_cli.specs.declared.plan.Planned.{Planned};
+ghost use Rattle.join_cli.specs.Plan.{plan_of};
+ghost use Rattle.join_cli.specs.Ends.{LacksOne, TakesEach};
 ghost use Rattle.join_cli.specs.Programs.{WroteBy, WroteFrontBy};
 
 use crate::outcome::Outcome;
@@ -96,6 +101,13 @@ pub fn jm_program<R: Threads + Wait + Sync, H: Shelf, K: Sink, E: Sink, G: Gate>
     ensures write { result ≡ 7 → K.faults sink.old < K.faults sink.new }
     ensures front { result ≡ 7 → IsOkAnd words (λ given.
         WroteFrontBy (map string_bytes given.items) (H.told shelf.old) (K.written sink.old) (K.written sink.new)) }
+    ensures complete { (asked : Asked) (files : List ℕ → Option (List ℕ)) (tree : Tree) (planned : Planned)
+        → IsOkAnd words (λ given. asked_of (map string_bytes given.items) ≡ Ok asked)
+        → H.told shelf.old ≡ Some files → TextReads limits asked.on tree
+        → plan_of asked (Ok tree) files ≡ Ok planned → H.sound shelf.old
+        → TakesEach (K.takes sink.old) asked planned → (result ≡ 0) ⊎ (result ≡ 8) }
+    ensures sound { H.sound shelf.old → H.sound shelf.new × (H.faults shelf.new ≡ H.faults shelf.old) }
+    ensures left { PutsSome (K.written sink.old) (K.written sink.new) (K.takes sink.old) (K.takes sink.new) }
     ensures memory { IfErr words (λ fault. (result ≡ 8) × (sink.new ≡ sink.old)) }
     ensures statuses { (result ≡ 0) ⊎ ((2 ≤ result) × (result ≤ 8)) }
 {

@@ -108,7 +108,7 @@ pub(crate) fn prepare<H: Shelf>(
         → PlanAsked (H.told shelf.old) (H.picked shelf.new) (asked options.now) options.now.make tree result }
     ensures made { (count : ℕ) → options.now.make ≡ Some count
         → (shelf.new ≡ shelf.old) × (result ≡ Err Refusal.Read → ⊥) }
-    ensures sound { H.sound shelf.old → H.faults shelf.new ≡ H.faults shelf.old }
+    ensures sound { H.sound shelf.old → H.sound shelf.new × (H.faults shelf.new ≡ H.faults shelf.old) }
     ensures early { (fault : PredFault) → IsFaultOf limits options.now.on.now fault
         → RefusesText fault result × (shelf.new ≡ shelf.old) }
     ensures asked { IfOk result (IsAsked (H.told shelf.old) (asked options.now)) }

@@ -2,6 +2,7 @@
 
 ghost use Rattle.std.specs.Prelude.{◌≡◌, ◌≢◌, ◌⊎◌, ◌<◌, ◌≤◌, ℕ, List, Option, None, Some, Result, Ok, Err, true, false, IfSome, map, string_bytes};
 ghost use Rattle.join_rows.specs.Shelves.{last_fault};
+ghost use Rattle.join_rows.specs.Sinks.{PutsSome};
 ghost use Rattle.join_rows.specs.declared.table.Side.{Side};
 ghost use Rattle.load_controller.specs.declared.line.TurnLine.{TurnLine};
 ghost use Rattle.theta_text.specs.Grammar.{Tree};
@@ -63,6 +64,8 @@ fn join_files<R: Threads + Wait + Sync, H: Shelf, K: Sink, G: Gate>(
         → plan_of (asked options.now) (Ok tree) files ≡ Ok planned → H.sound shelf.old
         → TakesEach (K.takes sink.old) (asked options.now) planned
         → IsDone result ⊎ (result ≡ Outcome.Memory) }
+    ensures sound { H.sound shelf.old → H.sound shelf.new × (H.faults shelf.new ≡ H.faults shelf.old) }
+    ensures left { PutsSome (K.written sink.old) (K.written sink.new) (K.takes sink.old) (K.takes sink.new) }
     ensures done { (journal : List TurnLine) (trail : List EndsView) → result ≡ Outcome.Done journal trail
         → Wrote (H.told shelf.old) (asked options.now) journal trail (K.written sink.old) (K.written sink.new) }
     ensures front { result ≡ Outcome.Write
@@ -125,6 +128,8 @@ pub fn join_main<R: Threads + Wait + Sync, H: Shelf, K: Sink, G: Gate>(
         → plan_of asked (Ok tree) files ≡ Ok planned → H.sound shelf.old
         → TakesEach (K.takes sink.old) asked planned
         → IsDone result ⊎ (result ≡ Outcome.Memory) }
+    ensures sound { H.sound shelf.old → H.sound shelf.new × (H.faults shelf.new ≡ H.faults shelf.old) }
+    ensures left { PutsSome (K.written sink.old) (K.written sink.new) (K.takes sink.old) (K.takes sink.new) }
     ensures done { (journal : List TurnLine) (trail : List EndsView) → result ≡ Outcome.Done journal trail
         → (asked : Asked) × (asked_of (map string_bytes words.now) ≡ Ok asked)
         × Wrote (H.told shelf.old) asked journal trail (K.written sink.old) (K.written sink.new) }

@@ -3,6 +3,7 @@ use Rattle.join_words.specs.Words.{asked}
 use Rattle.join_cli.proofs.EarlyOutput.{early_stopped, early_takes, early_written, none_written}
 use Rattle.join_cli.specs.Plan.{input_of}
 use Rattle.join_cli.proofs.Inputs.{course_in_threads}
+use Rattle.join_report.proofs.Puts.{PutsSome-refl}
 use Rattle.join_cli.proofs.conclude.conclude_early.Goals as goal
 
 pub returns-in-Err-clause-ends : goal.returns-in-Err-clause-ends
@@ -27,3 +28,6 @@ returns-in-Err-Write-clause-complete g c takes =
     absurd (c.in-Err-Write.ensures.takes
     (early_takes (g.K.Sink.takes c.args.sink.now) (asked c.args.options.now) c.args.planned c.in-Ok.input c.setting-setting.result
     c.in-Ok.ensures.is c.setting-setting.ensures.is c.requires.early c.requires.alone.1 c.requires.alone.2 takes) (ap Err c.in-Err-Write.field-0-is))
+
+pub returns-in-Err-clause-left : goal.returns-in-Err-clause-left
+returns-in-Err-clause-left g c = PutsSome-refl (g.K.Sink.written c.args.sink.now) (g.K.Sink.takes c.args.sink.now)

@@ -5,6 +5,7 @@ use Rattle.join_cli.proofs.Ending.{complete_made, complete_refused, concludes_we
 use Rattle.join_cli.proofs.MadeTables.{asked_concluded, asked_refused}
 use Rattle.join_cli.proofs.Seeing.{not_refused_memory, not_refused_read}
 use Rattle.join_words.specs.Words.{asked}
+use Rattle.join_report.proofs.Puts.{PutsSome-refl}
 use Rattle.join_cli.proofs.top.join_files.Goals as goal
 
 -- ---- a plan that was carried out
@@ -28,7 +29,7 @@ returns-in-Ok-clause-seen g c tree reads read memory =
 
 pub returns-in-Ok-clause-complete : goal.returns-in-Ok-clause-complete
 returns-in-Ok-clause-complete g c files tree planned told reads plan sound takes =
-    let made = complete_made c.in-Ok.planned planned (plan_of (asked c.args.options.now) (Ok tree) files) (c.in-Ok.ensures.answer files (Ok tree) told reads (c.in-Ok.ensures.sound sound)) plan in
+    let made = complete_made c.in-Ok.planned planned (plan_of (asked c.args.options.now) (Ok tree) files) (c.in-Ok.ensures.answer files (Ok tree) told reads (c.in-Ok.ensures.sound sound).1) plan in
     c.conclude.ensures.complete (subst (TakesEach (g.K.Sink.takes c.args.sink.now) (asked c.args.options.now)) (sym made) takes)
 
 pub returns-in-Ok-clause-done : goal.returns-in-Ok-clause-done
@@ -80,4 +81,7 @@ returns-in-Err-clause-seen g c tree reads read memory =
 pub returns-in-Err-clause-complete : goal.returns-in-Err-clause-complete
 returns-in-Err-clause-complete g c files tree planned told reads plan sound takes =
     rw c.refused.ensures
-    (complete_refused c.in-Err.refusal (plan_of (asked c.args.options.now) (Ok tree) files) planned (c.in-Err.ensures.answer files (Ok tree) told reads (c.in-Err.ensures.sound sound)) plan)
+    (complete_refused c.in-Err.refusal (plan_of (asked c.args.options.now) (Ok tree) files) planned (c.in-Err.ensures.answer files (Ok tree) told reads (c.in-Err.ensures.sound sound).1) plan)
+
+pub returns-in-Err-clause-left : goal.returns-in-Err-clause-left
+returns-in-Err-clause-left g c = PutsSome-refl (g.K.Sink.written c.args.sink.now) (g.K.Sink.takes c.args.sink.now)
