@@ -10,14 +10,18 @@ use Rattle.pair_collector.proofs.collector.Collector.TheSendSync as collectors
 use Rattle.ruled_links.proofs.mailbox.Inbox.TheSendSync as inboxes
 use Rattle.ruled_links.proofs.mailbox.Mouth.TheSendSync as mouths
 use Rattle.theta_pred.specs.contracts.theta.Theta as theta
+use Rattle.joiner_core.specs.contracts.epochs.Epochs as epochs
 use Rattle.joiner_core.specs.contracts.joiner.Joiner as joiner
 use Rattle.link_trace.specs.contracts.machines.Core as core
 use Rattle.join_runtime.specs.contracts.seat.Seat as seat
 
 -- part by part, since a `search` that goes down through a seat to its machine's parts runs out of steps
 module _ (theta_sync : IsSync theta.the_row) where
+  epochs_send : (κ : _) → IsSend (epochs.the_row κ)
+  epochs_send κ = search (sendable, heap.crosses, stocks.the_send, steps.the_send) depth 40 fits 20000
+
   joiner_send : (κ : _) → IsSend (joiner.the_row κ)
-  joiner_send κ = search (sendable, heap.crosses, stocks.the_send, helds.the_send, steps.the_send) depth 40 fits 20000
+  joiner_send κ = search (sendable, heap.crosses, epochs_send, helds.the_send) depth 40 fits 20000
 
   core_send : (κ : _) → IsSend (core.the_field κ).row
   core_send κ = search (sendable, feeders.the_send, joiner_send, controllers.the_send, collectors.the_send) depth 40

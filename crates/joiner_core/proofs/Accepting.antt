@@ -13,13 +13,10 @@ use Rattle.joiner_law.specs.Law.{JoinerStart, JoinerLists, Taken}
 use Rattle.joiner_law.specs.History.{Step}
 use Rattle.joiner_law.specs.Standing.{grown, pairs_sent, ArePairs, AreSent, AreSteps}
 use Rattle.joiner_law.proofs.LongerLists.{grown-same, grown-other}
-use Rattle.joiner_core.specs.Stocks.{held_at, HasRow}
+use Rattle.joiner_core.specs.State.{held_at, HasRow, OpenStep, EpochState, MachineState}
 use Rattle.joiner_core.proofs.Fitting.{same-rows, rows-held}
 use Rattle.joiner_core.specs.Taking.{StandsBy, Stands, TookOfFeeder, TookOfJoiner, TakesOfFeeder, TakesOfJoiner}
 use Rattle.joiner_core.specs.Machine.{IsSound, Accepts}
-use Rattle.joiner_core.specs.declared.epochs.Opened.{Opened}
-use Rattle.joiner_core.specs.declared.epochs.Epochs.{Epochs}
-use Rattle.joiner_core.specs.declared.machine.Machine.{Machine}
 use Rattle.joiner_core.proofs.Posting.{own-none}
 use Rattle.joiner_core.proofs.Keeping.{append-nil, with_sent-none}
 
@@ -53,8 +50,8 @@ steps-other s t lists f g zs w w' done turned ended all_turned part_ended steps 
   to_partner = is.to_partner;
 }
 
-by-other : (s : JoinerStart) (t : Taken) (lists : JoinerLists) (f g : ℕ → List ToJoiner) (zs : List ToCollector) (w w' : List Pair) (m : Epochs) → PairsMove s lists w zs w'
-    → (step : Option Opened) → StandsBy s t lists w m step → StandsBy s t (with_other lists f g zs) w' m step
+by-other : (s : JoinerStart) (t : Taken) (lists : JoinerLists) (f g : ℕ → List ToJoiner) (zs : List ToCollector) (w w' : List Pair) (m : EpochState) → PairsMove s lists w zs w'
+    → (step : Option OpenStep) → StandsBy s t lists w m step → StandsBy s t (with_other lists f g zs) w' m step
 by-other s t lists f g zs w w' m moves None is = record {
   cur = is.cur;
   past = is.past;
@@ -81,20 +78,20 @@ by-other s t lists f g zs w w' m moves (Some o) is = record {
   all = is.all;
 }
 
-pub stands-other : (s : JoinerStart) (t : Taken) (lists : JoinerLists) (f g : ℕ → List ToJoiner) (zs : List ToCollector) (w w' : List Pair) (m : Epochs) → PairsMove s lists w zs w'
+pub stands-other : (s : JoinerStart) (t : Taken) (lists : JoinerLists) (f g : ℕ → List ToJoiner) (zs : List ToCollector) (w w' : List Pair) (m : EpochState) → PairsMove s lists w zs w'
     → Stands s t lists w m → Stands s t (with_other lists f g zs) w' m
 stands-other s t lists f g zs w w' m moves is = record { fixed = is.fixed; now = by-other s t lists f g zs w w' m moves m.step is.now }
 
-stands-received : (s : JoinerStart) (t : Taken) (lists : JoinerLists) (f g : ℕ → List ToJoiner) (w : List Pair) (m : Epochs) → Stands s t lists w m → Stands s t (with_other lists f g lists.to_collector) w m
+stands-received : (s : JoinerStart) (t : Taken) (lists : JoinerLists) (f g : ℕ → List ToJoiner) (w : List Pair) (m : EpochState) → Stands s t lists w m → Stands s t (with_other lists f g lists.to_collector) w m
 stands-received s t lists f g w m is = stands-other s t lists f g lists.to_collector w w m (λ steps pairs. pairs) is
 
 -- ---- a message of a feeder
 
-pub accepts-taken-feeder : (old new : Machine) (p : ℕ) (m : ToJoiner) (w w' : List Pair) (before after : List Post) → IsSound old → p < old.epochs.feeders → held_at old.of_feeders p ≡ [] → TakesOfFeeder old.epochs p m
+pub accepts-taken-feeder : (old new : MachineState) (p : ℕ) (m : ToJoiner) (w w' : List Pair) (before after : List Post) → IsSound old → p < old.epochs.feeders → held_at old.of_feeders p ≡ [] → TakesOfFeeder old.epochs p m
     → new ≡ record old { epochs = new.epochs } → TookOfFeeder p m old.epochs new.epochs w w' before after → Accepts (Feeder p) m old new w w' before after
 accepts-taken-feeder old new p m w w' before after sound low clear can state took =
-    let own : new.of_feeders ≡ old.of_feeders = ap (λ (z : Machine). z.of_feeders) state in
-    let other : new.of_joiners ≡ old.of_joiners = ap (λ (z : Machine). z.of_joiners) state in
+    let own : new.of_feeders ≡ old.of_feeders = ap (λ (z : MachineState). z.of_feeders) state in
+    let other : new.of_joiners ≡ old.of_joiners = ap (λ (z : MachineState). z.of_joiners) state in
     record {
       sound = record {
         within = took.within;
@@ -108,7 +105,7 @@ accepts-taken-feeder old new p m w w' before after sound low clear can state too
       quiet = took.quiet;
       own = took.own;
       taken = inl (record { clear = clear; can = can; feeders = own; joiners = other });
-      told = ap (λ (z : Machine). z.told) state;
+      told = ap (λ (z : MachineState). z.told) state;
       fixed = record { k = took.k; id = took.id; feeders = took.feeders; theta = took.theta };
       rests = λ at. let n = sound.within.ended in absurd (false≢true (sym took.going ∙ at.ended p (omega arith)));
       stands = λ s lists is.
@@ -133,7 +130,7 @@ accepts-taken-feeder old new p m w w' before after sound low clear can state too
           };
     }
 
-pub accepts-held-feeder : (old : Machine) (queues : List (List ToJoiner)) (p : ℕ) (m : ToJoiner) (w : List Pair) (before : List Post) → IsSound old → p < old.epochs.feeders → HasRow old.epochs.theta.now m
+pub accepts-held-feeder : (old : MachineState) (queues : List (List ToJoiner)) (p : ℕ) (m : ToJoiner) (w : List Pair) (before : List Post) → IsSound old → p < old.epochs.feeders → HasRow old.epochs.theta m
     → queues ≡ slice_set old.of_feeders p (held_at old.of_feeders p ++ m ∷ []) → Accepts (Feeder p) m old (record old { of_feeders = queues }) w w before before
 accepts-held-feeder old queues p m w before sound low row put =
     let count = sound.feeders in
@@ -143,7 +140,7 @@ accepts-held-feeder old queues p m w before sound low row put =
         within = sound.within;
         feeders = ap length put ∙ length-set old.of_feeders p (held_at old.of_feeders p ++ m ∷ []) ∙ sound.feeders;
         joiners = sound.joiners;
-        feeder_rows = rows-held old.epochs.theta.now old.of_feeders queues p m within put row sound.feeder_rows;
+        feeder_rows = rows-held old.epochs.theta old.of_feeders queues p m within put row sound.feeder_rows;
         joiner_rows = sound.joiner_rows;
       };
       added = [];
@@ -173,12 +170,12 @@ accepts-held-feeder old queues p m w before sound low row put =
 
 -- ---- a message of a joiner
 
-pub accepts-taken-joiner : (old new : Machine) (q : ℕ) (m : ToJoiner) (w w' : List Pair) (before after : List Post) → IsSound old → held_at old.of_joiners q ≡ [] → TakesOfJoiner old.epochs q m
+pub accepts-taken-joiner : (old new : MachineState) (q : ℕ) (m : ToJoiner) (w w' : List Pair) (before after : List Post) → IsSound old → held_at old.of_joiners q ≡ [] → TakesOfJoiner old.epochs q m
     → new ≡ record old { epochs = new.epochs } → ((j : ℕ) → TakesOfJoiner old.epochs j m → TookOfJoiner j m old.epochs new.epochs w w' before after) → Accepts (Joiner' q) m old new w w' before after
 accepts-taken-joiner old new q m w w' before after sound clear can state takes =
     let took = takes q can in
-    let own : new.of_joiners ≡ old.of_joiners = ap (λ (z : Machine). z.of_joiners) state in
-    let other : new.of_feeders ≡ old.of_feeders = ap (λ (z : Machine). z.of_feeders) state in
+    let own : new.of_joiners ≡ old.of_joiners = ap (λ (z : MachineState). z.of_joiners) state in
+    let other : new.of_feeders ≡ old.of_feeders = ap (λ (z : MachineState). z.of_feeders) state in
     record {
       sound = record {
         within = took.within;
@@ -192,7 +189,7 @@ accepts-taken-joiner old new q m w w' before after sound clear can state takes =
       quiet = took.quiet;
       own = took.own;
       taken = inl (record { clear = clear; can = can; feeders = other; joiners = own });
-      told = ap (λ (z : Machine). z.told) state;
+      told = ap (λ (z : MachineState). z.told) state;
       fixed = record { k = took.k; id = took.id; feeders = took.feeders; theta = took.theta };
       rests = λ at. absurd (took.opened at.closed);
       stands = λ s lists is.
@@ -216,7 +213,7 @@ accepts-taken-joiner old new q m w w' before after sound clear can state takes =
           };
     }
 
-pub accepts-held-joiner : (old : Machine) (queues : List (List ToJoiner)) (q : ℕ) (m : ToJoiner) (w : List Pair) (before : List Post) → IsSound old → q < 2 ^ old.epochs.k → HasRow old.epochs.theta.now m
+pub accepts-held-joiner : (old : MachineState) (queues : List (List ToJoiner)) (q : ℕ) (m : ToJoiner) (w : List Pair) (before : List Post) → IsSound old → q < 2 ^ old.epochs.k → HasRow old.epochs.theta m
     → queues ≡ slice_set old.of_joiners q (held_at old.of_joiners q ++ m ∷ []) → Accepts (Joiner' q) m old (record old { of_joiners = queues }) w w before before
 accepts-held-joiner old queues q m w before sound low row put =
     let count = sound.joiners in
@@ -227,7 +224,7 @@ accepts-held-joiner old queues q m w before sound low row put =
         feeders = sound.feeders;
         joiners = ap length put ∙ length-set old.of_joiners q (held_at old.of_joiners q ++ m ∷ []) ∙ sound.joiners;
         feeder_rows = sound.feeder_rows;
-        joiner_rows = rows-held old.epochs.theta.now old.of_joiners queues q m within put row sound.joiner_rows;
+        joiner_rows = rows-held old.epochs.theta old.of_joiners queues q m within put row sound.joiner_rows;
       };
       added = [];
       sends = sym (append-nil before);

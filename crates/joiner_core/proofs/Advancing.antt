@@ -11,12 +11,10 @@ use Rattle.epoch_tags.specs.declared.message.ToJoiner.{ToJoiner}
 use Rattle.joiner_law.specs.Law.{JoinerLists}
 use Rattle.joiner_law.specs.Standing.{with_sent}
 use Rattle.joiner_law.proofs.LongerLists.{grown-same, grown-other}
-use Rattle.joiner_core.specs.Stocks.{held_at}
+use Rattle.joiner_core.specs.State.{held_at, EpochState, MachineState}
 use Rattle.joiner_core.proofs.Fitting.{same-rows, rows-taken}
 use Rattle.joiner_core.specs.Taking.{IsFixed, TookOfFeeder, TookOfJoiner, TakesOfJoiner}
 use Rattle.joiner_core.specs.Machine.{StandsWithin, IsResting, Advances, IsSound, IsReadyOfJoiner, TookHeld}
-use Rattle.joiner_core.specs.declared.epochs.Epochs.{Epochs}
-use Rattle.joiner_core.specs.declared.machine.Machine.{Machine}
 use Rattle.joiner_core.proofs.Posting.{own-none, own-append, own-before}
 use Rattle.joiner_core.proofs.Keeping.{quiet-append, with_sent-none, with_sent-append}
 
@@ -24,7 +22,7 @@ append-nil : {A : Type 0} (xs : List A) → xs ++ [] ≡ xs
 append-nil [] = refl
 append-nil (x ∷ xs) = ap (λ ys. x ∷ ys) (append-nil xs)
 
-pub advances-none : (m : Machine) (waiting : List Pair) (posts : List Post) → Advances m m waiting waiting posts posts
+pub advances-none : (m : MachineState) (waiting : List Pair) (posts : List Post) → Advances m m waiting waiting posts posts
 advances-none m waiting posts = record {
   added = [];
   sends = sym (append-nil posts);
@@ -36,10 +34,10 @@ advances-none m waiting posts = record {
   stands = λ s lists is. subst (λ (ls : JoinerLists). StandsWithin s ls waiting m) (sym (with_sent-none lists)) is;
 }
 
-pub fixed-then : (a b c : Epochs) → IsFixed a b → IsFixed b c → IsFixed a c
+pub fixed-then : (a b c : EpochState) → IsFixed a b → IsFixed b c → IsFixed a c
 fixed-then a b c one two = record { k = two.k ∙ one.k; id = two.id ∙ one.id; feeders = two.feeders ∙ one.feeders; theta = two.theta ∙ one.theta }
 
-pub advances-then : (a b c : Machine) (wa wb wc : List Pair) (pa pb pc : List Post) → Advances a b wa wb pa pb → Advances b c wb wc pb pc → Advances a c wa wc pa pc
+pub advances-then : (a b c : MachineState) (wa wb wc : List Pair) (pa pb pc : List Post) → Advances a b wa wb pa pb → Advances b c wb wc pb pc → Advances a c wa wc pa pc
 advances-then a b c wa wb wc pa pb pc first second = record {
   added = first.added ++ second.added;
   sends = second.sends ∙ ap (λ zs. zs ++ second.added) first.sends ∙ append_assoc pa first.added second.added;
@@ -49,14 +47,14 @@ advances-then a b c wa wb wc pa pb pc first second = record {
   fixed = fixed-then a.epochs b.epochs c.epochs first.fixed second.fixed;
   rests = λ at.
       let one = first.rests at in
-      let two = second.rests (subst (λ (z : Epochs). IsResting z) (sym one.0) at) in
+      let two = second.rests (subst (λ (z : EpochState). IsResting z) (sym one.0) at) in
       (two.0 ∙ one.0, two.1 ∙ one.1);
   stands = λ s lists is.
       subst (λ (ls : JoinerLists). StandsWithin s ls wc c) (with_sent-append lists first.added second.added) (second.stands s (with_sent lists first.added) (first.stands s lists is));
 }
 
 -- the first of those held of feeder p is taken
-pub advances-held : (old new : Machine) (p : ℕ) (m : ToJoiner) (w w' : List Pair) (before after : List Post) → p < length old.of_feeders → old.epochs.feeders ≡ length old.of_feeders → p < length old.epochs.ended.items
+pub advances-held : (old new : MachineState) (p : ℕ) (m : ToJoiner) (w w' : List Pair) (before after : List Post) → p < length old.of_feeders → old.epochs.feeders ≡ length old.of_feeders → p < length old.epochs.ended
     → TookOfFeeder p m old.epochs new.epochs w w' before after
     → held_at old.of_feeders p ≡ m ∷ held_at new.of_feeders p → new.of_feeders ≡ slice_set old.of_feeders p (held_at new.of_feeders p) → new.of_joiners ≡ old.of_joiners → new.told ≡ old.told
     → Advances old new w w' before after
@@ -90,7 +88,7 @@ advances-held old new p m w w' before after low count within took first rest sam
 }
 
 -- the first of those held of joiner q is taken
-pub advances-held-joiner : (old new : Machine) (q : ℕ) (m : ToJoiner) (w w' : List Pair) (before after : List Post)
+pub advances-held-joiner : (old new : MachineState) (q : ℕ) (m : ToJoiner) (w w' : List Pair) (before after : List Post)
     → TookOfJoiner q m old.epochs new.epochs w w' before after
     → held_at old.of_joiners q ≡ m ∷ held_at new.of_joiners q → new.of_joiners ≡ slice_set old.of_joiners q (held_at new.of_joiners q) → new.of_feeders ≡ old.of_feeders → new.told ≡ old.told
     → Advances old new w w' before after
@@ -137,12 +135,12 @@ sum-fewer (q ∷ qs) (suc i) m rest low is =
 fewer-of : (old new : List (List ToJoiner)) (i : ℕ) (m : ToJoiner) → i < length old → held_at old i ≡ m ∷ held_at new i → new ≡ slice_set old i (held_at new i) → sum_by length new + 1 ≡ sum_by length old
 fewer-of old new i m low first rest = let n = sum-fewer old i m (held_at new i) low first in let e : sum_by length new ≡ sum_by length (slice_set old i (held_at new i)) = ap (λ qs. sum_by length qs) rest in omega arith
 
-pub took-held-feeder : (old new : Machine) (queues : List (List ToJoiner)) (p : ℕ) (m : ToJoiner) (w w' : List Pair) (before after : List Post) → IsSound old → p < old.epochs.feeders
+pub took-held-feeder : (old new : MachineState) (queues : List (List ToJoiner)) (p : ℕ) (m : ToJoiner) (w w' : List Pair) (before after : List Post) → IsSound old → p < old.epochs.feeders
     → held_at old.of_feeders p ≡ m ∷ held_at queues p → queues ≡ slice_set old.of_feeders p (held_at queues p)
     → new ≡ record old { of_feeders = queues; epochs = new.epochs } → TookOfFeeder p m old.epochs new.epochs w w' before after → TookHeld (Feeder p) old new w w' before after
 took-held-feeder old new queues p m w w' before after sound low first rest state took =
-    let f : new.of_feeders ≡ queues = ap (λ (z : Machine). z.of_feeders) state in
-    let j : new.of_joiners ≡ old.of_joiners = ap (λ (z : Machine). z.of_joiners) state in
+    let f : new.of_feeders ≡ queues = ap (λ (z : MachineState). z.of_feeders) state in
+    let j : new.of_joiners ≡ old.of_joiners = ap (λ (z : MachineState). z.of_joiners) state in
     let count = sound.feeders in
     let within : p < length old.of_feeders = omega arith in
     let first' : held_at old.of_feeders p ≡ m ∷ held_at new.of_feeders p = subst (λ (qs : List (List ToJoiner)). held_at old.of_feeders p ≡ m ∷ held_at qs p) (sym f) first in
@@ -152,10 +150,10 @@ took-held-feeder old new queues p m w w' before after sound low first rest state
         within = took.within;
         feeders = ap length rest' ∙ length-set old.of_feeders p (held_at new.of_feeders p) ∙ sound.feeders ∙ sym took.feeders;
         joiners = ap length j ∙ sound.joiners ∙ ap (λ k. 2 ^ k) (sym took.k);
-        feeder_rows = same-rows _ _ _ _ took.theta refl (rows-taken old.epochs.theta.now old.of_feeders new.of_feeders p m within first' rest' sound.feeder_rows);
+        feeder_rows = same-rows _ _ _ _ took.theta refl (rows-taken old.epochs.theta old.of_feeders new.of_feeders p m within first' rest' sound.feeder_rows);
         joiner_rows = same-rows _ _ _ _ took.theta j sound.joiner_rows;
       };
-      advances = advances-held old new p m w w' before after within (sym sound.feeders) (let n = sound.within.ended in omega arith) took first' rest' j (ap (λ (z : Machine). z.told) state);
+      advances = advances-held old new p m w w' before after within (sym sound.feeders) (let n = sound.within.ended in omega arith) took first' rest' j (ap (λ (z : MachineState). z.told) state);
       given = (record { first = m; rest = first'; others = rest' }, j);
       fewer = let n = fewer-of old.of_feeders new.of_feeders p m within first' rest' in let e : sum_by length new.of_joiners ≡ sum_by length old.of_joiners = ap (λ qs. sum_by length qs) j in omega arith;
     }
@@ -163,12 +161,12 @@ took-held-feeder old new queues p m w w' before after sound low first rest state
 same-first : (x y : ToJoiner) (xs ys zs : List ToJoiner) → zs ≡ x ∷ xs → zs ≡ y ∷ ys → x ≡ y
 same-first x y xs ys zs one two = ap (λ ms. slice_index_or ms 0 x) (sym one ∙ two)
 
-pub took-held-joiner : (old new : Machine) (queues : List (List ToJoiner)) (q : ℕ) (m : ToJoiner) (w w' : List Pair) (before after : List Post) → IsSound old → IsReadyOfJoiner old q
+pub took-held-joiner : (old new : MachineState) (queues : List (List ToJoiner)) (q : ℕ) (m : ToJoiner) (w w' : List Pair) (before after : List Post) → IsSound old → IsReadyOfJoiner old q
     → held_at old.of_joiners q ≡ m ∷ held_at queues q → queues ≡ slice_set old.of_joiners q (held_at queues q)
     → new ≡ record old { of_joiners = queues; epochs = new.epochs } → ((j : ℕ) → TakesOfJoiner old.epochs j m → TookOfJoiner j m old.epochs new.epochs w w' before after) → TookHeld (Joiner' q) old new w w' before after
 took-held-joiner old new queues q m w w' before after sound ready first rest state takes =
-    let f : new.of_joiners ≡ queues = ap (λ (z : Machine). z.of_joiners) state in
-    let j : new.of_feeders ≡ old.of_feeders = ap (λ (z : Machine). z.of_feeders) state in
+    let f : new.of_joiners ≡ queues = ap (λ (z : MachineState). z.of_joiners) state in
+    let j : new.of_feeders ≡ old.of_feeders = ap (λ (z : MachineState). z.of_feeders) state in
     let count = sound.joiners in
     let low = ready.low in
     let within : q < length old.of_joiners = omega arith in
@@ -182,9 +180,9 @@ took-held-joiner old new queues q m w w' before after sound ready first rest sta
         feeders = ap length j ∙ sound.feeders ∙ sym took.feeders;
         joiners = ap length rest' ∙ length-set old.of_joiners q (held_at new.of_joiners q) ∙ sound.joiners ∙ ap (λ k. 2 ^ k) (sym took.k);
         feeder_rows = same-rows _ _ _ _ took.theta j sound.feeder_rows;
-        joiner_rows = same-rows _ _ _ _ took.theta refl (rows-taken old.epochs.theta.now old.of_joiners new.of_joiners q m within first' rest' sound.joiner_rows);
+        joiner_rows = same-rows _ _ _ _ took.theta refl (rows-taken old.epochs.theta old.of_joiners new.of_joiners q m within first' rest' sound.joiner_rows);
       };
-      advances = advances-held-joiner old new q m w w' before after took first' rest' j (ap (λ (z : Machine). z.told) state);
+      advances = advances-held-joiner old new q m w w' before after took first' rest' j (ap (λ (z : MachineState). z.told) state);
       given = (record { first = m; rest = first'; others = rest' }, j);
       fewer = let n = fewer-of old.of_joiners new.of_joiners q m within first' rest' in let e : sum_by length new.of_feeders ≡ sum_by length old.of_feeders = ap (λ qs. sum_by length qs) j in omega arith;
     }

@@ -19,9 +19,7 @@ use Rattle.joiner_law.proofs.StepStores.{pairs-law, older-is, shifts-are, by_one
 use Rattle.joiner_law.proofs.Partners.{has-moved, has-end, part-at, end-at}
 use Rattle.joiner_law.proofs.MovedBySteps.{count-bag, moved-law, ended-law, counts-law, partner-within}
 use Rattle.joiner_core.specs.Changes.{IsReady}
-use Rattle.joiner_core.specs.declared.epochs.Opened.{Opened}
-use Rattle.joiner_core.specs.declared.epochs.Epochs.{Epochs}
-use Rattle.joiner_core.specs.declared.machine.Machine.{Machine}
+use Rattle.joiner_core.specs.State.{OpenStep, EpochState, MachineState}
 use Rattle.joiner_core.specs.Taking.{IsClosed, StandsBy, HasSomeTurn}
 use Rattle.joiner_core.specs.Machine.{IsStart, StandsBetween, fin_of}
 use Rattle.joiner_core.proofs.Keeping.{append-nil}
@@ -138,16 +136,16 @@ cases-true : (b : Bool) → (b ≡ false → ⊥) → b ≡ true
 cases-true true never = refl
 cases-true false never = absurd (never refl)
 
-pub closed-count : (s : JoinerStart) (t : Taken) (lists : JoinerLists) (w : List Pair) (m : Epochs) → 0 < s.feeders → (is : IsClosed s t lists w m) → opened s t ≡ length is.past
+pub closed-count : (s : JoinerStart) (t : Taken) (lists : JoinerLists) (w : List Pair) (m : EpochState) → 0 < s.feeders → (is : IsClosed s t lists w m) → opened s t ≡ length is.past
 closed-count s t lists w m some is =
     let first = (is.stands.steps.feeders 0 some).turns in
     let above = greatest-above s.feeders (λ p. turns (t.from_feeder p)) 0 some in
     same-number _ _ (closed-few s t lists w m is) (omega arith)
 
-law-by : (s : JoinerStart) (t : Taken) (lists : JoinerLists) (m : Epochs) (done : ℕ) → IsStart s → m.epoch ≡ s.epoch + done
+law-by : (s : JoinerStart) (t : Taken) (lists : JoinerLists) (m : EpochState) (done : ℕ) → IsStart s → m.epoch ≡ s.epoch + done
     → ((p : ℕ) → p < s.feeders → IsTakenOf (CanTakeOfFeeder s t done p) (t.from_feeder p) (lists.from_feeder p))
     → ((q : ℕ) → q < 2 ^ s.k → IsTakenOf (CanTakeOfJoiner s t done q) (t.from_joiner q) (lists.from_joiner q)) → IsTold s lists t
-    → (step : Option Opened) → HasSomeTurn s.feeders step → (IsReady step → ⊥) → StandsBy s t lists [] m step → JoinerLaw s lists t
+    → (step : Option OpenStep) → HasSomeTurn s.feeders step → (IsReady step → ⊥) → StandsBy s t lists [] m step → JoinerLaw s lists t
 law-by s t lists m done start epoch feeders joiners told None begun rests is =
     let at = is.epoch in
     let some = start.some in
@@ -187,7 +185,7 @@ law-by s t lists m done start epoch feeders joiners told (Some o) begun rests is
 fin-same : (a a' b b' : ℕ) (c c' : List ℕ) → a ≡ a' → b ≡ b' → c ≡ c' → Fin a b c ≡ Fin a' b' c'
 fin-same a a' b b' c c' p q r = ap (λ x. Fin x b c) p ∙ ap (λ x. Fin a' x c) q ∙ ap (λ x. Fin a' b' x) r
 
-closed-fin : (s : JoinerStart) (t : Taken) (lists : JoinerLists) (w : List Pair) (m : Epochs) → IsStart s → IsClosed s t lists w m → fin_of m ≡ fin s lists t
+closed-fin : (s : JoinerStart) (t : Taken) (lists : JoinerLists) (w : List Pair) (m : EpochState) → IsStart s → IsClosed s t lists w m → fin_of m ≡ fin s lists t
 closed-fin s t lists w m start is =
     let n = length is.past in
     let count = closed-count s t lists w m start.some is in
@@ -201,8 +199,8 @@ closed-fin s t lists w m start is =
     fin-same _ _ _ _ _ _ (count-bag (is_of R) m.store.tuples (store s t n) held) (count-bag (is_of S) m.store.tuples (store s t n) held) moved
     ∙ ap (λ i. Fin (count_by (is_of R) (store s t i)) (count_by (is_of S) (store s t i)) (map (λ j. length (sent_in_step s lists j)) (counting_from 0 i))) (sym count)
 
-fin-by : (s : JoinerStart) (t : Taken) (lists : JoinerLists) (w : List Pair) (m : Epochs) → IsStart s → (step : Option Opened) → step ≡ None → StandsBy s t lists w m step → fin_of m ≡ fin s lists t
-fin-by s t lists w m start step none is = closed-fin s t lists w m start (subst (λ (z : Option Opened). StandsBy s t lists w m z) none is)
+fin-by : (s : JoinerStart) (t : Taken) (lists : JoinerLists) (w : List Pair) (m : EpochState) → IsStart s → (step : Option OpenStep) → step ≡ None → StandsBy s t lists w m step → fin_of m ≡ fin s lists t
+fin-by s t lists w m start step none is = closed-fin s t lists w m start (subst (λ (z : Option OpenStep). StandsBy s t lists w m z) none is)
 
 sent-none : (founds : List (List Pair)) → flat_map pairs_found (map Found founds ++ []) ≡ flat_map (λ ps. ps) founds
 sent-none [] = refl
@@ -212,7 +210,7 @@ sent-one : (founds : List (List Pair)) (a b : ℕ) (c : List ℕ) → flat_map p
 sent-one [] a b c = refl
 sent-one (ps ∷ founds) a b c = ap (λ zs. ps ++ zs) (sent-one founds a b c)
 
-told-law : (s : JoinerStart) (lists : JoinerLists) (m : Machine) (is : StandsBetween s lists m) (told : Bool) → m.told ≡ told → IsTold s lists is.within.taken
+told-law : (s : JoinerStart) (lists : JoinerLists) (m : MachineState) (is : StandsBetween s lists m) (told : Bool) → m.told ≡ told → IsTold s lists is.within.taken
 told-law s lists m is false low =
     let c = is.collects in
     let none = c.untold low in
@@ -243,7 +241,7 @@ told-law s lists m is true high =
       finished = λ over. last_is;
     }
 
-pub keeps-law : (s : JoinerStart) (lists : JoinerLists) (m : Machine) (is : StandsBetween s lists m) → JoinerLaw s lists is.within.taken
+pub keeps-law : (s : JoinerStart) (lists : JoinerLists) (m : MachineState) (is : StandsBetween s lists m) → JoinerLaw s lists is.within.taken
 keeps-law s lists m is =
     let many = is.within.stands.fixed.feeders in
     law-by s is.within.taken lists m.epochs is.done is.start is.settled is.of_feeders is.of_joiners (told-law s lists m is m.told refl) m.epochs.step
@@ -257,18 +255,18 @@ count-told first (suc n) = ap suc (count-told (first + 1) n)
 pub law-done : (s : JoinerStart) (lists : JoinerLists) (t : Taken) (law : JoinerLaw s lists t) → length lists.to_controller ≡ law.done
 law-done s lists t law = ap length law.told ∙ count-told (s.epoch + 1) law.done
 
-done-by : (s : JoinerStart) (t : Taken) (lists : JoinerLists) (m : Epochs) (done : ℕ) → m.epoch ≡ s.epoch + done → (step : Option Opened) → StandsBy s t lists [] m step → length lists.to_controller ≡ done
+done-by : (s : JoinerStart) (t : Taken) (lists : JoinerLists) (m : EpochState) (done : ℕ) → m.epoch ≡ s.epoch + done → (step : Option OpenStep) → StandsBy s t lists [] m step → length lists.to_controller ≡ done
 done-by s t lists m done epoch None is =
     let at = is.epoch in let n = ap length is.stands.steps.told ∙ count-told (s.epoch + 1) (length is.past) in omega arith
 done-by s t lists m done epoch (Some o) is =
     let at = is.epoch in let n = ap length is.stands.steps.told ∙ count-told (s.epoch + 1) (length is.past) in omega arith
 
-pub machine-done : (s : JoinerStart) (lists : JoinerLists) (m : Machine) (is : StandsBetween s lists m) → length lists.to_controller ≡ is.done
+pub machine-done : (s : JoinerStart) (lists : JoinerLists) (m : MachineState) (is : StandsBetween s lists m) → length lists.to_controller ≡ is.done
 machine-done s lists m is = done-by s is.within.taken lists m.epochs is.done is.settled m.epochs.step is.within.stands.now
 
 -- ---- what is read off the lists
 
-store-by : (s : JoinerStart) (t : Taken) (lists : JoinerLists) (m : Epochs) (done : ℕ) → m.epoch ≡ s.epoch + done → (step : Option Opened) → StandsBy s t lists [] m step → SameBag m.store.tuples (store s t done)
+store-by : (s : JoinerStart) (t : Taken) (lists : JoinerLists) (m : EpochState) (done : ℕ) → m.epoch ≡ s.epoch + done → (step : Option OpenStep) → StandsBy s t lists [] m step → SameBag m.store.tuples (store s t done)
 store-by s t lists m done epoch None is =
     let at = is.epoch in
     let same : length is.past ≡ done = omega arith in
@@ -278,5 +276,5 @@ store-by s t lists m done epoch (Some o) is =
     let same : length is.past ≡ done = omega arith in
     subst (λ (n : ℕ). SameBag m.store.tuples (store s t n)) same (SameBag-trans is.stands.store (SameBag-sym (store-is s t is.cur is.past is.stands.steps.history.1)))
 
-pub store-law : (s : JoinerStart) (lists : JoinerLists) (m : Machine) (is : StandsBetween s lists m) → SameBag m.epochs.store.tuples (store s is.within.taken is.done)
+pub store-law : (s : JoinerStart) (lists : JoinerLists) (m : MachineState) (is : StandsBetween s lists m) → SameBag m.epochs.store.tuples (store s is.within.taken is.done)
 store-law s lists m is = store-by s is.within.taken lists m.epochs is.done is.settled m.epochs.step is.within.stands.now

@@ -7,7 +7,7 @@ use Rattle.epoch_tags.specs.declared.tuple.Pair.{Pair}
 use Rattle.joiner_law.specs.Law.{JoinerStart, JoinerLists, Taken}
 use Rattle.joiner_law.specs.History.{Step}
 use Rattle.joiner_law.specs.Standing.{StandsSettled, StandsOpen}
-use Rattle.joiner_core.specs.Stocks.{placed}
+use Rattle.joiner_core.specs.State.{placed}
 use Rattle.joiner_core.specs.Changes.{kept_at_end}
 use Rattle.joiner_core.proofs.Stocking.{by_side-bag}
 

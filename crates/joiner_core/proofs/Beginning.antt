@@ -10,11 +10,9 @@ use Rattle.joiner_law.specs.Law.{Taken, pairs_by}
 use Rattle.joiner_law.specs.History.{Step}
 use Rattle.joiner_law.specs.Standing.{StandsSettled}
 use Rattle.joiner_core.specs.Changes.{flag_at, IsReady}
-use Rattle.joiner_core.specs.Stocks.{does_hold, IsStock, Stocked}
+use Rattle.joiner_core.specs.State.{does_hold, IsStock, Stocked, OpenStep, MachineState}
 use Rattle.theta_pred.specs.Formula.{Meaning}
 use Rattle.joiner_core.proofs.Fitting.{rows-none}
-use Rattle.joiner_core.specs.declared.epochs.Opened.{Opened}
-use Rattle.joiner_core.specs.declared.machine.Machine.{Machine}
 use Rattle.joiner_core.specs.Taking.{IsClosed, StandsBy, IsStepStock, IsStepWithin, IsCounted, HasSomeTurn}
 use Rattle.joiner_core.specs.Machine.{IsSound, IsStuck, IsMade, StandsBetween, nothing_yet, start_of}
 use Rattle.joiner_core.proofs.Keeping.{append-nil, same-ends}
@@ -67,13 +65,13 @@ settled-start k id shift epoch feeders theta base low = record {
   taken_up_to = λ q. tt;
 }
 
-closed-start : (k id shift epoch feeders : ℕ) (theta : Meaning) (base : Stocked) (m : Machine) → shift ≤ k → IsMade k id shift epoch feeders theta base m
+closed-start : (k id shift epoch feeders : ℕ) (theta : Meaning) (base : Stocked) (m : MachineState) → shift ≤ k → IsMade k id shift epoch feeders theta base m
     → IsClosed (start_of k id shift epoch feeders theta base.tuples) (nothing_taken shift) nothing_yet [] m.epochs
 closed-start k id shift epoch feeders theta base m low made = record {
   cur = first_step shift base.tuples;
   past = [];
-  stands = subst (λ (a : List Tuple). StandsSettled (start_of k id shift epoch feeders theta base.tuples) (nothing_taken shift) nothing_yet [] (flag_at m.epochs.ended.items) a (first_step shift base.tuples) []) (ap (λ (stock : Stocked). stock.tuples) (sym made.store))
-      (same-ends (start_of k id shift epoch feeders theta base.tuples) (nothing_taken shift) nothing_yet [] (λ p. false) (flag_at m.epochs.ended.items) base.tuples (first_step shift base.tuples) [] (λ p. sym (made.down p)) (settled-start k id shift epoch feeders theta base.tuples low));
+  stands = subst (λ (a : List Tuple). StandsSettled (start_of k id shift epoch feeders theta base.tuples) (nothing_taken shift) nothing_yet [] (flag_at m.epochs.ended) a (first_step shift base.tuples) []) (ap (λ (stock : Stocked). stock.tuples) (sym made.store))
+      (same-ends (start_of k id shift epoch feeders theta base.tuples) (nothing_taken shift) nothing_yet [] (λ p. false) (flag_at m.epochs.ended) base.tuples (first_step shift base.tuples) [] (λ p. sym (made.down p)) (settled-start k id shift epoch feeders theta base.tuples low));
   epoch = let e = made.at_epoch in omega arith;
   shift = made.at_shift;
   ended_count = made.ended;
@@ -83,7 +81,7 @@ closed-start k id shift epoch feeders theta base m low made = record {
 none-stuck : (queue : List ToJoiner) (x : ToJoiner) (rest : List ToJoiner) → queue ≡ [] → queue ≡ x ∷ rest → ⊥
 none-stuck queue x rest none is = let a = ap length none in let b : length queue ≡ length (x ∷ rest) = ap length is in absurd (omega arith)
 
-pub made-sound : (k id shift epoch feeders : ℕ) (theta : Meaning) (base : Stocked) (m : Machine) → k < 9 → shift ≤ k → id < 2 ^ k → IsStock theta base → IsMade k id shift epoch feeders theta base m → IsSound m
+pub made-sound : (k id shift epoch feeders : ℕ) (theta : Meaning) (base : Stocked) (m : MachineState) → k < 9 → shift ≤ k → id < 2 ^ k → IsStock theta base → IsMade k id shift epoch feeders theta base m → IsSound m
 made-sound k id shift epoch feeders theta base m small low few stock made =
     let same_k = made.at_k in
     let same_shift = made.at_shift in
@@ -91,22 +89,22 @@ made-sound k id shift epoch feeders theta base m small low few stock made =
       within = record {
         small = omega arith;
         shift = omega arith;
-        step = subst (λ (z : Option Opened). IsStepWithin m.epochs.k m.epochs.shift z) (sym made.step) tt;
+        step = subst (λ (z : Option OpenStep). IsStepWithin m.epochs.k m.epochs.shift z) (sym made.step) tt;
         ended = made.ended ∙ sym made.at_feeders;
-        count = subst (λ (z : Option Opened). IsCounted m.epochs.feeders z) (sym made.step) tt;
-        begun = subst (λ (z : Option Opened). HasSomeTurn m.epochs.feeders z) (sym made.step) tt;
-        rests = subst (λ (z : Option Opened). IsReady z → ⊥) (sym made.step) (λ never. never);
+        count = subst (λ (z : Option OpenStep). IsCounted m.epochs.feeders z) (sym made.step) tt;
+        begun = subst (λ (z : Option OpenStep). HasSomeTurn m.epochs.feeders z) (sym made.step) tt;
+        rests = subst (λ (z : Option OpenStep). IsReady z → ⊥) (sym made.step) (λ never. never);
         id = subst (λ (n : ℕ). m.epochs.id < 2 ^ n) (sym made.at_k) (subst (λ (n : ℕ). n < 2 ^ k) (sym made.at_id) few);
         stock = subst (λ (th : Meaning). IsStock th m.epochs.store) (sym made.at_theta) (subst (IsStock theta) (sym made.store) stock);
-        step_stock = subst (λ (z : Option Opened). IsStepStock m.epochs.theta.now z) (sym made.step) tt;
+        step_stock = subst (λ (z : Option OpenStep). IsStepStock m.epochs.theta z) (sym made.step) tt;
       };
       feeders = made.of_feeders ∙ sym made.at_feeders;
       joiners = made.of_joiners ∙ ap (λ n. 2 ^ n) (sym made.at_k);
-      feeder_rows = rows-none m.epochs.theta.now m.of_feeders made.no_feeders;
-      joiner_rows = rows-none m.epochs.theta.now m.of_joiners made.no_joiners;
+      feeder_rows = rows-none m.epochs.theta m.of_feeders made.no_feeders;
+      joiner_rows = rows-none m.epochs.theta m.of_joiners made.no_joiners;
     }
 
-pub made-stands : (k id shift epoch feeders : ℕ) (theta : Meaning) (base : Stocked) (m : Machine) → k < 9 → shift ≤ k → id < 2 ^ k → 0 < feeders → AllByRecursion (λ (x : Tuple). x.stamp ≤ epoch) base.tuples → IsStock theta base
+pub made-stands : (k id shift epoch feeders : ℕ) (theta : Meaning) (base : Stocked) (m : MachineState) → k < 9 → shift ≤ k → id < 2 ^ k → 0 < feeders → AllByRecursion (λ (x : Tuple). x.stamp ≤ epoch) base.tuples → IsStock theta base
     → IsMade k id shift epoch feeders theta base m → StandsBetween (start_of k id shift epoch feeders theta base.tuples) nothing_yet m
 made-stands k id shift epoch feeders theta base m small low few some older stock made =
     let sound = made-sound k id shift epoch feeders theta base m small low few stock made in
@@ -131,7 +129,7 @@ made-stands k id shift epoch feeders theta base m small low few some older stock
       taken = nothing_taken shift;
       stands = record {
         fixed = record { k = made.at_k; id = made.at_id; feeders = made.at_feeders; matches = ap (λ (th : Meaning). does_hold th) made.at_theta; small = small };
-        now = subst (λ (z : Option Opened). StandsBy (start_of k id shift epoch feeders theta base.tuples) (nothing_taken shift) nothing_yet [] m.epochs z) (sym made.step) (closed-start k id shift epoch feeders theta base m low made);
+        now = subst (λ (z : Option OpenStep). StandsBy (start_of k id shift epoch feeders theta base.tuples) (nothing_taken shift) nothing_yet [] m.epochs z) (sym made.step) (closed-start k id shift epoch feeders theta base m low made);
       };
       feeders = λ p less. made.no_feeders p;
       joiners = λ q less. made.no_joiners q;

@@ -12,12 +12,10 @@ use Rattle.epoch_tags.specs.declared.message.Post.{Post}
 use Rattle.epoch_tags.specs.declared.message.ToJoiner.{ToJoiner}
 use Rattle.epoch_tags.specs.Links.{HasLink, feeder_joiner, joiner_joiner, controller_feeder, feeder_controller, joiner_controller, joiner_collector}
 use Rattle.joiner_law.specs.Law.{JoinerStart, JoinerLists}
-use Rattle.joiner_core.specs.Stocks.{held_at, DifferInOneBit}
+use Rattle.joiner_core.specs.State.{held_at, DifferInOneBit, EpochState, MachineState}
 use Rattle.joiner_law.specs.Standing.{with_sent}
 use Rattle.joiner_core.specs.Machine.{StandsBetween, Receives, IsOfGrid, IsSound, with_message}
 use Rattle.joiner_core.specs.Standing.{JoinerState, IsSpent, StandsFor, TakesMessage, held_number}
-use Rattle.joiner_core.specs.declared.epochs.Epochs.{Epochs}
-use Rattle.joiner_core.specs.declared.machine.Machine.{Machine}
 use Rattle.joiner_core.proofs.Posting.{all-over, all-rows}
 use Rattle.joiner_core.proofs.Assembling.{keeps-law, law-done, machine-done}
 
@@ -71,13 +69,13 @@ reaches k feeders _ _ (feeder_controller low) = tt
 reaches k feeders _ _ (joiner_controller low) = tt
 reaches k feeders _ _ (joiner_collector low) = tt
 
-grid-by : (m : Epochs) (from : Actor) → Reaches m.k m.feeders from (Joiner' m.id) → IsOfGrid from m
+grid-by : (m : EpochState) (from : Actor) → Reaches m.k m.feeders from (Joiner' m.id) → IsOfGrid from m
 grid-by m (Feeder p) is = is
 grid-by m (Joiner' q) is = is
 grid-by m Controller is = is
 grid-by m Collector is = is
 
-pub link-grid : (m : Epochs) (from : Actor) → HasLink m.k m.feeders from (Joiner' m.id) → IsOfGrid from m
+pub link-grid : (m : EpochState) (from : Actor) → HasLink m.k m.feeders from (Joiner' m.id) → IsOfGrid from m
 link-grid m from link = grid-by m from (reaches m.k m.feeders from (Joiner' m.id) link)
 
 -- which links end at a joiner
@@ -134,7 +132,7 @@ rest-length taken held received is = let a = length-append taken held in let b :
 sat : (a b top : ℕ) → min (min a top + min b top) top ≡ min (a + b) top
 sat a b top = omega arith
 
-pub held-law : (s : JoinerStart) (lists : JoinerLists) (m : Machine) (is : StandsBetween s lists m)
+pub held-law : (s : JoinerStart) (lists : JoinerLists) (m : MachineState) (is : StandsBetween s lists m)
     → total (length m.of_feeders) (λ p. length (held_at m.of_feeders p)) + total (length m.of_joiners) (λ q. length (held_at m.of_joiners q)) ≡ held_number s lists is.within.taken
 held-law s lists m is =
     let w = is.within in
@@ -150,7 +148,7 @@ held-law s lists m is =
     ∙ ap (λ a. a + total (2 ^ s.k) (λ q. length (held_at m.of_joiners q))) one
     ∙ ap (λ b. total s.feeders (λ p. length (lists.from_feeder p) - length (w.taken.from_feeder p)) + b) two
 
-pub held-count : (s : JoinerStart) (lists : JoinerLists) (m : Machine) (is : StandsBetween s lists m) (a b n : ℕ) → a ≡ min (total (length m.of_feeders) (λ p. length (held_at m.of_feeders p))) (2 ^ 64 - 1)
+pub held-count : (s : JoinerStart) (lists : JoinerLists) (m : MachineState) (is : StandsBetween s lists m) (a b n : ℕ) → a ≡ min (total (length m.of_feeders) (λ p. length (held_at m.of_feeders p))) (2 ^ 64 - 1)
     → b ≡ min (total (length m.of_joiners) (λ q. length (held_at m.of_joiners q))) (2 ^ 64 - 1) → n ≡ min (a + b) (2 ^ 64 - 1) → n ≡ min (held_number s lists is.within.taken) (2 ^ 64 - 1)
 held-count s lists m is a b n one two all =
     all

@@ -9,10 +9,7 @@ use Rattle.joiner_law.specs.Law.{JoinerStart, JoinerLists, Taken, partner_of, op
 use Rattle.joiner_law.specs.History.{Step}
 use Rattle.joiner_law.specs.Standing.{one_if, AreParts}
 use Rattle.joiner_core.specs.Changes.{IsEachUp, IsReady}
-use Rattle.joiner_core.specs.Stocks.{held_at}
-use Rattle.joiner_core.specs.declared.epochs.Opened.{Opened}
-use Rattle.joiner_core.specs.declared.epochs.Epochs.{Epochs}
-use Rattle.joiner_core.specs.declared.machine.Machine.{Machine}
+use Rattle.joiner_core.specs.State.{held_at, OpenStep, EpochState, MachineState}
 use Rattle.joiner_core.specs.Taking.{IsClosed, IsOpen, StandsBy, Stands, HasSomeTurn}
 use Rattle.joiner_core.specs.Machine.{IsResting, StandsBetween, HasFinished}
 use Rattle.joiner_core.proofs.Keeping.{append-nil}
@@ -39,7 +36,7 @@ parts-at s t (step ∷ (before ∷ past)) n is low = elim (cases_eq n (length pa
   | inr other ↦ parts-at s t (before ∷ past) n is.1 (omega arith)
 ]
 
-closed-rests : (s : JoinerStart) (t : Taken) (lists : JoinerLists) (w : List Pair) (m : Epochs) → IsEachUp m.ended.items → IsClosed s t lists w m → IsAtRest s t
+closed-rests : (s : JoinerStart) (t : Taken) (lists : JoinerLists) (w : List Pair) (m : EpochState) → IsEachUp m.ended → IsClosed s t lists w m → IsAtRest s t
 closed-rests s t lists w m up is = (
   λ p low. up-some _ _ (is.stands.steps.feeders p low).ends (up p (let n = is.ended_count in omega arith)),
   λ n less.
@@ -47,10 +44,10 @@ closed-rests s t lists w m up is = (
       (λ p low. let many = (is.stands.steps.feeders p low).turns in omega arith, parts-at s t (is.cur ∷ is.past) n is.stands.steps.parts (omega arith)),
 )
 
-rests-by : (s : JoinerStart) (t : Taken) (lists : JoinerLists) (w : List Pair) (m : Epochs) (step : Option Opened) → step ≡ None → IsEachUp m.ended.items → StandsBy s t lists w m step → IsAtRest s t
-rests-by s t lists w m step none up is = closed-rests s t lists w m up (subst (λ (z : Option Opened). StandsBy s t lists w m z) none is)
+rests-by : (s : JoinerStart) (t : Taken) (lists : JoinerLists) (w : List Pair) (m : EpochState) (step : Option OpenStep) → step ≡ None → IsEachUp m.ended → StandsBy s t lists w m step → IsAtRest s t
+rests-by s t lists w m step none up is = closed-rests s t lists w m up (subst (λ (z : Option OpenStep). StandsBy s t lists w m z) none is)
 
-pub rests-law : (s : JoinerStart) (t : Taken) (lists : JoinerLists) (w : List Pair) (m : Epochs) → IsResting m → Stands s t lists w m → IsAtRest s t
+pub rests-law : (s : JoinerStart) (t : Taken) (lists : JoinerLists) (w : List Pair) (m : EpochState) → IsResting m → Stands s t lists w m → IsAtRest s t
 rests-law s t lists w m at is = rests-by s t lists w m m.step at.closed at.ended is.now
 
 clear-same : (taken held received : List ToJoiner) → held ≡ [] → taken ++ held ≡ received → taken ≡ received
@@ -64,7 +61,7 @@ same-clear taken (x ∷ held) received is same =
     let c = length-append taken (x ∷ held) in
     absurd (omega arith)
 
-pub finished-law : (s : JoinerStart) (lists : JoinerLists) (m : Machine) → (is : StandsBetween s lists m) → HasFinished m → IsFinished s lists is.within.taken
+pub finished-law : (s : JoinerStart) (lists : JoinerLists) (m : MachineState) → (is : StandsBetween s lists m) → HasFinished m → IsFinished s lists is.within.taken
 finished-law s lists m is has = (
   rests-by s is.within.taken lists [] m.epochs m.epochs.step has.closed has.ended is.within.stands.now,
   λ p low. clear-same _ _ _ (has.feeders p) (is.within.feeders p low),
@@ -73,15 +70,15 @@ finished-law s lists m is has = (
 
 -- ---- and back
 
-open-ready : (s : JoinerStart) (t : Taken) (lists : JoinerLists) (w : List Pair) (m : Epochs) (o : Opened) → HasSomeTurn s.feeders (Some o) → IsOpen s t lists w m o → ((n : ℕ) → n < opened s t → IsSettled s t n) → IsReady (Some o)
+open-ready : (s : JoinerStart) (t : Taken) (lists : JoinerLists) (w : List Pair) (m : EpochState) (o : OpenStep) → HasSomeTurn s.feeders (Some o) → IsOpen s t lists w m o → ((n : ℕ) → n < opened s t → IsSettled s t n) → IsReady (Some o)
 open-ready s t lists w m o some is all =
     let done = all (length is.past) (open-begun s t lists w m o some is) in (
       some-up _ _ is.stands.steps.parts.0 done.1,
       λ p less. let n = is.count in let low : p < s.feeders = omega arith in more-up _ _ _ (is.stands.steps.feeders p low).turns (done.0 p low),
     )
 
-closed-by : (s : JoinerStart) (t : Taken) (lists : JoinerLists) (w : List Pair) (m : Epochs) (step : Option Opened) → HasSomeTurn s.feeders step → (IsReady step → ⊥) → StandsBy s t lists w m step → IsAtRest s t
-    → (step ≡ None) × IsEachUp m.ended.items
+closed-by : (s : JoinerStart) (t : Taken) (lists : JoinerLists) (w : List Pair) (m : EpochState) (step : Option OpenStep) → HasSomeTurn s.feeders step → (IsReady step → ⊥) → StandsBy s t lists w m step → IsAtRest s t
+    → (step ≡ None) × IsEachUp m.ended
 closed-by s t lists w m None some rests is at = (refl, λ p less. let n = is.ended_count in let low : p < s.feeders = omega arith in some-up _ _ (is.stands.steps.feeders p low).ends (at.0 p low))
 closed-by s t lists w m (Some o) some rests is at = absurd (rests (open-ready s t lists w m o some is at.1))
 
@@ -90,7 +87,7 @@ clear-at [] n count low i = refl
 clear-at (q ∷ queues) n count low zero = low 0 (omega arith)
 clear-at (q ∷ queues) n count low (suc i) = clear-at queues (length queues) refl (λ j less. low (suc j) (omega arith)) i
 
-pub law-finished : (s : JoinerStart) (lists : JoinerLists) (m : Machine) → (is : StandsBetween s lists m) → IsFinished s lists is.within.taken → HasFinished m
+pub law-finished : (s : JoinerStart) (lists : JoinerLists) (m : MachineState) → (is : StandsBetween s lists m) → IsFinished s lists is.within.taken → HasFinished m
 law-finished s lists m is fin =
     let sound = is.sound in
     let many = is.within.stands.fixed.feeders in

@@ -8,11 +8,9 @@ use Rattle.epoch_tags.specs.declared.tuple.Tuple.{Tuple}
 use Rattle.epoch_tags.specs.declared.message.ToJoiner.{ToJoiner}
 use Rattle.migration_plan.specs.Steps.{holds, is_of}
 use Rattle.theta_pred.specs.Formula.{Meaning}
-use Rattle.joiner_core.specs.Stocks.{held_at, Stocked, placed, with_placed, kept_stock, IsRow, AreRows, IsStock, HasRow, HoldsRows}
+use Rattle.joiner_core.specs.State.{held_at, Stocked, placed, with_placed, kept_stock, IsRow, AreRows, IsStock, HasRow, HoldsRows, OpenStep, EpochState}
 use Rattle.joiner_core.specs.Changes.{kept_at_end, open_old, step_new, part_by, HasBegun, HasTurned}
 use Rattle.joiner_core.specs.Taking.{IsStepStock}
-use Rattle.joiner_core.specs.declared.epochs.Opened.{Opened}
-use Rattle.joiner_core.specs.declared.epochs.Epochs.{Epochs}
 
 -- ---- stores
 
@@ -29,30 +27,30 @@ rows-kept theta false x b rows row = rows
 pub stock-placed : (theta : Meaning) (x : Tuple) (stock : Stocked) → IsStock theta stock → IsRow theta x → IsStock theta (with_placed x stock)
 stock-placed theta x stock is row = record { rows = rows-placed theta stock.tuples x is.rows row; key = is.key }
 
-pub stock-old : (theta : Meaning) (m : Epochs) (x : Tuple) (step : Option Opened) → IsStepStock theta step → IsRow theta x → IsStepStock theta (open_old m x step)
+pub stock-old : (theta : Meaning) (m : EpochState) (x : Tuple) (step : Option OpenStep) → IsStepStock theta step → IsRow theta x → IsStepStock theta (open_old m x step)
 stock-old theta m x None is row = tt
 stock-old theta m x (Some o) is row = record { rows = rows-kept theta (holds m.k o.shift m.id x) x o.store.tuples is.rows row; key = is.key }
 
-pub stock-new : (theta : Meaning) (x : Tuple) (step : Option Opened) → IsStepStock theta step → IsRow theta x → IsStepStock theta (step_new x step)
+pub stock-new : (theta : Meaning) (x : Tuple) (step : Option OpenStep) → IsStepStock theta step → IsRow theta x → IsStepStock theta (step_new x step)
 stock-new theta x None is row = tt
 stock-new theta x (Some o) is row = stock-placed theta x o.store is row
 
-pub stock-part : (theta : Meaning) (step : Option Opened) → IsStepStock theta step → IsStepStock theta (part_by step)
+pub stock-part : (theta : Meaning) (step : Option OpenStep) → IsStepStock theta step → IsStepStock theta (part_by step)
 stock-part theta None is = tt
 stock-part theta (Some o) is = is
 
 stock-kept : (theta : Meaning) (k shift id : ℕ) (stock : Stocked) → IsStock theta stock → IsStock theta (kept_stock k shift id stock)
 stock-kept theta k shift id stock is = record { rows = All-filter (holds k shift id) (IsRow theta) stock.tuples is.rows; key = is.key }
 
-pub stock-begun : (theta : Meaning) (m : Epochs) (epoch shift : ℕ) (step step' : Option Opened) → IsStock theta m.store → IsStepStock theta step → HasBegun m epoch shift step step' → IsStepStock theta step'
+pub stock-begun : (theta : Meaning) (m : EpochState) (epoch shift : ℕ) (step step' : Option OpenStep) → IsStock theta m.store → IsStepStock theta step → HasBegun m epoch shift step step' → IsStepStock theta step'
 stock-begun theta m epoch shift None None stock is has = tt
 stock-begun theta m epoch shift None (Some o) stock is has = subst (IsStock theta) (sym has.store) (stock-kept theta m.k shift m.id m.store stock)
 stock-begun theta m epoch shift (Some o) step' stock is has = subst (IsStepStock theta) (sym has) is
 
-pub stock-turned : (theta : Meaning) (p : ℕ) (step step' : Option Opened) → HasTurned p step step' → IsStepStock theta step → IsStepStock theta step'
+pub stock-turned : (theta : Meaning) (p : ℕ) (step step' : Option OpenStep) → HasTurned p step step' → IsStepStock theta step → IsStepStock theta step'
 stock-turned theta p None step' has is = subst (IsStepStock theta) (sym has) tt
 stock-turned theta p (Some o) None has is = absurd has
-stock-turned theta p (Some o) (Some o') has is = subst (IsStock theta) (sym (ap (λ (z : Opened). z.store) has.0)) is
+stock-turned theta p (Some o) (Some o') has is = subst (IsStock theta) (sym (ap (λ (z : OpenStep). z.store) has.0)) is
 
 -- ---- held messages
 

@@ -1,7 +1,7 @@
 -- The machine stands for its lists after each call.
 use Rattle.std.proofs.Common.{◌≡◌, ℕ, ◌+◌, ◌<◌, ◌≤◌, ◌^◌, refl, sym, ◌∙◌, ap, subst, arith, Bool, true, false, cond, Option, Some, None, List, [], ◌∷◌, ◌++◌, length, inl, inr, eq-eqb, get_or-set_same, get_or-set_other, append_assoc}
 use Rattle.std.proofs.lemmas.Bool.{false≢true, cases_eq, ne_eqb}
-use Rattle.std.specs.Prelude.{slice_set, count_by}
+use Rattle.std.specs.Prelude.{slice_set, count_by, map, filter}
 use Rattle.std.proofs.Math.ListN.{length-set}
 use Rattle.join_rows.specs.declared.table.Side.{Side}
 use Rattle.epoch_tags.specs.declared.tuple.Tuple.{Tuple}
@@ -9,11 +9,9 @@ use Rattle.epoch_tags.specs.declared.tuple.Pair.{Pair}
 use Rattle.epoch_tags.specs.declared.message.ToJoiner.{ToJoiner}
 use Rattle.epoch_tags.specs.declared.message.ToJoiner.TheVariants.{Tup, Turn, End, Moved, MovedEnd}
 use Rattle.epoch_tags.specs.Posts.{posted_to_joiner, posted_to_controller, posted_to_collector, for_joiner, for_controller, for_collector}
-use Rattle.std.specs.Prelude.{map, filter}
 use Rattle.std.proofs.lemmas.List.Elements.{filter_map-append}
-use Rattle.migration_plan.specs.Steps.{holds, is_of, exchanged_side, partner_in_step}
+use Rattle.migration_plan.specs.Steps.{holds, is_of, exchanged_side, partner_in_step, AreNeighbours}
 use Rattle.joiner_law.specs.Law.{JoinerStart, JoinerLists, Taken, partner_of, shift_after}
-use Rattle.migration_plan.specs.Steps.{AreNeighbours}
 use Rattle.joiner_law.specs.Posting.{settled_post, moved_end_post, moved_post}
 use Rattle.joiner_law.specs.History.{Step, probed, with_arrived, with_came, new_step, all_tuples, only_stamp, stored}
 use Rattle.joiner_law.specs.Standing.{grown, took_of_feeder, took_of_joiner, with_sent, with_flag, with_shift, IsOfFeeder, StandsSettled, StandsOpen, moved_counts}
@@ -21,10 +19,8 @@ use Rattle.joiner_law.proofs.Partners.{counts-arrived}
 use Rattle.joiner_law.proofs.MovedBySteps.{count-bag}
 use Rattle.joiner_law.proofs.TakenTuples.{settled-tup, open-late, open-tup, open-moved}
 use Rattle.joiner_law.proofs.TakenTurns.{opened-step, open-turn, all-turned, settled-end, open-moved_end, settled-step}
-use Rattle.joiner_core.specs.Stocks.{does_hold, placed, with_placed, IsRow, IsStock}
+use Rattle.joiner_core.specs.State.{does_hold, placed, with_placed, IsRow, IsStock, OpenStep, EpochState}
 use Rattle.joiner_core.specs.Changes.{flag_at, IsEachUp, after_old, found_old, posts_old, late_found, late_posts, open_old, opened_late, found_late, posts_late, with_new, after_new, found_new, step_new, new_found, IsOpened, posts_opened, settled_by, IsReady, turned_in, settle_posts, posts_settled, after_settle, HasTurned, AreAllUp, end_posts, posts_turned, HasBegun, begun_posts}
-use Rattle.joiner_core.specs.declared.epochs.Opened.{Opened}
-use Rattle.joiner_core.specs.declared.epochs.Epochs.{Epochs}
 use Rattle.joiner_core.specs.Taking.{IsMachineOf, IsClosed, IsOpen, StandsBy, Stands, IsStepStock, IsWithin, IsFixed, IsStepWithin, IsCounted, HasSomeTurn, TupFits, CanTakeTup, TurnFits, CanTakeTurn, TookOfFeeder}
 use Rattle.theta_pred.specs.Formula.{Meaning}
 use Rattle.joiner_core.proofs.Fitting.{stock-placed, stock-old, stock-new, stock-begun, stock-turned}
@@ -41,15 +37,15 @@ not_true true never = absurd (never refl)
 not_true false never = refl
 
 -- with no step open
-closed-old : (s : JoinerStart) (t : Taken) (lists : JoinerLists) (waiting : List Pair) (m : Epochs) (x : Tuple) (p : ℕ) → IsMachineOf s m → p < s.feeders → flag_at m.ended.items p ≡ false → x.stamp ≡ m.epoch
+closed-old : (s : JoinerStart) (t : Taken) (lists : JoinerLists) (waiting : List Pair) (m : EpochState) (x : Tuple) (p : ℕ) → IsMachineOf s m → p < s.feeders → flag_at m.ended p ≡ false → x.stamp ≡ m.epoch
     → IsClosed s t lists waiting m
-    → IsClosed s (took_of_feeder p (Tup x) t) lists (waiting ++ (probed (does_hold m.theta.now) all_tuples x m.store.tuples ++ [])) (record m { store = with_placed x m.store; step = None })
+    → IsClosed s (took_of_feeder p (Tup x) t) lists (waiting ++ (probed (does_hold m.theta) all_tuples x m.store.tuples ++ [])) (record m { store = with_placed x m.store; step = None })
 closed-old s t lists waiting m x p fixed low going stamp is =
     let at = is.epoch in
     record {
       cur = with_arrived x is.cur;
       past = is.past;
-      stands = rw (append-nil (probed (does_hold m.theta.now) all_tuples x m.store.tuples), fixed.matches) (settled-placed s _ lists _ _ m.store.tuples x _ is.past (settled-tup s t lists waiting (flag_at m.ended.items) m.store.tuples is.cur is.past p x low going (omega arith) is.stands));
+      stands = rw (append-nil (probed (does_hold m.theta) all_tuples x m.store.tuples), fixed.matches) (settled-placed s _ lists _ _ m.store.tuples x _ is.past (settled-tup s t lists waiting (flag_at m.ended) m.store.tuples is.cur is.past p x low going (omega arith) is.stands));
       epoch = is.epoch;
       shift = is.shift;
       ended_count = is.ended_count;
@@ -65,20 +61,20 @@ at_epoch s t lists waiting turned ended part_ended a a' b b' new cur cur' past s
     (subst (λ (j : ℕ). StandsOpen s t (with_sent lists (posts_late side who e x)) (waiting ++ (probed s.matches all_tuples x a ++ cond kept (probed s.matches (only_stamp j) x b) [])) turned ended false part_ended a' b' new cur' past) (sym two) stands)
 
 -- under an open step
-open-old : (s : JoinerStart) (t : Taken) (lists : JoinerLists) (waiting : List Pair) (m : Epochs) (o : Opened) (x : Tuple) (p : ℕ) → IsMachineOf s m → p < s.feeders → flag_at m.ended.items p ≡ false → flag_at o.turned.items p ≡ false → x.stamp ≡ m.epoch
+open-old : (s : JoinerStart) (t : Taken) (lists : JoinerLists) (waiting : List Pair) (m : EpochState) (o : OpenStep) (x : Tuple) (p : ℕ) → IsMachineOf s m → p < s.feeders → flag_at m.ended p ≡ false → flag_at o.turned p ≡ false → x.stamp ≡ m.epoch
     → IsOpen s t lists waiting m o
     → IsOpen s (took_of_feeder p (Tup x) t)
     (with_sent lists (posts_late (exchanged_side m.shift o.shift) (partner_in_step m.shift o.shift m.id) o.epoch x))
-    (waiting ++ (probed (does_hold m.theta.now) all_tuples x m.store.tuples ++ found_late (does_hold m.theta.now) m.k m.id o x))
+    (waiting ++ (probed (does_hold m.theta) all_tuples x m.store.tuples ++ found_late (does_hold m.theta) m.k m.id o x))
     (record m { store = with_placed x m.store; step = Some (opened_late m.k m.id o x) }) (opened_late m.k m.id o x)
 open-old s t lists waiting m o x p fixed low going still stamp is =
     let at = is.epoch in
     let not_all : is.all_turned ≡ false = not_true is.all_turned (λ yes. false≢true (sym still ∙ is.all yes p low)) in
-    let before : StandsOpen s t lists waiting (flag_at o.turned.items) (flag_at m.ended.items) false o.partner_ended m.store.tuples o.store.tuples is.new is.cur is.past = rw not_all at is.stands in
+    let before : StandsOpen s t lists waiting (flag_at o.turned) (flag_at m.ended) false o.partner_ended m.store.tuples o.store.tuples is.new is.cur is.past = rw not_all at is.stands in
     let next : s.epoch + length is.past + 1 ≡ s.epoch + length (is.cur ∷ is.past) = omega arith in
     let epoch : o.epoch ≡ s.epoch + length (is.cur ∷ is.past) = is.step_epoch ∙ next in
     let posts_epoch = is.step_epoch in
-    let after = open-late s t lists waiting (flag_at o.turned.items) (flag_at m.ended.items) o.partner_ended m.store.tuples o.store.tuples is.new is.cur is.past p x low going still (omega arith) before in
+    let after = open-late s t lists waiting (flag_at o.turned) (flag_at m.ended) o.partner_ended m.store.tuples o.store.tuples is.new is.cur is.past p x low going still (omega arith) before in
     record {
       new = is.new;
       cur = with_arrived x is.cur;
@@ -106,15 +102,15 @@ with_sent-none lists = λ i. record {
   to_collector = append-nil lists.to_collector i;
 }
 
-old-by : (s : JoinerStart) (t : Taken) (lists : JoinerLists) (waiting : List Pair) (m : Epochs) (x : Tuple) (p : ℕ) → IsMachineOf s m → p < s.feeders → flag_at m.ended.items p ≡ false → x.stamp ≡ m.epoch
-    → (step : Option Opened) → turned_in step p ≡ false → StandsBy s t lists waiting m step
-    → StandsBy s (took_of_feeder p (Tup x) t) (with_sent lists (late_posts m x step)) (waiting ++ (probed (does_hold m.theta.now) all_tuples x m.store.tuples ++ late_found m x step)) (record m { store = with_placed x m.store; step = open_old m x step }) (open_old m x step)
+old-by : (s : JoinerStart) (t : Taken) (lists : JoinerLists) (waiting : List Pair) (m : EpochState) (x : Tuple) (p : ℕ) → IsMachineOf s m → p < s.feeders → flag_at m.ended p ≡ false → x.stamp ≡ m.epoch
+    → (step : Option OpenStep) → turned_in step p ≡ false → StandsBy s t lists waiting m step
+    → StandsBy s (took_of_feeder p (Tup x) t) (with_sent lists (late_posts m x step)) (waiting ++ (probed (does_hold m.theta) all_tuples x m.store.tuples ++ late_found m x step)) (record m { store = with_placed x m.store; step = open_old m x step }) (open_old m x step)
 old-by s t lists waiting m x p fixed low going stamp None still is =
-    subst (λ (ls : JoinerLists). IsClosed s (took_of_feeder p (Tup x) t) ls (waiting ++ (probed (does_hold m.theta.now) all_tuples x m.store.tuples ++ [])) (record m { store = with_placed x m.store; step = None })) (sym (with_sent-none lists)) (closed-old s t lists waiting m x p fixed low going stamp is)
+    subst (λ (ls : JoinerLists). IsClosed s (took_of_feeder p (Tup x) t) ls (waiting ++ (probed (does_hold m.theta) all_tuples x m.store.tuples ++ [])) (record m { store = with_placed x m.store; step = None })) (sym (with_sent-none lists)) (closed-old s t lists waiting m x p fixed low going stamp is)
 old-by s t lists waiting m x p fixed low going stamp (Some o) still is = open-old s t lists waiting m o x p fixed low going still stamp is
 
 -- a tuple of the settled epoch
-pub stands-old : (s : JoinerStart) (t : Taken) (lists : JoinerLists) (waiting : List Pair) (m : Epochs) (x : Tuple) (p : ℕ) → p < s.feeders → flag_at m.ended.items p ≡ false → turned_in m.step p ≡ false → x.stamp ≡ m.epoch
+pub stands-old : (s : JoinerStart) (t : Taken) (lists : JoinerLists) (waiting : List Pair) (m : EpochState) (x : Tuple) (p : ℕ) → p < s.feeders → flag_at m.ended p ≡ false → turned_in m.step p ≡ false → x.stamp ≡ m.epoch
     → Stands s t lists waiting m → Stands s (took_of_feeder p (Tup x) t) (with_sent lists (posts_old m x)) (waiting ++ found_old m x) (after_old m x)
 stands-old s t lists waiting m x p low going still stamp is =
     let fixed = is.fixed in
@@ -124,18 +120,18 @@ stands-old s t lists waiting m x p low going still stamp is =
     }
 
 -- what the machine has of a step is within the grid
-shift-by : (s : JoinerStart) (t : Taken) (lists : JoinerLists) (waiting : List Pair) (m : Epochs) → IsMachineOf s m → (step : Option Opened) → StandsBy s t lists waiting m step → m.shift ≤ m.k
+shift-by : (s : JoinerStart) (t : Taken) (lists : JoinerLists) (waiting : List Pair) (m : EpochState) → IsMachineOf s m → (step : Option OpenStep) → StandsBy s t lists waiting m step → m.shift ≤ m.k
 shift-by s t lists waiting m fixed None is = let top = is.stands.steps.history.0 in let w = top.within in let k = fixed.k in let b = is.shift in omega arith
 shift-by s t lists waiting m fixed (Some o) is = let top = is.stands.steps.history.1.0 in let w = top.within in let k = fixed.k in let b = is.shift in omega arith
 
-pub stands-shift : (s : JoinerStart) (t : Taken) (lists : JoinerLists) (waiting : List Pair) (m : Epochs) → Stands s t lists waiting m → m.shift ≤ m.k
+pub stands-shift : (s : JoinerStart) (t : Taken) (lists : JoinerLists) (waiting : List Pair) (m : EpochState) → Stands s t lists waiting m → m.shift ≤ m.k
 stands-shift s t lists waiting m is = shift-by s t lists waiting m is.fixed m.step is.now
 
 -- ---- a tuple of the open step
 
-open-new : (s : JoinerStart) (t : Taken) (lists : JoinerLists) (waiting : List Pair) (m : Epochs) (o : Opened) (x : Tuple) (p : ℕ) → IsMachineOf s m → p < s.feeders → flag_at m.ended.items p ≡ false → flag_at o.turned.items p ≡ true → x.stamp ≡ o.epoch
+open-new : (s : JoinerStart) (t : Taken) (lists : JoinerLists) (waiting : List Pair) (m : EpochState) (o : OpenStep) (x : Tuple) (p : ℕ) → IsMachineOf s m → p < s.feeders → flag_at m.ended p ≡ false → flag_at o.turned p ≡ true → x.stamp ≡ o.epoch
     → IsOpen s t lists waiting m o
-    → IsOpen s (took_of_feeder p (Tup x) t) lists (waiting ++ probed (does_hold m.theta.now) all_tuples x o.store.tuples) (record m { step = Some (with_new o x) }) (with_new o x)
+    → IsOpen s (took_of_feeder p (Tup x) t) lists (waiting ++ probed (does_hold m.theta) all_tuples x o.store.tuples) (record m { step = Some (with_new o x) }) (with_new o x)
 open-new s t lists waiting m o x p fixed low going has stamp is =
     let at = is.step_epoch in
     record {
@@ -143,7 +139,7 @@ open-new s t lists waiting m o x p fixed low going has stamp is =
       cur = is.cur;
       past = is.past;
       all_turned = is.all_turned;
-      stands = rw fixed.matches (open-placed s _ _ _ _ _ _ _ m.store.tuples o.store.tuples x _ is.cur is.past (open-tup s t lists waiting (flag_at o.turned.items) (flag_at m.ended.items) is.all_turned o.partner_ended m.store.tuples o.store.tuples is.new is.cur is.past p x low going has (omega arith) is.stands));
+      stands = rw fixed.matches (open-placed s _ _ _ _ _ _ _ m.store.tuples o.store.tuples x _ is.cur is.past (open-tup s t lists waiting (flag_at o.turned) (flag_at m.ended) is.all_turned o.partner_ended m.store.tuples o.store.tuples is.new is.cur is.past p x low going has (omega arith) is.stands));
       epoch = is.epoch;
       shift = is.shift;
       step_epoch = is.step_epoch;
@@ -157,7 +153,7 @@ open-new s t lists waiting m o x p fixed low going has stamp is =
 
 -- ---- a part of the partner
 
-pub partner-is : (s : JoinerStart) (t : Taken) (lists : JoinerLists) (waiting : List Pair) (m : Epochs) (o : Opened) → IsMachineOf s m → (is : IsOpen s t lists waiting m o) → partner_of s t (length is.past) ≡ partner_in_step m.shift o.shift m.id
+pub partner-is : (s : JoinerStart) (t : Taken) (lists : JoinerLists) (waiting : List Pair) (m : EpochState) (o : OpenStep) → IsMachineOf s m → (is : IsOpen s t lists waiting m o) → partner_of s t (length is.past) ≡ partner_in_step m.shift o.shift m.id
 partner-is s t lists waiting m o fixed is =
     let one : shift_after s t (length is.past) ≡ is.cur.shift = is.stands.steps.history.1.0.shift in
     let next : s.epoch + (length is.past + 1) ≡ s.epoch + length (is.cur ∷ is.past) = omega arith in
@@ -166,20 +162,20 @@ partner-is s t lists waiting m o fixed is =
     ∙ ap (λ b. partner_in_step m.shift b s.id) (two ∙ sym is.step_shift)
     ∙ ap (λ i. partner_in_step m.shift o.shift i) (sym fixed.id)
 
-pub open-part : (s : JoinerStart) (t : Taken) (lists : JoinerLists) (waiting : List Pair) (m : Epochs) (o : Opened) (x : Tuple) → IsMachineOf s m → (is : IsOpen s t lists waiting m o)
-    → IsOpen s (took_of_joiner (partner_in_step m.shift o.shift m.id) (Moved o.epoch x) t) lists (waiting ++ probed (does_hold m.theta.now) (only_stamp o.epoch) x o.store.tuples) (record m { step = Some (with_new o x) }) (with_new o x)
+pub open-part : (s : JoinerStart) (t : Taken) (lists : JoinerLists) (waiting : List Pair) (m : EpochState) (o : OpenStep) (x : Tuple) → IsMachineOf s m → (is : IsOpen s t lists waiting m o)
+    → IsOpen s (took_of_joiner (partner_in_step m.shift o.shift m.id) (Moved o.epoch x) t) lists (waiting ++ probed (does_hold m.theta) (only_stamp o.epoch) x o.store.tuples) (record m { step = Some (with_new o x) }) (with_new o x)
 open-part s t lists waiting m o x fixed is =
     let at = is.step_epoch in
     let next : o.epoch ≡ s.epoch + length (is.cur ∷ is.past) = omega arith in
-    let after = open-moved s t lists waiting (flag_at o.turned.items) (flag_at m.ended.items) is.all_turned o.partner_ended m.store.tuples o.store.tuples is.new is.cur is.past o.epoch x is.step_epoch is.stands in
+    let after = open-moved s t lists waiting (flag_at o.turned) (flag_at m.ended) is.all_turned o.partner_ended m.store.tuples o.store.tuples is.new is.cur is.past o.epoch x is.step_epoch is.stands in
     record {
       new = with_came x is.new;
       cur = is.cur;
       past = is.past;
       all_turned = is.all_turned;
       stands = rw fixed.matches (open-placed s _ _ _ _ _ _ _ m.store.tuples o.store.tuples x _ is.cur is.past
-          (subst (λ (q : ℕ). StandsOpen s (took_of_joiner q (Moved o.epoch x) t) lists (waiting ++ probed s.matches (only_stamp o.epoch) x o.store.tuples) (flag_at o.turned.items) (flag_at m.ended.items) is.all_turned o.partner_ended m.store.tuples (o.store.tuples ++ x ∷ []) (with_came x is.new) is.cur is.past) (partner-is s t lists waiting m o fixed is)
-          (subst (λ (e : ℕ). StandsOpen s (took_of_joiner (partner_of s t (length is.past)) (Moved o.epoch x) t) lists (waiting ++ probed s.matches (only_stamp e) x o.store.tuples) (flag_at o.turned.items) (flag_at m.ended.items) is.all_turned o.partner_ended m.store.tuples (o.store.tuples ++ x ∷ []) (with_came x is.new) is.cur is.past) (sym next) after)));
+          (subst (λ (q : ℕ). StandsOpen s (took_of_joiner q (Moved o.epoch x) t) lists (waiting ++ probed s.matches (only_stamp o.epoch) x o.store.tuples) (flag_at o.turned) (flag_at m.ended) is.all_turned o.partner_ended m.store.tuples (o.store.tuples ++ x ∷ []) (with_came x is.new) is.cur is.past) (partner-is s t lists waiting m o fixed is)
+          (subst (λ (e : ℕ). StandsOpen s (took_of_joiner (partner_of s t (length is.past)) (Moved o.epoch x) t) lists (waiting ++ probed s.matches (only_stamp e) x o.store.tuples) (flag_at o.turned) (flag_at m.ended) is.all_turned o.partner_ended m.store.tuples (o.store.tuples ++ x ∷ []) (with_came x is.new) is.cur is.past) (sym next) after)));
       epoch = is.epoch;
       shift = is.shift;
       step_epoch = is.step_epoch;
@@ -191,17 +187,17 @@ open-part s t lists waiting m o x fixed is =
       all = is.all;
     }
 
-pub open-part_end : (s : JoinerStart) (t : Taken) (lists : JoinerLists) (waiting : List Pair) (m : Epochs) (o : Opened) → IsMachineOf s m → o.partner_ended ≡ false → (is : IsOpen s t lists waiting m o)
+pub open-part_end : (s : JoinerStart) (t : Taken) (lists : JoinerLists) (waiting : List Pair) (m : EpochState) (o : OpenStep) → IsMachineOf s m → o.partner_ended ≡ false → (is : IsOpen s t lists waiting m o)
     → IsOpen s (took_of_joiner (partner_in_step m.shift o.shift m.id) (MovedEnd o.epoch) t) lists waiting (record m { step = Some (record o { partner_ended = true }) }) (record o { partner_ended = true })
 open-part_end s t lists waiting m o fixed going is =
-    let before : StandsOpen s t lists waiting (flag_at o.turned.items) (flag_at m.ended.items) is.all_turned false m.store.tuples o.store.tuples is.new is.cur is.past = rw going at is.stands in
-    let after = open-moved_end s t lists waiting (flag_at o.turned.items) (flag_at m.ended.items) is.all_turned m.store.tuples o.store.tuples is.new is.cur is.past o.epoch is.step_epoch before in
+    let before : StandsOpen s t lists waiting (flag_at o.turned) (flag_at m.ended) is.all_turned false m.store.tuples o.store.tuples is.new is.cur is.past = rw going at is.stands in
+    let after = open-moved_end s t lists waiting (flag_at o.turned) (flag_at m.ended) is.all_turned m.store.tuples o.store.tuples is.new is.cur is.past o.epoch is.step_epoch before in
     record {
       new = is.new;
       cur = is.cur;
       past = is.past;
       all_turned = is.all_turned;
-      stands = subst (λ (q : ℕ). StandsOpen s (took_of_joiner q (MovedEnd o.epoch) t) lists waiting (flag_at o.turned.items) (flag_at m.ended.items) is.all_turned true m.store.tuples o.store.tuples is.new is.cur is.past) (partner-is s t lists waiting m o fixed is) after;
+      stands = subst (λ (q : ℕ). StandsOpen s (took_of_joiner q (MovedEnd o.epoch) t) lists waiting (flag_at o.turned) (flag_at m.ended) is.all_turned true m.store.tuples o.store.tuples is.new is.cur is.past) (partner-is s t lists waiting m o fixed is) after;
       epoch = is.epoch;
       shift = is.shift;
       step_epoch = is.step_epoch;
@@ -244,7 +240,7 @@ same-flags s t lists waiting turned turned' ended all_turned part_ended a b new 
 
 -- ---- a step is opened
 
-closed-opened : (s : JoinerStart) (t : Taken) (lists : JoinerLists) (waiting : List Pair) (m : Epochs) (o : Opened) (epoch shift : ℕ) → IsMachineOf s m → epoch ≡ m.epoch + 1 → shift ≤ m.k → AreNeighbours m.shift shift → 0 < s.feeders
+closed-opened : (s : JoinerStart) (t : Taken) (lists : JoinerLists) (waiting : List Pair) (m : EpochState) (o : OpenStep) (epoch shift : ℕ) → IsMachineOf s m → epoch ≡ m.epoch + 1 → shift ≤ m.k → AreNeighbours m.shift shift → 0 < s.feeders
     → IsOpened m epoch shift o → IsClosed s t lists waiting m
     → IsOpen s (with_shift epoch shift t) (with_sent lists (posts_opened m epoch shift)) waiting (record m { step = Some o }) o
 closed-opened s t lists waiting m o epoch shift fixed next within near some opened is =
@@ -252,13 +248,13 @@ closed-opened s t lists waiting m o epoch shift fixed next within near some open
     let now : epoch ≡ s.epoch + length is.past + 1 = omega arith in
     let near' : AreNeighbours is.cur.shift shift = subst (λ (b : ℕ). AreNeighbours b shift) is.shift near in
     let within' : shift ≤ s.k = let k = fixed.k in omega arith in
-    let after = opened-step s t lists waiting (flag_at m.ended.items) m.store.tuples is.cur is.past shift within' near' is.stands in
+    let after = opened-step s t lists waiting (flag_at m.ended) m.store.tuples is.cur is.past shift within' near' is.stands in
     record {
       new = new_step shift;
       cur = is.cur;
       past = is.past;
       all_turned = false;
-      stands = rw (opened.store, opened.partner_ended, fixed.k, fixed.id, is.shift, now) (same-flags s _ _ waiting (λ p. false) (flag_at o.turned.items) _ false false m.store.tuples _ _ is.cur is.past (λ p. sym (opened.turned p)) after);
+      stands = rw (opened.store, opened.partner_ended, fixed.k, fixed.id, is.shift, now) (same-flags s _ _ waiting (λ p. false) (flag_at o.turned) _ false false m.store.tuples _ _ is.cur is.past (λ p. sym (opened.turned p)) after);
       epoch = is.epoch;
       shift = is.shift;
       step_epoch = opened.epoch ∙ now;
@@ -272,12 +268,12 @@ closed-opened s t lists waiting m o epoch shift fixed next within near some open
 
 -- ---- the step is settled
 
-open-settled : (s : JoinerStart) (t : Taken) (lists : JoinerLists) (waiting : List Pair) (m : Epochs) (o : Opened) → IsMachineOf s m → o.partner_ended ≡ true → (is : IsOpen s t lists waiting m o) → is.all_turned ≡ true
+open-settled : (s : JoinerStart) (t : Taken) (lists : JoinerLists) (waiting : List Pair) (m : EpochState) (o : OpenStep) → IsMachineOf s m → o.partner_ended ≡ true → (is : IsOpen s t lists waiting m o) → is.all_turned ≡ true
     → IsClosed s t (with_sent lists (settled_post o.epoch ∷ [])) waiting (settled_by m (Some o))
 open-settled s t lists waiting m o fixed part is turned =
-    let before : StandsOpen s t lists waiting (flag_at o.turned.items) (flag_at m.ended.items) true o.partner_ended m.store.tuples o.store.tuples is.new is.cur is.past = rw turned at is.stands in
-    let before' : StandsOpen s t lists waiting (flag_at o.turned.items) (flag_at m.ended.items) true true m.store.tuples o.store.tuples is.new is.cur is.past = rw part at before in
-    let after = settled-step s t lists waiting (flag_at o.turned.items) (flag_at m.ended.items) m.store.tuples o.store.tuples is.new is.cur is.past (is.all turned) before' in
+    let before : StandsOpen s t lists waiting (flag_at o.turned) (flag_at m.ended) true o.partner_ended m.store.tuples o.store.tuples is.new is.cur is.past = rw turned at is.stands in
+    let before' : StandsOpen s t lists waiting (flag_at o.turned) (flag_at m.ended) true true m.store.tuples o.store.tuples is.new is.cur is.past = rw part at before in
+    let after = settled-step s t lists waiting (flag_at o.turned) (flag_at m.ended) m.store.tuples o.store.tuples is.new is.cur is.past (is.all turned) before' in
     let at = is.step_epoch in
     let here = stored s.k s.id (is.cur ∷ is.past) in
     let same : count_by (is_of (exchanged_side m.shift o.shift)) m.store.tuples ≡ count_by (is_of (exchanged_side is.cur.shift is.new.shift)) here =
@@ -290,7 +286,7 @@ open-settled s t lists waiting m o fixed part is turned =
     record {
       cur = is.new;
       past = is.cur ∷ is.past;
-      stands = subst (λ (e : ℕ). StandsSettled s t (with_sent lists (settled_post e ∷ [])) waiting (flag_at m.ended.items) o.store.tuples is.new (is.cur ∷ is.past)) (sym is.step_epoch) after;
+      stands = subst (λ (e : ℕ). StandsSettled s t (with_sent lists (settled_post e ∷ [])) waiting (flag_at m.ended) o.store.tuples is.new (is.cur ∷ is.past)) (sym is.step_epoch) after;
       epoch = omega arith;
       shift = is.step_shift;
       ended_count = is.ended_count;
@@ -334,24 +330,24 @@ flag-set flags p q low = elim (cases_eq q p) [
   | inr differ ↦ rw (ne_eqb q p differ) (sym (get_or-set_other flags p q true false differ))
 ]
 
-open-turned : (s : JoinerStart) (t : Taken) (lists : JoinerLists) (waiting : List Pair) (m : Epochs) (o o' : Opened) (p epoch shift : ℕ) (last : Bool) → IsMachineOf s m → p < s.feeders → flag_at m.ended.items p ≡ false → flag_at o.turned.items p ≡ false
-    → epoch ≡ o.epoch → shift ≡ o.shift → o'.turned.items ≡ slice_set o.turned.items p true → (last ≡ true → IsEachUp o'.turned.items) → (last ≡ false → IsEachUp o'.turned.items → ⊥)
+open-turned : (s : JoinerStart) (t : Taken) (lists : JoinerLists) (waiting : List Pair) (m : EpochState) (o o' : OpenStep) (p epoch shift : ℕ) (last : Bool) → IsMachineOf s m → p < s.feeders → flag_at m.ended p ≡ false → flag_at o.turned p ≡ false
+    → epoch ≡ o.epoch → shift ≡ o.shift → o'.turned ≡ slice_set o.turned p true → (last ≡ true → IsEachUp o'.turned) → (last ≡ false → IsEachUp o'.turned → ⊥)
     → IsOpen s t lists waiting m o
     → IsOpen s (took_of_feeder p (Turn epoch shift) t) (with_sent lists (cond last (moved_end_post (partner_in_step m.shift o.shift m.id) o.epoch ∷ []) [])) waiting (record m { step = Some (record o { turned = o'.turned }) }) (record o { turned = o'.turned })
 open-turned s t lists waiting m o o' p epoch shift last fixed low going still now same flags up down is =
     let not_all : is.all_turned ≡ false = not_true is.all_turned (λ all. false≢true (sym still ∙ is.all all p low)) in
-    let before : StandsOpen s t lists waiting (flag_at o.turned.items) (flag_at m.ended.items) false o.partner_ended m.store.tuples o.store.tuples is.new is.cur is.past = rw not_all at is.stands in
-    let within : p < length o.turned.items = let n = is.count in omega arith in
-    let turned = open-turn s t lists waiting (flag_at o.turned.items) (flag_at m.ended.items) o.partner_ended m.store.tuples o.store.tuples is.new is.cur is.past p epoch shift low going still (now ∙ is.step_epoch) (same ∙ is.step_shift) before in
-    let known : StandsOpen s (took_of_feeder p (Turn epoch shift) t) lists waiting (flag_at o'.turned.items) (flag_at m.ended.items) false o.partner_ended m.store.tuples o.store.tuples is.new is.cur is.past =
-    same-flags s (took_of_feeder p (Turn epoch shift) t) lists waiting _ (flag_at o'.turned.items) _ false o.partner_ended m.store.tuples o.store.tuples is.new is.cur is.past (λ q. flag-set o.turned.items p q within ∙ ap (λ fs. flag_at fs q) (sym flags)) turned in
-    let many : length o'.turned.items ≡ s.feeders = ap length flags ∙ length-set o.turned.items p true ∙ is.count in
+    let before : StandsOpen s t lists waiting (flag_at o.turned) (flag_at m.ended) false o.partner_ended m.store.tuples o.store.tuples is.new is.cur is.past = rw not_all at is.stands in
+    let within : p < length o.turned = let n = is.count in omega arith in
+    let turned = open-turn s t lists waiting (flag_at o.turned) (flag_at m.ended) o.partner_ended m.store.tuples o.store.tuples is.new is.cur is.past p epoch shift low going still (now ∙ is.step_epoch) (same ∙ is.step_shift) before in
+    let known : StandsOpen s (took_of_feeder p (Turn epoch shift) t) lists waiting (flag_at o'.turned) (flag_at m.ended) false o.partner_ended m.store.tuples o.store.tuples is.new is.cur is.past =
+    same-flags s (took_of_feeder p (Turn epoch shift) t) lists waiting _ (flag_at o'.turned) _ false o.partner_ended m.store.tuples o.store.tuples is.new is.cur is.past (λ q. flag-set o.turned p q within ∙ ap (λ fs. flag_at fs q) (sym flags)) turned in
+    let many : length o'.turned ≡ s.feeders = ap length flags ∙ length-set o.turned p true ∙ is.count in
     record {
       new = is.new;
       cur = is.cur;
       past = is.past;
       all_turned = last;
-      stands = rw (fixed.id, is.shift, is.step_shift, is.step_epoch) (by_last s (took_of_feeder p (Turn epoch shift) t) lists waiting (flag_at o'.turned.items) (flag_at m.ended.items) o.partner_ended m.store.tuples o.store.tuples is.new is.cur is.past last known);
+      stands = rw (fixed.id, is.shift, is.step_shift, is.step_epoch) (by_last s (took_of_feeder p (Turn epoch shift) t) lists waiting (flag_at o'.turned) (flag_at m.ended) o.partner_ended m.store.tuples o.store.tuples is.new is.cur is.past last known);
       epoch = is.epoch;
       shift = is.shift;
       step_epoch = is.step_epoch;
@@ -365,30 +361,30 @@ open-turned s t lists waiting m o o' p epoch shift last fixed low going still no
 
 -- ---- a feeder's end
 
-pub closed-end : (s : JoinerStart) (t : Taken) (lists : JoinerLists) (waiting : List Pair) (m m' : Epochs) (p : ℕ) → p < s.feeders → flag_at m.ended.items p ≡ false → m'.ended.items ≡ slice_set m.ended.items p true
+pub closed-end : (s : JoinerStart) (t : Taken) (lists : JoinerLists) (waiting : List Pair) (m m' : EpochState) (p : ℕ) → p < s.feeders → flag_at m.ended p ≡ false → m'.ended ≡ slice_set m.ended p true
     → IsClosed s t lists waiting m → IsClosed s (took_of_feeder p End t) lists waiting (record m { ended = m'.ended })
 closed-end s t lists waiting m m' p low going flags is =
-    let within : p < length m.ended.items = let n = is.ended_count in omega arith in
-    let after = settled-end s t lists waiting (flag_at m.ended.items) m.store.tuples is.cur is.past p low going is.stands in
+    let within : p < length m.ended = let n = is.ended_count in omega arith in
+    let after = settled-end s t lists waiting (flag_at m.ended) m.store.tuples is.cur is.past p low going is.stands in
     record {
       cur = is.cur;
       past = is.past;
-      stands = same-ends s (took_of_feeder p End t) lists waiting _ (flag_at m'.ended.items) m.store.tuples is.cur is.past (λ q. flag-set m.ended.items p q within ∙ ap (λ fs. flag_at fs q) (sym flags)) after;
+      stands = same-ends s (took_of_feeder p End t) lists waiting _ (flag_at m'.ended) m.store.tuples is.cur is.past (λ q. flag-set m.ended p q within ∙ ap (λ fs. flag_at fs q) (sym flags)) after;
       epoch = is.epoch;
       shift = is.shift;
-      ended_count = ap length flags ∙ length-set m.ended.items p true ∙ is.ended_count;
+      ended_count = ap length flags ∙ length-set m.ended p true ∙ is.ended_count;
       moved = is.moved;
     }
 
 -- ---- a tuple of a feeder, as the whole call
 
-new-by : (s : JoinerStart) (t : Taken) (lists : JoinerLists) (waiting : List Pair) (m : Epochs) (x : Tuple) (p : ℕ) → IsMachineOf s m → p < s.feeders → flag_at m.ended.items p ≡ false
-    → (step : Option Opened) → turned_in step p ≡ true → TupFits m p x.stamp step → StandsBy s t lists waiting m step
+new-by : (s : JoinerStart) (t : Taken) (lists : JoinerLists) (waiting : List Pair) (m : EpochState) (x : Tuple) (p : ℕ) → IsMachineOf s m → p < s.feeders → flag_at m.ended p ≡ false
+    → (step : Option OpenStep) → turned_in step p ≡ true → TupFits m p x.stamp step → StandsBy s t lists waiting m step
     → StandsBy s (took_of_feeder p (Tup x) t) lists (waiting ++ new_found m x step) (record m { step = step_new x step }) (step_new x step)
 new-by s t lists waiting m x p fixed low going None has fits is = absurd (false≢true has)
 new-by s t lists waiting m x p fixed low going (Some o) has fits is = open-new s t lists waiting m o x p fixed low going has (fits.1 has) is
 
-pub stands-new : (s : JoinerStart) (t : Taken) (lists : JoinerLists) (waiting : List Pair) (m : Epochs) (x : Tuple) (p : ℕ) → p < s.feeders → CanTakeTup m p x.stamp → turned_in m.step p ≡ true
+pub stands-new : (s : JoinerStart) (t : Taken) (lists : JoinerLists) (waiting : List Pair) (m : EpochState) (x : Tuple) (p : ℕ) → p < s.feeders → CanTakeTup m p x.stamp → turned_in m.step p ≡ true
     → Stands s t lists waiting m → Stands s (took_of_feeder p (Tup x) t) lists (waiting ++ found_new m x) (after_new m x)
 stands-new s t lists waiting m x p low can has is =
     let fixed = is.fixed in
@@ -397,44 +393,44 @@ stands-new s t lists waiting m x p low can has is =
       now = new-by s t lists waiting m x p fixed low can.going m.step has can.fits is.now;
     }
 
-fits-old : (m : Epochs) (p stamp : ℕ) (step : Option Opened) → turned_in step p ≡ false → TupFits m p stamp step → stamp ≡ m.epoch
+fits-old : (m : EpochState) (p stamp : ℕ) (step : Option OpenStep) → turned_in step p ≡ false → TupFits m p stamp step → stamp ≡ m.epoch
 fits-old m p stamp None still fits = fits
 fits-old m p stamp (Some o) still fits = fits.0 still
 
-within-old : (k shift : ℕ) (m : Epochs) (x : Tuple) (step : Option Opened) → IsStepWithin k shift step → IsStepWithin k shift (open_old m x step)
+within-old : (k shift : ℕ) (m : EpochState) (x : Tuple) (step : Option OpenStep) → IsStepWithin k shift step → IsStepWithin k shift (open_old m x step)
 within-old k shift m x None is = tt
 within-old k shift m x (Some o) is = is
 
-within-new : (k shift : ℕ) (x : Tuple) (step : Option Opened) → IsStepWithin k shift step → IsStepWithin k shift (step_new x step)
+within-new : (k shift : ℕ) (x : Tuple) (step : Option OpenStep) → IsStepWithin k shift step → IsStepWithin k shift (step_new x step)
 within-new k shift x None is = tt
 within-new k shift x (Some o) is = is
 
-count-old : (n : ℕ) (m : Epochs) (x : Tuple) (step : Option Opened) → IsCounted n step → IsCounted n (open_old m x step)
+count-old : (n : ℕ) (m : EpochState) (x : Tuple) (step : Option OpenStep) → IsCounted n step → IsCounted n (open_old m x step)
 count-old n m x None is = tt
 count-old n m x (Some o) is = is
 
-count-new : (n : ℕ) (x : Tuple) (step : Option Opened) → IsCounted n step → IsCounted n (step_new x step)
+count-new : (n : ℕ) (x : Tuple) (step : Option OpenStep) → IsCounted n step → IsCounted n (step_new x step)
 count-new n x None is = tt
 count-new n x (Some o) is = is
 
-begun-old : (n : ℕ) (m : Epochs) (x : Tuple) (step : Option Opened) → HasSomeTurn n step → HasSomeTurn n (open_old m x step)
+begun-old : (n : ℕ) (m : EpochState) (x : Tuple) (step : Option OpenStep) → HasSomeTurn n step → HasSomeTurn n (open_old m x step)
 begun-old n m x None is = tt
 begun-old n m x (Some o) is = is
 
-begun-new : (n : ℕ) (x : Tuple) (step : Option Opened) → HasSomeTurn n step → HasSomeTurn n (step_new x step)
+begun-new : (n : ℕ) (x : Tuple) (step : Option OpenStep) → HasSomeTurn n step → HasSomeTurn n (step_new x step)
 begun-new n x None is = tt
 begun-new n x (Some o) is = is
 
-rests-old : (m : Epochs) (x : Tuple) (step : Option Opened) → (IsReady step → ⊥) → IsReady (open_old m x step) → ⊥
+rests-old : (m : EpochState) (x : Tuple) (step : Option OpenStep) → (IsReady step → ⊥) → IsReady (open_old m x step) → ⊥
 rests-old m x None rests ready = ready
 rests-old m x (Some o) rests ready = rests ready
 
-rests-new : (x : Tuple) (step : Option Opened) → (IsReady step → ⊥) → IsReady (step_new x step) → ⊥
+rests-new : (x : Tuple) (step : Option OpenStep) → (IsReady step → ⊥) → IsReady (step_new x step) → ⊥
 rests-new x None rests ready = ready
 rests-new x (Some o) rests ready = rests ready
 
-pub new-within : (m : Epochs) (x : Tuple) → IsWithin m → IsRow m.theta.now x → IsWithin (after_new m x)
-new-within m x within row = record { small = within.small; shift = within.shift; step = within-new m.k m.shift x m.step within.step; ended = within.ended; count = count-new m.feeders x m.step within.count; begun = begun-new m.feeders x m.step within.begun; rests = rests-new x m.step within.rests; id = within.id; stock = within.stock; step_stock = stock-new m.theta.now x m.step within.step_stock row }
+pub new-within : (m : EpochState) (x : Tuple) → IsWithin m → IsRow m.theta x → IsWithin (after_new m x)
+new-within m x within row = record { small = within.small; shift = within.shift; step = within-new m.k m.shift x m.step within.step; ended = within.ended; count = count-new m.feeders x m.step within.count; begun = begun-new m.feeders x m.step within.begun; rests = rests-new x m.step within.rests; id = within.id; stock = within.stock; step_stock = stock-new m.theta x m.step within.step_stock row }
 
 pub quiet-moved : (to epoch : ℕ) (xs : List Tuple) → posted_to_collector (map (moved_post to epoch) xs) ≡ []
 quiet-moved to epoch [] = refl
@@ -443,38 +439,38 @@ quiet-moved to epoch (x ∷ xs) = quiet-moved to epoch xs
 pub quiet-append : (xs ys : List Post) → posted_to_collector xs ≡ [] → posted_to_collector ys ≡ [] → posted_to_collector (xs ++ ys) ≡ []
 quiet-append xs ys a b = filter_map-append (λ post. for_collector post.to post.msg) xs ys ∙ ap (λ zs. zs ++ posted_to_collector ys) a ∙ b
 
-quiet-late : (m : Epochs) (x : Tuple) (step : Option Opened) → posted_to_collector (late_posts m x step) ≡ []
+quiet-late : (m : EpochState) (x : Tuple) (step : Option OpenStep) → posted_to_collector (late_posts m x step) ≡ []
 quiet-late m x None = refl
 quiet-late m x (Some o) = quiet-moved (partner_in_step m.shift o.shift m.id) o.epoch (cond (is_of (exchanged_side m.shift o.shift) x) (x ∷ []) [])
 
-quiet-begun : (m : Epochs) (epoch shift : ℕ) (step : Option Opened) → posted_to_collector (begun_posts m epoch shift step) ≡ []
+quiet-begun : (m : EpochState) (epoch shift : ℕ) (step : Option OpenStep) → posted_to_collector (begun_posts m epoch shift step) ≡ []
 quiet-begun m epoch shift None = quiet-moved (partner_in_step m.shift shift m.id) epoch (filter (is_of (exchanged_side m.shift shift)) m.store.tuples)
 quiet-begun m epoch shift (Some o) = refl
 
-quiet-ends : (m : Epochs) (step : Option Opened) → posted_to_collector (end_posts m step) ≡ []
+quiet-ends : (m : EpochState) (step : Option OpenStep) → posted_to_collector (end_posts m step) ≡ []
 quiet-ends m None = refl
 quiet-ends m (Some o) = refl
 
-quiet-turned : (m : Epochs) (last : Bool) → posted_to_collector (posts_turned m last) ≡ []
+quiet-turned : (m : EpochState) (last : Bool) → posted_to_collector (posts_turned m last) ≡ []
 quiet-turned m true = quiet-ends m m.step
 quiet-turned m false = refl
 
-quiet-settle : (step : Option Opened) → posted_to_collector (settle_posts step) ≡ []
+quiet-settle : (step : Option OpenStep) → posted_to_collector (settle_posts step) ≡ []
 quiet-settle None = refl
 quiet-settle (Some o) = refl
 
-pub quiet-settled : (ready : Bool) (m : Epochs) → posted_to_collector (posts_settled ready m) ≡ []
+pub quiet-settled : (ready : Bool) (m : EpochState) → posted_to_collector (posts_settled ready m) ≡ []
 quiet-settled true m = quiet-settle m.step
 quiet-settled false m = refl
 
-pub took-old : (m m' : Epochs) (x : Tuple) (p : ℕ) (found found' : List Pair) (before after : List Post) → IsWithin m → CanTakeTup m p x.stamp → IsRow m.theta.now x → turned_in m.step p ≡ false
+pub took-old : (m m' : EpochState) (x : Tuple) (p : ℕ) (found found' : List Pair) (before after : List Post) → IsWithin m → CanTakeTup m p x.stamp → IsRow m.theta x → turned_in m.step p ≡ false
     → m' ≡ after_old m x → found' ≡ found ++ found_old m x → after ≡ before ++ posts_old m x → TookOfFeeder p (Tup x) m m' found found' before after
 took-old m m' x p found found' before after within can row still state more posts = rw (state, more, posts) (record {
   added = posts_old m x;
   sends = refl;
   quiet = quiet-late m x m.step;
   own = own-late m x m.step within.id within.shift within.step row;
-  within = record { small = within.small; shift = within.shift; step = within-old m.k m.shift m x m.step within.step; ended = within.ended; count = count-old m.feeders m x m.step within.count; begun = begun-old m.feeders m x m.step within.begun; rests = rests-old m x m.step within.rests; id = within.id; stock = stock-placed m.theta.now x m.store within.stock row; step_stock = stock-old m.theta.now m x m.step within.step_stock row };
+  within = record { small = within.small; shift = within.shift; step = within-old m.k m.shift m x m.step within.step; ended = within.ended; count = count-old m.feeders m x m.step within.count; begun = begun-old m.feeders m x m.step within.begun; rests = rests-old m x m.step within.rests; id = within.id; stock = stock-placed m.theta x m.store within.stock row; step_stock = stock-old m.theta m x m.step within.step_stock row };
   k = refl;
   id = refl;
   feeders = refl;
@@ -484,7 +480,7 @@ took-old m m' x p found found' before after within can row still state more post
       (took_of_feeder p (Tup x) t, record { from_feeder = refl; from_joiner = refl }, stands-old s t lists found m x p low can.going still (fits-old m p x.stamp m.step still can.fits) is);
 })
 
-pub took-new : (m m' : Epochs) (x : Tuple) (p : ℕ) (found found' : List Pair) (before : List Post) → IsWithin m → CanTakeTup m p x.stamp → IsRow m.theta.now x → turned_in m.step p ≡ true
+pub took-new : (m m' : EpochState) (x : Tuple) (p : ℕ) (found found' : List Pair) (before : List Post) → IsWithin m → CanTakeTup m p x.stamp → IsRow m.theta x → turned_in m.step p ≡ true
     → m' ≡ after_new m x → found' ≡ found ++ found_new m x → TookOfFeeder p (Tup x) m m' found found' before before
 took-new m m' x p found found' before within can row has state more = rw (state, more) (record {
   added = [];
@@ -504,12 +500,12 @@ took-new m m' x p found found' before within can row has state more = rw (state,
 -- ---- a feeder's turn, as the whole call
 
 -- the step is open, and feeder p may turn to it
-abbrev pub IsSomeTurn : ℕ → ℕ → ℕ → Option Opened → Type 0
+abbrev pub IsSomeTurn : ℕ → ℕ → ℕ → Option OpenStep → Type 0
 IsSomeTurn p epoch shift None = ⊥
-IsSomeTurn p epoch shift (Some o) = (flag_at o.turned.items p ≡ false) × (epoch ≡ o.epoch) × (shift ≡ o.shift)
+IsSomeTurn p epoch shift (Some o) = (flag_at o.turned p ≡ false) × (epoch ≡ o.epoch) × (shift ≡ o.shift)
 
 -- what is said of the open step doesn't depend on the place where the machine keeps it
-same-open : (s : JoinerStart) (t : Taken) (lists : JoinerLists) (waiting : List Pair) (m : Epochs) (o : Opened) (step : Option Opened) → IsOpen s t lists waiting m o → IsOpen s t lists waiting (record m { step = step }) o
+same-open : (s : JoinerStart) (t : Taken) (lists : JoinerLists) (waiting : List Pair) (m : EpochState) (o : OpenStep) (step : Option OpenStep) → IsOpen s t lists waiting m o → IsOpen s t lists waiting (record m { step = step }) o
 same-open s t lists waiting m o step is = record {
   new = is.new;
   cur = is.cur;
@@ -539,7 +535,7 @@ with_sent-append lists xs ys = λ i. record {
     joined : {X : Type 0} (as' bs cs ds : List X) → ds ≡ bs ++ cs → (as' ++ bs) ++ cs ≡ as' ++ ds
     joined as' bs cs ds is = append_assoc as' bs cs ∙ ap (λ zs. as' ++ zs) (sym is)
 
-settled-by-step : (s : JoinerStart) (t : Taken) (lists : JoinerLists) (waiting : List Pair) (m : Epochs) → IsMachineOf s m → (step : Option Opened) → IsReady step → StandsBy s t lists waiting m step → Stands s t (with_sent lists (settle_posts step)) waiting (settled_by m step)
+settled-by-step : (s : JoinerStart) (t : Taken) (lists : JoinerLists) (waiting : List Pair) (m : EpochState) → IsMachineOf s m → (step : Option OpenStep) → IsReady step → StandsBy s t lists waiting m step → Stands s t (with_sent lists (settle_posts step)) waiting (settled_by m step)
 settled-by-step s t lists waiting m fixed None ready is = absurd ready
 settled-by-step s t lists waiting m fixed (Some o) ready is =
     let turned : is.all_turned ≡ true = not_false is.all_turned (λ same. is.missing same (λ q low. ready.1 q (let n = is.count in omega arith))) in
@@ -552,21 +548,21 @@ settled-by-step s t lists waiting m fixed (Some o) ready is =
     not_false true never = refl
     not_false false never = absurd (never refl)
 
-pub stands-settled : (s : JoinerStart) (t : Taken) (lists : JoinerLists) (waiting : List Pair) (m : Epochs) (ready : Bool) → (ready ≡ true → IsReady m.step) → Stands s t lists waiting m → Stands s t (with_sent lists (posts_settled ready m)) waiting (after_settle ready m)
+pub stands-settled : (s : JoinerStart) (t : Taken) (lists : JoinerLists) (waiting : List Pair) (m : EpochState) (ready : Bool) → (ready ≡ true → IsReady m.step) → Stands s t lists waiting m → Stands s t (with_sent lists (posts_settled ready m)) waiting (after_settle ready m)
 stands-settled s t lists waiting m true up is = settled-by-step s t lists waiting m is.fixed m.step (up refl) is.now
 stands-settled s t lists waiting m false up is = subst (λ (ls : JoinerLists). Stands s t ls waiting m) (sym (with_sent-none lists)) is
 
-turned-by : (s : JoinerStart) (t : Taken) (lists : JoinerLists) (waiting : List Pair) (m : Epochs) (p epoch shift : ℕ) (last : Bool) → IsMachineOf s m → p < s.feeders → flag_at m.ended.items p ≡ false
-    → (step step' : Option Opened) → IsSomeTurn p epoch shift step → HasTurned p step step' → (last ≡ true → AreAllUp step') → (last ≡ false → AreAllUp step' → ⊥) → StandsBy s t lists waiting m step
+turned-by : (s : JoinerStart) (t : Taken) (lists : JoinerLists) (waiting : List Pair) (m : EpochState) (p epoch shift : ℕ) (last : Bool) → IsMachineOf s m → p < s.feeders → flag_at m.ended p ≡ false
+    → (step step' : Option OpenStep) → IsSomeTurn p epoch shift step → HasTurned p step step' → (last ≡ true → AreAllUp step') → (last ≡ false → AreAllUp step' → ⊥) → StandsBy s t lists waiting m step
     → StandsBy s (took_of_feeder p (Turn epoch shift) t) (with_sent lists (cond last (end_posts m step) [])) waiting (record m { step = step' }) step'
 turned-by s t lists waiting m p epoch shift last fixed low going None step' fits has up down is = absurd fits
 turned-by s t lists waiting m p epoch shift last fixed low going (Some o) None fits has up down is = absurd has
 turned-by s t lists waiting m p epoch shift last fixed low going (Some o) (Some o') fits has up down is =
-    subst (λ (z : Opened). IsOpen s (took_of_feeder p (Turn epoch shift) t) (with_sent lists (cond last (moved_end_post (partner_in_step m.shift o.shift m.id) o.epoch ∷ []) [])) waiting (record m { step = Some z }) z) (sym has.0)
+    subst (λ (z : OpenStep). IsOpen s (took_of_feeder p (Turn epoch shift) t) (with_sent lists (cond last (moved_end_post (partner_in_step m.shift o.shift m.id) o.epoch ∷ []) [])) waiting (record m { step = Some z }) z) (sym has.0)
     (open-turned s t lists waiting m o o' p epoch shift last fixed low going fits.0 fits.1 fits.2 has.1 up down is)
 
-begun-by : (s : JoinerStart) (t : Taken) (lists : JoinerLists) (waiting : List Pair) (m : Epochs) (p epoch shift : ℕ) → IsMachineOf s m → p < s.feeders
-    → (step step' : Option Opened) → TurnFits m p epoch shift step → HasBegun m epoch shift step step' → StandsBy s t lists waiting m step
+begun-by : (s : JoinerStart) (t : Taken) (lists : JoinerLists) (waiting : List Pair) (m : EpochState) (p epoch shift : ℕ) → IsMachineOf s m → p < s.feeders
+    → (step step' : Option OpenStep) → TurnFits m p epoch shift step → HasBegun m epoch shift step step' → StandsBy s t lists waiting m step
     → (t' : Taken) × ((t'.from_feeder ≡ t.from_feeder) × (t'.from_joiner ≡ t.from_joiner)) × IsSomeTurn p epoch shift step' × StandsBy s t' (with_sent lists (begun_posts m epoch shift step)) waiting (record m { step = step' }) step'
 begun-by s t lists waiting m p epoch shift fixed low None None fits has is = absurd has
 begun-by s t lists waiting m p epoch shift fixed low None (Some o) fits has is =
@@ -574,125 +570,125 @@ begun-by s t lists waiting m p epoch shift fixed low None (Some o) fits has is =
 begun-by s t lists waiting m p epoch shift fixed low (Some o) step' fits has is = (
   t,
   (refl, refl),
-  subst (λ (z : Option Opened). IsSomeTurn p epoch shift z) (sym has) fits,
-  subst (λ (z : Option Opened). StandsBy s t (with_sent lists []) waiting (record m { step = z }) z) (sym has) (subst (λ (ls : JoinerLists). IsOpen s t ls waiting (record m { step = Some o }) o) (sym (with_sent-none lists)) (same-open s t lists waiting m o (Some o) is)),
+  subst (λ (z : Option OpenStep). IsSomeTurn p epoch shift z) (sym has) fits,
+  subst (λ (z : Option OpenStep). StandsBy s t (with_sent lists []) waiting (record m { step = z }) z) (sym has) (subst (λ (ls : JoinerLists). IsOpen s t ls waiting (record m { step = Some o }) o) (sym (with_sent-none lists)) (same-open s t lists waiting m o (Some o) is)),
 )
 
 -- the shifts stay within the grid
-begun-within : (m : Epochs) (p epoch shift : ℕ) (step step' : Option Opened) → TurnFits m p epoch shift step → IsStepWithin m.k m.shift step → HasBegun m epoch shift step step' → IsStepWithin m.k m.shift step'
+begun-within : (m : EpochState) (p epoch shift : ℕ) (step step' : Option OpenStep) → TurnFits m p epoch shift step → IsStepWithin m.k m.shift step → HasBegun m epoch shift step step' → IsStepWithin m.k m.shift step'
 begun-within m p epoch shift None None fits within has = tt
 begun-within m p epoch shift None (Some o) fits within has =
     subst (λ (b : ℕ). (b ≤ m.k) × AreNeighbours m.shift b) (sym has.shift) (fits.1, fits.2)
-begun-within m p epoch shift (Some o) step' fits within has = subst (λ (z : Option Opened). IsStepWithin m.k m.shift z) (sym has) within
+begun-within m p epoch shift (Some o) step' fits within has = subst (λ (z : Option OpenStep). IsStepWithin m.k m.shift z) (sym has) within
 
-turned-within : (k shift p : ℕ) (step step' : Option Opened) → HasTurned p step step' → IsStepWithin k shift step → IsStepWithin k shift step'
-turned-within k shift p None step' has within = subst (λ (z : Option Opened). IsStepWithin k shift z) (sym has) tt
+turned-within : (k shift p : ℕ) (step step' : Option OpenStep) → HasTurned p step step' → IsStepWithin k shift step → IsStepWithin k shift step'
+turned-within k shift p None step' has within = subst (λ (z : Option OpenStep). IsStepWithin k shift z) (sym has) tt
 turned-within k shift p (Some o) None has within = absurd has
 turned-within k shift p (Some o) (Some o') has within =
-    let same : o'.shift ≡ o.shift = ap (λ (z : Opened). z.shift) has.0 in
+    let same : o'.shift ≡ o.shift = ap (λ (z : OpenStep). z.shift) has.0 in
     subst (λ (b : ℕ). (b ≤ k) × AreNeighbours shift b) (sym same) within
 
 -- a turn that opens the step leads to a neighbouring shift
-pub turn-next : (m : Epochs) (p epoch shift : ℕ) (step : Option Opened) → TurnFits m p epoch shift step → step ≡ None → AreNeighbours m.shift shift
+pub turn-next : (m : EpochState) (p epoch shift : ℕ) (step : Option OpenStep) → TurnFits m p epoch shift step → step ≡ None → AreNeighbours m.shift shift
 turn-next m p epoch shift None fits none = fits.2
 turn-next m p epoch shift (Some o) fits none = absurd (cc)
 
-pub begun-step : (m m1 : Epochs) (p epoch shift : ℕ) → IsWithin m → CanTakeTurn m p epoch shift → m1 ≡ record m { step = m1.step } → HasBegun m epoch shift m.step m1.step → IsStepWithin m1.k m1.shift m1.step
+pub begun-step : (m m1 : EpochState) (p epoch shift : ℕ) → IsWithin m → CanTakeTurn m p epoch shift → m1 ≡ record m { step = m1.step } → HasBegun m epoch shift m.step m1.step → IsStepWithin m1.k m1.shift m1.step
 begun-step m m1 p epoch shift within can rest begun =
-    subst (λ (z : Epochs). IsStepWithin z.k z.shift m1.step) (sym rest) (begun-within m p epoch shift m.step m1.step can.fits within.step begun)
+    subst (λ (z : EpochState). IsStepWithin z.k z.shift m1.step) (sym rest) (begun-within m p epoch shift m.step m1.step can.fits within.step begun)
 
-pub turned-step : (m m1 : Epochs) (p : ℕ) → m1 ≡ record m { step = m1.step } → HasTurned p m.step m1.step → IsStepWithin m.k m.shift m.step → IsStepWithin m1.k m1.shift m1.step
+pub turned-step : (m m1 : EpochState) (p : ℕ) → m1 ≡ record m { step = m1.step } → HasTurned p m.step m1.step → IsStepWithin m.k m.shift m.step → IsStepWithin m1.k m1.shift m1.step
 turned-step m m1 p rest turned within =
-    subst (λ (z : Epochs). IsStepWithin z.k z.shift m1.step) (sym rest) (turned-within m.k m.shift p m.step m1.step turned within)
+    subst (λ (z : EpochState). IsStepWithin z.k z.shift m1.step) (sym rest) (turned-within m.k m.shift p m.step m1.step turned within)
 
-begun-count : (m : Epochs) (epoch shift : ℕ) (step step' : Option Opened) → IsCounted m.feeders step → HasBegun m epoch shift step step' → IsCounted m.feeders step'
+begun-count : (m : EpochState) (epoch shift : ℕ) (step step' : Option OpenStep) → IsCounted m.feeders step → HasBegun m epoch shift step step' → IsCounted m.feeders step'
 begun-count m epoch shift None None is has = tt
 begun-count m epoch shift None (Some o) is has = has.count
-begun-count m epoch shift (Some o) step' is has = subst (λ (z : Option Opened). IsCounted m.feeders z) (sym has) is
+begun-count m epoch shift (Some o) step' is has = subst (λ (z : Option OpenStep). IsCounted m.feeders z) (sym has) is
 
-turned-count : (n p : ℕ) (step step' : Option Opened) → HasTurned p step step' → IsCounted n step → IsCounted n step'
-turned-count n p None step' has is = subst (λ (z : Option Opened). IsCounted n z) (sym has) tt
+turned-count : (n p : ℕ) (step step' : Option OpenStep) → HasTurned p step step' → IsCounted n step → IsCounted n step'
+turned-count n p None step' has is = subst (λ (z : Option OpenStep). IsCounted n z) (sym has) tt
 turned-count n p (Some o) None has is = absurd has
-turned-count n p (Some o) (Some o') has is = ap length has.1 ∙ length-set o.turned.items p true ∙ is
+turned-count n p (Some o) (Some o') has is = ap length has.1 ∙ length-set o.turned p true ∙ is
 
-turned-some : (n p : ℕ) (step step' : Option Opened) → p < n → HasTurned p step step' → IsCounted n step → HasSomeTurn n step'
-turned-some n p None step' low has is = subst (λ (z : Option Opened). HasSomeTurn n z) (sym has) tt
+turned-some : (n p : ℕ) (step step' : Option OpenStep) → p < n → HasTurned p step step' → IsCounted n step → HasSomeTurn n step'
+turned-some n p None step' low has is = subst (λ (z : Option OpenStep). HasSomeTurn n z) (sym has) tt
 turned-some n p (Some o) None low has is = absurd has
-turned-some n p (Some o) (Some o') low has is = (p, low, ap (λ fs. flag_at fs p) has.1 ∙ get_or-set_same o.turned.items p true false (omega arith))
+turned-some n p (Some o) (Some o') low has is = (p, low, ap (λ fs. flag_at fs p) has.1 ∙ get_or-set_same o.turned p true false (omega arith))
 
-settled-within-step : (m : Epochs) (step : Option Opened) → IsReady step → m.k < 9 → IsStepWithin m.k m.shift step → length m.ended.items ≡ m.feeders → m.id < 2 ^ m.k → IsStepStock m.theta.now step → IsWithin (settled_by m step)
+settled-within-step : (m : EpochState) (step : Option OpenStep) → IsReady step → m.k < 9 → IsStepWithin m.k m.shift step → length m.ended ≡ m.feeders → m.id < 2 ^ m.k → IsStepStock m.theta step → IsWithin (settled_by m step)
 settled-within-step m None ready small step ended id stock = absurd ready
 settled-within-step m (Some o) ready small step ended id stock = record { small = small; shift = step.0; step = tt; ended = ended; count = tt; begun = tt; rests = λ never. never; id = id; stock = stock; step_stock = tt }
 
-pub settled-within : (m : Epochs) (ready : Bool) → (ready ≡ true → IsReady m.step) → (ready ≡ false → IsReady m.step → ⊥)
-    → m.k < 9 → m.shift ≤ m.k → IsStepWithin m.k m.shift m.step → length m.ended.items ≡ m.feeders → IsCounted m.feeders m.step → HasSomeTurn m.feeders m.step
-    → m.id < 2 ^ m.k → IsStock m.theta.now m.store → IsStepStock m.theta.now m.step → IsWithin (after_settle ready m)
+pub settled-within : (m : EpochState) (ready : Bool) → (ready ≡ true → IsReady m.step) → (ready ≡ false → IsReady m.step → ⊥)
+    → m.k < 9 → m.shift ≤ m.k → IsStepWithin m.k m.shift m.step → length m.ended ≡ m.feeders → IsCounted m.feeders m.step → HasSomeTurn m.feeders m.step
+    → m.id < 2 ^ m.k → IsStock m.theta m.store → IsStepStock m.theta m.step → IsWithin (after_settle ready m)
 settled-within m true settles not_yet small low step ended count begun id stock step_stock = settled-within-step m m.step (settles refl) small step ended id step_stock
 settled-within m false settles not_yet small low step ended count begun id stock step_stock = record { small = small; shift = low; step = step; ended = ended; count = count; begun = begun; rests = not_yet refl; id = id; stock = stock; step_stock = step_stock }
 
-pub settled-k : (m : Epochs) (ready : Bool) → (after_settle ready m).k ≡ m.k
+pub settled-k : (m : EpochState) (ready : Bool) → (after_settle ready m).k ≡ m.k
 settled-k m true = by m.step
   where
-    by : (step : Option Opened) → (settled_by m step).k ≡ m.k
+    by : (step : Option OpenStep) → (settled_by m step).k ≡ m.k
     by None = refl
     by (Some o) = refl
 settled-k m false = refl
 
-pub settled-feeders : (m : Epochs) (ready : Bool) → (after_settle ready m).feeders ≡ m.feeders
+pub settled-feeders : (m : EpochState) (ready : Bool) → (after_settle ready m).feeders ≡ m.feeders
 settled-feeders m true = by m.step
   where
-    by : (step : Option Opened) → (settled_by m step).feeders ≡ m.feeders
+    by : (step : Option OpenStep) → (settled_by m step).feeders ≡ m.feeders
     by None = refl
     by (Some o) = refl
 settled-feeders m false = refl
 
-pub settled-id : (m : Epochs) (ready : Bool) → (after_settle ready m).id ≡ m.id
+pub settled-id : (m : EpochState) (ready : Bool) → (after_settle ready m).id ≡ m.id
 settled-id m true = by m.step
   where
-    by : (step : Option Opened) → (settled_by m step).id ≡ m.id
+    by : (step : Option OpenStep) → (settled_by m step).id ≡ m.id
     by None = refl
     by (Some o) = refl
 settled-id m false = refl
 
-pub settled-theta : (m : Epochs) (ready : Bool) → (after_settle ready m).theta.now ≡ m.theta.now
+pub settled-theta : (m : EpochState) (ready : Bool) → (after_settle ready m).theta ≡ m.theta
 settled-theta m true = by m.step
   where
-    by : (step : Option Opened) → (settled_by m step).theta.now ≡ m.theta.now
+    by : (step : Option OpenStep) → (settled_by m step).theta ≡ m.theta
     by None = refl
     by (Some o) = refl
 settled-theta m false = refl
 
-pub took-turn : (m m1 m2 m3 : Epochs) (p epoch shift : ℕ) (last ready : Bool) (waiting : List Pair) (before s1 s2 after : List Post) → p < m.feeders → IsWithin m → CanTakeTurn m p epoch shift
+pub took-turn : (m m1 m2 m3 : EpochState) (p epoch shift : ℕ) (last ready : Bool) (waiting : List Pair) (before s1 s2 after : List Post) → p < m.feeders → IsWithin m → CanTakeTurn m p epoch shift
     → m1 ≡ record m { step = m1.step } → HasBegun m epoch shift m.step m1.step → s1 ≡ before ++ begun_posts m epoch shift m.step
     → m2 ≡ record m1 { step = m2.step } → HasTurned p m1.step m2.step → (last ≡ true → AreAllUp m2.step) → (last ≡ false → AreAllUp m2.step → ⊥) → s2 ≡ s1 ++ posts_turned m1 last
     → (ready ≡ true → IsReady m2.step) → (ready ≡ false → IsReady m2.step → ⊥) → m3 ≡ after_settle ready m2 → after ≡ s2 ++ posts_settled ready m2
     → TookOfFeeder p (Turn epoch shift) m m3 waiting waiting before after
 took-turn m m1 m2 m3 p epoch shift last ready waiting before s1 s2 after few within can rest1 begun posts1 rest2 turned up down posts2 settles not_yet state posts3 =
-    let k1 : m1.k ≡ m.k = ap (λ (z : Epochs). z.k) rest1 in
-    let k2 : m2.k ≡ m.k = ap (λ (z : Epochs). z.k) rest2 ∙ k1 in
-    let b2 : m2.shift ≡ m.shift = ap (λ (z : Epochs). z.shift) rest2 ∙ ap (λ (z : Epochs). z.shift) rest1 in
-    let b1 : m1.shift ≡ m.shift = ap (λ (z : Epochs). z.shift) rest1 in
+    let k1 : m1.k ≡ m.k = ap (λ (z : EpochState). z.k) rest1 in
+    let k2 : m2.k ≡ m.k = ap (λ (z : EpochState). z.k) rest2 ∙ k1 in
+    let b2 : m2.shift ≡ m.shift = ap (λ (z : EpochState). z.shift) rest2 ∙ ap (λ (z : EpochState). z.shift) rest1 in
+    let b1 : m1.shift ≡ m.shift = ap (λ (z : EpochState). z.shift) rest1 in
     let step1 : IsStepWithin m.k m.shift m1.step = begun-within m p epoch shift m.step m1.step can.fits within.step begun in
     let step2 : IsStepWithin m.k m.shift m2.step = turned-within m.k m.shift p m1.step m2.step turned step1 in
     let own1 : IsStepWithin m1.k m1.shift m1.step = subst (λ (n : ℕ). IsStepWithin n m1.shift m1.step) (sym k1) (subst (λ (n : ℕ). IsStepWithin m.k n m1.step) (sym b1) step1) in
-    let n2 : m2.feeders ≡ m.feeders = ap (λ (z : Epochs). z.feeders) rest2 ∙ ap (λ (z : Epochs). z.feeders) rest1 in
+    let n2 : m2.feeders ≡ m.feeders = ap (λ (z : EpochState). z.feeders) rest2 ∙ ap (λ (z : EpochState). z.feeders) rest1 in
     let count1 : IsCounted m.feeders m1.step = begun-count m epoch shift m.step m1.step within.count begun in
-    let i2 : m2.id ≡ m.id = ap (λ (z : Epochs). z.id) rest2 ∙ ap (λ (z : Epochs). z.id) rest1 in
-    let th2 : m2.theta.now ≡ m.theta.now = ap (λ (z : Epochs). z.theta.now) rest2 ∙ ap (λ (z : Epochs). z.theta.now) rest1 in
-    let store2 : m2.store ≡ m.store = ap (λ (z : Epochs). z.store) rest2 ∙ ap (λ (z : Epochs). z.store) rest1 in
-    let stock1 : IsStepStock m.theta.now m1.step = stock-begun m.theta.now m epoch shift m.step m1.step within.stock within.step_stock begun in
-    let stock2 : IsStepStock m.theta.now m2.step = stock-turned m.theta.now p m1.step m2.step turned stock1 in
-    let fixed1 : IsFixed m m1 = record { k = k1; id = ap (λ (z : Epochs). z.id) rest1; feeders = ap (λ (z : Epochs). z.feeders) rest1; theta = ap (λ (z : Epochs). z.theta.now) rest1 } in
+    let i2 : m2.id ≡ m.id = ap (λ (z : EpochState). z.id) rest2 ∙ ap (λ (z : EpochState). z.id) rest1 in
+    let th2 : m2.theta ≡ m.theta = ap (λ (z : EpochState). z.theta) rest2 ∙ ap (λ (z : EpochState). z.theta) rest1 in
+    let store2 : m2.store ≡ m.store = ap (λ (z : EpochState). z.store) rest2 ∙ ap (λ (z : EpochState). z.store) rest1 in
+    let stock1 : IsStepStock m.theta m1.step = stock-begun m.theta m epoch shift m.step m1.step within.stock within.step_stock begun in
+    let stock2 : IsStepStock m.theta m2.step = stock-turned m.theta p m1.step m2.step turned stock1 in
+    let fixed1 : IsFixed m m1 = record { k = k1; id = ap (λ (z : EpochState). z.id) rest1; feeders = ap (λ (z : EpochState). z.feeders) rest1; theta = ap (λ (z : EpochState). z.theta) rest1 } in
     let id1 : m1.id < 2 ^ m1.k = subst (λ (n : ℕ). m1.id < 2 ^ n) (sym k1) (subst (λ (n : ℕ). n < 2 ^ m.k) (sym fixed1.id) within.id) in
     let id2 : m2.id < 2 ^ m2.k = subst (λ (n : ℕ). m2.id < 2 ^ n) (sym k2) (subst (λ (n : ℕ). n < 2 ^ m.k) (sym i2) within.id) in
     let within3 : IsWithin (after_settle ready m2) =
     settled-within m2 ready settles not_yet (let small = within.small in omega arith) (let low = within.shift in omega arith)
     (subst (λ (n : ℕ). IsStepWithin n m2.shift m2.step) (sym k2) (subst (λ (n : ℕ). IsStepWithin m.k n m2.step) (sym b2) step2))
-    (ap (λ (z : Epochs). length z.ended.items) rest2 ∙ ap (λ (z : Epochs). length z.ended.items) rest1 ∙ within.ended ∙ sym n2)
+    (ap (λ (z : EpochState). length z.ended) rest2 ∙ ap (λ (z : EpochState). length z.ended) rest1 ∙ within.ended ∙ sym n2)
     (subst (λ (n : ℕ). IsCounted n m2.step) (sym n2) (turned-count m.feeders p m1.step m2.step turned count1))
     (subst (λ (n : ℕ). HasSomeTurn n m2.step) (sym n2) (turned-some m.feeders p m1.step m2.step few turned count1))
     id2
-    (subst (λ (th : Meaning). IsStock th m2.store) (sym th2) (subst (IsStock m.theta.now) (sym store2) within.stock))
+    (subst (λ (th : Meaning). IsStock th m2.store) (sym th2) (subst (IsStock m.theta) (sym store2) within.stock))
     (subst (λ (th : Meaning). IsStepStock th m2.step) (sym th2) stock2) in
     record {
       added = begun_posts m epoch shift m.step ++ posts_turned m1 last ++ posts_settled ready m2;
@@ -703,24 +699,24 @@ took-turn m m1 m2 m3 p epoch shift last ready waiting before s1 s2 after few wit
           (own-append m (begun_posts m epoch shift m.step) (posts_turned m1 last) (own-begun m p epoch shift m.step within can.fits) (own-before m m1 (posts_turned m1 last) fixed1 (own-turned m1 last id1 (let low = within.shift in omega arith) own1)))
           (own-before m m2 (posts_settled ready m2) (record { k = k2; id = i2; feeders = n2; theta = th2 }) (own-settled m2 ready id2));
       within = rw state within3;
-      k = ap (λ (z : Epochs). z.k) state ∙ settled-k m2 ready ∙ k2;
-      id = ap (λ (z : Epochs). z.id) state ∙ settled-id m2 ready ∙ i2;
-      feeders = ap (λ (z : Epochs). z.feeders) state ∙ settled-feeders m2 ready ∙ n2;
-      theta = ap (λ (z : Epochs). z.theta.now) state ∙ settled-theta m2 ready ∙ th2;
+      k = ap (λ (z : EpochState). z.k) state ∙ settled-k m2 ready ∙ k2;
+      id = ap (λ (z : EpochState). z.id) state ∙ settled-id m2 ready ∙ i2;
+      feeders = ap (λ (z : EpochState). z.feeders) state ∙ settled-feeders m2 ready ∙ n2;
+      theta = ap (λ (z : EpochState). z.theta) state ∙ settled-theta m2 ready ∙ th2;
       going = can.going;
       stands = λ s t lists low is.
           let fixed = is.fixed in
           let first = begun-by s t lists waiting m p epoch shift fixed low m.step m1.step can.fits begun is.now in
           let t1 = first.0 in
           let l1 = with_sent lists (begun_posts m epoch shift m.step) in
-          let now1 : StandsBy s t1 l1 waiting m1 m1.step = subst (λ (z : Epochs). StandsBy s t1 l1 waiting z m1.step) (sym rest1) first.3 in
-          let fixed1 : IsMachineOf s m1 = subst (λ (z : Epochs). IsMachineOf s z) (sym rest1) (record { k = fixed.k; id = fixed.id; feeders = fixed.feeders; matches = fixed.matches; small = fixed.small }) in
-          let going1 : flag_at m1.ended.items p ≡ false = subst (λ (z : Epochs). flag_at z.ended.items p ≡ false) (sym rest1) can.going in
+          let now1 : StandsBy s t1 l1 waiting m1 m1.step = subst (λ (z : EpochState). StandsBy s t1 l1 waiting z m1.step) (sym rest1) first.3 in
+          let fixed1 : IsMachineOf s m1 = subst (λ (z : EpochState). IsMachineOf s z) (sym rest1) (record { k = fixed.k; id = fixed.id; feeders = fixed.feeders; matches = fixed.matches; small = fixed.small }) in
+          let going1 : flag_at m1.ended p ≡ false = subst (λ (z : EpochState). flag_at z.ended p ≡ false) (sym rest1) can.going in
           let t2 = took_of_feeder p (Turn epoch shift) t1 in
           let l2 = with_sent l1 (posts_turned m1 last) in
           let second : StandsBy s t2 l2 waiting (record m1 { step = m2.step }) m2.step = turned-by s t1 l1 waiting m1 p epoch shift last fixed1 low going1 m1.step m2.step first.2 turned up down now1 in
-          let now2 : StandsBy s t2 l2 waiting m2 m2.step = subst (λ (z : Epochs). StandsBy s t2 l2 waiting z m2.step) (sym rest2) second in
-          let fixed2 : IsMachineOf s m2 = subst (λ (z : Epochs). IsMachineOf s z) (sym rest2) (record { k = fixed1.k; id = fixed1.id; feeders = fixed1.feeders; matches = fixed1.matches; small = fixed1.small }) in
+          let now2 : StandsBy s t2 l2 waiting m2 m2.step = subst (λ (z : EpochState). StandsBy s t2 l2 waiting z m2.step) (sym rest2) second in
+          let fixed2 : IsMachineOf s m2 = subst (λ (z : EpochState). IsMachineOf s z) (sym rest2) (record { k = fixed1.k; id = fixed1.id; feeders = fixed1.feeders; matches = fixed1.matches; small = fixed1.small }) in
           let stands2 : Stands s t2 l2 waiting m2 = record { fixed = fixed2; now = now2 } in
           let third : Stands s t2 (with_sent l2 (posts_settled ready m2)) waiting (after_settle ready m2) = stands-settled s t2 l2 waiting m2 ready settles stands2 in
           let same : with_sent l2 (posts_settled ready m2) ≡ with_sent lists (begun_posts m epoch shift m.step ++ posts_turned m1 last ++ posts_settled ready m2) =

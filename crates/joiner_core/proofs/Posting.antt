@@ -11,13 +11,10 @@ use Rattle.epoch_tags.specs.declared.tuple.Pair.{Pair}
 use Rattle.migration_plan.specs.Steps.{AreNeighbours, is_of, exchanged_side, partner_in_step}
 use Rattle.theta_pred.specs.Formula.{Meaning}
 use Rattle.joiner_law.specs.Posting.{moved_post, moved_end_post, settled_post}
-use Rattle.joiner_core.specs.Stocks.{IsRow, AreRows, IsOwnPost, AllSendRows}
+use Rattle.joiner_core.specs.State.{IsRow, AreRows, IsOwnPost, AllSendRows, OpenStep, EpochState, MachineState}
 use Rattle.joiner_core.specs.Changes.{late_posts, begun_posts, end_posts, posts_turned, settle_posts, posts_settled}
 use Rattle.joiner_core.specs.Taking.{IsWithin, IsFixed, IsStepWithin, TurnFits, AreOwnPosts}
 use Rattle.joiner_core.specs.Machine.{found_posts, fin_posts}
-use Rattle.joiner_core.specs.declared.epochs.Opened.{Opened}
-use Rattle.joiner_core.specs.declared.epochs.Epochs.{Epochs}
-use Rattle.joiner_core.specs.declared.machine.Machine.{Machine}
 
 -- two neighbours aren't both the last shift
 pub beside : (k b c : ℕ) → b ≤ k → c ≤ k → AreNeighbours b c → min b c < k
@@ -26,66 +23,66 @@ beside k b c low low' next = elim next [
   | inr down ↦ omega arith
 ]
 
-own-moved : (m : Epochs) (shift epoch : ℕ) (x : Tuple) → m.id < 2 ^ m.k → min m.shift shift < m.k → IsRow m.theta.now x
-    → IsOwnPost m.k m.feeders m.id m.theta.now (moved_post (partner_in_step m.shift shift m.id) epoch x)
+own-moved : (m : EpochState) (shift epoch : ℕ) (x : Tuple) → m.id < 2 ^ m.k → min m.shift shift < m.k → IsRow m.theta x
+    → IsOwnPost m.k m.feeders m.id m.theta (moved_post (partner_in_step m.shift shift m.id) epoch x)
 own-moved m shift epoch x id low row = record { over = record { link = joiner_joiner id low; kind = tt }; row = row }
 
-own-moves : (m : Epochs) (shift epoch : ℕ) (xs : List Tuple) → m.id < 2 ^ m.k → min m.shift shift < m.k → AreRows m.theta.now xs
+own-moves : (m : EpochState) (shift epoch : ℕ) (xs : List Tuple) → m.id < 2 ^ m.k → min m.shift shift < m.k → AreRows m.theta xs
     → AreOwnPosts m (map (moved_post (partner_in_step m.shift shift m.id) epoch) xs)
 own-moves m shift epoch xs id low rows =
-    All-map (IsOwnPost m.k m.feeders m.id m.theta.now) (moved_post (partner_in_step m.shift shift m.id) epoch) xs
+    All-map (IsOwnPost m.k m.feeders m.id m.theta) (moved_post (partner_in_step m.shift shift m.id) epoch) xs
     (λ n d less. own-moved m shift epoch _ id low (rows n d less))
 
 rows-if : (theta : Meaning) (yes : Bool) (x : Tuple) → IsRow theta x → AreRows theta (cond yes (x ∷ []) [])
 rows-if theta true x row = All-cons (IsRow theta) x [] row (All-nil (IsRow theta))
 rows-if theta false x row = All-nil (IsRow theta)
 
-pub own-late : (m : Epochs) (x : Tuple) (step : Option Opened) → m.id < 2 ^ m.k → m.shift ≤ m.k → IsStepWithin m.k m.shift step → IsRow m.theta.now x → AreOwnPosts m (late_posts m x step)
-own-late m x None id low within row = All-nil (IsOwnPost m.k m.feeders m.id m.theta.now)
-own-late m x (Some o) id low within row = own-moves m o.shift o.epoch _ id (beside m.k m.shift o.shift low within.0 within.1) (rows-if m.theta.now (is_of (exchanged_side m.shift o.shift) x) x row)
+pub own-late : (m : EpochState) (x : Tuple) (step : Option OpenStep) → m.id < 2 ^ m.k → m.shift ≤ m.k → IsStepWithin m.k m.shift step → IsRow m.theta x → AreOwnPosts m (late_posts m x step)
+own-late m x None id low within row = All-nil (IsOwnPost m.k m.feeders m.id m.theta)
+own-late m x (Some o) id low within row = own-moves m o.shift o.epoch _ id (beside m.k m.shift o.shift low within.0 within.1) (rows-if m.theta (is_of (exchanged_side m.shift o.shift) x) x row)
 
-pub own-begun : (m : Epochs) (p epoch shift : ℕ) (step : Option Opened) → IsWithin m → TurnFits m p epoch shift step → AreOwnPosts m (begun_posts m epoch shift step)
+pub own-begun : (m : EpochState) (p epoch shift : ℕ) (step : Option OpenStep) → IsWithin m → TurnFits m p epoch shift step → AreOwnPosts m (begun_posts m epoch shift step)
 own-begun m p epoch shift None within fits =
-    own-moves m shift epoch _ within.id (beside m.k m.shift shift within.shift fits.1 fits.2) (All-filter (is_of (exchanged_side m.shift shift)) (IsRow m.theta.now) m.store.tuples within.stock.rows)
-own-begun m p epoch shift (Some o) within fits = All-nil (IsOwnPost m.k m.feeders m.id m.theta.now)
+    own-moves m shift epoch _ within.id (beside m.k m.shift shift within.shift fits.1 fits.2) (All-filter (is_of (exchanged_side m.shift shift)) (IsRow m.theta) m.store.tuples within.stock.rows)
+own-begun m p epoch shift (Some o) within fits = All-nil (IsOwnPost m.k m.feeders m.id m.theta)
 
-own-ends : (m : Epochs) (step : Option Opened) → m.id < 2 ^ m.k → m.shift ≤ m.k → IsStepWithin m.k m.shift step → AreOwnPosts m (end_posts m step)
-own-ends m None id low within = All-nil (IsOwnPost m.k m.feeders m.id m.theta.now)
+own-ends : (m : EpochState) (step : Option OpenStep) → m.id < 2 ^ m.k → m.shift ≤ m.k → IsStepWithin m.k m.shift step → AreOwnPosts m (end_posts m step)
+own-ends m None id low within = All-nil (IsOwnPost m.k m.feeders m.id m.theta)
 own-ends m (Some o) id low within =
-    All-cons (IsOwnPost m.k m.feeders m.id m.theta.now) (moved_end_post (partner_in_step m.shift o.shift m.id) o.epoch) []
-    (record { over = record { link = joiner_joiner id (beside m.k m.shift o.shift low within.0 within.1); kind = tt }; row = tt }) (All-nil (IsOwnPost m.k m.feeders m.id m.theta.now))
+    All-cons (IsOwnPost m.k m.feeders m.id m.theta) (moved_end_post (partner_in_step m.shift o.shift m.id) o.epoch) []
+    (record { over = record { link = joiner_joiner id (beside m.k m.shift o.shift low within.0 within.1); kind = tt }; row = tt }) (All-nil (IsOwnPost m.k m.feeders m.id m.theta))
 
-pub own-turned : (m : Epochs) (last : Bool) → m.id < 2 ^ m.k → m.shift ≤ m.k → IsStepWithin m.k m.shift m.step → AreOwnPosts m (posts_turned m last)
+pub own-turned : (m : EpochState) (last : Bool) → m.id < 2 ^ m.k → m.shift ≤ m.k → IsStepWithin m.k m.shift m.step → AreOwnPosts m (posts_turned m last)
 own-turned m true id low within = own-ends m m.step id low within
-own-turned m false id low within = All-nil (IsOwnPost m.k m.feeders m.id m.theta.now)
+own-turned m false id low within = All-nil (IsOwnPost m.k m.feeders m.id m.theta)
 
-own-settle : (m : Epochs) (step : Option Opened) → m.id < 2 ^ m.k → AreOwnPosts m (settle_posts step)
-own-settle m None id = All-nil (IsOwnPost m.k m.feeders m.id m.theta.now)
+own-settle : (m : EpochState) (step : Option OpenStep) → m.id < 2 ^ m.k → AreOwnPosts m (settle_posts step)
+own-settle m None id = All-nil (IsOwnPost m.k m.feeders m.id m.theta)
 own-settle m (Some o) id =
-    All-cons (IsOwnPost m.k m.feeders m.id m.theta.now) (settled_post o.epoch) []
-    (record { over = record { link = joiner_controller id; kind = tt }; row = tt }) (All-nil (IsOwnPost m.k m.feeders m.id m.theta.now))
+    All-cons (IsOwnPost m.k m.feeders m.id m.theta) (settled_post o.epoch) []
+    (record { over = record { link = joiner_controller id; kind = tt }; row = tt }) (All-nil (IsOwnPost m.k m.feeders m.id m.theta))
 
-pub own-settled : (m : Epochs) (ready : Bool) → m.id < 2 ^ m.k → AreOwnPosts m (posts_settled ready m)
+pub own-settled : (m : EpochState) (ready : Bool) → m.id < 2 ^ m.k → AreOwnPosts m (posts_settled ready m)
 own-settled m true id = own-settle m m.step id
-own-settled m false id = All-nil (IsOwnPost m.k m.feeders m.id m.theta.now)
+own-settled m false id = All-nil (IsOwnPost m.k m.feeders m.id m.theta)
 
-pub own-found : (m : Epochs) (pairs : List Pair) → m.id < 2 ^ m.k → AreOwnPosts m (found_posts pairs)
-own-found m [] id = All-nil (IsOwnPost m.k m.feeders m.id m.theta.now)
+pub own-found : (m : EpochState) (pairs : List Pair) → m.id < 2 ^ m.k → AreOwnPosts m (found_posts pairs)
+own-found m [] id = All-nil (IsOwnPost m.k m.feeders m.id m.theta)
 own-found m (p ∷ ps) id =
-    All-cons (IsOwnPost m.k m.feeders m.id m.theta.now) _ []
-    (record { over = record { link = joiner_collector id; kind = tt }; row = tt }) (All-nil (IsOwnPost m.k m.feeders m.id m.theta.now))
+    All-cons (IsOwnPost m.k m.feeders m.id m.theta) _ []
+    (record { over = record { link = joiner_collector id; kind = tt }; row = tt }) (All-nil (IsOwnPost m.k m.feeders m.id m.theta))
 
-pub own-fin : (m : Machine) (now : Bool) → m.epochs.id < 2 ^ m.epochs.k → AreOwnPosts m.epochs (fin_posts now m)
+pub own-fin : (m : MachineState) (now : Bool) → m.epochs.id < 2 ^ m.epochs.k → AreOwnPosts m.epochs (fin_posts now m)
 own-fin m true id =
-    All-cons (IsOwnPost m.epochs.k m.epochs.feeders m.epochs.id m.epochs.theta.now) _ []
-    (record { over = record { link = joiner_collector id; kind = tt }; row = tt }) (All-nil (IsOwnPost m.epochs.k m.epochs.feeders m.epochs.id m.epochs.theta.now))
-own-fin m false id = All-nil (IsOwnPost m.epochs.k m.epochs.feeders m.epochs.id m.epochs.theta.now)
+    All-cons (IsOwnPost m.epochs.k m.epochs.feeders m.epochs.id m.epochs.theta) _ []
+    (record { over = record { link = joiner_collector id; kind = tt }; row = tt }) (All-nil (IsOwnPost m.epochs.k m.epochs.feeders m.epochs.id m.epochs.theta))
+own-fin m false id = All-nil (IsOwnPost m.epochs.k m.epochs.feeders m.epochs.id m.epochs.theta)
 
-pub own-none : (m : Epochs) → AreOwnPosts m []
-own-none m = All-nil (IsOwnPost m.k m.feeders m.id m.theta.now)
+pub own-none : (m : EpochState) → AreOwnPosts m []
+own-none m = All-nil (IsOwnPost m.k m.feeders m.id m.theta)
 
-pub own-append : (m : Epochs) (xs ys : List Post) → AreOwnPosts m xs → AreOwnPosts m ys → AreOwnPosts m (xs ++ ys)
-own-append m xs ys one two = All-append (IsOwnPost m.k m.feeders m.id m.theta.now) xs ys one two
+pub own-append : (m : EpochState) (xs ys : List Post) → AreOwnPosts m xs → AreOwnPosts m ys → AreOwnPosts m (xs ++ ys)
+own-append m xs ys one two = All-append (IsOwnPost m.k m.feeders m.id m.theta) xs ys one two
 
 own-by : (k k' n n' id id' : ℕ) (th th' : Meaning) (posts : List Post) → k' ≡ k → n' ≡ n → id' ≡ id → th' ≡ th
     → All (IsOwnPost k' n' id' th') posts → All (IsOwnPost k n id th) posts
@@ -96,11 +93,11 @@ own-by k k' n n' id id' th th' posts one two three four own =
     (subst (λ (z : Meaning). All (IsOwnPost k' n' id' z) posts) four own)))
 
 -- a call doesn't change whose posts they are
-pub own-before : (old new : Epochs) (posts : List Post) → IsFixed old new → AreOwnPosts new posts → AreOwnPosts old posts
-own-before old new posts fixed own = own-by old.k new.k old.feeders new.feeders old.id new.id old.theta.now new.theta.now posts fixed.k fixed.feeders fixed.id fixed.theta own
+pub own-before : (old new : EpochState) (posts : List Post) → IsFixed old new → AreOwnPosts new posts → AreOwnPosts old posts
+own-before old new posts fixed own = own-by old.k new.k old.feeders new.feeders old.id new.id old.theta new.theta posts fixed.k fixed.feeders fixed.id fixed.theta own
 
-pub all-over : (m : Epochs) (posts : List Post) → AreOwnPosts m posts → AllGoOver m.k m.feeders (Joiner' m.id) posts
+pub all-over : (m : EpochState) (posts : List Post) → AreOwnPosts m posts → AllGoOver m.k m.feeders (Joiner' m.id) posts
 all-over m posts own = λ n d less. (own n d less).over
 
-pub all-rows : (m : Epochs) (posts : List Post) → AreOwnPosts m posts → AllSendRows m.theta.now posts
+pub all-rows : (m : EpochState) (posts : List Post) → AreOwnPosts m posts → AllSendRows m.theta posts
 all-rows m posts own = λ n d less. (own n d less).row

@@ -3,7 +3,7 @@ use Rattle.std.proofs.Common.{◌≡◌, ℕ, ◌<◌, refl, sym, ◌∙◌, ap,
 use Rattle.std.specs.Prelude.{map, MatchOption, option_to_list, drop}
 use Rattle.std.proofs.lemmas.List.{map-set, get_or-map, length-map}
 use Rattle.epoch_tags.specs.declared.message.ToJoiner.{ToJoiner}
-use Rattle.joiner_core.specs.Stocks.{held_at}
+use Rattle.joiner_core.specs.State.{held_at}
 
 -- one queue is put in place of another
 pub put-queue : {Q : Type 0} (f : Q → List ToJoiner) (qs : List Q) (i : ℕ) (q : Q) (now : List (List ToJoiner)) → map f qs ≡ now → map f (set qs i q) ≡ set now i (f q)

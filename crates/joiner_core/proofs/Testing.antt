@@ -10,8 +10,7 @@ use Rattle.migration_plan.specs.Steps.{AreNeighbours, partner_in_step}
 use Rattle.joiner_law.specs.Law.{JoinerStart, JoinerLists, Taken, partner_of, shift_after, opened, CanTakeOfFeeder, CanTakeOfJoiner, IsOpenPart}
 use Rattle.joiner_law.specs.Standing.{one_if}
 use Rattle.joiner_core.specs.Changes.{flag_at}
-use Rattle.joiner_core.specs.declared.epochs.Opened.{Opened}
-use Rattle.joiner_core.specs.declared.epochs.Epochs.{Epochs}
+use Rattle.joiner_core.specs.State.{OpenStep, EpochState}
 use Rattle.joiner_core.specs.Taking.{IsMachineOf, IsClosed, IsOpen, StandsBy, Stands, TupFits, TurnFits, HasSomeTurn, PartFits, TakesOfFeeder, TakesOfJoiner}
 use Rattle.joiner_core.proofs.Keeping.{partner-is}
 
@@ -53,17 +52,17 @@ flag-cases false stamp n e f is fits next = let at = fits.0 refl in omega arith
 
 -- ---- with no step open
 
-pub closed-few : (s : JoinerStart) (t : Taken) (lists : JoinerLists) (waiting : List Pair) (m : Epochs) → (is : IsClosed s t lists waiting m) → opened s t ≤ length is.past
+pub closed-few : (s : JoinerStart) (t : Taken) (lists : JoinerLists) (waiting : List Pair) (m : EpochState) → (is : IsClosed s t lists waiting m) → opened s t ≤ length is.past
 closed-few s t lists waiting m is = greatest-below s.feeders (λ p. turns (t.from_feeder p)) (length is.past) (λ p low. let many = (is.stands.steps.feeders p low).turns in omega arith)
 
-closed-feeder : (s : JoinerStart) (t : Taken) (lists : JoinerLists) (waiting : List Pair) (m : Epochs) (done p : ℕ) (x : ToJoiner) → IsMachineOf s m → p < s.feeders → m.epoch ≡ s.epoch + done → m.step ≡ None
+closed-feeder : (s : JoinerStart) (t : Taken) (lists : JoinerLists) (waiting : List Pair) (m : EpochState) (done p : ℕ) (x : ToJoiner) → IsMachineOf s m → p < s.feeders → m.epoch ≡ s.epoch + done → m.step ≡ None
     → IsClosed s t lists waiting m → (TakesOfFeeder m p x → CanTakeOfFeeder s t done p x) × (CanTakeOfFeeder s t done p x → TakesOfFeeder m p x)
 closed-feeder s t lists waiting m done p (Tup x) fixed low epoch none is =
     let of = is.stands.steps.feeders p low in
     let at = is.epoch in
     let many = of.turns in (
-      λ can. (flag-none _ _ of.ends can.going, let fits : x.stamp ≡ m.epoch = subst (λ (z : Option Opened). TupFits m p x.stamp z) none can.fits in omega arith),
-      λ can. record { going = none-flag _ _ of.ends can.0; fits = subst (λ (z : Option Opened). TupFits m p x.stamp z) (sym none) (let stamp = can.1 in omega arith) },
+      λ can. (flag-none _ _ of.ends can.going, let fits : x.stamp ≡ m.epoch = subst (λ (z : Option OpenStep). TupFits m p x.stamp z) none can.fits in omega arith),
+      λ can. record { going = none-flag _ _ of.ends can.0; fits = subst (λ (z : Option OpenStep). TupFits m p x.stamp z) (sym none) (let stamp = can.1 in omega arith) },
     )
 closed-feeder s t lists waiting m done p (Turn epoch' shift) fixed low epoch none is =
     let of = is.stands.steps.feeders p low in
@@ -73,14 +72,14 @@ closed-feeder s t lists waiting m done p (Turn epoch' shift) fixed low epoch non
     let same : done ≡ length is.past = omega arith in
     let b : shift_after s t done ≡ m.shift = ap (λ n. shift_after s t n) same ∙ is.stands.steps.history.0.shift ∙ sym is.shift in (
       λ can.
-          let fits : (epoch' ≡ m.epoch + 1) × (shift ≤ m.k) × AreNeighbours m.shift shift = subst (λ (z : Option Opened). TurnFits m p epoch' shift z) none can.fits in
+          let fits : (epoch' ≡ m.epoch + 1) × (shift ≤ m.k) × AreNeighbours m.shift shift = subst (λ (z : Option OpenStep). TurnFits m p epoch' shift z) none can.fits in
           let next = fits.0 in let within = fits.1 in let k = fixed.k in
           (flag-none _ _ of.ends can.going, omega arith, omega arith, omega arith, subst (λ (n : ℕ). AreNeighbours n shift) (sym b) fits.2, λ less. absurd (omega arith)),
       λ can.
           let next = can.2 in let within = can.3 in let k = fixed.k in
           record {
             going = none-flag _ _ of.ends can.0;
-            fits = subst (λ (z : Option Opened). TurnFits m p epoch' shift z) (sym none) (omega arith, omega arith, subst (λ (n : ℕ). AreNeighbours n shift) b can.4);
+            fits = subst (λ (z : Option OpenStep). TurnFits m p epoch' shift z) (sym none) (omega arith, omega arith, subst (λ (n : ℕ). AreNeighbours n shift) b can.4);
           },
     )
 closed-feeder s t lists waiting m done p End fixed low epoch none is =
@@ -91,14 +90,14 @@ closed-feeder s t lists waiting m done p (MovedEnd epoch') fixed low epoch none 
 
 -- ---- with a step open
 
-pub open-begun : (s : JoinerStart) (t : Taken) (lists : JoinerLists) (waiting : List Pair) (m : Epochs) (o : Opened) → HasSomeTurn s.feeders (Some o) → (is : IsOpen s t lists waiting m o) → length is.past < opened s t
+pub open-begun : (s : JoinerStart) (t : Taken) (lists : JoinerLists) (waiting : List Pair) (m : EpochState) (o : OpenStep) → HasSomeTurn s.feeders (Some o) → (is : IsOpen s t lists waiting m o) → length is.past < opened s t
 open-begun s t lists waiting m o some is =
     let of = is.stands.steps.feeders some.0 some.1 in
     let many = turns-up _ _ _ of.turns some.2 in
     let above = greatest-above s.feeders (λ p. turns (t.from_feeder p)) some.0 some.1 in
     omega arith
 
-open-feeder : (s : JoinerStart) (t : Taken) (lists : JoinerLists) (waiting : List Pair) (m : Epochs) (o : Opened) (done p : ℕ) (x : ToJoiner) → IsMachineOf s m → p < s.feeders → m.epoch ≡ s.epoch + done → m.step ≡ Some o
+open-feeder : (s : JoinerStart) (t : Taken) (lists : JoinerLists) (waiting : List Pair) (m : EpochState) (o : OpenStep) (done p : ℕ) (x : ToJoiner) → IsMachineOf s m → p < s.feeders → m.epoch ≡ s.epoch + done → m.step ≡ Some o
     → HasSomeTurn s.feeders (Some o) → IsOpen s t lists waiting m o → (TakesOfFeeder m p x → CanTakeOfFeeder s t done p x) × (CanTakeOfFeeder s t done p x → TakesOfFeeder m p x)
 open-feeder s t lists waiting m o done p (Tup x) fixed low epoch opens some is =
     let of = is.stands.steps.feeders p low in
@@ -106,15 +105,15 @@ open-feeder s t lists waiting m o done p (Tup x) fixed low epoch opens some is =
     let next = is.step_epoch in
     let many = of.turns in (
       λ can.
-          let fits : TupFits m p x.stamp (Some o) = subst (λ (z : Option Opened). TupFits m p x.stamp z) opens can.fits in (
+          let fits : TupFits m p x.stamp (Some o) = subst (λ (z : Option OpenStep). TupFits m p x.stamp z) opens can.fits in (
             flag-none _ _ of.ends can.going,
-            let stamp = flag-cases (flag_at o.turned.items p) x.stamp (one_if (flag_at o.turned.items p)) m.epoch o.epoch refl fits (omega arith) in omega arith,
+            let stamp = flag-cases (flag_at o.turned p) x.stamp (one_if (flag_at o.turned p)) m.epoch o.epoch refl fits (omega arith) in omega arith,
           ),
       λ can.
           let stamp = can.1 in
           record {
             going = none-flag _ _ of.ends can.0;
-            fits = subst (λ (z : Option Opened). TupFits m p x.stamp z) (sym opens)
+            fits = subst (λ (z : Option OpenStep). TupFits m p x.stamp z) (sym opens)
                 (λ down. let n = turns-down _ _ _ many down in omega arith, λ up. let n = turns-up _ _ _ many up in omega arith);
           },
     )
@@ -130,7 +129,7 @@ open-feeder s t lists waiting m o done p (Turn epoch' shift) fixed low epoch ope
     let o_shift = is.step_shift in
     let less = open-begun s t lists waiting m o some is in (
       λ can.
-          let fits : TurnFits m p epoch' shift (Some o) = subst (λ (z : Option Opened). TurnFits m p epoch' shift z) opens can.fits in
+          let fits : TurnFits m p epoch' shift (Some o) = subst (λ (z : Option OpenStep). TurnFits m p epoch' shift z) opens can.fits in
           let still = turns-down _ _ _ of.turns fits.0 in
           let e = fits.1 in let sh = fits.2 in (
             flag-none _ _ of.ends can.going,
@@ -144,7 +143,7 @@ open-feeder s t lists waiting m o done p (Turn epoch' shift) fixed low epoch ope
           let e = can.2 in
           record {
             going = none-flag _ _ of.ends can.0;
-            fits = subst (λ (z : Option Opened). TurnFits m p epoch' shift z) (sym opens)
+            fits = subst (λ (z : Option OpenStep). TurnFits m p epoch' shift z) (sym opens)
                 (down-turns _ _ _ of.turns (can.1 ∙ same), omega arith, can.5 (omega arith) ∙ c);
           },
     )
@@ -156,7 +155,7 @@ open-feeder s t lists waiting m o done p (MovedEnd epoch') fixed low epoch opens
 
 -- ---- of joiners
 
-part-by : (s : JoinerStart) (t : Taken) (lists : JoinerLists) (waiting : List Pair) (m : Epochs) (done q epoch' : ℕ) → IsMachineOf s m → m.epoch ≡ s.epoch + done → (step : Option Opened) → HasSomeTurn s.feeders step → StandsBy s t lists waiting m step
+part-by : (s : JoinerStart) (t : Taken) (lists : JoinerLists) (waiting : List Pair) (m : EpochState) (done q epoch' : ℕ) → IsMachineOf s m → m.epoch ≡ s.epoch + done → (step : Option OpenStep) → HasSomeTurn s.feeders step → StandsBy s t lists waiting m step
     → (PartFits m q epoch' step → IsOpenPart s t done q epoch') × (IsOpenPart s t done q epoch' → PartFits m q epoch' step)
 part-by s t lists waiting m done q epoch' fixed epoch None some is =
     let few = closed-few s t lists waiting m is in
@@ -186,17 +185,17 @@ part-by s t lists waiting m done q epoch' fixed epoch (Some o) some is =
           (here, none-flag _ _ told (ap (λ z. moved_ends o.epoch (t.from_joiner z)) (sym of) ∙ ap (λ z. moved_ends z (t.from_joiner q)) (sym here) ∙ can.3), of),
     )
 
-feeder-by : (s : JoinerStart) (t : Taken) (lists : JoinerLists) (waiting : List Pair) (m : Epochs) (done p : ℕ) (x : ToJoiner) → IsMachineOf s m → p < s.feeders → m.epoch ≡ s.epoch + done
-    → (step : Option Opened) → m.step ≡ step → HasSomeTurn s.feeders step → StandsBy s t lists waiting m step → (TakesOfFeeder m p x → CanTakeOfFeeder s t done p x) × (CanTakeOfFeeder s t done p x → TakesOfFeeder m p x)
+feeder-by : (s : JoinerStart) (t : Taken) (lists : JoinerLists) (waiting : List Pair) (m : EpochState) (done p : ℕ) (x : ToJoiner) → IsMachineOf s m → p < s.feeders → m.epoch ≡ s.epoch + done
+    → (step : Option OpenStep) → m.step ≡ step → HasSomeTurn s.feeders step → StandsBy s t lists waiting m step → (TakesOfFeeder m p x → CanTakeOfFeeder s t done p x) × (CanTakeOfFeeder s t done p x → TakesOfFeeder m p x)
 feeder-by s t lists waiting m done p x fixed low epoch None same some is = closed-feeder s t lists waiting m done p x fixed low epoch same is
 feeder-by s t lists waiting m done p x fixed low epoch (Some o) same some is = open-feeder s t lists waiting m o done p x fixed low epoch same some is
 
 -- the two tests are one
-pub tests-feeder : (s : JoinerStart) (t : Taken) (lists : JoinerLists) (waiting : List Pair) (m : Epochs) (done p : ℕ) (x : ToJoiner) → p < s.feeders → m.epoch ≡ s.epoch + done → HasSomeTurn s.feeders m.step
+pub tests-feeder : (s : JoinerStart) (t : Taken) (lists : JoinerLists) (waiting : List Pair) (m : EpochState) (done p : ℕ) (x : ToJoiner) → p < s.feeders → m.epoch ≡ s.epoch + done → HasSomeTurn s.feeders m.step
     → Stands s t lists waiting m → (TakesOfFeeder m p x → CanTakeOfFeeder s t done p x) × (CanTakeOfFeeder s t done p x → TakesOfFeeder m p x)
 tests-feeder s t lists waiting m done p x low epoch some is = feeder-by s t lists waiting m done p x is.fixed low epoch m.step refl some is.now
 
-pub tests-joiner : (s : JoinerStart) (t : Taken) (lists : JoinerLists) (waiting : List Pair) (m : Epochs) (done q : ℕ) (x : ToJoiner) → m.epoch ≡ s.epoch + done → HasSomeTurn s.feeders m.step
+pub tests-joiner : (s : JoinerStart) (t : Taken) (lists : JoinerLists) (waiting : List Pair) (m : EpochState) (done q : ℕ) (x : ToJoiner) → m.epoch ≡ s.epoch + done → HasSomeTurn s.feeders m.step
     → Stands s t lists waiting m → (TakesOfJoiner m q x → CanTakeOfJoiner s t done q x) × (CanTakeOfJoiner s t done q x → TakesOfJoiner m q x)
 tests-joiner s t lists waiting m done q (Tup x) epoch some is = (λ can. can, λ can. can)
 tests-joiner s t lists waiting m done q (Turn epoch' shift) epoch some is = (λ can. can, λ can. can)

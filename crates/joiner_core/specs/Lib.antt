@@ -1,4 +1,4 @@
-pub mod Stocks
+pub mod State
 pub mod Changes
 pub mod Taking
 pub mod Machine

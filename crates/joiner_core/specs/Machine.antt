@@ -11,7 +11,7 @@ use Rattle.epoch_tags.specs.declared.message.ToCollector.TheVariants.{Found, Fin
 use Rattle.join_rows.specs.declared.table.Side.TheVariants.{R, S}
 use Rattle.migration_plan.specs.Steps.{is_of}
 use Rattle.joiner_core.specs.Changes.{IsEachUp, flag_at}
-use Rattle.joiner_core.specs.Stocks.{does_hold, HoldsRows, held_at, BeginsWith, Stocked}
+use Rattle.joiner_core.specs.State.{does_hold, HoldsRows, held_at, BeginsWith, Stocked, EpochState, MachineState}
 use Rattle.theta_pred.specs.Formula.{Meaning}
 use Rattle.epoch_tags.specs.declared.tuple.Tuple.{Tuple}
 use Rattle.joiner_law.specs.Law.{JoinerStart, JoinerLists, Taken, CanTakeOfFeeder, CanTakeOfJoiner, IsTakenOf, received_count}
@@ -19,23 +19,26 @@ use Rattle.joiner_law.specs.Standing.{grown, with_sent}
 use Rattle.joiner_core.specs.Taking.{IsWithin, IsFixed, AreOwnPosts, TakesOfFeeder, TakesOfJoiner, Stands}
 use Rattle.epoch_tags.specs.declared.actor.Actor.{Actor}
 use Rattle.epoch_tags.specs.declared.actor.Actor.TheVariants.{Feeder, Joiner as Joiner', Controller, Collector}
-use Rattle.joiner_core.specs.declared.epochs.Epochs.{Epochs}
 use Rattle.joiner_core.specs.declared.machine.Machine.{Machine}
 
+-- what the code's machine holds
+abbrev pub state_of : Machine → MachineState
+state_of m = record { epochs = m.epochs; of_feeders = m.of_feeders; of_joiners = m.of_joiners; told = m.told }
+
 -- in the midst of a call: what was taken and what is held are what was received
-pub record StandsWithin (s : JoinerStart) (lists : JoinerLists) (waiting : List Pair) (m : Machine) : Type 0 where
+pub record StandsWithin (s : JoinerStart) (lists : JoinerLists) (waiting : List Pair) (m : MachineState) : Type 0 where
   pub taken : Taken
   pub stands : Stands s taken lists waiting m.epochs
   pub feeders : (p : ℕ) → p < s.feeders → taken.from_feeder p ++ held_at m.of_feeders p ≡ lists.from_feeder p
   pub joiners : (q : ℕ) → q < 2 ^ s.k → taken.from_joiner q ++ held_at m.of_joiners q ≡ lists.from_joiner q
 
 -- all feeders have ended, and no step is open
-pub record IsResting (m : Epochs) : Type 0 where
+pub record IsResting (m : EpochState) : Type 0 where
   pub closed : m.step ≡ None
-  pub ended : IsEachUp m.ended.items
+  pub ended : IsEachUp m.ended
 
 -- a part of a call, which turned the machine, the pairs that wait and the posts: for whatever lists the machine stood, it stands for them with the new posts
-pub record Advances (old new : Machine) (waiting waiting' : List Pair) (before after : List Post) : Type 0 where
+pub record Advances (old new : MachineState) (waiting waiting' : List Pair) (before after : List Post) : Type 0 where
   pub added : List Post
   pub sends : after ≡ before ++ added
   pub quiet : posted_to_collector added ≡ []
@@ -46,45 +49,45 @@ pub record Advances (old new : Machine) (waiting waiting' : List Pair) (before a
   pub stands : (s : JoinerStart) (lists : JoinerLists) → StandsWithin s lists waiting old → StandsWithin s (with_sent lists added) waiting' new
 
 -- how many messages it holds
-abbrev pub held_in_all : Machine → ℕ
+abbrev pub held_in_all : MachineState → ℕ
 held_in_all m = sum_by length m.of_feeders + sum_by length m.of_joiners
 
 -- what holds of the machine between two messages
-pub record IsSound (m : Machine) : Type 0 where
+pub record IsSound (m : MachineState) : Type 0 where
   pub within : IsWithin m.epochs
   pub feeders : length m.of_feeders ≡ m.epochs.feeders
   pub joiners : length m.of_joiners ≡ 2 ^ m.epochs.k
-  pub feeder_rows : HoldsRows m.epochs.theta.now m.of_feeders
-  pub joiner_rows : HoldsRows m.epochs.theta.now m.of_joiners
+  pub feeder_rows : HoldsRows m.epochs.theta m.of_feeders
+  pub joiner_rows : HoldsRows m.epochs.theta m.of_joiners
 
 -- the first message held of that sender can be taken
-pub record IsReadyOfFeeder (m : Machine) (p : ℕ) : Type 0 where
+pub record IsReadyOfFeeder (m : MachineState) (p : ℕ) : Type 0 where
   pub low : p < m.epochs.feeders
   pub first : ToJoiner
   pub begins : BeginsWith first (held_at m.of_feeders p)
   pub can : TakesOfFeeder m.epochs p first
 
-pub record IsReadyOfJoiner (m : Machine) (q : ℕ) : Type 0 where
+pub record IsReadyOfJoiner (m : MachineState) (q : ℕ) : Type 0 where
   pub low : q < 2 ^ m.epochs.k
   pub first : ToJoiner
   pub begins : BeginsWith first (held_at m.of_joiners q)
   pub can : TakesOfJoiner m.epochs q first
 
 -- no first message held of these senders can be taken
-abbrev pub AreStuckOfFeeders : ℕ → Machine → Type 0
+abbrev pub AreStuckOfFeeders : ℕ → MachineState → Type 0
 AreStuckOfFeeders count m = (p : ℕ) → p < count → (x : ToJoiner) (rest : List ToJoiner) → held_at m.of_feeders p ≡ x ∷ rest → TakesOfFeeder m.epochs p x → ⊥
 
-abbrev pub AreStuckOfJoiners : ℕ → Machine → Type 0
+abbrev pub AreStuckOfJoiners : ℕ → MachineState → Type 0
 AreStuckOfJoiners count m = (q : ℕ) → q < count → (x : ToJoiner) (rest : List ToJoiner) → held_at m.of_joiners q ≡ x ∷ rest → TakesOfJoiner m.epochs q x → ⊥
 
-pub record IsStuck (m : Machine) : Type 0 where
+pub record IsStuck (m : MachineState) : Type 0 where
   pub feeders : AreStuckOfFeeders m.epochs.feeders m
   pub joiners : AreStuckOfJoiners (2 ^ m.epochs.k) m
 
 -- ---- in which order held messages are tried
 
 -- the link is the first, feeders rising and then joiners rising, whose first held message can be taken
-abbrev pub IsFirstReady : Actor → Machine → Type 0
+abbrev pub IsFirstReady : Actor → MachineState → Type 0
 IsFirstReady (Feeder p) m = IsReadyOfFeeder m p × AreStuckOfFeeders p m
 IsFirstReady (Joiner' q) m = IsReadyOfJoiner m q × AreStuckOfFeeders m.epochs.feeders m × AreStuckOfJoiners q m
 IsFirstReady Controller m = ⊥
@@ -97,32 +100,32 @@ pub record IsWithoutFirst (sender : ℕ) (old new : List (List ToJoiner)) : Type
   pub others : new ≡ slice_set old sender (held_at new sender)
 
 -- the link gave its first held message
-abbrev pub HasGiven : Actor → Machine → Machine → Type 0
+abbrev pub HasGiven : Actor → MachineState → MachineState → Type 0
 HasGiven (Feeder p) old new = IsWithoutFirst p old.of_feeders new.of_feeders × (new.of_joiners ≡ old.of_joiners)
 HasGiven (Joiner' q) old new = IsWithoutFirst q old.of_joiners new.of_joiners × (new.of_feeders ≡ old.of_feeders)
 HasGiven Controller old new = ⊥
 HasGiven Collector old new = ⊥
 
 -- the first link that was ready gave a message
-pub record HasTakenNext (old new : Machine) : Type 0 where
+pub record HasTakenNext (old new : MachineState) : Type 0 where
   pub from : Actor
   pub first : IsFirstReady from old
   pub given : HasGiven from old new
 
 -- the held messages were tried, again after each one that was taken, until none could be taken
-pub data AreTried : Machine → Machine → Type 0 where
-  none_ready : {m : Machine} → IsStuck m → AreTried m m
-  next : {a b c : Machine} → HasTakenNext a b → AreTried b c → AreTried a c
+pub data AreTried : MachineState → MachineState → Type 0 where
+  none_ready : {m : MachineState} → IsStuck m → AreTried m m
+  next : {a b c : MachineState} → HasTakenNext a b → AreTried b c → AreTried a c
 
 -- what is held stands as it did, since the message could be taken and nothing of its link was held
-pub record IsTakenAtOnce (held : List ToJoiner) (can_take : Type 0) (old new : Machine) : Type 0 where
+pub record IsTakenAtOnce (held : List ToJoiner) (can_take : Type 0) (old new : MachineState) : Type 0 where
   pub clear : held ≡ []
   pub can : can_take
   pub feeders : new.of_feeders ≡ old.of_feeders
   pub joiners : new.of_joiners ≡ old.of_joiners
 
 -- the message was taken at once, or is the last that is held of its link
-abbrev pub IsTakenOrHeld : Actor → ToJoiner → Machine → Machine → Type 0
+abbrev pub IsTakenOrHeld : Actor → ToJoiner → MachineState → MachineState → Type 0
 IsTakenOrHeld (Feeder p) m old new =
     IsTakenAtOnce (held_at old.of_feeders p) (TakesOfFeeder old.epochs p m) old new
     ⊎ (new ≡ record old { of_feeders = slice_set old.of_feeders p (held_at old.of_feeders p ++ m ∷ []) })
@@ -133,22 +136,22 @@ IsTakenOrHeld Controller m old new = ⊥
 IsTakenOrHeld Collector m old new = ⊥
 
 -- a call takes or holds its message, and then tries the held ones
-pub record TakesInOrder (from : Actor) (m : ToJoiner) (old new : Machine) : Type 0 where
-  pub accepted : Machine
+pub record TakesInOrder (from : Actor) (m : ToJoiner) (old new : MachineState) : Type 0 where
+  pub accepted : MachineState
   pub message : IsTakenOrHeld from m old accepted
   pub tried : AreTried accepted (record new { told = accepted.told })
 
 -- one held message of this link was taken
-pub record TookHeld (from : Actor) (old new : Machine) (waiting waiting' : List Pair) (before after : List Post) : Type 0 where
+pub record TookHeld (from : Actor) (old new : MachineState) (waiting waiting' : List Pair) (before after : List Post) : Type 0 where
   pub sound : IsSound new
   pub advances : Advances old new waiting waiting' before after
   pub given : HasGiven from old new
   pub fewer : held_in_all new < held_in_all old
 
 -- all feeders have ended, no step is open, and nothing is held
-pub record HasFinished (m : Machine) : Type 0 where
+pub record HasFinished (m : MachineState) : Type 0 where
   pub closed : m.epochs.step ≡ None
-  pub ended : IsEachUp m.epochs.ended.items
+  pub ended : IsEachUp m.epochs.ended
   pub feeders : (p : ℕ) → held_at m.of_feeders p ≡ []
   pub joiners : (q : ℕ) → held_at m.of_joiners q ≡ []
 
@@ -160,11 +163,11 @@ pub record IsStart (s : JoinerStart) : Type 0 where
   pub base : AllByRecursion (λ (x : Tuple). x.stamp ≤ s.epoch) s.base
 
 -- the last message, as the machine has it
-abbrev pub fin_of : Epochs → ToCollector
+abbrev pub fin_of : EpochState → ToCollector
 fin_of m = Fin (count_by (is_of R) m.store.tuples) (count_by (is_of S) m.store.tuples) m.moved
 
 -- what was sent to the collector: pairs, and once, where the machine has finished, the last message
-pub record Collects (s : JoinerStart) (lists : JoinerLists) (m : Machine) : Type 0 where
+pub record Collects (s : JoinerStart) (lists : JoinerLists) (m : MachineState) : Type 0 where
   pub founds : List (List Pair)
   pub last : List ToCollector
   pub to_collector : lists.to_collector ≡ map Found founds ++ last
@@ -175,7 +178,7 @@ pub record Collects (s : JoinerStart) (lists : JoinerLists) (m : Machine) : Type
   pub finishes : HasFinished m → m.told ≡ true
 
 -- between calls: no pair waits, no step is ready, and the first message held of each sender can't be taken; `done` steps are settled
-pub record StandsBetween (s : JoinerStart) (lists : JoinerLists) (m : Machine) : Type 0 where
+pub record StandsBetween (s : JoinerStart) (lists : JoinerLists) (m : MachineState) : Type 0 where
   pub start : IsStart s
   pub sound : IsSound m
   pub within : StandsWithin s lists [] m
@@ -186,7 +189,7 @@ pub record StandsBetween (s : JoinerStart) (lists : JoinerLists) (m : Machine) :
   pub of_joiners : (q : ℕ) → q < 2 ^ s.k → IsTakenOf (CanTakeOfJoiner s within.taken done q) (within.taken.from_joiner q) (lists.from_joiner q)
 
 -- the same, with these messages taken and so many steps settled
-pub record StandsAt (s : JoinerStart) (lists : JoinerLists) (t : Taken) (n : ℕ) (m : Machine) : Type 0 where
+pub record StandsAt (s : JoinerStart) (lists : JoinerLists) (t : Taken) (n : ℕ) (m : MachineState) : Type 0 where
   pub between : StandsBetween s lists m
   pub taken : between.within.taken ≡ t
   pub done : between.done ≡ n
@@ -199,14 +202,14 @@ with_message Controller m lists = lists
 with_message Collector m lists = lists
 
 -- the sender is a feeder or a joiner of the grid
-abbrev pub IsOfGrid : Actor → Epochs → Type 0
+abbrev pub IsOfGrid : Actor → EpochState → Type 0
 IsOfGrid (Feeder p) m = p < m.feeders
 IsOfGrid (Joiner' q) m = q < 2 ^ m.k
 IsOfGrid Controller m = ⊥
 IsOfGrid Collector m = ⊥
 
 -- a message was taken or held
-pub record Accepts (from : Actor) (m : ToJoiner) (old new : Machine) (waiting waiting' : List Pair) (before after : List Post) : Type 0 where
+pub record Accepts (from : Actor) (m : ToJoiner) (old new : MachineState) (waiting waiting' : List Pair) (before after : List Post) : Type 0 where
   pub sound : IsSound new
   pub taken : IsTakenOrHeld from m old new
   pub added : List Post
@@ -228,7 +231,7 @@ abbrev pub post_to_collector : ToCollector → Post
 post_to_collector m = record { to = Collector; msg = Collector' m }
 
 -- the posts of the last message: it is sent where the machine first has finished
-abbrev pub fin_posts : Bool → Machine → List Post
+abbrev pub fin_posts : Bool → MachineState → List Post
 fin_posts true m = record { to = Collector; msg = Collector' (fin_of m.epochs) } ∷ []
 fin_posts false m = []
 
@@ -247,14 +250,14 @@ pub record StandInOrder (posts : List Post) : Type 0 where
   pub quiet : posted_to_collector others ≡ []
   pub at_most : IsLastAtMost last
 
-pub record TellsFin (m : Machine) (told : Bool) (before after : List Post) : Type 0 where
+pub record TellsFin (m : MachineState) (told : Bool) (before after : List Post) : Type 0 where
   pub now : Bool
   pub sends : after ≡ before ++ fin_posts now m
   pub first : now ≡ true → (m.told ≡ false) × HasFinished m × (told ≡ true)
   pub other : now ≡ false → (told ≡ m.told) × (m.told ≡ false → HasFinished m → ⊥)
 
 -- a call that took or held a message: for whatever lists the machine stood, it stands for them with the message and the new posts
-pub record Receives (from : Actor) (m : ToJoiner) (old new : Machine) (before after : List Post) : Type 0 where
+pub record Receives (from : Actor) (m : ToJoiner) (old new : MachineState) (before after : List Post) : Type 0 where
   pub sound : IsSound new
   pub fixed : IsFixed old.epochs new.epochs
   pub added : List Post
@@ -275,18 +278,18 @@ start_of k id shift epoch feeders theta base =
     record { k = k; feeders = feeders; id = id; matches = does_hold theta; epoch = epoch; shift = shift; base = base }
 
 -- how the code makes it
-pub record IsMade (k id shift epoch feeders : ℕ) (theta : Meaning) (base : Stocked) (m : Machine) : Type 0 where
+pub record IsMade (k id shift epoch feeders : ℕ) (theta : Meaning) (base : Stocked) (m : MachineState) : Type 0 where
   pub at_k : m.epochs.k ≡ k
   pub at_id : m.epochs.id ≡ id
   pub at_shift : m.epochs.shift ≡ shift
   pub at_epoch : m.epochs.epoch ≡ epoch
   pub at_feeders : m.epochs.feeders ≡ feeders
-  pub at_theta : m.epochs.theta.now ≡ theta
+  pub at_theta : m.epochs.theta ≡ theta
   pub store : m.epochs.store ≡ base
   pub moved : m.epochs.moved ≡ []
   pub step : m.epochs.step ≡ None
-  pub ended : length m.epochs.ended.items ≡ feeders
-  pub down : (p : ℕ) → flag_at m.epochs.ended.items p ≡ false
+  pub ended : length m.epochs.ended ≡ feeders
+  pub down : (p : ℕ) → flag_at m.epochs.ended p ≡ false
   pub of_feeders : length m.of_feeders ≡ feeders
   pub of_joiners : length m.of_joiners ≡ 2 ^ k
   pub no_feeders : (p : ℕ) → held_at m.of_feeders p ≡ []

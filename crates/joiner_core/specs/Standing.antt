@@ -10,12 +10,11 @@ use Rattle.theta_pred.specs.Formula.{Meaning}
 use Rattle.joiner_law.specs.Law.{JoinerStart, JoinerLists, JoinerLaw, Taken}
 use Rattle.joiner_law.specs.Standing.{with_sent}
 use Rattle.joiner_core.specs.Machine.{StandsAt, StandInOrder, TakesInOrder, with_message}
-use Rattle.joiner_core.specs.Stocks.{AllSendRows}
-use Rattle.joiner_core.specs.declared.machine.Machine.{Machine}
+use Rattle.joiner_core.specs.State.{AllSendRows, MachineState}
 
 -- what it holds, and whether want of memory has stopped it
 pub record JoinerState : Type 0 where
-  pub machine : Machine
+  pub machine : MachineState
   pub spent : Bool
 
 -- want of memory has stopped it
@@ -34,7 +33,7 @@ feeders_of joiner = joiner.machine.epochs.feeders
 
 -- what its predicate says
 abbrev pub theta_of : JoinerState → Meaning
-theta_of joiner = joiner.machine.epochs.theta.now
+theta_of joiner = joiner.machine.epochs.theta
 
 -- it is joiner `id` of 2 ^ k, hears so many feeders and joins by this predicate
 pub record IsJoiner (k id feeders : ℕ) (theta : Meaning) (joiner : JoinerState) : Type 0 where

@@ -4,10 +4,8 @@ use Rattle.epoch_tags.specs.declared.tuple.Pair.{Pair}
 use Rattle.joiner_law.specs.Law.{JoinerStart, JoinerLists, Taken}
 use Rattle.joiner_law.specs.History.{Step}
 use Rattle.joiner_law.specs.Standing.{StandsSettled, StandsOpen, moved_counts, grown, with_sent}
-use Rattle.joiner_core.specs.Stocks.{does_hold, IsStock, IsOwnPost}
+use Rattle.joiner_core.specs.State.{does_hold, IsStock, IsOwnPost, OpenStep, EpochState}
 use Rattle.joiner_core.specs.Changes.{flag_at, IsReady}
-use Rattle.joiner_core.specs.declared.epochs.Opened.{Opened}
-use Rattle.joiner_core.specs.declared.epochs.Epochs.{Epochs}
 use Rattle.epoch_tags.specs.declared.message.Post.{Post}
 use Rattle.epoch_tags.specs.declared.message.ToJoiner.{ToJoiner}
 use Rattle.migration_plan.specs.Steps.{AreNeighbours, partner_in_step}
@@ -16,107 +14,107 @@ use Rattle.theta_pred.specs.Formula.{Meaning}
 use Rattle.epoch_tags.specs.declared.message.ToJoiner.TheVariants.{Tup, Turn, End, Moved, MovedEnd}
 
 -- what never changes
-pub record IsMachineOf (s : JoinerStart) (m : Epochs) : Type 0 where
+pub record IsMachineOf (s : JoinerStart) (m : EpochState) : Type 0 where
   pub k : m.k ≡ s.k
   pub id : m.id ≡ s.id
   pub feeders : m.feeders ≡ s.feeders
-  pub matches : does_hold m.theta.now ≡ s.matches
+  pub matches : does_hold m.theta ≡ s.matches
   pub small : s.k < 9
 
 -- with no step open
-pub record IsClosed (s : JoinerStart) (t : Taken) (lists : JoinerLists) (waiting : List Pair) (m : Epochs) : Type 0 where
+pub record IsClosed (s : JoinerStart) (t : Taken) (lists : JoinerLists) (waiting : List Pair) (m : EpochState) : Type 0 where
   pub cur : Step
   pub past : List Step
-  pub stands : StandsSettled s t lists waiting (flag_at m.ended.items) m.store.tuples cur past
+  pub stands : StandsSettled s t lists waiting (flag_at m.ended) m.store.tuples cur past
   pub epoch : m.epoch ≡ s.epoch + length past
   pub shift : m.shift ≡ cur.shift
-  pub ended_count : length m.ended.items ≡ s.feeders
+  pub ended_count : length m.ended ≡ s.feeders
   pub moved : m.moved ≡ moved_counts s.k s.id (cur ∷ past)
 
 -- with a step open
-pub record IsOpen (s : JoinerStart) (t : Taken) (lists : JoinerLists) (waiting : List Pair) (m : Epochs) (o : Opened) : Type 0 where
+pub record IsOpen (s : JoinerStart) (t : Taken) (lists : JoinerLists) (waiting : List Pair) (m : EpochState) (o : OpenStep) : Type 0 where
   pub new : Step
   pub cur : Step
   pub past : List Step
   pub all_turned : Bool
-  pub stands : StandsOpen s t lists waiting (flag_at o.turned.items) (flag_at m.ended.items) all_turned o.partner_ended m.store.tuples o.store.tuples new cur past
+  pub stands : StandsOpen s t lists waiting (flag_at o.turned) (flag_at m.ended) all_turned o.partner_ended m.store.tuples o.store.tuples new cur past
   pub epoch : m.epoch ≡ s.epoch + length past
   pub shift : m.shift ≡ cur.shift
   pub step_epoch : o.epoch ≡ s.epoch + length past + 1
   pub step_shift : o.shift ≡ new.shift
-  pub ended_count : length m.ended.items ≡ s.feeders
-  pub count : length o.turned.items ≡ s.feeders
+  pub ended_count : length m.ended ≡ s.feeders
+  pub count : length o.turned ≡ s.feeders
   pub moved : m.moved ≡ moved_counts s.k s.id (cur ∷ past)
-  pub missing : all_turned ≡ false → ((p : ℕ) → p < s.feeders → flag_at o.turned.items p ≡ true) → ⊥
-  pub all : all_turned ≡ true → (p : ℕ) → p < s.feeders → flag_at o.turned.items p ≡ true
+  pub missing : all_turned ≡ false → ((p : ℕ) → p < s.feeders → flag_at o.turned p ≡ true) → ⊥
+  pub all : all_turned ≡ true → (p : ℕ) → p < s.feeders → flag_at o.turned p ≡ true
 
-abbrev pub StandsBy : JoinerStart → Taken → JoinerLists → List Pair → Epochs → Option Opened → Type 0
+abbrev pub StandsBy : JoinerStart → Taken → JoinerLists → List Pair → EpochState → Option OpenStep → Type 0
 StandsBy s t lists waiting m None = IsClosed s t lists waiting m
 StandsBy s t lists waiting m (Some o) = IsOpen s t lists waiting m o
 
 -- of a joiner that began by s, took t, sent these lists and has these pairs waiting
-pub record Stands (s : JoinerStart) (t : Taken) (lists : JoinerLists) (waiting : List Pair) (m : Epochs) : Type 0 where
+pub record Stands (s : JoinerStart) (t : Taken) (lists : JoinerLists) (waiting : List Pair) (m : EpochState) : Type 0 where
   pub fixed : IsMachineOf s m
   pub now : StandsBy s t lists waiting m m.step
 
 -- ---- what can be taken, and what taking it does
 
 -- the step leads from this shift to a neighbouring one within the grid
-abbrev pub IsStepWithin : ℕ → ℕ → Option Opened → Type 0
+abbrev pub IsStepWithin : ℕ → ℕ → Option OpenStep → Type 0
 IsStepWithin k shift None = ⊤
 IsStepWithin k shift (Some o) = (o.shift ≤ k) × AreNeighbours shift o.shift
 
 -- some feeder has turned in the open step, if there is one
-abbrev pub HasSomeTurn : ℕ → Option Opened → Type 0
+abbrev pub HasSomeTurn : ℕ → Option OpenStep → Type 0
 HasSomeTurn feeders None = ⊤
-HasSomeTurn feeders (Some o) = (p : ℕ) × (p < feeders) × (flag_at o.turned.items p ≡ true)
+HasSomeTurn feeders (Some o) = (p : ℕ) × (p < feeders) × (flag_at o.turned p ≡ true)
 
-abbrev pub IsCounted : ℕ → Option Opened → Type 0
+abbrev pub IsCounted : ℕ → Option OpenStep → Type 0
 IsCounted feeders None = ⊤
-IsCounted feeders (Some o) = length o.turned.items ≡ feeders
+IsCounted feeders (Some o) = length o.turned ≡ feeders
 
 -- the open step's store is one of a joiner with this predicate
-abbrev pub IsStepStock : Meaning → Option Opened → Type 0
+abbrev pub IsStepStock : Meaning → Option OpenStep → Type 0
 IsStepStock theta None = ⊤
 IsStepStock theta (Some o) = IsStock theta o.store
 
 -- what holds of the machine between two messages
-pub record IsWithin (m : Epochs) : Type 0 where
+pub record IsWithin (m : EpochState) : Type 0 where
   pub small : m.k < 9
   pub shift : m.shift ≤ m.k
   pub step : IsStepWithin m.k m.shift m.step
-  pub ended : length m.ended.items ≡ m.feeders
+  pub ended : length m.ended ≡ m.feeders
   pub count : IsCounted m.feeders m.step
   pub begun : HasSomeTurn m.feeders m.step
   pub rests : IsReady m.step → ⊥
   pub id : m.id < 2 ^ m.k
-  pub stock : IsStock m.theta.now m.store
-  pub step_stock : IsStepStock m.theta.now m.step
+  pub stock : IsStock m.theta m.store
+  pub step_stock : IsStepStock m.theta m.step
 
-abbrev pub TupFits : Epochs → ℕ → ℕ → Option Opened → Type 0
+abbrev pub TupFits : EpochState → ℕ → ℕ → Option OpenStep → Type 0
 TupFits m p stamp None = stamp ≡ m.epoch
-TupFits m p stamp (Some o) = (flag_at o.turned.items p ≡ false → stamp ≡ m.epoch) × (flag_at o.turned.items p ≡ true → stamp ≡ o.epoch)
+TupFits m p stamp (Some o) = (flag_at o.turned p ≡ false → stamp ≡ m.epoch) × (flag_at o.turned p ≡ true → stamp ≡ o.epoch)
 
 -- a tuple of feeder p with this stamp
-pub record CanTakeTup (m : Epochs) (p stamp : ℕ) : Type 0 where
-  pub going : flag_at m.ended.items p ≡ false
+pub record CanTakeTup (m : EpochState) (p stamp : ℕ) : Type 0 where
+  pub going : flag_at m.ended p ≡ false
   pub fits : TupFits m p stamp m.step
 
-abbrev pub TurnFits : Epochs → ℕ → ℕ → ℕ → Option Opened → Type 0
+abbrev pub TurnFits : EpochState → ℕ → ℕ → ℕ → Option OpenStep → Type 0
 TurnFits m p epoch shift None = (epoch ≡ m.epoch + 1) × (shift ≤ m.k) × AreNeighbours m.shift shift
-TurnFits m p epoch shift (Some o) = (flag_at o.turned.items p ≡ false) × (epoch ≡ o.epoch) × (shift ≡ o.shift)
+TurnFits m p epoch shift (Some o) = (flag_at o.turned p ≡ false) × (epoch ≡ o.epoch) × (shift ≡ o.shift)
 
 -- a turn of feeder p to this epoch and shift
-pub record CanTakeTurn (m : Epochs) (p epoch shift : ℕ) : Type 0 where
-  pub going : flag_at m.ended.items p ≡ false
+pub record CanTakeTurn (m : EpochState) (p epoch shift : ℕ) : Type 0 where
+  pub going : flag_at m.ended p ≡ false
   pub fits : TurnFits m p epoch shift m.step
 
 -- what no call changes
-pub record IsFixed (old new : Epochs) : Type 0 where
+pub record IsFixed (old new : EpochState) : Type 0 where
   pub k : new.k ≡ old.k
   pub id : new.id ≡ old.id
   pub feeders : new.feeders ≡ old.feeders
-  pub theta : new.theta.now ≡ old.theta.now
+  pub theta : new.theta ≡ old.theta
 
 -- what was taken before, with this message of feeder p; an epoch may have got its shift
 pub record IsAfter (p : ℕ) (m : ToJoiner) (t t' : Taken) : Type 0 where
@@ -124,11 +122,11 @@ pub record IsAfter (p : ℕ) (m : ToJoiner) (t t' : Taken) : Type 0 where
   pub from_joiner : t'.from_joiner ≡ t.from_joiner
 
 -- what it posts goes over its links, with rows of the predicate's widths
-abbrev pub AreOwnPosts : Epochs → List Post → Type 0
-AreOwnPosts m posts = All (IsOwnPost m.k m.feeders m.id m.theta.now) posts
+abbrev pub AreOwnPosts : EpochState → List Post → Type 0
+AreOwnPosts m posts = All (IsOwnPost m.k m.feeders m.id m.theta) posts
 
 -- a call that took message m of feeder p
-pub record TookOfFeeder (p : ℕ) (m : ToJoiner) (old new : Epochs) (waiting waiting' : List Pair) (before after : List Post) : Type 0 where
+pub record TookOfFeeder (p : ℕ) (m : ToJoiner) (old new : EpochState) (waiting waiting' : List Pair) (before after : List Post) : Type 0 where
   pub added : List Post
   pub sends : after ≡ before ++ added
   pub quiet : posted_to_collector added ≡ []
@@ -137,8 +135,8 @@ pub record TookOfFeeder (p : ℕ) (m : ToJoiner) (old new : Epochs) (waiting wai
   pub k : new.k ≡ old.k
   pub id : new.id ≡ old.id
   pub feeders : new.feeders ≡ old.feeders
-  pub theta : new.theta.now ≡ old.theta.now
-  pub going : flag_at old.ended.items p ≡ false
+  pub theta : new.theta ≡ old.theta
+  pub going : flag_at old.ended p ≡ false
   pub stands : (s : JoinerStart) (t : Taken) (lists : JoinerLists) → p < s.feeders → Stands s t lists waiting old
       → (t' : Taken) × IsAfter p m t t' × Stands s t' (with_sent lists added) waiting' new
 
@@ -148,7 +146,7 @@ pub record IsAfterJoiner (q : ℕ) (m : ToJoiner) (t t' : Taken) : Type 0 where
   pub from_joiner : t'.from_joiner ≡ grown q m t.from_joiner
 
 -- a call that took message m of joiner q
-pub record TookOfJoiner (q : ℕ) (m : ToJoiner) (old new : Epochs) (waiting waiting' : List Pair) (before after : List Post) : Type 0 where
+pub record TookOfJoiner (q : ℕ) (m : ToJoiner) (old new : EpochState) (waiting waiting' : List Pair) (before after : List Post) : Type 0 where
   pub added : List Post
   pub sends : after ≡ before ++ added
   pub quiet : posted_to_collector added ≡ []
@@ -157,7 +155,7 @@ pub record TookOfJoiner (q : ℕ) (m : ToJoiner) (old new : Epochs) (waiting wai
   pub k : new.k ≡ old.k
   pub id : new.id ≡ old.id
   pub feeders : new.feeders ≡ old.feeders
-  pub theta : new.theta.now ≡ old.theta.now
+  pub theta : new.theta ≡ old.theta
   pub opened : old.step ≡ None → ⊥
   pub stands : (s : JoinerStart) (t : Taken) (lists : JoinerLists) → Stands s t lists waiting old
       → (t' : Taken) × IsAfterJoiner q m t t' × Stands s t' (with_sent lists added) waiting' new
@@ -165,18 +163,18 @@ pub record TookOfJoiner (q : ℕ) (m : ToJoiner) (old new : Epochs) (waiting wai
 -- ---- which messages can be taken, as the machine's tests say
 
 -- a part of the open step, of the partner, before the end of its part
-abbrev pub PartFits : Epochs → ℕ → ℕ → Option Opened → Type 0
+abbrev pub PartFits : EpochState → ℕ → ℕ → Option OpenStep → Type 0
 PartFits m q epoch None = ⊥
 PartFits m q epoch (Some o) = (epoch ≡ o.epoch) × (o.partner_ended ≡ false) × (q ≡ partner_in_step m.shift o.shift m.id)
 
-abbrev pub TakesOfFeeder : Epochs → ℕ → ToJoiner → Type 0
+abbrev pub TakesOfFeeder : EpochState → ℕ → ToJoiner → Type 0
 TakesOfFeeder m p (Tup x) = CanTakeTup m p x.stamp
 TakesOfFeeder m p (Turn epoch shift) = CanTakeTurn m p epoch shift
-TakesOfFeeder m p End = flag_at m.ended.items p ≡ false
+TakesOfFeeder m p End = flag_at m.ended p ≡ false
 TakesOfFeeder m p (Moved epoch x) = ⊥
 TakesOfFeeder m p (MovedEnd epoch) = ⊥
 
-abbrev pub TakesOfJoiner : Epochs → ℕ → ToJoiner → Type 0
+abbrev pub TakesOfJoiner : EpochState → ℕ → ToJoiner → Type 0
 TakesOfJoiner m q (Tup x) = ⊥
 TakesOfJoiner m q (Turn epoch shift) = ⊥
 TakesOfJoiner m q End = ⊥

@@ -4,7 +4,7 @@ ghost use Rattle.std.specs.Prelude.{◌≡◌, ℕ, false, true, length, slice_i
 ghost use Rattle.joiner_core.specs.Changes.{flag_at, IsEachUp, turned_in, found_late, posts_late, opened_late};
 ghost use Rattle.migration_plan.specs.Steps.{AreNeighbours, is_of, partner_in_step};
 ghost use Rattle.joiner_law.specs.History.{probed};
-ghost use Rattle.joiner_core.specs.Stocks.{named_by, does_hold, with_placed, IsRow, IsStock};
+ghost use Rattle.joiner_core.specs.State.{stocked_of, HasRow, named_by, does_hold, with_placed, IsRow, IsStock};
 ghost use Rattle.joiner_law.specs.Posting.{moved_post};
 
 use crate::stock::Stock;
@@ -13,7 +13,8 @@ use grid_map::{Shape, partner};
 use join_rows::Side;
 use migration_plan::{kept, low_of};
 use std::alloc::{AllocError, Global};
-use store_parts::Which;
+use std::marker::Model;
+use store_parts::{Store, Which};
 use theta_pred::Theta;
 
 #[derive(Drop)]
@@ -29,6 +30,29 @@ pub(crate) struct Epochs<'a> {
     pub(crate) step: Option<Opened>,
     pub(crate) moved: Counts,
     pub(crate) alloc: Global,
+}
+
+impl<'a> Model for Epochs<'a> {
+    ghost use Rattle.std.specs.Coded.{codes};
+    ghost use Rattle.theta_pred.specs.FormulaCode.{formula_code};
+    ghost use Rattle.joiner_core.specs.State.{EpochState};
+
+    ghost Value = { EpochState };
+
+    ghost coded = { Prim.hlevel (codes, formula_code (Prim.hlevel codes)) };
+
+    ghost view = { λ e. record {
+      k = e.k;
+      id = e.id;
+      feeders = e.feeders;
+      theta = e.theta.now;
+      epoch = e.epoch;
+      shift = e.shift;
+      store = e.store;
+      ended = e.ended.items;
+      step = e.step;
+      moved = e.moved;
+    } };
 }
 
 // So many flags, all down.
@@ -68,7 +92,76 @@ pub(crate) fn are_all_up(flags: &Vec<bool>) -> bool
     true
 }
 
+// How many joiners there are.
+pub(crate) fn joiners(k: u32) -> u32
+    requires { k < 9 }
+    ensures { result ≡ 2 ^ k }
+{
+    1 << k
+}
+
+// Whether the tuple has a cell for each column of its side.
+fn is_row(theta: &Theta, tuple: &Tuple) -> bool
+    ensures up { result ≡ true → IsRow theta.now tuple.now }
+    ensures down { result ≡ false → IsRow theta.now tuple.now → ⊥ }
+{
+    match tuple.side {
+        Side::R => tuple.cells.len() == theta.width_r(),
+        Side::S => tuple.cells.len() == theta.width_s(),
+    }
+}
+
+// So has the tuple that a message carries, if it carries one.
+fn has_row(theta: &Theta, m: &ToJoiner) -> bool
+    ensures up { result ≡ true → HasRow theta.now m.now }
+    ensures down { result ≡ false → HasRow theta.now m.now → ⊥ }
+{
+    match m {
+        ToJoiner::Tup(tuple) => is_row(theta, tuple),
+        ToJoiner::Moved { tuple, .. } => is_row(theta, tuple),
+        ToJoiner::Turn { .. } => true,
+        ToJoiner::MovedEnd { .. } => true,
+        ToJoiner::End => true,
+    }
+}
+
 impl<'a> Epochs<'a> {
+    // The epoch of the last step that is settled.
+    pub(crate) fn settled(&self) -> u32
+        ensures { result ≡ self.now.epoch }
+    {
+        self.epoch
+    }
+
+    // The store of that epoch.
+    pub(crate) fn settled_store(&self) -> &Store
+        ensures { stocked_of result.now ≡ self.now.store }
+    {
+        self.store.store()
+    }
+
+    pub(crate) fn feeders(&self) -> u32
+        ensures { result ≡ self.now.feeders }
+    {
+        self.feeders
+    }
+
+    // How many joiners the grid has.
+    pub(crate) fn joiners(&self) -> u32
+        requires { self.now.k < 9 }
+        ensures { result ≡ 2 ^ self.now.k }
+    {
+        joiners(self.k)
+    }
+
+    // Whether the row that the message carries, if it carries one, has the predicate's widths.
+    pub(crate) fn fits(&self, m: &ToJoiner) -> bool
+        ensures up { result ≡ true → HasRow self.now.theta m.now }
+        ensures down { result ≡ false → HasRow self.now.theta m.now → ⊥ }
+    {
+        has_row(self.theta, m)
+    }
+
     // Whether feeder p has turned in the open step.
     pub(crate) fn has_turned(&self, p: u32) -> bool
         ensures { result ≡ turned_in self.now.step p }
@@ -80,15 +173,15 @@ impl<'a> Epochs<'a> {
     }
 
     pub(crate) fn has_ended(&self, p: u32) -> bool
-        ensures { result ≡ flag_at self.now.ended.items p }
+        ensures { result ≡ flag_at self.now.ended p }
     {
         is_up(&self.ended, p)
     }
 
     // All feeders have ended, and no step is open.
     pub(crate) fn is_at_rest(&self) -> bool
-        ensures up { result ≡ true → (self.now.step ≡ None) × IsEachUp self.now.ended.items }
-        ensures down { result ≡ false → self.now.step ≡ None → IsEachUp self.now.ended.items → ⊥ }
+        ensures up { result ≡ true → (self.now.step ≡ None) × IsEachUp self.now.ended }
+        ensures down { result ≡ false → self.now.step ≡ None → IsEachUp self.now.ended → ⊥ }
     {
         self.step.is_none() && are_all_up(&self.ended)
     }
@@ -102,6 +195,20 @@ pub(crate) struct Opened {
     pub(crate) store: Stock,
     pub(crate) partner_ended: bool,
     pub(crate) alloc: Global,
+}
+
+impl Model for Opened {
+    ghost use Rattle.joiner_core.specs.State.{OpenStep};
+
+    ghost Value = { OpenStep };
+
+    ghost view = { λ o. record {
+      epoch = o.epoch;
+      shift = o.shift;
+      turned = o.turned.items;
+      store = o.store;
+      partner_ended = o.partner_ended;
+    } };
 }
 
 // The joiner with whom joiner `id` exchanges tuples in a step.
@@ -166,7 +273,7 @@ impl Opened {
     // Feeder p has turned.
     pub(crate) fn turn(&mut self, p: u32)
         ensures rest { self.new ≡ record self.old { turned = self.new.turned } }
-        ensures turned { self.new.turned.items ≡ slice_set self.old.turned.items p true }
+        ensures turned { self.new.turned ≡ slice_set self.old.turned p true }
     {
         if (p as usize) < self.turned.len() {
             self.turned[p as usize] = true;
@@ -188,7 +295,8 @@ impl Opened {
         requires row { IsRow theta.now tuple.now }
         requires stock { IsStock theta.now self.old.store }
         ensures stored { OnOk result (self.new ≡ opened_late k id self.old tuple.now) }
-        ensures found { OnOk result (found.new ≡ found.old ++ found_late (does_hold theta.now) k id self.old tuple.now) }
+        ensures found { OnOk result
+            (found.new ≡ found.old ++ found_late (does_hold theta.now) k id self.old tuple.now) }
     {
         let shape = Shape {
             k,
@@ -214,7 +322,8 @@ impl Opened {
         requires row { IsRow theta.now tuple }
         requires stock { IsStock theta.now self.old.store }
         ensures stored { OnOk result (self.new ≡ record self.old { store = with_placed tuple self.old.store }) }
-        ensures found { OnOk result (found.new ≡ found.old ++ probed (does_hold theta.now) (named_by which) tuple self.old.store.tuples) }
+        ensures found { OnOk result
+            (found.new ≡ found.old ++ probed (does_hold theta.now) (named_by which) tuple self.old.store.tuples) }
     {
         self.store.probe(&tuple, theta, which, found)?;
         self.store.add(theta, tuple)

@@ -2,7 +2,7 @@
 ghost use Rattle.std.specs.Prelude.{◌≡◌, true, false, ℕ, ◌+◌, ◌<◌, List, [], ◌∷◌, ◌++◌, length, slice_set, MatchOption, IfOk, OnOk, min, ◌^◌, ◌-◌};
 ghost use Rattle.join_rows.specs.Lists.{total};
 ghost use Rattle.epoch_tags.specs.declared.message.ToJoiner.{ToJoiner};
-ghost use Rattle.joiner_core.specs.Stocks.{held_at, BeginsWith};
+ghost use Rattle.joiner_core.specs.State.{held_at, BeginsWith};
 
 use epoch_tags::ToJoiner;
 use std::alloc::{AllocError, Global};
@@ -66,7 +66,8 @@ impl Held {
 
     pub(crate) fn take_first(&mut self, sender: usize) -> Option<ToJoiner>
         requires { sender < length self.old }
-        ensures first { MatchOption result (held_at self.old sender ≡ []) (λ m. held_at self.old sender ≡ m ∷ held_at self.new sender) }
+        ensures first { MatchOption result (held_at self.old sender ≡ [])
+            (λ m. held_at self.old sender ≡ m ∷ held_at self.new sender) }
         ensures rest { self.new ≡ slice_set self.old sender (held_at self.new sender) }
     {
         let queue = &mut self.queues[sender];

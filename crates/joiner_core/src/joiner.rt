@@ -8,13 +8,13 @@ ghost use Rattle.epoch_tags.specs.declared.tuple.Tuple.{Tuple};
 ghost use Rattle.epoch_tags.specs.Links.{HasLink};
 ghost use Rattle.joiner_law.specs.Law.{JoinerStart, JoinerLists, IsFinished, store};
 ghost use Rattle.joiner_core.specs.Machine.{start_of, nothing_yet};
-ghost use Rattle.joiner_core.specs.Stocks.{tuples_of, IsKeyOf, AreRows, HasRow, IsRow};
+ghost use Rattle.joiner_core.specs.State.{tuples_of, IsKeyOf, AreRows, HasRow, DifferInOneBit};
 ghost use Rattle.joiner_core.specs.Standing.{IsSpent, IsJoiner, theta_of, StandsFor, held_number, k_of, id_of, feeders_of, TakesMessage};
 
+use crate::epochs::{Epochs, joiners};
 use crate::machine::Machine;
 use crate::stock::Stock;
-use epoch_tags::{Actor, Sends, ToJoiner, Tuple};
-use join_rows::Side;
+use epoch_tags::{Actor, Sends, ToJoiner};
 use std::alloc::{AllocError, Global};
 use std::marker::Model;
 use store_parts::Store;
@@ -33,16 +33,16 @@ impl<'a> Model for Joiner<'a> {
     ghost use Rattle.std.specs.Coded.{codes};
     ghost use Rattle.theta_pred.specs.FormulaCode.{formula_code};
     ghost use Rattle.joiner_core.specs.Standing.{JoinerState};
-    ghost use Rattle.joiner_core.specs.Machine.{IsSound};
+    ghost use Rattle.joiner_core.specs.Machine.{IsSound, state_of};
 
     ghost Value = { JoinerState };
 
     ghost coded = { Prim.hlevel (codes, formula_code (Prim.hlevel codes)) };
 
-    ghost view = { λ joiner. record { machine = joiner.machine; spent = joiner.spent } };
+    ghost view = { λ joiner. record { machine = state_of joiner.machine; spent = joiner.spent } };
 
     // In the midst of a call, and after one that found no memory, it is spent.
-    ghost invariant = { λ joiner. joiner.spent ≡ false → IsSound joiner.machine };
+    ghost invariant = { λ joiner. joiner.spent ≡ false → IsSound (state_of joiner.machine) };
 }
 
 // A store with no tuples and the predicate's key atom; where there is none, by its text atom.
@@ -56,6 +56,48 @@ fn empty_store(alloc: Global, theta: &Theta) -> Result<Store, AllocError>
     match theta.text_atom() {
         Some(text) => Ok(Store::by_text(alloc, text)),
         None => Ok(Store::new(alloc, None)),
+    }
+}
+
+// Whether two joiners of 2 ^ k differ in one bit of their ids.
+fn differ_in_one_bit(k: u32, from: u32, to: u32) -> bool
+    requires { k < 9 }
+    ensures up { result ≡ true → DifferInOneBit k from to }
+    ensures down { result ≡ false → ¬ DifferInOneBit k from to }
+{
+    for low in 0..k {
+        if from ^ (1u32 << low) == to {
+            return true;
+        }
+    }
+    false
+}
+
+// Whether this sender has a link to joiner `id` of 2 ^ k, of a run with so many feeders.
+fn has_link(k: u32, id: u32, feeders: u32, from: Actor) -> bool
+    requires { k < 9 }
+    ensures up { result ≡ true → HasLink k feeders from (Joiner' id) }
+    ensures down { result ≡ false → ¬ HasLink k feeders from (Joiner' id) }
+{
+    let count = joiners(k);
+    if id >= count {
+        return false;
+    }
+    match from {
+        Actor::Feeder(p) => p < feeders,
+        Actor::Joiner(q) => q < count && differ_in_one_bit(k, q, id),
+        Actor::Controller => false,
+        Actor::Collector => false,
+    }
+}
+
+impl<'a> Epochs<'a> {
+    fn hears(&self, from: Actor) -> bool
+        requires { self.now.k < 9 }
+        ensures up { result ≡ true → HasLink self.now.k self.now.feeders from (Joiner' self.now.id) }
+        ensures down { result ≡ false → ¬ HasLink self.now.k self.now.feeders from (Joiner' self.now.id) }
+    {
+        has_link(self.k, self.id, self.feeders, from)
     }
 }
 
@@ -135,7 +177,7 @@ impl<'a> Joiner<'a> {
         ensures { (start : JoinerStart) (lists : JoinerLists) (stands : StandsFor start lists self.now)
             → result ≡ start.epoch + stands.law.done }
     {
-        self.machine.epochs.epoch
+        self.machine.epochs.settled()
     }
 
     /// How many messages are held, or `2^64 - 1` where there are more.
@@ -163,7 +205,7 @@ impl<'a> Joiner<'a> {
         ensures tuples { (start : JoinerStart) (lists : JoinerLists) (stands : StandsFor start lists self.now)
             → SameBag (tuples_of result.now) (store start stands.taken stands.law.done) }
     {
-        self.machine.epochs.store.store()
+        self.machine.epochs.settled_store()
     }
 
     /// Whether want of memory has stopped it.
@@ -179,14 +221,14 @@ impl<'a> Joiner<'a> {
         ensures { IsTrue result
             ↔ HasLink (k_of self.now) (feeders_of self.now) from (Joiner' (id_of self.now)) }
     {
-        self.machine.hears(from)
+        self.machine.epochs.hears(from)
     }
 
     /// Whether the row that the message carries, if it carries one, has a cell for each column of its side.
     pub fn fits(&self, m: &ToJoiner) -> bool
         ensures { IsTrue result ↔ HasRow (theta_of self.now) m.now }
     {
-        has_row(self.machine.epochs.theta, m)
+        self.machine.epochs.fits(m)
     }
 
     /// Takes a message, or holds it behind its link, and appends what it sends. After want of memory it is spent, and
@@ -208,30 +250,5 @@ impl<'a> Joiner<'a> {
         self.machine.receive(from, m, sends)?;
         self.spent = false;
         Ok(())
-    }
-}
-
-// Whether the tuple has a cell for each column of its side.
-pub(crate) fn is_row(theta: &Theta, tuple: &Tuple) -> bool
-    ensures up { result ≡ true → IsRow theta.now tuple.now }
-    ensures down { result ≡ false → IsRow theta.now tuple.now → ⊥ }
-{
-    match tuple.side {
-        Side::R => tuple.cells.len() == theta.width_r(),
-        Side::S => tuple.cells.len() == theta.width_s(),
-    }
-}
-
-// So has the tuple that a message carries, if it carries one.
-pub(crate) fn has_row(theta: &Theta, m: &ToJoiner) -> bool
-    ensures up { result ≡ true → HasRow theta.now m.now }
-    ensures down { result ≡ false → HasRow theta.now m.now → ⊥ }
-{
-    match m {
-        ToJoiner::Tup(tuple) => is_row(theta, tuple),
-        ToJoiner::Moved { tuple, .. } => is_row(theta, tuple),
-        ToJoiner::Turn { .. } => true,
-        ToJoiner::MovedEnd { .. } => true,
-        ToJoiner::End => true,
     }
 }

@@ -2,12 +2,12 @@
 
 ghost use Rattle.std.specs.Prelude.{◌≡◌, ◌<◌, ◌^◌, true, false, OnOk, IfOk, ℕ};
 ghost use Rattle.epoch_tags.specs.Links.{HasLink};
-ghost use Rattle.joiner_core.specs.Stocks.{DifferInOneBit, HasRow};
-ghost use Rattle.joiner_core.specs.Machine.{IsMade, IsSound, Accepts, IsOfGrid, Receives};
+ghost use Rattle.joiner_core.specs.State.{DifferInOneBit, HasRow};
+ghost use Rattle.joiner_core.specs.Machine.{state_of, IsMade, IsSound, Accepts, IsOfGrid, Receives};
 ghost use Rattle.epoch_tags.specs.declared.actor.Actor.TheVariants.{Feeder, Joiner as Joiner'};
 ghost use Rattle.joiner_core.specs.Taking.{IsWithin, TookOfFeeder, TookOfJoiner, TakesOfFeeder, TakesOfJoiner};
 
-use crate::epochs::{Epochs, all_down};
+use crate::epochs::{Epochs, all_down, joiners};
 use crate::held::Held;
 use crate::stock::Stock;
 use epoch_tags::{Actor, Counts, Pairs, Sends, ToJoiner};
@@ -23,20 +23,6 @@ pub(crate) struct Machine<'a> {
     pub(crate) alloc: Global,
 }
 
-// Whether two joiners of 2 ^ k differ in one bit of their ids.
-fn differ_in_one_bit(k: u32, from: u32, to: u32) -> bool
-    requires { k < 9 }
-    ensures up { result ≡ true → DifferInOneBit k from to }
-    ensures down { result ≡ false → ¬ DifferInOneBit k from to }
-{
-    for low in 0..k {
-        if from ^ (1u32 << low) == to {
-            return true;
-        }
-    }
-    false
-}
-
 impl<'a> Machine<'a> {
     pub(crate) fn start_at(
         alloc: Global,
@@ -49,7 +35,7 @@ impl<'a> Machine<'a> {
         base: Stock,
     ) -> Result<Machine<'a>, AllocError>
         requires { k < 9 }
-        ensures { IfOk result (λ machine. IsMade k id shift epoch feeders theta.now base machine) }
+        ensures { IfOk result (λ machine. IsMade k id shift epoch feeders theta.now base (state_of machine)) }
     {
         let ended = all_down(alloc, feeders)?;
         Ok(Machine {
@@ -67,28 +53,10 @@ impl<'a> Machine<'a> {
                 alloc,
             },
             of_feeders: Held::start(alloc, feeders)?,
-            of_joiners: Held::start(alloc, 1u32 << k)?,
+            of_joiners: Held::start(alloc, joiners(k))?,
             told: false,
             alloc,
         })
-    }
-
-    // Whether this sender has a link to this joiner.
-    pub(crate) fn hears(&self, from: Actor) -> bool
-        requires { self.now.epochs.k < 9 }
-        ensures up { result ≡ true → HasLink self.now.epochs.k self.now.epochs.feeders from (Joiner' self.now.epochs.id) }
-        ensures down { result ≡ false → ¬ HasLink self.now.epochs.k self.now.epochs.feeders from (Joiner' self.now.epochs.id) }
-    {
-        let count = 1u32 << self.epochs.k;
-        if self.epochs.id >= count {
-            return false;
-        }
-        match from {
-            Actor::Feeder(p) => p < self.epochs.feeders,
-            Actor::Joiner(q) => q < count && differ_in_one_bit(self.epochs.k, q, self.epochs.id),
-            Actor::Controller => false,
-            Actor::Collector => false,
-        }
     }
 
     // Takes or holds a message, tries the held ones again and reports.
@@ -98,10 +66,10 @@ impl<'a> Machine<'a> {
         m: ToJoiner,
         sends: &mut Sends,
     ) -> Result<(), AllocError>
-        requires sound { IsSound self.old }
+        requires sound { IsSound (state_of self.old) }
         requires grid { IsOfGrid from self.old.epochs }
-        requires row { HasRow self.old.epochs.theta.now m }
-        ensures { OnOk result (Receives from m self.old self.new sends.old sends.new) }
+        requires row { HasRow self.old.epochs.theta m }
+        ensures { OnOk result (Receives from m (state_of self.old) (state_of self.new) sends.old sends.new) }
     {
         let mut found = Pairs::new(self.alloc);
         self.accept(from, m, &mut found, sends)?;
@@ -119,10 +87,11 @@ impl<'a> Machine<'a> {
         found: &mut Pairs,
         sends: &mut Sends,
     ) -> Result<(), AllocError>
-        requires sound { IsSound self.old }
+        requires sound { IsSound (state_of self.old) }
         requires grid { IsOfGrid from self.old.epochs }
-        requires row { HasRow self.old.epochs.theta.now m }
-        ensures { OnOk result (Accepts from m self.old self.new found.old found.new sends.old sends.new) }
+        requires row { HasRow self.old.epochs.theta m }
+        ensures { OnOk result
+            (Accepts from m (state_of self.old) (state_of self.new) found.old found.new sends.old sends.new) }
     {
         match from {
             Actor::Feeder(p) => self.accept_of_feeder(p, m, found, sends)?,
@@ -140,10 +109,11 @@ impl<'a> Machine<'a> {
         found: &mut Pairs,
         sends: &mut Sends,
     ) -> Result<(), AllocError>
-        requires sound { IsSound self.old }
+        requires sound { IsSound (state_of self.old) }
         requires few { p < self.old.epochs.feeders }
-        requires row { HasRow self.old.epochs.theta.now m }
-        ensures { OnOk result (Accepts (Feeder p) m self.old self.new found.old found.new sends.old sends.new) }
+        requires row { HasRow self.old.epochs.theta m }
+        ensures { OnOk result
+            (Accepts (Feeder p) m (state_of self.old) (state_of self.new) found.old found.new sends.old sends.new) }
     {
         if self.of_feeders.is_clear(p as usize) && self.can_take_of_feeder(p, &m) {
             self.take_of_feeder(p, m, found, sends)?;
@@ -160,10 +130,11 @@ impl<'a> Machine<'a> {
         found: &mut Pairs,
         sends: &mut Sends,
     ) -> Result<(), AllocError>
-        requires sound { IsSound self.old }
+        requires sound { IsSound (state_of self.old) }
         requires few { q < 2 ^ self.old.epochs.k }
-        requires row { HasRow self.old.epochs.theta.now m }
-        ensures { OnOk result (Accepts (Joiner' q) m self.old self.new found.old found.new sends.old sends.new) }
+        requires row { HasRow self.old.epochs.theta m }
+        ensures { OnOk result
+            (Accepts (Joiner' q) m (state_of self.old) (state_of self.new) found.old found.new sends.old sends.new) }
     {
         if self.of_joiners.is_clear(q as usize) && self.can_take_of_joiner(q, &m) {
             self.take_of_joiner(m, found, sends)?;
@@ -209,9 +180,10 @@ impl<'a> Machine<'a> {
         requires few { p < self.old.epochs.feeders }
         requires within { IsWithin self.old.epochs }
         requires can { TakesOfFeeder self.old.epochs p m }
-        requires row { HasRow self.old.epochs.theta.now m }
-        ensures rest { OnOk result (self.new ≡ record self.old { epochs = self.new.epochs }) }
-        ensures took { OnOk result (TookOfFeeder p m self.old.epochs self.new.epochs found.old found.new sends.old sends.new) }
+        requires row { HasRow self.old.epochs.theta m }
+        ensures rest { OnOk result (state_of self.new ≡ record (state_of self.old) { epochs = self.new.epochs }) }
+        ensures took { OnOk result
+            (TookOfFeeder p m self.old.epochs self.new.epochs found.old found.new sends.old sends.new) }
     {
         match m {
             ToJoiner::Tup(tuple) => self.epochs.take_tup(p, tuple, found, sends),
@@ -231,9 +203,10 @@ impl<'a> Machine<'a> {
         sends: &mut Sends,
     ) -> Result<(), AllocError>
         requires within { IsWithin self.old.epochs }
-        requires row { HasRow self.old.epochs.theta.now m }
-        ensures rest { OnOk result (self.new ≡ record self.old { epochs = self.new.epochs }) }
-        ensures took { OnOk result ((q : ℕ) → TakesOfJoiner self.old.epochs q m → TookOfJoiner q m self.old.epochs self.new.epochs found.old found.new sends.old sends.new) }
+        requires row { HasRow self.old.epochs.theta m }
+        ensures rest { OnOk result (state_of self.new ≡ record (state_of self.old) { epochs = self.new.epochs }) }
+        ensures took { OnOk result ((q : ℕ) → TakesOfJoiner self.old.epochs q m
+            → TookOfJoiner q m self.old.epochs self.new.epochs found.old found.new sends.old sends.new) }
     {
         match m {
             ToJoiner::Moved { tuple, .. } => {

@@ -1,7 +1,7 @@
 // A tuple that the partner moved here, and the end of its part.
 
 ghost use Rattle.std.specs.Prelude.{◌≡◌, true, false, ◌++◌, ◌<◌, OnOk};
-ghost use Rattle.joiner_core.specs.Stocks.{IsRow};
+ghost use Rattle.joiner_core.specs.State.{IsRow};
 ghost use Rattle.joiner_core.specs.Taking.{IsWithin, PartFits};
 ghost use Rattle.joiner_core.specs.Changes.{after_moved, found_moved, after_part};
 
@@ -28,13 +28,14 @@ impl<'a> Epochs<'a> {
     }
 
     pub(crate) fn take_moved(&mut self, tuple: Tuple, found: &mut Pairs) -> Result<(), AllocError>
-        requires row { IsRow self.old.theta.now tuple }
+        requires row { IsRow self.old.theta tuple }
         requires within { IsWithin self.old }
         ensures state { OnOk result (self.new ≡ after_moved self.old tuple) }
         ensures found { OnOk result (found.new ≡ found.old ++ found_moved self.old tuple) }
     {
         if let Some(open) = &mut self.step {
-            open.take(self.theta, Which::OnlyStamp(open.epoch), tuple, found)?;
+            let epoch = open.epoch;
+            open.take(self.theta, Which::OnlyStamp(epoch), tuple, found)?;
         }
         Ok(())
     }

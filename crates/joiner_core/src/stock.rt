@@ -4,10 +4,10 @@ ghost use Rattle.migration_plan.specs.Steps.{is_of};
 ghost use Rattle.store_parts.specs.Stored.{AreSided};
 ghost use Rattle.joiner_law.specs.History.{probed};
 ghost use Rattle.joiner_law.specs.Posting.{moved_post};
-ghost use Rattle.joiner_core.specs.Stocks.{does_hold};
-ghost use Rattle.joiner_core.specs.Stocks.{named_by};
-ghost use Rattle.joiner_core.specs.Stocks.{stocked_of, with_placed, kept_stock, IsKeyOf};
-ghost use Rattle.joiner_core.specs.Stocks.{IsRow, IsStock};
+ghost use Rattle.joiner_core.specs.State.{does_hold};
+ghost use Rattle.joiner_core.specs.State.{named_by};
+ghost use Rattle.joiner_core.specs.State.{stocked_of, with_placed, kept_stock, IsKeyOf};
+ghost use Rattle.joiner_core.specs.State.{IsRow, IsStock};
 
 use crate::epochs::move_to;
 use epoch_tags::{Pairs, Sends, Tuple};
@@ -26,7 +26,7 @@ pub(crate) struct Stock {
 
 impl Model for Stock {
     ghost use Rattle.store_parts.specs.Stored.{AreSided};
-    ghost use Rattle.joiner_core.specs.Stocks.{Stocked, stocked_of};
+    ghost use Rattle.joiner_core.specs.State.{Stocked, stocked_of};
 
     ghost Value = { Stocked };
 
@@ -82,7 +82,8 @@ impl Stock {
     ) -> Result<(), AllocError>
         requires row { IsRow theta.now tuple.now }
         requires stock { IsStock theta.now self.now }
-        ensures { OnOk result (found.new ≡ found.old ++ probed (does_hold theta.now) (named_by which) tuple.now self.now.tuples) }
+        ensures { OnOk result
+            (found.new ≡ found.old ++ probed (does_hold theta.now) (named_by which) tuple.now self.now.tuples) }
     {
         self.store.probe_uncounted(tuple, theta, which, found)?;
         Ok(())
@@ -106,7 +107,8 @@ impl Stock {
         epoch: u32,
         sends: &mut Sends,
     ) -> Result<(), AllocError>
-        ensures { OnOk result (sends.new ≡ sends.old ++ map (moved_post to epoch) (filter (is_of side) self.now.tuples)) }
+        ensures { OnOk result
+            (sends.new ≡ sends.old ++ map (moved_post to epoch) (filter (is_of side) self.now.tuples)) }
     {
         send_all(self.store.side(side).as_slice(), to, epoch, sends)?;
         Ok(())

@@ -1,8 +1,8 @@
 ghost use Rattle.std.specs.Prelude.{◌≡◌, ◌≤◌, ◌<◌, length, IfOk};
 ghost use Rattle.std.specs.List.{AllByRecursion};
 ghost use Rattle.epoch_tags.specs.declared.tuple.Tuple.{Tuple as Tuple'};
-ghost use Rattle.joiner_core.specs.Stocks.{tuples_of, IsKeyOf};
-ghost use Rattle.joiner_core.specs.Stocks.{AreRows};
+ghost use Rattle.joiner_core.specs.State.{tuples_of, IsKeyOf};
+ghost use Rattle.joiner_core.specs.State.{AreRows};
 
 use crate::Joiner;
 use epoch_tags::{

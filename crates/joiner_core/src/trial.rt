@@ -1,7 +1,7 @@
 // The held messages, which are tried again after each one that was taken.
 
 ghost use Rattle.std.specs.Prelude.{◌≡◌, ◌<◌, ◌^◌, true, false, OnOk, IfOk, IfSome, MatchOption};
-ghost use Rattle.joiner_core.specs.Machine.{Advances, IsSound, IsStuck, AreStuckOfFeeders, AreStuckOfJoiners, IsReadyOfFeeder, IsReadyOfJoiner, TookHeld, HasTakenNext, AreTried, held_in_all};
+ghost use Rattle.joiner_core.specs.Machine.{state_of, Advances, IsSound, IsStuck, AreStuckOfFeeders, AreStuckOfJoiners, IsReadyOfFeeder, IsReadyOfJoiner, TookHeld, HasTakenNext, AreTried, held_in_all};
 ghost use Rattle.epoch_tags.specs.declared.actor.Actor.TheVariants.{Feeder, Joiner as Joiner'};
 
 use crate::machine::Machine;
@@ -15,11 +15,12 @@ impl<'a> Machine<'a> {
         found: &mut Pairs,
         sends: &mut Sends,
     ) -> Result<(), AllocError>
-        requires { IsSound self.old }
-        ensures sound { OnOk result (IsSound self.new) }
-        ensures took { OnOk result (Advances self.old self.new found.old found.new sends.old sends.new) }
-        ensures tried { OnOk result (AreTried self.old self.new) }
-        ensures stuck { OnOk result (IsStuck self.new) }
+        requires { IsSound (state_of self.old) }
+        ensures sound { OnOk result (IsSound (state_of self.new)) }
+        ensures took { OnOk result
+            (Advances (state_of self.old) (state_of self.new) found.old found.new sends.old sends.new) }
+        ensures tried { OnOk result (AreTried (state_of self.old) (state_of self.new)) }
+        ensures stuck { OnOk result (IsStuck (state_of self.new)) }
     {
         'trial: while self.take_one_held(found, sends)? {}
         Ok(())
@@ -31,13 +32,15 @@ impl<'a> Machine<'a> {
         found: &mut Pairs,
         sends: &mut Sends,
     ) -> Result<bool, AllocError>
-        requires { IsSound self.old }
-        ensures sound { OnOk result (IsSound self.new) }
-        ensures took { OnOk result (Advances self.old self.new found.old found.new sends.old sends.new) }
-        ensures fewer { IfOk result (λ more. more ≡ true → held_in_all self.new < held_in_all self.old) }
-        ensures next { IfOk result (λ more. more ≡ true → HasTakenNext self.old self.new) }
-        ensures none { IfOk result (λ more. more ≡ false → self.new ≡ self.old) }
-        ensures stuck { IfOk result (λ more. more ≡ false → IsStuck self.new) }
+        requires { IsSound (state_of self.old) }
+        ensures sound { OnOk result (IsSound (state_of self.new)) }
+        ensures took { OnOk result
+            (Advances (state_of self.old) (state_of self.new) found.old found.new sends.old sends.new) }
+        ensures fewer { IfOk result (λ more.
+            more ≡ true → held_in_all (state_of self.new) < held_in_all (state_of self.old)) }
+        ensures next { IfOk result (λ more. more ≡ true → HasTakenNext (state_of self.old) (state_of self.new)) }
+        ensures none { IfOk result (λ more. more ≡ false → state_of self.new ≡ state_of self.old) }
+        ensures stuck { IfOk result (λ more. more ≡ false → IsStuck (state_of self.new)) }
     {
         match self.ready_feeder() {
             Some(p) => {
@@ -61,9 +64,10 @@ impl<'a> Machine<'a> {
         found: &mut Pairs,
         sends: &mut Sends,
     ) -> Result<(), AllocError>
-        requires sound { IsSound self.old }
-        requires ready { IsReadyOfFeeder self.old p }
-        ensures { OnOk result (TookHeld (Feeder p) self.old self.new found.old found.new sends.old sends.new) }
+        requires sound { IsSound (state_of self.old) }
+        requires ready { IsReadyOfFeeder (state_of self.old) p }
+        ensures { OnOk result
+            (TookHeld (Feeder p) (state_of self.old) (state_of self.new) found.old found.new sends.old sends.new) }
     {
         if let Some(m) = self.of_feeders.take_first(p as usize) {
             self.take_of_feeder(p, m, found, sends)?;
@@ -78,9 +82,10 @@ impl<'a> Machine<'a> {
         found: &mut Pairs,
         sends: &mut Sends,
     ) -> Result<(), AllocError>
-        requires sound { IsSound self.old }
-        requires ready { IsReadyOfJoiner self.old q }
-        ensures { OnOk result (TookHeld (Joiner' q) self.old self.new found.old found.new sends.old sends.new) }
+        requires sound { IsSound (state_of self.old) }
+        requires ready { IsReadyOfJoiner (state_of self.old) q }
+        ensures { OnOk result
+            (TookHeld (Joiner' q) (state_of self.old) (state_of self.new) found.old found.new sends.old sends.new) }
     {
         if let Some(m) = self.of_joiners.take_first(q as usize) {
             self.take_of_joiner(m, found, sends)?;
@@ -90,11 +95,12 @@ impl<'a> Machine<'a> {
 
     // The first feeder whose first held message can be taken.
     pub(crate) fn ready_feeder(&self) -> Option<u32>
-        requires { IsSound self.now }
-        ensures ready { MatchOption result (AreStuckOfFeeders self.now.epochs.feeders self.now) (λ p. IsReadyOfFeeder self.now p) }
-        ensures first { IfSome result (λ p. AreStuckOfFeeders p self.now) }
+        requires { IsSound (state_of self.now) }
+        ensures ready { MatchOption result (AreStuckOfFeeders self.now.epochs.feeders (state_of self.now))
+            (λ p. IsReadyOfFeeder (state_of self.now) p) }
+        ensures first { IfSome result (λ p. AreStuckOfFeeders p (state_of self.now)) }
     {
-        for p in 0..self.epochs.feeders {
+        for p in 0..self.epochs.feeders() {
             if let Some(m) = self.of_feeders.first(p as usize) {
                 if self.can_take_of_feeder(p, m) {
                     return Some(p);
@@ -106,11 +112,12 @@ impl<'a> Machine<'a> {
 
     // The first joiner whose first held message can be taken.
     pub(crate) fn ready_joiner(&self) -> Option<u32>
-        requires { IsSound self.now }
-        ensures ready { MatchOption result (AreStuckOfJoiners (2 ^ self.now.epochs.k) self.now) (λ q. IsReadyOfJoiner self.now q) }
-        ensures first { IfSome result (λ q. AreStuckOfJoiners q self.now) }
+        requires { IsSound (state_of self.now) }
+        ensures ready { MatchOption result (AreStuckOfJoiners (2 ^ self.now.epochs.k) (state_of self.now))
+            (λ q. IsReadyOfJoiner (state_of self.now) q) }
+        ensures first { IfSome result (λ q. AreStuckOfJoiners q (state_of self.now)) }
     {
-        for q in 0..(1u32 << self.epochs.k) {
+        for q in 0..self.epochs.joiners() {
             if let Some(m) = self.of_joiners.first(q as usize) {
                 if self.can_take_of_joiner(q, m) {
                     return Some(q);

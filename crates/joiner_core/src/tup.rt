@@ -2,7 +2,7 @@
 
 ghost use Rattle.std.specs.Prelude.{◌≡◌, ◌++◌, true, false, OnOk};
 ghost use Rattle.epoch_tags.specs.declared.message.ToJoiner.TheVariants.{Tup};
-ghost use Rattle.joiner_core.specs.Stocks.{IsRow};
+ghost use Rattle.joiner_core.specs.State.{IsRow};
 ghost use Rattle.joiner_core.specs.Taking.{IsWithin, CanTakeTup, TookOfFeeder};
 ghost use Rattle.joiner_core.specs.Changes.{after_old, found_old, posts_old, after_new, found_new};
 
@@ -41,7 +41,7 @@ impl<'a> Epochs<'a> {
     ) -> Result<(), AllocError>
         requires within { IsWithin self.old }
         requires can { CanTakeTup self.old p tuple.stamp }
-        requires row { IsRow self.old.theta.now tuple }
+        requires row { IsRow self.old.theta tuple }
         ensures { OnOk result (TookOfFeeder p (Tup tuple) self.old self.new found.old found.new sends.old sends.new) }
     {
         if self.has_turned(p) {
@@ -60,7 +60,7 @@ impl<'a> Epochs<'a> {
         sends: &mut Sends,
     ) -> Result<(), AllocError>
         requires within { IsWithin self.old }
-        requires row { IsRow self.old.theta.now tuple }
+        requires row { IsRow self.old.theta tuple }
         ensures state { OnOk result (self.new ≡ after_old self.old tuple) }
         ensures found { OnOk result (found.new ≡ found.old ++ found_old self.old tuple) }
         ensures posts { OnOk result (sends.new ≡ sends.old ++ posts_old self.old tuple) }
@@ -82,7 +82,7 @@ impl<'a> Epochs<'a> {
 
     // A tuple of the open step's epoch.
     pub(crate) fn take_new(&mut self, tuple: Tuple, found: &mut Pairs) -> Result<(), AllocError>
-        requires row { IsRow self.old.theta.now tuple }
+        requires row { IsRow self.old.theta tuple }
         requires within { IsWithin self.old }
         ensures state { OnOk result (self.new ≡ after_new self.old tuple) }
         ensures found { OnOk result (found.new ≡ found.old ++ found_new self.old tuple) }

@@ -49,7 +49,8 @@ impl<'a> Epochs<'a> {
         requires few { p < self.old.feeders }
         requires within { IsWithin self.old }
         requires can { CanTakeTurn self.old p epoch shift }
-        ensures { OnOk result ((waiting : List Pair) → TookOfFeeder p (Turn epoch shift) self.old self.new waiting waiting sends.old sends.new) }
+        ensures { OnOk result ((waiting : List Pair)
+            → TookOfFeeder p (Turn epoch shift) self.old self.new waiting waiting sends.old sends.new) }
     {
         self.begin_step(epoch, shift, sends)?;
         self.turn(p, sends)?;

@@ -1,7 +1,7 @@
 use Rattle.std.proofs.Common.{◌≡◌, ◌^◌, ◌-◌, length}
 use Rattle.std.specs.Prelude.{min}
 use Rattle.join_rows.specs.Lists.{total}
-use Rattle.joiner_core.specs.Stocks.{held_at}
+use Rattle.joiner_core.specs.State.{held_at}
 use Rattle.joiner_core.proofs.held.Held.count.Given as goal
 
 abbrev pub invariant-loop-sender : goal.invariant-loop-sender

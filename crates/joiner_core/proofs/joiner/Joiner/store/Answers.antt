@@ -2,21 +2,22 @@ use Rattle.std.proofs.Common.{subst, sym, ap, ℕ}
 use Rattle.join_rows.specs.Lists.{SameBag}
 use Rattle.join_rows.proofs.Bags.{SameBag-trans}
 use Rattle.joiner_law.specs.Law.{Taken, store}
-use Rattle.joiner_core.specs.Stocks.{Stocked, tuples_of, IsKeyOf}
+use Rattle.joiner_core.specs.State.{Stocked, tuples_of, IsKeyOf}
 use Rattle.joiner_core.proofs.Assembling.{store-law}
 use Rattle.joiner_core.proofs.Beginning.{same-bag}
 use Rattle.joiner_core.proofs.Calling.{sound-at-work}
+use Rattle.joiner_core.specs.Machine.{state_of}
 use Rattle.joiner_core.proofs.joiner.Joiner.store.Goals as goal
 
 pub returns-clause-tuples : goal.returns-clause-tuples
 returns-clause-tuples c = rw (← c.self.view_is) (λ s lists stands.
     let is = stands.machine.between in
-    let bag = SameBag-trans (same-bag _ _ (ap (λ (z : Stocked). z.tuples) c.store.ensures)) (store-law s lists c.self.inside.machine is) in
-    subst (λ (t : Taken). SameBag (tuples_of c.store.result.now) (store s t stands.law.done)) stands.machine.taken
-    (subst (λ (n : ℕ). SameBag (tuples_of c.store.result.now) (store s is.within.taken n)) stands.machine.done bag))
+    let bag = SameBag-trans (same-bag _ _ (ap (λ (z : Stocked). z.tuples) c.settled_store.ensures)) (store-law s lists (state_of c.self.inside.machine) is) in
+    subst (λ (t : Taken). SameBag (tuples_of c.settled_store.result.now) (store s t stands.law.done)) stands.machine.taken
+    (subst (λ (n : ℕ). SameBag (tuples_of c.settled_store.result.now) (store s is.within.taken n)) stands.machine.done bag))
 
 pub returns-clause-key : goal.returns-clause-key
 returns-clause-key c = rw (← c.self.view_is) (λ going.
-    let m = c.self.inside.machine in
-    subst (λ (z : Stocked). IsKeyOf m.epochs.theta.now z.key) (sym c.store.ensures)
+    let m = (state_of c.self.inside.machine) in
+    subst (λ (z : Stocked). IsKeyOf m.epochs.theta z.key) (sym c.settled_store.ensures)
     (sound-at-work (record { machine = m; spent = c.self.inside.spent }) c.self.invariant going).within.stock.key)

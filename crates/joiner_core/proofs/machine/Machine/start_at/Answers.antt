@@ -1,5 +1,4 @@
-use Rattle.std.proofs.Common.{refl, ◌∙◌, arith}
-use Rattle.std.proofs.lemmas.Nat.{one_shl}
+use Rattle.std.proofs.Common.{refl, ◌∙◌}
 use Rattle.joiner_core.proofs.machine.Machine.start_at.Goals as goal
 
 pub returns : goal.returns
@@ -16,7 +15,7 @@ returns c = record {
   ended = c.in_ok-ended.ensures.length;
   down = c.in_ok-ended.ensures.down;
   of_feeders = c.in_ok-start.ensures.count;
-  of_joiners = c.in_ok-start-2.ensures.count ∙ one_shl c.args.k 32 (let small = c.requires in omega arith);
+  of_joiners = c.in_ok-start-2.ensures.count ∙ c.joiners.ensures;
   no_feeders = c.in_ok-start.ensures.empty;
   no_joiners = c.in_ok-start-2.ensures.empty;
   told = refl;

@@ -1,6 +1,6 @@
 use Rattle.std.proofs.Common.{subst}
-use Rattle.joiner_core.specs.Machine.{AreTried, none_ready, next}
-use Rattle.joiner_core.specs.declared.machine.Machine.{Machine}
+use Rattle.joiner_core.specs.Machine.{state_of, AreTried, none_ready, next}
+use Rattle.joiner_core.specs.State.{MachineState}
 use Rattle.joiner_core.proofs.Advancing.{advances-none, advances-then}
 use Rattle.joiner_core.proofs.machine.Machine.take_held.Goals as goal
 
@@ -19,4 +19,4 @@ returns-clause-took c = advances-then _ _ _ _ _ _ _ _ _ c.trial.invariant.took c
 
 pub returns-clause-tried : goal.returns-clause-tried
 returns-clause-tried c =
-    c.trial.invariant.tried _ (subst (λ (z : Machine). AreTried z c.take_one_held.new.self) (c.in_ok-take_one_held.ensures.none c.if-branch.false) (none_ready (c.in_ok-take_one_held.ensures.stuck c.if-branch.false)))
+    c.trial.invariant.tried _ (subst (λ (z : MachineState). AreTried z (state_of c.take_one_held.new.self)) (c.in_ok-take_one_held.ensures.none c.if-branch.false) (none_ready (c.in_ok-take_one_held.ensures.stuck c.if-branch.false)))

@@ -1,6 +1,6 @@
 use Rattle.std.proofs.Common.{ap, ◌∙◌}
 use Rattle.store_parts.specs.Stored.{Stored}
-use Rattle.joiner_core.specs.Stocks.{stocked_of, with_placed}
+use Rattle.joiner_core.specs.State.{stocked_of, with_placed}
 use Rattle.joiner_core.proofs.Stocking.{stocked-with}
 use Rattle.joiner_core.proofs.stock.Stock.add.Goals as goal
 

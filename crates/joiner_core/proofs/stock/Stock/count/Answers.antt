@@ -1,6 +1,6 @@
 use Rattle.std.proofs.Common.{ap, ◌∙◌, length, count_by}
 use Rattle.migration_plan.specs.Steps.{is_of}
-use Rattle.joiner_core.specs.Stocks.{Stocked}
+use Rattle.joiner_core.specs.State.{Stocked}
 use Rattle.joiner_core.proofs.Stocking.{count-side}
 use Rattle.joiner_core.proofs.stock.Stock.count.Goals as goal
 

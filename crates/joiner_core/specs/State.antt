@@ -1,4 +1,4 @@
--- What a joiner has of one epoch: tuples of the predicate's widths, and the predicate as a test of two of them; messages held, link by link.
+-- What a joiner holds: tuples of the predicate's widths, its epochs, and messages held, link by link.
 use Rattle.std.specs.Prelude.{Bool, ◌≡◌, ℕ, ◌<◌, ◌^◌, bit_xor, List, [], ◌∷◌, slice_index_or, Option, option_map, ◌++◌, filter, ⊤, All}
 use Rattle.epoch_tags.specs.declared.tuple.Tuple.{Tuple}
 use Rattle.theta_pred.specs.Formula.{Meaning}
@@ -78,6 +78,37 @@ kept_stock k shift id stock = record stock { tuples = filter (holds k shift id) 
 -- the key is the predicate's key atom, and there is none where the predicate has none
 abbrev pub IsKeyOf : Meaning → Option KeyAtom → Type 0
 IsKeyOf theta key = option_map atom_of key ≡ key_of theta.formula
+
+-- ---- the epochs
+
+-- an open step: its epoch and shift, which feeders have turned, what the joiner has of its epoch, and whether the partner's part is over
+pub record OpenStep : Type 0 where
+  pub epoch : ℕ
+  pub shift : ℕ
+  pub turned : List Bool
+  pub store : Stocked
+  pub partner_ended : Bool
+
+-- what a joiner has of its epochs: what never changes; the settled epoch, its shift and store; which feeders have ended; the open step;
+-- and how many tuples were moved in each settled step
+pub record EpochState : Type 0 where
+  pub k : ℕ
+  pub id : ℕ
+  pub feeders : ℕ
+  pub theta : Meaning
+  pub epoch : ℕ
+  pub shift : ℕ
+  pub store : Stocked
+  pub ended : List Bool
+  pub step : Option OpenStep
+  pub moved : List ℕ
+
+-- the machine: its epochs, the messages held of each feeder and joiner, and whether the last message was sent
+pub record MachineState : Type 0 where
+  pub epochs : EpochState
+  pub of_feeders : List (List ToJoiner)
+  pub of_joiners : List (List ToJoiner)
+  pub told : Bool
 
 -- ---- rows of the predicate's widths
 
