@@ -51,6 +51,7 @@ abbrev pub first_wrong : List (List ℕ) → List (List ℕ) → List Name → O
 first_wrong names_r names_s [] = None
 first_wrong names_r names_s (name ∷ names) = option_or (wrong_at name (places_of names_r names_s name)) (first_wrong names_r names_s names)
 
+-- the predicate, unless a name is wrong
 abbrev pub unless_wrong : Option TextFault → Meaning → Result Meaning Refusal
 unless_wrong None theta = Ok theta
 unless_wrong (Some fault) theta = Err (Predicate fault)

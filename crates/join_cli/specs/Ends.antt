@@ -80,11 +80,12 @@ pub record TakesEach (takes : ℕ → Type 0) (asked : Asked) (planned : Planned
 abbrev pub LacksOne : Told → Asked → Type 0
 LacksOne told asked = Lacks told asked.name_r ⊎ Lacks told asked.name_s
 
--- the name of a side's file
+-- of two names the one of a side
 abbrev pub name_on : Side → List ℕ → List ℕ → List ℕ
 name_on R name_r name_s = name_r
 name_on S name_r name_s = name_s
 
+-- the name of a side's file
 abbrev pub name_of : Side → Asked → List ℕ
 name_of side asked = name_on side asked.name_r asked.name_s
 

@@ -37,6 +37,7 @@ column_refusal (columns.NoColumn side name) = Predicate (NoColumn side name)
 column_refusal (columns.TwoColumns side name) = Predicate (TwoColumns side name)
 column_refusal columns.Memory = Memory
 
+-- the outcome that tells a refusal
 abbrev pub refused_as : Refusal → Outcome
 refused_as (Predicate fault) = outcomes.Predicate fault
 refused_as (Input fault) = outcomes.Input fault

@@ -47,6 +47,7 @@ TablesAsked told spot asked (Some count) result = result ≡ Ok (made_tables cou
 abbrev pub plan_over : Tree → List ℕ → List ℕ → Result Planned Refusal
 plan_over tree seen_r seen_s = then_of (tables_in (Some seen_r) (Some seen_s)) (fitted tree)
 
+-- the plan, or the refusal, is that of bytes which were read of two files
 pub record PlanSeen (told : Told) (spot : Spot) (asked : Asked) (tree : Tree) (result : Result Planned Refusal) : Type 0 where
   pub seen_r : List ℕ
   pub seen_s : List ℕ

@@ -16,6 +16,7 @@ abbrev pub IsRead : List ℕ → Result Tree PredFault → Type 0
 IsRead text (Ok tree) = TextReads limits text tree
 IsRead text (Err fault) = IsFaultOf limits text fault
 
+-- the tree, or the refusal of the text
 abbrev pub tree_or_refused : Result Tree PredFault → Result Tree Refusal
 tree_or_refused (Ok tree) = Ok tree
 tree_or_refused (Err fault) = Err (text_refusal fault)

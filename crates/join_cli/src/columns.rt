@@ -25,7 +25,8 @@ pub(crate) fn theta(
     requires { longest_sum pred.now ≤ 16 }
     ensures answer { (result ≡ Err Refusal.Memory)
         ⊎ (result ≡ theta_over names_r.now names_s.now (tree_of pred.now)) }
-    ensures found { IfOk result (λ theta. theta_over names_r.now names_s.now (tree_of pred.now) ≡ Ok theta) }
+    ensures found { IfOk result
+        (λ theta. theta_over names_r.now names_s.now (tree_of pred.now) ≡ Ok theta) }
     ensures text { (text : List ℕ) (fault : TextFault) → result ≡ Err (Refusal.Predicate fault)
         → IsTrueOf text fault }
     ensures files { result ≡ Err Refusal.Read → ⊥ }

@@ -41,7 +41,8 @@ fn conclude_whole<R: Threads + Wait + Sync, K: Sink, G: Gate>(
     ensures nothing { result ≡ Outcome.Memory → sink.new ≡ sink.old }
     ensures counts { result ≢ Outcome.Write → K.faults sink.new ≡ K.faults sink.old }
     ensures fails { result ≡ Outcome.Write → K.faults sink.old < K.faults sink.new }
-    ensures complete { TakesEach (K.takes sink.old) (asked options.now) planned → IsDone result ⊎ (result ≡ Outcome.Memory) }
+    ensures complete { TakesEach (K.takes sink.old) (asked options.now) planned
+        → IsDone result ⊎ (result ≡ Outcome.Memory) }
     ensures left { PutsSome (K.written sink.old) (K.written sink.new) (K.takes sink.old) (K.takes sink.new) }
 {
     let Joined {
@@ -75,11 +76,13 @@ fn conclude_early<R: Threads + Wait + Sync, K: Sink, G: Gate>(
     requires batch { (1 ≤ options.now.batch) × (options.now.batch ≤ 4096) }
     requires fits { IfSome options.now.fixed (λ fixed. fixed ≤ options.now.k) }
     requires early { options.now.early ≡ true }
-    requires alone { (options.now.replay ≡ None) × (options.now.make ≡ None) × (options.now.rows ≡ false) }
+    requires alone { (options.now.replay ≡ None) × (options.now.make ≡ None)
+        × (options.now.rows ≡ false) }
     ensures ends { Concludes (asked options.now) planned (K.written sink.old) (K.written sink.new) result }
     ensures counts { result ≢ Outcome.Write → K.faults sink.new ≡ K.faults sink.old }
     ensures fails { result ≡ Outcome.Write → K.faults sink.old < K.faults sink.new }
-    ensures complete { TakesEach (K.takes sink.old) (asked options.now) planned → IsDone result ⊎ (result ≡ Outcome.Memory) }
+    ensures complete { TakesEach (K.takes sink.old) (asked options.now) planned
+        → IsDone result ⊎ (result ≡ Outcome.Memory) }
     ensures left { PutsSome (K.written sink.old) (K.written sink.new) (K.takes sink.old) (K.takes sink.new) }
 {
     let setting = setting(options);
@@ -113,12 +116,14 @@ pub(crate) fn conclude<R: Threads + Wait + Sync, K: Sink, G: Gate>(
     requires workers { (1 ≤ options.now.workers) × (options.now.workers ≤ 16) }
     requires batch { (1 ≤ options.now.batch) × (options.now.batch ≤ 4096) }
     requires fits { IfSome options.now.fixed (λ fixed. fixed ≤ options.now.k) }
-    requires alone { options.now.early ≡ true → (options.now.replay ≡ None) × (options.now.make ≡ None) × (options.now.rows ≡ false) }
+    requires alone { options.now.early ≡ true
+        → (options.now.replay ≡ None) × (options.now.make ≡ None) × (options.now.rows ≡ false) }
     ensures ends { Concludes (asked options.now) planned (K.written sink.old) (K.written sink.new) result }
     ensures nothing { options.now.early ≡ false → result ≡ Outcome.Memory → sink.new ≡ sink.old }
     ensures counts { result ≢ Outcome.Write → K.faults sink.new ≡ K.faults sink.old }
     ensures fails { result ≡ Outcome.Write → K.faults sink.old < K.faults sink.new }
-    ensures complete { TakesEach (K.takes sink.old) (asked options.now) planned → IsDone result ⊎ (result ≡ Outcome.Memory) }
+    ensures complete { TakesEach (K.takes sink.old) (asked options.now) planned
+        → IsDone result ⊎ (result ≡ Outcome.Memory) }
     ensures left { PutsSome (K.written sink.old) (K.written sink.new) (K.takes sink.old) (K.takes sink.new) }
 {
     if options.early {

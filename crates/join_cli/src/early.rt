@@ -51,7 +51,8 @@ fn put_report<K: Sink>(
     requires run { IsRunOf input.now setting.now run.now.journal run.now }
     ensures whole { OnOk result (K.written sink.new ≡ append_known (K.written sink.old)
         (report_asked options.now.report input.now setting.now run.now.journal)) }
-    ensures front { result ≡ Err EarlyFault.Write → AppendsFront (K.written sink.old) (K.written sink.new)
+    ensures front { result ≡ Err EarlyFault.Write
+        → AppendsFront (K.written sink.old) (K.written sink.new)
         (report_asked options.now.report input.now setting.now run.now.journal) }
     ensures nothing { result ≡ Err EarlyFault.Memory → sink.new ≡ sink.old }
     ensures counts { result ≢ Err EarlyFault.Write → K.faults sink.new ≡ K.faults sink.old }
@@ -83,16 +84,21 @@ pub(crate) fn put_found<R: Threads + Wait + Sync, G: Gate, K: Sink>(
     requires sink { K.faults sink.old < last_fault }
     requires input { IsValidInput input.now }
     requires setting { IsValidSetting setting.now }
-    ensures run { IfOk result (λ course. IsRunOf input.now setting.now course.run.journal course.run) }
-    ensures went { IfOk result (λ course. IsRunInThreads input.now setting.now course.run.journal course.trail) }
-    ensures whole { IfOk result (λ course. PutFound options.now.report input.now setting.now course.run.journal
+    ensures run { IfOk result
+        (λ course. IsRunOf input.now setting.now course.run.journal course.run) }
+    ensures went { IfOk result
+        (λ course. IsRunInThreads input.now setting.now course.run.journal course.trail) }
+    ensures whole { IfOk result
+        (λ course. PutFound options.now.report input.now setting.now course.run.journal
         (K.written sink.old) (K.written sink.new)) }
     ensures part { result ≡ Err EarlyFault.Write
         → PutPart options.now.report input.now setting.now (K.written sink.old) (K.written sink.new) }
-    ensures lines { result ≡ Err EarlyFault.Memory → WroteSome input.now (K.written sink.old) (K.written sink.new) }
+    ensures lines { result ≡ Err EarlyFault.Memory
+        → WroteSome input.now (K.written sink.old) (K.written sink.new) }
     ensures counts { result ≢ Err EarlyFault.Write → K.faults sink.new ≡ K.faults sink.old }
     ensures fails { result ≡ Err EarlyFault.Write → K.faults sink.old < K.faults sink.new }
-    ensures takes { TakesFound (K.takes sink.old) options.now.report input.now setting.now → result ≢ Err EarlyFault.Write }
+    ensures takes { TakesFound (K.takes sink.old) options.now.report input.now setting.now
+        → result ≢ Err EarlyFault.Write }
     ensures left { PutsSome (K.written sink.old) (K.written sink.new) (K.takes sink.old) (K.takes sink.new) }
 {
     let Told { run, ends } = run_early(rt, alloc, input, setting, gate, sink)?;

@@ -90,23 +90,28 @@ pub fn jm_program<R: Threads + Wait + Sync, H: Shelf, K: Sink, E: Sink, G: Gate>
         WroteBy (map string_bytes given.items) (H.told shelf.old) (K.written sink.old) (K.written sink.new)) }
     ensures quiet { result ≡ 0 → errors.new ≡ errors.old }
     ensures nothing { result ≢ 0 → result ≢ 7 → result ≢ 8 → sink.new ≡ sink.old }
-    ensures spared { (asked : Asked) → IsOkAnd words (λ given. asked_of (map string_bytes given.items) ≡ Ok asked)
+    ensures spared { (asked : Asked)
+        → IsOkAnd words (λ given. asked_of (map string_bytes given.items) ≡ Ok asked)
         → asked.early ≡ false → result ≡ 8 → sink.new ≡ sink.old }
     ensures words { IsOkAnd words (λ given. IsErr (asked_of (map string_bytes given.items)))
         → ((result ≡ 2) ⊎ (result ≡ 8)) × (sink.new ≡ sink.old) }
     ensures only_words { result ≡ 2
         → IsOkAnd words (λ given. IsErr (asked_of (map string_bytes given.items))) }
-    ensures read { (asked : Asked) → IsOkAnd words (λ given. asked_of (map string_bytes given.items) ≡ Ok asked)
-        → result ≡ 6 → (H.faults shelf.old < H.faults shelf.new) ⊎ LacksOne (H.told shelf.old) asked }
+    ensures read { (asked : Asked)
+        → IsOkAnd words (λ given. asked_of (map string_bytes given.items) ≡ Ok asked)
+        → result ≡ 6 → (H.faults shelf.old < H.faults shelf.new)
+        ⊎ LacksOne (H.told shelf.old) asked }
     ensures write { result ≡ 7 → K.faults sink.old < K.faults sink.new }
     ensures front { result ≡ 7 → IsOkAnd words (λ given.
         WroteFrontBy (map string_bytes given.items) (H.told shelf.old) (K.written sink.old) (K.written sink.new)) }
-    ensures complete { (asked : Asked) (files : List ℕ → Option (List ℕ)) (tree : Tree) (planned : Planned)
+    ensures complete { (asked : Asked) (files : List ℕ → Option (List ℕ))
+        (tree : Tree) (planned : Planned)
         → IsOkAnd words (λ given. asked_of (map string_bytes given.items) ≡ Ok asked)
         → H.told shelf.old ≡ Some files → TextReads limits asked.on tree
         → plan_of asked (Ok tree) files ≡ Ok planned → H.sound shelf.old
         → TakesEach (K.takes sink.old) asked planned → (result ≡ 0) ⊎ (result ≡ 8) }
-    ensures sound { H.sound shelf.old → H.sound shelf.new × (H.faults shelf.new ≡ H.faults shelf.old) }
+    ensures sound { H.sound shelf.old
+        → H.sound shelf.new × (H.faults shelf.new ≡ H.faults shelf.old) }
     ensures left { PutsSome (K.written sink.old) (K.written sink.new) (K.takes sink.old) (K.takes sink.new) }
     ensures memory { IfErr words (λ fault. (result ≡ 8) × (sink.new ≡ sink.old)) }
     ensures statuses { (result ≡ 0) ⊎ ((2 ≤ result) × (result ≤ 8)) }

@@ -62,13 +62,15 @@ fn tables<H: Shelf>(alloc: Global, options: &Options<'_>, shelf: &mut H) -> Resu
     ensures answer { (files : List ℕ → Option (List ℕ)) → H.told shelf.old ≡ Some files
         → H.faults shelf.new ≡ H.faults shelf.old → (result ≡ Err Refusal.Memory)
         ⊎ (result ≡ tables_by options.now.make files options.now.name_r.now options.now.name_s.now) }
-    ensures found { IfOk result (λ tables. (files : List ℕ → Option (List ℕ)) → H.told shelf.old ≡ Some files
+    ensures found { IfOk result
+        (λ tables. (files : List ℕ → Option (List ℕ)) → H.told shelf.old ≡ Some files
         → tables_by options.now.make files options.now.name_r.now options.now.name_s.now ≡ Ok tables) }
     ensures made { (count : ℕ) → options.now.make ≡ Some count → (shelf.new ≡ shelf.old)
         × ((result ≡ Err Refusal.Memory) ⊎ (result ≡ Ok (made_tables count))) }
     ensures seen { (result ≡ Err Refusal.Read → ⊥) → (result ≡ Err Refusal.Memory → ⊥)
         → TablesAsked (H.told shelf.old) (H.picked shelf.new) (asked options.now) options.now.make result }
-    ensures sound { H.sound shelf.old → H.sound shelf.new × (H.faults shelf.new ≡ H.faults shelf.old) }
+    ensures sound { H.sound shelf.old
+        → H.sound shelf.new × (H.faults shelf.new ≡ H.faults shelf.old) }
     ensures read { result ≡ Err Refusal.Read → (H.faults shelf.old < H.faults shelf.new)
         ⊎ LacksOne (H.told shelf.old) (asked options.now) }
     ensures counts { (result ≡ Err Refusal.Read → ⊥) → H.faults shelf.new ≡ H.faults shelf.old }
@@ -108,7 +110,8 @@ pub(crate) fn prepare<H: Shelf>(
         → PlanAsked (H.told shelf.old) (H.picked shelf.new) (asked options.now) options.now.make tree result }
     ensures made { (count : ℕ) → options.now.make ≡ Some count
         → (shelf.new ≡ shelf.old) × (result ≡ Err Refusal.Read → ⊥) }
-    ensures sound { H.sound shelf.old → H.sound shelf.new × (H.faults shelf.new ≡ H.faults shelf.old) }
+    ensures sound { H.sound shelf.old
+        → H.sound shelf.new × (H.faults shelf.new ≡ H.faults shelf.old) }
     ensures early { (fault : PredFault) → IsFaultOf limits options.now.on.now fault
         → RefusesText fault result × (shelf.new ≡ shelf.old) }
     ensures asked { IfOk result (IsAsked (H.told shelf.old) (asked options.now)) }

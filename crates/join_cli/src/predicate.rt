@@ -16,11 +16,14 @@ use theta_text::{Pred, parse};
 
 /// The predicate of a text.
 pub(crate) fn predicate(alloc: Global, text: &str) -> Result<Pred, Refusal>
-    ensures answer { (reading : Result Tree PredFault) → IsRead text.now reading → Reads reading result }
-    ensures early { (fault : PredFault) → IsFaultOf limits text.now fault → RefusesText fault result }
+    ensures answer { (reading : Result Tree PredFault) → IsRead text.now reading
+        → Reads reading result }
+    ensures early { (fault : PredFault) → IsFaultOf limits text.now fault
+        → RefusesText fault result }
     ensures reads { IfOk result (λ pred. TextReads limits text.now (tree_of pred)) }
     ensures narrow { IfOk result (λ pred. longest_sum pred ≤ 16) }
-    ensures fault { (fault : TextFault) → result ≡ Err (Refusal.Predicate fault) → IsTrueOf text.now fault }
+    ensures fault { (fault : TextFault) → result ≡ Err (Refusal.Predicate fault)
+        → IsTrueOf text.now fault }
     ensures files { result ≡ Err Refusal.Read → ⊥ }
     ensures limits { (side : Side) → result ≡ Err (Refusal.Limit (LimitFault.TooLong side)) → ⊥ }
 {

@@ -42,11 +42,13 @@ fn table<H: Shelf>(alloc: Global, shelf: &mut H, side: Side, name: &str) -> Resu
     ensures answer { (files : List ℕ → Option (List ℕ)) → H.told shelf.old ≡ Some files
         → H.faults shelf.new ≡ H.faults shelf.old
         → (result ≡ Err Refusal.Memory) ⊎ (result ≡ table_found side (files name.now)) }
-    ensures found { IfOk result (λ table. (files : List ℕ → Option (List ℕ)) → H.told shelf.old ≡ Some files
+    ensures found { IfOk result
+        (λ table. (files : List ℕ → Option (List ℕ)) → H.told shelf.old ≡ Some files
         → table_found side (files name.now) ≡ Ok table) }
     ensures seen { (result ≡ Err Refusal.Read → ⊥) → (result ≡ Err Refusal.Memory → ⊥)
         → IsSeen (H.told shelf.old) (H.picked shelf.new) side name.now result }
-    ensures sound { H.sound shelf.old → H.sound shelf.new × (H.faults shelf.new ≡ H.faults shelf.old) }
+    ensures sound { H.sound shelf.old
+        → H.sound shelf.new × (H.faults shelf.new ≡ H.faults shelf.old) }
     ensures read { result ≡ Err Refusal.Read
         → (H.faults shelf.old < H.faults shelf.new) ⊎ Lacks (H.told shelf.old) name.now }
     ensures counts { (result ≡ Err Refusal.Read → ⊥) → H.faults shelf.new ≡ H.faults shelf.old }
@@ -74,11 +76,13 @@ pub(crate) fn read_tables<H: Shelf>(
     ensures answer { (files : List ℕ → Option (List ℕ)) → H.told shelf.old ≡ Some files
         → H.faults shelf.new ≡ H.faults shelf.old
         → (result ≡ Err Refusal.Memory) ⊎ (result ≡ tables_of files name_r.now name_s.now) }
-    ensures found { IfOk result (λ tables. (files : List ℕ → Option (List ℕ)) → H.told shelf.old ≡ Some files
+    ensures found { IfOk result
+        (λ tables. (files : List ℕ → Option (List ℕ)) → H.told shelf.old ≡ Some files
         → tables_of files name_r.now name_s.now ≡ Ok tables) }
     ensures seen { (result ≡ Err Refusal.Read → ⊥) → (result ≡ Err Refusal.Memory → ⊥)
         → TablesSeen (H.told shelf.old) (H.picked shelf.new) name_r.now name_s.now result }
-    ensures sound { H.sound shelf.old → H.sound shelf.new × (H.faults shelf.new ≡ H.faults shelf.old) }
+    ensures sound { H.sound shelf.old
+        → H.sound shelf.new × (H.faults shelf.new ≡ H.faults shelf.old) }
     ensures read { result ≡ Err Refusal.Read → (H.faults shelf.old < H.faults shelf.new)
         ⊎ (Lacks (H.told shelf.old) name_r.now ⊎ Lacks (H.told shelf.old) name_s.now) }
     ensures counts { (result ≡ Err Refusal.Read → ⊥) → H.faults shelf.new ≡ H.faults shelf.old }

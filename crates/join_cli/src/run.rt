@@ -124,7 +124,8 @@ pub(crate) fn report(
     requires input { IsValidInput input.now }
     requires setting { IsValidSetting setting.now }
     requires run { IsRunOf input.now setting.now run.now.journal run.now }
-    ensures { IfOk result (λ lines. lines ≡ report_asked options.now.report input.now setting.now run.now.journal) }
+    ensures { IfOk result
+        (λ lines. lines ≡ report_asked options.now.report input.now setting.now run.now.journal) }
 {
     if !options.report {
         return Ok(Bytes::new(alloc));
@@ -145,7 +146,8 @@ fn text(
     requires input { IsValidInput input.now }
     requires setting { IsValidSetting setting.now }
     requires run { IsRunOf input.now setting.now run.now.journal run.now }
-    ensures { IfOk result (λ text. text ≡ text_of (asked options.now) input.now setting.now run.now.journal) }
+    ensures { IfOk result
+        (λ text. text ≡ text_of (asked options.now) input.now setting.now run.now.journal) }
 {
     let mut text = answer(alloc, options, input, run.pairs.as_slice())?;
     let report = report(alloc, options, input, setting, run)?;
@@ -170,8 +172,10 @@ fn replayed<R: Wait>(
 ) -> Result<Course, AllocError>
     requires input { IsValidInput input.now }
     requires setting { IsValidSetting setting.now }
-    ensures run { IfOk result (λ course. IsRunOf input.now setting.now course.run.journal course.run) }
-    ensures went { IfOk result (λ course. IsReplayed input.now setting.now seed course.run.journal course.trail) }
+    ensures run { IfOk result
+        (λ course. IsRunOf input.now setting.now course.run.journal course.run) }
+    ensures went { IfOk result
+        (λ course. IsReplayed input.now setting.now seed course.run.journal course.trail) }
 {
     let run = replay(rt, alloc, input, setting, seed)?;
     Ok(Course {
@@ -190,8 +194,10 @@ fn threaded<R: Threads + Wait + Sync, G: Gate>(
 ) -> Result<Course, AllocError>
     requires input { IsValidInput input.now }
     requires setting { IsValidSetting setting.now }
-    ensures run { IfOk result (λ course. IsRunOf input.now setting.now course.run.journal course.run) }
-    ensures went { IfOk result (λ course. IsRunInThreads input.now setting.now course.run.journal course.trail) }
+    ensures run { IfOk result
+        (λ course. IsRunOf input.now setting.now course.run.journal course.run) }
+    ensures went { IfOk result
+        (λ course. IsRunInThreads input.now setting.now course.run.journal course.trail) }
 {
     let Told { run, ends } = run(rt, alloc, input, setting, gate)?;
     let mut trail = Trail::new(alloc);
@@ -210,8 +216,10 @@ fn carry_out<R: Threads + Wait + Sync, G: Gate>(
 ) -> Result<Course, AllocError>
     requires input { IsValidInput input.now }
     requires setting { IsValidSetting setting.now }
-    ensures run { IfOk result (λ course. IsRunOf input.now setting.now course.run.journal course.run) }
-    ensures went { IfOk result (λ course. WentAs number input.now setting.now course.run.journal course.trail) }
+    ensures run { IfOk result
+        (λ course. IsRunOf input.now setting.now course.run.journal course.run) }
+    ensures went { IfOk result
+        (λ course. WentAs number input.now setting.now course.run.journal course.trail) }
 {
     match number {
         Some(seed) => replayed(rt, alloc, input, setting, seed),
@@ -233,8 +241,10 @@ pub(crate) fn output<R: Threads + Wait + Sync, G: Gate>(
     requires workers { (1 ≤ options.now.workers) × (options.now.workers ≤ 16) }
     requires batch { (1 ≤ options.now.batch) × (options.now.batch ≤ 4096) }
     requires fits { IfSome options.now.fixed (λ fixed. fixed ≤ options.now.k) }
-    ensures course { IfOk result (λ joined. IsCourseOf (asked options.now) planned joined.journal joined.trail) }
-    ensures text { IfOk result (λ joined. joined.text ≡ output_of (asked options.now) planned joined.journal) }
+    ensures course { IfOk result
+        (λ joined. IsCourseOf (asked options.now) planned joined.journal joined.trail) }
+    ensures text { IfOk result
+        (λ joined. joined.text ≡ output_of (asked options.now) planned joined.journal) }
 {
     let setting = setting(options);
     let input = input(alloc, options.seed, planned)?;

@@ -47,7 +47,8 @@ fn join_files<R: Threads + Wait + Sync, H: Shelf, K: Sink, G: Gate>(
     requires batch { (1 ≤ options.now.batch) × (options.now.batch ≤ 4096) }
     requires fits { IfSome options.now.fixed (λ fixed. fixed ≤ options.now.k) }
     requires make { IfSome options.now.make (λ count. (1 ≤ count) × (count ≤ 65536)) }
-    requires alone { options.now.early ≡ true → (options.now.replay ≡ None) × (options.now.make ≡ None) × (options.now.rows ≡ false) }
+    requires alone { options.now.early ≡ true
+        → (options.now.replay ≡ None) × (options.now.make ≡ None) × (options.now.rows ≡ false) }
     ensures words { (fault : WordsFault) → result ≢ Outcome.Words fault }
     ensures early { (fault : PredFault) → IsFaultOf limits options.now.on.now fault
         → EndsEarly fault result × (shelf.new ≡ shelf.old) }
@@ -58,28 +59,33 @@ fn join_files<R: Threads + Wait + Sync, H: Shelf, K: Sink, G: Gate>(
         → result ≢ Outcome.Read → result ≢ Outcome.Memory
         → EndsAsked (H.told shelf.old) (H.picked shelf.new) (asked options.now) options.now.make tree
         (K.written sink.old) (K.written sink.new) result }
-    ensures made { (count : ℕ) → options.now.make ≡ Some count → (shelf.new ≡ shelf.old) × (result ≢ Outcome.Read) }
+    ensures made { (count : ℕ) → options.now.make ≡ Some count
+        → (shelf.new ≡ shelf.old) × (result ≢ Outcome.Read) }
     ensures complete { (files : List ℕ → Option (List ℕ)) (tree : Tree) (planned : Planned)
         → H.told shelf.old ≡ Some files → TextReads limits options.now.on.now tree
         → plan_of (asked options.now) (Ok tree) files ≡ Ok planned → H.sound shelf.old
         → TakesEach (K.takes sink.old) (asked options.now) planned
         → IsDone result ⊎ (result ≡ Outcome.Memory) }
-    ensures sound { H.sound shelf.old → H.sound shelf.new × (H.faults shelf.new ≡ H.faults shelf.old) }
+    ensures sound { H.sound shelf.old
+        → H.sound shelf.new × (H.faults shelf.new ≡ H.faults shelf.old) }
     ensures left { PutsSome (K.written sink.old) (K.written sink.new) (K.takes sink.old) (K.takes sink.new) }
-    ensures done { (journal : List TurnLine) (trail : List EndsView) → result ≡ Outcome.Done journal trail
+    ensures done { (journal : List TurnLine) (trail : List EndsView)
+        → result ≡ Outcome.Done journal trail
         → Wrote (H.told shelf.old) (asked options.now) journal trail (K.written sink.old) (K.written sink.new) }
     ensures front { result ≡ Outcome.Write
         → WroteFront (H.told shelf.old) (asked options.now) (K.written sink.old) (K.written sink.new) }
     ensures memory { result ≡ Outcome.Memory → (K.written sink.new ≡ K.written sink.old)
         ⊎ WroteSoFar (H.told shelf.old) (asked options.now) (K.written sink.old) (K.written sink.new) }
     ensures spared { options.now.early ≡ false → result ≡ Outcome.Memory → sink.new ≡ sink.old }
-    ensures nothing { (IsDone result → ⊥) → result ≢ Outcome.Write → result ≢ Outcome.Memory → sink.new ≡ sink.old }
+    ensures nothing { (IsDone result → ⊥) → result ≢ Outcome.Write → result ≢ Outcome.Memory
+        → sink.new ≡ sink.old }
     ensures text { (fault : TextFault) → result ≡ Outcome.Predicate fault
         → IsTrueOf options.now.on.now fault }
     ensures long { (side : Side) → result ≡ Outcome.Limit (LimitFault.TooLong side)
         → StandsPast (H.picked shelf.new) (name_of side (asked options.now)) }
     ensures read { result ≡ Outcome.Read
-        → (H.faults shelf.old < H.faults shelf.new) ⊎ LacksOne (H.told shelf.old) (asked options.now) }
+        → (H.faults shelf.old < H.faults shelf.new)
+        ⊎ LacksOne (H.told shelf.old) (asked options.now) }
     ensures write { result ≡ Outcome.Write → K.faults sink.old < K.faults sink.new }
     ensures shelf_counts { result ≢ Outcome.Read → H.faults shelf.new ≡ H.faults shelf.old }
     ensures sink_counts { result ≢ Outcome.Write → K.faults sink.new ≡ K.faults sink.old }
@@ -107,12 +113,15 @@ pub fn join_main<R: Threads + Wait + Sync, H: Shelf, K: Sink, G: Gate>(
     requires shelf { H.faults shelf.old < last_fault }
     requires sink { K.faults sink.old < last_fault }
     ensures words { (fault : WordsFault) → asked_of (map string_bytes words.now) ≡ Err fault
-        → ((result ≡ Outcome.Words fault) ⊎ (result ≡ Outcome.Memory)) × (shelf.new ≡ shelf.old) × (sink.new ≡ sink.old) }
+        → ((result ≡ Outcome.Words fault) ⊎ (result ≡ Outcome.Memory)) × (shelf.new ≡ shelf.old)
+        × (sink.new ≡ sink.old) }
     ensures only_words { (fault : WordsFault) → result ≡ Outcome.Words fault
         → asked_of (map string_bytes words.now) ≡ Err fault }
-    ensures early { (asked : Asked) (fault : PredFault) → asked_of (map string_bytes words.now) ≡ Ok asked
+    ensures early { (asked : Asked) (fault : PredFault)
+        → asked_of (map string_bytes words.now) ≡ Ok asked
         → IsFaultOf limits asked.on fault → EndsEarly fault result × (shelf.new ≡ shelf.old) }
-    ensures answer { (asked : Asked) (reading : Result Tree PredFault) → asked_of (map string_bytes words.now) ≡ Ok asked
+    ensures answer { (asked : Asked) (reading : Result Tree PredFault)
+        → asked_of (map string_bytes words.now) ≡ Ok asked
         → IsRead asked.on reading
         → H.faults shelf.new ≡ H.faults shelf.old → K.faults sink.new ≡ K.faults sink.old
         → EndsAs (H.told shelf.old) asked reading result }
@@ -122,30 +131,40 @@ pub fn join_main<R: Threads + Wait + Sync, H: Shelf, K: Sink, G: Gate>(
         (K.written sink.old) (K.written sink.new) result }
     ensures made { (asked : Asked) (count : ℕ) → asked_of (map string_bytes words.now) ≡ Ok asked
         → asked.make ≡ Some count → (shelf.new ≡ shelf.old) × (result ≢ Outcome.Read) }
-    ensures complete { (asked : Asked) (files : List ℕ → Option (List ℕ)) (tree : Tree) (planned : Planned)
+    ensures complete { (asked : Asked) (files : List ℕ → Option (List ℕ))
+        (tree : Tree) (planned : Planned)
         → asked_of (map string_bytes words.now) ≡ Ok asked
         → H.told shelf.old ≡ Some files → TextReads limits asked.on tree
         → plan_of asked (Ok tree) files ≡ Ok planned → H.sound shelf.old
         → TakesEach (K.takes sink.old) asked planned
         → IsDone result ⊎ (result ≡ Outcome.Memory) }
-    ensures sound { H.sound shelf.old → H.sound shelf.new × (H.faults shelf.new ≡ H.faults shelf.old) }
+    ensures sound { H.sound shelf.old
+        → H.sound shelf.new × (H.faults shelf.new ≡ H.faults shelf.old) }
     ensures left { PutsSome (K.written sink.old) (K.written sink.new) (K.takes sink.old) (K.takes sink.new) }
-    ensures done { (journal : List TurnLine) (trail : List EndsView) → result ≡ Outcome.Done journal trail
+    ensures done { (journal : List TurnLine) (trail : List EndsView)
+        → result ≡ Outcome.Done journal trail
         → (asked : Asked) × (asked_of (map string_bytes words.now) ≡ Ok asked)
         × Wrote (H.told shelf.old) asked journal trail (K.written sink.old) (K.written sink.new) }
-    ensures front { result ≡ Outcome.Write → (asked : Asked) × (asked_of (map string_bytes words.now) ≡ Ok asked)
+    ensures front { result ≡ Outcome.Write
+        → (asked : Asked) × (asked_of (map string_bytes words.now) ≡ Ok asked)
         × WroteFront (H.told shelf.old) asked (K.written sink.old) (K.written sink.new) }
-    ensures memory { (asked : Asked) → asked_of (map string_bytes words.now) ≡ Ok asked → result ≡ Outcome.Memory
+    ensures memory { (asked : Asked) → asked_of (map string_bytes words.now) ≡ Ok asked
+        → result ≡ Outcome.Memory
         → (K.written sink.new ≡ K.written sink.old)
         ⊎ WroteSoFar (H.told shelf.old) asked (K.written sink.old) (K.written sink.new) }
-    ensures spared { (asked : Asked) → asked_of (map string_bytes words.now) ≡ Ok asked → asked.early ≡ false
+    ensures spared { (asked : Asked) → asked_of (map string_bytes words.now) ≡ Ok asked
+        → asked.early ≡ false
         → result ≡ Outcome.Memory → sink.new ≡ sink.old }
-    ensures nothing { (IsDone result → ⊥) → result ≢ Outcome.Write → result ≢ Outcome.Memory → sink.new ≡ sink.old }
-    ensures text { (asked : Asked) (fault : TextFault) → asked_of (map string_bytes words.now) ≡ Ok asked
+    ensures nothing { (IsDone result → ⊥) → result ≢ Outcome.Write → result ≢ Outcome.Memory
+        → sink.new ≡ sink.old }
+    ensures text { (asked : Asked) (fault : TextFault)
+        → asked_of (map string_bytes words.now) ≡ Ok asked
         → result ≡ Outcome.Predicate fault → IsTrueOf asked.on fault }
     ensures long { (asked : Asked) (side : Side) → asked_of (map string_bytes words.now) ≡ Ok asked
-        → result ≡ Outcome.Limit (LimitFault.TooLong side) → StandsPast (H.picked shelf.new) (name_of side asked) }
-    ensures read { (asked : Asked) → asked_of (map string_bytes words.now) ≡ Ok asked → result ≡ Outcome.Read
+        → result ≡ Outcome.Limit (LimitFault.TooLong side)
+        → StandsPast (H.picked shelf.new) (name_of side asked) }
+    ensures read { (asked : Asked) → asked_of (map string_bytes words.now) ≡ Ok asked
+        → result ≡ Outcome.Read
         → (H.faults shelf.old < H.faults shelf.new) ⊎ LacksOne (H.told shelf.old) asked }
     ensures write { result ≡ Outcome.Write → K.faults sink.old < K.faults sink.new }
     ensures shelf_counts { result ≢ Outcome.Read → H.faults shelf.new ≡ H.faults shelf.old }

@@ -79,14 +79,18 @@ pub fn run_early<R: Threads + Wait + Sync, G: Gate, K: Sink>(
     requires input { IsValidInput input.now }
     requires setting { IsValidSetting setting.now }
     requires sink { K.faults sink.old < last_fault }
-    ensures family { IfOk result (λ told. IsFinishedFamily input.now setting.now told.run.journal (lists_left told.ends)) }
+    ensures family { IfOk result
+        (λ told. IsFinishedFamily input.now setting.now told.run.journal (lists_left told.ends)) }
     ensures run { IfOk result (λ told. IsRunOf input.now setting.now told.run.journal told.run) }
-    ensures bound { IfOk result (λ told. told.run.bouts ≤ most_events input.now setting.now (last_epoch told.run.journal)) }
+    ensures bound { IfOk result
+        (λ told. told.run.bouts ≤ most_events input.now setting.now (last_epoch told.run.journal)) }
     ensures lines { WroteSome input.now (K.written sink.old) (K.written sink.new) }
-    ensures whole { IfOk result (λ told. WroteEach told.run.pairs (K.written sink.old) (K.written sink.new)) }
+    ensures whole { IfOk result
+        (λ told. WroteEach told.run.pairs (K.written sink.old) (K.written sink.new)) }
     ensures write { result ≡ Err Write' → K.faults sink.old < K.faults sink.new }
     ensures kept { result ≢ Err Write' → K.faults sink.new ≡ K.faults sink.old }
-    ensures takes { (more : ℕ) → K.takes sink.old (length (pair_lines (nested_loop input.now)) + more)
+    ensures takes { (more : ℕ)
+        → K.takes sink.old (length (pair_lines (nested_loop input.now)) + more)
         → (result ≢ Err Write') × OnOk result (K.takes sink.new more) }
     ensures left { PutsSome (K.written sink.old) (K.written sink.new) (K.takes sink.old) (K.takes sink.new) }
 {
