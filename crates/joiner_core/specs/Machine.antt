@@ -67,6 +67,7 @@ pub record IsReadyOfFeeder (m : MachineState) (p : ℕ) : Type 0 where
   pub begins : BeginsWith first (held_at m.of_feeders p)
   pub can : TakesOfFeeder m.epochs p first
 
+-- the first message held of a joiner can be taken
 pub record IsReadyOfJoiner (m : MachineState) (q : ℕ) : Type 0 where
   pub low : q < 2 ^ m.epochs.k
   pub first : ToJoiner
@@ -77,9 +78,11 @@ pub record IsReadyOfJoiner (m : MachineState) (q : ℕ) : Type 0 where
 abbrev pub AreStuckOfFeeders : ℕ → MachineState → Type 0
 AreStuckOfFeeders count m = (p : ℕ) → p < count → (x : ToJoiner) (rest : List ToJoiner) → held_at m.of_feeders p ≡ x ∷ rest → TakesOfFeeder m.epochs p x → ⊥
 
+-- nor of the first joiners
 abbrev pub AreStuckOfJoiners : ℕ → MachineState → Type 0
 AreStuckOfJoiners count m = (q : ℕ) → q < count → (x : ToJoiner) (rest : List ToJoiner) → held_at m.of_joiners q ≡ x ∷ rest → TakesOfJoiner m.epochs q x → ⊥
 
+-- no message held can be taken
 pub record IsStuck (m : MachineState) : Type 0 where
   pub feeders : AreStuckOfFeeders m.epochs.feeders m
   pub joiners : AreStuckOfJoiners (2 ^ m.epochs.k) m
@@ -227,6 +230,7 @@ abbrev pub found_posts : List Pair → List Post
 found_posts [] = []
 found_posts (p ∷ ps) = record { to = Collector; msg = Collector' (Found (p ∷ ps)) } ∷ []
 
+-- a post to the collector
 abbrev pub post_to_collector : ToCollector → Post
 post_to_collector m = record { to = Collector; msg = Collector' m }
 
@@ -250,6 +254,7 @@ pub record StandInOrder (posts : List Post) : Type 0 where
   pub quiet : posted_to_collector others ≡ []
   pub at_most : IsLastAtMost last
 
+-- whether the last message was told, and what was appended for it
 pub record TellsFin (m : MachineState) (told : Bool) (before after : List Post) : Type 0 where
   pub now : Bool
   pub sends : after ≡ before ++ fin_posts now m
@@ -273,6 +278,7 @@ pub record Receives (from : Actor) (m : ToJoiner) (old new : MachineState) (befo
 abbrev pub nothing_yet : JoinerLists
 nothing_yet = record { from_feeder = λ p. []; from_joiner = λ q. []; to_joiner = λ j. []; to_controller = []; to_collector = [] }
 
+-- how a joiner starts
 abbrev pub start_of : ℕ → ℕ → ℕ → ℕ → ℕ → Meaning → List Tuple → JoinerStart
 start_of k id shift epoch feeders theta base =
     record { k = k; feeders = feeders; id = id; matches = does_hold theta; epoch = epoch; shift = shift; base = base }

@@ -25,9 +25,11 @@ IsSpent joiner = joiner.spent ≡ true
 abbrev pub k_of : JoinerState → ℕ
 k_of joiner = joiner.machine.epochs.k
 
+-- the joiner's number
 abbrev pub id_of : JoinerState → ℕ
 id_of joiner = joiner.machine.epochs.id
 
+-- how many feeders have a link to it
 abbrev pub feeders_of : JoinerState → ℕ
 feeders_of joiner = joiner.machine.epochs.feeders
 

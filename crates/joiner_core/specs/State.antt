@@ -26,15 +26,18 @@ use Rattle.store_parts.specs.Matches.{HasWidth}
 abbrev pub does_hold : Meaning → Tuple → Tuple → Bool
 does_hold theta r q = is_true theta r.cells q.cells
 
+-- which stored tuples a probe looks at
 abbrev pub named_by : Which → Tuple → Bool
 named_by All' = all_tuples
 named_by (OnlyStamp stamp) = only_stamp stamp
 
 -- ---- messages held, link by link
 
+-- what is held of a sender
 abbrev pub held_at : List (List ToJoiner) → ℕ → List ToJoiner
 held_at queues sender = slice_index_or queues sender []
 
+-- the message is the first that is held
 abbrev pub BeginsWith : ToJoiner → List ToJoiner → Type 0
 BeginsWith m queue = (rest : List ToJoiner) × (queue ≡ m ∷ rest)
 
@@ -116,6 +119,7 @@ pub record MachineState : Type 0 where
 abbrev pub IsRow : Meaning → Tuple → Type 0
 IsRow theta x = HasWidth theta x.side x
 
+-- so has each of them
 abbrev pub AreRows : Meaning → List Tuple → Type 0
 AreRows theta xs = All (IsRow theta) xs
 
@@ -145,6 +149,7 @@ SendsRow theta (Feeder m) = ⊤
 SendsRow theta (Controller m) = ⊤
 SendsRow theta (Collector m) = ⊤
 
+-- so does each of the posts
 abbrev pub AllSendRows : Meaning → List Post → Type 0
 AllSendRows theta posts = All (λ post. SendsRow theta post.msg) posts
 

@@ -48,6 +48,7 @@ pub record IsOpen (s : JoinerStart) (t : Taken) (lists : JoinerLists) (waiting :
   pub missing : all_turned ≡ false → ((p : ℕ) → p < s.feeders → flag_at o.turned p ≡ true) → ⊥
   pub all : all_turned ≡ true → (p : ℕ) → p < s.feeders → flag_at o.turned p ≡ true
 
+-- it stands for these lists, with a step open or none
 abbrev pub StandsBy : JoinerStart → Taken → JoinerLists → List Pair → EpochState → Option OpenStep → Type 0
 StandsBy s t lists waiting m None = IsClosed s t lists waiting m
 StandsBy s t lists waiting m (Some o) = IsOpen s t lists waiting m o
@@ -69,6 +70,7 @@ abbrev pub HasSomeTurn : ℕ → Option OpenStep → Type 0
 HasSomeTurn feeders None = ⊤
 HasSomeTurn feeders (Some o) = (p : ℕ) × (p < feeders) × (flag_at o.turned p ≡ true)
 
+-- there is a flag for each feeder
 abbrev pub IsCounted : ℕ → Option OpenStep → Type 0
 IsCounted feeders None = ⊤
 IsCounted feeders (Some o) = length o.turned ≡ feeders
@@ -91,6 +93,7 @@ pub record IsWithin (m : EpochState) : Type 0 where
   pub stock : IsStock m.theta m.store
   pub step_stock : IsStepStock m.theta m.step
 
+-- the tuple's stamp is one that its feeder may still use
 abbrev pub TupFits : EpochState → ℕ → ℕ → Option OpenStep → Type 0
 TupFits m p stamp None = stamp ≡ m.epoch
 TupFits m p stamp (Some o) = (flag_at o.turned p ≡ false → stamp ≡ m.epoch) × (flag_at o.turned p ≡ true → stamp ≡ o.epoch)
@@ -100,6 +103,7 @@ pub record CanTakeTup (m : EpochState) (p stamp : ℕ) : Type 0 where
   pub going : flag_at m.ended p ≡ false
   pub fits : TupFits m p stamp m.step
 
+-- the turn is one to a neighbouring shift, or the one of the open step
 abbrev pub TurnFits : EpochState → ℕ → ℕ → ℕ → Option OpenStep → Type 0
 TurnFits m p epoch shift None = (epoch ≡ m.epoch + 1) × (shift ≤ m.k) × AreNeighbours m.shift shift
 TurnFits m p epoch shift (Some o) = (flag_at o.turned p ≡ false) × (epoch ≡ o.epoch) × (shift ≡ o.shift)
@@ -167,6 +171,7 @@ abbrev pub PartFits : EpochState → ℕ → ℕ → Option OpenStep → Type 0
 PartFits m q epoch None = ⊥
 PartFits m q epoch (Some o) = (epoch ≡ o.epoch) × (o.partner_ended ≡ false) × (q ≡ partner_in_step m.shift o.shift m.id)
 
+-- this message of a feeder can be taken
 abbrev pub TakesOfFeeder : EpochState → ℕ → ToJoiner → Type 0
 TakesOfFeeder m p (Tup x) = CanTakeTup m p x.stamp
 TakesOfFeeder m p (Turn epoch shift) = CanTakeTurn m p epoch shift
@@ -174,6 +179,7 @@ TakesOfFeeder m p End = flag_at m.ended p ≡ false
 TakesOfFeeder m p (Moved epoch x) = ⊥
 TakesOfFeeder m p (MovedEnd epoch) = ⊥
 
+-- this message of a joiner can be taken
 abbrev pub TakesOfJoiner : EpochState → ℕ → ToJoiner → Type 0
 TakesOfJoiner m q (Tup x) = ⊥
 TakesOfJoiner m q (Turn epoch shift) = ⊥

@@ -40,7 +40,8 @@ impl Held {
 
     // The first message held of a sender.
     pub(crate) fn first(&self, sender: usize) -> Option<&ToJoiner>
-        ensures { MatchOption result (held_at self.now sender ≡ []) (λ m. BeginsWith m.now (held_at self.now sender)) }
+        ensures { MatchOption result (held_at self.now sender ≡ [])
+            (λ m. BeginsWith m.now (held_at self.now sender)) }
     {
         if sender < self.queues.len() {
             self.queues[sender].front()
@@ -89,7 +90,8 @@ impl Held {
 
     // How many messages are held, or 2 ^ 64 - 1 where there are more.
     pub(crate) fn count(&self) -> u64
-        ensures { result ≡ min (total (length self.now) (λ sender. length (held_at self.now sender))) (2 ^ 64 - 1) }
+        ensures { result ≡ min (total (length self.now)
+            (λ sender. length (held_at self.now sender))) (2 ^ 64 - 1) }
     {
         let mut count = 0u64;
         for sender in 0..self.queues.len() {

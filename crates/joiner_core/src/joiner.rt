@@ -94,8 +94,10 @@ fn has_link(k: u32, id: u32, feeders: u32, from: Actor) -> bool
 impl<'a> Epochs<'a> {
     fn hears(&self, from: Actor) -> bool
         requires { self.now.k < 9 }
-        ensures up { result ≡ true → HasLink self.now.k self.now.feeders from (Joiner' self.now.id) }
-        ensures down { result ≡ false → ¬ HasLink self.now.k self.now.feeders from (Joiner' self.now.id) }
+        ensures up { result ≡ true
+            → HasLink self.now.k self.now.feeders from (Joiner' self.now.id) }
+        ensures down { result ≡ false
+            → ¬ HasLink self.now.k self.now.feeders from (Joiner' self.now.id) }
     {
         has_link(self.k, self.id, self.feeders, from)
     }

@@ -1,8 +1,7 @@
 // A joiner's machine: what it has of its epochs, the messages that it holds, and the taking of each kind of message.
 
 ghost use Rattle.std.specs.Prelude.{◌≡◌, ◌<◌, ◌^◌, true, false, OnOk, IfOk, ℕ};
-ghost use Rattle.epoch_tags.specs.Links.{HasLink};
-ghost use Rattle.joiner_core.specs.State.{DifferInOneBit, HasRow};
+ghost use Rattle.joiner_core.specs.State.{HasRow};
 ghost use Rattle.joiner_core.specs.Machine.{state_of, IsMade, IsSound, Accepts, IsOfGrid, Receives};
 ghost use Rattle.epoch_tags.specs.declared.actor.Actor.TheVariants.{Feeder, Joiner as Joiner'};
 ghost use Rattle.joiner_core.specs.Taking.{IsWithin, TookOfFeeder, TookOfJoiner, TakesOfFeeder, TakesOfJoiner};
@@ -35,7 +34,8 @@ impl<'a> Machine<'a> {
         base: Stock,
     ) -> Result<Machine<'a>, AllocError>
         requires { k < 9 }
-        ensures { IfOk result (λ machine. IsMade k id shift epoch feeders theta.now base (state_of machine)) }
+        ensures { IfOk result
+            (λ machine. IsMade k id shift epoch feeders theta.now base (state_of machine)) }
     {
         let ended = all_down(alloc, feeders)?;
         Ok(Machine {

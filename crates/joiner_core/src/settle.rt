@@ -27,7 +27,8 @@ impl<'a> Epochs<'a> {
         ensures up { IfOk result (λ ready. ready ≡ true → IsReady self.old.step) }
         ensures down { IfOk result (λ ready. ready ≡ false → IsReady self.old.step → ⊥) }
         ensures state { IfOk result (λ ready. self.new ≡ after_settle ready self.old) }
-        ensures posts { IfOk result (λ ready. sends.new ≡ sends.old ++ posts_settled ready self.old) }
+        ensures posts { IfOk result
+            (λ ready. sends.new ≡ sends.old ++ posts_settled ready self.old) }
     {
         if !self.is_ready() {
             return Ok(false);

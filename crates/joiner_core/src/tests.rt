@@ -366,7 +366,8 @@ fn base(alloc: Global, theta: &Theta) -> Result<Store, AllocError>
     requires r { theta.now.width_r ≡ 1 }
     requires s { theta.now.width_s ≡ 1 }
     ensures key { IfOk result (λ store. IsKeyOf theta.now store.key) }
-    ensures stamps { IfOk result (λ store. AllByRecursion (λ (x : Tuple'). x.stamp ≤ 2) (tuples_of store)) }
+    ensures stamps { IfOk result
+        (λ store. AllByRecursion (λ (x : Tuple'). x.stamp ≤ 2) (tuples_of store)) }
     ensures rows { IfOk result (λ store. AreRows theta.now (tuples_of store)) }
 {
     let mut store = Store::new(alloc, theta.key_atom()?);

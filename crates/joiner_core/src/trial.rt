@@ -38,7 +38,8 @@ impl<'a> Machine<'a> {
             (Advances (state_of self.old) (state_of self.new) found.old found.new sends.old sends.new) }
         ensures fewer { IfOk result (λ more.
             more ≡ true → held_in_all (state_of self.new) < held_in_all (state_of self.old)) }
-        ensures next { IfOk result (λ more. more ≡ true → HasTakenNext (state_of self.old) (state_of self.new)) }
+        ensures next { IfOk result
+            (λ more. more ≡ true → HasTakenNext (state_of self.old) (state_of self.new)) }
         ensures none { IfOk result (λ more. more ≡ false → state_of self.new ≡ state_of self.old) }
         ensures stuck { IfOk result (λ more. more ≡ false → IsStuck (state_of self.new)) }
     {
