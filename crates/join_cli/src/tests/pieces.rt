@@ -1,8 +1,7 @@
 // The pieces of an output.
 
-use super::words;
-use crate::join_main;
-use join_rows::{Failed, ListSink, MapShelf, Sink};
+use super::{shelf_of, status_of};
+use join_rows::{Failed, ListSink, Sink};
 use std::alloc::{AllocError, Global};
 use std::sync::Wait;
 use std::test::Fail;
@@ -36,42 +35,39 @@ impl Sink for Counting {
     }
 }
 
+// A file of one column and so many rows.
+fn rows_file(alloc: Global, rows: usize) -> Result<String, AllocError> {
+    let mut file = String::from_str(alloc, "x\n")?;
+    let lines = "1\n".repeat(alloc, rows)?;
+    file.push_str(lines.as_str())?;
+    Ok(file)
+}
+
 // The puts, those of 4,096 bytes, and the bytes, of all pairs of so many rows a side.
 fn all_pairs<R: Threads + Wait + Sync>(
     rt: &R,
     alloc: Global,
     rows: usize,
 ) -> Result<(u64, u64, u64), AllocError> {
-    let mut file = String::from_str(alloc, "x\n")?;
-    let lines = "1\n".repeat(alloc, rows)?;
-    file.push_str(lines.as_str())?;
-    let mut shelf = MapShelf::new(alloc);
-    shelf.add("r", file.as_bytes())?;
-    let inner = ListSink::new(alloc, 4_000_000)?;
+    let file = rows_file(alloc, rows)?;
+    let mut shelf = shelf_of(alloc, &file, "")?;
     let mut sink = Counting {
-        inner,
+        inner: ListSink::new(alloc, 4_000_000)?,
         puts: 0,
         pages: 0,
     };
-    let words = words(alloc, ["jm", "--on", "1 = 1", "r", "r"].as_slice())?;
-    let outcome = join_main(rt, alloc, &words, &mut shelf, &mut sink, &NoGate);
-    let bytes = sink.inner.written().len() as u64;
-    match outcome.status() {
-        0 => Ok((sink.puts, sink.pages, bytes)),
+    let line = "jm|--on|1 = 1|r|r";
+    match status_of(rt, alloc, line, &mut shelf, &mut sink, &NoGate)? {
+        0 => Ok((sink.puts, sink.pages, sink.inner.written().len() as u64)),
         _ => Err(AllocError),
     }
 }
 
 #[test]
 fn puts_pages_and_a_rest(rt: HostRuntime) -> Result<(), Fail> {
-    let cases = [
-        (0, (0, 0, 0)),
-        (40, (3, 2, 8_880)),
-        (700, (921, 920, 3_768_800)),
-    ];
-    for (rows, wanted) in cases {
-        let found = all_pairs(&rt, rt.alloc(), rows)?;
-        assert_eq!(rt; found, wanted);
-    }
+    let alloc = rt.alloc();
+    assert_eq!(rt; all_pairs(&rt, alloc, 0)?, (0, 0, 0));
+    assert_eq!(rt; all_pairs(&rt, alloc, 40)?, (3, 2, 8_880));
+    assert_eq!(rt; all_pairs(&rt, alloc, 700)?, (921, 920, 3_768_800));
     Ok(())
 }

@@ -1,13 +1,17 @@
 // The journal that is answered is the one of a replay.
 
+ghost use Rattle.std.specs.Prelude.{◌<◌};
+ghost use Rattle.join_rows.specs.Shelves.{last_fault};
+
 use super::calls::forty;
-use super::words;
-use crate::{Outcome, join_main};
+use super::{outcome_of, shelf_of};
+use crate::Outcome;
 use join_rows::{ListSink, MapShelf, Side, Table, read_table};
-use link_trace::{Input, Setting, replay};
+use link_trace::{Input, Run, Setting, replay};
 use load_controller::Journal;
 use row_tickets::{Feed, tickets};
 use std::alloc::{AllocError, Global};
+use std::process::Abort;
 use std::sync::Wait;
 use std::test::Fail;
 use std::thread::Threads;
@@ -59,26 +63,63 @@ fn batches_of_four() -> Setting {
     }
 }
 
+// The journal of the replay of this number.
+fn replayed<R: Wait>(
+    rt: &R,
+    alloc: Global,
+    input: &Input,
+    setting: &Setting,
+    number: u64,
+) -> Result<Journal, AllocError> {
+    if !input.valid() || !setting.valid() {
+        return Err(AllocError);
+    }
+    let Run { journal, .. } = replay(rt, alloc, input, setting, number)?;
+    Ok(journal)
+}
+
+// The journal of a run with these words.
+fn journal_of<R: Threads + Wait + Sync>(
+    rt: &R,
+    alloc: Global,
+    line: &str,
+    shelf: &mut MapShelf,
+    sink: &mut ListSink,
+) -> Result<Journal, AllocError>
+    requires shelf { shelf.old.faults < last_fault }
+    requires sink { sink.old.faults < last_fault }
+{
+    match outcome_of(rt, alloc, line, shelf, sink, &NoGate)? {
+        Outcome::Done { journal, .. } => Ok(journal),
+        _ => Err(AllocError),
+    }
+}
+
 // The journal of a call with this number.
 fn answered<R: Threads + Wait + Sync>(
     rt: &R,
     alloc: Global,
-    number: &str,
+    number: u64,
 ) -> Result<Journal, AllocError> {
     let r = forty(alloc, "x\n")?;
     let s = forty(alloc, "y\n")?;
-    let mut shelf = MapShelf::new(alloc);
-    shelf.add("r", r.as_bytes())?;
-    shelf.add("s", s.as_bytes())?;
+    let mut shelf = shelf_of(alloc, &r, &s)?;
     let mut sink = ListSink::new(alloc, 10000)?;
-    let texts = [
-        "jm", "--on", "1 = 1", "--batch", "4", "--replay", number, "r", "s",
-    ];
-    let words = words(alloc, texts.as_slice())?;
-    match join_main(rt, alloc, &words, &mut shelf, &mut sink, &NoGate) {
-        Outcome::Done { journal, .. } => Ok(journal),
-        _ => Err(AllocError),
-    }
+    let line = format!(in alloc; "jm|--on|1 = 1|--batch|4|--replay|{number}|r|s")?;
+    journal_of(rt, alloc, &line, &mut shelf, &mut sink)
+}
+
+fn answers_the_replay<R: Abort + Threads + Wait + Sync>(
+    rt: &R,
+    alloc: Global,
+    input: &Input,
+    setting: &Setting,
+    number: u64,
+) -> Result<(), AllocError> {
+    let wanted = replayed(rt, alloc, input, setting, number)?;
+    let journal = answered(rt, alloc, number)?;
+    assert!(rt; journal.as_slice() == wanted.as_slice(), "of {number}");
+    Ok(())
 }
 
 #[test]
@@ -86,13 +127,8 @@ fn answers_the_journal_of_its_number(rt: HostRuntime) -> Result<(), Fail> {
     let alloc = rt.alloc();
     let input = forty_a_side(alloc)?;
     let setting = batches_of_four();
-    assert!(rt; input.valid(), "the input is valid");
-    assert!(rt; setting.valid(), "the setting is valid");
     for number in 0..32u64 {
-        let run = replay(&rt, alloc, &input, &setting, number)?;
-        let text = format!(in alloc; "{number}")?;
-        let journal = answered(&rt, alloc, text.as_str())?;
-        assert!(rt; journal.as_slice() == run.journal.as_slice(), "of {number}");
+        answers_the_replay(&rt, alloc, &input, &setting, number)?;
     }
     Ok(())
 }

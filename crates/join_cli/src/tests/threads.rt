@@ -1,9 +1,8 @@
 // Runs in threads.
 
-use super::words;
-use crate::{Outcome, join_main};
+use super::{ends_left, shelf_of};
 use epoch_tags::Actor;
-use join_rows::{ListSink, MapShelf};
+use join_rows::ListSink;
 use std::alloc::{AllocError, Global};
 use std::sync::Wait;
 use std::test::Fail;
@@ -14,49 +13,42 @@ const R: &str = "id,x\n1,10\n2,20\n3,30\n";
 
 const S: &str = "id,y\n1,20\n2,30\n3,20\n";
 
-// Whether a run with these options writes the three pairs, and leaves so many ends.
+// Whether a run with the words of this line writes the three pairs, and leaves so many ends.
 fn writes_all<R: Threads + Wait + Sync, G: Gate>(
     rt: &R,
     alloc: Global,
-    options: &[&str],
+    line: &str,
     ends: u64,
     gate: &G,
 ) -> Result<bool, AllocError> {
-    let mut shelf = MapShelf::new(alloc);
-    shelf.add("r", R.as_bytes())?;
-    shelf.add("s", S.as_bytes())?;
+    let mut shelf = shelf_of(alloc, R, S)?;
     let mut sink = ListSink::new(alloc, 100)?;
-    let mut texts = Vec::new(alloc);
-    texts.extend_from_slice(["jm", "--on", "r.x = s.y", "r", "s"].as_slice())?;
-    texts.extend_from_slice(options)?;
-    let words = words(alloc, &texts)?;
-    match join_main(rt, alloc, &words, &mut shelf, &mut sink, gate) {
-        Outcome::Done { trail, .. } => {
-            Ok(trail.len() == ends && sink.written() == b"2,1\n2,3\n3,2\n".as_slice())
-        }
-        _ => Ok(false),
-    }
+    let left = ends_left(rt, alloc, line, &mut shelf, &mut sink, gate)?;
+    Ok(left == Some(ends) && sink.written() == b"2,1\n2,3\n3,2\n".as_slice())
 }
 
 #[test]
 fn any_number_of_workers(rt: HostRuntime) -> Result<(), Fail> {
-    for workers in ["1", "4", "16"] {
-        let options = ["--workers", workers];
-        let same = writes_all(&rt, rt.alloc(), options.as_slice(), 1, &NoGate)?;
-        assert!(rt; same, "by {workers}");
-    }
-    let options = ["--workers", "16", "--replay", "7"];
-    let same = writes_all(&rt, rt.alloc(), options.as_slice(), 0, &NoGate)?;
-    assert!(rt; same, "a replay has no ends");
+    let alloc = rt.alloc();
+    let line = "jm|--on|r.x = s.y|r|s|--workers|1";
+    assert!(rt; writes_all(&rt, alloc, line, 1, &NoGate)?, "by 1");
+    let line = "jm|--on|r.x = s.y|r|s|--workers|4";
+    assert!(rt; writes_all(&rt, alloc, line, 1, &NoGate)?, "by 4");
+    let line = "jm|--on|r.x = s.y|r|s|--workers|16";
+    assert!(rt; writes_all(&rt, alloc, line, 1, &NoGate)?, "by 16");
+    let line = "jm|--on|r.x = s.y|r|s|--workers|16|--replay|7";
+    assert!(rt;
+        writes_all(&rt, alloc, line, 0, &NoGate)?,
+        "a replay has no ends"
+    );
     Ok(())
 }
 
 #[test]
 fn two_actors_meet(rt: HostRuntime) -> Result<(), Fail> {
     let gate = PairGate::new(Actor::Joiner(0), Actor::Collector, 1 << 27);
-    let options = ["--feeders", "1", "--workers", "2"];
-    let same = writes_all(&rt, rt.alloc(), options.as_slice(), 1, &gate)?;
-    assert!(rt; same);
+    let line = "jm|--on|r.x = s.y|r|s|--feeders|1|--workers|2";
+    assert!(rt; writes_all(&rt, rt.alloc(), line, 1, &gate)?);
     assert!(rt; gate.met(), "the two actors meet");
     Ok(())
 }
