@@ -13,6 +13,7 @@ use std::rt::Env;
 use std::sync::Wait;
 use std::test::Fail;
 use std::thread::Threads;
+use worker_gate::NoGate;
 
 // A process with these words, and no variables.
 #[derive(Drop)]
@@ -66,7 +67,7 @@ fn code_of<R: Threads + Wait + Sync>(
     requires shelf { shelf.old.faults < last_fault }
     requires sink { sink.old.faults < last_fault }
 {
-    jm_program(rt, alloc, words, shelf, sink, errors).code()
+    jm_program(rt, alloc, words, shelf, sink, errors, &NoGate).code()
 }
 
 // Whether a process with these words ends with this code, this output and this line on standard error.
