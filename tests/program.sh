@@ -1,10 +1,11 @@
 #!/bin/sh
 # Runs the built program over small files and compares its status, its output and its line on standard
 # error with what docs/USAGE.md says. It is no part of the gate, in which no test may start a program.
-# JM names another program than the repository's own.
+# JM and JM_PICTURE name other programs than the repository's own.
 set -u
 top=$(cd "$(dirname "$0")/.." && pwd -P)
 jm=${JM:-$top/jm}
+jm_picture=${JM_PICTURE:-$top/jm-picture}
 room=$(mktemp -d)
 trap 'rm -rf "$room"' EXIT
 cd "$room" || exit 1
@@ -30,6 +31,21 @@ check() {
         echo "  status $got, wanted $status" >&2
         diff wanted.out got.out >&2
         diff wanted.err got.err >&2
+    fi
+}
+
+# picture WORDS..: the report of a run is drawn, and each of its numbers stands in the picture
+picture() {
+    "$jm" "$@" --report >got.out 2>got.err </dev/null && "$jm_picture" <got.out >got.svg 2>>got.err
+    lacking=$?
+    for number in $(sed -n '/^input /,$p' got.out | tr -s ' ' '\n' | grep '^[0-9]' | sort -u); do
+        grep -q "[^0-9]$number[^0-9]" got.svg || lacking="$lacking $number"
+    done
+    if [ "$lacking" = 0 ] && [ ! -s got.err ]; then
+        passed=$((passed + 1))
+    else
+        failed=$((failed + 1))
+        echo "failed: the picture of jm $*: $lacking" >&2
     fi
 }
 
@@ -109,6 +125,12 @@ check 4 '' 'input: S row 1 has 3 fields' --on 'r.x = s.y' r.csv wide.csv
 check 4 '' 'input: S row 3 column 2 is no number' --on 'r.x = s.y' r.csv text.csv
 check 6 '' 'read: failed' --on 'r.x = s.y' missing.csv s.csv
 check 6 '' 'read: failed' --on 'r.x = s.y' r.csv missing.csv
+
+picture --on 'r.x = s.y' --fixed 0 r.csv s.csv
+picture --on 'r.x = s.y' --joiners 1 r.csv s.csv
+picture --on 'r.key = s.key' --make 2000
+picture --on 'r.key = s.key' --make 3000 --joiners 64 --feeders 8 --feed rfirst --replay 7
+picture --on 'r.x = s.y' --rows r.csv s.csv
 
 # a sink that takes nothing
 if [ -w /dev/full ]; then
