@@ -2,6 +2,7 @@
 //! bytes are written to.
 #![tactic(auto)]
 
+mod bytes;
 mod cells;
 mod columns;
 mod disk;
@@ -20,11 +21,12 @@ mod sink;
 mod std_sink;
 mod table;
 
+pub use bytes::Bytes;
 pub use cells::Cells;
 pub use columns::BadNumber;
 pub use disk::DiskShelf;
 pub use fault::TableFault;
-pub use list::{Bytes, Items, Names};
+pub use list::{Items, Names};
 pub use list_sink::ListSink;
 pub use made::make_table;
 pub use map::MapShelf;

@@ -2,6 +2,7 @@
 
 ghost use Rattle.std.specs.Prelude.{◌≡◌, ◌<◌, ◌++◌, ◌∷◌, [], Some, length, IfOk, OnOk, OnErr, slice_get};
 
+use crate::bytes::Bytes;
 use std::alloc::{AllocError, Global};
 use std::marker::Model;
 
@@ -90,34 +91,5 @@ impl<T: Drop> Items<T> {
         Ok(())
     }
 }
-
-impl Items<u8> {
-    /// A list of these bytes.
-    pub fn from_slice(alloc: Global, bytes: &[u8]) -> Result<Items<u8>, AllocError>
-        ensures { IfOk result (λ items. items ≡ bytes.now) }
-    {
-        Ok(Items {
-            held: Vec::from_slice(alloc, bytes)?,
-        })
-    }
-
-    /// Equal bytes.
-    pub fn copy(&self) -> Result<Items<u8>, AllocError>
-        ensures { IfOk result (λ items. items ≡ self.now) }
-    {
-        Items::from_slice(self.allocator(), self.as_slice())
-    }
-
-    /// Appends bytes.
-    pub fn append(&mut self, bytes: &[u8]) -> Result<(), AllocError>
-        ensures ok { OnOk result (self.new ≡ self.old ++ bytes.now) }
-        ensures err { OnErr result (self.new ≡ self.old) }
-    {
-        self.held.extend_from_slice(bytes)?;
-        Ok(())
-    }
-}
-
-pub type Bytes = Items<u8>;
 
 pub type Names = Items<Bytes>;

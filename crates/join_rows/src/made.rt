@@ -5,8 +5,9 @@ ghost use Rattle.std.specs.Fmt.{decimal};
 ghost use Rattle.join_rows.specs.Made.{made_fields, made_key as made_key', made_names as made_names', made_table, made_val as made_val'};
 ghost use Rattle.join_rows.specs.Records.{IsTable, cell_of, cells_of};
 
+use crate::bytes::Bytes;
 use crate::cells::Cells;
-use crate::list::{Bytes, Names};
+use crate::list::Names;
 use crate::table::{Cell, Rows, Side, Table};
 use std::alloc::{AllocError, Global};
 

@@ -4,8 +4,8 @@ ghost use Rattle.std.specs.Prelude.{◌≡◌, true, false, ◌≤◌, ◌<◌, 
 ghost use Rattle.join_rows.specs.Shelves.{AtEnd, Faulted, Lacks, Nexts, moved, raised};
 ghost use Rattle.join_rows.specs.InMemory.{Adds, Fills, MapState, file_under, is_named, named_spot};
 
+use crate::bytes::Bytes;
 use crate::find::{copy_from, find};
-use crate::list::Bytes;
 use crate::named_file::{NamedFile, Place};
 use crate::shelf::{Failed, Shelf, one_more};
 use std::alloc::{AllocError, Global};
@@ -65,9 +65,7 @@ impl MapShelf {
     {
         let bytes = Bytes::from_slice(self.alloc, bytes)?;
         match find(self.files.as_slice(), name.as_bytes()) {
-            Some(place) => {
-                self.files[place].bytes = bytes;
-            }
+            Some(place) => self.files[place].replace(bytes),
             None => {
                 let name = Bytes::from_slice(self.alloc, name.as_bytes())?;
                 self.files.push(NamedFile { name, bytes })?;

@@ -1,14 +1,22 @@
 // The files of a shelf in memory.
 
-ghost use Rattle.std.specs.Prelude.{◌≡◌, ◌≤◌, ◌<◌, ◌+◌, ◌-◌, ◌^◌, Some, None, length, take, drop, MatchOption};
-ghost use Rattle.std.specs.List.{slice_get};
+ghost use Rattle.std.specs.Prelude.{◌≡◌};
 
-use crate::list::Bytes;
+use crate::bytes::Bytes;
 
 #[derive(Drop)]
 pub(crate) struct NamedFile {
     pub(crate) name: Bytes,
     pub(crate) bytes: Bytes,
+}
+
+impl NamedFile {
+    // Has other bytes from here on.
+    pub(crate) fn replace(&mut self, bytes: Bytes)
+        ensures { self.new ≡ record self.old { bytes = bytes } }
+    {
+        self.bytes = bytes;
+    }
 }
 
 // A place in one of the files.

@@ -8,9 +8,10 @@ ghost use Rattle.csv.specs.declared.reader.Trim.TheVariants as trim;
 ghost use Rattle.join_rows.specs.Records.{after_marks, cells_of, has_mark, records_of, table_of_records};
 ghost use Rattle.join_rows.specs.declared.fault.TableFault.TheVariants as fault;
 
+use crate::bytes::Bytes;
 use crate::cells::Cells;
 use crate::fault::TableFault;
-use crate::list::{Bytes, Names};
+use crate::list::Names;
 use crate::table::{Cell, Rows, Table};
 use csv::{ByteRecord, Reader, ReaderBuilder};
 use std::alloc::{AllocError, Global};

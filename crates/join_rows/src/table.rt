@@ -3,8 +3,9 @@
 ghost use Rattle.std.specs.Prelude.{◌≡◌, IfOk};
 ghost use Rattle.join_rows.specs.Records.{HasItsNumber, cell_of};
 
+use crate::bytes::Bytes;
 use crate::cells::Cells;
-use crate::list::{Bytes, Items, Names};
+use crate::list::{Items, Names};
 use crate::number::number_in;
 use std::alloc::AllocError;
 

@@ -10,14 +10,14 @@ returns-in-Some-clause-ok c n =
     let found = rw (c.as_slice.ensures.value, c.as_bytes.ensures.value) at c.in-Some.ensures in
     let same = c.index_mut.ensures.value ∙ get_or_from_slice_get c.self.inside.files.items c.in-Some.place found.0 c.index_mut.result.now found.1 in
     let new : NamedFile = record { name = c.index_mut.result.now.name; bytes = c.in_ok-bytes.bytes } in
-    rw (← c.self.view_is) (file-set c.self.inside.files.items c.args.name.now c.args.bytes.now c.in-Some.place found.0 new found.1 found.2 found.4 (ap (λ (x : NamedFile). x.name) same ∙ found.2) c.in_ok-bytes.ensures n)
+    rw (← c.self.view_is, c.replace.ensures) (file-set c.self.inside.files.items c.args.name.now c.args.bytes.now c.in-Some.place found.0 new found.1 found.2 found.4 (ap (λ (x : NamedFile). x.name) same ∙ found.2) c.in_ok-bytes.ensures n)
 
 pub returns-in-Some-clause-keeps : goal.returns-in-Some-clause-keeps
 returns-in-Some-clause-keeps c =
     let found = rw (c.as_slice.ensures.value, c.as_bytes.ensures.value) at c.in-Some.ensures in
     let same = c.index_mut.ensures.value ∙ get_or_from_slice_get c.self.inside.files.items c.in-Some.place found.0 c.index_mut.result.now found.1 in
     let new : NamedFile = record { name = c.index_mut.result.now.name; bytes = c.in_ok-bytes.bytes } in
-    rw (← c.self.view_is, named_spot-set c.self.inside.files.items c.in-Some.place found.0 new c.self.inside.picked found.1 (ap (λ (x : NamedFile). x.name) same)) refl
+    rw (← c.self.view_is, c.replace.ensures, named_spot-set c.self.inside.files.items c.in-Some.place found.0 new c.self.inside.picked found.1 (ap (λ (x : NamedFile). x.name) same)) refl
 
 pub returns-in_ok-push-in-None-clause-ok : goal.returns-in_ok-push-in-None-clause-ok
 returns-in_ok-push-in-None-clause-ok c n =
