@@ -1,7 +1,7 @@
 -- A probe by the key finds what a scan finds, and evaluates those with which the key atom is true.
 use Rattle.std.proofs.Common.{◌≡◌, ℕ, ◌+◌, ◌<◌, ◌≤◌, ℤ, Bool, true, false, cond, ◌&&◌, Option, Some, None, List, [], ◌∷◌, ◌++◌, length, take, drop, refl, sym, ap, subst, ◌∙◌, arith, slice_get, Result, Ok, Err}
-use Rattle.std.specs.Prelude.{IfOk, Vec}
-use Rattle.std.specs.Global.{Global}
+use Rattle.std.specs.Prelude.{IfOk}
+use Rattle.smallvec.specs.SmallVec.{SmallVec}
 use Rattle.std.specs.Prelude.{map, filter, count_by}
 use Rattle.std.specs.List.{sum_by, All, cons_option}
 use Rattle.std.proofs.lemmas.Bool.{false≢true}
@@ -172,7 +172,7 @@ abbrev pub band_places : KeyAtom → Tuple → List Tuple → ℤ → List ℕ
 band_places key t others v = places_between (least_at t.side key v) (greatest_at t.side key v) 0 (values_at key (other_side t.side) others)
 
 -- the index's clause, at the values of the stored tuples
-pub band_given : {V E : Type 0} (r : Result V E) (items : V → List ℕ) (key : KeyAtom) (t : Tuple) (others : List Tuple) (entries : List (ℤ × Vec ℕ Global)) (w v : ℤ) (from to : Option ℤ)
+pub band_given : {V E : Type 0} (r : Result V E) (items : V → List ℕ) (key : KeyAtom) (t : Tuple) (others : List Tuple) (entries : List (ℤ × SmallVec ℕ)) (w v : ℤ) (from to : Option ℤ)
     → w ≡ v → from ≡ least_at t.side key w → to ≡ greatest_at t.side key w
     → IsMapOf (values_at key (other_side t.side) others) entries
     → IfOk r (λ x. (values : List (Option ℤ)) → IsMapOf values entries → items x ≡ places_between from to 0 values)

@@ -1,7 +1,7 @@
 -- What a range of a map from values to places gives.
 use Rattle.std.proofs.Common.{◌≡◌, ℕ, ◌+◌, ◌≤◌, ℤ, pos, negsuc, Bool, true, false, cond, not, ◌&&◌, Option, Some, None, List, [], ◌∷◌, ◌++◌, refl, sym, ap, ◌∙◌, arith}
-use Rattle.std.specs.Prelude.{filter, flat_map, sum_by, int_lt, int_le, Vec}
-use Rattle.std.specs.Global.{Global}
+use Rattle.std.specs.Prelude.{filter, flat_map, sum_by, int_lt, int_le}
+use Rattle.smallvec.specs.SmallVec.{SmallVec}
 use Rattle.std.specs.declared.cmp.Ordering.TheVariants.{Less, Equal, Greater}
 use Rattle.std.specs.Ordering.{nat_cmp, int_cmp, is_lt, is_le}
 use Rattle.std.specs.List.Sorted.{IsPermutation, IsSorted}
@@ -67,12 +67,12 @@ each_only : (b : Bool) (f : ℕ → ℕ) (ps : List ℕ) → sum_by (λ p. cond 
 each_only true f ps = refl
 each_only false f ps = zeros ps
 
-sum_kept : (f : ℕ → ℕ) (b : Bool) (e : ℤ × Vec ℕ Global) (es : List (ℤ × Vec ℕ Global))
+sum_kept : (f : ℕ → ℕ) (b : Bool) (e : ℤ × SmallVec ℕ) (es : List (ℤ × SmallVec ℕ))
     → sum_by f (flat_map (λ e. e.1.items) (cond b (e ∷ es) es)) ≡ cond b (sum_by f e.1.items) 0 + sum_by f (flat_map (λ e. e.1.items) es)
 sum_kept f true e es = sum_by-append f e.1.items (flat_map (λ e. e.1.items) es)
 sum_kept f false e es = omega arith
 
-sum_of_range : (test : ℤ → Bool) (f : ℕ → ℕ) (es : List (ℤ × Vec ℕ Global)) → sum_by f (flat_map (λ e. e.1.items) (filter (λ e. test e.0) es)) ≡ sum_by (at_each (only test f)) es
+sum_of_range : (test : ℤ → Bool) (f : ℕ → ℕ) (es : List (ℤ × SmallVec ℕ)) → sum_by f (flat_map (λ e. e.1.items) (filter (λ e. test e.0) es)) ≡ sum_by (at_each (only test f)) es
 sum_of_range test f [] = refl
 sum_of_range test f (e ∷ es) =
     omega (
@@ -111,7 +111,7 @@ places_rise from to low n (v ∷ values) le =
     rises_take_in (lies from to v) low n (places_between from to (n + 1) values) le
     (places_rise from to n (n + 1) values (omega arith)) (places_rise from to low (n + 1) values (omega arith))
 
-pub sorted_map_range : (from to : Option ℤ) (values : List (Option ℤ)) (entries : List (ℤ × Vec ℕ Global)) (found sorted : List ℕ)
+pub sorted_map_range : (from to : Option ℤ) (values : List (Option ℤ)) (entries : List (ℤ × SmallVec ℕ)) (found sorted : List ℕ)
     → IsMapOf values entries → found ≡ flat_map (λ e. e.1.items) (filter (λ e. range_contains int_cmp (start_of from) (end_of to) e.0) entries)
     → IsPermutation found sorted → IsSorted nat_cmp sorted → sorted ≡ places_between from to 0 values
 sorted_map_range from to values entries found sorted indexed is moved in_order =
@@ -123,7 +123,7 @@ sorted_map_range from to values entries found sorted indexed is moved in_order =
     ∙ indexed.sums (only (range_contains int_cmp (start_of from) (end_of to)) f)
     ∙ sum_of_places from to (range_contains int_cmp (start_of from) (end_of to)) f (in_range from to) 0 values)
 
-pub all_taken : (left : List (ℤ × Vec ℕ Global)) (taken all : List ℕ) → left ≡ [] → taken ++ flat_map (λ e. e.1.items) left ≡ all → taken ≡ all
+pub all_taken : (left : List (ℤ × SmallVec ℕ)) (taken all : List ℕ) → left ≡ [] → taken ++ flat_map (λ e. e.1.items) left ≡ all → taken ≡ all
 all_taken left taken all none is = grind (arith, common_steps)
 
 -- ---- bounds that run backwards

@@ -1,13 +1,13 @@
 -- Sums over a map from values to places.
 use Rattle.std.proofs.Common.{◌≡◌, ℕ, ◌+◌, ℤ, Bool, true, false, cond, Option, Some, None, List, [], ◌∷◌, ◌++◌, length, refl, sym, ap, ◌∙◌, arith}
-use Rattle.std.specs.Prelude.{sum_by, Vec}
+use Rattle.std.specs.Prelude.{sum_by}
+use Rattle.smallvec.specs.SmallVec.{SmallVec}
 use Rattle.std.specs.declared.cmp.Ordering.{Ordering}
 use Rattle.std.specs.declared.cmp.Ordering.TheVariants.{Less, Equal, Greater}
 use Rattle.std.specs.Ordering.{int_cmp, is_eq, match_ordering}
 use Rattle.std.specs.Map.{lookup, set_value}
 use Rattle.std.specs.BTreeMap.{is_at, insert_entry}
 use Rattle.std.proofs.lemmas.List.Sums.{sum_by-cons, sum_by-append}
-use Rattle.std.specs.Global.{Global}
 use Rattle.std.proofs.lemmas.Map.Lookups.{exact_signed}
 use Rattle.store_parts.specs.Places.{at_each, IsMapOf}
 use Rattle.store_parts.specs.Places.{entries_from}
@@ -62,10 +62,10 @@ sum-set_value test F v w more (e ∷ es) grows found = set_at test F v w more (t
 abbrev pub FindsOnly : (ℤ → Ordering) → ℤ → Type 0
 FindsOnly compare v = (q : ℤ) → is_at compare q ≡ true → q ≡ v
 
-no_more : (f : ℤ × ℕ → ℕ) (q : ℤ) (p w : Vec ℕ Global) → w.items ≡ p.items → at_each f (q, w) ≡ at_each f (q, p) + 0
+no_more : (f : ℤ × ℕ → ℕ) (q : ℤ) (p w : SmallVec ℕ) → w.items ≡ p.items → at_each f (q, w) ≡ at_each f (q, p) + 0
 no_more f q p w same = omega (arith, ap (λ xs. sum_by (λ x. f (q, x)) xs) same)
 
-one_more : (f : ℤ × ℕ → ℕ) (q v : ℤ) (n : ℕ) (p w : Vec ℕ Global) → w.items ≡ p.items ++ n ∷ [] → q ≡ v → at_each f (q, w) ≡ at_each f (q, p) + f (v, n)
+one_more : (f : ℤ × ℕ → ℕ) (q v : ℤ) (n : ℕ) (p w : SmallVec ℕ) → w.items ≡ p.items ++ n ∷ [] → q ≡ v → at_each f (q, w) ≡ at_each f (q, p) + f (v, n)
 one_more f q v n p w pushed same =
     let whole = ap (λ xs. sum_by (λ x. f (q, x)) xs) pushed in
     let parts = sum_by-append (λ x. f (q, x)) p.items (n ∷ []) in
@@ -81,7 +81,7 @@ value_more f values v n at_end =
     let place : f (v, 0 + length values) ≡ f (v, n) = ap (λ m. f (v, m)) (omega (arith, at_end)) in
     omega (arith, more, joined, last, place)
 
-pub map_kept : (compare : ℤ → Ordering) (values : List (Option ℤ)) (old new : List (ℤ × Vec ℕ Global)) (p w : Vec ℕ Global)
+pub map_kept : (compare : ℤ → Ordering) (values : List (Option ℤ)) (old new : List (ℤ × SmallVec ℕ)) (p w : SmallVec ℕ)
     → lookup (is_at compare) old ≡ Some p → new ≡ set_value (is_at compare) old w → w.items ≡ p.items → IsMapOf values old → IsMapOf values new
 map_kept compare values old new p w found written same h = record {
   sums = λ f.
@@ -90,7 +90,7 @@ map_kept compare values old new p w found written same h = record {
       omega (arith, whole, set, h.sums f);
 }
 
-pub map_pushed : (compare : ℤ → Ordering) (values : List (Option ℤ)) (v : ℤ) (n : ℕ) (old new : List (ℤ × Vec ℕ Global)) (p w : Vec ℕ Global)
+pub map_pushed : (compare : ℤ → Ordering) (values : List (Option ℤ)) (v : ℤ) (n : ℕ) (old new : List (ℤ × SmallVec ℕ)) (p w : SmallVec ℕ)
     → FindsOnly compare v → lookup (is_at compare) old ≡ Some p → new ≡ set_value (is_at compare) old w → w.items ≡ p.items ++ n ∷ []
     → length values ≡ n → IsMapOf values old → IsMapOf (values ++ Some v ∷ []) new
 map_pushed compare values v n old new p w exact found written pushed at_end h = record {
@@ -100,7 +100,7 @@ map_pushed compare values v n old new p w exact found written pushed at_end h = 
       omega (arith, whole, set, h.sums f, value_more f values v n at_end);
 }
 
-pub map_inserted : (values : List (Option ℤ)) (v : ℤ) (n : ℕ) (old new : List (ℤ × Vec ℕ Global)) (w : Vec ℕ Global)
+pub map_inserted : (values : List (Option ℤ)) (v : ℤ) (n : ℕ) (old new : List (ℤ × SmallVec ℕ)) (w : SmallVec ℕ)
     → lookup (is_at (int_cmp v)) old ≡ None → new ≡ insert_entry int_cmp old v w → w.items ≡ n ∷ []
     → length values ≡ n → IsMapOf values old → IsMapOf (values ++ Some v ∷ []) new
 map_inserted values v n old new w none written made at_end h = record {
@@ -112,7 +112,7 @@ map_inserted values v n old new w none written made at_end h = record {
       omega (arith, whole, set, term, last, h.sums f, value_more f values v n at_end);
 }
 
-pub map_no_value : (value : Option ℤ) (values : List (Option ℤ)) (entries : List (ℤ × Vec ℕ Global)) → ((v : ℤ) → value ≡ Some v → ⊥) → IsMapOf values entries → IsMapOf (values ++ value ∷ []) entries
+pub map_no_value : (value : Option ℤ) (values : List (Option ℤ)) (entries : List (ℤ × SmallVec ℕ)) → ((v : ℤ) → value ≡ Some v → ⊥) → IsMapOf values entries → IsMapOf (values ++ value ∷ []) entries
 map_no_value None values entries never h = record {
   sums = λ f.
       let more = ap (sum_by f) (entries_more 0 values None) in

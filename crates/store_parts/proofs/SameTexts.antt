@@ -1,7 +1,7 @@
 -- A probe by texts finds what a scan finds, and evaluates those that have the tuple's text.
 use Rattle.std.proofs.Common.{◌≡◌, ℕ, ◌+◌, ◌<◌, ℤ, pos, Bool, true, false, cond, Option, Some, None, List, [], ◌∷◌, ◌++◌, length, take, refl, sym, ap, subst, ◌∙◌, arith, append-nil, slice_get, Result, Ok, Err}
-use Rattle.std.specs.Prelude.{IfOk, Vec, map, filter, count_by, int_le}
-use Rattle.std.specs.Global.{Global}
+use Rattle.std.specs.Prelude.{IfOk, map, filter, count_by, int_le}
+use Rattle.smallvec.specs.SmallVec.{SmallVec}
 use Rattle.std.specs.List.{All}
 use Rattle.std.specs.Str.{bytes_eq}
 use Rattle.std.proofs.lemmas.Int.{ints}
@@ -64,7 +64,7 @@ number_places_below text t others =
 
 -- the index's clause, at the numbers of the stored tuples' texts
 pub number_given : {V E : Type 0} (r : Result V E) (items : V → List ℕ) (text : TextAtom) (t : Tuple) (others : List Tuple)
-    (entries : List (ℤ × Vec ℕ Global)) (v : ℤ) → v ≡ pos (number_of (text_of text t.side t))
+    (entries : List (ℤ × SmallVec ℕ)) (v : ℤ) → v ≡ pos (number_of (text_of text t.side t))
     → IsMapOf (numbers_at text (other_side t.side) others) entries
     → IfOk r (λ x. (values : List (Option ℤ)) → IsMapOf values entries → items x ≡ places_between (Some v) (Some v) 0 values)
     → IfOk r (λ x. items x ≡ number_places text t others)

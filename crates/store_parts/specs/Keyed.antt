@@ -1,6 +1,6 @@
 -- The key of a store: the values of its tuples, and what a probe by the key is left to evaluate.
-use Rattle.std.specs.Prelude.{◌≡◌, ℕ, ℤ, pos, ◌+ℤ◌, ◌-ℤ◌, Bool, Option, Some, None, List, length, map, filter_map, slice_get, option_map, ⊤, All, Vec}
-use Rattle.std.specs.Global.{Global}
+use Rattle.std.specs.Prelude.{◌≡◌, ℕ, ℤ, pos, ◌+ℤ◌, ◌-ℤ◌, Bool, Option, Some, None, List, length, map, filter_map, slice_get, option_map, ⊤, All}
+use Rattle.smallvec.specs.SmallVec.{SmallVec}
 use Rattle.join_rows.specs.declared.table.Side.{Side}
 use Rattle.join_rows.specs.declared.table.Side.TheVariants.{R, S}
 use Rattle.epoch_tags.specs.declared.tuple.Tuple.{Tuple}
@@ -64,7 +64,7 @@ numbers_at text side ts = map (indexed_at None (Some text) side) ts
 
 -- the index of a side's tuples, which have the key's columns
 pub record IsIndexed (key : Option KeyAtom) (text : Option TextAtom) (side : Side) (ts : List Tuple)
-    (entries : List (ℤ × Vec ℕ Global)) : Type 0 where
+    (entries : List (ℤ × SmallVec ℕ)) : Type 0 where
   pub index : IsMapOf (map (indexed_at key text side) ts) entries
   pub columns : All (FitsKeyAt key side) ts
 

@@ -1,6 +1,6 @@
 -- An index of values: from each value to the places at which it stands.
-use Rattle.std.specs.Prelude.{◌≡◌, ℕ, ◌+◌, ℤ, int_lt, Bool, false, ◌&&◌, Option, Some, None, List, [], ◌∷◌, sum_by, if◌then◌else◌, Vec}
-use Rattle.std.specs.Global.{Global}
+use Rattle.std.specs.Prelude.{◌≡◌, ℕ, ◌+◌, ℤ, int_lt, Bool, false, ◌&&◌, Option, Some, None, List, [], ◌∷◌, sum_by, if◌then◌else◌}
+use Rattle.smallvec.specs.SmallVec.{SmallVec}
 use Rattle.std.specs.declared.ops.Bound.{Bound}
 use Rattle.std.specs.declared.ops.Bound.TheVariants.{Included, Unbounded}
 use Rattle.theta_pred.specs.Keys.{is_from, is_up_to}
@@ -12,11 +12,11 @@ entries_from n (None ∷ values) = entries_from (n + 1) values
 entries_from n (Some v ∷ values) = (v, n) ∷ entries_from (n + 1) values
 
 -- the term of a value with all its places
-abbrev pub at_each : (ℤ × ℕ → ℕ) → ℤ × Vec ℕ Global → ℕ
+abbrev pub at_each : (ℤ × ℕ → ℕ) → ℤ × SmallVec ℕ → ℕ
 at_each f e = sum_by (λ p. f (e.0, p)) e.1.items
 
 -- the map has these values with their places, each once, in some order
-pub record IsMapOf (values : List (Option ℤ)) (entries : List (ℤ × Vec ℕ Global)) : Type 0 where
+pub record IsMapOf (values : List (Option ℤ)) (entries : List (ℤ × SmallVec ℕ)) : Type 0 where
   pub sums : (f : ℤ × ℕ → ℕ) → sum_by (at_each f) entries ≡ sum_by f (entries_from 0 values)
 
 -- whether there is a value, and it lies between two bounds

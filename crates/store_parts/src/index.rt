@@ -3,14 +3,18 @@
 ghost use Rattle.std.specs.Prelude.{◌≡◌, ℤ, Option, List, [], ◌∷◌, ◌++◌, length, IfOk, OnOk, OnErr};
 ghost use Rattle.store_parts.specs.Places.{end_of, is_backward, places_between, start_of, IsMapOf};
 
+use smallvec::SmallVec;
 use std::alloc::{AllocError, Global};
 use std::collections::BTreeMap;
 use std::ops::Bound;
 
+// How many places of a value need no memory of their own.
+const FEW: usize = 2;
+
 // Values, each with the places at which it stands, in the order of the values.
 #[derive(Drop)]
 pub(crate) struct Index {
-    map: BTreeMap<i128, Vec<u64>>,
+    map: BTreeMap<i128, SmallVec<u64, FEW>>,
 }
 
 fn start_of(from: Option<i128>) -> Bound<i128>
@@ -70,7 +74,7 @@ impl Index {
             places.push(place)?;
             return Ok(());
         }
-        let mut places = Vec::new(alloc);
+        let mut places = SmallVec::new(alloc);
         places.push(place)?;
         self.map.insert(value, places)?;
         Ok(())
@@ -92,7 +96,7 @@ impl Index {
             return Ok(found);
         }
         for entry in self.map.range((start_of(from), end_of(to))) {
-            found.extend_from_slice(entry.1)?;
+            found.extend_from_slice(entry.1.as_slice())?;
         }
         found.sort_unstable();
         Ok(found)
