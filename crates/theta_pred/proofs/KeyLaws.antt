@@ -7,12 +7,12 @@ use Rattle.join_rows.specs.declared.table.Cell.{Cell}
 use Rattle.join_rows.specs.declared.table.Side.{Side}
 use Rattle.join_rows.specs.declared.table.Side.TheVariants.{R, S}
 use Rattle.theta_pred.specs.declared.atom.Part.{Part}
-use Rattle.theta_pred.specs.declared.tree.Addend.{Addend}
+use Rattle.theta_pred.specs.declared.tree.SignedTerm.{SignedTerm}
 use Rattle.theta_pred.specs.declared.tree.Number.{Number}
 use Rattle.theta_pred.specs.declared.tree.Number.TheVariants as numbers
 use Rattle.theta_pred.specs.Keys.{is_from, is_up_to, is_between, is_atom_true, number_columns, columns_of, constant_in, constant_of, difference}
 use Rattle.theta_pred.specs.Linear.{part_of, value_of}
-use Rattle.theta_pred.specs.Sums.{of_side, plus, with_sign, number_of, addend_of, sum_of}
+use Rattle.theta_pred.specs.Sums.{of_side, plus, with_sign, number_of, signed_of, sum_of}
 
 pub some-injective : {X : Type 0} (x y : X) → Some x ≡ Some y → x ≡ y
 some-injective x y is = ap (λ o. unwrap_or o x) is
@@ -46,7 +46,7 @@ plus_some (Some x) (Some y) z is = (x, y, refl, refl, some-injective (x +ℤ y) 
 
 -- ---- a sum, by its columns of each side and its constants
 
-record IsParted (r s : List Cell) (xs : List Addend) (x a b : ℤ) : Type 0 where
+record IsParted (r s : List Cell) (xs : List SignedTerm) (x a b : ℤ) : Type 0 where
   r_plain : value_of (columns_of R false xs) r ≡ Some a
   r_turned : value_of (columns_of R true xs) r ≡ Some (neg_ℤ a)
   s_plain : value_of (columns_of S false xs) s ≡ Some b
@@ -113,7 +113,7 @@ one_parted r s minus (numbers.Given v) x is =
     (pos 0, pos 0, record { r_plain = refl; r_turned = refl; s_plain = refl; s_turned = refl; whole = omega (arith, ints, same) })
 one_parted r s minus (numbers.Cell column) x is = at_side r s column.side minus column.place x is
 
-more_parted : (r s : List Cell) (minus : Bool) (number : Number) (rest : List Addend) (x y z a b c d : ℤ) → IsOneParted r s minus number y a b
+more_parted : (r s : List Cell) (minus : Bool) (number : Number) (rest : List SignedTerm) (x y z a b c d : ℤ) → IsOneParted r s minus number y a b
     → IsParted r s rest z c d → y +ℤ z ≡ x
     → (a : ℤ) × (b : ℤ) × IsParted r s (record { minus = minus; number = number } ∷ rest) x a b
 more_parted r s minus number rest x y z a b c d first others sums =
@@ -130,24 +130,24 @@ more_parted r s minus number rest x y z a b c d first others sums =
       },
     )
 
-parted : (r s : List Cell) (xs : List Addend) (x : ℤ) → sum_of r s xs ≡ Some x → (a : ℤ) × (b : ℤ) × IsParted r s xs x a b
+parted : (r s : List Cell) (xs : List SignedTerm) (x : ℤ) → sum_of r s xs ≡ Some x → (a : ℤ) × (b : ℤ) × IsParted r s xs x a b
 parted r s [] x is =
     let same = some-injective (pos 0) x is in
     (pos 0, pos 0, record { r_plain = refl; r_turned = refl; s_plain = refl; s_turned = refl; whole = omega (arith, ints, same) })
-parted r s (addend ∷ rest) x is =
-    let parts = plus_some (addend_of r s addend) (sum_of r s rest) x is in
+parted r s (term ∷ rest) x is =
+    let parts = plus_some (signed_of r s term) (sum_of r s rest) x is in
     let y = parts.0 in
     let z = parts.1 in
-    let first = one_parted r s addend.minus addend.number y parts.2 in
+    let first = one_parted r s term.minus term.number y parts.2 in
     let others = parted r s rest z parts.3 in
-    more_parted r s addend.minus addend.number rest x y z first.0 first.1 others.0 others.1 first.2 others.2 parts.4
+    more_parted r s term.minus term.number rest x y z first.0 first.1 others.0 others.1 first.2 others.2 parts.4
 
 -- ---- the atom of a difference
 
 between_is : (low high o p : Option ℤ) (x y : ℤ) → o ≡ Some x → p ≡ Some y → is_between low high o p ≡ (is_from low (x -ℤ y) && is_up_to high (x -ℤ y))
 between_is low high o p x y is_x is_y = ap (λ q. is_between low high q p) is_x ∙ ap (is_between low high (Some x)) is_y
 
-pub difference_true : (r s : List Cell) (left right : List Addend) (low high : Option ℤ) (x y : ℤ) → sum_of r s left ≡ Some x → sum_of r s right ≡ Some y
+pub difference_true : (r s : List Cell) (left right : List SignedTerm) (low high : Option ℤ) (x y : ℤ) → sum_of r s left ≡ Some x → sum_of r s right ≡ Some y
     → ((gap : ℤ) → x -ℤ y ≡ gap +ℤ (constant_of left -ℤ constant_of right) → (is_from low gap && is_up_to high gap) ≡ true)
     → is_atom_true (difference left right low high) r s ≡ true
 difference_true r s left right low high x y is_x is_y bounds =

@@ -11,7 +11,7 @@ use Rattle.join_rows.specs.declared.table.Cell.{Cell}
 use Rattle.join_rows.specs.declared.table.Side.TheVariants.{R, S}
 use Rattle.theta_pred.specs.declared.kind.Kind.{Kind}
 use Rattle.theta_pred.specs.declared.kind.Kind.TheVariants.{Equality, Band, Inequality}
-use Rattle.theta_pred.specs.declared.tree.Addend.{Addend}
+use Rattle.theta_pred.specs.declared.tree.SignedTerm.{SignedTerm}
 use Rattle.theta_pred.specs.Formula.{Formula, any, every, negation, num, band, txt, Formulas, no_formula, formula, Meaning}
 use Rattle.theta_pred.specs.Keys.{Atom, is_of_kind, is_band_kind, splits, is_atom_true, difference, constant_of, num_low, num_high, reach, atom_in, conjuncts, first_of, first_there, key_member, key_of, LiesIn, IsKeyOf}
 use Rattle.theta_pred.specs.Sound.{IsSound, AreSound, AreWithin}
@@ -108,7 +108,7 @@ compares-some op None p is = absurd (false≢true is)
 compares-some op (Some x) None is = absurd (false≢true is)
 compares-some op (Some x) (Some y) is = (x, y, refl, refl, is)
 
-num-true : (r s : List Cell) (left right : List Addend) (op : Op) → compares op (sum_of r s left) (sum_of r s right) ≡ true
+num-true : (r s : List Cell) (left right : List SignedTerm) (op : Op) → compares op (sum_of r s left) (sum_of r s right) ≡ true
     → let c = constant_of left -ℤ constant_of right in is_atom_true (difference left right (num_low op c) (num_high op c)) r s ≡ true
 num-true r s left right op is =
     let both = compares-some op (sum_of r s left) (sum_of r s right) is in
@@ -136,14 +136,14 @@ sized : (op : Op) (o : Option ℤ) (bound : ℤ) → compares op (option_map siz
 sized op None bound is = absurd (false≢true is)
 sized op (Some x) bound is = (x, refl, is)
 
-abbrev band_atom : List Addend → Op → ℤ → Atom
+abbrev band_atom : List SignedTerm → Op → ℤ → Atom
 band_atom sum op bound = let c = constant_of sum in
     difference sum [] (Some (neg_ℤ (reach op bound) -ℤ c)) (Some (reach op bound -ℤ c))
 
 alone_apart : (x gap c : ℤ) → x -ℤ pos 0 ≡ gap +ℤ (c -ℤ pos 0) → x ≡ gap +ℤ c
 alone_apart x gap c apart = omega (arith, ints)
 
-band-true : (r s : List Cell) (sum : List Addend) (op : Op) (bound : ℤ) → is_band_kind Band op ≡ true
+band-true : (r s : List Cell) (sum : List SignedTerm) (op : Op) (bound : ℤ) → is_band_kind Band op ≡ true
     → compares op (option_map size_of (sum_of r s sum)) (Some bound) ≡ true
     → let c = constant_of sum in
     is_atom_true (difference sum [] (Some (neg_ℤ (reach op bound) -ℤ c)) (Some (reach op bound -ℤ c))) r s ≡ true
@@ -168,7 +168,7 @@ atom-true kind (band sum op bound) atom r s test holds is =
     subst (λ a. is_atom_true a r s ≡ true) (some-injective (band_atom sum op bound) atom is) (band-true r s sum op bound band holds)
 atom-true kind (txt left op right) atom r s test holds is = absurd (none-some atom is)
 
-difference-lies : (width_r width_s : ℕ) (left right : List Addend) (low high : Option ℤ) → AreWithin width_r width_s left → AreWithin width_r width_s right
+difference-lies : (width_r width_s : ℕ) (left right : List SignedTerm) (low high : Option ℤ) → AreWithin width_r width_s left → AreWithin width_r width_s right
     → LiesIn width_r width_s (difference left right low high)
 difference-lies width_r width_s left right low high in_left in_right = record {
   r = difference-below width_r width_s R false left right in_left in_right;

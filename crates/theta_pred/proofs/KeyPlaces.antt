@@ -6,7 +6,7 @@ use Rattle.std.proofs.lemmas.List.Elements.{All-append, All-map, All-nil}
 use Rattle.join_rows.specs.declared.table.Side.{Side}
 use Rattle.join_rows.specs.declared.table.Side.TheVariants.{R, S}
 use Rattle.theta_pred.specs.declared.atom.Part.{Part}
-use Rattle.theta_pred.specs.declared.tree.Addend.{Addend}
+use Rattle.theta_pred.specs.declared.tree.SignedTerm.{SignedTerm}
 use Rattle.theta_pred.specs.declared.tree.Number.{Number}
 use Rattle.theta_pred.specs.declared.tree.Number.TheVariants as numbers
 use Rattle.theta_pred.specs.Keys.{number_columns, flipped, columns_of}
@@ -25,16 +25,16 @@ number_columns-below width_r width_s side minus number within =
     All-map (IsBelow (of_side width_r width_s side)) (λ place. record { minus = minus; column = place }) (number_places side number)
     (number_places-within width_r width_s side number within)
 
-pub columns_of-below : (width_r width_s : ℕ) (side : Side) (turned : Bool) (addends : List Addend) → AreWithin width_r width_s addends
-    → AreBelow (of_side width_r width_s side) (columns_of side turned addends)
+pub columns_of-below : (width_r width_s : ℕ) (side : Side) (turned : Bool) (terms : List SignedTerm) → AreWithin width_r width_s terms
+    → AreBelow (of_side width_r width_s side) (columns_of side turned terms)
 columns_of-below width_r width_s side turned [] within = All-nil (IsBelow (of_side width_r width_s side))
-columns_of-below width_r width_s side turned (addend ∷ addends) within =
-    All-append (IsBelow (of_side width_r width_s side)) (number_columns side (flipped turned addend.minus) addend.number) _
-    (number_columns-below width_r width_s side (flipped turned addend.minus) addend.number within.0)
-    (columns_of-below width_r width_s side turned addends within.1)
+columns_of-below width_r width_s side turned (term ∷ terms) within =
+    All-append (IsBelow (of_side width_r width_s side)) (number_columns side (flipped turned term.minus) term.number) _
+    (number_columns-below width_r width_s side (flipped turned term.minus) term.number within.0)
+    (columns_of-below width_r width_s side turned terms within.1)
 
 -- the columns of a difference, with either sign
-pub difference-below : (width_r width_s : ℕ) (side : Side) (turned : Bool) (left right : List Addend)
+pub difference-below : (width_r width_s : ℕ) (side : Side) (turned : Bool) (left right : List SignedTerm)
     → AreWithin width_r width_s left → AreWithin width_r width_s right
     → AreBelow (of_side width_r width_s side) (columns_of side turned left ++ columns_of side (not turned) right)
 difference-below width_r width_s side turned left right in_left in_right =
@@ -54,19 +54,19 @@ number_places-few side (numbers.Cell column) = place_if_on-few side column.side 
     place_if_on-few R S place = omega arith
     place_if_on-few S R place = omega arith
 
-columns_of-few : (side : Side) (turned : Bool) (addends : List Addend) → length (columns_of side turned addends) ≤ length addends
+columns_of-few : (side : Side) (turned : Bool) (terms : List SignedTerm) → length (columns_of side turned terms) ≤ length terms
 columns_of-few side turned [] = omega arith
-columns_of-few side turned (addend ∷ addends) =
-    let part : ℕ → Part = λ place. record { minus = flipped turned addend.minus; column = place } in
-    let places = number_places side addend.number in
+columns_of-few side turned (term ∷ terms) =
+    let part : ℕ → Part = λ place. record { minus = flipped turned term.minus; column = place } in
+    let places = number_places side term.number in
     let one = length-map places part in
-    let few = number_places-few side addend.number in
-    let both = length-append (map part places) (columns_of side turned addends) in
-    let rest = columns_of-few side turned addends in
+    let few = number_places-few side term.number in
+    let both = length-append (map part places) (columns_of side turned terms) in
+    let rest = columns_of-few side turned terms in
     omega (arith, one, few, both, rest)
 
 -- two sums of 16 terms have 32 columns at most
-pub difference-few : (side : Side) (turned : Bool) (left right : List Addend) (parts : List Part) → length left ≤ 16 → length right ≤ 16
+pub difference-few : (side : Side) (turned : Bool) (left right : List SignedTerm) (parts : List Part) → length left ≤ 16 → length right ≤ 16
     → parts ≡ columns_of side turned left ++ columns_of side (not turned) right → length parts ≤ 32
 difference-few side turned left right parts short_left short_right is =
     let all = ap length is in

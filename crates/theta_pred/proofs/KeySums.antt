@@ -5,13 +5,13 @@ use Rattle.std.proofs.lemmas.Int.{ints}
 use Rattle.std.proofs.lemmas.List.Elements.{All-tail}
 use Rattle.join_rows.specs.declared.table.Cell.{Cell}
 use Rattle.theta_pred.specs.declared.atom.Part.{Part}
-use Rattle.theta_pred.specs.declared.tree.Addend.{Addend}
+use Rattle.theta_pred.specs.declared.tree.SignedTerm.{SignedTerm}
 use Rattle.theta_pred.specs.Keys.{constant_in, constant_of}
 use Rattle.theta_pred.specs.Linear.{part_of, value_of, AreBelow}
 use Rattle.theta_pred.specs.Sums.{plus, with_sign}
 use Rattle.theta_pred.proofs.SumSteps.{plus_assoc}
 
-pub constant_step : (items : List Addend) (i : ℕ) (d : Addend) (v x whole : ℤ) → i < length items
+pub constant_step : (items : List SignedTerm) (i : ℕ) (d : SignedTerm) (v x whole : ℤ) → i < length items
     → x ≡ with_sign (get_or items i d).minus (constant_in (get_or items i d).number)
     → v +ℤ constant_of (drop i items) ≡ whole → (v +ℤ x) +ℤ constant_of (drop (i + 1) items) ≡ whole
 constant_step items i d v x whole below is before =

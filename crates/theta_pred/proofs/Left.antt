@@ -3,7 +3,7 @@ use Rattle.std.proofs.Common.{◌≡◌, ℕ, suc, ◌+◌, ◌<◌, List, [], �
 use Rattle.std.proofs.Math.Seq.{drop-cons}
 use Rattle.theta_text.specs.declared.tree.Signed.{Signed}
 use Rattle.theta_text.specs.declared.tree.Pred.{Pred}
-use Rattle.theta_pred.specs.declared.tree.Addend.{Addend}
+use Rattle.theta_pred.specs.declared.tree.SignedTerm.{SignedTerm}
 use Rattle.theta_pred.specs.declared.tree.Number.{Number}
 use Rattle.theta_pred.specs.declared.tree.Tree.{Tree}
 use Rattle.theta_pred.specs.Formula.{Formula, formula_of}
@@ -13,14 +13,14 @@ pub drop-next : {X : Type 0} (items : List X) (i : ℕ) (x : X) → i < length i
     → drop i items ≡ x ∷ drop (i + 1) items
 drop-next items i x below is = rw add-one (drop-cons items i x below ∙ ap (λ y. y ∷ drop (suc i) items) (sym is))
 
-pub resolved_sum-next : (names_r names_s : List (List ℕ)) (before after : List Addend) (signed : Signed) (number : Number)
-    (left rest : List Signed) (whole : List Addend) → left ≡ signed ∷ rest → number ≡ resolved_term names_r names_s signed.term
+pub resolved_sum-next : (names_r names_s : List (List ℕ)) (before after : List SignedTerm) (signed : Signed) (number : Number)
+    (left rest : List Signed) (whole : List SignedTerm) → left ≡ signed ∷ rest → number ≡ resolved_term names_r names_s signed.term
     → after ≡ before ++ record { minus = signed.minus; number = number } ∷ []
     → before ++ resolved_sum names_r names_s left ≡ whole → after ++ resolved_sum names_r names_s rest ≡ whole
 resolved_sum-next names_r names_s before after signed number left rest whole left_is number_is after_is done =
-    let addend : Number → Addend = λ n. record { minus = signed.minus; number = n } in
-    rw after_is (append_assoc before (addend number ∷ []) (resolved_sum names_r names_s rest)
-    ∙ ap (λ n. before ++ (addend n ∷ resolved_sum names_r names_s rest)) number_is
+    let signed_term : Number → SignedTerm = λ n. record { minus = signed.minus; number = n } in
+    rw after_is (append_assoc before (signed_term number ∷ []) (resolved_sum names_r names_s rest)
+    ∙ ap (λ n. before ++ (signed_term n ∷ resolved_sum names_r names_s rest)) number_is
     ∙ ap (λ l. before ++ resolved_sum names_r names_s l) (sym left_is) ∙ done)
 
 map-push : {X Y : Type 0} (f : X → Y) (xs : List X) (x : X) → map f (xs ++ x ∷ []) ≡ map f xs ++ f x ∷ []

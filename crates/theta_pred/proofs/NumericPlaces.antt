@@ -11,11 +11,11 @@ use Rattle.std.proofs.lemmas.List.Sorted.{Contains-permutation, IsPermutation-sy
 use Rattle.std.proofs.lemmas.Map.Keys.{IsStrictlyIncreasing-dedup}
 use Rattle.join_rows.specs.declared.table.Side.{Side}
 use Rattle.join_rows.specs.declared.table.Side.TheVariants.{R, S}
-use Rattle.theta_pred.specs.declared.tree.Addend.{Addend}
+use Rattle.theta_pred.specs.declared.tree.SignedTerm.{SignedTerm}
 use Rattle.theta_pred.specs.declared.tree.Number.{Number}
 use Rattle.theta_pred.specs.declared.tree.Number.TheVariants.{Given, Cell}
 use Rattle.theta_pred.specs.Formula.{Formula, any, every, negation, num, band, txt, Formulas, no_formula, formula}
-use Rattle.theta_pred.specs.Numeric.{AreNumeric, place_if_on, number_places, addend_places, sum_places, all_sum_places}
+use Rattle.theta_pred.specs.Numeric.{AreNumeric, place_if_on, number_places, term_places, sum_places, all_sum_places}
 use Rattle.theta_pred.specs.Sound.{IsNumberWithin, AreWithin, IsSound, AreSound}
 use Rattle.theta_pred.specs.Sums.{of_side}
 
@@ -35,12 +35,12 @@ number_places-within width_r width_s side (Given value) h = All-nil (Under width
 number_places-within width_r width_s side (Cell column) h =
     place_if_on-within width_r width_s side column.side column.place h
 
-addend_places-within : (width_r width_s : ℕ) (side : Side) (addends : List Addend) → AreWithin width_r width_s addends
-    → All (Under width_r width_s side) (addend_places side addends)
-addend_places-within width_r width_s side [] h = All-nil (Under width_r width_s side)
-addend_places-within width_r width_s side (addend ∷ addends) h =
-    All-append (Under width_r width_s side) (number_places side addend.number) _ (number_places-within width_r width_s side addend.number h.0)
-    (addend_places-within width_r width_s side addends h.1)
+term_places-within : (width_r width_s : ℕ) (side : Side) (terms : List SignedTerm) → AreWithin width_r width_s terms
+    → All (Under width_r width_s side) (term_places side terms)
+term_places-within width_r width_s side [] h = All-nil (Under width_r width_s side)
+term_places-within width_r width_s side (term ∷ terms) h =
+    All-append (Under width_r width_s side) (number_places side term.number) _ (number_places-within width_r width_s side term.number h.0)
+    (term_places-within width_r width_s side terms h.1)
 
 mutual
   sum_places-within : (width_r width_s : ℕ) (side : Side) (f : Formula) → IsSound width_r width_s f
@@ -49,9 +49,9 @@ mutual
   sum_places-within width_r width_s side (every fs) h = all_sum_places-within width_r width_s side fs h
   sum_places-within width_r width_s side (negation f) h = sum_places-within width_r width_s side f h
   sum_places-within width_r width_s side (num left op right) h =
-      All-append (Under width_r width_s side) (addend_places side left) _ (addend_places-within width_r width_s side left h.0.within)
-      (addend_places-within width_r width_s side right h.1.within)
-  sum_places-within width_r width_s side (band sum op bound) h = addend_places-within width_r width_s side sum h.within
+      All-append (Under width_r width_s side) (term_places side left) _ (term_places-within width_r width_s side left h.0.within)
+      (term_places-within width_r width_s side right h.1.within)
+  sum_places-within width_r width_s side (band sum op bound) h = term_places-within width_r width_s side sum h.within
   sum_places-within width_r width_s side (txt left op right) h = All-nil (Under width_r width_s side)
 
   all_sum_places-within : (width_r width_s : ℕ) (side : Side) (fs : Formulas) → AreSound width_r width_s fs

@@ -3,17 +3,17 @@ use Rattle.std.proofs.Common.{◌≡◌, ℕ, suc, ◌+◌, ◌<◌, ◌*◌, Li
 use Rattle.std.proofs.Math.Seq.{drop-cons}
 use Rattle.std.proofs.lemmas.Int.{ints}
 use Rattle.join_rows.specs.declared.table.Cell.{Cell}
-use Rattle.theta_pred.specs.declared.tree.Addend.{Addend}
+use Rattle.theta_pred.specs.declared.tree.SignedTerm.{SignedTerm}
 use Rattle.theta_pred.specs.Sizes.{IsAtMost}
 use Rattle.theta_pred.specs.Sound.{AreWithin, IsNumberWithin}
-use Rattle.theta_pred.specs.Sums.{plus, addend_of, sum_of}
+use Rattle.theta_pred.specs.Sums.{plus, signed_of, sum_of}
 
 pub plus_assoc : (v x : ℤ) (rest : Option ℤ) → plus (Some (v +ℤ x)) rest ≡ plus (Some v) (plus (Some x) rest)
 plus_assoc v x None = refl
 plus_assoc v x (Some y) = let e : (v +ℤ x) +ℤ y ≡ v +ℤ (x +ℤ y) = omega (arith, ints) in ap Some e
 
-pub sum_step : (r s : List Cell) (items : List Addend) (i : ℕ) (d : Addend) (v x : ℤ) (whole : Option ℤ) → i < length items
-    → Some x ≡ addend_of r s (get_or items i d) → plus (Some v) (sum_of r s (drop i items)) ≡ whole
+pub sum_step : (r s : List Cell) (items : List SignedTerm) (i : ℕ) (d : SignedTerm) (v x : ℤ) (whole : Option ℤ) → i < length items
+    → Some x ≡ signed_of r s (get_or items i d) → plus (Some v) (sum_of r s (drop i items)) ≡ whole
     → plus (Some (v +ℤ x)) (sum_of r s (drop (i + 1) items)) ≡ whole
 sum_step r s items i d v x whole below is before =
     rw add-one (plus_assoc v x (sum_of r s (drop (suc i) items))
@@ -21,7 +21,7 @@ sum_step r s items i d v x whole below is before =
     ∙ ap (λ xs. plus (Some v) (sum_of r s xs)) (sym (drop-cons items i d below)) ∙ before)
 
 -- the terms that are left lie in the rows, and the next one does
-pub within_step : (width_r width_s : ℕ) (items : List Addend) (i : ℕ) (d : Addend) → i < length items
+pub within_step : (width_r width_s : ℕ) (items : List SignedTerm) (i : ℕ) (d : SignedTerm) → i < length items
     → AreWithin width_r width_s (drop i items)
     → IsNumberWithin width_r width_s (get_or items i d).number × AreWithin width_r width_s (drop (i + 1) items)
 within_step width_r width_s items i d below within =

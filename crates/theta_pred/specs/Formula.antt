@@ -1,7 +1,7 @@
 -- What a predicate says, without where it lies in memory.
 use Rattle.std.specs.Prelude.{ℕ, ℤ, List, [], ◌∷◌}
 use Rattle.theta_text.specs.declared.tree.Op.{Op}
-use Rattle.theta_pred.specs.declared.tree.Addend.{Addend}
+use Rattle.theta_pred.specs.declared.tree.SignedTerm.{SignedTerm}
 use Rattle.theta_pred.specs.declared.tree.Text.{Text}
 use Rattle.theta_pred.specs.declared.tree.Tree.{Tree, fold-Tree}
 use Rattle.theta_pred.specs.declared.tree.Tree.TheOpen.{Tree-F}
@@ -12,8 +12,8 @@ mutual
     any : Formulas → Formula
     every : Formulas → Formula
     negation : Formula → Formula
-    num : List Addend → Op → List Addend → Formula
-    band : List Addend → Op → ℤ → Formula
+    num : List SignedTerm → Op → List SignedTerm → Formula
+    band : List SignedTerm → Op → ℤ → Formula
     txt : Text → Op → Text → Formula
 
   -- the members of a formula

@@ -3,7 +3,7 @@ use Rattle.std.specs.Prelude.{◌≡◌, ℤ, List, [], ◌∷◌, refl}
 use Rattle.std.specs.Coded.{Coded, code_by, coded_list}
 use Rattle.std.proofs.Common.{ap, ◌∙◌}
 use Rattle.theta_text.specs.declared.tree.Op.{Op}
-use Rattle.theta_pred.specs.declared.tree.Addend.{Addend}
+use Rattle.theta_pred.specs.declared.tree.SignedTerm.{SignedTerm}
 use Rattle.theta_pred.specs.declared.tree.Text.{Text}
 use Rattle.theta_pred.specs.Formula.{Formula, any, every, negation, num, band, txt, Formulas, no_formula, formula}
 
@@ -12,8 +12,8 @@ pub data Mark : Type 0 where
   is_any : Mark
   is_every : Mark
   is_negation : Mark
-  is_num : List Addend → Op → List Addend → Mark
-  is_band : List Addend → Op → ℤ → Mark
+  is_num : List SignedTerm → Op → List SignedTerm → Mark
+  is_band : List SignedTerm → Op → ℤ → Mark
   is_txt : Text → Op → Text → Mark
   no_more : Mark
   one_more : Mark

@@ -9,7 +9,7 @@ use Rattle.theta_pred.specs.declared.atom.Part.{Part}
 use Rattle.theta_pred.specs.declared.atom.KeyAtom.{KeyAtom}
 use Rattle.theta_pred.specs.declared.kind.Kind.{Kind}
 use Rattle.theta_pred.specs.declared.kind.Kind.TheVariants.{Equality, Band, Inequality}
-use Rattle.theta_pred.specs.declared.tree.Addend.{Addend}
+use Rattle.theta_pred.specs.declared.tree.SignedTerm.{SignedTerm}
 use Rattle.theta_pred.specs.declared.tree.Number.{Number}
 use Rattle.theta_pred.specs.declared.tree.Number.TheVariants as numbers
 use Rattle.theta_pred.specs.Formula.{Formula, every, num, band, Formulas, no_formula, formula, Meaning}
@@ -63,10 +63,10 @@ number_columns side minus number =
     map (λ place. record { minus = minus; column = place }) (number_places side number)
 
 -- the columns of a side in a sum, each with its sign, or with the other one where turned
-abbrev pub columns_of : Side → Bool → List Addend → List Part
+abbrev pub columns_of : Side → Bool → List SignedTerm → List Part
 columns_of side turned [] = []
-columns_of side turned (addend ∷ addends) =
-    number_columns side (flipped turned addend.minus) addend.number ++ columns_of side turned addends
+columns_of side turned (term ∷ terms) =
+    number_columns side (flipped turned term.minus) term.number ++ columns_of side turned terms
 
 -- the constant that a term is, and 0 for a column
 abbrev pub constant_in : Number → ℤ
@@ -74,9 +74,9 @@ constant_in (numbers.Given value) = value
 constant_in (numbers.Cell column) = pos 0
 
 -- the sum of a sum's constants
-abbrev pub constant_of : List Addend → ℤ
+abbrev pub constant_of : List SignedTerm → ℤ
 constant_of [] = pos 0
-constant_of (addend ∷ addends) = with_sign addend.minus (constant_in addend.number) +ℤ constant_of addends
+constant_of (term ∷ terms) = with_sign term.minus (constant_in term.number) +ℤ constant_of terms
 
 -- ---- the members that split
 
@@ -86,12 +86,12 @@ is_some_place [] = false
 is_some_place (place ∷ places) = true
 
 -- whether a sum names a column of this side
-abbrev pub names_side : Side → List Addend → Bool
+abbrev pub names_side : Side → List SignedTerm → Bool
 names_side side [] = false
-names_side side (addend ∷ addends) = is_some_place (number_places side addend.number) || names_side side addends
+names_side side (term ∷ terms) = is_some_place (number_places side term.number) || names_side side terms
 
 -- whether two sums name a column of each side
-abbrev pub splits : List Addend → List Addend → Bool
+abbrev pub splits : List SignedTerm → List SignedTerm → Bool
 splits left right = (names_side R left || names_side R right) && (names_side S left || names_side S right)
 
 -- whether a comparison of two sums is of this kind
@@ -145,7 +145,7 @@ abbrev pub band_high : Op → ℤ → ℤ → Option ℤ
 band_high op bound constant = Some (reach op bound -ℤ constant)
 
 -- the atom of a member that splits: the difference of the two sums, its columns of S turned
-abbrev pub difference : List Addend → List Addend → Option ℤ → Option ℤ → Atom
+abbrev pub difference : List SignedTerm → List SignedTerm → Option ℤ → Option ℤ → Atom
 difference left right low high = record {
   r_sum = columns_of R false left ++ columns_of R true right;
   s_sum = columns_of S true left ++ columns_of S false right;

@@ -3,7 +3,7 @@ use Rattle.std.specs.Prelude.{ℕ, ◌<◌, ◌↔◌, List, [], ◌∷◌, ◌+
 use Rattle.std.specs.List.Sorted.{IsStrictlyIncreasing}
 use Rattle.join_rows.specs.declared.table.Side.{Side}
 use Rattle.join_rows.specs.declared.table.Side.TheVariants.{R, S}
-use Rattle.theta_pred.specs.declared.tree.Addend.{Addend}
+use Rattle.theta_pred.specs.declared.tree.SignedTerm.{SignedTerm}
 use Rattle.theta_pred.specs.declared.tree.Number.{Number}
 use Rattle.theta_pred.specs.declared.tree.Number.TheVariants.{Given, Cell}
 use Rattle.theta_pred.specs.Sound.{IsSound}
@@ -21,9 +21,9 @@ number_places side (Given value) = []
 number_places side (Cell column) = place_if_on side column.side column.place
 
 -- the places of a side's columns in a sum, in the order of writing
-abbrev pub addend_places : Side → List Addend → List ℕ
-addend_places side [] = []
-addend_places side (addend ∷ addends) = number_places side addend.number ++ addend_places side addends
+abbrev pub term_places : Side → List SignedTerm → List ℕ
+term_places side [] = []
+term_places side (term ∷ terms) = number_places side term.number ++ term_places side terms
 
 -- the places of a side's columns in all sums, in the order of writing
 abbrev mutual
@@ -31,8 +31,8 @@ abbrev mutual
   sum_places side (any fs) = all_sum_places side fs
   sum_places side (every fs) = all_sum_places side fs
   sum_places side (negation f) = sum_places side f
-  sum_places side (num left op right) = addend_places side left ++ addend_places side right
-  sum_places side (band sum op bound) = addend_places side sum
+  sum_places side (num left op right) = term_places side left ++ term_places side right
+  sum_places side (band sum op bound) = term_places side sum
   sum_places side (txt left op right) = []
 
   -- and in those of all members

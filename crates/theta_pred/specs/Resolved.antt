@@ -9,7 +9,7 @@ use Rattle.theta_text.specs.declared.tree.TextSide.TheVariants as sides
 use Rattle.theta_text.specs.declared.tree.Pred.{Pred, fold-Pred}
 use Rattle.theta_text.specs.declared.tree.Pred.TheOpen.{Pred-F}
 use Rattle.theta_pred.specs.declared.tree.Column.{Column}
-use Rattle.theta_pred.specs.declared.tree.Addend.{Addend}
+use Rattle.theta_pred.specs.declared.tree.SignedTerm.{SignedTerm}
 use Rattle.theta_pred.specs.declared.tree.Number.{Number}
 use Rattle.theta_pred.specs.declared.tree.Number.TheVariants as numbers
 use Rattle.theta_pred.specs.declared.tree.Text.{Text}
@@ -34,12 +34,12 @@ resolved_term names_r names_s (terms.Const value) = numbers.Given value
 resolved_term names_r names_s (terms.Col name) = numbers.Cell (column_of names_r names_s name)
 
 -- and with its sign
-abbrev pub resolved_addend : List (List ℕ) → List (List ℕ) → Signed → Addend
-resolved_addend names_r names_s signed = record { minus = signed.minus; number = resolved_term names_r names_s signed.term }
+abbrev pub resolved_signed : List (List ℕ) → List (List ℕ) → Signed → SignedTerm
+resolved_signed names_r names_s signed = record { minus = signed.minus; number = resolved_term names_r names_s signed.term }
 
 -- each term of a sum
-abbrev pub resolved_sum : List (List ℕ) → List (List ℕ) → List Signed → List Addend
-resolved_sum names_r names_s sum = map (resolved_addend names_r names_s) sum
+abbrev pub resolved_sum : List (List ℕ) → List (List ℕ) → List Signed → List SignedTerm
+resolved_sum names_r names_s sum = map (resolved_signed names_r names_s) sum
 
 -- a side of a test on texts
 abbrev pub resolved_side : List (List ℕ) → List (List ℕ) → TextSide → Text

@@ -3,7 +3,7 @@ use Rattle.std.specs.Prelude.{ℕ, ◌<◌, ◌≤◌, List, [], ◌∷◌, leng
 use Rattle.theta_pred.specs.Formula.{Formula, any, every, negation, num, band, txt, Formulas, no_formula, formula}
 use Rattle.theta_pred.specs.Sums.{of_side}
 use Rattle.theta_pred.specs.declared.tree.Column.{Column}
-use Rattle.theta_pred.specs.declared.tree.Addend.{Addend}
+use Rattle.theta_pred.specs.declared.tree.SignedTerm.{SignedTerm}
 use Rattle.theta_pred.specs.declared.tree.Number.{Number}
 use Rattle.theta_pred.specs.declared.tree.Number.TheVariants as numbers
 use Rattle.theta_pred.specs.declared.tree.Text.{Text}
@@ -24,14 +24,14 @@ IsTextWithin width_r width_s (texts.Given bytes) = ⊤
 IsTextWithin width_r width_s (texts.Cell column) = IsWithin width_r width_s column
 
 -- the same of each term of a sum
-abbrev pub AreWithin : ℕ → ℕ → List Addend → Type 0
+abbrev pub AreWithin : ℕ → ℕ → List SignedTerm → Type 0
 AreWithin width_r width_s [] = ⊤
-AreWithin width_r width_s (addend ∷ addends) = IsNumberWithin width_r width_s addend.number × AreWithin width_r width_s addends
+AreWithin width_r width_s (term ∷ terms) = IsNumberWithin width_r width_s term.number × AreWithin width_r width_s terms
 
 -- a sum that i128 holds, of columns that are there
-pub record IsSum (width_r width_s : ℕ) (addends : List Addend) : Type 0 where
-  pub short : length addends ≤ 16
-  pub within : AreWithin width_r width_s addends
+pub record IsSum (width_r width_s : ℕ) (terms : List SignedTerm) : Type 0 where
+  pub short : length terms ≤ 16
+  pub within : AreWithin width_r width_s terms
 
 abbrev mutual
   -- each sum of the formula is one that i128 holds, and each column is there

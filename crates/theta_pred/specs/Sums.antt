@@ -4,7 +4,7 @@ use Rattle.join_rows.specs.declared.table.Cell.{Cell}
 use Rattle.join_rows.specs.declared.table.Side.{Side}
 use Rattle.join_rows.specs.declared.table.Side.TheVariants.{R, S}
 use Rattle.theta_pred.specs.declared.tree.Column.{Column}
-use Rattle.theta_pred.specs.declared.tree.Addend.{Addend}
+use Rattle.theta_pred.specs.declared.tree.SignedTerm.{SignedTerm}
 use Rattle.theta_pred.specs.declared.tree.Number.{Number}
 use Rattle.theta_pred.specs.declared.tree.Number.TheVariants as numbers
 use Rattle.theta_pred.specs.declared.tree.Text.{Text}
@@ -39,13 +39,13 @@ plus (Some x) (Some y) = Some (x +ℤ y)
 plus _ _ = None
 
 -- what a term with its sign stands for
-abbrev pub addend_of : List Cell → List Cell → Addend → Option ℤ
-addend_of r s addend = option_map (with_sign addend.minus) (number_of r s addend.number)
+abbrev pub signed_of : List Cell → List Cell → SignedTerm → Option ℤ
+signed_of r s term = option_map (with_sign term.minus) (number_of r s term.number)
 
 -- the whole number that a sum is, where each of its columns has a number
-abbrev pub sum_of : List Cell → List Cell → List Addend → Option ℤ
+abbrev pub sum_of : List Cell → List Cell → List SignedTerm → Option ℤ
 sum_of r s [] = Some (pos 0)
-sum_of r s (addend ∷ addends) = plus (addend_of r s addend) (sum_of r s addends)
+sum_of r s (term ∷ terms) = plus (signed_of r s term) (sum_of r s terms)
 
 -- the text of a cell, empty where there is no cell
 abbrev pub text_in : Option Cell → List ℕ

@@ -6,11 +6,11 @@ ghost use Rattle.theta_pred.specs.Keys;
 ghost use Rattle.theta_pred.specs.Sizes.{IsAtMost};
 ghost use Rattle.theta_pred.specs.Sums.{with_sign};
 
-use crate::tree::{Addend, Number};
+use crate::tree::{SignedTerm, Number};
 use theta_text::Op;
 
 // What a constant adds to a sum.
-fn constant_in(term: Addend) -> i128
+fn constant_in(term: SignedTerm) -> i128
     ensures value { result ≡ with_sign term.minus (Keys.constant_in term.number) }
     ensures small { IsAtMost (2 ^ 63) result }
 {
@@ -22,7 +22,7 @@ fn constant_in(term: Addend) -> i128
 }
 
 // The sum of a sum's constants.
-pub(crate) fn constant(sum: &[Addend]) -> i128
+pub(crate) fn constant(sum: &[SignedTerm]) -> i128
     requires { length sum.now ≤ 16 }
     ensures value { result ≡ Keys.constant_of sum.now }
     ensures small { IsAtMost (2 ^ 67) result }
@@ -35,7 +35,7 @@ pub(crate) fn constant(sum: &[Addend]) -> i128
 }
 
 // The constant of one sum less another.
-pub(crate) fn constant_apart(left: &[Addend], right: &[Addend]) -> i128
+pub(crate) fn constant_apart(left: &[SignedTerm], right: &[SignedTerm]) -> i128
     requires left { length left.now ≤ 16 }
     requires right { length right.now ≤ 16 }
     ensures value { result ≡ Keys.constant_of left.now -ℤ Keys.constant_of right.now }

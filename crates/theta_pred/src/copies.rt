@@ -3,7 +3,7 @@
 ghost use Rattle.std.specs.Prelude.{◌≡◌, IfOk};
 ghost use Rattle.theta_pred.specs.Formula.{formula_of};
 
-use crate::tree::{Addends, Text, Tree};
+use crate::tree::{SignedTerms, Text, Tree};
 use std::alloc::{AllocError, Global};
 
 // A tree that says the same.
@@ -47,10 +47,10 @@ pub(crate) fn copy_of(alloc: Global, tree: &Tree) -> Result<Tree, AllocError>
     })
 }
 
-fn sum_copy(alloc: Global, sum: &Addends) -> Result<Addends, AllocError>
+fn sum_copy(alloc: Global, sum: &SignedTerms) -> Result<SignedTerms, AllocError>
     ensures { IfOk result (λ copy. copy ≡ sum.now) }
 {
-    Ok(Addends::from_vec(Vec::from_slice(alloc, sum.as_slice())?))
+    Ok(SignedTerms::from_vec(Vec::from_slice(alloc, sum.as_slice())?))
 }
 
 fn text_copy(text: &Text) -> Result<Text, AllocError>

@@ -25,13 +25,13 @@ use crate::atom::{KeyAtom, Linear, Part, Parts};
 use crate::bounds::{band_high, band_low, constant, constant_apart, num_high, num_low};
 use crate::kind::Kind;
 use crate::numeric::place_of;
-use crate::tree::{Addend, Tree};
+use crate::tree::{SignedTerm, Tree};
 use join_rows::Side;
 use std::alloc::{AllocError, Global};
 use theta_text::Op;
 
 // Whether a sum names a column of this side.
-fn names_side(sum: &[Addend], side: Side) -> bool
+fn names_side(sum: &[SignedTerm], side: Side) -> bool
     ensures { result ≡ names_side side sum.now }
 {
     for term in sum {
@@ -43,7 +43,7 @@ fn names_side(sum: &[Addend], side: Side) -> bool
 }
 
 // Whether two sums name a column of each side.
-fn do_split(left: &[Addend], right: &[Addend]) -> bool
+fn do_split(left: &[SignedTerm], right: &[SignedTerm]) -> bool
     ensures { result ≡ splits left.now right.now }
 {
     (names_side(left, Side::R) || names_side(right, Side::R))
@@ -93,7 +93,7 @@ fn first_of(kind: Kind, tree: &Tree) -> Option<&Tree>
 
 // Appends the columns of a side, each with its sign, or with the other one where turned.
 fn add_columns(
-    sum: &[Addend],
+    sum: &[SignedTerm],
     side: Side,
     turned: bool,
     parts: &mut Vec<Part>,
@@ -112,8 +112,8 @@ fn add_columns(
 // The columns of a side in a difference, or in its opposite where turned.
 fn columns(
     alloc: Global,
-    left: &[Addend],
-    right: &[Addend],
+    left: &[SignedTerm],
+    right: &[SignedTerm],
     side: Side,
     turned: bool,
 ) -> Result<Linear, AllocError>
@@ -133,8 +133,8 @@ fn columns(
 // The atom of a difference between these bounds.
 fn difference(
     alloc: Global,
-    left: &[Addend],
-    right: &[Addend],
+    left: &[SignedTerm],
+    right: &[SignedTerm],
     low: Option<i128>,
     high: Option<i128>,
 ) -> Result<KeyAtom, AllocError>
@@ -153,7 +153,7 @@ fn difference(
 }
 
 // The atom of a test of two sums.
-fn num_atom(alloc: Global, left: &[Addend], op: Op, right: &[Addend]) -> Result<KeyAtom, AllocError>
+fn num_atom(alloc: Global, left: &[SignedTerm], op: Op, right: &[SignedTerm]) -> Result<KeyAtom, AllocError>
     requires left { length left.now ≤ 16 }
     requires right { length right.now ≤ 16 }
     ensures { IfOk result (λ key. Some (atom_of key) ≡ atom_in (num left.now op right.now)) }
@@ -169,7 +169,7 @@ fn num_atom(alloc: Global, left: &[Addend], op: Op, right: &[Addend]) -> Result<
 }
 
 // The atom of a test of an absolute value.
-fn band_atom(alloc: Global, sum: &[Addend], op: Op, bound: i64) -> Result<KeyAtom, AllocError>
+fn band_atom(alloc: Global, sum: &[SignedTerm], op: Op, bound: i64) -> Result<KeyAtom, AllocError>
     requires { length sum.now ≤ 16 }
     ensures { IfOk result (λ key. Some (atom_of key) ≡ atom_in (band sum.now op bound)) }
 {

@@ -2,11 +2,11 @@
 
 ghost use Rattle.std.specs.Prelude.{◌≡◌, ◌++◌, IfOk, OnOk, option_to_list};
 ghost use Rattle.theta_pred.specs.Formula.{formula_of};
-ghost use Rattle.theta_pred.specs.Numeric.{AreNumeric, place_if_on, number_places, addend_places, sum_places};
+ghost use Rattle.theta_pred.specs.Numeric.{AreNumeric, place_if_on, number_places, term_places, sum_places};
 ghost use Rattle.theta_pred.specs.Sound.{IsSound};
 ghost use Rattle.theta_pred.specs.Sums.{of_side};
 
-use crate::tree::{Addends, Column, Columns, Number, Tree};
+use crate::tree::{SignedTerms, Column, Columns, Number, Tree};
 use join_rows::Side;
 use std::alloc::{AllocError, Global};
 
@@ -65,11 +65,11 @@ fn add_places(tree: &Tree, side: Side, places: &mut Vec<u64>) -> Result<(), Allo
     }
 }
 
-fn add_sum_places(sum: &Addends, side: Side, places: &mut Vec<u64>) -> Result<(), AllocError>
-    ensures { OnOk result (places.new.items ≡ places.old.items ++ addend_places side sum.now) }
+fn add_sum_places(sum: &SignedTerms, side: Side, places: &mut Vec<u64>) -> Result<(), AllocError>
+    ensures { OnOk result (places.new.items ≡ places.old.items ++ term_places side sum.now) }
 {
-    for addend in sum.as_slice() {
-        if let Some(place) = place_of(addend.number, side) {
+    for term in sum.as_slice() {
+        if let Some(place) = place_of(term.number, side) {
             places.push(place)?;
         }
     }

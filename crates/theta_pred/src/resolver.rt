@@ -8,7 +8,7 @@ ghost use Rattle.theta_pred.specs.Sound.{IsTextWithin, AreWithin, IsSound, AreSo
 ghost use Rattle.theta_text.specs.Sizes.{longest, longest_sum};
 
 use crate::fault::ResolveFault;
-use crate::terms::{resolved_addends, resolved_text};
+use crate::terms::{resolved_terms, resolved_text};
 use crate::theta::Theta;
 use crate::tree::Tree;
 use join_rows::Names;
@@ -70,7 +70,7 @@ fn resolved_tree(
         }
         Pred::Num { left, op, right } => resolved_num(alloc, left, *op, right, names_r, names_s),
         Pred::Abs { sum, op, bound } => {
-            let sum = resolved_addends(alloc, sum, names_r, names_s)?;
+            let sum = resolved_terms(alloc, sum, names_r, names_s)?;
             Ok(Tree::Abs {
                 sum,
                 op: *op,
@@ -101,8 +101,8 @@ fn resolved_num(
     ensures err { IfErr result
         (Tells names_r.now names_s.now (sum_names left.now ++ sum_names right.now)) }
 {
-    let left_sum = resolved_addends(alloc, left, names_r, names_s)?;
-    let right_sum = resolved_addends(alloc, right, names_r, names_s)?;
+    let left_sum = resolved_terms(alloc, left, names_r, names_s)?;
+    let right_sum = resolved_terms(alloc, right, names_r, names_s)?;
     Ok(Tree::Num {
         left: left_sum,
         op,

@@ -2,10 +2,10 @@
 
 ghost use Rattle.std.specs.Prelude.{◌≡◌, ◌^◌, ℕ, pos, neg_ℤ, ◌≤ℤ◌, length, IfSome, slice_get, Some};
 ghost use Rattle.theta_pred.specs.Sound.{IsWithin, IsNumberWithin, IsTextWithin, IsSum};
-ghost use Rattle.theta_pred.specs.Sums.{cell_at, number_of, addend_of, sum_of, text_of};
+ghost use Rattle.theta_pred.specs.Sums.{cell_at, number_of, signed_of, sum_of, text_of};
 ghost use Rattle.theta_pred.specs.Sizes.{IsAtMost};
 
-use crate::tree::{Addend, Addends, Column, Number, Text};
+use crate::tree::{SignedTerm, SignedTerms, Column, Number, Text};
 use join_rows::{Cell, Cells, Side};
 
 // The cell of a column.
@@ -31,9 +31,9 @@ fn number(term: Number, r: &Cells, s: &Cells) -> Option<i64>
 }
 
 // What a term stands for with its sign.
-fn addend(term: Addend, r: &Cells, s: &Cells) -> Option<i128>
+fn signed_value(term: SignedTerm, r: &Cells, s: &Cells) -> Option<i128>
     requires { IsNumberWithin (length r.now) (length s.now) term.number }
-    ensures value { result ≡ addend_of r.now s.now term }
+    ensures value { result ≡ signed_of r.now s.now term }
     ensures small { IfSome result (λ value. IsAtMost (2 ^ 63) value) }
 {
     let value = i128::from(number(term.number, r, s)?);
@@ -41,14 +41,14 @@ fn addend(term: Addend, r: &Cells, s: &Cells) -> Option<i128>
 }
 
 // The whole number that a sum is, where each of its columns has a number.
-pub(crate) fn sum(addends: &Addends, r: &Cells, s: &Cells) -> Option<i128>
-    requires { IsSum (length r.now) (length s.now) addends.now }
-    ensures value { result ≡ sum_of r.now s.now addends.now }
+pub(crate) fn sum(terms: &SignedTerms, r: &Cells, s: &Cells) -> Option<i128>
+    requires { IsSum (length r.now) (length s.now) terms.now }
+    ensures value { result ≡ sum_of r.now s.now terms.now }
     ensures small { IfSome result (λ value. IsAtMost (2 ^ 67) value) }
 {
     let mut value = 0;
-    for term in addends.as_slice() {
-        value += addend(*term, r, s)?;
+    for term in terms.as_slice() {
+        value += signed_value(*term, r, s)?;
     }
     Some(value)
 }

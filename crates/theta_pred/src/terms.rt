@@ -7,7 +7,7 @@ ghost use Rattle.theta_pred.specs.Sound.{IsNumberWithin, IsTextWithin, AreWithin
 
 use crate::fault::ResolveFault;
 use crate::named::resolved_name;
-use crate::tree::{Addend, Addends, Number, Text};
+use crate::tree::{SignedTerm, SignedTerms, Number, Text};
 use join_rows::Names;
 use std::alloc::Global;
 use theta_text::{Sum, Term, TextSide};
@@ -42,25 +42,25 @@ pub(crate) fn resolved_text(
     }
 }
 
-pub(crate) fn resolved_addends(
+pub(crate) fn resolved_terms(
     alloc: Global,
     sum: &Sum,
     names_r: &Names,
     names_s: &Names,
-) -> Result<Addends, ResolveFault>
-    ensures ok { IfOk result (λ addends. addends ≡ resolved_sum names_r.now names_s.now sum.now) }
+) -> Result<SignedTerms, ResolveFault>
+    ensures ok { IfOk result (λ terms. terms ≡ resolved_sum names_r.now names_s.now sum.now) }
     ensures within { OnOk result (AreWithin (length names_r.now) (length names_s.now)
         (resolved_sum names_r.now names_s.now sum.now)) }
     ensures once { OnOk result (All (StandsOnce names_r.now names_s.now) (sum_names sum.now)) }
     ensures err { IfErr result (Tells names_r.now names_s.now (sum_names sum.now)) }
 {
-    let mut addends = Addends::with_room(alloc, sum.len() as usize)?;
+    let mut terms = SignedTerms::with_room(alloc, sum.len() as usize)?;
     for signed in sum.as_slice() {
         let number = resolved_number(&signed.term, names_r, names_s)?;
-        addends.push(Addend {
+        terms.push(SignedTerm {
             minus: signed.minus,
             number,
         })?;
     }
-    Ok(addends)
+    Ok(terms)
 }

@@ -20,12 +20,12 @@ pub enum Tree {
     And(Vec<Tree>),
     Not(Box<Tree>),
     Num {
-        left: Addends,
+        left: SignedTerms,
         op: Op,
-        right: Addends,
+        right: SignedTerms,
     },
     Abs {
-        sum: Addends,
+        sum: SignedTerms,
         op: Op,
         bound: i64,
     },
@@ -38,12 +38,12 @@ pub enum Tree {
 
 // A term with its sign.
 #[derive(Clone, Copy)]
-pub struct Addend {
+pub struct SignedTerm {
     pub minus: bool,
     pub number: Number,
 }
 
-pub type Addends = Items<Addend>;
+pub type SignedTerms = Items<SignedTerm>;
 
 // A number, or the number of a column's cell.
 #[derive(Clone, Copy)]

@@ -7,7 +7,7 @@ ghost use Rattle.theta_pred.specs.Sums.{sum_of, text_of};
 ghost use Rattle.theta_pred.specs.Truth;
 
 use crate::sums::{sum, text};
-use crate::tree::{Addends, Text, Tree};
+use crate::tree::{SignedTerms, Text, Tree};
 use join_rows::Cells;
 use std::cmp::Ordering;
 use theta_text::Op;
@@ -42,7 +42,7 @@ pub(crate) fn is_true(tree: &Tree, r: &Cells, s: &Cells) -> bool
 }
 
 // Whether a test on two sums is true.
-fn sums_compare(left: &Addends, op: Op, right: &Addends, r: &Cells, s: &Cells) -> bool
+fn sums_compare(left: &SignedTerms, op: Op, right: &SignedTerms, r: &Cells, s: &Cells) -> bool
     requires left { IsSum (length r.now) (length s.now) left.now }
     requires right { IsSum (length r.now) (length s.now) right.now }
     ensures { result
@@ -55,7 +55,7 @@ fn sums_compare(left: &Addends, op: Op, right: &Addends, r: &Cells, s: &Cells) -
 }
 
 // Whether a test on a sum's absolute value is true.
-fn size_compares(terms: &Addends, op: Op, bound: i64, r: &Cells, s: &Cells) -> bool
+fn size_compares(terms: &SignedTerms, op: Op, bound: i64, r: &Cells, s: &Cells) -> bool
     requires { IsSum (length r.now) (length s.now) terms.now }
     ensures { result
         ≡ Truth.compares op (option_map Truth.size_of (sum_of r.now s.now terms.now)) (Some bound) }

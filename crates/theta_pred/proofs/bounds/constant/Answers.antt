@@ -1,7 +1,7 @@
 use Rattle.std.proofs.Common.{◌≡◌, ◌<◌, ◌+◌, ◌*◌, ◌^◌, false, drop, pos, ◌+ℤ◌, to_z, of_z, arith, subst}
 use Rattle.std.specs.Int.{w128}
 use Rattle.std.proofs.lemmas.Int.{ints}
-use Rattle.theta_pred.specs.declared.tree.Addend.{Addend}
+use Rattle.theta_pred.specs.declared.tree.SignedTerm.{SignedTerm}
 use Rattle.theta_pred.specs.declared.tree.Number.TheVariants.{Given}
 use Rattle.theta_pred.specs.Keys.{constant_of}
 use Rattle.theta_pred.specs.Sizes.{IsAtMost}
@@ -13,7 +13,7 @@ pub loop-term-preserved : goal.loop-term-preserved
 loop-term-preserved c =
     let items = c.args.sum.now in
     let i = c.loop-term.term-index in
-    let default : Addend = record { minus = false; number = Given (pos 0) } in
+    let default : SignedTerm = record { minus = false; number = Given (pos 0) } in
     let x = c.constant_in-value.result in
     let before = to_z w128 c.loop-term.value-bits in
     let after = to_z w128 (of_z w128 (before +ℤ to_z w128 (of_z w128 x))) in

@@ -8,8 +8,8 @@ abbrev pub invariant-loop-term : goal.invariant-loop-term
 invariant-loop-term l =
     let left = drop l.term-index l.term-items in
     record {
-      value : plus (Some l.value) (sum_of l.r l.s left) ≡ sum_of l.r l.s l.addends;
+      value : plus (Some l.value) (sum_of l.r l.s left) ≡ sum_of l.r l.s l.terms;
       within : AreWithin (length l.r) (length l.s) left;
       small : IsAtMost (2 ^ 63 * l.term-index) l.value;
-      all : l.term-items ≡ l.addends;
+      all : l.term-items ≡ l.terms;
     }

@@ -4,7 +4,7 @@ use Rattle.theta_pred.specs.Resolved.{resolved_sum}
 use Rattle.theta_pred.specs.Sound.{AreWithin}
 use Rattle.theta_pred.proofs.Left.{drop-next, resolved_sum-next}
 use Rattle.theta_pred.proofs.Wrong.{Leads, Leads-next}
-use Rattle.theta_pred.proofs.terms.resolved_addends.Goals as goal
+use Rattle.theta_pred.proofs.terms.resolved_terms.Goals as goal
 
 pub loop-signed-preserved : goal.loop-signed-preserved
 loop-signed-preserved c =
@@ -19,7 +19,7 @@ loop-signed-preserved c =
     let left_is : left ≡ signed ∷ rest = drop-next items i signed c.loop-signed-test.true c.signed-item.is in
     record {
       all = before.all;
-      done = resolved_sum-next names_r names_s c.loop-signed.addends c.push.new.self signed c.in_ok-number.number left rest _
+      done = resolved_sum-next names_r names_s c.loop-signed.terms c.push.new.self signed c.in_ok-number.number left rest _
           left_is c.in_ok-number.ensures.ok c.in_ok-push.ensures.ok before.done;
       within = λ h. before.within
           (subst (λ l. AreWithin (length names_r) (length names_s) (resolved_sum names_r names_s l)) (sym left_is)
