@@ -27,7 +27,8 @@ use Rattle.join_runtime.specs.Seating.{IsNewSeat, AreNew, AreFilled}
 use Rattle.join_runtime.specs.Early.{AreGiven, given_at, given_in}
 use Rattle.join_runtime.proofs.KnownCounts.{is_sender-named}
 use Rattle.join_runtime.proofs.FramePlaces.{address_at}
-use Rattle.join_runtime.proofs.LinkLists.{there, number_low}
+use Rattle.link_trace.proofs.Beginnings.{there}
+use Rattle.join_runtime.proofs.LinkLists.{number_low}
 
 -- ---- members of lists
 

@@ -24,6 +24,7 @@ use Rattle.link_trace.specs.Worlds.{IsAnswerOf}
 use Rattle.link_trace.specs.declared.machines.Core.{Core}
 use Rattle.link_trace.specs.declared.machines.Core.TheVariants.{Feeder as TheFeeder, Joiner as TheJoiner, Controller as TheController, Collector as TheCollector}
 use Rattle.link_trace.proofs.OwnNumbers.{none_some, some_is}
+use Rattle.link_trace.proofs.WorldAnswer.{before_last, last_of}
 use Rattle.join_runtime.specs.Views.{SeatView, frame_of}
 use Rattle.join_runtime.specs.Joins.{AreJoined}
 use Rattle.join_runtime.specs.Bouts.{SeatsView, StandsFor, seat_of, lists_at, lists_in}
@@ -43,18 +44,6 @@ ends_keep v a = go (number v.joiners v.feeders a)
     go : (o : Option ℕ) → lists_at_end (at_number None o (λ n. slice_get (map end_of v.seats) n)) ≡ lists_at (at_number None o (λ n. slice_get v.seats n))
     go None = refl
     go (Some n) = at_ends v.seats n
-
--- ---- the last two
-
-last_of : {X : Type 0} (xs : List X) (x y : X) → slice_get ((xs ++ x ∷ []) ++ y ∷ []) (length xs + 1) ≡ Some y
-last_of [] x y = refl
-last_of (z ∷ xs) x y =
-    let next : suc (length xs + 1) ≡ suc (length xs) + 1 = omega arith in
-    subst (λ n. slice_get (((z ∷ xs) ++ x ∷ []) ++ y ∷ []) n ≡ Some y) next (last_of xs x y)
-
-before_last : {X : Type 0} (xs : List X) (x y : X) → slice_get ((xs ++ x ∷ []) ++ y ∷ []) (length xs) ≡ Some x
-before_last [] x y = refl
-before_last (z ∷ xs) x y = before_last xs x y
 
 -- the seat of a machine that is there
 seat_there : (seats : List SeatView) (n : ℕ) (core : Core) → slice_get (map (λ (s : SeatView). s.core) seats) n ≡ Some core → (seat : SeatView) × (slice_get seats n ≡ Some seat) × (seat.core ≡ core)

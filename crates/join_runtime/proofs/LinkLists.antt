@@ -15,6 +15,7 @@ use Rattle.link_trace.specs.Lists.{ActorLists, no_lists}
 use Rattle.link_trace.specs.Families.{AreFronts}
 use Rattle.link_trace.specs.Numbers.{number, actor_at, at_number}
 use Rattle.link_trace.proofs.OwnNumbers.{number_actor, none_some, some_is, number_there}
+use Rattle.link_trace.proofs.Beginnings.{there}
 use Rattle.join_runtime.specs.Views.{SeatView, Frame, lists_of, frame_of, address_of, contents, received_of, sent_by, sent_at, sent_through}
 use Rattle.join_runtime.specs.Joins.{AreJoined, ActorsDiffer, Leads, AreSettled, HasMouthTo, IsKnown, IsGathered, Knows, slot_of}
 use Rattle.join_runtime.specs.Bouts.{SeatsView, lists_at, lists_in, AllRest, IsReady, IsStill, SomeReady}
@@ -36,11 +37,6 @@ number_low joiners feeders (Joiner j) n is = go (ltb j joiners) refl is
     go false e is' = absurd (none_some n is')
 number_low joiners feeders Controller n is = let same = some_is (feeders + joiners) n is in omega arith
 number_low joiners feeders Collector n is = let same = some_is (feeders + joiners + 1) n is in omega arith
-
-pub there : {X : Type 0} (xs : List X) (n : ℕ) → n < length xs → (x : X) × (slice_get xs n ≡ Some x)
-there [] n low = absurd (omega arith)
-there (x ∷ xs) zero low = (x, refl)
-there (x ∷ xs) (suc n) low = there xs n (omega arith)
 
 -- no two seats of a run are of one actor
 pub differ_of : (v : SeatsView) → AreJoined v.joiners v.feeders (map frame_of v.seats) → ActorsDiffer (map frame_of v.seats)

@@ -15,7 +15,7 @@ use Rattle.link_trace.specs.Numbers.{number}
 use Rattle.link_trace.proofs.OwnNumbers.{none_some, number_actor, some_is}
 use Rattle.join_runtime.specs.Views.{SeatView}
 use Rattle.join_runtime.specs.Joins.{slot_of}
-use Rattle.join_runtime.proofs.LinkLists.{there}
+use Rattle.link_trace.proofs.Beginnings.{there}
 use Rattle.join_runtime.specs.Seating.{AreBelow, AreLinked, AreNew, IsNewSeat, Puts, IsOneOf, Places, AreFilled}
 
 -- ---- one mouth

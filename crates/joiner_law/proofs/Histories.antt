@@ -12,7 +12,8 @@ use Rattle.epoch_tags.specs.Messages.{tups_of, moved_of}
 use Rattle.joiner_law.specs.Law.{JoinerStart, Taken, shift_after, partner_of, arrived}
 use Rattle.joiner_law.specs.History.{Step, with_arrived, with_came}
 use Rattle.joiner_law.specs.Standing.{grown, took_of_feeder, took_of_joiner, with_shift, came_in, IsStep, IsHistory, GoesByOne}
-use Rattle.joiner_law.proofs.LongerLists.{tups_of-append, moved_of-append, gather-grown, grown-same, grown-other}
+use Rattle.joiner_law.proofs.LongerLists.{moved_of-append, gather-grown, grown-same, grown-other}
+use Rattle.epoch_tags.proofs.RowMessages.{tups_of-append}
 use Rattle.std.proofs.lemmas.List.{append-nil}
 
 arrived-more : (s : JoinerStart) (t : Taken) (p : ℕ) (m : ToJoiner) (e : ℕ) → p < s.feeders → SameBag (arrived s (took_of_feeder p m t) e) (arrived s t e ++ tups_of e (m ∷ []))

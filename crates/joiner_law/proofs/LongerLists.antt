@@ -10,18 +10,6 @@ use Rattle.epoch_tags.specs.Messages.{tups_of, turns, ends, moved_of}
 use Rattle.epoch_tags.specs.Orders.{CountsUp, TurnsGoBy}
 use Rattle.joiner_law.specs.Standing.{grown}
 
-pub tups_of-append : (e : ℕ) (xs ys : List ToJoiner) → tups_of e (xs ++ ys) ≡ tups_of e xs ++ tups_of e ys
-tups_of-append e [] ys = refl
-tups_of-append e (Tup x ∷ xs) ys = either (x.stamp == e) (tups_of-append e xs ys)
-  where
-    either : (t : Bool) → tups_of e (xs ++ ys) ≡ tups_of e xs ++ tups_of e ys → cond t (x ∷ tups_of e (xs ++ ys)) (tups_of e (xs ++ ys)) ≡ cond t (x ∷ tups_of e xs) (tups_of e xs) ++ tups_of e ys
-    either true rest = ap (λ ts. x ∷ ts) rest
-    either false rest = rest
-tups_of-append e (Turn epoch shift ∷ xs) ys = tups_of-append e xs ys
-tups_of-append e (End ∷ xs) ys = tups_of-append e xs ys
-tups_of-append e (Moved epoch x ∷ xs) ys = tups_of-append e xs ys
-tups_of-append e (MovedEnd epoch ∷ xs) ys = tups_of-append e xs ys
-
 pub moved_of-append : (e : ℕ) (xs ys : List ToJoiner) → moved_of e (xs ++ ys) ≡ moved_of e xs ++ moved_of e ys
 moved_of-append e [] ys = refl
 moved_of-append e (Tup x ∷ xs) ys = moved_of-append e xs ys

@@ -79,7 +79,7 @@ has_number setting (Joiner j) is = (setting.feeders + j, ap (λ b. cond b (Some 
 has_number setting Controller is = (setting.feeders + 2 ^ setting.k, refl, omega arith)
 has_number setting Collector is = (setting.feeders + 2 ^ setting.k + 1, refl, omega arith)
 
-there : {X : Type 0} (xs : List X) (n : ℕ) → n < length xs → (x : X) × (slice_get xs n ≡ Some x)
+pub there : {X : Type 0} (xs : List X) (n : ℕ) → n < length xs → (x : X) × (slice_get xs n ≡ Some x)
 there [] n low = absurd (omega arith)
 there (x ∷ xs) zero low = (x, refl)
 there (x ∷ xs) (suc n) low = there xs n (omega arith)

@@ -12,6 +12,7 @@ use Rattle.trace_law.specs.declared.run.Run.{Run}
 use Rattle.trace_law.specs.Validity.{IsValidInput, IsValidSetting, IsValid}
 use Rattle.trace_law.specs.Runs.{IsRunOf}
 use Rattle.trace_law.specs.Laws.{EventsAreFew}
+use Rattle.trace_law.proofs.Validity.{within_limits}
 use Rattle.link_trace.specs.declared.machines.Core.{Core}
 use Rattle.link_trace.specs.declared.slots.Slot.{Slot}
 use Rattle.link_trace.specs.declared.slots.Slot.TheVariants.{Begin, Link}
@@ -21,15 +22,6 @@ use Rattle.link_trace.specs.Worlds.{WorldState, StandsFor, MakesEvent, Delivers,
 use Rattle.link_trace.specs.Order.{Happens, most_events}
 use Rattle.link_trace.proofs.EventCounts.{count, AreLinked, took_counts, began_counts, linked_after, left_linked}
 use Rattle.link_trace.proofs.WorldAnswer.{agree}
-
-pub valid_both : (input : Input) (setting : Setting) → IsValidInput input → IsValidSetting setting → IsValid input setting
-valid_both input setting of_input of_setting = record {
-  of_input = of_input;
-  small = let few = of_setting.joiners in omega arith;
-  some = let some = of_setting.some_feeders in omega arith;
-  batch = let some = of_setting.some_rows in omega arith;
-  fixed = λ shift is. subst (λ (o : Option ℕ). IfSome o (λ s. s ≤ setting.k)) is of_setting.fixed;
-}
 
 -- it stands for lists of this input and setting, whose messages go over links, and which count so many events at least
 pub record IsCounted (input : Input) (setting : Setting) (w : WorldState) (n : ℕ) : Type 0 where
@@ -90,7 +82,7 @@ module _ (input : Input) (setting : Setting) (w : WorldState) (events : ℕ) (re
   pub run_answers : (result : Result Run AllocError)
       → IfOk result (λ run. (input' : Input) (setting' : Setting) (lists : Actor → ActorLists) → IsValid input' setting' → StandsFor input' setting' w lists → IsRunOf input' setting' run.journal run)
       → IfOk result (λ run. IsRunOf input setting run.journal run)
-  run_answers (Ok run) is = is input setting reached.lists (valid_both input setting of_input of_setting) reached.stands
+  run_answers (Ok run) is = is input setting reached.lists (within_limits input setting of_input of_setting) reached.stands
   run_answers (Err e) is = tt
 
   pub run_bounded : EventsAreFew → (result : Result Run AllocError)
@@ -98,6 +90,6 @@ module _ (input : Input) (setting : Setting) (w : WorldState) (events : ℕ) (re
       → (core : Core) → core_of w Controller ≡ Some core → run.journal ≡ journal_of core)
       → IfOk result (λ run. run.bouts ≡ events) → IfOk result (λ run. run.bouts ≤ most_events input setting (last_epoch run.journal))
   run_bounded few (Ok run) journal bouts =
-      let most = few_events input setting few (valid_both input setting of_input of_setting) w events reached run.journal (journal input setting reached.lists reached.stands) in
+      let most = few_events input setting few (within_limits input setting of_input of_setting) w events reached run.journal (journal input setting reached.lists reached.stands) in
       subst (λ n. n ≤ most_events input setting (last_epoch run.journal)) (sym bouts) most
   run_bounded few (Err e) journal bouts = tt

@@ -13,7 +13,8 @@ use Rattle.trace_law.specs.Validity.{IsValidInput, IsValidSetting}
 use Rattle.link_trace.specs.Families.{family_of, journal_of}
 use Rattle.link_trace.specs.Order.{EventsFit, most_events}
 use Rattle.link_trace.specs.Worlds.{WorldState}
-use Rattle.link_trace.proofs.Bounds.{IsCounted, few_events, valid_both}
+use Rattle.link_trace.proofs.Bounds.{IsCounted, few_events}
+use Rattle.trace_law.proofs.Validity.{within_limits}
 use Rattle.link_trace.proofs.WorldAnswer.{agree}
 use Rattle.link_trace.proofs.OwnNumbers.{some_is}
 
@@ -31,7 +32,7 @@ numbers_fit r s feeders k epochs few_r few_s few small late =
 
 pub fit : KeepsALawfulJournal → LawfulIsBounded → EventsFit
 fit keeps bounded input setting w lists of_input of_setting stands =
-    let valid = valid_both input setting of_input of_setting in
+    let valid = within_limits input setting of_input of_setting in
     let journal = journal_of (stands.stands Controller tt).0 in
     let lawful = keeps input setting (family_of journal lists) valid (agree input setting w lists stands) in
     let few_r = (of_input.sides R).few in
@@ -47,5 +48,5 @@ pub counts_on : EventsAreFew → EventsFit → (input : Input) (setting : Settin
 counts_on few fits input setting of_input of_setting w n counted =
     let own = counted.stands.stands Controller tt in
     let most = fits input setting w counted.lists of_input of_setting counted.stands in
-    let made : n ≤ most_events input setting (last_epoch (journal_of own.0)) = few_events input setting few (valid_both input setting of_input of_setting) w n counted (journal_of own.0) (λ core there. ap journal_of (some_is own.0 core (sym own.1 ∙ there))) in
+    let made : n ≤ most_events input setting (last_epoch (journal_of own.0)) = few_events input setting few (within_limits input setting of_input of_setting) w n counted (journal_of own.0) (λ core there. ap journal_of (some_is own.0 core (sym own.1 ∙ there))) in
     under n (most_events input setting (last_epoch (journal_of own.0))) (2 ^ 64 - 1) made most

@@ -18,13 +18,13 @@ use Rattle.load_controller.specs.Standing.{ControllerState, TakesMessage as Cont
 use Rattle.joiner_law.specs.Law.{JoinerStart, JoinerLists}
 use Rattle.joiner_law.specs.Standing.{with_sent as joiner_with_sent}
 use Rattle.joiner_core.specs.Machine.{with_message as joiner_with}
-use Rattle.joiner_core.specs.Standing.{TakesMessage as JoinerTakes, StandsFor as JoinerStands, k_of, id_of, feeders_of}
-use Rattle.joiner_core.specs.Standing.{JoinerState}
+use Rattle.joiner_core.specs.Standing.{TakesMessage as JoinerTakes, StandsFor as JoinerStands, k_of, id_of, feeders_of, JoinerState}
 use Rattle.pair_collector.specs.Standing.{CollectorState, TakesMessage as CollectorTakes, with_message as collector_with, StandsFor as CollectorStands}
 use Rattle.link_trace.specs.Lists.{ActorLists, Took, Began, feeder_lists, joiner_lists, controller_lists, collector_lists, with_event}
 use Rattle.link_trace.specs.Standing.{Start, OfFeeder, OfJoiner, OfController, OfCollector, Stands, GoOut, Occurs}
 use Rattle.link_trace.specs.declared.machines.Core.TheVariants.{Feeder as TheFeeder, Joiner as TheJoiner, Controller as TheController, Collector as TheCollector}
-use Rattle.link_trace.proofs.TypedLists.{joiner_posts, feeder_posts, controller_posts, collector_posts, appended, got, eqb-swap}
+use Rattle.link_trace.proofs.TypedLists.{joiner_posts, feeder_posts, controller_posts, collector_posts, appended, got}
+use Rattle.trace_law.proofs.PairSums.{turn_round}
 
 -- ---- a joiner's own numbers
 
@@ -69,7 +69,7 @@ collector_lists_are : (from : Actor) (m : ToCollector) (ls : ActorLists) → col
 collector_lists_are (Feeder p) m ls = refl
 collector_lists_are (Joiner q) m ls =
     let a = λ (j : ℕ). got collector_msg (q == j) (Collector' m) m (ls.received (Joiner j)) refl in
-    let e = λ (j : ℕ). ap (λ b. cond b (filter_map collector_msg (ls.received (Joiner j)) ++ m ∷ []) (filter_map collector_msg (ls.received (Joiner j)))) (eqb-swap q j) in
+    let e = λ (j : ℕ). ap (λ b. cond b (filter_map collector_msg (ls.received (Joiner j)) ++ m ∷ []) (filter_map collector_msg (ls.received (Joiner j)))) (turn_round q j) in
     sym (λ i. record { from_joiner = λ j. (a j ∙ e j) i })
 collector_lists_are Controller m ls = refl
 collector_lists_are Collector m ls = refl
@@ -154,7 +154,7 @@ controller_takes old new from m before after t = record { added = t.added; sends
 joiner_got : (p q : ℕ) (m : ToJoiner) (before : List Msg)
     → filter_map joiner_msg (cond (p == q) (before ++ Joiner' m ∷ []) before) ≡ cond (q == p) (filter_map joiner_msg before ++ m ∷ []) (filter_map joiner_msg before)
 joiner_got p q m before =
-    got joiner_msg (p == q) (Joiner' m) m before refl ∙ ap (λ b. cond b (filter_map joiner_msg before ++ m ∷ []) (filter_map joiner_msg before)) (eqb-swap p q)
+    got joiner_msg (p == q) (Joiner' m) m before refl ∙ ap (λ b. cond b (filter_map joiner_msg before ++ m ∷ []) (filter_map joiner_msg before)) (turn_round p q)
 
 joiner_lists_are : (from : Actor) (m : ToJoiner) (posts : List Post) (ls : ActorLists)
     → joiner_with_sent (joiner_with from m (joiner_lists ls)) posts ≡ joiner_lists (with_event (Took from (Joiner' m)) posts ls)

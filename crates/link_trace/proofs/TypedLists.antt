@@ -1,7 +1,5 @@
 -- The typed lists after an event are the typed lists with that event.
-use Rattle.std.proofs.Common.{◌≡◌, ℕ, ◌==◌, refl, sym, ap, ◌∙◌, Bool, true, false, cond, Option, Some, None, List, [], ◌∷◌, ◌++◌, filter_map}
-use Rattle.std.proofs.Common.{eq-eqb, ne_eqb}
-use Rattle.std.proofs.Common.{eqb-true}
+use Rattle.std.proofs.Common.{◌≡◌, ℕ, ◌==◌, refl, sym, ap, ◌∙◌, Bool, true, false, cond, Option, Some, None, List, [], ◌∷◌, ◌++◌, filter_map, eq-eqb, ne_eqb, eqb-true}
 use borrow.Author.Tests.{eqb-false}
 use Rattle.std.specs.List.{cons_option}
 use Rattle.std.proofs.lemmas.List.Elements.{filter_map-append}
@@ -73,13 +71,6 @@ pub appended : {M : Type 0} (kind : Msg → Option M) (before posts : List Msg) 
 appended kind before posts typed e = filter_map-append kind before posts ∙ ap (λ ms. filter_map kind before ++ ms) e
 
 -- ---- the cause
-
-pub eqb-swap : (a b : ℕ) → (a == b) ≡ (b == a)
-eqb-swap a b = go (a == b) refl
-  where
-    go : (t : Bool) → (a == b) ≡ t → (a == b) ≡ (b == a)
-    go true e = e ∙ sym (eq-eqb b a (sym (eqb-true a b e)))
-    go false e = e ∙ sym (ne_eqb b a (λ h. eqb-false a b e (sym h)))
 
 -- a message of the kind, to the list that b says or not
 pub got : {M : Type 0} (kind : Msg → Option M) (b : Bool) (m : Msg) (x : M) (before : List Msg) → kind m ≡ Some x

@@ -29,13 +29,13 @@ use Rattle.link_trace.proofs.OwnNumbers.{some_is, none_some}
 
 -- ---- the last two of a list
 
-last_of : {X : Type 0} (xs : List X) (x y : X) → slice_get ((xs ++ x ∷ []) ++ y ∷ []) (length xs + 1) ≡ Some y
+pub last_of : {X : Type 0} (xs : List X) (x y : X) → slice_get ((xs ++ x ∷ []) ++ y ∷ []) (length xs + 1) ≡ Some y
 last_of [] x y = refl
 last_of (z ∷ xs) x y =
     let next : suc (length xs + 1) ≡ suc (length xs) + 1 = omega arith in
     subst (λ n. slice_get (((z ∷ xs) ++ x ∷ []) ++ y ∷ []) n ≡ Some y) next (last_of xs x y)
 
-before_last : {X : Type 0} (xs : List X) (x y : X) → slice_get ((xs ++ x ∷ []) ++ y ∷ []) (length xs) ≡ Some x
+pub before_last : {X : Type 0} (xs : List X) (x y : X) → slice_get ((xs ++ x ∷ []) ++ y ∷ []) (length xs) ≡ Some x
 before_last [] x y = refl
 before_last (z ∷ xs) x y = before_last xs x y
 

@@ -10,6 +10,7 @@ use Rattle.epoch_tags.specs.declared.message.ToFeeder.{ToFeeder}
 use Rattle.epoch_tags.specs.declared.message.ToFeeder.TheVariants.{Order, Grant, Stop}
 use Rattle.epoch_tags.specs.Messages.{tups_of, order_epochs}
 use Rattle.epoch_tags.specs.Orders.{CountsUp, StopsLast, GoesBy, TurnsGoBy}
+use Rattle.epoch_tags.proofs.RowMessages.{tups_of-append}
 use Rattle.migration_plan.specs.Steps.{holds}
 use Rattle.reshuffler_core.specs.Law.{answers, copies_for, stamped}
 
@@ -20,18 +21,6 @@ granted e batches (Order epoch shift ∷ ms) = granted epoch batches ms
 granted e [] (Grant ∷ ms) = granted e [] ms
 granted e (batch ∷ batches) (Grant ∷ ms) = map (stamped e) batch ++ granted e batches ms
 granted e batches (Stop ∷ ms) = granted e batches ms
-
-pub tups_of-append : (E : ℕ) (xs ys : List ToJoiner) → tups_of E (xs ++ ys) ≡ tups_of E xs ++ tups_of E ys
-tups_of-append E [] ys = refl
-tups_of-append E (Tup x ∷ xs) ys = either (x.stamp == E) (tups_of-append E xs ys)
-  where
-    either : (t : Bool) → tups_of E (xs ++ ys) ≡ tups_of E xs ++ tups_of E ys → cond t (x ∷ tups_of E (xs ++ ys)) (tups_of E (xs ++ ys)) ≡ cond t (x ∷ tups_of E xs) (tups_of E xs) ++ tups_of E ys
-    either true rest = ap (λ ts. x ∷ ts) rest
-    either false rest = rest
-tups_of-append E (Turn epoch shift ∷ xs) ys = tups_of-append E xs ys
-tups_of-append E (End ∷ xs) ys = tups_of-append E xs ys
-tups_of-append E (Moved epoch x ∷ xs) ys = tups_of-append E xs ys
-tups_of-append E (MovedEnd epoch ∷ xs) ys = tups_of-append E xs ys
 
 filter-append : {X : Type 0} (p : X → Bool) (xs ys : List X) → filter p (xs ++ ys) ≡ filter p xs ++ filter p ys
 filter-append p [] ys = refl

@@ -44,7 +44,7 @@ seated_else n top seat m e = ap (λ (b : Bool). cond b top (seat m)) (sym (ne_eq
 has_here : (n : ℕ) (s : List Envelope) (known : List (ℕ × List Envelope)) → has_sender ((n, s) ∷ known) n ≡ true
 has_here n s known = ap (λ (b : Bool). cond b true (has_sender known n)) (eq-eqb n n refl)
 
-has_if : (b c : Bool) → c ≡ true → cond b true c ≡ true
+pub has_if : (b c : Bool) → c ≡ true → cond b true c ≡ true
 has_if true c e = refl
 has_if false c e = e
 

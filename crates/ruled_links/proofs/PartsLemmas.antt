@@ -8,7 +8,7 @@ use Rattle.ruled_links.specs.declared.parts.Part.{Part}
 use Rattle.ruled_links.specs.Delivery.{number_of, of_sender, inbox_hand, known_of, has_sender}
 use Rattle.ruled_links.specs.Parts.{noted, set_known, has_part, PartFits, seen}
 use Rattle.ruled_links.specs.Inboxes.{OfSender, lowered, told, is_sender, senders_of, fresh, Differ}
-use Rattle.ruled_links.proofs.DeliveryLemmas.{of_more, of_other}
+use Rattle.ruled_links.proofs.DeliveryLemmas.{has_if, of_more, of_other}
 use Rattle.epoch_tags.specs.declared.actor.Actor.TheVariants.{Feeder, Joiner, Controller, Collector}
 use native.Mathlib.Decide.{ℕ_discrete}
 use Rattle.std.proofs.lemmas.List.Elements.{All-map, All-contains, All-push}
@@ -112,14 +112,10 @@ pub named_seen : (a : Actor) (ps : List Part) → is_sender a (map seen ps) ≡ 
 named_seen a [] = refl
 named_seen a (p ∷ ps) = λ i. cond (eqb (number_of p.from) (number_of a)) true (named_seen a ps i)
 
-named_if_later : (b c : Bool) → c ≡ true → cond b true c ≡ true
-named_if_later true c e = refl
-named_if_later false c e = e
-
 named_at : (ps : List Part) (k : ℕ) (d : Part) → k < length ps → has_part (number_of (get_or ps k d).from) ps ≡ true
 named_at [] k d lt = absurd (omega arith)
 named_at (p ∷ ps) zero d lt = ap (λ (b : Bool). cond b true (has_part (number_of p.from) ps)) (eq-eqb (number_of p.from) (number_of p.from) refl)
-named_at (p ∷ ps) (suc k) d lt = named_if_later (eqb (number_of p.from) (number_of (get_or ps k d).from)) _ (named_at ps k d (omega arith))
+named_at (p ∷ ps) (suc k) d lt = has_if (eqb (number_of p.from) (number_of (get_or ps k d).from)) _ (named_at ps k d (omega arith))
 
 push_if : (b c more : Bool) → (more ≡ false → c ≡ false) → cond b true more ≡ false → cond b true c ≡ false
 push_if true c more f e = e
@@ -132,7 +128,7 @@ named_push m (q ∷ ps) p e = push_if (eqb (number_of q.from) m) (has_part m ps)
 
 pub named_end : (m : ℕ) (ps : List Part) (p : Part) → number_of p.from ≡ m → has_part m (ps ++ p ∷ []) ≡ true
 named_end m [] p e = ap (λ (b : Bool). cond b true false) (eq-eqb (number_of p.from) m e)
-named_end m (q ∷ ps) p e = named_if_later (eqb (number_of q.from) m) _ (named_end m ps p e)
+named_end m (q ∷ ps) p e = has_if (eqb (number_of q.from) m) _ (named_end m ps p e)
 
 pub named_new : (m : ℕ) (known : List (ℕ × List Envelope)) (ps : List Part) (p : Part) → ((n : ℕ) → has_part n ps ≡ false → has_sender known n ≡ false) → has_part m (ps ++ p ∷ []) ≡ false → has_sender ((number_of p.from, []) ∷ known) m ≡ false
 named_new m known ps p f none = ap (λ (b : Bool). cond b true (has_sender known m)) (ne_eqb (number_of p.from) m (λ e. true≢false (sym (named_end m ps p e) ∙ none))) ∙ f m (named_push m ps p none)

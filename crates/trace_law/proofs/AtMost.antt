@@ -13,7 +13,8 @@ use Rattle.epoch_tags.specs.declared.message.ToJoiner.TheVariants.{Tup, Turn, En
 use Rattle.epoch_tags.specs.Messages.{tups_of, moved_of}
 use Rattle.migration_plan.specs.Steps.{AreNeighbours, holds, is_of, exchanged_side, partner_in_step}
 use Rattle.reshuffler_core.specs.Law.{answers}
-use Rattle.reshuffler_core.proofs.Arrivals.{granted, of_feeder, tups_of-append}
+use Rattle.reshuffler_core.proofs.Arrivals.{granted, of_feeder}
+use Rattle.epoch_tags.proofs.RowMessages.{tups_of-append}
 use Rattle.joiner_law.specs.Law.{JoinerStart, Taken, opened, shift_after, partner_of, store, arrived, pairs_by, pair_of}
 use Rattle.trace_law.specs.declared.input.Input.{Input}
 use Rattle.trace_law.specs.declared.setting.Setting.{Setting}

@@ -7,7 +7,7 @@ use Rattle.std.proofs.lemmas.List.{length-map, reverse-append, reverse-reverse}
 use Rattle.std.proofs.lemmas.List.FromFn.{length-map-range_with_len}
 use Rattle.join_rows.specs.declared.table.Side.TheVariants.{R, S}
 use Rattle.join_rows.specs.Lists.{total, counting_from}
-use Rattle.join_rows.proofs.Totals.{total_le, total_same, total-add, total-const, length-gather, greatest_above, length_sum, front_length, filter_fewer, total_swap, only_one, total_most}
+use Rattle.join_rows.proofs.Totals.{total_le, total_same, total-add, total-const, length-gather, greatest_above, length_sum, front_length, filter_fewer, total_swap, only_one, total_most, greatest_most}
 use Rattle.join_rows.proofs.Counting.{length-counting_from}
 use Rattle.epoch_tags.specs.declared.message.ToController.{ToController}
 use Rattle.epoch_tags.specs.declared.message.ToController.TheVariants.{Settled}
@@ -41,7 +41,6 @@ use Rattle.trace_law.proofs.RowSums.{shares_sum}
 use Rattle.trace_law.proofs.Lawful.{lines_of}
 use Rattle.load_controller.proofs.Shifts.{last_is}
 use Rattle.reshuffler_core.proofs.Sizes.{asks_for_batches, answers_are_few, granted_are_few}
-use Rattle.trace_law.proofs.JoinerLemmas.{greatest_most}
 
 -- the sum of all bounds, in numbers: n rows, p feeders, j joiners, l migrations
 sum_of_bounds : (n p j l feeders joiners ends nb received moved : ℕ) → 0 < j → nb ≤ n

@@ -26,7 +26,3 @@ settled_of (e ∷ es) = ap (λ xs. e ∷ xs) (settled_of es)
 pub has_fin : (founds : List (List Pair)) (ms : List ToCollector) → 0 < fins ms → 0 < fins (map (λ ps. Found ps) founds ++ ms)
 has_fin [] ms has = has
 has_fin (ps ∷ founds) ms has = has_fin founds ms has
-
-pub greatest_most : (n v : ℕ) (g : ℕ → ℕ) → ((i : ℕ) → i < n → g i ≤ v) → greatest n g ≤ v
-greatest_most zero v g each = omega arith
-greatest_most (suc n) v g each = let rest = greatest_most n v g (λ i low. each i (omega arith)) in let here = each n (omega arith) in omega arith

@@ -24,6 +24,7 @@ use Rattle.migration_plan.specs.Steps.{holds, holds_ticket, is_of, exchanged_sid
 use Rattle.reshuffler_core.specs.Law.{answers, stamped, copies_for}
 use Rattle.reshuffler_core.proofs.Arrivals.{granted}
 use Rattle.joiner_law.specs.Law.{opened, store, shift_after, partner_of, sent_in_step}
+use Rattle.pair_collector.proofs.AnswerOfLists.{map_same}
 use Rattle.load_controller.specs.Journal.{last_epoch}
 use Rattle.trace_law.specs.declared.input.Input.{Input}
 use Rattle.trace_law.specs.Join.{row_count, ticket_of, tickets_of, held, holders, moved}
@@ -49,10 +50,6 @@ use Rattle.epoch_tags.proofs.Appends.{tups-append}
 list_sum : (h : ℕ → ℕ) (xs : List ℕ) → sum_by h xs ≡ total (length xs) (λ i. h (slice_index xs i))
 list_sum h [] = refl
 list_sum h (x ∷ xs) = sum_by-cons h x xs ∙ ap (λ n. h x + n) (list_sum h xs) ∙ sym (total_front (length xs) (λ i. h (slice_index (x ∷ xs) i)))
-
-map_same : {X Y : Type 0} (g h : X → Y) → ((x : X) → g x ≡ h x) → (xs : List X) → map g xs ≡ map h xs
-map_same g h same [] = refl
-map_same g h same (x ∷ xs) = ap (λ y. y ∷ map g xs) (same x) ∙ ap (λ ys. h x ∷ ys) (map_same g h same xs)
 
 -- ---- the stamps of what a joiner received
 

@@ -34,13 +34,13 @@ use Rattle.trace_law.specs.Family.{Family, IsAgreeing, IsQuiet, IsFinished, feed
 use Rattle.trace_law.proofs.Membership.{low_within}
 use Rattle.trace_law.proofs.Arrivals.{goes_by}
 use Rattle.trace_law.proofs.Journals.{shift_in, feeders_go, begins}
-use Rattle.join_rows.proofs.Totals.{greatest_above}
+use Rattle.join_rows.proofs.Totals.{greatest_above, greatest_most}
 use Rattle.trace_law.proofs.Links.{has_link, none_received}
 use Rattle.trace_law.proofs.Lawful.{lines_of}
 use Rattle.epoch_tags.proofs.Appends.{turns-append, moved_ends-append}
 use Rattle.grid_map.proofs.Halves.{partner_below, back_again}
 use Rattle.epoch_tags.proofs.EpochShifts.{turns_at}
-use Rattle.trace_law.proofs.JoinerLemmas.{can_take_of_joiner, settled_of, has_fin, greatest_most}
+use Rattle.trace_law.proofs.JoinerLemmas.{can_take_of_joiner, settled_of, has_fin}
 
 module _ (input : Input) (setting : Setting) (f : Family) (valid : IsValid input setting) (agrees : IsAgreeing input setting f) (quiet : IsQuiet input setting f agrees) where
   abbrev line : TurnLine

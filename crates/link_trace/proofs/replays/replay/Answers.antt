@@ -1,6 +1,7 @@
 use Rattle.std.proofs.Common.{◌≡◌, ◌∙◌, true, false}
 use Rattle.link_trace.specs.Worlds.{state_of}
-use Rattle.link_trace.proofs.Bounds.{run_answers, run_bounded, valid_both}
+use Rattle.link_trace.proofs.Bounds.{run_answers, run_bounded}
+use Rattle.trace_law.proofs.Validity.{within_limits}
 use Rattle.link_trace.proofs.EventLimit.{counts_on}
 use Rattle.link_trace.proofs.ReplayLoop.{begins, goes_on, replayed}
 use Rattle.link_trace.proofs.AllSlots.{some_has_one}
@@ -19,7 +20,7 @@ loop-init g c =
 pub make_next-requires-clause-ready : goal.make_next-requires-clause-ready
 make_next-requires-clause-ready g c =
     let counted = c.loop.invariant.counted in
-    some_has_one c.args.input.now c.args.setting.now (state_of c.loop.world) counted.lists (valid_both c.args.input.now c.args.setting.now c.requires.input c.requires.setting) counted.stands
+    some_has_one c.args.input.now c.args.setting.now (state_of c.loop.world) counted.lists (within_limits c.args.input.now c.args.setting.now c.requires.input c.requires.setting) counted.stands
     c.deref.result.now (c.deref.ensures.value ∙ c.in_ok-slots.ensures) c.done.result c.done.ensures.still c.if-done.false
 
 pub make_next-requires-clause-few : goal.make_next-requires-clause-few
