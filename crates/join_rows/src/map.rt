@@ -43,7 +43,8 @@ impl Model for MapShelf {
 impl MapShelf {
     /// A shelf without files and without faults.
     pub fn new(alloc: Global) -> MapShelf
-        ensures { result ≡ record { files = []; picked = None; picks = 0; reads = 0; failing_picks = []; failing_reads = []; faults = 0 } }
+        ensures { result ≡ record { files = []; picked = None; picks = 0; reads = 0;
+            failing_picks = []; failing_reads = []; faults = 0 } }
     {
         MapShelf {
             alloc,
@@ -76,7 +77,8 @@ impl MapShelf {
 
     /// Has a pick fail, by its number from 1 on.
     pub fn fail_pick(&mut self, call: u64) -> Result<(), AllocError>
-        ensures ok { OnOk result (self.new ≡ record self.old { failing_picks = self.old.failing_picks ++ call ∷ [] }) }
+        ensures ok { OnOk result (self.new
+            ≡ record self.old { failing_picks = self.old.failing_picks ++ call ∷ [] }) }
         ensures err { OnErr result (self.new ≡ self.old) }
     {
         self.failing_picks.push(call)?;
@@ -85,7 +87,8 @@ impl MapShelf {
 
     /// Has a read fail, by its number from 1 on.
     pub fn fail_read(&mut self, call: u64) -> Result<(), AllocError>
-        ensures ok { OnOk result (self.new ≡ record self.old { failing_reads = self.old.failing_reads ++ call ∷ [] }) }
+        ensures ok { OnOk result (self.new
+            ≡ record self.old { failing_reads = self.old.failing_reads ++ call ∷ [] }) }
         ensures err { OnErr result (self.new ≡ self.old) }
     {
         self.failing_reads.push(call)?;

@@ -6,7 +6,7 @@ use Rattle.std.proofs.lemmas.List.{map-append, length-append, append-nil}
 use Rattle.std.proofs.lemmas.List.Sums.{length-filter}
 use Rattle.join_rows.specs.Lists.{SameBag, gather, counting_from}
 use Rattle.join_rows.proofs.Bags.{SameBag-trans, SameBag-sym, SameBag-filter}
-use Rattle.join_rows.proofs.Counting.{counting-more}
+use Rattle.join_rows.proofs.RisingNumbers.{counting-more}
 use Rattle.join_rows.proofs.Totals.{length_sum}
 use Rattle.epoch_tags.specs.declared.tuple.Tuple.{Tuple}
 use Rattle.epoch_tags.specs.declared.message.ToJoiner.{ToJoiner}

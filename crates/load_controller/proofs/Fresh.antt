@@ -7,7 +7,7 @@ use Rattle.std.proofs.lemmas.Bool.{cases_eq, ne_eqb, or_from, and_right}
 use Rattle.std.proofs.lemmas.Nat.{pow_pos}
 use Rattle.std.proofs.lemmas.List.Elements.{All-nil, All-cons}
 use Rattle.join_rows.specs.Lists.{counting_from}
-use Rattle.join_rows.proofs.Counting.{one_fails}
+use Rattle.join_rows.proofs.RisingNumbers.{one_fails}
 use Rattle.load_controller.specs.declared.line.Cause.TheVariants.{Start}
 use Rattle.load_controller.specs.declared.line.TurnLine.{TurnLine}
 use Rattle.load_controller.specs.declared.ledger.Ledger.{Ledger}

@@ -7,7 +7,7 @@ use Rattle.load_controller.specs.declared.line.TurnLine.{TurnLine}
 use Rattle.load_controller.specs.Journal.{has_drained, is_drain_of}
 use Rattle.load_controller.specs.Law.{is_over}
 use Rattle.load_controller.proofs.Counted.{drain_lines}
-use Rattle.join_rows.proofs.Counting.{one_passes, every_passes}
+use Rattle.join_rows.proofs.RisingNumbers.{one_passes, every_passes}
 
 -- where it is over each feeder has drained
 pub over_drained : (feeders p : ℕ) (past : List TurnLine) → p < feeders → is_over feeders past ≡ true → has_drained p past ≡ true

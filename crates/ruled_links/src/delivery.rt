@@ -94,12 +94,15 @@ impl Outcome<Envelope, InboxHand> for Taken {
 
 // Where none is found, all that was known of each sender has been received.
 impl Lesson<Envelope, InboxHand> for Taken {
-    ghost fact = { λ v items. (n : ℕ) → length (known_of v.known n) ≤ length (of_sender n v.received) + length (of_sender n items) };
+    ghost fact = { λ v items. (n : ℕ)
+        → length (known_of v.known n) ≤ length (of_sender n v.received) + length (of_sender n items) };
 }
 
 // A look, with a sender's list and the receiver's in one pass.
 pub struct Looked;
 
 impl Lesson<Envelope, InboxHand> for Looked {
-    ghost fact = { λ v items. (v.sent ≡ of_sender v.sender v.received ++ of_sender v.sender items) × (has_sender v.known v.sender ≡ true) × ((n : ℕ) → length (known_of v.known n) ≤ length (of_sender n v.received) + length (of_sender n items)) };
+    ghost fact = { λ v items. (v.sent ≡ of_sender v.sender v.received ++ of_sender v.sender items)
+        × (has_sender v.known v.sender ≡ true) × ((n : ℕ)
+        → length (known_of v.known n) ≤ length (of_sender n v.received) + length (of_sender n items)) };
 }

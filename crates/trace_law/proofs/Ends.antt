@@ -20,7 +20,7 @@ use Rattle.trace_law.specs.Family.{Family, IsAgreeing, IsFinished, batches, rule
 use Rattle.trace_law.proofs.Finished.{E}
 use Rattle.trace_law.proofs.Lawful.{lines_of, causes_are, journal_is, lawful_so_far, causes_asked}
 use Rattle.epoch_tags.proofs.Appends.{nothing_left, nothing_asked}
-use Rattle.join_rows.proofs.Counting.{length-counting_from}
+use Rattle.join_rows.proofs.RisingNumbers.{length-counting_from}
 use Rattle.trace_law.proofs.Lines.{came}
 use Rattle.epoch_tags.specs.Orders.{StopsLast, DrainsLast}
 use Rattle.load_controller.proofs.Sends.{stops_last, going, no_stops, sends_orders}

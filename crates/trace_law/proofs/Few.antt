@@ -8,7 +8,7 @@ use Rattle.std.proofs.lemmas.List.FromFn.{length-map-range_with_len}
 use Rattle.join_rows.specs.declared.table.Side.TheVariants.{R, S}
 use Rattle.join_rows.specs.Lists.{total, counting_from}
 use Rattle.join_rows.proofs.Totals.{total_le, total_same, total-add, total-const, length-gather, greatest_above, length_sum, front_length, filter_fewer, total_swap, only_one, total_most, greatest_most}
-use Rattle.join_rows.proofs.Counting.{length-counting_from}
+use Rattle.join_rows.proofs.RisingNumbers.{length-counting_from}
 use Rattle.epoch_tags.specs.declared.message.ToController.{ToController}
 use Rattle.epoch_tags.specs.declared.message.ToController.TheVariants.{Settled}
 use Rattle.epoch_tags.specs.declared.message.ToCollector.TheVariants.{Found}

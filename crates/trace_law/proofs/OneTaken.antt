@@ -3,7 +3,7 @@ use Rattle.std.proofs.Common.{◌≡◌, ℕ, zero, suc, ◌+◌, ◌^◌, ◌<�
 use Rattle.std.proofs.lemmas.Bool.{cases_eq, cases_lt}
 use Rattle.std.proofs.lemmas.List.{append-nil, length-map}
 use Rattle.join_rows.specs.Lists.{counting_from}
-use Rattle.join_rows.proofs.Counting.{length-counting_from}
+use Rattle.join_rows.proofs.RisingNumbers.{length-counting_from}
 use Rattle.epoch_tags.specs.declared.message.ToController.TheVariants.{Settled}
 use Rattle.epoch_tags.specs.declared.message.ToJoiner.{ToJoiner}
 use Rattle.epoch_tags.specs.declared.message.ToJoiner.TheVariants.{Turn}

@@ -4,7 +4,7 @@ use Rattle.std.specs.Prelude.{map}
 use Rattle.std.proofs.lemmas.Bool.{cases_eq, cases_lt, cases_Bool, true≢false, true_from_ne_false}
 use Rattle.std.proofs.lemmas.List.{append-nil}
 use Rattle.join_rows.specs.Lists.{counting_from}
-use Rattle.join_rows.proofs.Counting.{length-counting_from}
+use Rattle.join_rows.proofs.RisingNumbers.{length-counting_from}
 use Rattle.epoch_tags.specs.declared.message.ToController.{ToController}
 use Rattle.epoch_tags.specs.declared.message.ToJoiner.{ToJoiner}
 use Rattle.epoch_tags.specs.declared.message.ToJoiner.TheVariants.{Turn}

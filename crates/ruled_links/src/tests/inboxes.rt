@@ -54,8 +54,10 @@ fn actors(alloc: Global, all: &[Actor]) -> Result<Actors, AllocError>
 
 // An inbox of the controller with three senders, and their mouths.
 fn of_three(alloc: Global) -> Result<(Inbox, Mouth, Mouth, Mouth), AllocError>
-    ensures from { IfOk result (λ ends. (ends.1.from ≡ Feeder 0) × (ends.2.from ≡ Feeder 1) × (ends.3.from ≡ Feeder 2)) }
-    ensures of { IfOk result (λ ends. IsMouthOf ends.1 ends.0 × IsMouthOf ends.2 ends.0 × IsMouthOf ends.3 ends.0) }
+    ensures from { IfOk result (λ ends. (ends.1.from ≡ Feeder 0) × (ends.2.from ≡ Feeder 1)
+        × (ends.3.from ≡ Feeder 2)) }
+    ensures of { IfOk result (λ ends. IsMouthOf ends.1 ends.0 × IsMouthOf ends.2 ends.0
+        × IsMouthOf ends.3 ends.0) }
 {
     let senders = actors(
         alloc,
@@ -200,7 +202,8 @@ fn run_three<R: Threads + Wait + Sync>(
     got: Got,
 ) -> ((Sent, Sent), (Sent, Taken))
     requires { (a.from ≡ Feeder 0) × (b.from ≡ Feeder 1) × (c.from ≡ Feeder 2) }
-    ensures mouths { IsSameOut a result.0.0.0 × IsSameOut b result.0.1.0 × IsSameOut c result.1.0.0 }
+    ensures mouths { IsSameOut a result.0.0.0 × IsSameOut b result.0.1.0
+        × IsSameOut c result.1.0.0 }
     ensures inbox { IfOk result.1.1 (λ taken. IsSameInbox inbox taken.0) }
 {
     thread::join(

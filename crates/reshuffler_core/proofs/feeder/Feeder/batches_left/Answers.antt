@@ -1,6 +1,6 @@
 use Rattle.std.proofs.Common.{◌≡◌, ◌+◌, ◌-◌, ◌/◌, ◌<◌, ap, sym, ◌∙◌, arith, length}
 use Rattle.reshuffler_core.specs.Standing.{FeederState}
-use Rattle.reshuffler_core.proofs.Cutting.{none_left, some_left}
+use Rattle.reshuffler_core.proofs.BatchCuts.{none_left, some_left}
 use Rattle.reshuffler_core.proofs.feeder.Feeder.batches_left.Goals as goal
 
 pub returns-then-left-eq0 : goal.returns-then-left-eq0

@@ -1,7 +1,7 @@
 use Rattle.std.proofs.Common.{false, sym, ap, ◌∙◌, arith, drop, length}
 use Rattle.reshuffler_core.specs.contracts.feeder.Feeder.{the_view}
 use Rattle.reshuffler_core.specs.Standing.{FeederState, first_batch}
-use Rattle.reshuffler_core.proofs.Cutting.{stays_within, rest_of_load}
+use Rattle.reshuffler_core.proofs.BatchCuts.{stays_within, rest_of_load}
 use Rattle.reshuffler_core.proofs.feeder.Feeder.grant.Goals as goal
 
 pub prove-unreachable-requires : goal.prove-unreachable-requires

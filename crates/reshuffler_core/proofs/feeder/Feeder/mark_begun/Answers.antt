@@ -2,7 +2,7 @@ use Rattle.std.proofs.Common.{◌≡◌, sym, ap, ◌∙◌, arith, drop, length
 use Rattle.std.proofs.lemmas.List.{length-drop}
 use Rattle.reshuffler_core.specs.contracts.feeder.Feeder.{the_view}
 use Rattle.reshuffler_core.specs.Standing.{FeederState, state_begun}
-use Rattle.reshuffler_core.proofs.Cutting.{cut_none}
+use Rattle.reshuffler_core.proofs.BatchCuts.{cut_none}
 use Rattle.reshuffler_core.proofs.feeder.Feeder.mark_begun.Goals as goal
 
 pub returns-else-self-as_slice : goal.returns-else-self-as_slice

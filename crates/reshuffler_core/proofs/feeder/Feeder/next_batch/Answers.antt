@@ -1,7 +1,7 @@
 use Rattle.std.proofs.Common.{◌≡◌, ◌+◌, ◌-◌, min, sym, ap, ◌∙◌, arith, take, drop, length}
 use Rattle.std.proofs.lemmas.List.{length-drop, length-take}
 use Rattle.reshuffler_core.specs.Standing.{FeederState, first_batch}
-use Rattle.reshuffler_core.proofs.Cutting.{first_cut}
+use Rattle.reshuffler_core.proofs.BatchCuts.{first_cut}
 use Rattle.reshuffler_core.proofs.feeder.Feeder.next_batch.Goals as goal
 
 pub returns : goal.returns

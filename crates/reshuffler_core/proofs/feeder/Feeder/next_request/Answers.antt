@@ -1,7 +1,7 @@
 use Rattle.std.proofs.Common.{◌≡◌, sym, ap, ◌∙◌, arith, drop, length}
 use Rattle.std.proofs.lemmas.List.{length-drop}
 use Rattle.reshuffler_core.specs.Standing.{FeederState, next_request}
-use Rattle.reshuffler_core.proofs.Cutting.{cut_none}
+use Rattle.reshuffler_core.proofs.BatchCuts.{cut_none}
 use Rattle.reshuffler_core.proofs.feeder.Feeder.next_request.Goals as goal
 
 pub returns-else-self-as_slice : goal.returns-else-self-as_slice
