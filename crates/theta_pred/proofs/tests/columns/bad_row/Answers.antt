@@ -1,7 +1,7 @@
 use Rattle.std.proofs.Common.{◌≡◌, ◌<◌, List, length, sym, subst}
 use Rattle.std.proofs.lemmas.List.Elements.{All-weaker}
 use Rattle.join_rows.specs.declared.table.Cell.{Cell}
-use Rattle.theta_pred.proofs.tests.bad_row.Goals as goal
+use Rattle.theta_pred.proofs.tests.columns.bad_row.Goals as goal
 
 pub numbers-requires-clause-rows : goal.numbers-requires-clause-rows
 numbers-requires-clause-rows c =
