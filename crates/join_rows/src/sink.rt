@@ -28,7 +28,8 @@ pub trait Sink {
         ensures rises { faults self.old ≤ faults self.new }
         ensures puts { OnOk result (written self.new ≡ append_known (written self.old) piece.now) }
         ensures counts { OnOk result (faults self.new ≡ faults self.old) }
-        ensures front { OnErr result (AppendsFront (written self.old) (written self.new) piece.now) }
+        ensures front { OnErr result
+            (AppendsFront (written self.old) (written self.new) piece.now) }
         ensures fails { OnErr result (Faulted (faults self.old) (faults self.new)) }
         ensures takes { (more : ℕ) → takes self.old (length piece.now + more)
             → IsOk result × takes self.new more }

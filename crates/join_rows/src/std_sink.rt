@@ -62,8 +62,10 @@ impl<W: Write + Drop> Sink for StdSink<W> {
 
     /// Writes the piece, in as many calls of the writer as it asks for, and flushes.
     fn put(&mut self, piece: &[u8]) -> Result<(), Failed>
-        ensures whole { OnOk result (Appends (held_by W.contents self.old) (held_by W.contents self.new) piece.now) }
-        ensures some { OnErr result (AppendsSome (held_by W.contents self.old) (held_by W.contents self.new) piece.now) }
+        ensures whole { OnOk result
+            (Appends (held_by W.contents self.old) (held_by W.contents self.new) piece.now) }
+        ensures some { OnErr result
+            (AppendsSome (held_by W.contents self.old) (held_by W.contents self.new) piece.now) }
         ensures still { OnOk result (failed_puts self.new ≡ failed_puts self.old) }
         ensures raised { OnErr result (failed_puts self.new ≡ raised (failed_puts self.old)) }
     {
