@@ -12,10 +12,10 @@ use Rattle.link_trace.specs.Families.{start_for, IsActor}
 use Rattle.link_trace.specs.Numbers.{number, at_number}
 use Rattle.link_trace.proofs.OwnNumbers.{none_some}
 use Rattle.join_runtime.specs.Views.{SeatView, lists_of, frame_of}
-use Rattle.join_runtime.specs.Turns.{Advances, IsAlike, Works, AllWork}
+use Rattle.join_runtime.specs.Turns.{Advances, AllStep, AllWork, IsAlike, Works}
 use Rattle.join_runtime.specs.Joins.{AreSettled, AreGathered}
 use Rattle.join_runtime.specs.Bouts.{SeatsView, StandsFor, Extends, AllAdvance, NoneSpent, seat_of, lists_at, lists_in}
-use Rattle.join_runtime.proofs.SeatTurns.{runs_alike}
+use Rattle.join_runtime.proofs.SeatTurns.{advances_after, runs_alike, steps_joined}
 use Rattle.join_runtime.proofs.FramePlaces.{frames_same}
 use Rattle.join_runtime.proofs.EventRuns.{runs_stand, runs_live, runs_hear, runs_received, runs_sent, prefix_self}
 
@@ -42,6 +42,14 @@ pub all_advance : (old middle new : List SeatView) → length middle ≡ length 
 all_advance old middle new long works none alike n d low =
     let low' : n < length middle = omega (arith, long) in
     advances_alike (get_or old n d) (get_or middle n d) (get_or new n d) (advanced (get_or old n d) (get_or middle n d) (works n d low) (none n d low')) (alike n d low')
+
+pub all_stepped : (old middle new : List SeatView) → length middle ≡ length old → AllStep old middle → AllStep middle new → AllStep old new
+all_stepped old middle new long first then n d low =
+    steps_joined (get_or old n d) (get_or middle n d) (get_or new n d) (first n d low) (then n d (omega (arith, long, low)))
+
+pub all_advance_after : (old middle new : List SeatView) → length middle ≡ length old → AllStep old middle → AllAdvance middle new → AllAdvance old new
+all_advance_after old middle new long first then n d low =
+    advances_after (get_or old n d) (get_or middle n d) (get_or new n d) (first n d low) (then n d (omega (arith, long, low)))
 
 pub frames_worked : (old new : List SeatView) → length new ≡ length old → AllWork old new → map frame_of new ≡ map frame_of old
 frames_worked old new long works = frames_same old new long (λ n d low. (works n d low).frame)

@@ -69,6 +69,16 @@ pub record Advances (old new : SeatView) : Type 0 where
   pub runs : Runs count old new
   pub none : count ≡ 0 → Rests old.core old.inbox
 
+-- some events, or none and nothing changed
+pub record Steps (old new : SeatView) : Type 0 where
+  pub count : ℕ
+  pub runs : Runs count old new
+  pub same : count ≡ 0 → new ≡ old
+
+-- so it is of each seat
+abbrev pub AllStep : List SeatView → List SeatView → Type 0
+AllStep old new = (n : ℕ) (d : SeatView) → n < length old → Steps (slice_index_or old n d) (slice_index_or new n d)
+
 -- the turns of one seat in a bout: it is spent, or has advanced
 pub record Works (old new : SeatView) : Type 0 where
   pub frame : frame_of new ≡ frame_of old

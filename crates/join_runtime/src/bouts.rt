@@ -6,7 +6,7 @@ ghost use Rattle.trace_law.specs.declared.setting.Setting.{Setting as Setting'};
 ghost use Rattle.trace_law.specs.Validity.{IsValid};
 ghost use Rattle.link_trace.specs.Families.{AreFronts};
 ghost use Rattle.join_runtime.specs.Views.{SeatView, frame_of};
-ghost use Rattle.join_runtime.specs.Turns.{AllWork, IsAlike};
+ghost use Rattle.join_runtime.specs.Turns.{AllStep, AllWork, IsAlike};
 ghost use Rattle.join_runtime.specs.Joins.{ActorsDiffer, AllLead, AreGathered, IsSlotOf, Tells, slot_of};
 ghost use Rattle.join_runtime.specs.Bouts.{AllAdvance, AllLive, AllRest, Extends, IsStill, NoneSpent, SomeReady, StandsFor, lists_in};
 ghost use Rattle.join_runtime.specs.Endings.{is_collected};
@@ -21,6 +21,51 @@ use std::thread;
 use std::thread::Threads;
 use trace_law::quiet_is_finished;
 use worker_gate::Gate;
+
+// How many rounds feeders and controller have ahead of the others in one bout.
+const ROUNDS: u32 = 4;
+
+// Turns of each feeder and of the controller, one after another.
+fn round_ahead<R: Wait, G: Gate>(
+    rt: &R,
+    seats: &mut [Seat],
+    gate: &G,
+) -> Result<(), AllocError>
+    ensures ok { OnOk result (AllStep seats.old seats.new) }
+    ensures frames { map frame_of seats.new ≡ map frame_of seats.old }
+{
+    for place in 0..seats.len() {
+        if seats[place].goes_ahead() {
+            seats[place].turns_ahead(rt, gate)?;
+        }
+    }
+    Ok(())
+}
+
+// Whether some seat knows of more messages than it can take in a bout.
+fn is_crowded(seats: &[Seat]) -> bool {
+    for seat in seats {
+        if seat.is_crowded() {
+            return true;
+        }
+    }
+    false
+}
+
+// Rounds of feeders and controller ahead of a bout, so that the threads of a bout have enough to do; none where some seat
+// has more than it can take.
+fn go_ahead<R: Wait, G: Gate>(rt: &R, seats: &mut [Seat], gate: &G) -> Result<(), AllocError>
+    ensures ok { OnOk result (AllStep seats.old seats.new) }
+    ensures frames { map frame_of seats.new ≡ map frame_of seats.old }
+{
+    if is_crowded(seats) {
+        return Ok(());
+    }
+    for _ in 0..ROUNDS {
+        round_ahead(rt, seats, gate)?;
+    }
+    Ok(())
+}
 
 // The turns of all seats, which are cut into as many chunks as there are workers.
 fn work<R: Threads + Wait + Sync, G: Gate>(rt: &R, seats: &mut [Seat], workers: u32, gate: &G)
@@ -119,6 +164,7 @@ fn bout_of<R: Threads + Wait + Sync, G: Gate>(
     if all_rest(seats) {
         return Ok(false);
     }
+    go_ahead(rt, seats, gate)?;
     work(rt, seats, workers, gate);
     if any_spent(seats) {
         return Err(AllocError);
@@ -151,15 +197,18 @@ impl<'a> Model for Seats<'a> {
 
     ghost coded = { Prim.hlevel (codes, formula_code (Prim.hlevel codes)) };
 
-    ghost view = { λ s. record { joiners = s.joiners; feeders = s.feeders; seats = s.seats.items; spent = s.spent } };
+    ghost view = { λ s. record { joiners = s.joiners; feeders = s.feeders; seats = s.seats.items;
+        spent = s.spent } };
 
-    ghost invariant = { λ s. AreJoined s.joiners s.feeders (map frame_of s.seats.items) × (s.spent ≡ false → AreSettled s.seats.items) };
+    ghost invariant = { λ s. AreJoined s.joiners s.feeders (map frame_of s.seats.items)
+        × (s.spent ≡ false → AreSettled s.seats.items) };
 }
 
-/// One bout: each seat has turns until it is idle or has had 256, in as many chunks side by side as there are workers;
-/// then the two ends of each link are held together. `Ok(false)`: nothing was left on any link, and no feeder would
-/// begin; then nothing changed, and of a valid input the collector is complete. After an error the seats are
-/// spent.
+/// One bout. First the feeders and the controller go ahead, in the calling thread and by 64 turns each at most, unless
+/// some seat knows of more messages than it can take. Then each seat has turns until it is idle or has had 256, in as many
+/// chunks side by side as there are workers; then the two ends of each link are held together. `Ok(false)`: nothing was
+/// left on any link, and no feeder would begin; then nothing changed, and of a valid input the collector is complete.
+/// After an error the seats are spent.
 pub fn bout<R: Threads + Wait + Sync, G: Gate>(
     rt: &R,
     seats: &mut Seats,

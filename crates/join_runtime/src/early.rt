@@ -49,13 +49,16 @@ impl From<AllocError> for EarlyFault {
 // Puts the lines of these pairs.
 fn put_lines<K: Sink>(alloc: Global, pairs: &[Pair], sink: &mut K) -> Result<(), EarlyFault>
     requires { K.faults sink.old < last_fault }
-    ensures written { OnOk result (K.written sink.new ≡ append_known (K.written sink.old) (pair_lines pairs.now)) }
-    ensures front { OnErr result (AppendsFront (K.written sink.old) (K.written sink.new) (pair_lines pairs.now)) }
+    ensures written { OnOk result (K.written sink.new
+        ≡ append_known (K.written sink.old) (pair_lines pairs.now)) }
+    ensures front { OnErr result
+        (AppendsFront (K.written sink.old) (K.written sink.new) (pair_lines pairs.now)) }
     ensures kept { result ≢ Err Write' → K.faults sink.new ≡ K.faults sink.old }
     ensures write { result ≡ Err Write' → K.faults sink.old < K.faults sink.new }
     ensures takes { (more : ℕ) → K.takes sink.old (length (pair_lines pairs.now) + more)
         → (result ≢ Err Write') × OnOk result (K.takes sink.new more) }
-    ensures left { PutsSome (K.written sink.old) (K.written sink.new) (K.takes sink.old) (K.takes sink.new) }
+    ensures left { PutsSome (K.written sink.old) (K.written sink.new)
+        (K.takes sink.old) (K.takes sink.new) }
 {
     let text = pairs_text(alloc, pairs)?;
     match put_all(sink, text.as_bytes()) {
@@ -92,7 +95,8 @@ pub fn run_early<R: Threads + Wait + Sync, G: Gate, K: Sink>(
     ensures takes { (more : ℕ)
         → K.takes sink.old (length (pair_lines (nested_loop input.now)) + more)
         → (result ≢ Err Write') × OnOk result (K.takes sink.new more) }
-    ensures left { PutsSome (K.written sink.old) (K.written sink.new) (K.takes sink.old) (K.takes sink.new) }
+    ensures left { PutsSome (K.written sink.old) (K.written sink.new)
+        (K.takes sink.old) (K.takes sink.new) }
 {
     limits_suffice();
     events_are_few();

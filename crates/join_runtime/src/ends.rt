@@ -35,7 +35,8 @@ impl Model for End {
 
     ghost Value = { EndView };
 
-    ghost view = { λ end. record { joiners = end.joiners; feeders = end.feeders; inbox = end.inbox; mouths = end.mouths.items } };
+    ghost view = { λ end. record { joiners = end.joiners; feeders = end.feeders; inbox = end.inbox;
+        mouths = end.mouths.items } };
 }
 
 /// What the finished seats of a run leave, by the numbers of actors.
@@ -51,7 +52,8 @@ impl Model for Ends {
 
     ghost Value = { EndsView };
 
-    ghost view = { λ ends. record { joiners = ends.joiners; feeders = ends.feeders; ends = ends.ends.items } };
+    ghost view = { λ ends. record { joiners = ends.joiners; feeders = ends.feeders;
+        ends = ends.ends.items } };
 }
 
 /// The answer of a run, and what its seats leave.

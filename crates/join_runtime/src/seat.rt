@@ -5,7 +5,7 @@ ghost use Rattle.link_trace.specs.declared.step.Step.TheVariants.{Took as Took',
 ghost use Rattle.link_trace.specs.Standing.{Waits, IsLive};
 ghost use Rattle.ruled_links.specs.Inboxes.{IsSameInbox, all_known};
 ghost use Rattle.join_runtime.specs.Views.{frame_of};
-ghost use Rattle.join_runtime.specs.Turns.{MakesEvent, Opens, Rests, Works};
+ghost use Rattle.join_runtime.specs.Turns.{MakesEvent, Opens, Rests, Steps, Works};
 ghost use Rattle.join_runtime.specs.Joins.{IsSlotOf, Tells};
 ghost use Rattle.join_runtime.specs.Bouts.{IsReady};
 ghost use Rattle.join_runtime.specs.Endings.{end_of, is_complete_core};
@@ -24,6 +24,9 @@ use worker_gate::{Gate, Spot};
 
 // The most turns of one seat in one bout.
 const TURNS: u64 = 256;
+
+// The most turns of a feeder or of the controller in one round ahead of the others.
+const TURNS_AHEAD: u64 = 16;
 
 /// An actor's machine with its inbox, and a mouth for each actor to which it sends.
 #[derive(Drop)]
@@ -49,7 +52,9 @@ impl<'a> Model for Seat<'a> {
 
     ghost coded = { Prim.hlevel (codes, formula_code (Prim.hlevel codes)) };
 
-    ghost view = { λ seat. record { joiners = seat.joiners; feeders = seat.feeders; actor = seat.actor; core = seat.core; inbox = seat.inbox; mouths = seat.mouths.items; spent = seat.spent } };
+    ghost view = { λ seat. record { joiners = seat.joiners; feeders = seat.feeders;
+        actor = seat.actor; core = seat.core; inbox = seat.inbox; mouths = seat.mouths.items;
+        spent = seat.spent } };
 }
 
 // Takes a message, or begins where there is none, and calls the machine.
@@ -101,7 +106,8 @@ impl<'a> Seat<'a> {
     ) -> Result<Seat<'a>, AllocError>
         requires { feeders + joiners + 2 < 2 ^ 32 }
         ensures seat { IfOk result
-            (λ seat. seat ≡ record { joiners = joiners; feeders = feeders; actor = actor; core = core.entry; inbox = inbox; mouths = seat.mouths; spent = false }) }
+            (λ seat. seat ≡ record { joiners = joiners; feeders = feeders; actor = actor;
+                core = core.entry; inbox = inbox; mouths = seat.mouths; spent = false }) }
         ensures mouths { IfOk result (λ seat. (n : ℕ) → slice_index_or seat.mouths n None ≡ None) }
     {
         let mouths = no_mouths(alloc, feeders + joiners + 2)?;
@@ -121,7 +127,8 @@ impl<'a> Seat<'a> {
     // Takes a mouth to the actor with this number.
     pub(crate) fn put_mouth(&mut self, receiver: usize, mouth: Mouth) -> Result<(), AllocError>
         ensures { OnOk result ((receiver < length self.old.mouths)
-            × (self.new ≡ record self.old { mouths = slice_set self.old.mouths receiver (Some mouth) })) }
+            × (self.new
+                ≡ record self.old { mouths = slice_set self.old.mouths receiver (Some mouth) })) }
     {
         if receiver < self.mouths.len() {
             self.mouths[receiver] = Some(mouth);
@@ -282,5 +289,37 @@ impl<'a> Seat<'a> {
                 Err(_) => return,
             }
         }
+    }
+
+    // Whether it is a feeder's or the controller's, which have turns ahead of the others.
+    pub(crate) fn goes_ahead(&self) -> bool {
+        match &self.core {
+            Core::Feeder(_) => true,
+            Core::Controller(_) => true,
+            _ => false,
+        }
+    }
+
+    // Whether more messages are known to be left for it than it can take in one bout.
+    pub(crate) fn is_crowded(&self) -> bool {
+        self.inbox.known() > TURNS
+    }
+
+    // The turns of one round ahead of the others: until the seat is idle or has had 16.
+    pub(crate) fn turns_ahead<R: Wait, G: Gate>(
+        &mut self,
+        rt: &R,
+        gate: &G,
+    ) -> Result<(), AllocError>
+        ensures ok { OnOk result (Steps self.old self.new) }
+        ensures frame { frame_of self.new ≡ frame_of self.old }
+    {
+        for round in 0..TURNS_AHEAD {
+            match self.turn(rt, gate)? {
+                Step::Took => {}
+                Step::Idle => return Ok(()),
+            }
+        }
+        Ok(())
     }
 }
