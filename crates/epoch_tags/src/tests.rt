@@ -1,4 +1,4 @@
-use crate::{Counts, Pair, Pairs, Tuple};
+use crate::{Counts, Held, Pair, Pairs, Tuple, all_down, are_all_up, is_up};
 use join_rows::{Bytes, Cell, Cells, Side};
 use std::test::Fail;
 
@@ -44,5 +44,41 @@ fn lists_keep_their_order(rt: HostRuntime) -> Result<(), Fail> {
     counts.push(4)?;
     let counts = counts.into_vec();
     assert_eq!(rt; counts.as_slice(), [9, 4].as_slice());
+    Ok(())
+}
+
+// Four messages of sender 1, which leave in the order in which they came.
+#[test]
+fn held_messages_leave_in_order(rt: HostRuntime) -> Result<(), Fail> {
+    let mut held: Held<u32> = Held::start(rt.alloc(), 2)?;
+    assert!(rt; held.is_empty(), "nothing yet");
+    held.hold(1, 5)?;
+    held.hold(1, 6)?;
+    held.hold(1, 7)?;
+    held.hold(1, 8)?;
+    assert_eq!(rt; held.count(), 4, "all");
+    assert_eq!(rt; held.first(1).copied(), Some(5), "first");
+    assert!(rt; held.is_clear(0) && !held.is_clear(1), "of each sender");
+    assert_eq!(rt; held.take_first(1), Some(5), "first taken");
+    assert_eq!(rt; held.take_first(1), Some(6), "second taken");
+    assert_eq!(rt; held.take_first(0), None, "of the other");
+    assert_eq!(rt; held.count(), 2, "left");
+    assert!(rt; !held.is_empty(), "two are left");
+    assert!(rt; held.first(2).is_none(), "no such sender");
+    Ok(())
+}
+
+#[test]
+fn flags_go_up_one_by_one(rt: HostRuntime) -> Result<(), Fail> {
+    let mut flags = all_down(rt.alloc(), 2)?;
+    assert!(rt; !is_up(&flags, 1), "down");
+    flags[1] = true;
+    assert!(rt;
+        is_up(&flags, 1) && !is_up(&flags, 2),
+        "up, and none past the end"
+    );
+    assert!(rt; !are_all_up(&flags), "one is down");
+    flags[0] = true;
+    assert!(rt; are_all_up(&flags), "all up");
     Ok(())
 }

@@ -1,0 +1,8 @@
+use Rattle.std.proofs.Common.{ap, ◌∙◌, ◌++◌, ◌∷◌, [], set}
+use Rattle.epoch_tags.proofs.Queues.{put-queue, at-queue}
+use Rattle.epoch_tags.proofs.held.Held.hold.Goals as goal
+
+pub returns-clause-ok : goal.returns-clause-ok
+returns-clause-ok g c =
+    put-queue (λ q. q.items) c.self.inside.queues.items c.args.sender c.push_behind.new.queue c.args.self.now c.self.view_is
+    ∙ ap (λ z. set c.args.self.now c.args.sender z) (c.in_ok-push_behind.ensures ∙ ap (λ z. z ++ c.args.m ∷ []) (at-queue (λ q. q.items) c.self.inside.queues.items c.args.sender c.index_mut-queue.result.now _ c.args.self.now c.self.view_is c.requires c.index_mut-queue.ensures.value))
