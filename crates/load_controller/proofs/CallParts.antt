@@ -8,12 +8,13 @@ use Rattle.epoch_tags.specs.declared.actor.Actor.TheVariants.{Controller}
 use Rattle.epoch_tags.specs.declared.message.Post.{Post}
 use Rattle.epoch_tags.specs.declared.message.ToController.{ToController}
 use Rattle.epoch_tags.specs.Posts.{GoesOver, AllGoOver, posted_to_feeder, for_feeder}
+use Rattle.epoch_tags.specs.Held.{held_at}
 use Rattle.load_controller.specs.declared.line.Cause.{Cause}
 use Rattle.load_controller.specs.declared.line.TurnLine.{TurnLine}
 use Rattle.load_controller.specs.declared.ledger.Ledger.{Ledger}
 use Rattle.load_controller.specs.Journal.{Rules, Follows, line_after}
 use Rattle.load_controller.specs.Law.{ControllerLists, CountsMessages, is_over, sent_by}
-use Rattle.load_controller.specs.Standing.{with_message, with_sent, held_at, posts_for, posts_by}
+use Rattle.load_controller.specs.Standing.{with_message, with_sent, posts_for, posts_by}
 use Rattle.epoch_tags.specs.Messages.{settled_epochs}
 use Rattle.load_controller.specs.Machine.{HoldsSettled, IsSound, StandsWithin, Advances, Took, CauseFits, CountsCause, rules_of, posts_of}
 use Rattle.load_controller.proofs.KeptCounts.{line_is, rules_kept}

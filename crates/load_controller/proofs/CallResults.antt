@@ -9,11 +9,12 @@ use Rattle.epoch_tags.specs.declared.actor.Actor.{Actor}
 use Rattle.epoch_tags.specs.declared.actor.Actor.TheVariants.{Feeder, Joiner, Controller, Collector}
 use Rattle.epoch_tags.specs.declared.message.ToController.{ToController}
 use Rattle.epoch_tags.specs.declared.message.ToController.TheVariants.{Ask, Drained, Settled}
+use Rattle.epoch_tags.specs.Held.{held_at}
 use Rattle.load_controller.specs.declared.line.Cause.{Cause}
 use Rattle.load_controller.specs.declared.ledger.Ledger.{Ledger}
 use Rattle.load_controller.specs.Journal.{line_after, has_drained, has_settled}
 use Rattle.load_controller.specs.Law.{IsInPlace}
-use Rattle.load_controller.specs.Standing.{IsPassedOver, held_at, journal_with, with_line, is_ready, lowest_ready, with_settled, with_next, with_held, with_all_held, is_in_place, counts_feeder, state_after}
+use Rattle.load_controller.specs.Standing.{IsPassedOver, journal_with, with_line, is_ready, lowest_ready, with_settled, with_next, with_held, with_all_held, is_in_place, counts_feeder, state_after}
 use Rattle.load_controller.specs.Machine.{IsSound, IsReady, IsStuck, HasPlace, rules_of, state_of, held_in_all}
 
 -- ---- the first number that passes

@@ -8,13 +8,14 @@ use Rattle.std.proofs.lemmas.Nat.{pow_pos}
 use Rattle.std.proofs.lemmas.List.Elements.{All-nil, All-cons}
 use Rattle.join_rows.specs.Lists.{counting_from}
 use Rattle.join_rows.proofs.RisingNumbers.{one_fails}
+use Rattle.epoch_tags.specs.Held.{held_at}
+use Rattle.epoch_tags.specs.Flags.{flag_at}
 use Rattle.load_controller.specs.declared.line.Cause.TheVariants.{Start}
 use Rattle.load_controller.specs.declared.line.TurnLine.{TurnLine}
 use Rattle.load_controller.specs.declared.ledger.Ledger.{Ledger}
 use Rattle.load_controller.specs.Journal.{Rules, Fits, start_line, has_drained, is_drain_of}
 use Rattle.load_controller.specs.Law.{is_over}
-use Rattle.load_controller.specs.Flags.{flag_at}
-use Rattle.load_controller.specs.Standing.{ControllerState, IsFresh, StandsFor, IsNearWhereStill, held_at, nothing_yet, rules_with}
+use Rattle.load_controller.specs.Standing.{ControllerState, IsFresh, StandsFor, IsNearWhereStill, nothing_yet, rules_with}
 use Rattle.load_controller.specs.Machine.{Begins, rules_of, state_of}
 use Rattle.load_controller.proofs.Bound.{fixed_within}
 use Rattle.load_controller.proofs.Numbers.{first_bounded, first_guided, near_line}

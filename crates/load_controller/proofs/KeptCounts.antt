@@ -9,13 +9,13 @@ use Rattle.std.proofs.Math.Pow.{pow_mono}
 use Rattle.std.proofs.lemmas.List.{reverse-append}
 use Rattle.std.proofs.lemmas.List.Elements.{All-push}
 use Rattle.join_rows.specs.Lists.{counting_from}
+use Rattle.epoch_tags.specs.Flags.{flag_at}
 use Rattle.load_controller.specs.declared.line.Cause.{Cause}
 use Rattle.load_controller.specs.declared.line.Cause.TheVariants.{Start, Count, Settle, Drain}
 use Rattle.load_controller.specs.declared.line.TurnLine.{TurnLine}
 use Rattle.load_controller.specs.declared.ledger.Ledger.{Ledger}
 use Rattle.load_controller.specs.Journal.{line_after, is_open, counted_r, counted_s, has_drained, since_begun, settled_count, is_settle, is_settle_of, is_drain_of}
 use Rattle.load_controller.specs.Law.{is_over}
-use Rattle.load_controller.specs.Flags.{flag_at}
 use Rattle.load_controller.specs.Next.{line_by, goal_by}
 use Rattle.load_controller.specs.Standing.{IsNearWhereStill}
 use Rattle.load_controller.specs.Machine.{IsSound, IsBounded, IsGuided, CauseFits, Notes, rules_of, opens_of}

@@ -11,12 +11,13 @@ use Rattle.epoch_tags.specs.declared.message.Post.{Post}
 use Rattle.epoch_tags.specs.declared.message.ToController.{ToController}
 use Rattle.epoch_tags.specs.declared.message.ToController.TheVariants.{Ask, Drained, Settled}
 use Rattle.epoch_tags.specs.Posts.{GoesOver}
+use Rattle.epoch_tags.specs.Held.{held_at}
 use Rattle.load_controller.specs.declared.line.Cause.TheVariants.{Settle}
 use Rattle.load_controller.specs.declared.line.TurnLine.{TurnLine}
 use Rattle.load_controller.specs.declared.ledger.Ledger.{Ledger}
 use Rattle.load_controller.specs.Journal.{has_drained, has_settled}
 use Rattle.load_controller.specs.Law.{IsInPlace, SettlesInPlace, cause_of}
-use Rattle.load_controller.specs.Standing.{ControllerState, TakesMessage, PassesOver, IsPassedOver, with_message, with_sent, held_at, posts_for, posts_by, with_all_held}
+use Rattle.load_controller.specs.Standing.{ControllerState, TakesMessage, PassesOver, IsPassedOver, with_message, with_sent, posts_for, posts_by, with_all_held}
 use Rattle.load_controller.specs.Machine.{IsSound, IsReady, IsStuck, StandsWithin, Advances, Took, HasPlace, CauseFits, CountsCause, rules_of, state_of}
 use Rattle.load_controller.proofs.CallResults.{placed_counts, line_state, same_left, stays_stuck, passed_stays}
 use Rattle.load_controller.proofs.Standings.{feeder_counted, held_counted, joiner_held, message_passed, as_own, within_of, stuck_of, stands_of}

@@ -11,12 +11,13 @@ use Rattle.epoch_tags.specs.declared.message.ToController.TheVariants.{Ask, Drai
 use Rattle.epoch_tags.specs.Messages.{settled_epochs}
 use Rattle.epoch_tags.specs.Posts.{posted_to_feeder}
 use Rattle.epoch_tags.proofs.Appends.{settled_epochs-append}
+use Rattle.epoch_tags.specs.Held.{held_at}
 use Rattle.load_controller.specs.declared.line.Cause.{Cause}
 use Rattle.load_controller.specs.declared.line.Cause.TheVariants.{Settle}
 use Rattle.load_controller.specs.declared.line.TurnLine.{TurnLine}
 use Rattle.load_controller.specs.Journal.{Rules, IsAllowed, line_after, counted_r, counted_s, is_count_of, is_drain_of, is_settle_of, has_drained}
 use Rattle.load_controller.specs.Law.{ControllerLists, CountsMessages, CountsOne, SettlesOne, AreCounted, AreSettled, IsInPlace, SettlesInPlace, cause_of, sent_by}
-use Rattle.load_controller.specs.Standing.{ControllerStart, ControllerState, StandsFor, grown, with_message, with_sent, held_at, IsPassedOver, posts_for}
+use Rattle.load_controller.specs.Standing.{ControllerStart, ControllerState, StandsFor, grown, with_message, with_sent, IsPassedOver, posts_for}
 use Rattle.load_controller.specs.Machine.{HoldsSettled, StandsWithin}
 use Rattle.load_controller.proofs.LinePosts.{posted_for}
 use Rattle.join_rows.proofs.Everywhere.{weaken}

@@ -11,6 +11,8 @@ use Rattle.epoch_tags.specs.declared.message.ToController.TheVariants.{Ask, Drai
 use Rattle.epoch_tags.specs.declared.message.ToFeeder.TheVariants.{Order, Stop}
 use Rattle.epoch_tags.specs.Messages.{settled_epochs}
 use Rattle.epoch_tags.specs.Posts.{AllGoOver}
+use Rattle.epoch_tags.specs.Held.{held_at}
+use Rattle.epoch_tags.specs.Flags.{flag_at}
 use Rattle.load_controller.specs.declared.line.Cause.{Cause}
 use Rattle.load_controller.specs.declared.line.Cause.TheVariants.{Start, Count, Settle, Drain}
 use Rattle.load_controller.specs.declared.line.TurnLine.{TurnLine}
@@ -18,8 +20,7 @@ use Rattle.load_controller.specs.declared.ledger.Ledger.{Ledger}
 use Rattle.load_controller.specs.Journal.{Rules, Follows, has_doubled, has_drained, has_settled, settled_count, is_settle, is_settle_of, is_drain_of}
 use Rattle.load_controller.specs.Law.{ControllerLists, CountsMessages, AreSettled, is_over, sent_by}
 use Rattle.load_controller.specs.Next.{line_by}
-use Rattle.load_controller.specs.Flags.{flag_at}
-use Rattle.load_controller.specs.Standing.{ControllerState, IsNearWhereStill, held_at, with_message, with_sent, to_each, grant_for, posts_by, with_all_held, state_after}
+use Rattle.load_controller.specs.Standing.{ControllerState, IsNearWhereStill, with_message, with_sent, to_each, grant_for, posts_by, with_all_held, state_after}
 
 -- the rules that the ledger keeps
 abbrev pub rules_of : Ledger → Rules

@@ -1,5 +1,5 @@
 -- What a controller's machine holds, and the lists for which it stands. Of those it stores its journal alone.
-use Rattle.std.specs.Prelude.{◌≡◌, ℕ, zero, suc, ◌+◌, ◌^◌, ◌<◌, ◌==◌, nat_lt, nat_le, ⊤, Bool, false, not, ◌&&◌, None, Some, Option, List, [], ◌∷◌, ◌++◌, drop, length, map, reverse, sum_by, slice_index_or, slice_set, if◌then◌else◌}
+use Rattle.std.specs.Prelude.{◌≡◌, ℕ, zero, suc, ◌+◌, ◌^◌, ◌<◌, ◌==◌, nat_lt, nat_le, ⊤, Bool, false, not, ◌&&◌, None, Some, Option, List, [], ◌∷◌, ◌++◌, drop, length, map, reverse, sum_by, slice_set, if◌then◌else◌}
 use Rattle.std.specs.List.{find}
 use Rattle.join_rows.specs.Lists.{IsPrefix, counting_from}
 use Rattle.grid_map.specs.Load.{IsNear}
@@ -12,6 +12,7 @@ use Rattle.epoch_tags.specs.declared.message.ToController.TheVariants.{Ask, Drai
 use Rattle.epoch_tags.specs.declared.message.ToFeeder.{ToFeeder}
 use Rattle.epoch_tags.specs.declared.message.ToFeeder.TheVariants.{Order, Grant, Stop}
 use Rattle.epoch_tags.specs.Posts.{AllGoOver, posted_to_feeder}
+use Rattle.epoch_tags.specs.Held.{held_at}
 use Rattle.load_controller.specs.declared.line.Cause.{Cause}
 use Rattle.load_controller.specs.declared.line.Cause.TheVariants.{Start, Count, Settle, Drain}
 use Rattle.load_controller.specs.declared.line.TurnLine.{TurnLine}
@@ -26,10 +27,6 @@ pub record ControllerState : Type 0 where
   pub held : List (List ℕ)
   -- memory was wanting in an earlier call
   pub spent : Bool
-
--- what is held of joiner j
-abbrev pub held_at : List (List ℕ) → ℕ → List ℕ
-held_at queues j = slice_index_or queues j []
 
 -- how a controller begins: its rules, and the first line of its journal
 pub record ControllerStart : Type 0 where

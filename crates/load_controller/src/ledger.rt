@@ -6,13 +6,12 @@ ghost use Rattle.load_controller.specs.Journal.{Fits};
 ghost use Rattle.load_controller.specs.Standing.{rules_with};
 ghost use Rattle.load_controller.specs.Machine.{Begins, IsSound, CauseFits, IsOfGrid, opens_of, Notes, CountsCause};
 
-use crate::flags::{all_down, are_all_up, note_drain, note_settle};
-use crate::held::Held;
 use crate::line::{Cause, Journal, TurnLine};
+use crate::marks::{note_drain, note_settle};
 use crate::next::next_line;
 use crate::post::post_line;
 use crate::trial::joiners;
-use epoch_tags::Sends;
+use epoch_tags::{Held, Sends, all_down, are_all_up};
 use std::alloc::{AllocError, Global};
 
 #[derive(Drop)]
@@ -30,7 +29,8 @@ pub(crate) struct Ledger {
     pub(crate) settled_count: u32,
     // All is over: `Stop` was sent.
     pub(crate) over: bool,
-    pub(crate) held: Held,
+    // Epochs that joiners said they have settled, and that wait.
+    pub(crate) held: Held<u32>,
 }
 
 impl Ledger {

@@ -2,11 +2,10 @@
 #![tactic(auto)]
 
 mod controller;
-mod flags;
-mod held;
 mod laws;
 mod ledger;
 mod line;
+mod marks;
 mod next;
 mod post;
 mod receive;

@@ -1,6 +1,7 @@
 // Held messages, which are tried again after each line.
 
-ghost use Rattle.std.specs.Prelude.{◌≡◌, ◌<◌, ◌≤◌, ◌^◌, ◌↔◌, ℕ, IsTrue, true, false, MatchOption, IfOk, OnOk};
+ghost use Rattle.std.specs.Prelude.{◌≡◌, ◌<◌, ◌≤◌, ◌^◌, ◌↔◌, ℕ, [], ◌∷◌, drop, IsTrue, true, false, MatchOption, IfOk, OnOk};
+ghost use Rattle.epoch_tags.specs.Held.{held_at};
 ghost use Rattle.load_controller.specs.Machine.{IsSound, IsReady, IsStuck, Advances, held_in_all};
 
 use crate::ledger::Ledger;
@@ -17,6 +18,17 @@ pub(crate) fn joiners(k: u32) -> u32
 }
 
 impl Ledger {
+    // The epoch held first of a joiner.
+    fn first_held(&self, joiner: usize) -> Option<u32>
+        ensures { MatchOption result (held_at self.now.held joiner ≡ []) (λ epoch.
+            held_at self.now.held joiner ≡ epoch ∷ drop 1 (held_at self.now.held joiner)) }
+    {
+        match self.held.first(joiner) {
+            Some(epoch) => Some(*epoch),
+            None => None,
+        }
+    }
+
     // Whether the first message held of a joiner is in place.
     fn is_ready(&self, joiner: u32) -> bool
         requires { IsSound self.now }
@@ -26,7 +38,7 @@ impl Ledger {
         if !self.line.moving || at >= self.settled.len() || self.settled[at] {
             return false;
         }
-        match self.held.first(at) {
+        match self.first_held(at) {
             Some(epoch) => epoch == self.line.epoch,
             None => false,
         }
@@ -55,7 +67,7 @@ impl Ledger {
         ensures took { OnOk result (Advances self.old self.new sends.old sends.new) }
         ensures fewer { OnOk result (held_in_all self.new < held_in_all self.old) }
     {
-        self.held.drop_first(joiner as usize);
+        let _ = self.held.take_first(joiner as usize);
         self.count(Cause::Settle { joiner }, sends)?;
         Ok(())
     }

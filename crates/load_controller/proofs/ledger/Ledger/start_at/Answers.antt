@@ -8,6 +8,6 @@ returns c =
     refl refl refl refl
     (c.journal.view_is ∙ c.in_ok-push.ensures.ok ∙ ap (λ lines. lines ++ c.args.line ∷ []) c.new-journal.ensures)
     refl refl
-    c.in_ok-all_down.ensures.len c.in_ok-all_down.ensures.down
-    (c.in_ok-all_down-2.ensures.len ∙ c.joiners-joiners.ensures) c.in_ok-all_down-2.ensures.down
-    (c.in_ok-start.ensures.len ∙ c.joiners-joiners.ensures) c.in_ok-start.ensures.empty
+    c.in_ok-all_down.ensures.count c.in_ok-all_down.ensures.down
+    (c.in_ok-all_down-2.ensures.count ∙ c.joiners-joiners.ensures) c.in_ok-all_down-2.ensures.down
+    (c.in_ok-start.ensures.count ∙ c.joiners-joiners.ensures) c.in_ok-start.ensures.empty

@@ -1,33 +1,11 @@
-// Marks, one for each feeder or joiner.
+// Marks of the feeders that have drained and of the joiners that have settled.
 
-ghost use Rattle.std.specs.Prelude.{◌≡◌, ◌<◌, ◌+◌, ◌^◌, ◌||◌, ℕ, true, false, length, IfOk, if◌then◌else◌};
-ghost use Rattle.std.specs.List.{list_all};
-ghost use Rattle.load_controller.specs.Flags.{flag_at};
+ghost use Rattle.std.specs.Prelude.{◌≡◌, ◌<◌, ◌+◌, ◌^◌, ◌||◌, ℕ, true, false, length, if◌then◌else◌};
+ghost use Rattle.epoch_tags.specs.Flags.{flag_at};
 ghost use Rattle.load_controller.specs.Journal.{is_drain_of, is_settle_of, is_settle};
 ghost use Rattle.load_controller.specs.Machine.{IsOfGrid};
 
 use crate::line::Cause;
-use std::alloc::{AllocError, Global};
-
-// So many marks, all down.
-pub(crate) fn all_down(alloc: Global, count: u32) -> Result<Vec<bool>, AllocError>
-    ensures len { IfOk result (λ flags. length flags.items ≡ count) }
-    ensures down { IfOk result (λ flags. (i : ℕ) → flag_at flags.items i ≡ false) }
-{
-    let mut flags = Vec::new(alloc);
-    for i in 0..count {
-        let _ = i;
-        flags.push(false)?;
-    }
-    Ok(flags)
-}
-
-// Whether all marks are up.
-pub(crate) fn are_all_up(flags: &Vec<bool>) -> bool
-    ensures { result ≡ list_all (λ up. up) flags.now.items }
-{
-    flags.iter().all(|up| *up)
-}
 
 // Takes all marks down.
 fn take_down(flags: &mut Vec<bool>)
