@@ -9,11 +9,12 @@ use Rattle.epoch_tags.specs.declared.message.Post.{Post}
 use Rattle.epoch_tags.specs.declared.message.ToJoiner.{ToJoiner}
 use Rattle.epoch_tags.specs.declared.message.ToCollector.{ToCollector}
 use Rattle.epoch_tags.specs.Messages.{pairs_found}
+use Rattle.epoch_tags.specs.Held.{held_at}
 use Rattle.joiner_law.specs.Law.{JoinerStart, JoinerLists, Taken}
 use Rattle.joiner_law.specs.History.{Step}
 use Rattle.joiner_law.specs.Standing.{grown, pairs_sent, ArePairs, AreSent, AreSteps}
 use Rattle.joiner_law.proofs.LongerLists.{grown-same, grown-other}
-use Rattle.joiner_core.specs.State.{held_at, HasRow, OpenStep, EpochState, MachineState}
+use Rattle.joiner_core.specs.State.{HasRow, OpenStep, EpochState, MachineState}
 use Rattle.joiner_core.proofs.Fitting.{same-rows, rows-held}
 use Rattle.joiner_core.specs.Taking.{StandsBy, Stands, TookOfFeeder, TookOfJoiner, TakesOfFeeder, TakesOfJoiner}
 use Rattle.joiner_core.specs.Machine.{IsSound, Accepts}

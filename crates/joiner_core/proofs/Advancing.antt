@@ -8,10 +8,11 @@ use Rattle.epoch_tags.specs.declared.actor.Actor.TheVariants.{Feeder, Joiner as 
 use Rattle.epoch_tags.specs.declared.tuple.Pair.{Pair}
 use Rattle.epoch_tags.specs.declared.message.Post.{Post}
 use Rattle.epoch_tags.specs.declared.message.ToJoiner.{ToJoiner}
+use Rattle.epoch_tags.specs.Held.{held_at}
 use Rattle.joiner_law.specs.Law.{JoinerLists}
 use Rattle.joiner_law.specs.Standing.{with_sent}
 use Rattle.joiner_law.proofs.LongerLists.{grown-same, grown-other}
-use Rattle.joiner_core.specs.State.{held_at, EpochState, MachineState}
+use Rattle.joiner_core.specs.State.{EpochState, MachineState}
 use Rattle.joiner_core.proofs.Fitting.{same-rows, rows-taken}
 use Rattle.joiner_core.specs.Taking.{IsFixed, TookOfFeeder, TookOfJoiner, TakesOfJoiner}
 use Rattle.joiner_core.specs.Machine.{StandsWithin, IsResting, Advances, IsSound, IsReadyOfJoiner, TookHeld}

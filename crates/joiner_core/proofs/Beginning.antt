@@ -6,10 +6,11 @@ use Rattle.join_rows.specs.Lists.{SameBag, gather}
 use Rattle.join_rows.proofs.Bags.{SameBag-refl}
 use Rattle.epoch_tags.specs.declared.tuple.Tuple.{Tuple}
 use Rattle.epoch_tags.specs.declared.message.ToJoiner.{ToJoiner}
+use Rattle.epoch_tags.specs.Flags.{flag_at}
 use Rattle.joiner_law.specs.Law.{Taken, pairs_by}
 use Rattle.joiner_law.specs.History.{Step}
 use Rattle.joiner_law.specs.Standing.{StandsSettled}
-use Rattle.joiner_core.specs.Changes.{flag_at, IsReady}
+use Rattle.joiner_core.specs.Changes.{IsReady}
 use Rattle.joiner_core.specs.State.{does_hold, IsStock, Stocked, OpenStep, MachineState}
 use Rattle.theta_pred.specs.Formula.{Meaning}
 use Rattle.joiner_core.proofs.Fitting.{rows-none}
@@ -81,7 +82,7 @@ closed-start k id shift epoch feeders theta base m low made = record {
 none-stuck : (queue : List ToJoiner) (x : ToJoiner) (rest : List ToJoiner) → queue ≡ [] → queue ≡ x ∷ rest → ⊥
 none-stuck queue x rest none is = let a = ap length none in let b : length queue ≡ length (x ∷ rest) = ap length is in absurd (omega arith)
 
-pub made-sound : (k id shift epoch feeders : ℕ) (theta : Meaning) (base : Stocked) (m : MachineState) → k < 9 → shift ≤ k → id < 2 ^ k → IsStock theta base → IsMade k id shift epoch feeders theta base m → IsSound m
+pub made-sound : (k id shift epoch feeders : ℕ) (theta : Meaning) (base : Stocked) (m : MachineState) → k ≤ 8 → shift ≤ k → id < 2 ^ k → IsStock theta base → IsMade k id shift epoch feeders theta base m → IsSound m
 made-sound k id shift epoch feeders theta base m small low few stock made =
     let same_k = made.at_k in
     let same_shift = made.at_shift in
@@ -104,7 +105,7 @@ made-sound k id shift epoch feeders theta base m small low few stock made =
       joiner_rows = rows-none m.epochs.theta m.of_joiners made.no_joiners;
     }
 
-pub made-stands : (k id shift epoch feeders : ℕ) (theta : Meaning) (base : Stocked) (m : MachineState) → k < 9 → shift ≤ k → id < 2 ^ k → 0 < feeders → AllByRecursion (λ (x : Tuple). x.stamp ≤ epoch) base.tuples → IsStock theta base
+pub made-stands : (k id shift epoch feeders : ℕ) (theta : Meaning) (base : Stocked) (m : MachineState) → k ≤ 8 → shift ≤ k → id < 2 ^ k → 0 < feeders → AllByRecursion (λ (x : Tuple). x.stamp ≤ epoch) base.tuples → IsStock theta base
     → IsMade k id shift epoch feeders theta base m → StandsBetween (start_of k id shift epoch feeders theta base.tuples) nothing_yet m
 made-stands k id shift epoch feeders theta base m small low few some older stock made =
     let sound = made-sound k id shift epoch feeders theta base m small low few stock made in

@@ -11,8 +11,9 @@ use Rattle.epoch_tags.specs.declared.actor.Actor.TheVariants.{Feeder, Joiner as 
 use Rattle.epoch_tags.specs.declared.message.Post.{Post}
 use Rattle.epoch_tags.specs.declared.message.ToJoiner.{ToJoiner}
 use Rattle.epoch_tags.specs.Links.{HasLink, feeder_joiner, joiner_joiner, controller_feeder, feeder_controller, joiner_controller, joiner_collector}
+use Rattle.epoch_tags.specs.Held.{held_at}
 use Rattle.joiner_law.specs.Law.{JoinerStart, JoinerLists}
-use Rattle.joiner_core.specs.State.{held_at, DifferInOneBit, EpochState, MachineState}
+use Rattle.joiner_core.specs.State.{DifferInOneBit, EpochState, MachineState}
 use Rattle.joiner_law.specs.Standing.{with_sent}
 use Rattle.joiner_core.specs.Machine.{StandsBetween, Receives, IsOfGrid, IsSound, with_message}
 use Rattle.joiner_core.specs.Standing.{JoinerState, IsSpent, StandsFor, TakesMessage, held_number}
@@ -115,7 +116,7 @@ pub no-collector : (k feeders id : ℕ) → HasLink k feeders Collector (Joiner'
 no-collector k feeders id link = linked k feeders Collector (Joiner' id) link
 
 -- an id past the grid has no link
-pub no-id : (k feeders id : ℕ) (from : Actor) → k < 9 → 2 ^ k ≤ id → HasLink k feeders from (Joiner' id) → ⊥
+pub no-id : (k feeders id : ℕ) (from : Actor) → k ≤ 8 → 2 ^ k ≤ id → HasLink k feeders from (Joiner' id) → ⊥
 no-id k feeders id (Feeder p) small high link = let low = (no-feeder k feeders p id link).1 in absurd (omega arith)
 no-id k feeders id (Joiner' q) small high link =
     let is = no-joiner k feeders q id link in

@@ -5,11 +5,13 @@ use Rattle.std.proofs.lemmas.List.{length-append}
 use Rattle.epoch_tags.specs.declared.tuple.Pair.{Pair}
 use Rattle.epoch_tags.specs.declared.message.ToJoiner.{ToJoiner}
 use Rattle.epoch_tags.specs.Messages.{moved_ends}
+use Rattle.epoch_tags.specs.Flags.{IsEachUp}
+use Rattle.epoch_tags.specs.Held.{held_at}
 use Rattle.joiner_law.specs.Law.{JoinerStart, JoinerLists, Taken, partner_of, opened, IsSettled, IsAtRest, IsFinished}
 use Rattle.joiner_law.specs.History.{Step}
 use Rattle.joiner_law.specs.Standing.{one_if, AreParts}
-use Rattle.joiner_core.specs.Changes.{IsEachUp, IsReady}
-use Rattle.joiner_core.specs.State.{held_at, OpenStep, EpochState, MachineState}
+use Rattle.joiner_core.specs.Changes.{IsReady}
+use Rattle.joiner_core.specs.State.{OpenStep, EpochState, MachineState}
 use Rattle.joiner_core.specs.Taking.{IsClosed, IsOpen, StandsBy, Stands, HasSomeTurn}
 use Rattle.joiner_core.specs.Machine.{IsResting, StandsBetween, HasFinished}
 use Rattle.joiner_core.proofs.Keeping.{append-nil}

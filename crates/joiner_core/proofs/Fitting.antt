@@ -6,9 +6,10 @@ use Rattle.std.proofs.lemmas.List.Elements.{All-nil, All-append, All-filter, All
 use Rattle.join_rows.specs.declared.table.Side.TheVariants.{R, S}
 use Rattle.epoch_tags.specs.declared.tuple.Tuple.{Tuple}
 use Rattle.epoch_tags.specs.declared.message.ToJoiner.{ToJoiner}
+use Rattle.epoch_tags.specs.Held.{held_at}
 use Rattle.migration_plan.specs.Steps.{holds, is_of}
 use Rattle.theta_pred.specs.Formula.{Meaning}
-use Rattle.joiner_core.specs.State.{held_at, Stocked, placed, with_placed, kept_stock, IsRow, AreRows, IsStock, HasRow, HoldsRows, OpenStep, EpochState}
+use Rattle.joiner_core.specs.State.{Stocked, placed, with_placed, kept_stock, IsRow, AreRows, IsStock, HasRow, HoldsRows, OpenStep, EpochState}
 use Rattle.joiner_core.specs.Changes.{kept_at_end, open_old, step_new, part_by, HasBegun, HasTurned}
 use Rattle.joiner_core.specs.Taking.{IsStepStock}
 

@@ -20,13 +20,14 @@ use Rattle.joiner_law.proofs.MovedBySteps.{count-bag}
 use Rattle.joiner_law.proofs.TakenTuples.{settled-tup, open-late, open-tup, open-moved}
 use Rattle.joiner_law.proofs.TakenTurns.{opened-step, open-turn, all-turned, settled-end, open-moved_end, settled-step}
 use Rattle.joiner_core.specs.State.{does_hold, placed, with_placed, IsRow, IsStock, OpenStep, EpochState}
-use Rattle.joiner_core.specs.Changes.{flag_at, IsEachUp, after_old, found_old, posts_old, late_found, late_posts, open_old, opened_late, found_late, posts_late, with_new, after_new, found_new, step_new, new_found, IsOpened, posts_opened, settled_by, IsReady, turned_in, settle_posts, posts_settled, after_settle, HasTurned, AreAllUp, end_posts, posts_turned, HasBegun, begun_posts}
+use Rattle.joiner_core.specs.Changes.{after_old, found_old, posts_old, late_found, late_posts, open_old, opened_late, found_late, posts_late, with_new, after_new, found_new, step_new, new_found, IsOpened, posts_opened, settled_by, IsReady, turned_in, settle_posts, posts_settled, after_settle, HasTurned, AreAllUp, end_posts, posts_turned, HasBegun, begun_posts}
 use Rattle.joiner_core.specs.Taking.{IsMachineOf, IsClosed, IsOpen, StandsBy, Stands, IsStepStock, IsWithin, IsFixed, IsStepWithin, IsCounted, HasSomeTurn, TupFits, CanTakeTup, TurnFits, CanTakeTurn, TookOfFeeder}
 use Rattle.theta_pred.specs.Formula.{Meaning}
 use Rattle.joiner_core.proofs.Fitting.{stock-placed, stock-old, stock-new, stock-begun, stock-turned}
 use Rattle.joiner_core.proofs.Posting.{own-none, own-append, own-late, own-begun, own-turned, own-settled, own-before}
 use Rattle.joiner_core.proofs.Bagging.{settled-placed, open-placed, both-placed}
 use Rattle.epoch_tags.specs.declared.message.Post.{Post}
+use Rattle.epoch_tags.specs.Flags.{flag_at, IsEachUp}
 
 pub append-nil : {A : Type 0} (xs : List A) → xs ++ [] ≡ xs
 append-nil [] = refl
@@ -616,12 +617,12 @@ turned-some n p None step' low has is = subst (λ (z : Option OpenStep). HasSome
 turned-some n p (Some o) None low has is = absurd has
 turned-some n p (Some o) (Some o') low has is = (p, low, ap (λ fs. flag_at fs p) has.1 ∙ get_or-set_same o.turned p true false (omega arith))
 
-settled-within-step : (m : EpochState) (step : Option OpenStep) → IsReady step → m.k < 9 → IsStepWithin m.k m.shift step → length m.ended ≡ m.feeders → m.id < 2 ^ m.k → IsStepStock m.theta step → IsWithin (settled_by m step)
+settled-within-step : (m : EpochState) (step : Option OpenStep) → IsReady step → m.k ≤ 8 → IsStepWithin m.k m.shift step → length m.ended ≡ m.feeders → m.id < 2 ^ m.k → IsStepStock m.theta step → IsWithin (settled_by m step)
 settled-within-step m None ready small step ended id stock = absurd ready
 settled-within-step m (Some o) ready small step ended id stock = record { small = small; shift = step.0; step = tt; ended = ended; count = tt; begun = tt; rests = λ never. never; id = id; stock = stock; step_stock = tt }
 
 pub settled-within : (m : EpochState) (ready : Bool) → (ready ≡ true → IsReady m.step) → (ready ≡ false → IsReady m.step → ⊥)
-    → m.k < 9 → m.shift ≤ m.k → IsStepWithin m.k m.shift m.step → length m.ended ≡ m.feeders → IsCounted m.feeders m.step → HasSomeTurn m.feeders m.step
+    → m.k ≤ 8 → m.shift ≤ m.k → IsStepWithin m.k m.shift m.step → length m.ended ≡ m.feeders → IsCounted m.feeders m.step → HasSomeTurn m.feeders m.step
     → m.id < 2 ^ m.k → IsStock m.theta m.store → IsStepStock m.theta m.step → IsWithin (after_settle ready m)
 settled-within m true settles not_yet small low step ended count begun id stock step_stock = settled-within-step m m.step (settles refl) small step ended id step_stock
 settled-within m false settles not_yet small low step ended count begun id stock step_stock = record { small = small; shift = low; step = step; ended = ended; count = count; begun = begun; rests = not_yet refl; id = id; stock = stock; step_stock = step_stock }

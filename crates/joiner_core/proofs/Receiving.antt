@@ -6,12 +6,13 @@ use Rattle.epoch_tags.specs.declared.tuple.Tuple.{Tuple}
 use Rattle.epoch_tags.specs.declared.tuple.Pair.{Pair}
 use Rattle.epoch_tags.specs.declared.message.Post.{Post}
 use Rattle.epoch_tags.specs.declared.message.ToJoiner.TheVariants.{End, Moved, MovedEnd}
+use Rattle.epoch_tags.specs.Flags.{flag_at}
 use Rattle.joiner_law.specs.Law.{JoinerStart, JoinerLists, Taken}
 use Rattle.joiner_law.specs.History.{Step}
 use Rattle.joiner_law.specs.Standing.{took_of_feeder, took_of_joiner, with_sent, IsOfFeeder, StandsOpen}
 use Rattle.migration_plan.specs.Steps.{partner_in_step}
 use Rattle.joiner_law.proofs.TakenTurns.{open-end}
-use Rattle.joiner_core.specs.Changes.{flag_at, after_moved, found_moved, moved_found, step_new, with_new, part_by, after_part, IsReady, posts_settled, after_settle}
+use Rattle.joiner_core.specs.Changes.{after_moved, found_moved, moved_found, step_new, with_new, part_by, after_part, IsReady, posts_settled, after_settle}
 use Rattle.joiner_core.specs.State.{OpenStep, EpochState, IsRow}
 use Rattle.joiner_core.specs.Taking.{IsMachineOf, IsOpen, StandsBy, Stands, IsWithin, IsFixed, IsStepWithin, IsCounted, HasSomeTurn, TookOfFeeder, TookOfJoiner, PartFits}
 use Rattle.joiner_core.proofs.Fitting.{stock-part}

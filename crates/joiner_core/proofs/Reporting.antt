@@ -15,12 +15,13 @@ use Rattle.std.proofs.lemmas.Bool.{false≢true}
 use Rattle.std.proofs.lemmas.List.Elements.{filter_map-append}
 use Rattle.epoch_tags.specs.declared.message.ToCollector.TheVariants.{Found}
 use Rattle.epoch_tags.specs.declared.actor.Actor.TheVariants.{Feeder, Joiner as Joiner', Controller, Collector}
-use Rattle.joiner_core.specs.Changes.{IsEachUp}
 use Rattle.epoch_tags.specs.Posts.{for_collector, posted_to_joiner, posted_to_controller, posted_to_collector}
+use Rattle.epoch_tags.specs.Flags.{IsEachUp}
+use Rattle.epoch_tags.specs.Held.{held_at}
 use Rattle.joiner_law.specs.Law.{JoinerStart, JoinerLists, Taken, pairs_by, received_count}
 use Rattle.joiner_law.specs.History.{all_found}
 use Rattle.joiner_law.specs.Standing.{with_sent, pairs_sent}
-use Rattle.joiner_core.specs.State.{held_at, OpenStep, EpochState, MachineState}
+use Rattle.joiner_core.specs.State.{OpenStep, EpochState, MachineState}
 use Rattle.joiner_core.specs.Taking.{StandsBy, Stands, HasSomeTurn, IsFixed}
 use Rattle.joiner_core.proofs.Advancing.{fixed-then}
 use Rattle.joiner_core.specs.Machine.{StandsWithin, StandsBetween, IsStart, Collects, IsResting, IsOfGrid, Advances, IsSound, IsStuck, Accepts, Receives, TellsFin, HasFinished, with_message, found_posts, fin_posts, fin_of, StandInOrder, AreTried, IsLastAtMost, post_to_collector}

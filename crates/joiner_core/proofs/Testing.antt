@@ -6,10 +6,10 @@ use Rattle.epoch_tags.specs.declared.tuple.Pair.{Pair}
 use Rattle.epoch_tags.specs.declared.message.ToJoiner.{ToJoiner}
 use Rattle.epoch_tags.specs.declared.message.ToJoiner.TheVariants.{Tup, Turn, End, Moved, MovedEnd}
 use Rattle.epoch_tags.specs.Messages.{turns, moved_ends}
+use Rattle.epoch_tags.specs.Flags.{flag_at}
 use Rattle.migration_plan.specs.Steps.{AreNeighbours, partner_in_step}
 use Rattle.joiner_law.specs.Law.{JoinerStart, JoinerLists, Taken, partner_of, shift_after, opened, CanTakeOfFeeder, CanTakeOfJoiner, IsOpenPart}
 use Rattle.joiner_law.specs.Standing.{one_if}
-use Rattle.joiner_core.specs.Changes.{flag_at}
 use Rattle.joiner_core.specs.State.{OpenStep, EpochState}
 use Rattle.joiner_core.specs.Taking.{IsMachineOf, IsClosed, IsOpen, StandsBy, Stands, TupFits, TurnFits, HasSomeTurn, PartFits, TakesOfFeeder, TakesOfJoiner}
 use Rattle.joiner_core.proofs.Keeping.{partner-is}

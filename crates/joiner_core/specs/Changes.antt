@@ -1,21 +1,14 @@
 -- What each call does to the machine, as functions of its state.
-use Rattle.std.specs.Prelude.{◌≡◌, ℕ, ◌<◌, Bool, true, false, List, length, slice_index_or, cond, slice_set, count_by, Option, Some, None, [], ◌∷◌, ◌++◌, map, filter}
+use Rattle.std.specs.Prelude.{◌≡◌, ℕ, Bool, true, false, List, length, cond, slice_set, count_by, Option, Some, None, [], ◌∷◌, ◌++◌, map, filter}
 use Rattle.join_rows.specs.declared.table.Side.{Side}
 use Rattle.epoch_tags.specs.declared.tuple.Tuple.{Tuple}
 use Rattle.epoch_tags.specs.declared.tuple.Pair.{Pair}
 use Rattle.epoch_tags.specs.declared.message.Post.{Post}
+use Rattle.epoch_tags.specs.Flags.{flag_at, IsEachUp}
 use Rattle.migration_plan.specs.Steps.{holds, is_of, exchanged_side, partner_in_step}
 use Rattle.joiner_law.specs.History.{probed, all_tuples, only_stamp}
 use Rattle.joiner_law.specs.Posting.{moved_post, moved_end_post, settled_post}
 use Rattle.joiner_core.specs.State.{does_hold, placed, with_placed, kept_stock, OpenStep, EpochState}
-
--- the flag of that number; it is down where there is none
-abbrev pub flag_at : List Bool → ℕ → Bool
-flag_at flags p = slice_index_or flags p false
-
--- all flags are up
-abbrev pub IsEachUp : List Bool → Type 0
-IsEachUp flags = (p : ℕ) → p < length flags → flag_at flags p ≡ true
 
 -- a list to which the tuple was added if it is kept
 abbrev pub kept_at_end : Bool → Tuple → List Tuple → List Tuple
@@ -110,7 +103,7 @@ pub record IsOpened (m : EpochState) (e b : ℕ) (o : OpenStep) : Type 0 where
   pub epoch : o.epoch ≡ e
   pub shift : o.shift ≡ b
   pub count : length o.turned ≡ m.feeders
-  pub turned : (p : ℕ) → slice_index_or o.turned p false ≡ false
+  pub turned : (p : ℕ) → flag_at o.turned p ≡ false
   pub store : o.store ≡ kept_stock m.k b m.id m.store
   pub partner_ended : o.partner_ended ≡ false
 

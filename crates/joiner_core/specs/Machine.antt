@@ -10,8 +10,7 @@ use Rattle.epoch_tags.specs.declared.message.Msg.TheVariants.{Collector as Colle
 use Rattle.epoch_tags.specs.declared.message.ToCollector.TheVariants.{Found, Fin}
 use Rattle.join_rows.specs.declared.table.Side.TheVariants.{R, S}
 use Rattle.migration_plan.specs.Steps.{is_of}
-use Rattle.joiner_core.specs.Changes.{IsEachUp, flag_at}
-use Rattle.joiner_core.specs.State.{does_hold, HoldsRows, held_at, BeginsWith, Stocked, EpochState, MachineState}
+use Rattle.joiner_core.specs.State.{does_hold, HoldsRows, Stocked, EpochState, MachineState}
 use Rattle.theta_pred.specs.Formula.{Meaning}
 use Rattle.epoch_tags.specs.declared.tuple.Tuple.{Tuple}
 use Rattle.joiner_law.specs.Law.{JoinerStart, JoinerLists, Taken, CanTakeOfFeeder, CanTakeOfJoiner, IsTakenOf, received_count}
@@ -19,6 +18,8 @@ use Rattle.joiner_law.specs.Standing.{grown, with_sent}
 use Rattle.joiner_core.specs.Taking.{IsWithin, IsFixed, AreOwnPosts, TakesOfFeeder, TakesOfJoiner, Stands}
 use Rattle.epoch_tags.specs.declared.actor.Actor.{Actor}
 use Rattle.epoch_tags.specs.declared.actor.Actor.TheVariants.{Feeder, Joiner as Joiner', Controller, Collector}
+use Rattle.epoch_tags.specs.Flags.{IsEachUp, flag_at}
+use Rattle.epoch_tags.specs.Held.{held_at, BeginsWith}
 use Rattle.joiner_core.specs.declared.machine.Machine.{Machine}
 
 -- what the code's machine holds

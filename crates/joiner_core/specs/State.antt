@@ -1,5 +1,5 @@
 -- What a joiner holds: tuples of the predicate's widths, its epochs, and messages held, link by link.
-use Rattle.std.specs.Prelude.{Bool, ◌≡◌, ℕ, ◌<◌, ◌^◌, bit_xor, List, [], ◌∷◌, slice_index_or, Option, option_map, ◌++◌, filter, ⊤, All}
+use Rattle.std.specs.Prelude.{Bool, ◌≡◌, ℕ, ◌<◌, ◌^◌, bit_xor, List, [], ◌∷◌, Option, option_map, ◌++◌, filter, ⊤, All}
 use Rattle.epoch_tags.specs.declared.tuple.Tuple.{Tuple}
 use Rattle.theta_pred.specs.Formula.{Meaning}
 use Rattle.theta_pred.specs.Truth.{holds as is_true}
@@ -17,6 +17,7 @@ use Rattle.epoch_tags.specs.declared.message.Msg.{Msg}
 use Rattle.epoch_tags.specs.declared.message.Msg.TheVariants.{Joiner, Feeder, Controller, Collector}
 use Rattle.epoch_tags.specs.declared.message.Post.{Post}
 use Rattle.epoch_tags.specs.Posts.{GoesOver}
+use Rattle.epoch_tags.specs.Held.{held_at}
 use Rattle.epoch_tags.specs.declared.message.ToJoiner.TheVariants.{Tup, Turn, End, Moved, MovedEnd}
 use Rattle.store_parts.specs.Matches.{HasWidth}
 
@@ -31,15 +32,7 @@ abbrev pub named_by : Which → Tuple → Bool
 named_by All' = all_tuples
 named_by (OnlyStamp stamp) = only_stamp stamp
 
--- ---- messages held, link by link
-
--- what is held of a sender
-abbrev pub held_at : List (List ToJoiner) → ℕ → List ToJoiner
-held_at queues sender = slice_index_or queues sender []
-
--- the message is the first that is held
-abbrev pub BeginsWith : ToJoiner → List ToJoiner → Type 0
-BeginsWith m queue = (rest : List ToJoiner) × (queue ≡ m ∷ rest)
+-- ---- links
 
 -- the ids differ in one bit
 pub record DifferInOneBit (k from to : ℕ) : Type 0 where

@@ -5,13 +5,14 @@ use Rattle.joiner_law.specs.Law.{JoinerStart, JoinerLists, Taken}
 use Rattle.joiner_law.specs.History.{Step}
 use Rattle.joiner_law.specs.Standing.{StandsSettled, StandsOpen, moved_counts, grown, with_sent}
 use Rattle.joiner_core.specs.State.{does_hold, IsStock, IsOwnPost, OpenStep, EpochState}
-use Rattle.joiner_core.specs.Changes.{flag_at, IsReady}
+use Rattle.joiner_core.specs.Changes.{IsReady}
 use Rattle.epoch_tags.specs.declared.message.Post.{Post}
 use Rattle.epoch_tags.specs.declared.message.ToJoiner.{ToJoiner}
 use Rattle.migration_plan.specs.Steps.{AreNeighbours, partner_in_step}
 use Rattle.epoch_tags.specs.Posts.{posted_to_collector}
 use Rattle.theta_pred.specs.Formula.{Meaning}
 use Rattle.epoch_tags.specs.declared.message.ToJoiner.TheVariants.{Tup, Turn, End, Moved, MovedEnd}
+use Rattle.epoch_tags.specs.Flags.{flag_at}
 
 -- what never changes
 pub record IsMachineOf (s : JoinerStart) (m : EpochState) : Type 0 where
@@ -19,7 +20,7 @@ pub record IsMachineOf (s : JoinerStart) (m : EpochState) : Type 0 where
   pub id : m.id ≡ s.id
   pub feeders : m.feeders ≡ s.feeders
   pub matches : does_hold m.theta ≡ s.matches
-  pub small : s.k < 9
+  pub small : s.k ≤ 8
 
 -- with no step open
 pub record IsClosed (s : JoinerStart) (t : Taken) (lists : JoinerLists) (waiting : List Pair) (m : EpochState) : Type 0 where
@@ -82,7 +83,7 @@ IsStepStock theta (Some o) = IsStock theta o.store
 
 -- what holds of the machine between two messages
 pub record IsWithin (m : EpochState) : Type 0 where
-  pub small : m.k < 9
+  pub small : m.k ≤ 8
   pub shift : m.shift ≤ m.k
   pub step : IsStepWithin m.k m.shift m.step
   pub ended : length m.ended ≡ m.feeders

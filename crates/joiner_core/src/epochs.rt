@@ -1,14 +1,17 @@
 // What a joiner has of its epochs: the settled one, and the open step.
 
-ghost use Rattle.std.specs.Prelude.{◌≡◌, ℕ, false, true, length, slice_index_or, IfOk, None, ◌++◌, ◌∷◌, [], ◌<◌, ◌≤◌, ◌^◌, slice_set, OnOk};
-ghost use Rattle.joiner_core.specs.Changes.{flag_at, IsEachUp, turned_in, found_late, posts_late, opened_late};
+ghost use Rattle.std.specs.Prelude.{◌≡◌, ℕ, false, true, None, ◌++◌, ◌∷◌, [], ◌<◌, ◌≤◌, ◌^◌, slice_set, OnOk};
+ghost use Rattle.epoch_tags.specs.Flags.{flag_at, IsEachUp};
+ghost use Rattle.joiner_core.specs.Changes.{turned_in, found_late, posts_late, opened_late};
 ghost use Rattle.migration_plan.specs.Steps.{AreNeighbours, is_of, partner_in_step};
 ghost use Rattle.joiner_law.specs.History.{probed};
 ghost use Rattle.joiner_core.specs.State.{stocked_of, HasRow, named_by, does_hold, with_placed, IsRow, IsStock};
 ghost use Rattle.joiner_law.specs.Posting.{moved_post};
 
 use crate::stock::Stock;
-use epoch_tags::{Actor, Counts, Msg, Pairs, Post, Sends, ToJoiner, Tuple};
+use epoch_tags::{
+    Actor, Counts, Msg, Pairs, Post, Sends, ToJoiner, Tuple, are_all_up, is_up,
+};
 use grid_map::{Shape, partner};
 use join_rows::Side;
 use migration_plan::{kept, low_of};
@@ -55,46 +58,9 @@ impl<'a> Model for Epochs<'a> {
     } };
 }
 
-// So many flags, all down.
-pub(crate) fn all_down(alloc: Global, count: u32) -> Result<Vec<bool>, AllocError>
-    ensures length { IfOk result (λ flags. length flags.items ≡ count) }
-    ensures down { IfOk result (λ flags. (p : ℕ) → slice_index_or flags.items p false ≡ false) }
-{
-    let mut flags = Vec::new(alloc);
-    for i in 0..count {
-        let _ = i;
-        flags.push(false)?;
-    }
-    Ok(flags)
-}
-
-// Whether the flag of that number is up.
-pub(crate) fn is_up(flags: &Vec<bool>, p: u32) -> bool
-    ensures { result ≡ flag_at flags.now.items p }
-{
-    if (p as usize) < flags.len() {
-        flags[p as usize]
-    } else {
-        false
-    }
-}
-
-// Whether all flags are up.
-pub(crate) fn are_all_up(flags: &Vec<bool>) -> bool
-    ensures up { result ≡ true → IsEachUp flags.now.items }
-    ensures down { result ≡ false → IsEachUp flags.now.items → ⊥ }
-{
-    for flag in flags {
-        if !*flag {
-            return false;
-        }
-    }
-    true
-}
-
 // How many joiners there are.
 pub(crate) fn joiners(k: u32) -> u32
-    requires { k < 9 }
+    requires { k ≤ 8 }
     ensures { result ≡ 2 ^ k }
 {
     1 << k
@@ -148,7 +114,7 @@ impl<'a> Epochs<'a> {
 
     // How many joiners the grid has.
     pub(crate) fn joiners(&self) -> u32
-        requires { self.now.k < 9 }
+        requires { self.now.k ≤ 8 }
         ensures { result ≡ 2 ^ self.now.k }
     {
         joiners(self.k)
@@ -214,7 +180,7 @@ impl Model for Opened {
 // The joiner with whom joiner `id` exchanges tuples in a step.
 #[tactic(auto, using(crate::proofs::Posting::beside))]
 pub(crate) fn partner_in_step(k: u32, old: u32, new: u32, id: u32) -> u32
-    requires grid { k < 9 }
+    requires grid { k ≤ 8 }
     requires from { old ≤ k }
     requires to { new ≤ k }
     requires step { AreNeighbours old new }
@@ -289,7 +255,7 @@ impl Opened {
         tuple: &Tuple,
         found: &mut Pairs,
     ) -> Result<(), AllocError>
-        requires grid { k < 9 }
+        requires grid { k ≤ 8 }
         requires within { self.old.shift ≤ k }
         requires id { id < 2 ^ k }
         requires row { IsRow theta.now tuple.now }

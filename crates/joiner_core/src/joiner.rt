@@ -61,7 +61,7 @@ fn empty_store(alloc: Global, theta: &Theta) -> Result<Store, AllocError>
 
 // Whether two joiners of 2 ^ k differ in one bit of their ids.
 fn differ_in_one_bit(k: u32, from: u32, to: u32) -> bool
-    requires { k < 9 }
+    requires { k ≤ 8 }
     ensures up { result ≡ true → DifferInOneBit k from to }
     ensures down { result ≡ false → ¬ DifferInOneBit k from to }
 {
@@ -75,7 +75,7 @@ fn differ_in_one_bit(k: u32, from: u32, to: u32) -> bool
 
 // Whether this sender has a link to joiner `id` of 2 ^ k, of a run with so many feeders.
 fn has_link(k: u32, id: u32, feeders: u32, from: Actor) -> bool
-    requires { k < 9 }
+    requires { k ≤ 8 }
     ensures up { result ≡ true → HasLink k feeders from (Joiner' id) }
     ensures down { result ≡ false → ¬ HasLink k feeders from (Joiner' id) }
 {
@@ -93,7 +93,7 @@ fn has_link(k: u32, id: u32, feeders: u32, from: Actor) -> bool
 
 impl<'a> Epochs<'a> {
     fn hears(&self, from: Actor) -> bool
-        requires { self.now.k < 9 }
+        requires { self.now.k ≤ 8 }
         ensures up { result ≡ true
             → HasLink self.now.k self.now.feeders from (Joiner' self.now.id) }
         ensures down { result ≡ false
@@ -113,7 +113,7 @@ impl<'a> Joiner<'a> {
         feeders: u32,
         theta: &'a Theta,
     ) -> Result<Joiner<'a>, AllocError>
-        requires k { k < 9 }
+        requires k { k ≤ 8 }
         requires shift { shift ≤ k }
         requires id { id < 2 ^ k }
         requires feeders { 0 < feeders }
@@ -146,7 +146,7 @@ impl<'a> Joiner<'a> {
         theta: &'a Theta,
         base: Store,
     ) -> Result<Joiner<'a>, AllocError>
-        requires k { k < 9 }
+        requires k { k ≤ 8 }
         requires shift { shift ≤ k }
         requires id { id < 2 ^ k }
         requires feeders { 0 < feeders }

@@ -3,7 +3,6 @@
 
 mod end;
 mod epochs;
-mod held;
 mod joiner;
 mod machine;
 mod moved;

@@ -1,23 +1,22 @@
 // A joiner's machine: what it has of its epochs, the messages that it holds, and the taking of each kind of message.
 
-ghost use Rattle.std.specs.Prelude.{◌≡◌, ◌<◌, ◌^◌, true, false, OnOk, IfOk, ℕ};
+ghost use Rattle.std.specs.Prelude.{◌≡◌, ◌<◌, ◌≤◌, ◌^◌, true, false, OnOk, IfOk, ℕ};
 ghost use Rattle.joiner_core.specs.State.{HasRow};
 ghost use Rattle.joiner_core.specs.Machine.{state_of, IsMade, IsSound, Accepts, IsOfGrid, Receives};
 ghost use Rattle.epoch_tags.specs.declared.actor.Actor.TheVariants.{Feeder, Joiner as Joiner'};
 ghost use Rattle.joiner_core.specs.Taking.{IsWithin, TookOfFeeder, TookOfJoiner, TakesOfFeeder, TakesOfJoiner};
 
-use crate::epochs::{Epochs, all_down, joiners};
-use crate::held::Held;
+use crate::epochs::{Epochs, joiners};
 use crate::stock::Stock;
-use epoch_tags::{Actor, Counts, Pairs, Sends, ToJoiner};
+use epoch_tags::{Actor, Counts, Held, Pairs, Sends, ToJoiner, all_down};
 use std::alloc::{AllocError, Global};
 use theta_pred::Theta;
 
 #[derive(Drop)]
 pub(crate) struct Machine<'a> {
     pub(crate) epochs: Epochs<'a>,
-    pub(crate) of_feeders: Held,
-    pub(crate) of_joiners: Held,
+    pub(crate) of_feeders: Held<ToJoiner>,
+    pub(crate) of_joiners: Held<ToJoiner>,
     pub(crate) told: bool,
     pub(crate) alloc: Global,
 }
@@ -33,7 +32,7 @@ impl<'a> Machine<'a> {
         theta: &'a Theta,
         base: Stock,
     ) -> Result<Machine<'a>, AllocError>
-        requires { k < 9 }
+        requires { k ≤ 8 }
         ensures { IfOk result
             (λ machine. IsMade k id shift epoch feeders theta.now base (state_of machine)) }
     {

@@ -4,8 +4,8 @@ ghost use Rattle.std.specs.Prelude.{◌≡◌, ◌++◌, true, false, IfOk};
 ghost use Rattle.joiner_core.specs.Taking.{IsStepWithin};
 ghost use Rattle.joiner_core.specs.Changes.{after_settle, posts_settled, IsReady};
 
-use crate::epochs::{Epochs, are_all_up};
-use epoch_tags::{Actor, Msg, Post, Sends, ToController};
+use crate::epochs::Epochs;
+use epoch_tags::{Actor, Msg, Post, Sends, ToController, are_all_up};
 use migration_plan::exchanged_side;
 use std::alloc::AllocError;
 

@@ -90,7 +90,7 @@ impl Stock {
     }
 
     pub(crate) fn kept_copy(&self, k: u32, shift: u32, id: u32) -> Result<Stock, AllocError>
-        requires grid { k < 9 }
+        requires grid { k ≤ 8 }
         requires within { shift ≤ k }
         requires id { id < 2 ^ k }
         ensures { IfOk result (λ kept. kept ≡ kept_stock k shift id self.now) }

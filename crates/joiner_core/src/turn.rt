@@ -7,8 +7,8 @@ ghost use Rattle.epoch_tags.specs.declared.message.ToJoiner.TheVariants.{Turn};
 ghost use Rattle.epoch_tags.specs.declared.tuple.Pair.{Pair};
 ghost use Rattle.joiner_core.specs.Changes.{HasBegun, begun_posts, posts_opened, HasOpened, HasTurned, AreAllUp, posts_turned};
 
-use crate::epochs::{Epochs, Opened, all_down, are_all_up, partner_in_step};
-use epoch_tags::{Actor, Msg, Post, Sends, ToJoiner};
+use crate::epochs::{Epochs, Opened, partner_in_step};
+use epoch_tags::{Actor, Msg, Post, Sends, ToJoiner, all_down, are_all_up};
 use migration_plan::exchanged_side;
 use std::alloc::AllocError;
 
@@ -85,7 +85,7 @@ impl<'a> Epochs<'a> {
         shift: u32,
         sends: &mut Sends,
     ) -> Result<(), AllocError>
-        requires grid { self.old.k < 9 }
+        requires grid { self.old.k ≤ 8 }
         requires shift { self.old.shift ≤ self.old.k }
         requires within { shift ≤ self.old.k }
         requires next { AreNeighbours self.old.shift shift }
@@ -112,7 +112,7 @@ impl<'a> Epochs<'a> {
 
     // The last one ends this joiner's part of the step. Answers whether it was the last.
     pub(crate) fn turn(&mut self, p: u32, sends: &mut Sends) -> Result<bool, AllocError>
-        requires grid { self.old.k < 9 }
+        requires grid { self.old.k ≤ 8 }
         requires shift { self.old.shift ≤ self.old.k }
         requires id { self.old.id < 2 ^ self.old.k }
         requires step { IsStepWithin self.old.k self.old.shift self.old.step }
