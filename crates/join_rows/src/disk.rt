@@ -113,7 +113,7 @@ impl<F: Files + Drop> Shelf for DiskShelf<F> {
         ensures next { IfOk result (λ n. Nexts None (spot_of self.old) n into.new) }
         ensures bytes { IfOk result (λ n.
             Consumes (left_of F.File.remaining self.old) (left_of F.File.remaining self.new)
-                (take n into.new)) }
+            (take n into.new)) }
         ensures end { IfOk result
             (λ n. n ≡ 0 → 0 < length into.old → IsAtEnd (left_of F.File.remaining self.new)) }
         ensures fails { OnErr result (failed_calls self.new ≡ raised (failed_calls self.old)) }

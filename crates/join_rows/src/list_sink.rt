@@ -23,8 +23,13 @@ pub struct ListSink {
 impl Model for ListSink {
     ghost Value = { ListState };
 
-    ghost view = { λ s. record { bytes = s.bytes.items; room = s.room; puts = s.puts;
-        failing = s.failing.items; faults = s.faults } };
+    ghost view = { λ s. record {
+      bytes = s.bytes.items;
+      room = s.room;
+      puts = s.puts;
+      failing = s.failing.items;
+      faults = s.faults;
+    } };
 
     ghost invariant = { λ s. s.room ≤ vec_capacity s.bytes };
 }
@@ -33,8 +38,13 @@ impl ListSink {
     /// A sink with room for so many bytes, which it takes at once.
     pub fn new(alloc: Global, room: u64) -> Result<ListSink, AllocError>
         ensures { IfOk result
-            (λ sink. sink ≡ record { bytes = []; room = room; puts = 0; failing = [];
-                faults = 0 }) }
+            (λ sink. sink ≡ record {
+              bytes = [];
+              room = room;
+              puts = 0;
+              failing = [];
+              faults = 0;
+            }) }
     {
         Ok(ListSink {
             bytes: Vec::with_capacity(alloc, room as usize)?,

@@ -43,8 +43,15 @@ impl Model for MapShelf {
 impl MapShelf {
     /// A shelf without files and without faults.
     pub fn new(alloc: Global) -> MapShelf
-        ensures { result ≡ record { files = []; picked = None; picks = 0; reads = 0;
-            failing_picks = []; failing_reads = []; faults = 0 } }
+        ensures { result ≡ record {
+          files = [];
+          picked = None;
+          picks = 0;
+          reads = 0;
+          failing_picks = [];
+          failing_reads = [];
+          faults = 0;
+        } }
     {
         MapShelf {
             alloc,

@@ -27,10 +27,10 @@ fn read_whole<H: Shelf>(alloc: Global, shelf: &mut H, name: &str) -> Result<Vec<
         → H.sound shelf.new × (H.faults shelf.new ≡ H.faults shelf.old) }
     ensures ok { IfOk result (λ bytes.
         WholeOk (H.told shelf.old) name.now (H.faults shelf.old) (H.faults shelf.new)
-            (H.picked shelf.new) bytes.items) }
+        (H.picked shelf.new) bytes.items) }
     ensures err { IfErr result (
         WholeErr (H.told shelf.old) name.now (H.faults shelf.old) (H.faults shelf.new)
-            (H.picked shelf.new)) }
+        (H.picked shelf.new)) }
 {
     if shelf.pick(name).is_err() {
         return Err(TableFault::Read);

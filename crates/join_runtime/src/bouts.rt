@@ -26,11 +26,7 @@ use worker_gate::Gate;
 const ROUNDS: u32 = 4;
 
 // Turns of each feeder and of the controller, one after another.
-fn round_ahead<R: Wait, G: Gate>(
-    rt: &R,
-    seats: &mut [Seat],
-    gate: &G,
-) -> Result<(), AllocError>
+fn round_ahead<R: Wait, G: Gate>(rt: &R, seats: &mut [Seat], gate: &G) -> Result<(), AllocError>
     ensures ok { OnOk result (AllStep seats.old seats.new) }
     ensures frames { map frame_of seats.new ≡ map frame_of seats.old }
 {
@@ -197,8 +193,12 @@ impl<'a> Model for Seats<'a> {
 
     ghost coded = { Prim.hlevel (codes, formula_code (Prim.hlevel codes)) };
 
-    ghost view = { λ s. record { joiners = s.joiners; feeders = s.feeders; seats = s.seats.items;
-        spent = s.spent } };
+    ghost view = { λ s. record {
+      joiners = s.joiners;
+      feeders = s.feeders;
+      seats = s.seats.items;
+      spent = s.spent;
+    } };
 
     ghost invariant = { λ s. AreJoined s.joiners s.feeders (map frame_of s.seats.items)
         × (s.spent ≡ false → AreSettled s.seats.items) };

@@ -35,8 +35,12 @@ impl Model for End {
 
     ghost Value = { EndView };
 
-    ghost view = { λ end. record { joiners = end.joiners; feeders = end.feeders; inbox = end.inbox;
-        mouths = end.mouths.items } };
+    ghost view = { λ end. record {
+      joiners = end.joiners;
+      feeders = end.feeders;
+      inbox = end.inbox;
+      mouths = end.mouths.items;
+    } };
 }
 
 /// What the finished seats of a run leave, by the numbers of actors.
@@ -52,8 +56,11 @@ impl Model for Ends {
 
     ghost Value = { EndsView };
 
-    ghost view = { λ ends. record { joiners = ends.joiners; feeders = ends.feeders;
-        ends = ends.ends.items } };
+    ghost view = { λ ends. record {
+      joiners = ends.joiners;
+      feeders = ends.feeders;
+      ends = ends.ends.items;
+    } };
 }
 
 /// The answer of a run, and what its seats leave.

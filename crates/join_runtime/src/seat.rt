@@ -52,9 +52,15 @@ impl<'a> Model for Seat<'a> {
 
     ghost coded = { Prim.hlevel (codes, formula_code (Prim.hlevel codes)) };
 
-    ghost view = { λ seat. record { joiners = seat.joiners; feeders = seat.feeders;
-        actor = seat.actor; core = seat.core; inbox = seat.inbox; mouths = seat.mouths.items;
-        spent = seat.spent } };
+    ghost view = { λ seat. record {
+      joiners = seat.joiners;
+      feeders = seat.feeders;
+      actor = seat.actor;
+      core = seat.core;
+      inbox = seat.inbox;
+      mouths = seat.mouths.items;
+      spent = seat.spent;
+    } };
 }
 
 // Takes a message, or begins where there is none, and calls the machine.
@@ -106,8 +112,15 @@ impl<'a> Seat<'a> {
     ) -> Result<Seat<'a>, AllocError>
         requires { feeders + joiners + 2 < 2 ^ 32 }
         ensures seat { IfOk result
-            (λ seat. seat ≡ record { joiners = joiners; feeders = feeders; actor = actor;
-                core = core.entry; inbox = inbox; mouths = seat.mouths; spent = false }) }
+            (λ seat. seat ≡ record {
+              joiners = joiners;
+              feeders = feeders;
+              actor = actor;
+              core = core.entry;
+              inbox = inbox;
+              mouths = seat.mouths;
+              spent = false;
+            }) }
         ensures mouths { IfOk result (λ seat. (n : ℕ) → slice_index_or seat.mouths n None ≡ None) }
     {
         let mouths = no_mouths(alloc, feeders + joiners + 2)?;
@@ -128,7 +141,7 @@ impl<'a> Seat<'a> {
     pub(crate) fn put_mouth(&mut self, receiver: usize, mouth: Mouth) -> Result<(), AllocError>
         ensures { OnOk result ((receiver < length self.old.mouths)
             × (self.new
-                ≡ record self.old { mouths = slice_set self.old.mouths receiver (Some mouth) })) }
+            ≡ record self.old { mouths = slice_set self.old.mouths receiver (Some mouth) })) }
     {
         if receiver < self.mouths.len() {
             self.mouths[receiver] = Some(mouth);

@@ -9,9 +9,7 @@ ghost use Rattle.joiner_core.specs.State.{stocked_of, HasRow, named_by, does_hol
 ghost use Rattle.joiner_law.specs.Posting.{moved_post};
 
 use crate::stock::Stock;
-use epoch_tags::{
-    Actor, Counts, Msg, Pairs, Post, Sends, ToJoiner, Tuple, are_all_up, is_up,
-};
+use epoch_tags::{Actor, Counts, Msg, Pairs, Post, Sends, ToJoiner, Tuple, are_all_up, is_up};
 use grid_map::{Shape, partner};
 use join_rows::Side;
 use migration_plan::{kept, low_of};

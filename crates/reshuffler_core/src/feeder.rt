@@ -42,8 +42,12 @@ impl Model for Feeder {
     ghost Value = { FeederState };
 
     ghost view = { λ f. record {
-      start = record { k = f.k; epoch = f.first_epoch; shift = f.first_shift;
-          batches = cut f.batch f.load };
+      start = record {
+        k = f.k;
+        epoch = f.first_epoch;
+        shift = f.first_shift;
+        batches = cut f.batch f.load;
+      };
       epoch = f.epoch;
       shift = f.shift;
       to_come = cut f.batch (drop f.sent f.load);
@@ -64,8 +68,12 @@ impl Feeder {
         requires shape { shift ≤ k }
         requires some { 0 < batch }
         requires few { batch ≤ 4096 }
-        ensures start { result.start ≡ record { k = k; epoch = 0; shift = shift;
-            batches = cut batch load } }
+        ensures start { result.start ≡ record {
+          k = k;
+          epoch = 0;
+          shift = shift;
+          batches = cut batch load;
+        } }
         ensures fresh { StandsFor result.start nothing_yet result }
         ensures to_come { result.to_come ≡ cut batch load }
         ensures at_work { result.spent ≡ false }
@@ -89,8 +97,12 @@ impl Feeder {
         requires shape { shift ≤ k }
         requires some { 0 < batch }
         requires few { batch ≤ 4096 }
-        ensures start { result.start ≡ record { k = k; epoch = epoch; shift = shift;
-            batches = cut batch load } }
+        ensures start { result.start ≡ record {
+          k = k;
+          epoch = epoch;
+          shift = shift;
+          batches = cut batch load;
+        } }
         ensures fresh { StandsFor result.start nothing_yet result }
         ensures to_come { result.to_come ≡ cut batch load }
         ensures at_work { result.spent ≡ false }

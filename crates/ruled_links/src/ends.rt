@@ -43,8 +43,12 @@ impl Model for Out {
 
     ghost Value = { Sending };
 
-    ghost view = { λ out. record { link = (arc_value out.shared).queue.web; from = out.from;
-        to = out.to; sent = sent_by out.pass (λ pass. pass.me.view.client) } };
+    ghost view = { λ out. record {
+      link = (arc_value out.shared).queue.web;
+      from = out.from;
+      to = out.to;
+      sent = sent_by out.pass (λ pass. pass.me.view.client);
+    } };
 
     ghost invariant = { λ out. MatchOption out.pass ⊥
         (λ pass. IsSegPassOf (arc_value out.shared).queue pass
@@ -70,8 +74,13 @@ impl Model for In {
 
     ghost Value = { Receiving };
 
-    ghost view = { λ inn. record { link = (arc_value inn.shared).queue.web; from = inn.from;
-        to = inn.to; received = inn.pass.me.view.client.received; known = inn.known } };
+    ghost view = { λ inn. record {
+      link = (arc_value inn.shared).queue.web;
+      from = inn.from;
+      to = inn.to;
+      received = inn.pass.me.view.client.received;
+      known = inn.known;
+    } };
 
     ghost invariant = { λ inn. IsSegPassOf (arc_value inn.shared).queue inn.pass
         × (inn.pass.me.view.client ≡ hand false true [] inn.pass.me.view.client.received inn.pass.me.view.client.known) × (inn.known ≡ length inn.pass.me.view.client.known - length inn.pass.me.view.client.received) };

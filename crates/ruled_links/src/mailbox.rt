@@ -51,8 +51,12 @@ impl Model for Mouth {
 
     ghost Value = { Sending };
 
-    ghost view = { λ mouth. record { link = (arc_value mouth.line).queue.web; from = mouth.from;
-        to = mouth.to; sent = sent_through mouth.pass (λ pass. pass.me.view.client) } };
+    ghost view = { λ mouth. record {
+      link = (arc_value mouth.line).queue.web;
+      from = mouth.from;
+      to = mouth.to;
+      sent = sent_through mouth.pass (λ pass. pass.me.view.client);
+    } };
 
     ghost invariant = { λ mouth. MatchOption mouth.pass ⊥
         (λ pass. IsSegPassOf (arc_value mouth.line).queue pass
@@ -78,8 +82,12 @@ impl Model for Inbox {
 
     ghost Value = { InboxView };
 
-    ghost view = { λ inbox. record { link = (arc_value inbox.line).queue.web; to = inbox.to;
-        received = inbox.pass.me.view.client.received; senders = map seen inbox.parts } };
+    ghost view = { λ inbox. record {
+      link = (arc_value inbox.line).queue.web;
+      to = inbox.to;
+      received = inbox.pass.me.view.client.received;
+      senders = map seen inbox.parts;
+    } };
 
     ghost invariant = { λ inbox. IsSegPassOf (arc_value inbox.line).queue inbox.pass
         × (inbox.pass.me.view.client ≡ inbox_hand false true 0 [] inbox.pass.me.view.client.received inbox.pass.me.view.client.known) × AreCounted inbox.pass.me.view.client inbox.parts };

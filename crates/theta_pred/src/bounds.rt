@@ -6,7 +6,7 @@ ghost use Rattle.theta_pred.specs.Keys;
 ghost use Rattle.theta_pred.specs.Sizes.{IsAtMost};
 ghost use Rattle.theta_pred.specs.Sums.{with_sign};
 
-use crate::tree::{SignedTerm, Number};
+use crate::tree::{Number, SignedTerm};
 use theta_text::Op;
 
 // What a constant adds to a sum.

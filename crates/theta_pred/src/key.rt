@@ -153,7 +153,12 @@ fn difference(
 }
 
 // The atom of a test of two sums.
-fn num_atom(alloc: Global, left: &[SignedTerm], op: Op, right: &[SignedTerm]) -> Result<KeyAtom, AllocError>
+fn num_atom(
+    alloc: Global,
+    left: &[SignedTerm],
+    op: Op,
+    right: &[SignedTerm],
+) -> Result<KeyAtom, AllocError>
     requires left { length left.now ≤ 16 }
     requires right { length right.now ≤ 16 }
     ensures { IfOk result (λ key. Some (atom_of key) ≡ atom_in (num left.now op right.now)) }

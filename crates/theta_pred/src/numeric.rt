@@ -6,7 +6,7 @@ ghost use Rattle.theta_pred.specs.Numeric.{AreNumeric, place_if_on, number_place
 ghost use Rattle.theta_pred.specs.Sound.{IsSound};
 ghost use Rattle.theta_pred.specs.Sums.{of_side};
 
-use crate::tree::{SignedTerms, Column, Columns, Number, Tree};
+use crate::tree::{Column, Columns, Number, SignedTerms, Tree};
 use join_rows::Side;
 use std::alloc::{AllocError, Global};
 

@@ -5,7 +5,7 @@ ghost use Rattle.theta_pred.specs.Sound.{IsWithin, IsNumberWithin, IsTextWithin,
 ghost use Rattle.theta_pred.specs.Sums.{cell_at, number_of, signed_of, sum_of, text_of};
 ghost use Rattle.theta_pred.specs.Sizes.{IsAtMost};
 
-use crate::tree::{SignedTerm, SignedTerms, Column, Number, Text};
+use crate::tree::{Column, Number, SignedTerm, SignedTerms, Text};
 use join_rows::{Cell, Cells, Side};
 
 // The cell of a column.

@@ -11,7 +11,12 @@ pub(super) fn name(alloc: Global, side: Side, word: &[u8]) -> Result<Name, Alloc
     })
 }
 
-pub(super) fn column(alloc: Global, minus: bool, side: Side, word: &[u8]) -> Result<Signed, AllocError> {
+pub(super) fn column(
+    alloc: Global,
+    minus: bool,
+    side: Side,
+    word: &[u8],
+) -> Result<Signed, AllocError> {
     Ok(Signed {
         minus,
         term: Term::Col(name(alloc, side, word)?),
