@@ -8,6 +8,7 @@ use mathlib.Core.Path.{fun_ext}
 use Rattle.epoch_tags.specs.declared.actor.Actor.{Actor}
 use Rattle.epoch_tags.specs.declared.message.Msg.{Msg}
 use Rattle.epoch_tags.specs.declared.message.Post.{Post}
+use Rattle.theta_pred.proofs.KeyMembers.{and_left, and_right}
 use Rattle.link_trace.specs.Lists.{same_actor, posted_to}
 use Rattle.link_trace.specs.Families.{taken_off, put_on}
 use Rattle.link_trace.specs.Numbers.{number, at_number}
@@ -33,14 +34,6 @@ waits-with ws r s x y l room = ap (λ row. get_or row y []) (get-set ws r x (set
         get-set (get_or ws r []) s y l [] room.sender_is
         ∙ ap (λ z. cond (s == y) l (get_or (get_or ws z []) y [])) (eqb-true r x e)
     go false e = refl
-
-and_left : (a b : Bool) → (a && b) ≡ true → a ≡ true
-and_left true b e = refl
-and_left false b e = absurd (true≢false (sym e))
-
-and_right : (a b : Bool) → (a && b) ≡ true → b ≡ true
-and_right true b e = e
-and_right false b e = absurd (true≢false (sym e))
 
 and-swap : (a b : Bool) → (a && b) ≡ (b && a)
 and-swap true true = refl
