@@ -2,6 +2,7 @@ pub mod Columns
 pub mod Keys
 pub mod MapRanges
 pub mod MapSums
+pub mod OneValue
 pub mod SortedLists
 pub mod SameTexts
 pub mod OneMoreTuple

@@ -1,5 +1,5 @@
--- What a range of a map from values to places gives.
-use Rattle.std.proofs.Common.{◌≡◌, ℕ, ◌+◌, ◌≤◌, ℤ, pos, negsuc, Bool, true, false, cond, not, ◌&&◌, Option, Some, None, List, [], ◌∷◌, ◌++◌, refl, sym, ap, ◌∙◌, arith}
+-- What is gathered of a map from values to places, between two bounds.
+use Rattle.std.proofs.Common.{◌≡◌, ℕ, ◌+◌, ◌≤◌, ℤ, pos, negsuc, Bool, true, false, cond, not, ◌&&◌, Option, Some, None, List, [], ◌∷◌, ◌++◌, refl, sym, ap, ◌∙◌, arith, append_assoc}
 use Rattle.std.specs.Prelude.{filter, flat_map, sum_by, int_lt, int_le}
 use Rattle.smallvec.specs.SmallVec.{SmallVec}
 use Rattle.std.specs.declared.cmp.Ordering.TheVariants.{Less, Equal, Greater}
@@ -9,13 +9,15 @@ use Rattle.std.specs.BTreeMap.Range.{range_contains}
 use Rattle.std.proofs.lemmas.Grind.{common_steps}
 use Rattle.std.proofs.lemmas.List.Sums.{sum_by-cons, sum_by-append}
 use Rattle.std.proofs.lemmas.List.Sorted.{sum_by-IsPermutation, IsNonDecreasingBy-from_sort}
+use Rattle.std.proofs.lemmas.List.Elements.{filter_agree}
 use Rattle.std.proofs.lemmas.Bool.{false≢true}
 use Rattle.std.proofs.lemmas.Bool.Decides.{nat_tests}
 use Rattle.std.proofs.lemmas.Int.{ints}
-use Rattle.store_parts.specs.Places.{entries_from, is_backward, lies, places_between}
+use Rattle.store_parts.specs.Places.{entries_from, gathered, is_backward, lies, places_between}
 use Rattle.store_parts.proofs.SortedLists.{Rises, same_rising, rises_from_sorted}
 use Rattle.store_parts.specs.Places.{at_each, IsMapOf, start_of, end_of}
 use Rattle.store_parts.proofs.Keys.{both}
+use Rattle.store_parts.proofs.KeyProbes.{filter_none}
 
 -- ---- the test of a key
 
@@ -29,7 +31,7 @@ ge_plain true q = refl
 ge_plain false true = refl
 ge_plain false false = refl
 
-int_le-not : (x y : ℤ) → int_le x y ≡ not (int_lt y x)
+pub int_le-not : (x y : ℤ) → int_le x y ≡ not (int_lt y x)
 int_le-not (pos a) (pos b) = grind (arith, nat_tests)
 int_le-not (pos a) (negsuc b) = refl
 int_le-not (negsuc a) (pos b) = refl
@@ -87,17 +89,17 @@ sum_cond : (f : ℕ → ℕ) (b : Bool) (n : ℕ) (ps : List ℕ) → sum_by f (
 sum_cond f true n ps = sum_by-cons f n ps
 sum_cond f false n ps = omega arith
 
-sum_of_places : (from to : Option ℤ) (test : ℤ → Bool) (f : ℕ → ℕ) → ((v : ℤ) → test v ≡ lies from to (Some v)) → (n : ℕ) (values : List (Option ℤ))
-    → sum_by (only test f) (entries_from n values) ≡ sum_by f (places_between from to n values)
-sum_of_places from to test f same n [] = refl
-sum_of_places from to test f same n (None ∷ values) = sum_of_places from to test f same (n + 1) values
-sum_of_places from to test f same n (Some v ∷ values) =
-    let here = ap (λ b. cond b (f n) 0) (same v) in
+sum_of_places : (from to : Option ℤ) (f : ℕ → ℕ) (n : ℕ) (values : List (Option ℤ))
+    → sum_by (only (λ v. lies from to (Some v)) f) (entries_from n values) ≡ sum_by f (places_between from to n values)
+sum_of_places from to f n [] = refl
+sum_of_places from to f n (None ∷ values) = sum_of_places from to f (n + 1) values
+sum_of_places from to f n (Some v ∷ values) =
+    let here : only (λ v. lies from to (Some v)) f (v, n) ≡ cond (lies from to (Some v)) (f n) 0 = refl in
     omega (
       arith,
       here,
-      sum_by-cons (only test f) (v, n) (entries_from (n + 1) values),
-      sum_of_places from to test f same (n + 1) values,
+      sum_by-cons (only (λ v. lies from to (Some v)) f) (v, n) (entries_from (n + 1) values),
+      sum_of_places from to f (n + 1) values,
       sum_cond f (lies from to (Some v)) n (places_between from to (n + 1) values),
     )
 
@@ -111,17 +113,25 @@ places_rise from to low n (v ∷ values) le =
     rises_take_in (lies from to v) low n (places_between from to (n + 1) values) le
     (places_rise from to n (n + 1) values (omega arith)) (places_rise from to low (n + 1) values (omega arith))
 
-pub sorted_map_range : (from to : Option ℤ) (values : List (Option ℤ)) (entries : List (ℤ × SmallVec ℕ)) (found sorted : List ℕ)
-    → IsMapOf values entries → found ≡ flat_map (λ e. e.1.items) (filter (λ e. range_contains int_cmp (start_of from) (end_of to) e.0) entries)
+-- what was gathered, in order, is the places between the bounds
+pub sorted_places : (from to : Option ℤ) (values : List (Option ℤ)) (entries : List (ℤ × SmallVec ℕ)) (found sorted : List ℕ)
+    → IsMapOf values entries → found ≡ gathered from to entries
     → IsPermutation found sorted → IsSorted nat_cmp sorted → sorted ≡ places_between from to 0 values
-sorted_map_range from to values entries found sorted indexed is moved in_order =
+sorted_places from to values entries found sorted indexed is moved in_order =
     same_rising 0 0 sorted (places_between from to 0 values)
     (rises_from_sorted sorted (IsNonDecreasingBy-from_sort (λ x. x) sorted in_order))
     (places_rise from to 0 0 values (omega arith))
     (λ f. sum_by-IsPermutation f found sorted moved ∙ ap (sum_by f) is
-    ∙ sum_of_range (range_contains int_cmp (start_of from) (end_of to)) f entries
-    ∙ indexed.sums (only (range_contains int_cmp (start_of from) (end_of to)) f)
-    ∙ sum_of_places from to (range_contains int_cmp (start_of from) (end_of to)) f (in_range from to) 0 values)
+    ∙ sum_of_range (λ v. lies from to (Some v)) f entries
+    ∙ indexed.sums (only (λ v. lies from to (Some v)) f)
+    ∙ sum_of_places from to f 0 values)
+
+-- ---- what a range of a tree gives
+
+pub gathered-range : (from to : Option ℤ) (entries : List (ℤ × SmallVec ℕ))
+    → flat_map (λ e. e.1.items) (filter (λ e. range_contains int_cmp (start_of from) (end_of to) e.0) entries) ≡ gathered from to entries
+gathered-range from to entries =
+    ap (flat_map (λ e. e.1.items)) (filter_agree (λ e. range_contains int_cmp (start_of from) (end_of to) e.0) (λ e. lies from to (Some e.0)) (λ e. in_range from to e.0) entries)
 
 pub all_taken : (left : List (ℤ × SmallVec ℕ)) (taken all : List ℕ) → left ≡ [] → taken ++ flat_map (λ e. e.1.items) left ≡ all → taken ≡ all
 all_taken left taken all none is = grind (arith, common_steps)
@@ -131,11 +141,33 @@ all_taken left taken all none is = grind (arith, common_steps)
 none_lies : (a b v : ℤ) → int_lt b a ≡ true → (int_le a v && int_le v b) ≡ false
 none_lies a b v less = grind (arith, ints)
 
-pub places_backward : (from to : Option ℤ) (n : ℕ) (values : List (Option ℤ)) → is_backward from to ≡ true → places_between from to n values ≡ []
-places_backward from to n [] back = refl
-places_backward from to n (None ∷ values) back = places_backward from to (n + 1) values back
-places_backward None to n (Some v ∷ values) back = absurd (false≢true back)
-places_backward (Some a) None n (Some v ∷ values) back = absurd (false≢true back)
-places_backward (Some a) (Some b) n (Some v ∷ values) back =
-    ap (λ t. cond t (n ∷ places_between (Some a) (Some b) (n + 1) values) (places_between (Some a) (Some b) (n + 1) values)) (none_lies a b v back)
-    ∙ places_backward (Some a) (Some b) (n + 1) values back
+lies-backward : (from to : Option ℤ) (v : ℤ) → is_backward from to ≡ true → lies from to (Some v) ≡ false
+lies-backward None to v back = absurd (false≢true back)
+lies-backward (Some a) None v back = absurd (false≢true back)
+lies-backward (Some a) (Some b) v back = none_lies a b v back
+
+pub gathered-backward : (from to : Option ℤ) (entries : List (ℤ × SmallVec ℕ)) → is_backward from to ≡ true → gathered from to entries ≡ []
+gathered-backward from to entries back =
+    ap (flat_map (λ e. e.1.items)) (filter_none (λ e. lies from to (Some e.0)) (λ e. lies-backward from to e.0 back) entries)
+
+-- ---- a pass over all entries
+
+pub takes_in : (from to : Option ℤ) (e : ℤ × SmallVec ℕ) (left es : List (ℤ × SmallVec ℕ)) (taken more all : List ℕ)
+    → left ≡ e ∷ es → lies from to (Some e.0) ≡ true → more ≡ taken ++ e.1.items
+    → taken ++ gathered from to left ≡ all → more ++ gathered from to es ≡ all
+takes_in from to e left es taken more all next is pushed so_far =
+    let kept = filter (λ e. lies from to (Some e.0)) es in
+    ap (λ ps. ps ++ gathered from to es) pushed
+    ∙ append_assoc taken e.1.items (gathered from to es)
+    ∙ sym (ap (λ b. taken ++ flat_map (λ e. e.1.items) (cond b (e ∷ kept) kept)) is)
+    ∙ sym (ap (λ es. taken ++ gathered from to es) next)
+    ∙ so_far
+
+pub leaves_out : (from to : Option ℤ) (e : ℤ × SmallVec ℕ) (left es : List (ℤ × SmallVec ℕ)) (taken all : List ℕ)
+    → left ≡ e ∷ es → lies from to (Some e.0) ≡ false
+    → taken ++ gathered from to left ≡ all → taken ++ gathered from to es ≡ all
+leaves_out from to e left es taken all next is so_far =
+    let kept = filter (λ e. lies from to (Some e.0)) es in
+    sym (ap (λ b. taken ++ flat_map (λ e. e.1.items) (cond b (e ∷ kept) kept)) is)
+    ∙ sym (ap (λ es. taken ++ gathered from to es) next)
+    ∙ so_far

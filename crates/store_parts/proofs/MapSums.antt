@@ -1,13 +1,16 @@
 -- Sums over a map from values to places.
-use Rattle.std.proofs.Common.{◌≡◌, ℕ, ◌+◌, ℤ, Bool, true, false, cond, Option, Some, None, List, [], ◌∷◌, ◌++◌, length, refl, sym, ap, ◌∙◌, arith}
+use Rattle.std.proofs.Common.{◌≡◌, ℕ, ◌+◌, ℤ, Bool, true, false, cond, Option, Some, None, List, [], ◌∷◌, ◌++◌, length, refl, sym, ap, ◌∙◌, arith, unwrap_or}
 use Rattle.std.specs.Prelude.{sum_by}
 use Rattle.smallvec.specs.SmallVec.{SmallVec}
 use Rattle.std.specs.declared.cmp.Ordering.{Ordering}
 use Rattle.std.specs.declared.cmp.Ordering.TheVariants.{Less, Equal, Greater}
 use Rattle.std.specs.Ordering.{int_cmp, is_eq, match_ordering}
 use Rattle.std.specs.Map.{lookup, set_value}
+use Rattle.std.specs.Option.{MatchOption}
+use Rattle.std.specs.List.Sorted.{IsPermutation}
 use Rattle.std.specs.BTreeMap.{is_at, insert_entry}
 use Rattle.std.proofs.lemmas.List.Sums.{sum_by-cons, sum_by-append}
+use Rattle.std.proofs.lemmas.List.Sorted.{sum_by-IsPermutation}
 use Rattle.std.proofs.lemmas.Map.Lookups.{exact_signed}
 use Rattle.store_parts.specs.Places.{at_each, IsMapOf}
 use Rattle.store_parts.specs.Places.{entries_from}
@@ -62,6 +65,14 @@ sum-set_value test F v w more (e ∷ es) grows found = set_at test F v w more (t
 abbrev pub FindsOnly : (ℤ → Ordering) → ℤ → Type 0
 FindsOnly compare v = (q : ℤ) → is_at compare q ≡ true → q ≡ v
 
+pub finds_only : (v : ℤ) → FindsOnly (int_cmp v) v
+finds_only v q hit = sym (exact_signed v q (equal_from_test (int_cmp v q) hit))
+  where
+    equal_from_test : (o : Ordering) → is_eq o ≡ true → o ≡ Equal
+    equal_from_test Less e = absurd (cc)
+    equal_from_test Equal e = refl
+    equal_from_test Greater e = absurd (cc)
+
 no_more : (f : ℤ × ℕ → ℕ) (q : ℤ) (p w : SmallVec ℕ) → w.items ≡ p.items → at_each f (q, w) ≡ at_each f (q, p) + 0
 no_more f q p w same = omega (arith, ap (λ xs. sum_by (λ x. f (q, x)) xs) same)
 
@@ -112,6 +123,44 @@ map_inserted values v n old new w none written made at_end h = record {
       omega (arith, whole, set, term, last, h.sums f, value_more f values v n at_end);
 }
 
+-- ---- one entry written, where there may have been none
+
+-- the entries after w was put at v, where found stood there
+abbrev pub IsPut : ℤ → SmallVec ℕ → Option (SmallVec ℕ) → List (ℤ × SmallVec ℕ) → List (ℤ × SmallVec ℕ) → Type 0
+IsPut v w found old new = MatchOption found (IsPermutation ((v, w) ∷ old) new) (λ _. new ≡ set_value (is_at (int_cmp v)) old w)
+
+sum-put : (F : ℤ × SmallVec ℕ → ℕ) (v : ℤ) (empty w : SmallVec ℕ) (more : ℕ) (old new : List (ℤ × SmallVec ℕ)) (found : Option (SmallVec ℕ))
+    → lookup (is_at (int_cmp v)) old ≡ found → IsPut v w found old new → F (v, empty) ≡ 0
+    → ((q : ℤ) → q ≡ v → F (q, w) ≡ F (q, unwrap_or found empty) + more) → sum_by F new ≡ sum_by F old + more
+sum-put F v empty w more old new None is put zero grows =
+    let here : F (v, w) ≡ F (v, empty) + more = grows v refl in
+    omega (arith, sum_by-IsPermutation F ((v, w) ∷ old) new put, sum_by-cons F (v, w) old, zero, here)
+sum-put F v empty w more old new (Some p) is put zero grows =
+    ap (sum_by F) put ∙ sum-set_value (is_at (int_cmp v)) F p w more old (λ q hit. grows q (finds_only v q hit)) is
+
+at_empty : (f : ℤ × ℕ → ℕ) (v : ℤ) (empty : SmallVec ℕ) → empty.items ≡ [] → at_each f (v, empty) ≡ 0
+at_empty f v empty none = ap (λ xs. sum_by (λ x. f (v, x)) xs) none
+
+pub map_put_kept : (values : List (Option ℤ)) (v : ℤ) (old new : List (ℤ × SmallVec ℕ)) (empty w : SmallVec ℕ) (found : Option (SmallVec ℕ))
+    → lookup (is_at (int_cmp v)) old ≡ found → IsPut v w found old new → empty.items ≡ [] → w.items ≡ (unwrap_or found empty).items
+    → IsMapOf values old → IsMapOf values new
+map_put_kept values v old new empty w found is put none same h = record {
+  sums = λ f.
+      let set = sum-put (at_each f) v empty w 0 old new found is put (at_empty f v empty none) (λ q at. no_more f q (unwrap_or found empty) w same) in
+      omega (arith, set, h.sums f);
+}
+
+pub map_put_pushed : (values : List (Option ℤ)) (v : ℤ) (n : ℕ) (old new : List (ℤ × SmallVec ℕ)) (empty w : SmallVec ℕ) (found : Option (SmallVec ℕ))
+    → lookup (is_at (int_cmp v)) old ≡ found → IsPut v w found old new → empty.items ≡ [] → w.items ≡ (unwrap_or found empty).items ++ n ∷ []
+    → length values ≡ n → IsMapOf values old → IsMapOf (values ++ Some v ∷ []) new
+map_put_pushed values v n old new empty w found is put none pushed at_end h = record {
+  sums = λ f.
+      let set = sum-put (at_each f) v empty w (f (v, n)) old new found is put (at_empty f v empty none) (λ q at. one_more f q v n (unwrap_or found empty) w pushed at) in
+      omega (arith, set, h.sums f, value_more f values v n at_end);
+}
+
+-- ---- a tuple with no value
+
 pub map_no_value : (value : Option ℤ) (values : List (Option ℤ)) (entries : List (ℤ × SmallVec ℕ)) → ((v : ℤ) → value ≡ Some v → ⊥) → IsMapOf values entries → IsMapOf (values ++ value ∷ []) entries
 map_no_value None values entries never h = record {
   sums = λ f.
@@ -120,11 +169,3 @@ map_no_value None values entries never h = record {
       omega (arith, more, joined, h.sums f);
 }
 map_no_value (Some v) values entries never h = absurd (never v refl)
-
-pub finds_only : (v : ℤ) → FindsOnly (int_cmp v) v
-finds_only v q hit = sym (exact_signed v q (equal_from_test (int_cmp v q) hit))
-  where
-    equal_from_test : (o : Ordering) → is_eq o ≡ true → o ≡ Equal
-    equal_from_test Less e = absurd (cc)
-    equal_from_test Equal e = refl
-    equal_from_test Greater e = absurd (cc)

@@ -1,9 +1,11 @@
 -- An index of values: from each value to the places at which it stands.
-use Rattle.std.specs.Prelude.{◌≡◌, ℕ, ◌+◌, ℤ, int_lt, Bool, false, ◌&&◌, Option, Some, None, List, [], ◌∷◌, sum_by, if◌then◌else◌}
+use Rattle.std.specs.Prelude.{◌≡◌, ℕ, ◌+◌, ℤ, int_lt, Bool, false, ◌&&◌, Option, Some, None, List, [], ◌∷◌, sum_by, filter, flat_map, if◌then◌else◌}
 use Rattle.smallvec.specs.SmallVec.{SmallVec}
 use Rattle.std.specs.declared.ops.Bound.{Bound}
 use Rattle.std.specs.declared.ops.Bound.TheVariants.{Included, Unbounded}
 use Rattle.theta_pred.specs.Keys.{is_from, is_up_to}
+use Rattle.store_parts.specs.declared.index.Map.{Map}
+use Rattle.store_parts.specs.declared.index.Map.TheVariants.{Ordered, Hashed}
 
 -- each value with its place, counted from n; what has no value is left out
 abbrev pub entries_from : ℕ → List (Option ℤ) → List (ℤ × ℕ)
@@ -29,6 +31,15 @@ abbrev pub places_between : Option ℤ → Option ℤ → ℕ → List (Option �
 places_between from to n [] = []
 places_between from to n (v ∷ values) =
     if lies from to v then n ∷ places_between from to (n + 1) values else places_between from to (n + 1) values
+
+-- the places of the entries whose values lie between two bounds, entry by entry
+abbrev pub gathered : Option ℤ → Option ℤ → List (ℤ × SmallVec ℕ) → List ℕ
+gathered from to entries = flat_map (λ e. e.1.items) (filter (λ e. lies from to (Some e.0)) entries)
+
+-- the entries of a map of either kind
+abbrev pub entries_of : Map → List (ℤ × SmallVec ℕ)
+entries_of (Ordered map) = map.entries
+entries_of (Hashed map) = map.entries
 
 -- the bound from which a map is read
 abbrev pub start_of : Option ℤ → Bound ℤ

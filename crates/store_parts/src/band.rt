@@ -71,6 +71,14 @@ pub(crate) fn greatest(key: &KeyAtom, side: Side, value: i128) -> Option<i128>
     }
 }
 
+// Whether the least and the greatest value are the same, whatever the value beside them.
+pub(crate) fn is_equality(key: &KeyAtom) -> bool {
+    match (key.low, key.high) {
+        (Some(low), Some(high)) => low == high,
+        _ => false,
+    }
+}
+
 // The value of a tuple that stands for a row of this side.
 pub(crate) fn value_of(key: &KeyAtom, side: Side, tuple: &Tuple) -> Option<i128>
     requires { HasColumns key.now side tuple.now }

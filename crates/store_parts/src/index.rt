@@ -1,56 +1,93 @@
 // An index of values: at which places one stands that lies between two bounds.
 
-ghost use Rattle.std.specs.Prelude.{◌≡◌, ℤ, Option, List, [], ◌∷◌, ◌++◌, length, IfOk, OnOk, OnErr};
-ghost use Rattle.store_parts.specs.Places.{end_of, is_backward, places_between, start_of, IsMapOf};
+ghost use Rattle.std.specs.Prelude.{◌≡◌, ℤ, Option, Some, List, [], ◌∷◌, ◌++◌, length, IfOk, OnOk, OnErr};
+ghost use Rattle.store_parts.specs.Places.{entries_of, gathered, places_between, IsMapOf};
 
-use smallvec::SmallVec;
+use crate::hashed::{HashedMap, add_hashed, gather_hashed};
+use crate::ordered::{OrderedMap, add_ordered, gather_ordered};
 use std::alloc::{AllocError, Global};
-use std::collections::BTreeMap;
-use std::ops::Bound;
+use std::collections::{BTreeMap, HashMap};
+use std::marker::Model;
 
-// How many places of a value need no memory of their own.
-const FEW: usize = 2;
+// Values, each with the places at which it stands.
+#[derive(Drop)]
+enum Map {
+    Ordered(OrderedMap),
+    Hashed(HashedMap),
+}
 
-// Values, each with the places at which it stands, in the order of the values.
+impl Map {
+    fn add(&mut self, alloc: Global, value: i128, place: u64) -> Result<(), AllocError>
+        ensures ok { (values : List (Option ℤ)) → length values ≡ place
+            → IsMapOf values (entries_of self.old)
+            → OnOk result (IsMapOf (values ++ Some value ∷ []) (entries_of self.new)) }
+        ensures err { (values : List (Option ℤ)) → IsMapOf values (entries_of self.old)
+            → OnErr result (IsMapOf values (entries_of self.new)) }
+    {
+        match self {
+            Map::Ordered(map) => add_ordered(alloc, map, value, place),
+            Map::Hashed(map) => add_hashed(alloc, map, value, place),
+        }
+    }
+
+    fn gather(
+        &self,
+        alloc: Global,
+        from: Option<i128>,
+        to: Option<i128>,
+    ) -> Result<Vec<u64>, AllocError>
+        ensures { IfOk result (λ found. found.items ≡ gathered from to (entries_of self.now)) }
+    {
+        match self {
+            Map::Ordered(map) => gather_ordered(alloc, map, from, to),
+            Map::Hashed(map) => gather_hashed(alloc, map, from, to),
+        }
+    }
+}
+
+// An index, seen as its values with their places, in no order that counts.
 #[derive(Drop)]
 pub(crate) struct Index {
-    map: BTreeMap<i128, SmallVec<u64, FEW>>,
+    map: Map,
 }
 
-fn start_of(from: Option<i128>) -> Bound<i128>
-    ensures { result ≡ start_of from }
-{
-    match from {
-        Some(value) => Bound::Included(value),
-        None => Bound::Unbounded,
-    }
-}
+impl Model for Index {
+    ghost use Rattle.std.specs.Prelude.{ℕ, ℤ, List};
+    ghost use Rattle.smallvec.specs.SmallVec.{SmallVec};
 
-fn end_of(to: Option<i128>) -> Bound<i128>
-    ensures { result ≡ end_of to }
-{
-    match to {
-        Some(value) => Bound::Included(value),
-        None => Bound::Unbounded,
-    }
-}
+    ghost Value = { List (ℤ × SmallVec ℕ) };
 
-// Whether no value lies between the bounds, since the second is below the first.
-fn is_backward(from: Option<i128>, to: Option<i128>) -> bool
-    ensures { result ≡ is_backward from to }
-{
-    match (from, to) {
-        (Some(from), Some(to)) => to < from,
-        _ => false,
-    }
+    ghost use Rattle.store_parts.specs.Places.{entries_of};
+
+    ghost view = { λ index. entries_of index.map };
 }
 
 impl Index {
-    pub(crate) fn new(alloc: Global) -> Index
-        ensures { IsMapOf [] result.map.entries }
+    // An index that is read between two bounds.
+    pub(crate) fn ordered(alloc: Global) -> Index
+        ensures { IsMapOf [] result }
     {
         Index {
-            map: BTreeMap::new(alloc),
+            map: Map::Ordered(BTreeMap::new(alloc)),
+        }
+    }
+
+    // An index that is read by one value at a time: between other bounds each of its values is looked at.
+    pub(crate) fn hashed(alloc: Global) -> Index
+        ensures { IsMapOf [] result }
+    {
+        Index {
+            map: Map::Hashed(HashMap::new(alloc)),
+        }
+    }
+
+    // An index with no values that is read as this one.
+    pub(crate) fn empty_like(&self, alloc: Global) -> Index
+        ensures { IsMapOf [] result }
+    {
+        match &self.map {
+            Map::Ordered(_) => Index::ordered(alloc),
+            Map::Hashed(_) => Index::hashed(alloc),
         }
     }
 
@@ -61,23 +98,15 @@ impl Index {
         value: Option<i128>,
         place: u64,
     ) -> Result<(), AllocError>
-        ensures ok { (values : List (Option ℤ)) → length values ≡ place
-            → IsMapOf values self.old.map.entries
-            → OnOk result (IsMapOf (values ++ value ∷ []) self.new.map.entries) }
-        ensures err { (values : List (Option ℤ)) → IsMapOf values self.old.map.entries
-            → OnErr result (IsMapOf values self.new.map.entries) }
+        ensures ok { (values : List (Option ℤ)) → length values ≡ place → IsMapOf values self.old
+            → OnOk result (IsMapOf (values ++ value ∷ []) self.new) }
+        ensures err { (values : List (Option ℤ)) → IsMapOf values self.old
+            → OnErr result (IsMapOf values self.new) }
     {
         let Some(value) = value else {
             return Ok(());
         };
-        if let Some(places) = self.map.get_mut(&value) {
-            places.push(place)?;
-            return Ok(());
-        }
-        let mut places = SmallVec::new(alloc);
-        places.push(place)?;
-        self.map.insert(value, places)?;
-        Ok(())
+        self.map.add(alloc, value, place)
     }
 
     // The places of the values between two bounds, rising.
@@ -88,16 +117,10 @@ impl Index {
         to: Option<i128>,
     ) -> Result<Vec<u64>, AllocError>
         ensures { IfOk result (λ found.
-            (values : List (Option ℤ)) → IsMapOf values self.now.map.entries
+            (values : List (Option ℤ)) → IsMapOf values self.now
             → found.items ≡ places_between from to 0 values) }
     {
-        let mut found = Vec::new(alloc);
-        if is_backward(from, to) {
-            return Ok(found);
-        }
-        for entry in self.map.range((start_of(from), end_of(to))) {
-            found.extend_from_slice(entry.1.as_slice())?;
-        }
+        let mut found = self.map.gather(alloc, from, to)?;
         found.sort_unstable();
         Ok(found)
     }

@@ -35,10 +35,10 @@ pub(crate) fn add_to(
     tuple: Tuple,
 ) -> Result<(), AllocError>
     requires columns { FitsKeyAt key.now side tuple }
-    requires indexed { IsIndexed key.now text side tuples.old index.old.map.entries }
+    requires indexed { IsIndexed key.now text side tuples.old index.old }
     ensures ok { OnOk result (tuples.new ≡ tuples.old ++ tuple ∷ []) }
     ensures err { OnErr result (tuples.new ≡ tuples.old) }
-    ensures indexed { IsIndexed key.now text side tuples.new index.new.map.entries }
+    ensures indexed { IsIndexed key.now text side tuples.new index.new }
 {
     let value = indexed_at(key, text, side, &tuple);
     let place = tuples.len();
@@ -61,15 +61,15 @@ pub(crate) fn kept_side(
     shape: Shape,
     id: u32,
 ) -> Result<(Tuples, Index), AllocError>
-    requires indexed { IsIndexed key.now text side tuples.now index.now.map.entries }
+    requires indexed { IsIndexed key.now text side tuples.now index.now }
     requires shift { shape.shift ≤ shape.k }
     requires k { shape.k ≤ 8 }
     requires id { id < 2 ^ shape.k }
     ensures kept { IfOk result (λ kept. kept.0 ≡ filter (holds shape.k shape.shift id) tuples.now) }
-    ensures indexed { IfOk result (λ kept. IsIndexed key.now text side kept.0 kept.1.map.entries) }
+    ensures indexed { IfOk result (λ kept. IsIndexed key.now text side kept.0 kept.1) }
 {
     let mut copies = Tuples::new(alloc);
-    let mut copies_index = Index::new(alloc);
+    let mut copies_index = index.empty_like(alloc);
     for tuple in tuples {
         if kept(shape, id, tuple) {
             add_to(

@@ -3,8 +3,11 @@
 
 mod band;
 mod copies;
+mod hashed;
 mod index;
 mod kept_side;
+mod ordered;
+mod places;
 mod probe;
 mod steps;
 mod store;

@@ -150,7 +150,7 @@ fn candidates(
 ) -> Result<Vec<u64>, AllocError>
     requires columns { HasColumns key.now tuple.now.side tuple.now }
     requires index { IsMapOf
-        (values_at key.now (other_side tuple.now.side) others.now) index.now.map.entries }
+        (values_at key.now (other_side tuple.now.side) others.now) index.now }
     ensures keyed { IfOk result (λ places.
         at_places others.now places.items ≡ filter (is_key_true key.now tuple.now) others.now) }
     ensures below { IfOk result (λ places. All (λ place. place < length others.now) places.items) }
@@ -181,7 +181,7 @@ pub(crate) fn seek<L: Ledger>(
     requires other_widths { All (HasWidth theta.now (other_side tuple.now.side)) others.now }
     requires own { key_of theta.now.formula ≡ Some (atom_of key.now) }
     requires index { IsMapOf
-        (values_at key.now (other_side tuple.now.side) others.now) index.now.map.entries }
+        (values_at key.now (other_side tuple.now.side) others.now) index.now }
     ensures ok { OnOk result
         (found.new ≡ found.old ++ matches theta.now tuple.now which others.now) }
     ensures err { OnErr result
@@ -225,7 +225,7 @@ fn places_of_number(
     text: TextAtom,
 ) -> Result<Vec<u64>, AllocError>
     requires { IsMapOf
-        (numbers_at text (other_side tuple.now.side) others.now) index.now.map.entries }
+        (numbers_at text (other_side tuple.now.side) others.now) index.now }
     ensures texts { IfOk result (λ places.
         filter (has_same_text text tuple.now) (at_places others.now places.items)
         ≡ filter (has_same_text text tuple.now) others.now) }
@@ -251,7 +251,7 @@ pub(crate) fn seek_text<L: Ledger>(
     requires other_widths { All (HasWidth theta.now (other_side tuple.now.side)) others.now }
     requires own { text_atom_of theta.now.formula ≡ Some text }
     requires index { IsMapOf
-        (numbers_at text (other_side tuple.now.side) others.now) index.now.map.entries }
+        (numbers_at text (other_side tuple.now.side) others.now) index.now }
     ensures ok { OnOk result
         (found.new ≡ found.old ++ matches theta.now tuple.now which others.now) }
     ensures err { OnErr result

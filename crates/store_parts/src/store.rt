@@ -3,9 +3,11 @@
 ghost use Rattle.std.specs.Prelude.{◌≡◌, ◌+◌, ◌<◌, ◌≤◌, ◌^◌, [], ◌++◌, Some, None, All, IfOk, OnOk, OnErr};
 ghost use Rattle.store_parts.specs.Keyed.{FitsKey, IsOwn};
 ghost use Rattle.store_parts.specs.Matches.{evaluated, evaluated_by_text, matches, AppendsFront, HasWidth};
+ghost use Rattle.store_parts.specs.Places.{IsMapOf};
 ghost use Rattle.store_parts.specs.Stored.{kept_of, others_of, side_of, with_tuple, HaveWidths};
 ghost use Rattle.store_parts.specs.Texts.{text_by};
 
+use crate::band::is_equality;
 use crate::copies::key_copy;
 use crate::index::Index;
 use crate::kept_side::{add_to, kept_side};
@@ -43,8 +45,22 @@ impl Model for Store {
     ghost view = { λ store. record { key = store.key; text = store.text; r = store.r; s = store.s } };
 
     ghost invariant = { λ store. AreSided store.r store.s
-        × IsIndexed store.key store.text R store.r store.r_index.map.entries
-        × IsIndexed store.key store.text S store.s store.s_index.map.entries };
+        × IsIndexed store.key store.text R store.r store.r_index
+        × IsIndexed store.key store.text S store.s store.s_index };
+}
+
+// An index for the probes of a store with this key.
+fn index_by(alloc: Global, key: &Option<KeyAtom>) -> Index
+    ensures { IsMapOf [] result }
+{
+    match key {
+        Some(key) => if is_equality(key) {
+            Index::hashed(alloc)
+        } else {
+            Index::ordered(alloc)
+        },
+        None => Index::ordered(alloc),
+    }
 }
 
 // A probe that counts from this blank on.
@@ -76,13 +92,15 @@ impl Store {
     pub fn new(alloc: Global, key: Option<KeyAtom>) -> Store
         ensures { result ≡ record { key = key; text = None; r = []; s = [] } }
     {
+        let r_index = index_by(alloc, &key);
+        let s_index = index_by(alloc, &key);
         Store {
             key,
             text: None,
             r: Tuples::new(alloc),
-            r_index: Index::new(alloc),
+            r_index,
             s: Tuples::new(alloc),
-            s_index: Index::new(alloc),
+            s_index,
             alloc,
         }
     }
@@ -96,9 +114,9 @@ impl Store {
             key: None,
             text: Some(text),
             r: Tuples::new(alloc),
-            r_index: Index::new(alloc),
+            r_index: Index::hashed(alloc),
             s: Tuples::new(alloc),
-            s_index: Index::new(alloc),
+            s_index: Index::hashed(alloc),
             alloc,
         }
     }

@@ -10,11 +10,11 @@ returns-clause-texts c =
     let fits : SFits w128 c.text_number-number.result = search rules in
     let same = to_z-of_z w128 c.text_number-number.result fits ∙ c.text_number-number.ensures in
     texts_from_number c.between.result (λ x. x.items) c.args.text c.args.tuple.now c.args.others.now
-    (number_given c.between.result (λ x. x.items) c.args.text c.args.tuple.now c.args.others.now c.args.index.now.map.entries _ same c.requires c.between.ensures)
+    (number_given c.between.result (λ x. x.items) c.args.text c.args.tuple.now c.args.others.now c.args.index.now _ same c.requires c.between.ensures)
 
 pub returns-clause-below : goal.returns-clause-below
 returns-clause-below c =
     let fits : SFits w128 c.text_number-number.result = search rules in
     let same = to_z-of_z w128 c.text_number-number.result fits ∙ c.text_number-number.ensures in
     below_from_number c.between.result (λ x. x.items) c.args.text c.args.tuple.now c.args.others.now
-    (number_given c.between.result (λ x. x.items) c.args.text c.args.tuple.now c.args.others.now c.args.index.now.map.entries _ same c.requires c.between.ensures)
+    (number_given c.between.result (λ x. x.items) c.args.text c.args.tuple.now c.args.others.now c.args.index.now _ same c.requires c.between.ensures)

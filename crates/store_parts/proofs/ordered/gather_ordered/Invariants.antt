@@ -3,8 +3,8 @@ use Rattle.std.specs.Prelude.{filter, flat_map}
 use Rattle.std.specs.Ordering.{int_cmp}
 use Rattle.std.specs.BTreeMap.Range.{range_contains}
 use Rattle.store_parts.specs.Places.{start_of, end_of}
-use Rattle.store_parts.proofs.index.Index.between.Given as goal
+use Rattle.store_parts.proofs.ordered.gather_ordered.Given as goal
 
 abbrev pub invariant-loop-entry : goal.invariant-loop-entry
 invariant-loop-entry l =
-    l.found.items ++ flat_map (λ e. e.1.items) l.entry-iterator ≡ flat_map (λ e. e.1.items) (filter (λ e. range_contains int_cmp (start_of l.fn.from) (end_of l.fn.to) e.0) l.self.map.entries)
+    l.found.items ++ flat_map (λ e. e.1.items) l.entry-iterator ≡ flat_map (λ e. e.1.items) (filter (λ e. range_contains int_cmp (start_of l.fn.from) (end_of l.fn.to) e.0) l.map.entries)
