@@ -72,6 +72,61 @@ pub fn command_words<V: Env + AllocGlobal>(process: &V) -> Result<Vec<String>, A
     Ok(words)
 }
 
+/// Ends where there are no words for want of memory.
+fn lacks_words<E: Sink>(alloc: Global, errors: &mut E) -> Ended
+    ensures { result ≡ 8 }
+{
+    tell(alloc, &Outcome::Memory, errors);
+    Ended {
+        code: exit_code(&Outcome::Memory),
+    }
+}
+
+/// Runs what these words ask for, and ends with the status of its outcome.
+fn run_words<R: Threads + Wait + Sync, H: Shelf, K: Sink, E: Sink, G: Gate>(
+    rt: &R,
+    alloc: Global,
+    words: Vec<String>,
+    shelf: &mut H,
+    sink: &mut K,
+    errors: &mut E,
+    gate: &G,
+) -> Ended
+    requires shelf { H.faults shelf.old < last_fault }
+    requires sink { K.faults sink.old < last_fault }
+    ensures done { result ≡ 0 → WroteBy (map string_bytes words.items) (H.told shelf.old)
+        (K.written sink.old) (K.written sink.new) }
+    ensures quiet { result ≡ 0 → errors.new ≡ errors.old }
+    ensures nothing { result ≢ 0 → result ≢ 7 → result ≢ 8 → sink.new ≡ sink.old }
+    ensures spared { (asked : Asked) → asked_of (map string_bytes words.items) ≡ Ok asked
+        → asked.early ≡ false → result ≡ 8 → sink.new ≡ sink.old }
+    ensures words { IsErr (asked_of (map string_bytes words.items))
+        → ((result ≡ 2) ⊎ (result ≡ 8)) × (sink.new ≡ sink.old) }
+    ensures only_words { result ≡ 2 → IsErr (asked_of (map string_bytes words.items)) }
+    ensures read { (asked : Asked) → asked_of (map string_bytes words.items) ≡ Ok asked
+        → result ≡ 6 → (H.faults shelf.old < H.faults shelf.new)
+        ⊎ LacksOne (H.told shelf.old) asked }
+    ensures write { result ≡ 7 → K.faults sink.old < K.faults sink.new }
+    ensures front { result ≡ 7 → WroteFrontBy (map string_bytes words.items) (H.told shelf.old)
+        (K.written sink.old) (K.written sink.new) }
+    ensures complete { (asked : Asked) (files : List ℕ → Option (List ℕ))
+        (tree : Tree) (planned : Planned)
+        → asked_of (map string_bytes words.items) ≡ Ok asked
+        → H.told shelf.old ≡ Some files → TextReads limits asked.on tree
+        → plan_of asked (Ok tree) files ≡ Ok planned → H.sound shelf.old
+        → TakesEach (K.takes sink.old) asked planned → (result ≡ 0) ⊎ (result ≡ 8) }
+    ensures sound { H.sound shelf.old
+        → H.sound shelf.new × (H.faults shelf.new ≡ H.faults shelf.old) }
+    ensures left { PutsSome (K.written sink.old) (K.written sink.new)
+        (K.takes sink.old) (K.takes sink.new) }
+    ensures statuses { (result ≡ 0) ⊎ ((2 ≤ result) × (result ≤ 8)) }
+{
+    let outcome = jm_main(rt, alloc, &words, shelf, sink, errors, gate);
+    Ended {
+        code: exit_code(&outcome),
+    }
+}
+
 /// The program `jm`: runs what the words ask for, puts the output on `sink` and the one line of an outcome that isn't
 /// `Done` on `errors`, and answers the exit status; with no words for want of memory, too. What it promises holds if it
 /// returns.
@@ -116,14 +171,8 @@ pub fn jm_program<R: Threads + Wait + Sync, H: Shelf, K: Sink, E: Sink, G: Gate>
     ensures memory { IfErr words (λ fault. (result ≡ 8) × (sink.new ≡ sink.old)) }
     ensures statuses { (result ≡ 0) ⊎ ((2 ≤ result) × (result ≤ 8)) }
 {
-    let outcome = match words {
-        Ok(words) => jm_main(rt, alloc, &words, shelf, sink, errors, gate),
-        Err(AllocError) => {
-            tell(alloc, &Outcome::Memory, errors);
-            Outcome::Memory
-        }
-    };
-    Ended {
-        code: exit_code(&outcome),
+    match words {
+        Ok(words) => run_words(rt, alloc, words, shelf, sink, errors, gate),
+        Err(AllocError) => lacks_words(alloc, errors),
     }
 }
