@@ -12,7 +12,7 @@ use Rattle.theta_pred.specs.Formula.{Meaning}
 use Rattle.join_words.specs.Words.{Asked}
 use Rattle.join_cli.specs.declared.plan.Planned.{Planned}
 use Rattle.join_cli.specs.declared.reading.Tables.{Tables}
-use Rattle.join_cli.specs.declared.refusal.Refusal.{Refusal}
+use Rattle.join_cli.specs.declared.outcome.Outcome.{Outcome}
 use Rattle.join_cli.specs.Columns.{theta_over}
 use Rattle.join_cli.specs.Plan.{checked, fitted, made_tables, tables_by, then_of}
 use Rattle.join_cli.specs.Ends.{IsAsked}
@@ -35,7 +35,7 @@ is_asked told asked tree tables theta planned reads over is same found made =
       made = λ count is_made. same ∙ made count is_made;
     }
 
-pub asked_if : (told : Told) (asked : Asked) (tree : Tree) (tables : Tables) (theta : Meaning) (r : Result Planned Refusal)
+pub asked_if : (told : Told) (asked : Asked) (tree : Tree) (tables : Tables) (theta : Meaning) (r : Result Planned Outcome)
     → TextReads limits asked.on tree
     → theta_over tables.of_r.names tables.of_s.names tree ≡ Ok theta
     → r ≡ checked tables theta

@@ -5,22 +5,19 @@ use Rattle.theta_text.specs.Grammar.{Tree}
 use Rattle.theta_text.specs.declared.fault.PredFault.{PredFault}
 use Rattle.join_words.specs.Words.{Asked, asked_of}
 use Rattle.join_cli.specs.declared.plan.Planned.{Planned}
-use Rattle.join_cli.specs.declared.refusal.Refusal.{Refusal}
-use Rattle.join_cli.specs.declared.refusal.Refusal.TheVariants as refusals
 use Rattle.join_cli.specs.declared.outcome.Outcome.{Outcome}
 use Rattle.join_cli.specs.declared.outcome.Outcome.TheVariants as outcomes
 use Rattle.load_controller.specs.declared.line.TurnLine.{TurnLine}
 use Rattle.join_runtime.specs.Endings.{EndsView}
 use Rattle.join_cli.specs.Ends.{Concludes, EndsAs, IsAsked, IsDone, IsOutcomeOf, TakesEach, Wrote, WroteFront, WroteSoFar}
 use Rattle.join_cli.specs.Plan.{IsJournalOf, output_of, plan_of}
-use Rattle.join_cli.specs.Refusals.{refused_as}
 use Rattle.join_cli.proofs.Asking.{asked_one}
 use Rattle.join_cli.proofs.Seeing.{no_plan}
 
 -- a plan that was carried out has an outcome of it, unless a put failed
 pub ends_concluded : (told : Told) (asked : Asked) (reading : Result Tree PredFault) (planned : Planned) (old new : Option (List ℕ)) (outcome : Outcome)
     → Concludes asked planned old new outcome → (outcome ≡ outcomes.Write → ⊥)
-    → ((files : List ℕ → Option (List ℕ)) → told ≡ Some files → (Ok planned ≡ Err refusals.Memory) ⊎ (Ok planned ≡ plan_of asked reading files))
+    → ((files : List ℕ → Option (List ℕ)) → told ≡ Some files → (Ok planned ≡ Err outcomes.Memory) ⊎ (Ok planned ≡ plan_of asked reading files))
     → EndsAs told asked reading outcome
 ends_concluded None asked reading planned old new outcome concludes put h = tt
 ends_concluded (Some files) asked reading planned old new (outcomes.Done journal trail) (course, written) put h = elim (h files refl) [
@@ -65,25 +62,25 @@ concludes_well asked planned old new (outcomes.Limit _) concludes = elim conclud
 concludes_well asked planned old new outcomes.Read concludes = elim concludes [ ]
 
 -- and its refusal is, where it was refused
-pub ends_refused : (told : Told) (asked : Asked) (reading : Result Tree PredFault) (refusal : Refusal)
-    → ((files : List ℕ → Option (List ℕ)) → told ≡ Some files → (no_plan refusal ≡ Err refusals.Memory) ⊎ (no_plan refusal ≡ plan_of asked reading files))
-    → EndsAs told asked reading (refused_as refusal)
+pub ends_refused : (told : Told) (asked : Asked) (reading : Result Tree PredFault) (refusal : Outcome)
+    → ((files : List ℕ → Option (List ℕ)) → told ≡ Some files → (no_plan refusal ≡ Err outcomes.Memory) ⊎ (no_plan refusal ≡ plan_of asked reading files))
+    → EndsAs told asked reading refusal
 ends_refused None asked reading refusal h = tt
 ends_refused (Some files) asked reading refusal h = elim (h files refl) [
-  | inl m ↦ let same : refusal ≡ refusals.Memory = cc m in inl (ap refused_as same)
-  | inr f ↦ inr (subst (λ p. IsOutcomeOf asked p (refused_as refusal)) f refl)
+  | inl m ↦ let same : refusal ≡ outcomes.Memory = cc m in inl same
+  | inr f ↦ inr (subst (λ p. IsOutcomeOf asked p refusal) f refl)
 ]
 
 -- a plan that is one isn't refused, but for want of memory
-pub complete_refused : (refusal : Refusal) (plan : Result Planned Refusal) (planned : Planned) → (no_plan refusal ≡ Err refusals.Memory) ⊎ (no_plan refusal ≡ plan) → plan ≡ Ok planned
-    → IsDone (refused_as refusal) ⊎ (refused_as refusal ≡ outcomes.Memory)
+pub complete_refused : (refusal : Outcome) (plan : Result Planned Outcome) (planned : Planned) → (no_plan refusal ≡ Err outcomes.Memory) ⊎ (no_plan refusal ≡ plan) → plan ≡ Ok planned
+    → IsDone refusal ⊎ (refusal ≡ outcomes.Memory)
 complete_refused refusal plan planned found is = elim found [
-  | inl m ↦ let same : refusal ≡ refusals.Memory = cc m in inr (ap refused_as same)
+  | inl m ↦ let same : refusal ≡ outcomes.Memory = cc m in inr same
   | inr f ↦ absurd (cc (f ∙ is))
 ]
 
 -- and it is the one that is made
-pub complete_made : (made planned : Planned) (plan : Result Planned Refusal) → (Ok made ≡ Err refusals.Memory) ⊎ (Ok made ≡ plan) → plan ≡ Ok planned → made ≡ planned
+pub complete_made : (made planned : Planned) (plan : Result Planned Outcome) → (Ok made ≡ Err outcomes.Memory) ⊎ (Ok made ≡ plan) → plan ≡ Ok planned → made ≡ planned
 complete_made made planned plan found is = elim found [ inl m ↦ absurd (cc m) | inr f ↦ cc (f ∙ is) ]
 
 -- a sink that takes the output over each lawful journal takes the bytes of one

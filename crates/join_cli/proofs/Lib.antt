@@ -3,6 +3,7 @@ pub mod Trees
 pub mod Wrong
 pub mod Bad
 pub mod Picked
+pub mod Refusals
 pub mod Asking
 pub mod Worked
 pub mod Seeing

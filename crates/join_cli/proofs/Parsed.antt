@@ -5,7 +5,7 @@ use Rattle.theta_text.specs.Texts.{TextReads, IsFaultOf, limits, tree_of}
 use Rattle.theta_text.specs.declared.tree.Pred.{Pred}
 use Rattle.theta_text.specs.declared.fault.PredFault.{PredFault}
 use Rattle.theta_text.specs.declared.fault.PredFault.TheVariants as texts
-use Rattle.join_cli.specs.declared.refusal.Refusal.TheVariants.{Memory}
+use Rattle.join_cli.specs.declared.outcome.Outcome.TheVariants.{Memory}
 use Rattle.join_cli.specs.Refusals.{text_refusal}
 use Rattle.join_cli.specs.Texts.{IsRead, tree_or_refused}
 

@@ -14,13 +14,11 @@ use Rattle.join_cli.specs.declared.outcome.Outcome.{Outcome}
 use Rattle.join_cli.specs.declared.outcome.Outcome.TheVariants.{Limit}
 use Rattle.join_cli.specs.declared.outcome.LimitFault.TheVariants.{TooLong}
 use Rattle.join_cli.specs.declared.plan.Planned.{Planned}
-use Rattle.join_cli.specs.declared.refusal.Refusal.{Refusal}
-use Rattle.join_cli.specs.declared.refusal.Refusal.TheVariants as refusals
 use Rattle.join_cli.specs.Ends.{name_of}
 use Rattle.join_cli.specs.Plan.{fitted, or_refused, table_found, then_of}
 use Rattle.join_cli.specs.Seen.{Ends, EndsOver, plan_over}
 
-abbrev no_plan : Refusal → Result Planned Refusal
+abbrev no_plan : Outcome → Result Planned Outcome
 no_plan refusal = Err refusal
 
 -- so many bytes are no table
@@ -48,12 +46,12 @@ place_there : (spot : Spot) (name other : List ℕ) (place size : ℕ) → spot 
 place_there spot name other place size is so = ap place_at (sym is ∙ so)
 
 -- a plan over a file R that is too long is refused
-long_r : (tree : Tree) (seen_r seen_s : List ℕ) → table_of seen_r ≡ Err files.TooLong → plan_over tree seen_r seen_s ≡ no_plan (refusals.Limit (TooLong R))
+long_r : (tree : Tree) (seen_r seen_s : List ℕ) → table_of seen_r ≡ Err files.TooLong → plan_over tree seen_r seen_s ≡ no_plan (Limit (TooLong R))
 long_r tree seen_r seen_s is = ap (λ r. then_of (then_of (or_refused R r) (λ of_r. then_of (table_found S (Some seen_s)) (λ of_s. Ok (record { of_r = of_r; of_s = of_s })))) (fitted tree)) is
 
 -- and over a table R and a file S that is too long
 long_s : (tree : Tree) (seen_r seen_s : List ℕ) (table : Table) → table_of seen_r ≡ Ok table → table_of seen_s ≡ Err files.TooLong
-    → plan_over tree seen_r seen_s ≡ no_plan (refusals.Limit (TooLong S))
+    → plan_over tree seen_r seen_s ≡ no_plan (Limit (TooLong S))
 long_s tree seen_r seen_s table is_r is_s =
     ap (λ r. then_of (then_of (or_refused R r) (λ of_r. then_of (table_found S (Some seen_s)) (λ of_s. Ok (record { of_r = of_r; of_s = of_s })))) (fitted tree)) is_r
     ∙ ap (λ s. then_of (then_of (or_refused S s) (λ of_s. Ok (record { of_r = table; of_s = of_s }))) (fitted tree)) is_s

@@ -10,8 +10,6 @@ use Rattle.join_rows.specs.declared.table.Side.{Side}
 use Rattle.join_rows.specs.declared.table.Side.TheVariants.{R, S}
 use Rattle.join_rows.specs.declared.table.Table.{Table}
 use Rattle.join_cli.specs.declared.reading.Tables.{Tables}
-use Rattle.join_cli.specs.declared.refusal.Refusal.{Refusal}
-use Rattle.join_cli.specs.declared.refusal.Refusal.TheVariants as refusals
 use Rattle.theta_text.specs.Grammar.{Tree}
 use Rattle.theta_pred.specs.Formula.{Meaning}
 use Rattle.join_words.specs.Words.{Asked}
@@ -21,9 +19,8 @@ use Rattle.join_cli.specs.declared.outcome.Outcome.TheVariants as outcomes
 use Rattle.join_cli.specs.Columns.{theta_over}
 use Rattle.join_cli.specs.Texts.{tree_or_refused}
 use Rattle.join_cli.specs.Plan.{checked, fitted, or_refused, table_found, then_of}
-use Rattle.join_cli.specs.Refusals.{file_refusal, refused_as}
-use Rattle.join_cli.specs.declared.outcome.LimitFault.TheVariants.{TooLong}
-use Rattle.join_cli.specs.Ends.{Concludes, StandsPast}
+use Rattle.join_cli.specs.Refusals.{file_refusal}
+use Rattle.join_cli.specs.Ends.{Concludes, Refuses, StandsPast, name_of}
 use Rattle.join_cli.specs.Seen.{BeginsWith, Ends, EndsOver, IsSeen, PlanSeen, TablesSeen}
 
 abbrev pub refused_table : TableFault → Result Table TableFault
@@ -43,10 +40,10 @@ not_rose old new below not = by (nat_lt old new) refl
 pub table_told : (told : Told) (name : List ℕ) (side : Side) (same : Type 0) (r : Result Table TableFault)
     → (Lacks told name → r ≡ Err files.Read)
     → ((file : List ℕ) → Tells told name file → same → (r ≡ Err files.Memory) ⊎ (r ≡ table_of file))
-    → (all : List ℕ → Option (List ℕ)) → told ≡ Some all → same → (or_refused side r ≡ Err refusals.Memory) ⊎ (or_refused side r ≡ table_found side (all name))
+    → (all : List ℕ → Option (List ℕ)) → told ≡ Some all → same → (or_refused side r ≡ Err outcomes.Memory) ⊎ (or_refused side r ≡ table_found side (all name))
 table_told told name side same r lacks answer all is h = by (all name) refl
   where
-    by : (found : Option (List ℕ)) → all name ≡ found → (or_refused side r ≡ Err refusals.Memory) ⊎ (or_refused side r ≡ table_found side (all name))
+    by : (found : Option (List ℕ)) → all name ≡ found → (or_refused side r ≡ Err outcomes.Memory) ⊎ (or_refused side r ≡ table_found side (all name))
     by None e =
         let none : Lacks told name = rw is e in
         inr (rw e (ap (or_refused side) (lacks none)))
@@ -68,28 +65,30 @@ table_told_ok told name side same table lacks answer all is h =
 pub file_seen : (told : Told) (spot : Spot) (name : List ℕ) (side : Side) (r : Result Table TableFault) → IsOfBytes told name spot r → IsSeen told spot side name (or_refused side r)
 file_seen told spot name side r of_bytes = record { seen = of_bytes.bytes; place = of_bytes.place; first = of_bytes.first; answer = ap (or_refused side) of_bytes.answer }
 
-abbrev pub no_table : Refusal → Result Table Refusal
+abbrev pub no_table : Outcome → Result Table Outcome
 no_table refusal = Err refusal
 
 -- a fault that isn't refused as one of reading, or as want of memory, is none
-pub not_read : (side : Side) (fault : TableFault) → (no_table (file_refusal side fault) ≡ Err refusals.Read → ⊥) → refused_table fault ≡ Err files.Read → ⊥
+pub not_read : (side : Side) (fault : TableFault) → (no_table (file_refusal side fault) ≡ Err outcomes.Read → ⊥) → refused_table fault ≡ Err files.Read → ⊥
 not_read side fault h e = let same : fault ≡ files.Read = cc e in h (ap (λ f. no_table (file_refusal side f)) same)
 
-pub not_memory : (side : Side) (fault : TableFault) → (no_table (file_refusal side fault) ≡ Err refusals.Memory → ⊥) → refused_table fault ≡ Err files.Memory → ⊥
+pub not_memory : (side : Side) (fault : TableFault) → (no_table (file_refusal side fault) ≡ Err outcomes.Memory → ⊥) → refused_table fault ≡ Err files.Memory → ⊥
 not_memory side fault h e = let same : fault ≡ files.Memory = cc e in h (ap (λ f. no_table (file_refusal side f)) same)
 
--- a file that is too long, by where the shelf stands then
-pub long_file : (side : Side) (fault : TableFault) (spot : Spot) (name : List ℕ) (D : ℕ → Type 0)
+-- what is told of a file is so, by where the shelf stands then
+pub file_refuses : (side : Side) (fault : TableFault) (old new : ℕ) (told : Told) (spot : Spot) (name : List ℕ) (D : ℕ → Type 0) (asked : Asked)
+    → (refused_table fault ≡ Err files.Read → (old < new) ⊎ Lacks told name)
     → ((refused_table fault ≡ Err files.Read → ⊥) → (place : ℕ) × (spot ≡ Some (name, place)) × (place ≤ 2 ^ 24 + 1) × (refused_table fault ≡ Err files.TooLong → 2 ^ 24 < place) × D place)
-    → (of : Side) → no_table (file_refusal side fault) ≡ Err (refusals.Limit (TooLong of)) → (of ≡ side) × StandsPast spot name
-long_file side files.TooLong spot name D h of e =
-    let stands = h (λ wrong. cc wrong) in
-    (cc e, (stands.0, stands.1, stands.3 refl, stands.2))
-long_file side files.Read spot name D h of e = cc e
-long_file side files.NoHeader spot name D h of e = cc e
-long_file side (files.Width number found) spot name D h of e = cc e
-long_file side files.TooMany spot name D h of e = cc e
-long_file side files.Memory spot name D h of e = cc e
+    → asked.make ≡ None → name_of side asked ≡ name → Refuses old new told spot asked (file_refusal side fault)
+file_refuses side files.TooLong old new told spot name D asked read place none is =
+    let stands = place (λ wrong. cc wrong) in
+    subst (StandsPast spot) (sym is) (stands.0, stands.1, stands.3 refl, stands.2)
+file_refuses R files.Read old new told spot name D asked read place none is = (none, elim (read refl) [ inl rose ↦ inl rose | inr lacks ↦ inr (inl (subst (Lacks told) (sym is) lacks)) ])
+file_refuses S files.Read old new told spot name D asked read place none is = (none, elim (read refl) [ inl rose ↦ inl rose | inr lacks ↦ inr (inr (subst (Lacks told) (sym is) lacks)) ])
+file_refuses side files.NoHeader old new told spot name D asked read place none is = tt
+file_refuses side (files.Width number found) old new told spot name D asked read place none is = tt
+file_refuses side files.TooMany old new told spot name D asked read place none is = tt
+file_refuses side files.Memory old new told spot name D asked read place none is = tt
 
 -- ---- both files
 
@@ -107,7 +106,7 @@ unfolding front_told
 front_begins None name file tells = absurd tells
 front_begins (Some all) name file tells = rw tells refl
 
-refused_seen : (seen : List ℕ) (refusal : Refusal) (A B : Type 0) → no_table refusal ≡ table_found R (Some seen) → B → MatchResult (table_of seen) (λ table. A) (λ fault. B)
+refused_seen : (seen : List ℕ) (refusal : Outcome) (A B : Type 0) → no_table refusal ≡ table_found R (Some seen) → B → MatchResult (table_of seen) (λ table. A) (λ fault. B)
 refused_seen seen refusal A B is b = by (table_of seen) refl
   where
     by : (r : Result Table TableFault) → table_of seen ≡ r → MatchResult (table_of seen) (λ table. A) (λ fault. B)
@@ -121,15 +120,15 @@ table_seen seen table A B is a = by (table_of seen) refl
     by (Ok found) e = rw e a
     by (Err fault) e = absurd (cc (rw e at is))
 
-abbrev pub no_tables : Refusal → Result Tables Refusal
+abbrev pub no_tables : Outcome → Result Tables Outcome
 no_tables refusal = Err refusal
 
 -- a refusal that is another for both tables is another for one
-pub other_refusal : (refusal why : Refusal) → (no_tables refusal ≡ no_tables why → ⊥) → no_table refusal ≡ no_table why → ⊥
+pub other_refusal : (refusal why : Outcome) → (no_tables refusal ≡ no_tables why → ⊥) → no_table refusal ≡ no_table why → ⊥
 other_refusal refusal why h e = let same : refusal ≡ why = cc e in h (ap no_tables same)
 
 -- R's file is no table
-pub seen_one : (told : Told) (spot : Spot) (name_r name_s : List ℕ) (refusal : Refusal) → IsSeen told spot R name_r (no_table refusal) → TablesSeen told spot name_r name_s (no_tables refusal)
+pub seen_one : (told : Told) (spot : Spot) (name_r name_s : List ℕ) (refusal : Outcome) → IsSeen told spot R name_r (no_table refusal) → TablesSeen told spot name_r name_s (no_tables refusal)
 seen_one told spot name_r name_s refusal is = record {
   seen_r = is.seen;
   seen_s = front_told told name_s;
@@ -142,7 +141,7 @@ seen_one told spot name_r name_s refusal is = record {
 }
 
 -- it is one, and then S's file is read
-pub seen_both : (told : Told) (middle spot : Spot) (name_r name_s : List ℕ) (table_r : Table) (second : Result Table Refusal)
+pub seen_both : (told : Told) (middle spot : Spot) (name_r name_s : List ℕ) (table_r : Table) (second : Result Table Outcome)
     → IsSeen told middle R name_r (Ok table_r) → IsSeen told spot S name_s second
     → TablesSeen told spot name_r name_s (then_of second (λ table_s. Ok (record { of_r = table_r; of_s = table_s })))
 seen_both told middle spot name_r name_s table_r second is_r is_s = record {
@@ -160,18 +159,18 @@ seen_both told middle spot name_r name_s table_r second is_r is_s = record {
 
 -- ---- the plan
 
-abbrev pub no_plan : Refusal → Result Planned Refusal
+abbrev pub no_plan : Outcome → Result Planned Outcome
 no_plan refusal = Err refusal
 
-abbrev pub no_theta : Refusal → Result Meaning Refusal
+abbrev pub no_theta : Outcome → Result Meaning Outcome
 no_theta refusal = Err refusal
 
 -- a text with a tree isn't refused
-pub text_seen : (told : Told) (spot : Spot) (asked : Asked) (tree : Tree) (refusal : Refusal) → (refusal ≡ refusals.Memory) ⊎ (tree_or_refused (Ok tree) ≡ Err refusal)
-    → (no_plan refusal ≡ Err refusals.Memory → ⊥) → PlanSeen told spot asked tree (no_plan refusal)
+pub text_seen : (told : Told) (spot : Spot) (asked : Asked) (tree : Tree) (refusal : Outcome) → (refusal ≡ outcomes.Memory) ⊎ (tree_or_refused (Ok tree) ≡ Err refusal)
+    → (no_plan refusal ≡ Err outcomes.Memory → ⊥) → PlanSeen told spot asked tree (no_plan refusal)
 text_seen told spot asked tree refusal reads memory = elim reads [ inl m ↦ absurd (memory (ap no_plan m)) | inr e ↦ absurd (cc e) ]
 
-pub tables_seen : (told : Told) (spot : Spot) (asked : Asked) (tree : Tree) (refusal : Refusal) → TablesSeen told spot asked.name_r asked.name_s (no_tables refusal) → PlanSeen told spot asked tree (no_plan refusal)
+pub tables_seen : (told : Told) (spot : Spot) (asked : Asked) (tree : Tree) (refusal : Outcome) → TablesSeen told spot asked.name_r asked.name_s (no_tables refusal) → PlanSeen told spot asked tree (no_plan refusal)
 tables_seen told spot asked tree refusal is = record {
   seen_r = is.seen_r;
   seen_s = is.seen_s;
@@ -179,11 +178,11 @@ tables_seen told spot asked tree refusal is = record {
   answer = ap (λ r. then_of r (fitted tree)) is.answer;
 }
 
-pub theta_seen : (told : Told) (spot : Spot) (asked : Asked) (tree : Tree) (tables : Tables) (refusal : Refusal) → TablesSeen told spot asked.name_r asked.name_s (Ok tables)
-    → (no_theta refusal ≡ Err refusals.Memory) ⊎ (no_theta refusal ≡ theta_over tables.of_r.names tables.of_s.names tree) → (no_plan refusal ≡ Err refusals.Memory → ⊥)
+pub theta_seen : (told : Told) (spot : Spot) (asked : Asked) (tree : Tree) (tables : Tables) (refusal : Outcome) → TablesSeen told spot asked.name_r asked.name_s (Ok tables)
+    → (no_theta refusal ≡ Err outcomes.Memory) ⊎ (no_theta refusal ≡ theta_over tables.of_r.names tables.of_s.names tree) → (no_plan refusal ≡ Err outcomes.Memory → ⊥)
     → PlanSeen told spot asked tree (no_plan refusal)
 theta_seen told spot asked tree tables refusal is over memory = elim over [
-  | inl m ↦ let same : refusal ≡ refusals.Memory = cc m in absurd (memory (ap no_plan same))
+  | inl m ↦ let same : refusal ≡ outcomes.Memory = cc m in absurd (memory (ap no_plan same))
   | inr e ↦ record {
     seen_r = is.seen_r;
     seen_s = is.seen_s;
@@ -192,7 +191,7 @@ theta_seen told spot asked tree tables refusal is over memory = elim over [
   }
 ]
 
-pub plan_seen : (told : Told) (spot : Spot) (asked : Asked) (tree : Tree) (tables : Tables) (theta : Meaning) (r : Result Planned Refusal) → TablesSeen told spot asked.name_r asked.name_s (Ok tables)
+pub plan_seen : (told : Told) (spot : Spot) (asked : Asked) (tree : Tree) (tables : Tables) (theta : Meaning) (r : Result Planned Outcome) → TablesSeen told spot asked.name_r asked.name_s (Ok tables)
     → theta_over tables.of_r.names tables.of_s.names tree ≡ Ok theta → r ≡ checked tables theta → PlanSeen told spot asked tree r
 plan_seen told spot asked tree tables theta r is over made = record {
   seen_r = is.seen_r;
@@ -203,20 +202,18 @@ plan_seen told spot asked tree tables theta r is over made = record {
 
 -- ---- the end
 
-pub end_refused : (told : Told) (spot : Spot) (asked : Asked) (tree : Tree) (written : Option (List ℕ)) (refusal : Refusal) → PlanSeen told spot asked tree (no_plan refusal)
-    → EndsOver told spot asked tree written written (refused_as refusal)
+pub end_refused : (told : Told) (spot : Spot) (asked : Asked) (tree : Tree) (written : Option (List ℕ)) (refusal : Outcome) → PlanSeen told spot asked tree (no_plan refusal)
+    → EndsOver told spot asked tree written written refusal
 end_refused told spot asked tree written refusal is = record {
   seen_r = is.seen_r;
   seen_s = is.seen_s;
   are = is.are;
-  ends = subst (λ p. Ends asked written written p (refused_as refusal)) is.answer (refl, refl);
+  ends = subst (λ p. Ends asked written written p refusal) is.answer (refl, refl);
 }
 
-pub not_refused_read : (refusal : Refusal) → (refused_as refusal ≡ outcomes.Read → ⊥) → no_plan refusal ≡ Err refusals.Read → ⊥
-not_refused_read refusal h e = let same : refusal ≡ refusals.Read = cc e in h (ap refused_as same)
-
-pub not_refused_memory : (refusal : Refusal) → (refused_as refusal ≡ outcomes.Memory → ⊥) → no_plan refusal ≡ Err refusals.Memory → ⊥
-not_refused_memory refusal h e = let same : refusal ≡ refusals.Memory = cc e in h (ap refused_as same)
+-- another refusal is another answer
+pub other_outcome : (refusal why : Outcome) → (refusal ≡ why → ⊥) → no_plan refusal ≡ no_plan why → ⊥
+other_outcome refusal why h e = let same : refusal ≡ why = cc e in h same
 
 pub end_concluded : (told : Told) (spot : Spot) (asked : Asked) (tree : Tree) (old new : Option (List ℕ)) (planned : Planned) (outcome : Outcome)
     → PlanSeen told spot asked tree (Ok planned) → Concludes asked planned old new outcome → EndsOver told spot asked tree old new outcome

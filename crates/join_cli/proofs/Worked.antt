@@ -12,8 +12,8 @@ use Rattle.theta_text.specs.declared.tree.Op.TheVariants.{Eq}
 use Rattle.theta_text.specs.declared.tree.TextSide.TheVariants.{Col}
 use Rattle.row_tickets.specs.declared.place.Feed.TheVariants.{Alternate}
 use Rattle.join_words.specs.Words.{Asked}
-use Rattle.join_cli.specs.declared.refusal.Refusal.{Refusal}
-use Rattle.join_cli.specs.declared.refusal.Refusal.TheVariants.{Input, Predicate}
+use Rattle.join_cli.specs.declared.outcome.Outcome.{Outcome}
+use Rattle.join_cli.specs.declared.outcome.Outcome.TheVariants.{Input, Predicate}
 use Rattle.join_cli.specs.declared.outcome.TextFault.TheVariants.{NoColumn, TwoColumns}
 use Rattle.join_cli.specs.declared.outcome.InputFault.TheVariants.{Width, NoHeader}
 use Rattle.join_cli.specs.Plan.{plan_of, output_of, then_of}
@@ -47,7 +47,7 @@ four = record {
 }
 
 -- the output of two files by a tree, or the refusal
-joined : Tree → List ℕ → List ℕ → Result (List ℕ) Refusal
+joined : Tree → List ℕ → List ℕ → Result (List ℕ) Outcome
 joined tree of_r of_s =
     then_of (plan_of four (Ok tree) (λ name. if bytes_eq name (codes "r") then Some of_r else (if bytes_eq name (codes "s") then Some of_s else None)))
     (λ planned. Ok (output_of four planned []))

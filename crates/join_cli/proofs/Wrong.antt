@@ -10,8 +10,8 @@ use Rattle.theta_pred.specs.declared.fault.ResolveFault.{ResolveFault}
 use Rattle.theta_pred.specs.declared.fault.ResolveFault.TheVariants as faults
 use Rattle.join_cli.specs.declared.outcome.TextFault.{TextFault}
 use Rattle.join_cli.specs.declared.outcome.TextFault.TheVariants.{NoColumn, TwoColumns}
-use Rattle.join_cli.specs.declared.refusal.Refusal.{Refusal}
-use Rattle.join_cli.specs.declared.refusal.Refusal.TheVariants.{Predicate, Memory}
+use Rattle.join_cli.specs.declared.outcome.Outcome.{Outcome}
+use Rattle.join_cli.specs.declared.outcome.Outcome.TheVariants.{Predicate, Memory}
 use Rattle.join_cli.specs.Refusals.{column_refusal}
 use Rattle.join_cli.specs.Columns.{wrong_at, first_wrong, theta_over, tree_names}
 use Rattle.join_cli.proofs.Trees.{names_in-tree, resolved-tree}
@@ -26,7 +26,7 @@ doubled_at name [] many = absurd (omega (arith, many))
 doubled_at name (place ∷ []) many = absurd (omega (arith, many))
 doubled_at name (place ∷ other ∷ places) many = refl
 
-abbrev refused_with : Refusal → Result Meaning Refusal
+abbrev refused_with : Outcome → Result Meaning Outcome
 refused_with refusal = Err refusal
 
 module _ (names_r names_s : List (List ℕ)) where

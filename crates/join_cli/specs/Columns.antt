@@ -9,8 +9,8 @@ use Rattle.theta_pred.specs.Names.{sum_names, side_names, places_of}
 use Rattle.theta_pred.specs.Resolved.{resolved_sum, resolved_side}
 use Rattle.join_cli.specs.declared.outcome.TextFault.{TextFault}
 use Rattle.join_cli.specs.declared.outcome.TextFault.TheVariants.{NoColumn, TwoColumns}
-use Rattle.join_cli.specs.declared.refusal.Refusal.{Refusal}
-use Rattle.join_cli.specs.declared.refusal.Refusal.TheVariants.{Predicate}
+use Rattle.join_cli.specs.declared.outcome.Outcome.{Outcome}
+use Rattle.join_cli.specs.declared.outcome.Outcome.TheVariants.{Predicate}
 
 abbrev mutual
   -- the names in a tree, in the order of writing
@@ -52,11 +52,11 @@ first_wrong names_r names_s [] = None
 first_wrong names_r names_s (name ∷ names) = option_or (wrong_at name (places_of names_r names_s name)) (first_wrong names_r names_s names)
 
 -- the predicate, unless a name is wrong
-abbrev pub unless_wrong : Option TextFault → Meaning → Result Meaning Refusal
+abbrev pub unless_wrong : Option TextFault → Meaning → Result Meaning Outcome
 unless_wrong None theta = Ok theta
 unless_wrong (Some fault) theta = Err (Predicate fault)
 
 -- the predicate of a tree over two headers, or the first wrong name
-abbrev pub theta_over : List (List ℕ) → List (List ℕ) → Tree → Result Meaning Refusal
+abbrev pub theta_over : List (List ℕ) → List (List ℕ) → Tree → Result Meaning Outcome
 theta_over names_r names_s t = unless_wrong (first_wrong names_r names_s (tree_names t))
     (record { formula = formula_over names_r names_s t; width_r = length names_r; width_s = length names_s })

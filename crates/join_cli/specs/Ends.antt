@@ -10,10 +10,11 @@ use Rattle.load_controller.specs.declared.line.TurnLine.{TurnLine}
 use Rattle.join_runtime.specs.Endings.{EndsView}
 use Rattle.join_words.specs.Words.{Asked}
 use Rattle.join_cli.specs.declared.outcome.Outcome.{Outcome}
-use Rattle.join_cli.specs.declared.outcome.Outcome.TheVariants.{Done, Memory, Write}
-use Rattle.join_cli.specs.declared.refusal.Refusal.{Refusal}
+use Rattle.join_cli.specs.declared.outcome.Outcome.TheVariants.{Done, Input, Limit, Memory, Predicate, Read, Words, Write}
+use Rattle.join_cli.specs.declared.outcome.LimitFault.TheVariants.{TooLong, TooMany}
 use Rattle.join_cli.specs.declared.plan.Planned.{Planned}
-use Rattle.join_cli.specs.Refusals.{refused_as, text_refusal}
+use Rattle.join_cli.specs.Refusals.{text_refusal}
+use Rattle.join_cli.specs.Texts.{IsTrueOf}
 use Rattle.trace_law.specs.Join.{nested_loop}
 use Rattle.join_report.specs.PairLines.{pair_lines}
 use Rattle.join_cli.specs.Plan.{IsJournalOf, fitted, input_of, made_tables, plan_of, output_of, tables_by}
@@ -26,10 +27,10 @@ IsDone (Done journal trail) = ⊤
 IsDone outcome = ⊥
 
 -- a plan was carried out, and what is answered is of a run of it, or it was refused
-abbrev pub IsOutcomeOf : Asked → Result Planned Refusal → Outcome → Type 0
+abbrev pub IsOutcomeOf : Asked → Result Planned Outcome → Outcome → Type 0
 IsOutcomeOf asked (Ok planned) (Done journal trail) = IsCourseOf asked planned journal trail
 IsOutcomeOf asked (Ok planned) outcome = ⊥
-IsOutcomeOf asked (Err refusal) outcome = outcome ≡ refused_as refusal
+IsOutcomeOf asked (Err refusal) outcome = outcome ≡ refusal
 
 -- where the shelf tells its files, the outcome is one of the plan, or memory ran out
 abbrev pub EndsAs : Told → Asked → Result Tree PredFault → Outcome → Type 0
@@ -95,4 +96,17 @@ StandsPast spot name = (place : ℕ) × (spot ≡ Some (name, place)) × (2 ^ 24
 
 -- the text's own fault is answered, or memory ran out
 abbrev pub EndsEarly : PredFault → Outcome → Type 0
-EndsEarly fault outcome = (outcome ≡ Memory) ⊎ (outcome ≡ refused_as (text_refusal fault))
+EndsEarly fault outcome = (outcome ≡ Memory) ⊎ (outcome ≡ text_refusal fault)
+
+-- what is told where nothing was carried out is so: of the text; of the shelf, whose count rose from the one to the other or
+-- which lacks one of the two names, where files are asked for; and of the place in the file that is picked
+abbrev pub Refuses : ℕ → ℕ → Told → Spot → Asked → Outcome → Type 0
+Refuses old new told spot asked (Done journal trail) = ⊥
+Refuses old new told spot asked (Words fault) = ⊥
+Refuses old new told spot asked (Predicate fault) = IsTrueOf asked.on fault
+Refuses old new told spot asked (Input fault) = ⊤
+Refuses old new told spot asked (Limit (TooLong side)) = StandsPast spot (name_of side asked)
+Refuses old new told spot asked (Limit (TooMany side)) = ⊤
+Refuses old new told spot asked Read = (asked.make ≡ None) × ((old < new) ⊎ LacksOne told asked)
+Refuses old new told spot asked Write = ⊥
+Refuses old new told spot asked Memory = ⊤

@@ -27,8 +27,8 @@ use Rattle.join_report.specs.RowLines.{row_lines}
 use Rattle.join_report.specs.Summary.{summary_of}
 use Rattle.join_words.specs.Words.{Asked}
 use Rattle.join_cli.specs.declared.outcome.InputFault.{InputFault}
-use Rattle.join_cli.specs.declared.refusal.Refusal.{Refusal}
-use Rattle.join_cli.specs.declared.refusal.Refusal.TheVariants.{Input as Unfit, Read}
+use Rattle.join_cli.specs.declared.outcome.Outcome.{Outcome}
+use Rattle.join_cli.specs.declared.outcome.Outcome.TheVariants.{Input as Unfit, Read}
 use Rattle.join_cli.specs.declared.reading.Tables.{Tables}
 use Rattle.join_cli.specs.declared.plan.Planned.{Planned}
 use Rattle.join_cli.specs.Refusals.{file_refusal}
@@ -37,27 +37,27 @@ use Rattle.join_cli.specs.Columns.{theta_over}
 use Rattle.join_cli.specs.Numbers.{number_fault_of}
 
 -- one stage after another
-abbrev pub then_of : {A B : Type 0} → Result A Refusal → (A → Result B Refusal) → Result B Refusal
+abbrev pub then_of : {A B : Type 0} → Result A Outcome → (A → Result B Outcome) → Result B Outcome
 then_of (Ok x) next = next x
 then_of (Err refusal) next = Err refusal
 
 -- ---- the tables
 
-abbrev pub or_refused : Side → Result Table TableFault → Result Table Refusal
+abbrev pub or_refused : Side → Result Table TableFault → Result Table Outcome
 or_refused side (Ok table) = Ok table
 or_refused side (Err fault) = Err (file_refusal side fault)
 
 -- the table of a side's file, where there is one
-abbrev pub table_found : Side → Option (List ℕ) → Result Table Refusal
+abbrev pub table_found : Side → Option (List ℕ) → Result Table Outcome
 table_found side None = Err Read
 table_found side (Some bytes) = or_refused side (table_of bytes)
 
 -- the tables in two files, R before S
-abbrev pub tables_in : Option (List ℕ) → Option (List ℕ) → Result Tables Refusal
+abbrev pub tables_in : Option (List ℕ) → Option (List ℕ) → Result Tables Outcome
 tables_in file_r file_s = then_of (table_found R file_r) (λ r. then_of (table_found S file_s) (λ s. Ok (record { of_r = r; of_s = s })))
 
 -- and under two names
-abbrev pub tables_of : (List ℕ → Option (List ℕ)) → List ℕ → List ℕ → Result Tables Refusal
+abbrev pub tables_of : (List ℕ → Option (List ℕ)) → List ℕ → List ℕ → Result Tables Outcome
 tables_of files name_r name_s = tables_in (files name_r) (files name_s)
 
 -- the tables that are made where there are no files
@@ -65,26 +65,26 @@ abbrev pub made_tables : ℕ → Tables
 made_tables count = record { of_r = made_table R count; of_s = made_table S count }
 
 -- made tables, or those of the two files
-abbrev pub tables_by : Option ℕ → (List ℕ → Option (List ℕ)) → List ℕ → List ℕ → Result Tables Refusal
+abbrev pub tables_by : Option ℕ → (List ℕ → Option (List ℕ)) → List ℕ → List ℕ → Result Tables Outcome
 tables_by None files name_r name_s = tables_of files name_r name_s
 tables_by (Some count) files name_r name_s = Ok (made_tables count)
 
 -- ---- the predicate over them
 
-abbrev pub unless_unfit : Option InputFault → Planned → Result Planned Refusal
+abbrev pub unless_unfit : Option InputFault → Planned → Result Planned Outcome
 unless_unfit None planned = Ok planned
 unless_unfit (Some fault) planned = Err (Unfit fault)
 
 -- the cells that are to be numbers are numbers or empty
-abbrev pub checked : Tables → Meaning → Result Planned Refusal
+abbrev pub checked : Tables → Meaning → Result Planned Outcome
 checked tables theta = unless_unfit (number_fault_of tables theta) (record { tables = tables; theta = theta })
 
 -- the names have their columns, and these their numbers
-abbrev pub fitted : Tree → Tables → Result Planned Refusal
+abbrev pub fitted : Tree → Tables → Result Planned Outcome
 fitted tree tables = then_of (theta_over tables.of_r.names tables.of_s.names tree) (checked tables)
 
 -- the text, the two tables, the columns, the numbers
-abbrev pub plan_of : Asked → Result Tree PredFault → (List ℕ → Option (List ℕ)) → Result Planned Refusal
+abbrev pub plan_of : Asked → Result Tree PredFault → (List ℕ → Option (List ℕ)) → Result Planned Outcome
 plan_of asked reading files =
     then_of (tree_or_refused reading) (λ tree. then_of (tables_by asked.make files asked.name_r asked.name_s) (fitted tree))
 

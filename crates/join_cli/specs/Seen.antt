@@ -9,8 +9,6 @@ use Rattle.join_words.specs.Words.{Asked}
 use Rattle.join_cli.specs.declared.outcome.Outcome.{Outcome}
 use Rattle.join_cli.specs.declared.reading.Tables.{Tables}
 use Rattle.join_cli.specs.declared.plan.Planned.{Planned}
-use Rattle.join_cli.specs.declared.refusal.Refusal.{Refusal}
-use Rattle.join_cli.specs.Refusals.{refused_as}
 use Rattle.join_cli.specs.Ends.{Concludes}
 use Rattle.join_cli.specs.Plan.{fitted, made_tables, table_found, tables_in, then_of}
 
@@ -19,7 +17,7 @@ abbrev pub BeginsWith : Told → List ℕ → List ℕ → Type 0
 BeginsWith told name seen = (file : List ℕ) → Tells told name file → seen ≡ take (2 ^ 24 + 1) file
 
 -- the answer is that of bytes which were read of the named file, as many as the place in it says
-pub record IsSeen (told : Told) (spot : Spot) (side : Side) (name : List ℕ) (result : Result Table Refusal) : Type 0 where
+pub record IsSeen (told : Told) (spot : Spot) (side : Side) (name : List ℕ) (result : Result Table Outcome) : Type 0 where
   pub seen : List ℕ
   pub place : spot ≡ Some (name, length seen)
   pub first : BeginsWith told name seen
@@ -32,37 +30,37 @@ pub record AreSeen (told : Told) (spot : Spot) (name_r name_s seen_r seen_s : Li
   pub place : MatchResult (table_of seen_r) (λ table. spot ≡ Some (name_s, length seen_s)) (λ fault. spot ≡ Some (name_r, length seen_r))
 
 -- the answer is that of such bytes
-pub record TablesSeen (told : Told) (spot : Spot) (name_r name_s : List ℕ) (result : Result Tables Refusal) : Type 0 where
+pub record TablesSeen (told : Told) (spot : Spot) (name_r name_s : List ℕ) (result : Result Tables Outcome) : Type 0 where
   pub seen_r : List ℕ
   pub seen_s : List ℕ
   pub are : AreSeen told spot name_r name_s seen_r seen_s
   pub answer : result ≡ tables_in (Some seen_r) (Some seen_s)
 
 -- the answer is that of such bytes, or made tables
-abbrev pub TablesAsked : Told → Spot → Asked → Option ℕ → Result Tables Refusal → Type 0
+abbrev pub TablesAsked : Told → Spot → Asked → Option ℕ → Result Tables Outcome → Type 0
 TablesAsked told spot asked None result = TablesSeen told spot asked.name_r asked.name_s result
 TablesAsked told spot asked (Some count) result = result ≡ Ok (made_tables count)
 
 -- what a predicate's tree and two files come to
-abbrev pub plan_over : Tree → List ℕ → List ℕ → Result Planned Refusal
+abbrev pub plan_over : Tree → List ℕ → List ℕ → Result Planned Outcome
 plan_over tree seen_r seen_s = then_of (tables_in (Some seen_r) (Some seen_s)) (fitted tree)
 
 -- the plan, or the refusal, is that of bytes which were read of two files
-pub record PlanSeen (told : Told) (spot : Spot) (asked : Asked) (tree : Tree) (result : Result Planned Refusal) : Type 0 where
+pub record PlanSeen (told : Told) (spot : Spot) (asked : Asked) (tree : Tree) (result : Result Planned Outcome) : Type 0 where
   pub seen_r : List ℕ
   pub seen_s : List ℕ
   pub are : AreSeen told spot asked.name_r asked.name_s seen_r seen_s
   pub answer : result ≡ plan_over tree seen_r seen_s
 
 -- of such bytes, or of made tables
-abbrev pub PlanAsked : Told → Spot → Asked → Option ℕ → Tree → Result Planned Refusal → Type 0
+abbrev pub PlanAsked : Told → Spot → Asked → Option ℕ → Tree → Result Planned Outcome → Type 0
 PlanAsked told spot asked None tree result = PlanSeen told spot asked tree result
 PlanAsked told spot asked (Some count) tree result = result ≡ fitted tree (made_tables count)
 
 -- a plan was carried out, or it was refused and nothing written
-abbrev pub Ends : Asked → Option (List ℕ) → Option (List ℕ) → Result Planned Refusal → Outcome → Type 0
+abbrev pub Ends : Asked → Option (List ℕ) → Option (List ℕ) → Result Planned Outcome → Outcome → Type 0
 Ends asked old new (Ok planned) outcome = Concludes asked planned old new outcome
-Ends asked old new (Err refusal) outcome = (outcome ≡ refused_as refusal) × (new ≡ old)
+Ends asked old new (Err refusal) outcome = (outcome ≡ refusal) × (new ≡ old)
 
 -- a run ends as what it has read of the two files says
 pub record EndsOver (told : Told) (spot : Spot) (asked : Asked) (tree : Tree) (old new : Option (List ℕ)) (outcome : Outcome) : Type 0 where

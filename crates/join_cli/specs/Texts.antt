@@ -7,8 +7,8 @@ use Rattle.theta_text.specs.declared.fault.PredFault.{PredFault}
 use Rattle.theta_text.specs.declared.fault.PredFault.TheVariants as texts
 use Rattle.join_cli.specs.declared.outcome.TextFault.{TextFault}
 use Rattle.join_cli.specs.declared.outcome.TextFault.TheVariants.{Syntax, Deep, Wide, Literal}
-use Rattle.join_cli.specs.declared.refusal.Refusal.{Refusal}
-use Rattle.join_cli.specs.declared.refusal.Refusal.TheVariants.{Memory}
+use Rattle.join_cli.specs.declared.outcome.Outcome.{Outcome}
+use Rattle.join_cli.specs.declared.outcome.Outcome.TheVariants.{Memory}
 use Rattle.join_cli.specs.Refusals.{text_refusal}
 
 -- the text's tree within the limits, or its fault
@@ -17,7 +17,7 @@ IsRead text (Ok tree) = TextReads limits text tree
 IsRead text (Err fault) = IsFaultOf limits text fault
 
 -- the tree, or the refusal of the text
-abbrev pub tree_or_refused : Result Tree PredFault → Result Tree Refusal
+abbrev pub tree_or_refused : Result Tree PredFault → Result Tree Outcome
 tree_or_refused (Ok tree) = Ok tree
 tree_or_refused (Err fault) = Err (text_refusal fault)
 
@@ -30,10 +30,10 @@ IsTrueOf text (Literal place) = IsFaultOf limits text (texts.Literal place)
 IsTrueOf text _ = ⊤
 
 -- the predicate has this tree, or it is refused so, or memory ran out
-abbrev pub Reads : Result Tree PredFault → Result Pred Refusal → Type 0
+abbrev pub Reads : Result Tree PredFault → Result Pred Outcome → Type 0
 Reads reading (Ok pred) = reading ≡ Ok (tree_of pred)
 Reads reading (Err refusal) = (refusal ≡ Memory) ⊎ (tree_or_refused reading ≡ Err refusal)
 
 -- a text with this fault is refused by it, or memory ran out
-abbrev pub RefusesText : {T : Type 0} → PredFault → Result T Refusal → Type 0
+abbrev pub RefusesText : {T : Type 0} → PredFault → Result T Outcome → Type 0
 RefusesText fault result = MatchResult result (λ value. ⊥) (λ refusal. (refusal ≡ Memory) ⊎ (refusal ≡ text_refusal fault))

@@ -1,15 +1,15 @@
 // A predicate over the headers of two tables.
 
-ghost use Rattle.std.specs.Prelude.{◌≡◌, ◌⊎◌, ◌≤◌, ℕ, List, IfOk, Ok, Err, length};
+ghost use Rattle.std.specs.Prelude.{◌≡◌, ◌⊎◌, ◌≤◌, ℕ, IfErr, IfOk, Ok, Err, length};
 ghost use Rattle.theta_text.specs.Sizes.{longest_sum};
 ghost use Rattle.theta_text.specs.Texts.{tree_of};
-ghost use Rattle.join_rows.specs.declared.table.Side.{Side};
-ghost use Rattle.join_cli.specs.declared.outcome.TextFault.{TextFault};
+ghost use Rattle.join_rows.specs.Shelves.{Spot, Told};
+ghost use Rattle.join_words.specs.Words.{Asked};
 ghost use Rattle.join_cli.specs.Columns.{theta_over};
-ghost use Rattle.join_cli.specs.Texts.{IsTrueOf};
+ghost use Rattle.join_cli.specs.Ends.{Refuses};
 
-use crate::outcome::LimitFault;
-use crate::refusal::{Refusal, columns_refused};
+use crate::outcome::Outcome;
+use crate::refusal::columns_refused;
 use join_rows::Names;
 use std::alloc::Global;
 use theta_pred::{Theta, resolve};
@@ -21,16 +21,14 @@ pub(crate) fn theta(
     pred: &Pred,
     names_r: &Names,
     names_s: &Names,
-) -> Result<Theta, Refusal>
+) -> Result<Theta, Outcome>
     requires { longest_sum pred.now ≤ 16 }
-    ensures answer { (result ≡ Err Refusal.Memory)
+    ensures answer { (result ≡ Err Outcome.Memory)
         ⊎ (result ≡ theta_over names_r.now names_s.now (tree_of pred.now)) }
     ensures found { IfOk result
         (λ theta. theta_over names_r.now names_s.now (tree_of pred.now) ≡ Ok theta) }
-    ensures text { (text : List ℕ) (fault : TextFault) → result ≡ Err (Refusal.Predicate fault)
-        → IsTrueOf text fault }
-    ensures files { result ≡ Err Refusal.Read → ⊥ }
-    ensures limits { (side : Side) → result ≡ Err (Refusal.Limit (LimitFault.TooLong side)) → ⊥ }
+    ensures refused { (old new : ℕ) (told : Told) (spot : Spot) (asked : Asked)
+        → IfErr result (Refuses old new told spot asked) }
     ensures width_r { IfOk result (λ theta. theta.width_r ≡ length names_r.now) }
     ensures width_s { IfOk result (λ theta. theta.width_s ≡ length names_s.now) }
 {

@@ -1,16 +1,15 @@
 // The two tables, read one after the other.
 
-ghost use Rattle.std.specs.Prelude.{◌≡◌, ◌⊎◌, ◌<◌, ◌≤◌, ℕ, List, Option, Some, Ok, Err, IfOk};
-ghost use Rattle.join_rows.specs.Shelves.{Lacks, last_fault};
+ghost use Rattle.std.specs.Prelude.{◌≡◌, ◌⊎◌, ◌<◌, ◌≤◌, ℕ, List, Option, None, Some, Ok, Err, IfErr, IfOk};
+ghost use Rattle.join_rows.specs.Shelves.{last_fault};
 ghost use Rattle.join_rows.specs.Records.{IsTable};
-ghost use Rattle.join_rows.specs.declared.table.Side.{Side};
-ghost use Rattle.join_cli.specs.declared.outcome.TextFault.{TextFault};
+ghost use Rattle.join_words.specs.Words.{Asked};
 ghost use Rattle.join_cli.specs.Plan.{made_tables, tables_of, table_found};
-ghost use Rattle.join_cli.specs.Ends.{StandsPast, name_on};
+ghost use Rattle.join_cli.specs.Ends.{Refuses, name_of};
 ghost use Rattle.join_cli.specs.Seen.{IsSeen, TablesSeen};
 
-use crate::outcome::LimitFault;
-use crate::refusal::{Refusal, file_refused};
+use crate::outcome::Outcome;
+use crate::refusal::file_refused;
 use join_rows::{Shelf, Side, Table, make_table, read_table};
 use std::alloc::{AllocError, Global};
 
@@ -35,26 +34,24 @@ pub(crate) fn made(alloc: Global, count: u64) -> Result<Tables, AllocError>
 }
 
 /// The table of one side.
-fn table<H: Shelf>(alloc: Global, shelf: &mut H, side: Side, name: &str) -> Result<Table, Refusal>
+fn table<H: Shelf>(alloc: Global, shelf: &mut H, side: Side, name: &str) -> Result<Table, Outcome>
     requires { H.faults shelf.old < last_fault }
     ensures told { H.told shelf.new ≡ H.told shelf.old }
     ensures rises { H.faults shelf.old ≤ H.faults shelf.new }
     ensures answer { (files : List ℕ → Option (List ℕ)) → H.told shelf.old ≡ Some files
         → H.faults shelf.new ≡ H.faults shelf.old
-        → (result ≡ Err Refusal.Memory) ⊎ (result ≡ table_found side (files name.now)) }
+        → (result ≡ Err Outcome.Memory) ⊎ (result ≡ table_found side (files name.now)) }
     ensures found { IfOk result
         (λ table. (files : List ℕ → Option (List ℕ)) → H.told shelf.old ≡ Some files
         → table_found side (files name.now) ≡ Ok table) }
-    ensures seen { (result ≡ Err Refusal.Read → ⊥) → (result ≡ Err Refusal.Memory → ⊥)
+    ensures seen { (result ≡ Err Outcome.Read → ⊥) → (result ≡ Err Outcome.Memory → ⊥)
         → IsSeen (H.told shelf.old) (H.picked shelf.new) side name.now result }
     ensures sound { H.sound shelf.old
         → H.sound shelf.new × (H.faults shelf.new ≡ H.faults shelf.old) }
-    ensures read { result ≡ Err Refusal.Read
-        → (H.faults shelf.old < H.faults shelf.new) ⊎ Lacks (H.told shelf.old) name.now }
-    ensures counts { (result ≡ Err Refusal.Read → ⊥) → H.faults shelf.new ≡ H.faults shelf.old }
-    ensures long { (of : Side) → result ≡ Err (Refusal.Limit (LimitFault.TooLong of))
-        → (of ≡ side) × StandsPast (H.picked shelf.new) name.now }
-    ensures files { (fault : TextFault) → result ≡ Err (Refusal.Predicate fault) → ⊥ }
+    ensures counts { (result ≡ Err Outcome.Read → ⊥) → H.faults shelf.new ≡ H.faults shelf.old }
+    ensures refused { (asked : Asked) → asked.make ≡ None → name_of side asked ≡ name.now
+        → IfErr result (Refuses (H.faults shelf.old) (H.faults shelf.new)
+        (H.told shelf.old) (H.picked shelf.new) asked) }
     ensures whole { IfOk result IsTable }
 {
     match read_table(alloc, shelf, name) {
@@ -69,26 +66,25 @@ pub(crate) fn read_tables<H: Shelf>(
     shelf: &mut H,
     name_r: &str,
     name_s: &str,
-) -> Result<Tables, Refusal>
+) -> Result<Tables, Outcome>
     requires { H.faults shelf.old < last_fault }
     ensures told { H.told shelf.new ≡ H.told shelf.old }
     ensures rises { H.faults shelf.old ≤ H.faults shelf.new }
     ensures answer { (files : List ℕ → Option (List ℕ)) → H.told shelf.old ≡ Some files
         → H.faults shelf.new ≡ H.faults shelf.old
-        → (result ≡ Err Refusal.Memory) ⊎ (result ≡ tables_of files name_r.now name_s.now) }
+        → (result ≡ Err Outcome.Memory) ⊎ (result ≡ tables_of files name_r.now name_s.now) }
     ensures found { IfOk result
         (λ tables. (files : List ℕ → Option (List ℕ)) → H.told shelf.old ≡ Some files
         → tables_of files name_r.now name_s.now ≡ Ok tables) }
-    ensures seen { (result ≡ Err Refusal.Read → ⊥) → (result ≡ Err Refusal.Memory → ⊥)
+    ensures seen { (result ≡ Err Outcome.Read → ⊥) → (result ≡ Err Outcome.Memory → ⊥)
         → TablesSeen (H.told shelf.old) (H.picked shelf.new) name_r.now name_s.now result }
     ensures sound { H.sound shelf.old
         → H.sound shelf.new × (H.faults shelf.new ≡ H.faults shelf.old) }
-    ensures read { result ≡ Err Refusal.Read → (H.faults shelf.old < H.faults shelf.new)
-        ⊎ (Lacks (H.told shelf.old) name_r.now ⊎ Lacks (H.told shelf.old) name_s.now) }
-    ensures counts { (result ≡ Err Refusal.Read → ⊥) → H.faults shelf.new ≡ H.faults shelf.old }
-    ensures long { (side : Side) → result ≡ Err (Refusal.Limit (LimitFault.TooLong side))
-        → StandsPast (H.picked shelf.new) (name_on side name_r.now name_s.now) }
-    ensures files { (fault : TextFault) → result ≡ Err (Refusal.Predicate fault) → ⊥ }
+    ensures counts { (result ≡ Err Outcome.Read → ⊥) → H.faults shelf.new ≡ H.faults shelf.old }
+    ensures refused { (asked : Asked)
+        → asked.make ≡ None → asked.name_r ≡ name_r.now → asked.name_s ≡ name_s.now
+        → IfErr result (Refuses (H.faults shelf.old) (H.faults shelf.new)
+        (H.told shelf.old) (H.picked shelf.new) asked) }
     ensures whole_r { IfOk result (λ tables. IsTable tables.of_r) }
     ensures whole_s { IfOk result (λ tables. IsTable tables.of_s) }
 {

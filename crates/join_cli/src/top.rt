@@ -12,7 +12,6 @@ ghost use Rattle.join_runtime.specs.Endings.{EndsView};
 ghost use Rattle.join_words.specs.Words.{Asked, asked, asked_of};
 ghost use Rattle.join_words.specs.declared.options.WordsFault.{WordsFault};
 ghost use Rattle.join_cli.specs.declared.outcome.TextFault.{TextFault};
-ghost use Rattle.join_cli.specs.Refusals.{refused_as, text_refusal};
 ghost use Rattle.join_cli.specs.Texts.{IsRead, IsTrueOf};
 ghost use Rattle.join_cli.specs.declared.plan.Planned.{Planned};
 ghost use Rattle.join_cli.specs.Plan.{plan_of};
@@ -22,7 +21,6 @@ ghost use Rattle.join_cli.specs.Ends.{EndsAs, EndsEarly, IsDone, LacksOne, Stand
 use crate::conclude::conclude;
 use crate::outcome::{LimitFault, Outcome};
 use crate::plan::prepare;
-use crate::refusal::refused;
 use join_rows::{Shelf, Sink};
 use join_words::{Options, WordsError, read_words};
 use std::alloc::Global;
@@ -93,7 +91,7 @@ fn join_files<R: Threads + Wait + Sync, H: Shelf, K: Sink, G: Gate>(
 {
     match prepare(alloc, options, shelf) {
         Ok(planned) => conclude(rt, alloc, options, planned, sink, gate),
-        Err(refusal) => refused(refusal),
+        Err(refusal) => refusal,
     }
 }
 

@@ -1,4 +1,5 @@
 use Rattle.std.proofs.Common.{inr, ap, sym, ◌∙◌, Ok}
+use Rattle.join_cli.proofs.Refusals.{columns_refuse}
 use Rattle.join_cli.proofs.Wrong.{theta_found, refused_over}
 use Rattle.join_cli.proofs.columns.theta.Goals as goal
 
@@ -13,3 +14,6 @@ returns-in-Ok-clause-found c =
 pub returns-in-Err-clause-answer : goal.returns-in-Err-clause-answer
 returns-in-Err-clause-answer c =
     rw c.columns_refused.ensures (refused_over c.args.names_r.now c.args.names_s.now c.args.pred.now c.in-Err.fault c.in-Err.ensures.err)
+
+pub returns-in-Err-clause-refused : goal.returns-in-Err-clause-refused
+returns-in-Err-clause-refused c = λ old new told spot asked. rw c.columns_refused.ensures (columns_refuse c.in-Err.fault old new told spot asked)

@@ -1,9 +1,9 @@
-use Rattle.std.proofs.Common.{◌≡◌, Ok}
+use Rattle.std.proofs.Common.{◌≡◌, Ok, refl}
 use Rattle.std.proofs.lemmas.Result.{err_from_is_err_and}
 use Rattle.theta_text.specs.Texts.{tree_of}
 use Rattle.join_words.specs.Words.{asked}
 use Rattle.join_cli.proofs.Asking.{asked_if}
-use Rattle.join_cli.specs.declared.refusal.Refusal.TheVariants as refusals
+use Rattle.join_cli.specs.declared.outcome.Outcome.TheVariants as outcomes
 use Rattle.join_cli.proofs.MadeTables.{made_are, other_refusal_of_plan, plan_asked, tables_asked, text_asked, theta_asked}
 use Rattle.join_cli.proofs.plan.prepare.Goals as goal
 
@@ -36,4 +36,21 @@ pub returns-in_err-tables-clause-seen : goal.returns-in_err-tables-clause-seen
 returns-in_err-tables-clause-seen g c tree reads read memory =
     let p = err_from_is_err_and c.from_residual-in_err-tables.result c.from_residual-in_err-tables.ensures.1 in
     rw (p.1, p.2) (tables_asked (g.H.Shelf.told c.args.shelf.now) (g.H.Shelf.picked c.tables.new.shelf) (asked c.args.options.now) c.args.options.now.make tree c.in_err-tables.field-0.0
-    (c.in_err-tables.ensures.seen (other_refusal_of_plan c.in_err-tables.field-0.0 refusals.Read (rw (p.1, p.2) at read)) (other_refusal_of_plan c.in_err-tables.field-0.0 refusals.Memory (rw (p.1, p.2) at memory))))
+    (c.in_err-tables.ensures.seen (other_refusal_of_plan c.in_err-tables.field-0.0 outcomes.Read (rw (p.1, p.2) at read)) (other_refusal_of_plan c.in_err-tables.field-0.0 outcomes.Memory (rw (p.1, p.2) at memory))))
+
+pub returns-in_err-pred-clause-refused : goal.returns-in_err-pred-clause-refused
+returns-in_err-pred-clause-refused g c =
+    let p = err_from_is_err_and c.from_residual.result c.from_residual.ensures.1 in
+    rw (p.1, p.2) (c.in_err-pred.ensures.refused (g.H.Shelf.faults c.args.shelf.now) (g.H.Shelf.faults c.args.shelf.now) (g.H.Shelf.told c.args.shelf.now)
+    (g.H.Shelf.picked c.args.shelf.now) (asked c.args.options.now) refl)
+
+pub returns-in_err-tables-clause-refused : goal.returns-in_err-tables-clause-refused
+returns-in_err-tables-clause-refused g c =
+    let p = err_from_is_err_and c.from_residual-in_err-tables.result c.from_residual-in_err-tables.ensures.1 in
+    rw (p.1, p.2) c.in_err-tables.ensures.refused
+
+pub returns-in_err-theta-clause-refused : goal.returns-in_err-theta-clause-refused
+returns-in_err-theta-clause-refused g c =
+    let p = err_from_is_err_and c.from_residual-in_err-theta.result c.from_residual-in_err-theta.ensures.1 in
+    rw (p.1, p.2) (c.in_err-theta.ensures.refused (g.H.Shelf.faults c.args.shelf.now) (g.H.Shelf.faults c.tables.new.shelf) (g.H.Shelf.told c.args.shelf.now)
+    (g.H.Shelf.picked c.tables.new.shelf) (asked c.args.options.now))

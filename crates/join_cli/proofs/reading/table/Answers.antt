@@ -1,5 +1,5 @@
 use Rattle.std.proofs.Common.{◌≡◌, Ok, Err, inl, inr}
-use Rattle.join_cli.proofs.Seeing.{file_seen, long_file, not_memory, not_read, not_rose, table_told, table_told_ok}
+use Rattle.join_cli.proofs.Seeing.{file_refuses, file_seen, not_memory, not_read, not_rose, table_told, table_told_ok}
 use Rattle.join_cli.proofs.reading.table.Goals as goal
 
 pub returns-in-Ok-clause-found : goal.returns-in-Ok-clause-found
@@ -14,9 +14,11 @@ returns-in-Err-clause-answer g c files is same =
     (table_told (g.H.Shelf.told c.args.shelf.now) c.args.name.now c.args.side (g.H.Shelf.faults c.read_table.new.shelf ≡ g.H.Shelf.faults c.args.shelf.now) (Err c.in-Err.fault)
     (λ lacks. c.in-Err.ensures.read.1 (inr lacks)) c.in-Err.ensures.answer files is same)
 
-pub returns-in-Err-clause-long : goal.returns-in-Err-clause-long
-returns-in-Err-clause-long g c of e =
-    long_file c.args.side c.in-Err.fault (g.H.Shelf.picked c.read_table.new.shelf) c.args.name.now _ c.in-Err.ensures.place of (rw c.file_refused.ensures at e)
+pub returns-in-Err-clause-refused : goal.returns-in-Err-clause-refused
+returns-in-Err-clause-refused g c asked none is =
+    rw c.file_refused.ensures
+    (file_refuses c.args.side c.in-Err.fault (g.H.Shelf.faults c.args.shelf.now) (g.H.Shelf.faults c.read_table.new.shelf) (g.H.Shelf.told c.args.shelf.now)
+    (g.H.Shelf.picked c.read_table.new.shelf) c.args.name.now _ asked c.in-Err.ensures.read.0 c.in-Err.ensures.place none is)
 
 pub returns-in-Ok-clause-seen : goal.returns-in-Ok-clause-seen
 returns-in-Ok-clause-seen g c read memory =

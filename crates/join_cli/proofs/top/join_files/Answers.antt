@@ -1,9 +1,10 @@
 use Rattle.std.proofs.Common.{Ok, inl, inr, sym, subst, arith}
-use Rattle.join_cli.specs.Ends.{Concludes, TakesEach}
+use Rattle.join_cli.specs.Ends.{Concludes, Refuses, TakesEach}
 use Rattle.join_cli.specs.Plan.{plan_of}
 use Rattle.join_cli.proofs.Ending.{complete_made, complete_refused, concludes_well, ends_concluded, ends_refused, wrote, wrote_front, wrote_so_far}
-use Rattle.join_cli.proofs.MadeTables.{asked_concluded, asked_refused}
-use Rattle.join_cli.proofs.Seeing.{not_refused_memory, not_refused_read}
+use Rattle.join_cli.specs.declared.outcome.Outcome.TheVariants as outcomes
+use Rattle.join_cli.proofs.MadeTables.{asked_concluded, asked_refused, none_is_some}
+use Rattle.join_cli.proofs.Seeing.{other_outcome}
 use Rattle.join_words.specs.Words.{asked}
 use Rattle.join_report.proofs.Puts.{PutsSome-refl}
 use Rattle.join_cli.proofs.top.join_files.Goals as goal
@@ -68,20 +69,53 @@ returns-in-Ok-clause-read g c is =
 
 -- ---- a refusal
 
+pub returns-in-Err-clause-words : goal.returns-in-Err-clause-words
+returns-in-Err-clause-words g c fault is =
+    subst (Refuses (g.H.Shelf.faults c.args.shelf.now) (g.H.Shelf.faults c.prepare.new.shelf) (g.H.Shelf.told c.args.shelf.now) (g.H.Shelf.picked c.prepare.new.shelf) (asked c.args.options.now)) is c.in-Err.ensures.refused
+
 pub returns-in-Err-clause-answer : goal.returns-in-Err-clause-answer
 returns-in-Err-clause-answer g c reading is same same_sink =
-    rw c.refused.ensures
-    (ends_refused (g.H.Shelf.told c.args.shelf.now) (asked c.args.options.now) reading c.in-Err.refusal (λ files told. c.in-Err.ensures.answer files reading told is same))
+    ends_refused (g.H.Shelf.told c.args.shelf.now) (asked c.args.options.now) reading c.in-Err.refusal (λ files told. c.in-Err.ensures.answer files reading told is same)
 
 pub returns-in-Err-clause-seen : goal.returns-in-Err-clause-seen
 returns-in-Err-clause-seen g c tree reads read memory =
-    let seen = c.in-Err.ensures.seen tree reads (not_refused_read c.in-Err.refusal (rw c.refused.ensures at read)) (not_refused_memory c.in-Err.refusal (rw c.refused.ensures at memory)) in
-    rw c.refused.ensures (asked_refused (g.H.Shelf.told c.args.shelf.now) (g.H.Shelf.picked c.prepare.new.shelf) (asked c.args.options.now) c.args.options.now.make tree (g.K.Sink.written c.args.sink.now) c.in-Err.refusal seen)
+    asked_refused (g.H.Shelf.told c.args.shelf.now) (g.H.Shelf.picked c.prepare.new.shelf) (asked c.args.options.now) c.args.options.now.make tree (g.K.Sink.written c.args.sink.now) c.in-Err.refusal
+    (c.in-Err.ensures.seen tree reads (other_outcome c.in-Err.refusal outcomes.Read read) (other_outcome c.in-Err.refusal outcomes.Memory memory))
+
+pub returns-in-Err-clause-made : goal.returns-in-Err-clause-made
+returns-in-Err-clause-made g c count is = (
+  c.in-Err.ensures.made count is,
+  λ read. none_is_some count is
+      (subst (Refuses (g.H.Shelf.faults c.args.shelf.now) (g.H.Shelf.faults c.prepare.new.shelf) (g.H.Shelf.told c.args.shelf.now) (g.H.Shelf.picked c.prepare.new.shelf) (asked c.args.options.now)) read c.in-Err.ensures.refused).0,
+)
 
 pub returns-in-Err-clause-complete : goal.returns-in-Err-clause-complete
 returns-in-Err-clause-complete g c files tree planned told reads plan sound takes =
-    rw c.refused.ensures
-    (complete_refused c.in-Err.refusal (plan_of (asked c.args.options.now) (Ok tree) files) planned (c.in-Err.ensures.answer files (Ok tree) told reads (c.in-Err.ensures.sound sound).1) plan)
+    complete_refused c.in-Err.refusal (plan_of (asked c.args.options.now) (Ok tree) files) planned (c.in-Err.ensures.answer files (Ok tree) told reads (c.in-Err.ensures.sound sound).1) plan
 
 pub returns-in-Err-clause-left : goal.returns-in-Err-clause-left
 returns-in-Err-clause-left g c = PutsSome-refl (g.K.Sink.written c.args.sink.now) (g.K.Sink.takes c.args.sink.now)
+
+pub returns-in-Err-clause-done : goal.returns-in-Err-clause-done
+returns-in-Err-clause-done g c journal trail is =
+    absurd (subst (Refuses (g.H.Shelf.faults c.args.shelf.now) (g.H.Shelf.faults c.prepare.new.shelf) (g.H.Shelf.told c.args.shelf.now) (g.H.Shelf.picked c.prepare.new.shelf) (asked c.args.options.now)) is c.in-Err.ensures.refused)
+
+pub returns-in-Err-clause-front : goal.returns-in-Err-clause-front
+returns-in-Err-clause-front g c is =
+    absurd (subst (Refuses (g.H.Shelf.faults c.args.shelf.now) (g.H.Shelf.faults c.prepare.new.shelf) (g.H.Shelf.told c.args.shelf.now) (g.H.Shelf.picked c.prepare.new.shelf) (asked c.args.options.now)) is c.in-Err.ensures.refused)
+
+pub returns-in-Err-clause-text : goal.returns-in-Err-clause-text
+returns-in-Err-clause-text g c fault is =
+    subst (Refuses (g.H.Shelf.faults c.args.shelf.now) (g.H.Shelf.faults c.prepare.new.shelf) (g.H.Shelf.told c.args.shelf.now) (g.H.Shelf.picked c.prepare.new.shelf) (asked c.args.options.now)) is c.in-Err.ensures.refused
+
+pub returns-in-Err-clause-long : goal.returns-in-Err-clause-long
+returns-in-Err-clause-long g c side is =
+    subst (Refuses (g.H.Shelf.faults c.args.shelf.now) (g.H.Shelf.faults c.prepare.new.shelf) (g.H.Shelf.told c.args.shelf.now) (g.H.Shelf.picked c.prepare.new.shelf) (asked c.args.options.now)) is c.in-Err.ensures.refused
+
+pub returns-in-Err-clause-read : goal.returns-in-Err-clause-read
+returns-in-Err-clause-read g c is =
+    (subst (Refuses (g.H.Shelf.faults c.args.shelf.now) (g.H.Shelf.faults c.prepare.new.shelf) (g.H.Shelf.told c.args.shelf.now) (g.H.Shelf.picked c.prepare.new.shelf) (asked c.args.options.now)) is c.in-Err.ensures.refused).1
+
+pub returns-in-Err-clause-write : goal.returns-in-Err-clause-write
+returns-in-Err-clause-write g c is =
+    absurd (subst (Refuses (g.H.Shelf.faults c.args.shelf.now) (g.H.Shelf.faults c.prepare.new.shelf) (g.H.Shelf.told c.args.shelf.now) (g.H.Shelf.picked c.prepare.new.shelf) (asked c.args.options.now)) is c.in-Err.ensures.refused)
