@@ -10,6 +10,7 @@ use Rattle.join_cli.specs.declared.outcome.Outcome.TheVariants as outcomes
 use Rattle.load_controller.specs.declared.line.TurnLine.{TurnLine}
 use Rattle.join_runtime.specs.Endings.{EndsView}
 use Rattle.join_cli.specs.Ends.{Concludes, EndsAs, IsAsked, IsDone, IsOutcomeOf, TakesEach, Wrote, WroteFront, WroteSoFar}
+use Rattle.join_cli.specs.Outcomes.{status_of}
 use Rattle.join_cli.specs.Plan.{IsJournalOf, output_of, plan_of}
 use Rattle.join_cli.proofs.Asking.{asked_one}
 use Rattle.join_cli.proofs.Seeing.{no_plan}
@@ -91,3 +92,18 @@ takes_made takes asked planned journal bytes lawful is each = let none : length 
 -- what holds of what the words ask for
 pub asked_same : (P : Asked → Type 0) (words : List (List ℕ)) (given wanted : Asked) → asked_of words ≡ Ok given → asked_of words ≡ Ok wanted → P given → P wanted
 asked_same P words given wanted is is_wanted holds = subst P (asked_one words given wanted is is_wanted) holds
+
+-- the status of a good end
+done_status : (outcome : Outcome) → IsDone outcome → status_of outcome ≡ 0
+done_status (outcomes.Done journal trail) done = refl
+done_status (outcomes.Words _) done = elim done [ ]
+done_status (outcomes.Predicate _) done = elim done [ ]
+done_status (outcomes.Input _) done = elim done [ ]
+done_status (outcomes.Limit _) done = elim done [ ]
+done_status outcomes.Read done = elim done [ ]
+done_status outcomes.Write done = elim done [ ]
+done_status outcomes.Memory done = elim done [ ]
+
+-- or of want of memory
+pub status_of_end : (outcome : Outcome) (status : ℕ) → status ≡ status_of outcome → IsDone outcome ⊎ (outcome ≡ outcomes.Memory) → (status ≡ 0) ⊎ (status ≡ 8)
+status_of_end outcome status is end = elim end [ inl done ↦ inl (is ∙ done_status outcome done) | inr memory ↦ inr (is ∙ ap status_of memory) ]

@@ -45,9 +45,12 @@ later_refuses old middle new told later spot asked (outcomes.Predicate fault) ri
 later_refuses old middle new told later spot asked (outcomes.Input fault) rises same refuses = tt
 later_refuses old middle new told later spot asked (outcomes.Limit (TooLong side)) rises same refuses = refuses
 later_refuses old middle new told later spot asked (outcomes.Limit (TooMany side)) rises same refuses = tt
-later_refuses old middle new told later spot asked outcomes.Read rises same refuses = (refuses.0, elim refuses.1 [
-  | inl rose ↦ inl (omega (arith, rises, rose))
-  | inr lacks ↦ inr (subst (λ t. LacksOne t asked) same lacks)
-])
+later_refuses old middle new told later spot asked outcomes.Read rises same refuses = (
+  refuses.0,
+  elim refuses.1 [
+    | inl rose ↦ inl (omega (arith, rises, rose))
+    | inr lacks ↦ inr (subst (λ t. LacksOne t asked) same lacks)
+  ],
+)
 later_refuses old middle new told later spot asked outcomes.Write rises same refuses = refuses
 later_refuses old middle new told later spot asked outcomes.Memory rises same refuses = tt

@@ -77,6 +77,16 @@ pub record TakesEach (takes : ℕ → Type 0) (asked : Asked) (planned : Planned
   pub each : (journal : List TurnLine) → IsJournalOf asked planned journal → takes (length (output_of asked planned journal))
   pub early : asked.early ≡ true → takes (length (pair_lines (nested_loop (input_of asked.seed planned))))
 
+-- files and sink do for what is asked: the told files have a plan, and the sink takes the output of it
+pub record Suffices (told : Told) (asked : Asked) (takes : ℕ → Type 0) : Type 0 where
+  pub files : List ℕ → Option (List ℕ)
+  pub tells : told ≡ Some files
+  pub tree : Tree
+  pub reads : TextReads limits asked.on tree
+  pub planned : Planned
+  pub plan : plan_of asked (Ok tree) files ≡ Ok planned
+  pub taken : TakesEach takes asked planned
+
 -- one of the two names isn't there
 abbrev pub LacksOne : Told → Asked → Type 0
 LacksOne told asked = Lacks told asked.name_r ⊎ Lacks told asked.name_s

@@ -6,13 +6,17 @@ use Rattle.join_runtime.specs.Endings.{EndsView}
 use Rattle.join_words.specs.Words.{Asked, asked_of}
 use Rattle.join_cli.specs.Ends.{Wrote, WroteFront}
 
--- the output of what these words ask for was written, over the journal of a run of it
-pub record WroteBy (words : List (List ℕ)) (told : Told) (old new : Option (List ℕ)) : Type 0 where
+-- the output of what these words ask for was written, over this journal of a run of it that went so
+pub record WroteOver (words : List (List ℕ)) (told : Told) (journal : List TurnLine) (trail : List EndsView) (old new : Option (List ℕ)) : Type 0 where
   pub asked : Asked
   pub are : asked_of words ≡ Ok asked
+  pub wrote : Wrote told asked journal trail old new
+
+-- over the journal of some run of it
+pub record WroteBy (words : List (List ℕ)) (told : Told) (old new : Option (List ℕ)) : Type 0 where
   pub journal : List TurnLine
   pub trail : List EndsView
-  pub wrote : Wrote told asked journal trail old new
+  pub over : WroteOver words told journal trail old new
 
 -- a front of such an output was written
 pub record WroteFrontBy (words : List (List ℕ)) (told : Told) (old new : Option (List ℕ)) : Type 0 where

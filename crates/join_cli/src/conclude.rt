@@ -1,10 +1,11 @@
 // Carrying out a plan: its run, and the writing of the output.
 
-ghost use Rattle.std.specs.Prelude.{◌≡◌, ◌≢◌, ◌⊎◌, ◌<◌, ◌≤◌, None, true, false, IfSome};
+ghost use Rattle.std.specs.Prelude.{◌≡◌, ◌≢◌, ◌⊎◌, ◌<◌, None, true, false};
 ghost use Rattle.join_rows.specs.Shelves.{last_fault};
 ghost use Rattle.join_rows.specs.Sinks.{PutsSome};
+ghost use Rattle.trace_law.specs.Validity.{IsValidSetting};
 ghost use Rattle.join_words.specs.Words.{asked};
-ghost use Rattle.join_cli.specs.Plan.{IsFit};
+ghost use Rattle.join_cli.specs.Plan.{IsFit, setting_of};
 ghost use Rattle.join_cli.specs.Ends.{Concludes, IsDone, TakesEach};
 
 use crate::early::put_found;
@@ -31,19 +32,17 @@ fn conclude_whole<R: Threads + Wait + Sync, K: Sink, G: Gate>(
 ) -> Outcome
     requires fit { IsFit planned }
     requires sink { K.faults sink.old < last_fault }
-    requires small { options.now.k ≤ 6 }
-    requires feeders { (1 ≤ options.now.feeders) × (options.now.feeders ≤ 8) }
-    requires workers { (1 ≤ options.now.workers) × (options.now.workers ≤ 16) }
-    requires batch { (1 ≤ options.now.batch) × (options.now.batch ≤ 4096) }
-    requires fits { IfSome options.now.fixed (λ fixed. fixed ≤ options.now.k) }
+    requires setting { IsValidSetting (setting_of (asked options.now)) }
     requires whole { options.now.early ≡ false }
-    ensures ends { Concludes (asked options.now) planned (K.written sink.old) (K.written sink.new) result }
+    ensures ends { Concludes (asked options.now) planned
+        (K.written sink.old) (K.written sink.new) result }
     ensures nothing { result ≡ Outcome.Memory → sink.new ≡ sink.old }
     ensures counts { result ≢ Outcome.Write → K.faults sink.new ≡ K.faults sink.old }
     ensures fails { result ≡ Outcome.Write → K.faults sink.old < K.faults sink.new }
     ensures complete { TakesEach (K.takes sink.old) (asked options.now) planned
         → IsDone result ⊎ (result ≡ Outcome.Memory) }
-    ensures left { PutsSome (K.written sink.old) (K.written sink.new) (K.takes sink.old) (K.takes sink.new) }
+    ensures left { PutsSome (K.written sink.old) (K.written sink.new)
+        (K.takes sink.old) (K.takes sink.new) }
 {
     let Joined {
         text,
@@ -70,20 +69,18 @@ fn conclude_early<R: Threads + Wait + Sync, K: Sink, G: Gate>(
 ) -> Outcome
     requires fit { IsFit planned }
     requires sink { K.faults sink.old < last_fault }
-    requires small { options.now.k ≤ 6 }
-    requires feeders { (1 ≤ options.now.feeders) × (options.now.feeders ≤ 8) }
-    requires workers { (1 ≤ options.now.workers) × (options.now.workers ≤ 16) }
-    requires batch { (1 ≤ options.now.batch) × (options.now.batch ≤ 4096) }
-    requires fits { IfSome options.now.fixed (λ fixed. fixed ≤ options.now.k) }
+    requires setting { IsValidSetting (setting_of (asked options.now)) }
     requires early { options.now.early ≡ true }
     requires alone { (options.now.replay ≡ None) × (options.now.make ≡ None)
         × (options.now.rows ≡ false) }
-    ensures ends { Concludes (asked options.now) planned (K.written sink.old) (K.written sink.new) result }
+    ensures ends { Concludes (asked options.now) planned
+        (K.written sink.old) (K.written sink.new) result }
     ensures counts { result ≢ Outcome.Write → K.faults sink.new ≡ K.faults sink.old }
     ensures fails { result ≡ Outcome.Write → K.faults sink.old < K.faults sink.new }
     ensures complete { TakesEach (K.takes sink.old) (asked options.now) planned
         → IsDone result ⊎ (result ≡ Outcome.Memory) }
-    ensures left { PutsSome (K.written sink.old) (K.written sink.new) (K.takes sink.old) (K.takes sink.new) }
+    ensures left { PutsSome (K.written sink.old) (K.written sink.new)
+        (K.takes sink.old) (K.takes sink.new) }
 {
     let setting = setting(options);
     let input = match input(alloc, options.seed, planned) {
@@ -100,7 +97,8 @@ fn conclude_early<R: Threads + Wait + Sync, K: Sink, G: Gate>(
     }
 }
 
-/// Carries a plan out: the output is made whole and then written, or early, pair by pair. What it promises holds if it returns.
+/// Carries a plan out: the output is made whole and then written, or early, pair by pair. What it
+/// promises holds if it returns.
 pub(crate) fn conclude<R: Threads + Wait + Sync, K: Sink, G: Gate>(
     rt: &R,
     alloc: Global,
@@ -111,20 +109,18 @@ pub(crate) fn conclude<R: Threads + Wait + Sync, K: Sink, G: Gate>(
 ) -> Outcome
     requires fit { IsFit planned }
     requires sink { K.faults sink.old < last_fault }
-    requires small { options.now.k ≤ 6 }
-    requires feeders { (1 ≤ options.now.feeders) × (options.now.feeders ≤ 8) }
-    requires workers { (1 ≤ options.now.workers) × (options.now.workers ≤ 16) }
-    requires batch { (1 ≤ options.now.batch) × (options.now.batch ≤ 4096) }
-    requires fits { IfSome options.now.fixed (λ fixed. fixed ≤ options.now.k) }
+    requires setting { IsValidSetting (setting_of (asked options.now)) }
     requires alone { options.now.early ≡ true
         → (options.now.replay ≡ None) × (options.now.make ≡ None) × (options.now.rows ≡ false) }
-    ensures ends { Concludes (asked options.now) planned (K.written sink.old) (K.written sink.new) result }
+    ensures ends { Concludes (asked options.now) planned
+        (K.written sink.old) (K.written sink.new) result }
     ensures nothing { options.now.early ≡ false → result ≡ Outcome.Memory → sink.new ≡ sink.old }
     ensures counts { result ≢ Outcome.Write → K.faults sink.new ≡ K.faults sink.old }
     ensures fails { result ≡ Outcome.Write → K.faults sink.old < K.faults sink.new }
     ensures complete { TakesEach (K.takes sink.old) (asked options.now) planned
         → IsDone result ⊎ (result ≡ Outcome.Memory) }
-    ensures left { PutsSome (K.written sink.old) (K.written sink.new) (K.takes sink.old) (K.takes sink.new) }
+    ensures left { PutsSome (K.written sink.old) (K.written sink.new)
+        (K.takes sink.old) (K.takes sink.new) }
 {
     if options.early {
         conclude_early(rt, alloc, options, planned, sink, gate)

@@ -1,6 +1,6 @@
 // Early output: the lines of the pairs are put as they are found.
 
-ghost use Rattle.std.specs.Prelude.{◌≡◌, ◌≢◌, ◌<◌, ◌+◌, ℕ, [], ◌∷◌, Err, IfOk, OnOk, length};
+ghost use Rattle.std.specs.Prelude.{◌≡◌, ◌≢◌, ◌<◌, ◌+◌, [], ◌∷◌, Err, IfOk, OnOk, length};
 ghost use Rattle.std.specs.Io.KnownBytes.{append_known};
 ghost use Rattle.join_rows.specs.Shelves.{last_fault};
 ghost use Rattle.join_rows.specs.Sinks.{AppendsFront, PutsSome};
@@ -9,8 +9,6 @@ ghost use Rattle.trace_law.specs.Runs.{IsRunOf};
 ghost use Rattle.join_runtime.specs.Early.{WroteSome};
 ghost use Rattle.join_cli.specs.Plan.{report_asked};
 ghost use Rattle.join_cli.specs.Courses.{IsRunInThreads};
-ghost use Rattle.trace_law.specs.Join.{nested_loop};
-ghost use Rattle.join_report.specs.PairLines.{pair_lines};
 ghost use Rattle.join_cli.specs.Early.{PutFound, PutPart, TakesFound};
 
 use crate::run::{Course, report};
@@ -57,9 +55,11 @@ fn put_report<K: Sink>(
     ensures nothing { result ≡ Err EarlyFault.Memory → sink.new ≡ sink.old }
     ensures counts { result ≢ Err EarlyFault.Write → K.faults sink.new ≡ K.faults sink.old }
     ensures fails { result ≡ Err EarlyFault.Write → K.faults sink.old < K.faults sink.new }
-    ensures takes { K.takes sink.old (length (report_asked options.now.report input.now setting.now run.now.journal) + 0)
+    ensures takes { K.takes sink.old
+        (length (report_asked options.now.report input.now setting.now run.now.journal) + 0)
         → result ≢ Err EarlyFault.Write }
-    ensures left { PutsSome (K.written sink.old) (K.written sink.new) (K.takes sink.old) (K.takes sink.new) }
+    ensures left { PutsSome (K.written sink.old) (K.written sink.new)
+        (K.takes sink.old) (K.takes sink.new) }
 {
     let lines = match report(alloc, options, input, setting, run) {
         Ok(lines) => lines,
@@ -71,7 +71,8 @@ fn put_report<K: Sink>(
     }
 }
 
-/// Runs in threads and puts the pairs' lines after each bout, and then the report where one is asked for.
+/// Runs in threads and puts the pairs' lines after each bout, and then the report where one is
+/// asked for.
 pub(crate) fn put_found<R: Threads + Wait + Sync, G: Gate, K: Sink>(
     rt: &R,
     alloc: Global,
@@ -92,14 +93,16 @@ pub(crate) fn put_found<R: Threads + Wait + Sync, G: Gate, K: Sink>(
         (λ course. PutFound options.now.report input.now setting.now course.run.journal
         (K.written sink.old) (K.written sink.new)) }
     ensures part { result ≡ Err EarlyFault.Write
-        → PutPart options.now.report input.now setting.now (K.written sink.old) (K.written sink.new) }
+        → PutPart options.now.report input.now setting.now
+        (K.written sink.old) (K.written sink.new) }
     ensures lines { result ≡ Err EarlyFault.Memory
         → WroteSome input.now (K.written sink.old) (K.written sink.new) }
     ensures counts { result ≢ Err EarlyFault.Write → K.faults sink.new ≡ K.faults sink.old }
     ensures fails { result ≡ Err EarlyFault.Write → K.faults sink.old < K.faults sink.new }
     ensures takes { TakesFound (K.takes sink.old) options.now.report input.now setting.now
         → result ≢ Err EarlyFault.Write }
-    ensures left { PutsSome (K.written sink.old) (K.written sink.new) (K.takes sink.old) (K.takes sink.new) }
+    ensures left { PutsSome (K.written sink.old) (K.written sink.new)
+        (K.takes sink.old) (K.takes sink.new) }
 {
     let Told { run, ends } = run_early(rt, alloc, input, setting, gate, sink)?;
     let trail = trail_of(alloc, ends)?;

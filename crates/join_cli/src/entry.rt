@@ -1,15 +1,12 @@
 // The whole program, over its words, a shelf and two streams.
 
-ghost use Rattle.std.specs.Prelude.{◌≡◌, ◌≢◌, ◌⊎◌, ◌<◌, ◌≤◌, ℕ, List, Option, Some, Ok, false, IfErr, IsErr, IsOkAnd, map, string_bytes};
+ghost use Rattle.std.specs.Prelude.{◌≡◌, ◌≢◌, ◌⊎◌, ◌<◌, ◌≤◌, ℕ, Ok, false, IfErr, IsErr, IsOkAnd};
+ghost use Rattle.std.specs.Prelude.{map, string_bytes};
 ghost use Rattle.std.specs.Process.{exit_status};
 ghost use Rattle.join_rows.specs.Shelves.{last_fault};
 ghost use Rattle.join_rows.specs.Sinks.{PutsSome};
-ghost use Rattle.theta_text.specs.Grammar.{Tree};
-ghost use Rattle.theta_text.specs.Texts.{TextReads, limits};
 ghost use Rattle.join_words.specs.Words.{Asked, asked_of};
-ghost use Rattle.join_cli.specs.declared.plan.Planned.{Planned};
-ghost use Rattle.join_cli.specs.Plan.{plan_of};
-ghost use Rattle.join_cli.specs.Ends.{LacksOne, TakesEach};
+ghost use Rattle.join_cli.specs.Ends.{LacksOne, Suffices};
 ghost use Rattle.join_cli.specs.Programs.{WroteBy, WroteFrontBy};
 
 use crate::outcome::Outcome;
@@ -24,7 +21,8 @@ use std::thread::Threads;
 use std::{env, io};
 use worker_gate::Gate;
 
-/// The exit status of a run of the program. Only `jm_program` makes one, so a `main` that answers it ends with no other.
+/// The exit status of a run of the program. Only `jm_program` makes one, so a `main` that answers
+/// it ends with no other.
 #[derive(Drop)]
 pub struct Ended {
     code: ExitCode,
@@ -56,8 +54,8 @@ impl Termination for Ended {
     }
 }
 
-/// The words of the command line, the program's name first. Words of which one isn't UTF-8 have no match, and are taken
-/// as none.
+/// The words of the command line, the program's name first. Words of which one isn't UTF-8 have no
+/// match, and are taken as none.
 pub fn command_words<V: Env + AllocGlobal>(process: &V) -> Result<Vec<String>, AllocError> {
     let mut words = Vec::new(process.alloc());
     match env::args(process) {
@@ -109,12 +107,9 @@ fn run_words<R: Threads + Wait + Sync, H: Shelf, K: Sink, E: Sink, G: Gate>(
     ensures write { result ≡ 7 → K.faults sink.old < K.faults sink.new }
     ensures front { result ≡ 7 → WroteFrontBy (map string_bytes words.items) (H.told shelf.old)
         (K.written sink.old) (K.written sink.new) }
-    ensures complete { (asked : Asked) (files : List ℕ → Option (List ℕ))
-        (tree : Tree) (planned : Planned)
-        → asked_of (map string_bytes words.items) ≡ Ok asked
-        → H.told shelf.old ≡ Some files → TextReads limits asked.on tree
-        → plan_of asked (Ok tree) files ≡ Ok planned → H.sound shelf.old
-        → TakesEach (K.takes sink.old) asked planned → (result ≡ 0) ⊎ (result ≡ 8) }
+    ensures complete { (asked : Asked) → asked_of (map string_bytes words.items) ≡ Ok asked
+        → Suffices (H.told shelf.old) asked (K.takes sink.old) → H.sound shelf.old
+        → (result ≡ 0) ⊎ (result ≡ 8) }
     ensures sound { H.sound shelf.old
         → H.sound shelf.new × (H.faults shelf.new ≡ H.faults shelf.old) }
     ensures left { PutsSome (K.written sink.old) (K.written sink.new)
@@ -127,9 +122,9 @@ fn run_words<R: Threads + Wait + Sync, H: Shelf, K: Sink, E: Sink, G: Gate>(
     }
 }
 
-/// The program `jm`: runs what the words ask for, puts the output on `sink` and the one line of an outcome that isn't
-/// `Done` on `errors`, and answers the exit status; with no words for want of memory, too. What it promises holds if it
-/// returns.
+/// The program `jm`: runs what the words ask for, puts the output on `sink` and the one line of an
+/// outcome that isn't `Done` on `errors`, and answers the exit status; with no words for want of
+/// memory, too. What it promises holds if it returns.
 pub fn jm_program<R: Threads + Wait + Sync, H: Shelf, K: Sink, E: Sink, G: Gate>(
     rt: &R,
     alloc: Global,
@@ -142,7 +137,8 @@ pub fn jm_program<R: Threads + Wait + Sync, H: Shelf, K: Sink, E: Sink, G: Gate>
     requires shelf { H.faults shelf.old < last_fault }
     requires sink { K.faults sink.old < last_fault }
     ensures done { result ≡ 0 → IsOkAnd words (λ given.
-        WroteBy (map string_bytes given.items) (H.told shelf.old) (K.written sink.old) (K.written sink.new)) }
+        WroteBy (map string_bytes given.items) (H.told shelf.old)
+        (K.written sink.old) (K.written sink.new)) }
     ensures quiet { result ≡ 0 → errors.new ≡ errors.old }
     ensures nothing { result ≢ 0 → result ≢ 7 → result ≢ 8 → sink.new ≡ sink.old }
     ensures spared { (asked : Asked)
@@ -158,16 +154,16 @@ pub fn jm_program<R: Threads + Wait + Sync, H: Shelf, K: Sink, E: Sink, G: Gate>
         ⊎ LacksOne (H.told shelf.old) asked }
     ensures write { result ≡ 7 → K.faults sink.old < K.faults sink.new }
     ensures front { result ≡ 7 → IsOkAnd words (λ given.
-        WroteFrontBy (map string_bytes given.items) (H.told shelf.old) (K.written sink.old) (K.written sink.new)) }
-    ensures complete { (asked : Asked) (files : List ℕ → Option (List ℕ))
-        (tree : Tree) (planned : Planned)
+        WroteFrontBy (map string_bytes given.items) (H.told shelf.old)
+        (K.written sink.old) (K.written sink.new)) }
+    ensures complete { (asked : Asked)
         → IsOkAnd words (λ given. asked_of (map string_bytes given.items) ≡ Ok asked)
-        → H.told shelf.old ≡ Some files → TextReads limits asked.on tree
-        → plan_of asked (Ok tree) files ≡ Ok planned → H.sound shelf.old
-        → TakesEach (K.takes sink.old) asked planned → (result ≡ 0) ⊎ (result ≡ 8) }
+        → Suffices (H.told shelf.old) asked (K.takes sink.old) → H.sound shelf.old
+        → (result ≡ 0) ⊎ (result ≡ 8) }
     ensures sound { H.sound shelf.old
         → H.sound shelf.new × (H.faults shelf.new ≡ H.faults shelf.old) }
-    ensures left { PutsSome (K.written sink.old) (K.written sink.new) (K.takes sink.old) (K.takes sink.new) }
+    ensures left { PutsSome (K.written sink.old) (K.written sink.new)
+        (K.takes sink.old) (K.takes sink.new) }
     ensures memory { IfErr words (λ fault. (result ≡ 8) × (sink.new ≡ sink.old)) }
     ensures statuses { (result ≡ 0) ⊎ ((2 ≤ result) × (result ≤ 8)) }
 {

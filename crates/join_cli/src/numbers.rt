@@ -3,7 +3,6 @@
 ghost use Rattle.std.specs.Prelude.{◌≡◌, ◌<◌, All, length};
 ghost use Rattle.join_rows.specs.Records.{IsTable};
 ghost use Rattle.join_rows.specs.declared.table.Side.{Side};
-ghost use Rattle.theta_pred.specs.Numeric.{AreNumeric};
 ghost use Rattle.join_cli.specs.Numbers;
 
 use crate::outcome::InputFault;
@@ -46,7 +45,8 @@ fn columns_fault(side: Side, table: &Table, columns: &[u64]) -> Option<InputFaul
 fn side_fault(side: Side, table: &Table, theta: &Theta) -> Option<InputFault>
     requires table { IsTable table.now }
     requires width { Numbers.HasWidth theta.now side table.now }
-    ensures { result ≡ Numbers.number_fault side table.now.rows (Numbers.summed_columns theta.now side) }
+    ensures { result ≡ Numbers.number_fault side table.now.rows
+        (Numbers.summed_columns theta.now side) }
 {
     columns_fault(side, table, theta.numeric(side).as_slice())
 }

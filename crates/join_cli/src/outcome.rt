@@ -23,8 +23,8 @@ pub enum TextFault {
     Literal { place: u64 },
     /// The first name of the predicate that doesn't stand in its header just once isn't there.
     NoColumn { side: Side, name: Bytes },
-    /// The first name of the predicate that doesn't stand in its header just once is there more than
-    /// once.
+    /// The first name of the predicate that doesn't stand in its header just once is there more
+    /// than once.
     TwoColumns { side: Side, name: Bytes },
 }
 
@@ -36,7 +36,8 @@ pub enum InputFault {
     /// The row is the first that has not as many fields as the header.
     Width { side: Side, row: u64, found: u64 },
     /// The column stands in a sum of the predicate, and the row is the first whose cell there isn't
-    /// empty and is no number. Columns of R come before those of S, and each before those on its right.
+    /// empty and is no number. Columns of R come before those of S, and each before those on its
+    /// right.
     Number { side: Side, column: u64, row: u64 },
 }
 
@@ -52,8 +53,8 @@ pub enum LimitFault {
 /// How a run ended.
 #[derive(Drop)]
 pub enum Outcome {
-    /// The output was written whole; the journal is that of the run's controller. The trail has what the seats of a run
-    /// in threads left, and is empty after a replay.
+    /// The output was written whole; the journal is that of the run's controller. The trail has
+    /// what the seats of a run in threads left, and is empty after a replay.
     Done { journal: Journal, trail: Trail },
     Words(WordsFault),
     Predicate(TextFault),

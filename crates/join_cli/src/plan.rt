@@ -1,6 +1,7 @@
 // The tables and the predicate that the words ask for.
 
-ghost use Rattle.std.specs.Prelude.{◌≡◌, ◌⊎◌, ◌<◌, ◌≤◌, ℕ, List, Option, Some, Result, Ok, Err, IfErr, IfOk, IfSome, length};
+ghost use Rattle.std.specs.Prelude.{◌≡◌, ◌⊎◌, ◌<◌, ◌≤◌, ℕ, List, Option, Some, Result, Ok, Err};
+ghost use Rattle.std.specs.Prelude.{IfErr, IfOk, IfSome, length};
 ghost use Rattle.join_rows.specs.Shelves.{Spot, Told, last_fault};
 ghost use Rattle.join_rows.specs.Records.{IsTable};
 ghost use Rattle.theta_text.specs.Grammar.{Tree};
@@ -48,8 +49,8 @@ fn checked(tables: Tables, theta: Theta) -> Result<Planned, Outcome>
     }
 }
 
-/// The tables that the options ask for, or the first refusal: made ones, for which the shelf isn't called, or those of the
-/// two files.
+/// The tables that the options ask for, or the first refusal: made ones, for which the shelf isn't
+/// called, or those of the two files.
 fn tables<H: Shelf>(alloc: Global, options: &Options<'_>, shelf: &mut H) -> Result<Tables, Outcome>
     requires faults { H.faults shelf.old < last_fault }
     requires make { IfSome options.now.make (λ count. (1 ≤ count) × (count ≤ 65536)) }
@@ -57,14 +58,17 @@ fn tables<H: Shelf>(alloc: Global, options: &Options<'_>, shelf: &mut H) -> Resu
     ensures rises { H.faults shelf.old ≤ H.faults shelf.new }
     ensures answer { (files : List ℕ → Option (List ℕ)) → H.told shelf.old ≡ Some files
         → H.faults shelf.new ≡ H.faults shelf.old → (result ≡ Err Outcome.Memory)
-        ⊎ (result ≡ tables_by options.now.make files options.now.name_r.now options.now.name_s.now) }
+        ⊎ (result ≡ tables_by options.now.make files
+        options.now.name_r.now options.now.name_s.now) }
     ensures found { IfOk result
         (λ tables. (files : List ℕ → Option (List ℕ)) → H.told shelf.old ≡ Some files
-        → tables_by options.now.make files options.now.name_r.now options.now.name_s.now ≡ Ok tables) }
+        → tables_by options.now.make files
+        options.now.name_r.now options.now.name_s.now ≡ Ok tables) }
     ensures made { (count : ℕ) → options.now.make ≡ Some count → (shelf.new ≡ shelf.old)
         × ((result ≡ Err Outcome.Memory) ⊎ (result ≡ Ok (made_tables count))) }
     ensures seen { (result ≡ Err Outcome.Read → ⊥) → (result ≡ Err Outcome.Memory → ⊥)
-        → TablesAsked (H.told shelf.old) (H.picked shelf.new) (asked options.now) options.now.make result }
+        → TablesAsked (H.told shelf.old) (H.picked shelf.new) (asked options.now) options.now.make
+        result }
     ensures sound { H.sound shelf.old
         → H.sound shelf.new × (H.faults shelf.new ≡ H.faults shelf.old) }
     ensures counts { (result ≡ Err Outcome.Read → ⊥) → H.faults shelf.new ≡ H.faults shelf.old }
@@ -82,9 +86,9 @@ fn tables<H: Shelf>(alloc: Global, options: &Options<'_>, shelf: &mut H) -> Resu
     }
 }
 
-/// What the options ask for, or the first refusal: of the text, of the file of R, of that of S, of the
-/// columns, of the numbers. A refusal of the text comes before any call of the shelf, and where tables are made
-/// there is none.
+/// What the options ask for, or the first refusal: of the text, of the file of R, of that of S, of
+/// the columns, of the numbers. A refusal of the text comes before any call of the shelf, and where
+/// tables are made there is none.
 pub(crate) fn prepare<H: Shelf>(
     alloc: Global,
     options: &Options<'_>,
@@ -100,7 +104,8 @@ pub(crate) fn prepare<H: Shelf>(
         → (result ≡ Err Outcome.Memory) ⊎ (result ≡ plan_of (asked options.now) reading files) }
     ensures seen { (tree : Tree) → TextReads limits options.now.on.now tree
         → (result ≡ Err Outcome.Read → ⊥) → (result ≡ Err Outcome.Memory → ⊥)
-        → PlanAsked (H.told shelf.old) (H.picked shelf.new) (asked options.now) options.now.make tree result }
+        → PlanAsked (H.told shelf.old) (H.picked shelf.new) (asked options.now) options.now.make
+        tree result }
     ensures made { (count : ℕ) → options.now.make ≡ Some count → shelf.new ≡ shelf.old }
     ensures sound { H.sound shelf.old
         → H.sound shelf.new × (H.faults shelf.new ≡ H.faults shelf.old) }

@@ -1,6 +1,7 @@
 // What the program does with the outcome.
 
-ghost use Rattle.std.specs.Prelude.{◌≡◌, ◌≢◌, ◌⊎◌, ◌<◌, ℕ, List, Option, Some, Result, Ok, Err, false, map, string_bytes};
+ghost use Rattle.std.specs.Prelude.{◌≡◌, ◌≢◌, ◌⊎◌, ◌<◌, ℕ, List, Some, Result, Ok, Err, false, map};
+ghost use Rattle.std.specs.Prelude.{string_bytes};
 ghost use Rattle.std.specs.Process.{exit_status};
 ghost use Rattle.join_rows.specs.Shelves.{last_fault};
 ghost use Rattle.join_rows.specs.Sinks.{PutsSome};
@@ -13,11 +14,11 @@ ghost use Rattle.join_runtime.specs.Endings.{EndsView};
 ghost use Rattle.join_words.specs.Words.{Asked, asked_of};
 ghost use Rattle.join_words.specs.declared.options.WordsFault.{WordsFault};
 ghost use Rattle.join_cli.specs.declared.outcome.TextFault.{TextFault};
-ghost use Rattle.join_cli.specs.declared.plan.Planned.{Planned};
 ghost use Rattle.join_cli.specs.Outcomes.{status_of};
-ghost use Rattle.join_cli.specs.Plan.{plan_of};
 ghost use Rattle.join_cli.specs.Texts.{IsRead, IsTrueOf};
-ghost use Rattle.join_cli.specs.Ends.{EndsAs, EndsEarly, IsDone, LacksOne, StandsPast, TakesEach, Wrote, WroteFront, WroteSoFar, name_of};
+ghost use Rattle.join_cli.specs.Ends.{EndsAs, EndsEarly, IsDone, LacksOne, StandsPast, Suffices};
+ghost use Rattle.join_cli.specs.Ends.{WroteSoFar, name_of};
+ghost use Rattle.join_cli.specs.Programs.{WroteFrontBy, WroteOver};
 ghost use Rattle.join_cli.specs.Seen.{EndsAsked};
 
 use crate::outcome::{LimitFault, Outcome};
@@ -36,8 +37,8 @@ pub fn exit_code(outcome: &Outcome) -> ExitCode
     ExitCode::from(outcome.status())
 }
 
-/// Puts the outcome's line, ended by LF, on standard error; `Done` has none. A line that can't be put is
-/// passed over, since the status says the rest.
+/// Puts the outcome's line, ended by LF, on standard error; `Done` has none. A line that can't be
+/// put is passed over, since the status says the rest.
 pub fn tell<E: Sink>(alloc: Global, outcome: &Outcome, errors: &mut E)
     ensures { IsDone outcome.now → errors.new ≡ errors.old }
 {
@@ -49,9 +50,9 @@ pub fn tell<E: Sink>(alloc: Global, outcome: &Outcome, errors: &mut E)
     }
 }
 
-/// Runs `jm` with these words, the program's name first, as `join_main` does, and puts the line of an outcome
-/// that isn't `Done` on `errors`. Nothing else is put there, and the line is put nowhere else. What it promises holds
-/// if it returns.
+/// Runs `jm` with these words, the program's name first, as `join_main` does, and puts the line of
+/// an outcome that isn't `Done` on `errors`. Nothing else is put there, and the line is put nowhere
+/// else. What it promises holds if it returns.
 pub fn jm_main<R: Threads + Wait + Sync, H: Shelf, K: Sink, E: Sink, G: Gate>(
     rt: &R,
     alloc: Global,
@@ -82,23 +83,20 @@ pub fn jm_main<R: Threads + Wait + Sync, H: Shelf, K: Sink, E: Sink, G: Gate>(
         (K.written sink.old) (K.written sink.new) result }
     ensures made { (asked : Asked) (count : ℕ) → asked_of (map string_bytes words.now) ≡ Ok asked
         → asked.make ≡ Some count → (shelf.new ≡ shelf.old) × (result ≢ Outcome.Read) }
-    ensures complete { (asked : Asked) (files : List ℕ → Option (List ℕ))
-        (tree : Tree) (planned : Planned)
-        → asked_of (map string_bytes words.now) ≡ Ok asked
-        → H.told shelf.old ≡ Some files → TextReads limits asked.on tree
-        → plan_of asked (Ok tree) files ≡ Ok planned → H.sound shelf.old
-        → TakesEach (K.takes sink.old) asked planned
+    ensures complete { (asked : Asked) → asked_of (map string_bytes words.now) ≡ Ok asked
+        → Suffices (H.told shelf.old) asked (K.takes sink.old) → H.sound shelf.old
         → IsDone result ⊎ (result ≡ Outcome.Memory) }
     ensures sound { H.sound shelf.old
         → H.sound shelf.new × (H.faults shelf.new ≡ H.faults shelf.old) }
-    ensures left { PutsSome (K.written sink.old) (K.written sink.new) (K.takes sink.old) (K.takes sink.new) }
+    ensures left { PutsSome (K.written sink.old) (K.written sink.new)
+        (K.takes sink.old) (K.takes sink.new) }
     ensures done { (journal : List TurnLine) (trail : List EndsView)
         → result ≡ Outcome.Done journal trail
-        → (asked : Asked) × (asked_of (map string_bytes words.now) ≡ Ok asked)
-        × Wrote (H.told shelf.old) asked journal trail (K.written sink.old) (K.written sink.new) }
+        → WroteOver (map string_bytes words.now) (H.told shelf.old) journal trail
+        (K.written sink.old) (K.written sink.new) }
     ensures front { result ≡ Outcome.Write
-        → (asked : Asked) × (asked_of (map string_bytes words.now) ≡ Ok asked)
-        × WroteFront (H.told shelf.old) asked (K.written sink.old) (K.written sink.new) }
+        → WroteFrontBy (map string_bytes words.now) (H.told shelf.old)
+        (K.written sink.old) (K.written sink.new) }
     ensures memory { (asked : Asked) → asked_of (map string_bytes words.now) ≡ Ok asked
         → result ≡ Outcome.Memory
         → (K.written sink.new ≡ K.written sink.old)

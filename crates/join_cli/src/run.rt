@@ -1,11 +1,12 @@
 // The output of two tables and a predicate.
 
-ghost use Rattle.std.specs.Prelude.{◌≡◌, ◌<◌, ◌≤◌, ◌^◌, All, IfOk, IfSome, string_bytes};
+ghost use Rattle.std.specs.Prelude.{◌≡◌, ◌<◌, ◌^◌, All, IfOk, string_bytes};
 ghost use Rattle.trace_law.specs.Validity.{IsValidInput, IsValidSetting};
 ghost use Rattle.join_words.specs.Words.{asked};
 ghost use Rattle.trace_law.specs.Runs.{IsRunOf};
 ghost use Rattle.trace_law.specs.Join.{nested_loop};
-ghost use Rattle.join_cli.specs.Plan.{IsFit, answer_of, input_of, output_of, report_asked, setting_of, text_of, tickets_of};
+ghost use Rattle.join_cli.specs.Plan.{IsFit, answer_of, input_of, output_of, report_asked};
+ghost use Rattle.join_cli.specs.Plan.{setting_of, text_of, tickets_of};
 ghost use Rattle.join_cli.specs.Courses.{IsCourseOf, IsReplayed, IsRunInThreads, WentAs};
 
 use crate::plan::Planned;
@@ -32,11 +33,7 @@ pub(crate) struct Joined {
 
 /// The setting that the options ask for.
 pub(crate) fn setting(options: &Options<'_>) -> Setting
-    requires small { options.now.k ≤ 6 }
-    requires feeders { (1 ≤ options.now.feeders) × (options.now.feeders ≤ 8) }
-    requires workers { (1 ≤ options.now.workers) × (options.now.workers ≤ 16) }
-    requires batch { (1 ≤ options.now.batch) × (options.now.batch ≤ 4096) }
-    requires fits { IfSome options.now.fixed (λ fixed. fixed ≤ options.now.k) }
+    requires setting { IsValidSetting (setting_of (asked options.now)) }
     ensures is { result ≡ setting_of (asked options.now) }
     ensures valid { IsValidSetting result }
 {
@@ -93,7 +90,8 @@ fn bytes_of(text: String) -> Bytes
     Bytes::from_vec(text.into_bytes())
 }
 
-/// The text of the pairs: the numbers of their rows, or the rows themselves; of made tables a summary.
+/// The text of the pairs: the numbers of their rows, or the rows themselves; of made tables a
+/// summary.
 fn answer(
     alloc: Global,
     options: &Options<'_>,
@@ -236,11 +234,7 @@ pub(crate) fn output<R: Threads + Wait + Sync, G: Gate>(
     gate: &G,
 ) -> Result<Joined, AllocError>
     requires fit { IsFit planned }
-    requires small { options.now.k ≤ 6 }
-    requires feeders { (1 ≤ options.now.feeders) × (options.now.feeders ≤ 8) }
-    requires workers { (1 ≤ options.now.workers) × (options.now.workers ≤ 16) }
-    requires batch { (1 ≤ options.now.batch) × (options.now.batch ≤ 4096) }
-    requires fits { IfSome options.now.fixed (λ fixed. fixed ≤ options.now.k) }
+    requires setting { IsValidSetting (setting_of (asked options.now)) }
     ensures course { IfOk result
         (λ joined. IsCourseOf (asked options.now) planned joined.journal joined.trail) }
     ensures text { IfOk result

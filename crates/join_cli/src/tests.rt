@@ -137,8 +137,8 @@ fn main_status<R: Threads + Wait + Sync>(
     Ok(outcome.status())
 }
 
-// Whether a run over these files `r` and `s` ends with this status, puts this line alone on standard
-// error and writes these bytes, where a pick, a read and a put of these numbers fail.
+// Whether a run over these files `r` and `s` ends with this status, puts this line alone on
+// standard error and writes these bytes, where a pick, a read and a put of these numbers fail.
 fn ends<R: Threads + Wait + Sync>(
     rt: &R,
     alloc: Global,

@@ -77,8 +77,8 @@ impl fmt::Display for LimitFault {
     }
 }
 
-/// The line on standard error, without its end; nothing for `Done`. A name that isn't UTF-8 is shown
-/// as `?`.
+/// The line on standard error, without its end; nothing for `Done`. A name that isn't UTF-8 is
+/// shown as `?`.
 impl fmt::Display for Outcome {
     fn fmt<W: fmt::Write>(&self, f: &mut fmt::Formatter<W>) -> fmt::Result {
         match self {

@@ -1,6 +1,7 @@
 // The top call.
 
-ghost use Rattle.std.specs.Prelude.{◌≡◌, ◌≢◌, ◌⊎◌, ◌<◌, ◌≤◌, ℕ, List, Option, None, Some, Result, Ok, Err, true, false, IfSome, map, string_bytes};
+ghost use Rattle.std.specs.Prelude.{◌≡◌, ◌≢◌, ◌⊎◌, ◌<◌, ◌≤◌, ℕ, List, None, Some, Result, Ok, Err};
+ghost use Rattle.std.specs.Prelude.{true, false, IfSome, map, string_bytes};
 ghost use Rattle.join_rows.specs.Shelves.{last_fault};
 ghost use Rattle.join_rows.specs.Sinks.{PutsSome};
 ghost use Rattle.join_rows.specs.declared.table.Side.{Side};
@@ -8,15 +9,18 @@ ghost use Rattle.load_controller.specs.declared.line.TurnLine.{TurnLine};
 ghost use Rattle.theta_text.specs.Grammar.{Tree};
 ghost use Rattle.theta_text.specs.declared.fault.PredFault.{PredFault};
 ghost use Rattle.theta_text.specs.Texts.{IsFaultOf, TextReads, limits};
+ghost use Rattle.trace_law.specs.Validity.{IsValidSetting};
 ghost use Rattle.join_runtime.specs.Endings.{EndsView};
 ghost use Rattle.join_words.specs.Words.{Asked, asked, asked_of};
 ghost use Rattle.join_words.specs.declared.options.WordsFault.{WordsFault};
 ghost use Rattle.join_cli.specs.declared.outcome.TextFault.{TextFault};
 ghost use Rattle.join_cli.specs.Texts.{IsRead, IsTrueOf};
-ghost use Rattle.join_cli.specs.declared.plan.Planned.{Planned};
-ghost use Rattle.join_cli.specs.Plan.{plan_of};
+ghost use Rattle.join_cli.specs.Plan.{setting_of};
 ghost use Rattle.join_cli.specs.Seen.{EndsAsked};
-ghost use Rattle.join_cli.specs.Ends.{EndsAs, EndsEarly, IsDone, LacksOne, StandsPast, TakesEach, Wrote, WroteFront, WroteSoFar, name_of};
+ghost use Rattle.join_cli.specs.Ends.{EndsAs, EndsEarly, IsDone, LacksOne, StandsPast, Suffices};
+ghost use Rattle.join_cli.specs.Ends.{name_of};
+ghost use Rattle.join_cli.specs.Ends.{Wrote, WroteFront, WroteSoFar};
+ghost use Rattle.join_cli.specs.Programs.{WroteFrontBy, WroteOver};
 
 use crate::conclude::conclude;
 use crate::outcome::{LimitFault, Outcome};
@@ -39,11 +43,7 @@ fn join_files<R: Threads + Wait + Sync, H: Shelf, K: Sink, G: Gate>(
 ) -> Outcome
     requires shelf { H.faults shelf.old < last_fault }
     requires sink { K.faults sink.old < last_fault }
-    requires small { options.now.k ≤ 6 }
-    requires feeders { (1 ≤ options.now.feeders) × (options.now.feeders ≤ 8) }
-    requires workers { (1 ≤ options.now.workers) × (options.now.workers ≤ 16) }
-    requires batch { (1 ≤ options.now.batch) × (options.now.batch ≤ 4096) }
-    requires fits { IfSome options.now.fixed (λ fixed. fixed ≤ options.now.k) }
+    requires setting { IsValidSetting (setting_of (asked options.now)) }
     requires make { IfSome options.now.make (λ count. (1 ≤ count) × (count ≤ 65536)) }
     requires alone { options.now.early ≡ true
         → (options.now.replay ≡ None) × (options.now.make ≡ None) × (options.now.rows ≡ false) }
@@ -55,25 +55,26 @@ fn join_files<R: Threads + Wait + Sync, H: Shelf, K: Sink, G: Gate>(
         → EndsAs (H.told shelf.old) (asked options.now) reading result }
     ensures seen { (tree : Tree) → TextReads limits options.now.on.now tree
         → result ≢ Outcome.Read → result ≢ Outcome.Memory
-        → EndsAsked (H.told shelf.old) (H.picked shelf.new) (asked options.now) options.now.make tree
-        (K.written sink.old) (K.written sink.new) result }
+        → EndsAsked (H.told shelf.old) (H.picked shelf.new) (asked options.now) options.now.make
+        tree (K.written sink.old) (K.written sink.new) result }
     ensures made { (count : ℕ) → options.now.make ≡ Some count
         → (shelf.new ≡ shelf.old) × (result ≢ Outcome.Read) }
-    ensures complete { (files : List ℕ → Option (List ℕ)) (tree : Tree) (planned : Planned)
-        → H.told shelf.old ≡ Some files → TextReads limits options.now.on.now tree
-        → plan_of (asked options.now) (Ok tree) files ≡ Ok planned → H.sound shelf.old
-        → TakesEach (K.takes sink.old) (asked options.now) planned
-        → IsDone result ⊎ (result ≡ Outcome.Memory) }
+    ensures complete { Suffices (H.told shelf.old) (asked options.now) (K.takes sink.old)
+        → H.sound shelf.old → IsDone result ⊎ (result ≡ Outcome.Memory) }
     ensures sound { H.sound shelf.old
         → H.sound shelf.new × (H.faults shelf.new ≡ H.faults shelf.old) }
-    ensures left { PutsSome (K.written sink.old) (K.written sink.new) (K.takes sink.old) (K.takes sink.new) }
+    ensures left { PutsSome (K.written sink.old) (K.written sink.new)
+        (K.takes sink.old) (K.takes sink.new) }
     ensures done { (journal : List TurnLine) (trail : List EndsView)
         → result ≡ Outcome.Done journal trail
-        → Wrote (H.told shelf.old) (asked options.now) journal trail (K.written sink.old) (K.written sink.new) }
+        → Wrote (H.told shelf.old) (asked options.now) journal trail
+        (K.written sink.old) (K.written sink.new) }
     ensures front { result ≡ Outcome.Write
-        → WroteFront (H.told shelf.old) (asked options.now) (K.written sink.old) (K.written sink.new) }
+        → WroteFront (H.told shelf.old) (asked options.now)
+        (K.written sink.old) (K.written sink.new) }
     ensures memory { result ≡ Outcome.Memory → (K.written sink.new ≡ K.written sink.old)
-        ⊎ WroteSoFar (H.told shelf.old) (asked options.now) (K.written sink.old) (K.written sink.new) }
+        ⊎ WroteSoFar (H.told shelf.old) (asked options.now)
+        (K.written sink.old) (K.written sink.new) }
     ensures spared { options.now.early ≡ false → result ≡ Outcome.Memory → sink.new ≡ sink.old }
     ensures nothing { (IsDone result → ⊥) → result ≢ Outcome.Write → result ≢ Outcome.Memory
         → sink.new ≡ sink.old }
@@ -97,9 +98,10 @@ fn join_files<R: Threads + Wait + Sync, H: Shelf, K: Sink, G: Gate>(
 
 /// Runs `jm` with these words, the program's name first. The first of these that applies is
 /// answered: the words, the text of the predicate, the file of R, the file of S, the columns, the
-/// numbers of R and then of S; then the join is run and its output made whole, and then it is written.
-/// Early output is written while the join is run. Memory may run out at each of them. The run is one in as many threads as there are workers, whose seats pass the gate
-/// at each turn, or a replay in one thread. What it promises holds if it returns.
+/// numbers of R and then of S; then the join is run and its output made whole, and then it is
+/// written. Early output is written while the join is run. Memory may run out at each of them. The
+/// run is one in as many threads as there are workers, whose seats pass the gate at each turn, or a
+/// replay in one thread. What it promises holds if it returns.
 pub fn join_main<R: Threads + Wait + Sync, H: Shelf, K: Sink, G: Gate>(
     rt: &R,
     alloc: Global,
@@ -129,23 +131,20 @@ pub fn join_main<R: Threads + Wait + Sync, H: Shelf, K: Sink, G: Gate>(
         (K.written sink.old) (K.written sink.new) result }
     ensures made { (asked : Asked) (count : ℕ) → asked_of (map string_bytes words.now) ≡ Ok asked
         → asked.make ≡ Some count → (shelf.new ≡ shelf.old) × (result ≢ Outcome.Read) }
-    ensures complete { (asked : Asked) (files : List ℕ → Option (List ℕ))
-        (tree : Tree) (planned : Planned)
-        → asked_of (map string_bytes words.now) ≡ Ok asked
-        → H.told shelf.old ≡ Some files → TextReads limits asked.on tree
-        → plan_of asked (Ok tree) files ≡ Ok planned → H.sound shelf.old
-        → TakesEach (K.takes sink.old) asked planned
+    ensures complete { (asked : Asked) → asked_of (map string_bytes words.now) ≡ Ok asked
+        → Suffices (H.told shelf.old) asked (K.takes sink.old) → H.sound shelf.old
         → IsDone result ⊎ (result ≡ Outcome.Memory) }
     ensures sound { H.sound shelf.old
         → H.sound shelf.new × (H.faults shelf.new ≡ H.faults shelf.old) }
-    ensures left { PutsSome (K.written sink.old) (K.written sink.new) (K.takes sink.old) (K.takes sink.new) }
+    ensures left { PutsSome (K.written sink.old) (K.written sink.new)
+        (K.takes sink.old) (K.takes sink.new) }
     ensures done { (journal : List TurnLine) (trail : List EndsView)
         → result ≡ Outcome.Done journal trail
-        → (asked : Asked) × (asked_of (map string_bytes words.now) ≡ Ok asked)
-        × Wrote (H.told shelf.old) asked journal trail (K.written sink.old) (K.written sink.new) }
+        → WroteOver (map string_bytes words.now) (H.told shelf.old) journal trail
+        (K.written sink.old) (K.written sink.new) }
     ensures front { result ≡ Outcome.Write
-        → (asked : Asked) × (asked_of (map string_bytes words.now) ≡ Ok asked)
-        × WroteFront (H.told shelf.old) asked (K.written sink.old) (K.written sink.new) }
+        → WroteFrontBy (map string_bytes words.now) (H.told shelf.old)
+        (K.written sink.old) (K.written sink.new) }
     ensures memory { (asked : Asked) → asked_of (map string_bytes words.now) ≡ Ok asked
         → result ≡ Outcome.Memory
         → (K.written sink.new ≡ K.written sink.old)

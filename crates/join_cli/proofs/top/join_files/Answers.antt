@@ -29,9 +29,10 @@ returns-in-Ok-clause-seen g c tree reads read memory =
     (g.K.Sink.written c.args.sink.now) (g.K.Sink.written c.conclude.new.sink) c.in-Ok.planned c.conclude.result (c.in-Ok.ensures.seen tree reads (λ e. cc e) (λ e. cc e)) c.conclude.ensures.ends
 
 pub returns-in-Ok-clause-complete : goal.returns-in-Ok-clause-complete
-returns-in-Ok-clause-complete g c files tree planned told reads plan sound takes =
-    let made = complete_made c.in-Ok.planned planned (plan_of (asked c.args.options.now) (Ok tree) files) (c.in-Ok.ensures.answer files (Ok tree) told reads (c.in-Ok.ensures.sound sound).1) plan in
-    c.conclude.ensures.complete (subst (TakesEach (g.K.Sink.takes c.args.sink.now) (asked c.args.options.now)) (sym made) takes)
+returns-in-Ok-clause-complete g c enough sound =
+    let plan = plan_of (asked c.args.options.now) (Ok enough.tree) enough.files in
+    let made = complete_made c.in-Ok.planned enough.planned plan (c.in-Ok.ensures.answer enough.files (Ok enough.tree) enough.tells enough.reads (c.in-Ok.ensures.sound sound).1) enough.plan in
+    c.conclude.ensures.complete (subst (TakesEach (g.K.Sink.takes c.args.sink.now) (asked c.args.options.now)) (sym made) enough.taken)
 
 pub returns-in-Ok-clause-done : goal.returns-in-Ok-clause-done
 returns-in-Ok-clause-done g c =
@@ -90,8 +91,9 @@ returns-in-Err-clause-made g c count is = (
 )
 
 pub returns-in-Err-clause-complete : goal.returns-in-Err-clause-complete
-returns-in-Err-clause-complete g c files tree planned told reads plan sound takes =
-    complete_refused c.in-Err.refusal (plan_of (asked c.args.options.now) (Ok tree) files) planned (c.in-Err.ensures.answer files (Ok tree) told reads (c.in-Err.ensures.sound sound).1) plan
+returns-in-Err-clause-complete g c enough sound =
+    let plan = plan_of (asked c.args.options.now) (Ok enough.tree) enough.files in
+    complete_refused c.in-Err.refusal plan enough.planned (c.in-Err.ensures.answer enough.files (Ok enough.tree) enough.tells enough.reads (c.in-Err.ensures.sound sound).1) enough.plan
 
 pub returns-in-Err-clause-left : goal.returns-in-Err-clause-left
 returns-in-Err-clause-left g c = PutsSome-refl (g.K.Sink.written c.args.sink.now) (g.K.Sink.takes c.args.sink.now)

@@ -1,8 +1,6 @@
-use Rattle.std.proofs.Common.{◌≡◌, ◌⊎◌, Ok, Some}
+use Rattle.std.proofs.Common.{◌≡◌, ◌⊎◌}
 use Rattle.std.specs.Prelude.{map, string_bytes}
-use Rattle.theta_text.specs.Texts.{TextReads, limits}
-use Rattle.join_cli.specs.Ends.{IsDone, TakesEach}
-use Rattle.join_cli.specs.Plan.{plan_of}
+use Rattle.join_cli.specs.Ends.{IsDone, Suffices}
 use Rattle.join_cli.specs.declared.outcome.Outcome.TheVariants as outcomes
 use Rattle.join_cli.proofs.Ending.{asked_same}
 use Rattle.join_words.specs.Words.{asked}
@@ -14,7 +12,7 @@ returns-in-Ok-clause-text g c = λ wanted fault is ends.
     asked_text (map string_bytes c.args.words.now) (asked c.in-Ok.options) wanted fault c.in-Ok.ensures.ok is (c.join_files.ensures.text fault ends)
 
 pub returns-in-Ok-clause-complete : goal.returns-in-Ok-clause-complete
-returns-in-Ok-clause-complete g c wanted files tree planned is =
-    asked_same (λ a. g.H.Shelf.told c.args.shelf.now ≡ Some files → TextReads limits a.on tree → plan_of a (Ok tree) files ≡ Ok planned → g.H.Shelf.sound c.args.shelf.now
-    → TakesEach (g.K.Sink.takes c.args.sink.now) a planned → IsDone c.join_files.result ⊎ (c.join_files.result ≡ outcomes.Memory))
-    (map string_bytes c.args.words.now) (asked c.in-Ok.options) wanted c.in-Ok.ensures.ok is (c.join_files.ensures.complete files tree planned)
+returns-in-Ok-clause-complete g c wanted is =
+    asked_same (λ a. Suffices (g.H.Shelf.told c.args.shelf.now) a (g.K.Sink.takes c.args.sink.now) → g.H.Shelf.sound c.args.shelf.now
+    → IsDone c.join_files.result ⊎ (c.join_files.result ≡ outcomes.Memory))
+    (map string_bytes c.args.words.now) (asked c.in-Ok.options) wanted c.in-Ok.ensures.ok is c.join_files.ensures.complete
