@@ -4,11 +4,11 @@ pub mod Wrong
 pub mod Bad
 pub mod Picked
 pub mod Refusals
-pub mod Asking
+pub mod Requests
 pub mod Worked
-pub mod Seeing
+pub mod Seen
 pub mod MadeTables
-pub mod Ending
+pub mod Ends
 pub mod EarlyOutput
 pub mod Inputs
 pub mod Reports

@@ -14,7 +14,7 @@ use Rattle.join_cli.specs.Ends.{Concludes}
 use Rattle.join_cli.specs.Plan.{checked, fitted, made_tables, then_of}
 use Rattle.join_cli.specs.Seen.{Ends, EndsAsked, PlanAsked, TablesAsked}
 use Rattle.join_cli.specs.Texts.{tree_or_refused}
-use Rattle.join_cli.proofs.Seeing.{end_concluded, end_refused, no_plan, no_tables, no_theta, plan_seen, tables_seen, theta_seen}
+use Rattle.join_cli.proofs.Seen.{end_concluded, end_refused, no_plan, no_tables, no_theta, plan_seen, tables_seen, theta_seen}
 
 -- a text with a tree isn't refused
 pub text_asked : (told : Told) (spot : Spot) (asked : Asked) (make : Option ℕ) (tree : Tree) (refusal : Outcome)

@@ -1,5 +1,5 @@
 -- What is told where nothing was carried out is so.
-use Rattle.std.proofs.Common.{◌≡◌, ◌≤◌, ◌<◌, ◌⊎◌, inl, inr, ℕ, List, Result, Err, refl, sym, subst, arith}
+use Rattle.std.proofs.Common.{◌≡◌, ◌≤◌, inl, inr, ℕ, List, Result, Err, refl, sym, subst, arith}
 use Rattle.join_rows.specs.Shelves.{Spot, Told}
 use Rattle.theta_text.specs.Texts.{IsDeepAt, IsFaultOf, IsLiteralAt, IsSyntaxAt, IsWideAt, limits}
 use Rattle.theta_text.specs.declared.tree.Pred.{Pred}

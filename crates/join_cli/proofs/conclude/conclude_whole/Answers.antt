@@ -1,7 +1,7 @@
 use Rattle.std.proofs.Common.{◌∙◌, ◌+◌, length, ap, refl, subst, arith}
 use Rattle.join_words.specs.Words.{asked}
 use Rattle.join_cli.proofs.EarlyOutput.{whole_lines, whole_stopped, whole_written}
-use Rattle.join_cli.proofs.Ending.{takes_made}
+use Rattle.join_cli.proofs.Ends.{takes_made}
 use Rattle.join_report.proofs.Puts.{PutsSome-front, PutsSome-refl}
 use Rattle.join_cli.proofs.conclude.conclude_whole.Goals as goal
 

@@ -1,7 +1,7 @@
 use Rattle.std.proofs.Common.{◌≡◌, Ok, sym, subst}
 use Rattle.std.specs.Prelude.{map, string_bytes}
 use Rattle.join_words.specs.Words.{asked_of}
-use Rattle.join_cli.proofs.Ending.{status_of_end}
+use Rattle.join_cli.proofs.Ends.{status_of_end}
 use Rattle.join_cli.proofs.entry.run_words.Goals as goal
 
 pub returns-clause-complete : goal.returns-clause-complete

@@ -2,7 +2,7 @@ use Rattle.std.proofs.Common.{◌≡◌, Ok, refl}
 use Rattle.std.proofs.lemmas.Result.{err_from_is_err_and}
 use Rattle.theta_text.specs.Texts.{tree_of}
 use Rattle.join_words.specs.Words.{asked}
-use Rattle.join_cli.proofs.Asking.{asked_if}
+use Rattle.join_cli.proofs.Requests.{asked_if}
 use Rattle.join_cli.specs.declared.outcome.Outcome.TheVariants as outcomes
 use Rattle.join_cli.proofs.MadeTables.{made_are, other_refusal_of_plan, plan_asked, tables_asked, text_asked, theta_asked}
 use Rattle.join_cli.proofs.plan.prepare.Goals as goal

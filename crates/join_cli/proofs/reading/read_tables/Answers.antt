@@ -1,7 +1,7 @@
 use Rattle.std.proofs.Common.{Err, Ok}
 use Rattle.std.proofs.lemmas.Result.{err_from_is_err_and}
 use Rattle.join_cli.proofs.Refusals.{later_refuses}
-use Rattle.join_cli.proofs.Seeing.{other_refusal, seen_both, seen_one}
+use Rattle.join_cli.proofs.Seen.{other_refusal, seen_both, seen_one}
 use Rattle.join_cli.specs.declared.outcome.Outcome.TheVariants as outcomes
 use Rattle.join_cli.proofs.reading.read_tables.Goals as goal
 

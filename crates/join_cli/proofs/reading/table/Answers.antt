@@ -1,5 +1,5 @@
 use Rattle.std.proofs.Common.{◌≡◌, Ok, Err, inl, inr}
-use Rattle.join_cli.proofs.Seeing.{file_refuses, file_seen, not_memory, not_read, not_rose, table_told, table_told_ok}
+use Rattle.join_cli.proofs.Seen.{file_refuses, file_seen, not_memory, not_read, not_rose, table_told, table_told_ok}
 use Rattle.join_cli.proofs.reading.table.Goals as goal
 
 pub returns-in-Ok-clause-found : goal.returns-in-Ok-clause-found

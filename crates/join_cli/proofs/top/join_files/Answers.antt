@@ -1,10 +1,10 @@
 use Rattle.std.proofs.Common.{Ok, inl, inr, sym, subst, arith}
 use Rattle.join_cli.specs.Ends.{Concludes, Refuses, TakesEach}
 use Rattle.join_cli.specs.Plan.{plan_of}
-use Rattle.join_cli.proofs.Ending.{complete_made, complete_refused, concludes_well, ends_concluded, ends_refused, wrote, wrote_front, wrote_so_far}
+use Rattle.join_cli.proofs.Ends.{complete_made, complete_refused, concludes_well, ends_concluded, ends_refused, wrote, wrote_front, wrote_so_far}
 use Rattle.join_cli.specs.declared.outcome.Outcome.TheVariants as outcomes
 use Rattle.join_cli.proofs.MadeTables.{asked_concluded, asked_refused, none_is_some}
-use Rattle.join_cli.proofs.Seeing.{other_outcome}
+use Rattle.join_cli.proofs.Seen.{other_outcome}
 use Rattle.join_words.specs.Words.{asked}
 use Rattle.join_report.proofs.Puts.{PutsSome-refl}
 use Rattle.join_cli.proofs.top.join_files.Goals as goal

@@ -2,9 +2,9 @@ use Rattle.std.proofs.Common.{◌≡◌, ◌⊎◌}
 use Rattle.std.specs.Prelude.{map, string_bytes}
 use Rattle.join_cli.specs.Ends.{IsDone, Suffices}
 use Rattle.join_cli.specs.declared.outcome.Outcome.TheVariants as outcomes
-use Rattle.join_cli.proofs.Ending.{asked_same}
+use Rattle.join_cli.proofs.Ends.{asked_same}
 use Rattle.join_words.specs.Words.{asked}
-use Rattle.join_cli.proofs.Asking.{asked_text}
+use Rattle.join_cli.proofs.Requests.{asked_text}
 use Rattle.join_cli.proofs.top.join_main.Goals as goal
 
 pub returns-in-Ok-clause-text : goal.returns-in-Ok-clause-text

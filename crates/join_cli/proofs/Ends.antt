@@ -12,8 +12,8 @@ use Rattle.join_runtime.specs.Endings.{EndsView}
 use Rattle.join_cli.specs.Ends.{Concludes, EndsAs, IsAsked, IsDone, IsOutcomeOf, TakesEach, Wrote, WroteFront, WroteSoFar}
 use Rattle.join_cli.specs.Outcomes.{status_of}
 use Rattle.join_cli.specs.Plan.{IsJournalOf, output_of, plan_of}
-use Rattle.join_cli.proofs.Asking.{asked_one}
-use Rattle.join_cli.proofs.Seeing.{no_plan}
+use Rattle.join_cli.proofs.Requests.{asked_one}
+use Rattle.join_cli.proofs.Seen.{no_plan}
 
 -- a plan that was carried out has an outcome of it, unless a put failed
 pub ends_concluded : (told : Told) (asked : Asked) (reading : Result Tree PredFault) (planned : Planned) (old new : Option (List ℕ)) (outcome : Outcome)
