@@ -8,4 +8,4 @@ returns-in_ok-take_of_joiner c =
     c.requires.sound (c.is_clear.ensures c.if-is_clear.true) (c.can_take_of_joiner.ensures.up c.if-can_take_of_joiner.true) c.in_ok-take_of_joiner.ensures.rest c.in_ok-take_of_joiner.ensures.took
 
 pub returns-in_ok-hold : goal.returns-in_ok-hold
-returns-in_ok-hold c = accepts-held-joiner (state_of c.args.self.now) c.hold.new.self c.args.q c.args.m c.args.found.now c.args.sends.now c.requires.sound c.requires.few c.requires.row c.in_ok-hold.ensures
+returns-in_ok-hold c = accepts-held-joiner (state_of c.args.self.now) c.hold.new.self c.args.q c.args.m c.args.found.now c.args.sends.now c.requires.sound c.requires.few c.requires.row c.in_ok-hold.ensures.ok
