@@ -1,5 +1,5 @@
 -- What is gathered of a map from values to places, between two bounds.
-use Rattle.std.proofs.Common.{◌≡◌, ℕ, ◌+◌, ◌≤◌, ℤ, pos, negsuc, Bool, true, false, cond, not, ◌&&◌, Option, Some, None, List, [], ◌∷◌, ◌++◌, refl, sym, ap, ◌∙◌, arith, append_assoc}
+use Rattle.std.proofs.Common.{◌≡◌, ℕ, ◌+◌, ◌≤◌, ℤ, pos, negsuc, Bool, true, false, cond, not, ◌&&◌, Option, Some, None, List, [], ◌∷◌, ◌++◌, refl, sym, ap, ◌∙◌, arith, append_assoc, length, drop}
 use Rattle.std.specs.Prelude.{filter, flat_map, sum_by, int_lt, int_le}
 use Rattle.smallvec.specs.SmallVec.{SmallVec}
 use Rattle.std.specs.declared.cmp.Ordering.TheVariants.{Less, Equal, Greater}
@@ -8,7 +8,9 @@ use Rattle.std.specs.List.Sorted.{IsPermutation, IsSorted}
 use Rattle.std.specs.BTreeMap.Range.{range_contains}
 use Rattle.std.proofs.lemmas.Grind.{common_steps}
 use Rattle.std.proofs.lemmas.List.Sums.{sum_by-cons, sum_by-append}
-use Rattle.std.proofs.lemmas.List.Sorted.{sum_by-IsPermutation, IsNonDecreasingBy-from_sort}
+use Rattle.std.proofs.lemmas.List.Sorted.{sum_by-IsPermutation, length_permutation, IsNonDecreasingBy-from_sort}
+use Rattle.std.specs.List.{refill}
+use Rattle.std.proofs.lemmas.List.{take_all, take-append-le}
 use Rattle.std.proofs.lemmas.List.Elements.{filter_agree}
 use Rattle.std.proofs.lemmas.Bool.{false≢true}
 use Rattle.std.proofs.lemmas.Bool.Decides.{nat_tests}
@@ -125,6 +127,13 @@ sorted_places from to values entries found sorted indexed is moved in_order =
     ∙ sum_of_range (λ v. lies from to (Some v)) f entries
     ∙ indexed.sums (only (λ v. lies from to (Some v)) f)
     ∙ sum_of_places from to f 0 values)
+
+-- a vector that was sorted in its own memory has the sorted elements
+pub refilled : (found sorted : List ℕ) → IsPermutation found sorted → refill (length found) found sorted ≡ sorted
+refilled found sorted moved =
+    let same = length_permutation found sorted moved in
+    take-append-le (length found) sorted (drop (length sorted) found) (omega (arith, same))
+    ∙ take_all (length found) sorted (omega (arith, same))
 
 -- ---- what a range of a tree gives
 

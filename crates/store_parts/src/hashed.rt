@@ -3,7 +3,7 @@
 ghost use Rattle.std.specs.Prelude.{◌≡◌, ℤ, Option, Some, List, [], ◌∷◌, ◌++◌, length, IfOk, IfSome, OnOk, OnErr};
 ghost use Rattle.store_parts.specs.Places.{gathered, lies, IsMapOf};
 
-use crate::places::Places;
+use crate::places::{Found, Places};
 use smallvec::SmallVec;
 use std::alloc::{AllocError, Global};
 use std::collections::HashMap;
@@ -55,14 +55,14 @@ fn only_value(from: Option<i128>, to: Option<i128>) -> Option<i128>
 }
 
 // The places of a value.
-fn gather_one(alloc: Global, map: &HashedMap, value: i128) -> Result<Vec<u64>, AllocError>
+fn gather_one(alloc: Global, map: &HashedMap, value: i128) -> Result<Found, AllocError>
     ensures { IfOk result (λ found.
         found.items ≡ gathered (Some value) (Some value) map.now.entries) }
 {
     let _ = map.len();
     match map.get(&value) {
-        Some(places) => Vec::from_slice(alloc, places.as_slice()),
-        None => Ok(Vec::new(alloc)),
+        Some(places) => SmallVec::from_slice(alloc, places.as_slice()),
+        None => Ok(SmallVec::new(alloc)),
     }
 }
 
@@ -72,10 +72,10 @@ fn gather_each(
     map: &HashedMap,
     from: Option<i128>,
     to: Option<i128>,
-) -> Result<Vec<u64>, AllocError>
+) -> Result<Found, AllocError>
     ensures { IfOk result (λ found. found.items ≡ gathered from to map.now.entries) }
 {
-    let mut found = Vec::new(alloc);
+    let mut found = SmallVec::new(alloc);
     for entry in map.iter() {
         if lies(from, to, *entry.0) {
             found.extend_from_slice(entry.1.as_slice())?;
@@ -90,7 +90,7 @@ pub(crate) fn gather_hashed(
     map: &HashedMap,
     from: Option<i128>,
     to: Option<i128>,
-) -> Result<Vec<u64>, AllocError>
+) -> Result<Found, AllocError>
     ensures { IfOk result (λ found. found.items ≡ gathered from to map.now.entries) }
 {
     match only_value(from, to) {

@@ -5,6 +5,7 @@ ghost use Rattle.store_parts.specs.Places.{entries_of, gathered, places_between,
 
 use crate::hashed::{HashedMap, add_hashed, gather_hashed};
 use crate::ordered::{OrderedMap, add_ordered, gather_ordered};
+use crate::places::Found;
 use std::alloc::{AllocError, Global};
 use std::collections::{BTreeMap, HashMap};
 use std::marker::Model;
@@ -35,7 +36,7 @@ impl Map {
         alloc: Global,
         from: Option<i128>,
         to: Option<i128>,
-    ) -> Result<Vec<u64>, AllocError>
+    ) -> Result<Found, AllocError>
         ensures { IfOk result (λ found. found.items ≡ gathered from to (entries_of self.now)) }
     {
         match self {
@@ -115,7 +116,7 @@ impl Index {
         alloc: Global,
         from: Option<i128>,
         to: Option<i128>,
-    ) -> Result<Vec<u64>, AllocError>
+    ) -> Result<Found, AllocError>
         ensures { IfOk result (λ found.
             (values : List (Option ℤ)) → IsMapOf values self.now
             → found.items ≡ places_between from to 0 values) }

@@ -3,7 +3,7 @@
 ghost use Rattle.std.specs.Prelude.{◌≡◌, ℤ, Option, Some, List, [], ◌∷◌, ◌++◌, length, IfOk, OnOk, OnErr};
 ghost use Rattle.store_parts.specs.Places.{end_of, gathered, is_backward, start_of, IsMapOf};
 
-use crate::places::Places;
+use crate::places::{Found, Places};
 use smallvec::SmallVec;
 use std::alloc::{AllocError, Global};
 use std::collections::BTreeMap;
@@ -68,10 +68,10 @@ pub(crate) fn gather_ordered(
     map: &OrderedMap,
     from: Option<i128>,
     to: Option<i128>,
-) -> Result<Vec<u64>, AllocError>
+) -> Result<Found, AllocError>
     ensures { IfOk result (λ found. found.items ≡ gathered from to map.now.entries) }
 {
-    let mut found = Vec::new(alloc);
+    let mut found = SmallVec::new(alloc);
     if is_backward(from, to) {
         return Ok(found);
     }

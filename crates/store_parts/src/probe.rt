@@ -20,11 +20,13 @@ ghost use Rattle.theta_pred.specs.TextAtoms.{text_atom_of};
 
 use crate::band::{greatest, least, value_of};
 use crate::index::Index;
+use crate::places::Found;
 use crate::steps::Steps;
 use crate::texts::{has_same_text, text_number};
 use crate::which::Which;
 use epoch_tags::{Pair, Pairs, Tuple};
 use join_rows::Side;
+use smallvec::SmallVec;
 use std::alloc::{AllocError, Global};
 use std::sync::ledger::Ledger;
 use theta_pred::{KeyAtom, TextAtom, Theta};
@@ -147,7 +149,7 @@ fn candidates(
     others: &[Tuple],
     index: &Index,
     key: &KeyAtom,
-) -> Result<Vec<u64>, AllocError>
+) -> Result<Found, AllocError>
     requires columns { HasColumns key.now tuple.now.side tuple.now }
     requires index { IsMapOf
         (values_at key.now (other_side tuple.now.side) others.now) index.now }
@@ -156,7 +158,7 @@ fn candidates(
     ensures below { IfOk result (λ places. All (λ place. place < length others.now) places.items) }
 {
     let Some(value) = value_of(key, tuple.side, tuple) else {
-        return Ok(Vec::new(alloc));
+        return Ok(SmallVec::new(alloc));
     };
     index.between(
         alloc,
@@ -191,7 +193,7 @@ pub(crate) fn seek<L: Ledger>(
 {
     theta.key_law();
     let places = candidates(alloc, tuple, others, index, key)?;
-    try_places(tuple, others, &places, theta, which, found, steps)
+    try_places(tuple, others, places.as_slice(), theta, which, found, steps)
 }
 
 // Of these places those of the stored tuples with the tuple's text.
@@ -201,13 +203,13 @@ fn places_of_same_text(
     others: &[Tuple],
     text: TextAtom,
     places: &[u64],
-) -> Result<Vec<u64>, AllocError>
+) -> Result<Found, AllocError>
     requires { All (λ place. place < length others.now) places.now }
     ensures same { IfOk result (λ kept. at_places others.now kept.items
         ≡ filter (has_same_text text tuple.now) (at_places others.now places.now)) }
     ensures below { IfOk result (λ kept. All (λ place. place < length others.now) kept.items) }
 {
-    let mut kept = Vec::new(alloc);
+    let mut kept = SmallVec::new(alloc);
     for place in places {
         if has_same_text(text, tuple, at(others, *place)) {
             kept.push(*place)?;
@@ -223,7 +225,7 @@ fn places_of_number(
     others: &[Tuple],
     index: &Index,
     text: TextAtom,
-) -> Result<Vec<u64>, AllocError>
+) -> Result<Found, AllocError>
     requires { IsMapOf
         (numbers_at text (other_side tuple.now.side) others.now) index.now }
     ensures texts { IfOk result (λ places.
@@ -261,6 +263,6 @@ pub(crate) fn seek_text<L: Ledger>(
 {
     theta.text_law();
     let places = places_of_number(alloc, tuple, others, index, text)?;
-    let kept = places_of_same_text(alloc, tuple, others, text, &places)?;
-    try_places(tuple, others, &kept, theta, which, found, steps)
+    let kept = places_of_same_text(alloc, tuple, others, text, places.as_slice())?;
+    try_places(tuple, others, kept.as_slice(), theta, which, found, steps)
 }

@@ -13,7 +13,7 @@ returns-in-Some c =
     let found = ap option_copied (sym c.in-Some.is) ∙ c.get.ensures.value in
     let all = gathered-found c.args.value _ c.args.map.now.entries _ c.len.ensures.unique (to_z-of_z w128 c.args.value fits) found in
     let P : List ℕ → Type 0 = λ ps. IfOk c.from_slice.result (λ found. found.items ≡ ps) in
-    subst P (c.as_slice.ensures ∙ all) c.from_slice.ensures.items
+    subst P (c.as_slice.ensures ∙ all) c.from_slice.ensures.ok
 
 pub returns-in-None : goal.returns-in-None
 returns-in-None c =

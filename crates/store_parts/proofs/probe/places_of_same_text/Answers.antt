@@ -14,12 +14,12 @@ loop-place-preserved c =
     elim c.if-has_same_text.branch [
       | then-has_same_text+in_ok-push w ↦
           rw (w.kept-is) (record {
-            same = ap (at_places c.args.others.now) w.in_ok-push.ensures.items
+            same = ap (at_places c.args.others.now) w.in_ok-push.ensures.ok
                 ∙ kept_one test c.args.others.now c.args.places.now c.loop-place.kept.items c.loop-place.place-index _ c.at.result.now place c.at.ensures
                 c.loop-place.invariant.same (sym c.has_same_text.ensures ∙ w.if-has_same_text.true);
             below =
                 let P : List ℕ → Type 0 = λ ps. All (λ p. p < length c.args.others.now) ps in
-                subst P (sym w.in_ok-push.ensures.items)
+                subst P (sym w.in_ok-push.ensures.ok)
                 (All-push (λ (p : ℕ). p < length c.args.others.now) c.loop-place.kept.items _ c.loop-place.invariant.below
                 (c.requires c.loop-place.place-index 0 c.loop-place-test.true));
           })

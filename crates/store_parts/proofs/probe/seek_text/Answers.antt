@@ -8,8 +8,8 @@ use Rattle.store_parts.proofs.probe.seek_text.Goals as goal
 
 pub returns-clause-ok : goal.returns-clause-ok
 returns-clause-ok g c =
-    let at = ap (at_places c.args.others.now) c.deref-2.ensures.value ∙ c.in_ok-kept.ensures.same
-    ∙ ap (λ ps. filter (has_same_text c.args.text c.args.tuple.now) (at_places c.args.others.now ps)) c.deref.ensures.value ∙ c.in_ok-places.ensures.texts in
+    let at = ap (at_places c.args.others.now) c.as_slice-2.ensures ∙ c.in_ok-kept.ensures.same
+    ∙ ap (λ ps. filter (has_same_text c.args.text c.args.tuple.now) (at_places c.args.others.now ps)) c.as_slice.ensures ∙ c.in_ok-places.ensures.texts in
     let found = ap (matches c.args.theta.now c.args.tuple.now c.args.which) at
     ∙ matches_by_text c.args.theta.now c.args.text c.args.tuple.now c.args.which c.args.others.now (c.text_law.ensures c.args.text c.requires.own) in
     let P : List Pair → Type 0 = λ pairs. OnOk c.try_places.result (c.try_places.new.found ≡ c.args.found.now ++ pairs) in
@@ -17,8 +17,8 @@ returns-clause-ok g c =
 
 pub returns-clause-err : goal.returns-clause-err
 returns-clause-err g c =
-    let at = ap (at_places c.args.others.now) c.deref-2.ensures.value ∙ c.in_ok-kept.ensures.same
-    ∙ ap (λ ps. filter (has_same_text c.args.text c.args.tuple.now) (at_places c.args.others.now ps)) c.deref.ensures.value ∙ c.in_ok-places.ensures.texts in
+    let at = ap (at_places c.args.others.now) c.as_slice-2.ensures ∙ c.in_ok-kept.ensures.same
+    ∙ ap (λ ps. filter (has_same_text c.args.text c.args.tuple.now) (at_places c.args.others.now ps)) c.as_slice.ensures ∙ c.in_ok-places.ensures.texts in
     let found = ap (matches c.args.theta.now c.args.tuple.now c.args.which) at
     ∙ matches_by_text c.args.theta.now c.args.text c.args.tuple.now c.args.which c.args.others.now (c.text_law.ensures c.args.text c.requires.own) in
     let P : List Pair → Type 0 = λ pairs. OnErr c.try_places.result (AppendsFront c.args.found.now c.try_places.new.found pairs) in
@@ -26,8 +26,8 @@ returns-clause-err g c =
 
 pub returns-clause-steps : goal.returns-clause-steps
 returns-clause-steps g c =
-    let at = ap (at_places c.args.others.now) c.deref-2.ensures.value ∙ c.in_ok-kept.ensures.same
-    ∙ ap (λ ps. filter (has_same_text c.args.text c.args.tuple.now) (at_places c.args.others.now ps)) c.deref.ensures.value ∙ c.in_ok-places.ensures.texts in
+    let at = ap (at_places c.args.others.now) c.as_slice-2.ensures ∙ c.in_ok-kept.ensures.same
+    ∙ ap (λ ps. filter (has_same_text c.args.text c.args.tuple.now) (at_places c.args.others.now ps)) c.as_slice.ensures ∙ c.in_ok-places.ensures.texts in
     let counted = ap (count_by (is_named c.args.which)) at ∙ count_by_text c.args.text c.args.tuple.now c.args.which c.args.others.now in
     let P : ℕ → Type 0 = λ n. OnOk c.try_places.result (c.try_places.new.steps ≡ c.args.steps.now + n) in
     subst P counted c.try_places.ensures.steps
