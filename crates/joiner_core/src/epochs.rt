@@ -176,7 +176,7 @@ impl Model for Opened {
 }
 
 // The joiner with whom joiner `id` exchanges tuples in a step.
-#[tactic(auto, using(crate::proofs::Posting::beside))]
+#[tactic(auto, using(crate::proofs::OwnPosts::beside))]
 pub(crate) fn partner_in_step(k: u32, old: u32, new: u32, id: u32) -> u32
     requires grid { k ≤ 8 }
     requires from { old ≤ k }

@@ -1,7 +1,7 @@
 use Rattle.std.proofs.Common.{subst, IsTrue, ◌↔◌}
 use Rattle.joiner_law.specs.Law.{Taken, IsFinished}
-use Rattle.joiner_core.proofs.Finishing.{finished-law, law-finished}
-use Rattle.joiner_core.proofs.Calling.{told-by}
+use Rattle.joiner_core.proofs.Finished.{finished-law, law-finished}
+use Rattle.joiner_core.proofs.CallerFacts.{told-by}
 use Rattle.joiner_core.specs.Machine.{state_of}
 use Rattle.joiner_core.proofs.joiner.Joiner.finished.Goals as goal
 

@@ -1,6 +1,6 @@
 use Rattle.std.proofs.Common.{subst, sym}
 use Rattle.joiner_core.specs.Standing.{JoinerState, IsSpent}
-use Rattle.joiner_core.proofs.Calling.{sound-at-work}
+use Rattle.joiner_core.proofs.CallerFacts.{sound-at-work}
 use Rattle.joiner_core.specs.Machine.{state_of}
 use Rattle.joiner_core.proofs.joiner.Joiner.hears.Goals as goal
 

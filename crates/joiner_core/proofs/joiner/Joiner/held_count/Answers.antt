@@ -2,7 +2,7 @@ use Rattle.std.proofs.Common.{◌∙◌, ap, ◌^◌, ◌-◌}
 use Rattle.std.specs.Prelude.{min}
 use Rattle.joiner_law.specs.Law.{Taken}
 use Rattle.joiner_core.specs.Standing.{held_number}
-use Rattle.joiner_core.proofs.Calling.{held-count}
+use Rattle.joiner_core.proofs.CallerFacts.{held-count}
 use Rattle.joiner_core.specs.Machine.{state_of}
 use Rattle.joiner_core.proofs.joiner.Joiner.held_count.Goals as goal
 

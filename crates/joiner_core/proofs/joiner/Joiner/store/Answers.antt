@@ -3,9 +3,9 @@ use Rattle.join_rows.specs.Lists.{SameBag}
 use Rattle.join_rows.proofs.Bags.{SameBag-trans}
 use Rattle.joiner_law.specs.Law.{Taken, store}
 use Rattle.joiner_core.specs.State.{Stocked, tuples_of, IsKeyOf}
-use Rattle.joiner_core.proofs.Assembling.{store-law}
-use Rattle.joiner_core.proofs.Beginning.{same-bag}
-use Rattle.joiner_core.proofs.Calling.{sound-at-work}
+use Rattle.joiner_core.proofs.WholeLaw.{store-law}
+use Rattle.joiner_core.proofs.Fresh.{same-bag}
+use Rattle.joiner_core.proofs.CallerFacts.{sound-at-work}
 use Rattle.joiner_core.specs.Machine.{state_of}
 use Rattle.joiner_core.proofs.joiner.Joiner.store.Goals as goal
 

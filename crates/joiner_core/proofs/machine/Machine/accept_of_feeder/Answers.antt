@@ -1,4 +1,4 @@
-use Rattle.joiner_core.proofs.Accepting.{accepts-taken-feeder, accepts-held-feeder}
+use Rattle.joiner_core.proofs.AcceptedMessages.{accepts-taken-feeder, accepts-held-feeder}
 use Rattle.joiner_core.specs.Machine.{state_of}
 use Rattle.joiner_core.proofs.machine.Machine.accept_of_feeder.Goals as goal
 

@@ -1,4 +1,4 @@
-use Rattle.joiner_core.proofs.Accepting.{accepts-taken-joiner, accepts-held-joiner}
+use Rattle.joiner_core.proofs.AcceptedMessages.{accepts-taken-joiner, accepts-held-joiner}
 use Rattle.joiner_core.specs.Machine.{state_of}
 use Rattle.joiner_core.proofs.machine.Machine.accept_of_joiner.Goals as goal
 

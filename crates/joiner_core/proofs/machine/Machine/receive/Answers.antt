@@ -1,4 +1,4 @@
-use Rattle.joiner_core.proofs.Reporting.{receives}
+use Rattle.joiner_core.proofs.WholeCalls.{receives}
 use Rattle.joiner_core.specs.Machine.{state_of}
 use Rattle.joiner_core.proofs.machine.Machine.receive.Goals as goal
 

@@ -1,5 +1,5 @@
-use Rattle.joiner_core.proofs.Fitting.{row-first}
-use Rattle.joiner_core.proofs.Advancing.{took-held-feeder}
+use Rattle.joiner_core.proofs.RowWidths.{row-first}
+use Rattle.joiner_core.proofs.CallParts.{took-held-feeder}
 use Rattle.joiner_core.specs.Machine.{state_of}
 use Rattle.joiner_core.proofs.machine.Machine.take_first_of_feeder.Goals as goal
 

@@ -1,7 +1,7 @@
 use Rattle.std.proofs.Common.{subst}
 use Rattle.joiner_core.specs.Machine.{state_of, AreTried, none_ready, next}
 use Rattle.joiner_core.specs.State.{MachineState}
-use Rattle.joiner_core.proofs.Advancing.{advances-none, advances-then}
+use Rattle.joiner_core.proofs.CallParts.{advances-none, advances-then}
 use Rattle.joiner_core.proofs.machine.Machine.take_held.Goals as goal
 
 pub trial-init : goal.trial-init

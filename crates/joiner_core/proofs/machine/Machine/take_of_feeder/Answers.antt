@@ -1,7 +1,7 @@
 use Rattle.std.proofs.Common.{sym, subst}
 use Rattle.epoch_tags.specs.declared.message.ToJoiner.{ToJoiner}
 use Rattle.joiner_core.specs.Taking.{TookOfFeeder, TakesOfFeeder}
-use Rattle.joiner_core.proofs.Receiving.{took-end}
+use Rattle.joiner_core.proofs.EndsAndParts.{took-end}
 use Rattle.joiner_core.proofs.machine.Machine.take_of_feeder.Goals as goal
 
 pub returns-in-End-clause-took : goal.returns-in-End-clause-took

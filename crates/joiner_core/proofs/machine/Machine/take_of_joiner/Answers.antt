@@ -2,7 +2,7 @@ use Rattle.std.proofs.Common.{ℕ, sym, subst}
 use Rattle.epoch_tags.specs.declared.message.ToJoiner.{ToJoiner}
 use Rattle.joiner_core.specs.Taking.{TookOfJoiner, TakesOfJoiner}
 use Rattle.joiner_core.specs.State.{HasRow}
-use Rattle.joiner_core.proofs.Receiving.{took-moved, took-moved_end, part-step}
+use Rattle.joiner_core.proofs.EndsAndParts.{took-moved, took-moved_end, part-step}
 use Rattle.joiner_core.proofs.machine.Machine.take_of_joiner.Goals as goal
 
 pub returns-in-Moved-clause-took : goal.returns-in-Moved-clause-took

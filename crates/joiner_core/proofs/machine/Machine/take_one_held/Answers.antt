@@ -1,5 +1,5 @@
 use Rattle.epoch_tags.specs.declared.actor.Actor.TheVariants.{Feeder, Joiner as Joiner'}
-use Rattle.joiner_core.proofs.Advancing.{advances-none}
+use Rattle.joiner_core.proofs.CallParts.{advances-none}
 use Rattle.joiner_core.proofs.machine.Machine.take_one_held.Goals as goal
 
 pub returns-in-None-ready_joiner-clause-took : goal.returns-in-None-ready_joiner-clause-took

@@ -1,7 +1,7 @@
 use Rattle.std.proofs.Common.{ap, ◌∙◌}
 use Rattle.store_parts.specs.Stored.{Stored}
 use Rattle.joiner_core.specs.State.{stocked_of, with_placed}
-use Rattle.joiner_core.proofs.Stocking.{stocked-with}
+use Rattle.joiner_core.proofs.StoreLists.{stocked-with}
 use Rattle.joiner_core.proofs.stock.Stock.add.Goals as goal
 
 pub returns : goal.returns

@@ -1,7 +1,7 @@
 use Rattle.std.proofs.Common.{ap, ◌∙◌, length, count_by}
 use Rattle.migration_plan.specs.Steps.{is_of}
 use Rattle.joiner_core.specs.State.{Stocked}
-use Rattle.joiner_core.proofs.Stocking.{count-side}
+use Rattle.joiner_core.proofs.StoreLists.{count-side}
 use Rattle.joiner_core.proofs.stock.Stock.count.Goals as goal
 
 pub returns : goal.returns

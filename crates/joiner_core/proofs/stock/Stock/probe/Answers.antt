@@ -1,7 +1,7 @@
 use Rattle.std.proofs.Common.{ap, sym, subst, ◌∙◌, ◌++◌}
 use Rattle.joiner_law.specs.History.{probed}
 use Rattle.joiner_core.specs.State.{does_hold, named_by, Stocked, IsStock}
-use Rattle.joiner_core.proofs.Stocking.{own-key, probe-is, widths-of}
+use Rattle.joiner_core.proofs.StoreLists.{own-key, probe-is, widths-of}
 use Rattle.joiner_core.proofs.stock.Stock.probe.Goals as goal
 
 pub probe_uncounted-requires-clause-widths : goal.probe_uncounted-requires-clause-widths

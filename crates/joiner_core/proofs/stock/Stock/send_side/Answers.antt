@@ -2,7 +2,7 @@ use Rattle.std.proofs.Common.{ap, sym, ◌∙◌, ◌++◌, map, filter}
 use Rattle.migration_plan.specs.Steps.{is_of}
 use Rattle.joiner_law.specs.Posting.{moved_post}
 use Rattle.joiner_core.specs.State.{Stocked}
-use Rattle.joiner_core.proofs.Stocking.{own-side}
+use Rattle.joiner_core.proofs.StoreLists.{own-side}
 use Rattle.joiner_core.proofs.stock.Stock.send_side.Goals as goal
 
 pub returns : goal.returns

@@ -22,9 +22,9 @@ use Rattle.joiner_core.specs.Changes.{IsReady}
 use Rattle.joiner_core.specs.State.{OpenStep, EpochState, MachineState}
 use Rattle.joiner_core.specs.Taking.{IsClosed, StandsBy, HasSomeTurn}
 use Rattle.joiner_core.specs.Machine.{IsStart, StandsBetween, fin_of}
-use Rattle.joiner_core.proofs.Keeping.{append-nil}
-use Rattle.joiner_core.proofs.Testing.{closed-few, open-begun, greatest-above, greatest-below}
-use Rattle.joiner_core.proofs.Finishing.{parts-at, some-up, more-up, rests-law, law-finished}
+use Rattle.std.proofs.lemmas.List.{append-nil}
+use Rattle.joiner_core.proofs.LawTests.{closed-few, open-begun, greatest-above, greatest-below}
+use Rattle.joiner_core.proofs.Finished.{parts-at, some-up, more-up, rests-law, law-finished}
 
 history-within : (s : JoinerStart) (t : Taken) (steps : List Step) (n : ℕ) → IsHistory s t steps → n < length steps → shift_after s t n ≤ s.k
 history-within s t [] n is low = absurd (omega arith)

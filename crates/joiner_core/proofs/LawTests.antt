@@ -12,7 +12,7 @@ use Rattle.joiner_law.specs.Law.{JoinerStart, JoinerLists, Taken, partner_of, sh
 use Rattle.joiner_law.specs.Standing.{one_if}
 use Rattle.joiner_core.specs.State.{OpenStep, EpochState}
 use Rattle.joiner_core.specs.Taking.{IsMachineOf, IsClosed, IsOpen, StandsBy, Stands, TupFits, TurnFits, HasSomeTurn, PartFits, TakesOfFeeder, TakesOfJoiner}
-use Rattle.joiner_core.proofs.Keeping.{partner-is}
+use Rattle.joiner_core.proofs.PartnerParts.{partner-is}
 
 pub greatest-above : (n : ℕ) (g : ℕ → ℕ) (i : ℕ) → i < n → g i ≤ greatest n g
 greatest-above zero g i below = absurd (omega arith)

@@ -15,11 +15,12 @@ use Rattle.joiner_law.specs.History.{Step}
 use Rattle.joiner_law.specs.Standing.{grown, pairs_sent, ArePairs, AreSent, AreSteps}
 use Rattle.joiner_law.proofs.LongerLists.{grown-same, grown-other}
 use Rattle.joiner_core.specs.State.{HasRow, OpenStep, EpochState, MachineState}
-use Rattle.joiner_core.proofs.Fitting.{same-rows, rows-held}
+use Rattle.joiner_core.proofs.RowWidths.{same-rows, rows-held}
 use Rattle.joiner_core.specs.Taking.{StandsBy, Stands, TookOfFeeder, TookOfJoiner, TakesOfFeeder, TakesOfJoiner}
 use Rattle.joiner_core.specs.Machine.{IsSound, Accepts}
-use Rattle.joiner_core.proofs.Posting.{own-none}
-use Rattle.joiner_core.proofs.Keeping.{append-nil, with_sent-none}
+use Rattle.joiner_core.proofs.OwnPosts.{own-none}
+use Rattle.std.proofs.lemmas.List.{append-nil}
+use Rattle.joiner_core.proofs.SentPosts.{with_sent-none}
 
 -- ---- what was received, and what was sent to the collector, stand apart
 

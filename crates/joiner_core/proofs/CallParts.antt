@@ -2,6 +2,7 @@
 use Rattle.std.proofs.Common.{◌≡◌, ℕ, ◌+◌, ◌^◌, ◌<◌, zero, suc, inl, inr, refl, sym, ◌∙◌, ap, subst, arith, List, [], ◌∷◌, ◌++◌, length, append_assoc, get_or-set_other, set}
 use Rattle.std.specs.Prelude.{slice_set, sum_by, slice_index_or}
 use Rattle.std.proofs.Math.ListN.{length-set}
+use Rattle.std.proofs.lemmas.List.{append-nil}
 use Rattle.std.proofs.lemmas.List.Sums.{sum_by-cons}
 use Rattle.std.proofs.lemmas.Bool.{cases_eq, false≢true}
 use Rattle.epoch_tags.specs.declared.actor.Actor.TheVariants.{Feeder, Joiner as Joiner'}
@@ -13,15 +14,11 @@ use Rattle.joiner_law.specs.Law.{JoinerLists}
 use Rattle.joiner_law.specs.Standing.{with_sent}
 use Rattle.joiner_law.proofs.LongerLists.{grown-same, grown-other}
 use Rattle.joiner_core.specs.State.{EpochState, MachineState}
-use Rattle.joiner_core.proofs.Fitting.{same-rows, rows-taken}
+use Rattle.joiner_core.proofs.RowWidths.{same-rows, rows-taken}
 use Rattle.joiner_core.specs.Taking.{IsFixed, TookOfFeeder, TookOfJoiner, TakesOfJoiner}
 use Rattle.joiner_core.specs.Machine.{StandsWithin, IsResting, Advances, IsSound, IsReadyOfJoiner, TookHeld}
-use Rattle.joiner_core.proofs.Posting.{own-none, own-append, own-before}
-use Rattle.joiner_core.proofs.Keeping.{quiet-append, with_sent-none, with_sent-append}
-
-append-nil : {A : Type 0} (xs : List A) → xs ++ [] ≡ xs
-append-nil [] = refl
-append-nil (x ∷ xs) = ap (λ ys. x ∷ ys) (append-nil xs)
+use Rattle.joiner_core.proofs.OwnPosts.{own-none, own-append, own-before}
+use Rattle.joiner_core.proofs.SentPosts.{quiet-append, with_sent-none, with_sent-append}
 
 pub advances-none : (m : MachineState) (waiting : List Pair) (posts : List Post) → Advances m m waiting waiting posts posts
 advances-none m waiting posts = record {

@@ -10,7 +10,7 @@ use Rattle.epoch_tags.specs.declared.message.ToJoiner.{ToJoiner}
 use Rattle.epoch_tags.specs.declared.message.ToCollector.{ToCollector}
 use Rattle.epoch_tags.specs.Messages.{pairs_found}
 use Rattle.std.specs.List.{AllByRecursion}
-use Rattle.std.proofs.lemmas.List.{map-append, length-append}
+use Rattle.std.proofs.lemmas.List.{map-append, length-append, append-nil}
 use Rattle.std.proofs.lemmas.Bool.{false≢true}
 use Rattle.std.proofs.lemmas.List.Elements.{filter_map-append}
 use Rattle.epoch_tags.specs.declared.message.ToCollector.TheVariants.{Found}
@@ -23,13 +23,13 @@ use Rattle.joiner_law.specs.History.{all_found}
 use Rattle.joiner_law.specs.Standing.{with_sent, pairs_sent}
 use Rattle.joiner_core.specs.State.{OpenStep, EpochState, MachineState}
 use Rattle.joiner_core.specs.Taking.{StandsBy, Stands, HasSomeTurn, IsFixed}
-use Rattle.joiner_core.proofs.Advancing.{fixed-then}
+use Rattle.joiner_core.proofs.CallParts.{fixed-then}
 use Rattle.joiner_core.specs.Machine.{StandsWithin, StandsBetween, IsStart, Collects, IsResting, IsOfGrid, Advances, IsSound, IsStuck, Accepts, Receives, TellsFin, HasFinished, with_message, found_posts, fin_posts, fin_of, StandInOrder, AreTried, IsLastAtMost, post_to_collector}
 use Rattle.joiner_law.proofs.MovedBySteps.{gathered-more}
-use Rattle.joiner_core.proofs.Posting.{own-append, own-before, own-found, own-fin}
-use Rattle.joiner_core.proofs.Keeping.{quiet-append, append-nil, with_sent-none, with_sent-append}
-use Rattle.joiner_core.proofs.Accepting.{with_other, PairsMove, stands-other}
-use Rattle.joiner_core.proofs.Testing.{tests-feeder, tests-joiner}
+use Rattle.joiner_core.proofs.OwnPosts.{own-append, own-before, own-found, own-fin}
+use Rattle.joiner_core.proofs.SentPosts.{quiet-append, with_sent-none, with_sent-append}
+use Rattle.joiner_core.proofs.AcceptedMessages.{with_other, PairsMove, stands-other}
+use Rattle.joiner_core.proofs.LawTests.{tests-feeder, tests-joiner}
 
 -- posts to the collector alone
 only-collected : (lists : JoinerLists) (posts : List Post) → ((j : ℕ) → posted_to_joiner j posts ≡ []) → posted_to_controller posts ≡ []

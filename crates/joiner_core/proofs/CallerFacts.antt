@@ -1,5 +1,5 @@
 -- What callers do with a joiner.
-use Rattle.std.proofs.Common.{IsTrue, ◌↔◌, ◌≡◌, ℕ, zero, suc, ◌+◌, ◌-◌, ◌^◌, ◌<◌, ◌≤◌, refl, sym, ◌∙◌, ap, subst, arith, inl, inr, Bool, true, false, Option, Some, None, List, ◌++◌, length}
+use Rattle.std.proofs.Common.{IsTrue, ◌↔◌, ◌≡◌, ℕ, ◌+◌, ◌-◌, ◌^◌, ◌<◌, ◌≤◌, refl, sym, ◌∙◌, ap, subst, arith, inl, inr, Bool, true, false, List, ◌++◌, length}
 use Rattle.std.specs.Prelude.{min, ⊤}
 use Rattle.std.proofs.lemmas.List.{length-append}
 use Rattle.std.proofs.lemmas.Bool.{false≢true, cases_Bool}
@@ -17,8 +17,8 @@ use Rattle.joiner_core.specs.State.{DifferInOneBit, EpochState, MachineState}
 use Rattle.joiner_law.specs.Standing.{with_sent}
 use Rattle.joiner_core.specs.Machine.{StandsBetween, Receives, IsOfGrid, IsSound, with_message}
 use Rattle.joiner_core.specs.Standing.{JoinerState, IsSpent, StandsFor, TakesMessage, held_number}
-use Rattle.joiner_core.proofs.Posting.{all-over, all-rows}
-use Rattle.joiner_core.proofs.Assembling.{keeps-law, law-done, machine-done}
+use Rattle.joiner_core.proofs.OwnPosts.{all-over, all-rows}
+use Rattle.joiner_core.proofs.WholeLaw.{keeps-law, law-done, machine-done}
 
 -- what the machine stands for keeps the law
 pub with-law : (s : JoinerStart) (lists : JoinerLists) (joiner : JoinerState) → StandsBetween s lists joiner.machine → StandsFor s lists joiner

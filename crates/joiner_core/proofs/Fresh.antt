@@ -13,11 +13,12 @@ use Rattle.joiner_law.specs.Standing.{StandsSettled}
 use Rattle.joiner_core.specs.Changes.{IsReady}
 use Rattle.joiner_core.specs.State.{does_hold, IsStock, Stocked, OpenStep, MachineState}
 use Rattle.theta_pred.specs.Formula.{Meaning}
-use Rattle.joiner_core.proofs.Fitting.{rows-none}
+use Rattle.joiner_core.proofs.RowWidths.{rows-none}
 use Rattle.joiner_core.specs.Taking.{IsClosed, StandsBy, IsStepStock, IsStepWithin, IsCounted, HasSomeTurn}
 use Rattle.joiner_core.specs.Machine.{IsSound, IsStuck, IsMade, StandsBetween, nothing_yet, start_of}
-use Rattle.joiner_core.proofs.Keeping.{append-nil, same-ends}
-use Rattle.joiner_core.proofs.Reporting.{stands-for}
+use Rattle.std.proofs.lemmas.List.{append-nil}
+use Rattle.joiner_core.proofs.FlagChanges.{same-ends}
+use Rattle.joiner_core.proofs.WholeCalls.{stands-for}
 
 abbrev none_at : ℕ → List Tuple
 none_at p = []

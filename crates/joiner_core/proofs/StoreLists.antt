@@ -20,7 +20,7 @@ use Rattle.store_parts.specs.Matches.{is_named, matches, HasWidth}
 use Rattle.store_parts.specs.Stored.{Stored, side_of, others_of, with_tuple_at, with_tuple, kept_of, AreSided, HaveWidths}
 use Rattle.store_parts.proofs.Sides.{matches-both, probed_at as probed_at'}
 use Rattle.joiner_law.specs.History.{probed_at, probed}
-use Rattle.joiner_core.specs.State.{does_hold, named_by, Stocked, tuples_of, by_side, placed, stocked_of, with_placed, kept_stock, IsKeyOf, IsRow, AreRows, IsStock}
+use Rattle.joiner_core.specs.State.{does_hold, named_by, tuples_of, by_side, placed, stocked_of, with_placed, kept_stock, IsKeyOf, IsRow, AreRows}
 
 -- ---- the two sides are the whole, as a bag
 

@@ -9,7 +9,7 @@ use Rattle.joiner_law.specs.History.{Step}
 use Rattle.joiner_law.specs.Standing.{StandsSettled, StandsOpen}
 use Rattle.joiner_core.specs.State.{placed}
 use Rattle.joiner_core.specs.Changes.{kept_at_end}
-use Rattle.joiner_core.proofs.Stocking.{by_side-bag}
+use Rattle.joiner_core.proofs.StoreLists.{by_side-bag}
 
 settled-bag : (s : JoinerStart) (t : Taken) (lists : JoinerLists) (waiting : List Pair) (ended : ℕ → Bool) (a a' : List Tuple) (cur : Step) (past : List Step) → SameBag a' a
     → StandsSettled s t lists waiting ended a cur past → StandsSettled s t lists waiting ended a' cur past

@@ -15,9 +15,14 @@ use Rattle.joiner_law.proofs.TakenTurns.{open-end}
 use Rattle.joiner_core.specs.Changes.{after_moved, found_moved, moved_found, step_new, with_new, part_by, after_part, IsReady, posts_settled, after_settle}
 use Rattle.joiner_core.specs.State.{OpenStep, EpochState, IsRow}
 use Rattle.joiner_core.specs.Taking.{IsMachineOf, IsOpen, StandsBy, Stands, IsWithin, IsFixed, IsStepWithin, IsCounted, HasSomeTurn, TookOfFeeder, TookOfJoiner, PartFits}
-use Rattle.joiner_core.proofs.Fitting.{stock-part}
-use Rattle.joiner_core.proofs.Posting.{own-none, own-settled, own-before}
-use Rattle.joiner_core.proofs.Keeping.{quiet-settled, append-nil, closed-end, flag-set, open-part, open-part_end, stands-settled, settled-within, settled-k, settled-id, settled-feeders, settled-theta, new-within, with_sent-none}
+use Rattle.joiner_core.proofs.RowWidths.{stock-part}
+use Rattle.joiner_core.proofs.OwnPosts.{own-none, own-settled, own-before}
+use Rattle.std.proofs.lemmas.List.{append-nil}
+use Rattle.joiner_core.proofs.SentPosts.{quiet-settled, with_sent-none}
+use Rattle.joiner_core.proofs.FlagChanges.{closed-end, flag-set}
+use Rattle.joiner_core.proofs.PartnerParts.{open-part, open-part_end}
+use Rattle.joiner_core.proofs.SettledSteps.{stands-settled, settled-within, settled-k, settled-id, settled-feeders, settled-theta}
+use Rattle.joiner_core.proofs.TakenTuples.{new-within}
 
 -- ---- a feeder's end
 

@@ -1,7 +1,7 @@
 -- The machine has finished exactly where the law says so.
 use Rattle.std.proofs.Common.{◌≡◌, ℕ, zero, suc, ◌+◌, ◌^◌, ◌<◌, inl, inr, refl, sym, ◌∙◌, ap, subst, arith, Bool, true, false, Option, Some, None, List, [], ◌∷◌, ◌++◌, length}
 use Rattle.std.proofs.lemmas.Bool.{false≢true, cases_eq}
-use Rattle.std.proofs.lemmas.List.{length-append}
+use Rattle.std.proofs.lemmas.List.{length-append, append-nil}
 use Rattle.epoch_tags.specs.declared.tuple.Pair.{Pair}
 use Rattle.epoch_tags.specs.declared.message.ToJoiner.{ToJoiner}
 use Rattle.epoch_tags.specs.Messages.{moved_ends}
@@ -14,8 +14,7 @@ use Rattle.joiner_core.specs.Changes.{IsReady}
 use Rattle.joiner_core.specs.State.{OpenStep, EpochState, MachineState}
 use Rattle.joiner_core.specs.Taking.{IsClosed, IsOpen, StandsBy, Stands, HasSomeTurn}
 use Rattle.joiner_core.specs.Machine.{IsResting, StandsBetween, HasFinished}
-use Rattle.joiner_core.proofs.Keeping.{append-nil}
-use Rattle.joiner_core.proofs.Testing.{closed-few, open-begun}
+use Rattle.joiner_core.proofs.LawTests.{closed-few, open-begun}
 
 up-some : (n : ℕ) (b : Bool) → n ≡ one_if b → b ≡ true → 0 < n
 up-some n true is up = omega arith
