@@ -2,6 +2,7 @@
 use Rattle.std.proofs.Common.{◌≡◌, ℕ, zero, suc, ◌+◌, ◌<◌, ◌≤◌, inl, inr, refl, sym, ◌∙◌, ap, subst, arith, Bool, true, false, Option, Some, None, List, ◌∷◌, length}
 use Rattle.std.proofs.lemmas.Bool.{false≢true, cases_eq}
 use Rattle.join_rows.specs.Lists.{greatest}
+use Rattle.join_rows.proofs.Totals.{greatest_above, greatest_most}
 use Rattle.epoch_tags.specs.declared.tuple.Pair.{Pair}
 use Rattle.epoch_tags.specs.declared.message.ToJoiner.{ToJoiner}
 use Rattle.epoch_tags.specs.declared.message.ToJoiner.TheVariants.{Tup, Turn, End, Moved, MovedEnd}
@@ -13,17 +14,6 @@ use Rattle.joiner_law.specs.Standing.{one_if}
 use Rattle.joiner_core.specs.State.{OpenStep, EpochState}
 use Rattle.joiner_core.specs.Taking.{IsMachineOf, IsClosed, IsOpen, StandsBy, Stands, TupFits, TurnFits, HasSomeTurn, PartFits, TakesOfFeeder, TakesOfJoiner}
 use Rattle.joiner_core.proofs.PartnerParts.{partner-is}
-
-pub greatest-above : (n : ℕ) (g : ℕ → ℕ) (i : ℕ) → i < n → g i ≤ greatest n g
-greatest-above zero g i below = absurd (omega arith)
-greatest-above (suc n) g i below = elim (cases_eq i n) [
-  | inl is ↦ rw is (omega arith)
-  | inr differ ↦ let rest = greatest-above n g i (omega arith) in omega arith
-]
-
-pub greatest-below : (n : ℕ) (g : ℕ → ℕ) (v : ℕ) → ((i : ℕ) → i < n → g i ≤ v) → greatest n g ≤ v
-greatest-below zero g v all = omega arith
-greatest-below (suc n) g v all = let rest = greatest-below n g v (λ i low. all i (omega arith)) in let here = all n (omega arith) in omega arith
 
 -- a flag and what it counts
 flag-none : (n : ℕ) (b : Bool) → n ≡ one_if b → b ≡ false → n ≡ 0
@@ -53,7 +43,7 @@ flag-cases false stamp n e f is fits next = let at = fits.0 refl in omega arith
 -- ---- with no step open
 
 pub closed-few : (s : JoinerStart) (t : Taken) (lists : JoinerLists) (waiting : List Pair) (m : EpochState) → (is : IsClosed s t lists waiting m) → opened s t ≤ length is.past
-closed-few s t lists waiting m is = greatest-below s.feeders (λ p. turns (t.from_feeder p)) (length is.past) (λ p low. let many = (is.stands.steps.feeders p low).turns in omega arith)
+closed-few s t lists waiting m is = greatest_most s.feeders (length is.past) (λ p. turns (t.from_feeder p)) (λ p low. let many = (is.stands.steps.feeders p low).turns in omega arith)
 
 closed-feeder : (s : JoinerStart) (t : Taken) (lists : JoinerLists) (waiting : List Pair) (m : EpochState) (done p : ℕ) (x : ToJoiner) → IsMachineOf s m → p < s.feeders → m.epoch ≡ s.epoch + done → m.step ≡ None
     → IsClosed s t lists waiting m → (TakesOfFeeder m p x → CanTakeOfFeeder s t done p x) × (CanTakeOfFeeder s t done p x → TakesOfFeeder m p x)
@@ -94,7 +84,7 @@ pub open-begun : (s : JoinerStart) (t : Taken) (lists : JoinerLists) (waiting : 
 open-begun s t lists waiting m o some is =
     let of = is.stands.steps.feeders some.0 some.1 in
     let many = turns-up _ _ _ of.turns some.2 in
-    let above = greatest-above s.feeders (λ p. turns (t.from_feeder p)) some.0 some.1 in
+    let above = greatest_above s.feeders (λ p. turns (t.from_feeder p)) some.0 some.1 in
     omega arith
 
 open-feeder : (s : JoinerStart) (t : Taken) (lists : JoinerLists) (waiting : List Pair) (m : EpochState) (o : OpenStep) (done p : ℕ) (x : ToJoiner) → IsMachineOf s m → p < s.feeders → m.epoch ≡ s.epoch + done → m.step ≡ Some o

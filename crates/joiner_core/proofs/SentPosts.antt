@@ -9,6 +9,7 @@ use Rattle.migration_plan.specs.Steps.{is_of, exchanged_side, partner_in_step}
 use Rattle.joiner_law.specs.Law.{JoinerLists}
 use Rattle.joiner_law.specs.Posting.{moved_post}
 use Rattle.joiner_law.specs.Standing.{with_sent}
+use Rattle.joiner_law.proofs.OneMessage.{no_pairs}
 use Rattle.joiner_core.specs.State.{OpenStep, EpochState}
 use Rattle.joiner_core.specs.Changes.{late_posts, settle_posts, posts_settled, end_posts, posts_turned, begun_posts}
 use Rattle.epoch_tags.specs.declared.message.Post.{Post}
@@ -35,19 +36,15 @@ with_sent-append lists xs ys = λ i. record {
     joined : {X : Type 0} (as' bs cs ds : List X) → ds ≡ bs ++ cs → (as' ++ bs) ++ cs ≡ as' ++ ds
     joined as' bs cs ds is = append_assoc as' bs cs ∙ ap (λ zs. as' ++ zs) (sym is)
 
-pub quiet-moved : (to epoch : ℕ) (xs : List Tuple) → posted_to_collector (map (moved_post to epoch) xs) ≡ []
-quiet-moved to epoch [] = refl
-quiet-moved to epoch (x ∷ xs) = quiet-moved to epoch xs
-
 pub quiet-append : (xs ys : List Post) → posted_to_collector xs ≡ [] → posted_to_collector ys ≡ [] → posted_to_collector (xs ++ ys) ≡ []
 quiet-append xs ys a b = filter_map-append (λ post. for_collector post.to post.msg) xs ys ∙ ap (λ zs. zs ++ posted_to_collector ys) a ∙ b
 
 pub quiet-late : (m : EpochState) (x : Tuple) (step : Option OpenStep) → posted_to_collector (late_posts m x step) ≡ []
 quiet-late m x None = refl
-quiet-late m x (Some o) = quiet-moved (partner_in_step m.shift o.shift m.id) o.epoch (cond (is_of (exchanged_side m.shift o.shift) x) (x ∷ []) [])
+quiet-late m x (Some o) = no_pairs (partner_in_step m.shift o.shift m.id) o.epoch (cond (is_of (exchanged_side m.shift o.shift) x) (x ∷ []) [])
 
 pub quiet-begun : (m : EpochState) (epoch shift : ℕ) (step : Option OpenStep) → posted_to_collector (begun_posts m epoch shift step) ≡ []
-quiet-begun m epoch shift None = quiet-moved (partner_in_step m.shift shift m.id) epoch (filter (is_of (exchanged_side m.shift shift)) m.store.tuples)
+quiet-begun m epoch shift None = no_pairs (partner_in_step m.shift shift m.id) epoch (filter (is_of (exchanged_side m.shift shift)) m.store.tuples)
 quiet-begun m epoch shift (Some o) = refl
 
 quiet-ends : (m : EpochState) (step : Option OpenStep) → posted_to_collector (end_posts m step) ≡ []

@@ -3,6 +3,7 @@ use Rattle.std.proofs.Common.{◌≡◌, ℕ, ◌+◌, ◌^◌, ◌<◌, ◌≤�
 use Rattle.std.specs.Prelude.{flat_map, map}
 use Rattle.std.proofs.lemmas.List.Concat.{flat_map-append}
 use Rattle.join_rows.specs.Lists.{SameBag}
+use Rattle.join_rows.proofs.Everywhere.{all-append}
 use Rattle.epoch_tags.specs.declared.actor.Actor.{Actor}
 use Rattle.epoch_tags.specs.declared.tuple.Pair.{Pair}
 use Rattle.epoch_tags.specs.declared.message.Post.{Post}
@@ -153,10 +154,6 @@ one_at_most (p ∷ ps) = omega arith
 not_empty : (w : List Pair) → AllByRecursion (λ (ps : List Pair). 0 < length ps) (founds_of w)
 not_empty [] = tt
 not_empty (p ∷ ps) = (omega arith, tt)
-
-all-append : {X : Type 0} (P : X → Type 0) (xs ys : List X) → AllByRecursion P xs → AllByRecursion P ys → AllByRecursion P (xs ++ ys)
-all-append P [] ys left right = right
-all-append P (x ∷ xs) ys left right = (left.0, all-append P xs ys left.1 right)
 
 resting : (m : MachineState) → HasFinished m → IsResting m.epochs
 resting m has = record { closed = has.closed; ended = has.ended }

@@ -6,6 +6,7 @@ use Rattle.std.proofs.lemmas.Bool.{false≢true, cases_eq}
 use Rattle.join_rows.specs.declared.table.Side.TheVariants.{R, S}
 use Rattle.join_rows.specs.Lists.{SameBag, counting_from}
 use Rattle.join_rows.proofs.Bags.{SameBag-trans, SameBag-sym}
+use Rattle.join_rows.proofs.Totals.{greatest_above, greatest_most}
 use Rattle.epoch_tags.specs.declared.tuple.Pair.{Pair}
 use Rattle.epoch_tags.specs.declared.message.ToCollector.{ToCollector}
 use Rattle.epoch_tags.specs.declared.message.ToCollector.TheVariants.{Found, Fin}
@@ -23,7 +24,7 @@ use Rattle.joiner_core.specs.State.{OpenStep, EpochState, MachineState}
 use Rattle.joiner_core.specs.Taking.{IsClosed, StandsBy, HasSomeTurn}
 use Rattle.joiner_core.specs.Machine.{IsStart, StandsBetween, fin_of}
 use Rattle.std.proofs.lemmas.List.{append-nil}
-use Rattle.joiner_core.proofs.LawTests.{closed-few, open-begun, greatest-above, greatest-below}
+use Rattle.joiner_core.proofs.LawTests.{closed-few, open-begun}
 use Rattle.joiner_core.proofs.Finished.{parts-at, some-up, more-up, rests-law, law-finished}
 
 history-within : (s : JoinerStart) (t : Taken) (steps : List Step) (n : ℕ) → IsHistory s t steps → n < length steps → shift_after s t n ≤ s.k
@@ -95,7 +96,7 @@ law s t lists done turned ended all_turned part_ended step past start feeders jo
   ended = λ n turns_all.
       let some = start.some in
       let more : n < turns (t.from_feeder 0) = turns_all 0 some in
-      let above = greatest-above s.feeders (λ p. turns (t.from_feeder p)) 0 some in
+      let above = greatest_above s.feeders (λ p. turns (t.from_feeder p)) 0 some in
       ended-law s lists t all_turned (step ∷ past) n is.history is.sent (omega arith) (λ same. top' n (omega arith) turns_all);
   moved_only = λ q e some.
       let at = part-at s t (step ∷ past) q e is.history (has-moved _ _ e (lists.to_joiner q) (is.to_partner q) some) in
@@ -139,7 +140,7 @@ cases-true false never = absurd (never refl)
 pub closed-count : (s : JoinerStart) (t : Taken) (lists : JoinerLists) (w : List Pair) (m : EpochState) → 0 < s.feeders → (is : IsClosed s t lists w m) → opened s t ≡ length is.past
 closed-count s t lists w m some is =
     let first = (is.stands.steps.feeders 0 some).turns in
-    let above = greatest-above s.feeders (λ p. turns (t.from_feeder p)) 0 some in
+    let above = greatest_above s.feeders (λ p. turns (t.from_feeder p)) 0 some in
     same-number _ _ (closed-few s t lists w m is) (omega arith)
 
 law-by : (s : JoinerStart) (t : Taken) (lists : JoinerLists) (m : EpochState) (done : ℕ) → IsStart s → m.epoch ≡ s.epoch + done
@@ -165,7 +166,7 @@ law-by s t lists m done start epoch feeders joiners told (Some o) begun rests is
     let same : length is.past ≡ done = omega arith in
     let less_than = open-begun s t lists [] m o begun is in
     let st = is.stands in
-    let most_turns : opened s t ≤ length is.past + 1 = greatest-below s.feeders (λ p. turns (t.from_feeder p)) (length is.past + 1) (λ p low. at-most _ _ _ (st.steps.feeders p low).turns) in
+    let most_turns : opened s t ≤ length is.past + 1 = greatest_most s.feeders (length is.past + 1) (λ p. turns (t.from_feeder p)) (λ p low. at-most _ _ _ (st.steps.feeders p low).turns) in
     let turned : (n : ℕ) → n < length is.past → AllTurned s t n = λ n less p low. let many = at-least _ _ _ (st.steps.feeders p low).turns in omega arith in
     subst (λ (n : ℕ). ((p : ℕ) → p < s.feeders → IsTakenOf (CanTakeOfFeeder s t n p) (t.from_feeder p) (lists.from_feeder p)) → ((q : ℕ) → q < 2 ^ s.k → IsTakenOf (CanTakeOfJoiner s t n q) (t.from_joiner q) (lists.from_joiner q)) → JoinerLaw s lists t) same
     (λ fs js. law s t lists (length is.past) _ _ _ _ is.new (is.cur ∷ is.past) start fs js st.steps (same-number _ _ (omega arith) (omega arith)) most_turns
