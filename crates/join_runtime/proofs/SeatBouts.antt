@@ -1,6 +1,8 @@
 -- What a bout does to the seats of a run.
-use Rattle.std.proofs.Common.{◌≡◌, ℕ, zero, suc, ◌<◌, ◌≤◌, inl, inr, refl, sym, ap, subst, ◌∙◌, Bool, true, false, true≢false, Option, Some, None, List, [], ◌∷◌, get_or, map, length, arith}
+use Rattle.std.proofs.Common.{◌≡◌, ℕ, zero, suc, ◌<◌, ◌≤◌, inl, inr, refl, sym, ap, subst, ◌∙◌, Bool, true, false, true≢false, Option, Some, None, List, [], ◌∷◌, get_or, set, map, length, arith}
 use Rattle.std.specs.Prelude.{slice_get}
+use Rattle.std.proofs.lemmas.Bool.{cases_eq}
+use Rattle.std.proofs.lemmas.List.{get_or_default, get_or-set_other, get_or-set_same, length-set}
 use Rattle.std.proofs.lemmas.Option.{slice_get-get_or, get_or_from_slice_get, slice_get_within, slice_get_past}
 use Rattle.join_rows.specs.Lists.{IsPrefix}
 use Rattle.epoch_tags.specs.declared.actor.Actor.{Actor}
@@ -12,10 +14,10 @@ use Rattle.link_trace.specs.Families.{start_for, IsActor}
 use Rattle.link_trace.specs.Numbers.{number, at_number}
 use Rattle.link_trace.proofs.OwnNumbers.{none_some}
 use Rattle.join_runtime.specs.Views.{SeatView, lists_of, frame_of}
-use Rattle.join_runtime.specs.Turns.{Advances, AllStep, AllWork, IsAlike, Works}
+use Rattle.join_runtime.specs.Turns.{Advances, AllStep, AllWork, IsAlike, Steps, Works}
 use Rattle.join_runtime.specs.Joins.{AreSettled, AreGathered}
 use Rattle.join_runtime.specs.Bouts.{SeatsView, StandsFor, Extends, AllAdvance, NoneSpent, seat_of, lists_at, lists_in}
-use Rattle.join_runtime.proofs.SeatTurns.{advances_after, runs_alike, steps_joined}
+use Rattle.join_runtime.proofs.SeatTurns.{advances_after, runs_alike, steps_joined, steps_none}
 use Rattle.join_runtime.proofs.FramePlaces.{frames_same}
 use Rattle.join_runtime.proofs.EventRuns.{runs_stand, runs_live, runs_hear, runs_received, runs_sent, prefix_self}
 
@@ -42,6 +44,24 @@ pub all_advance : (old middle new : List SeatView) → length middle ≡ length 
 all_advance old middle new long works none alike n d low =
     let low' : n < length middle = omega (arith, long) in
     advances_alike (get_or old n d) (get_or middle n d) (get_or new n d) (advanced (get_or old n d) (get_or middle n d) (works n d low) (none n d low')) (alike n d low')
+
+-- a seat became t, and the others stay
+module _ (seats : List SeatView) (place : ℕ) (there : place < length seats) (e t : SeatView) where
+  -- what holds of that seat, and of each that stays, holds of all
+  pub at_each : (R : SeatView → SeatView → Type 0) → ((u : SeatView) → R u u) → R (get_or seats place e) t → (n : ℕ) (d : SeatView) → R (get_or seats n d) (get_or (set seats place t) n d)
+  at_each R self here n d = elim (cases_eq n place) [
+    | inl is ↦
+        subst (λ k. R (get_or seats k d) (get_or (set seats place t) k d)) (sym is)
+        (subst (R (get_or seats place d)) (sym (get_or-set_same seats place t d there))
+        (subst (λ u. R u t) (get_or_default seats place e d there) here))
+    | inr other ↦ subst (R (get_or seats n d)) (sym (get_or-set_other seats place n t d other)) (self (get_or seats n d))
+  ]
+
+  pub frames_at : frame_of t ≡ frame_of (get_or seats place e) → map frame_of (set seats place t) ≡ map frame_of seats
+  frames_at here = frames_same seats (set seats place t) (length-set seats place t) (λ n d low. at_each (λ u v. frame_of v ≡ frame_of u) (λ u. refl) here n d)
+
+  pub steps_at : Steps (get_or seats place e) t → AllStep seats (set seats place t)
+  steps_at here n d low = at_each Steps (λ u. steps_none u u refl) here n d
 
 pub all_stepped : (old middle new : List SeatView) → length middle ≡ length old → AllStep old middle → AllStep middle new → AllStep old new
 all_stepped old middle new long first then n d low =

@@ -3,7 +3,7 @@ use Rattle.std.proofs.Common.{◌≡◌, ℕ, ◌+◌, zero, suc, inl, inr, refl
 use Rattle.link_trace.specs.Standing.{Event, IsLive, given_by}
 use Rattle.link_trace.specs.declared.machines.Core.{Core}
 use Rattle.join_runtime.specs.Views.{SeatView, frame_of}
-use Rattle.join_runtime.specs.Turns.{Advances, IsAlike, Rests, Runs, Steps, Works}
+use Rattle.join_runtime.specs.Turns.{Advances, IsAlike, MakesEvent, Rests, Runs, Steps, Works}
 
 -- ---- several events
 
@@ -32,9 +32,11 @@ pub runs_frame : (n : ℕ) (s t : SeatView) → Runs n s t → frame_of t ≡ fr
 runs_frame zero s t runs = runs.frame
 runs_frame (suc n) s t runs = runs.2.frame ∙ runs_frame n s runs.0 runs.1
 
-pub runs_joined : (m n : ℕ) (s t u : SeatView) → Runs m s t → Runs n t u → Runs (n + m) s u
-runs_joined m zero s t u first then = runs_alike m s t u first then
-runs_joined m (suc n) s t u first then = (then.0, runs_joined m n s t then.0 first then.1, then.2)
+pub runs_joined : (m n : ℕ) (s t u : SeatView) → Runs m s t → Runs n t u → (k : ℕ) × (k ≡ n + m) × Runs k s u
+runs_joined m zero s t u first then = (m, omega arith, runs_alike m s t u first then)
+runs_joined m (suc n) s t u first then =
+    let before = runs_joined m n s t then.0 first then.1 in
+    (suc before.0, omega (arith, before.1), (then.0, before.2, then.2))
 
 -- ---- events ahead of others
 
@@ -42,18 +44,29 @@ pub steps_none : (s t : SeatView) → t ≡ s → Steps s t
 steps_none s t same = record { count = 0; runs = subst (Runs 0 s) (sym same) (alike_self s); same = λ z. same }
 
 pub steps_joined : (s t u : SeatView) → Steps s t → Steps t u → Steps s u
-steps_joined s t u first then = record {
-  count = then.count + first.count;
-  runs = runs_joined first.count then.count s t u first.runs then.runs;
-  same = λ z. then.same (omega (arith, z)) ∙ first.same (omega (arith, z));
+steps_joined s t u first then =
+    let both = runs_joined first.count then.count s t u first.runs then.runs in
+    record {
+      count = both.0;
+      runs = both.2;
+      same = λ z. then.same (omega (arith, z, both.1)) ∙ first.same (omega (arith, z, both.1));
+    }
+
+pub steps_more : (s t u : SeatView) → Steps s t → MakesEvent t u → Steps s u
+steps_more s t u first event = record {
+  count = suc first.count;
+  runs = (t, first.runs, event);
+  same = λ z. absurd (omega (arith, z));
 }
 
 pub advances_after : (s t u : SeatView) → Steps s t → Advances t u → Advances s u
-advances_after s t u first then = record {
-  count = then.count + first.count;
-  runs = runs_joined first.count then.count s t u first.runs then.runs;
-  none = λ z. subst (λ (v : SeatView). Rests v.core v.inbox) (first.same (omega (arith, z))) (then.none (omega (arith, z)));
-}
+advances_after s t u first then =
+    let both = runs_joined first.count then.count s t u first.runs then.runs in
+    record {
+      count = both.0;
+      runs = both.2;
+      none = λ z. subst (λ (v : SeatView). Rests v.core v.inbox) (first.same (omega (arith, z, both.1))) (then.none (omega (arith, z, both.1)));
+    }
 
 -- after these events the seat rests, or has had all its turns
 pub works_rested : (n : ℕ) (s t u : SeatView) → Runs n s t → (n ≡ 0 → t ≡ s) → u ≡ t → Rests t.core t.inbox → Works s u

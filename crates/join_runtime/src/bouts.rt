@@ -31,9 +31,7 @@ fn round_ahead<R: Wait, G: Gate>(rt: &R, seats: &mut [Seat], gate: &G) -> Result
     ensures frames { map frame_of seats.new ≡ map frame_of seats.old }
 {
     for place in 0..seats.len() {
-        if seats[place].goes_ahead() {
-            seats[place].turns_ahead(rt, gate)?;
-        }
+        seats[place].turns_ahead(rt, gate)?;
     }
     Ok(())
 }

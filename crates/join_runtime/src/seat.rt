@@ -305,7 +305,7 @@ impl<'a> Seat<'a> {
     }
 
     // Whether it is a feeder's or the controller's, which have turns ahead of the others.
-    pub(crate) fn goes_ahead(&self) -> bool {
+    fn goes_ahead(&self) -> bool {
         match &self.core {
             Core::Feeder(_) => true,
             Core::Controller(_) => true,
@@ -318,7 +318,7 @@ impl<'a> Seat<'a> {
         self.inbox.known() > TURNS
     }
 
-    // The turns of one round ahead of the others: until the seat is idle or has had 16.
+    // The turns of one round ahead of the others, if it goes ahead: until it is idle or has had 16.
     pub(crate) fn turns_ahead<R: Wait, G: Gate>(
         &mut self,
         rt: &R,
@@ -327,10 +327,14 @@ impl<'a> Seat<'a> {
         ensures ok { OnOk result (Steps self.old self.new) }
         ensures frame { frame_of self.new ≡ frame_of self.old }
     {
+        if !self.goes_ahead() {
+            return Ok(());
+        }
         for round in 0..TURNS_AHEAD {
-            match self.turn(rt, gate)? {
-                Step::Took => {}
-                Step::Idle => return Ok(()),
+            match self.turn(rt, gate) {
+                Ok(Step::Took) => {}
+                Ok(Step::Idle) => return Ok(()),
+                Err(fault) => return Err(fault),
             }
         }
         Ok(())

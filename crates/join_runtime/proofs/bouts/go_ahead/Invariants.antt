@@ -3,8 +3,8 @@ use Rattle.join_runtime.specs.Turns.{AllStep}
 use Rattle.join_runtime.specs.Views.{frame_of}
 use Rattle.join_runtime.proofs.bouts.go_ahead.Given as goal
 
-abbrev pub invariant-loop-1 : goal.invariant-loop-1
-invariant-loop-1 g l = record {
+abbrev pub invariant-loop : goal.invariant-loop
+invariant-loop g l = record {
   steps : AllStep l.initial.seats l.seats;
   frames : map frame_of l.seats ≡ map frame_of l.initial.seats;
 }
