@@ -6,6 +6,7 @@ ghost use Rattle.std.specs.Process.{exit_status};
 ghost use Rattle.join_rows.specs.Shelves.{last_fault};
 ghost use Rattle.join_rows.specs.Sinks.{PutsSome};
 ghost use Rattle.join_words.specs.Words.{Asked, asked_of};
+ghost use Rattle.join_cli.specs.Outcomes.{status_of};
 ghost use Rattle.join_cli.specs.Ends.{LacksOne, Suffices};
 ghost use Rattle.join_cli.specs.Programs.{WroteBy, WroteFrontBy};
 
@@ -70,14 +71,21 @@ pub fn command_words<V: Env + AllocGlobal>(process: &V) -> Result<Vec<String>, A
     Ok(words)
 }
 
+/// The end with the status of an outcome.
+fn end_of(outcome: Outcome) -> Ended
+    ensures { result ≡ status_of outcome }
+{
+    Ended {
+        code: exit_code(&outcome),
+    }
+}
+
 /// Ends where there are no words for want of memory.
 fn lacks_words<E: Sink>(alloc: Global, errors: &mut E) -> Ended
     ensures { result ≡ 8 }
 {
     tell(alloc, &Outcome::Memory, errors);
-    Ended {
-        code: exit_code(&Outcome::Memory),
-    }
+    end_of(Outcome::Memory)
 }
 
 /// Runs what these words ask for, and ends with the status of its outcome.
@@ -116,10 +124,7 @@ fn run_words<R: Threads + Wait + Sync, H: Shelf, K: Sink, E: Sink, G: Gate>(
         (K.takes sink.old) (K.takes sink.new) }
     ensures statuses { (result ≡ 0) ⊎ ((2 ≤ result) × (result ≤ 8)) }
 {
-    let outcome = jm_main(rt, alloc, &words, shelf, sink, errors, gate);
-    Ended {
-        code: exit_code(&outcome),
-    }
+    end_of(jm_main(rt, alloc, &words, shelf, sink, errors, gate))
 }
 
 /// The program `jm`: runs what the words ask for, puts the output on `sink` and the one line of an
