@@ -26,7 +26,7 @@ epoch_now e (Order epoch shift ∷ ms) = epoch_now epoch ms
 epoch_now e (Grant ∷ ms) = epoch_now e ms
 epoch_now e (Stop ∷ ms) = epoch_now e ms
 
-pub epoch_now-is : (e : ℕ) (ms : List ToFeeder) → order_epochs ms ≡ counting_from (e + 1) (length (order_epochs ms)) → epoch_now e ms ≡ e + length (order_epochs ms)
+epoch_now-is : (e : ℕ) (ms : List ToFeeder) → order_epochs ms ≡ counting_from (e + 1) (length (order_epochs ms)) → epoch_now e ms ≡ e + length (order_epochs ms)
 unfolding epoch_now
 epoch_now-is e [] up = omega arith
 epoch_now-is e (Order epoch shift ∷ ms) up =

@@ -15,7 +15,6 @@ use Rattle.epoch_tags.specs.Messages.{turns, ends, order_epochs}
 use Rattle.migration_plan.specs.Steps.{holds}
 use Rattle.reshuffler_core.specs.Law.{stamped}
 use Rattle.reshuffler_core.proofs.Arrivals.{granted}
-use Rattle.reshuffler_core.proofs.TakenMessages.{epoch_now-is}
 use Rattle.joiner_law.specs.Law.{IsSettled, opened, store}
 use Rattle.load_controller.specs.declared.line.TurnLine.{TurnLine}
 use Rattle.load_controller.specs.Journal.{Rules, Follows, start_line, count_epochs, is_count_of}
@@ -120,6 +119,16 @@ sent_rises rules p line (before ∷ past) (made, allowed, rest) =
     (subst (λ e. Rises e (sent_for rules p line before past)) (sym now)
     (line_rises (line.epoch == before.epoch) (is_count_of p line.cause) (not (is_over rules.feeders (before ∷ past)) && is_over rules.feeders (line ∷ before ∷ past)) before.epoch line.epoch line.shift low))
 
+now_is : (e : ℕ) (ms : List ToFeeder) → order_epochs ms ≡ counting_from (e + 1) (length (order_epochs ms)) → epoch_now e ms ≡ e + length (order_epochs ms)
+now_is e [] orders = omega arith
+now_is e (Order epoch shift ∷ ms) orders =
+    let is : epoch ≡ e + 1 = cc in
+    let rest : order_epochs ms ≡ counting_from ((e + 1) + 1) (length (order_epochs ms)) = cc in
+    let old = now_is (e + 1) ms rest in
+    ap (λ c. epoch_now c ms) is ∙ old ∙ omega arith
+now_is e (Grant ∷ ms) orders = now_is e ms orders
+now_is e (Stop ∷ ms) orders = now_is e ms orders
+
 weighed : (input : Input) (g : Tuple → ℕ) (σ : Place → Option ℕ) (cs : List Place)
     → sum_by g (filter_map (λ c. option_map (λ e. tuple_of input e c) (σ c)) cs) ≡ sum_by (λ c. weigh input g (σ c) c) cs
 weighed input g σ [] = refl
@@ -205,7 +214,7 @@ module _ (input : Input) (setting : Setting) (valid : IsValid input setting) (f 
       let front = front_of input setting f agrees (shift input setting valid f agrees) (feeders_go input setting f agrees) (begins input setting f agrees) j p h h' in
       let all_turns = ap turns front.1 ∙ answers_turns setting.k j 0 (first_line setting).shift (feeder_start input setting p).batches taken in
       let parts = turns-append ((agrees.taken_by_joiner j).from_feeder p) front.0 in
-      let now = epoch_now-is 0 taken law.orders in
+      let now = now_is 0 taken law.orders in
       let go = rises-back 0 taken (sent_rest p h').0 (subst (Rises 0) (sym (sent_rest p h').1) (sent_rises (rules_of setting) p agrees.controller.line agrees.controller.past agrees.controller.follows)) in
       stamps_from (n + 1) (grant_epochs (epoch_now 0 taken) (sent_rest p h').0) (drop (length (grant_epochs 0 taken)) (feeder_start input setting p).batches)
       (late_grants (n + 1) (epoch_now 0 taken) (sent_rest p h').0 (omega arith) go)
