@@ -1,6 +1,6 @@
 -- Queues in a list of queues.
 use Rattle.std.proofs.Common.{◌≡◌, ℕ, ◌<◌, refl, sym, ◌∙◌, ap, arith, List, [], ◌∷◌, ◌++◌, length, get_or, set, get_or-set_same, Option, Some, None}
-use Rattle.std.specs.Prelude.{map, MatchOption, option_to_list, drop}
+use Rattle.std.specs.Prelude.{map, MatchOption, OnErr, Result, Ok, Err, option_to_list, drop}
 use Rattle.std.proofs.lemmas.List.{map-set, get_or-map, length-map}
 use Rattle.epoch_tags.specs.Held.{held_at}
 
@@ -33,3 +33,8 @@ new-queue f qs i q now is low = ap (λ z. held_at z i) (put-queue f qs i q now i
 pub rest-left : {M : Type 0} (r : Option M) (m : M) (old new rest : List M) → MatchOption r (old ≡ []) (λ x. old ≡ x ∷ new) → old ≡ m ∷ rest → new ≡ rest
 rest-left None m old new rest is begins = let a : length old ≡ 0 = ap length is in let b : length old ≡ length (m ∷ rest) = ap length begins in absurd (omega arith)
 rest-left (Some x) m old new rest is begins = ap (drop 1) (sym is ∙ begins)
+
+-- what holds anyhow holds of an error
+pub on-err : {T E P : Type 0} (r : Result T E) → P → OnErr r P
+on-err (Ok x) p = tt
+on-err (Err e) p = p

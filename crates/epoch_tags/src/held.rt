@@ -1,6 +1,6 @@
 // Messages that can't be taken yet, sender by sender.
 
-ghost use Rattle.std.specs.Prelude.{◌≡◌, ◌<◌, ◌++◌, ◌∷◌, ◌^◌, ◌-◌, [], ℕ, true, false, length, min, slice_set, MatchOption, IfOk, OnOk};
+ghost use Rattle.std.specs.Prelude.{◌≡◌, ◌<◌, ◌++◌, ◌∷◌, ◌^◌, ◌-◌, [], ℕ, true, false, length, min, slice_set, MatchOption, IfOk, OnOk, OnErr};
 ghost use Rattle.join_rows.specs.Lists.{total};
 ghost use Rattle.epoch_tags.specs.Held.{held_at, BeginsWith};
 
@@ -24,7 +24,8 @@ impl<T> Model for Held<T> {
 
 // Puts a message behind those of a queue.
 fn push_behind<T: Drop>(queue: &mut VecDeque<T>, m: T) -> Result<(), AllocError>
-    ensures { OnOk result (queue.new.items ≡ queue.old.items ++ m ∷ []) }
+    ensures ok { OnOk result (queue.new.items ≡ queue.old.items ++ m ∷ []) }
+    ensures err { OnErr result (queue.new.items ≡ queue.old.items) }
 {
     queue.push_back(m)?;
     Ok(())
@@ -58,17 +59,19 @@ impl<T: Drop> Held<T> {
 
     /// Whether nothing is held of a sender.
     pub fn is_clear(&self, sender: usize) -> bool
-        ensures { result ≡ true → held_at self.now sender ≡ [] }
+        ensures up { result ≡ true → held_at self.now sender ≡ [] }
+        ensures down { result ≡ false → held_at self.now sender ≡ [] → ⊥ }
     {
         self.first(sender).is_none()
     }
 
-    /// Holds one more, behind those of its sender.
+    /// Holds one more, behind those of its sender. It is dropped where memory is wanting.
     pub fn hold(&mut self, sender: usize, m: T) -> Result<(), AllocError>
         requires { sender < length self.old }
         ensures count { length self.new ≡ length self.old }
         ensures ok { OnOk result
             (self.new ≡ slice_set self.old sender (held_at self.old sender ++ m ∷ [])) }
+        ensures err { OnErr result (self.new ≡ self.old) }
     {
         let queue = &mut self.queues[sender];
         push_behind(queue, m)?;
