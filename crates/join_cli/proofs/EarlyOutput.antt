@@ -1,5 +1,5 @@
 -- What early output has written, from the lines of the pairs to the report.
-use Rattle.std.proofs.Common.{◌≡◌, ◌∙◌, ◌+◌, ◌⊎◌, inl, inr, ℕ, Bool, true, false, List, [], ◌++◌, append_assoc, length, length-append, take, arith, Option, None, Some, refl, sym, ap, subst}
+use Rattle.std.proofs.Common.{◌≡◌, ◌∙◌, ◌+◌, inl, inr, ℕ, Bool, true, false, List, [], ◌++◌, append_assoc, length, length-append, take, arith, Option, None, Some, refl, sym, ap, subst}
 use Rattle.std.specs.Prelude.{IsPermutation}
 use Rattle.std.specs.Io.KnownBytes.{append_known}
 use Rattle.std.proofs.Math.Seq.{take-append-add}
@@ -77,10 +77,6 @@ pub early_written : (asked : Asked) (planned : Planned) (input : Input) (setting
     → PutFound asked.report input setting journal old new → WroteOutput asked planned journal old new
 early_written asked planned input setting journal old new input_is setting_is early put =
     record { text = put.text; output = same_output asked planned input setting journal put.text input_is setting_is early put.is; written = put.written }
-
-pub early_lines : (asked : Asked) (planned : Planned) (input : Input) (old new : Option (List ℕ)) → input ≡ input_of asked.seed planned → asked.early ≡ true
-    → WroteSome input old new → WroteLines asked.early asked planned old new
-early_lines asked planned input old new input_is early some = rw early (subst (λ i. WroteSome i old new) input_is some)
 
 pub early_stopped : (asked : Asked) (planned : Planned) (input : Input) (setting : Setting) (old new : Option (List ℕ))
     → input ≡ input_of asked.seed planned → setting ≡ setting_of asked → asked.early ≡ true

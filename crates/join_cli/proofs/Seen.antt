@@ -17,7 +17,6 @@ use Rattle.join_cli.specs.declared.plan.Planned.{Planned}
 use Rattle.join_cli.specs.declared.outcome.Outcome.{Outcome}
 use Rattle.join_cli.specs.declared.outcome.Outcome.TheVariants as outcomes
 use Rattle.join_cli.specs.Columns.{theta_over}
-use Rattle.join_cli.specs.Texts.{tree_or_refused}
 use Rattle.join_cli.specs.Plan.{checked, fitted, or_refused, table_found, then_of}
 use Rattle.join_cli.specs.Refusals.{file_refusal}
 use Rattle.join_cli.specs.Ends.{Concludes, Refuses, StandsPast, name_of}
@@ -164,11 +163,6 @@ no_plan refusal = Err refusal
 
 abbrev pub no_theta : Outcome → Result Meaning Outcome
 no_theta refusal = Err refusal
-
--- a text with a tree isn't refused
-pub text_seen : (told : Told) (spot : Spot) (asked : Asked) (tree : Tree) (refusal : Outcome) → (refusal ≡ outcomes.Memory) ⊎ (tree_or_refused (Ok tree) ≡ Err refusal)
-    → (no_plan refusal ≡ Err outcomes.Memory → ⊥) → PlanSeen told spot asked tree (no_plan refusal)
-text_seen told spot asked tree refusal reads memory = elim reads [ inl m ↦ absurd (memory (ap no_plan m)) | inr e ↦ absurd (cc e) ]
 
 pub tables_seen : (told : Told) (spot : Spot) (asked : Asked) (tree : Tree) (refusal : Outcome) → TablesSeen told spot asked.name_r asked.name_s (no_tables refusal) → PlanSeen told spot asked tree (no_plan refusal)
 tables_seen told spot asked tree refusal is = record {

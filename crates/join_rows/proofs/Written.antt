@@ -1,8 +1,7 @@
 -- A writer that holds more and more of a piece.
-use Rattle.std.proofs.Common.{◌≡◌, ◌≤◌, ◌+◌, ◌-◌, ◌∙◌, ℕ, List, [], ◌++◌, length, take, drop, arith, Option, None, Some, sym, ap, take-add, length-drop}
+use Rattle.std.proofs.Common.{◌≡◌, ◌+◌, ◌-◌, ◌∙◌, ℕ, List, ◌++◌, length, take, drop, arith, Option, None, Some, ap, take-add, length-drop}
 use Rattle.std.proofs.lemmas.List.{append_assoc, drop-drop, take_all}
-use Rattle.std.specs.Io.KnownBytes.{Appends, Keeps}
-use Rattle.join_rows.specs.Sinks.{AppendsSome}
+use Rattle.std.specs.Io.KnownBytes.{Appends}
 
 -- a writer has the first n bytes of a piece more than it had, and these are left
 pub record IsPartly (old now : Option (List ℕ)) (piece left : List ℕ) : Type 0 where
@@ -10,21 +9,11 @@ pub record IsPartly (old now : Option (List ℕ)) (piece left : List ℕ) : Type
   pub appended : Appends old now (take count piece)
   pub rest : left ≡ drop count piece
 
-then-kept : (old now new : Option (List ℕ)) (bytes : List ℕ) → Appends old now bytes → Keeps now new → Appends old new bytes
-then-kept None now new bytes a k = tt
-then-kept (Some xs) None new bytes a k = absurd a
-then-kept (Some xs) (Some ys) None bytes a k = absurd k
-then-kept (Some xs) (Some ys) (Some zs) bytes a k = k ∙ a
-
 then-more : (old now new : Option (List ℕ)) (bytes more : List ℕ) → Appends old now bytes → Appends now new more → Appends old new (bytes ++ more)
 then-more None now new bytes more a b = tt
 then-more (Some xs) None new bytes more a b = absurd a
 then-more (Some xs) (Some ys) None bytes more a b = absurd b
 then-more (Some xs) (Some ys) (Some zs) bytes more a b = b ∙ ap (λ l. l ++ more) a ∙ append_assoc xs bytes more
-
--- a call of the writer that failed, and then it has some of the piece
-pub partly-kept : (old now new : Option (List ℕ)) (piece left : List ℕ) → IsPartly old now piece left → Keeps now new → AppendsSome old new piece
-partly-kept old now new piece left is k = (is.count, then-kept old now new (take is.count piece) is.appended k)
 
 -- one that took some bytes
 pub partly-more : (old now new : Option (List ℕ)) (piece left : List ℕ) (n : ℕ) → IsPartly old now piece left → Appends now new (take n left)
@@ -41,9 +30,3 @@ pub partly-next : (old now new : Option (List ℕ)) (piece left : List ℕ) (n :
 partly-next old now new piece left n is more =
     let whole : take (length left - n) (drop n left) ≡ drop n left = take_all (length left - n) (drop n left) (omega (arith, length-drop n left)) in
     rw whole (partly-more old now new piece left n is more)
-
--- and all of it, where none is left
-pub partly-whole : (old now : Option (List ℕ)) (piece left : List ℕ) → IsPartly old now piece left → left ≡ [] → Appends old now piece
-partly-whole old now piece left is none =
-    let few : length piece ≤ is.count = omega (arith, length-drop is.count piece, ap length (sym is.rest ∙ none)) in
-    rw (take_all is.count piece few) at is.appended

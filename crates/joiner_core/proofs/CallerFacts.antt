@@ -13,9 +13,9 @@ use Rattle.epoch_tags.specs.declared.message.ToJoiner.{ToJoiner}
 use Rattle.epoch_tags.specs.Links.{HasLink, feeder_joiner, joiner_joiner, controller_feeder, feeder_controller, joiner_controller, joiner_collector}
 use Rattle.epoch_tags.specs.Held.{held_at}
 use Rattle.joiner_law.specs.Law.{JoinerStart, JoinerLists}
-use Rattle.joiner_core.specs.State.{DifferInOneBit, EpochState, MachineState}
+use Rattle.joiner_core.specs.State.{DifferInOneBit, MachineState}
 use Rattle.joiner_law.specs.Standing.{with_sent}
-use Rattle.joiner_core.specs.Machine.{StandsBetween, Receives, IsOfGrid, IsSound, with_message}
+use Rattle.joiner_core.specs.Machine.{StandsBetween, Receives, IsSound, with_message}
 use Rattle.joiner_core.specs.Standing.{JoinerState, IsSpent, StandsFor, TakesMessage, held_number}
 use Rattle.joiner_core.proofs.OwnPosts.{all-over, all-rows}
 use Rattle.joiner_core.proofs.WholeLaw.{keeps-law, law-done, machine-done}
@@ -61,23 +61,6 @@ Reaches k feeders Collector (Joiner' j) = ⊥
 Reaches k feeders from (Feeder p) = ⊤
 Reaches k feeders from Controller = ⊤
 Reaches k feeders from Collector = ⊤
-
-reaches : (k feeders : ℕ) (from to : Actor) → HasLink k feeders from to → Reaches k feeders from to
-reaches k feeders _ _ (feeder_joiner low below) = low
-reaches k feeders _ _ (joiner_joiner below low) = below
-reaches k feeders _ _ (controller_feeder low) = tt
-reaches k feeders _ _ (feeder_controller low) = tt
-reaches k feeders _ _ (joiner_controller low) = tt
-reaches k feeders _ _ (joiner_collector low) = tt
-
-grid-by : (m : EpochState) (from : Actor) → Reaches m.k m.feeders from (Joiner' m.id) → IsOfGrid from m
-grid-by m (Feeder p) is = is
-grid-by m (Joiner' q) is = is
-grid-by m Controller is = is
-grid-by m Collector is = is
-
-pub link-grid : (m : EpochState) (from : Actor) → HasLink m.k m.feeders from (Joiner' m.id) → IsOfGrid from m
-link-grid m from link = grid-by m from (reaches m.k m.feeders from (Joiner' m.id) link)
 
 -- which links end at a joiner
 abbrev pub IsLinked : ℕ → ℕ → Actor → Actor → Type 0

@@ -1,7 +1,7 @@
 -- A store as one list.
 use Rattle.std.proofs.Common.{◌≡◌, ℕ, ◌+◌, refl, sym, ◌∙◌, ap, subst, arith, Bool, true, false, cond, Option, List, [], ◌∷◌, ◌++◌, length, filter, sum_by, count_by, All, append-nil}
 use Rattle.std.specs.Prelude.{slice_index_or}
-use Rattle.std.proofs.lemmas.List.Elements.{filter-append, All-filter, All-push, All-head, All-tail}
+use Rattle.std.proofs.lemmas.List.Elements.{filter-append, All-filter, All-head, All-tail}
 use Rattle.std.proofs.lemmas.List.Sums.{sum_by-cons, sum_by-append, length-filter}
 use Rattle.join_rows.specs.Lists.{SameBag}
 use Rattle.join_rows.specs.declared.table.Side.{Side}
@@ -20,7 +20,7 @@ use Rattle.store_parts.specs.Matches.{is_named, matches, HasWidth}
 use Rattle.store_parts.specs.Stored.{Stored, side_of, others_of, with_tuple_at, with_tuple, kept_of, AreSided, HaveWidths}
 use Rattle.store_parts.proofs.Sides.{matches-both, probed_at as probed_at'}
 use Rattle.joiner_law.specs.History.{probed_at, probed}
-use Rattle.joiner_core.specs.State.{does_hold, named_by, tuples_of, by_side, placed, stocked_of, with_placed, kept_stock, IsKeyOf, IsRow, AreRows}
+use Rattle.joiner_core.specs.State.{does_hold, named_by, tuples_of, by_side, placed, stocked_of, with_placed, IsKeyOf, IsRow, AreRows}
 
 -- ---- the two sides are the whole, as a bag
 
@@ -93,16 +93,9 @@ placed-at S store x own are =
 pub placed-is : (store : Stored) (x : Tuple) → AreSided store.r store.s → tuples_of (with_tuple store x) ≡ placed x (tuples_of store)
 placed-is store x are = sym (placed-at x.side store x refl are)
 
-sided-at : (side : Side) (store : Stored) (x : Tuple) → x.side ≡ side → AreSided store.r store.s → AreSided (with_tuple_at side store x).r (with_tuple_at side store x).s
-sided-at R store x own are = record { r = All-push (λ (t : Tuple). t.side ≡ R) store.r x are.r own; s = are.s }
-sided-at S store x own are = record { r = are.r; s = All-push (λ (t : Tuple). t.side ≡ S) store.s x are.s own }
-
 stocked-at : (side : Side) (store : Stored) (x : Tuple) (tuples : List Tuple) → tuples_of (with_tuple_at side store x) ≡ tuples → stocked_of (with_tuple_at side store x) ≡ record { tuples = tuples; key = store.key }
 stocked-at R store x tuples is = ap (λ (xs : List Tuple). record { tuples = xs; key = store.key }) is
 stocked-at S store x tuples is = ap (λ (xs : List Tuple). record { tuples = xs; key = store.key }) is
-
-pub sided-with : (store : Stored) (x : Tuple) → AreSided store.r store.s → AreSided (with_tuple store x).r (with_tuple store x).s
-sided-with store x are = sided-at x.side store x refl are
 
 -- a store with one tuple more, as one list with its key
 pub stocked-with : (store : Stored) (x : Tuple) → AreSided store.r store.s → stocked_of (with_tuple store x) ≡ with_placed x (stocked_of store)
@@ -116,15 +109,6 @@ own-key theta key is = λ (atom : Atom) has. sym is ∙ has
 
 kept-is : (shape : Shape) (id : ℕ) (store : Stored) → tuples_of (kept_of shape id store) ≡ filter (holds shape.k shape.shift id) (tuples_of store)
 kept-is shape id store = sym (filter-append (holds shape.k shape.shift id) store.r store.s)
-
-pub stocked-kept : (shape : Shape) (id : ℕ) (store : Stored) → stocked_of (kept_of shape id store) ≡ kept_stock shape.k shape.shift id (stocked_of store)
-stocked-kept shape id store = ap (λ (xs : List Tuple). record { tuples = xs; key = store.key }) (kept-is shape id store)
-
-pub sided-kept : (shape : Shape) (id : ℕ) (store : Stored) → AreSided store.r store.s → AreSided (kept_of shape id store).r (kept_of shape id store).s
-sided-kept shape id store are = record {
-  r = All-filter (holds shape.k shape.shift id) (λ (t : Tuple). t.side ≡ R) store.r are.r;
-  s = All-filter (holds shape.k shape.shift id) (λ (t : Tuple). t.side ≡ S) store.s are.s;
-}
 
 -- ---- probes
 

@@ -1,5 +1,5 @@
 -- What is gathered of a map from values to places, between two bounds.
-use Rattle.std.proofs.Common.{◌≡◌, ℕ, ◌+◌, ◌≤◌, ℤ, pos, negsuc, Bool, true, false, cond, not, ◌&&◌, Option, Some, None, List, [], ◌∷◌, ◌++◌, refl, sym, ap, ◌∙◌, arith, append_assoc, length, drop}
+use Rattle.std.proofs.Common.{◌≡◌, ℕ, ◌+◌, ◌≤◌, ℤ, pos, negsuc, Bool, true, false, cond, not, ◌&&◌, Option, Some, None, List, [], ◌∷◌, ◌++◌, refl, sym, ap, ◌∙◌, arith, length, drop}
 use Rattle.std.specs.Prelude.{filter, flat_map, sum_by, int_lt, int_le}
 use Rattle.smallvec.specs.SmallVec.{SmallVec}
 use Rattle.std.specs.declared.cmp.Ordering.TheVariants.{Less, Equal, Greater}
@@ -160,23 +160,3 @@ gathered-backward from to entries back =
     ap (flat_map (λ e. e.1.items)) (filter_none (λ e. lies from to (Some e.0)) (λ e. lies-backward from to e.0 back) entries)
 
 -- ---- a pass over all entries
-
-pub takes_in : (from to : Option ℤ) (e : ℤ × SmallVec ℕ) (left es : List (ℤ × SmallVec ℕ)) (taken more all : List ℕ)
-    → left ≡ e ∷ es → lies from to (Some e.0) ≡ true → more ≡ taken ++ e.1.items
-    → taken ++ gathered from to left ≡ all → more ++ gathered from to es ≡ all
-takes_in from to e left es taken more all next is pushed so_far =
-    let kept = filter (λ e. lies from to (Some e.0)) es in
-    ap (λ ps. ps ++ gathered from to es) pushed
-    ∙ append_assoc taken e.1.items (gathered from to es)
-    ∙ sym (ap (λ b. taken ++ flat_map (λ e. e.1.items) (cond b (e ∷ kept) kept)) is)
-    ∙ sym (ap (λ es. taken ++ gathered from to es) next)
-    ∙ so_far
-
-pub leaves_out : (from to : Option ℤ) (e : ℤ × SmallVec ℕ) (left es : List (ℤ × SmallVec ℕ)) (taken all : List ℕ)
-    → left ≡ e ∷ es → lies from to (Some e.0) ≡ false
-    → taken ++ gathered from to left ≡ all → taken ++ gathered from to es ≡ all
-leaves_out from to e left es taken all next is so_far =
-    let kept = filter (λ e. lies from to (Some e.0)) es in
-    sym (ap (λ b. taken ++ flat_map (λ e. e.1.items) (cond b (e ∷ kept) kept)) is)
-    ∙ sym (ap (λ es. taken ++ gathered from to es) next)
-    ∙ so_far
