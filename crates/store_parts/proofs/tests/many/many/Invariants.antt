@@ -1,6 +1,6 @@
 use Rattle.store_parts.specs.Keyed.{IsOwn}
 use Rattle.store_parts.specs.Stored.{HaveWidths}
-use Rattle.store_parts.proofs.tests.many.Given as goal
+use Rattle.store_parts.proofs.tests.many.many.Given as goal
 
 abbrev pub invariant-loop-index : goal.invariant-loop-index
 invariant-loop-index l = record {

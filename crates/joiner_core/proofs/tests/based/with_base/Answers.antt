@@ -1,4 +1,4 @@
-use Rattle.joiner_core.proofs.tests.with_base.Goals as goal
+use Rattle.joiner_core.proofs.tests.based.with_base.Goals as goal
 
 pub start_at-requires-clause-base : goal.start_at-requires-clause-base
 start_at-requires-clause-base c = c.in_ok-rows.ensures.stamps
