@@ -43,6 +43,7 @@ then_of (Err refusal) next = Err refusal
 
 -- ---- the tables
 
+-- a side's table, or the refusal that its file's fault is
 abbrev pub or_refused : Side → Result Table TableFault → Result Table Outcome
 or_refused side (Ok table) = Ok table
 or_refused side (Err fault) = Err (file_refusal side fault)
@@ -71,6 +72,7 @@ tables_by (Some count) files name_r name_s = Ok (made_tables count)
 
 -- ---- the predicate over them
 
+-- what was planned, unless a cell doesn't fit the predicate
 abbrev pub unless_unfit : Option InputFault → Planned → Result Planned Outcome
 unless_unfit None planned = Ok planned
 unless_unfit (Some fault) planned = Err (Unfit fault)

@@ -16,6 +16,7 @@ kept_at_end kept x b = cond kept (placed x b) b
 
 -- ---- a late tuple
 
+-- the open step with the tuple, if the joiner keeps it there
 abbrev pub opened_late : ℕ → ℕ → OpenStep → Tuple → OpenStep
 opened_late k id o x = record o { store = record o.store { tuples = kept_at_end (holds k o.shift id x) x o.store.tuples } }
 
@@ -29,6 +30,7 @@ posts_late side to epoch x = map (moved_post to epoch) (cond (is_of side x) (x �
 
 -- ---- a tuple of the settled epoch
 
+-- the open step behind a tuple of the settled epoch
 abbrev pub open_old : EpochState → Tuple → Option OpenStep → Option OpenStep
 open_old m x None = None
 open_old m x (Some o) = Some (opened_late m.k m.id o x)
@@ -57,6 +59,7 @@ posts_old m x = late_posts m x m.step
 
 -- ---- a tuple of the open step
 
+-- the open step with one tuple more
 abbrev pub with_new : OpenStep → Tuple → OpenStep
 with_new o x = record o { store = with_placed x o.store }
 
@@ -95,6 +98,7 @@ found_moved m x = moved_found m x m.step
 
 -- ---- the first turn
 
+-- the rows of the exchanged side go to the partner
 abbrev pub posts_opened : EpochState → ℕ → ℕ → List Post
 posts_opened m epoch shift = map (moved_post (partner_in_step m.shift shift m.id) epoch) (filter (is_of (exchanged_side m.shift shift)) m.store.tuples)
 
@@ -124,6 +128,7 @@ begun_posts m e b (Some o) = []
 
 -- ---- a turn
 
+-- a feeder has turned in the open step
 abbrev pub HasTurned : ℕ → Option OpenStep → Option OpenStep → Type 0
 HasTurned p None new = new ≡ None
 HasTurned p (Some o) None = ⊥
@@ -145,6 +150,7 @@ posts_turned m last = cond last (end_posts m m.step) []
 
 -- ---- the end of the partner's part
 
+-- the open step with its partner's part over
 abbrev pub part_by : Option OpenStep → Option OpenStep
 part_by None = None
 part_by (Some o) = Some (record o { partner_ended = true })
@@ -155,6 +161,7 @@ after_part m = record m { step = part_by m.step }
 
 -- ---- the step is settled
 
+-- the step is open, its partner's part is over and all feeders have turned
 abbrev pub IsReady : Option OpenStep → Type 0
 IsReady None = ⊥
 IsReady (Some o) = (o.partner_ended ≡ true) × IsEachUp o.turned

@@ -227,6 +227,7 @@ pub record Accepts (from : Actor) (m : ToJoiner) (old new : MachineState) (waiti
 
 -- ---- what is sent at the end of a call
 
+-- the pairs go to the collector in one post, where there are any
 abbrev pub found_posts : List Pair → List Post
 found_posts [] = []
 found_posts (p ∷ ps) = record { to = Collector; msg = Collector' (Found (p ∷ ps)) } ∷ []

@@ -285,9 +285,11 @@ impl Opened {
     ) -> Result<(), AllocError>
         requires row { IsRow theta.now tuple }
         requires stock { IsStock theta.now self.old.store }
-        ensures stored { OnOk result (self.new ≡ record self.old { store = with_placed tuple self.old.store }) }
+        ensures stored { OnOk result
+            (self.new ≡ record self.old { store = with_placed tuple self.old.store }) }
         ensures found { OnOk result
-            (found.new ≡ found.old ++ probed (does_hold theta.now) (named_by which) tuple self.old.store.tuples) }
+            (found.new ≡ found.old
+            ++ probed (does_hold theta.now) (named_by which) tuple self.old.store.tuples) }
     {
         self.store.probe(&tuple, theta, which, found)?;
         self.store.add(theta, tuple)

@@ -155,8 +155,8 @@ impl<'a> Joiner<'a> {
         requires key { IsKeyOf theta.now base.key }
         ensures seat { IfOk result (λ joiner. IsJoiner k id feeders theta.now joiner) }
         ensures at_work { IfOk result (λ joiner. ¬ IsSpent joiner) }
-        ensures fresh { IfOk result (λ joiner.
-            StandsFor (start_of k id shift epoch feeders theta.now (tuples_of base)) nothing_yet joiner) }
+        ensures fresh { IfOk result (λ joiner. StandsFor
+            (start_of k id shift epoch feeders theta.now (tuples_of base)) nothing_yet joiner) }
     {
         let machine = Machine::start_at(
             alloc,
@@ -176,7 +176,8 @@ impl<'a> Joiner<'a> {
 
     /// The epoch of the last step that is settled.
     pub fn settled_epoch(&self) -> u32
-        ensures { (start : JoinerStart) (lists : JoinerLists) (stands : StandsFor start lists self.now)
+        ensures { (start : JoinerStart) (lists : JoinerLists)
+            (stands : StandsFor start lists self.now)
             → result ≡ start.epoch + stands.law.done }
     {
         self.machine.epochs.settled()
@@ -184,7 +185,8 @@ impl<'a> Joiner<'a> {
 
     /// How many messages are held, or `2^64 - 1` where there are more.
     pub fn held_count(&self) -> u64
-        ensures { (start : JoinerStart) (lists : JoinerLists) (stands : StandsFor start lists self.now)
+        ensures { (start : JoinerStart) (lists : JoinerLists)
+            (stands : StandsFor start lists self.now)
             → result ≡ min (held_number start lists stands.taken) (2 ^ 64 - 1) }
     {
         self.machine
@@ -195,7 +197,8 @@ impl<'a> Joiner<'a> {
 
     /// Whether all feeders have ended, no step is open and nothing is held.
     pub fn finished(&self) -> bool
-        ensures { (start : JoinerStart) (lists : JoinerLists) (stands : StandsFor start lists self.now)
+        ensures { (start : JoinerStart) (lists : JoinerLists)
+            (stands : StandsFor start lists self.now)
             → IsTrue result ↔ IsFinished start lists stands.taken }
     {
         self.machine.finished()
@@ -204,7 +207,8 @@ impl<'a> Joiner<'a> {
     /// The rows that it holds in its settled epoch.
     pub fn store(&self) -> &Store
         ensures key { ¬ IsSpent self.now → IsKeyOf (theta_of self.now) result.now.key }
-        ensures tuples { (start : JoinerStart) (lists : JoinerLists) (stands : StandsFor start lists self.now)
+        ensures tuples { (start : JoinerStart) (lists : JoinerLists)
+            (stands : StandsFor start lists self.now)
             → SameBag (tuples_of result.now) (store start stands.taken stands.law.done) }
     {
         self.machine.epochs.settled_store()

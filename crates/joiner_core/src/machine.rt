@@ -68,7 +68,8 @@ impl<'a> Machine<'a> {
         requires sound { IsSound (state_of self.old) }
         requires grid { IsOfGrid from self.old.epochs }
         requires row { HasRow self.old.epochs.theta m }
-        ensures { OnOk result (Receives from m (state_of self.old) (state_of self.new) sends.old sends.new) }
+        ensures { OnOk result
+            (Receives from m (state_of self.old) (state_of self.new) sends.old sends.new) }
     {
         let mut found = Pairs::new(self.alloc);
         self.accept(from, m, &mut found, sends)?;
@@ -90,7 +91,8 @@ impl<'a> Machine<'a> {
         requires grid { IsOfGrid from self.old.epochs }
         requires row { HasRow self.old.epochs.theta m }
         ensures { OnOk result
-            (Accepts from m (state_of self.old) (state_of self.new) found.old found.new sends.old sends.new) }
+            (Accepts from m (state_of self.old) (state_of self.new)
+            found.old found.new sends.old sends.new) }
     {
         match from {
             Actor::Feeder(p) => self.accept_of_feeder(p, m, found, sends)?,
@@ -112,7 +114,8 @@ impl<'a> Machine<'a> {
         requires few { p < self.old.epochs.feeders }
         requires row { HasRow self.old.epochs.theta m }
         ensures { OnOk result
-            (Accepts (Feeder p) m (state_of self.old) (state_of self.new) found.old found.new sends.old sends.new) }
+            (Accepts (Feeder p) m (state_of self.old) (state_of self.new)
+            found.old found.new sends.old sends.new) }
     {
         if self.of_feeders.is_clear(p as usize) && self.can_take_of_feeder(p, &m) {
             self.take_of_feeder(p, m, found, sends)?;
@@ -133,7 +136,8 @@ impl<'a> Machine<'a> {
         requires few { q < 2 ^ self.old.epochs.k }
         requires row { HasRow self.old.epochs.theta m }
         ensures { OnOk result
-            (Accepts (Joiner' q) m (state_of self.old) (state_of self.new) found.old found.new sends.old sends.new) }
+            (Accepts (Joiner' q) m (state_of self.old) (state_of self.new)
+            found.old found.new sends.old sends.new) }
     {
         if self.of_joiners.is_clear(q as usize) && self.can_take_of_joiner(q, &m) {
             self.take_of_joiner(m, found, sends)?;
@@ -180,9 +184,11 @@ impl<'a> Machine<'a> {
         requires within { IsWithin self.old.epochs }
         requires can { TakesOfFeeder self.old.epochs p m }
         requires row { HasRow self.old.epochs.theta m }
-        ensures rest { OnOk result (state_of self.new ≡ record (state_of self.old) { epochs = self.new.epochs }) }
+        ensures rest { OnOk result
+            (state_of self.new ≡ record (state_of self.old) { epochs = self.new.epochs }) }
         ensures took { OnOk result
-            (TookOfFeeder p m self.old.epochs self.new.epochs found.old found.new sends.old sends.new) }
+            (TookOfFeeder p m self.old.epochs self.new.epochs
+            found.old found.new sends.old sends.new) }
     {
         match m {
             ToJoiner::Tup(tuple) => self.epochs.take_tup(p, tuple, found, sends),
@@ -203,9 +209,11 @@ impl<'a> Machine<'a> {
     ) -> Result<(), AllocError>
         requires within { IsWithin self.old.epochs }
         requires row { HasRow self.old.epochs.theta m }
-        ensures rest { OnOk result (state_of self.new ≡ record (state_of self.old) { epochs = self.new.epochs }) }
+        ensures rest { OnOk result
+            (state_of self.new ≡ record (state_of self.old) { epochs = self.new.epochs }) }
         ensures took { OnOk result ((q : ℕ) → TakesOfJoiner self.old.epochs q m
-            → TookOfJoiner q m self.old.epochs self.new.epochs found.old found.new sends.old sends.new) }
+            → TookOfJoiner q m self.old.epochs self.new.epochs
+            found.old found.new sends.old sends.new) }
     {
         match m {
             ToJoiner::Moved { tuple, .. } => {

@@ -46,8 +46,10 @@ impl<'a> Machine<'a> {
 
     // Sends the last message when it first is finished.
     pub(crate) fn send_fin(&mut self, sends: &mut Sends) -> Result<(), AllocError>
-        ensures rest { OnOk result (state_of self.new ≡ record (state_of self.old) { told = self.new.told }) }
-        ensures tells { OnOk result (TellsFin (state_of self.old) self.new.told sends.old sends.new) }
+        ensures rest { OnOk result
+            (state_of self.new ≡ record (state_of self.old) { told = self.new.told }) }
+        ensures tells { OnOk result
+            (TellsFin (state_of self.old) self.new.told sends.old sends.new) }
     {
         if !self.told && self.finished() {
             sends.push(Post {

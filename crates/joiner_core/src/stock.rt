@@ -83,7 +83,8 @@ impl Stock {
         requires row { IsRow theta.now tuple.now }
         requires stock { IsStock theta.now self.now }
         ensures { OnOk result
-            (found.new ≡ found.old ++ probed (does_hold theta.now) (named_by which) tuple.now self.now.tuples) }
+            (found.new ≡ found.old
+            ++ probed (does_hold theta.now) (named_by which) tuple.now self.now.tuples) }
     {
         self.store.probe_uncounted(tuple, theta, which, found)?;
         Ok(())
@@ -108,7 +109,8 @@ impl Stock {
         sends: &mut Sends,
     ) -> Result<(), AllocError>
         ensures { OnOk result
-            (sends.new ≡ sends.old ++ map (moved_post to epoch) (filter (is_of side) self.now.tuples)) }
+            (sends.new ≡ sends.old
+            ++ map (moved_post to epoch) (filter (is_of side) self.now.tuples)) }
     {
         send_all(self.store.side(side).as_slice(), to, epoch, sends)?;
         Ok(())

@@ -18,7 +18,8 @@ impl<'a> Machine<'a> {
         requires { IsSound (state_of self.old) }
         ensures sound { OnOk result (IsSound (state_of self.new)) }
         ensures took { OnOk result
-            (Advances (state_of self.old) (state_of self.new) found.old found.new sends.old sends.new) }
+            (Advances (state_of self.old) (state_of self.new)
+            found.old found.new sends.old sends.new) }
         ensures tried { OnOk result (AreTried (state_of self.old) (state_of self.new)) }
         ensures stuck { OnOk result (IsStuck (state_of self.new)) }
     {
@@ -35,7 +36,8 @@ impl<'a> Machine<'a> {
         requires { IsSound (state_of self.old) }
         ensures sound { OnOk result (IsSound (state_of self.new)) }
         ensures took { OnOk result
-            (Advances (state_of self.old) (state_of self.new) found.old found.new sends.old sends.new) }
+            (Advances (state_of self.old) (state_of self.new)
+            found.old found.new sends.old sends.new) }
         ensures fewer { IfOk result (λ more.
             more ≡ true → held_in_all (state_of self.new) < held_in_all (state_of self.old)) }
         ensures next { IfOk result
@@ -68,7 +70,8 @@ impl<'a> Machine<'a> {
         requires sound { IsSound (state_of self.old) }
         requires ready { IsReadyOfFeeder (state_of self.old) p }
         ensures { OnOk result
-            (TookHeld (Feeder p) (state_of self.old) (state_of self.new) found.old found.new sends.old sends.new) }
+            (TookHeld (Feeder p) (state_of self.old) (state_of self.new)
+            found.old found.new sends.old sends.new) }
     {
         if let Some(m) = self.of_feeders.take_first(p as usize) {
             self.take_of_feeder(p, m, found, sends)?;
@@ -86,7 +89,8 @@ impl<'a> Machine<'a> {
         requires sound { IsSound (state_of self.old) }
         requires ready { IsReadyOfJoiner (state_of self.old) q }
         ensures { OnOk result
-            (TookHeld (Joiner' q) (state_of self.old) (state_of self.new) found.old found.new sends.old sends.new) }
+            (TookHeld (Joiner' q) (state_of self.old) (state_of self.new)
+            found.old found.new sends.old sends.new) }
     {
         if let Some(m) = self.of_joiners.take_first(q as usize) {
             self.take_of_joiner(m, found, sends)?;
@@ -97,7 +101,8 @@ impl<'a> Machine<'a> {
     // The first feeder whose first held message can be taken.
     pub(crate) fn ready_feeder(&self) -> Option<u32>
         requires { IsSound (state_of self.now) }
-        ensures ready { MatchOption result (AreStuckOfFeeders self.now.epochs.feeders (state_of self.now))
+        ensures ready { MatchOption result
+            (AreStuckOfFeeders self.now.epochs.feeders (state_of self.now))
             (λ p. IsReadyOfFeeder (state_of self.now) p) }
         ensures first { IfSome result (λ p. AreStuckOfFeeders p (state_of self.now)) }
     {
@@ -114,7 +119,8 @@ impl<'a> Machine<'a> {
     // The first joiner whose first held message can be taken.
     pub(crate) fn ready_joiner(&self) -> Option<u32>
         requires { IsSound (state_of self.now) }
-        ensures ready { MatchOption result (AreStuckOfJoiners (2 ^ self.now.epochs.k) (state_of self.now))
+        ensures ready { MatchOption result
+            (AreStuckOfJoiners (2 ^ self.now.epochs.k) (state_of self.now))
             (λ q. IsReadyOfJoiner (state_of self.now) q) }
         ensures first { IfSome result (λ q. AreStuckOfJoiners q (state_of self.now)) }
     {

@@ -42,7 +42,9 @@ impl<'a> Epochs<'a> {
         requires within { IsWithin self.old }
         requires can { CanTakeTup self.old p tuple.stamp }
         requires row { IsRow self.old.theta tuple }
-        ensures { OnOk result (TookOfFeeder p (Tup tuple) self.old self.new found.old found.new sends.old sends.new) }
+        ensures { OnOk result
+            (TookOfFeeder p (Tup tuple) self.old self.new
+            found.old found.new sends.old sends.new) }
     {
         if self.has_turned(p) {
             self.take_new(tuple, found)?;

@@ -50,7 +50,8 @@ impl<'a> Epochs<'a> {
         requires within { IsWithin self.old }
         requires can { CanTakeTurn self.old p epoch shift }
         ensures { OnOk result ((waiting : List Pair)
-            → TookOfFeeder p (Turn epoch shift) self.old self.new waiting waiting sends.old sends.new) }
+            → TookOfFeeder p (Turn epoch shift) self.old self.new
+            waiting waiting sends.old sends.new) }
     {
         self.begin_step(epoch, shift, sends)?;
         self.turn(p, sends)?;
@@ -70,7 +71,8 @@ impl<'a> Epochs<'a> {
         requires next { self.old.step ≡ None → AreNeighbours self.old.shift shift }
         ensures rest { OnOk result (self.new ≡ record self.old { step = self.new.step }) }
         ensures step { OnOk result (HasBegun self.old epoch shift self.old.step self.new.step) }
-        ensures posts { OnOk result (sends.new ≡ sends.old ++ begun_posts self.old epoch shift self.old.step) }
+        ensures posts { OnOk result
+            (sends.new ≡ sends.old ++ begun_posts self.old epoch shift self.old.step) }
     {
         if self.step.is_none() {
             self.open_step(epoch, shift, sends)?;

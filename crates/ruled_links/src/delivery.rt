@@ -82,14 +82,18 @@ impl Join<InboxHand> for Met {
 pub struct Sent;
 
 impl Outcome<Envelope, InboxHand> for Sent {
-    ghost then = { λ v x w. w ≡ inbox_hand v.puts v.takes v.sender (v.sent ++ x ∷ []) v.received v.known };
+    ghost then = { λ v x w.
+        w ≡ inbox_hand v.puts v.takes v.sender (v.sent ++ x ∷ []) v.received v.known };
 }
 
 // A pop: a message that is found joins what was received, and is of one of the senders.
 pub struct Taken;
 
 impl Outcome<Envelope, InboxHand> for Taken {
-    ghost then = { λ v x w. (w ≡ inbox_hand v.puts v.takes v.sender v.sent (v.received ++ x ∷ []) v.known) × (has_sender v.known (number_of x.from) ≡ true) × (length (of_sender (number_of x.from) (v.received ++ x ∷ [])) ≤ 2 ^ 62) };
+    ghost then = { λ v x w.
+        (w ≡ inbox_hand v.puts v.takes v.sender v.sent (v.received ++ x ∷ []) v.known)
+        × (has_sender v.known (number_of x.from) ≡ true)
+        × (length (of_sender (number_of x.from) (v.received ++ x ∷ [])) ≤ 2 ^ 62) };
 }
 
 // Where none is found, all that was known of each sender has been received.

@@ -83,7 +83,10 @@ impl Model for In {
     } };
 
     ghost invariant = { λ inn. IsSegPassOf (arc_value inn.shared).queue inn.pass
-        × (inn.pass.me.view.client ≡ hand false true [] inn.pass.me.view.client.received inn.pass.me.view.client.known) × (inn.known ≡ length inn.pass.me.view.client.known - length inn.pass.me.view.client.received) };
+        × (inn.pass.me.view.client ≡ hand false true []
+        inn.pass.me.view.client.received inn.pass.me.view.client.known)
+        × (inn.known
+        ≡ length inn.pass.me.view.client.known - length inn.pass.me.view.client.received) };
 }
 
 /// Makes a link from one actor to another.

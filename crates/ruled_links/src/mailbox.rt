@@ -60,7 +60,9 @@ impl Model for Mouth {
 
     ghost invariant = { λ mouth. MatchOption mouth.pass ⊥
         (λ pass. IsSegPassOf (arc_value mouth.line).queue pass
-        × (pass.me.view.client ≡ inbox_hand true false (number_of mouth.from) pass.me.view.client.sent [] []) × (mouth.count ≡ length pass.me.view.client.sent)) × (mouth.count ≤ 2 ^ 62) };
+        × (pass.me.view.client
+        ≡ inbox_hand true false (number_of mouth.from) pass.me.view.client.sent [] [])
+        × (mouth.count ≡ length pass.me.view.client.sent)) × (mouth.count ≤ 2 ^ 62) };
 }
 
 /// The receiver's end of all messages to one actor.
@@ -90,7 +92,9 @@ impl Model for Inbox {
     } };
 
     ghost invariant = { λ inbox. IsSegPassOf (arc_value inbox.line).queue inbox.pass
-        × (inbox.pass.me.view.client ≡ inbox_hand false true 0 [] inbox.pass.me.view.client.received inbox.pass.me.view.client.known) × AreCounted inbox.pass.me.view.client inbox.parts };
+        × (inbox.pass.me.view.client ≡ inbox_hand false true 0 []
+        inbox.pass.me.view.client.received inbox.pass.me.view.client.known)
+        × AreCounted inbox.pass.me.view.client inbox.parts };
 }
 
 // A pass for a new sender.
