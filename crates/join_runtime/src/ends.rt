@@ -1,6 +1,6 @@
 // What finished seats leave.
 
-ghost use Rattle.std.specs.Prelude.{◌≡◌, true, IfOk, map};
+ghost use Rattle.std.specs.Prelude.{◌≡◌, true, IfOk, IfSome, map};
 ghost use Rattle.epoch_tags.specs.declared.actor.Actor.{Actor as Actor'};
 ghost use Rattle.trace_law.specs.declared.input.Input.{Input as Input'};
 ghost use Rattle.trace_law.specs.declared.setting.Setting.{Setting as Setting'};
@@ -88,16 +88,22 @@ fn parts<'a>(alloc: Global, seats: Vec<Seat<'a>>) -> Result<(Vec<Core<'a>>, Vec<
     Ok((cores, ends))
 }
 
-// The controller's machine and the collector's, which are the last two.
-fn last_machines<'a>(mut cores: Vec<Core<'a>>) -> Result<(Controller, Collector), AllocError>
+// The controller's machine and the collector's, where they are the last two.
+fn last_two<'a>(mut cores: Vec<Core<'a>>) -> Option<(Controller, Collector)>
+    ensures { IfSome result (λ last. EndsIn cores.entry.items last.0 last.1) }
+{
+    let collector = cores.pop()?.into_collector()?;
+    let controller = cores.pop()?.into_controller()?;
+    Some((controller, collector))
+}
+
+// The same, or an error.
+fn last_machines<'a>(cores: Vec<Core<'a>>) -> Result<(Controller, Collector), AllocError>
     ensures { IfOk result (λ last. EndsIn cores.entry.items last.0 last.1) }
 {
-    let (Some(collector), Some(controller)) = (cores.pop(), cores.pop()) else {
-        return Err(AllocError);
-    };
-    match (controller, collector) {
-        (Core::Controller(controller), Core::Collector(collector)) => Ok((controller, collector)),
-        _ => Err(AllocError),
+    match last_two(cores) {
+        Some(last) => Ok(last),
+        None => Err(AllocError),
     }
 }
 

@@ -1,7 +1,7 @@
 -- A world whose actors are all over answers its run.
 use Rattle.std.proofs.Common.{◌≡◌, ℕ, suc, ◌+◌, ◌^◌, refl, sym, ap, subst, ◌∙◌, Option, Some, None, List, [], ◌∷◌, ◌++◌, length, arith}
 use Rattle.std.specs.Prelude.{slice_get, ⊤}
-use Rattle.std.proofs.lemmas.List.{map-append, length-append}
+use Rattle.std.proofs.lemmas.List.{length-append}
 use Rattle.epoch_tags.specs.declared.actor.Actor.{Actor}
 use Rattle.epoch_tags.specs.declared.actor.Actor.TheVariants.{Controller, Collector}
 use Rattle.load_controller.specs.declared.line.TurnLine.{TurnLine}
@@ -18,11 +18,10 @@ use Rattle.link_trace.specs.Lists.{ActorLists, collector_lists}
 use Rattle.link_trace.specs.Standing.{Stands, OfCollector, IsOver}
 use Rattle.link_trace.specs.Families.{start_for, IsActor, family_of, journal_of}
 use Rattle.link_trace.specs.Numbers.{number, at_number}
-use Rattle.link_trace.specs.Worlds.{WorldState, StandsFor, IsAllAt, IsAnswerOf, WorldAgrees, core_of, left_of, cores_of}
+use Rattle.link_trace.specs.Worlds.{WorldState, StandsFor, IsAllAt, IsAnswerOf, WorldAgrees, core_of, left_of}
 use Rattle.link_trace.specs.Endings.{AreLast}
 use Rattle.link_trace.specs.declared.machines.Core.{Core}
 use Rattle.link_trace.specs.declared.machines.Core.TheVariants.{Controller as TheController, Collector as TheCollector}
-use Rattle.link_trace.specs.declared.places.Place.{Place}
 use Rattle.link_trace.proofs.Balances.{balanced_fronts}
 use Rattle.link_trace.proofs.Families.{agrees, is_finished}
 use Rattle.link_trace.proofs.OwnNumbers.{some_is, none_some}
@@ -79,21 +78,18 @@ agree input setting w lists stands =
 
 -- ---- the two machines are the last
 
-module _ (places rest : List Place) (controller collector : Place) (is : places ≡ (rest ++ controller ∷ []) ++ collector ∷ []) where
-  cores_are : cores_of places ≡ (cores_of rest ++ controller.core ∷ []) ++ collector.core ∷ []
-  cores_are = ap cores_of is ∙ map-append (λ (p : Place). p.core) (rest ++ controller ∷ []) (collector ∷ []) ∙ ap (λ cs. cs ++ collector.core ∷ []) (map-append (λ (p : Place). p.core) rest (controller ∷ []))
-
-  many_are : length (cores_of places) ≡ length (cores_of rest) + 2
+module _ (cores rest : List Core) (told : ControllerState) (kept : CollectorState) (is : cores ≡ (rest ++ TheController told ∷ []) ++ TheCollector kept ∷ []) where
+  many_are : length cores ≡ length rest + 2
   many_are =
-      ap length cores_are
-      ∙ (length-append (cores_of rest ++ controller.core ∷ []) (collector.core ∷ []) ∙ (ap (λ m. m + 1) (length-append (cores_of rest) (controller.core ∷ [])) ∙ plus_two (length (cores_of rest))))
+      ap length is
+      ∙ (length-append (rest ++ TheController told ∷ []) (TheCollector kept ∷ []) ∙ (ap (λ m. m + 1) (length-append rest (TheController told ∷ [])) ∙ plus_two (length rest)))
 
-  pub last_two : (told : ControllerState) (kept : CollectorState) → controller.core ≡ TheController told → collector.core ≡ TheCollector kept → AreLast (cores_of places) told kept
-  last_two told kept is_told is_kept = record {
-    before = length (cores_of rest);
+  pub last_two : AreLast cores told kept
+  last_two = record {
+    before = length rest;
     many = many_are;
-    controller_is = ap (λ cs. slice_get cs (length (cores_of rest))) cores_are ∙ (before_last (cores_of rest) controller.core collector.core ∙ ap Some is_told);
-    collector_is = ap (λ cs. slice_get cs (length (cores_of rest) + 1)) cores_are ∙ (last_of (cores_of rest) controller.core collector.core ∙ ap Some is_kept);
+    controller_is = ap (λ cs. slice_get cs (length rest)) is ∙ before_last rest (TheController told) (TheCollector kept);
+    collector_is = ap (λ cs. slice_get cs (length rest + 1)) is ∙ last_of rest (TheController told) (TheCollector kept);
   }
 
 -- in a world, they are the controller's and the collector's

@@ -1,5 +1,6 @@
 // The machines behind one enum.
-ghost use Rattle.std.specs.Prelude.{◌≡◌, Ok, true, false, OnOk};
+ghost use Rattle.std.specs.Prelude.{◌≡◌, Ok, true, false, IfSome, OnOk};
+ghost use Rattle.link_trace.specs.declared.machines.Core.TheVariants.{Controller as TheController, Collector as TheCollector};
 ghost use Rattle.link_trace.specs.Lists.{Took, Began};
 ghost use Rattle.link_trace.specs.Standing.{Occurs, IsOver, GoesOn, Waits, IsLive, given_by};
 
@@ -91,6 +92,26 @@ impl<'a> Core<'a> {
         match self {
             Core::Feeder(feeder) => feeder.can_begin(),
             _ => false,
+        }
+    }
+
+    /// The controller's machine, if it is that one.
+    pub fn into_controller(self) -> Option<Controller>
+        ensures { IfSome result (λ controller. self.entry ≡ TheController controller) }
+    {
+        match self {
+            Core::Controller(controller) => Some(controller),
+            _ => None,
+        }
+    }
+
+    /// The collector's machine, if it is that one.
+    pub fn into_collector(self) -> Option<Collector>
+        ensures { IfSome result (λ collector. self.entry ≡ TheCollector collector) }
+    {
+        match self {
+            Core::Collector(collector) => Some(collector),
+            _ => None,
         }
     }
 }

@@ -1,6 +1,6 @@
 // All machines of a run on one thread, and what is under way between them.
 
-ghost use Rattle.std.specs.Prelude.{ℕ, ◌≡◌, [], All, Ok, Some, IfOk, IfSome, OnOk, OnErr, IsTrue, ◌↔◌, true, false};
+ghost use Rattle.std.specs.Prelude.{ℕ, ◌≡◌, ◌++◌, ◌∷◌, [], All, Ok, Some, IfOk, IfSome, OnOk, OnErr, IsTrue, ◌↔◌, true, false};
 ghost use Rattle.epoch_tags.specs.Links.{HasLink};
 ghost use Rattle.epoch_tags.specs.declared.actor.Actor.TheVariants.{Feeder as Feeder', Controller as Controller'};
 ghost use Rattle.link_trace.specs.declared.step.Step.TheVariants.{Took as Took', Idle as Idle'};
@@ -124,17 +124,24 @@ pub fn answer(
     })
 }
 
+// The machine of the last actor, which is taken off.
+fn last_core<'a>(places: &mut Vec<Place<'a>>) -> Option<Core<'a>>
+    ensures { IfSome result
+        (λ core. cores_of places.old.items ≡ cores_of places.new.items ++ core ∷ []) }
+{
+    match places.pop() {
+        Some(place) => Some(place.core),
+        None => None,
+    }
+}
+
 // The last two machines, a controller and a collector.
 fn parted<'a>(mut places: Vec<Place<'a>>) -> Option<(Controller, Collector)>
     ensures { IfSome result (λ two. AreLast (cores_of places.entry.items) two.0 two.1) }
 {
-    let (Some(collector), Some(controller)) = (places.pop(), places.pop()) else {
-        return None;
-    };
-    match (controller.core, collector.core) {
-        (Core::Controller(controller), Core::Collector(collector)) => Some((controller, collector)),
-        _ => None,
-    }
+    let collector = last_core(&mut places)?.into_collector()?;
+    let controller = last_core(&mut places)?.into_controller()?;
+    Some((controller, collector))
 }
 
 impl<'a> World<'a> {

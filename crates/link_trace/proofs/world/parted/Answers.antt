@@ -1,14 +1,14 @@
 use Rattle.std.proofs.Common.{◌∙◌, ◌++◌, ◌∷◌, [], ap}
-use Rattle.std.specs.Option.{option_to_list}
+use Rattle.link_trace.specs.declared.machines.Core.TheVariants.{Controller as TheController}
+use Rattle.link_trace.specs.Worlds.{cores_of}
 use Rattle.link_trace.proofs.WorldAnswer.{last_two}
 use Rattle.link_trace.proofs.world.parted.Goals as goal
 
-pub returns-in-Controller-Collector : goal.returns-in-Controller-Collector
-returns-in-Controller-Collector c =
-    let controller = c.in-Some-Some.controller in
-    let collector = c.in-Some-Some.collector in
-    let all =
-    c.pop.ensures.items ∙ (ap (λ o. c.pop.new.self.items ++ option_to_list o) c.in-Some-Some.is-0
-    ∙ ap (λ xs. xs ++ collector ∷ []) (c.pop-2.ensures.items ∙ ap (λ o. c.pop-2.new.self.items ++ option_to_list o) c.in-Some-Some.is-1)) in
-    last_two c.args.places.items c.pop-2.new.self.items controller collector all c.in-Controller-Collector.controller c.in-Controller-Collector.collector
-    c.in-Controller-Collector.is-0 c.in-Controller-Collector.is-1
+pub returns : goal.returns
+returns c =
+    let rest = cores_of c.last_core-2.new.places.items in
+    let controller = c.in_ok-controller.controller in
+    last_two (cores_of c.args.places.items) rest controller c.in_ok-collector.collector
+    (c.in_ok-last_core.ensures
+    ∙ (ap (λ xs. xs ++ c.in_ok-last_core.field-0 ∷ []) (c.in_ok-last_core-2.ensures ∙ ap (λ x. rest ++ x ∷ []) c.in_ok-controller.ensures)
+    ∙ ap (λ y. (rest ++ TheController controller ∷ []) ++ y ∷ []) c.in_ok-collector.ensures))
