@@ -36,6 +36,36 @@ fn predicate(alloc: Global, text: &str, r: &Table, s: &Table) -> Result<Theta, A
     }
 }
 
+// A table and the tickets of its rows.
+#[derive(Drop)]
+struct Ticketed {
+    table: Table,
+    tickets: Bytes,
+}
+
+fn ticketed(
+    alloc: Global,
+    name: &[u8],
+    numbers: &[u8],
+    tickets: &[u8],
+) -> Result<Ticketed, AllocError> {
+    Ok(Ticketed {
+        table: table(alloc, name, numbers)?,
+        tickets: Bytes::from_slice(alloc, tickets)?,
+    })
+}
+
+fn over(alloc: Global, text: &str, r: Ticketed, s: Ticketed) -> Result<Input, AllocError> {
+    let theta = predicate(alloc, text, &r.table, &s.table)?;
+    Ok(Input {
+        table_r: r.table,
+        table_s: s.table,
+        theta,
+        tickets_r: r.tickets,
+        tickets_s: s.tickets,
+    })
+}
+
 /// R has a column `x`, and S a column `y`, with these numbers and tickets.
 pub(super) fn input(
     alloc: Global,
@@ -43,16 +73,9 @@ pub(super) fn input(
     r: (&[u8], &[u8]),
     s: (&[u8], &[u8]),
 ) -> Result<Input, AllocError> {
-    let table_r = table(alloc, b"x", r.0)?;
-    let table_s = table(alloc, b"y", s.0)?;
-    let theta = predicate(alloc, text, &table_r, &table_s)?;
-    Ok(Input {
-        table_r,
-        table_s,
-        theta,
-        tickets_r: Bytes::from_slice(alloc, r.1)?,
-        tickets_s: Bytes::from_slice(alloc, s.1)?,
-    })
+    let of_r = ticketed(alloc, b"x", r.0, r.1)?;
+    let of_s = ticketed(alloc, b"y", s.0, s.1)?;
+    over(alloc, text, of_r, of_s)
 }
 
 /// Eight rows a side, each pair of which matches. At each shift each joiner holds equally many.

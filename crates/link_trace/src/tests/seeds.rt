@@ -120,13 +120,22 @@ fn other_journals<R: Abort + Wait>(
     Ok(others)
 }
 
+// How many of them have another journal than the first.
+fn later_journals<R: Abort + Wait>(
+    rt: &R,
+    alloc: Global,
+    input: &Input,
+    setting: &Setting,
+) -> Result<u64, AllocError> {
+    let first = driven(alloc, input, setting, 0)?;
+    other_journals(rt, alloc, input, setting, &first.journal)
+}
+
 #[test]
 fn a_replay_makes_the_events_in_its_order(rt: HostRuntime) -> Result<(), Fail> {
     let alloc = rt.alloc();
     let input = eight_rows_a_side(alloc)?;
-    let setting = four_joiners();
-    let first = driven(alloc, &input, &setting, 0)?;
-    let others = other_journals(&rt, alloc, &input, &setting, &first.journal)?;
+    let others = later_journals(&rt, alloc, &input, &four_joiners())?;
     assert!(rt; others > 0, "the journals aren't all equal");
     Ok(())
 }
