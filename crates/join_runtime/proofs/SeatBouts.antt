@@ -1,5 +1,6 @@
 -- What a bout does to the seats of a run.
 use Rattle.std.proofs.Common.{◌≡◌, ℕ, zero, suc, ◌<◌, ◌≤◌, inl, inr, refl, sym, ap, subst, ◌∙◌, Bool, true, false, true≢false, Option, Some, None, List, [], ◌∷◌, get_or, set, map, length, arith}
+use Rattle.std.specs.List.{SwappedAt}
 use Rattle.std.specs.Prelude.{slice_get}
 use Rattle.std.proofs.lemmas.Bool.{cases_eq}
 use Rattle.std.proofs.lemmas.List.{get_or_default, get_or-set_other, get_or-set_same, length-set}
@@ -70,6 +71,24 @@ all_stepped old middle new long first then n d low =
 pub all_advance_after : (old middle new : List SeatView) → length middle ≡ length old → AllStep old middle → AllAdvance middle new → AllAdvance old new
 all_advance_after old middle new long first then n d low =
     advances_after (get_or old n d) (get_or middle n d) (get_or new n d) (first n d low) (then n d (omega (arith, long, low)))
+
+-- two seats changed places before the turns, and back behind them
+pub swapped_work : (old swapped worked new : List SeatView) (i j : ℕ) → length swapped ≡ length old → i < length old → j < length old
+    → SwappedAt old swapped i j → AllWork swapped worked → SwappedAt worked new i j → AllWork old new
+swapped_work old swapped worked new i j long low_i low_j there works back n d low =
+    let moved = λ (a b : ℕ) (from : get_or swapped b d ≡ get_or old a d) (to : get_or new a d ≡ get_or worked b d) (within : b < length swapped).
+    subst (λ u. Works u (get_or new a d)) from (subst (Works (get_or swapped b d)) (sym to) (works b d within)) in
+    elim (cases_eq n i) [
+      | inl is ↦
+          subst (λ k. Works (get_or old k d) (get_or new k d)) (sym is)
+          (moved i j (there.1 d) (back.0 d) (omega (arith, long, low_j)))
+      | inr other ↦ elim (cases_eq n j) [
+        | inl is ↦
+            subst (λ k. Works (get_or old k d) (get_or new k d)) (sym is)
+            (moved j i (there.0 d) (back.1 d) (omega (arith, long, low_i)))
+        | inr neither ↦ moved n n (there.2 n d other neither) (back.2 n d other neither) (omega (arith, long, low))
+      ]
+    ]
 
 pub frames_worked : (old new : List SeatView) → length new ≡ length old → AllWork old new → map frame_of new ≡ map frame_of old
 frames_worked old new long works = frames_same old new long (λ n d low. (works n d low).frame)

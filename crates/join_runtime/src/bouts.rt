@@ -6,18 +6,17 @@ ghost use Rattle.trace_law.specs.declared.setting.Setting.{Setting as Setting'};
 ghost use Rattle.trace_law.specs.Validity.{IsValid};
 ghost use Rattle.link_trace.specs.Families.{AreFronts};
 ghost use Rattle.join_runtime.specs.Views.{SeatView, frame_of};
-ghost use Rattle.join_runtime.specs.Turns.{AllStep, AllWork, IsAlike};
+ghost use Rattle.join_runtime.specs.Turns.{AllStep, IsAlike};
 ghost use Rattle.join_runtime.specs.Joins.{ActorsDiffer, AllLead, AreGathered, IsSlotOf, Tells, slot_of};
 ghost use Rattle.join_runtime.specs.Bouts.{AllAdvance, AllLive, AllRest, Extends, IsStill, NoneSpent, SomeReady, StandsFor, lists_in};
 ghost use Rattle.join_runtime.specs.Endings.{is_collected};
 
-use crate::crossing::shares_predicates;
+use crate::dealt::work;
 use crate::seat::Seat;
 use ruled_links::Mouth;
 use std::alloc::{AllocError, Global};
 use std::marker::Model;
 use std::sync::Wait;
-use std::thread;
 use std::thread::Threads;
 use trace_law::quiet_is_finished;
 use worker_gate::Gate;
@@ -59,15 +58,6 @@ fn go_ahead<R: Wait, G: Gate>(rt: &R, seats: &mut [Seat], gate: &G) -> Result<()
         round_ahead(rt, seats, gate)?;
     }
     Ok(())
-}
-
-// The turns of all seats, which are cut into as many chunks as there are workers.
-fn work<R: Threads + Wait + Sync, G: Gate>(rt: &R, seats: &mut [Seat], workers: u32, gate: &G)
-    requires { 0 < workers }
-    ensures { AllWork seats.old seats.new }
-{
-    shares_predicates();
-    thread::for_each_mut(rt, seats, workers as usize, &|_, seat| seat.turns(rt, gate));
 }
 
 fn all_rest(seats: &[Seat]) -> bool
@@ -203,10 +193,10 @@ impl<'a> Model for Seats<'a> {
 }
 
 /// One bout. First the feeders and the controller go ahead, in the calling thread and by 64 turns each at most, unless
-/// some seat knows of more messages than it can take. Then each seat has turns until it is idle or has had 256, in as many
-/// chunks side by side as there are workers; then the two ends of each link are held together. `Ok(false)`: nothing was
-/// left on any link, and no feeder would begin; then nothing changed, and of a valid input the collector is complete.
-/// After an error the seats are spent.
+/// some seat knows of more messages than it can take. Then each seat has turns until it is idle or has had 256 in this
+/// bout, in as many chunks side by side as there are workers; then the two ends of each link are held together.
+/// `Ok(false)`: nothing was left on any link, and no feeder would begin; then nothing changed, and of a valid input the
+/// collector is complete. After an error the seats are spent.
 pub fn bout<R: Threads + Wait + Sync, G: Gate>(
     rt: &R,
     seats: &mut Seats,

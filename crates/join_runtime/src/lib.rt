@@ -3,6 +3,7 @@
 
 mod bouts;
 mod crossing;
+mod dealt;
 mod early;
 mod ends;
 mod fresh;

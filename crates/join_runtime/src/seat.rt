@@ -1,11 +1,13 @@
 // An actor's machine with its inbox and its mouths.
 
+mod turns;
+
 ghost use Rattle.std.specs.Prelude.{◌≡◌, ◌<◌, ◌+◌, ◌^◌, ℕ, Ok, true, false, None, Some, [], OnOk, OnErr, IfOk, length, slice_set, slice_index_or};
 ghost use Rattle.link_trace.specs.declared.step.Step.TheVariants.{Took as Took', Idle as Idle'};
 ghost use Rattle.link_trace.specs.Standing.{Waits, IsLive};
 ghost use Rattle.ruled_links.specs.Inboxes.{IsSameInbox, all_known};
 ghost use Rattle.join_runtime.specs.Views.{frame_of};
-ghost use Rattle.join_runtime.specs.Turns.{MakesEvent, Opens, Rests, Steps, Works};
+ghost use Rattle.join_runtime.specs.Turns.{MakesEvent, Opens, Rests};
 ghost use Rattle.join_runtime.specs.Joins.{IsSlotOf, Tells};
 ghost use Rattle.join_runtime.specs.Bouts.{IsReady};
 ghost use Rattle.join_runtime.specs.Endings.{end_of, is_complete_core};
@@ -22,12 +24,6 @@ use std::mem;
 use std::sync::Wait;
 use worker_gate::{Gate, Spot};
 
-// The most turns of one seat in one bout.
-const TURNS: u64 = 256;
-
-// The most turns of a feeder or of the controller in one round ahead of the others.
-const TURNS_AHEAD: u64 = 16;
-
 /// An actor's machine with its inbox, and a mouth for each actor to which it sends.
 #[derive(Drop)]
 pub struct Seat<'a> {
@@ -38,7 +34,9 @@ pub struct Seat<'a> {
     inbox: Inbox,
     // By the numbers of actors.
     mouths: Vec<Option<Mouth>>,
+    // How many turns it has had, and how many of them before this bout.
     turns: u64,
+    turns_before: u64,
     spent: bool,
     alloc: Global,
 }
@@ -132,6 +130,7 @@ impl<'a> Seat<'a> {
             inbox,
             mouths,
             turns: 0,
+            turns_before: 0,
             spent: false,
             alloc,
         })
@@ -289,54 +288,5 @@ impl<'a> Seat<'a> {
             }
             None => {}
         }
-    }
-
-    // The turns of one bout: until the seat is idle or has had 256.
-    pub(crate) fn turns<R: Wait, G: Gate>(&mut self, rt: &R, gate: &G)
-        ensures { Works self.old self.new }
-    {
-        for round in 0..TURNS {
-            match self.turn(rt, gate) {
-                Ok(Step::Took) => {}
-                Ok(Step::Idle) => return,
-                Err(_) => return,
-            }
-        }
-    }
-
-    // Whether it is a feeder's or the controller's, which have turns ahead of the others.
-    fn goes_ahead(&self) -> bool {
-        match &self.core {
-            Core::Feeder(_) => true,
-            Core::Controller(_) => true,
-            _ => false,
-        }
-    }
-
-    // Whether more messages are known to be left for it than it can take in one bout.
-    pub(crate) fn is_crowded(&self) -> bool {
-        self.inbox.known() > TURNS
-    }
-
-    // The turns of one round ahead of the others, if it goes ahead: until it is idle or has had 16.
-    pub(crate) fn turns_ahead<R: Wait, G: Gate>(
-        &mut self,
-        rt: &R,
-        gate: &G,
-    ) -> Result<(), AllocError>
-        ensures ok { OnOk result (Steps self.old self.new) }
-        ensures frame { frame_of self.new ≡ frame_of self.old }
-    {
-        if !self.goes_ahead() {
-            return Ok(());
-        }
-        for round in 0..TURNS_AHEAD {
-            match self.turn(rt, gate) {
-                Ok(Step::Took) => {}
-                Ok(Step::Idle) => return Ok(()),
-                Err(fault) => return Err(fault),
-            }
-        }
-        Ok(())
     }
 }

@@ -1,0 +1,98 @@
+// The turns of all seats side by side, in chunks to which the seats are dealt in turn.
+
+ghost use Rattle.std.specs.Prelude.{◌<◌, ◌≤◌, length};
+ghost use Rattle.join_runtime.specs.Turns.{AllWork};
+
+use crate::crossing::shares_predicates;
+use crate::seat::Seat;
+use std::sync::Wait;
+use std::thread;
+use std::thread::Threads;
+use worker_gate::Gate;
+
+// Which seat comes to a place, where chunks of this size are dealt one seat each in turn; the last chunk may be shorter.
+fn dealt_to(place: usize, count: usize, size: usize) -> usize
+    requires { 0 < size }
+{
+    let others = count.div_ceil(size).saturating_sub(1);
+    let last = count.saturating_sub(others.saturating_mul(size));
+    let round = place % size;
+    let whole = round.min(last);
+    round
+        .saturating_mul(others)
+        .saturating_add(whole)
+        .saturating_add(place / size)
+}
+
+// Where the seat of a place stands, once each place before has its own.
+pub(crate) fn standing_at(place: usize, count: usize, size: usize) -> usize
+    requires { 0 < size }
+{
+    let mut from = dealt_to(place, count, size);
+    for _ in 0..count {
+        if from >= place {
+            return from;
+        }
+        from = dealt_to(from, count, size);
+    }
+    place
+}
+
+// The turns of all seats as they stand, which are cut into as many chunks as there are workers.
+fn work_as_they_stand<R: Threads + Wait + Sync, G: Gate>(
+    rt: &R,
+    seats: &mut [Seat],
+    workers: u32,
+    gate: &G,
+)
+    requires { 0 < workers }
+    ensures { AllWork seats.old seats.new }
+{
+    shares_predicates();
+    thread::for_each_mut(rt, seats, workers as usize, &|_, seat| seat.turns(rt, gate));
+}
+
+// The turns of all seats, of which those at so many last places are still to be dealt; each stands in its place again
+// behind them.
+fn work_dealt<R: Threads + Wait + Sync, G: Gate>(
+    rt: &R,
+    seats: &mut [Seat],
+    workers: u32,
+    gate: &G,
+    left: usize,
+)
+    requires workers { 0 < workers }
+    requires left { left ≤ length seats.old }
+    ensures { AllWork seats.old seats.new }
+{
+    if left == 0 {
+        work_as_they_stand(rt, seats, workers, gate);
+        return;
+    }
+    let count = seats.len();
+    let place = count - left;
+    let size = count.div_ceil(workers as usize).max(1);
+    let from = standing_at(place, count, size);
+    if from < count {
+        seats.swap(place, from);
+        work_dealt(rt, seats, workers, gate, left - 1);
+        seats.swap(place, from);
+    } else {
+        work_dealt(rt, seats, workers, gate, left - 1);
+    }
+}
+
+// The turns of all seats, which are dealt to as many chunks as there are workers: so each has as many joiners as the
+// others, or one more or less.
+pub(crate) fn work<R: Threads + Wait + Sync, G: Gate>(
+    rt: &R,
+    seats: &mut [Seat],
+    workers: u32,
+    gate: &G,
+)
+    requires { 0 < workers }
+    ensures { AllWork seats.old seats.new }
+{
+    let count = seats.len();
+    work_dealt(rt, seats, workers, gate, count);
+}
