@@ -1,5 +1,7 @@
 // The machines behind one enum.
-ghost use Rattle.std.specs.Prelude.{◌≡◌, Ok, true, false, IfSome, OnOk};
+ghost use Rattle.std.specs.Prelude.{◌≡◌, Ok, true, false, IfSome, IfNone, OnOk};
+ghost use Rattle.load_controller.specs.Standing.{ControllerState};
+ghost use Rattle.pair_collector.specs.Standing.{CollectorState};
 ghost use Rattle.link_trace.specs.declared.machines.Core.TheVariants.{Controller as TheController, Collector as TheCollector};
 ghost use Rattle.link_trace.specs.Lists.{Took, Began};
 ghost use Rattle.link_trace.specs.Standing.{Occurs, IsOver, GoesOn, Waits, IsLive, given_by};
@@ -97,7 +99,8 @@ impl<'a> Core<'a> {
 
     /// The controller's machine, if it is that one.
     pub fn into_controller(self) -> Option<Controller>
-        ensures { IfSome result (λ controller. self.entry ≡ TheController controller) }
+        ensures some { IfSome result (λ controller. self.entry ≡ TheController controller) }
+        ensures none { IfNone result ((controller : ControllerState) → self.entry ≡ TheController controller → ⊥) }
     {
         match self {
             Core::Controller(controller) => Some(controller),
@@ -107,7 +110,8 @@ impl<'a> Core<'a> {
 
     /// The collector's machine, if it is that one.
     pub fn into_collector(self) -> Option<Collector>
-        ensures { IfSome result (λ collector. self.entry ≡ TheCollector collector) }
+        ensures some { IfSome result (λ collector. self.entry ≡ TheCollector collector) }
+        ensures none { IfNone result ((collector : CollectorState) → self.entry ≡ TheCollector collector → ⊥) }
     {
         match self {
             Core::Collector(collector) => Some(collector),

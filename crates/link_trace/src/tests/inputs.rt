@@ -43,7 +43,7 @@ struct Ticketed {
     tickets: Bytes,
 }
 
-fn ticketed(
+fn with_tickets(
     alloc: Global,
     name: &[u8],
     numbers: &[u8],
@@ -73,8 +73,8 @@ pub(super) fn input(
     r: (&[u8], &[u8]),
     s: (&[u8], &[u8]),
 ) -> Result<Input, AllocError> {
-    let of_r = ticketed(alloc, b"x", r.0, r.1)?;
-    let of_s = ticketed(alloc, b"y", s.0, s.1)?;
+    let of_r = with_tickets(alloc, b"x", r.0, r.1)?;
+    let of_s = with_tickets(alloc, b"y", s.0, s.1)?;
     over(alloc, text, of_r, of_s)
 }
 

@@ -10,5 +10,5 @@ returns c =
     let controller = c.in_ok-controller.controller in
     last_two (cores_of c.args.places.items) rest controller c.in_ok-collector.collector
     (c.in_ok-last_core.ensures
-    ∙ (ap (λ xs. xs ++ c.in_ok-last_core.field-0 ∷ []) (c.in_ok-last_core-2.ensures ∙ ap (λ x. rest ++ x ∷ []) c.in_ok-controller.ensures)
-    ∙ ap (λ y. (rest ++ TheController controller ∷ []) ++ y ∷ []) c.in_ok-collector.ensures))
+    ∙ (ap (λ xs. xs ++ c.in_ok-last_core.field-0 ∷ []) (c.in_ok-last_core-2.ensures ∙ ap (λ x. rest ++ x ∷ []) c.in_ok-controller.ensures.some)
+    ∙ ap (λ y. (rest ++ TheController controller ∷ []) ++ y ∷ []) c.in_ok-collector.ensures.some))
