@@ -37,6 +37,8 @@ impl<'a> Machine<'a> {
             (λ machine. IsMade k id shift epoch feeders theta.now base (state_of machine)) }
     {
         let ended = all_down(alloc, feeders)?;
+        let of_feeders = Held::start(alloc, feeders)?;
+        let of_joiners = Held::start(alloc, joiners(k))?;
         Ok(Machine {
             epochs: Epochs {
                 k,
@@ -51,8 +53,8 @@ impl<'a> Machine<'a> {
                 moved: Counts::new(alloc),
                 alloc,
             },
-            of_feeders: Held::start(alloc, feeders)?,
-            of_joiners: Held::start(alloc, joiners(k))?,
+            of_feeders,
+            of_joiners,
             told: false,
             alloc,
         })

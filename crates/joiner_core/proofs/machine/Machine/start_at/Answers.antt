@@ -14,9 +14,9 @@ returns c = record {
   step = refl;
   ended = c.in_ok-ended.ensures.count;
   down = c.in_ok-ended.ensures.down;
-  of_feeders = c.in_ok-start.ensures.count;
-  of_joiners = c.in_ok-start-2.ensures.count ∙ c.joiners.ensures;
-  no_feeders = c.in_ok-start.ensures.empty;
-  no_joiners = c.in_ok-start-2.ensures.empty;
+  of_feeders = c.in_ok-of_feeders.ensures.count;
+  of_joiners = c.in_ok-of_joiners.ensures.count ∙ c.joiners.ensures;
+  no_feeders = c.in_ok-of_feeders.ensures.empty;
+  no_joiners = c.in_ok-of_joiners.ensures.empty;
   told = refl;
 }
