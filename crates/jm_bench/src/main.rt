@@ -146,18 +146,41 @@ fn adds(alloc: Global) -> Result<u64, AllocError> {
     Ok(store.side(Side::S).len())
 }
 
+fn probe(
+    alloc: Global,
+    theta: &Theta,
+    store: &Store,
+    number: u32,
+    found: &mut Pairs,
+) -> Result<(), AllocError>
+    requires r { theta.now.width_r ≡ 1 }
+    requires widths { HaveWidths theta.now store.now }
+    requires own { IsOwn theta.now store.now.key }
+{
+    let tuple = tuple(alloc, Side::R, number)?;
+    store.probe_uncounted(&tuple, theta, Which::All, found)
+}
+
+fn probe_all(alloc: Global, theta: &Theta, store: &Store, modulus: u32) -> Result<u64, AllocError>
+    requires modulus { 0 < modulus }
+    requires r { theta.now.width_r ≡ 1 }
+    requires widths { HaveWidths theta.now store.now }
+    requires own { IsOwn theta.now store.now.key }
+{
+    let mut found = Pairs::new(alloc);
+    for number in 0..COUNT {
+        probe(alloc, theta, store, number % modulus, &mut found)?;
+    }
+    Ok(found.len())
+}
+
 // How many pairs the probes find, the numbers of the probing rows being taken by this modulus.
 fn probes(alloc: Global, text: &str, modulus: u32) -> Result<u64, AllocError>
     requires { 0 < modulus }
 {
     let theta = predicate(alloc, text)?;
     let store = filled(alloc, &theta, COUNT)?;
-    let mut found = Pairs::new(alloc);
-    for number in 0..COUNT {
-        let tuple = tuple(alloc, Side::R, number % modulus)?;
-        store.probe_uncounted(&tuple, &theta, Which::All, &mut found)?;
-    }
-    Ok(found.len())
+    probe_all(alloc, &theta, &store, modulus)
 }
 
 // The feeders 0, 1, .. , so many.

@@ -25,6 +25,8 @@ fn made(alloc: Global, count: u64) -> Result<Input, AllocError>
     requires some { 1 ≤ count }
     requires few { count ≤ 2 ^ 16 }
 {
+    let tickets_r = tickets(alloc, 1, Side::R, count)?;
+    let tickets_s = tickets(alloc, 1, Side::S, count)?;
     let table_r = make_table(alloc, Side::R, count)?;
     let table_s = make_table(alloc, Side::S, count)?;
     let theta = same_number(alloc, &table_r, &table_s)?;
@@ -32,9 +34,23 @@ fn made(alloc: Global, count: u64) -> Result<Input, AllocError>
         table_r,
         table_s,
         theta,
-        tickets_r: tickets(alloc, 1, Side::R, count)?,
-        tickets_s: tickets(alloc, 1, Side::S, count)?,
+        tickets_r,
+        tickets_s,
     })
+}
+
+// How many events the replay of number 0 has.
+fn events_of<R: Wait>(
+    rt: &R,
+    alloc: Global,
+    input: &Input,
+    setting: &Setting,
+) -> Result<u64, AllocError> {
+    if input.valid() && setting.valid() {
+        Ok(replay(rt, alloc, input, setting, 0)?.bouts)
+    } else {
+        Err(AllocError)
+    }
 }
 
 /// How many events the replay of number 0 has, of two made tables of `count` rows with 2^k joiners and so many feeders.
@@ -57,8 +73,5 @@ pub fn events<R: Wait>(
         feed: Feed::Alternate,
         fixed: None,
     };
-    if !input.valid() || !setting.valid() {
-        return Err(AllocError);
-    }
-    Ok(replay(rt, alloc, &input, &setting, 0)?.bouts)
+    events_of(rt, alloc, &input, &setting)
 }

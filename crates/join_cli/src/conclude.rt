@@ -3,9 +3,10 @@
 ghost use Rattle.std.specs.Prelude.{◌≡◌, ◌≢◌, ◌⊎◌, ◌<◌, None, true, false};
 ghost use Rattle.join_rows.specs.Shelves.{last_fault};
 ghost use Rattle.join_rows.specs.Sinks.{PutsSome};
-ghost use Rattle.trace_law.specs.Validity.{IsValidSetting};
+ghost use Rattle.trace_law.specs.Validity.{IsValidInput, IsValidSetting};
 ghost use Rattle.join_words.specs.Words.{asked};
-ghost use Rattle.join_cli.specs.Plan.{IsFit, setting_of};
+ghost use Rattle.join_cli.specs.Plan.{IsFit, input_of, setting_of};
+ghost use Rattle.join_cli.specs.declared.plan.Planned.{Planned as Planned'};
 ghost use Rattle.join_cli.specs.Ends.{Concludes, IsDone, TakesEach};
 
 use crate::early::put_found;
@@ -16,6 +17,7 @@ use join_report::put_all;
 use join_rows::{Failed, Sink};
 use join_runtime::EarlyFault;
 use join_words::Options;
+use link_trace::{Input, Setting};
 use std::alloc::{AllocError, Global};
 use std::sync::Wait;
 use std::thread::Threads;
@@ -58,6 +60,43 @@ fn conclude_whole<R: Threads + Wait + Sync, K: Sink, G: Gate>(
     }
 }
 
+/// Writes the lines of an input's pairs as they are found.
+fn end_early<R: Threads + Wait + Sync, K: Sink, G: Gate>(
+    rt: &R,
+    alloc: Global,
+    options: &Options<'_>,
+    input: &Input,
+    setting: &Setting,
+    sink: &mut K,
+    gate: &G,
+) -> Outcome
+    requires input { IsValidInput input.now }
+    requires setting { IsValidSetting setting.now }
+    requires is { setting.now ≡ setting_of (asked options.now) }
+    requires sink { K.faults sink.old < last_fault }
+    requires early { options.now.early ≡ true }
+    requires alone { (options.now.replay ≡ None) × (options.now.make ≡ None)
+        × (options.now.rows ≡ false) }
+    ensures ends { (planned : Planned') → input.now ≡ input_of options.now.seed planned
+        → Concludes (asked options.now) planned (K.written sink.old) (K.written sink.new) result }
+    ensures counts { result ≢ Outcome.Write → K.faults sink.new ≡ K.faults sink.old }
+    ensures fails { result ≡ Outcome.Write → K.faults sink.old < K.faults sink.new }
+    ensures complete { (planned : Planned') → input.now ≡ input_of options.now.seed planned
+        → TakesEach (K.takes sink.old) (asked options.now) planned
+        → IsDone result ⊎ (result ≡ Outcome.Memory) }
+    ensures left { PutsSome (K.written sink.old) (K.written sink.new)
+        (K.takes sink.old) (K.takes sink.new) }
+{
+    match put_found(rt, alloc, options, input, setting, gate, sink) {
+        Ok(Course { run, trail }) => Outcome::Done {
+            journal: run.journal,
+            trail,
+        },
+        Err(EarlyFault::Write) => Outcome::Write,
+        Err(EarlyFault::Memory) => Outcome::Memory,
+    }
+}
+
 /// Writes the lines of the pairs as they are found.
 fn conclude_early<R: Threads + Wait + Sync, K: Sink, G: Gate>(
     rt: &R,
@@ -83,17 +122,9 @@ fn conclude_early<R: Threads + Wait + Sync, K: Sink, G: Gate>(
         (K.takes sink.old) (K.takes sink.new) }
 {
     let setting = setting(options);
-    let input = match input(alloc, options.seed, planned) {
-        Ok(input) => input,
-        Err(AllocError) => return Outcome::Memory,
-    };
-    match put_found(rt, alloc, options, &input, &setting, gate, sink) {
-        Ok(Course { run, trail }) => Outcome::Done {
-            journal: run.journal,
-            trail,
-        },
-        Err(EarlyFault::Write) => Outcome::Write,
-        Err(EarlyFault::Memory) => Outcome::Memory,
+    match input(alloc, options.seed, planned) {
+        Ok(input) => end_early(rt, alloc, options, &input, &setting, sink, gate),
+        Err(AllocError) => Outcome::Memory,
     }
 }
 

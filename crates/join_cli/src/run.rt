@@ -7,6 +7,7 @@ ghost use Rattle.trace_law.specs.Runs.{IsRunOf};
 ghost use Rattle.trace_law.specs.Join.{nested_loop};
 ghost use Rattle.join_cli.specs.Plan.{IsFit, answer_of, input_of, output_of, report_asked};
 ghost use Rattle.join_cli.specs.Plan.{setting_of, text_of, tickets_of};
+ghost use Rattle.join_cli.specs.declared.plan.Planned.{Planned as Planned'};
 ghost use Rattle.join_cli.specs.Courses.{IsCourseOf, IsReplayed, IsRunInThreads, WentAs};
 
 use crate::plan::Planned;
@@ -225,6 +226,33 @@ fn carry_out<R: Threads + Wait + Sync, G: Gate>(
     }
 }
 
+/// The output that the options ask for of an input, with this setting.
+fn output_over<R: Threads + Wait + Sync, G: Gate>(
+    rt: &R,
+    alloc: Global,
+    options: &Options<'_>,
+    input: &Input,
+    setting: &Setting,
+    gate: &G,
+) -> Result<Joined, AllocError>
+    requires input { IsValidInput input.now }
+    requires setting { IsValidSetting setting.now }
+    requires is { setting.now ≡ setting_of (asked options.now) }
+    ensures course { IfOk result
+        (λ joined. (planned : Planned') → input.now ≡ input_of options.now.seed planned
+        → IsCourseOf (asked options.now) planned joined.journal joined.trail) }
+    ensures text { IfOk result
+        (λ joined. joined.text ≡ text_of (asked options.now) input.now setting.now joined.journal) }
+{
+    let Course { run, trail } = carry_out(rt, alloc, options.replay, input, setting, gate)?;
+    let text = text(alloc, options, input, setting, &run)?;
+    Ok(Joined {
+        text,
+        journal: run.journal,
+        trail,
+    })
+}
+
 /// The output that the options ask for of a plan.
 pub(crate) fn output<R: Threads + Wait + Sync, G: Gate>(
     rt: &R,
@@ -242,11 +270,5 @@ pub(crate) fn output<R: Threads + Wait + Sync, G: Gate>(
 {
     let setting = setting(options);
     let input = input(alloc, options.seed, planned)?;
-    let Course { run, trail } = carry_out(rt, alloc, options.replay, &input, &setting, gate)?;
-    let text = text(alloc, options, &input, &setting, &run)?;
-    Ok(Joined {
-        text,
-        journal: run.journal,
-        trail,
-    })
+    output_over(rt, alloc, options, &input, &setting, gate)
 }

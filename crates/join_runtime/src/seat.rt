@@ -88,7 +88,7 @@ fn open<R: Wait>(
 }
 
 // So many places for mouths.
-fn no_mouths(alloc: Global, count: u32) -> Result<Vec<Option<Mouth>>, AllocError>
+pub(crate) fn no_mouths(alloc: Global, count: u32) -> Result<Vec<Option<Mouth>>, AllocError>
     ensures { IfOk result (λ mouths. (n : ℕ) → slice_index_or mouths.items n None ≡ None) }
 {
     let mut mouths = Vec::new(alloc);
@@ -99,7 +99,7 @@ fn no_mouths(alloc: Global, count: u32) -> Result<Vec<Option<Mouth>>, AllocError
 }
 
 impl<'a> Seat<'a> {
-    // A seat that has had no turn, without mouths.
+    // A seat that has had no turn.
     pub(crate) fn new(
         alloc: Global,
         joiners: u32,
@@ -107,22 +107,19 @@ impl<'a> Seat<'a> {
         actor: Actor,
         core: Core<'a>,
         inbox: Inbox,
-    ) -> Result<Seat<'a>, AllocError>
-        requires { feeders + joiners + 2 < 2 ^ 32 }
-        ensures seat { IfOk result
-            (λ seat. seat ≡ record {
-              joiners = joiners;
-              feeders = feeders;
-              actor = actor;
-              core = core.entry;
-              inbox = inbox;
-              mouths = seat.mouths;
-              spent = false;
-            }) }
-        ensures mouths { IfOk result (λ seat. (n : ℕ) → slice_index_or seat.mouths n None ≡ None) }
+        mouths: Vec<Option<Mouth>>,
+    ) -> Seat<'a>
+        ensures { result ≡ record {
+          joiners = joiners;
+          feeders = feeders;
+          actor = actor;
+          core = core.entry;
+          inbox = inbox;
+          mouths = mouths.items;
+          spent = false;
+        } }
     {
-        let mouths = no_mouths(alloc, feeders + joiners + 2)?;
-        Ok(Seat {
+        Seat {
             joiners,
             feeders,
             actor,
@@ -133,7 +130,7 @@ impl<'a> Seat<'a> {
             turns_before: 0,
             spent: false,
             alloc,
-        })
+        }
     }
 
     // Takes a mouth to the actor with this number.

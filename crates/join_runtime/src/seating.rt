@@ -15,7 +15,7 @@ ghost use Rattle.epoch_tags.specs.Links.{HasLink};
 ghost use Rattle.pair_collector.specs.Standing.{nothing_yet};
 
 use crate::bouts::Seats;
-use crate::seat::Seat;
+use crate::seat::{Seat, no_mouths};
 use epoch_tags::Actor;
 use link_trace::{core_at, has_link, joiners_of, number};
 use ruled_links::{Actors, Mouth, Mouths, inbox};
@@ -75,11 +75,13 @@ fn seat_at<'a>(
 {
     let joiners = joiners_of(setting);
     let feeders = setting.feeders;
+    let count = feeders + joiners + 2;
     let actor = actor_of(joiners, feeders, n);
-    let core = core_at(alloc, input, setting, n)?;
-    let senders = senders_of(alloc, joiners, feeders, feeders + joiners + 2, actor)?;
+    let senders = senders_of(alloc, joiners, feeders, count, actor)?;
     let (inbox, mouths) = inbox(alloc, actor, &senders)?;
-    let seat = Seat::new(alloc, joiners, feeders, actor, core, inbox)?;
+    let places = no_mouths(alloc, count)?;
+    let core = core_at(alloc, input, setting, n)?;
+    let seat = Seat::new(alloc, joiners, feeders, actor, core, inbox, places);
     Ok((seat, mouths))
 }
 
