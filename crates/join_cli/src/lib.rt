@@ -23,6 +23,3 @@ pub use laws::{fixed_output_is_one, past_is_too_long};
 pub use outcome::{InputFault, LimitFault, Outcome, TextFault};
 pub use program::{exit_code, jm_main, tell};
 pub use top::join_main;
-
-#[cfg(test)]
-mod tests;

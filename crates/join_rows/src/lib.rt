@@ -35,6 +35,3 @@ pub use shelf::{Failed, Shelf};
 pub use sink::Sink;
 pub use std_sink::StdSink;
 pub use table::{Cell, Rows, Side, Table};
-
-#[cfg(test)]
-mod tests;

@@ -8,35 +8,7 @@ use crate::seat::Seat;
 use std::sync::Wait;
 use std::thread;
 use std::thread::Threads;
-use worker_gate::Gate;
-
-// Which seat comes to a place, where chunks of this size are dealt one seat each in turn; the last chunk may be shorter.
-fn dealt_to(place: usize, count: usize, size: usize) -> usize
-    requires { 0 < size }
-{
-    let others = count.div_ceil(size).saturating_sub(1);
-    let last = count.saturating_sub(others.saturating_mul(size));
-    let round = place % size;
-    let whole = round.min(last);
-    round
-        .saturating_mul(others)
-        .saturating_add(whole)
-        .saturating_add(place / size)
-}
-
-// Where the seat of a place stands, once each place before has its own.
-pub(crate) fn standing_at(place: usize, count: usize, size: usize) -> usize
-    requires { 0 < size }
-{
-    let mut from = dealt_to(place, count, size);
-    for _ in 0..count {
-        if from >= place {
-            return from;
-        }
-        from = dealt_to(from, count, size);
-    }
-    place
-}
+use worker_gate::{Gate, standing_at};
 
 // The turns of all seats as they stand, which are cut into as many chunks as there are workers.
 fn work_as_they_stand<R: Threads + Wait + Sync, G: Gate>(

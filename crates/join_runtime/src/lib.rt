@@ -18,6 +18,3 @@ pub use early::{EarlyFault, run_early};
 pub use ends::{End, Ends, Told, Trail};
 pub use runs::run;
 pub use seat::Seat;
-
-#[cfg(test)]
-mod tests;

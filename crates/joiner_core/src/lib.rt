@@ -14,6 +14,3 @@ mod tup;
 mod turn;
 
 pub use joiner::Joiner;
-
-#[cfg(test)]
-mod tests;

@@ -100,7 +100,8 @@ impl<'a> Core<'a> {
     /// The controller's machine, if it is that one.
     pub fn into_controller(self) -> Option<Controller>
         ensures some { IfSome result (λ controller. self.entry ≡ TheController controller) }
-        ensures none { IfNone result ((controller : ControllerState) → self.entry ≡ TheController controller → ⊥) }
+        ensures none { IfNone result
+            ((controller : ControllerState) → self.entry ≡ TheController controller → ⊥) }
     {
         match self {
             Core::Controller(controller) => Some(controller),
@@ -111,7 +112,8 @@ impl<'a> Core<'a> {
     /// The collector's machine, if it is that one.
     pub fn into_collector(self) -> Option<Collector>
         ensures some { IfSome result (λ collector. self.entry ≡ TheCollector collector) }
-        ensures none { IfNone result ((collector : CollectorState) → self.entry ≡ TheCollector collector → ⊥) }
+        ensures none { IfNone result
+            ((collector : CollectorState) → self.entry ≡ TheCollector collector → ⊥) }
     {
         match self {
             Core::Collector(collector) => Some(collector),

@@ -1,6 +1,6 @@
 // All machines of a run on one thread, and what is under way between them.
 
-ghost use Rattle.std.specs.Prelude.{ℕ, ◌≡◌, ◌++◌, ◌∷◌, [], All, Ok, Some, IfOk, IfSome, OnOk, OnErr, IsTrue, ◌↔◌, true, false};
+ghost use Rattle.std.specs.Prelude.{ℕ, ◌≡◌, ◌++◌, ◌∷◌, [], All, Ok, Some, None, IfOk, IfSome, OnOk, OnErr, IsTrue, ◌↔◌, true, false};
 ghost use Rattle.epoch_tags.specs.Links.{HasLink};
 ghost use Rattle.epoch_tags.specs.declared.actor.Actor.TheVariants.{Feeder as Feeder', Controller as Controller'};
 ghost use Rattle.link_trace.specs.declared.step.Step.TheVariants.{Took as Took', Idle as Idle'};
@@ -176,6 +176,17 @@ impl<'a> World<'a> {
             → (IsTrue result ↔ HasLink setting.k setting.feeders from to) }
     {
         has_link(self.joiners, self.feeders, from, to)
+    }
+
+    /// The machine of an actor. It takes no memory.
+    pub fn machine(&self, actor: Actor) -> Option<&Core<'a>>
+        ensures some { IfSome result
+            (λ core. core_of (state_of self.now) actor ≡ Some core.now) }
+        ensures none { result ≡ None → core_of (state_of self.now) actor ≡ None }
+    {
+        let at = number(self.joiners, self.feeders, actor)?;
+        let place = self.places.get(at)?;
+        Some(&place.core)
     }
 
     /// Whether each feeder has stopped, each joiner is finished and the collector is complete. It takes no memory.

@@ -18,6 +18,3 @@ pub use steps::Steps;
 pub use store::Store;
 pub use theta_pred::{KeyAtom, TextAtom};
 pub use which::Which;
-
-#[cfg(test)]
-mod tests;

@@ -13,8 +13,6 @@ mod resolver;
 mod short;
 mod sums;
 mod terms;
-#[cfg(test)]
-mod tests;
 mod text_atom;
 mod theta;
 mod tree;

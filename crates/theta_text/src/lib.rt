@@ -5,8 +5,6 @@ mod fault;
 mod laws;
 mod lexer;
 mod parser;
-#[cfg(test)]
-mod tests;
 mod token;
 mod tree;
 

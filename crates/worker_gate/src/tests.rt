@@ -1,4 +1,6 @@
-use crate::{CountingGate, Gate, NoGate, PairGate, ProgressGate, Screen, Spot};
+ghost use Rattle.std.specs.Prelude.{◌<◌};
+
+use crate::{CountingGate, Gate, NoGate, PairGate, ProgressGate, Screen, Spot, standing_at};
 use epoch_tags::Actor;
 use std::sync::atomic::{AtomicU64, Ordering};
 use std::test::*;
@@ -109,6 +111,39 @@ fn each_percentage_is_shown_once(rt: HostRuntime) -> Result<(), Fail> {
         gate.fed(sent, batches);
         assert_eq!(rt; slip.times.load(Ordering::SeqCst), 6);
         assert_eq!(rt; slip.last.load(Ordering::SeqCst), 0);
+    }
+    Ok(())
+}
+
+// The numbers of up to eight seats as digits, as they stand when all are dealt to chunks of this size.
+fn dealt(count: usize, size: usize) -> u64
+    requires { 0 < size }
+{
+    let mut seats = [0u64, 1, 2, 3, 4, 5, 6, 7];
+    for place in 0..count.min(8) {
+        let from = standing_at(place, count, size);
+        if from < 8 {
+            seats.swap(place, from);
+        }
+    }
+    let mut number = 0u64;
+    for seat in seats {
+        number = number.wrapping_mul(10).wrapping_add(seat);
+    }
+    number
+}
+
+#[test]
+fn seats_are_dealt_in_turn(rt: HostRuntime) -> Result<(), Fail> {
+    for (count, size, wanted) in [
+        (8usize, 2usize, 04_15_26_37u64),
+        (8, 1, 0_1_2_3_4_5_6_7),
+        (8, 8, 01234567),
+        (8, 3, 036_147_25),
+        (7, 4, 0246_135_7),
+    ] {
+        let seats = if size > 0 { dealt(count, size) } else { 0 };
+        assert_eq!(rt; seats, wanted, "{count} seats, chunks of {size}");
     }
     Ok(())
 }

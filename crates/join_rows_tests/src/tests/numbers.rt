@@ -1,0 +1,33 @@
+use join_rows::{Bytes, Cell};
+use std::test::Fail;
+
+#[test]
+fn texts_and_their_numbers(rt: HostRuntime) -> Result<(), Fail> {
+    let cases: [(&[u8], Option<i64>); 20] = [
+        (b"7", Some(7)),
+        (b"+4", Some(4)),
+        (b" -07 ", Some(-7)),
+        (b"  0", Some(0)),
+        (b"-0", Some(0)),
+        (b"0000000000000000000000000000042", Some(42)),
+        (b"9223372036854775807", Some(9223372036854775807)),
+        (b"9223372036854775808", None),
+        (b"-9223372036854775808", Some(-9223372036854775808)),
+        (b"-9223372036854775809", None),
+        (b"18446744073709551617", None),
+        (b"", None),
+        (b"   ", None),
+        (b"+", None),
+        (b"- 7", None),
+        (b"1 2", None),
+        (b"+-3", None),
+        (b"4x", None),
+        (b"\t5", None),
+        (b"\xFF6", None),
+    ];
+    for (text, number) in cases {
+        let cell = Cell::new(Bytes::from_slice(rt.alloc(), text)?);
+        assert!(rt; cell.num == number);
+    }
+    Ok(())
+}

@@ -1,0 +1,67 @@
+use join_rows::{Bytes, Cell, Cells};
+use std::alloc::{AllocError, Global};
+use std::test::Fail;
+
+fn cell(alloc: Global, text: &[u8]) -> Result<Cell, AllocError> {
+    Ok(Cell::new(Bytes::from_slice(alloc, text)?))
+}
+
+// A copy of a list and a copy of that one, made before a push.
+fn copies_before(cells: &mut Cells, pushed: Cell) -> Result<(Cells, Cells), AllocError> {
+    let first = cells.copy()?;
+    let second = first.copy()?;
+    cells.push(pushed)?;
+    Ok((first, second))
+}
+
+// How many cells two lists hand out, of which the first shares its own with the second.
+fn counts_of(first: Cells, second: Cells) -> Result<(usize, usize), AllocError> {
+    let shared = first.into_vec()?.len();
+    let alone = second.into_vec()?.len();
+    Ok((shared, alone))
+}
+
+fn one_and_two(alloc: Global) -> Result<Cells, AllocError> {
+    let mut cells = Cells::new(alloc);
+    cells.push(cell(alloc, b"1")?)?;
+    cells.push(cell(alloc, b"2")?)?;
+    Ok(cells)
+}
+
+// How many cells the copies of a list have after a push, and hand out.
+fn copied(cells: &mut Cells, pushed: Cell) -> Result<(u64, u64, usize, usize), AllocError> {
+    let (first, second) = copies_before(cells, pushed)?;
+    let (of_first, of_second) = (first.len(), second.len());
+    let (shared, alone) = counts_of(first, second)?;
+    Ok((of_first, of_second, shared, alone))
+}
+
+#[test]
+fn a_push_leaves_the_copies(rt: HostRuntime) -> Result<(), Fail> {
+    let alloc = rt.alloc();
+    let mut cells = one_and_two(alloc)?;
+    assert_eq!(rt; copied(&mut cells, cell(alloc, b"3")?)?, (2, 2, 2, 2));
+    for (i, held) in cells.into_vec()?.iter().enumerate() {
+        assert_eq!(rt; held.num, Some(i as i64 + 1));
+    }
+    Ok(())
+}
+
+#[test]
+fn an_empty_list_leaves_its_copy(rt: HostRuntime) -> Result<(), Fail> {
+    let mut cells = Cells::new(rt.alloc());
+    let (first, second) = copies_before(&mut cells, cell(rt.alloc(), b"1")?)?;
+    assert_eq!(rt; (first.len(), second.len(), cells.len()), (0, 0, 1));
+    Ok(())
+}
+
+#[test]
+fn a_copy_goes_to_a_thread(rt: HostRuntime) -> Result<(), Fail> {
+    let alloc = rt.alloc();
+    let mut cells = Cells::new(alloc);
+    cells.push(cell(alloc, b"7")?)?;
+    let theirs = cells.copy()?;
+    let (there, here) = std::thread::join(&rt, move || theirs.len(), || cells.len());
+    assert_eq!(rt; (there, here), (1, 1));
+    Ok(())
+}

@@ -1,0 +1,116 @@
+// Runs in which one actor is served last.
+
+use super::by_hand::actor;
+use super::inputs::{eight_rows_a_side, four_joiners, input};
+use super::seeds::replayed;
+use link_trace::{Input, Run, Setting, replay_starving};
+use std::alloc::{AllocError, Global};
+use std::process::Abort;
+use std::sync::Wait;
+use std::test::Fail;
+
+fn starving(
+    alloc: Global,
+    input: &Input,
+    setting: &Setting,
+    letter: u8,
+) -> Result<Run, AllocError> {
+    if !input.valid() || !setting.valid() {
+        return Err(AllocError);
+    }
+    replay_starving(alloc, input, setting, actor(letter))
+}
+
+// All pairs are found where the actor of this letter is served last.
+fn finds_all(
+    rt: &impl Abort,
+    alloc: Global,
+    input: &Input,
+    setting: &Setting,
+    letter: u8,
+) -> Result<(), AllocError> {
+    let run = starving(alloc, input, setting, letter)?;
+    assert_eq!(rt; run.pairs.len(), 64, "pairs");
+    Ok(())
+}
+
+fn finds_all_of(rt: &impl Abort, alloc: Global, input: &Input) -> Result<(), Fail> {
+    let setting = four_joiners();
+    for letter in b"f0123co" {
+        finds_all(rt, alloc, input, &setting, *letter)?;
+    }
+    Ok(())
+}
+
+#[test]
+fn each_actor_is_served_last(rt: HostRuntime) -> Result<(), Fail> {
+    let input = eight_rows_a_side(rt.alloc())?;
+    finds_all_of(&rt, rt.alloc(), &input)
+}
+
+// Three rows a side, of which equal ones match, all with one ticket.
+fn three_rows_a_side(alloc: Global) -> Result<Input, AllocError> {
+    let tickets = [100; 3];
+    input(
+        alloc,
+        "r.x = s.y",
+        (&[10, 20, 30], &tickets),
+        (&[20, 30, 20], &tickets),
+    )
+}
+
+fn one_joiner() -> Setting {
+    let mut setting = four_joiners();
+    setting.k = 0;
+    setting.batch = 64;
+    setting
+}
+
+// The events and lines of the replay of this seed.
+fn size_of_replay<R: Wait>(
+    rt: &R,
+    alloc: Global,
+    input: &Input,
+    seed: u64,
+) -> Result<(u64, u64), AllocError> {
+    let run = replayed(rt, alloc, input, &one_joiner(), seed)?;
+    Ok((run.bouts, run.journal.len()))
+}
+
+// The same where the actor of this letter is served last.
+fn size_of_starving(alloc: Global, input: &Input, letter: u8) -> Result<(u64, u64), AllocError> {
+    let run = starving(alloc, input, &one_joiner(), letter)?;
+    Ok((run.bouts, run.journal.len()))
+}
+
+fn replays_have_17_events<R: Abort + Wait>(
+    rt: &R,
+    alloc: Global,
+    input: &Input,
+) -> Result<(), Fail> {
+    for seed in 0..32 {
+        let size = size_of_replay(rt, alloc, input, seed)?;
+        assert_eq!(rt; size, (17, 3), "seed {seed}");
+    }
+    Ok(())
+}
+
+fn starving_has_17_events(rt: &impl Abort, alloc: Global, input: &Input) -> Result<(), Fail> {
+    for letter in b"f0co" {
+        let size = size_of_starving(alloc, input, *letter)?;
+        assert_eq!(rt; size, (17, 3), "events and lines");
+    }
+    Ok(())
+}
+
+#[test]
+fn one_joiner_has_17_events_in_each_replay(rt: HostRuntime) -> Result<(), Fail> {
+    let input = three_rows_a_side(rt.alloc())?;
+    replays_have_17_events(&rt, rt.alloc(), &input)
+}
+
+#[test]
+fn one_joiner_has_17_events_whoever_is_served_last(rt: HostRuntime) -> Result<(), Fail> {
+    let input = three_rows_a_side(rt.alloc())?;
+    starving_has_17_events(&rt, rt.alloc(), &input)
+}

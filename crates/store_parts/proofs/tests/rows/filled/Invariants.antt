@@ -1,9 +1,0 @@
-use Rattle.store_parts.specs.Keyed.{IsOwn}
-use Rattle.store_parts.specs.Stored.{HaveWidths}
-use Rattle.store_parts.proofs.tests.rows.filled.Given as goal
-
-abbrev pub invariant-loop-line : goal.invariant-loop-line
-invariant-loop-line l = record {
-  widths : HaveWidths l.theta l.store;
-  own : IsOwn l.theta l.store.key;
-}

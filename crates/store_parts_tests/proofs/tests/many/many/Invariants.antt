@@ -1,0 +1,9 @@
+use Rattle.store_parts.specs.Keyed.{IsOwn}
+use Rattle.store_parts.specs.Stored.{HaveWidths}
+use Rattle.store_parts_tests.proofs.tests.many.many.Given as goal
+
+abbrev pub invariant-loop-index : goal.invariant-loop-index
+invariant-loop-index l = record {
+  widths : HaveWidths l.theta l.store;
+  own : IsOwn l.theta l.store.key;
+}

@@ -1,0 +1,232 @@
+mod kept;
+mod many;
+mod probes;
+mod rows;
+
+ghost use Rattle.std.specs.Prelude.{◌≡◌, IfOk};
+ghost use Rattle.store_parts.specs.Keyed.{IsOwn};
+
+use join_rows::{Bytes, Names};
+use probes::find;
+use rows::filled;
+use std::alloc::{AllocError, Global};
+use std::process::Abort;
+use std::test::*;
+use store_parts::{KeyAtom, Store};
+use theta_pred::{TextAtom, Theta, parse, resolve};
+
+fn resolved(alloc: Global, text: &str, names: &Names) -> Result<Theta, AllocError> {
+    let Ok(pred) = parse(alloc, text) else {
+        return Err(AllocError);
+    };
+    match resolve(alloc, &pred, names, names) {
+        Ok(theta) => Ok(theta),
+        Err(_) => Err(AllocError),
+    }
+}
+
+// The predicate of a text over two tables with the columns x and a.
+fn over_x_and_a(rt: &impl Abort, alloc: Global, text: &str) -> Result<Theta, AllocError>
+    ensures r { IfOk result (λ theta. theta.width_r ≡ 2) }
+    ensures s { IfOk result (λ theta. theta.width_s ≡ 2) }
+{
+    let mut names = Names::new(alloc);
+    names.push(Bytes::from_slice(alloc, b"x")?)?;
+    names.push(Bytes::from_slice(alloc, b"a")?)?;
+    let theta = resolved(alloc, text, &names)?;
+    assert_eq!(rt; theta.width_r(), 2);
+    assert_eq!(rt; theta.width_s(), 2);
+    Ok(theta)
+}
+
+fn no_key(theta: &Theta) -> Option<KeyAtom>
+    ensures { IsOwn theta.now result }
+{
+    None
+}
+
+fn key(theta: &Theta) -> Result<Option<KeyAtom>, AllocError>
+    ensures { IfOk result (IsOwn theta.now) }
+{
+    theta.key_atom()
+}
+
+fn key_copy(alloc: Global, theta: &Theta) -> Result<Option<KeyAtom>, AllocError>
+    ensures { IfOk result (IsOwn theta.now) }
+{
+    match theta.key_atom()? {
+        Some(key) => Ok(Some(key.copy(alloc)?)),
+        None => Ok(None),
+    }
+}
+
+fn has_key(theta: &Theta) -> Result<bool, AllocError> {
+    Ok(theta.key_atom()?.is_some())
+}
+
+// That a store with this key finds these.
+fn find_with(
+    rt: &impl Abort,
+    alloc: Global,
+    theta: &Theta,
+    key: Option<KeyAtom>,
+    lines: &[&str],
+    probes: &[&str],
+) -> Result<(), AllocError>
+    requires r { theta.now.width_r ≡ 2 }
+    requires s { theta.now.width_s ≡ 2 }
+    requires own { IsOwn theta.now key }
+{
+    let store = filled(alloc, theta, Store::new(alloc, key), lines)?;
+    find(rt, alloc, &store, theta, probes)
+}
+
+// That a store by these texts finds these.
+fn find_by_text(
+    rt: &impl Abort,
+    alloc: Global,
+    theta: &Theta,
+    text: TextAtom,
+    lines: &[&str],
+    probes: &[&str],
+) -> Result<(), AllocError>
+    requires r { theta.now.width_r ≡ 2 }
+    requires s { theta.now.width_s ≡ 2 }
+{
+    let store = filled(alloc, theta, Store::by_text(alloc, text), lines)?;
+    find(rt, alloc, &store, theta, probes)
+}
+
+// The predicate's text atom, or an atom that isn't its own and is of a column that no row has.
+fn text_atom(theta: &Theta) -> TextAtom {
+    theta.text_atom().unwrap_or(TextAtom { r: 0, s: 2 })
+}
+
+// The same with no key, with the predicate's, with a copy of it, and by texts.
+fn find_with_each(
+    rt: &impl Abort,
+    alloc: Global,
+    theta: &Theta,
+    lines: &[&str],
+    probes: &[&str],
+) -> Result<(), AllocError>
+    requires r { theta.now.width_r ≡ 2 }
+    requires s { theta.now.width_s ≡ 2 }
+{
+    find_with(rt, alloc, theta, no_key(theta), lines, probes)?;
+    find_with(rt, alloc, theta, key(theta)?, lines, probes)?;
+    find_with(rt, alloc, theta, key_copy(alloc, theta)?, lines, probes)?;
+    find_by_text(rt, alloc, theta, text_atom(theta), lines, probes)
+}
+
+// That a store of these lines finds these, whatever its key.
+fn probed(
+    rt: &impl Abort,
+    alloc: Global,
+    predicate: &str,
+    keyed: bool,
+    lines: &[&str],
+    probes: &[&str],
+) -> Result<(), AllocError> {
+    let theta = over_x_and_a(rt, alloc, predicate)?;
+    assert_eq!(rt; has_key(&theta)?, keyed, "{predicate}");
+    find_with_each(rt, alloc, &theta, lines, probes)
+}
+
+#[test]
+fn a_probe_finds_the_named_that_match(rt: HostRuntime) -> Result<(), Fail> {
+    probed(
+        &rt,
+        rt.alloc(),
+        "text(r.a) = text(s.a)",
+        false,
+        &[
+            "S 0 0 - a",
+            "R 0 0 - b",
+            "S 1 1 - a",
+            "S 2 1 - b",
+            "R 1 1 - c",
+            "S 3 0 - a",
+            "S 4 0 - \0a", // its text has the number of a
+        ],
+        &[
+            "R 9 0 - a among all finds [9 0][9 1][9 3]",
+            "R 9 0 - \0a among all finds [9 4]",
+            "R 9 0 - a among 1 finds [9 1]",
+            "R 9 0 - z among all finds ",
+            "S 9 0 - b among all finds [0 9]",
+            "S 9 0 - b among 1 finds ",
+            "S 9 0 - c among 1 finds [1 9]",
+        ],
+    )?;
+    Ok(())
+}
+
+#[test]
+fn a_band_finds_what_a_scan_finds(rt: HostRuntime) -> Result<(), Fail> {
+    probed(
+        &rt,
+        rt.alloc(),
+        "abs(r.a - s.a) <= 2 and r.x >= s.x",
+        true,
+        &["S 0 0 100 898", "S 1 0 101 902", "S 2 0 97 903"],
+        &[
+            "R 0 0 105 900 among all finds [0 0][0 1]",
+            "R 1 0 99 903 among all finds [1 2]",
+        ],
+    )?;
+    Ok(())
+}
+
+#[test]
+fn an_equality_passes_over_empty_cells(rt: HostRuntime) -> Result<(), Fail> {
+    probed(
+        &rt,
+        rt.alloc(),
+        "r.x = s.x",
+        true,
+        &[
+            "S 0 0 5 -",
+            "S 1 0 - -",
+            "R 0 0 - -",
+            "S 2 1 5 -",
+            "R 1 1 4 -",
+            "S 3 0 0 -",
+        ],
+        &[
+            "R 9 0 5 - among all finds [9 0][9 2]",
+            "R 9 0 5 - among 1 finds [9 2]",
+            "R 9 0 - - among all finds ",
+            "R 9 0 0 - among all finds [9 3]",
+            "S 9 0 - - among all finds ",
+            "S 9 0 4 - among all finds [1 9]",
+        ],
+    )?;
+    Ok(())
+}
+
+#[test]
+fn an_order_finds_in_stored_order(rt: HostRuntime) -> Result<(), Fail> {
+    probed(
+        &rt,
+        rt.alloc(),
+        "r.x < s.x and text(r.a) = 'u'",
+        true,
+        &[
+            "S 0 0 8 -",
+            "S 1 0 5 -",
+            "R 0 0 -3 u",
+            "S 2 1 7 -",
+            "R 1 0 6 u",
+        ],
+        &[
+            "R 9 0 5 u among all finds [9 0][9 2]",
+            "R 9 0 5 u among 1 finds [9 2]",
+            "R 9 0 5 v among all finds ",
+            "S 9 0 -2 - among all finds [0 9]",
+            "S 9 0 7 - among all finds [0 9][1 9]",
+            "S 9 0 -3 - among all finds ",
+        ],
+    )?;
+    Ok(())
+}

@@ -1,0 +1,102 @@
+// Rows of two cells as lines, and stores of them.
+
+ghost use Rattle.std.specs.Prelude.{◌≡◌, length, IfOk};
+ghost use Rattle.store_parts.specs.Keyed.{IsOwn};
+ghost use Rattle.store_parts.specs.Stored.{HaveWidths};
+
+use epoch_tags::Tuple;
+use join_rows::{Bytes, Cell, Cells, Side};
+use std::alloc::{AllocError, Global};
+use store_parts::Store;
+use theta_pred::Theta;
+
+fn number(word: &str) -> u32 {
+    word.parse::<u32>().unwrap_or(0)
+}
+
+fn side(word: &str) -> Side {
+    if word == "R" { Side::R } else { Side::S }
+}
+
+// A cell of this text; one that is no number is empty for a test on numbers.
+pub(super) fn cell(alloc: Global, text: &str) -> Result<Cell, AllocError> {
+    Ok(Cell {
+        text: Bytes::from_slice(alloc, text.as_bytes())?,
+        num: text.parse::<i64>().ok(),
+    })
+}
+
+pub(super) fn row(
+    alloc: Global,
+    side: Side,
+    index: u32,
+    stamp: u32,
+    first: Cell,
+    second: Cell,
+) -> Result<Tuple, AllocError>
+    ensures { IfOk result (λ tuple. length tuple.cells ≡ 2) }
+{
+    let mut cells = Cells::new(alloc);
+    cells.push(first)?;
+    cells.push(second)?;
+    Ok(Tuple {
+        side,
+        index,
+        ticket: 0,
+        stamp,
+        cells,
+    })
+}
+
+// The row of a line: its side, index, stamp and two cells.
+pub(super) fn tuple(alloc: Global, line: &str) -> Result<Tuple, AllocError>
+    ensures { IfOk result (λ tuple. length tuple.cells ≡ 2) }
+{
+    let words: Vec<&str> = line.split_whitespace().collect(alloc)?;
+    let [of, index, stamp, first, second] = *words else {
+        return Err(AllocError);
+    };
+    row(
+        alloc,
+        side(of),
+        number(index),
+        number(stamp),
+        cell(alloc, first)?,
+        cell(alloc, second)?,
+    )
+}
+
+pub(super) fn add(store: &mut Store, theta: &Theta, tuple: Tuple) -> Result<(), AllocError>
+    requires r { theta.now.width_r ≡ 2 }
+    requires s { theta.now.width_s ≡ 2 }
+    requires width { length tuple.cells ≡ 2 }
+    requires widths { HaveWidths theta.now store.old }
+    requires own { IsOwn theta.now store.old.key }
+    ensures widths { HaveWidths theta.now store.new }
+    ensures own { IsOwn theta.now store.new.key }
+{
+    store.fits_key(theta, &tuple);
+    store.add(tuple)
+}
+
+// That store, with the tuples of these lines.
+pub(super) fn filled(
+    alloc: Global,
+    theta: &Theta,
+    store: Store,
+    lines: &[&str],
+) -> Result<Store, AllocError>
+    requires r { theta.now.width_r ≡ 2 }
+    requires s { theta.now.width_s ≡ 2 }
+    requires widths { HaveWidths theta.now store }
+    requires own { IsOwn theta.now store.key }
+    ensures widths { IfOk result (λ store. HaveWidths theta.now store) }
+    ensures own { IfOk result (λ store. IsOwn theta.now store.key) }
+{
+    let mut store = store;
+    for line in lines {
+        let tuple = tuple(alloc, line)?;
+        add(&mut store, theta, tuple)?;
+    }
+    Ok(store)
+}

@@ -1,0 +1,267 @@
+// The key atoms of predicates, and the values of sums.
+
+ghost use Rattle.std.specs.Prelude.{◌≡◌, ◌≤◌, length, IfOk};
+ghost use Rattle.theta_text.specs.Sizes.{longest_sum};
+ghost use Rattle.theta_pred.specs.Linear.{AreBelow};
+
+use join_rows::{Bytes, Cell, Cells, Names};
+use std::alloc::{AllocError, Global};
+use std::process::Abort;
+use std::test::Fail;
+use theta_pred::{KeyAtom, Linear, Part, Parts, Pred, TextAtom, Theta, parse, resolve};
+
+fn resolved(alloc: Global, pred: &Pred, names: &Names) -> Result<Theta, AllocError>
+    requires { longest_sum pred.now ≤ 16 }
+{
+    match resolve(alloc, pred, names, names) {
+        Ok(theta) => Ok(theta),
+        Err(_) => Err(AllocError),
+    }
+}
+
+fn over(alloc: Global, text: &str, names: &Names) -> Result<Theta, AllocError> {
+    match parse(alloc, text) {
+        Ok(pred) => resolved(alloc, &pred, names),
+        Err(_) => Err(AllocError),
+    }
+}
+
+// The predicate of a text over two tables with the columns x and a.
+fn over_x_and_a(alloc: Global, text: &str) -> Result<Theta, AllocError> {
+    let mut names = Names::new(alloc);
+    names.push(Bytes::from_slice(alloc, b"x")?)?;
+    names.push(Bytes::from_slice(alloc, b"a")?)?;
+    over(alloc, text, &names)
+}
+
+fn write_sum(text: &mut String, sum: &Linear) -> Result<(), AllocError> {
+    for part in sum.parts.as_slice() {
+        let sign = if part.minus { '-' } else { '+' };
+        let column = part.column;
+        write!(text, "{sign}{column}")?;
+    }
+    Ok(())
+}
+
+fn write_number(text: &mut String, number: Option<i128>) -> Result<(), AllocError> {
+    match number {
+        Some(number) => write!(text, "{number}"),
+        None => write!(text, "none"),
+    }
+}
+
+fn write_atom(text: &mut String, atom: &KeyAtom) -> Result<(), AllocError> {
+    write_sum(text, &atom.r_sum)?;
+    write!(text, " ")?;
+    write_sum(text, &atom.s_sum)?;
+    write!(text, " ")?;
+    write_number(text, atom.low)?;
+    write!(text, " ")?;
+    write_number(text, atom.high)
+}
+
+// R's columns, S's columns, the least and the greatest difference.
+fn told(alloc: Global, key: &Option<KeyAtom>) -> Result<String, AllocError> {
+    let mut text = String::new(alloc);
+    match key {
+        Some(atom) => write_atom(&mut text, atom)?,
+        None => write!(text, "no key")?,
+    }
+    Ok(text)
+}
+
+fn copied(alloc: Global, key: &Option<KeyAtom>) -> Result<Option<KeyAtom>, AllocError> {
+    match key {
+        Some(atom) => Ok(Some(atom.copy(alloc)?)),
+        None => Ok(None),
+    }
+}
+
+fn key_text(alloc: Global, theta: &Theta) -> Result<String, AllocError> {
+    let key = theta.key_atom()?;
+    told(alloc, &key)
+}
+
+fn copied_key_text(alloc: Global, theta: &Theta) -> Result<String, AllocError> {
+    let key = theta.key_atom()?;
+    let copy = copied(alloc, &key)?;
+    told(alloc, &copy)
+}
+
+// Tells the key of this predicate so, and its copy's.
+fn tells_key(
+    rt: &impl Abort,
+    alloc: Global,
+    theta: &Theta,
+    wanted: &str,
+) -> Result<(), AllocError> {
+    assert_eq!(rt; key_text(alloc, theta)?.as_str(), wanted);
+    assert_eq!(rt;
+        copied_key_text(alloc, theta)?.as_str(),
+        wanted,
+        "of the copy"
+    );
+    Ok(())
+}
+
+// Each line is a predicate and its key.
+fn tells_keys(rt: &impl Abort, alloc: Global, lines: &[&str]) -> Result<(), AllocError> {
+    for line in lines {
+        let Some((text, wanted)) = line.split_once(" | ") else {
+            return Err(AllocError);
+        };
+        let theta = over_x_and_a(alloc, text)?;
+        tells_key(rt, alloc, &theta, wanted)?;
+    }
+    Ok(())
+}
+
+#[test]
+fn predicates_with_their_keys(rt: HostRuntime) -> Result<(), Fail> {
+    let lines = [
+        "r.x = s.a | +0 +1 0 0",
+        "r.x + 5 = s.a | +0 +1 -5 -5",
+        "s.a - r.x = 3 | -0 -1 3 3",
+        "r.x + r.x - r.a = s.x + s.x | +0+0-1 +0+0 0 0",
+        "r.x = s.x - 9223372036854775807 | +0 +0 -9223372036854775807 -9223372036854775807",
+        "abs(r.a - s.a) <= 2 and r.x >= s.x | +1 +1 -2 2",
+        "abs(r.x - s.a + 1) < 3 | +0 +1 -3 1",
+        "abs(r.x - s.x) < 0 | +0 +0 1 -1",
+        "r.x - s.x <= 4 | +0 +0 none 4",
+        "r.x < s.x and text(r.a) = 'u' | +0 +0 none -1",
+        "r.x >= s.x | +0 +0 0 none",
+        "r.x > s.x + 2 | +0 +0 3 none",
+    ];
+    tells_keys(&rt, rt.alloc(), &lines)?;
+    Ok(())
+}
+
+#[test]
+fn the_first_member_has_the_key(rt: HostRuntime) -> Result<(), Fail> {
+    let lines = [
+        "r.x < s.x and abs(r.a - s.x) <= 2 and r.x = s.a and r.a = s.x | +0 +1 0 0",
+        "r.x < s.x and (r.x = s.a and r.a = s.x) | +0 +0 none -1",
+        "(r.x < s.x and r.x = s.a) | +0 +1 0 0",
+        "r.x = 3 and r.x > s.x | +0 +0 1 none",
+    ];
+    tells_keys(&rt, rt.alloc(), &lines)?;
+    Ok(())
+}
+
+#[test]
+fn predicates_without_a_key(rt: HostRuntime) -> Result<(), Fail> {
+    let lines = [
+        "r.x = 3 | no key",
+        "r.x = s.x or 1 = 1 | no key",
+        "not r.x = s.x | no key",
+        "r.x != s.x | no key",
+        "text(r.x) = text(s.x) | no key",
+    ];
+    tells_keys(&rt, rt.alloc(), &lines)?;
+    Ok(())
+}
+
+// R's column and S's.
+fn told_text(alloc: Global, atom: Option<TextAtom>) -> Result<String, AllocError> {
+    let mut text = String::new(alloc);
+    match atom {
+        Some(TextAtom { r, s }) => write!(text, "{r} {s}")?,
+        None => write!(text, "none")?,
+    }
+    Ok(text)
+}
+
+// Each line is a predicate and its text atom.
+fn tells_text_atoms(rt: &impl Abort, alloc: Global, lines: &[&str]) -> Result<(), AllocError> {
+    for line in lines {
+        let Some((text, wanted)) = line.split_once(" | ") else {
+            return Err(AllocError);
+        };
+        let atom = over_x_and_a(alloc, text)?.text_atom();
+        assert_eq!(rt; told_text(alloc, atom)?.as_str(), wanted, "{text}");
+    }
+    Ok(())
+}
+
+#[test]
+fn predicates_with_their_text_atoms(rt: HostRuntime) -> Result<(), Fail> {
+    let lines = [
+        "text(r.x) = text(s.a) | 0 1",
+        "text(s.a) = text(r.x) | 0 1",
+        "r.x < s.x and text(r.a) = text(s.x) and text(r.x) = text(s.a) | 1 0",
+        "text(r.x) = text(r.a) and text(s.x) = 'u' | none",
+        "text(r.x) < text(s.a) | none",
+        "text(r.x) = text(s.a) or 1 = 1 | none",
+        "not text(r.x) = text(s.a) | none",
+        "1 = 1 and (text(r.x) = text(s.a) and 2 = 2) | none",
+    ];
+    tells_text_atoms(&rt, rt.alloc(), &lines)?;
+    Ok(())
+}
+
+// A cell without a text; one that is no number is empty.
+fn cell(alloc: Global, number: &str) -> Cell {
+    Cell {
+        text: Bytes::new(alloc),
+        num: number.parse::<i64>().ok(),
+    }
+}
+
+fn row(alloc: Global, first: &str, second: &str) -> Result<Cells, AllocError>
+    ensures { IfOk result (λ row. length row ≡ 2) }
+{
+    let mut row = Cells::new(alloc);
+    row.push(cell(alloc, first))?;
+    row.push(cell(alloc, second))?;
+    Ok(row)
+}
+
+// The first column less the second.
+fn difference(alloc: Global) -> Result<Linear, AllocError>
+    ensures { IfOk result (λ sum. AreBelow 2 sum.parts) }
+{
+    let mut parts = Parts::new(alloc);
+    parts.push(Part {
+        minus: false,
+        column: 0,
+    })?;
+    parts.push(Part {
+        minus: true,
+        column: 1,
+    })?;
+    Ok(Linear { parts })
+}
+
+// The value of the sum and of its copy at a row of these two numbers.
+fn both_values(
+    rt: &impl Abort,
+    alloc: Global,
+    first: &str,
+    second: &str,
+    wanted: &str,
+) -> Result<(), AllocError> {
+    let sum = difference(alloc)?;
+    let row = row(alloc, first, second)?;
+    let mut text = String::new(alloc);
+    write_number(&mut text, sum.value(&row))?;
+    assert_eq!(rt; text.as_str(), wanted, "{first} less {second}");
+    let copy = sum.copy(alloc)?;
+    assert_eq!(rt; copy.value(&row), sum.value(&row), "{first} less {second}");
+    Ok(())
+}
+
+#[test]
+fn sums_with_their_values(rt: HostRuntime) -> Result<(), Fail> {
+    let alloc = rt.alloc();
+    both_values(&rt, alloc, "5", "7", "-2")?;
+    both_values(
+        &rt,
+        alloc,
+        "9223372036854775807",
+        "-9223372036854775808",
+        "18446744073709551615",
+    )?;
+    both_values(&rt, alloc, "-", "7", "none")?;
+    both_values(&rt, alloc, "5", "-", "none")?;
+    Ok(())
+}
