@@ -30,7 +30,8 @@ fn over_x_and_y(rt: &impl Abort, alloc: Global, pred: &Pred) -> Result<Theta, Fa
     Ok(resolve(alloc, pred, &names_r, &names_s)?)
 }
 
-// The same, and the predicate is gone.
+// The same of a predicate that nobody needs any more. It is dropped here, on one way out: the proof costs seconds for
+// each other one.
 fn made_over_x_and_y(rt: &impl Abort, alloc: Global, pred: Pred) -> Result<Theta, Fail> {
     over_x_and_y(rt, alloc, &pred)
 }
