@@ -8,7 +8,7 @@ top=$(cd "$(dirname "$0")/.." && pwd -P)
 room=$(mktemp -d)
 trap 'rm -rf "$room"' EXIT
 (cd "$top" && tar cf - --exclude=out crates crates.txt HANDLES) | (cd "$room" && tar xf -)
-cd "$room/crates/join_cli"
+cd "$room/crates/join_cli_tests"
 rm -rf src/tests
 
 # Test number n takes memory n times before it begins, so one build tries as many allocations of the join as there
@@ -18,7 +18,7 @@ tests=320
 # write_tests WORDS R S OUTPUT EARLY, each but the last as the code of a list of texts or of bytes
 write_tests() {
     cat <<RT
-use crate::join_main;
+use join_cli::join_main;
 use join_rows::{ListSink, MapShelf};
 use std::alloc::{AllocError, Global};
 use std::sync::Wait;
