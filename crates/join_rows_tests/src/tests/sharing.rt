@@ -41,7 +41,9 @@ fn a_push_leaves_the_copies(rt: HostRuntime) -> Result<(), Fail> {
     let alloc = rt.alloc();
     let mut cells = one_and_two(alloc)?;
     assert_eq!(rt; copied(&mut cells, cell(alloc, b"3")?)?, (2, 2, 2, 2));
-    for (i, held) in cells.into_vec()?.iter().enumerate() {
+    let whole = cells.into_vec()?;
+    assert_eq!(rt; whole.len(), 3);
+    for (i, held) in whole.iter().enumerate() {
         assert_eq!(rt; held.num, Some(i as i64 + 1));
     }
     Ok(())
