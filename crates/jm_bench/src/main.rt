@@ -1,13 +1,15 @@
 //! Work to be timed, chosen by a word: `holds` evaluates a predicate four million times, `add` makes a store of 262,144
-//! tuples, `store` probes it by a band with as many, and `beyond` by an inequality; `inbox1`, `inbox8` and `inbox72` put
-//! and take 7.2 million messages in turn, of so many senders; `replay4` replays the join of 65,536 rows by as many over 4
-//! joiners, and `replay64` of 20,000 by as many over 64 joiners with 8 feeders, and both print the number of events.
+//! tuples, `store` probes it by a band with as many, `beyond` by an inequality, `texts` by an equality of texts and
+//! `texts_beyond` by both; `inbox1`, `inbox8` and `inbox72` put and take 7.2 million messages in turn, of so many
+//! senders; `replay4` replays the join of 65,536 rows by as many over 4 joiners, and `replay64` of 20,000 by as many over
+//! 64 joiners with 8 feeders, and both print the number of events.
 #![tactic(auto)]
 
 mod replays;
 
 ghost use Rattle.std.specs.Prelude.{◌≡◌, ◌<◌, length, All, IfOk};
 ghost use Rattle.ruled_links.specs.Inboxes.{Differ};
+ghost use Rattle.store_parts.specs.Accessed.{IsOwnAccess};
 ghost use Rattle.store_parts.specs.Keyed.{IsOwn};
 ghost use Rattle.store_parts.specs.Stored.{HaveWidths};
 
@@ -34,6 +36,12 @@ const BAND: &str = "abs(r.x - s.y) <= 2";
 // That S's is less.
 const BEYOND: &str = "r.x > s.y";
 
+// That their texts are equal.
+const TEXTS: &str = "text(r.x) = text(s.y)";
+
+// And that S's number is no greater.
+const TEXTS_BEYOND: &str = "text(r.x) = text(s.y) and s.y <= r.x";
+
 // A predicate over these two columns.
 fn predicate(alloc: Global, text: &str) -> Result<Theta, AllocError>
     ensures r { IfOk result (λ theta. theta.width_r ≡ 1) }
@@ -50,12 +58,13 @@ fn predicate(alloc: Global, text: &str) -> Result<Theta, AllocError>
     Ok(theta)
 }
 
+// A row of this number, whose text is its four bytes.
 fn row(alloc: Global, number: u32) -> Result<Cells, AllocError>
     ensures { IfOk result (λ row. length row ≡ 1) }
 {
     let mut row = Cells::new(alloc);
     row.push(Cell {
-        text: Bytes::new(alloc),
+        text: Bytes::from_slice(alloc, &number.to_be_bytes())?,
         num: Some(i64::from(number)),
     })?;
     Ok(row)
@@ -115,21 +124,24 @@ fn add(alloc: Global, store: &mut Store, theta: &Theta, number: u32) -> Result<(
     requires s { theta.now.width_s ≡ 1 }
     requires widths { HaveWidths theta.now store.old }
     requires own { IsOwn theta.now store.old.key }
+    requires access { IsOwnAccess theta.now store.old.access }
     ensures widths { HaveWidths theta.now store.new }
     ensures own { IsOwn theta.now store.new.key }
+    ensures access { IsOwnAccess theta.now store.new.access }
 {
     let tuple = tuple(alloc, Side::S, number)?;
     store.fits_key(theta, &tuple);
     store.add(tuple)
 }
 
-// A store of this many tuples of S.
+// A store of this many tuples of S, as a joiner's.
 fn filled(alloc: Global, theta: &Theta, count: u32) -> Result<Store, AllocError>
     requires s { theta.now.width_s ≡ 1 }
     ensures widths { IfOk result (λ store. HaveWidths theta.now store) }
     ensures own { IfOk result (λ store. IsOwn theta.now store.key) }
+    ensures access { IfOk result (λ store. IsOwnAccess theta.now store.access) }
 {
-    let mut store = Store::new(alloc, theta.key_atom()?);
+    let mut store = Store::new(alloc, theta.key_atom()?).with_access(theta.access()?)?;
     for number in 0..count {
         add(alloc, &mut store, theta, number)?;
     }
@@ -156,9 +168,10 @@ fn probe(
     requires r { theta.now.width_r ≡ 1 }
     requires widths { HaveWidths theta.now store.now }
     requires own { IsOwn theta.now store.now.key }
+    requires access { IsOwnAccess theta.now store.now.access }
 {
     let tuple = tuple(alloc, Side::R, number)?;
-    store.probe_uncounted(&tuple, theta, Which::All, found)
+    store.find_uncounted(&tuple, theta, Which::All, found)
 }
 
 fn probe_all(alloc: Global, theta: &Theta, store: &Store, modulus: u32) -> Result<u64, AllocError>
@@ -166,6 +179,7 @@ fn probe_all(alloc: Global, theta: &Theta, store: &Store, modulus: u32) -> Resul
     requires r { theta.now.width_r ≡ 1 }
     requires widths { HaveWidths theta.now store.now }
     requires own { IsOwn theta.now store.now.key }
+    requires access { IsOwnAccess theta.now store.now.access }
 {
     let mut found = Pairs::new(alloc);
     for number in 0..COUNT {
@@ -224,7 +238,9 @@ fn exchange<R: Wait>(rt: &R, alloc: Global, count: u32, rounds: u32) -> Result<u
 fn main(rt: HostRuntime) -> io::Result<()> {
     let alloc = rt.alloc();
     let Some(word) = env::args(&rt)?.nth(1) else {
-        println!(rt; "holds, add, store, beyond, inbox1, inbox8, inbox72, replay4 or replay64")?;
+        println!(rt;
+            "holds, add, store, beyond, texts, texts_beyond, inbox1, inbox8, inbox72, replay4 or replay64"
+        )?;
         return Ok(());
     };
     match word.as_str() {
@@ -232,6 +248,8 @@ fn main(rt: HostRuntime) -> io::Result<()> {
         "add" => println!(rt; "{}", adds(alloc)?)?,
         "store" => println!(rt; "{}", probes(alloc, BAND, COUNT)?)?,
         "beyond" => println!(rt; "{}", probes(alloc, BEYOND, 4)?)?,
+        "texts" => println!(rt; "{}", probes(alloc, TEXTS, COUNT)?)?,
+        "texts_beyond" => println!(rt; "{}", probes(alloc, TEXTS_BEYOND, COUNT)?)?,
         "inbox1" => println!(rt; "{}", exchange(&rt, alloc, 1, 7_200_000)?)?,
         "inbox8" => println!(rt; "{}", exchange(&rt, alloc, 8, 900_000)?)?,
         "inbox72" => println!(rt; "{}", exchange(&rt, alloc, 72, 100_000)?)?,

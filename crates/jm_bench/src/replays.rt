@@ -2,6 +2,7 @@
 
 ghost use Rattle.std.specs.Prelude.{◌≤◌, ◌^◌};
 
+use grid_map::Weights;
 use join_rows::{Side, Table, make_table};
 use link_trace::{Input, Setting, replay};
 use row_tickets::{Feed, tickets};
@@ -72,6 +73,7 @@ pub fn events<R: Wait>(
         batch: 64,
         feed: Feed::Alternate,
         fixed: None,
+        weights: Weights { r: 1, s: 1 },
     };
     events_of(rt, alloc, &input, &setting)
 }

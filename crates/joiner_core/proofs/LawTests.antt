@@ -1,7 +1,6 @@
 -- The machine's tests are those of the law, for the lists for which it stands.
-use Rattle.std.proofs.Common.{◌≡◌, ℕ, zero, suc, ◌+◌, ◌<◌, ◌≤◌, inl, inr, refl, sym, ◌∙◌, ap, subst, arith, Bool, true, false, Option, Some, None, List, ◌∷◌, length}
-use Rattle.std.proofs.lemmas.Bool.{false≢true, cases_eq}
-use Rattle.join_rows.specs.Lists.{greatest}
+use Rattle.std.proofs.Common.{◌≡◌, ℕ, ◌+◌, ◌<◌, ◌≤◌, refl, sym, ◌∙◌, ap, subst, arith, Bool, true, false, Option, Some, None, List, ◌∷◌, length}
+use Rattle.std.proofs.lemmas.Bool.{false≢true}
 use Rattle.join_rows.proofs.Totals.{greatest_above, greatest_most}
 use Rattle.epoch_tags.specs.declared.tuple.Pair.{Pair}
 use Rattle.epoch_tags.specs.declared.message.ToJoiner.{ToJoiner}

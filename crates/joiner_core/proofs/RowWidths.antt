@@ -26,11 +26,11 @@ rows-kept theta true x b rows row = rows-placed theta b x rows row
 rows-kept theta false x b rows row = rows
 
 pub stock-placed : (theta : Meaning) (x : Tuple) (stock : Stocked) → IsStock theta stock → IsRow theta x → IsStock theta (with_placed x stock)
-stock-placed theta x stock is row = record { rows = rows-placed theta stock.tuples x is.rows row; key = is.key }
+stock-placed theta x stock is row = record { rows = rows-placed theta stock.tuples x is.rows row; key = is.key; access = is.access }
 
 pub stock-old : (theta : Meaning) (m : EpochState) (x : Tuple) (step : Option OpenStep) → IsStepStock theta step → IsRow theta x → IsStepStock theta (open_old m x step)
 stock-old theta m x None is row = tt
-stock-old theta m x (Some o) is row = record { rows = rows-kept theta (holds m.k o.shift m.id x) x o.store.tuples is.rows row; key = is.key }
+stock-old theta m x (Some o) is row = record { rows = rows-kept theta (holds m.k o.shift m.id x) x o.store.tuples is.rows row; key = is.key; access = is.access }
 
 pub stock-new : (theta : Meaning) (x : Tuple) (step : Option OpenStep) → IsStepStock theta step → IsRow theta x → IsStepStock theta (step_new x step)
 stock-new theta x None is row = tt
@@ -41,7 +41,7 @@ stock-part theta None is = tt
 stock-part theta (Some o) is = is
 
 stock-kept : (theta : Meaning) (k shift id : ℕ) (stock : Stocked) → IsStock theta stock → IsStock theta (kept_stock k shift id stock)
-stock-kept theta k shift id stock is = record { rows = All-filter (holds k shift id) (IsRow theta) stock.tuples is.rows; key = is.key }
+stock-kept theta k shift id stock is = record { rows = All-filter (holds k shift id) (IsRow theta) stock.tuples is.rows; key = is.key; access = is.access }
 
 pub stock-begun : (theta : Meaning) (m : EpochState) (epoch shift : ℕ) (step step' : Option OpenStep) → IsStock theta m.store → IsStepStock theta step → HasBegun m epoch shift step step' → IsStepStock theta step'
 stock-begun theta m epoch shift None None stock is has = tt

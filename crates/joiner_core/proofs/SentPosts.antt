@@ -1,13 +1,12 @@
 -- What is sent in one call after another, and what of it goes to the collector.
 use Rattle.std.proofs.Common.{◌≡◌, ℕ, refl, sym, ◌∙◌, ap, Bool, true, false, cond, Option, Some, None, List, [], ◌∷◌, ◌++◌, append_assoc}
 use Rattle.std.proofs.lemmas.List.{append-nil}
-use Rattle.std.specs.Prelude.{map, filter}
+use Rattle.std.specs.Prelude.{filter}
 use Rattle.epoch_tags.specs.declared.tuple.Tuple.{Tuple}
 use Rattle.epoch_tags.specs.Posts.{posted_to_joiner, posted_to_controller, posted_to_collector, for_joiner, for_controller, for_collector}
 use Rattle.std.proofs.lemmas.List.Elements.{filter_map-append}
 use Rattle.migration_plan.specs.Steps.{is_of, exchanged_side, partner_in_step}
 use Rattle.joiner_law.specs.Law.{JoinerLists}
-use Rattle.joiner_law.specs.Posting.{moved_post}
 use Rattle.joiner_law.specs.Standing.{with_sent}
 use Rattle.joiner_law.proofs.OneMessage.{no_pairs}
 use Rattle.joiner_core.specs.State.{OpenStep, EpochState}

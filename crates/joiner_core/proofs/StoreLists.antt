@@ -1,6 +1,6 @@
 -- A store as one list.
 use Rattle.std.proofs.Common.{◌≡◌, ℕ, ◌+◌, refl, sym, ◌∙◌, ap, subst, arith, Bool, true, false, cond, Option, List, [], ◌∷◌, ◌++◌, length, filter, sum_by, count_by, All, append-nil}
-use Rattle.std.specs.Prelude.{slice_index_or}
+use Rattle.std.specs.Prelude.{slice_index_or, option_map}
 use Rattle.std.proofs.lemmas.List.Elements.{filter-append, All-filter, All-head, All-tail}
 use Rattle.std.proofs.lemmas.List.Sums.{sum_by-cons, sum_by-append, length-filter}
 use Rattle.join_rows.specs.Lists.{SameBag}
@@ -20,7 +20,10 @@ use Rattle.store_parts.specs.Matches.{is_named, matches, HasWidth}
 use Rattle.store_parts.specs.Stored.{Stored, side_of, others_of, with_tuple_at, with_tuple, kept_of, AreSided, HaveWidths}
 use Rattle.store_parts.proofs.Sides.{matches-both, probed_at as probed_at'}
 use Rattle.joiner_law.specs.History.{probed_at, probed}
-use Rattle.joiner_core.specs.State.{does_hold, named_by, tuples_of, by_side, placed, stocked_of, with_placed, IsKeyOf, IsRow, AreRows}
+use Rattle.theta_pred.specs.declared.agree.Access.{Access}
+use Rattle.theta_pred.specs.Accesses.{agreements}
+use Rattle.store_parts.specs.Accessed.{IsOwnAccess}
+use Rattle.joiner_core.specs.State.{does_hold, named_by, tuples_of, by_side, placed, stocked_of, with_placed, IsKeyOf, IsAccessOf, IsRow, AreRows}
 
 -- ---- the two sides are the whole, as a bag
 
@@ -93,9 +96,9 @@ placed-at S store x own are =
 pub placed-is : (store : Stored) (x : Tuple) → AreSided store.r store.s → tuples_of (with_tuple store x) ≡ placed x (tuples_of store)
 placed-is store x are = sym (placed-at x.side store x refl are)
 
-stocked-at : (side : Side) (store : Stored) (x : Tuple) (tuples : List Tuple) → tuples_of (with_tuple_at side store x) ≡ tuples → stocked_of (with_tuple_at side store x) ≡ record { tuples = tuples; key = store.key }
-stocked-at R store x tuples is = ap (λ (xs : List Tuple). record { tuples = xs; key = store.key }) is
-stocked-at S store x tuples is = ap (λ (xs : List Tuple). record { tuples = xs; key = store.key }) is
+stocked-at : (side : Side) (store : Stored) (x : Tuple) (tuples : List Tuple) → tuples_of (with_tuple_at side store x) ≡ tuples → stocked_of (with_tuple_at side store x) ≡ record { tuples = tuples; key = store.key; access = store.access }
+stocked-at R store x tuples is = ap (λ (xs : List Tuple). record { tuples = xs; key = store.key; access = store.access }) is
+stocked-at S store x tuples is = ap (λ (xs : List Tuple). record { tuples = xs; key = store.key; access = store.access }) is
 
 -- a store with one tuple more, as one list with its key
 pub stocked-with : (store : Stored) (x : Tuple) → AreSided store.r store.s → stocked_of (with_tuple store x) ≡ with_placed x (stocked_of store)
@@ -104,6 +107,9 @@ stocked-with store x are = stocked-at x.side store x (placed x (tuples_of store)
 -- the predicate's own key is its key atom
 pub own-key : (theta : Meaning) (key : Option KeyAtom) → IsKeyOf theta key → IsOwn theta key
 own-key theta key is = λ (atom : Atom) has. sym is ∙ has
+
+pub own-access : (theta : Meaning) (access : Option Access) → IsAccessOf theta access → IsOwnAccess theta access
+own-access theta access is = λ (own : Access) has. sym is ∙ ap (option_map agreements) has
 
 -- ---- what is kept
 

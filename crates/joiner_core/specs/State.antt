@@ -11,6 +11,8 @@ use Rattle.join_rows.specs.declared.table.Side.TheVariants.{R, S}
 use Rattle.migration_plan.specs.Steps.{holds, is_of}
 use Rattle.theta_pred.specs.declared.atom.KeyAtom.{KeyAtom}
 use Rattle.theta_pred.specs.Keys.{atom_of, key_of}
+use Rattle.theta_pred.specs.declared.agree.Access.{Access}
+use Rattle.theta_pred.specs.Accesses.{agreements, access_of}
 use Rattle.store_parts.specs.Stored.{Stored}
 use Rattle.epoch_tags.specs.declared.actor.Actor.TheVariants.{Joiner as Joiner'}
 use Rattle.epoch_tags.specs.declared.message.Msg.{Msg}
@@ -54,26 +56,31 @@ by_side xs = filter (is_of R) xs ++ filter (is_of S) xs
 abbrev pub placed : Tuple → List Tuple → List Tuple
 placed x xs = by_side (xs ++ x ∷ [])
 
--- the tuples, those of R first, and the key by which they are found
+-- the tuples, those of R first, the key, and the access by which they are found
 pub record Stocked : Type 0 where
   pub tuples : List Tuple
   pub key : Option KeyAtom
+  pub access : Option Access
 
--- a store as one list with its key
+-- a store as one list with its key and access
 abbrev pub stocked_of : Stored → Stocked
-stocked_of store = record { tuples = tuples_of store; key = store.key }
+stocked_of store = record { tuples = tuples_of store; key = store.key; access = store.access }
 
--- the same key, and one tuple more
+-- the same key and access, and one tuple more
 abbrev pub with_placed : Tuple → Stocked → Stocked
 with_placed x stock = record stock { tuples = placed x stock.tuples }
 
--- the same key, and the tuples that joiner `id` holds in a grid of this shape
+-- the same key and access, and the tuples that joiner `id` holds in a grid of this shape
 abbrev pub kept_stock : ℕ → ℕ → ℕ → Stocked → Stocked
 kept_stock k shift id stock = record stock { tuples = filter (holds k shift id) stock.tuples }
 
 -- the key is the predicate's key atom, and there is none where the predicate has none
 abbrev pub IsKeyOf : Meaning → Option KeyAtom → Type 0
 IsKeyOf theta key = option_map atom_of key ≡ key_of theta.formula
+
+-- the access is the predicate's, and there is none where the predicate has none
+abbrev pub IsAccessOf : Meaning → Option Access → Type 0
+IsAccessOf theta access = option_map agreements access ≡ access_of theta.formula
 
 -- ---- the epochs
 
@@ -116,10 +123,11 @@ IsRow theta x = HasWidth theta x.side x
 abbrev pub AreRows : Meaning → List Tuple → Type 0
 AreRows theta xs = All (IsRow theta) xs
 
--- what a joiner with this predicate has of an epoch: rows of the widths, and the predicate's own key
+-- what a joiner with this predicate has of an epoch: rows of the widths, and the predicate's own key and access
 pub record IsStock (theta : Meaning) (stock : Stocked) : Type 0 where
   pub rows : AreRows theta stock.tuples
   pub key : IsKeyOf theta stock.key
+  pub access : IsAccessOf theta stock.access
 
 -- so has the tuple that a message carries, if it carries one
 abbrev pub HasRow : Meaning → ToJoiner → Type 0

@@ -8,7 +8,7 @@ ghost use Rattle.epoch_tags.specs.declared.tuple.Tuple.{Tuple};
 ghost use Rattle.epoch_tags.specs.Links.{HasLink};
 ghost use Rattle.joiner_law.specs.Law.{JoinerStart, JoinerLists, IsFinished, store};
 ghost use Rattle.joiner_core.specs.Machine.{start_of, nothing_yet};
-ghost use Rattle.joiner_core.specs.State.{tuples_of, IsKeyOf, AreRows, HasRow, DifferInOneBit};
+ghost use Rattle.joiner_core.specs.State.{tuples_of, IsAccessOf, IsKeyOf, AreRows, HasRow, DifferInOneBit};
 ghost use Rattle.joiner_core.specs.Standing.{IsSpent, IsJoiner, theta_of, StandsFor, held_number, k_of, id_of, feeders_of, TakesMessage};
 
 use crate::epochs::{Epochs, joiners};
@@ -45,18 +45,21 @@ impl<'a> Model for Joiner<'a> {
     ghost invariant = { λ joiner. joiner.spent ≡ false → IsSound (state_of joiner.machine) };
 }
 
-// A store with no tuples and the predicate's key atom; where there is none, by its text atom.
+// A store with no tuples and the predicate's key atom.
 fn empty_store(alloc: Global, theta: &Theta) -> Result<Store, AllocError>
     ensures empty { IfOk result (λ store. tuples_of store ≡ []) }
     ensures key { IfOk result (λ store. IsKeyOf theta.now store.key) }
 {
-    if let Some(key) = theta.key_atom()? {
-        return Ok(Store::new(alloc, Some(key)));
-    }
-    match theta.text_atom() {
-        Some(text) => Ok(Store::by_text(alloc, text)),
-        None => Ok(Store::new(alloc, None)),
-    }
+    Ok(Store::new(alloc, theta.key_atom()?))
+}
+
+// The store, with its tuples found by the predicate's access.
+fn accessed(theta: &Theta, base: Store) -> Result<Store, AllocError>
+    ensures tuples { IfOk result (λ store. tuples_of store ≡ tuples_of base) }
+    ensures key { IfOk result (λ store. store.key ≡ base.key) }
+    ensures access { IfOk result (λ store. IsAccessOf theta.now store.access) }
+{
+    base.with_access(theta.access()?)
 }
 
 // Whether two joiners of 2 ^ k differ in one bit of their ids.
@@ -158,6 +161,7 @@ impl<'a> Joiner<'a> {
         ensures fresh { IfOk result (λ joiner. StandsFor
             (start_of k id shift epoch feeders theta.now (tuples_of base)) nothing_yet joiner) }
     {
+        let store = accessed(theta, base)?;
         let machine = Machine::start_at(
             alloc,
             k,
@@ -166,7 +170,7 @@ impl<'a> Joiner<'a> {
             epoch,
             feeders,
             theta,
-            Stock::of(base),
+            Stock::of(store),
         )?;
         Ok(Joiner {
             machine,
@@ -207,6 +211,7 @@ impl<'a> Joiner<'a> {
     /// The rows that it holds in its settled epoch.
     pub fn store(&self) -> &Store
         ensures key { ¬ IsSpent self.now → IsKeyOf (theta_of self.now) result.now.key }
+        ensures access { ¬ IsSpent self.now → IsAccessOf (theta_of self.now) result.now.access }
         ensures tuples { (start : JoinerStart) (lists : JoinerLists)
             (stands : StandsFor start lists self.now)
             → SameBag (tuples_of result.now) (store start stands.taken stands.law.done) }

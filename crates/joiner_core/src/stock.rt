@@ -18,7 +18,7 @@ use std::marker::Model;
 use store_parts::{Store, Which};
 use theta_pred::Theta;
 
-// A store, seen as one list with its key.
+// A store, seen as one list with its key and access.
 #[derive(Drop)]
 pub(crate) struct Stock {
     store: Store,
@@ -86,7 +86,7 @@ impl Stock {
             (found.new ≡ found.old
             ++ probed (does_hold theta.now) (named_by which) tuple.now self.now.tuples) }
     {
-        self.store.probe_uncounted(tuple, theta, which, found)?;
+        self.store.find_uncounted(tuple, theta, which, found)?;
         Ok(())
     }
 

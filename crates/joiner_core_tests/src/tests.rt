@@ -218,3 +218,20 @@ fn a_key_serves_all_stores(rt: HostRuntime) -> Result<(), Fail> {
     run(&rt, rt.alloc(), "r.x = s.x", 1, 1, &steps)?;
     Ok(())
 }
+
+#[test]
+fn an_access_beside_an_order_serves_all_stores(rt: HostRuntime) -> Result<(), Fail> {
+    let steps = [
+        "feeder_0 row R 4 0 0 holds 0 sends ",
+        "feeder_0 row S 3 0 0 holds 0 sends [found 4 3]",
+        "feeder_0 turn 1 1 holds 0 sends [Joiner(1) moved 1 4][Joiner(1) moved_end 1]",
+        "feeder_0 row S 5 0 1 holds 0 sends ",
+        "joiner_1 moved 1 R 5 200 0 holds 0 sends [found 5 5]",
+        "joiner_1 moved_end 1 holds 0 sends [settled 1]",
+        "feeder_0 row R 3 0 1 holds 0 sends [found 3 3]",
+        "feeder_0 end holds 0 sends [fin 3 2 moved 1]",
+    ];
+    let predicate = "text(r.x) = text(s.x) and s.x <= r.x";
+    run(&rt, rt.alloc(), predicate, 1, 1, &steps)?;
+    Ok(())
+}

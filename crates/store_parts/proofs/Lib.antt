@@ -4,7 +4,7 @@ pub mod MapRanges
 pub mod MapSums
 pub mod OneValue
 pub mod SortedLists
-pub mod SameTexts
+pub mod SameNumbers
 pub mod OneMoreTuple
 pub mod KeyProbes
 pub mod Sides

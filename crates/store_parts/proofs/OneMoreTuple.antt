@@ -30,3 +30,16 @@ front_of_matches theta t which xs i old new is = record {
     joins = sym (matches-append theta t which (take i xs) (drop i xs)) ∙ ap (matches theta t which) (take-append-drop i xs);
   };
 }
+
+-- the same of those that a test keeps
+pub front_of_sifted : (p : Tuple → Bool) (theta : Meaning) (t : Tuple) (which : Which) (xs : List Tuple) (i : ℕ) (old new : List Pair)
+    → new ≡ old ++ matches theta t which (filter p (take i xs)) → AppendsFront old new (matches theta t which (filter p xs))
+front_of_sifted p theta t which xs i old new is = record {
+  front = matches theta t which (filter p (take i xs));
+  appended = is;
+  prefix = record {
+    rest = matches theta t which (filter p (drop i xs));
+    joins = sym (matches-append theta t which (filter p (take i xs)) (filter p (drop i xs)))
+        ∙ ap (matches theta t which) (sym (filter-append p (take i xs) (drop i xs)) ∙ ap (filter p) (take-append-drop i xs));
+  };
+}

@@ -1,14 +1,16 @@
 -- Worked rows: two rows of R that probe a store of three rows of S by the key of a band.
-use Rattle.std.specs.Prelude.{◌≡◌, ℕ, pos, neg_ℤ, false, Some, None, List, [], ◌∷◌, count_by, refl}
+use Rattle.std.specs.Prelude.{◌≡◌, ℕ, pos, neg_ℤ, false, Option, Some, None, List, [], ◌∷◌, count_by, refl}
 use Rattle.std.proofs.Common.{ap}
 use Rattle.join_rows.specs.declared.table.Cell.{Cell}
 use Rattle.join_rows.specs.declared.table.Side.{Side}
 use Rattle.join_rows.specs.declared.table.Side.TheVariants.{R, S}
 use Rattle.epoch_tags.specs.declared.tuple.Tuple.{Tuple}
 use Rattle.theta_pred.specs.declared.atom.KeyAtom.{KeyAtom}
+use Rattle.theta_pred.specs.declared.agree.Access.{Access}
+use Rattle.theta_pred.specs.declared.agree.Same.TheVariants.{Texts}
 use Rattle.theta_pred.specs.declared.atom.Part.{Part}
 use Rattle.theta_pred.specs.Keys.{atom_of, is_atom_true, Atom}
-use Rattle.store_parts.specs.Matches.{evaluated, evaluated_by_text}
+use Rattle.store_parts.specs.Matches.{evaluated, looked_at}
 use Rattle.store_parts.specs.declared.which.Which.TheVariants.{All}
 
 -- ---- the key of abs(r.at - s.at) <= 2, `at` being the second column of both
@@ -52,7 +54,7 @@ second_evaluates_2 key is_band = ap (count second) is_band
 pub scan_evaluates_3 : evaluated None first All stored ≡ 3
 scan_evaluates_3 = refl
 
--- ---- rows of one text, and the text atom of text(r.x) = text(s.x)
+-- ---- rows of one text, and an access that names it
 
 abbrev word : Side → List ℕ → Tuple
 word side text = record { side = side; index = 0; ticket = 0; stamp = 0; cells = record { text = text; num = None } ∷ [] }
@@ -60,5 +62,8 @@ word side text = record { side = side; index = 0; ticket = 0; stamp = 0; cells =
 abbrev words : List Tuple
 words = word S (97 ∷ []) ∷ word S (98 ∷ []) ∷ word S (97 ∷ []) ∷ word S [] ∷ []
 
-pub text_evaluates_2 : evaluated_by_text (record { r = 0; s = 0 }) (word R (97 ∷ [])) All words ≡ 2
-text_evaluates_2 = refl
+abbrev by_words : Access
+by_words = record { sames = Texts (record { r = 0; s = 0 }) ∷ [] }
+
+pub text_evaluates_2 : (key : Option KeyAtom) → looked_at key (Some by_words) (word R (97 ∷ [])) All words ≡ 2
+text_evaluates_2 key = refl

@@ -1,17 +1,17 @@
 -- The key of a store: the values of its tuples, and what a probe by the key is left to evaluate.
-use Rattle.std.specs.Prelude.{◌≡◌, ℕ, ℤ, pos, ◌+ℤ◌, ◌-ℤ◌, Bool, Option, Some, None, List, length, map, filter_map, slice_get, option_map, ⊤, All}
+use Rattle.std.specs.Prelude.{◌≡◌, ℕ, ℤ, ◌+ℤ◌, ◌-ℤ◌, Bool, Option, Some, None, List, length, map, filter_map, slice_get, option_map, ⊤, All}
 use Rattle.smallvec.specs.SmallVec.{SmallVec}
 use Rattle.join_rows.specs.declared.table.Side.{Side}
 use Rattle.join_rows.specs.declared.table.Side.TheVariants.{R, S}
 use Rattle.epoch_tags.specs.declared.tuple.Tuple.{Tuple}
 use Rattle.theta_pred.specs.declared.atom.KeyAtom.{KeyAtom}
 use Rattle.theta_pred.specs.declared.atom.Part.{Part}
-use Rattle.theta_pred.specs.declared.text_atom.TextAtom.{TextAtom}
+use Rattle.theta_pred.specs.declared.agree.Access.{Access}
 use Rattle.theta_pred.specs.Formula.{Meaning}
 use Rattle.theta_pred.specs.Keys.{Atom, atom_of, is_atom_true, key_of}
 use Rattle.theta_pred.specs.Linear.{value_of, AreBelow}
 use Rattle.store_parts.specs.Places.{IsMapOf}
-use Rattle.store_parts.specs.Texts.{text_of, number_of}
+use Rattle.store_parts.specs.Accessed.{number_at}
 
 -- the columns of the key's sum of a side
 abbrev pub sum_at : Side → KeyAtom → List Part
@@ -52,20 +52,20 @@ FitsKey key t = FitsKeyAt key t.side t
 abbrev pub IsOwn : Meaning → Option KeyAtom → Type 0
 IsOwn theta key = (atom : Atom) → option_map atom_of key ≡ Some atom → key_of theta.formula ≡ Some atom
 
--- by what number a tuple of this side stands in the index: the key's value; where there is no key, its text's number
-abbrev pub indexed_at : Option KeyAtom → Option TextAtom → Side → Tuple → Option ℤ
-indexed_at (Some key) text side t = value_at key side t
-indexed_at None (Some text) side t = Some (pos (number_of (text_of text side t)))
+-- by what number a tuple of this side stands in the index: that of the access; where there is none, the key's value
+abbrev pub indexed_at : Option KeyAtom → Option Access → Side → Tuple → Option ℤ
+indexed_at key (Some access) side t = number_at access side t
+indexed_at (Some key) None side t = value_at key side t
 indexed_at None None side t = None
 
--- the numbers of the texts of tuples of this side
-abbrev pub numbers_at : TextAtom → Side → List Tuple → List (Option ℤ)
-numbers_at text side ts = map (indexed_at None (Some text) side) ts
+-- the numbers of tuples of this side
+abbrev pub numbers_at : Access → Side → List Tuple → List (Option ℤ)
+numbers_at access side ts = map (number_at access side) ts
 
 -- the index of a side's tuples, which have the key's columns
-pub record IsIndexed (key : Option KeyAtom) (text : Option TextAtom) (side : Side) (ts : List Tuple)
+pub record IsIndexed (key : Option KeyAtom) (access : Option Access) (side : Side) (ts : List Tuple)
     (entries : List (ℤ × SmallVec ℕ)) : Type 0 where
-  pub index : IsMapOf (map (indexed_at key text side) ts) entries
+  pub index : IsMapOf (map (indexed_at key access side) ts) entries
   pub columns : All (FitsKeyAt key side) ts
 
 -- the tuples at these places

@@ -1,5 +1,5 @@
+pub mod Accessed
 pub mod Keyed
 pub mod Matches
 pub mod Places
 pub mod Stored
-pub mod Texts

@@ -1,6 +1,5 @@
 -- What a probe finds, and how many tuples it evaluates.
 use Rattle.std.specs.Prelude.{◌≡◌, ℕ, ◌==◌, Bool, true, ◌&&◌, Option, Some, None, List, ◌++◌, map, filter, count_by}
-use Rattle.std.specs.Str.{bytes_eq}
 use Rattle.join_rows.specs.declared.table.Side.{Side}
 use Rattle.join_rows.specs.declared.table.Side.TheVariants.{R, S}
 use Rattle.join_rows.specs.Lists.{IsPrefix}
@@ -9,9 +8,9 @@ use Rattle.epoch_tags.specs.declared.tuple.Pair.{Pair}
 use Rattle.theta_pred.specs.Formula.{Meaning}
 use Rattle.theta_pred.specs.Truth.{holds, IsRowOf}
 use Rattle.theta_pred.specs.declared.atom.KeyAtom.{KeyAtom}
-use Rattle.theta_pred.specs.declared.text_atom.TextAtom.{TextAtom}
+use Rattle.theta_pred.specs.declared.agree.Access.{Access}
 use Rattle.store_parts.specs.Keyed.{is_key_true}
-use Rattle.store_parts.specs.Texts.{text_of}
+use Rattle.store_parts.specs.Accessed.{is_admitted}
 use Rattle.store_parts.specs.declared.which.Which.{Which}
 use Rattle.store_parts.specs.declared.which.Which.TheVariants.{All, OnlyStamp}
 
@@ -65,13 +64,19 @@ is_evaluated (Some key) t which other = is_named which other && is_key_true key 
 abbrev pub evaluated : Option KeyAtom → Tuple → Which → List Tuple → ℕ
 evaluated key t which others = count_by (is_evaluated key t which) others
 
--- whether a tuple that probes and a stored one have equal texts
-abbrev pub has_same_text : TextAtom → Tuple → Tuple → Bool
-has_same_text text t other = bytes_eq (text_of text t.side t) (text_of text (other_side t.side) other)
+-- how many of the others are named and agree with the tuple in all of an access
+abbrev pub admitted : Access → Tuple → Which → List Tuple → ℕ
+admitted access t which others = count_by (λ other. is_named which other && is_admitted access t other) others
 
--- how many of the others a probe by their texts evaluates: those that are named and have the tuple's own text
-abbrev pub evaluated_by_text : TextAtom → Tuple → Which → List Tuple → ℕ
-evaluated_by_text text t which others = count_by (λ other. is_named which other && has_same_text text t other) others
+-- whether a joiner's probe evaluates the predicate for a stored tuple: where it is named, and agrees in all of the
+-- access; in a store without one, where a probe that is counted does
+abbrev pub is_looked_at : Option KeyAtom → Option Access → Tuple → Which → Tuple → Bool
+is_looked_at key (Some access) t which other = is_named which other && is_admitted access t other
+is_looked_at key None t which other = is_evaluated key t which other
+
+-- how many of the others it evaluates
+abbrev pub looked_at : Option KeyAtom → Option Access → Tuple → Which → List Tuple → ℕ
+looked_at key access t which others = count_by (is_looked_at key access t which) others
 
 -- a front of the whole was appended
 pub record AppendsFront {X : Type 0} (old new whole : List X) : Type 0 where

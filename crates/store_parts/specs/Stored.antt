@@ -7,13 +7,13 @@ use Rattle.grid_map.specs.declared.shape.Shape.{Shape}
 use Rattle.migration_plan.specs.Steps.{holds}
 use Rattle.theta_pred.specs.Formula.{Meaning}
 use Rattle.theta_pred.specs.declared.atom.KeyAtom.{KeyAtom}
-use Rattle.theta_pred.specs.declared.text_atom.TextAtom.{TextAtom}
+use Rattle.theta_pred.specs.declared.agree.Access.{Access}
 use Rattle.store_parts.specs.Matches.{other_side, HasWidth}
 
--- the key and the text atom that it was made with, and the tuples of each side in the order of adding
+-- the key and the access that it was made with, and the tuples of each side in the order of adding
 pub record Stored : Type 0 where
   pub key : Option KeyAtom
-  pub text : Option TextAtom
+  pub access : Option Access
   pub r : List Tuple
   pub s : List Tuple
 

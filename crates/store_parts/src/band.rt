@@ -1,15 +1,16 @@
 // The values of the other side with which a key atom is true.
 
-ghost use Rattle.std.specs.Prelude.{◌≡◌, ◌^◌, ◌+ℤ◌, ◌-ℤ◌, option_map, IfSome};
+ghost use Rattle.std.specs.Prelude.{◌≡◌, ◌^◌, ◌+ℤ◌, ◌-ℤ◌, ◌&&◌, option_map, IfSome};
 ghost use Rattle.std.specs.Option.{ForSome};
 ghost use Rattle.store_parts.specs.Keyed.{greatest_at, least_at, value_at, HasColumns};
+ghost use Rattle.theta_pred.specs.Keys.{atom_of, is_atom_true, is_from, is_up_to};
 ghost use Rattle.theta_pred.specs.Sizes.{IsAtMost};
 
 use epoch_tags::Tuple;
-use join_rows::Side;
+use join_rows::{Cells, Side};
 use theta_pred::KeyAtom;
 
-fn difference(value: i128, bound: i128) -> i128
+pub(crate) fn difference(value: i128, bound: i128) -> i128
     requires value { IsAtMost (2 ^ 68) value }
     requires bound { IsAtMost (2 ^ 100) bound }
     ensures { result ≡ value -ℤ bound }
@@ -68,6 +69,31 @@ pub(crate) fn greatest(key: &KeyAtom, side: Side, value: i128) -> Option<i128>
     match side {
         Side::R => less(value, key.low),
         Side::S => plus(value, key.high),
+    }
+}
+
+// Whether a number lies between two bounds.
+fn lies_between(low: Option<i128>, high: Option<i128>, gap: i128) -> bool
+    ensures { result ≡ (is_from low gap && is_up_to high gap) }
+{
+    let is_from = match low {
+        Some(low) => low <= gap,
+        None => true,
+    };
+    let is_up_to = match high {
+        Some(high) => gap <= high,
+        None => true,
+    };
+    is_from && is_up_to
+}
+
+// Whether the key atom is true of a row of R and a row of S.
+pub(crate) fn is_true_of(key: &KeyAtom, r: &Cells, s: &Cells) -> bool
+    ensures { result ≡ is_atom_true (atom_of key.now) r.now s.now }
+{
+    match (key.r_sum.value(r), key.s_sum.value(s)) {
+        (Some(x), Some(y)) => lies_between(key.low, key.high, x - y),
+        _ => false,
     }
 }
 

@@ -3,12 +3,14 @@
 ghost use Rattle.std.specs.Prelude.{◌≡◌, ℤ, Option, Some, List, [], ◌∷◌, ◌++◌, length, IfOk, OnOk, OnErr};
 ghost use Rattle.store_parts.specs.Places.{entries_of, gathered, places_between, IsMapOf};
 
+use crate::band::is_equality;
 use crate::hashed::{HashedMap, add_hashed, gather_hashed};
 use crate::ordered::{OrderedMap, add_ordered, gather_ordered};
 use crate::places::Found;
 use std::alloc::{AllocError, Global};
 use std::collections::{BTreeMap, HashMap};
 use std::marker::Model;
+use theta_pred::{Access, KeyAtom};
 
 // Values, each with the places at which it stands.
 #[derive(Drop)]
@@ -124,5 +126,20 @@ impl Index {
         let mut found = self.map.gather(alloc, from, to)?;
         found.sort_unstable();
         Ok(found)
+    }
+}
+
+// An index for the probes of a store with this key and access.
+pub(crate) fn index_by(alloc: Global, key: &Option<KeyAtom>, access: &Option<Access>) -> Index
+    ensures { IsMapOf [] result }
+{
+    match (key, access) {
+        (_, Some(_)) => Index::hashed(alloc),
+        (Some(key), None) => if is_equality(key) {
+            Index::hashed(alloc)
+        } else {
+            Index::ordered(alloc)
+        },
+        (None, None) => Index::ordered(alloc),
     }
 }

@@ -1,19 +1,19 @@
 // The tuples of one side, and their index.
 
-ghost use Rattle.std.specs.Prelude.{◌≡◌, ◌<◌, ◌≤◌, ◌^◌, List, [], ◌∷◌, ◌++◌, filter, IfOk, OnOk, OnErr};
+ghost use Rattle.std.specs.Prelude.{◌≡◌, ◌<◌, ◌≤◌, ◌^◌, List, [], ◌∷◌, ◌++◌, All, filter, IfOk, OnOk, OnErr};
 ghost use Rattle.epoch_tags.specs.declared.tuple.Tuple.{Tuple};
 ghost use Rattle.migration_plan.specs.Steps.{holds};
 ghost use Rattle.store_parts.specs.Keyed.{FitsKeyAt, IsIndexed};
 
-use crate::index::Index;
-use crate::texts::indexed_at;
+use crate::index::{Index, index_by};
+use crate::numbers::indexed_at;
 use epoch_tags::{Tuple, Tuples};
 use grid_map::Shape;
 use join_rows::Side;
 use migration_plan::kept;
 use std::alloc::{AllocError, Global};
 use std::mem;
-use theta_pred::{KeyAtom, TextAtom};
+use theta_pred::{Access, KeyAtom};
 
 // Drops the last tuple. It takes no memory.
 fn drop_last(alloc: Global, tuples: &mut Tuples)
@@ -30,17 +30,17 @@ pub(crate) fn add_to(
     tuples: &mut Tuples,
     index: &mut Index,
     key: &Option<KeyAtom>,
-    text: Option<TextAtom>,
+    access: &Option<Access>,
     side: Side,
     tuple: Tuple,
 ) -> Result<(), AllocError>
     requires columns { FitsKeyAt key.now side tuple }
-    requires indexed { IsIndexed key.now text side tuples.old index.old }
+    requires indexed { IsIndexed key.now access.now side tuples.old index.old }
     ensures ok { OnOk result (tuples.new ≡ tuples.old ++ tuple ∷ []) }
     ensures err { OnErr result (tuples.new ≡ tuples.old) }
-    ensures indexed { IsIndexed key.now text side tuples.new index.new }
+    ensures indexed { IsIndexed key.now access.now side tuples.new index.new }
 {
-    let value = indexed_at(key, text, side, &tuple);
+    let value = indexed_at(key, access, side, &tuple);
     let place = tuples.len();
     tuples.push(tuple)?;
     if let Err(refused) = index.add(alloc, value, place) {
@@ -56,17 +56,17 @@ pub(crate) fn kept_side(
     tuples: &[Tuple],
     index: &Index,
     key: &Option<KeyAtom>,
-    text: Option<TextAtom>,
+    access: &Option<Access>,
     side: Side,
     shape: Shape,
     id: u32,
 ) -> Result<(Tuples, Index), AllocError>
-    requires indexed { IsIndexed key.now text side tuples.now index.now }
+    requires indexed { IsIndexed key.now access.now side tuples.now index.now }
     requires shift { shape.shift ≤ shape.k }
     requires k { shape.k ≤ 8 }
     requires id { id < 2 ^ shape.k }
     ensures kept { IfOk result (λ kept. kept.0 ≡ filter (holds shape.k shape.shift id) tuples.now) }
-    ensures indexed { IfOk result (λ kept. IsIndexed key.now text side kept.0 kept.1) }
+    ensures indexed { IfOk result (λ kept. IsIndexed key.now access.now side kept.0 kept.1) }
 {
     let mut copies = Tuples::new(alloc);
     let mut copies_index = index.empty_like(alloc);
@@ -77,11 +77,31 @@ pub(crate) fn kept_side(
                 &mut copies,
                 &mut copies_index,
                 key,
-                text,
+                access,
                 side,
                 tuple.copy()?,
             )?;
         }
     }
     Ok((copies, copies_index))
+}
+
+// An index of tuples that are stored.
+pub(crate) fn index_of(
+    alloc: Global,
+    tuples: &[Tuple],
+    key: &Option<KeyAtom>,
+    access: &Option<Access>,
+    side: Side,
+) -> Result<Index, AllocError>
+    requires { All (FitsKeyAt key.now side) tuples.now }
+    ensures { IfOk result (λ index. IsIndexed key.now access.now side tuples.now index) }
+{
+    let mut index = index_by(alloc, key, access);
+    let mut place = 0;
+    for tuple in tuples {
+        index.add(alloc, indexed_at(key, access, side, tuple), place)?;
+        place += 1;
+    }
+    Ok(index)
 }

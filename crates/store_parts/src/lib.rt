@@ -6,15 +6,15 @@ mod copies;
 mod hashed;
 mod index;
 mod kept_side;
+mod numbers;
 mod ordered;
 mod places;
 mod probe;
 mod steps;
 mod store;
-mod texts;
 mod which;
 
 pub use steps::Steps;
 pub use store::Store;
-pub use theta_pred::{KeyAtom, TextAtom};
+pub use theta_pred::{Access, KeyAtom};
 pub use which::Which;

@@ -1,12 +1,12 @@
 // The pairs of a tuple with stored ones.
 
 ghost use Rattle.std.specs.Prelude.{◌≡◌, ◌+◌, ◌<◌, [], ◌∷◌, ◌++◌, length, All, count_by, filter, slice_get, Some, IfOk, OnOk, OnErr};
+ghost use Rattle.store_parts.specs.Accessed.{is_admitted};
 ghost use Rattle.store_parts.specs.Keyed.{at_places, is_key_true, numbers_at, values_at, HasColumns};
 ghost use Rattle.store_parts.specs.Matches.{
+  admitted,
   does_match,
   evaluated,
-  evaluated_by_text,
-  has_same_text,
   is_named,
   matches,
   other_side,
@@ -16,20 +16,20 @@ ghost use Rattle.store_parts.specs.Matches.{
 };
 ghost use Rattle.store_parts.specs.Places.{IsMapOf};
 ghost use Rattle.theta_pred.specs.Keys.{atom_of, key_of};
-ghost use Rattle.theta_pred.specs.TextAtoms.{text_atom_of};
+ghost use Rattle.theta_pred.specs.Accesses.{access_of, agreements};
 
-use crate::band::{greatest, least, value_of};
+use crate::band::{greatest, is_true_of, least, value_of};
 use crate::index::Index;
+use crate::numbers::{is_admitted, number};
 use crate::places::Found;
 use crate::steps::Steps;
-use crate::texts::{has_same_text, text_number};
 use crate::which::Which;
 use epoch_tags::{Pair, Pairs, Tuple};
 use join_rows::Side;
 use smallvec::SmallVec;
 use std::alloc::{AllocError, Global};
 use std::sync::ledger::Ledger;
-use theta_pred::{KeyAtom, TextAtom, Theta};
+use theta_pred::{Access, KeyAtom, Theta};
 
 // The pair of two tuples of different sides.
 fn pair_of(tuple: &Tuple, other: &Tuple) -> Pair
@@ -196,54 +196,56 @@ pub(crate) fn seek<L: Ledger>(
     try_places(tuple, others, places.as_slice(), theta, which, found, steps)
 }
 
-// Of these places those of the stored tuples with the tuple's text.
-fn places_of_same_text(
+// Of these places those of the stored tuples that agree with the tuple.
+fn places_of_admitted(
     alloc: Global,
     tuple: &Tuple,
     others: &[Tuple],
-    text: TextAtom,
+    access: &Access,
     places: &[u64],
 ) -> Result<Found, AllocError>
     requires { All (λ place. place < length others.now) places.now }
     ensures same { IfOk result (λ kept. at_places others.now kept.items
-        ≡ filter (has_same_text text tuple.now) (at_places others.now places.now)) }
+        ≡ filter (is_admitted access.now tuple.now) (at_places others.now places.now)) }
     ensures below { IfOk result (λ kept. All (λ place. place < length others.now) kept.items) }
 {
     let mut kept = SmallVec::new(alloc);
     for place in places {
-        if has_same_text(text, tuple, at(others, *place)) {
+        if is_admitted(access, tuple, at(others, *place)) {
             kept.push(*place)?;
         }
     }
     Ok(kept)
 }
 
-// The places, rising, of the stored tuples with the number of the tuple's text.
+// The places, rising, of the stored tuples with the tuple's number.
 fn places_of_number(
     alloc: Global,
     tuple: &Tuple,
     others: &[Tuple],
     index: &Index,
-    text: TextAtom,
+    access: &Access,
 ) -> Result<Found, AllocError>
     requires { IsMapOf
-        (numbers_at text (other_side tuple.now.side) others.now) index.now }
-    ensures texts { IfOk result (λ places.
-        filter (has_same_text text tuple.now) (at_places others.now places.items)
-        ≡ filter (has_same_text text tuple.now) others.now) }
+        (numbers_at access.now (other_side tuple.now.side) others.now) index.now }
+    ensures admitted { IfOk result (λ places.
+        filter (is_admitted access.now tuple.now) (at_places others.now places.items)
+        ≡ filter (is_admitted access.now tuple.now) others.now) }
     ensures below { IfOk result (λ places. All (λ place. place < length others.now) places.items) }
 {
-    let number = text_number(text, tuple.side, tuple);
+    let Some(number) = number(access, tuple.side, tuple) else {
+        return Ok(SmallVec::new(alloc));
+    };
     index.between(alloc, Some(number), Some(number))
 }
 
-// The tuples of the other side with the tuple's text.
-pub(crate) fn seek_text<L: Ledger>(
+// The tuples of the other side that agree with the tuple.
+pub(crate) fn seek_by<L: Ledger>(
     alloc: Global,
     tuple: &Tuple,
     others: &[Tuple],
     index: &Index,
-    text: TextAtom,
+    access: &Access,
     theta: &Theta,
     which: Which,
     found: &mut Pairs,
@@ -251,18 +253,79 @@ pub(crate) fn seek_text<L: Ledger>(
 ) -> Result<(), AllocError>
     requires width { HasWidth theta.now tuple.now.side tuple.now }
     requires other_widths { All (HasWidth theta.now (other_side tuple.now.side)) others.now }
-    requires own { text_atom_of theta.now.formula ≡ Some text }
+    requires own { access_of theta.now.formula ≡ Some (agreements access.now) }
     requires index { IsMapOf
-        (numbers_at text (other_side tuple.now.side) others.now) index.now }
+        (numbers_at access.now (other_side tuple.now.side) others.now) index.now }
     ensures ok { OnOk result
         (found.new ≡ found.old ++ matches theta.now tuple.now which others.now) }
     ensures err { OnErr result
         (AppendsFront found.old found.new (matches theta.now tuple.now which others.now)) }
     ensures steps { OnOk result
-        (steps.new ≡ steps.old + evaluated_by_text text tuple.now which others.now) }
+        (steps.new ≡ steps.old + admitted access.now tuple.now which others.now) }
 {
-    theta.text_law();
-    let places = places_of_number(alloc, tuple, others, index, text)?;
-    let kept = places_of_same_text(alloc, tuple, others, text, places.as_slice())?;
+    theta.access_law();
+    let places = places_of_number(alloc, tuple, others, index, access)?;
+    let kept = places_of_admitted(alloc, tuple, others, access, places.as_slice())?;
     try_places(tuple, others, kept.as_slice(), theta, which, found, steps)
+}
+
+// Whether the key atom is true of a tuple that probes and a stored one.
+fn is_key_true(key: &KeyAtom, tuple: &Tuple, other: &Tuple) -> bool
+    ensures { result ≡ is_key_true key.now tuple.now other.now }
+{
+    match tuple.side {
+        Side::R => is_true_of(key, &tuple.cells, &other.cells),
+        Side::S => is_true_of(key, &other.cells, &tuple.cells),
+    }
+}
+
+// Those of the stored tuples with which the key atom is true, where each is looked at.
+fn sift_each<L: Ledger>(
+    tuple: &Tuple,
+    others: &[Tuple],
+    key: &KeyAtom,
+    theta: &Theta,
+    which: Which,
+    found: &mut Pairs,
+    steps: &mut Steps<L>,
+) -> Result<(), AllocError>
+    requires width { HasWidth theta.now tuple.now.side tuple.now }
+    requires other_widths { All (HasWidth theta.now (other_side tuple.now.side)) others.now }
+    ensures ok { OnOk result (found.new ≡ found.old
+        ++ matches theta.now tuple.now which (filter (is_key_true key.now tuple.now) others.now)) }
+    ensures err { OnErr result (AppendsFront found.old found.new
+        (matches theta.now tuple.now which (filter (is_key_true key.now tuple.now) others.now))) }
+    ensures steps { OnOk result (steps.new ≡ steps.old
+        + count_by (is_named which) (filter (is_key_true key.now tuple.now) others.now)) }
+{
+    for other in others {
+        if is_key_true(key, tuple, other) {
+            try_one(tuple, other, theta, which, found, steps)?;
+        }
+    }
+    Ok(())
+}
+
+// The tuples of the other side with which the key atom is true, without an index of its values.
+pub(crate) fn sift<L: Ledger>(
+    tuple: &Tuple,
+    others: &[Tuple],
+    key: &KeyAtom,
+    theta: &Theta,
+    which: Which,
+    found: &mut Pairs,
+    steps: &mut Steps<L>,
+) -> Result<(), AllocError>
+    requires width { HasWidth theta.now tuple.now.side tuple.now }
+    requires other_widths { All (HasWidth theta.now (other_side tuple.now.side)) others.now }
+    requires own { key_of theta.now.formula ≡ Some (atom_of key.now) }
+    ensures ok { OnOk result
+        (found.new ≡ found.old ++ matches theta.now tuple.now which others.now) }
+    ensures err { OnErr result
+        (AppendsFront found.old found.new (matches theta.now tuple.now which others.now)) }
+    ensures steps { OnOk result
+        (steps.new ≡ steps.old + evaluated (Some key.now) tuple.now which others.now) }
+{
+    theta.key_law();
+    sift_each(tuple, others, key, theta, which, found, steps)
 }

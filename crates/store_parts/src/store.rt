@@ -1,19 +1,23 @@
 // The store.
 
 ghost use Rattle.std.specs.Prelude.{◌≡◌, ◌+◌, ◌<◌, ◌≤◌, ◌^◌, [], ◌++◌, Some, None, All, IfOk, OnOk, OnErr};
-ghost use Rattle.store_parts.specs.Keyed.{FitsKey, IsOwn};
-ghost use Rattle.store_parts.specs.Matches.{evaluated, evaluated_by_text, matches, AppendsFront, HasWidth};
-ghost use Rattle.store_parts.specs.Places.{IsMapOf};
+ghost use Rattle.store_parts.specs.Accessed.{IsOwnAccess};
+ghost use Rattle.store_parts.specs.Keyed.{FitsKey, IsIndexed, IsOwn};
+ghost use Rattle.store_parts.specs.Matches.{
+  evaluated,
+  looked_at,
+  matches,
+  other_side,
+  AppendsFront,
+  HasWidth,
+};
 ghost use Rattle.store_parts.specs.Stored.{kept_of, others_of, side_of, with_tuple, HaveWidths};
-ghost use Rattle.store_parts.specs.Texts.{text_by};
 
-use crate::band::is_equality;
-use crate::copies::key_copy;
-use crate::index::Index;
-use crate::kept_side::{add_to, kept_side};
-use crate::probe::{scan, seek, seek_text};
+use crate::copies::{access_copy, key_copy};
+use crate::index::{Index, index_by};
+use crate::kept_side::{add_to, index_of, kept_side};
+use crate::probe::{scan, seek, seek_by, sift};
 use crate::steps::Steps;
-use crate::texts::own_text;
 use crate::which::Which;
 use epoch_tags::{Pairs, Tuple, Tuples};
 use grid_map::Shape;
@@ -21,13 +25,13 @@ use join_rows::Side;
 use std::alloc::{AllocError, Global};
 use std::marker::{Brand, Model};
 use std::sync::ledger::{Blank, Ledger};
-use theta_pred::{KeyAtom, TextAtom, Theta};
+use theta_pred::{Access, KeyAtom, Theta};
 
 /// The tuples of both sides that a joiner holds, those of a side in the order of adding.
 #[derive(Drop)]
 pub struct Store {
     key: Option<KeyAtom>,
-    text: Option<TextAtom>,
+    access: Option<Access>,
     r: Tuples,
     r_index: Index,
     s: Tuples,
@@ -42,29 +46,15 @@ impl Model for Store {
 
     ghost Value = { Stored };
 
-    ghost view = { λ store. record { key = store.key; text = store.text; r = store.r; s = store.s } };
+    ghost view = { λ store. record { key = store.key; access = store.access; r = store.r; s = store.s } };
 
     ghost invariant = { λ store. AreSided store.r store.s
-        × IsIndexed store.key store.text R store.r store.r_index
-        × IsIndexed store.key store.text S store.s store.s_index };
+        × IsIndexed store.key store.access R store.r store.r_index
+        × IsIndexed store.key store.access S store.s store.s_index };
 }
 
-// An index for the probes of a store with this key.
-fn index_by(alloc: Global, key: &Option<KeyAtom>) -> Index
-    ensures { IsMapOf [] result }
-{
-    match key {
-        Some(key) => if is_equality(key) {
-            Index::hashed(alloc)
-        } else {
-            Index::ordered(alloc)
-        },
-        None => Index::ordered(alloc),
-    }
-}
-
-// A probe that counts from this blank on.
-fn probe_from<L: Ledger>(
+// A joiner's probe that counts from this blank on.
+fn find_from<L: Ledger>(
     store: &Store,
     tuple: &Tuple,
     theta: &Theta,
@@ -75,6 +65,7 @@ fn probe_from<L: Ledger>(
     requires width { HasWidth theta.now tuple.now.side tuple.now }
     requires widths { HaveWidths theta.now store.now }
     requires own { IsOwn theta.now store.now.key }
+    requires access { IsOwnAccess theta.now store.now.access }
     requires name { blank.name ≡ L.name }
     requires parts { blank.parts ≡ L.parts }
     requires some { 0 < blank.parts }
@@ -84,19 +75,19 @@ fn probe_from<L: Ledger>(
         OnErr result (AppendsFront found.old found.new (matches theta.now tuple.now which others)) }
 {
     let mut steps = Steps::<L>::new(blank);
-    store.probe(tuple, theta, which, found, &mut steps)
+    store.find(tuple, theta, which, found, &mut steps)
 }
 
 impl Store {
     /// A store with no tuples. It takes no memory.
     pub fn new(alloc: Global, key: Option<KeyAtom>) -> Store
-        ensures { result ≡ record { key = key; text = None; r = []; s = [] } }
+        ensures { result ≡ record { key = key; access = None; r = []; s = [] } }
     {
-        let r_index = index_by(alloc, &key);
-        let s_index = index_by(alloc, &key);
+        let r_index = index_by(alloc, &key, &None);
+        let s_index = index_by(alloc, &key, &None);
         Store {
             key,
-            text: None,
+            access: None,
             r: Tuples::new(alloc),
             r_index,
             s: Tuples::new(alloc),
@@ -105,20 +96,22 @@ impl Store {
         }
     }
 
-    /// A store with no tuples and no key, whose probes look by the texts of these columns where the predicate has this
-    /// text atom. It takes no memory.
-    pub fn by_text(alloc: Global, text: TextAtom) -> Store
-        ensures { result ≡ record { key = None; text = Some text; r = []; s = [] } }
+    /// The same store, whose tuples are found by this access.
+    pub fn with_access(self, access: Option<Access>) -> Result<Store, AllocError>
+        ensures { IfOk result (λ store. store ≡ record self { access = access }) }
     {
-        Store {
-            key: None,
-            text: Some(text),
-            r: Tuples::new(alloc),
-            r_index: Index::hashed(alloc),
-            s: Tuples::new(alloc),
-            s_index: Index::hashed(alloc),
+        let alloc = self.alloc;
+        let r_index = index_of(alloc, self.r.as_slice(), &self.key, &access, Side::R)?;
+        let s_index = index_of(alloc, self.s.as_slice(), &self.key, &access, Side::S)?;
+        Ok(Store {
+            key: self.key,
+            access,
+            r: self.r,
+            r_index,
+            s: self.s,
+            s_index,
             alloc,
-        }
+        })
     }
 
     /// Adds a tuple to those of its side, as the last. It is dropped where memory is wanting.
@@ -134,7 +127,7 @@ impl Store {
                 &mut self.r,
                 &mut self.r_index,
                 &self.key,
-                self.text,
+                &self.access,
                 Side::R,
                 tuple,
             ),
@@ -143,7 +136,7 @@ impl Store {
                 &mut self.s,
                 &mut self.s_index,
                 &self.key,
-                self.text,
+                &self.access,
                 Side::S,
                 tuple,
             ),
@@ -170,6 +163,27 @@ impl Store {
         }
     }
 
+    // The tuples that a probe with one of this side may find.
+    fn others(&self, side: Side) -> &[Tuple]
+        ensures { result.now ≡ side_of self.now (other_side side) }
+    {
+        match side {
+            Side::R => self.s.as_slice(),
+            Side::S => self.r.as_slice(),
+        }
+    }
+
+    // Their index.
+    fn others_index(&self, side: Side) -> &Index
+        ensures { let others = side_of self.now (other_side side) in
+            IsIndexed self.now.key self.now.access (other_side side) others result.now }
+    {
+        match side {
+            Side::R => &self.s_index,
+            Side::S => &self.r_index,
+        }
+    }
+
     /// Appends the pairs of a tuple with the stored ones of the other side that `which` names and the predicate is
     /// true of, in stored order. A step is one evaluation of the predicate; nothing is said of their number after
     /// want of memory.
@@ -190,31 +204,57 @@ impl Store {
             OnErr result
             (AppendsFront found.old found.new (matches theta.now tuple.now which others)) }
         ensures steps { let others = others_of self.now tuple.now in
-            text_by theta.now self.now.key self.now.text ≡ None
-            → OnOk result (steps.new ≡ steps.old + evaluated self.now.key tuple.now which others) }
-        ensures text_steps { let others = others_of self.now tuple.now in
-            (text : TextAtom) → text_by theta.now self.now.key self.now.text ≡ Some text
-            → OnOk result (steps.new ≡ steps.old + evaluated_by_text text tuple.now which others) }
+            OnOk result (steps.new ≡ steps.old + evaluated self.now.key tuple.now which others) }
     {
-        let (others, index) = match tuple.side {
-            Side::R => (self.s.as_slice(), &self.s_index),
-            Side::S => (self.r.as_slice(), &self.r_index),
-        };
-        match &self.key {
-            Some(key) => seek(
+        let others = self.others(tuple.side);
+        let index = self.others_index(tuple.side);
+        match (&self.key, &self.access) {
+            (Some(key), None) => seek(
                 self.alloc, tuple, others, index, key, theta, which, found, steps,
             ),
-            None => match own_text(theta, self.text) {
-                Some(text) => seek_text(
-                    self.alloc, tuple, others, index, text, theta, which, found, steps,
-                ),
-                None => scan(tuple, others, theta, which, found, steps),
-            },
+            (Some(key), Some(_)) => sift(tuple, others, key, theta, which, found, steps),
+            (None, _) => scan(tuple, others, theta, which, found, steps),
+        }
+    }
+
+    /// Appends the same pairs, found by the store's access where it has one. It evaluates the predicate for just the
+    /// stored tuples that agree with this one in all of the access.
+    pub fn find<L: Ledger>(
+        &self,
+        tuple: &Tuple,
+        theta: &Theta,
+        which: Which,
+        found: &mut Pairs,
+        steps: &mut Steps<L>,
+    ) -> Result<(), AllocError>
+        requires width { HasWidth theta.now tuple.now.side tuple.now }
+        requires widths { HaveWidths theta.now self.now }
+        requires own { IsOwn theta.now self.now.key }
+        requires access { IsOwnAccess theta.now self.now.access }
+        ensures ok { let others = others_of self.now tuple.now in
+            OnOk result (found.new ≡ found.old ++ matches theta.now tuple.now which others) }
+        ensures err { let others = others_of self.now tuple.now in
+            OnErr result
+            (AppendsFront found.old found.new (matches theta.now tuple.now which others)) }
+        ensures steps { let others = others_of self.now tuple.now in
+            OnOk result
+            (steps.new ≡ steps.old + looked_at self.now.key self.now.access tuple.now which others) }
+    {
+        let others = self.others(tuple.side);
+        let index = self.others_index(tuple.side);
+        match (&self.access, &self.key) {
+            (Some(access), _) => seek_by(
+                self.alloc, tuple, others, index, access, theta, which, found, steps,
+            ),
+            (None, Some(key)) => seek(
+                self.alloc, tuple, others, index, key, theta, which, found, steps,
+            ),
+            (None, None) => scan(tuple, others, theta, which, found, steps),
         }
     }
 
     /// The same, where nobody counts.
-    pub fn probe_uncounted(
+    pub fn find_uncounted(
         &self,
         tuple: &Tuple,
         theta: &Theta,
@@ -224,16 +264,17 @@ impl Store {
         requires width { HasWidth theta.now tuple.now.side tuple.now }
         requires widths { HaveWidths theta.now self.now }
         requires own { IsOwn theta.now self.now.key }
+        requires access { IsOwnAccess theta.now self.now.access }
         ensures ok { let others = others_of self.now tuple.now in
             OnOk result (found.new ≡ found.old ++ matches theta.now tuple.now which others) }
         ensures err { let others = others_of self.now tuple.now in
             OnErr result
             (AppendsFront found.old found.new (matches theta.now tuple.now which others)) }
     {
-        probe_from::<Brand>(self, tuple, theta, which, found, Blank::new(1))
+        find_from::<Brand>(self, tuple, theta, which, found, Blank::new(1))
     }
 
-    /// A store with the same key and text atom, and copies of the tuples that the joiner holds in a grid of this shape.
+    /// A store with the same key and access, and copies of the tuples that the joiner holds in a grid of this shape.
     pub fn kept_copy(&self, shape: Shape, id: u32) -> Result<Store, AllocError>
         requires shift { shape.shift ≤ shape.k }
         requires k { shape.k ≤ 8 }
@@ -241,12 +282,13 @@ impl Store {
         ensures { IfOk result (λ kept. kept ≡ kept_of shape id self.now) }
     {
         let key = key_copy(self.alloc, &self.key)?;
+        let access = access_copy(self.alloc, &self.access)?;
         let (r, r_index) = kept_side(
             self.alloc,
             self.r.as_slice(),
             &self.r_index,
             &self.key,
-            self.text,
+            &self.access,
             Side::R,
             shape,
             id,
@@ -256,14 +298,14 @@ impl Store {
             self.s.as_slice(),
             &self.s_index,
             &self.key,
-            self.text,
+            &self.access,
             Side::S,
             shape,
             id,
         )?;
         Ok(Store {
             key,
-            text: self.text,
+            access,
             r,
             r_index,
             s,

@@ -4,7 +4,9 @@ mod probes;
 mod rows;
 
 ghost use Rattle.std.specs.Prelude.{◌≡◌, IfOk};
+ghost use Rattle.store_parts.specs.Accessed.{IsOwnAccess};
 ghost use Rattle.store_parts.specs.Keyed.{IsOwn};
+ghost use Rattle.store_parts.specs.Stored.{HaveWidths};
 
 use join_rows::{Bytes, Names};
 use probes::find;
@@ -13,7 +15,7 @@ use std::alloc::{AllocError, Global};
 use std::process::Abort;
 use std::test::*;
 use store_parts::{KeyAtom, Store};
-use theta_pred::{TextAtom, Theta, parse, resolve};
+use theta_pred::{Theta, parse, resolve};
 
 fn resolved(alloc: Global, text: &str, names: &Names) -> Result<Theta, AllocError> {
     let Ok(pred) = parse(alloc, text) else {
@@ -64,6 +66,10 @@ fn has_key(theta: &Theta) -> Result<bool, AllocError> {
     Ok(theta.key_atom()?.is_some())
 }
 
+fn has_access(theta: &Theta) -> Result<bool, AllocError> {
+    Ok(theta.access()?.is_some())
+}
+
 // That a store with this key finds these.
 fn find_with(
     rt: &impl Abort,
@@ -81,28 +87,34 @@ fn find_with(
     find(rt, alloc, &store, theta, probes)
 }
 
-// That a store by these texts finds these.
-fn find_by_text(
+// A store with the predicate's key and access.
+fn accessed(alloc: Global, theta: &Theta) -> Result<Store, AllocError>
+    ensures widths { IfOk result (λ store. HaveWidths theta.now store) }
+    ensures own { IfOk result (λ store. IsOwn theta.now store.key) }
+    ensures access { IfOk result (λ store. IsOwnAccess theta.now store.access) }
+{
+    Store::new(alloc, key(theta)?).with_access(theta.access()?)
+}
+
+// That a store that has the access before its rows finds these, and one that is given it after them.
+fn find_by_access(
     rt: &impl Abort,
     alloc: Global,
     theta: &Theta,
-    text: TextAtom,
     lines: &[&str],
     probes: &[&str],
 ) -> Result<(), AllocError>
     requires r { theta.now.width_r ≡ 2 }
     requires s { theta.now.width_s ≡ 2 }
 {
-    let store = filled(alloc, theta, Store::by_text(alloc, text), lines)?;
-    find(rt, alloc, &store, theta, probes)
+    let before = filled(alloc, theta, accessed(alloc, theta)?, lines)?;
+    find(rt, alloc, &before, theta, probes)?;
+    let after = filled(alloc, theta, Store::new(alloc, key(theta)?), lines)?;
+    let after = after.with_access(theta.access()?)?;
+    find(rt, alloc, &after, theta, probes)
 }
 
-// The predicate's text atom, or an atom that isn't its own and is of a column that no row has.
-fn text_atom(theta: &Theta) -> TextAtom {
-    theta.text_atom().unwrap_or(TextAtom { r: 0, s: 2 })
-}
-
-// The same with no key, with the predicate's, with a copy of it, and by texts.
+// The same with no key, with the predicate's, with a copy of it, and by the predicate's access.
 fn find_with_each(
     rt: &impl Abort,
     alloc: Global,
@@ -116,20 +128,22 @@ fn find_with_each(
     find_with(rt, alloc, theta, no_key(theta), lines, probes)?;
     find_with(rt, alloc, theta, key(theta)?, lines, probes)?;
     find_with(rt, alloc, theta, key_copy(alloc, theta)?, lines, probes)?;
-    find_by_text(rt, alloc, theta, text_atom(theta), lines, probes)
+    find_by_access(rt, alloc, theta, lines, probes)
 }
 
-// That a store of these lines finds these, whatever its key.
+// That a store of these lines finds these, whatever its key, and by the access, which there is or isn't.
 fn probed(
     rt: &impl Abort,
     alloc: Global,
     predicate: &str,
     keyed: bool,
+    accessed: bool,
     lines: &[&str],
     probes: &[&str],
 ) -> Result<(), AllocError> {
     let theta = over_x_and_a(rt, alloc, predicate)?;
     assert_eq!(rt; has_key(&theta)?, keyed, "{predicate}");
+    assert_eq!(rt; has_access(&theta)?, accessed, "{predicate}");
     find_with_each(rt, alloc, &theta, lines, probes)
 }
 
@@ -140,6 +154,7 @@ fn a_probe_finds_the_named_that_match(rt: HostRuntime) -> Result<(), Fail> {
         rt.alloc(),
         "text(r.a) = text(s.a)",
         false,
+        true,
         &[
             "S 0 0 - a",
             "R 0 0 - b",
@@ -169,6 +184,7 @@ fn a_band_finds_what_a_scan_finds(rt: HostRuntime) -> Result<(), Fail> {
         rt.alloc(),
         "abs(r.a - s.a) <= 2 and r.x >= s.x",
         true,
+        false,
         &["S 0 0 100 898", "S 1 0 101 902", "S 2 0 97 903"],
         &[
             "R 0 0 105 900 among all finds [0 0][0 1]",
@@ -184,6 +200,7 @@ fn an_equality_passes_over_empty_cells(rt: HostRuntime) -> Result<(), Fail> {
         &rt,
         rt.alloc(),
         "r.x = s.x",
+        true,
         true,
         &[
             "S 0 0 5 -",
@@ -212,6 +229,7 @@ fn an_order_finds_in_stored_order(rt: HostRuntime) -> Result<(), Fail> {
         rt.alloc(),
         "r.x < s.x and text(r.a) = 'u'",
         true,
+        false,
         &[
             "S 0 0 8 -",
             "S 1 0 5 -",
@@ -226,6 +244,113 @@ fn an_order_finds_in_stored_order(rt: HostRuntime) -> Result<(), Fail> {
             "S 9 0 -2 - among all finds [0 9]",
             "S 9 0 7 - among all finds [0 9][1 9]",
             "S 9 0 -3 - among all finds ",
+        ],
+    )?;
+    Ok(())
+}
+
+#[test]
+fn an_equality_beside_an_order_finds_in_stored_order(rt: HostRuntime) -> Result<(), Fail> {
+    let lines = [
+        "S 0 0 7 a",
+        "S 1 0 3 a",
+        "R 0 0 4 a",
+        "S 2 1 2 b",
+        "S 3 1 2 a",
+        "S 4 0 - a",
+        "R 1 0 2 b",
+    ];
+    let probes = [
+        "R 9 0 5 a among all finds [9 1][9 3]",
+        "R 9 0 5 a among 1 finds [9 3]",
+        "R 9 0 5 c among all finds ",
+        "R 9 0 - a among all finds ",
+        "S 9 0 2 a among all finds [0 9]",
+        "S 9 0 3 b among all finds ",
+    ];
+    for predicate in [
+        "text(r.a) = text(s.a) and s.x <= r.x",
+        "s.x <= r.x and text(s.a) = text(r.a)",
+        "s.x <= r.x and (text(r.a) = text(s.a) and 1 = 1)",
+    ] {
+        probed(&rt, rt.alloc(), predicate, true, true, &lines, &probes)?;
+    }
+    Ok(())
+}
+
+#[test]
+fn an_equality_beside_a_band_finds_by_the_band(rt: HostRuntime) -> Result<(), Fail> {
+    probed(
+        &rt,
+        rt.alloc(),
+        "text(r.a) = text(s.a) and abs(r.x - s.x) <= 1",
+        true,
+        false,
+        &[
+            "S 0 0 7 a",
+            "S 1 0 3 a",
+            "R 0 0 4 a",
+            "S 2 1 5 b",
+            "S 3 1 5 a",
+        ],
+        &[
+            "R 9 0 4 a among all finds [9 1][9 3]",
+            "R 9 0 6 b among all finds [9 2]",
+            "R 9 0 9 a among all finds ",
+            "S 9 0 5 a among all finds [0 9]",
+        ],
+    )?;
+    Ok(())
+}
+
+#[test]
+fn two_equalities_find_what_agrees_in_both(rt: HostRuntime) -> Result<(), Fail> {
+    let lines = [
+        "S 0 0 5 05",
+        "S 1 0 05 5",
+        "R 0 0 5 5",
+        "S 2 1 5 -",
+        "S 3 1 - 5",
+        "S 4 0 +5 5",
+    ];
+    let probes = [
+        "R 9 0 5 5 among all finds [9 1][9 4]",
+        "R 9 0 5 05 among all finds [9 0]",
+        "R 9 0 5 - among all finds [9 2]",
+        "R 9 0 - 5 among all finds ",
+        "S 9 0 05 5 among all finds [0 9]",
+    ];
+    for predicate in [
+        "r.x = s.x and text(r.a) = text(s.a)",
+        "(1 = 1 and text(r.a) = text(s.a)) and r.x = s.x",
+    ] {
+        probed(&rt, rt.alloc(), predicate, true, true, &lines, &probes)?;
+    }
+    Ok(())
+}
+
+#[test]
+fn sums_of_several_columns_are_equal_with_their_constants(rt: HostRuntime) -> Result<(), Fail> {
+    probed(
+        &rt,
+        rt.alloc(),
+        "3 - r.x - r.a = s.a - s.x + 4",
+        true,
+        true,
+        &[
+            "S 0 0 10 4", // -6, and 4 beside it: -2
+            "S 1 0 6 0", // the same
+            "S 2 0 6 1",
+            "R 0 0 2 3", // 3 less 5: -2
+            "S 3 0 - 0",
+            "S 4 1 9223372036854775807 -9223372036854775808",
+        ],
+        &[
+            "R 9 0 1 4 among all finds [9 0][9 1]",
+            "R 9 0 5 -1 among all finds [9 2]",
+            "R 9 0 5 - among all finds ",
+            "R 9 0 9223372036854775807 9223372036854775807 among all finds [9 4]",
+            "S 9 0 7 1 among all finds [0 9]",
         ],
     )?;
     Ok(())

@@ -74,7 +74,7 @@ chosen width_r width_s fs m is =
     (chosen_first width_r width_s Band fs) (chosen_first width_r width_s Inequality fs) later)
     is
 
-pub conjuncts-sound : (width_r width_s : ℕ) (f : Formula) → IsSound width_r width_s f → AreSound width_r width_s (conjuncts f)
+conjuncts-sound : (width_r width_s : ℕ) (f : Formula) → IsSound width_r width_s f → AreSound width_r width_s (conjuncts f)
 conjuncts-sound width_r width_s (any fs) sound = (sound, tt)
 conjuncts-sound width_r width_s (every fs) sound = sound
 conjuncts-sound width_r width_s (negation f) sound = (sound, tt)
@@ -85,7 +85,7 @@ conjuncts-sound width_r width_s (txt left op right) sound = (sound, tt)
 alone : (b : Bool) → b ≡ true → (b && true) ≡ true
 alone b is = ap (λ c. c && true) is
 
-pub conjuncts-true : (r s : List Cell) (f : Formula) → is_true r s f ≡ true → each_is_true r s (conjuncts f) ≡ true
+conjuncts-true : (r s : List Cell) (f : Formula) → is_true r s f ≡ true → each_is_true r s (conjuncts f) ≡ true
 conjuncts-true r s (any fs) is = alone _ is
 conjuncts-true r s (every fs) is = is
 conjuncts-true r s (negation f) is = alone _ is
@@ -108,7 +108,7 @@ compares-some op None p is = absurd (false≢true is)
 compares-some op (Some x) None is = absurd (false≢true is)
 compares-some op (Some x) (Some y) is = (x, y, refl, refl, is)
 
-num-true : (r s : List Cell) (left right : List SignedTerm) (op : Op) → compares op (sum_of r s left) (sum_of r s right) ≡ true
+pub num-true : (r s : List Cell) (left right : List SignedTerm) (op : Op) → compares op (sum_of r s left) (sum_of r s right) ≡ true
     → let c = constant_of left -ℤ constant_of right in is_atom_true (difference left right (num_low op c) (num_high op c)) r s ≡ true
 num-true r s left right op is =
     let both = compares-some op (sum_of r s left) (sum_of r s right) is in

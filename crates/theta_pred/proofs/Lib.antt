@@ -1,3 +1,4 @@
+pub mod Agreements
 pub mod KeyBounds
 pub mod KeyLaws
 pub mod KeyMembers

@@ -1,3 +1,4 @@
+pub mod Accesses
 pub mod Formula
 pub mod FormulaCode
 pub mod Keys

@@ -7,7 +7,6 @@ use Rattle.join_rows.specs.declared.table.Cell.{Cell}
 use Rattle.join_rows.specs.declared.table.Side.{Side}
 use Rattle.theta_text.specs.declared.tree.Op.{Op}
 use Rattle.theta_text.specs.declared.tree.Op.TheVariants.{Eq, Ne, Lt, Le, Gt, Ge}
-use Rattle.join_rows.specs.declared.table.Side.TheVariants.{R, S}
 use Rattle.theta_pred.specs.Formula.{Formula, any, every, negation, num, band, txt, Formulas, no_formula, formula, Meaning}
 use Rattle.theta_pred.specs.Sums.{of_side, sum_of, text_of}
 

@@ -1,6 +1,6 @@
 // The test that an index of stored rows serves.
 
-ghost use Rattle.std.specs.Prelude.{◌≡◌, ◌≤◌, ◌<◌, ◌^◌, length, IfOk, IfSome};
+ghost use Rattle.std.specs.Prelude.{◌≡◌, ◌≤◌, ◌^◌, length, IfOk, IfSome};
 ghost use Rattle.std.specs.Option.{ForSome};
 ghost use Rattle.theta_pred.specs.Sizes.{IsAtMost};
 
@@ -21,10 +21,12 @@ impl Part {
 
     // The number of the part's cell with its sign.
     fn value(self, row: &Cells) -> Option<i128>
-        requires { self.column < length row.now }
         ensures value { result ≡ part_of self row.now }
         ensures small { IfSome result (IsAtMost (2 ^ 63)) }
     {
+        if self.column >= row.len() {
+            return None;
+        }
         let value = i128::from(row.at(self.column).num?);
         Some(if self.minus { -value } else { value })
     }
@@ -38,12 +40,11 @@ pub struct Linear {
 }
 
 impl Linear {
-    ghost use Rattle.theta_pred.specs.Linear.{value_of, AreBelow};
+    ghost use Rattle.theta_pred.specs.Linear.{value_of};
 
-    /// The whole number that the sum is over a row, or none where a cell of the sum is empty or no
-    /// number. It takes no memory.
+    /// The whole number that the sum is over a row, or none where a cell of the sum is empty, no
+    /// number or beyond the row. It takes no memory.
     pub fn value(&self, row: &Cells) -> Option<i128>
-        requires { AreBelow (length row.now) self.now.parts }
         ensures value { result ≡ value_of self.now.parts row.now }
         ensures small { IfSome result (IsAtMost (2 ^ 68)) }
     {

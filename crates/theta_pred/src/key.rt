@@ -43,7 +43,7 @@ fn names_side(sum: &[SignedTerm], side: Side) -> bool
 }
 
 // Whether two sums name a column of each side.
-fn do_split(left: &[SignedTerm], right: &[SignedTerm]) -> bool
+pub(crate) fn do_split(left: &[SignedTerm], right: &[SignedTerm]) -> bool
     ensures { result ≡ splits left.now right.now }
 {
     (names_side(left, Side::R) || names_side(right, Side::R))
@@ -110,7 +110,7 @@ fn add_columns(
 }
 
 // The columns of a side in a difference, or in its opposite where turned.
-fn columns(
+pub(crate) fn columns(
     alloc: Global,
     left: &[SignedTerm],
     right: &[SignedTerm],

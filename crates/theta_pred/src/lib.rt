@@ -1,6 +1,8 @@
 //! Predicates over the rows of two tables: names become places, and the truth is computed.
 #![tactic(auto)]
 
+mod access;
+mod agree;
 mod atom;
 mod bounds;
 mod copies;
@@ -18,6 +20,7 @@ mod theta;
 mod tree;
 mod truth;
 
+pub use agree::{Access, Same, Sames, SumPair};
 pub use atom::{KeyAtom, Linear, Part, Parts};
 pub use fault::ResolveFault;
 pub use resolver::resolve;

@@ -1,18 +1,19 @@
 // A predicate over the places of columns.
 
-ghost use Rattle.std.specs.Prelude.{◌≡◌, IfOk, option_map, Some};
+ghost use Rattle.std.specs.Prelude.{◌≡◌, IfOk, option_map, List, Some};
+ghost use Rattle.theta_pred.specs.Accesses.{access_of, agreements, Agreement, IsAccessOf};
 ghost use Rattle.theta_pred.specs.Formula.{formula_of};
 ghost use Rattle.theta_pred.specs.Keys.{atom_of, key_of, Atom, IsKeyOf};
 ghost use Rattle.theta_pred.specs.Numeric.{AreNumeric};
 ghost use Rattle.theta_pred.specs.Sound.{IsSound};
-ghost use Rattle.theta_pred.specs.TextAtoms.{text_atom_of, IsTextAtomOf};
 ghost use Rattle.theta_pred.specs.Truth.{holds, width_of, IsRowOf};
 
+use crate::access::{access_law, access_of};
+use crate::agree::Access;
 use crate::atom::KeyAtom;
 use crate::copies::copy_of;
 use crate::key::{atom_in, key_law, key_member};
 use crate::numeric::numeric_places;
-use crate::text_atom::{TextAtom, text_atom, text_law};
 use crate::tree::{Columns, Tree};
 use crate::truth::is_true;
 use join_rows::{Cells, Side};
@@ -127,20 +128,23 @@ impl Theta {
         key_law(&self.tree, self.width_r, self.width_s);
     }
 
-    /// The columns of the first of the top conjunction's members that is an equality of a text of R
-    /// and one of S. A conjunction inside another member isn't looked into. It takes no memory.
-    pub fn text_atom(&self) -> Option<TextAtom>
-        ensures { result ≡ text_atom_of self.now.formula }
+    /// All equalities of the top conjunction, and of the conjunctions that are its members, by which
+    /// rows of the two sides agree: each of two sums that names a column of both sides, and each of
+    /// a text of R and one of S. None where there is none, and none where the key atom is that of a
+    /// band, whose own index serves better where the equalities have few distinct values.
+    pub fn access(&self) -> Result<Option<Access>, AllocError>
+        ensures { IfOk result (λ access.
+            option_map agreements access ≡ access_of self.now.formula) }
     {
-        text_atom(&self.tree)
+        access_of(self.alloc, &self.tree, self.width_r, self.width_s)
     }
 
-    /// What the text atom says of the predicate. It has no code.
-    pub fn text_law(&self)
-        ensures { (atom : TextAtom) → text_atom_of self.now.formula ≡ Some atom
-            → IsTextAtomOf self.now atom }
+    /// What the access says of the predicate. It has no code.
+    pub fn access_law(&self)
+        ensures { (all : List Agreement) → access_of self.now.formula ≡ Some all
+            → IsAccessOf self.now all }
     {
-        text_law(&self.tree, self.width_r, self.width_s);
+        access_law(&self.tree, self.width_r, self.width_s);
     }
 
     /// Whether the predicate is true of a row of R and a row of S. It takes no memory.

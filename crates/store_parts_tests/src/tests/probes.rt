@@ -1,6 +1,7 @@
 // What a row finds in a store, as a text.
 
 ghost use Rattle.std.specs.Prelude.{◌≡◌, ◌<◌};
+ghost use Rattle.store_parts.specs.Accessed.{IsOwnAccess};
 ghost use Rattle.store_parts.specs.Keyed.{IsOwn};
 ghost use Rattle.store_parts.specs.Matches.{HasWidth};
 ghost use Rattle.store_parts.specs.Stored.{HaveWidths};
@@ -61,7 +62,7 @@ fn text(alloc: Global, pairs: &Pairs) -> Result<String, AllocError> {
     Ok(text)
 }
 
-// That a row finds these pairs, counted and uncounted.
+// That a row finds these pairs, by a probe that counts and as a joiner finds them.
 pub(super) fn finds(
     rt: &impl Abort,
     alloc: Global,
@@ -75,16 +76,17 @@ pub(super) fn finds(
     requires s { theta.now.width_s ≡ 2 }
     requires widths { HaveWidths theta.now store.now }
     requires own { IsOwn theta.now store.now.key }
+    requires access { IsOwnAccess theta.now store.now.access }
 {
     let tuple = tuple(alloc, line)?;
     let first = found(alloc, store, &tuple, theta, which)?;
     assert_eq!(rt; text(alloc, &first)?.as_str(), wanted, "{line}, {which:?}");
     let mut second = Pairs::new(alloc);
-    store.probe_uncounted(&tuple, theta, which, &mut second)?;
+    store.find_uncounted(&tuple, theta, which, &mut second)?;
     assert_eq!(rt;
         text(alloc, &second)?.as_str(),
         wanted,
-        "{line}, {which:?}, uncounted"
+        "{line}, {which:?}, as a joiner finds them"
     );
     Ok(())
 }
@@ -108,6 +110,7 @@ pub(super) fn find(
     requires s { theta.now.width_s ≡ 2 }
     requires widths { HaveWidths theta.now store.now }
     requires own { IsOwn theta.now store.now.key }
+    requires access { IsOwnAccess theta.now store.now.access }
 {
     for probe in probes {
         let Some((line, rest)) = probe.split_once(" among ") else {

@@ -1,6 +1,7 @@
 // Rows of two cells as lines, and stores of them.
 
 ghost use Rattle.std.specs.Prelude.{◌≡◌, length, IfOk};
+ghost use Rattle.store_parts.specs.Accessed.{IsOwnAccess};
 ghost use Rattle.store_parts.specs.Keyed.{IsOwn};
 ghost use Rattle.store_parts.specs.Stored.{HaveWidths};
 
@@ -72,8 +73,10 @@ pub(super) fn add(store: &mut Store, theta: &Theta, tuple: Tuple) -> Result<(), 
     requires width { length tuple.cells ≡ 2 }
     requires widths { HaveWidths theta.now store.old }
     requires own { IsOwn theta.now store.old.key }
+    requires access { IsOwnAccess theta.now store.old.access }
     ensures widths { HaveWidths theta.now store.new }
     ensures own { IsOwn theta.now store.new.key }
+    ensures access { IsOwnAccess theta.now store.new.access }
 {
     store.fits_key(theta, &tuple);
     store.add(tuple)
@@ -90,8 +93,10 @@ pub(super) fn filled(
     requires s { theta.now.width_s ≡ 2 }
     requires widths { HaveWidths theta.now store }
     requires own { IsOwn theta.now store.key }
+    requires access { IsOwnAccess theta.now store.access }
     ensures widths { IfOk result (λ store. HaveWidths theta.now store) }
     ensures own { IfOk result (λ store. IsOwn theta.now store.key) }
+    ensures access { IfOk result (λ store. IsOwnAccess theta.now store.access) }
 {
     let mut store = store;
     for line in lines {

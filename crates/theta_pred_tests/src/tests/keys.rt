@@ -1,14 +1,15 @@
-// The key atoms of predicates, and the values of sums.
+// The key atoms and the accesses of predicates, and the values of sums.
 
 ghost use Rattle.std.specs.Prelude.{◌≡◌, ◌≤◌, length, IfOk};
 ghost use Rattle.theta_text.specs.Sizes.{longest_sum};
-ghost use Rattle.theta_pred.specs.Linear.{AreBelow};
 
 use join_rows::{Bytes, Cell, Cells, Names};
 use std::alloc::{AllocError, Global};
 use std::process::Abort;
 use std::test::Fail;
-use theta_pred::{KeyAtom, Linear, Part, Parts, Pred, TextAtom, Theta, parse, resolve};
+use theta_pred::{
+    Access, KeyAtom, Linear, Part, Parts, Pred, Same, TextAtom, Theta, parse, resolve,
+};
 
 fn resolved(alloc: Global, pred: &Pred, names: &Names) -> Result<Theta, AllocError>
     requires { longest_sum pred.now ≤ 16 }
@@ -161,41 +162,92 @@ fn predicates_without_a_key(rt: HostRuntime) -> Result<(), Fail> {
     Ok(())
 }
 
-// R's column and S's.
-fn told_text(alloc: Global, atom: Option<TextAtom>) -> Result<String, AllocError> {
+// R's column and S's of equal texts, or R's columns, S's and how much R's sum is above S's.
+fn write_same(text: &mut String, same: &Same) -> Result<(), AllocError> {
+    match same {
+        Same::Texts(TextAtom { r, s }) => write!(text, "[{r} {s}]"),
+        Same::Sums(pair) => {
+            let gap = pair.gap;
+            write!(text, "[")?;
+            write_sum(text, &pair.r_sum)?;
+            write!(text, " ")?;
+            write_sum(text, &pair.s_sum)?;
+            write!(text, " {gap}]")
+        }
+    }
+}
+
+fn told_access(alloc: Global, access: &Option<Access>) -> Result<String, AllocError> {
     let mut text = String::new(alloc);
-    match atom {
-        Some(TextAtom { r, s }) => write!(text, "{r} {s}")?,
+    match access {
+        Some(access) => {
+            for same in access.sames.as_slice() {
+                write_same(&mut text, same)?;
+            }
+        }
         None => write!(text, "none")?,
     }
     Ok(text)
 }
 
-// Each line is a predicate and its text atom.
-fn tells_text_atoms(rt: &impl Abort, alloc: Global, lines: &[&str]) -> Result<(), AllocError> {
+fn copied_access(alloc: Global, access: &Option<Access>) -> Result<Option<Access>, AllocError> {
+    match access {
+        Some(access) => Ok(Some(access.copy(alloc)?)),
+        None => Ok(None),
+    }
+}
+
+// Each line is a predicate and its access, which its copy is too.
+fn tells_accesses(rt: &impl Abort, alloc: Global, lines: &[&str]) -> Result<(), AllocError> {
     for line in lines {
         let Some((text, wanted)) = line.split_once(" | ") else {
             return Err(AllocError);
         };
-        let atom = over_x_and_a(alloc, text)?.text_atom();
-        assert_eq!(rt; told_text(alloc, atom)?.as_str(), wanted, "{text}");
+        let access = over_x_and_a(alloc, text)?.access()?;
+        let copy = copied_access(alloc, &access)?;
+        assert_eq!(rt; told_access(alloc, &access)?.as_str(), wanted, "{text}");
+        assert_eq!(rt;
+            told_access(alloc, &copy)?.as_str(),
+            wanted,
+            "{text}, copied"
+        );
     }
     Ok(())
 }
 
 #[test]
-fn predicates_with_their_text_atoms(rt: HostRuntime) -> Result<(), Fail> {
+fn predicates_with_their_accesses(rt: HostRuntime) -> Result<(), Fail> {
     let lines = [
-        "text(r.x) = text(s.a) | 0 1",
-        "text(s.a) = text(r.x) | 0 1",
-        "r.x < s.x and text(r.a) = text(s.x) and text(r.x) = text(s.a) | 1 0",
+        "text(r.x) = text(s.a) | [0 1]",
+        "text(s.a) = text(r.x) | [0 1]",
+        "r.x + 5 = s.a | [+0 +1 -5]",
+        "s.a - r.x = 3 | [-0 -1 3]",
+        "r.x + r.a = s.x - s.a + s.a | [+0+1 +0-1+1 0]",
+        "r.x < s.x and text(r.a) = text(s.x) and r.x = s.a | [1 0][+0 +1 0]",
+        "1 = 1 and (text(r.x) = text(s.a) and (r.a = s.x and 2 = 2)) | [0 1][+1 +0 0]",
+        "(text(r.x) = text(s.a) or 1 = 1) and r.x = s.x | [+0 +0 0]",
+        "abs(r.a - r.x) <= 2 and text(r.x) = text(s.x) | [0 0]",
+        "abs(r.a - s.a) > 2 and text(r.x) = text(s.x) | [0 0]",
+        "abs(r.a - s.a) <= 2 and text(r.x) = text(s.x) and r.x = s.x | [0 0][+0 +0 0]",
+    ];
+    tells_accesses(&rt, rt.alloc(), &lines)?;
+    Ok(())
+}
+
+#[test]
+fn predicates_without_an_access(rt: HostRuntime) -> Result<(), Fail> {
+    let lines = [
+        "r.x <= s.x | none",
+        "r.x != s.x | none",
+        "r.x = 3 and r.x = r.a | none",
         "text(r.x) = text(r.a) and text(s.x) = 'u' | none",
         "text(r.x) < text(s.a) | none",
         "text(r.x) = text(s.a) or 1 = 1 | none",
         "not text(r.x) = text(s.a) | none",
-        "1 = 1 and (text(r.x) = text(s.a) and 2 = 2) | none",
+        "abs(r.a - s.a) <= 2 and text(r.x) = text(s.x) | none",
+        "text(r.x) = text(s.x) and r.x <= s.x and abs(r.a - s.a) < 1 | none",
     ];
-    tells_text_atoms(&rt, rt.alloc(), &lines)?;
+    tells_accesses(&rt, rt.alloc(), &lines)?;
     Ok(())
 }
 
@@ -217,9 +269,7 @@ fn row(alloc: Global, first: &str, second: &str) -> Result<Cells, AllocError>
 }
 
 // The first column less the second.
-fn difference(alloc: Global) -> Result<Linear, AllocError>
-    ensures { IfOk result (λ sum. AreBelow 2 sum.parts) }
-{
+fn difference(alloc: Global) -> Result<Linear, AllocError> {
     let mut parts = Parts::new(alloc);
     parts.push(Part {
         minus: false,
@@ -263,5 +313,10 @@ fn sums_with_their_values(rt: HostRuntime) -> Result<(), Fail> {
     )?;
     both_values(&rt, alloc, "-", "7", "none")?;
     both_values(&rt, alloc, "5", "-", "none")?;
+    assert_eq!(rt;
+        difference(alloc)?.value(&Cells::new(alloc)),
+        None,
+        "beyond the row"
+    );
     Ok(())
 }

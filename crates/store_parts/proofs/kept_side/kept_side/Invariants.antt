@@ -6,5 +6,5 @@ use Rattle.store_parts.proofs.kept_side.kept_side.Given as goal
 abbrev pub invariant-loop-tuple : goal.invariant-loop-tuple
 invariant-loop-tuple l = record {
   kept : l.copies ≡ filter (holds l.shape.k l.shape.shift l.id) (take l.tuple-index l.tuples);
-  indexed : IsIndexed l.key l.text l.side l.copies l.copies_index;
+  indexed : IsIndexed l.key l.access l.side l.copies l.copies_index;
 }

@@ -2,7 +2,7 @@ use Rattle.std.proofs.Common.{subst, sym, ap, ℕ}
 use Rattle.join_rows.specs.Lists.{SameBag}
 use Rattle.join_rows.proofs.Bags.{SameBag-trans}
 use Rattle.joiner_law.specs.Law.{Taken, store}
-use Rattle.joiner_core.specs.State.{Stocked, tuples_of, IsKeyOf}
+use Rattle.joiner_core.specs.State.{Stocked, tuples_of, IsAccessOf, IsKeyOf}
 use Rattle.joiner_core.proofs.WholeLaw.{store-law}
 use Rattle.joiner_core.proofs.Fresh.{same-bag}
 use Rattle.joiner_core.proofs.CallerFacts.{sound-at-work}
@@ -21,3 +21,9 @@ returns-clause-key c = rw (← c.self.view_is) (λ going.
     let m = (state_of c.self.inside.machine) in
     subst (λ (z : Stocked). IsKeyOf m.epochs.theta z.key) (sym c.settled_store.ensures)
     (sound-at-work (record { machine = m; spent = c.self.inside.spent }) c.self.invariant going).within.stock.key)
+
+pub returns-clause-access : goal.returns-clause-access
+returns-clause-access c = rw (← c.self.view_is) (λ going.
+    let m = (state_of c.self.inside.machine) in
+    subst (λ (z : Stocked). IsAccessOf m.epochs.theta z.access) (sym c.settled_store.ensures)
+    (sound-at-work (record { machine = m; spent = c.self.inside.spent }) c.self.invariant going).within.stock.access)

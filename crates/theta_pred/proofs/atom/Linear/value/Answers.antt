@@ -6,7 +6,7 @@ use Rattle.theta_pred.specs.Linear.{value_of}
 use Rattle.theta_pred.specs.Sizes.{IsAtMost}
 use Rattle.theta_pred.specs.Sums.{plus}
 use Rattle.theta_pred.proofs.SumSteps.{IsAtMost-next}
-use Rattle.theta_pred.proofs.KeySums.{value_step, below_step}
+use Rattle.theta_pred.proofs.KeySums.{value_step}
 use Rattle.theta_pred.proofs.atom.Linear.value.Goals as goal
 
 pub loop-part-preserved : goal.loop-part-preserved
@@ -27,7 +27,6 @@ loop-part-preserved c =
     record {
       value = subst (λ v. plus (Some v) (value_of (drop (i + 1) items) row) ≡ value_of c.args.self.now.parts row) is
           (value_step row items i default before x _ c.loop-part-test.true c.in_ok-value.ensures.value c.loop-part.invariant.value);
-      below = below_step (length row) items i default c.loop-part-test.true c.loop-part.invariant.below;
       small = subst (IsAtMost (2 ^ 63 * (i + 1))) is (IsAtMost-next (2 ^ 63) i before x v_small x_small);
       all = c.loop-part.invariant.all;
     }

@@ -1,33 +1,35 @@
 use Rattle.std.proofs.Common.{◌≡◌, ◌++◌, ◌+◌, ◌∙◌, List, ℕ, ap, subst, count_by, filter}
 use Rattle.std.specs.Result.{OnOk, OnErr}
 use Rattle.epoch_tags.specs.declared.tuple.Pair.{Pair}
+use Rattle.theta_pred.specs.Accesses.{agreements}
+use Rattle.store_parts.specs.Accessed.{is_admitted}
 use Rattle.store_parts.specs.Keyed.{at_places}
-use Rattle.store_parts.specs.Matches.{matches, has_same_text, is_named, AppendsFront}
-use Rattle.store_parts.proofs.SameTexts.{matches_by_text, count_by_text}
-use Rattle.store_parts.proofs.probe.seek_text.Goals as goal
+use Rattle.store_parts.specs.Matches.{matches, is_named, AppendsFront}
+use Rattle.store_parts.proofs.SameNumbers.{matches_by_access, count_by_access}
+use Rattle.store_parts.proofs.probe.seek_by.Goals as goal
 
 pub returns-clause-ok : goal.returns-clause-ok
 returns-clause-ok g c =
     let at = ap (at_places c.args.others.now) c.as_slice-2.ensures ∙ c.in_ok-kept.ensures.same
-    ∙ ap (λ ps. filter (has_same_text c.args.text c.args.tuple.now) (at_places c.args.others.now ps)) c.as_slice.ensures ∙ c.in_ok-places.ensures.texts in
+    ∙ ap (λ ps. filter (is_admitted c.args.access.now c.args.tuple.now) (at_places c.args.others.now ps)) c.as_slice.ensures ∙ c.in_ok-places.ensures.admitted in
     let found = ap (matches c.args.theta.now c.args.tuple.now c.args.which) at
-    ∙ matches_by_text c.args.theta.now c.args.text c.args.tuple.now c.args.which c.args.others.now (c.text_law.ensures c.args.text c.requires.own) in
+    ∙ matches_by_access c.args.theta.now c.args.access.now c.args.tuple.now c.args.which c.args.others.now (c.access_law.ensures (agreements c.args.access.now) c.requires.own) in
     let P : List Pair → Type 0 = λ pairs. OnOk c.try_places.result (c.try_places.new.found ≡ c.args.found.now ++ pairs) in
     subst P found c.try_places.ensures.ok
 
 pub returns-clause-err : goal.returns-clause-err
 returns-clause-err g c =
     let at = ap (at_places c.args.others.now) c.as_slice-2.ensures ∙ c.in_ok-kept.ensures.same
-    ∙ ap (λ ps. filter (has_same_text c.args.text c.args.tuple.now) (at_places c.args.others.now ps)) c.as_slice.ensures ∙ c.in_ok-places.ensures.texts in
+    ∙ ap (λ ps. filter (is_admitted c.args.access.now c.args.tuple.now) (at_places c.args.others.now ps)) c.as_slice.ensures ∙ c.in_ok-places.ensures.admitted in
     let found = ap (matches c.args.theta.now c.args.tuple.now c.args.which) at
-    ∙ matches_by_text c.args.theta.now c.args.text c.args.tuple.now c.args.which c.args.others.now (c.text_law.ensures c.args.text c.requires.own) in
+    ∙ matches_by_access c.args.theta.now c.args.access.now c.args.tuple.now c.args.which c.args.others.now (c.access_law.ensures (agreements c.args.access.now) c.requires.own) in
     let P : List Pair → Type 0 = λ pairs. OnErr c.try_places.result (AppendsFront c.args.found.now c.try_places.new.found pairs) in
     subst P found c.try_places.ensures.err
 
 pub returns-clause-steps : goal.returns-clause-steps
 returns-clause-steps g c =
     let at = ap (at_places c.args.others.now) c.as_slice-2.ensures ∙ c.in_ok-kept.ensures.same
-    ∙ ap (λ ps. filter (has_same_text c.args.text c.args.tuple.now) (at_places c.args.others.now ps)) c.as_slice.ensures ∙ c.in_ok-places.ensures.texts in
-    let counted = ap (count_by (is_named c.args.which)) at ∙ count_by_text c.args.text c.args.tuple.now c.args.which c.args.others.now in
+    ∙ ap (λ ps. filter (is_admitted c.args.access.now c.args.tuple.now) (at_places c.args.others.now ps)) c.as_slice.ensures ∙ c.in_ok-places.ensures.admitted in
+    let counted = ap (count_by (is_named c.args.which)) at ∙ count_by_access c.args.access.now c.args.tuple.now c.args.which c.args.others.now in
     let P : ℕ → Type 0 = λ n. OnOk c.try_places.result (c.try_places.new.steps ≡ c.args.steps.now + n) in
     subst P counted c.try_places.ensures.steps

@@ -1,0 +1,139 @@
+// The numbers by which tuples are looked up, and whether two tuples agree.
+
+ghost use Rattle.std.specs.Prelude.{◌≡◌, ◌+◌, ◌*◌, ◌%◌, ◌^◌, pos, IfSome, Some};
+ghost use Rattle.theta_pred.specs.Keys.{is_between};
+ghost use Rattle.theta_pred.specs.Sizes.{IsAtMost};
+ghost use Rattle.store_parts.specs.Accessed.{is_admitted, number_at, number_from, number_of, value_on};
+ghost use Rattle.store_parts.specs.Keyed.{indexed_at, FitsKeyAt};
+ghost use Rattle.theta_pred.specs.Accesses.{agreement_of, agreements, agrees, do_agree};
+ghost use Rattle.theta_pred.specs.TextAtoms.{text_at};
+
+use crate::band::{difference, value_of};
+use epoch_tags::Tuple;
+use join_rows::{Cells, Side};
+use theta_pred::{Access, KeyAtom, Same};
+
+// The text of a row in a column, empty where it has no such column.
+fn text_at(row: &Cells, column: u64) -> &[u8]
+    ensures { result.now ≡ text_at column row.now }
+{
+    if column < row.len() {
+        row.at(column).text.as_slice()
+    } else {
+        &[]
+    }
+}
+
+// The number of a text. It is the text's polynomial at a prime, modulo 2^64.
+fn number_of(text: &[u8]) -> u64
+    ensures { result ≡ number_of text.now }
+{
+    let mut number = 0u64;
+    for byte in text {
+        number = number
+            .wrapping_mul(1099511628211)
+            .wrapping_add(u64::from(*byte));
+    }
+    number
+}
+
+// The number of a row's text in a column.
+fn text_number(row: &Cells, column: u64) -> i128
+    ensures { result ≡ pos (number_of (text_at column row.now)) }
+{
+    i128::from(number_of(text_at(row, column)))
+}
+
+// The value of a row of this side in what is compared.
+fn value_on(same: &Same, side: Side, row: &Cells) -> Option<i128>
+    ensures { result ≡ value_on side same.now row.now }
+{
+    match same {
+        Same::Texts(atom) => match side {
+            Side::R => Some(text_number(row, atom.r)),
+            Side::S => Some(text_number(row, atom.s)),
+        },
+        Same::Sums(pair) => match side {
+            Side::R => match pair.r_sum.value(row) {
+                Some(value) => Some(difference(value, pair.gap)),
+                None => None,
+            },
+            Side::S => pair.s_sum.value(row),
+        },
+    }
+}
+
+// The number of a tuple of this side, of all its values.
+pub(crate) fn number(access: &Access, side: Side, tuple: &Tuple) -> Option<i128>
+    ensures { result ≡ number_at access.now side tuple.now }
+{
+    let mut number = 0i128;
+    for same in access.sames.as_slice() {
+        let Some(value) = value_on(same, side, &tuple.cells) else {
+            return None;
+        };
+        number = number.wrapping_mul(1099511628211).wrapping_add(value);
+    }
+    Some(number)
+}
+
+// Whether two sums are so much apart.
+fn are_apart(gap: i128, x: Option<i128>, y: Option<i128>) -> bool
+    requires x { IfSome x (IsAtMost (2 ^ 68)) }
+    requires y { IfSome y (IsAtMost (2 ^ 68)) }
+    ensures { result ≡ is_between (Some gap) (Some gap) x y }
+{
+    match (x, y) {
+        (Some(x), Some(y)) => gap <= x - y && x - y <= gap,
+        _ => false,
+    }
+}
+
+// Whether two rows agree in this.
+fn agrees(same: &Same, r: &Cells, s: &Cells) -> bool
+    ensures { result ≡ agrees r.now s.now (agreement_of same.now) }
+{
+    match same {
+        Same::Texts(atom) => text_at(r, atom.r) == text_at(s, atom.s),
+        Same::Sums(pair) => are_apart(pair.gap, pair.r_sum.value(r), pair.s_sum.value(s)),
+    }
+}
+
+// Whether they agree in all.
+fn do_agree(access: &Access, r: &Cells, s: &Cells) -> bool
+    ensures { result ≡ do_agree (agreements access.now) r.now s.now }
+{
+    for same in access.sames.as_slice() {
+        if !agrees(same, r, s) {
+            return false;
+        }
+    }
+    true
+}
+
+// Whether a tuple that probes and a stored one agree in all.
+pub(crate) fn is_admitted(access: &Access, tuple: &Tuple, other: &Tuple) -> bool
+    ensures { result ≡ is_admitted access.now tuple.now other.now }
+{
+    match tuple.side {
+        Side::R => do_agree(access, &tuple.cells, &other.cells),
+        Side::S => do_agree(access, &other.cells, &tuple.cells),
+    }
+}
+
+// By what number a tuple of this side stands in the index.
+pub(crate) fn indexed_at(
+    key: &Option<KeyAtom>,
+    access: &Option<Access>,
+    side: Side,
+    tuple: &Tuple,
+) -> Option<i128>
+    requires { FitsKeyAt key.now side tuple.now }
+    ensures { result ≡ indexed_at key.now access.now side tuple.now }
+{
+    match (key, access) {
+        (_, Some(access)) => number(access, side, tuple),
+        (Some(key), None) => value_of(key, side, tuple),
+        (None, None) => None,
+    }
+}
