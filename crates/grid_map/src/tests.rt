@@ -1,5 +1,7 @@
 use crate::*;
 
+const ONE: Weights = Weights { r: 1, s: 1 };
+
 #[test]
 fn tickets_meet_at_one_joiner(rt: HostRuntime) {
     let cases = [(2, 3, 2), (3, 1, 6)];
@@ -26,7 +28,7 @@ fn the_best_shift_stays_at_a_tie_and_else_is_the_smallest(rt: HostRuntime) {
     ];
     for (shift, x, y, want) in copies_of {
         assert_eq!(rt;
-            copies(Shape { k: 4, shift }, x, y),
+            copies(Shape { k: 4, shift }, ONE, x, y),
             want,
             "shift {shift}, {x} rows"
         );
@@ -43,9 +45,23 @@ fn the_best_shift_stays_at_a_tie_and_else_is_the_smallest(rt: HostRuntime) {
     ];
     for (k, shift, x, y, want) in cases {
         assert_eq!(rt;
-            best_shift(Shape { k, shift }, x, y),
+            best_shift(Shape { k, shift }, ONE, x, y),
             want,
             "shift {shift}, {x} and {y} rows"
         );
     }
+}
+
+#[test]
+fn a_heavy_side_moves_the_best_shift(rt: HostRuntime) {
+    let weights = Weights { r: 4, s: 1 };
+    let cases = [(0, 64), (1, 80), (2, 136)];
+    for (shift, want) in cases {
+        assert_eq!(rt;
+            copies(Shape { k: 2, shift }, weights, 8, 8),
+            want,
+            "shift {shift}"
+        );
+    }
+    assert_eq!(rt; best_shift(Shape { k: 2, shift: 1 }, weights, 8, 8), 0);
 }

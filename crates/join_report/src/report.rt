@@ -1,14 +1,15 @@
 // The report of a run.
 
-ghost use Rattle.std.specs.Prelude.{◌≡◌, ◌<◌, ◌≤◌, ◌^◌, ◌++◌, ℕ, IfOk, OnOk, length, string_bytes};
+ghost use Rattle.std.specs.Prelude.{◌≡◌, ◌<◌, ◌≤◌, ◌*◌, ◌^◌, ◌++◌, ℕ, IfOk, OnOk, length, string_bytes};
+ghost use Rattle.grid_map.specs.Load.{AreWeights};
 ghost use Rattle.load_controller.specs.Journal.{last_epoch as last_epoch', shift_at as shift_at'};
 ghost use Rattle.trace_law.specs.Validity.{IsValidSetting};
-ghost use Rattle.trace_law.specs.Family.{first_line};
+ghost use Rattle.trace_law.specs.Family.{first_rest};
 ghost use Rattle.join_report.specs.Report.{AreWithin, final_line, grid_line, grid_lines, input_line, joiner_line, joiner_lines, last_shift as last_shift', report_of};
 ghost use Rattle.join_report.specs.Report as report;
 
 use epoch_tags::Counts;
-use grid_map::{Shape, best_shift, copies};
+use grid_map::{Shape, Weights, best_shift, copies};
 use load_controller::Journal;
 use pair_collector::{Held, Loads};
 use std::alloc::{AllocError, Global};
@@ -41,7 +42,7 @@ fn last_epoch(journal: &Journal) -> u32
 /// The shift of the first epoch.
 fn first_shift(setting: &Setting) -> u32
     requires { IsValidSetting setting.now }
-    ensures shift { result ≡ (first_line setting.now).shift }
+    ensures shift { result ≡ (first_rest setting.now).line.shift }
     ensures within { result ≤ setting.now.k }
 {
     setting.fixed.unwrap_or(setting.k / 2)
@@ -111,30 +112,39 @@ fn write_grids(
 }
 
 /// The fewest copies at any shift.
-fn least_copies(shape: Shape, x: u64, y: u64) -> u64
+fn least_copies(shape: Shape, weights: Weights, x: u64, y: u64) -> u64
     requires shift { shape.shift ≤ shape.k }
     requires k { shape.k ≤ 8 }
+    requires weights { AreWeights weights }
     requires x { x ≤ 2 ^ 32 }
     requires y { y ≤ 2 ^ 32 }
-    ensures { result ≡ report.least_copies shape.k shape.shift x y }
+    ensures { result
+        ≡ report.least_copies shape.k shape.shift (weights.r * x) (weights.s * y) }
 {
-    let shift = best_shift(shape, x, y);
-    copies(Shape { k: shape.k, shift }, x, y)
+    let shift = best_shift(shape, weights, x, y);
+    copies(Shape { k: shape.k, shift }, weights, x, y)
 }
 
 /// Adds the line of the grid and of what it costs.
-fn write_final(text: &mut String, shape: Shape, x: u64, y: u64) -> Result<(), AllocError>
+fn write_final(
+    text: &mut String,
+    shape: Shape,
+    weights: Weights,
+    x: u64,
+    y: u64,
+) -> Result<(), AllocError>
     requires shift { shape.shift ≤ shape.k }
     requires k { shape.k ≤ 8 }
+    requires weights { AreWeights weights }
     requires x { x ≤ 2 ^ 32 }
     requires y { y ≤ 2 ^ 32 }
     ensures { OnOk result (string_bytes text.new
-        ≡ string_bytes text.old ++ final_line shape.k shape.shift x y) }
+        ≡ string_bytes text.old ++ final_line shape.k weights shape.shift x y) }
 {
     let n = power(shape.k - shape.shift);
     let m = power(shape.shift);
-    let held = copies(shape, x, y);
-    let best = least_copies(shape, x, y);
+    let held = copies(shape, weights, x, y);
+    let best = least_copies(shape, weights, x, y);
     write!(text, "final {n} {m} copies {held} best {best}\n")
 }
 
@@ -165,9 +175,10 @@ fn write_joiners(text: &mut String, loads: &Loads, made: &Counts) -> Result<(), 
 /// The report of a run of this setting, with `rows_r` rows of R and `rows_s` of S: a line `input x y` of the
 /// numbers of rows; for each step a line `grid e n m moved q` of the epoch that it led to, counted from 1, its
 /// grid's rows and columns, and how many rows moved; a line `final n m copies c best d` of the last grid's rows,
-/// its columns, its copies and the fewest copies at any shift; and for each joiner, ids rising from 0, a line
-/// `joiner id held r s made p` of the rows of R and of S that it holds and the pairs that it made. Of the run's
-/// `made` and `loads`, what the longer one has past the end of the other is passed over.
+/// its columns, its copies and the fewest copies at any shift, each copy counting the weight of its side; and for
+/// each joiner, ids rising from 0, a line `joiner id held r s made p` of the rows of R and of S that it holds and the
+/// pairs that it made. Of the run's `made` and `loads`, what the longer one has past the end of the other is passed
+/// over.
 pub fn report_text(
     alloc: Global,
     setting: &Setting,
@@ -191,7 +202,7 @@ pub fn report_text(
         k: setting.k,
         shift,
     };
-    write_final(&mut text, shape, rows_r, rows_s)?;
+    write_final(&mut text, shape, setting.weights, rows_r, rows_s)?;
     write_joiners(&mut text, &run.loads, &run.made)?;
     Ok(text)
 }

@@ -5,6 +5,7 @@ mod joined;
 
 use crate::{pairs_text, report_text};
 use epoch_tags::{Counts, Pair, Pairs};
+use grid_map::Weights;
 use load_controller::{Cause, Journal, TurnLine};
 use pair_collector::{Held, Loads};
 use row_tickets::Feed;
@@ -82,6 +83,7 @@ fn a_report_tells_of_steps_and_joiners(rt: HostRuntime) -> Result<(), Fail> {
         batch: 4,
         feed: Feed::RFirst,
         fixed: None,
+        weights: Weights { r: 1, s: 1 },
     };
     let run = Run {
         pairs: Pairs::new(alloc),
@@ -98,17 +100,10 @@ fn a_report_tells_of_steps_and_joiners(rt: HostRuntime) -> Result<(), Fail> {
     Ok(())
 }
 
+// Three rows a side in a grid of four that stays at shift 0; a heavy side R changes what is best, and nothing else.
 #[test]
 fn a_fixed_grid_has_no_steps(rt: HostRuntime) -> Result<(), Fail> {
     let alloc = rt.alloc();
-    let setting = Setting {
-        k: 2,
-        feeders: 2,
-        workers: 4,
-        batch: 64,
-        feed: Feed::Alternate,
-        fixed: Some(0),
-    };
     let run = Run {
         pairs: Pairs::new(alloc),
         made: counts(alloc, &[0, 2, 1, 0])?,
@@ -117,9 +112,53 @@ fn a_fixed_grid_has_no_steps(rt: HostRuntime) -> Result<(), Fail> {
         journal: Journal::new(alloc),
         bouts: 0,
     };
-    let text = report_text(alloc, &setting, 3, 3, &run)?;
+    let joiners =
+        "joiner 0 held 0 3 made 0\njoiner 1 held 1 3 made 2\njoiner 2 held 2 3 made 1\njoiner 3 held 0 3 made 0\n";
+    let cases = [(1, "copies 15 best 12"), (4, "copies 24 best 24")];
+    for (weight_r, costs) in cases {
+        let setting = Setting {
+            k: 2,
+            feeders: 2,
+            workers: 4,
+            batch: 64,
+            feed: Feed::Alternate,
+            fixed: Some(0),
+            weights: Weights { r: weight_r, s: 1 },
+        };
+        let text = report_text(alloc, &setting, 3, 3, &run)?;
+        let wanted = format!(in alloc; "input 3 3\nfinal 4 1 {costs}\n{joiners}")?;
+        assert!(rt;
+            text.as_str() == wanted.as_str(),
+            "rows of R weigh {weight_r}"
+        );
+    }
+    Ok(())
+}
+
+// Eight rows a side, those of R twice as heavy, in a grid that goes to shift 0 and stays there.
+#[test]
+fn a_heavy_side_counts_its_weight(rt: HostRuntime) -> Result<(), Fail> {
+    let alloc = rt.alloc();
+    let setting = Setting {
+        k: 2,
+        feeders: 1,
+        workers: 4,
+        batch: 4,
+        feed: Feed::RFirst,
+        fixed: None,
+        weights: Weights { r: 2, s: 1 },
+    };
+    let run = Run {
+        pairs: Pairs::new(alloc),
+        made: counts(alloc, &[16, 16, 16, 16])?,
+        loads: loads(alloc, &[(2, 8), (2, 8), (2, 8), (2, 8)])?,
+        moved: counts(alloc, &[0])?,
+        journal: journal(alloc, &[(0, 1), (1, 0), (1, 0)])?,
+        bouts: 0,
+    };
+    let text = report_text(alloc, &setting, 8, 8, &run)?;
     let wanted =
-        "input 3 3\nfinal 4 1 copies 15 best 12\njoiner 0 held 0 3 made 0\njoiner 1 held 1 3 made 2\njoiner 2 held 2 3 made 1\njoiner 3 held 0 3 made 0\n";
+        "input 8 8\ngrid 1 4 1 moved 0\nfinal 4 1 copies 48 best 48\njoiner 0 held 2 8 made 16\njoiner 1 held 2 8 made 16\njoiner 2 held 2 8 made 16\njoiner 3 held 2 8 made 16\n";
     assert!(rt; text.as_str() == wanted);
     Ok(())
 }

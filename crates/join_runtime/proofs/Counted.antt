@@ -1,5 +1,5 @@
 -- A bout that goes on makes an event, which its lists count.
-use Rattle.std.proofs.Common.{◌≡◌, ℕ, zero, suc, ◌+◌, ◌^◌, ◌<◌, ◌≤◌, inl, inr, refl, sym, ap, subst, ◌∙◌, Bool, true, false, true≢false, cond, Option, Some, None, List, [], ◌∷◌, ◌++◌, filter_map, get_or, length, append_assoc, Result, Ok, Err, arith}
+use Rattle.std.proofs.Common.{◌≡◌, ℕ, zero, suc, ◌+◌, ◌-◌, ◌^◌, ◌<◌, ◌≤◌, inl, inr, refl, sym, ap, subst, ◌∙◌, Bool, true, false, true≢false, cond, Option, Some, None, List, [], ◌∷◌, ◌++◌, filter_map, get_or, length, append_assoc, Result, Ok, Err, arith}
 use Rattle.std.specs.Prelude.{IfOk, slice_get}
 use mathlib.Core.Path.{fun_ext}
 use Rattle.std.specs.List.{AllByRecursion}
@@ -21,6 +21,8 @@ use Rattle.trace_law.specs.declared.input.Input.{Input}
 use Rattle.trace_law.specs.declared.setting.Setting.{Setting}
 use Rattle.trace_law.specs.Validity.{IsValid}
 use Rattle.trace_law.specs.Laws.{EventsAreFew}
+use Rattle.trace_law.specs.Family.{first_rest}
+use Rattle.trace_law.proofs.First.{stands as first_stands}
 use Rattle.link_trace.specs.Lists.{ActorLists, Cause, Took, Began, no_lists, posted_to, same_actor, with_event}
 use Rattle.link_trace.specs.Standing.{Event, GoOut, Stands, Waits}
 use Rattle.link_trace.specs.Families.{AreFronts, IsActor, after_event, changed, family_of, start_for}
@@ -294,8 +296,10 @@ goes_on false done ends open_yet = absurd (true≢false (sym (ends refl) ∙ ope
 pub few_bouts : EventsAreFew → (input : Input) (setting : Setting) → IsValid input setting → (v : SeatsView) (bouts : ℕ) → IsCounted setting v bouts
     → (journal : List TurnLine) (lists : Actor → ActorLists) → ((a : Actor) → lists a ≡ lists_in v a) → IsFinishedFamily input setting journal lists → bouts ≤ most_events input setting (last_epoch journal)
 few_bouts few input setting valid v bouts counted journal lists same family =
-    let most = few input setting (family_of journal lists) valid family.agrees in
-    let all = subst (λ (f : Actor → ActorLists). count setting f ≤ most_events input setting (last_epoch journal)) (fun_ext same) most in
+    let most = few input setting (first_rest setting) (family_of journal lists) valid (first_stands input setting valid) family.agrees in
+    let from_none : last_epoch journal - 0 ≡ last_epoch journal = omega arith in
+    let most' : count setting lists ≤ most_events input setting (last_epoch journal) = subst (λ e. count setting lists ≤ most_events input setting e) from_none most in
+    let all = subst (λ (f : Actor → ActorLists). count setting f ≤ most_events input setting (last_epoch journal)) (fun_ext same) most' in
     let enough = counted.enough in
     omega (arith, all, enough)
 

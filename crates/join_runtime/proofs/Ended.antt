@@ -16,6 +16,8 @@ use Rattle.trace_law.specs.declared.run.Run.{Run}
 use Rattle.trace_law.specs.Validity.{IsValid}
 use Rattle.trace_law.specs.Runs.{IsRunOf, run_of}
 use Rattle.trace_law.specs.Laws.{CompleteIsFinished, FinishedAnswers}
+use Rattle.trace_law.specs.Family.{first_rest}
+use Rattle.trace_law.proofs.First.{stands as first_stands}
 use Rattle.link_trace.specs.Lists.{ActorLists, collector_lists, no_lists}
 use Rattle.link_trace.specs.Standing.{Stands, OfCollector}
 use Rattle.link_trace.specs.Families.{AreFronts, journal_of}
@@ -94,12 +96,12 @@ module _ (law : CompleteIsFinished) (v : SeatsView) (done : is_collected v ≡ t
   pub family_ends : IsFinishedFamily input setting (journal_in v) (lists_in v)
   family_ends =
       let agreeing = agrees input setting v stands fronts in
-      record { agrees = agreeing; finished = law input setting (family_in v) valid agreeing collected }
+      record { agrees = agreeing; finished = law input setting (first_rest setting) (family_in v) valid (first_stands input setting valid) agreeing collected }
 
   module _ (answers_law : FinishedAnswers) (joined : AreJoined v.joiners v.feeders (map frame_of v.seats)) (rest : List Core) (controller : ControllerState) (collector : CollectorState)
       (are : map (λ (s : SeatView). s.core) v.seats ≡ (rest ++ TheController controller ∷ []) ++ TheCollector collector ∷ []) (bouts : ℕ) (run : Run)
       (answers : (joiners : ℕ) (ls : CollectorLists) → CollectorStands joiners ls collector → IsAnswerOf joiners ls controller.journal bouts run) where
-    run_ends : IsRunOf input setting (journal_in v) run
+    run_ends : IsRunOf input setting (first_rest setting).line (journal_in v) run
     run_ends =
         let family = family_ends in
         let first = controller_seat v joined rest (TheController controller) (TheCollector collector) are in
@@ -109,12 +111,12 @@ module _ (law : CompleteIsFinished) (v : SeatsView) (done : is_collected v ≡ t
         let core_is : own.0.core ≡ TheCollector collector = ap (λ (s : SeatView). s.core) (some_is own.0 last.0 (sym own.1 ∙ last.1)) ∙ last.2 in
         let its = subst (λ core. Stands (OfCollector (2 ^ setting.k)) (lists_in v Collector) core) core_is (stands_in input setting v stands Collector tt) in
         let answer = answers (2 ^ setting.k) (collector_lists (lists_in v Collector)) its in
-        let told = answers_law input setting (family_in v) valid family.agrees family.finished answer.collected answer.collects bouts in
+        let told = answers_law input setting (first_rest setting) (family_in v) valid (first_stands input setting valid) family.agrees family.finished answer.collected answer.collects bouts in
         let run_is : run ≡ run_of answer.collected (journal_in v) bouts = answer.run_is ∙ ap (λ js. run_of answer.collected js bouts) (sym journal_is) in
-        subst (IsRunOf input setting (journal_in v)) (sym run_is) told
+        subst (IsRunOf input setting (first_rest setting).line (journal_in v)) (sym run_is) told
 
-    pub told_run : IsRunOf input setting run.journal run
-    told_run = subst (λ js. IsRunOf input setting js run) (sym run_ends.keeps) run_ends
+    pub told_run : IsRunOf input setting (first_rest setting).line run.journal run
+    told_run = subst (λ js. IsRunOf input setting (first_rest setting).line js run) (sym run_ends.keeps) run_ends
 
     pub told_family : (e : EndsView) → ((a : Actor) → lists_left e a ≡ lists_in v a) → IsFinishedFamily input setting run.journal (lists_left e)
     told_family e same =

@@ -4,7 +4,7 @@ use Rattle.epoch_tags.specs.declared.actor.Actor.{Actor}
 use Rattle.epoch_tags.specs.declared.actor.Actor.TheVariants.{Controller}
 use Rattle.trace_law.specs.declared.input.Input.{Input}
 use Rattle.trace_law.specs.declared.setting.Setting.{Setting}
-use Rattle.trace_law.specs.Family.{IsAgreeing}
+use Rattle.trace_law.specs.Family.{IsAgreeing, first_rest}
 use Rattle.link_trace.specs.Standing.{Stands}
 use Rattle.link_trace.specs.Families.{AreFronts, IsActor, family_of, journal_of, start_for}
 use Rattle.link_trace.proofs.Families.{agrees as agreeing}
@@ -21,7 +21,7 @@ module _ (input : Input) (setting : Setting) (v : SeatsView) (stands : StandsFor
   journal_is : journal_in v ≡ journal_of (stands.stands Controller tt).0.core
   journal_is = ap journal_at (stands.stands Controller tt).1
 
-  pub agrees : AreFronts (lists_in v) → IsAgreeing input setting (family_in v)
+  pub agrees : AreFronts (lists_in v) → IsAgreeing input setting (first_rest setting) (family_in v)
   agrees fronts =
-      subst (λ js. IsAgreeing input setting (family_of js (lists_in v))) (sym journal_is)
+      subst (λ js. IsAgreeing input setting (first_rest setting) (family_of js (lists_in v))) (sym journal_is)
       (agreeing input setting (lists_in v) (λ a is. ((stands.stands a is).0.core, stands_in a is)) fronts ⊥ (λ w. absurd w))

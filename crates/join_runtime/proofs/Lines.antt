@@ -18,7 +18,9 @@ use Rattle.pair_collector.specs.Standing.{nothing_yet}
 use Rattle.pair_collector.proofs.Fresh.{since_joins}
 use Rattle.trace_law.specs.declared.input.Input.{Input}
 use Rattle.trace_law.specs.declared.setting.Setting.{Setting}
-use Rattle.trace_law.specs.Join.{nested_loop}
+use Rattle.trace_law.specs.Join.{nested_loop, wave_pairs}
+use Rattle.trace_law.specs.Family.{first_rest}
+use Rattle.trace_law.proofs.First.{all_pairs, stands as first_stands}
 use Rattle.trace_law.specs.Laws.{AnswersInTheEnd, TakesNothingWrong}
 use Rattle.trace_law.specs.Validity.{IsValid}
 use Rattle.link_trace.specs.Families.{AreFronts, family_of}
@@ -66,7 +68,9 @@ nothing_put input setting v old room stands empty given =
 -- ---- a front of the lines
 
 right : TakesNothingWrong → (input : Input) (setting : Setting) → IsValid input setting → (v : SeatsView) → StandsFor input setting v → AreFronts (lists_in v) → IsWithinBag (taken_in setting v) (nested_loop input)
-right law input setting valid v stands fronts = law input setting (family_in v) valid (agrees input setting v stands fronts)
+right law input setting valid v stands fronts =
+    subst (IsWithinBag (taken_in setting v)) (all_pairs input setting)
+    (law input setting (first_rest setting) (family_in v) valid (first_stands input setting valid) (agrees input setting v stands fronts))
 
 pub some_put : TakesNothingWrong → (input : Input) (setting : Setting) → IsValid input setting → (v : SeatsView) (bouts : ℕ) (old new : Option (List ℕ)) (room room' : ℕ → Type 0)
     → HasPut input setting v bouts old new room room' → WroteSome input old new
@@ -126,11 +130,12 @@ module _ (law : AnswersInTheEnd) (input : Input) (setting : Setting) (valid : Is
     (journal : List TurnLine) (lists : Actor → ActorLists) (same : (a : Actor) → lists a ≡ lists_in v a) (family : IsFinishedFamily input setting journal lists) where
   all_taken : SameBag (taken_in setting v) (nested_loop input)
   all_taken =
+      let answer = law input setting (first_rest setting) (family_of journal lists) valid (first_stands input setting valid) family.agrees family.finished in
       subst (λ (ls : ActorLists). SameBag (pairs_taken (2 ^ setting.k) (collector_lists ls)) (nested_loop input)) (same Collector)
-      (law input setting (family_of journal lists) valid family.agrees family.finished).pairs
+      (subst (SameBag (pairs_taken (2 ^ setting.k) (collector_lists (lists Collector)))) (all_pairs input setting) answer.pairs)
 
-  pub each_put : (pairs : List Pair) → pairs ≡ nested_loop input → WroteEach pairs old new
-  each_put pairs are = each_written input (taken_in setting v) pairs old new all_taken are put.written
+  pub each_put : (pairs : List Pair) → pairs ≡ wave_pairs input (first_rest setting).line → WroteEach pairs old new
+  each_put pairs are = each_written input (taken_in setting v) pairs old new all_taken (are ∙ all_pairs input setting) put.written
 
   pub room_left : (more : ℕ) → room (length (pair_lines (nested_loop input)) + more) → room' more
   room_left more has = put.takes more (subst (λ n. room (n + more)) (same_long (nested_loop input) (taken_in setting v) (SameBag-sym all_taken)) has)

@@ -12,7 +12,8 @@ use Rattle.trace_law.specs.declared.input.Input.{Input}
 use Rattle.trace_law.specs.declared.setting.Setting.{Setting}
 use Rattle.trace_law.specs.Validity.{IsValid}
 use Rattle.trace_law.specs.Laws.{QuietIsFinished}
-use Rattle.trace_law.specs.Family.{IsQuiet, feeder_start}
+use Rattle.trace_law.specs.Family.{IsQuiet, feeder_start, first_rest}
+use Rattle.trace_law.proofs.First.{stands as first_stands}
 use Rattle.link_trace.specs.Lists.{ActorLists, collector_lists}
 use Rattle.link_trace.specs.Standing.{OfCollector, Stands, Waits}
 use Rattle.link_trace.specs.Families.{AreFronts}
@@ -47,10 +48,10 @@ module _ (v : SeatsView) (still : IsStill v) (input : Input) (setting : Setting)
   none_begins p low =
       let agreeing = agrees input setting v stands fronts in
       let own = stands.stands (Feeder p) low in
-      waits_says p setting.feeders (feeder_start input setting p) (lists_in v (Feeder p)) own.0.core (agreeing.taken_by_feeder p) (stands_in input setting v stands (Feeder p) low)
+      waits_says p setting.feeders (feeder_start input setting (first_rest setting) p) (lists_in v (Feeder p)) own.0.core (agreeing.taken_by_feeder p) (stands_in input setting v stands (Feeder p) low)
       (agreeing.feeders p low) (waits_there (Feeder p) own.0 own.1)
 
-  quiet : IsQuiet input setting (family_in v) (agrees input setting v stands fronts)
+  quiet : IsQuiet input setting (first_rest setting) (family_in v) (agrees input setting v stands fronts)
   quiet = record {
     feeder_joiner = λ p j low low'. ap (filter_map joiner_msg) (still.received (Feeder p) (Joiner j));
     joiner_joiner = λ i j link. ap (filter_map joiner_msg) (still.received (Joiner i) (Joiner j));
@@ -64,6 +65,6 @@ module _ (v : SeatsView) (still : IsStill v) (input : Input) (setting : Setting)
   pub still_collected : QuietIsFinished → IsValid input setting → is_collected v ≡ true
   still_collected law valid =
       let agreeing = agrees input setting v stands fronts in
-      let all = (law input setting (family_in v) valid agreeing quiet).collector in
+      let all = (law input setting (first_rest setting) (family_in v) valid (first_stands input setting valid) agreeing quiet).collector in
       let own = stands.stands Collector tt in
       ap is_complete_at own.1 ∙ complete_core (2 ^ setting.k) (lists_in v Collector) own.0.core (stands_in input setting v stands Collector tt) all

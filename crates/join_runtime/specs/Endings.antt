@@ -9,7 +9,7 @@ use Rattle.ruled_links.specs.Ends.{Sending}
 use Rattle.ruled_links.specs.Inboxes.{InboxView}
 use Rattle.trace_law.specs.declared.input.Input.{Input}
 use Rattle.trace_law.specs.declared.setting.Setting.{Setting}
-use Rattle.trace_law.specs.Family.{Family, IsAgreeing, IsFinished}
+use Rattle.trace_law.specs.Family.{Family, IsAgreeing, IsFinished, first_rest}
 use Rattle.link_trace.specs.Lists.{ActorLists, no_lists}
 use Rattle.link_trace.specs.Families.{family_of, journal_of}
 use Rattle.link_trace.specs.Numbers.{number, at_number}
@@ -57,10 +57,10 @@ journal_in v = journal_at (seat_of v Controller)
 abbrev pub family_in : SeatsView → Family
 family_in v = family_of (journal_in v) (lists_in v)
 
--- these lists and this journal are a family of the input and the setting that agrees and is finished
+-- these lists and this journal are a family of the input and the setting that begins with no rows, agrees and is finished
 pub record IsFinishedFamily (input : Input) (setting : Setting) (journal : List TurnLine) (lists : Actor → ActorLists) : Type 0 where
-  pub agrees : IsAgreeing input setting (family_of journal lists)
-  pub finished : IsFinished input setting (family_of journal lists) agrees
+  pub agrees : IsAgreeing input setting (first_rest setting) (family_of journal lists)
+  pub finished : IsFinished input setting (first_rest setting) (family_of journal lists) agrees
 
 -- each joiner has ended, by this machine
 abbrev pub is_complete_core : Core → Bool

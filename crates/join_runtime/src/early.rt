@@ -6,6 +6,7 @@ ghost use Rattle.join_rows.specs.Shelves.{last_fault};
 ghost use Rattle.join_rows.specs.Sinks.{AppendsFront, PutsSome};
 ghost use Rattle.trace_law.specs.Validity.{IsValidInput, IsValidSetting};
 ghost use Rattle.trace_law.specs.Join.{nested_loop};
+ghost use Rattle.trace_law.specs.Family.{first_rest};
 ghost use Rattle.trace_law.specs.Runs.{IsRunOf};
 ghost use Rattle.load_controller.specs.Journal.{last_epoch};
 ghost use Rattle.link_trace.specs.Order.{most_events};
@@ -84,7 +85,8 @@ pub fn run_early<R: Threads + Wait + Sync, G: Gate, K: Sink>(
     requires sink { K.faults sink.old < last_fault }
     ensures family { IfOk result
         (λ told. IsFinishedFamily input.now setting.now told.run.journal (lists_left told.ends)) }
-    ensures run { IfOk result (λ told. IsRunOf input.now setting.now told.run.journal told.run) }
+    ensures run { IfOk result (λ told. IsRunOf input.now setting.now
+        (first_rest setting.now).line told.run.journal told.run) }
     ensures bound { IfOk result
         (λ told. told.run.bouts ≤ most_events input.now setting.now (last_epoch told.run.journal)) }
     ensures lines { WroteSome input.now (K.written sink.old) (K.written sink.new) }

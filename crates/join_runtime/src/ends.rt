@@ -5,6 +5,7 @@ ghost use Rattle.epoch_tags.specs.declared.actor.Actor.{Actor as Actor'};
 ghost use Rattle.trace_law.specs.declared.input.Input.{Input as Input'};
 ghost use Rattle.trace_law.specs.declared.setting.Setting.{Setting as Setting'};
 ghost use Rattle.trace_law.specs.Validity.{IsValid};
+ghost use Rattle.trace_law.specs.Family.{first_rest};
 ghost use Rattle.trace_law.specs.Runs.{IsRunOf};
 ghost use Rattle.link_trace.specs.Families.{AreFronts};
 ghost use Rattle.join_runtime.specs.Bouts.{StandsFor, lists_in};
@@ -129,7 +130,7 @@ impl<'a> Seats<'a> {
         ensures run { IfOk result (λ told.
             (input : Input') (setting : Setting') → IsValid input setting
             → StandsFor input setting self.entry → AreFronts (lists_in self.entry)
-            → IsRunOf input setting told.run.journal told.run) }
+            → IsRunOf input setting (first_rest setting).line told.run.journal told.run) }
         ensures ends { IfOk result (λ told.
             (a : Actor') → lists_left told.ends a ≡ lists_in self.entry a) }
         ensures bouts { IfOk result (λ told. told.run.bouts ≡ bouts) }

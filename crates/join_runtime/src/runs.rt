@@ -2,6 +2,7 @@
 
 ghost use Rattle.std.specs.Prelude.{◌≤◌, IfOk};
 ghost use Rattle.trace_law.specs.Validity.{IsValidInput, IsValidSetting};
+ghost use Rattle.trace_law.specs.Family.{first_rest};
 ghost use Rattle.trace_law.specs.Runs.{IsRunOf};
 ghost use Rattle.load_controller.specs.Journal.{last_epoch};
 ghost use Rattle.link_trace.specs.Order.{most_events};
@@ -28,7 +29,8 @@ pub fn run<R: Threads + Wait + Sync, G: Gate>(
     requires setting { IsValidSetting setting.now }
     ensures family { IfOk result
         (λ told. IsFinishedFamily input.now setting.now told.run.journal (lists_left told.ends)) }
-    ensures run { IfOk result (λ told. IsRunOf input.now setting.now told.run.journal told.run) }
+    ensures run { IfOk result (λ told. IsRunOf input.now setting.now
+        (first_rest setting.now).line told.run.journal told.run) }
     ensures bound { IfOk result
         (λ told. told.run.bouts ≤ most_events input.now setting.now (last_epoch told.run.journal)) }
 {

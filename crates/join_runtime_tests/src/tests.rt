@@ -1,6 +1,7 @@
 mod early;
 
 use epoch_tags::Actor;
+use grid_map::Weights;
 use join_rows::{Bytes, Cell, Cells, Names, Rows, Table};
 use join_runtime::{Told, run};
 use row_tickets::Feed;
@@ -66,6 +67,7 @@ fn setting(feeders: u32, workers: u32) -> Setting {
         batch: 1,
         feed: Feed::Alternate,
         fixed: None,
+        weights: Weights { r: 1, s: 1 },
     }
 }
 

@@ -160,16 +160,24 @@ batch_is = record { in_range = omega arith; is_id = λ d. refl; has_parser = λ 
 joiners_is : IsArg rules 1 (codes "joiners") (vp.Unsigned 1 64)
 joiners_is = record { in_range = omega arith; is_id = λ d. refl; has_parser = λ d. refl; in_case = λ d. refl; is_only = refl; no_help = refl; no_version = refl; named = refl }
 
-make_is : IsArg rules 9 (codes "make") (vp.Unsigned 1 65536)
+make_is : IsArg rules 11 (codes "make") (vp.Unsigned 1 65536)
 make_is = record { in_range = omega arith; is_id = λ d. refl; has_parser = λ d. refl; in_case = λ d. refl; is_only = refl; no_help = refl; no_version = refl; named = refl }
 
--- the first value of `--joiners`, of `--feeders`, of `--workers`, of `--batch` and of `--make`
+weight_r_is : IsArg rules 8 (codes "weight-r") (vp.Unsigned 1 1024)
+weight_r_is = record { in_range = omega arith; is_id = λ d. refl; has_parser = λ d. refl; in_case = λ d. refl; is_only = refl; no_help = refl; no_version = refl; named = refl }
+
+weight_s_is : IsArg rules 9 (codes "weight-s") (vp.Unsigned 1 1024)
+weight_s_is = record { in_range = omega arith; is_id = λ d. refl; has_parser = λ d. refl; in_case = λ d. refl; is_only = refl; no_help = refl; no_version = refl; named = refl }
+
+-- the first value of each argument that has bounds of its own
 pub record AreIn (m : ArgMatches) : Type 0 where
   pub joiners : (t : Text) → first_value (found_of m) (codes "joiners") ≡ Some t → IsUnsignedIn 1 64 t
   pub feeders : (t : Text) → first_value (found_of m) (codes "feeders") ≡ Some t → IsUnsignedIn 1 8 t
   pub workers : (t : Text) → first_value (found_of m) (codes "workers") ≡ Some t → IsUnsignedIn 1 16 t
   pub batch : (t : Text) → first_value (found_of m) (codes "batch") ≡ Some t → IsUnsignedIn 1 4096 t
   pub make : (t : Text) → first_value (found_of m) (codes "make") ≡ Some t → IsUnsignedIn 1 65536 t
+  pub weight_r : (t : Text) → first_value (found_of m) (codes "weight-r") ≡ Some t → IsUnsignedIn 1 1024 t
+  pub weight_s : (t : Text) → first_value (found_of m) (codes "weight-s") ≡ Some t → IsUnsignedIn 1 1024 t
 
 pub are_in : (old : Command) (m : ArgMatches) → IsParsedFrom old m → IsCommand (app_of old) → AreIn m
 are_in old m p command = record {
@@ -177,5 +185,7 @@ are_in old m p command = record {
   feeders = command_accepts old m p command 2 (codes "feeders") (vp.Unsigned 1 8) feeders_is;
   workers = command_accepts old m p command 3 (codes "workers") (vp.Unsigned 1 16) workers_is;
   batch = command_accepts old m p command 4 (codes "batch") (vp.Unsigned 1 4096) batch_is;
-  make = command_accepts old m p command 9 (codes "make") (vp.Unsigned 1 65536) make_is;
+  make = command_accepts old m p command 11 (codes "make") (vp.Unsigned 1 65536) make_is;
+  weight_r = command_accepts old m p command 8 (codes "weight-r") (vp.Unsigned 1 1024) weight_r_is;
+  weight_s = command_accepts old m p command 9 (codes "weight-s") (vp.Unsigned 1 1024) weight_s_is;
 }

@@ -77,6 +77,10 @@ is_match app words matches command none has are = record {
     feeders = number_between 1 8 2 (first_of (codes "feeders") (rows_of (found_of matches))) (λ text is. are.feeders text (first_value-rows (found_of matches) (codes "feeders") ∙ is)) (omega arith, omega arith);
     workers = number_between 1 16 4 (first_of (codes "workers") (rows_of (found_of matches))) (λ text is. are.workers text (first_value-rows (found_of matches) (codes "workers") ∙ is)) (omega arith, omega arith);
     batch = number_between 1 4096 64 (first_of (codes "batch") (rows_of (found_of matches))) (λ text is. are.batch text (first_value-rows (found_of matches) (codes "batch") ∙ is)) (omega arith, omega arith);
+    weights =
+        let r = number_between 1 1024 1 (first_of (codes "weight-r") (rows_of (found_of matches))) (λ text is. are.weight_r text (first_value-rows (found_of matches) (codes "weight-r") ∙ is)) (omega arith, omega arith) in
+        let s = number_between 1 1024 1 (first_of (codes "weight-s") (rows_of (found_of matches))) (λ text is. are.weight_s text (first_value-rows (found_of matches) (codes "weight-s") ∙ is)) (omega arith, omega arith) in
+        record { some_r = r.0; few_r = r.1; some_s = s.0; few_s = s.1 };
     make = number_within 1 65536 (first_of (codes "make") (rows_of (found_of matches))) (λ text is. are.make text (first_value-rows (found_of matches) (codes "make") ∙ is));
   };
 }

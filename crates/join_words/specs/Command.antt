@@ -40,6 +40,8 @@ rules = text_rule (codes "on")
     ∷ text_or_rule (codes "feed") (codes "alternate")
     ∷ default_rule (codes "seed") 0 18446744073709551615 (codes "1")
     ∷ number_rule (codes "fixed") 0 6
+    ∷ default_rule (codes "weight-r") 1 1024 (codes "1")
+    ∷ default_rule (codes "weight-s") 1 1024 (codes "1")
     ∷ number_rule (codes "replay") 0 18446744073709551615
     ∷ number_rule (codes "make") 1 65536
     ∷ flag_rule (codes "early")

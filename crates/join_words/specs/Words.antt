@@ -4,6 +4,8 @@ use Rattle.std.specs.Int.{is_power_of_two, trailing_zeros, w64}
 use Rattle.std.specs.Borrow.{Bor}
 use Rattle.std.specs.Str.{bytes_eq}
 use Rattle.std.specs.Str.Parse.{digits_value, without_leading_plus}
+use Rattle.grid_map.specs.Load.{AreWeights}
+use Rattle.grid_map.specs.declared.cost.Weights.{Weights}
 use Rattle.row_tickets.specs.declared.place.Feed.{Feed}
 use Rattle.row_tickets.specs.declared.place.Feed.TheVariants.{Alternate, RFirst, SFirst}
 use Rattle.clap.specs.ValueTests.{is_unsigned_in}
@@ -18,9 +20,9 @@ use Rattle.join_words.specs.declared.options.WordsFault.TheVariants.{NoMatch, Jo
 
 -- what the words ask for: the predicate's text; 2^k joiners; the feeders; the workers, which are the threads of a run that
 -- isn't a replay; how many rows each feeder asks for at once and in which order; the shift at which the grid stays, where one
--- is given; the seed of the tickets; the seed of the order of a replay, where one is given; how many rows a side has, where
--- tables are to be made; whether the pairs of each bout are wanted early; whether a report is wanted; whether joined rows are;
--- and the names of the two files, empty where there are none
+-- is given; what a row of each side weighs in a grid's load; the seed of the tickets; the seed of the order of a replay, where
+-- one is given; how many rows a side has, where tables are to be made; whether the pairs of each bout are wanted early; whether a
+-- report is wanted; whether joined rows are; and the names of the two files, empty where there are none
 pub record Asked : Type 0 where
   pub on : List ℕ
   pub k : ℕ
@@ -29,6 +31,7 @@ pub record Asked : Type 0 where
   pub batch : ℕ
   pub feed : Feed
   pub fixed : Option ℕ
+  pub weights : Weights
   pub seed : ℕ
   pub replay : Option ℕ
   pub make : Option ℕ
@@ -48,6 +51,7 @@ asked options = record {
   batch = options.batch;
   feed = options.feed;
   fixed = options.fixed;
+  weights = options.weights;
   seed = options.seed;
   replay = options.replay;
   make = options.make;
@@ -91,6 +95,10 @@ workers_at rows = unwrap_or (number_at (codes "workers") rows) 4
 -- how many rows a feeder asks for at once
 abbrev pub batch_at : List Row → ℕ
 batch_at rows = unwrap_or (number_at (codes "batch") rows) 64
+
+-- what a row of each side weighs
+abbrev pub weights_at : List Row → Weights
+weights_at rows = record { r = unwrap_or (number_at (codes "weight-r") rows) 1; s = unwrap_or (number_at (codes "weight-s") rows) 1 }
 
 -- how many rows a side has, where tables are to be made
 abbrev pub make_at : List Row → Option ℕ
@@ -173,6 +181,7 @@ asked_by rows =
       batch = batch_at rows;
       feed = feed;
       fixed = fixed;
+      weights = weights_at rows;
       seed = unwrap_or (number_at (codes "seed") rows) 1;
       replay = number_at (codes "replay") rows;
       make = make;
@@ -200,6 +209,7 @@ pub record AreBounded (rows : List Row) : Type 0 where
   pub feeders : (1 ≤ feeders_at rows) × (feeders_at rows ≤ 8)
   pub workers : (1 ≤ workers_at rows) × (workers_at rows ≤ 16)
   pub batch : (1 ≤ batch_at rows) × (batch_at rows ≤ 4096)
+  pub weights : AreWeights (weights_at rows)
   pub make : IfSome (make_at rows) (λ count. (1 ≤ count) × (count ≤ 65536))
 
 -- the command has a match for the words, and these are its rows

@@ -3,12 +3,14 @@
 ghost use Rattle.std.specs.Prelude.{◌≡◌, ◌≤◌, ◌<◌, ◌^◌, IfOk, IfSome, None, true, false, unwrap_or};
 ghost use Rattle.clap.specs.Matches.{found_of};
 ghost use Rattle.clap.specs.Walk.{rows_of};
-ghost use Rattle.join_words.specs.Words.{AreBounded, Gives, asked_by, early_alone, exponent_of, feed_named, fixed_within, make_apart, number_at};
+ghost use Rattle.grid_map.specs.Load.{AreWeights};
+ghost use Rattle.join_words.specs.Words.{AreBounded, Gives, asked_by, early_alone, exponent_of, feed_named, fixed_within, make_apart, number_at, weights_at};
 
 use crate::found::{flag, number, text};
 use crate::names::names;
 use crate::options::{Options, WordsFault};
 use clap::ArgMatches;
+use grid_map::Weights;
 use row_tickets::Feed;
 
 /// k of 2^k joiners.
@@ -41,6 +43,17 @@ fn small_number(matches: &ArgMatches<'_>, id: &str, other: u32) -> u32
     ensures { result ≡ unwrap_or (number_at id.now (rows_of (found_of matches.now))) other }
 {
     number(matches, id).unwrap_or(u64::from(other)) as u32
+}
+
+/// What a row of each side weighs.
+fn weights(matches: &ArgMatches<'_>) -> Weights
+    requires { AreBounded (rows_of (found_of matches.now)) }
+    ensures { result ≡ weights_at (rows_of (found_of matches.now)) }
+{
+    Weights {
+        r: small_number(matches, "weight-r", 1),
+        s: small_number(matches, "weight-s", 1),
+    }
 }
 
 /// The order of this name. It is looked at here and not by clap, since a command's list of names
@@ -95,6 +108,7 @@ pub(crate) fn checked<'a>(matches: &ArgMatches<'a>) -> Result<Options<'a>, Words
     ensures feeders { IfOk result (λ options. (1 ≤ options.feeders) × (options.feeders ≤ 8)) }
     ensures workers { IfOk result (λ options. (1 ≤ options.workers) × (options.workers ≤ 16)) }
     ensures batch { IfOk result (λ options. (1 ≤ options.batch) × (options.batch ≤ 4096)) }
+    ensures weights { IfOk result (λ options. AreWeights options.weights) }
     ensures make { IfOk result (λ options.
         IfSome options.make (λ count. (1 ≤ count) × (count ≤ 65536))) }
     ensures apart { IfOk result (λ options. IfSome options.make (λ _. options.rows ≡ false)) }
@@ -117,6 +131,7 @@ pub(crate) fn checked<'a>(matches: &ArgMatches<'a>) -> Result<Options<'a>, Words
         batch: small_number(matches, "batch", 64),
         feed,
         fixed,
+        weights: weights(matches),
         seed: number(matches, "seed").unwrap_or(1),
         replay,
         make,

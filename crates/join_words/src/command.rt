@@ -72,6 +72,8 @@ pub(crate) fn command<'a>(alloc: Global) -> Result<Command<'a>, AllocError>
         .arg(text_or(alloc, "feed", "alternate"))?
         .arg(number_or(alloc, "seed", 0, u64::MAX, "1"))?
         .arg(number(alloc, "fixed", 0, 6))?
+        .arg(number_or(alloc, "weight-r", 1, 1024, "1"))?
+        .arg(number_or(alloc, "weight-s", 1, 1024, "1"))?
         .arg(number(alloc, "replay", 0, u64::MAX))?
         .arg(number(alloc, "make", 1, 65536))?
         .arg(flag(alloc, "early"))?

@@ -1,5 +1,6 @@
 // What the words ask for, and what may be wrong with them.
 
+use grid_map::Weights;
 use row_tickets::Feed;
 
 /// What the words ask for.
@@ -19,6 +20,9 @@ pub struct Options<'a> {
     pub feed: Feed,
     /// The grid's shift, where it was given: the grid then has 2^fixed columns.
     pub fixed: Option<u32>,
+    /// What a row of each side weighs in a grid's load, 1 to 1,024. The grid follows the load, which the rows
+    /// of a side weigh in with their number times this.
+    pub weights: Weights,
     /// The seed of the tickets.
     pub seed: u64,
     /// The seed of the order of a replay, where one was asked for.

@@ -1,6 +1,7 @@
 mod together;
 
 use crate::{Options, WordsError, WordsFault, read_words};
+use grid_map::Weights;
 use row_tickets::Feed;
 use std::alloc::{AllocError, Global};
 use std::test::Fail;
@@ -24,6 +25,7 @@ const PLAIN: Options<'static> = Options {
     batch: 64,
     feed: Feed::Alternate,
     fixed: None,
+    weights: Weights { r: 1, s: 1 },
     seed: 1,
     replay: None,
     make: None,
@@ -49,6 +51,13 @@ fn feeders(feeders: u32, batch: u32, feed: Feed) -> Options<'static> {
 
 fn workers(workers: u32) -> Options<'static> {
     Options { workers, ..PLAIN }
+}
+
+fn weights(r: u32, s: u32) -> Options<'static> {
+    Options {
+        weights: Weights { r, s },
+        ..PLAIN
+    }
 }
 
 fn replay(seed: u64) -> Options<'static> {
@@ -101,6 +110,13 @@ fn reads_what_the_words_ask_for(rt: HostRuntime) -> Result<(), Fail> {
         ("jm|--on|p|--feed|alternate|r|s", PLAIN),
         ("jm|--on|p|--workers|1|r|s", workers(1)),
         ("jm|--on|p|r|s|--workers=16", workers(16)),
+        ("jm|--on|p|--weight-r|1|r|s", PLAIN),
+        ("jm|--on|p|--weight-r|4|r|s", weights(4, 1)),
+        ("jm|--on|p|r|s|--weight-s=1024", weights(1, 1024)),
+        (
+            "jm|--weight-s|2|--on|p|--weight-r|1024|r|s",
+            weights(1024, 2),
+        ),
         ("jm|--on|p|--replay|0|r|s", replay(0)),
         (
             "jm|--on|p|--replay|18446744073709551615|r|s",
@@ -153,6 +169,21 @@ fn tells_the_first_fault(rt: HostRuntime) -> Result<(), Fail> {
         ("jm|--on|p|--feed|RFirst|r|s", WordsFault::NoMatch),
         ("jm|--on|p|--feed||r|s", WordsFault::NoMatch),
         ("jm|--on|p|--replay|-1|r|s", WordsFault::NoMatch),
+        ("jm|--on|p|--weight-r|0|r|s", WordsFault::NoMatch),
+        ("jm|--on|p|--weight-r|1025|r|s", WordsFault::NoMatch),
+        ("jm|--on|p|--weight-s|0|r|s", WordsFault::NoMatch),
+        ("jm|--on|p|--weight-s|1025|r|s", WordsFault::NoMatch),
+        ("jm|--on|p|--weight-s|1.5|r|s", WordsFault::NoMatch),
+        (
+            "jm|--on|p|--weight-r|4|--weight-r|4|r|s",
+            WordsFault::NoMatch,
+        ),
+        ("jm|--on|p|r|s|--weight-r", WordsFault::NoMatch),
+        ("jm|--on|p|--weight|4|r|s", WordsFault::NoMatch),
+        (
+            "jm|--on|p|--joiners|3|--weight-s|0|r|s",
+            WordsFault::NoMatch,
+        ),
         ("jm|--on|p|--joiners|3|--feed|both|r", WordsFault::NoMatch),
         ("jm|--on|p|--fixed|7|r|s", WordsFault::NoMatch),
         ("jm|--on|p|--fixed|-1|r|s", WordsFault::NoMatch),

@@ -1,6 +1,6 @@
 -- A world's events are those that its lists count, and so they are few.
-use Rattle.std.proofs.Common.{◌≡◌, ℕ, ◌+◌, ◌≤◌, sym, subst, Option, Some, List, ◌∷◌, ◌++◌, Result, Ok, Err, arith}
-use Rattle.std.specs.Prelude.{IfOk, IfSome}
+use Rattle.std.proofs.Common.{◌≡◌, ℕ, ◌+◌, ◌-◌, ◌≤◌, sym, subst, Some, List, ◌∷◌, ◌++◌, Result, Ok, Err, arith}
+use Rattle.std.specs.Prelude.{IfOk}
 use Rattle.std.specs.declared.alloc.AllocError.{AllocError}
 use Rattle.epoch_tags.specs.declared.actor.Actor.{Actor}
 use Rattle.epoch_tags.specs.declared.actor.Actor.TheVariants.{Feeder, Controller}
@@ -10,8 +10,10 @@ use Rattle.trace_law.specs.declared.input.Input.{Input}
 use Rattle.trace_law.specs.declared.setting.Setting.{Setting}
 use Rattle.trace_law.specs.declared.run.Run.{Run}
 use Rattle.trace_law.specs.Validity.{IsValidInput, IsValidSetting, IsValid}
+use Rattle.trace_law.specs.Family.{first_rest}
 use Rattle.trace_law.specs.Runs.{IsRunOf}
 use Rattle.trace_law.specs.Laws.{EventsAreFew}
+use Rattle.trace_law.proofs.First.{stands as first_stands}
 use Rattle.trace_law.proofs.Validity.{within_limits}
 use Rattle.link_trace.specs.declared.machines.Core.{Core}
 use Rattle.link_trace.specs.declared.slots.Slot.{Slot}
@@ -70,8 +72,10 @@ module _ (input : Input) (setting : Setting) where
       → ((core : Core) → core_of w Controller ≡ Some core → journal ≡ journal_of core) → n ≤ most_events input setting (last_epoch journal)
   few_events few valid w n counted journal told =
       let own = counted.stands.stands Controller tt in
-      let most = few input setting (family_of (journal_of own.0) counted.lists) valid (agree input setting w counted.lists counted.stands) in
-      let all = subst (λ j. count setting counted.lists ≤ most_events input setting (last_epoch j)) (sym (told own.0 own.1)) most in
+      let most = few input setting (first_rest setting) (family_of (journal_of own.0) counted.lists) valid (first_stands input setting valid) (agree input setting w counted.lists counted.stands) in
+      let from_none : last_epoch (journal_of own.0) - 0 ≡ last_epoch (journal_of own.0) = omega arith in
+      let most' : count setting counted.lists ≤ most_events input setting (last_epoch (journal_of own.0)) = subst (λ e. count setting counted.lists ≤ most_events input setting e) from_none most in
+      let all = subst (λ j. count setting counted.lists ≤ most_events input setting (last_epoch j)) (sym (told own.0 own.1)) most' in
       let enough = counted.enough in
       omega arith
 
@@ -80,8 +84,8 @@ module _ (input : Input) (setting : Setting) where
 -- what a world that made so many events answers
 module _ (input : Input) (setting : Setting) (w : WorldState) (events : ℕ) (reached : IsCounted input setting w events) (of_input : IsValidInput input) (of_setting : IsValidSetting setting) where
   pub run_answers : (result : Result Run AllocError)
-      → IfOk result (λ run. (input' : Input) (setting' : Setting) (lists : Actor → ActorLists) → IsValid input' setting' → StandsFor input' setting' w lists → IsRunOf input' setting' run.journal run)
-      → IfOk result (λ run. IsRunOf input setting run.journal run)
+      → IfOk result (λ run. (input' : Input) (setting' : Setting) (lists : Actor → ActorLists) → IsValid input' setting' → StandsFor input' setting' w lists → IsRunOf input' setting' (first_rest setting').line run.journal run)
+      → IfOk result (λ run. IsRunOf input setting (first_rest setting).line run.journal run)
   run_answers (Ok run) is = is input setting reached.lists (within_limits input setting of_input of_setting) reached.stands
   run_answers (Err e) is = tt
 

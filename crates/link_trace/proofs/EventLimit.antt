@@ -14,6 +14,8 @@ use Rattle.link_trace.specs.Families.{family_of, journal_of}
 use Rattle.link_trace.specs.Order.{EventsFit, most_events}
 use Rattle.link_trace.specs.Worlds.{WorldState}
 use Rattle.link_trace.proofs.Bounds.{IsCounted, few_events}
+use Rattle.trace_law.specs.Family.{first_rest}
+use Rattle.trace_law.proofs.First.{stands as first_stands}
 use Rattle.trace_law.proofs.Validity.{within_limits}
 use Rattle.link_trace.proofs.WorldAnswer.{agree}
 use Rattle.link_trace.proofs.OwnNumbers.{some_is}
@@ -21,24 +23,25 @@ use Rattle.link_trace.proofs.OwnNumbers.{some_is}
 under : (n m most : ℕ) → n ≤ m → m < most → n < most
 under n m most low high = omega arith
 
--- with 2^18 rows a side at most, 8 feeders and 64 joiners
-numbers_fit : (r s feeders k epochs : ℕ) → r ≤ 2 ^ 18 → s ≤ 2 ^ 18 → feeders ≤ 8 → k ≤ 6 → epochs ≤ k * (19 + 19) → 8 * (r + s + feeders + 2) * 2 ^ k * (epochs + 2) < 2 ^ 64 - 1
+-- with 2^18 rows a side at most, 8 feeders and 256 joiners
+numbers_fit : (r s feeders k epochs : ℕ) → r ≤ 2 ^ 18 → s ≤ 2 ^ 18 → feeders ≤ 8 → k ≤ 8 → epochs ≤ k * (19 + 19) → 8 * (r + s + feeders + 2) * 2 ^ k * (epochs + 2) < 2 ^ 64 - 1
 numbers_fit r s feeders k epochs few_r few_s few small late =
     let rows : 8 * (r + s + feeders + 2) ≤ 4194384 = omega arith in
-    let joiners : 2 ^ k ≤ 2 ^ 6 = pow_mono {i = k} {j = 6} small in
-    let lines : epochs + 2 ≤ 230 = omega arith in
-    let most = mul-le (8 * (r + s + feeders + 2) * 2 ^ k) (epochs + 2) (4194384 * 2 ^ 6) 230 (mul-le (8 * (r + s + feeders + 2)) (2 ^ k) 4194384 (2 ^ 6) rows joiners) lines in
-    under (8 * (r + s + feeders + 2) * 2 ^ k * (epochs + 2)) (4194384 * 2 ^ 6 * 230) (2 ^ 64 - 1) most (omega arith)
+    let joiners : 2 ^ k ≤ 2 ^ 8 = pow_mono {i = k} {j = 8} small in
+    let lines : epochs + 2 ≤ 306 = omega arith in
+    let most = mul-le (8 * (r + s + feeders + 2) * 2 ^ k) (epochs + 2) (4194384 * 2 ^ 8) 306 (mul-le (8 * (r + s + feeders + 2)) (2 ^ k) 4194384 (2 ^ 8) rows joiners) lines in
+    under (8 * (r + s + feeders + 2) * 2 ^ k * (epochs + 2)) (4194384 * 2 ^ 8 * 306) (2 ^ 64 - 1) most (omega arith)
 
 pub fit : KeepsALawfulJournal → LawfulIsBounded → EventsFit
 fit keeps bounded input setting w lists of_input of_setting stands =
     let valid = within_limits input setting of_input of_setting in
     let journal = journal_of (stands.stands Controller tt).0 in
-    let lawful = keeps input setting (family_of journal lists) valid (agree input setting w lists stands) in
+    let lawful = keeps input setting (first_rest setting) (family_of journal lists) valid (first_stands input setting valid) (agree input setting w lists stands) in
     let few_r = (of_input.sides R).few in
     let few_s = (of_input.sides S).few in
-    let late = (bounded input setting journal valid lawful 19 19 (below_2_19 (row_count input R) few_r) (below_2_19 (row_count input S) few_s)).0 in
-    numbers_fit (row_count input R) (row_count input S) setting.feeders setting.k (last_epoch journal) few_r few_s of_setting.few_feeders of_setting.joiners late
+    let line = (first_rest setting).line in
+    let late = (bounded input setting line journal valid (first_stands input setting valid).line lawful 19 19 (below_2_19 (row_count input R) few_r) (below_2_19 (row_count input S) few_s)).0 in
+    numbers_fit (row_count input R) (row_count input S) setting.feeders setting.k (last_epoch journal) few_r few_s of_setting.few_feeders of_setting.joiners (omega (arith, late))
   where
     below_2_19 : (n : ℕ) → n ≤ 2 ^ 18 → n < 2 ^ 19
     below_2_19 n few = omega arith

@@ -10,13 +10,14 @@ use Rattle.epoch_tags.specs.Messages.{stops}
 use Rattle.epoch_tags.specs.Posts.{joiner_msg, feeder_msg, controller_msg, collector_msg}
 use Rattle.reshuffler_core.specs.Law.{FeederStart, FeederLaw}
 use Rattle.joiner_law.specs.Law.{JoinerStart, JoinerLaw, Taken, IsFinished as IsFinishedJoiner}
+use Rattle.load_controller.specs.Journal.{begun}
 use Rattle.load_controller.specs.Standing.{ControllerStart}
 use Rattle.load_controller.specs.Law.{ControllerLaw}
 use Rattle.pair_collector.specs.Law.{IsComplete}
 use Rattle.pair_collector.proofs.KeptMessages.{complete_says}
 use Rattle.trace_law.specs.declared.input.Input.{Input}
 use Rattle.trace_law.specs.declared.setting.Setting.{Setting}
-use Rattle.trace_law.specs.Family.{IsAgreeing, IsFinished, feeder_start, joiner_start, rules_of, first_line}
+use Rattle.trace_law.specs.Family.{IsAgreeing, IsFinished, feeder_start, joiner_start, rules_of, first_rest}
 use Rattle.link_trace.specs.Lists.{ActorLists, feeder_lists, joiner_lists, controller_lists, collector_lists}
 use Rattle.link_trace.specs.Standing.{OfFeeder, OfJoiner, OfController, OfCollector, Stands, IsOver, GoesOn}
 use Rattle.link_trace.specs.Families.{AreFronts, IsActor, start_for, family_of, journal_of}
@@ -91,35 +92,35 @@ module _ (input : Input) (setting : Setting) (f : Actor → ActorLists) (cores :
     (W : Type 0) (over : W → (a : Actor) (is : IsActor setting a) → IsOver (cores a is).0) where
   abbrev feeder_took : ℕ → List ToFeeder → Type 0
   feeder_took p taken =
-      FeederLaw (feeder_start input setting p) (feeder_lists (f (Feeder p))) taken × (W → 0 < stops taken)
+      FeederLaw (feeder_start input setting (first_rest setting) p) (feeder_lists (f (Feeder p))) taken × (W → 0 < stops taken)
       × ((is : p < setting.feeders) → 0 < stops taken → ¬ GoesOn (cores (Feeder p) is).0)
 
   feeders : (taken : ℕ → List ToFeeder) × ((p : ℕ) → p < setting.feeders → feeder_took p (taken p))
   feeders = choice feeder_took setting.feeders [] (λ p low.
-      let law = feeder_law p setting.feeders (feeder_start input setting p) (f (Feeder p)) (cores (Feeder p) low).0 (cores (Feeder p) low).1 in (
+      let law = feeder_law p setting.feeders (feeder_start input setting (first_rest setting) p) (f (Feeder p)) (cores (Feeder p) low).0 (cores (Feeder p) low).1 in (
         law.0,
         (law.1, (λ w. law.2 (over w (Feeder p) low)), (λ is stopped. subst (λ (l : p < setting.feeders). ¬ GoesOn (cores (Feeder p) l).0) (le_prop low is) (law.3 stopped))),
       ))
 
   abbrev joiner_took : ℕ → Taken → Type 0
   joiner_took j taken =
-      JoinerLaw (joiner_start input setting j) (joiner_lists (f (Joiner j))) taken × (W → IsFinishedJoiner (joiner_start input setting j) (joiner_lists (f (Joiner j))) taken)
-      × ((is : j < 2 ^ setting.k) → IsFinishedJoiner (joiner_start input setting j) (joiner_lists (f (Joiner j))) taken → ¬ GoesOn (cores (Joiner j) is).0)
+      JoinerLaw (joiner_start input setting (first_rest setting) j) (joiner_lists (f (Joiner j))) taken × (W → IsFinishedJoiner (joiner_start input setting (first_rest setting) j) (joiner_lists (f (Joiner j))) taken)
+      × ((is : j < 2 ^ setting.k) → IsFinishedJoiner (joiner_start input setting (first_rest setting) j) (joiner_lists (f (Joiner j))) taken → ¬ GoesOn (cores (Joiner j) is).0)
 
   joiners : (taken : ℕ → Taken) × ((j : ℕ) → j < 2 ^ setting.k → joiner_took j (taken j))
   joiners = choice joiner_took (2 ^ setting.k) (record { from_feeder = λ p. []; from_joiner = λ q. []; shift_at = λ e. 0 }) (λ j low.
-      let law = joiner_law (joiner_start input setting j) (f (Joiner j)) (cores (Joiner j) low).0 (cores (Joiner j) low).1 in (
+      let law = joiner_law (joiner_start input setting (first_rest setting) j) (f (Joiner j)) (cores (Joiner j) low).0 (cores (Joiner j) low).1 in (
         law.0,
         (law.1, (λ w. law.2 (over w (Joiner j) low)), (λ is finished. subst (λ (l : j < 2 ^ setting.k). ¬ GoesOn (cores (Joiner j) l).0) (le_prop low is) (law.3 finished))),
       ))
 
-  pub agrees : IsAgreeing input setting (family_of (journal_of (cores Controller tt).0) f)
+  pub agrees : IsAgreeing input setting (first_rest setting) (family_of (journal_of (cores Controller tt).0) f)
   agrees = record {
     taken_by_feeder = feeders.0;
     taken_by_joiner = joiners.0;
     feeders = λ p low. (feeders.1 p low).0;
     joiners = λ j low. (joiners.1 j low).0;
-    controller = controller_law (record { rules = rules_of setting; first = first_line setting }) (f Controller) (cores Controller tt).0 (cores Controller tt).1;
+    controller = controller_law (record { rules = rules_of setting; first = begun (first_rest setting).line }) (f Controller) (cores Controller tt).0 (cores Controller tt).1;
     feeder_joiner = λ p j low low'. read_front joiner_msg _ _ (fronts (Feeder p) (Joiner j));
     joiner_joiner = λ i j low low'. read_front joiner_msg _ _ (fronts (Joiner i) (Joiner j));
     controller_feeder = λ p low. read_front feeder_msg _ _ (fronts Controller (Feeder p));
@@ -128,7 +129,7 @@ module _ (input : Input) (setting : Setting) (f : Actor → ActorLists) (cores :
     joiner_collector = λ j low. read_front collector_msg _ _ (fronts (Joiner j) Collector);
   }
 
-  pub is_finished : W → IsFinished input setting (family_of (journal_of (cores Controller tt).0) f) agrees
+  pub is_finished : W → IsFinished input setting (first_rest setting) (family_of (journal_of (cores Controller tt).0) f) agrees
   unfolding agrees
   is_finished w = record {
     feeders = λ p low. (feeders.1 p low).1 w;
@@ -137,9 +138,9 @@ module _ (input : Input) (setting : Setting) (f : Actor → ActorLists) (cores :
   }
 
   -- where the family is finished, the work of none goes on
-  pub none_goes : IsFinished input setting (family_of (journal_of (cores Controller tt).0) f) agrees → (a : Actor) (is : IsActor setting a) → ¬ GoesOn (cores a is).0
+  pub none_goes : IsFinished input setting (first_rest setting) (family_of (journal_of (cores Controller tt).0) f) agrees → (a : Actor) (is : IsActor setting a) → ¬ GoesOn (cores a is).0
   unfolding agrees
   none_goes finished (Feeder p) is = (feeders.1 p is).2 is (finished.feeders p is)
   none_goes finished (Joiner j) is = (joiners.1 j is).2 is (finished.joiners j is)
-  none_goes finished Controller is = controller_goes (record { rules = rules_of setting; first = first_line setting }) (f Controller) (cores Controller is).0 (cores Controller is).1
+  none_goes finished Controller is = controller_goes (record { rules = rules_of setting; first = begun (first_rest setting).line }) (f Controller) (cores Controller is).0 (cores Controller is).1
   none_goes finished Collector is = collector_goes (2 ^ setting.k) (f Collector) (cores Collector is).0 (cores Collector is).1 finished.collector

@@ -1,5 +1,5 @@
 -- The loop of a replay: what it has made so far, and its answer.
-use Rattle.std.proofs.Common.{◌≡◌, ℕ, ◌+◌, refl, sym, ap, subst, ◌∙◌, Bool, false, List, length, Some, Result, Ok, Err}
+use Rattle.std.proofs.Common.{◌≡◌, ℕ, ◌+◌, sym, ap, subst, ◌∙◌, Bool, false, List, length, Some, Result, Ok, Err}
 use Rattle.std.specs.Prelude.{IfOk, slice_get}
 use Rattle.std.specs.declared.alloc.AllocError.{AllocError}
 use Rattle.rand_pcg.specs.Lcg.{Lcg, next, advance, state_after, started, increment_of}

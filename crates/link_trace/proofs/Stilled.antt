@@ -1,5 +1,5 @@
 -- A world in which nothing is left, and no feeder would begin, is done.
-use Rattle.std.proofs.Common.{◌≡◌, ℕ, ◌<◌, ◌^◌, ◌⊎◌, inl, inr, refl, sym, ap, subst, ◌∙◌, Bool, true, false, Option, None, Some, List, ◌++◌, append-nil, filter_map, arith}
+use Rattle.std.proofs.Common.{◌≡◌, ℕ, ◌<◌, ◌⊎◌, inl, inr, refl, sym, ap, subst, ◌∙◌, Bool, true, false, Option, None, Some, List, ◌++◌, append-nil, filter_map, arith}
 use Rattle.std.specs.Prelude.{slice_get}
 use Rattle.std.proofs.lemmas.Option.{slice_get_within}
 use Rattle.epoch_tags.specs.Links.{HasLink, feeder_joiner, controller_feeder, feeder_controller, joiner_controller, joiner_collector}
@@ -14,7 +14,8 @@ use Rattle.trace_law.specs.declared.input.Input.{Input}
 use Rattle.trace_law.specs.declared.setting.Setting.{Setting}
 use Rattle.trace_law.specs.Validity.{IsValid}
 use Rattle.trace_law.specs.Laws.{QuietIsFinished}
-use Rattle.trace_law.specs.Family.{IsAgreeing, IsQuiet, feeder_start}
+use Rattle.trace_law.proofs.First.{stands as first_stands}
+use Rattle.trace_law.specs.Family.{IsAgreeing, IsQuiet, feeder_start, first_rest}
 use Rattle.link_trace.specs.Lists.{ActorLists, feeder_lists}
 use Rattle.link_trace.specs.Standing.{GoesOn, OfFeeder, Stands, Waits}
 use Rattle.link_trace.specs.Families.{IsActor, family_of, journal_of, start_for}
@@ -42,7 +43,7 @@ module _ (input : Input) (setting : Setting) (w : WorldState) (lists : Actor →
   abbrev machines : (a : Actor) → IsActor setting a → (core : Core) × Stands (start_for input setting a) (lists a) core
   machines a is = ((stands.stands a is).0, (stands.stands a is).2)
 
-  abbrev agreeing : IsAgreeing input setting (family_of (journal_of (stands.stands Controller tt).0) lists)
+  abbrev agreeing : IsAgreeing input setting (first_rest setting) (family_of (journal_of (stands.stands Controller tt).0) lists)
   agreeing = agrees input setting lists machines (balanced_fronts lists (left_of w) stands.balanced) ⊥ (λ none a is. absurd none)
 
   all_received : (from to : Actor) → HasLink setting.k setting.feeders from to → (lists to).received from ≡ (lists from).sent to
@@ -52,9 +53,9 @@ module _ (input : Input) (setting : Setting) (w : WorldState) (lists : Actor →
   none_begins : (p : ℕ) → p < setting.feeders → (0 < draineds (feeder_lists (lists (Feeder p))).to_controller) ⊎ (grants (agreeing.taken_by_feeder p) < asks (feeder_lists (lists (Feeder p))).to_controller)
   none_begins p low =
       let own = stands.stands (Feeder p) low in
-      waits_says p setting.feeders (feeder_start input setting p) (lists (Feeder p)) own.0 (agreeing.taken_by_feeder p) own.2 (agreeing.feeders p low) (still.waits p low own.0 own.1)
+      waits_says p setting.feeders (feeder_start input setting (first_rest setting) p) (lists (Feeder p)) own.0 (agreeing.taken_by_feeder p) own.2 (agreeing.feeders p low) (still.waits p low own.0 own.1)
 
-  quiet : IsQuiet input setting (family_of (journal_of (stands.stands Controller tt).0) lists) agreeing
+  quiet : IsQuiet input setting (first_rest setting) (family_of (journal_of (stands.stands Controller tt).0) lists) agreeing
   quiet = record {
     feeder_joiner = λ p j low low'. ap (filter_map joiner_msg) (all_received (Feeder p) (Joiner j) (feeder_joiner low low'));
     joiner_joiner = λ i j link. ap (filter_map joiner_msg) (all_received (Joiner i) (Joiner j) link);
@@ -67,7 +68,7 @@ module _ (input : Input) (setting : Setting) (w : WorldState) (lists : Actor →
 
   none_at_work : QuietIsFinished → IsValid input setting → IsSomeAt GoesOn w.cores → ⊥
   none_at_work law valid some =
-      let finished = law input setting (family_of (journal_of (stands.stands Controller tt).0) lists) valid agreeing quiet in
+      let finished = law input setting (first_rest setting) (family_of (journal_of (stands.stands Controller tt).0) lists) valid (first_stands input setting valid) agreeing quiet in
       let low = slice_get_within w.cores some.place some.there some.is in
       let a = actor_at w.joiners w.feeders some.place in
       let numbered = number_there w.joiners w.feeders some.place (subst (λ z. some.place < z) stands.all low) in

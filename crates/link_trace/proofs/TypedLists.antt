@@ -1,6 +1,5 @@
 -- The typed lists after an event are the typed lists with that event.
-use Rattle.std.proofs.Common.{◌≡◌, ℕ, ◌==◌, refl, sym, ap, ◌∙◌, Bool, true, false, cond, Option, Some, None, List, [], ◌∷◌, ◌++◌, filter_map, eq-eqb, ne_eqb, eqb-true}
-use borrow.Author.Tests.{eqb-false}
+use Rattle.std.proofs.Common.{◌≡◌, ℕ, ◌==◌, refl, ap, ◌∙◌, Bool, true, false, cond, Option, Some, None, List, [], ◌∷◌, ◌++◌, filter_map}
 use Rattle.std.specs.List.{cons_option}
 use Rattle.std.proofs.lemmas.List.Elements.{filter_map-append}
 use Rattle.epoch_tags.specs.declared.actor.Actor.{Actor}

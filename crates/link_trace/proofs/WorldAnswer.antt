@@ -12,8 +12,10 @@ use Rattle.trace_law.specs.declared.input.Input.{Input}
 use Rattle.trace_law.specs.declared.setting.Setting.{Setting}
 use Rattle.trace_law.specs.declared.run.Run.{Run}
 use Rattle.trace_law.specs.Validity.{IsValid}
+use Rattle.trace_law.specs.Family.{first_rest}
 use Rattle.trace_law.specs.Runs.{IsRunOf, run_of}
 use Rattle.trace_law.specs.Laws.{FinishedAnswers}
+use Rattle.trace_law.proofs.First.{stands as first_stands}
 use Rattle.link_trace.specs.Lists.{ActorLists, collector_lists}
 use Rattle.link_trace.specs.Standing.{Stands, OfCollector, IsOver}
 use Rattle.link_trace.specs.Families.{start_for, IsActor, family_of, journal_of}
@@ -59,7 +61,7 @@ module _ (finished_answers : FinishedAnswers) (input : Input) (setting : Setting
 
   pub ends : (controller : ControllerState) (collector : CollectorState) → core_of w Controller ≡ Some (TheController controller) → core_of w Collector ≡ Some (TheCollector collector)
       → (bouts : ℕ) (run : Run) → ((joiners : ℕ) (ls : CollectorLists) → CollectorStands joiners ls collector → IsAnswerOf joiners ls controller.journal bouts run)
-      → IsRunOf input setting run.journal run
+      → IsRunOf input setting (first_rest setting).line run.journal run
   unfolding machines
   ends controller collector is_controller is_collector bouts run answers =
       let fronts = balanced_fronts lists (left_of w) stands.balanced in
@@ -68,9 +70,9 @@ module _ (finished_answers : FinishedAnswers) (input : Input) (setting : Setting
       let journal_is : journal_of own.0 ≡ controller.journal = ap journal_of (some_is own.0 (TheController controller) (sym own.1 ∙ is_controller)) in
       let its = subst (λ core. Stands (OfCollector (2 ^ setting.k)) (lists Collector) core) (some_is last.0 (TheCollector collector) (sym last.1 ∙ is_collector)) last.2 in
       let answer = answers (2 ^ setting.k) (collector_lists (lists Collector)) its in
-      let law = finished_answers input setting (family_of (journal_of own.0) lists) valid (agrees input setting lists machines fronts ⊤ all_over) (is_finished input setting lists machines fronts ⊤ all_over tt) answer.collected answer.collects bouts in
-      let told = subst (λ (j : List TurnLine). IsRunOf input setting j (run_of answer.collected j bouts)) journal_is law in
-      subst (λ (r : Run). IsRunOf input setting r.journal r) (sym answer.run_is) told
+      let law = finished_answers input setting (first_rest setting) (family_of (journal_of own.0) lists) valid (first_stands input setting valid) (agrees input setting lists machines fronts ⊤ all_over) (is_finished input setting lists machines fronts ⊤ all_over tt) answer.collected answer.collects bouts in
+      let told = subst (λ (j : List TurnLine). IsRunOf input setting (first_rest setting).line j (run_of answer.collected j bouts)) journal_is law in
+      subst (λ (r : Run). IsRunOf input setting (first_rest setting).line r.journal r) (sym answer.run_is) told
 
 pub agree : WorldAgrees
 agree input setting w lists stands =

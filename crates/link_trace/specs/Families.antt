@@ -5,10 +5,11 @@ use Rattle.epoch_tags.specs.declared.actor.Actor.{Actor}
 use Rattle.epoch_tags.specs.declared.actor.Actor.TheVariants.{Feeder, Joiner, Controller, Collector}
 use Rattle.epoch_tags.specs.declared.message.Msg.{Msg}
 use Rattle.epoch_tags.specs.declared.message.Post.{Post}
+use Rattle.load_controller.specs.Journal.{begun}
 use Rattle.load_controller.specs.declared.line.TurnLine.{TurnLine}
 use Rattle.trace_law.specs.declared.input.Input.{Input}
 use Rattle.trace_law.specs.declared.setting.Setting.{Setting}
-use Rattle.trace_law.specs.Family.{Family, feeder_start, joiner_start, rules_of, first_line}
+use Rattle.trace_law.specs.Family.{Family, feeder_start, joiner_start, rules_of, first_rest}
 use Rattle.link_trace.specs.Lists.{ActorLists, Cause, Took, Began, same_actor, posted_to, feeder_lists, joiner_lists, controller_lists, collector_lists, with_event}
 use Rattle.link_trace.specs.Standing.{Start, OfFeeder, OfJoiner, OfController, OfCollector}
 use Rattle.link_trace.specs.declared.machines.Core.{Core}
@@ -16,9 +17,9 @@ use Rattle.link_trace.specs.declared.machines.Core.TheVariants.{Feeder as TheFee
 
 -- how each actor of a run begins
 abbrev pub start_for : Input → Setting → Actor → Start
-start_for input setting (Feeder p) = OfFeeder p setting.feeders (feeder_start input setting p)
-start_for input setting (Joiner j) = OfJoiner (joiner_start input setting j)
-start_for input setting Controller = OfController (record { rules = rules_of setting; first = first_line setting })
+start_for input setting (Feeder p) = OfFeeder p setting.feeders (feeder_start input setting (first_rest setting) p)
+start_for input setting (Joiner j) = OfJoiner (joiner_start input setting (first_rest setting) j)
+start_for input setting Controller = OfController (record { rules = rules_of setting; first = begun (first_rest setting).line })
 start_for input setting Collector = OfCollector (2 ^ setting.k)
 
 -- the actor is one of the run

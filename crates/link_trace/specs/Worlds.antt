@@ -11,7 +11,7 @@ use Rattle.pair_collector.specs.Law.{CollectorLists}
 use Rattle.pair_collector.specs.Answer.{Collects}
 use Rattle.trace_law.specs.declared.run.Run.{Run}
 use Rattle.trace_law.specs.Runs.{run_of}
-use Rattle.trace_law.specs.Family.{IsAgreeing}
+use Rattle.trace_law.specs.Family.{IsAgreeing, first_rest}
 use Rattle.trace_law.specs.declared.input.Input.{Input}
 use Rattle.trace_law.specs.declared.setting.Setting.{Setting}
 use Rattle.link_trace.specs.Lists.{ActorLists, Cause, Took, same_actor, no_lists}
@@ -169,4 +169,4 @@ pub record IsStill (setting : Setting) (w : WorldState) : Type 0 where
 -- the lists for which a world stands are an agreeing family
 abbrev pub WorldAgrees : Type 0
 WorldAgrees = (input : Input) (setting : Setting) (w : WorldState) (lists : Actor → ActorLists) → (stands : StandsFor input setting w lists)
-    → IsAgreeing input setting (family_of (journal_of (stands.stands Controller tt).0) lists)
+    → IsAgreeing input setting (first_rest setting) (family_of (journal_of (stands.stands Controller tt).0) lists)

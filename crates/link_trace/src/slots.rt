@@ -54,7 +54,7 @@ fn add_feeders_to_joiners(
 }
 
 fn add_to_partners(slots: &mut Vec<Slot>, i: u32, k: u32) -> Result<(), AllocError>
-    requires { k ≤ 6 }
+    requires { k ≤ 8 }
     ensures { OnOk result (slots.new.items ≡ slots.old.items ++ order.to_partners k i) }
 {
     for bit in 0..k {
@@ -64,7 +64,7 @@ fn add_to_partners(slots: &mut Vec<Slot>, i: u32, k: u32) -> Result<(), AllocErr
 }
 
 fn add_joiners_to_partners(slots: &mut Vec<Slot>, joiners: u32, k: u32) -> Result<(), AllocError>
-    requires { k ≤ 6 }
+    requires { k ≤ 8 }
     ensures { OnOk result (slots.new.items ≡ slots.old.items
         ++ flat_map (order.to_partners k) (range_with_len 0 joiners)) }
 {
@@ -107,7 +107,7 @@ fn add_from_joiners(slots: &mut Vec<Slot>, joiners: u32, to: Actor) -> Result<()
 /// id differs in one bit, lowest bit first, from the controller to each feeder, from each feeder and then from each
 /// joiner to the controller, from each joiner to the collector. Actors rise.
 pub(crate) fn slots_of(alloc: Global, setting: &Setting) -> Result<Vec<Slot>, AllocError>
-    requires { setting.now.k ≤ 6 }
+    requires { setting.now.k ≤ 8 }
     ensures { IfOk result (λ slots. slots.items ≡ order.slots_of setting.now) }
 {
     let joiners = joiners_of(setting);

@@ -3,9 +3,10 @@
 ghost use Rattle.std.specs.Prelude.{◌≡◌, ◌<◌, ◌≤◌, ◌+◌, ◌^◌, IfOk, map};
 ghost use Rattle.row_tickets.specs.Share.{share as share'};
 ghost use Rattle.join_rows.specs.declared.table.Side.TheVariants.{R as R', S as S'};
+ghost use Rattle.load_controller.specs.Journal.{begun};
 ghost use Rattle.trace_law.specs.Join.{row_count};
 ghost use Rattle.trace_law.specs.Validity.{IsValidInput, IsValidSetting};
-ghost use Rattle.trace_law.specs.Family.{tuple_of, feeder_start, joiner_start, rules_of, first_line};
+ghost use Rattle.trace_law.specs.Family.{tuple_of, feeder_start, joiner_start, rules_of, first_rest};
 ghost use Rattle.link_trace.specs.Lists.{no_lists};
 ghost use Rattle.link_trace.specs.Standing.{Stands, HasGivenNone, IsLive, OfFeeder, OfJoiner, OfController, OfCollector};
 ghost use Rattle.link_trace.specs.Families.{start_for};
@@ -24,7 +25,7 @@ use trace_law::{Input, Setting};
 
 // The shift at which a run begins.
 fn first_shift(setting: &Setting) -> u32
-    ensures { result ≡ (first_line setting.now).shift }
+    ensures { result ≡ (first_rest setting.now).line.shift }
 {
     setting.fixed.unwrap_or(setting.k / 2)
 }
@@ -39,9 +40,9 @@ fn power(exponent: u32) -> u32
 
 /// How many joiners there are. It takes no memory.
 pub fn joiners_of(setting: &Setting) -> u32
-    requires { setting.now.k ≤ 6 }
+    requires { setting.now.k ≤ 8 }
     ensures value { result ≡ 2 ^ setting.now.k }
-    ensures few { result ≤ 64 }
+    ensures few { result ≤ 256 }
 {
     power(setting.k)
 }
@@ -99,7 +100,7 @@ fn feeder<'a>(
     requires setting { IsValidSetting setting.now }
     requires feeder { p < setting.now.feeders }
     ensures stands { IfOk result (λ core. Stands
-        (OfFeeder p setting.now.feeders (feeder_start input.now setting.now p)) no_lists core) }
+        (OfFeeder p setting.now.feeders (feeder_start input.now setting.now (first_rest setting.now) p)) no_lists core) }
     ensures live { IfOk result IsLive }
     ensures given { IfOk result (HasGivenNone (2 ^ setting.now.k)) }
 {
@@ -117,7 +118,7 @@ fn joiner<'a>(
     requires setting { IsValidSetting setting.now }
     requires joiner { j < 2 ^ setting.now.k }
     ensures stands { IfOk result (λ core.
-        Stands (OfJoiner (joiner_start input.now setting.now j)) no_lists core) }
+        Stands (OfJoiner (joiner_start input.now setting.now (first_rest setting.now) j)) no_lists core) }
     ensures live { IfOk result IsLive }
     ensures given { IfOk result (HasGivenNone (2 ^ setting.now.k)) }
 {
@@ -129,11 +130,17 @@ fn joiner<'a>(
 fn controller<'a>(alloc: Global, setting: &Setting) -> Result<Core<'a>, AllocError>
     requires setting { IsValidSetting setting.now }
     ensures stands { IfOk result (λ core. Stands (OfController
-        (record { rules = rules_of setting.now; first = first_line setting.now })) no_lists core) }
+        (record { rules = rules_of setting.now; first = begun (first_rest setting.now).line })) no_lists core) }
     ensures live { IfOk result IsLive }
     ensures given { IfOk result (HasGivenNone (2 ^ setting.now.k)) }
 {
-    Ok(Core::Controller(Controller::start(alloc, setting.k, setting.feeders, setting.fixed)?))
+    Ok(Core::Controller(Controller::start(
+        alloc,
+        setting.k,
+        setting.feeders,
+        setting.fixed,
+        setting.weights,
+    )?))
 }
 
 fn collector<'a>(alloc: Global, setting: &Setting) -> Result<Core<'a>, AllocError>

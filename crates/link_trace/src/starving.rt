@@ -3,6 +3,7 @@
 ghost use Rattle.std.specs.Prelude.{◌≡◌, ◌≤◌, ◌<◌, ℕ, IfOk, OnOk, Ok, Some, true, false, length, slice_get};
 ghost use Rattle.load_controller.specs.Journal.{last_epoch};
 ghost use Rattle.trace_law.specs.Validity.{IsValidInput, IsValidSetting};
+ghost use Rattle.trace_law.specs.Family.{first_rest};
 ghost use Rattle.trace_law.specs.Runs.{IsRunOf};
 ghost use Rattle.link_trace.specs.declared.slots.Slot.{Slot as Slot'};
 ghost use Rattle.link_trace.specs.Worlds.{state_of, IsAllAt};
@@ -111,7 +112,7 @@ pub fn replay_starving(
 ) -> Result<Run, AllocError>
     requires input { IsValidInput input.now }
     requires setting { IsValidSetting setting.now }
-    ensures run { IfOk result (λ run. IsRunOf input.now setting.now run.journal run) }
+    ensures run { IfOk result (λ run. IsRunOf input.now setting.now (first_rest setting.now).line run.journal run) }
     ensures order { IfOk result (λ run. IsStarvingReplay input.now setting.now starved run) }
     ensures bound { IfOk result (λ run. run.bouts
         ≤ most_events input.now setting.now (last_epoch run.journal)) }

@@ -10,6 +10,7 @@ ghost use Rattle.pair_collector.specs.Standing.{is_complete, StandsFor as Collec
 ghost use Rattle.trace_law.specs.declared.input.Input.{Input as Input'};
 ghost use Rattle.trace_law.specs.declared.setting.Setting.{Setting as Setting'};
 ghost use Rattle.trace_law.specs.Validity.{IsValidInput, IsValidSetting, IsValid};
+ghost use Rattle.trace_law.specs.Family.{first_rest};
 ghost use Rattle.trace_law.specs.Runs.{IsRunOf};
 ghost use Rattle.link_trace.specs.Lists.{Began, ActorLists, no_lists};
 ghost use Rattle.link_trace.specs.Families.{journal_of};
@@ -207,7 +208,7 @@ impl<'a> World<'a> {
         ensures run { IfOk result (λ run.
             (input : Input') (setting : Setting') (lists : Actor' → ActorLists)
             → IsValid input setting → StandsFor input setting (state_of self.entry) lists
-            → IsRunOf input setting run.journal run) }
+            → IsRunOf input setting (first_rest setting).line run.journal run) }
         ensures journal { IfOk result (λ run.
             (input : Input') (setting : Setting') (lists : Actor' → ActorLists)
             → StandsFor input setting (state_of self.entry) lists → (core : Core')

@@ -10,55 +10,81 @@ use Rattle.join_rows.specs.Lists.{counting_from}
 use Rattle.join_rows.proofs.RisingNumbers.{one_fails}
 use Rattle.epoch_tags.specs.Held.{held_at}
 use Rattle.epoch_tags.specs.Flags.{flag_at}
-use Rattle.load_controller.specs.declared.line.Cause.TheVariants.{Start}
+use Rattle.load_controller.specs.declared.line.Cause.{Cause}
+use Rattle.load_controller.specs.declared.line.Cause.TheVariants.{Start, Wave, Count, Settle, Drain}
 use Rattle.load_controller.specs.declared.line.TurnLine.{TurnLine}
 use Rattle.load_controller.specs.declared.ledger.Ledger.{Ledger}
-use Rattle.load_controller.specs.Journal.{Rules, Fits, start_line, has_drained, is_drain_of}
+use Rattle.load_controller.specs.Journal.{IsFirst, Rules, Fits, start_line, has_drained, is_drain_of}
 use Rattle.load_controller.specs.Law.{is_over}
+use Rattle.grid_map.specs.declared.cost.Weights.{Weights}
+use Rattle.grid_map.specs.Load.{AreWeights}
 use Rattle.load_controller.specs.Standing.{ControllerState, IsFresh, StandsFor, IsNearWhereStill, nothing_yet, rules_with}
 use Rattle.load_controller.specs.Machine.{Begins, rules_of, state_of}
 use Rattle.load_controller.proofs.Bound.{fixed_within}
 use Rattle.load_controller.proofs.Numbers.{first_bounded, first_guided, near_line}
 
--- no feeder has drained at a first line
-none_drained : (p : ℕ) (line : TurnLine) → line.cause ≡ Start → has_drained p (line ∷ []) ≡ false
-none_drained p line start = or_from (is_drain_of p line.cause) false (ap (is_drain_of p) start) refl
+no_drain : (p : ℕ) (cause : Cause) → IsFirst cause → is_drain_of p cause ≡ false
+no_drain p Start first = refl
+no_drain p Wave first = refl
+no_drain p (Count feeder dr ds) first = absurd first
+no_drain p (Settle joiner) first = absurd first
+no_drain p (Drain feeder) first = absurd first
 
-over_at_first : (feeders : ℕ) (line : TurnLine) → line.cause ≡ Start → line.moving ≡ false → (feeders == 0) ≡ is_over feeders (line ∷ [])
+-- no feeder has drained at a first line
+none_drained : (p : ℕ) (line : TurnLine) → IsFirst line.cause → has_drained p (line ∷ []) ≡ false
+none_drained p line start = or_from (is_drain_of p line.cause) false (no_drain p line.cause start) refl
+
+over_at_first : (feeders : ℕ) (line : TurnLine) → IsFirst line.cause → line.moving ≡ false
+    → (feeders == 0) ≡ is_over feeders (line ∷ [])
 over_at_first feeders line start still = elim (cases_eq feeders 0) [
   | inl none ↦ rw (none, still) refl
-  | inr some ↦ ne_eqb feeders 0 some ∙ sym (or_from (not line.moving && list_all (λ p. has_drained p (line ∷ [])) (counting_from 0 feeders)) false
+  | inr some ↦
+      ne_eqb feeders 0 some
+      ∙ sym (or_from (not line.moving && list_all (λ p. has_drained p (line ∷ [])) (counting_from 0 feeders)) false
       (and_right (not line.moving) (list_all (λ p. has_drained p (line ∷ [])) (counting_from 0 feeders))
-      (one_fails (λ p. has_drained p (line ∷ [])) 0 0 feeders (omega arith) (omega arith) (none_drained 0 line start))) refl)
+      (one_fails (λ p. has_drained p (line ∷ [])) 0 0 feeders (omega arith) (omega arith) (none_drained 0 line start)))
+      refl)
 ]
 
 -- how the code makes it
-pub begins : (k feeders : ℕ) (fixed : Option ℕ) (line : TurnLine) (c : Ledger) → k ≤ 8 → Fits (rules_with k feeders fixed) line → line.cause ≡ Start → line.epoch ≤ 2 ^ 31
-    → c.k ≡ k → c.feeders ≡ feeders → c.fixed ≡ fixed → c.line ≡ line → c.journal ≡ line ∷ [] → c.settled_count ≡ 0 → c.over ≡ (feeders == 0)
-    → length c.drained.items ≡ feeders → ((i : ℕ) → flag_at c.drained.items i ≡ false) → length c.settled.items ≡ 2 ^ k → ((i : ℕ) → flag_at c.settled.items i ≡ false)
-    → length c.held ≡ 2 ^ k → ((j : ℕ) → held_at c.held j ≡ []) → Begins (rules_with k feeders fixed) line c
-begins k feeders fixed line c small fits start early at_k at_feeders at_fixed at_line at_journal none over many_drained drained many_settled settled many_held held =
-    let rules = rules_with k feeders fixed in
-    let rules_are : rules_of c ≡ rules = λ i. record { k = at_k i; feeders = at_feeders i; fixed = at_fixed i } in
+pub begins : (k feeders : ℕ) (fixed : Option ℕ) (weights : Weights) (line : TurnLine) (c : Ledger) → k ≤ 8
+    → AreWeights weights → Fits (rules_with k feeders fixed weights) line → IsFirst line.cause → line.epoch ≤ 2 ^ 31
+    → c.k ≡ k → c.feeders ≡ feeders → c.fixed ≡ fixed → c.weights ≡ weights → c.line ≡ line → c.journal ≡ line ∷ []
+    → c.settled_count ≡ 0 → c.over ≡ (feeders == 0)
+    → length c.drained.items ≡ feeders → ((i : ℕ) → flag_at c.drained.items i ≡ false) → length c.settled.items ≡ 2 ^ k
+    → ((i : ℕ) → flag_at c.settled.items i ≡ false)
+    → length c.held ≡ 2 ^ k → ((j : ℕ) → held_at c.held j ≡ []) → Begins (rules_with k feeders fixed weights) line c
+begins k feeders fixed weights line c small weigh fits start early at_k at_feeders at_fixed at_weights at_line
+    at_journal none over many_drained drained many_settled settled many_held held =
+    let rules = rules_with k feeders fixed weights in
+    let rules_are : rules_of c ≡ rules =
+    λ i. record { k = at_k i; feeders = at_feeders i; fixed = at_fixed i; weights = at_weights i } in
     let bounded = first_bounded rules line fits early in
-    let near : IsNearWhereStill rules line = λ free still. near_line k line bounded (first_guided rules line fits free) still in
-    let all_near : All (IsNearWhereStill rules) (line ∷ []) = All-cons (IsNearWhereStill rules) line [] near (All-nil (IsNearWhereStill rules)) in
+    let near : IsNearWhereStill rules line =
+    λ free still. near_line k weights line bounded (first_guided rules line fits free) still in
+    let all_near : All (IsNearWhereStill rules) (line ∷ []) =
+    All-cons (IsNearWhereStill rules) line [] near (All-nil (IsNearWhereStill rules)) in
     record {
       sound = record {
         past = [];
         newest = ap reverse at_journal ∙ ap (λ l. l ∷ []) (sym at_line);
         k = rw at_k small;
+        weights = rw at_weights weigh;
         bounded = rw (at_k, at_line) bounded;
-        guided = λ free. rw (at_k, at_line) (first_guided rules line fits (sym at_fixed ∙ free));
-        near = subst (λ r. All (IsNearWhereStill r) c.journal) (sym rules_are) (subst (λ ls. All (IsNearWhereStill rules) ls) (sym at_journal) all_near);
+        guided = λ free. rw (at_k, at_weights, at_line) (first_guided rules line fits (sym at_fixed ∙ free));
+        near =
+            subst (λ r. All (IsNearWhereStill r) c.journal) (sym rules_are)
+            (subst (λ ls. All (IsNearWhereStill rules) ls) (sym at_journal) all_near);
         drained_len = many_drained ∙ sym at_feeders;
-        drained = λ p low. drained p ∙ sym (none_drained p c.line (ap (λ l. l.cause) at_line ∙ start));
+        drained = λ p low. drained p ∙ sym (none_drained p c.line (subst (λ l. IsFirst l.cause) (sym at_line) start));
         settled_len = many_settled ∙ ap (λ n. 2 ^ n) (sym at_k);
         settled = λ j low. settled j;
         count = none;
         few = λ moves. rw none (pow_pos c.k);
         at_most = rw none (omega arith);
-        over = over ∙ over_at_first feeders line start fits.still ∙ ap (λ n. is_over n (line ∷ [])) (sym at_feeders) ∙ ap (λ l. is_over c.feeders (l ∷ [])) (sym at_line);
+        over =
+            over ∙ over_at_first feeders line start fits.still ∙ ap (λ n. is_over n (line ∷ [])) (sym at_feeders)
+            ∙ ap (λ l. is_over c.feeders (l ∷ [])) (sym at_line);
         queues = many_held ∙ ap (λ n. 2 ^ n) (sym at_k);
       };
       rules_are = rules_are;
@@ -67,7 +93,8 @@ begins k feeders fixed line c small fits start early at_k at_feeders at_fixed at
     }
 
 -- it stands for empty lists
-stands_first : (rules : Rules) (first : TurnLine) (state : ControllerState) → state.rules ≡ rules → state.journal ≡ first ∷ [] → ((j : ℕ) → held_at state.held j ≡ [])
+stands_first : (rules : Rules) (first : TurnLine) (state : ControllerState) → state.rules ≡ rules
+    → state.journal ≡ first ∷ [] → ((j : ℕ) → held_at state.held j ≡ [])
     → StandsFor (record { rules = rules; first = first }) (nothing_yet first) state
 stands_first rules first state began journal held = record {
   began = began;
@@ -77,14 +104,23 @@ stands_first rules first state began journal held = record {
     journal = refl;
     follows = refl;
     counts = λ p low. record { counted = []; passed = []; splits = refl; are_counted = refl; not_in_place = tt };
-    settles = λ j low. record { counted = []; held = []; splits = refl; are_settled = refl; stuck = λ epoch rest is. absurd (cc) };
+    settles =
+        λ j low. record {
+          counted = [];
+          held = [];
+          splits = refl;
+          are_settled = refl;
+          stuck = λ epoch rest is. absurd (cc);
+        };
     sends = λ p low. refl;
   };
   journal = journal;
   held = λ j low. held j;
 }
 
-pub fresh : (rules : Rules) (first : TurnLine) (c : Ledger) → Begins rules first c → IsFresh rules first (state_of c false)
+-- a ledger that has just begun stands for empty lists
+pub fresh : (rules : Rules) (first : TurnLine) (c : Ledger) → Begins rules first c
+    → IsFresh rules first (state_of c false)
 fresh rules first c b = record {
   rules_are = b.rules_are;
   journal = b.journal;
@@ -93,8 +129,10 @@ fresh rules first c b = record {
 }
 
 -- the first line of a run fits
-pub start_fits : (k feeders : ℕ) (fixed : Option ℕ) (line : TurnLine) → ForSome fixed (λ shift. shift ≤ k) → line ≡ start_line (rules_with k feeders fixed) → Fits (rules_with k feeders fixed) line
-start_fits k feeders fixed line low is =
+pub start_fits : (k feeders : ℕ) (fixed : Option ℕ) (weights : Weights) (line : TurnLine)
+    → ForSome fixed (λ shift. shift ≤ k) → line ≡ start_line (rules_with k feeders fixed weights)
+    → Fits (rules_with k feeders fixed weights) line
+start_fits k feeders fixed weights line low is =
     let within = fixed_within fixed k low in
     rw is (record {
       still = refl;
@@ -108,6 +146,32 @@ start_fits k feeders fixed line low is =
       fixed = λ shift is'. ap (λ (o : Option ℕ). unwrap_or o (k / 2)) is';
     })
 
-pub start_line_is : (k feeders : ℕ) (fixed : Option ℕ) (shift : ℕ) → shift ≡ unwrap_or fixed (k / 2)
-    → (let line : TurnLine = record { cause = Start; rows_r = 0; rows_s = 0; base_r = 0; base_s = 0; epoch = 0; shift = shift; goal = shift; moving = false } in line ≡ start_line (rules_with k feeders fixed))
-start_line_is k feeders fixed shift is = ap (λ (s : ℕ). let line : TurnLine = record { cause = Start; rows_r = 0; rows_s = 0; base_r = 0; base_s = 0; epoch = 0; shift = s; goal = s; moving = false } in line) is
+-- the line that `start` makes is the start line of the machine's rules
+pub start_line_is : (k feeders : ℕ) (fixed : Option ℕ) (weights : Weights) (shift : ℕ) → shift ≡ unwrap_or fixed (k / 2)
+    → (let line : TurnLine =
+    record {
+      cause = Start;
+      rows_r = 0;
+      rows_s = 0;
+      base_r = 0;
+      base_s = 0;
+      epoch = 0;
+      shift = shift;
+      goal = shift;
+      moving = false;
+    } in line ≡ start_line (rules_with k feeders fixed weights))
+start_line_is k feeders fixed weights shift is =
+    ap
+    (λ (s : ℕ).
+    let line : TurnLine =
+    record {
+      cause = Start;
+      rows_r = 0;
+      rows_s = 0;
+      base_r = 0;
+      base_s = 0;
+      epoch = 0;
+      shift = s;
+      goal = s;
+      moving = false;
+    } in line) is

@@ -3,8 +3,9 @@ use Rattle.std.proofs.Common.{◌≡◌, ℕ, ◌+◌, ◌-◌, ◌*◌, ◌^◌
 use Rattle.std.specs.Prelude.{◌==◌, nat_lt, nat_le, is_none}
 use Rattle.std.proofs.lemmas.Nat.{pow-add}
 use Rattle.std.proofs.lemmas.Bool.{cases_eq, and_parts, or_parts, or_cases, ltb-true, leb-true, eqb-false, not-true}
+use Rattle.grid_map.specs.declared.cost.Weights.{Weights}
 use Rattle.grid_map.specs.Load.{best_shift, IsNear}
-use Rattle.grid_map.proofs.Near.{near_from_best}
+use Rattle.grid_map.proofs.Near.{near_weighed}
 use Rattle.migration_plan.specs.Steps.{next_step}
 use Rattle.load_controller.specs.declared.line.Cause.{Cause}
 use Rattle.load_controller.specs.declared.line.TurnLine.{TurnLine}
@@ -28,7 +29,8 @@ record Ranged (k rows_r rows_s base_r base_s epoch shift goal : ℕ) : Type 0 wh
   paid : (a c : ℕ) → base_r < 2 ^ a → base_s < 2 ^ c → epoch + gap shift goal ≤ 2 ^ 31 + k * (a + c)
 
 -- a doubled base has one binary digit more
-digit_more : (base rows a : ℕ) → base < rows → 2 * base ≤ rows → rows < 2 ^ a → (a' : ℕ) × (a ≡ a' + 1) × (base < 2 ^ a')
+digit_more : (base rows a : ℕ) → base < rows → 2 * base ≤ rows → rows < 2 ^ a
+    → (a' : ℕ) × (a ≡ a' + 1) × (base < 2 ^ a')
 digit_more base rows a more twice small = elim (cases_eq a 0) [
   | inl none ↦ let one : 2 ^ a ≡ 1 = rw none refl in absurd (omega arith)
   | inr some ↦
@@ -44,8 +46,10 @@ more_digits k a a' c is = rw is (omega arith)
 more_digits_s : (k a c c' : ℕ) → c ≡ c' + 1 → k * (a + c) ≡ k * (a + c') + k
 more_digits_s k a c c' is = rw is (omega arith)
 
-decided : (k rows_r rows_s base_r base_s epoch shift goal goal' : ℕ) → Ranged k rows_r rows_s base_r base_s epoch shift goal → goal' ≤ k
-    → (has_doubled base_r rows_r || has_doubled base_s rows_s) ≡ true → Ranged k rows_r rows_s rows_r rows_s epoch shift goal'
+decided : (k rows_r rows_s base_r base_s epoch shift goal goal' : ℕ)
+    → Ranged k rows_r rows_s base_r base_s epoch shift goal → goal' ≤ k
+    → (has_doubled base_r rows_r || has_doubled base_s rows_s) ≡ true
+    → Ranged k rows_r rows_s rows_r rows_s epoch shift goal'
 decided k rows_r rows_s base_r base_s epoch shift goal goal' b within due = record {
   few_r = b.few_r;
   few_s = b.few_s;
@@ -60,26 +64,33 @@ decided k rows_r rows_s base_r base_s epoch shift goal goal' b within due = reco
       elim (or_cases (has_doubled base_r rows_r) (has_doubled base_s rows_s) due) [
         | inl of_r ↦
             let parts = and_parts (nat_lt base_r rows_r) (nat_le (2 * base_r) rows_r) of_r in
-            let digits = digit_more base_r rows_r a (ltb-true base_r rows_r parts.0) (leb-true (2 * base_r) rows_r parts.1) small_r in
+            let digits =
+            digit_more base_r rows_r a (ltb-true base_r rows_r parts.0) (leb-true (2 * base_r) rows_r parts.1)
+            small_r in
             let old = b.paid digits.0 c digits.2 (omega arith) in
             let grows = more_digits k a digits.0 c digits.1 in
             omega arith
         | inr of_s ↦
             let parts = and_parts (nat_lt base_s rows_s) (nat_le (2 * base_s) rows_s) of_s in
-            let digits = digit_more base_s rows_s c (ltb-true base_s rows_s parts.0) (leb-true (2 * base_s) rows_s parts.1) small_s in
+            let digits =
+            digit_more base_s rows_s c (ltb-true base_s rows_s parts.0) (leb-true (2 * base_s) rows_s parts.1)
+            small_s in
             let old = b.paid a digits.0 (omega arith) digits.2 in
             let grows = more_digits_s k a c digits.0 digits.1 in
             omega arith
       ];
 }
 
-maybe_decided : (k rows_r rows_s base_r base_s epoch shift goal goal' : ℕ) (due : Bool) → Ranged k rows_r rows_s base_r base_s epoch shift goal → goal' ≤ k
+maybe_decided : (k rows_r rows_s base_r base_s epoch shift goal goal' : ℕ) (due : Bool)
+    → Ranged k rows_r rows_s base_r base_s epoch shift goal → goal' ≤ k
     → (due ≡ true → (has_doubled base_r rows_r || has_doubled base_s rows_s) ≡ true)
     → Ranged k rows_r rows_s (cond due rows_r base_r) (cond due rows_s base_s) epoch shift (cond due goal' goal)
-maybe_decided k rows_r rows_s base_r base_s epoch shift goal goal' true b within doubled = decided k rows_r rows_s base_r base_s epoch shift goal goal' b within (doubled refl)
+maybe_decided k rows_r rows_s base_r base_s epoch shift goal goal' true b within doubled =
+    decided k rows_r rows_s base_r base_s epoch shift goal goal' b within (doubled refl)
 maybe_decided k rows_r rows_s base_r base_s epoch shift goal goal' false b within doubled = b
 
-maybe_stepped : (k rows_r rows_s base_r base_s epoch shift goal : ℕ) (steps : Bool) → (steps ≡ true → shift ≡ goal → ⊥) → Ranged k rows_r rows_s base_r base_s epoch shift goal
+maybe_stepped : (k rows_r rows_s base_r base_s epoch shift goal : ℕ) (steps : Bool) → (steps ≡ true → shift ≡ goal → ⊥)
+    → Ranged k rows_r rows_s base_r base_s epoch shift goal
     → Ranged k rows_r rows_s base_r base_s (cond steps (epoch + 1) epoch) (cond steps (next_step shift goal) shift) goal
 maybe_stepped k rows_r rows_s base_r base_s epoch shift goal true differ b =
     let nearer = next_nearer shift goal (differ refl) in
@@ -94,7 +105,8 @@ maybe_stepped k rows_r rows_s base_r base_s epoch shift goal true differ b =
     }
 maybe_stepped k rows_r rows_s base_r base_s epoch shift goal false differ b = b
 
-counted : (k rows_r rows_s base_r base_s epoch shift goal dr ds : ℕ) → Ranged k rows_r rows_s base_r base_s epoch shift goal → rows_r + dr ≤ 2 ^ 32 → rows_s + ds ≤ 2 ^ 32
+counted : (k rows_r rows_s base_r base_s epoch shift goal dr ds : ℕ)
+    → Ranged k rows_r rows_s base_r base_s epoch shift goal → rows_r + dr ≤ 2 ^ 32 → rows_s + ds ≤ 2 ^ 32
     → Ranged k (rows_r + dr) (rows_s + ds) base_r base_s epoch shift goal
 counted k rows_r rows_s base_r base_s epoch shift goal dr ds b few_r few_s =
     let low_r = b.low_r in
@@ -109,24 +121,51 @@ counted k rows_r rows_s base_r base_s epoch shift goal dr ds b few_r few_s =
       paid = b.paid;
     }
 
-pub bounded_after : (k : ℕ) (fixed : Option ℕ) (before : TurnLine) (opens : Bool) (cause : Cause) → IsBounded k before
-    → before.rows_r + counted_r cause ≤ 2 ^ 32 → before.rows_s + counted_s cause ≤ 2 ^ 32 → IsBounded k (line_by k fixed before opens cause)
-bounded_after k fixed before opens cause b few_r few_s =
+-- a line after one in range is in range
+pub bounded_after : (k : ℕ) (fixed : Option ℕ) (weights : Weights) (before : TurnLine) (opens : Bool) (cause : Cause)
+    → IsBounded k before
+    → before.rows_r + counted_r cause ≤ 2 ^ 32 → before.rows_s + counted_s cause ≤ 2 ^ 32
+    → IsBounded k (line_by k fixed weights before opens cause)
+bounded_after k fixed weights before opens cause b few_r few_s =
     let rows_r = before.rows_r + counted_r cause in
     let rows_s = before.rows_s + counted_s cause in
     let doubled = has_doubled before.base_r rows_r || has_doubled before.base_s rows_s in
     let decides = decides_by fixed before opens cause in
-    let goal = goal_by k fixed before opens cause in
-    let steps = steps_by k fixed before opens cause in
-    let best = best_shift k before.shift rows_r rows_s in
+    let goal = goal_by k fixed weights before opens cause in
+    let steps = steps_by k fixed weights before opens cause in
+    let best = best_shift k before.shift (weights.r * rows_r) (weights.s * rows_s) in
     let start : Ranged k before.rows_r before.rows_s before.base_r before.base_s before.epoch before.shift before.goal =
-    record { few_r = b.few_r; few_s = b.few_s; low_r = b.low_r; low_s = b.low_s; shift_within = b.shift; goal_within = b.goal; paid = b.paid } in
-    let more = counted k before.rows_r before.rows_s before.base_r before.base_s before.epoch before.shift before.goal (counted_r cause) (counted_s cause) start few_r few_s in
-    let chose = maybe_decided k rows_r rows_s before.base_r before.base_s before.epoch before.shift before.goal best decides more (best_within k before.shift rows_r rows_s b.shift)
+    record {
+      few_r = b.few_r;
+      few_s = b.few_s;
+      low_r = b.low_r;
+      low_s = b.low_s;
+      shift_within = b.shift;
+      goal_within = b.goal;
+      paid = b.paid;
+    } in
+    let more =
+    counted k before.rows_r before.rows_s before.base_r before.base_s before.epoch before.shift before.goal
+    (counted_r cause) (counted_s cause) start few_r few_s in
+    let chose =
+    maybe_decided k rows_r rows_s before.base_r before.base_s before.epoch before.shift before.goal best decides more
+    (best_within k before.shift (weights.r * rows_r) (weights.s * rows_s) b.shift)
     (λ e. (and_parts (not opens && is_none fixed) doubled e).1) in
-    let end = maybe_stepped k rows_r rows_s (cond decides rows_r before.base_r) (cond decides rows_s before.base_s) before.epoch before.shift goal steps
-    (λ e same. eqb-false before.shift goal (not-true (before.shift == goal) (and_parts (not opens) (not (before.shift == goal)) e).1) same) chose in
-    record { few_r = end.few_r; few_s = end.few_s; low_r = end.low_r; low_s = end.low_s; shift = end.shift_within; goal = end.goal_within; paid = end.paid }
+    let end =
+    maybe_stepped k rows_r rows_s (cond decides rows_r before.base_r) (cond decides rows_s before.base_s)
+    before.epoch before.shift goal steps
+    (λ e same.
+    eqb-false before.shift goal
+    (not-true (before.shift == goal) (and_parts (not opens) (not (before.shift == goal)) e).1) same) chose in
+    record {
+      few_r = end.few_r;
+      few_s = end.few_s;
+      low_r = end.low_r;
+      low_s = end.low_s;
+      shift = end.shift_within;
+      goal = end.goal_within;
+      paid = end.paid;
+    }
 
 -- so an epoch more fits
 pub epoch_fits : (k : ℕ) (line : TurnLine) → k ≤ 8 → IsBounded k line → line.epoch + 1 < 2 ^ 32
@@ -140,26 +179,35 @@ epoch_fits k line small b =
 
 -- ---- near
 
-pub guided_after : (k : ℕ) (fixed : Option ℕ) (before : TurnLine) (opens : Bool) (cause : Cause) → is_none fixed ≡ true → IsBounded k before → IsGuided k before
-    → IsGuided k (line_by k fixed before opens cause)
-guided_after k fixed before opens cause free b g =
+-- and is best at its bases
+pub guided_after : (k : ℕ) (fixed : Option ℕ) (weights : Weights) (before : TurnLine) (opens : Bool) (cause : Cause)
+    → is_none fixed ≡ true → IsBounded k before → IsGuided k weights before
+    → IsGuided k weights (line_by k fixed weights before opens cause)
+guided_after k fixed weights before opens cause free b g =
     let rows_r = before.rows_r + counted_r cause in
     let rows_s = before.rows_s + counted_s cause in
     let low_r = b.low_r in
     let low_s = b.low_s in
-    let s = chosen k rows_r rows_s before.base_r before.base_s before.shift before.goal g.best (omega arith) (omega arith) b.shift opens (is_none fixed)
+    let s =
+    chosen k weights.r weights.s rows_r rows_s before.base_r before.base_s before.shift before.goal g.best
+    (omega arith) (omega arith) b.shift opens (is_none fixed)
     (has_doubled before.base_r rows_r || has_doubled before.base_s rows_s) free refl in
     record { best = s.best; reached = s.reached; not_due = s.not_due }
 
-pub near_line : (k : ℕ) (line : TurnLine) → IsBounded k line → IsGuided k line → line.moving ≡ false → IsNear k line.shift line.rows_r line.rows_s
-near_line k line b g still =
-    let parts = or_parts (has_doubled line.base_r line.rows_r) (has_doubled line.base_s line.rows_s) (g.not_due still) in
+-- a still line that is best at its bases is near
+pub near_line : (k : ℕ) (weights : Weights) (line : TurnLine) → IsBounded k line → IsGuided k weights line
+    → line.moving ≡ false → IsNear k line.shift (weights.r * line.rows_r) (weights.s * line.rows_s)
+near_line k weights line b g still =
+    let parts =
+    or_parts (has_doubled line.base_r line.rows_r) (has_doubled line.base_s line.rows_s) (g.not_due still) in
     rw (g.reached still)
-    (near_from_best k line.goal line.base_r line.base_s line.rows_r line.rows_s g.best
-    b.low_r (not_doubled line.base_r line.rows_r b.low_r parts.0) b.low_s (not_doubled line.base_s line.rows_s b.low_s parts.1))
+    (near_weighed k line.goal weights.r weights.s line.base_r line.base_s line.rows_r line.rows_s g.best
+    b.low_r (not_doubled line.base_r line.rows_r b.low_r parts.0) b.low_s
+    (not_doubled line.base_s line.rows_s b.low_s parts.1))
 
 -- ---- a first line
 
+-- a first line that fits is in range
 pub first_bounded : (rules : Rules) (line : TurnLine) → Fits rules line → line.epoch ≤ 2 ^ 31 → IsBounded rules.k line
 first_bounded rules line fits early =
     let reached = fits.reached in
@@ -174,7 +222,9 @@ first_bounded rules line fits early =
       paid = λ a c small_r small_s. omega arith;
     }
 
-pub first_guided : (rules : Rules) (line : TurnLine) → Fits rules line → rules.fixed ≡ None → IsGuided rules.k line
+-- and best at its bases where no shift is fixed
+pub first_guided : (rules : Rules) (line : TurnLine) → Fits rules line → rules.fixed ≡ None
+    → IsGuided rules.k rules.weights line
 first_guided rules line fits free =
     let parts = fits.free free in
     record {

@@ -9,7 +9,7 @@ use Rattle.join_rows.specs.Lists.{total, counting_from}
 use Rattle.join_rows.proofs.RisingNumbers.{length-counting_from, at_place}
 use Rattle.join_rows.proofs.Totals.{total_one, total_same, total-const, each_full, some_less}
 use Rattle.load_controller.specs.declared.line.Cause.{Cause}
-use Rattle.load_controller.specs.declared.line.Cause.TheVariants.{Start, Count, Settle, Drain}
+use Rattle.load_controller.specs.declared.line.Cause.TheVariants.{Start, Wave, Count, Settle, Drain}
 use Rattle.load_controller.specs.declared.line.TurnLine.{TurnLine}
 use Rattle.load_controller.specs.Journal.{Rules, Follows, IsAllowed, line_after, is_settle, is_settle_of, since_begun, settled_count, has_settled}
 use Rattle.load_controller.specs.Law.{AreSettled, SettlesOne, CountsSettled}
@@ -51,11 +51,13 @@ module _ (joiners e : ℕ) (some : 0 < joiners) where
         few = λ m. omega (arith, new.1);
       }
 
-  plain_step : (m differs : Bool) (lines lines' : ℕ → ℕ) (has has' : ℕ → Bool) (count count' : ℕ) → Steps joiners e m lines has count
+  plain_step : (m differs : Bool) (lines lines' : ℕ → ℕ) (has has' : ℕ → Bool) (count count' : ℕ)
+      → Steps joiners e m lines has count
       → ((j : ℕ) → lines' j ≡ lines j)
       → ((cond (not (m && true) && differs) (e + 1) e == e) ≡ true → ((j : ℕ) → has' j ≡ has j) × (count' ≡ count))
       → ((cond (not (m && true) && differs) (e + 1) e == e) ≡ false → ((j : ℕ) → has' j ≡ false) × (count' ≡ 0))
-      → Steps joiners (cond (not (m && true) && differs) (e + 1) e) ((m && true) || (not (m && true) && differs)) lines' has' count'
+      → Steps joiners (cond (not (m && true) && differs) (e + 1) e) ((m && true) || (not (m && true) && differs))
+      lines' has' count'
   plain_step true differs lines lines' has has' count count' steps same kept fresh =
       let old = kept (eq-eqb e e refl) in
       let sum = total_same joiners lines' lines (λ j low. same j) in
@@ -68,15 +70,20 @@ module _ (joiners e : ℕ) (some : 0 < joiners) where
   plain_step false differs lines lines' has has' count count' steps same kept fresh =
       may_begin differs lines' has' count' (λ j low. same j ∙ steps.still refl j low) fresh
 
-  settle_step : (i : ℕ) (m ends differs : Bool) (lines lines' : ℕ → ℕ) (has has' : ℕ → Bool) (count count' : ℕ) → i < joiners → m ≡ true → has i ≡ false
+  settle_step : (i : ℕ) (m ends differs : Bool) (lines lines' : ℕ → ℕ) (has has' : ℕ → Bool) (count count' : ℕ)
+      → i < joiners → m ≡ true → has i ≡ false
       → (ends ≡ true → count + 1 ≡ joiners) → (ends ≡ false → count + 1 ≡ joiners → ⊥)
       → Steps joiners e m lines has count
       → ((j : ℕ) → lines' j ≡ lines j + cond (i == j) 1 0)
-      → ((cond (not (m && not ends) && differs) (e + 1) e == e) ≡ true → ((j : ℕ) → has' j ≡ ((i == j) || has j)) × (count' ≡ count + 1))
+      → ((cond (not (m && not ends) && differs) (e + 1) e == e) ≡ true
+      → ((j : ℕ) → has' j ≡ ((i == j) || has j)) × (count' ≡ count + 1))
       → ((cond (not (m && not ends) && differs) (e + 1) e == e) ≡ false → ((j : ℕ) → has' j ≡ false) × (count' ≡ 0))
-      → Steps joiners (cond (not (m && not ends) && differs) (e + 1) e) ((m && not ends) || (not (m && not ends) && differs)) lines' has' count'
-  settle_step i false ends differs lines lines' has has' count count' low moves new last not_last steps added kept fresh = absurd (false≢true moves)
-  settle_step i true false differs lines lines' has has' count count' low moves new last not_last steps added kept fresh =
+      → Steps joiners (cond (not (m && not ends) && differs) (e + 1) e)
+      ((m && not ends) || (not (m && not ends) && differs)) lines' has' count'
+  settle_step i false ends differs lines lines' has has' count count' low moves new last not_last steps added kept
+      fresh = absurd (false≢true moves)
+  settle_step i true false differs lines lines' has has' count count' low moves new last not_last steps added kept
+      fresh =
       let old = kept (eq-eqb e e refl) in
       let sum = total_same joiners lines' (λ j. lines j + cond (i == j) 1 0) (λ j l. added j) in
       let one = total_one joiners i 1 lines low in
@@ -100,7 +107,8 @@ module _ (joiners e : ℕ) (some : 0 < joiners) where
                 let is' : lines' j ≡ lines j + 0 = rw (ne_eqb i j differ) at is in
                 rw (ne_eqb i j differ) (omega arith)
           ]
-  settle_step i true true differs lines lines' has has' count count' low moves new last not_last steps added kept fresh =
+  settle_step i true true differs lines lines' has has' count count' low moves new last not_last steps added kept
+      fresh =
       let sum = total_same joiners lines' (λ j. lines j + cond (i == j) 1 0) (λ j l. added j) in
       let one = total_one joiners i 1 lines low in
       let is = last refl in
@@ -126,12 +134,17 @@ module _ (joiners e : ℕ) (some : 0 < joiners) where
 
 -- ---- of a journal
 
-abbrev pub StepsOf : Rules → TurnLine → List TurnLine → Type 0
-StepsOf rules line past = Steps (2 ^ rules.k) line.epoch line.moving (λ j. settle_lines j (line ∷ past)) (λ j. has_settled j (line ∷ past)) (settled_count (line ∷ past))
+-- the lines of a joiner stand beside the first epoch, from which on they are counted
+abbrev pub StepsOf : ℕ → Rules → TurnLine → List TurnLine → Type 0
+StepsOf c rules line past =
+    Steps (2 ^ rules.k) line.epoch line.moving (λ j. c + settle_lines j (line ∷ past))
+    (λ j. has_settled j (line ∷ past)) (settled_count (line ∷ past))
 
 -- what the lines since the epoch began are
 module _ (line : TurnLine) (sb : List TurnLine) where
-  kept_has : (b : Bool) (j : ℕ) → b ≡ true → list_any (λ l. is_settle_of j l.cause) (cond b (line ∷ sb) []) ≡ (is_settle_of j line.cause || list_any (λ l. is_settle_of j l.cause) sb)
+  kept_has : (b : Bool) (j : ℕ) → b ≡ true
+      → list_any (λ l. is_settle_of j l.cause) (cond b (line ∷ sb) [])
+      ≡ (is_settle_of j line.cause || list_any (λ l. is_settle_of j l.cause) sb)
   kept_has true j is = refl
   kept_has false j is = absurd (false≢true is)
 
@@ -139,10 +152,14 @@ module _ (line : TurnLine) (sb : List TurnLine) where
   none_has false j is = refl
   none_has true j is = absurd (true≢false is)
 
-  kept_count : (b : Bool) → b ≡ true → length (filter (λ l. is_settle l.cause) (cond b (line ∷ sb) [])) ≡ length (filter (λ l. is_settle l.cause) sb) + cond (is_settle line.cause) 1 0
+  kept_count : (b : Bool) → b ≡ true
+      → length (filter (λ l. is_settle l.cause) (cond b (line ∷ sb) []))
+      ≡ length (filter (λ l. is_settle l.cause) sb) + cond (is_settle line.cause) 1 0
   kept_count true is = by_test (is_settle line.cause)
     where
-      by_test : (t : Bool) → length (cond t (line ∷ filter (λ l. is_settle l.cause) sb) (filter (λ l. is_settle l.cause) sb)) ≡ length (filter (λ l. is_settle l.cause) sb) + cond t 1 0
+      by_test : (t : Bool)
+          → length (cond t (line ∷ filter (λ l. is_settle l.cause) sb) (filter (λ l. is_settle l.cause) sb))
+          ≡ length (filter (λ l. is_settle l.cause) sb) + cond t 1 0
       by_test true = omega arith
       by_test false = omega arith
   kept_count false is = absurd (false≢true is)
@@ -151,58 +168,72 @@ module _ (line : TurnLine) (sb : List TurnLine) where
   none_count false is = refl
   none_count true is = absurd (true≢false is)
 
-after : (rules : Rules) (before : TurnLine) (past : List TurnLine) (cause : Cause) → IsAllowed rules before past cause → StepsOf rules before past
-    → StepsOf rules (line_after rules before past cause) (before ∷ past)
-after rules before past Start allowed steps = absurd allowed
-after rules before past (Count feeder dr ds) allowed steps =
+after : (c : ℕ) (rules : Rules) (before : TurnLine) (past : List TurnLine) (cause : Cause)
+    → IsAllowed rules before past cause → StepsOf c rules before past
+    → StepsOf c rules (line_after rules before past cause) (before ∷ past)
+after c rules before past Start allowed steps = absurd allowed
+after c rules before past Wave allowed steps = absurd allowed
+after c rules before past (Count feeder dr ds) allowed steps =
     let line = line_after rules before past (Count feeder dr ds) in
     let same = line.epoch == before.epoch in
     let sb = since_begun (before ∷ past) in
     plain_step (2 ^ rules.k) before.epoch (pow_pos rules.k) before.moving (not (before.shift == line.goal))
-    (λ j. settle_lines j (before ∷ past)) (λ j. settle_lines j (line ∷ before ∷ past)) (λ j. has_settled j (before ∷ past)) (λ j. has_settled j (line ∷ before ∷ past))
+    (λ j. c + settle_lines j (before ∷ past)) (λ j. c + settle_lines j (line ∷ before ∷ past))
+    (λ j. has_settled j (before ∷ past)) (λ j. has_settled j (line ∷ before ∷ past))
     (settled_count (before ∷ past)) (settled_count (line ∷ before ∷ past)) steps (λ j. omega arith)
     (λ is. ((λ j. kept_has line sb same j is), (let e = kept_count line sb same is in omega arith)))
     (λ is. ((λ j. none_has line sb same j is), none_count line sb same is))
-after rules before past (Drain feeder) allowed steps =
+after c rules before past (Drain feeder) allowed steps =
     let line = line_after rules before past (Drain feeder) in
     let same = line.epoch == before.epoch in
     let sb = since_begun (before ∷ past) in
     plain_step (2 ^ rules.k) before.epoch (pow_pos rules.k) before.moving (not (before.shift == line.goal))
-    (λ j. settle_lines j (before ∷ past)) (λ j. settle_lines j (line ∷ before ∷ past)) (λ j. has_settled j (before ∷ past)) (λ j. has_settled j (line ∷ before ∷ past))
+    (λ j. c + settle_lines j (before ∷ past)) (λ j. c + settle_lines j (line ∷ before ∷ past))
+    (λ j. has_settled j (before ∷ past)) (λ j. has_settled j (line ∷ before ∷ past))
     (settled_count (before ∷ past)) (settled_count (line ∷ before ∷ past)) steps (λ j. omega arith)
     (λ is. ((λ j. kept_has line sb same j is), (let e = kept_count line sb same is in omega arith)))
     (λ is. ((λ j. none_has line sb same j is), none_count line sb same is))
-after rules before past (Settle i) (low, moves, new) steps =
+after c rules before past (Settle i) (low, moves, new) steps =
     let line = line_after rules before past (Settle i) in
     let same = line.epoch == before.epoch in
     let sb = since_begun (before ∷ past) in
     let ends = settled_count (before ∷ past) + 1 == 2 ^ rules.k in
     settle_step (2 ^ rules.k) before.epoch (pow_pos rules.k) i before.moving ends (not (before.shift == line.goal))
-    (λ j. settle_lines j (before ∷ past)) (λ j. settle_lines j (line ∷ before ∷ past)) (λ j. has_settled j (before ∷ past)) (λ j. has_settled j (line ∷ before ∷ past))
-    (settled_count (before ∷ past)) (settled_count (line ∷ before ∷ past)) low moves (not-true (has_settled i (before ∷ past)) new)
-    (eqb-true (settled_count (before ∷ past) + 1) (2 ^ rules.k)) (eqb-false (settled_count (before ∷ past) + 1) (2 ^ rules.k))
-    steps (λ j. refl)
+    (λ j. c + settle_lines j (before ∷ past)) (λ j. c + settle_lines j (line ∷ before ∷ past))
+    (λ j. has_settled j (before ∷ past)) (λ j. has_settled j (line ∷ before ∷ past))
+    (settled_count (before ∷ past)) (settled_count (line ∷ before ∷ past)) low moves
+    (not-true (has_settled i (before ∷ past)) new)
+    (eqb-true (settled_count (before ∷ past) + 1) (2 ^ rules.k))
+    (eqb-false (settled_count (before ∷ past) + 1) (2 ^ rules.k))
+    steps (λ j. omega arith)
     (λ is. ((λ j. kept_has line sb same j is), kept_count line sb same is))
     (λ is. ((λ j. none_has line sb same j is), none_count line sb same is))
 
-pub steps_of : (rules : Rules) (first line : TurnLine) (past : List TurnLine) → first.epoch ≡ 0 → first.moving ≡ false → Follows rules first (line ∷ past) → StepsOf rules line past
-steps_of rules first line [] none still is =
-    let epoch : line.epoch ≡ 0 = ap (λ l. l.epoch) is ∙ none in
+-- of every journal that begins still: its epochs and what each joiner has settled
+pub steps_of : (rules : Rules) (first line : TurnLine) (past : List TurnLine) → first.moving ≡ false
+    → Follows rules first (line ∷ past) → StepsOf first.epoch rules line past
+steps_of rules first line [] still is =
+    let epoch : line.epoch ≡ first.epoch = ap (λ l. l.epoch) is in
     let moving : line.moving ≡ false = ap (λ l. l.moving) is ∙ still in
     record {
-      still = λ m j low. sym epoch;
+      still = λ m j low. omega arith;
       each = λ m. absurd (true≢false (sym m ∙ moving));
       all = λ m. absurd (true≢false (sym m ∙ moving));
       few = λ m. absurd (true≢false (sym m ∙ moving));
     }
-steps_of rules first line (before ∷ past) none still (made, allowed, rest) =
-    subst (λ next. StepsOf rules next (before ∷ past)) (sym made) (after rules before past line.cause allowed (steps_of rules first before past none still rest))
+steps_of rules first line (before ∷ past) still (made, allowed, rest) =
+    subst (λ next. StepsOf first.epoch rules next (before ∷ past)) (sym made)
+    (after first.epoch rules before past line.cause allowed (steps_of rules first before past still rest))
 
 -- a joiner has as many lines as epochs of it were counted
-pub lines_are_epochs : (j : ℕ) (line : TurnLine) (past : List TurnLine) (epochs : List ℕ) → AreSettled j (line ∷ past) epochs → settle_lines j (line ∷ past) ≡ length epochs
+pub lines_are_epochs : (j : ℕ) (line : TurnLine) (past : List TurnLine) (epochs : List ℕ)
+    → AreSettled j (line ∷ past) epochs → settle_lines j (line ∷ past) ≡ length epochs
 lines_are_epochs j line [] epochs are = rw are refl
 lines_are_epochs j line (before ∷ past) epochs are =
-    elim (match_cases (is_settle_of j line.cause) (SettlesOne j before past (λ earlier. AreSettled j (before ∷ past) earlier) epochs) (AreSettled j (before ∷ past) epochs) are) [
+    elim
+    (match_cases (is_settle_of j line.cause)
+    (SettlesOne j before past (λ earlier. AreSettled j (before ∷ past) earlier) epochs)
+    (AreSettled j (before ∷ past) epochs) are) [
       | inl one ↦
           let c = one.1 in
           let old = lines_are_epochs j before past c.earlier c.are_earlier in
@@ -214,31 +245,48 @@ lines_are_epochs j line (before ∷ past) epochs are =
 
 -- ---- the end
 
--- where each joiner has said of every epoch that it has settled, no step is open
-pub ends_still : (rules : Rules) (first line : TurnLine) (past : List TurnLine) → first.epoch ≡ 0 → first.moving ≡ false → Follows rules first (line ∷ past)
-    → ((j : ℕ) → j < 2 ^ rules.k → CountsSettled j line past (counting_from 1 line.epoch)) → line.moving ≡ false
-ends_still rules first line past none not_moving follows counts = elim (cases_Bool line.moving) [
+-- where no step is open, each joiner has a line for every epoch after the first
+pub each_settled : (rules : Rules) (first line : TurnLine) (past : List TurnLine) → first.moving ≡ false
+    → Follows rules first (line ∷ past) → line.moving ≡ false
+    → (j : ℕ) (epochs : List ℕ) → j < 2 ^ rules.k → AreSettled j (line ∷ past) epochs
+    → first.epoch + length epochs ≡ line.epoch
+each_settled rules first line past not_moving follows at_rest j epochs low are =
+    ap (λ n. first.epoch + n) (sym (lines_are_epochs j line past epochs are))
+    ∙ (steps_of rules first line past not_moving follows).still at_rest j low
+
+-- where each joiner has said of every epoch after the first that it has settled, no step is open
+pub ends_still : (rules : Rules) (first line : TurnLine) (past : List TurnLine) (n : ℕ) → line.epoch ≡ first.epoch + n
+    → first.moving ≡ false → Follows rules first (line ∷ past)
+    → ((j : ℕ) → j < 2 ^ rules.k → CountsSettled j line past (counting_from (first.epoch + 1) n)) → line.moving ≡ false
+ends_still rules first line past n at_epoch not_moving follows counts = elim (cases_Bool line.moving) [
   | inr is ↦ is
   | inl moves ↦
-      let steps = steps_of rules first line past none not_moving follows in
+      let e0 = first.epoch in
+      let steps = steps_of rules first line past not_moving follows in
       let sum = steps.all moves in
-      let less = some_less (2 ^ rules.k) line.epoch (λ j. settle_lines j (line ∷ past)) (omega (arith, steps.few moves)) in
+      let less =
+      some_less (2 ^ rules.k) line.epoch (λ j. e0 + settle_lines j (line ∷ past)) (omega (arith, steps.few moves))
+      in
       let c = counts less.0 less.1 in
       let lines = lines_are_epochs less.0 line past c.counted c.are_settled in
-      absurd (stuck less.0 (has_settled less.0 (line ∷ past)) c.counted c.held (settle_lines less.0 (line ∷ past)) refl lines less.2 (steps.each moves less.0 less.1) c.splits
+      absurd
+      (stuck less.0 (has_settled less.0 (line ∷ past)) c.counted c.held (settle_lines less.0 (line ∷ past))
+      refl lines less.2 (steps.each moves less.0 less.1) c.splits
       (λ epoch rest is at new. c.stuck epoch rest is (moves, at, new)))
 ]
   where
-    stuck : (j : ℕ) (h : Bool) (counted held : List ℕ) (n : ℕ) → h ≡ has_settled j (line ∷ past) → n ≡ length counted → n < line.epoch → n + 1 ≡ line.epoch + cond h 1 0
-        → counted ++ held ≡ counting_from 1 line.epoch
-        → ((epoch : ℕ) (rest : List ℕ) → held ≡ epoch ∷ rest → epoch ≡ line.epoch → not (has_settled j (line ∷ past)) ≡ true → ⊥) → ⊥
-    stuck j true counted held n is lines less each splits held_is = omega arith
-    stuck j false counted [] n is lines less each splits held_is =
+    stuck : (j : ℕ) (h : Bool) (counted held : List ℕ) (m : ℕ) → h ≡ has_settled j (line ∷ past) → m ≡ length counted
+        → first.epoch + m < line.epoch → first.epoch + m + 1 ≡ line.epoch + cond h 1 0
+        → counted ++ held ≡ counting_from (first.epoch + 1) n
+        → ((epoch : ℕ) (rest : List ℕ) → held ≡ epoch ∷ rest → epoch ≡ line.epoch
+        → not (has_settled j (line ∷ past)) ≡ true → ⊥) → ⊥
+    stuck j true counted held m is lines less each splits held_is = omega arith
+    stuck j false counted [] m is lines less each splits held_is =
         let all = ap length splits in
         let nil : List ℕ = [] in
         let a = length-append counted nil in
-        let b = length-counting_from 1 line.epoch in
+        let b = length-counting_from (first.epoch + 1) n in
         omega arith
-    stuck j false counted (epoch ∷ rest) n is lines less each splits held_is =
-        let at = at_place 1 line.epoch counted epoch rest splits in
+    stuck j false counted (epoch ∷ rest) m is lines less each splits held_is =
+        let at = at_place (first.epoch + 1) n counted epoch rest splits in
         held_is epoch rest refl (omega arith) (ap not (sym is))

@@ -2,7 +2,8 @@
 use Rattle.std.specs.Prelude.{◌≡◌, ℕ, ◌+◌, ◌-◌, ◌*◌, ◌^◌, ◌<◌, ◌≤◌, ◌==◌, ⊤, Bool, true, false, not, ◌&&◌, ◌||◌, None, List, [], ◌∷◌, ◌++◌, All, drop, length, reverse, sum_by, if◌then◌else◌}
 use Rattle.std.specs.List.{list_all}
 use Rattle.join_rows.specs.Lists.{IsPrefix}
-use Rattle.grid_map.specs.Load.{HasFewest}
+use Rattle.grid_map.specs.declared.cost.Weights.{Weights}
+use Rattle.grid_map.specs.Load.{AreWeights, HasFewest}
 use Rattle.epoch_tags.specs.declared.actor.Actor.{Actor}
 use Rattle.epoch_tags.specs.declared.actor.Actor.TheVariants.{Controller}
 use Rattle.epoch_tags.specs.declared.message.Post.{Post}
@@ -14,7 +15,7 @@ use Rattle.epoch_tags.specs.Posts.{AllGoOver}
 use Rattle.epoch_tags.specs.Held.{held_at}
 use Rattle.epoch_tags.specs.Flags.{flag_at}
 use Rattle.load_controller.specs.declared.line.Cause.{Cause}
-use Rattle.load_controller.specs.declared.line.Cause.TheVariants.{Start, Count, Settle, Drain}
+use Rattle.load_controller.specs.declared.line.Cause.TheVariants.{Start, Wave, Count, Settle, Drain}
 use Rattle.load_controller.specs.declared.line.TurnLine.{TurnLine}
 use Rattle.load_controller.specs.declared.ledger.Ledger.{Ledger}
 use Rattle.load_controller.specs.Journal.{Rules, Follows, has_doubled, has_drained, has_settled, settled_count, is_settle, is_settle_of, is_drain_of}
@@ -24,7 +25,7 @@ use Rattle.load_controller.specs.Standing.{ControllerState, IsNearWhereStill, wi
 
 -- the rules that the ledger keeps
 abbrev pub rules_of : Ledger → Rules
-rules_of c = record { k = c.k; feeders = c.feeders; fixed = c.fixed }
+rules_of c = record { k = c.k; feeders = c.feeders; fixed = c.fixed; weights = c.weights }
 
 -- the ledger as the machine's state
 abbrev pub state_of : Ledger → Bool → ControllerState
@@ -44,10 +45,11 @@ pub record IsBounded (k : ℕ) (line : TurnLine) : Type 0 where
       → line.epoch + ((line.shift - line.goal) + (line.goal - line.shift)) ≤ 2 ^ 31 + k * (a + c)
 
 -- the goal was best at the bases, and a line that isn't moving has reached it, with no decision due
-pub record IsGuided (k : ℕ) (line : TurnLine) : Type 0 where
-  pub best : HasFewest k line.goal line.base_r line.base_s
+pub record IsGuided (k : ℕ) (weights : Weights) (line : TurnLine) : Type 0 where
+  pub best : HasFewest k line.goal (weights.r * line.base_r) (weights.s * line.base_s)
   pub reached : line.moving ≡ false → line.shift ≡ line.goal
-  pub not_due : line.moving ≡ false → (has_doubled line.base_r line.rows_r || has_doubled line.base_s line.rows_s) ≡ false
+  pub not_due : line.moving ≡ false
+      → (has_doubled line.base_r line.rows_r || has_doubled line.base_s line.rows_s) ≡ false
 
 -- ---- between two messages
 
@@ -56,8 +58,9 @@ pub record IsSound (c : Ledger) : Type 0 where
   pub past : List TurnLine
   pub newest : reverse c.journal ≡ c.line ∷ past
   pub k : c.k ≤ 8
+  pub weights : AreWeights c.weights
   pub bounded : IsBounded c.k c.line
-  pub guided : c.fixed ≡ None → IsGuided c.k c.line
+  pub guided : c.fixed ≡ None → IsGuided c.k c.weights c.line
   pub near : All (IsNearWhereStill (rules_of c)) c.journal
   pub drained_len : length c.drained.items ≡ c.feeders
   pub drained : (p : ℕ) → p < c.feeders → flag_at c.drained.items p ≡ has_drained p (c.line ∷ past)
@@ -74,6 +77,7 @@ pub record IsSound (c : Ledger) : Type 0 where
 -- a line of this cause may come
 abbrev pub CauseFits : Ledger → Cause → Type 0
 CauseFits c Start = ⊥
+CauseFits c Wave = ⊥
 CauseFits c (Count feeder dr ds) = (feeder < c.feeders) × (c.line.rows_r + dr ≤ 2 ^ 32) × (c.line.rows_s + ds ≤ 2 ^ 32)
 CauseFits c (Settle joiner) = (joiner < 2 ^ c.k) × (c.line.moving ≡ true) × (flag_at c.settled.items joiner ≡ false)
 CauseFits c (Drain feeder) = feeder < c.feeders
@@ -81,6 +85,7 @@ CauseFits c (Drain feeder) = feeder < c.feeders
 -- it names a feeder or a joiner below these numbers
 abbrev pub IsOfGrid : ℕ → ℕ → Cause → Type 0
 IsOfGrid feeders joiners Start = ⊤
+IsOfGrid feeders joiners Wave = ⊤
 IsOfGrid feeders joiners (Count feeder dr ds) = feeder < feeders
 IsOfGrid feeders joiners (Settle joiner) = joiner < joiners
 IsOfGrid feeders joiners (Drain feeder) = feeder < feeders
@@ -94,15 +99,21 @@ pub record Notes (line : TurnLine) (old new : Ledger) : Type 0 where
   pub k : new.k ≡ old.k
   pub feeders : new.feeders ≡ old.feeders
   pub fixed : new.fixed ≡ old.fixed
+  pub weights : new.weights ≡ old.weights
   pub held : new.held ≡ old.held
   pub journal : new.journal ≡ old.journal ++ line ∷ []
   pub newest : new.line ≡ line
   pub drained_len : length new.drained.items ≡ length old.drained.items
-  pub drained : (p : ℕ) → p < length old.drained.items → flag_at new.drained.items p ≡ (is_drain_of p line.cause || flag_at old.drained.items p)
+  pub drained : (p : ℕ) → p < length old.drained.items
+      → flag_at new.drained.items p ≡ (is_drain_of p line.cause || flag_at old.drained.items p)
   pub settled_len : length new.settled.items ≡ length old.settled.items
   pub settled : (j : ℕ) → j < length old.settled.items
-      → flag_at new.settled.items j ≡ (if line.epoch == old.line.epoch then (is_settle_of j line.cause || flag_at old.settled.items j) else false)
-  pub count : new.settled_count ≡ (if line.epoch == old.line.epoch then (if is_settle line.cause then old.settled_count + 1 else old.settled_count) else 0)
+      → flag_at new.settled.items j
+      ≡ (if line.epoch == old.line.epoch then (is_settle_of j line.cause || flag_at old.settled.items j) else false)
+  pub count : new.settled_count
+      ≡
+      (if line.epoch == old.line.epoch then (if is_settle line.cause then old.settled_count + 1 else old.settled_count)
+      else 0)
   pub over : new.over ≡ (old.over || (not line.moving && list_all (λ up. up) new.drained.items))
 
 -- what is sent for a line, where it is the first at which all is over or not
@@ -114,7 +125,7 @@ posts_of feeders line before ends =
 
 -- a message of this cause was counted
 pub record CountsCause (cause : Cause) (old new : Ledger) (before after : List Post) : Type 0 where
-  pub line : new.line ≡ line_by old.k old.fixed old.line (opens_of old cause) cause
+  pub line : new.line ≡ line_by old.k old.fixed old.weights old.line (opens_of old cause) cause
   pub notes : Notes new.line old new
   pub sends : after ≡ before ++ posts_of old.feeders new.line old.line (not old.over && new.over)
 
@@ -144,7 +155,8 @@ pub record HoldsSettled (j : ℕ) (line : TurnLine) (past : List TurnLine) (held
   pub are_settled : AreSettled j (line ∷ past) counted
 
 -- the lists keep the law, but that held messages may be in place
-pub record StandsWithin (rules : Rules) (first : TurnLine) (lists : ControllerLists) (journal : List TurnLine) (held : ℕ → List ℕ) : Type 0 where
+pub record StandsWithin (rules : Rules) (first : TurnLine) (lists : ControllerLists) (journal : List TurnLine)
+    (held : ℕ → List ℕ) : Type 0 where
   pub line : TurnLine
   pub past : List TurnLine
   pub newest : reverse journal ≡ line ∷ past
@@ -164,12 +176,15 @@ pub record Advances (old new : Ledger) (before after : List Post) : Type 0 where
   pub sends : after ≡ before ++ added
   pub posted : posts_by (rules_of old) (reverse new.journal) ≡ posts_by (rules_of old) (reverse old.journal) ++ added
   pub over : AllGoOver old.k old.feeders Controller added
-  pub stands : (first : TurnLine) (lists : ControllerLists) → StandsWithin (rules_of old) first lists old.journal (held_at old.held)
+  pub stands : (first : TurnLine) (lists : ControllerLists)
+      → StandsWithin (rules_of old) first lists old.journal (held_at old.held)
       → StandsWithin (rules_of old) first (with_sent lists added new.journal) new.journal (held_at new.held)
 
 -- a feeder's message is in place, as the machine sees it
 abbrev pub HasPlace : Ledger → ℕ → ToController → Type 0
-HasPlace c p (Ask dr ds) = (p < c.feeders) × (flag_at c.drained.items p ≡ false) × (c.line.rows_r + dr ≤ 2 ^ 32) × (c.line.rows_s + ds ≤ 2 ^ 32)
+HasPlace c p (Ask dr ds) =
+    (p < c.feeders) × (flag_at c.drained.items p ≡ false) × (c.line.rows_r + dr ≤ 2 ^ 32)
+    × (c.line.rows_s + ds ≤ 2 ^ 32)
 HasPlace c p Drained = (p < c.feeders) × (flag_at c.drained.items p ≡ false)
 HasPlace c p (Settled epoch) = ⊥
 
@@ -182,8 +197,10 @@ pub record Took (from : Actor) (m : ToController) (old new : Ledger) (before aft
   pub sends : after ≡ before ++ added
   pub posted : posts_by (rules_of old) (reverse new.journal) ≡ posts_by (rules_of old) (reverse old.journal) ++ added
   pub over : AllGoOver old.k old.feeders Controller added
-  pub stands : (first : TurnLine) (lists : ControllerLists) → StandsWithin (rules_of old) first lists old.journal (held_at old.held)
-      → StandsWithin (rules_of old) first (with_sent (with_message from m lists) added new.journal) new.journal (held_at new.held)
+  pub stands : (first : TurnLine) (lists : ControllerLists)
+      → StandsWithin (rules_of old) first lists old.journal (held_at old.held)
+      → StandsWithin (rules_of old) first (with_sent (with_message from m lists) added new.journal) new.journal
+      (held_at new.held)
 
 -- a ledger that has just begun
 pub record Begins (rules : Rules) (first : TurnLine) (c : Ledger) : Type 0 where

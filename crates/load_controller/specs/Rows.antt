@@ -18,13 +18,14 @@ epoch_shift_moving line = (line.epoch, line.shift, line.moving)
 
 -- four joiners and one feeder
 abbrev pub growing : Rules
-growing = record { k = 2; feeders = 1; fixed = None }
+growing = record { k = 2; feeders = 1; fixed = None; weights = record { r = 1; s = 1 } }
 
 -- R grows, then S: a step to shift 0, and one back to shift 1, the last line first
 pub growing_lines : map epoch_shift_moving (past_of growing (start_line growing) [] (
     Count 0 4 0 ∷ Settle 0 ∷ Settle 1 ∷ Settle 2 ∷ Settle 3 ∷ Count 0 4 0 ∷ Count 0 0 4 ∷ Count 0 0 4 ∷ Drain 0
     ∷ Settle 3 ∷ Settle 2 ∷ Settle 1 ∷ Settle 0 ∷ []))
-    ≡ (2, 1, false) ∷ (2, 1, true) ∷ (2, 1, true) ∷ (2, 1, true) ∷ (2, 1, true) ∷ (2, 1, true) ∷ (1, 0, false) ∷ (1, 0, false)
+    ≡ (2, 1, false) ∷ (2, 1, true) ∷ (2, 1, true) ∷ (2, 1, true) ∷ (2, 1, true) ∷ (2, 1, true) ∷ (1, 0, false)
+    ∷ (1, 0, false)
     ∷ (1, 0, false) ∷ (1, 0, true) ∷ (1, 0, true) ∷ (1, 0, true) ∷ (1, 0, true) ∷ (0, 1, false) ∷ []
 growing_lines = refl
 
@@ -35,13 +36,35 @@ pub growing_sends : sent_by growing 0 (past_of growing (start_line growing) [] (
     ≡ Order 1 0 ∷ Grant ∷ Grant ∷ Grant ∷ Order 2 1 ∷ Grant ∷ Stop ∷ []
 growing_sends = refl
 
+-- the same, and a row of R weighs as much as two of S
+abbrev pub heavy : Rules
+heavy = record { k = 2; feeders = 1; fixed = None; weights = record { r = 2; s = 1 } }
+
+-- the rows of S that come then move no step: at shift 0 there are 32 copies against 40, and 48 against 48 and 72
+pub heavy_lines : map epoch_shift_moving (past_of heavy (start_line heavy) [] (
+    Count 0 4 0 ∷ Settle 0 ∷ Settle 1 ∷ Settle 2 ∷ Settle 3 ∷ Count 0 4 0 ∷ Count 0 0 4 ∷ Count 0 0 4 ∷ []))
+    ≡ (1, 0, false) ∷ (1, 0, false) ∷ (1, 0, false) ∷ (1, 0, false) ∷ (1, 0, true) ∷ (1, 0, true) ∷ (1, 0, true)
+    ∷ (1, 0, true) ∷ (0, 1, false) ∷ []
+heavy_lines = refl
+
 -- sixteen joiners and one feeder
 abbrev pub uneven : Rules
-uneven = record { k = 4; feeders = 1; fixed = None }
+uneven = record { k = 4; feeders = 1; fixed = None; weights = record { r = 1; s = 1 } }
 
 -- a line with twice as many rows of R as of S
 abbrev pub uneven_line : TurnLine
-uneven_line = record { cause = Start; rows_r = 128; rows_s = 64; base_r = 128; base_s = 64; epoch = 0; shift = 2; goal = 2; moving = false }
+uneven_line =
+    record {
+      cause = Start;
+      rows_r = 128;
+      rows_s = 64;
+      base_r = 128;
+      base_s = 64;
+      epoch = 0;
+      shift = 2;
+      goal = 2;
+      moving = false;
+    }
 
 -- of a line its bases, its epoch, its shift and its goal
 abbrev pub bases_and_goal : TurnLine → List ℕ
@@ -54,7 +77,7 @@ uneven_lines = refl
 
 -- two feeders with no rows: three lines, none moving, and a stop for each
 abbrev pub empty : Rules
-empty = record { k = 2; feeders = 2; fixed = None }
+empty = record { k = 2; feeders = 2; fixed = None; weights = record { r = 1; s = 1 } }
 
 -- both feeders drain at once
 abbrev pub empty_past : List TurnLine

@@ -1,7 +1,8 @@
 -- What a controller's machine holds, and the lists for which it stands. Of those it stores its journal alone.
-use Rattle.std.specs.Prelude.{◌≡◌, ℕ, zero, suc, ◌+◌, ◌^◌, ◌<◌, ◌==◌, nat_lt, nat_le, ⊤, Bool, false, not, ◌&&◌, None, Some, Option, List, [], ◌∷◌, ◌++◌, drop, length, map, reverse, sum_by, slice_set, if◌then◌else◌}
+use Rattle.std.specs.Prelude.{◌≡◌, ℕ, zero, suc, ◌+◌, ◌*◌, ◌^◌, ◌<◌, ◌==◌, nat_lt, nat_le, ⊤, Bool, false, not, ◌&&◌, None, Some, Option, List, [], ◌∷◌, ◌++◌, drop, length, map, reverse, sum_by, slice_set, if◌then◌else◌}
 use Rattle.std.specs.List.{find}
 use Rattle.join_rows.specs.Lists.{IsPrefix, counting_from}
+use Rattle.grid_map.specs.declared.cost.Weights.{Weights}
 use Rattle.grid_map.specs.Load.{IsNear}
 use Rattle.epoch_tags.specs.declared.actor.Actor.{Actor}
 use Rattle.epoch_tags.specs.declared.actor.Actor.TheVariants.{Feeder, Joiner, Controller, Collector}
@@ -14,7 +15,7 @@ use Rattle.epoch_tags.specs.declared.message.ToFeeder.TheVariants.{Order, Grant,
 use Rattle.epoch_tags.specs.Posts.{AllGoOver, posted_to_feeder}
 use Rattle.epoch_tags.specs.Held.{held_at}
 use Rattle.load_controller.specs.declared.line.Cause.{Cause}
-use Rattle.load_controller.specs.declared.line.Cause.TheVariants.{Start, Count, Settle, Drain}
+use Rattle.load_controller.specs.declared.line.Cause.TheVariants.{Start, Wave, Count, Settle, Drain}
 use Rattle.load_controller.specs.declared.line.TurnLine.{TurnLine}
 use Rattle.load_controller.specs.Journal.{Rules, line_after, has_drained, has_settled}
 use Rattle.load_controller.specs.Law.{ControllerLists, ControllerLaw, IsInPlace, cause_of, is_over}
@@ -59,7 +60,8 @@ with_message Collector m lists = lists
 
 -- with these posts sent, and with this journal
 abbrev pub with_sent : ControllerLists → List Post → List TurnLine → ControllerLists
-with_sent lists posts journal = record lists { to_feeder = λ p. lists.to_feeder p ++ posted_to_feeder p posts; journal = journal }
+with_sent lists posts journal =
+    record lists { to_feeder = λ p. lists.to_feeder p ++ posted_to_feeder p posts; journal = journal }
 
 -- ---- what is sent for a line, and to whom, in order
 
@@ -74,6 +76,7 @@ to_each feeders m = map (post_to m) (counting_from 0 feeders)
 -- the grant of a batch to its feeder
 abbrev pub grant_for : Cause → List Post
 grant_for Start = []
+grant_for Wave = []
 grant_for (Count feeder dr ds) = post_to Grant feeder ∷ []
 grant_for (Settle joiner) = []
 grant_for (Drain feeder) = []
@@ -83,7 +86,8 @@ abbrev pub posts_for : Rules → TurnLine → TurnLine → List TurnLine → Lis
 posts_for rules line before past =
     (if line.epoch == before.epoch then [] else to_each rules.feeders (Order line.epoch line.shift))
     ++ grant_for line.cause
-    ++ (if not (is_over rules.feeders (before ∷ past)) && is_over rules.feeders (line ∷ before ∷ past) then to_each rules.feeders Stop else [])
+    ++ (if not (is_over rules.feeders (before ∷ past)) && is_over rules.feeders (line ∷ before ∷ past)
+    then to_each rules.feeders Stop else [])
 
 -- and for all lines of a past
 abbrev pub posts_by : Rules → List TurnLine → List Post
@@ -105,16 +109,19 @@ with_line cause state = record state { journal = journal_with state.rules cause 
 -- the first of joiner j's held epochs is in place
 abbrev pub is_ready : TurnLine → List TurnLine → ℕ → List ℕ → Bool
 is_ready before past j [] = false
-is_ready before past j (epoch ∷ rest) = before.moving && ((epoch == before.epoch) && not (has_settled j (before ∷ past)))
+is_ready before past j (epoch ∷ rest) =
+    before.moving && ((epoch == before.epoch) && not (has_settled j (before ∷ past)))
 
 -- the lowest joiner of whom that is so
 abbrev pub lowest_ready : Rules → List TurnLine → List (List ℕ) → Option ℕ
 lowest_ready rules [] held = None
-lowest_ready rules (before ∷ past) held = find (λ j. is_ready before past j (held_at held j)) (counting_from 0 (2 ^ rules.k))
+lowest_ready rules (before ∷ past) held =
+    find (λ j. is_ready before past j (held_at held j)) (counting_from 0 (2 ^ rules.k))
 
 -- the first of joiner j's held epochs is counted
 abbrev pub with_settled : ℕ → ControllerState → ControllerState
-with_settled j state = with_line (Settle j) (record state { held = slice_set state.held j (drop 1 (held_at state.held j)) })
+with_settled j state =
+    with_line (Settle j) (record state { held = slice_set state.held j (drop 1 (held_at state.held j)) })
 
 -- what follows once the first held epoch of this joiner, if there is one, is counted
 abbrev pub with_next : (ControllerState → ControllerState) → ControllerState → Option ℕ → ControllerState
@@ -133,7 +140,9 @@ with_all_held state = with_held (sum_by length state.held) state
 
 -- the feeder's message is in place
 abbrev pub is_in_place : TurnLine → List TurnLine → ℕ → ToController → Bool
-is_in_place before past p (Ask dr ds) = not (has_drained p (before ∷ past)) && (nat_le (before.rows_r + dr) (2 ^ 32) && nat_le (before.rows_s + ds) (2 ^ 32))
+is_in_place before past p (Ask dr ds) =
+    not (has_drained p (before ∷ past))
+    && (nat_le (before.rows_r + dr) (2 ^ 32) && nat_le (before.rows_s + ds) (2 ^ 32))
 is_in_place before past p Drained = not (has_drained p (before ∷ past))
 is_in_place before past p (Settled epoch) = false
 
@@ -142,14 +151,18 @@ abbrev pub counts_feeder : Rules → List TurnLine → ℕ → ToController → 
 counts_feeder rules [] p m = false
 counts_feeder rules (before ∷ past) p m = nat_lt p rules.feeders && is_in_place before past p m
 
--- after a message: a feeder's is counted where it is in place, a joiner's word is held, and then the held ones are tried
+-- after a message: a feeder's is counted where it is in place, a joiner's word is held, and then the held ones are
+-- tried
 abbrev pub state_after : Actor → ToController → ControllerState → ControllerState
 state_after (Feeder p) m state =
-    if counts_feeder state.rules (reverse state.journal) p m then with_all_held (with_line (cause_of p m) state) else state
+    if counts_feeder state.rules (reverse state.journal) p m then with_all_held (with_line (cause_of p m) state)
+    else state
 state_after (Joiner j) (Ask dr ds) state = state
 state_after (Joiner j) Drained state = state
 state_after (Joiner j) (Settled epoch) state =
-    if nat_lt j (2 ^ state.rules.k) then with_all_held (record state { held = slice_set state.held j (held_at state.held j ++ epoch ∷ []) }) else state
+    if nat_lt j (2 ^ state.rules.k)
+    then with_all_held (record state { held = slice_set state.held j (held_at state.held j ++ epoch ∷ []) })
+    else state
 state_after Controller m state = state
 state_after Collector m state = state
 
@@ -165,9 +178,10 @@ IsPassedOver rules before past (Joiner j) (Settled epoch) = ¬ (j < 2 ^ rules.k)
 IsPassedOver rules before past Controller m = ⊤
 IsPassedOver rules before past Collector m = ⊤
 
--- a call that was handed m of this sender, and turned the posts `before` into `after`: for whatever lists the machine stood,
--- it stands for them with the message and the new posts at their ends
-pub record TakesMessage (from : Actor) (m : ToController) (old new : ControllerState) (before after : List Post) : Type 0 where
+-- a call that was handed m of this sender, and turned the posts `before` into `after`: for whatever lists the machine
+-- stood, it stands for them with the message and the new posts at their ends
+pub record TakesMessage (from : Actor) (m : ToController) (old new : ControllerState)
+    (before after : List Post) : Type 0 where
   -- which new lines there are, and what is held
   pub state : new ≡ state_after from m old
   pub rules : new.rules ≡ old.rules
@@ -179,7 +193,8 @@ pub record TakesMessage (from : Actor) (m : ToController) (old new : ControllerS
   pub posted : posts_by old.rules (reverse new.journal) ≡ posts_by old.rules (reverse old.journal) ++ added
   -- each over a link to one of the feeders
   pub over : AllGoOver old.rules.k old.rules.feeders Controller added
-  pub stands : (start : ControllerStart) (lists : ControllerLists) → StandsFor start lists old → StandsFor start (with_sent (with_message from m lists) added new.journal) new
+  pub stands : (start : ControllerStart) (lists : ControllerLists) → StandsFor start lists old
+      → StandsFor start (with_sent (with_message from m lists) added new.journal) new
 
 -- a call that passed the message over
 pub record PassesOver (old new : ControllerState) (before after : List Post) : Type 0 where
@@ -188,7 +203,9 @@ pub record PassesOver (old new : ControllerState) (before after : List Post) : T
 
 -- where no shift is fixed, a line that isn't moving is near the best grid for its counts
 abbrev pub IsNearWhereStill : Rules → TurnLine → Type 0
-IsNearWhereStill rules line = rules.fixed ≡ None → line.moving ≡ false → IsNear rules.k line.shift line.rows_r line.rows_s
+IsNearWhereStill rules line =
+    rules.fixed ≡ None → line.moving ≡ false
+    → IsNear rules.k line.shift (rules.weights.r * line.rows_r) (rules.weights.s * line.rows_s)
 
 -- a machine that has just begun at this line stands for empty lists
 pub record IsFresh (rules : Rules) (first : TurnLine) (state : ControllerState) : Type 0 where
@@ -198,5 +215,5 @@ pub record IsFresh (rules : Rules) (first : TurnLine) (state : ControllerState) 
   pub at_work : state.spent ≡ false
 
 -- the rules of a grid of 2 ^ k joiners, with a shift that is fixed or none
-abbrev pub rules_with : ℕ → ℕ → Option ℕ → Rules
-rules_with k feeders fixed = record { k = k; feeders = feeders; fixed = fixed }
+abbrev pub rules_with : ℕ → ℕ → Option ℕ → Weights → Rules
+rules_with k feeders fixed weights = record { k = k; feeders = feeders; fixed = fixed; weights = weights }

@@ -2,14 +2,15 @@
 
 ghost use Rattle.std.specs.Prelude.{◌≡◌, ◌<◌, ◌≤◌, ◌^◌, ◌∷◌, List, All, reverse, length, not, true, false, Err, alloc_error, IfOk, OnOk, OnErr};
 ghost use Rattle.load_controller.specs.declared.line.TurnLine.{TurnLine};
-ghost use Rattle.load_controller.specs.declared.line.Cause.TheVariants.{Start};
 ghost use Rattle.std.specs.Option.{ForSome};
-ghost use Rattle.load_controller.specs.Journal.{Fits, start_line};
+ghost use Rattle.grid_map.specs.Load.{AreWeights};
+ghost use Rattle.load_controller.specs.Journal.{IsFirst, Fits, start_line};
 ghost use Rattle.load_controller.specs.Standing.{IsFresh, IsNearWhereStill, IsPassedOver, PassesOver, TakesMessage, rules_with};
 
 use crate::ledger::Ledger;
 use crate::line::{Cause, Journal, TurnLine};
 use epoch_tags::{Actor, Sends, ToController};
+use grid_map::Weights;
 use std::alloc::{AllocError, Global};
 use std::marker::Model;
 
@@ -41,12 +42,14 @@ impl Controller {
         k: u32,
         feeders: u32,
         fixed: Option<u32>,
+        weights: Weights,
     ) -> Result<Controller, AllocError>
         requires k { k ≤ 8 }
+        requires weights { AreWeights weights }
         requires shift { ForSome fixed (λ shift. shift ≤ k) }
         ensures { IfOk result (λ controller.
-            IsFresh (rules_with k feeders fixed)
-            (start_line (rules_with k feeders fixed)) controller) }
+            IsFresh (rules_with k feeders fixed weights)
+            (start_line (rules_with k feeders fixed weights)) controller) }
     {
         let shift = fixed.unwrap_or(k / 2);
         let line = TurnLine {
@@ -60,7 +63,7 @@ impl Controller {
             goal: shift,
             moving: false,
         };
-        Controller::start_at(alloc, k, feeders, fixed, line)
+        Controller::start_at(alloc, k, feeders, fixed, weights, line)
     }
 
     /// A controller that goes on from this line's numbers. Its journal has this one line.
@@ -69,16 +72,18 @@ impl Controller {
         k: u32,
         feeders: u32,
         fixed: Option<u32>,
+        weights: Weights,
         line: TurnLine,
     ) -> Result<Controller, AllocError>
         requires k { k ≤ 8 }
-        requires fits { Fits (rules_with k feeders fixed) line }
-        requires cause { line.cause ≡ Start }
+        requires weights { AreWeights weights }
+        requires fits { Fits (rules_with k feeders fixed weights) line }
+        requires cause { IsFirst line.cause }
         requires epoch { line.epoch ≤ 2 ^ 31 }
-        ensures { IfOk result (λ controller. IsFresh (rules_with k feeders fixed) line controller) }
+        ensures { IfOk result (λ controller. IsFresh (rules_with k feeders fixed weights) line controller) }
     {
         Ok(Controller {
-            ledger: Ledger::start_at(alloc, k, feeders, fixed, line)?,
+            ledger: Ledger::start_at(alloc, k, feeders, fixed, weights, line)?,
             spent: false,
         })
     }

@@ -1,8 +1,8 @@
 // The machine's parts, and how it counts a message.
 
 ghost use Rattle.std.specs.Prelude.{◌≡◌, ◌+◌, ◌^◌, ◌<◌, ◌≤◌, length, IfOk, OnOk, OnErr};
-ghost use Rattle.load_controller.specs.declared.line.Cause.TheVariants.{Start};
-ghost use Rattle.load_controller.specs.Journal.{Fits};
+ghost use Rattle.grid_map.specs.Load.{AreWeights};
+ghost use Rattle.load_controller.specs.Journal.{IsFirst, Fits};
 ghost use Rattle.load_controller.specs.Standing.{rules_with};
 ghost use Rattle.load_controller.specs.Machine.{Begins, IsSound, CauseFits, IsOfGrid, opens_of, Notes, CountsCause};
 
@@ -12,6 +12,7 @@ use crate::next::next_line;
 use crate::post::post_line;
 use crate::trial::joiners;
 use epoch_tags::{Held, Sends, all_down, are_all_up};
+use grid_map::Weights;
 use std::alloc::{AllocError, Global};
 
 #[derive(Drop)]
@@ -19,6 +20,7 @@ pub(crate) struct Ledger {
     pub(crate) k: u32,
     pub(crate) feeders: u32,
     pub(crate) fixed: Option<u32>,
+    pub(crate) weights: Weights,
     pub(crate) journal: Journal,
     // The journal's last line.
     pub(crate) line: TurnLine,
@@ -40,13 +42,15 @@ impl Ledger {
         k: u32,
         feeders: u32,
         fixed: Option<u32>,
+        weights: Weights,
         line: TurnLine,
     ) -> Result<Ledger, AllocError>
         requires k { k ≤ 8 }
-        requires fits { Fits (rules_with k feeders fixed) line }
-        requires cause { line.cause ≡ Start }
+        requires weights { AreWeights weights }
+        requires fits { Fits (rules_with k feeders fixed weights) line }
+        requires cause { IsFirst line.cause }
         requires epoch { line.epoch ≤ 2 ^ 31 }
-        ensures { IfOk result (λ ledger. Begins (rules_with k feeders fixed) line ledger) }
+        ensures { IfOk result (λ ledger. Begins (rules_with k feeders fixed weights) line ledger) }
     {
         let joiners = joiners(k);
         let mut journal = Journal::new(alloc);
@@ -55,6 +59,7 @@ impl Ledger {
             k,
             feeders,
             fixed,
+            weights,
             journal,
             line,
             drained: all_down(alloc, feeders)?,
@@ -72,6 +77,7 @@ impl Ledger {
     {
         let ends = match cause {
             Cause::Start => false,
+            Cause::Wave => false,
             Cause::Count { .. } => false,
             Cause::Settle { .. } => self.settled_count as usize + 1 == self.settled.len(),
             Cause::Drain { .. } => false,
@@ -106,7 +112,7 @@ impl Ledger {
         let before = self.line;
         let was_over = self.over;
         let opens = self.keeps_open(cause);
-        let line = next_line(self.k, self.fixed, before, opens, cause);
+        let line = next_line(self.k, self.fixed, self.weights, before, opens, cause);
         self.note(line)?;
         post_line(self.feeders, before, line, !was_over && self.over, sends)?;
         Ok(())

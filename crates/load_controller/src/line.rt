@@ -5,7 +5,10 @@ use join_rows::Items;
 /// Why a line was added: the message that it counts.
 #[derive(Clone, Copy, Debug, PartialEq, Eq)]
 pub enum Cause {
+    /// A run begins.
     Start,
+    /// A wave goes on from the last line of the wave before.
+    Wave,
     /// A feeder's batch of so many rows of R and of S.
     Count { feeder: u32, dr: u32, ds: u32 },
     /// A joiner has settled the step under way.

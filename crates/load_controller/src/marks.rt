@@ -26,6 +26,7 @@ pub(crate) fn note_drain(drained: &mut Vec<bool>, cause: Cause)
 {
     match cause {
         Cause::Start => {}
+        Cause::Wave => {}
         Cause::Count { .. } => {}
         Cause::Settle { .. } => {}
         Cause::Drain { feeder } => drained[feeder as usize] = true,
@@ -48,6 +49,7 @@ pub(crate) fn note_settle(settled: &mut Vec<bool>, count: u32, stays: bool, caus
     }
     match cause {
         Cause::Start => count,
+        Cause::Wave => count,
         Cause::Count { .. } => count,
         Cause::Settle { joiner } => {
             settled[joiner as usize] = true;

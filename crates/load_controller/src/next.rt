@@ -1,11 +1,12 @@
 // The line that a counted message adds.
 
 ghost use Rattle.std.specs.Prelude.{◌≡◌, ◌+◌, ◌^◌, ◌<◌, ◌≤◌, not, ◌&&◌, ◌||◌, is_none};
+ghost use Rattle.grid_map.specs.Load.{AreWeights};
 ghost use Rattle.load_controller.specs.Journal as journal;
 ghost use Rattle.load_controller.specs.Next.{line_by};
 
 use crate::line::{Cause, TurnLine};
-use grid_map::{Shape, best_shift};
+use grid_map::{Shape, Weights, best_shift};
 use migration_plan::next_step;
 
 // How many rows of R the cause counts.
@@ -14,6 +15,7 @@ fn counted_r(cause: Cause) -> u64
 {
     match cause {
         Cause::Start => 0,
+        Cause::Wave => 0,
         Cause::Count { dr, .. } => u64::from(dr),
         Cause::Settle { .. } => 0,
         Cause::Drain { .. } => 0,
@@ -26,6 +28,7 @@ fn counted_s(cause: Cause) -> u64
 {
     match cause {
         Cause::Start => 0,
+        Cause::Wave => 0,
         Cause::Count { ds, .. } => u64::from(ds),
         Cause::Settle { .. } => 0,
         Cause::Drain { .. } => 0,
@@ -44,18 +47,20 @@ fn has_doubled(base: u64, rows: u64) -> bool
 pub(crate) fn next_line(
     k: u32,
     fixed: Option<u32>,
+    weights: Weights,
     before: TurnLine,
     opens: bool,
     cause: Cause,
 ) -> TurnLine
     requires k { k ≤ 8 }
     requires shift { before.shift ≤ k }
+    requires weights { AreWeights weights }
     requires rows_r { before.rows_r + journal.counted_r cause ≤ 2 ^ 32 }
     requires rows_s { before.rows_s + journal.counted_s cause ≤ 2 ^ 32 }
     requires base_r { before.base_r ≤ 2 ^ 32 }
     requires base_s { before.base_s ≤ 2 ^ 32 }
     requires epoch { before.epoch + 1 < 2 ^ 32 }
-    ensures { result ≡ line_by k fixed before opens cause }
+    ensures { result ≡ line_by k fixed weights before opens cause }
 {
     let rows_r = before.rows_r + counted_r(cause);
     let rows_s = before.rows_s + counted_s(cause);
@@ -68,6 +73,7 @@ pub(crate) fn next_line(
                 k,
                 shift: before.shift,
             },
+            weights,
             rows_r,
             rows_s,
         )

@@ -28,6 +28,7 @@ fn post_grant(cause: Cause, sends: &mut Sends) -> Result<(), AllocError>
 {
     match cause {
         Cause::Start => Ok(()),
+        Cause::Wave => Ok(()),
         Cause::Count { feeder, .. } => {
             sends.push(Post {
                 to: Actor::Feeder(feeder),

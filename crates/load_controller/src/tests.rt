@@ -2,9 +2,12 @@ ghost use Rattle.std.specs.Prelude.{◌≤◌, ◌^◌};
 
 use crate::{Cause, Controller, Journal, TurnLine};
 use epoch_tags::{Actor, Msg, Sends, ToController, ToFeeder};
+use grid_map::Weights;
 use std::alloc::{AllocError, Global};
 use std::process::Abort;
 use std::test::Fail;
+
+const ONE: Weights = Weights { r: 1, s: 1 };
 
 // The lines of a journal after the first: the cause, epoch, shift, the bases, and whether it moves.
 fn lines(alloc: Global, journal: &Journal) -> Result<String, AllocError> {
@@ -12,6 +15,7 @@ fn lines(alloc: Global, journal: &Journal) -> Result<String, AllocError> {
     for line in journal.as_slice() {
         match line.cause {
             Cause::Start => text.push_str("start")?,
+            Cause::Wave => text.push_str("wave")?,
             Cause::Count { feeder, dr, ds } => text.push_str(&format!(in alloc;
                 "count {feeder} {dr} {ds}"
             )?)?,
@@ -79,7 +83,23 @@ fn uneven(alloc: Global, epoch: u32) -> Result<Controller, AllocError>
         goal: 2,
         moving: false,
     };
-    Controller::start_at(alloc, 4, 1, None, line)
+    Controller::start_at(alloc, 4, 1, None, ONE, line)
+}
+
+// A controller of four joiners in a second wave, with eight rows of each side.
+fn even(alloc: Global) -> Result<Controller, AllocError> {
+    let line = TurnLine {
+        cause: Cause::Wave,
+        rows_r: 8,
+        rows_s: 8,
+        base_r: 8,
+        base_s: 8,
+        epoch: 2,
+        shift: 1,
+        goal: 1,
+        moving: false,
+    };
+    Controller::start_at(alloc, 2, 1, None, ONE, line)
 }
 
 fn ask(p: u32, dr: u32, ds: u32) -> (Actor, ToController) {
@@ -184,10 +204,51 @@ fn rows_of_r_and_then_of_s_make_two_steps(rt: HostRuntime) -> Result<(), Fail> {
     expect(
         &rt,
         alloc,
-        Controller::start(alloc, 2, 1, None)?,
+        Controller::start(alloc, 2, 1, None, ONE)?,
         &messages,
         wanted,
     )?;
+    Ok(())
+}
+
+#[test]
+fn rows_of_a_heavy_side_keep_the_shift(rt: HostRuntime) -> Result<(), Fail> {
+    let alloc = rt.alloc();
+    let messages = [
+        ask(0, 4, 0),
+        settled(0, 1),
+        settled(1, 1),
+        settled(2, 1),
+        settled(3, 1),
+        ask(0, 4, 0),
+        ask(0, 0, 4),
+        ask(0, 0, 4),
+        drained(0),
+    ];
+    let wanted = (
+        "0: order 1 0;0: grant;0: grant;0: grant;0: grant;0: stop;",
+        "start: 0 1 0 0;count 0 4 0: 1 0 4 0 moving;settle 0: 1 0 4 0 moving;settle 1: 1 0 4 0 moving;settle 2: 1 0 4 0 moving;settle 3: 1 0 4 0;count 0 4 0: 1 0 8 0;count 0 0 4: 1 0 8 4;count 0 0 4: 1 0 8 8;drain 0: 1 0 8 8;",
+    );
+    let heavy = Weights { r: 2, s: 1 };
+    expect(
+        &rt,
+        alloc,
+        Controller::start(alloc, 2, 1, None, heavy)?,
+        &messages,
+        wanted,
+    )?;
+    Ok(())
+}
+
+#[test]
+fn a_wave_goes_on_from_the_last_line(rt: HostRuntime) -> Result<(), Fail> {
+    let alloc = rt.alloc();
+    let messages = [ask(0, 4, 0), ask(0, 4, 0), ask(0, 12, 0), ask(0, 4, 0)];
+    let wanted = (
+        "0: grant;0: grant;0: grant;0: order 3 0;0: grant;",
+        "wave: 2 1 8 8;count 0 4 0: 2 1 8 8;count 0 4 0: 2 1 16 8;count 0 12 0: 2 1 16 8;count 0 4 0: 3 0 32 8 moving;",
+    );
+    expect(&rt, alloc, even(alloc)?, &messages, wanted)?;
     Ok(())
 }
 
@@ -201,7 +262,7 @@ fn without_rows_it_stops_at_once(rt: HostRuntime) -> Result<(), Fail> {
     expect(
         &rt,
         alloc,
-        Controller::start(alloc, 2, 2, None)?,
+        Controller::start(alloc, 2, 2, None, ONE)?,
         &[drained(0), drained(1)],
         wanted,
     )?;
@@ -218,7 +279,7 @@ fn a_fixed_shift_stays(rt: HostRuntime) -> Result<(), Fail> {
     expect(
         &rt,
         alloc,
-        Controller::start(alloc, 2, 1, Some(2))?,
+        Controller::start(alloc, 2, 1, Some(2), ONE)?,
         &[ask(0, 4, 0), ask(0, 0, 4)],
         wanted,
     )?;
@@ -235,7 +296,7 @@ fn what_settled_before_its_step_is_held(rt: HostRuntime) -> Result<(), Fail> {
     expect(
         &rt,
         alloc,
-        Controller::start(alloc, 1, 1, None)?,
+        Controller::start(alloc, 1, 1, None, ONE)?,
         &[settled(0, 1), ask(0, 0, 1)],
         wanted,
     )?;
@@ -246,7 +307,7 @@ fn what_settled_before_its_step_is_held(rt: HostRuntime) -> Result<(), Fail> {
     expect(
         &rt,
         alloc,
-        Controller::start(alloc, 1, 1, None)?,
+        Controller::start(alloc, 1, 1, None, ONE)?,
         &[settled(1, 1), settled(0, 1), ask(0, 0, 1)],
         wanted,
     )?;
@@ -270,7 +331,7 @@ fn strange_messages_are_passed_over(rt: HostRuntime) -> Result<(), Fail> {
     expect(
         &rt,
         alloc,
-        Controller::start(alloc, 1, 1, None)?,
+        Controller::start(alloc, 1, 1, None, ONE)?,
         &messages,
         wanted,
     )?;
@@ -280,7 +341,7 @@ fn strange_messages_are_passed_over(rt: HostRuntime) -> Result<(), Fail> {
 #[test]
 fn it_is_idle_while_no_step_is_under_way(rt: HostRuntime) -> Result<(), Fail> {
     let alloc = rt.alloc();
-    let mut controller = Controller::start(alloc, 1, 1, None)?;
+    let mut controller = Controller::start(alloc, 1, 1, None, ONE)?;
     assert!(rt; controller.idle(), "at the beginning");
     let mut sends = Sends::new(alloc);
     controller.on(
@@ -297,7 +358,7 @@ fn it_is_idle_while_no_step_is_under_way(rt: HostRuntime) -> Result<(), Fail> {
 #[test]
 fn eight_held_messages_are_counted_in_eight_steps(rt: HostRuntime) -> Result<(), Fail> {
     let alloc = rt.alloc();
-    let mut controller = Controller::start(alloc, 3, 1, None)?;
+    let mut controller = Controller::start(alloc, 3, 1, None, ONE)?;
     let mut sends = Sends::new(alloc);
     for epoch in 1..9u32 {
         tell(&mut controller, settled(0, epoch), &mut sends)?;

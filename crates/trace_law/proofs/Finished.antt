@@ -1,211 +1,286 @@
--- In a finished family all batches were granted, and the collector has taken each pair of the nested loop once.
-use Rattle.std.proofs.Common.{◌≡◌, ℕ, zero, suc, ◌+◌, ◌<◌, ◌≤◌, ◌^◌, inl, inr, refl, sym, ◌∙◌, ap, subst, arith, Bool, ◌&&◌, List, [], ◌∷◌, ◌++◌, length, append-nil}
-use Rattle.std.specs.Prelude.{map, filter, sum_by}
+-- In a finished family the joiners have found each pair with a row of the wave once, and so the collector has taken it.
+use Rattle.std.proofs.Common.{◌≡◌, ℕ, zero, suc, ◌+◌, ◌<◌, ◌≤◌, ◌^◌, inl, inr, refl, sym, ◌∙◌, ap, subst, arith, Bool, false, ◌&&◌, List, [], ◌∷◌, ◌++◌, length}
+use Rattle.std.specs.Prelude.{map, filter, sum_by, not, nat_le}
 use Rattle.std.specs.List.{AllByRecursion}
-use Rattle.std.proofs.lemmas.Bool.{cases_lt}
+use Rattle.std.proofs.lemmas.Bool.{cases_lt, leb-true, false_from_ne_true}
 use Rattle.std.proofs.lemmas.Nat.{pow_pos}
-use Rattle.join_rows.specs.declared.table.Side.TheVariants.{R, S}
-use Rattle.join_rows.specs.Lists.{SameBag, gather, counting_from}
-use Rattle.join_rows.proofs.Bags.{only_if, sum-same, SameBag-trans, SameBag-append}
+use Rattle.std.proofs.lemmas.List.Sums.{sum_by-append}
+use Rattle.join_rows.specs.Lists.{SameBag, gather}
+use Rattle.join_rows.proofs.Bags.{only_if, sum-same, sum-filter, SameBag-trans, SameBag-sym, SameBag-refl, SameBag-append}
+use Rattle.join_rows.proofs.Within.{same-gather}
+use Rattle.join_rows.proofs.Everywhere.{weaken, all-append, all-gather, both_hold}
+use Rattle.join_rows.proofs.Totals.{sum_plus, greatest_above}
 use Rattle.epoch_tags.specs.declared.tuple.Tuple.{Tuple}
 use Rattle.epoch_tags.specs.declared.tuple.Pair.{Pair}
-use Rattle.epoch_tags.specs.declared.message.ToJoiner.{ToJoiner}
-use Rattle.epoch_tags.specs.declared.message.ToJoiner.TheVariants.{Tup, Turn, End, Moved, MovedEnd}
-use Rattle.epoch_tags.specs.declared.message.ToFeeder.{ToFeeder}
-use Rattle.epoch_tags.specs.declared.message.ToFeeder.TheVariants.{Order, Grant, Stop}
-use Rattle.epoch_tags.specs.declared.message.ToController.{ToController}
-use Rattle.epoch_tags.specs.declared.message.ToController.TheVariants.{Drained}
 use Rattle.epoch_tags.specs.declared.message.ToCollector.{ToCollector}
 use Rattle.epoch_tags.specs.declared.message.ToCollector.TheVariants.{Found, Fin}
-use Rattle.epoch_tags.specs.Messages.{turns, ends, asks, draineds, grants, order_epochs, found_before_fin, fins}
-use Rattle.epoch_tags.specs.Orders.{CountsUp}
-use Rattle.migration_plan.specs.Steps.{is_of}
-use Rattle.reshuffler_core.specs.Law.{answers, ask_for, stamped}
-use Rattle.reshuffler_core.proofs.Arrivals.{granted, answers_count_up}
-use Rattle.joiner_law.specs.Law.{opened, store, arrived, found, pairs_by, pair_of, is_greater_stamp}
+use Rattle.epoch_tags.specs.Messages.{turns, order_epochs, found_before_fin, fins}
 use Rattle.pair_collector.specs.Law.{pairs_taken}
-use Rattle.trace_law.specs.declared.input.Input.{Input}
-use Rattle.trace_law.specs.Join.{nested_loop}
-use Rattle.trace_law.specs.declared.setting.Setting.{Setting}
-use Rattle.trace_law.specs.Validity.{IsValid}
-use Rattle.trace_law.specs.Family.{Family, IsAgreeing, IsFinished, feeder_start, first_line}
-use Rattle.trace_law.proofs.Stores.{is_stored}
-use Rattle.trace_law.proofs.Arrivals.{front_of}
-use Rattle.trace_law.proofs.Journals.{stores_what_it_holds, feeders_go, begins}
-use Rattle.trace_law.proofs.PairSums.{sum-pairs, found_once, IsStamped}
-use Rattle.trace_law.proofs.Stamps.{grants_are}
-use Rattle.trace_law.proofs.Loop.{joins_of, pairs_all, IsGrantedAll}
-use Rattle.trace_law.proofs.Sent.{shift, rows, s_of, t_of, finds_of, shift_within, stamped_within, sent_is, zero_finds}
-use Rattle.join_rows.proofs.Within.{same-gather}
-use Rattle.join_rows.proofs.Everywhere.{all-append, all-gather}
-use Rattle.join_rows.proofs.Totals.{greatest_above}
+use Rattle.reshuffler_core.proofs.Arrivals.{granted}
 use Rattle.reshuffler_core.proofs.TakesAll.{answers_turns}
-
--- ---- a feeder that has drained was granted all
-
-all_asked : (batches : List (List Tuple)) (sent rest : List ToController) → sent ++ rest ≡ map ask_for batches ++ Drained ∷ [] → 0 < draineds sent → asks sent ≡ length batches
-all_asked batches [] rest is some = absurd (omega arith)
-all_asked [] (m ∷ sent) rest is some =
-    let first : m ≡ Drained = cc in
-    let none : sent ++ rest ≡ [] = cc in
-    rw (first, empty_front sent rest none) refl
-  where
-    empty_front : (xs ys : List ToController) → xs ++ ys ≡ [] → xs ≡ []
-    empty_front [] ys none = refl
-    empty_front (x ∷ xs) ys none = cc
-all_asked (batch ∷ batches) (m ∷ sent) rest is some =
-    let first : m ≡ ask_for batch = cc in
-    let more : sent ++ rest ≡ map ask_for batches ++ Drained ∷ [] = cc in
-    let some' : 0 < draineds sent = subst (λ n. 0 < draineds (n ∷ sent)) first some in
-    let old = all_asked batches sent rest more some' in
-    rw first (omega arith)
-
--- ---- a joiner that has the end of a link has all of it
-
-pub ends_whole : (e : ℕ) (xs ys : List ToJoiner) → CountsUp e (xs ++ ys) → 0 < ends xs → ys ≡ []
-ends_whole e [] ys up has = absurd (omega arith)
-ends_whole e (Tup x ∷ xs) ys (is, up) has = ends_whole e xs ys up has
-ends_whole e (Turn epoch shift ∷ xs) ys (is, up) has = ends_whole (e + 1) xs ys up has
-ends_whole e (End ∷ xs) ys up has = empty_back xs ys up
-  where
-    empty_back : (us vs : List ToJoiner) → us ++ vs ≡ [] → vs ≡ []
-    empty_back [] vs none = none
-    empty_back (u ∷ us) vs none = cc
-ends_whole e (Moved epoch x ∷ xs) ys up has = absurd up
-ends_whole e (MovedEnd epoch ∷ xs) ys up has = absurd up
-
--- ---- stamps of what was granted
-
-stamps_now : (e : ℕ) (batch : List Tuple) (E : ℕ) → e ≤ E → AllByRecursion (λ t. t.stamp ≤ E) (map (stamped e) batch)
-stamps_now e [] E low = tt
-stamps_now e (t ∷ batch) E low = (low, stamps_now e batch E low)
-
-stamps_low : (e E : ℕ) (batches : List (List Tuple)) (ms : List ToFeeder) → order_epochs ms ≡ counting_from (e + 1) (length (order_epochs ms)) → e + length (order_epochs ms) ≤ E
-    → AllByRecursion (λ t. t.stamp ≤ E) (granted e batches ms)
-stamps_low e E batches [] orders low = tt
-stamps_low e E batches (Order epoch shift ∷ ms) orders low =
-    let is : epoch ≡ e + 1 = cc in
-    let rest : order_epochs ms ≡ counting_from ((e + 1) + 1) (length (order_epochs ms)) = cc in
-    subst (λ c. AllByRecursion (λ t. t.stamp ≤ E) (granted c batches ms)) (sym is) (stamps_low (e + 1) E batches ms rest (omega arith))
-stamps_low e E [] (Grant ∷ ms) orders low = stamps_low e E [] ms orders low
-stamps_low e E (batch ∷ batches) (Grant ∷ ms) orders low =
-    all-append (λ t. t.stamp ≤ E) (map (stamped e) batch) (granted e batches ms) (stamps_now e batch E (omega arith)) (stamps_low e E batches ms orders low)
-stamps_low e E batches (Stop ∷ ms) orders low = stamps_low e E batches ms orders low
-
--- ---- pairs
-
-same_pairs : {rs ss rs' ss' : List Tuple} (test : Tuple → Tuple → Bool) → SameBag rs rs' → SameBag ss ss' → SameBag (pairs_by test rs ss) (pairs_by test rs' ss')
-same_pairs {rs = rs} {ss = ss} {rs' = rs'} {ss' = ss'} test left right = record {
-  sums = λ f.
-      let w : Tuple → Tuple → ℕ = λ r q. only_if (is_of R r) (only_if (is_of S q && test r q) (f (pair_of r q))) in
-      sum-pairs f test rs ss
-      ∙ sum-same (λ r. sum_by (w r) ss) (λ r. sum_by (w r) ss') (λ r. right.sums (w r)) rs
-      ∙ left.sums (λ r. sum_by (w r) ss')
-      ∙ sym (sum-pairs f test rs' ss');
-}
+use Rattle.joiner_law.specs.Law.{JoinerStart, Taken, opened, store, arrived, found, pairs_by, is_greater_stamp}
+use Rattle.trace_law.specs.declared.input.Input.{Input}
+use Rattle.trace_law.specs.declared.setting.Setting.{Setting}
+use Rattle.trace_law.specs.Join.{nested_loop}
+use Rattle.trace_law.specs.Validity.{IsValid}
+use Rattle.trace_law.specs.Family.{Rest, IsRestFor, Family, IsAgreeing, IsFinished, joiner_start, feeder_start, old_rows, aged}
+use Rattle.trace_law.specs.Stored.{is_stored}
+use Rattle.trace_law.specs.Join.{has_new, wave_pairs}
+use Rattle.trace_law.proofs.Aged.{old_stamps}
+use Rattle.trace_law.proofs.PairSums.{finds, found_once, sum-pairs, IsStamped}
+use Rattle.trace_law.proofs.NewPairs.{pairs-parts, pairs-aged, later_stamp, first_finds, same_pairs}
+use Rattle.trace_law.proofs.Loop.{joins_of, weight, row_sum, rows_pair_up, old_pairs, either}
+use Rattle.trace_law.proofs.Journals.{shift_in, rows_known, stores_what_it_holds}
+use Rattle.trace_law.proofs.Sent.{sent_is}
+use Rattle.trace_law.proofs.Again.{known_all, took_all, stamps_low}
+use Rattle.trace_law.proofs.Found.{rows_since, rows_fit, shift_within, base_pairs, gather-both}
 
 -- what the collector has before a `Fin` is all that was found
-taken_whole : (founds : List (List Pair)) (last got rest : List ToCollector) → got ++ rest ≡ map Found founds ++ last → 0 < fins got → found_before_fin got ≡ found_before_fin (map Found founds ++ last)
-taken_whole founds last got rest is has = front got rest has ∙ ap found_before_fin is
+taken_whole : (founds : List (List Pair)) (last got more : List ToCollector) → got ++ more ≡ map Found founds ++ last
+    → 0 < fins got → found_before_fin got ≡ found_before_fin (map Found founds ++ last)
+taken_whole founds last got more is has = front got more has ∙ ap found_before_fin is
   where
     front : (xs ys : List ToCollector) → 0 < fins xs → found_before_fin xs ≡ found_before_fin (xs ++ ys)
     front [] ys has = absurd (omega arith)
     front (Found ps ∷ xs) ys has = ap (λ us. ps ++ us) (front xs ys has)
     front (Fin rows_r rows_s moved ∷ xs) ys has = refl
 
--- ---- of a finished family
+none_early : (k c e j : ℕ) (ts : List Tuple) → AllByRecursion (λ t. e < t.stamp) ts → filter (is_stored k c e j) ts ≡ []
+none_early k c e j [] late = refl
+none_early k c e j (t ∷ ts) (here, late) =
+    let off : nat_le t.stamp e ≡ false =
+    false_from_ne_true (nat_le t.stamp e)
+    (λ is. let low = leb-true t.stamp e is in absurd (omega (arith, low, here))) in
+    rw off (none_early k c e j ts late)
 
-module _ (input : Input) (setting : Setting) (valid : IsValid input setting) (f : Family) (agrees : IsAgreeing input setting f) (finished : IsFinished input setting f agrees) where
-  pub grants_all : (p : ℕ) → p < setting.feeders → grants (agrees.taken_by_feeder p) ≡ length (feeder_start input setting p).batches
-  grants_all p h =
-      let law = agrees.feeders p h in
-      let drained = law.stops_drained (finished.feeders p h) in
-      let asked = all_asked (feeder_start input setting p).batches (f.feeder p).to_controller law.asked.rest law.asked.joins drained in
-      sym (law.drained drained) ∙ asked
+module _ (input : Input) (setting : Setting) (valid : IsValid input setting) (rest : Rest)
+    (stands : IsRestFor input setting rest) (f : Family) (agrees : IsAgreeing input setting rest f)
+    (finished : IsFinished input setting rest f agrees) where
+  abbrev shift : ℕ → ℕ
+  shift e = shift_in input setting rest f agrees e
 
-  pub granted_all_of : (p : ℕ) → p < setting.feeders → IsGrantedAll input setting agrees.taken_by_feeder p
-  granted_all_of p h = let a = grants_all p h in let c = grants_are 0 (agrees.taken_by_feeder p) in omega arith
+  abbrev rows : List Tuple
+  rows = rows_known input setting rest f agrees
 
-  -- each joiner took all that the feeders answered
-  pub took_all : (j p : ℕ) → j < 2 ^ setting.k → p < setting.feeders
-      → (t_of input setting valid f agrees j).from_feeder p ≡ answers setting.k j 0 (first_line setting).shift (feeder_start input setting p).batches (agrees.taken_by_feeder p)
-  took_all j p h h' =
-      let t = t_of input setting valid f agrees j in
-      let law = agrees.feeders p h' in
-      let front = front_of input setting f agrees (shift input setting valid f agrees) (feeders_go input setting f agrees) (begins input setting f agrees) j p h h' in
-      let up = answers_count_up setting.k j 0 (first_line setting).shift (feeder_start input setting p).batches (agrees.taken_by_feeder p) law.orders law.stops_last in
-      let rest = finished.joiners j h in
-      let none = ends_whole 0 (t.from_feeder p) front.0 (subst (λ ms. CountsUp 0 ms) (sym front.1) up) (rest.0.0 p h') in
-      sym (append-nil (t.from_feeder p)) ∙ ap (λ ms. t.from_feeder p ++ ms) (sym none) ∙ front.1
+  abbrev s_of : ℕ → JoinerStart
+  s_of j = joiner_start input setting rest j
 
+  abbrev t_of : ℕ → Taken
+  t_of j = agrees.taken_by_joiner j
+
+  abbrev e0 : ℕ
+  e0 = rest.line.epoch
+
+  abbrev old : Tuple → Tuple
+  old t = aged rest.line t
+
+  abbrev joins : Tuple → Tuple → Bool
+  joins r q = joins_of input r q
+
+  -- the pairs of epoch e that joiner j is to find
+  abbrev pub finds_of : ℕ → ℕ → List Pair
+  finds_of j e = finds joins setting.k shift rows j e
+
+  -- the pairs within its base
+  abbrev pub base : ℕ → List Pair
+  base j = pairs_by joins (rest.stores j) (rest.stores j)
+
+  since : AllByRecursion (λ t. e0 ≤ t.stamp) rows
+  since = rows_since input setting valid rest stands f agrees
+
+  -- nothing is found before the first epoch
+  early : (j n : ℕ) → n ≤ e0 → gather n (finds_of j) ≡ []
+  early j zero low = refl
+  early j (suc n) low =
+      let late : AllByRecursion (λ t. n < t.stamp) rows =
+      weaken (λ (t : Tuple). e0 ≤ t.stamp) (λ t. n < t.stamp) (λ t is. omega (arith, is, low)) rows since in
+      let none = none_early setting.k (shift n) n j rows late in
+      let empty : finds_of j n ≡ [] = ap (λ ts. pairs_by (λ r q. joins r q && is_greater_stamp n r q) ts ts) none in
+      ap (λ ps. ps ++ finds_of j n) (early j n (omega (arith, low))) ∙ empty
+
+  -- each store of a finished joiner has all that it is to hold
+  pub stored_all : (n j : ℕ) (h : j < 2 ^ setting.k) → n ≤ opened (s_of j) (t_of j)
+      → SameBag (map old (store (s_of j) (t_of j) n)) (filter (is_stored setting.k (shift (e0 + n)) (e0 + n) j) rows)
+  stored_all n j h low =
+      let end = finished.joiners j h in
+      stores_what_it_holds input setting rest f agrees stands valid.some valid.small n j h
+      (λ m low'. end.0.1 m (omega (arith, low, low'))) (λ p h'. inr (end.0.0 p h'))
+
+  -- what a joiner found, with the pairs of what it began with
+  pub found_all : (n j : ℕ) (h : j < 2 ^ setting.k) → n ≤ opened (s_of j) (t_of j)
+      → SameBag (found (s_of j) (t_of j) n ++ base j) (gather (suc (e0 + n)) (finds_of j))
+  found_all zero j h low =
+      let s = s_of j in let t = t_of j in
+      let kept = filter (is_stored setting.k (shift e0) e0 j) rows in
+      let same : e0 + 0 ≡ e0 = omega arith in
+      let held : SameBag (map old (store s t 0)) kept =
+      subst (λ e. SameBag (map old (store s t 0)) (filter (is_stored setting.k (shift e) e j) rows)) same
+      (stored_all 0 j h low) in
+      let all_pairs : SameBag (found s t 0 ++ base j) (pairs_by joins (store s t 0) (store s t 0)) =
+      pairs-parts joins (rest.stores j) (arrived s t e0) in
+      let aged_pairs = pairs-aged rest.line joins joins (λ r q. refl) (store s t 0) (store s t 0) in
+      let here : SameBag (found s t 0 ++ base j) (finds_of j e0) =
+      SameBag-trans (SameBag-trans all_pairs aged_pairs)
+      (SameBag-trans (same_pairs joins held held) (first_finds joins setting.k j (shift e0) e0 rows since)) in
+      let whole : gather (suc e0) (finds_of j) ≡ finds_of j e0 =
+      ap (λ ps. ps ++ finds_of j e0) (early j e0 (omega arith)) in
+      subst (λ e. SameBag (found s t 0 ++ base j) (gather (suc e) (finds_of j))) (sym same)
+      (subst (λ ps. SameBag (found s t 0 ++ base j) ps) (sym whole) here)
+  found_all (suc n) j h low =
+      let s = s_of j in let t = t_of j in
+      let e = e0 + n + 1 in
+      let same : e0 + suc n ≡ e = omega arith in
+      let test : Tuple → Tuple → Bool = λ r q. joins r q && is_greater_stamp e r q in
+      let held : SameBag (map old (store s t (suc n))) (filter (is_stored setting.k (shift e) e j) rows) =
+      subst (λ v. SameBag (map old (store s t (suc n))) (filter (is_stored setting.k (shift v) v j) rows)) same
+      (stored_all (suc n) j h low) in
+      let new : SameBag (pairs_by test (store s t (suc n)) (store s t (suc n))) (finds_of j e) =
+      SameBag-trans
+      (pairs-aged rest.line test test (λ r q. ap (λ c. joins r q && c) (later_stamp rest.line e (omega arith) r q))
+      (store s t (suc n)) (store s t (suc n))) (same_pairs test held held) in
+      let before = found_all n j h (omega (arith, low)) in
+      let turned : SameBag (found s t (suc n) ++ base j)
+      ((found s t n ++ base j) ++ pairs_by test (store s t (suc n)) (store s t (suc n))) =
+      turn (found s t n) (pairs_by test (store s t (suc n)) (store s t (suc n))) (base j) in
+      let one : suc (e0 + n) ≡ e0 + n + 1 = omega arith in
+      let both : SameBag ((found s t n ++ base j) ++ pairs_by test (store s t (suc n)) (store s t (suc n)))
+      (gather (suc (e0 + n)) (finds_of j) ++ finds_of j e) = SameBag-append before new in
+      let both' : SameBag ((found s t n ++ base j) ++ pairs_by test (store s t (suc n)) (store s t (suc n)))
+      (gather (suc e) (finds_of j)) =
+      subst
+      (λ m.
+      SameBag ((found s t n ++ base j) ++ pairs_by test (store s t (suc n)) (store s t (suc n)))
+      (gather m (finds_of j) ++ finds_of j e)) one both in
+      subst (λ m. SameBag (found s t (suc n) ++ base j) (gather (suc m) (finds_of j))) (sym same)
+      (SameBag-trans turned both')
+    where
+      turn : (xs ys zs : List Pair) → SameBag ((xs ++ ys) ++ zs) ((xs ++ zs) ++ ys)
+      turn xs ys zs = record {
+        sums = λ g.
+            let a = sum_by-append g (xs ++ ys) zs in
+            let c = sum_by-append g xs ys in
+            let d = sum_by-append g (xs ++ zs) ys in
+            let e = sum_by-append g xs zs in
+            omega arith;
+      }
+
+  -- how many orders feeder p took
   abbrev pub orders_of : ℕ → ℕ
   orders_of p = length (order_epochs (agrees.taken_by_feeder p))
 
-  -- and opened as many steps as any feeder took orders
-  pub opened_is : (j p : ℕ) → j < 2 ^ setting.k → p < setting.feeders → opened (s_of input setting valid f agrees j) (t_of input setting valid f agrees j) ≡ orders_of p
+  -- as many steps has each joiner opened
+  pub opened_is : (j p : ℕ) → j < 2 ^ setting.k → p < setting.feeders → opened (s_of j) (t_of j) ≡ orders_of p
   opened_is j p h h' =
-      let s = s_of input setting valid f agrees j in
-      let t = t_of input setting valid f agrees j in
-      let turned : turns (t.from_feeder p) ≡ orders_of p = ap turns (took_all j p h h') ∙ answers_turns setting.k j 0 (first_line setting).shift (feeder_start input setting p).batches (agrees.taken_by_feeder p) in
+      let t = t_of j in
+      let turned : turns (t.from_feeder p) ≡ orders_of p =
+      ap turns (took_all input setting valid rest stands f agrees finished j p h h')
+      ∙ answers_turns setting.k j e0 rest.line.shift (feeder_start input setting rest p).batches
+      (agrees.taken_by_feeder p) in
       let above = greatest_above setting.feeders (λ i. turns (t.from_feeder i)) p h' in
-      let rest = finished.joiners j h in
-      let below : opened s t ≤ turns (t.from_feeder p) =
-      elim (cases_lt (turns (t.from_feeder p)) (opened s t)) [
-        | inl more ↦ let step = rest.0.1 (turns (t.from_feeder p)) more in let all = step.0 p h' in absurd (omega arith)
+      let end = finished.joiners j h in
+      let below : opened (s_of j) t ≤ turns (t.from_feeder p) =
+      elim (cases_lt (turns (t.from_feeder p)) (opened (s_of j) t)) [
+        | inl more ↦ let step = end.0.1 (turns (t.from_feeder p)) more in
+            let all = step.0 p h' in absurd (omega (arith, all))
         | inr fine ↦ fine
       ] in
-      omega arith
+      omega (arith, turned, above, below)
 
+  -- the number of steps
   abbrev pub E : ℕ
   E = orders_of 0
 
+  -- it is the same for each feeder
   pub same_orders : (p : ℕ) → p < setting.feeders → orders_of p ≡ E
-  same_orders p h = let some : 0 < 2 ^ setting.k = pow_pos setting.k in sym (opened_is 0 p some h) ∙ opened_is 0 0 some valid.some
+  same_orders p h = let some : 0 < 2 ^ setting.k = pow_pos setting.k in
+      sym (opened_is 0 p some h) ∙ opened_is 0 0 some valid.some
 
-  pub stored_all : (n j : ℕ) (h : j < 2 ^ setting.k) → n ≤ opened (s_of input setting valid f agrees j) (t_of input setting valid f agrees j)
-      → SameBag (store (s_of input setting valid f agrees j) (t_of input setting valid f agrees j) n) (filter (is_stored setting.k (shift input setting valid f agrees n) n j) (rows input setting valid f agrees))
-  stored_all n j h low =
-      let rest = finished.joiners j h in
-      stores_what_it_holds input setting f agrees valid.some valid.small n j h (λ m low'. rest.0.1 m (omega arith)) (λ p h'. inr (rest.0.0 p h'))
+  young : AllByRecursion (λ t. t.stamp ≤ e0 + E) rows
+  young =
+      all-append (λ t. t.stamp ≤ e0 + E) (old_rows input rest.line)
+      (gather setting.feeders
+      (λ p. granted e0 (feeder_start input setting rest p).batches (agrees.taken_by_feeder p)))
+      (weaken (λ (t : Tuple). t.stamp ≡ e0) (λ t. t.stamp ≤ e0 + E) (λ t is. omega (arith, is))
+      (old_rows input rest.line) (old_stamps input rest.line))
+      (all-gather (λ t. t.stamp ≤ e0 + E) setting.feeders
+      (λ p. granted e0 (feeder_start input setting rest p).batches (agrees.taken_by_feeder p))
+      (λ p h. let same = same_orders p h in
+      stamps_low e0 (e0 + E) (feeder_start input setting rest p).batches (agrees.taken_by_feeder p)
+      (agrees.feeders p h).orders (omega (arith, same))))
 
-  pub found_all : (n j : ℕ) (h : j < 2 ^ setting.k) → n ≤ opened (s_of input setting valid f agrees j) (t_of input setting valid f agrees j)
-      → SameBag (found (s_of input setting valid f agrees j) (t_of input setting valid f agrees j) n) (gather (suc n) (finds_of input setting valid f agrees j))
-  found_all zero j h low =
-      let s = s_of input setting valid f agrees j in let t = t_of input setting valid f agrees j in
-      let stored = stored_all 0 j h low in
-      subst (λ ps. SameBag ps (finds_of input setting valid f agrees j 0)) (sym (append-nil (pairs_by (joins_of input) (arrived s t 0) (store s t 0))))
-      (SameBag-trans (same_pairs (joins_of input) stored stored) (zero_finds (joins_of input) setting.k j (shift input setting valid f agrees 0) (rows input setting valid f agrees)))
-  found_all (suc n) j h low =
-      let s = s_of input setting valid f agrees j in let t = t_of input setting valid f agrees j in
-      let epoch : suc n ≡ 0 + n + 1 = omega arith in
-      let held = stored_all (suc n) j h low in
-      let new : SameBag (pairs_by (λ r q. joins_of input r q && is_greater_stamp (suc n) r q) (store s t (suc n)) (store s t (suc n))) (finds_of input setting valid f agrees j (suc n)) =
-      same_pairs (λ r q. joins_of input r q && is_greater_stamp (suc n) r q) held held in
-      let new' : SameBag (pairs_by (λ r q. joins_of input r q && is_greater_stamp (0 + n + 1) r q) (store s t (suc n)) (store s t (suc n))) (finds_of input setting valid f agrees j (suc n)) =
-      subst (λ e. SameBag (pairs_by (λ r q. joins_of input r q && is_greater_stamp e r q) (store s t (suc n)) (store s t (suc n))) (finds_of input setting valid f agrees j (suc n))) epoch new in
-      SameBag-append (found_all n j h (omega arith)) new'
+  -- the known rows have stamps up to the last epoch, and tickets that are bytes
+  pub rows_stamped : AllByRecursion (IsStamped (e0 + E)) rows
+  rows_stamped =
+      both_hold (λ t. t.stamp ≤ e0 + E) (λ t. t.ticket < 2 ^ 8) rows young
+      (rows_fit input setting valid rest stands f agrees)
 
-  -- what the collector took of one joiner
-  pub taken_of : (j : ℕ) (h : j < 2 ^ setting.k) → SameBag (found_before_fin (f.collector.from_joiner j)) (gather (suc E) (finds_of input setting valid f agrees j))
+  -- all rows are known, so all pairs
+  pairs_all : SameBag (pairs_by joins rows rows) (nested_loop input)
+  pairs_all = record {
+    sums = λ g.
+        sum-pairs g joins rows rows
+        ∙ sum-same (λ r. sum_by (weight input g r) rows) (λ r. row_sum input (weight input g r))
+        (λ r. known_all input setting valid rest stands f agrees finished (weight input g r) (λ e t. refl)) rows
+        ∙ known_all input setting valid rest stands f agrees finished (λ r. row_sum input (weight input g r))
+        (λ e t. refl)
+        ∙ rows_pair_up input g;
+  }
+
+  -- the pairs that joiner j found
+  abbrev pub its : ℕ → List Pair
+  its j = found (s_of j) (t_of j) (opened (s_of j) (t_of j))
+
+  with_old : SameBag
+      (gather (2 ^ setting.k) its ++ pairs_by joins (old_rows input rest.line) (old_rows input rest.line))
+      (nested_loop input)
+  with_old =
+      let k = setting.k in
+      let each : (j : ℕ) → j < 2 ^ k → SameBag (its j ++ base j) (gather (suc (e0 + E)) (finds_of j)) = λ j h.
+      subst (λ n. SameBag (its j ++ base j) (gather (suc (e0 + n)) (finds_of j))) (opened_is j 0 h valid.some)
+      (found_all (opened (s_of j) (t_of j)) j h (omega arith)) in
+      let once =
+      found_once joins k (e0 + E) shift rows valid.small
+      (λ e. shift_within input setting valid rest stands f agrees e) rows_stamped in
+      SameBag-trans
+      (SameBag-append (SameBag-refl (gather (2 ^ k) its))
+      (SameBag-sym (base_pairs input setting valid rest stands f agrees)))
+      (SameBag-trans (gather-both (2 ^ k) its base)
+      (SameBag-trans (same-gather (2 ^ k) (λ j. its j ++ base j) (λ j. gather (suc (e0 + E)) (finds_of j)) each)
+      (SameBag-trans once pairs_all)))
+
+  -- what all joiners found are the wave's pairs
+  pub finds_the_wave : SameBag (gather (2 ^ setting.k) (λ j. found (s_of j) (t_of j) (opened (s_of j) (t_of j))))
+      (wave_pairs input rest.line)
+  finds_the_wave = record {
+    sums = λ g.
+        let line = rest.line in
+        let a = with_old.sums g in
+        let c =
+        sum_by-append g (gather (2 ^ setting.k) its) (pairs_by joins (old_rows input line) (old_rows input line)) in
+        let d = (old_pairs input line).sums g in
+        let e = sum-filter g (λ pair. not (has_new line pair)) (nested_loop input) in
+        let n = sum-filter g (has_new line) (nested_loop input) in
+        let h =
+        sum_plus (λ pair. only_if (has_new line pair) (g pair)) (λ pair. only_if (not (has_new line pair)) (g pair))
+        (nested_loop input) in
+        let k =
+        sum-same (λ pair. only_if (has_new line pair) (g pair) + only_if (not (has_new line pair)) (g pair)) g
+        (λ pair. either (has_new line pair) (g pair)) (nested_loop input) in
+        omega arith;
+  }
+
+  -- what the collector took of one joiner is what it found
+  pub taken_of : (j : ℕ) (h : j < 2 ^ setting.k) → SameBag (found_before_fin (f.collector.from_joiner j)) (its j)
   taken_of j h =
       let law = agrees.joiners j h in
       let link = agrees.joiner_collector j h in
       let whole : found_before_fin (f.collector.from_joiner j) ≡ found_before_fin (f.joiner j).to_collector =
-      taken_whole law.founds law.fins (f.collector.from_joiner j) link.rest (link.joins ∙ law.to_collector) (finished.collector j h) ∙ ap found_before_fin (sym law.to_collector) in
-      let all = found_all (opened (s_of input setting valid f agrees j) (t_of input setting valid f agrees j)) j h (omega arith) in
-      let all' : SameBag (found (s_of input setting valid f agrees j) (t_of input setting valid f agrees j) (opened (s_of input setting valid f agrees j) (t_of input setting valid f agrees j))) (gather (suc E) (finds_of input setting valid f agrees j)) =
-      subst (λ n. SameBag (found (s_of input setting valid f agrees j) (t_of input setting valid f agrees j) (opened (s_of input setting valid f agrees j) (t_of input setting valid f agrees j))) (gather (suc n) (finds_of input setting valid f agrees j))) (opened_is j 0 h valid.some) all in
-      subst (λ ps. SameBag ps (gather (suc E) (finds_of input setting valid f agrees j))) (sym whole) (SameBag-trans (sent_is input setting valid f agrees j h) all')
+      taken_whole law.founds law.fins (f.collector.from_joiner j) link.rest (link.joins ∙ law.to_collector)
+      (finished.collector j h) ∙ ap found_before_fin (sym law.to_collector) in
+      subst (λ ps. SameBag ps (its j)) (sym whole) (sent_is input setting valid rest stands f agrees j h)
 
-  pub rows_stamped : AllByRecursion (IsStamped E) (rows input setting valid f agrees)
-  rows_stamped =
-      stamped_within input setting valid f agrees E
-      (all-gather (λ t. t.stamp ≤ E) setting.feeders (λ p. granted 0 (feeder_start input setting p).batches (agrees.taken_by_feeder p))
-      (λ p h. let same = same_orders p h in stamps_low 0 E (feeder_start input setting p).batches (agrees.taken_by_feeder p) (agrees.feeders p h).orders (omega arith)))
-
-  -- the collector has the nested loop's pairs
-  pub takes_all_pairs : SameBag (pairs_taken (2 ^ setting.k) f.collector) (nested_loop input)
+  -- the collector has the wave's pairs
+  pub takes_all_pairs : SameBag (pairs_taken (2 ^ setting.k) f.collector) (wave_pairs input rest.line)
   takes_all_pairs =
-      SameBag-trans (same-gather (2 ^ setting.k) (λ j. found_before_fin (f.collector.from_joiner j)) (λ j. gather (suc E) (finds_of input setting valid f agrees j)) taken_of)
-      (SameBag-trans (found_once (joins_of input) setting.k E (shift input setting valid f agrees) (rows input setting valid f agrees) valid.small (shift_within input setting valid f agrees) rows_stamped)
-      (pairs_all input setting valid agrees.taken_by_feeder granted_all_of))
+      SameBag-trans (same-gather (2 ^ setting.k) (λ j. found_before_fin (f.collector.from_joiner j)) its taken_of)
+      finds_the_wave

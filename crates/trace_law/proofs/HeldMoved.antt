@@ -20,10 +20,10 @@ use Rattle.reshuffler_core.specs.Law.{FeederLaw, answers}
 use Rattle.joiner_law.specs.Law.{JoinerLaw, JoinerStart, Taken, IsTakenOf, CanTakeOfJoiner, shift_after, partner_of, exchanged, store}
 use Rattle.load_controller.specs.declared.line.Cause.TheVariants.{Count}
 use Rattle.load_controller.specs.declared.line.TurnLine.{TurnLine}
-use Rattle.load_controller.specs.Journal.{Follows, start_line}
+use Rattle.load_controller.specs.Journal.{begun, Follows, start_line}
 use Rattle.load_controller.specs.Rows.{past_of}
 use Rattle.load_controller.specs.Law.{ControllerLaw, CountsMessages, CountsSettled, sent_by}
-use Rattle.trace_law.specs.Family.{Family, IsAgreeing, feeder_start, joiner_start, rules_of, first_line}
+use Rattle.trace_law.specs.Family.{Family, IsAgreeing, feeder_start, joiner_start, rules_of, first_rest}
 use Rattle.trace_law.specs.Laws.{HoldsAMovedRow}
 use Rattle.trace_law.proofs.Late.{input, setting, r_row, s_row, old_row, pair}
 use Rattle.trace_law.proofs.LateLaws.{valid}
@@ -79,17 +79,26 @@ journal = reverse (past_of (rules_of setting) (start_line (rules_of setting)) []
 abbrev family : Family
 family = record {
   feeder = λ p. record { received = received p; to_controller = asked p; to_joiner = fed p };
-  joiner = λ j. record { from_feeder = λ p. came p j; from_joiner = λ q. passed q j; to_joiner = passed j; to_controller = []; to_collector = found_so_far j };
-  controller = record { from_feeder = asked; from_joiner = λ j. []; to_feeder = λ p. received p ++ unseen p; journal = journal };
+  joiner =
+      λ j. record {
+        from_feeder = λ p. came p j;
+        from_joiner = λ q. passed q j;
+        to_joiner = passed j;
+        to_controller = [];
+        to_collector = found_so_far j;
+      };
+  controller =
+      record { from_feeder = asked; from_joiner = λ j. []; to_feeder = λ p. received p ++ unseen p; journal = journal };
   collector = record { from_joiner = found_so_far };
 }
 
 abbrev start : ℕ → JoinerStart
-start j = joiner_start input setting j
+start j = joiner_start input setting (first_rest setting) j
 
 -- ---- the feeders
 
-fed_by : (p j : ℕ) → p < 2 → j < 2 → fed p j ≡ answers 1 j 0 0 (feeder_start input setting p).batches (received p)
+fed_by : (p j : ℕ) → p < 2 → j < 2
+    → fed p j ≡ answers 1 j 0 0 (feeder_start input setting (first_rest setting) p).batches (received p)
 fed_by zero zero low low' = refl
 fed_by zero (suc zero) low low' = refl
 fed_by (suc zero) zero low low' = refl
@@ -97,7 +106,8 @@ fed_by (suc zero) (suc zero) low low' = refl
 fed_by (suc (suc p)) j low low' = absurd (omega arith)
 fed_by p (suc (suc j)) low low' = absurd (omega arith)
 
-feeder_law : (p : ℕ) → p < 2 → FeederLaw (feeder_start input setting p) (family.feeder p) (received p)
+feeder_law : (p : ℕ) → p < 2
+    → FeederLaw (feeder_start input setting (first_rest setting) p) (family.feeder p) (received p)
 feeder_law zero low = record {
   held = [];
   splits = refl;
@@ -131,7 +141,9 @@ not_yet zero = record { held = []; splits = refl; stuck = λ m rest is. absurd (
 not_yet (suc q) = record { held = Moved 1 old_row ∷ []; splits = refl; stuck = λ m rest is can. cannot m (cc) can }
   where
     cannot : (m : ToJoiner) → m ≡ Moved 1 old_row → ¬ CanTakeOfJoiner (start 0) (taken 0) 0 (suc q) m
-    cannot m is can = let part : CanTakeOfJoiner (start 0) (taken 0) 0 (suc q) (Moved 1 old_row) = subst (CanTakeOfJoiner (start 0) (taken 0) 0 (suc q)) is can in absurd (omega (arith, part.0))
+    cannot m is can =
+        let part : CanTakeOfJoiner (start 0) (taken 0) 0 (suc q) (Moved 1 old_row) =
+        subst (CanTakeOfJoiner (start 0) (taken 0) 0 (suc q)) is can in absurd (omega (arith, part.0))
 
 holds : JoinerLaw (start 0) (family.joiner 0) (taken 0)
 holds = record {
@@ -203,22 +215,30 @@ moves_on = record {
     counts_up zero = (refl, tt)
     counts_up (suc p) = (refl, (refl, tt))
 
-    shifts_of : (p n : ℕ) → AllByRecursion (λ shift. shift ≡ shift_after (start 1) (taken 1) n) (turn_shifts (0 + n) (came p 1))
+    shifts_of : (p n : ℕ)
+        → AllByRecursion (λ shift. shift ≡ shift_after (start 1) (taken 1) n) (turn_shifts (0 + n) (came p 1))
     shifts_of zero zero = tt
     shifts_of zero (suc zero) = (refl, tt)
-    shifts_of zero (suc (suc n)) = let not_one : (1 == 0 + suc (suc n)) ≡ false = ne_eqb 1 (0 + suc (suc n)) (λ is. absurd (omega arith)) in rw not_one tt
+    shifts_of zero (suc (suc n)) =
+        let not_one : (1 == 0 + suc (suc n)) ≡ false = ne_eqb 1 (0 + suc (suc n)) (λ is. absurd (omega arith)) in
+        rw not_one tt
     shifts_of (suc p) n = tt
 
-    by_one : (n : ℕ) → n < 1 → AreNeighbours (shift_after (start 1) (taken 1) n) (shift_after (start 1) (taken 1) (n + 1))
+    by_one : (n : ℕ) → n < 1
+        → AreNeighbours (shift_after (start 1) (taken 1) n) (shift_after (start 1) (taken 1) (n + 1))
     by_one zero low = inl refl
     by_one (suc n) low = absurd (omega arith)
 
-    moved : (n : ℕ) → n < 1 → SameBag (moved_of (0 + n + 1) (passed 1 (partner_of (start 1) (taken 1) n))) (filter (is_of (exchanged (start 1) (taken 1) n)) (store (start 1) (taken 1) n))
+    moved : (n : ℕ) → n < 1
+        → SameBag (moved_of (0 + n + 1) (passed 1 (partner_of (start 1) (taken 1) n)))
+        (filter (is_of (exchanged (start 1) (taken 1) n)) (store (start 1) (taken 1) n))
     moved zero low = record { sums = λ f. refl }
     moved (suc n) low = absurd (omega arith)
 
     of_epoch : (q e : ℕ) → 0 < length (moved_of e (passed 1 q)) → e ≡ 0 + 0 + 1
-    of_epoch zero e has = elim (cases_eq 1 e) [ inl is ↦ sym is | inr differ ↦ let none : 0 < 0 = rw (ne_eqb 1 e differ) at has in absurd (omega arith) ]
+    of_epoch zero e has =
+        elim (cases_eq 1 e)
+        [ inl is ↦ sym is | inr differ ↦ let none : 0 < 0 = rw (ne_eqb 1 e differ) at has in absurd (omega arith) ]
     of_epoch (suc q) e has = absurd (omega arith)
 
     to_partner : (q e : ℕ) → 0 < length (moved_of e (passed 1 q)) → q ≡ partner_of (start 1) (taken 1) 0
@@ -241,7 +261,18 @@ joiner_law (suc (suc j)) low = absurd (omega arith)
 -- ---- the controller
 
 abbrev line : TurnLine
-line = record { cause = Count 0 1 2; rows_r = 2; rows_s = 3; base_r = 2; base_s = 3; epoch = 1; shift = 1; goal = 1; moving = true }
+line =
+    record {
+      cause = Count 0 1 2;
+      rows_r = 2;
+      rows_s = 3;
+      base_r = 2;
+      base_s = 3;
+      epoch = 1;
+      shift = 1;
+      goal = 1;
+      moving = true;
+    }
 
 abbrev past : List TurnLine
 past = drop 1 (reverse journal)
@@ -251,32 +282,63 @@ counts zero low = record {
   counted = asked 0;
   passed = [];
   splits = refl;
-  are_counted = record { earlier = []; passed = []; m = Ask 1 2; splits = refl; passes = tt; in_place = (refl, omega arith, omega arith); is = refl; are_earlier = refl };
+  are_counted =
+      record {
+        earlier = [];
+        passed = [];
+        m = Ask 1 2;
+        splits = refl;
+        passes = tt;
+        in_place = (refl, omega arith, omega arith);
+        is = refl;
+        are_earlier = refl;
+      };
   not_in_place = tt;
 }
 counts (suc zero) low = record {
   counted = asked 1;
   passed = [];
   splits = refl;
-  are_counted = record { earlier = []; passed = []; m = Ask 1 1; splits = refl; passes = tt; in_place = (refl, omega arith, omega arith); is = refl; are_earlier = refl };
+  are_counted =
+      record {
+        earlier = [];
+        passed = [];
+        m = Ask 1 1;
+        splits = refl;
+        passes = tt;
+        in_place = (refl, omega arith, omega arith);
+        is = refl;
+        are_earlier = refl;
+      };
   not_in_place = tt;
 }
 counts (suc (suc p)) low = absurd (omega arith)
 
 settles : (j : ℕ) → j < 2 → CountsSettled j line past []
-settles zero low = record { counted = []; held = []; splits = refl; are_settled = refl; stuck = λ epoch rest is. absurd (cc) }
-settles (suc j) low = record { counted = []; held = []; splits = refl; are_settled = refl; stuck = λ epoch rest is. absurd (cc) }
+settles zero low =
+    record { counted = []; held = []; splits = refl; are_settled = refl; stuck = λ epoch rest is. absurd (cc) }
+settles (suc j) low =
+    record { counted = []; held = []; splits = refl; are_settled = refl; stuck = λ epoch rest is. absurd (cc) }
 
 sends : (p : ℕ) → p < 2 → received p ++ unseen p ≡ sent_by (rules_of setting) p (line ∷ past)
 sends zero low = refl
 sends (suc zero) low = refl
 sends (suc (suc p)) low = absurd (omega arith)
 
-follows : Follows (rules_of setting) (first_line setting) (line ∷ past)
+follows : Follows (rules_of setting) (begun (first_rest setting).line) (line ∷ past)
 follows = let none : 0 < 2 = omega arith in let one : 1 < 2 = omega arith in (refl, none, (refl, one, refl))
 
-controller_law : ControllerLaw (rules_of setting) (first_line setting) family.controller
-controller_law = record { line = line; past = past; journal = refl; follows = follows; counts = counts; settles = settles; sends = sends }
+controller_law : ControllerLaw (rules_of setting) (begun (first_rest setting).line) family.controller
+controller_law =
+    record {
+      line = line;
+      past = past;
+      journal = refl;
+      follows = follows;
+      counts = counts;
+      settles = settles;
+      sends = sends;
+    }
 
 -- ---- all of them
 
@@ -285,7 +347,7 @@ rest_of p zero = refl
 rest_of zero (suc j) = refl
 rest_of (suc p) (suc j) = refl
 
-abbrev agrees : IsAgreeing input setting family
+abbrev agrees : IsAgreeing input setting (first_rest setting) family
 agrees = record {
   taken_by_feeder = received;
   taken_by_joiner = taken;
@@ -300,6 +362,7 @@ agrees = record {
   joiner_collector = λ j low. record { rest = []; joins = append-nil (found_so_far j) };
 }
 
+-- so a joiner holds a moved row before any step of its own
 pub holds_a_moved_row : HoldsAMovedRow
 holds_a_moved_row = record {
   input = input;
@@ -311,7 +374,7 @@ holds_a_moved_row = record {
   second_not = refl;
   row = old_row;
   old = refl;
-  rest = Tup (s_row 1 1 0) ∷ [];
+  more = Tup (s_row 1 1 0) ∷ [];
   late = refl;
   received = refl;
   held = refl;

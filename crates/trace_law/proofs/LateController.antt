@@ -4,18 +4,29 @@ use Rattle.std.specs.Prelude.{reverse, drop}
 use Rattle.epoch_tags.specs.declared.message.ToController.TheVariants.{Ask, Drained}
 use Rattle.load_controller.specs.declared.line.Cause.TheVariants.{Settle}
 use Rattle.load_controller.specs.declared.line.TurnLine.{TurnLine}
-use Rattle.load_controller.specs.Journal.{Follows}
+use Rattle.load_controller.specs.Journal.{begun, Follows}
 use Rattle.load_controller.specs.Law.{ControllerLaw, CountsMessages, CountsSettled, sent_by}
-use Rattle.trace_law.specs.Family.{rules_of, first_line}
+use Rattle.trace_law.specs.Family.{rules_of, first_rest}
 use Rattle.trace_law.proofs.Late.{setting, journal, orders, requests, family}
 
 abbrev line : TurnLine
-line = record { cause = Settle 1; rows_r = 2; rows_s = 3; base_r = 2; base_s = 3; epoch = 1; shift = 1; goal = 1; moving = false }
+line =
+    record {
+      cause = Settle 1;
+      rows_r = 2;
+      rows_s = 3;
+      base_r = 2;
+      base_s = 3;
+      epoch = 1;
+      shift = 1;
+      goal = 1;
+      moving = false;
+    }
 
 abbrev past : List TurnLine
 past = drop 1 (reverse journal)
 
-follows : Follows (rules_of setting) (first_line setting) (line ∷ past)
+follows : Follows (rules_of setting) (begun (first_rest setting).line) (line ∷ past)
 follows =
     let none : 0 < 2 = omega arith in
     let one : 1 < 2 = omega arith in
@@ -34,7 +45,17 @@ counts zero low = record {
     passes = tt;
     in_place = refl;
     is = refl;
-    are_earlier = record { earlier = []; passed = []; m = Ask 1 2; splits = refl; passes = tt; in_place = (refl, omega arith, omega arith); is = refl; are_earlier = refl };
+    are_earlier =
+        record {
+          earlier = [];
+          passed = [];
+          m = Ask 1 2;
+          splits = refl;
+          passes = tt;
+          in_place = (refl, omega arith, omega arith);
+          is = refl;
+          are_earlier = refl;
+        };
   };
   not_in_place = tt;
 }
@@ -50,7 +71,17 @@ counts (suc zero) low = record {
     passes = tt;
     in_place = refl;
     is = refl;
-    are_earlier = record { earlier = []; passed = []; m = Ask 1 1; splits = refl; passes = tt; in_place = (refl, omega arith, omega arith); is = refl; are_earlier = refl };
+    are_earlier =
+        record {
+          earlier = [];
+          passed = [];
+          m = Ask 1 1;
+          splits = refl;
+          passes = tt;
+          in_place = (refl, omega arith, omega arith);
+          is = refl;
+          are_earlier = refl;
+        };
   };
   not_in_place = tt;
 }
@@ -78,5 +109,15 @@ sends zero low = refl
 sends (suc zero) low = refl
 sends (suc (suc p)) low = absurd (omega arith)
 
-pub controller_law : ControllerLaw (rules_of setting) (first_line setting) family.controller
-controller_law = record { line = line; past = past; journal = refl; follows = follows; counts = counts; settles = settles; sends = sends }
+-- so the controller keeps its law
+pub controller_law : ControllerLaw (rules_of setting) (begun (first_rest setting).line) family.controller
+controller_law =
+    record {
+      line = line;
+      past = past;
+      journal = refl;
+      follows = follows;
+      counts = counts;
+      settles = settles;
+      sends = sends;
+    }

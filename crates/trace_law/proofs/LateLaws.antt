@@ -15,7 +15,7 @@ use Rattle.joiner_law.specs.Law.{JoinerLaw, JoinerStart, IsSettled, AllTurned, I
 use Rattle.theta_pred.specs.Truth.{width_of}
 use Rattle.trace_law.specs.Join.{table_of, tickets_of}
 use Rattle.trace_law.specs.Validity.{IsFor, IsValid}
-use Rattle.trace_law.specs.Family.{IsAgreeing, IsQuiet, IsFinished as IsFinishedFamily, feeder_start, joiner_start}
+use Rattle.trace_law.specs.Family.{IsAgreeing, IsQuiet, IsFinished as IsFinishedFamily, feeder_start, joiner_start, first_rest}
 use Rattle.trace_law.specs.Laws.{FinishedWithAnOldRowMoved}
 use Rattle.trace_law.proofs.Late.{input, setting, orders, requests, fed, passed, founds, last_words, collected, taken, family}
 use Rattle.trace_law.proofs.LateController.{controller_law}
@@ -23,11 +23,12 @@ use Rattle.std.proofs.lemmas.List.{append-nil}
 use Rattle.joiner_law.proofs.Row.{all_of}
 
 abbrev start : ℕ → JoinerStart
-start j = joiner_start input setting j
+start j = joiner_start input setting (first_rest setting) j
 
 -- ---- the feeders
 
-fed_by : (p j : ℕ) → p < 2 → j < 2 → fed p j ≡ answers 1 j 0 0 (feeder_start input setting p).batches (orders p)
+fed_by : (p j : ℕ) → p < 2 → j < 2
+    → fed p j ≡ answers 1 j 0 0 (feeder_start input setting (first_rest setting) p).batches (orders p)
 fed_by zero zero low low' = refl
 fed_by zero (suc zero) low low' = refl
 fed_by (suc zero) zero low low' = refl
@@ -35,7 +36,8 @@ fed_by (suc zero) (suc zero) low low' = refl
 fed_by (suc (suc p)) j low low' = absurd (omega arith)
 fed_by p (suc (suc j)) low low' = absurd (omega arith)
 
-feeder_law : (p : ℕ) → p < 2 → FeederLaw (feeder_start input setting p) (family.feeder p) (orders p)
+feeder_law : (p : ℕ) → p < 2
+    → FeederLaw (feeder_start input setting (first_rest setting) p) (family.feeder p) (orders p)
 feeder_law zero low = record {
   held = [];
   splits = refl;
@@ -71,7 +73,8 @@ counts_up zero (suc p) = (refl, (refl, refl))
 counts_up (suc j) (suc p) = (refl, (refl, (refl, refl)))
 
 -- the turns carry shift 1 for epoch 1
-shifts_of : (j p n : ℕ) → AllByRecursion (λ shift. shift ≡ shift_after (start j) (taken j) n) (turn_shifts (0 + n) (fed p j))
+shifts_of : (j p n : ℕ)
+    → AllByRecursion (λ shift. shift ≡ shift_after (start j) (taken j) n) (turn_shifts (0 + n) (fed p j))
 shifts_of zero zero zero = tt
 shifts_of zero zero (suc zero) = (refl, tt)
 shifts_of (suc j) zero zero = tt
@@ -80,10 +83,18 @@ shifts_of zero (suc p) zero = tt
 shifts_of zero (suc p) (suc zero) = (refl, tt)
 shifts_of (suc j) (suc p) zero = tt
 shifts_of (suc j) (suc p) (suc zero) = (refl, tt)
-shifts_of zero zero (suc (suc n)) = let not_one : (1 == 0 + suc (suc n)) ≡ false = ne_eqb 1 (0 + suc (suc n)) (λ is. absurd (omega arith)) in rw not_one tt
-shifts_of (suc j) zero (suc (suc n)) = let not_one : (1 == 0 + suc (suc n)) ≡ false = ne_eqb 1 (0 + suc (suc n)) (λ is. absurd (omega arith)) in rw not_one tt
-shifts_of zero (suc p) (suc (suc n)) = let not_one : (1 == 0 + suc (suc n)) ≡ false = ne_eqb 1 (0 + suc (suc n)) (λ is. absurd (omega arith)) in rw not_one tt
-shifts_of (suc j) (suc p) (suc (suc n)) = let not_one : (1 == 0 + suc (suc n)) ≡ false = ne_eqb 1 (0 + suc (suc n)) (λ is. absurd (omega arith)) in rw not_one tt
+shifts_of zero zero (suc (suc n)) =
+    let not_one : (1 == 0 + suc (suc n)) ≡ false = ne_eqb 1 (0 + suc (suc n)) (λ is. absurd (omega arith)) in
+    rw not_one tt
+shifts_of (suc j) zero (suc (suc n)) =
+    let not_one : (1 == 0 + suc (suc n)) ≡ false = ne_eqb 1 (0 + suc (suc n)) (λ is. absurd (omega arith)) in
+    rw not_one tt
+shifts_of zero (suc p) (suc (suc n)) =
+    let not_one : (1 == 0 + suc (suc n)) ≡ false = ne_eqb 1 (0 + suc (suc n)) (λ is. absurd (omega arith)) in
+    rw not_one tt
+shifts_of (suc j) (suc p) (suc (suc n)) =
+    let not_one : (1 == 0 + suc (suc n)) ≡ false = ne_eqb 1 (0 + suc (suc n)) (λ is. absurd (omega arith)) in
+    rw not_one tt
 
 by_one : (j n : ℕ) → n < 1 → AreNeighbours (shift_after (start j) (taken j) n) (shift_after (start j) (taken j) (n + 1))
 by_one j zero low = inl refl
@@ -92,13 +103,18 @@ by_one j (suc n) low = absurd (omega arith)
 -- the messages between joiners are of epoch 1
 of_epoch : (i q e : ℕ) → 0 < length (moved_of e (passed i q)) + moved_ends e (passed i q) → e ≡ 1
 of_epoch zero zero e has = absurd (omega arith)
-of_epoch zero (suc zero) e has = elim (cases_eq 1 e) [ inl is ↦ sym is | inr differ ↦ let none : 0 < 0 = rw (ne_eqb 1 e differ) at has in absurd (omega arith) ]
+of_epoch zero (suc zero) e has =
+    elim (cases_eq 1 e)
+    [ inl is ↦ sym is | inr differ ↦ let none : 0 < 0 = rw (ne_eqb 1 e differ) at has in absurd (omega arith) ]
 of_epoch zero (suc (suc q)) e has = absurd (omega arith)
-of_epoch (suc i) zero e has = elim (cases_eq 1 e) [ inl is ↦ sym is | inr differ ↦ let none : 0 < 0 = rw (ne_eqb 1 e differ) at has in absurd (omega arith) ]
+of_epoch (suc i) zero e has =
+    elim (cases_eq 1 e)
+    [ inl is ↦ sym is | inr differ ↦ let none : 0 < 0 = rw (ne_eqb 1 e differ) at has in absurd (omega arith) ]
 of_epoch (suc i) (suc q) e has = absurd (omega arith)
 
 -- and to the partner
-to_partner : (i q e : ℕ) → i < 2 → 0 < length (moved_of e (passed i q)) + moved_ends e (passed i q) → q ≡ partner_of (start i) (taken i) 0
+to_partner : (i q e : ℕ) → i < 2 → 0 < length (moved_of e (passed i q)) + moved_ends e (passed i q)
+    → q ≡ partner_of (start i) (taken i) 0
 to_partner zero zero e low has = absurd (omega arith)
 to_partner zero (suc zero) e low has = refl
 to_partner zero (suc (suc q)) e low has = absurd (omega arith)
@@ -106,7 +122,8 @@ to_partner (suc zero) zero e low has = refl
 to_partner (suc zero) (suc q) e low has = absurd (omega arith)
 to_partner (suc (suc i)) q e low has = absurd (omega arith)
 
-of_partner : (j q : ℕ) → j < 2 → q < 2 → 0 < length (moved_of 1 (passed q j)) + moved_ends 1 (passed q j) → q ≡ partner_of (start j) (taken j) 0
+of_partner : (j q : ℕ) → j < 2 → q < 2 → 0 < length (moved_of 1 (passed q j)) + moved_ends 1 (passed q j)
+    → q ≡ partner_of (start j) (taken j) 0
 of_partner zero zero low low' has = absurd (omega arith)
 of_partner zero (suc zero) low low' has = refl
 of_partner (suc zero) zero low low' has = refl
@@ -159,7 +176,9 @@ never_falls zero (suc (suc q)) = tt
 never_falls (suc j) zero = (omega arith, (omega arith, tt))
 never_falls (suc j) (suc q) = tt
 
-moved : (j n : ℕ) → j < 2 → n < 1 → SameBag (moved_of (0 + n + 1) (passed j (partner_of (start j) (taken j) n))) (filter (is_of (exchanged (start j) (taken j) n)) (store (start j) (taken j) n))
+moved : (j n : ℕ) → j < 2 → n < 1
+    → SameBag (moved_of (0 + n + 1) (passed j (partner_of (start j) (taken j) n)))
+    (filter (is_of (exchanged (start j) (taken j) n)) (store (start j) (taken j) n))
 moved zero zero low low' = record { sums = λ f. refl }
 moved (suc zero) zero low low' = record { sums = λ f. refl }
 moved (suc (suc j)) n low low' = absurd (omega arith)
@@ -171,16 +190,23 @@ ended (suc zero) zero low low' = refl
 ended (suc (suc j)) n low low' = absurd (omega arith)
 ended j (suc n) low low' = absurd (omega arith)
 
-moved_only : (j q e : ℕ) → j < 2 → 0 < length (moved_of e (passed j q)) → (n : ℕ) × (e ≡ 0 + n + 1) × (n < 1) × (q ≡ partner_of (start j) (taken j) n)
-moved_only j q e low has = (0, at_step e (of_epoch j q e (omega arith)), omega arith, to_partner j q e low (omega arith))
+moved_only : (j q e : ℕ) → j < 2 → 0 < length (moved_of e (passed j q))
+    → (n : ℕ) × (e ≡ 0 + n + 1) × (n < 1) × (q ≡ partner_of (start j) (taken j) n)
+moved_only j q e low has =
+    (0, at_step e (of_epoch j q e (omega arith)), omega arith, to_partner j q e low (omega arith))
 
-ended_only : (j q e : ℕ) → j < 2 → 0 < moved_ends e (passed j q) → (n : ℕ) × (e ≡ 0 + n + 1) × AllTurned (start j) (taken j) n × (q ≡ partner_of (start j) (taken j) n)
-ended_only j q e low has = (0, at_step e (of_epoch j q e (omega arith)), (settled j 0 low (omega arith)).0, to_partner j q e low (omega arith))
+ended_only : (j q e : ℕ) → j < 2 → 0 < moved_ends e (passed j q)
+    → (n : ℕ) × (e ≡ 0 + n + 1) × AllTurned (start j) (taken j) n × (q ≡ partner_of (start j) (taken j) n)
+ended_only j q e low has =
+    (0, at_step e (of_epoch j q e (omega arith)), (settled j 0 low (omega arith)).0, to_partner j q e low (omega arith))
 
-took_of_partner : (j q n : ℕ) → j < 2 → q < 2 → 0 < length (moved_of (0 + n + 1) (passed q j)) + moved_ends (0 + n + 1) (passed q j) → (n < 1) × (q ≡ partner_of (start j) (taken j) n)
+took_of_partner : (j q n : ℕ) → j < 2 → q < 2
+    → 0 < length (moved_of (0 + n + 1) (passed q j)) + moved_ends (0 + n + 1) (passed q j)
+    → (n < 1) × (q ≡ partner_of (start j) (taken j) n)
 took_of_partner j q n low low' has =
     let first : n ≡ 0 = first_step n (of_epoch q j (0 + n + 1) has) in
-    let has' : 0 < length (moved_of 1 (passed q j)) + moved_ends 1 (passed q j) = subst (λ m. 0 < length (moved_of (0 + m + 1) (passed q j)) + moved_ends (0 + m + 1) (passed q j)) first has in
+    let has' : 0 < length (moved_of 1 (passed q j)) + moved_ends 1 (passed q j) =
+    subst (λ m. 0 < length (moved_of (0 + m + 1) (passed q j)) + moved_ends (0 + m + 1) (passed q j)) first has in
     (omega arith, subst (λ m. q ≡ partner_of (start j) (taken j) m) (sym first) (of_partner j q low low' has'))
 
 joiner_law : (j : ℕ) → j < 2 → JoinerLaw (start j) (family.joiner j) (taken j)
@@ -244,7 +270,7 @@ joiner_law (suc (suc j)) low = absurd (omega arith)
 
 -- ---- all of them
 
-abbrev agrees : IsAgreeing input setting family
+abbrev agrees : IsAgreeing input setting (first_rest setting) family
 agrees = record {
   taken_by_feeder = orders;
   taken_by_joiner = taken;
@@ -259,7 +285,7 @@ agrees = record {
   joiner_collector = λ j low. record { rest = []; joins = append-nil (collected j) };
 }
 
-finished : IsFinishedFamily input setting family agrees
+finished : IsFinishedFamily input setting (first_rest setting) family agrees
 finished = record {
   feeders = stopped;
   joiners = λ j low. (at_rest j low, λ p low_p. refl, λ q low_q. refl);
@@ -274,7 +300,7 @@ finished = record {
     complete zero low = omega arith
     complete (suc j) low = omega arith
 
-quiet : IsQuiet input setting family agrees
+quiet : IsQuiet input setting (first_rest setting) family agrees
 quiet = record {
   feeder_joiner = λ p j low low'. refl;
   joiner_joiner = λ i j link. refl;
@@ -289,6 +315,7 @@ quiet = record {
     drained zero = omega arith
     drained (suc p) = omega arith
 
+-- input and setting are valid
 pub valid : IsValid input setting
 valid = record {
   of_input = record { sides = sides_of; bytes = bytes_of };
@@ -299,8 +326,20 @@ valid = record {
 }
   where
     sides_of : (side : Side) → IsFor (table_of input side) (tickets_of input side) (width_of input.theta side)
-    sides_of R = record { few = omega arith; each = refl; header = refl; rows = All-from_recursion (λ row. length row ≡ 0) input.table_r.rows (refl, (refl, tt)) }
-    sides_of S = record { few = omega arith; each = refl; header = refl; rows = All-from_recursion (λ row. length row ≡ 0) input.table_s.rows (refl, (refl, (refl, tt))) }
+    sides_of R =
+        record {
+          few = omega arith;
+          each = refl;
+          header = refl;
+          rows = All-from_recursion (λ row. length row ≡ 0) input.table_r.rows (refl, (refl, tt));
+        }
+    sides_of S =
+        record {
+          few = omega arith;
+          each = refl;
+          header = refl;
+          rows = All-from_recursion (λ row. length row ≡ 0) input.table_s.rows (refl, (refl, (refl, tt)));
+        }
 
     is_byte : ℕ → Type 0
     is_byte ticket = ticket < 2 ^ 8
@@ -309,6 +348,7 @@ valid = record {
     bytes_of R = All-from_recursion is_byte (tickets_of input R) (omega arith, (omega arith, tt))
     bytes_of S = All-from_recursion is_byte (tickets_of input S) (omega arith, (omega arith, (omega arith, tt)))
 
+-- so a family is finished that moves a row of the old epoch
 pub finished_with_an_old_row : FinishedWithAnOldRowMoved
 finished_with_an_old_row = record {
   input = input;

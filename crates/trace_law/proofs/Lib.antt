@@ -1,3 +1,6 @@
+pub mod Begun
+pub mod First
+pub mod Aged
 pub mod Stores
 pub mod Membership
 pub mod PairSums
@@ -8,8 +11,11 @@ pub mod RowSums
 pub mod Stamps
 pub mod Loop
 pub mod AtMost
+pub mod NewPairs
+pub mod Found
 pub mod Sent
 pub mod Widths
+pub mod Again
 pub mod Finished
 pub mod Complete
 pub mod Lawful
@@ -17,18 +23,21 @@ pub mod Ends
 pub mod StampOf
 pub mod Counted
 pub mod Made
+pub mod Rests
 pub mod Numbers
 pub mod Stored
 pub mod Order
 pub mod Runs
 pub mod Validity
 pub mod Lines
+pub mod Steps
 pub mod Links
 pub mod FixedShift
 pub mod JoinerLemmas
 pub mod Quiet
 pub mod Shares
 pub mod Bounds
+pub mod Waves
 pub mod Events
 pub mod Few
 pub mod OneTaken
@@ -39,3 +48,6 @@ pub mod Late
 pub mod LateController
 pub mod LateLaws
 pub mod HeldMoved
+pub mod Later
+pub mod LaterController
+pub mod LaterLaws

@@ -4,13 +4,13 @@ use Rattle.std.specs.Prelude.{reverse, drop}
 use Rattle.epoch_tags.specs.declared.message.ToController.TheVariants.{Ask, Drained}
 use Rattle.load_controller.specs.declared.line.TurnLine.{TurnLine}
 use Rattle.load_controller.specs.declared.line.Cause.TheVariants.{Settle}
-use Rattle.load_controller.specs.Journal.{Follows}
+use Rattle.load_controller.specs.Journal.{begun, Follows}
 use Rattle.load_controller.specs.Law.{ControllerLaw, CountsMessages, CountsSettled, sent_by}
-use Rattle.trace_law.specs.Family.{rules_of, first_line}
+use Rattle.trace_law.specs.Family.{rules_of, first_rest}
 use Rattle.trace_law.specs.Rows.{journal}
 use Rattle.trace_law.proofs.TwoMigrations.{setting, orders, requests, family}
 
-follows : Follows (rules_of setting) (first_line setting) (reverse journal)
+follows : Follows (rules_of setting) (begun (first_rest setting).line) (reverse journal)
 follows =
     let count : 0 < 1 = omega arith in
     let none : 0 < 4 = omega arith in
@@ -64,7 +64,18 @@ follows =
 
 -- what the last line is, and the lines before it
 abbrev line : TurnLine
-line = record { cause = Settle 0; rows_r = 8; rows_s = 8; base_r = 8; base_s = 8; epoch = 2; shift = 1; goal = 1; moving = false }
+line =
+    record {
+      cause = Settle 0;
+      rows_r = 8;
+      rows_s = 8;
+      base_r = 8;
+      base_s = 8;
+      epoch = 2;
+      shift = 1;
+      goal = 1;
+      moving = false;
+    }
 
 abbrev past : List TurnLine
 past = drop 1 (reverse journal)
@@ -181,7 +192,8 @@ settles (suc (suc (suc zero))) low = record {
 }
 settles (suc (suc (suc (suc j)))) low = absurd (omega arith)
 
-pub controller_law : ControllerLaw (rules_of setting) (first_line setting) family.controller
+-- so the controller keeps its law
+pub controller_law : ControllerLaw (rules_of setting) (begun (first_rest setting).line) family.controller
 controller_law = record {
   line = line;
   past = past;
@@ -189,5 +201,6 @@ controller_law = record {
   follows = follows;
   counts = λ p low. let is : 0 ≡ p = omega arith in subst (λ q. CountsMessages q line past requests) is counts;
   settles = settles;
-  sends = λ p low. let is : 0 ≡ p = omega arith in subst (λ q. orders ≡ sent_by (rules_of setting) q (line ∷ past)) is refl;
+  sends = λ p low. let is : 0 ≡ p = omega arith in
+      subst (λ q. orders ≡ sent_by (rules_of setting) q (line ∷ past)) is refl;
 }

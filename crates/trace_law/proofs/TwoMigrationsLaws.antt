@@ -1,5 +1,5 @@
 -- The actors of the finished family with two migrations keep their laws, and agree.
-use Rattle.std.proofs.Common.{◌≡◌, ℕ, zero, suc, ◌+◌, ◌<◌, ◌≤◌, ◌^◌, ◌==◌, ◌⊎◌, inl, inr, refl, sym, ◌∙◌, subst, arith, Bool, true, false, [], ◌∷◌, ◌++◌, length, cond}
+use Rattle.std.proofs.Common.{◌≡◌, ap, List, ℕ, zero, suc, ◌+◌, ◌<◌, ◌≤◌, ◌^◌, ◌==◌, ◌⊎◌, inl, inr, refl, sym, ◌∙◌, subst, arith, Bool, true, false, [], ◌∷◌, ◌++◌, length, cond}
 use Rattle.std.specs.Prelude.{All, filter}
 use Rattle.std.specs.List.{AllByRecursion}
 use Rattle.std.proofs.lemmas.Bool.{cases_eq, ne_eqb, eq-eqb}
@@ -16,28 +16,31 @@ use Rattle.std.proofs.lemmas.List.Elements.{All-replicate, All-from_recursion}
 use Rattle.theta_pred.specs.Truth.{width_of}
 use Rattle.trace_law.specs.Join.{table_of, tickets_of}
 use Rattle.trace_law.specs.Validity.{IsFor, IsValid}
-use Rattle.trace_law.specs.Family.{IsAgreeing, IsQuiet, IsFinished as IsFinishedFamily, feeder_start, joiner_start}
-use Rattle.trace_law.specs.Laws.{FinishedAfterTwoMigrations}
+use Rattle.trace_law.specs.Family.{IsAgreeing, IsQuiet, IsFinished as IsFinishedFamily, feeder_start, joiner_start, first_rest, rest_after}
+use Rattle.trace_law.specs.Laws.{FinishedAfterTwoMigrations, LeavesARest}
 use Rattle.trace_law.specs.Rows.{input}
 use Rattle.grid_map.proofs.Halves.{back_again}
 use Rattle.trace_law.proofs.TwoMigrations.{setting, orders, fed, other, part, passed, found_first, found_then, taken, family}
+use Rattle.load_controller.specs.declared.line.TurnLine.{TurnLine}
+use Rattle.trace_law.proofs.First.{stands}
+use Rattle.trace_law.proofs.Numbers.{answers_the_join}
 use Rattle.trace_law.proofs.TwoMigrationsController.{controller_law}
 use Rattle.std.proofs.lemmas.List.{append-nil}
 use Rattle.joiner_law.proofs.Row.{all_of}
 
 abbrev start : ℕ → JoinerStart
-start j = joiner_start input setting j
+start j = joiner_start input setting (first_rest setting) j
 
 -- ---- the feeder
 
-fed_by : (j : ℕ) → j < 4 → fed j ≡ answers 2 j 0 1 (feeder_start input setting 0).batches orders
+fed_by : (j : ℕ) → j < 4 → fed j ≡ answers 2 j 0 1 (feeder_start input setting (first_rest setting) 0).batches orders
 fed_by zero low = refl
 fed_by (suc zero) low = refl
 fed_by (suc (suc zero)) low = refl
 fed_by (suc (suc (suc zero))) low = refl
 fed_by (suc (suc (suc (suc j)))) low = absurd (omega arith)
 
-feeder_law : FeederLaw (feeder_start input setting 0) (family.feeder 0) orders
+feeder_law : FeederLaw (feeder_start input setting (first_rest setting) 0) (family.feeder 0) orders
 feeder_law = record {
   held = [];
   splits = refl;
@@ -57,13 +60,16 @@ counts_up : (j : ℕ) → CountsUp 0 (fed j)
 counts_up j = (refl, (refl, (refl, (refl, (refl, (refl, (refl, (refl, (refl, (refl, refl))))))))))
 
 -- the shifts of the two turns are those of their epochs
-shifts_of : (j n : ℕ) → AllByRecursion (λ shift. shift ≡ shift_after (start j) (taken j) n) (turn_shifts (0 + n) (fed j))
+shifts_of : (j n : ℕ)
+    → AllByRecursion (λ shift. shift ≡ shift_after (start j) (taken j) n) (turn_shifts (0 + n) (fed j))
 shifts_of j zero = tt
 shifts_of j (suc zero) = (refl, tt)
 shifts_of j (suc (suc zero)) = (refl, tt)
 shifts_of j (suc (suc (suc n))) =
-    let not_one : (1 == 0 + suc (suc (suc n))) ≡ false = ne_eqb 1 (0 + suc (suc (suc n))) (λ is. absurd (omega arith)) in
-    let not_two : (2 == 0 + suc (suc (suc n))) ≡ false = ne_eqb 2 (0 + suc (suc (suc n))) (λ is. absurd (omega arith)) in
+    let not_one : (1 == 0 + suc (suc (suc n))) ≡ false =
+    ne_eqb 1 (0 + suc (suc (suc n))) (λ is. absurd (omega arith)) in
+    let not_two : (2 == 0 + suc (suc (suc n))) ≡ false =
+    ne_eqb 2 (0 + suc (suc (suc n))) (λ is. absurd (omega arith)) in
     rw (not_one, not_two) tt
 
 by_one : (j n : ℕ) → n < 2 → AreNeighbours (shift_after (start j) (taken j) n) (shift_after (start j) (taken j) (n + 1))
@@ -130,7 +136,8 @@ part_some i e has = elim (cases_eq 1 e) [
   ]
 ]
 
-of_partner : (j q n : ℕ) → 0 < length (moved_of (0 + n + 1) (passed q j)) + moved_ends (0 + n + 1) (passed q j) → (n < 2) × (q ≡ partner_of (start j) (taken j) n)
+of_partner : (j q n : ℕ) → 0 < length (moved_of (0 + n + 1) (passed q j)) + moved_ends (0 + n + 1) (passed q j)
+    → (n < 2) × (q ≡ partner_of (start j) (taken j) n)
 of_partner j q n has = elim (cases_eq j (other q)) [
   | inl is ↦
       let here : (j == other q) ≡ true = eq-eqb j (other q) is in
@@ -142,7 +149,8 @@ of_partner j q n has = elim (cases_eq j (other q)) [
   | inr differ ↦ let none : 0 < 0 = rw (ne_eqb j (other q) differ) at has in absurd (omega arith)
 ]
 
-moved_only : (j q e : ℕ) → 0 < length (moved_of e (passed j q)) → (n : ℕ) × (e ≡ 0 + n + 1) × (n < 2) × (q ≡ partner_of (start j) (taken j) n)
+moved_only : (j q e : ℕ) → 0 < length (moved_of e (passed j q))
+    → (n : ℕ) × (e ≡ 0 + n + 1) × (n < 2) × (q ≡ partner_of (start j) (taken j) n)
 moved_only j q e has = elim (cases_eq q (other j)) [
   | inl is ↦
       let here : (q == other j) ≡ true = eq-eqb q (other j) is in
@@ -151,7 +159,8 @@ moved_only j q e has = elim (cases_eq q (other j)) [
   | inr differ ↦ let none : 0 < 0 = rw (ne_eqb q (other j) differ) at has in absurd (omega arith)
 ]
 
-ended_only : (j q e : ℕ) → 0 < moved_ends e (passed j q) → (n : ℕ) × (e ≡ 0 + n + 1) × AllTurned (start j) (taken j) n × (q ≡ partner_of (start j) (taken j) n)
+ended_only : (j q e : ℕ) → 0 < moved_ends e (passed j q)
+    → (n : ℕ) × (e ≡ 0 + n + 1) × AllTurned (start j) (taken j) n × (q ≡ partner_of (start j) (taken j) n)
 ended_only j q e has = elim (cases_eq q (other j)) [
   | inl is ↦
       let here : (q == other j) ≡ true = eq-eqb q (other j) is in
@@ -167,7 +176,9 @@ never_falls : (j : ℕ) (t : Bool) → NeverFalls 0 (cond t (part j) [])
 never_falls j true = (omega arith, (omega arith, (omega arith, (omega arith, tt))))
 never_falls j false = tt
 
-moved : (j n : ℕ) → j < 4 → n < 2 → SameBag (moved_of (0 + n + 1) (passed j (partner_of (start j) (taken j) n))) (filter (is_of (exchanged (start j) (taken j) n)) (store (start j) (taken j) n))
+moved : (j n : ℕ) → j < 4 → n < 2
+    → SameBag (moved_of (0 + n + 1) (passed j (partner_of (start j) (taken j) n)))
+    (filter (is_of (exchanged (start j) (taken j) n)) (store (start j) (taken j) n))
 moved zero zero low_j low = record { sums = λ f. refl }
 moved zero (suc zero) low_j low = record { sums = λ f. refl }
 moved (suc zero) zero low_j low = record { sums = λ f. refl }
@@ -237,11 +248,12 @@ joiner_law j low_j = record {
 
 -- ---- all of them
 
-abbrev agrees : IsAgreeing input setting family
+abbrev agrees : IsAgreeing input setting (first_rest setting) family
 agrees = record {
   taken_by_feeder = λ p. orders;
   taken_by_joiner = taken;
-  feeders = λ p low. let is : 0 ≡ p = omega arith in subst (λ q. FeederLaw (feeder_start input setting q) (family.feeder q) orders) is feeder_law;
+  feeders = λ p low. let is : 0 ≡ p = omega arith in
+      subst (λ q. FeederLaw (feeder_start input setting (first_rest setting) q) (family.feeder q) orders) is feeder_law;
   joiners = joiner_law;
   controller = controller_law;
   feeder_joiner = λ p j low low'. record { rest = []; joins = refl };
@@ -252,14 +264,14 @@ agrees = record {
   joiner_collector = λ j low. record { rest = []; joins = refl };
 }
 
-finished : IsFinishedFamily input setting family agrees
+finished : IsFinishedFamily input setting (first_rest setting) family agrees
 finished = record {
   feeders = λ p low. omega arith;
   joiners = λ j low. (at_rest j low, λ p low_p. refl, λ q low_q. refl);
   collector = λ j low. omega arith;
 }
 
-quiet : IsQuiet input setting family agrees
+quiet : IsQuiet input setting (first_rest setting) family agrees
 quiet = record {
   feeder_joiner = λ p j low low'. refl;
   joiner_joiner = λ i j link. refl;
@@ -280,15 +292,63 @@ valid = record {
 }
   where
     sides_of : (side : Side) → IsFor (table_of input side) (tickets_of input side) (width_of input.theta side)
-    sides_of R = record { few = omega arith; each = refl; header = refl; rows = All-replicate (λ row. length row ≡ 0) 8 [] refl }
-    sides_of S = record { few = omega arith; each = refl; header = refl; rows = All-replicate (λ row. length row ≡ 0) 8 [] refl }
+    sides_of R =
+        record { few = omega arith; each = refl; header = refl; rows = All-replicate (λ row. length row ≡ 0) 8 [] refl }
+    sides_of S =
+        record { few = omega arith; each = refl; header = refl; rows = All-replicate (λ row. length row ≡ 0) 8 [] refl }
 
     is_byte : ℕ → Type 0
     is_byte ticket = ticket < 2 ^ 8
 
     bytes_of : (side : Side) → All is_byte (tickets_of input side)
-    bytes_of R = All-from_recursion is_byte (tickets_of input R) (omega arith, (omega arith, (omega arith, (omega arith, (omega arith, (omega arith, (omega arith, (omega arith, tt))))))))
-    bytes_of S = All-from_recursion is_byte (tickets_of input S) (omega arith, (omega arith, (omega arith, (omega arith, (omega arith, (omega arith, (omega arith, (omega arith, tt))))))))
+    bytes_of R =
+        All-from_recursion is_byte (tickets_of input R) (
+          omega arith,
+          (omega arith, (omega arith, (omega arith, (omega arith, (omega arith, (omega arith, (omega arith, tt))))))),
+        )
+    bytes_of S =
+        All-from_recursion is_byte (tickets_of input S) (
+          omega arith,
+          (omega arith, (omega arith, (omega arith, (omega arith, (omega arith, (omega arith, (omega arith, tt))))))),
+        )
 
+-- so a family is finished after two migrations
 pub finished_after_two : FinishedAfterTwoMigrations
-finished_after_two = record { input = input; setting = setting; family = family; valid = valid; agrees = agrees; finished = finished; quiet = quiet; migrated = refl }
+finished_after_two =
+    record {
+      input = input;
+      setting = setting;
+      family = family;
+      valid = valid;
+      agrees = agrees;
+      finished = finished;
+      quiet = quiet;
+      migrated = refl;
+    }
+
+abbrev rows_of_r : List TurnLine → ℕ
+rows_of_r [] = 0
+rows_of_r (line ∷ past) = line.rows_r
+
+abbrev rows_of_s : List TurnLine → ℕ
+rows_of_s [] = 0
+rows_of_s (line ∷ past) = line.rows_s
+
+abbrev epoch_of : List TurnLine → ℕ
+epoch_of [] = 0
+epoch_of (line ∷ past) = line.epoch
+
+-- and leaves a rest that stands
+pub leaves_a_rest : LeavesARest
+leaves_a_rest = record {
+  input = input;
+  setting = setting;
+  rest = rest_after input setting (first_rest setting) family agrees;
+  valid = valid;
+  stands =
+      (answers_the_join input setting valid (first_rest setting) (stands input setting valid)
+      family agrees finished).again;
+  rows_r = ap rows_of_r (sym agrees.controller.journal);
+  rows_s = ap rows_of_s (sym agrees.controller.journal);
+  epoch = ap epoch_of (sym agrees.controller.journal);
+}

@@ -11,7 +11,7 @@ use Rattle.load_controller.specs.Rows.{past_of, growing}
 use Rattle.trace_law.specs.declared.input.Input.{Input}
 use Rattle.trace_law.specs.Join.{made, held, moved}
 use Rattle.row_tickets.specs.declared.place.Feed.TheVariants.{RFirst}
-use Rattle.row_tickets.specs.Share.{place_at}
+use Rattle.row_tickets.specs.Share.{share, place_at}
 use Rattle.trace_law.specs.Batches.{stamp_of}
 
 -- the journal of this run
@@ -32,7 +32,7 @@ input = record {
 
 -- the stamp of a row
 abbrev pub stamp : Side → ℕ → ℕ
-stamp side index = unwrap_or (stamp_of RFirst 1 4 8 8 journal (place_at side index)) 0
+stamp side index = unwrap_or (stamp_of 1 4 (λ p. share RFirst 1 p 8 8) journal (place_at side index)) 0
 
 -- the shift of an epoch
 abbrev pub shift : ℕ → ℕ
@@ -43,11 +43,12 @@ pub stamps : stamp R 0 ∷ stamp R 7 ∷ stamp S 3 ∷ stamp S 4 ∷ [] ≡ 1 �
 stamps = refl
 
 -- each of the four joiners makes sixteen of the 64 pairs
-pub each_makes_16 : map (made input 2 stamp shift) (0 ∷ 1 ∷ 2 ∷ 3 ∷ []) ≡ 16 ∷ 16 ∷ 16 ∷ 16 ∷ []
+pub each_makes_16 : map (made input (start_line growing) 2 stamp shift) (0 ∷ 1 ∷ 2 ∷ 3 ∷ []) ≡ 16 ∷ 16 ∷ 16 ∷ 16 ∷ []
 each_makes_16 = refl
 
 -- in the end joiners 0 and 3 hold four rows of either side
-pub each_holds_4_and_4 : held input 2 1 R 0 ∷ held input 2 1 S 0 ∷ held input 2 1 R 3 ∷ held input 2 1 S 3 ∷ [] ≡ 4 ∷ 4 ∷ 4 ∷ 4 ∷ []
+pub each_holds_4_and_4 : held input 2 1 R 0 ∷ held input 2 1 S 0 ∷ held input 2 1 R 3 ∷ held input 2 1 S 3 ∷ []
+    ≡ 4 ∷ 4 ∷ 4 ∷ 4 ∷ []
 each_holds_4_and_4 = refl
 
 -- in the first step no row moves, for S has none yet; in the second each row of R does, once

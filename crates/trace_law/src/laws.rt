@@ -1,28 +1,38 @@
-// What every agreeing family keeps to, each law as the contract of a function with an empty body.
+// What every agreeing family of a wave keeps to, each law as the contract of a function with an empty body.
 
-ghost use Rattle.trace_law.specs.Laws.{HoldsAMovedRow, FinishedWithAnOldRowMoved, LawfulCountsEachRow, FixedMovesNothing, FixedStays, NoLinkNoMessage, FinishedAnswers, LimitsSuffice, SendsNothingWrong, TakesNothingWrong, StoresWhatItHolds, NoneIsStrange, KeepsALawfulJournal, LawfulIsBounded, EventsAreFew, FinishedAfterTwoMigrations, TakenIsDetermined, QuietIsFinished, CompleteIsFinished, AnswersInTheEnd, SortsIntoTheLoop};
+ghost use Rattle.trace_law.specs.Laws.{LeavesARest, FinishedLaterWave, HoldsAMovedRow, FinishedWithAnOldRowMoved, BeginsWithAll, LawfulCountsEachRow, FixedMovesNothing, FixedStays, NoLinkNoMessage, FinishedAnswers, FinishedReceivesAll, LimitsSuffice, SendsNothingWrong, TakesNothingWrong, StoresWhatItHolds, NoneIsStrange, KeepsALawfulJournal, LawfulIsBounded, LawfulRunIsBounded, EventsAreFew, FinishedAfterTwoMigrations, TakenIsDetermined, QuietIsFinished, CompleteIsFinished, AnswersInTheEnd, SortsIntoTheLoop};
 
 /// A valid input and a valid setting are what the other laws ask for.
 pub fn limits_suffice()
     ensures { LimitsSuffice }
 {}
 
-/// At every moment no pair is sent twice, and none is wrong.
+/// A run begins with a rest that stands for each valid input. Its wave has all rows and all pairs, so
+/// with this rest each other law speaks of a whole run of one wave.
+pub fn begins_with_all()
+    ensures { BeginsWithAll }
+{}
+
+/// At every moment the pairs that joiners have sent are pairs with a row of the wave, and none was
+/// sent twice.
 pub fn sends_nothing_wrong()
     ensures { SendsNothingWrong }
 {}
 
-/// At every moment the collector has taken nothing wrong.
+/// At every moment the pairs that the collector has taken are pairs with a row of the wave, none
+/// taken twice.
 pub fn takes_nothing_wrong()
     ensures { TakesNothingWrong }
 {}
 
-/// A joiner stores what it holds of the rows that were counted.
+/// A joiner stores what it holds of the rows that were counted, those from before the wave included:
+/// at most that in each step that it has opened, and all of it once the step is settled and all of
+/// its epoch has come.
 pub fn stores_what_it_holds()
     ensures { StoresWhatItHolds }
 {}
 
-/// No row that is sent to a joiner is of a foreign width.
+/// Each row that is sent to a joiner has a cell for each column of its side.
 pub fn none_is_strange()
     ensures { NoneIsStrange }
 {}
@@ -37,27 +47,33 @@ pub fn keeps_a_lawful_journal()
     ensures { KeepsALawfulJournal }
 {}
 
-/// A lawful journal has few migrations and few decisions.
+/// A journal that is lawful so far has at most k migrations, and one decision that was due, for each
+/// binary digit of the numbers of rows up to the wave's end.
 pub fn lawful_is_bounded()
     ensures { LawfulIsBounded }
 {}
 
-/// Where a shift is fixed, no line leaves it, and there is no migration.
+/// The waves of a run have together no more migrations and decisions than that, with all their rows.
+pub fn lawful_run_is_bounded()
+    ensures { LawfulRunIsBounded }
+{}
+
+/// Where a shift is fixed no line leaves it, and there is no migration.
 pub fn fixed_stays()
     ensures { FixedStays }
 {}
 
-/// Where a shift is fixed, a run moves nothing.
+/// A run with a fixed shift moves nothing.
 pub fn fixed_moves_nothing()
     ensures { FixedMovesNothing }
 {}
 
-/// A lawful journal has counted each row.
+/// By a lawful journal each row has a stamp: it was counted, or is from before the wave.
 pub fn lawful_counts_each_row()
     ensures { LawfulCountsEachRow }
 {}
 
-/// An agreeing family has few events.
+/// An agreeing family has at most 8·(rows + feeders + 2)·joiners·(migrations + 2) events.
 pub fn events_are_few()
     ensures { EventsAreFew }
 {}
@@ -77,7 +93,13 @@ pub fn complete_is_finished()
     ensures { CompleteIsFinished }
 {}
 
-/// A finished family has the nested loop's pairs, and the numbers of the formulas.
+/// On each link of a finished family all that was sent was received.
+pub fn finished_receives_all()
+    ensures { FinishedReceivesAll }
+{}
+
+/// A finished family has a lawful journal, the wave's pairs and the numbers of the formulas, and its
+/// last line and stores are a rest that stands for the input.
 pub fn answers_in_the_end()
     ensures { AnswersInTheEnd }
 {}
@@ -87,7 +109,7 @@ pub fn finished_answers()
     ensures { FinishedAnswers }
 {}
 
-/// Pairs in order that are the nested loop's as a bag are the nested loop's list.
+/// Pairs in order that are the wave's as a bag are the wave's in the nested loop's order.
 pub fn sorts_into_the_loop()
     ensures { SortsIntoTheLoop }
 {}
@@ -95,6 +117,11 @@ pub fn sorts_into_the_loop()
 /// The premises of these laws can be met: a family with two migrations agrees and is finished.
 pub fn some_family_migrates()
     ensures { FinishedAfterTwoMigrations }
+{}
+
+/// That family leaves a rest with rows, so that the premises can be met in a later wave, too.
+pub fn some_family_leaves_a_rest()
+    ensures { LeavesARest }
 {}
 
 /// And so they can with two feeders, where a row of the old epoch is moved.
@@ -105,4 +132,9 @@ pub fn some_family_moves_an_old_row()
 /// On the way there, a joiner holds what was moved to it before any step of its own.
 pub fn some_family_holds_a_moved_row()
     ensures { HoldsAMovedRow }
+{}
+
+/// And so they can in a later wave, where a row from before the wave is moved.
+pub fn some_later_wave_moves_an_older_row()
+    ensures { FinishedLaterWave }
 {}

@@ -1,4 +1,5 @@
 use crate::{Input, Setting};
+use grid_map::Weights;
 use join_rows::{Bytes, MapShelf, Names, Table, read_table};
 use row_tickets::Feed;
 use std::alloc::{AllocError, Global};
@@ -9,8 +10,8 @@ use theta_pred::{Theta, parse, resolve};
 fn settings_at_their_limits(rt: HostRuntime) -> Result<(), Fail> {
     let cases = [
         ((0, 1, 1, 1), None, true),
-        ((6, 8, 16, 4096), Some(6), true),
-        ((7, 8, 16, 4096), None, false),
+        ((8, 8, 16, 4096), Some(8), true),
+        ((9, 8, 16, 4096), None, false),
         ((6, 0, 16, 4096), None, false),
         ((6, 9, 16, 4096), None, false),
         ((6, 8, 0, 4096), None, false),
@@ -27,6 +28,32 @@ fn settings_at_their_limits(rt: HostRuntime) -> Result<(), Fail> {
             batch,
             feed: Feed::Alternate,
             fixed,
+            weights: Weights { r: 1, s: 1024 },
+        };
+        assert_eq!(rt; setting.valid(), wanted, "{setting:?}");
+    }
+    Ok(())
+}
+
+#[test]
+fn weights_at_their_limits(rt: HostRuntime) -> Result<(), Fail> {
+    let cases = [
+        (1, 1024, true),
+        (1024, 1, true),
+        (0, 1, false),
+        (1, 0, false),
+        (1025, 1, false),
+        (1, 1025, false),
+    ];
+    for (r, s, wanted) in cases {
+        let setting = Setting {
+            k: 0,
+            feeders: 1,
+            workers: 1,
+            batch: 1,
+            feed: Feed::Alternate,
+            fixed: None,
+            weights: Weights { r, s },
         };
         assert_eq!(rt; setting.valid(), wanted, "{setting:?}");
     }

@@ -62,12 +62,13 @@ fn make_all(world: &mut World) -> Result<u64, AllocError> {
     Ok(events.wrapping_add(deliver_all(world, 0, 22)?))
 }
 
-// How many of the rows have the stamp that this run gives them: R and the first half of S are counted in epoch 1.
-fn rightly_stamped(tuples: &Tuples) -> u64 {
+// How many of the rows have the stamp that these runs give them: R and the first half of S are counted in epoch 1, the
+// other half in the last epoch.
+fn rightly_stamped(tuples: &Tuples, last: u32) -> u64 {
     let mut count = 0u64;
     for tuple in tuples.as_slice() {
         let stamp = if tuple.side == Side::S && tuple.index >= 4 {
-            2
+            last
         } else {
             1
         };
@@ -78,17 +79,19 @@ fn rightly_stamped(tuples: &Tuples) -> u64 {
     count
 }
 
-fn rightly_stamped_of_joiner(joiner: &Joiner) -> u64 {
+fn rightly_stamped_of_joiner(joiner: &Joiner, last: u32) -> u64 {
     let store = joiner.store();
-    rightly_stamped(store.side(Side::R)).wrapping_add(rightly_stamped(store.side(Side::S)))
+    let of_r = rightly_stamped(store.side(Side::R), last);
+    let of_s = rightly_stamped(store.side(Side::S), last);
+    of_r.wrapping_add(of_s)
 }
 
 // The same of all joiners together.
-fn rightly_stored(world: &World) -> u64 {
+fn rightly_stored(world: &World, last: u32) -> u64 {
     let mut count = 0u64;
     for id in 0..4 {
         if let Some(Core::Joiner(joiner)) = world.machine(Actor::Joiner(id)) {
-            count = count.wrapping_add(rightly_stamped_of_joiner(joiner));
+            count = count.wrapping_add(rightly_stamped_of_joiner(joiner, last));
         }
     }
     count
@@ -131,16 +134,33 @@ pub(super) fn finished(world: World<'_>, events: u64) -> Result<Run, AllocError>
     world.finish(events)
 }
 
-fn made_in(mut world: World<'_>) -> Result<(u64, Run), AllocError> {
+fn made_in(mut world: World<'_>, last: u32) -> Result<(u64, Run), AllocError> {
     let events = make_all(&mut world)?;
-    let stored = rightly_stored(&world);
+    let stored = rightly_stored(&world, last);
     let run = finished(world, events)?;
     Ok((stored, run))
 }
 
-fn made_by_hand(alloc: Global, input: &Input) -> Result<(u64, Run), AllocError> {
-    let world = started(alloc, input, &four_joiners())?;
-    made_in(world)
+// The run that ends in this epoch, and how many rows its joiners store with their stamps.
+fn made_by_hand(
+    alloc: Global,
+    input: &Input,
+    setting: &Setting,
+    last: u32,
+) -> Result<(u64, Run), AllocError> {
+    let world = started(alloc, input, setting)?;
+    made_in(world, last)
+}
+
+// The rows of R and of S that each joiner holds, where all hold equally many.
+fn held_by_each(run: &Run) -> Option<(u64, u64)> {
+    let loads = run.loads.as_slice();
+    let first = loads.first()?;
+    if loads.iter().all(|load| load == first) {
+        Some((first.rows_r, first.rows_s))
+    } else {
+        None
+    }
 }
 
 fn has_each_part(rt: &impl Abort, run: &Run) {
@@ -155,6 +175,7 @@ fn has_each_part(rt: &impl Abort, run: &Run) {
         "the line where the feeder drains"
     );
     assert_eq!(rt; run.moved.as_slice(), [0, 8].as_slice(), "moved");
+    assert_eq!(rt; held_by_each(run), Some((4, 4)), "rows of each joiner");
     assert_eq!(rt; run.made.as_slice(), [16, 16, 16, 16].as_slice(), "made");
     assert_eq!(rt; run.pairs.len(), 64, "pairs");
 }
@@ -162,8 +183,38 @@ fn has_each_part(rt: &impl Abort, run: &Run) {
 #[test]
 fn eight_rows_a_side_by_hand(rt: HostRuntime) -> Result<(), Fail> {
     let input = eight_rows_a_side(rt.alloc())?;
-    let (stored, run) = made_by_hand(rt.alloc(), &input)?;
+    let (stored, run) = made_by_hand(rt.alloc(), &input, &four_joiners(), 2)?;
     assert_eq!(rt; stored, 32, "rows that are stored with their stamps");
     has_each_part(&rt, &run);
+    Ok(())
+}
+
+// Four joiners, and rows of R that weigh twice those of S.
+fn heavy_rows() -> Setting {
+    let mut setting = four_joiners();
+    setting.weights.r = 2;
+    setting
+}
+
+// Four rows of R lead to shift 0, where the grid stays: with all rows shift 1 has as many copies, 48.
+fn has_one_step(rt: &impl Abort, run: &Run) {
+    assert_eq!(rt; epochs_number(&run.journal), 1_1111_1111, "an epoch a line");
+    assert_eq!(rt;
+        drain_place(&run.journal),
+        Some(9),
+        "the line where the feeder drains"
+    );
+    assert_eq!(rt; run.moved.as_slice(), [0].as_slice(), "moved");
+    assert_eq!(rt; held_by_each(run), Some((2, 8)), "rows of each joiner");
+    assert_eq!(rt; run.made.as_slice(), [16, 16, 16, 16].as_slice(), "made");
+    assert_eq!(rt; run.pairs.len(), 64, "pairs");
+}
+
+#[test]
+fn heavy_rows_of_r_by_hand(rt: HostRuntime) -> Result<(), Fail> {
+    let input = eight_rows_a_side(rt.alloc())?;
+    let (stored, run) = made_by_hand(rt.alloc(), &input, &heavy_rows(), 1)?;
+    assert_eq!(rt; stored, 40, "rows that are stored with their stamps");
+    has_one_step(&rt, &run);
     Ok(())
 }

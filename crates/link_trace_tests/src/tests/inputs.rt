@@ -1,5 +1,6 @@
 // The inputs and settings of the worked runs.
 
+use grid_map::Weights;
 use join_rows::{Bytes, Cell, Cells, Names, Rows, Table};
 use link_trace::{Input, Setting};
 use row_tickets::Feed;
@@ -97,5 +98,6 @@ pub(super) fn four_joiners() -> Setting {
         batch: 4,
         feed: Feed::RFirst,
         fixed: None,
+        weights: Weights { r: 1, s: 1 },
     }
 }

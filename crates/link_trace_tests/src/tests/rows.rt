@@ -2,6 +2,7 @@
 
 use super::inputs::input;
 use super::seeds::replayed;
+use grid_map::Weights;
 use link_trace::{Input, Run, Setting};
 use row_tickets::Feed;
 use std::alloc::{AllocError, Global};
@@ -28,6 +29,7 @@ fn one_feeder(k: u32) -> Setting {
         batch: 64,
         feed: Feed::Alternate,
         fixed: None,
+        weights: Weights { r: 1, s: 1 },
     }
 }
 

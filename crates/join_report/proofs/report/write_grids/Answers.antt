@@ -1,13 +1,12 @@
 use Rattle.std.proofs.Common.{ℕ, ◌∙◌, ◌+◌, ◌++◌, ap, string_bytes}
 use Rattle.load_controller.specs.Journal.{shift_at}
-use Rattle.trace_law.specs.Family.{shift_by}
-use Rattle.join_report.specs.Report.{grid_line}
+use Rattle.join_report.specs.Report.{grid_line, epoch_shift}
 use Rattle.join_report.proofs.Numbered.{lines_more}
 use Rattle.join_report.proofs.report.write_grids.Goals as goal
 
 pub loop-step-preserved : goal.loop-step-preserved
 loop-step-preserved c =
-    let line = λ (step moved : ℕ). grid_line c.args.setting.now.k (step + 1) (shift_by c.args.setting.now c.args.journal.now (step + 1)) moved in
+    let line = λ (step moved : ℕ). grid_line c.args.setting.now.k (step + 1) (epoch_shift c.args.setting.now c.args.journal.now (step + 1)) moved in
     record {
       first = c.loop-step.invariant.first;
       within = c.loop-step.invariant.within;

@@ -1,4 +1,4 @@
-use Rattle.std.proofs.Common.{◌∙◌, ◌<◌, ◌-◌, ◌^◌, arith}
+use Rattle.std.proofs.Common.{◌∙◌, arith}
 use Rattle.link_trace.specs.Worlds.{state_of}
 use Rattle.link_trace.proofs.Bounds.{run_answers, run_bounded}
 use Rattle.trace_law.proofs.Validity.{within_limits}

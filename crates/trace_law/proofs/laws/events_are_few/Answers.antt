@@ -2,4 +2,4 @@ use Rattle.trace_law.proofs.Few.{few_events}
 use Rattle.trace_law.proofs.laws.events_are_few.Goals as goal
 
 pub returns : goal.returns
-returns c = λ input setting f valid agrees. few_events input setting f agrees valid
+returns c = λ input setting rest f valid stands agrees. few_events input setting rest f agrees valid stands
