@@ -77,6 +77,8 @@ for joiners in 1 2 4 8 16 32 64; do
 done
 check 0 '2,1\n2,3\n3,2\ninput 3 3\nfinal 4 1 copies 15 best 12\njoiner 0 held 0 3 made 0\njoiner 1 held 1 3 made 2\njoiner 2 held 2 3 made 1\njoiner 3 held 0 3 made 0\n' '' \
     --on 'r.x = s.y' --joiners 4 --fixed 0 --seed 42 --report r.csv s.csv
+check 0 '2,1\n2,3\n3,2\ninput 3 3\nfinal 4 1 copies 24 best 24\njoiner 0 held 0 3 made 0\njoiner 1 held 1 3 made 2\njoiner 2 held 2 3 made 1\njoiner 3 held 0 3 made 0\n' '' \
+    --on 'r.x = s.y' --joiners 4 --fixed 0 --seed 42 --weight-r 4 --report r.csv s.csv
 check 0 'input 0 3\ngrid 1 1 4 moved 0\nfinal 1 4 copies 3 best 3\njoiner 0 held 0 0 made 0\njoiner 1 held 0 2 made 0\njoiner 2 held 0 1 made 0\njoiner 3 held 0 0 made 0\n' '' \
     --on 'r.x = s.y' --report header.csv s.csv
 for feed in alternate rfirst sfirst; do
@@ -106,6 +108,8 @@ check 2 '' "$usage" --on 'r.x = s.y' --unknown r.csv s.csv
 check 2 '' "$usage" --on 'r.x = s.y' --feeders 9 r.csv s.csv
 check 2 '' "$usage" --on 'r.x = s.y' --batch 0 r.csv s.csv
 check 2 '' "$usage" --on 'r.x = s.y' --feed first r.csv s.csv
+check 2 '' "$usage" --on 'r.x = s.y' --weight-r 0 r.csv s.csv
+check 2 '' "$usage" --on 'r.x = s.y' --weight-s 1025 r.csv s.csv
 check 2 '' "$usage" --on 'r.x = s.y' --replay seven r.csv s.csv
 
 check 3 '' 'predicate: not understood at byte 0' --on '' r.csv s.csv
@@ -128,6 +132,7 @@ check 6 '' 'read: failed' --on 'r.x = s.y' r.csv missing.csv
 
 picture --on 'r.x = s.y' --fixed 0 r.csv s.csv
 picture --on 'r.x = s.y' --joiners 1 r.csv s.csv
+picture --on 'r.x = s.y' --weight-r 4 r.csv s.csv
 picture --on 'r.key = s.key' --make 2000
 picture --on 'r.key = s.key' --make 3000 --joiners 64 --feeders 8 --feed rfirst --replay 7
 picture --on 'r.x = s.y' --rows r.csv s.csv

@@ -9,7 +9,10 @@ use Rattle.trace_law.specs.declared.input.Input.{Input}
 use Rattle.trace_law.specs.declared.run.Run.{Run}
 use Rattle.trace_law.specs.declared.setting.Setting.{Setting}
 use Rattle.trace_law.specs.Join.{nested_loop}
+use Rattle.trace_law.specs.Family.{first_rest}
 use Rattle.trace_law.specs.Runs.{IsRunOf}
+use Rattle.trace_law.specs.Validity.{IsValidInput, IsValidSetting}
+use Rattle.trace_law.proofs.First.{all_pairs}
 use Rattle.join_report.specs.PairLines.{pair_lines}
 use Rattle.load_controller.specs.declared.line.TurnLine.{TurnLine}
 use Rattle.join_runtime.specs.Early.{WroteEach, WroteSome}
@@ -33,11 +36,11 @@ front_behind old middle new xs ys is (n, front) = (
 )
 
 -- the lines of a run's pairs are those of the nested loop's, in another order
-reordered : (input : Input) (setting : Setting) (run : Run) (order : List Pair) → IsRunOf input setting run.journal run → IsPermutation run.pairs order
+reordered : (input : Input) (setting : Setting) (run : Run) (order : List Pair) → IsRunOf input setting (first_rest setting).line run.journal run → IsPermutation run.pairs order
     → IsPermutation (nested_loop input) order
-reordered input setting run order is each = subst (λ pairs. IsPermutation pairs order) is.pairs each
+reordered input setting run order is each = subst (λ pairs. IsPermutation pairs order) (is.pairs ∙ all_pairs input setting) each
 
-pub put_whole : (report : Bool) (input : Input) (setting : Setting) (run : Run) (old middle new : Option (List ℕ)) → IsRunOf input setting run.journal run
+pub put_whole : (report : Bool) (input : Input) (setting : Setting) (run : Run) (old middle new : Option (List ℕ)) → IsRunOf input setting (first_rest setting).line run.journal run
     → WroteEach run.pairs old middle → new ≡ append_known middle (report_asked report input setting run.journal) → PutFound report input setting run.journal old new
 put_whole report input setting run old middle new is_run wrote more =
     let lines = report_asked report input setting run.journal in
@@ -47,7 +50,7 @@ put_whole report input setting run old middle new is_run wrote more =
       written = more ∙ ap (λ m. append_known m lines) wrote.written ∙ behind old (pair_lines wrote.order) lines;
     }
 
-pub put_cut : (report : Bool) (input : Input) (setting : Setting) (run : Run) (old middle new : Option (List ℕ)) → IsRunOf input setting run.journal run
+pub put_cut : (report : Bool) (input : Input) (setting : Setting) (run : Run) (old middle new : Option (List ℕ)) → IsRunOf input setting (first_rest setting).line run.journal run
     → WroteEach run.pairs old middle → AppendsFront middle new (report_asked report input setting run.journal) → CutFound report input setting old new
 put_cut report input setting run old middle new is_run wrote front =
     let lines = report_asked report input setting run.journal in
@@ -79,13 +82,13 @@ early_written asked planned input setting journal old new input_is setting_is ea
     record { text = put.text; output = same_output asked planned input setting journal put.text input_is setting_is early put.is; written = put.written }
 
 pub early_stopped : (asked : Asked) (planned : Planned) (input : Input) (setting : Setting) (old new : Option (List ℕ))
-    → input ≡ input_of asked.seed planned → setting ≡ setting_of asked → asked.early ≡ true
+    → input ≡ input_of asked.seed planned → setting ≡ setting_of asked → IsValidInput input → IsValidSetting setting → asked.early ≡ true
     → PutPart asked.report input setting old new → StoppedAt asked.early asked planned old new
-early_stopped asked planned input setting old new input_is setting_is early put = subst (λ e. StoppedAt e asked planned old new) (sym early) (elim put [
+early_stopped asked planned input setting old new input_is setting_is of_input of_setting early put = subst (λ e. StoppedAt e asked planned old new) (sym early) (elim put [
   | inl some ↦ inl (subst (λ i. WroteSome i old new) input_is some)
   | inr cut ↦ inr (record {
     journal = cut.run.journal;
-    lawful = journal_of_run asked planned input setting cut.run input_is setting_is cut.is_run;
+    lawful = journal_of_run asked planned input setting cut.run input_is setting_is of_input of_setting cut.is_run;
     text = cut.text;
     output = same_output asked planned input setting cut.run.journal cut.text input_is setting_is early cut.is;
     front = cut.front;
@@ -93,15 +96,16 @@ early_stopped asked planned input setting old new input_is setting_is early put 
 ])
 
 pub early_takes : (takes : ℕ → Type 0) (asked : Asked) (planned : Planned) (input : Input) (setting : Setting)
-    → input ≡ input_of asked.seed planned → setting ≡ setting_of asked → asked.early ≡ true → asked.make ≡ None → asked.rows ≡ false
+    → input ≡ input_of asked.seed planned → setting ≡ setting_of asked → IsValidInput input → IsValidSetting setting
+    → asked.early ≡ true → asked.make ≡ None → asked.rows ≡ false
     → TakesEach takes asked planned → TakesFound takes asked.report input setting
-early_takes takes asked planned input setting input_is setting_is early make rows each =
+early_takes takes asked planned input setting input_is setting_is of_input of_setting early make rows each =
     let lines = pair_lines (nested_loop (input_of asked.seed planned)) in
     let of : Input → Setting → List TurnLine → List ℕ = λ i s journal. report_asked asked.report i s journal in
     record {
       lines = subst (λ i. takes (length (pair_lines (nested_loop i)) + 0)) (sym input_is) (subst takes (plus_none (length lines)) (each.early early));
       each = λ run is.
-          let lawful = journal_of_run asked planned input setting run input_is setting_is is in
+          let lawful = journal_of_run asked planned input setting run input_is setting_is of_input of_setting is in
           let same : output_of asked planned run.journal ≡ lines ++ of (input_of asked.seed planned) (setting_of asked) run.journal =
           ap (λ m. answer_of m asked.rows (input_of asked.seed planned) ++ of (input_of asked.seed planned) (setting_of asked) run.journal) make
           ∙ ap (λ r. answer_of None r (input_of asked.seed planned) ++ of (input_of asked.seed planned) (setting_of asked) run.journal) rows in

@@ -1,18 +1,15 @@
 -- A run of well-formed files ends well.
 use Rattle.std.proofs.Common.{◌≡◌, ◌∙◌, ◌⊎◌, ◌+◌, inl, inr, ℕ, List, Option, None, Some, Result, Ok, Err, refl, sym, ap, subst, length, arith}
-use Rattle.join_rows.specs.Shelves.{Told}
+use Rattle.join_rows.specs.Shelves.{Spot, Told}
 use Rattle.theta_text.specs.Grammar.{Tree}
 use Rattle.theta_text.specs.declared.fault.PredFault.{PredFault}
-use Rattle.join_words.specs.Words.{Asked, asked_of}
+use Rattle.join_words.specs.Words.{Asked}
 use Rattle.join_cli.specs.declared.plan.Planned.{Planned}
 use Rattle.join_cli.specs.declared.outcome.Outcome.{Outcome}
 use Rattle.join_cli.specs.declared.outcome.Outcome.TheVariants as outcomes
 use Rattle.load_controller.specs.declared.line.TurnLine.{TurnLine}
-use Rattle.join_runtime.specs.Endings.{EndsView}
-use Rattle.join_cli.specs.Ends.{Concludes, EndsAs, IsAsked, IsDone, IsOutcomeOf, TakesEach, Wrote, WroteFront, WroteSoFar}
-use Rattle.join_cli.specs.Outcomes.{status_of}
+use Rattle.join_cli.specs.Ends.{Concludes, ConcludesBy, Course, course_of, Refuses, EndsAs, IsAsked, IsDone, IsOutcomeOf, TakesEach, Wrote, WroteFront, WroteSoFar}
 use Rattle.join_cli.specs.Plan.{IsJournalOf, output_of, plan_of}
-use Rattle.join_cli.proofs.Requests.{asked_one}
 use Rattle.join_cli.proofs.Seen.{no_plan}
 
 -- a plan that was carried out has an outcome of it, unless a put failed
@@ -35,10 +32,21 @@ ends_concluded (Some files) asked reading planned old new outcomes.Read conclude
 
 -- what was written, by the outcome
 pub wrote : (told : Told) (asked : Asked) (planned : Planned) (old new : Option (List ℕ)) (outcome : Outcome) → IsAsked told asked planned → Concludes asked planned old new outcome
-    → (journal : List TurnLine) (trail : List EndsView) → outcome ≡ outcomes.Done journal trail → Wrote told asked journal trail old new
-wrote told asked planned old new outcome found concludes journal trail is =
-    let ends : Concludes asked planned old new (outcomes.Done journal trail) = subst (Concludes asked planned old new) is concludes in
+    → (way : Course) → course_of outcome ≡ Some way → Wrote told asked way old new
+wrote told asked planned old new outcome found concludes way is =
+    let ends = subst (ConcludesBy asked planned old new outcome) is concludes in
     record { planned = planned; found = found; course = ends.0; written = ends.1 }
+
+-- a refusal has no course
+pub no_course : (old new : ℕ) (told : Told) (spot : Spot) (asked : Asked) (outcome : Outcome) (way : Course) → Refuses old new told spot asked outcome → course_of outcome ≡ Some way → ⊥
+no_course old new told spot asked (outcomes.Done journal trail) way refuses is = refuses
+no_course old new told spot asked (outcomes.Words fault) way refuses is = cc is
+no_course old new told spot asked (outcomes.Predicate fault) way refuses is = cc is
+no_course old new told spot asked (outcomes.Input fault) way refuses is = cc is
+no_course old new told spot asked (outcomes.Limit fault) way refuses is = cc is
+no_course old new told spot asked outcomes.Read way refuses is = cc is
+no_course old new told spot asked outcomes.Write way refuses is = cc is
+no_course old new told spot asked outcomes.Memory way refuses is = cc is
 
 pub wrote_front : (told : Told) (asked : Asked) (planned : Planned) (old new : Option (List ℕ)) (outcome : Outcome) → IsAsked told asked planned → Concludes asked planned old new outcome
     → outcome ≡ outcomes.Write → WroteFront told asked old new
@@ -88,22 +96,3 @@ complete_made made planned plan found is = elim found [ inl m ↦ absurd (cc m) 
 pub takes_made : (takes : ℕ → Type 0) (asked : Asked) (planned : Planned) (journal : List TurnLine) (bytes : List ℕ)
     → IsJournalOf asked planned journal → bytes ≡ output_of asked planned journal → TakesEach takes asked planned → takes (length bytes + 0)
 takes_made takes asked planned journal bytes lawful is each = let none : length bytes ≡ length bytes + 0 = omega arith in subst takes none (subst takes (ap length (sym is)) (each.each journal lawful))
-
--- what holds of what the words ask for
-pub asked_same : (P : Asked → Type 0) (words : List (List ℕ)) (given wanted : Asked) → asked_of words ≡ Ok given → asked_of words ≡ Ok wanted → P given → P wanted
-asked_same P words given wanted is is_wanted holds = subst P (asked_one words given wanted is is_wanted) holds
-
--- the status of a good end
-done_status : (outcome : Outcome) → IsDone outcome → status_of outcome ≡ 0
-done_status (outcomes.Done journal trail) done = refl
-done_status (outcomes.Words _) done = elim done [ ]
-done_status (outcomes.Predicate _) done = elim done [ ]
-done_status (outcomes.Input _) done = elim done [ ]
-done_status (outcomes.Limit _) done = elim done [ ]
-done_status outcomes.Read done = elim done [ ]
-done_status outcomes.Write done = elim done [ ]
-done_status outcomes.Memory done = elim done [ ]
-
--- or of want of memory
-pub status_of_end : (outcome : Outcome) (status : ℕ) → status ≡ status_of outcome → IsDone outcome ⊎ (outcome ≡ outcomes.Memory) → (status ≡ 0) ⊎ (status ≡ 8)
-status_of_end outcome status is end = elim end [ inl done ↦ inl (is ∙ done_status outcome done) | inr memory ↦ inr (is ∙ ap status_of memory) ]

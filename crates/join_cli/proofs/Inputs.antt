@@ -6,13 +6,15 @@ use Rattle.join_rows.specs.declared.table.Side.{Side}
 use Rattle.join_rows.specs.declared.table.Side.TheVariants.{R, S}
 use Rattle.join_rows.specs.declared.table.Table.{Table}
 use Rattle.row_tickets.specs.Tickets.{ticket_of}
-use Rattle.trace_law.specs.Validity.{IsFor, IsValidInput}
+use Rattle.trace_law.specs.Family.{first_rest}
+use Rattle.trace_law.specs.Validity.{IsFor, IsValid, IsValidInput, IsValidSetting}
 use Rattle.trace_law.specs.declared.input.Input.{Input}
 use Rattle.trace_law.specs.declared.run.Run.{Run}
 use Rattle.trace_law.specs.declared.setting.Setting.{Setting}
 use Rattle.trace_law.specs.Runs.{IsRunOf}
+use Rattle.trace_law.proofs.First.{stands as first_stands}
 use Rattle.trace_law.proofs.FixedShift.{all_stay, no_migration}
-use Rattle.trace_law.proofs.Validity.{both_sides}
+use Rattle.trace_law.proofs.Validity.{both_sides, within_limits}
 use Rattle.join_words.specs.Words.{Asked}
 use Rattle.join_cli.specs.declared.plan.Planned.{Planned}
 use Rattle.join_runtime.specs.Endings.{EndsView}
@@ -40,28 +42,37 @@ valid_input seed planned tickets_r tickets_s fit drawn_r drawn_s bytes_r bytes_s
 
 -- what a run promises of its journal
 pub journal_of_run : (asked : Asked) (planned : Planned) (input : Input) (setting : Setting) (run : Run)
-    → input ≡ input_of asked.seed planned → setting ≡ setting_of asked → IsRunOf input setting run.journal run → IsJournalOf asked planned run.journal
-journal_of_run asked planned input setting run input_is setting_is is =
-    let law : IsRunOf (input_of asked.seed planned) (setting_of asked) run.journal run =
-    subst (λ i. IsRunOf i (setting_of asked) run.journal run) input_is (subst (λ s. IsRunOf input s run.journal run) setting_is is) in
+    → input ≡ input_of asked.seed planned → setting ≡ setting_of asked → IsValidInput input → IsValidSetting setting
+    → IsRunOf input setting (first_rest setting).line run.journal run → IsJournalOf asked planned run.journal
+journal_of_run asked planned input setting run input_is setting_is of_input of_setting is =
+    let own = input_of asked.seed planned in
+    let first = (first_rest (setting_of asked)).line in
+    let law : IsRunOf own (setting_of asked) first run.journal run =
+    subst (λ i. IsRunOf i (setting_of asked) first run.journal run) input_is
+    (subst (λ s. IsRunOf input s (first_rest s).line run.journal run) setting_is is) in
+    let valid : IsValid own (setting_of asked) =
+    within_limits own (setting_of asked) (subst IsValidInput input_is of_input) (subst IsValidSetting setting_is of_setting) in
+    let stands = (first_stands own (setting_of asked) valid).line in
     record {
       lawful = law.lawful;
       near = law.near;
-      one_epoch = λ shift fixed. no_migration (setting_of asked) run.journal law.lawful.so_far shift fixed;
-      stays = λ shift fixed. all_stay (setting_of asked) run.journal law.lawful.so_far shift fixed;
+      one_epoch = λ shift fixed. no_migration own (setting_of asked) first stands run.journal law.lawful.so_far shift fixed;
+      stays = λ shift fixed. all_stay own (setting_of asked) first stands run.journal law.lawful.so_far shift fixed;
     }
 
 -- and what shows how it went
 pub course_of_run : (asked : Asked) (planned : Planned) (input : Input) (setting : Setting) (run : Run) (trail : List EndsView)
-    → input ≡ input_of asked.seed planned → setting ≡ setting_of asked → IsRunOf input setting run.journal run
+    → input ≡ input_of asked.seed planned → setting ≡ setting_of asked → IsValidInput input → IsValidSetting setting
+    → IsRunOf input setting (first_rest setting).line run.journal run
     → WentAs asked.replay input setting run.journal trail → IsCourseOf asked planned run.journal trail
-course_of_run asked planned input setting run trail input_is setting_is is went = record {
-  lawful = journal_of_run asked planned input setting run input_is setting_is is;
+course_of_run asked planned input setting run trail input_is setting_is of_input of_setting is went = record {
+  lawful = journal_of_run asked planned input setting run input_is setting_is of_input of_setting is;
   went = subst (λ i. WentAs asked.replay i (setting_of asked) run.journal trail) input_is (subst (λ s. WentAs asked.replay input s run.journal trail) setting_is went);
 }
 
 pub course_in_threads : (asked : Asked) (planned : Planned) (input : Input) (setting : Setting) (run : Run) (trail : List EndsView)
-    → input ≡ input_of asked.seed planned → setting ≡ setting_of asked → asked.replay ≡ None → IsRunOf input setting run.journal run
+    → input ≡ input_of asked.seed planned → setting ≡ setting_of asked → IsValidInput input → IsValidSetting setting → asked.replay ≡ None
+    → IsRunOf input setting (first_rest setting).line run.journal run
     → IsRunInThreads input setting run.journal trail → IsCourseOf asked planned run.journal trail
-course_in_threads asked planned input setting run trail input_is setting_is threads is went =
-    course_of_run asked planned input setting run trail input_is setting_is is (rw threads went)
+course_in_threads asked planned input setting run trail input_is setting_is of_input of_setting threads is went =
+    course_of_run asked planned input setting run trail input_is setting_is of_input of_setting is (rw threads went)

@@ -14,3 +14,4 @@ pub mod Inputs
 pub mod Reports
 pub mod FixedOutput
 pub mod Past
+pub mod Ran

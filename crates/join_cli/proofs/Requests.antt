@@ -1,10 +1,6 @@
 -- What was prepared is what was asked for.
 use Rattle.std.proofs.Common.{◌≡◌, ◌∙◌, ℕ, List, Option, Some, Result, Ok, Err, sym, ap, subst}
 use Rattle.std.specs.Prelude.{IfOk}
-use Rattle.std.specs.Result.{result_unwrap_or}
-use Rattle.join_words.specs.Words.{asked_of}
-use Rattle.join_cli.specs.declared.outcome.TextFault.{TextFault}
-use Rattle.join_cli.specs.Texts.{IsTrueOf}
 use Rattle.join_rows.specs.Shelves.{Told}
 use Rattle.theta_text.specs.Grammar.{Tree}
 use Rattle.theta_text.specs.Texts.{TextReads, limits}
@@ -45,12 +41,3 @@ pub asked_if : (told : Told) (asked : Asked) (tree : Tree) (tables : Tables) (th
     → IfOk r (IsAsked told asked)
 asked_if told asked tree tables theta (Ok planned) reads over is same found made = is_asked told asked tree tables theta planned reads over is same found made
 asked_if told asked tree tables theta (Err refusal) reads over is same found made = tt
-
--- words ask for one thing
-pub asked_one : (words : List (List ℕ)) (given wanted : Asked) → asked_of words ≡ Ok given → asked_of words ≡ Ok wanted → given ≡ wanted
-asked_one words given wanted is is_wanted = ap (λ r. result_unwrap_or r given) (sym is ∙ is_wanted)
-
-pub asked_text : (words : List (List ℕ)) (given wanted : Asked) (fault : TextFault) → asked_of words ≡ Ok given → asked_of words ≡ Ok wanted
-    → IsTrueOf given.on fault → IsTrueOf wanted.on fault
-asked_text words given wanted fault is is_wanted true_of =
-    subst (λ asked. IsTrueOf asked.on fault) (asked_one words given wanted is is_wanted) true_of

@@ -36,6 +36,7 @@ four = record {
   batch = 64;
   feed = Alternate;
   fixed = None;
+  weights = record { r = 1; s = 1 };
   seed = 1;
   replay = None;
   make = None;

@@ -7,6 +7,7 @@ use Rattle.trace_law.specs.declared.input.Input.{Input}
 use Rattle.trace_law.specs.declared.run.Run.{Run}
 use Rattle.trace_law.specs.declared.setting.Setting.{Setting}
 use Rattle.trace_law.specs.Join.{nested_loop}
+use Rattle.trace_law.specs.Family.{first_rest}
 use Rattle.trace_law.specs.Runs.{IsRunOf}
 use Rattle.load_controller.specs.declared.line.TurnLine.{TurnLine}
 use Rattle.join_report.specs.PairLines.{pair_lines}
@@ -31,7 +32,7 @@ pub record PutFound (report : Bool) (input : Input) (setting : Setting) (journal
 -- a front of it was, over the journal of a run
 pub record CutFound (report : Bool) (input : Input) (setting : Setting) (old new : Option (List ℕ)) : Type 0 where
   pub run : Run
-  pub is_run : IsRunOf input setting run.journal run
+  pub is_run : IsRunOf input setting (first_rest setting).line run.journal run
   pub text : List ℕ
   pub is : IsFoundText report input setting run.journal text
   pub front : AppendsFront old new text
@@ -43,7 +44,7 @@ PutPart report input setting old new = WroteSome input old new ⊎ CutFound repo
 -- the lines of all pairs are taken, and the report behind them
 pub record TakesFound (takes : ℕ → Type 0) (report : Bool) (input : Input) (setting : Setting) : Type 0 where
   pub lines : takes (length (pair_lines (nested_loop input)) + 0)
-  pub each : (run : Run) → IsRunOf input setting run.journal run
+  pub each : (run : Run) → IsRunOf input setting (first_rest setting).line run.journal run
       → takes (length (pair_lines (nested_loop input)) + (length (report_asked report input setting run.journal) + 0))
 
 -- the text of an output: early, of what was found, and else the one that is asked for

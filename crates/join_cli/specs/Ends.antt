@@ -21,15 +21,42 @@ use Rattle.join_cli.specs.Plan.{IsJournalOf, fitted, input_of, made_tables, plan
 use Rattle.join_cli.specs.Courses.{IsCourseOf}
 use Rattle.join_cli.specs.Early.{StoppedAt, WroteLines, WroteOutput}
 
+-- how a run went
+pub data Course : Type 0 where
+  by_run : List TurnLine → List EndsView → Course
+
+-- how the run of an outcome went, where its output was written whole
+abbrev pub course_of : Outcome → Option Course
+course_of (Done journal trail) = Some (by_run journal trail)
+course_of (Words fault) = None
+course_of (Predicate fault) = None
+course_of (Input fault) = None
+course_of (Limit fault) = None
+course_of Read = None
+course_of Write = None
+course_of Memory = None
+
+-- there is one
+abbrev pub IsSomeCourse : Option Course → Type 0
+IsSomeCourse None = ⊥
+IsSomeCourse (Some course) = ⊤
+
 -- the output was written whole
 abbrev pub IsDone : Outcome → Type 0
-IsDone (Done journal trail) = ⊤
-IsDone outcome = ⊥
+IsDone outcome = IsSomeCourse (course_of outcome)
+
+-- it went so as was asked for
+abbrev pub WentSo : Asked → Planned → Course → Type 0
+WentSo asked planned (by_run journal trail) = IsCourseOf asked planned journal trail
+
+-- there is a course, and it is such a one
+abbrev pub WentSomehow : Asked → Planned → Option Course → Type 0
+WentSomehow asked planned None = ⊥
+WentSomehow asked planned (Some course) = WentSo asked planned course
 
 -- a plan was carried out, and what is answered is of a run of it, or it was refused
 abbrev pub IsOutcomeOf : Asked → Result Planned Outcome → Outcome → Type 0
-IsOutcomeOf asked (Ok planned) (Done journal trail) = IsCourseOf asked planned journal trail
-IsOutcomeOf asked (Ok planned) outcome = ⊥
+IsOutcomeOf asked (Ok planned) outcome = WentSomehow asked planned (course_of outcome)
 IsOutcomeOf asked (Err refusal) outcome = outcome ≡ refusal
 
 -- where the shelf tells its files, the outcome is one of the plan, or memory ran out
@@ -46,12 +73,16 @@ pub record IsAsked (told : Told) (asked : Asked) (planned : Planned) : Type 0 wh
   pub files : (files : List ℕ → Option (List ℕ)) → told ≡ Some files → tables_by asked.make files asked.name_r asked.name_s ≡ Ok planned.tables
   pub made : (count : ℕ) → asked.make ≡ Some count → planned.tables ≡ made_tables count
 
+-- the output over a course was written
+abbrev pub WroteCourse : Asked → Planned → Course → Option (List ℕ) → Option (List ℕ) → Type 0
+WroteCourse asked planned (by_run journal trail) old new = WroteOutput asked planned journal old new
+
 -- the output of what was asked for was written, over the journal of a run that went so
-pub record Wrote (told : Told) (asked : Asked) (journal : List TurnLine) (trail : List EndsView) (old new : Option (List ℕ)) : Type 0 where
+pub record Wrote (told : Told) (asked : Asked) (way : Course) (old new : Option (List ℕ)) : Type 0 where
   pub planned : Planned
   pub found : IsAsked told asked planned
-  pub course : IsCourseOf asked planned journal trail
-  pub written : WroteOutput asked planned journal old new
+  pub course : WentSo asked planned way
+  pub written : WroteCourse asked planned way old new
 
 -- a front of the output over some such journal was written; of early output perhaps no more than some lines
 pub record WroteFront (told : Told) (asked : Asked) (old new : Option (List ℕ)) : Type 0 where
@@ -65,12 +96,20 @@ pub record WroteSoFar (told : Told) (asked : Asked) (old new : Option (List ℕ)
   pub found : IsAsked told asked planned
   pub lines : WroteLines asked.early asked planned old new
 
+-- what is left of a plan whose output wasn't written whole: a put failed, or memory ran out
+abbrev pub Stops : Asked → Planned → Option (List ℕ) → Option (List ℕ) → Outcome → Type 0
+Stops asked planned old new Write = StoppedAt asked.early asked planned old new
+Stops asked planned old new Memory = WroteLines asked.early asked planned old new
+Stops asked planned old new outcome = ⊥
+
+-- a plan ends by its course, or as it is left where there is none
+abbrev pub ConcludesBy : Asked → Planned → Option (List ℕ) → Option (List ℕ) → Outcome → Option Course → Type 0
+ConcludesBy asked planned old new outcome (Some course) = WentSo asked planned course × WroteCourse asked planned course old new
+ConcludesBy asked planned old new outcome None = Stops asked planned old new outcome
+
 -- how a plan that is carried out ends, and what it leaves
 abbrev pub Concludes : Asked → Planned → Option (List ℕ) → Option (List ℕ) → Outcome → Type 0
-Concludes asked planned old new (Done journal trail) = IsCourseOf asked planned journal trail × WroteOutput asked planned journal old new
-Concludes asked planned old new Write = StoppedAt asked.early asked planned old new
-Concludes asked planned old new Memory = WroteLines asked.early asked planned old new
-Concludes asked planned old new outcome = ⊥
+Concludes asked planned old new outcome = ConcludesBy asked planned old new outcome (course_of outcome)
 
 -- the output over each such journal is taken, and early the lines of all pairs alone
 pub record TakesEach (takes : ℕ → Type 0) (asked : Asked) (planned : Planned) : Type 0 where

@@ -10,3 +10,4 @@ pub mod Ends
 pub mod Seen
 pub mod Programs
 pub mod Past
+pub mod Promises

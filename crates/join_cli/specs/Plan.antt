@@ -17,10 +17,10 @@ use Rattle.trace_law.specs.declared.run.Run.{Run}
 use Rattle.trace_law.specs.declared.setting.Setting.{Setting}
 use Rattle.trace_law.specs.Join.{nested_loop, row_count}
 use Rattle.trace_law.specs.Batches.{size_of}
-use Rattle.trace_law.specs.Family.{batches, rules_of}
+use Rattle.trace_law.specs.Family.{batches, first_rest, migrations, rules_of}
 use Rattle.trace_law.specs.Runs.{AreNear, StaysAt, load_over, made_over, moved_over}
 use Rattle.load_controller.specs.declared.line.TurnLine.{TurnLine}
-use Rattle.load_controller.specs.Journal.{IsLawful, last_epoch}
+use Rattle.load_controller.specs.Journal.{IsLawful, begun, last_epoch}
 use Rattle.join_report.specs.PairLines.{pair_lines}
 use Rattle.join_report.specs.Report.{report_of}
 use Rattle.join_report.specs.RowLines.{row_lines}
@@ -122,15 +122,22 @@ setting_of asked = record {
   batch = asked.batch;
   feed = asked.feed;
   fixed = asked.fixed;
+  weights = asked.weights;
 }
 
--- the journal of a lawful controller of this run; each line that isn't moving is near the best grid for its counts, and where
--- the shift is fixed there is one epoch, whose lines all have it
+-- the journal is that of a lawful controller, which begins with no rows and counts all
+abbrev pub IsLawfulFor : Input → Setting → List TurnLine → Type 0
+IsLawfulFor input setting journal =
+    let first = (first_rest setting).line in
+    IsLawful (rules_of setting) (begun first) (λ p. map size_of (batches input setting first p)) journal
+
+-- the journal of a lawful controller of this run; each line that isn't moving is near the best grid for its counts and for what
+-- rows weigh, and where the shift is fixed there is one epoch, whose lines all have it
 pub record IsJournalOf (asked : Asked) (planned : Planned) (journal : List TurnLine) : Type 0 where
-  pub lawful : IsLawful (rules_of (setting_of asked)) (λ p. map size_of (batches (input_of asked.seed planned) (setting_of asked) p)) journal
-  pub near : asked.fixed ≡ None → AreNear asked.k journal
+  pub lawful : IsLawfulFor (input_of asked.seed planned) (setting_of asked) journal
+  pub near : asked.fixed ≡ None → AreNear asked.k asked.weights journal
   pub one_epoch : (shift : ℕ) → asked.fixed ≡ Some shift → last_epoch journal ≡ 0
-  pub stays : (shift : ℕ) → asked.fixed ≡ Some shift → All (StaysAt shift) journal
+  pub stays : (shift : ℕ) → asked.fixed ≡ Some shift → All (StaysAt 0 shift) journal
 
 -- ---- the output
 
@@ -138,9 +145,9 @@ pub record IsJournalOf (asked : Asked) (planned : Planned) (journal : List TurnL
 abbrev pub run_over : Input → Setting → List TurnLine → Run
 run_over input setting journal = record {
   pairs = nested_loop input;
-  made = map (made_over input setting journal) (range_with_len 0 (2 ^ setting.k));
-  loads = map (load_over input setting journal) (range_with_len 0 (2 ^ setting.k));
-  moved = map (moved_over input setting journal) (range_with_len 0 (last_epoch journal));
+  made = map (made_over input setting (first_rest setting).line journal) (range_with_len 0 (2 ^ setting.k));
+  loads = map (load_over input setting (first_rest setting).line journal) (range_with_len 0 (2 ^ setting.k));
+  moved = map (moved_over input setting (first_rest setting).line journal) (range_with_len 0 (migrations (first_rest setting).line journal));
   journal = journal;
   bouts = 0;
 }

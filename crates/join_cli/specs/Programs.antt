@@ -1,22 +1,19 @@
 -- What a run of the program with its words leaves.
 use Rattle.std.specs.Prelude.{◌≡◌, ℕ, List, Option, Ok}
 use Rattle.join_rows.specs.Shelves.{Told}
-use Rattle.load_controller.specs.declared.line.TurnLine.{TurnLine}
-use Rattle.join_runtime.specs.Endings.{EndsView}
 use Rattle.join_words.specs.Words.{Asked, asked_of}
-use Rattle.join_cli.specs.Ends.{Wrote, WroteFront}
+use Rattle.join_cli.specs.Ends.{Course, Wrote, WroteFront}
 
 -- the output of what these words ask for was written, over this journal of a run of it that went so
-pub record WroteOver (words : List (List ℕ)) (told : Told) (journal : List TurnLine) (trail : List EndsView) (old new : Option (List ℕ)) : Type 0 where
+pub record WroteOver (words : List (List ℕ)) (told : Told) (way : Course) (old new : Option (List ℕ)) : Type 0 where
   pub asked : Asked
   pub are : asked_of words ≡ Ok asked
-  pub wrote : Wrote told asked journal trail old new
+  pub wrote : Wrote told asked way old new
 
 -- over the journal of some run of it
 pub record WroteBy (words : List (List ℕ)) (told : Told) (old new : Option (List ℕ)) : Type 0 where
-  pub journal : List TurnLine
-  pub trail : List EndsView
-  pub over : WroteOver words told journal trail old new
+  pub way : Course
+  pub over : WroteOver words told way old new
 
 -- a front of such an output was written
 pub record WroteFrontBy (words : List (List ℕ)) (told : Told) (old new : Option (List ℕ)) : Type 0 where

@@ -5,6 +5,7 @@ ghost use Rattle.std.specs.Io.KnownBytes.{append_known};
 ghost use Rattle.join_rows.specs.Shelves.{last_fault};
 ghost use Rattle.join_rows.specs.Sinks.{AppendsFront, PutsSome};
 ghost use Rattle.trace_law.specs.Validity.{IsValidInput, IsValidSetting};
+ghost use Rattle.trace_law.specs.Family.{first_rest};
 ghost use Rattle.trace_law.specs.Runs.{IsRunOf};
 ghost use Rattle.join_runtime.specs.Early.{WroteSome};
 ghost use Rattle.join_cli.specs.Plan.{report_asked};
@@ -46,7 +47,8 @@ fn put_report<K: Sink>(
     requires sink { K.faults sink.old < last_fault }
     requires input { IsValidInput input.now }
     requires setting { IsValidSetting setting.now }
-    requires run { IsRunOf input.now setting.now run.now.journal run.now }
+    requires run { IsRunOf input.now setting.now (first_rest setting.now).line
+        run.now.journal run.now }
     ensures whole { OnOk result (K.written sink.new ≡ append_known (K.written sink.old)
         (report_asked options.now.report input.now setting.now run.now.journal)) }
     ensures front { result ≡ Err EarlyFault.Write
@@ -86,7 +88,8 @@ pub(crate) fn put_found<R: Threads + Wait + Sync, G: Gate, K: Sink>(
     requires input { IsValidInput input.now }
     requires setting { IsValidSetting setting.now }
     ensures run { IfOk result
-        (λ course. IsRunOf input.now setting.now course.run.journal course.run) }
+        (λ course. IsRunOf input.now setting.now (first_rest setting.now).line
+        course.run.journal course.run) }
     ensures went { IfOk result
         (λ course. IsRunInThreads input.now setting.now course.run.journal course.trail) }
     ensures whole { IfOk result

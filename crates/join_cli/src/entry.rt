@@ -1,14 +1,12 @@
 // The whole program, over its words, a shelf and two streams.
 
-ghost use Rattle.std.specs.Prelude.{◌≡◌, ◌≢◌, ◌⊎◌, ◌<◌, ◌≤◌, ℕ, Ok, false, IfErr, IsErr, IsOkAnd};
-ghost use Rattle.std.specs.Prelude.{map, string_bytes};
+ghost use Rattle.std.specs.Prelude.{◌≡◌, ◌⊎◌, ◌<◌, ◌≤◌, IfErr, IfOk, IsOkAnd, map};
+ghost use Rattle.std.specs.Prelude.{string_bytes};
 ghost use Rattle.std.specs.Process.{exit_status};
 ghost use Rattle.join_rows.specs.Shelves.{last_fault};
-ghost use Rattle.join_rows.specs.Sinks.{PutsSome};
-ghost use Rattle.join_words.specs.Words.{Asked, asked_of};
 ghost use Rattle.join_cli.specs.Outcomes.{status_of};
-ghost use Rattle.join_cli.specs.Ends.{LacksOne, Suffices};
-ghost use Rattle.join_cli.specs.Programs.{WroteBy, WroteFrontBy};
+ghost use Rattle.join_cli.specs.Programs.{WroteBy};
+ghost use Rattle.join_cli.specs.Promises.{RanAs};
 
 use crate::outcome::Outcome;
 use crate::program::{exit_code, jm_main, tell};
@@ -100,29 +98,9 @@ fn run_words<R: Threads + Wait + Sync, H: Shelf, K: Sink, E: Sink, G: Gate>(
 ) -> Ended
     requires shelf { H.faults shelf.old < last_fault }
     requires sink { K.faults sink.old < last_fault }
-    ensures done { result ≡ 0 → WroteBy (map string_bytes words.items) (H.told shelf.old)
-        (K.written sink.old) (K.written sink.new) }
+    ensures ran { RanAs H.Shelf K.Sink (map string_bytes words.items)
+        shelf.old shelf.new sink.old sink.new result }
     ensures quiet { result ≡ 0 → errors.new ≡ errors.old }
-    ensures nothing { result ≢ 0 → result ≢ 7 → result ≢ 8 → sink.new ≡ sink.old }
-    ensures spared { (asked : Asked) → asked_of (map string_bytes words.items) ≡ Ok asked
-        → asked.early ≡ false → result ≡ 8 → sink.new ≡ sink.old }
-    ensures words { IsErr (asked_of (map string_bytes words.items))
-        → ((result ≡ 2) ⊎ (result ≡ 8)) × (sink.new ≡ sink.old) }
-    ensures only_words { result ≡ 2 → IsErr (asked_of (map string_bytes words.items)) }
-    ensures read { (asked : Asked) → asked_of (map string_bytes words.items) ≡ Ok asked
-        → result ≡ 6 → (H.faults shelf.old < H.faults shelf.new)
-        ⊎ LacksOne (H.told shelf.old) asked }
-    ensures write { result ≡ 7 → K.faults sink.old < K.faults sink.new }
-    ensures front { result ≡ 7 → WroteFrontBy (map string_bytes words.items) (H.told shelf.old)
-        (K.written sink.old) (K.written sink.new) }
-    ensures complete { (asked : Asked) → asked_of (map string_bytes words.items) ≡ Ok asked
-        → Suffices (H.told shelf.old) asked (K.takes sink.old) → H.sound shelf.old
-        → (result ≡ 0) ⊎ (result ≡ 8) }
-    ensures sound { H.sound shelf.old
-        → H.sound shelf.new × (H.faults shelf.new ≡ H.faults shelf.old) }
-    ensures left { PutsSome (K.written sink.old) (K.written sink.new)
-        (K.takes sink.old) (K.takes sink.new) }
-    ensures statuses { (result ≡ 0) ⊎ ((2 ≤ result) × (result ≤ 8)) }
 {
     end_of(jm_main(rt, alloc, &words, shelf, sink, errors, gate))
 }
@@ -141,35 +119,14 @@ pub fn jm_program<R: Threads + Wait + Sync, H: Shelf, K: Sink, E: Sink, G: Gate>
 ) -> Ended
     requires shelf { H.faults shelf.old < last_fault }
     requires sink { K.faults sink.old < last_fault }
+    ensures ran { IfOk words (λ given. RanAs H.Shelf K.Sink (map string_bytes given.items)
+        shelf.old shelf.new sink.old sink.new result) }
     ensures done { result ≡ 0 → IsOkAnd words (λ given.
         WroteBy (map string_bytes given.items) (H.told shelf.old)
         (K.written sink.old) (K.written sink.new)) }
     ensures quiet { result ≡ 0 → errors.new ≡ errors.old }
-    ensures nothing { result ≢ 0 → result ≢ 7 → result ≢ 8 → sink.new ≡ sink.old }
-    ensures spared { (asked : Asked)
-        → IsOkAnd words (λ given. asked_of (map string_bytes given.items) ≡ Ok asked)
-        → asked.early ≡ false → result ≡ 8 → sink.new ≡ sink.old }
-    ensures words { IsOkAnd words (λ given. IsErr (asked_of (map string_bytes given.items)))
-        → ((result ≡ 2) ⊎ (result ≡ 8)) × (sink.new ≡ sink.old) }
-    ensures only_words { result ≡ 2
-        → IsOkAnd words (λ given. IsErr (asked_of (map string_bytes given.items))) }
-    ensures read { (asked : Asked)
-        → IsOkAnd words (λ given. asked_of (map string_bytes given.items) ≡ Ok asked)
-        → result ≡ 6 → (H.faults shelf.old < H.faults shelf.new)
-        ⊎ LacksOne (H.told shelf.old) asked }
-    ensures write { result ≡ 7 → K.faults sink.old < K.faults sink.new }
-    ensures front { result ≡ 7 → IsOkAnd words (λ given.
-        WroteFrontBy (map string_bytes given.items) (H.told shelf.old)
-        (K.written sink.old) (K.written sink.new)) }
-    ensures complete { (asked : Asked)
-        → IsOkAnd words (λ given. asked_of (map string_bytes given.items) ≡ Ok asked)
-        → Suffices (H.told shelf.old) asked (K.takes sink.old) → H.sound shelf.old
-        → (result ≡ 0) ⊎ (result ≡ 8) }
-    ensures sound { H.sound shelf.old
-        → H.sound shelf.new × (H.faults shelf.new ≡ H.faults shelf.old) }
-    ensures left { PutsSome (K.written sink.old) (K.written sink.new)
-        (K.takes sink.old) (K.takes sink.new) }
-    ensures memory { IfErr words (λ fault. (result ≡ 8) × (sink.new ≡ sink.old)) }
+    ensures memory { IfErr words (λ fault. (result ≡ 8) × (shelf.new ≡ shelf.old)
+        × (sink.new ≡ sink.old)) }
     ensures statuses { (result ≡ 0) ⊎ ((2 ≤ result) × (result ≤ 8)) }
 {
     match words {

@@ -3,6 +3,7 @@
 ghost use Rattle.std.specs.Prelude.{◌≡◌, ◌<◌, ◌^◌, All, IfOk, string_bytes};
 ghost use Rattle.trace_law.specs.Validity.{IsValidInput, IsValidSetting};
 ghost use Rattle.join_words.specs.Words.{asked};
+ghost use Rattle.trace_law.specs.Family.{first_rest};
 ghost use Rattle.trace_law.specs.Runs.{IsRunOf};
 ghost use Rattle.trace_law.specs.Join.{nested_loop};
 ghost use Rattle.join_cli.specs.Plan.{IsFit, answer_of, input_of, output_of, report_asked};
@@ -45,6 +46,7 @@ pub(crate) fn setting(options: &Options<'_>) -> Setting
         batch: options.batch,
         feed: options.feed,
         fixed: options.fixed,
+        weights: options.weights,
     }
 }
 
@@ -122,7 +124,8 @@ pub(crate) fn report(
 ) -> Result<Bytes, AllocError>
     requires input { IsValidInput input.now }
     requires setting { IsValidSetting setting.now }
-    requires run { IsRunOf input.now setting.now run.now.journal run.now }
+    requires run { IsRunOf input.now setting.now (first_rest setting.now).line
+        run.now.journal run.now }
     ensures { IfOk result
         (λ lines. lines ≡ report_asked options.now.report input.now setting.now run.now.journal) }
 {
@@ -144,7 +147,8 @@ fn text(
 ) -> Result<Bytes, AllocError>
     requires input { IsValidInput input.now }
     requires setting { IsValidSetting setting.now }
-    requires run { IsRunOf input.now setting.now run.now.journal run.now }
+    requires run { IsRunOf input.now setting.now (first_rest setting.now).line
+        run.now.journal run.now }
     ensures { IfOk result
         (λ text. text ≡ text_of (asked options.now) input.now setting.now run.now.journal) }
 {
@@ -172,7 +176,8 @@ fn replayed<R: Wait>(
     requires input { IsValidInput input.now }
     requires setting { IsValidSetting setting.now }
     ensures run { IfOk result
-        (λ course. IsRunOf input.now setting.now course.run.journal course.run) }
+        (λ course. IsRunOf input.now setting.now (first_rest setting.now).line
+        course.run.journal course.run) }
     ensures went { IfOk result
         (λ course. IsReplayed input.now setting.now seed course.run.journal course.trail) }
 {
@@ -194,7 +199,8 @@ fn threaded<R: Threads + Wait + Sync, G: Gate>(
     requires input { IsValidInput input.now }
     requires setting { IsValidSetting setting.now }
     ensures run { IfOk result
-        (λ course. IsRunOf input.now setting.now course.run.journal course.run) }
+        (λ course. IsRunOf input.now setting.now (first_rest setting.now).line
+        course.run.journal course.run) }
     ensures went { IfOk result
         (λ course. IsRunInThreads input.now setting.now course.run.journal course.trail) }
 {
@@ -216,7 +222,8 @@ fn carry_out<R: Threads + Wait + Sync, G: Gate>(
     requires input { IsValidInput input.now }
     requires setting { IsValidSetting setting.now }
     ensures run { IfOk result
-        (λ course. IsRunOf input.now setting.now course.run.journal course.run) }
+        (λ course. IsRunOf input.now setting.now (first_rest setting.now).line
+        course.run.journal course.run) }
     ensures went { IfOk result
         (λ course. WentAs number input.now setting.now course.run.journal course.trail) }
 {

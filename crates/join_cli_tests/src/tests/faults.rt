@@ -46,6 +46,8 @@ fn refuses_words(rt: HostRuntime) -> Result<(), Fail> {
     refuses_line(&rt, alloc, "jm|--on|r.|--joiners|3|r|s")?;
     refuses_line(&rt, alloc, "jm|--on|r.|--joiners|4|--fixed|3|r|s")?;
     refuses_line(&rt, alloc, "jm|--on|r.|--columns|r|s")?;
+    refuses_line(&rt, alloc, "jm|--on|r.|--weight-r|0|r|s")?;
+    refuses_line(&rt, alloc, "jm|--on|r.|--weight-s|1025|r|s")?;
     refuses_line(&rt, alloc, "jm|--on|r.|--make|3|--rows")?;
     Ok(())
 }

@@ -5,6 +5,7 @@ ghost use Rattle.join_rows.specs.Shelves.{last_fault};
 
 use super::calls::forty;
 use super::{outcome_of, shelf_of};
+use grid_map::Weights;
 use join_cli::Outcome;
 use join_rows::{ListSink, MapShelf, Side, Table, read_table};
 use link_trace::{Input, Run, Setting, replay};
@@ -62,6 +63,7 @@ fn batches_of_four() -> Setting {
         batch: 4,
         feed: Feed::Alternate,
         fixed: None,
+        weights: Weights { r: 1, s: 1 },
     }
 }
 

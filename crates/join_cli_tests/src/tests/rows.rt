@@ -126,6 +126,37 @@ fn writes_with<R: Abort + Threads + Wait + Sync>(
     writes(rt, alloc, line.as_str(), R, S, written)
 }
 
+// A grid of four that stays at shift 0: what rows of R weigh changes its copies and the least, and nothing else.
+#[test]
+fn reports_what_rows_weigh(rt: HostRuntime) -> Result<(), Fail> {
+    let alloc = rt.alloc();
+    let pairs = "2,1\n2,3\n3,2\ninput 3 3\n";
+    let joiners =
+        "joiner 0 held 0 3 made 0\njoiner 1 held 1 3 made 2\njoiner 2 held 2 3 made 1\njoiner 3 held 0 3 made 0\n";
+    let cases = [
+        ("--weight-r|1", "final 4 1 copies 15 best 12\n"),
+        ("--weight-r|4", "final 4 1 copies 24 best 24\n"),
+        ("--weight-s|4", "final 4 1 copies 51 best 24\n"),
+    ];
+    for (weight, last) in cases {
+        let options = format!(in alloc; "--joiners|4|--fixed|0|--seed|42|{weight}|--report")?;
+        let wanted = format!(in alloc; "{pairs}{last}{joiners}")?;
+        writes_with(&rt, alloc, options.as_str(), wanted.as_str())?;
+    }
+    Ok(())
+}
+
+// Three rows a side: by their number the grid of two rows of two joiners is the best, and stays. Where a row of R weighs 4
+// it is soon four rows of one, so that each row of R is held once.
+#[test]
+fn a_wide_side_moves_the_grid(rt: HostRuntime) -> Result<(), Fail> {
+    let alloc = rt.alloc();
+    let wide =
+        "2,1\n2,3\n3,2\ninput 3 3\ngrid 1 4 1 moved 0\nfinal 4 1 copies 24 best 24\njoiner 0 held 0 3 made 0\njoiner 1 held 1 3 made 2\njoiner 2 held 2 3 made 1\njoiner 3 held 0 3 made 0\n";
+    writes_with(&rt, alloc, "--seed|42|--weight-r|4|--report", wide)?;
+    Ok(())
+}
+
 #[test]
 fn reports_the_grid(rt: HostRuntime) -> Result<(), Fail> {
     let alloc = rt.alloc();

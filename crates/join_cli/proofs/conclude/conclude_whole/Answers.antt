@@ -1,4 +1,4 @@
-use Rattle.std.proofs.Common.{◌∙◌, ◌+◌, length, ap, refl, subst, arith}
+use Rattle.std.proofs.Common.{◌∙◌, refl}
 use Rattle.join_words.specs.Words.{asked}
 use Rattle.join_cli.proofs.EarlyOutput.{whole_lines, whole_stopped, whole_written}
 use Rattle.join_cli.proofs.Ends.{takes_made}

@@ -1,8 +1,7 @@
-use Rattle.join_report.proofs.Puts.{PutsSome-refl}
+use Rattle.std.specs.Prelude.{map, string_bytes}
+use Rattle.join_cli.proofs.Ran.{ran_by}
 use Rattle.join_cli.proofs.entry.jm_program.Goals as goal
 
-pub returns-in-Ok-clause-complete : goal.returns-in-Ok-clause-complete
-returns-in-Ok-clause-complete g c asked is enough sound = c.run_words.ensures.complete asked (rw c.in-Ok.is at is) enough sound
-
-pub returns-in-Err-clause-left : goal.returns-in-Err-clause-left
-returns-in-Err-clause-left g c = PutsSome-refl (g.K.Sink.written c.args.sink.now) (g.K.Sink.takes c.args.sink.now)
+pub returns-in-Ok-clause-done : goal.returns-in-Ok-clause-done
+returns-in-Ok-clause-done g c zero =
+    rw c.in-Ok.is (ran_by g.H.Shelf g.K.Sink (map string_bytes c.in-Ok.words.items) c.args.shelf.now c.run_words.new.shelf c.args.sink.now c.run_words.new.sink c.run_words.result c.run_words.ensures.ran zero)

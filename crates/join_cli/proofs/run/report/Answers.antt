@@ -4,7 +4,7 @@ use Rattle.join_cli.proofs.Reports.{few_steps, shifts_fit}
 use Rattle.join_cli.proofs.run.report.Goals as goal
 
 pub report_text-requires-clause-shifts : goal.report_text-requires-clause-shifts
-report_text-requires-clause-shifts c = shifts_fit c.args.input.now c.args.setting.now c.args.run.now.journal c.args.run.now c.requires.setting c.requires.run
+report_text-requires-clause-shifts c = shifts_fit c.args.input.now c.args.setting.now c.args.run.now.journal c.args.run.now c.requires.input c.requires.setting c.requires.run
 
 pub report_text-requires-clause-steps : goal.report_text-requires-clause-steps
 report_text-requires-clause-steps c =

@@ -1,0 +1,90 @@
+-- What the top call promises, over what shelf and sink tell before and after it.
+use Rattle.std.specs.Prelude.{◌≡◌, ◌≢◌, ◌⊎◌, ◌<◌, ℕ, List, false, Some, Result, Ok, Err}
+use Rattle.join_rows.specs.Sinks.{PutsSome}
+use Rattle.join_rows.specs.declared.shelf.Shelf.{Ghosts as ShelfGhosts}
+use Rattle.join_rows.specs.declared.sink.Sink.{Ghosts as SinkGhosts}
+use Rattle.join_rows.specs.declared.table.Side.{Side}
+use Rattle.theta_text.specs.Grammar.{Tree}
+use Rattle.theta_text.specs.declared.fault.PredFault.{PredFault}
+use Rattle.theta_text.specs.Texts.{IsFaultOf, TextReads, limits}
+use Rattle.join_words.specs.Words.{Asked, asked_of}
+use Rattle.join_words.specs.declared.options.WordsFault.{WordsFault}
+use Rattle.join_cli.specs.declared.outcome.Outcome.{Outcome}
+use Rattle.join_cli.specs.declared.outcome.Outcome.TheVariants.{Limit, Memory, Predicate, Read, Words, Write}
+use Rattle.join_cli.specs.declared.outcome.TextFault.{TextFault}
+use Rattle.join_cli.specs.declared.outcome.LimitFault.TheVariants.{TooLong}
+use Rattle.join_cli.specs.Outcomes.{status_of}
+use Rattle.join_cli.specs.Texts.{IsRead, IsTrueOf}
+use Rattle.join_cli.specs.Seen.{EndsAsked}
+use Rattle.join_cli.specs.Ends.{Course, course_of, EndsAs, EndsEarly, IsDone, LacksOne, StandsPast, Suffices, WroteSoFar, name_of}
+use Rattle.join_cli.specs.Programs.{WroteFrontBy, WroteOver}
+
+-- which outcome it is, of what is asked for
+pub record Answers {H K : Type 0} (h : ShelfGhosts H) (k : SinkGhosts K) (asked : Asked)
+    (old new : H) (before after : K) (outcome : Outcome) : Type 0 where
+  -- of a text that is no predicate, before any call of the shelf
+  pub early : (fault : PredFault) → IsFaultOf limits asked.on fault → EndsEarly fault outcome × (new ≡ old)
+  -- where no call failed, that of the plan
+  pub answer : (reading : Result Tree PredFault) → IsRead asked.on reading
+      → h.faults new ≡ h.faults old → k.faults after ≡ k.faults before → EndsAs (h.told old) asked reading outcome
+  -- and over each shelf that of what was read
+  pub seen : (tree : Tree) → TextReads limits asked.on tree → outcome ≢ Read → outcome ≢ Memory
+      → EndsAsked (h.told old) (h.picked new) asked asked.make tree (k.written before) (k.written after) outcome
+  -- of made tables without a call of the shelf
+  pub made : (count : ℕ) → asked.make ≡ Some count → (new ≡ old) × (outcome ≢ Read)
+  -- where all is well it is done
+  pub complete : Suffices (h.told old) asked (k.takes before) → h.sound old → IsDone outcome ⊎ (outcome ≡ Memory)
+
+-- what an outcome tells is so
+pub record Causes {H K : Type 0} (h : ShelfGhosts H) (k : SinkGhosts K) (asked : Asked)
+    (old new : H) (before after : K) (outcome : Outcome) : Type 0 where
+  -- a fault of the text is the text's
+  pub text : (fault : TextFault) → outcome ≡ Predicate fault → IsTrueOf asked.on fault
+  -- of a file that is too long the place is past the limit
+  pub long : (side : Side) → outcome ≡ Limit (TooLong side) → StandsPast (h.picked new) (name_of side asked)
+  -- a call of the shelf failed, or a file isn't there
+  pub read : outcome ≡ Read → (h.faults old < h.faults new) ⊎ LacksOne (h.told old) asked
+  -- what was written where memory ran out
+  pub memory : outcome ≡ Memory
+      → (k.written after ≡ k.written before) ⊎ WroteSoFar (h.told old) asked (k.written before) (k.written after)
+  -- and without early output nothing was
+  pub spared : asked.early ≡ false → outcome ≡ Memory → after ≡ before
+
+-- what it leaves of shelf and sink, whatever is asked for
+pub record Leaves {H K : Type 0} (h : ShelfGhosts H) (k : SinkGhosts K)
+    (old new : H) (before after : K) (outcome : Outcome) : Type 0 where
+  -- the shelf tells the same files
+  pub told : h.told new ≡ h.told old
+  -- a shelf of which no call fails but for a missing file stays so
+  pub sound : h.sound old → h.sound new × (h.faults new ≡ h.faults old)
+  -- failed calls are told
+  pub shelf_counts : outcome ≢ Read → h.faults new ≡ h.faults old
+  pub sink_counts : outcome ≢ Write → k.faults after ≡ k.faults before
+  pub write : outcome ≡ Write → k.faults before < k.faults after
+  -- the sink takes what it took behind what was put
+  pub left : PutsSome (k.written before) (k.written after) (k.takes before) (k.takes after)
+  -- a refusal writes nothing
+  pub nothing : (IsDone outcome → ⊥) → outcome ≢ Write → outcome ≢ Memory → after ≡ before
+
+-- all of it, of words
+pub record Promises {H K : Type 0} (h : ShelfGhosts H) (k : SinkGhosts K) (words : List (List ℕ))
+    (old new : H) (before after : K) (outcome : Outcome) : Type 0 where
+  -- of words that ask for nothing it is their fault, without a call of shelf or sink
+  pub words_fault : (fault : WordsFault) → asked_of words ≡ Err fault
+      → ((outcome ≡ Words fault) ⊎ (outcome ≡ Memory)) × (new ≡ old) × (after ≡ before)
+  pub only_words : (fault : WordsFault) → outcome ≡ Words fault → asked_of words ≡ Err fault
+  pub answers : (asked : Asked) → asked_of words ≡ Ok asked → Answers h k asked old new before after outcome
+  pub causes : (asked : Asked) → asked_of words ≡ Ok asked → Causes h k asked old new before after outcome
+  pub leaves : Leaves h k old new before after outcome
+  -- the headline: the output over a run that went so was written
+  pub done : (way : Course) → course_of outcome ≡ Some way
+      → WroteOver words (h.told old) way (k.written before) (k.written after)
+  -- and where a put failed, a front of such an output
+  pub front : outcome ≡ Write → WroteFrontBy words (h.told old) (k.written before) (k.written after)
+
+-- a status is that of an outcome of which all this holds
+pub record RanAs {H K : Type 0} (h : ShelfGhosts H) (k : SinkGhosts K) (words : List (List ℕ))
+    (old new : H) (before after : K) (status : ℕ) : Type 0 where
+  pub outcome : Outcome
+  pub is : status ≡ status_of outcome
+  pub promises : Promises h k words old new before after outcome
