@@ -35,6 +35,53 @@ fn files_of_the_system(rt: HostRuntime) -> Result<(), Fail> {
     Ok(())
 }
 
+// What so many reads of five bytes give of the picked file, or none where one fails.
+fn front_of(rt: &HostRuntime, shelf: &mut DiskShelf<HostRuntime>, reads: u32) -> Option<Vec<u8>> {
+    let mut front = Vec::new(rt.alloc());
+    let mut piece = [0; 5];
+    for _ in 0..reads {
+        let count = shelf.read(&mut piece).ok()?;
+        front.extend_from_slice(&piece[..count]).ok()?;
+    }
+    Some(front)
+}
+
+fn picked_front(
+    rt: &HostRuntime,
+    shelf: &mut DiskShelf<HostRuntime>,
+    name: &str,
+    reads: u32,
+) -> Option<Vec<u8>> {
+    shelf.pick(name).ok()?;
+    front_of(rt, shelf, reads)
+}
+
+// One shelf, whose files are picked again: behind their end, behind another one, and in their midst.
+#[test]
+fn a_file_that_is_picked_again_begins_anew(rt: HostRuntime) -> Result<(), Fail> {
+    fs::write(&rt, "one.csv", b"k\n7\n8\n")?;
+    fs::write(&rt, "two.csv", b"other\n")?;
+    let mut shelf = DiskShelf::new(rt.alloc(), rt.clone()?);
+    let cases: [(&str, u32, &[u8]); 6] = [
+        ("one.csv", 3, b"k\n7\n8\n"),
+        ("one.csv", 3, b"k\n7\n8\n"),
+        ("two.csv", 3, b"other\n"),
+        ("one.csv", 1, b"k\n7\n8"),
+        ("one.csv", 3, b"k\n7\n8\n"),
+        ("two.csv", 1, b"other"),
+    ];
+    for (name, reads, wanted) in cases {
+        let front = picked_front(&rt, &mut shelf, name, reads);
+        assert!(rt;
+            front.is_some_and(|front| front.as_slice() == wanted),
+            "{name}"
+        );
+    }
+    fs::remove_file(&rt, "one.csv")?;
+    fs::remove_file(&rt, "two.csv")?;
+    Ok(())
+}
+
 // A writer that takes so many bytes at a time, in so many calls.
 #[derive(Drop)]
 struct Slow {
@@ -81,5 +128,44 @@ fn writers_that_are_slow_or_fail(rt: HostRuntime) -> Result<(), Fail> {
         assert!(rt; (first.is_ok() && second.is_ok()) == whole);
         assert!(rt; sink.into_inner().bytes.as_slice() == written);
     }
+    Ok(())
+}
+
+// A writer that hands on what it has at a flush alone.
+#[derive(Drop)]
+struct Hoarding {
+    held: Vec<u8>,
+    out: Vec<u8>,
+}
+
+impl Write for Hoarding {
+    fn write(&mut self, buf: &[u8]) -> io::Result<usize> {
+        self.held.extend_from_slice(buf)?;
+        Ok(buf.len())
+    }
+
+    fn flush(&mut self) -> io::Result<()> {
+        self.out.extend_from_slice(&self.held)?;
+        self.held.clear();
+        Ok(())
+    }
+}
+
+// What has left the writer after these puts.
+fn handed_on(rt: &HostRuntime, pieces: &[&[u8]]) -> Vec<u8> {
+    let mut sink = StdSink::new(Hoarding {
+        held: Vec::new(rt.alloc()),
+        out: Vec::new(rt.alloc()),
+    });
+    for piece in pieces {
+        let _ = sink.put(piece);
+    }
+    sink.into_inner().out
+}
+
+#[test]
+fn each_put_is_flushed(rt: HostRuntime) -> Result<(), Fail> {
+    assert!(rt; handed_on(&rt, &[b"0123"]).as_slice() == b"0123".as_slice());
+    assert!(rt; handed_on(&rt, &[b"0123", b"ab"]).as_slice() == b"0123ab".as_slice());
     Ok(())
 }
