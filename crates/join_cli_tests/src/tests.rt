@@ -10,6 +10,7 @@ use worker_gate::{Gate, NoGate};
 
 mod calls;
 mod early;
+mod extremes;
 mod faults;
 mod limits;
 mod made;

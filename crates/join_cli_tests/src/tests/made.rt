@@ -20,7 +20,7 @@ fn writes_joined_rows(rt: HostRuntime) -> Result<(), Fail> {
 }
 
 // A run over made tables writes this, though each call of the shelf would fail.
-fn sums_up<R: Abort + Threads + Wait + Sync>(
+pub(super) fn sums_up<R: Abort + Threads + Wait + Sync>(
     rt: &R,
     alloc: Global,
     line: &str,
