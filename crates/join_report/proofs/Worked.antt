@@ -61,6 +61,7 @@ no_steps = record {
   bouts = 0;
 }
 
+-- the report of a grid that stays as it is
 pub report_of_no_steps : report_of (fixed_at_0 1) 3 3 no_steps
     ≡ codes "input 3 3\nfinal 4 1 copies 15 best 12\njoiner 0 held 0 3 made 0\njoiner 1 held 1 3 made 2\njoiner 2 held 2 3 made 1\njoiner 3 held 0 3 made 0\n"
 unfolding digits
@@ -90,6 +91,7 @@ one_step = record {
   bouts = 0;
 }
 
+-- the report of a run with one step, where a row of R weighs as much as two of S
 pub report_of_one_step : report_of twice_as_heavy 8 8 one_step
     ≡ codes "input 8 8\ngrid 1 4 1 moved 0\nfinal 4 1 copies 48 best 48\njoiner 0 held 2 8 made 16\njoiner 1 held 2 8 made 16\njoiner 2 held 2 8 made 16\njoiner 3 held 2 8 made 16\n"
 unfolding digits

@@ -33,7 +33,8 @@ epoch_shift setting journal e = shift_by (first_rest setting).line journal e
 -- the lines of all steps, the first of which leads to epoch 1
 abbrev pub grid_lines : Setting → List TurnLine → List ℕ → List ℕ
 grid_lines setting journal moved =
-    flat_map (λ step. grid_line setting.k (step.0 + 1) (epoch_shift setting journal (step.0 + 1)) step.1) (enumerate_from 0 moved)
+    flat_map (λ step. grid_line setting.k (step.0 + 1) (epoch_shift setting journal (step.0 + 1)) step.1)
+    (enumerate_from 0 moved)
 
 -- the fewest copies that the joiners can hold at any shift, x and y being the weights of all rows
 abbrev pub least_copies : ℕ → ℕ → ℕ → ℕ → ℕ

@@ -58,7 +58,8 @@ abbrev pub family_in : SeatsView → Family
 family_in v = family_of (journal_in v) (lists_in v)
 
 -- these lists and this journal are a family of the input and the setting that begins with no rows, agrees and is finished
-pub record IsFinishedFamily (input : Input) (setting : Setting) (journal : List TurnLine) (lists : Actor → ActorLists) : Type 0 where
+pub record IsFinishedFamily (input : Input) (setting : Setting) (journal : List TurnLine)
+    (lists : Actor → ActorLists) : Type 0 where
   pub agrees : IsAgreeing input setting (first_rest setting) (family_of journal lists)
   pub finished : IsFinished input setting (first_rest setting) (family_of journal lists) agrees
 

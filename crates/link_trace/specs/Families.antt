@@ -19,7 +19,8 @@ use Rattle.link_trace.specs.declared.machines.Core.TheVariants.{Feeder as TheFee
 abbrev pub start_for : Input → Setting → Actor → Start
 start_for input setting (Feeder p) = OfFeeder p setting.feeders (feeder_start input setting (first_rest setting) p)
 start_for input setting (Joiner j) = OfJoiner (joiner_start input setting (first_rest setting) j)
-start_for input setting Controller = OfController (record { rules = rules_of setting; first = begun (first_rest setting).line })
+start_for input setting Controller =
+    OfController (record { rules = rules_of setting; first = begun (first_rest setting).line })
 start_for input setting Collector = OfCollector (2 ^ setting.k)
 
 -- the actor is one of the run

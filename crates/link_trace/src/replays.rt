@@ -67,7 +67,8 @@ pub fn replay<R: Wait>(
 ) -> Result<Run, AllocError>
     requires input { IsValidInput input.now }
     requires setting { IsValidSetting setting.now }
-    ensures run { IfOk result (λ run. IsRunOf input.now setting.now (first_rest setting.now).line run.journal run) }
+    ensures run { IfOk result (λ run. IsRunOf input.now setting.now
+        (first_rest setting.now).line run.journal run) }
     ensures order { IfOk result (λ run. IsReplay input.now setting.now seed run) }
     ensures bound { IfOk result (λ run. run.bouts
         ≤ most_events input.now setting.now (last_epoch run.journal)) }

@@ -99,8 +99,8 @@ fn feeder<'a>(
     requires input { IsValidInput input.now }
     requires setting { IsValidSetting setting.now }
     requires feeder { p < setting.now.feeders }
-    ensures stands { IfOk result (λ core. Stands
-        (OfFeeder p setting.now.feeders (feeder_start input.now setting.now (first_rest setting.now) p)) no_lists core) }
+    ensures stands { IfOk result (λ core. Stands (OfFeeder p setting.now.feeders
+        (feeder_start input.now setting.now (first_rest setting.now) p)) no_lists core) }
     ensures live { IfOk result IsLive }
     ensures given { IfOk result (HasGivenNone (2 ^ setting.now.k)) }
 {
@@ -117,8 +117,8 @@ fn joiner<'a>(
 ) -> Result<Core<'a>, AllocError>
     requires setting { IsValidSetting setting.now }
     requires joiner { j < 2 ^ setting.now.k }
-    ensures stands { IfOk result (λ core.
-        Stands (OfJoiner (joiner_start input.now setting.now (first_rest setting.now) j)) no_lists core) }
+    ensures stands { IfOk result (λ core. Stands
+        (OfJoiner (joiner_start input.now setting.now (first_rest setting.now) j)) no_lists core) }
     ensures live { IfOk result IsLive }
     ensures given { IfOk result (HasGivenNone (2 ^ setting.now.k)) }
 {
@@ -129,8 +129,10 @@ fn joiner<'a>(
 
 fn controller<'a>(alloc: Global, setting: &Setting) -> Result<Core<'a>, AllocError>
     requires setting { IsValidSetting setting.now }
-    ensures stands { IfOk result (λ core. Stands (OfController
-        (record { rules = rules_of setting.now; first = begun (first_rest setting.now).line })) no_lists core) }
+    ensures stands { IfOk result (λ core. Stands (OfController (record {
+      rules = rules_of setting.now;
+      first = begun (first_rest setting.now).line;
+    })) no_lists core) }
     ensures live { IfOk result IsLive }
     ensures given { IfOk result (HasGivenNone (2 ^ setting.now.k)) }
 {

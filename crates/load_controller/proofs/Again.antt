@@ -1,10 +1,10 @@
 -- A line that isn't moving is one from which a controller can begin.
-use Rattle.std.proofs.Common.{◌≡◌, ℕ, ◌≤◌, ◌^◌, refl, sym, ◌∙◌, ap, subst, false, not, ◌||◌, List, [], ◌∷◌, Option, None, Some}
+use Rattle.std.proofs.Common.{◌≡◌, ℕ, ◌≤◌, ◌^◌, refl, sym, ◌∙◌, ap, subst, false, not, List, [], ◌∷◌, Option, None, Some}
 use Rattle.std.specs.Prelude.{is_none}
 use Rattle.std.proofs.lemmas.Bool.{eq-eqb}
 use Rattle.load_controller.specs.declared.line.Cause.{Cause}
 use Rattle.load_controller.specs.declared.line.TurnLine.{TurnLine}
-use Rattle.load_controller.specs.Journal.{Rules, Fits, Follows, line_after, has_doubled}
+use Rattle.load_controller.specs.Journal.{Rules, Fits, Follows, line_after}
 use Rattle.load_controller.proofs.Bound as bound
 use Rattle.load_controller.proofs.Still as still
 

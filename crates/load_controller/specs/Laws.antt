@@ -1,9 +1,13 @@
 -- What every lawful journal keeps to.
-use Rattle.std.specs.Prelude.{◌≡◌, ℕ, ◌+◌, ◌*◌, ◌^◌, ◌<◌, ◌≤◌, false, None, List, ◌∷◌, length}
+use Rattle.std.specs.Prelude.{◌≡◌, ℕ, ◌+◌, ◌*◌, ◌^◌, ◌<◌, ◌≤◌, false, None, Some, List, ◌∷◌, length}
 use Rattle.grid_map.specs.Load.{IsNear}
 use Rattle.load_controller.specs.declared.line.TurnLine.{TurnLine}
 use Rattle.load_controller.specs.Law.{AreSettled}
-use Rattle.load_controller.specs.Journal.{Rules, Fits, Follows, AreLawful, last_of, due_in}
+use Rattle.load_controller.specs.Journal.{Rules, Fits, Follows, AreLawful, start_line, last_of, due_in}
+
+-- the line with which a run begins fits, where a fixed shift is one of the grid
+abbrev pub StartFits : Type 0
+StartFits = (rules : Rules) → ((shift : ℕ) → rules.fixed ≡ Some shift → shift ≤ rules.k) → Fits rules (start_line rules)
 
 -- where no shift is fixed, each line that isn't moving is near the best grid for its counts
 abbrev pub StaysNear : Type 0

@@ -3,7 +3,7 @@ use Rattle.std.specs.Prelude.{◌≡◌, ℕ, Bool, true, false, None, List, [],
 use Rattle.epoch_tags.specs.declared.message.ToFeeder.TheVariants.{Order, Grant, Stop}
 use Rattle.load_controller.specs.Law.{sent_by}
 use Rattle.load_controller.specs.declared.line.Cause.{Cause}
-use Rattle.load_controller.specs.declared.line.Cause.TheVariants.{Start, Count, Settle, Drain}
+use Rattle.load_controller.specs.declared.line.Cause.TheVariants.{Start, Wave, Count, Settle, Drain}
 use Rattle.load_controller.specs.declared.line.TurnLine.{TurnLine}
 use Rattle.load_controller.specs.Journal.{Rules, line_after, start_line}
 
@@ -35,6 +35,33 @@ pub growing_sends : sent_by growing 0 (past_of growing (start_line growing) [] (
     ∷ Settle 3 ∷ Settle 2 ∷ Settle 1 ∷ Settle 0 ∷ []))
     ≡ Order 1 0 ∷ Grant ∷ Grant ∷ Grant ∷ Order 2 1 ∷ Grant ∷ Stop ∷ []
 growing_sends = refl
+
+-- the first line of a wave that goes on from there
+abbrev pub later_line : TurnLine
+later_line =
+    record {
+      cause = Wave;
+      rows_r = 8;
+      rows_s = 8;
+      base_r = 8;
+      base_s = 8;
+      epoch = 2;
+      shift = 1;
+      goal = 1;
+      moving = false;
+    }
+
+-- 24 rows of R come in it: at 16 the shift stays (48 against 48), at 32 a step leads to shift 0 (64 against 80)
+abbrev pub later_past : List TurnLine
+later_past = past_of growing later_line [] (
+    Count 0 4 0 ∷ Count 0 4 0 ∷ Count 0 4 0 ∷ Count 0 4 0 ∷ Count 0 4 0 ∷ Count 0 4 0
+    ∷ Settle 0 ∷ Settle 1 ∷ Settle 2 ∷ Settle 3 ∷ Drain 0 ∷ [])
+
+-- the last line first
+pub later_lines : map epoch_shift_moving later_past
+    ≡ (3, 0, false) ∷ (3, 0, false) ∷ (3, 0, true) ∷ (3, 0, true) ∷ (3, 0, true) ∷ (3, 0, true) ∷ (2, 1, false)
+    ∷ (2, 1, false) ∷ (2, 1, false) ∷ (2, 1, false) ∷ (2, 1, false) ∷ (2, 1, false) ∷ []
+later_lines = refl
 
 -- the same, and a row of R weighs as much as two of S
 abbrev pub heavy : Rules

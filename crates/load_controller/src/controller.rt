@@ -80,7 +80,8 @@ impl Controller {
         requires fits { Fits (rules_with k feeders fixed weights) line }
         requires cause { IsFirst line.cause }
         requires epoch { line.epoch ≤ 2 ^ 31 }
-        ensures { IfOk result (λ controller. IsFresh (rules_with k feeders fixed weights) line controller) }
+        ensures { IfOk result
+            (λ controller. IsFresh (rules_with k feeders fixed weights) line controller) }
     {
         Ok(Controller {
             ledger: Ledger::start_at(alloc, k, feeders, fixed, weights, line)?,

@@ -1,6 +1,11 @@
 // What every lawful journal keeps to.
 
-ghost use Rattle.load_controller.specs.Laws.{EachHasSettled, FitsAgain, MigratesSeldom, StaysNear, WavesMigrateSeldom};
+ghost use Rattle.load_controller.specs.Laws.{EachHasSettled, FitsAgain, MigratesSeldom, StartFits, StaysNear, WavesMigrateSeldom};
+
+/// A run's first line is one from which a controller can begin, so with it each other law speaks of a run.
+pub fn start_fits()
+    ensures { StartFits }
+{}
 
 /// Where no shift is fixed, each line of a lawful journal that isn't moving is near the best grid.
 pub fn stays_near()

@@ -12,7 +12,9 @@ mod receive;
 mod trial;
 
 pub use controller::Controller;
-pub use laws::{each_has_settled, fits_again, migrates_seldom, stays_near, waves_migrate_seldom};
+pub use laws::{
+    each_has_settled, fits_again, migrates_seldom, start_fits, stays_near, waves_migrate_seldom,
+};
 pub use line::{Cause, Journal, TurnLine};
 
 #[cfg(test)]

@@ -324,7 +324,8 @@ module _ (input : Input) (setting : Setting) (rest : Rest) (f : Family) (agrees 
       few_ends : moved_ends (rest.line.epoch + n + 1) ((f.joiner i).to_joiner (partner_of (start i) (took i) n)) ≤ 1
       few_ends =
           elim
-          (cases_eq (moved_ends (rest.line.epoch + n + 1) ((f.joiner i).to_joiner (partner_of (start i) (took i) n))) 0) [
+          (cases_eq
+          (moved_ends (rest.line.epoch + n + 1) ((f.joiner i).to_joiner (partner_of (start i) (took i) n))) 0) [
             | inl is ↦ omega arith
             | inr some ↦
                 let turned = (ended_at (partner_of (start i) (took i) n) (omega arith)).0 in

@@ -188,13 +188,3 @@ module _ (k b : ℕ) (small : k ≤ 8) (within : b ≤ k) where
   }
 
 -- ---- what is left without equal parts
-
--- what stands on both sides can be left out
-pub cancel : {X : Type 0} (xs ys zs : List X) → IsWithinBag (xs ++ ys) (zs ++ ys) → IsWithinBag xs zs
-cancel xs ys zs within = record {
-  sums = λ f.
-      let a = within.sums f in
-      let b = sum_by-append f xs ys in
-      let c = sum_by-append f zs ys in
-      omega arith;
-}

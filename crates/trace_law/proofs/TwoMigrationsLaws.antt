@@ -343,11 +343,17 @@ pub leaves_a_rest : LeavesARest
 leaves_a_rest = record {
   input = input;
   setting = setting;
-  rest = rest_after input setting (first_rest setting) family agrees;
+  family = family;
   valid = valid;
+  agrees = agrees;
+  finished = finished;
+  rest = rest_after input setting (first_rest setting) family agrees;
+  left = refl;
   stands =
       (answers_the_join input setting valid (first_rest setting) (stands input setting valid)
       family agrees finished).again;
+  eight_r = refl;
+  eight_s = refl;
   rows_r = ap rows_of_r (sym agrees.controller.journal);
   rows_s = ap rows_of_s (sym agrees.controller.journal);
   epoch = ap epoch_of (sym agrees.controller.journal);

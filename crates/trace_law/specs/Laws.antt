@@ -28,7 +28,7 @@ use Rattle.epoch_tags.specs.Links.{HasLink}
 use Rattle.trace_law.specs.Stored.{StoresItsRows}
 use Rattle.trace_law.specs.declared.setting.Setting.{Setting}
 use Rattle.trace_law.specs.Validity.{IsValidInput, IsValidSetting, IsValid}
-use Rattle.trace_law.specs.Family.{Rest, IsLineFor, IsRestFor, first_rest, own_rows, migrations, Family, IsAgreeing, joiner_start, IsQuiet, IsFinished, IsAllReceived, NothingWrongIsSent, AnswersTheJoin, batches, rules_of, stamp_at, events}
+use Rattle.trace_law.specs.Family.{Rest, IsLineFor, IsRestFor, first_rest, own_rows, migrations, Family, IsAgreeing, joiner_start, IsQuiet, IsFinished, IsAllReceived, NothingWrongIsSent, AnswersTheJoin, batches, rest_after, rules_of, stamp_at, events}
 
 -- ---- for which inputs
 
@@ -216,13 +216,19 @@ pub record FinishedAfterTwoMigrations : Type 0 where
   pub quiet : IsQuiet input setting (first_rest setting) family agrees
   pub migrated : last_epoch family.controller.journal ≡ 2
 
--- it leaves a rest that stands for its input, with all rows of both sides, from which a wave can go on
+-- such a family leaves a rest that stands for its input, with all rows of both sides, from which a wave can go on
 pub record LeavesARest : Type 0 where
   pub input : Input
   pub setting : Setting
-  pub rest : Rest
+  pub family : Family
   pub valid : IsValid input setting
+  pub agrees : IsAgreeing input setting (first_rest setting) family
+  pub finished : IsFinished input setting (first_rest setting) family agrees
+  pub rest : Rest
+  pub left : rest ≡ rest_after input setting (first_rest setting) family agrees
   pub stands : IsRestFor input setting rest
+  pub eight_r : row_count input R ≡ 8
+  pub eight_s : row_count input S ≡ 8
   pub rows_r : rest.line.rows_r ≡ 8
   pub rows_s : rest.line.rows_s ≡ 8
   pub epoch : rest.line.epoch ≡ 2

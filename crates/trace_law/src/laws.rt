@@ -13,14 +13,14 @@ pub fn begins_with_all()
     ensures { BeginsWithAll }
 {}
 
-/// At every moment the pairs that joiners have sent are pairs with a row of the wave, and none was
-/// sent twice.
+/// At every moment the pairs that joiners have sent are pairs of the nested loop with a row of the
+/// wave, and none was sent twice.
 pub fn sends_nothing_wrong()
     ensures { SendsNothingWrong }
 {}
 
-/// At every moment the pairs that the collector has taken are pairs with a row of the wave, none
-/// taken twice.
+/// At every moment the pairs that the collector has taken are pairs of the nested loop with a row of
+/// the wave, none taken twice.
 pub fn takes_nothing_wrong()
     ensures { TakesNothingWrong }
 {}
@@ -119,7 +119,7 @@ pub fn some_family_migrates()
     ensures { FinishedAfterTwoMigrations }
 {}
 
-/// That family leaves a rest with rows, so that the premises can be met in a later wave, too.
+/// Such a family leaves a rest with all rows, so that the premises can be met in a later wave, too.
 pub fn some_family_leaves_a_rest()
     ensures { LeavesARest }
 {}
