@@ -22,7 +22,9 @@ use Rattle.join_cli.specs.Early.{CutFound, IsFoundText, IsOutput, PutFound, PutP
 use Rattle.join_cli.specs.Ends.{TakesEach}
 use Rattle.join_cli.specs.Plan.{IsJournalOf, answer_of, input_of, output_of, report_asked, setting_of}
 use Rattle.join_report.proofs.Pieces.{known-none}
-use Rattle.join_cli.proofs.Inputs.{journal_of_run}
+use Rattle.join_runtime.specs.Endings.{EndsView}
+use Rattle.join_cli.specs.Courses.{IsCourseOf, IsRunInThreads}
+use Rattle.join_cli.proofs.Inputs.{course_in_threads, journal_of_run}
 
 -- bytes, and more behind them
 behind : (known : Option (List ℕ)) (xs ys : List ℕ) → append_known (append_known known xs) ys ≡ append_known known (xs ++ ys)
@@ -40,6 +42,7 @@ reordered : (input : Input) (setting : Setting) (run : Run) (order : List Pair) 
     → IsPermutation (nested_loop input) order
 reordered input setting run order is each = subst (λ pairs. IsPermutation pairs order) (is.pairs ∙ all_pairs input setting) each
 
+-- the lines of all pairs, and the report behind them, are the whole
 pub put_whole : (report : Bool) (input : Input) (setting : Setting) (run : Run) (old middle new : Option (List ℕ)) → IsRunOf input setting (first_rest setting).line run.journal run
     → WroteEach run.pairs old middle → new ≡ append_known middle (report_asked report input setting run.journal) → PutFound report input setting run.journal old new
 put_whole report input setting run old middle new is_run wrote more =
@@ -50,13 +53,18 @@ put_whole report input setting run old middle new is_run wrote more =
       written = more ∙ ap (λ m. append_known m lines) wrote.written ∙ behind old (pair_lines wrote.order) lines;
     }
 
-pub put_cut : (report : Bool) (input : Input) (setting : Setting) (run : Run) (old middle new : Option (List ℕ)) → IsRunOf input setting (first_rest setting).line run.journal run
-    → WroteEach run.pairs old middle → AppendsFront middle new (report_asked report input setting run.journal) → CutFound report input setting old new
-put_cut report input setting run old middle new is_run wrote front =
+-- the lines of all pairs, and a front of the report behind them, are a front of the whole
+pub put_cut : (report : Bool) (input : Input) (setting : Setting) (run : Run) (trail : List EndsView)
+    (old middle new : Option (List ℕ)) → IsRunOf input setting (first_rest setting).line run.journal run
+    → IsRunInThreads input setting run.journal trail → WroteEach run.pairs old middle
+    → AppendsFront middle new (report_asked report input setting run.journal) → CutFound report input setting old new
+put_cut report input setting run trail old middle new is_run went wrote front =
     let lines = report_asked report input setting run.journal in
     record {
       run = run;
+      trail = trail;
       is_run = is_run;
+      went = went;
       text = pair_lines wrote.order ++ lines;
       is = record { found = wrote.order; all = reordered input setting run wrote.order is_run wrote.each; is = refl };
       front = front_behind old middle new (pair_lines wrote.order) lines wrote.written front;
@@ -81,19 +89,25 @@ pub early_written : (asked : Asked) (planned : Planned) (input : Input) (setting
 early_written asked planned input setting journal old new input_is setting_is early put =
     record { text = put.text; output = same_output asked planned input setting journal put.text input_is setting_is early put.is; written = put.written }
 
+-- early output that stopped, of what is asked for
 pub early_stopped : (asked : Asked) (planned : Planned) (input : Input) (setting : Setting) (old new : Option (List ℕ))
-    → input ≡ input_of asked.seed planned → setting ≡ setting_of asked → IsValidInput input → IsValidSetting setting → asked.early ≡ true
+    → input ≡ input_of asked.seed planned → setting ≡ setting_of asked → IsValidInput input → IsValidSetting setting
+    → asked.early ≡ true → asked.replay ≡ None
     → PutPart asked.report input setting old new → StoppedAt asked.early asked planned old new
-early_stopped asked planned input setting old new input_is setting_is of_input of_setting early put = subst (λ e. StoppedAt e asked planned old new) (sym early) (elim put [
-  | inl some ↦ inl (subst (λ i. WroteSome i old new) input_is some)
-  | inr cut ↦ inr (record {
-    journal = cut.run.journal;
-    lawful = journal_of_run asked planned input setting cut.run input_is setting_is of_input of_setting cut.is_run;
-    text = cut.text;
-    output = same_output asked planned input setting cut.run.journal cut.text input_is setting_is early cut.is;
-    front = cut.front;
-  })
-])
+early_stopped asked planned input setting old new input_is setting_is of_input of_setting early threads put =
+    subst (λ e. StoppedAt e asked planned old new) (sym early) (elim put [
+      | inl some ↦ inl (subst (λ i. WroteSome i old new) input_is some)
+      | inr cut ↦ inr (record {
+        journal = cut.run.journal;
+        trail = cut.trail;
+        course =
+            course_in_threads asked planned input setting cut.run cut.trail input_is setting_is of_input of_setting threads
+            cut.is_run cut.went;
+        text = cut.text;
+        output = same_output asked planned input setting cut.run.journal cut.text input_is setting_is early cut.is;
+        front = cut.front;
+      })
+    ])
 
 pub early_takes : (takes : ℕ → Type 0) (asked : Asked) (planned : Planned) (input : Input) (setting : Setting)
     → input ≡ input_of asked.seed planned → setting ≡ setting_of asked → IsValidInput input → IsValidSetting setting
@@ -126,11 +140,21 @@ pub whole_written : (asked : Asked) (planned : Planned) (journal : List TurnLine
     → text ≡ output_of asked planned journal → new ≡ append_known old text → WroteOutput asked planned journal old new
 whole_written asked planned journal text old new whole is written = record { text = text; output = subst (λ e. IsOutput e asked planned journal text) (sym whole) is; written = written }
 
-pub whole_stopped : (asked : Asked) (planned : Planned) (journal : List TurnLine) (text : List ℕ) (old new : Option (List ℕ)) → asked.early ≡ false
-    → IsJournalOf asked planned journal → text ≡ output_of asked planned journal → AppendsFront old new text → StoppedAt asked.early asked planned old new
-whole_stopped asked planned journal text old new whole lawful is front =
+-- an output that was made whole and of which a front was written
+pub whole_stopped : (asked : Asked) (planned : Planned) (journal : List TurnLine) (trail : List EndsView)
+    (text : List ℕ) (old new : Option (List ℕ)) → asked.early ≡ false → IsCourseOf asked planned journal trail
+    → text ≡ output_of asked planned journal → AppendsFront old new text
+    → StoppedAt asked.early asked planned old new
+whole_stopped asked planned journal trail text old new whole course is front =
     subst (λ e. StoppedAt e asked planned old new) (sym whole)
-    (record { journal = journal; lawful = lawful; text = text; output = subst (λ e. IsOutput e asked planned journal text) (sym whole) is; front = front })
+    (record {
+      journal = journal;
+      trail = trail;
+      course = course;
+      text = text;
+      output = subst (λ e. IsOutput e asked planned journal text) (sym whole) is;
+      front = front;
+    })
 
 pub whole_lines : (asked : Asked) (planned : Planned) (old new : Option (List ℕ)) → asked.early ≡ false → new ≡ old → WroteLines asked.early asked planned old new
 whole_lines asked planned old new whole same = rw whole same

@@ -1,17 +1,19 @@
 -- What a status says.
-use Rattle.std.proofs.Common.{◌≡◌, ◌∙◌, ℕ, List, Some, refl, sym, arith}
+use Rattle.std.proofs.Common.{◌≡◌, ◌≢◌, ◌∙◌, ℕ, List, Some, ap, refl, sym, arith}
 use Rattle.join_rows.specs.declared.shelf.Shelf.{Ghosts as ShelfGhosts}
 use Rattle.join_rows.specs.declared.sink.Sink.{Ghosts as SinkGhosts}
 use Rattle.join_cli.specs.declared.outcome.Outcome.{Outcome}
 use Rattle.join_cli.specs.declared.outcome.Outcome.TheVariants as outcomes
 use Rattle.join_cli.specs.Outcomes.{status_of}
 use Rattle.join_cli.specs.Programs.{WroteBy, WroteOver}
-use Rattle.join_cli.specs.Ends.{Course, by_run, course_of}
+use Rattle.join_cli.specs.Ends.{Course, IsDone, by_run, course_of}
 use Rattle.join_cli.specs.Promises.{RanAs}
 
 -- a run that ended with status 0 wrote the output
-pub ran_by : {H K : Type 0} (h : ShelfGhosts H) (k : SinkGhosts K) (words : List (List ℕ)) (old new : H) (before after : K) (status : ℕ)
-    → RanAs h k words old new before after status → status ≡ 0 → WroteBy words (h.told old) (k.written before) (k.written after)
+pub ran_by : {H K : Type 0} (h : ShelfGhosts H) (k : SinkGhosts K) (words : List (List ℕ))
+    (old new : H) (before after : K) (status : ℕ)
+    → RanAs h k words old new before after status → status ≡ 0
+    → WroteBy words (h.told old) (k.written before) (k.written after)
 ran_by h k words old new before after status ran zero = by ran.outcome (sym ran.is ∙ zero) ran.promises.done
   where
     by : (outcome : Outcome) → status_of outcome ≡ 0
@@ -25,3 +27,24 @@ ran_by h k words old new before after status ran zero = by ran.outcome (sym ran.
     by outcomes.Read e done = absurd (omega (arith, e))
     by outcomes.Write e done = absurd (omega (arith, e))
     by outcomes.Memory e done = absurd (omega (arith, e))
+
+-- an outcome that is done has the status 0
+done_status : (outcome : Outcome) → IsDone outcome → status_of outcome ≡ 0
+done_status (outcomes.Done journal trail) done = refl
+done_status (outcomes.Words fault) done = absurd done
+done_status (outcomes.Predicate fault) done = absurd done
+done_status (outcomes.Input fault) done = absurd done
+done_status (outcomes.Limit fault) done = absurd done
+done_status outcomes.Read done = absurd done
+done_status outcomes.Write done = absurd done
+done_status outcomes.Memory done = absurd done
+
+-- a run that ended with a status of a refusal left the sink as it was
+pub ran_without : {H K : Type 0} (h : ShelfGhosts H) (k : SinkGhosts K) (words : List (List ℕ))
+    (old new : H) (before after : K) (status : ℕ)
+    → RanAs h k words old new before after status → status ≢ 0 → status ≢ 7 → status ≢ 8 → after ≡ before
+ran_without h k words old new before after status ran some other memory =
+    ran.promises.leaves.nothing
+    (λ done. some (ran.is ∙ done_status ran.outcome done))
+    (λ e. other (ran.is ∙ ap status_of e))
+    (λ e. memory (ran.is ∙ ap status_of e))

@@ -14,6 +14,8 @@ use Rattle.join_report.specs.PairLines.{pair_lines}
 use Rattle.join_runtime.specs.Early.{WroteSome}
 use Rattle.join_words.specs.Words.{Asked}
 use Rattle.join_cli.specs.declared.plan.Planned.{Planned}
+use Rattle.join_runtime.specs.Endings.{EndsView}
+use Rattle.join_cli.specs.Courses.{IsCourseOf, IsRunInThreads}
 use Rattle.join_cli.specs.Plan.{IsJournalOf, input_of, output_of, report_asked, setting_of}
 
 -- the lines of the nested loop's pairs, each once in the order in which they were found, and then the report where one is asked
@@ -29,10 +31,12 @@ pub record PutFound (report : Bool) (input : Input) (setting : Setting) (journal
   pub is : IsFoundText report input setting journal text
   pub written : new ≡ append_known old text
 
--- a front of it was, over the journal of a run
+-- a front of it was, over the journal of a run in threads that left these ends
 pub record CutFound (report : Bool) (input : Input) (setting : Setting) (old new : Option (List ℕ)) : Type 0 where
   pub run : Run
+  pub trail : List EndsView
   pub is_run : IsRunOf input setting (first_rest setting).line run.journal run
+  pub went : IsRunInThreads input setting run.journal trail
   pub text : List ℕ
   pub is : IsFoundText report input setting run.journal text
   pub front : AppendsFront old new text
@@ -58,10 +62,11 @@ pub record WroteOutput (asked : Asked) (planned : Planned) (journal : List TurnL
   pub output : IsOutput asked.early asked planned journal text
   pub written : new ≡ append_known old text
 
--- a front of the output over some journal of a lawful controller was
+-- a front of the output over the journal of a run that was asked for was
 pub record WroteCut (asked : Asked) (planned : Planned) (old new : Option (List ℕ)) : Type 0 where
   pub journal : List TurnLine
-  pub lawful : IsJournalOf asked planned journal
+  pub trail : List EndsView
+  pub course : IsCourseOf asked planned journal trail
   pub text : List ℕ
   pub output : IsOutput asked.early asked planned journal text
   pub front : AppendsFront old new text

@@ -77,14 +77,14 @@ pub record IsAsked (told : Told) (asked : Asked) (planned : Planned) : Type 0 wh
 abbrev pub WroteCourse : Asked → Planned → Course → Option (List ℕ) → Option (List ℕ) → Type 0
 WroteCourse asked planned (by_run journal trail) old new = WroteOutput asked planned journal old new
 
--- the output of what was asked for was written, over the journal of a run that went so
+-- the output of what was asked for was written, over a run that went this way
 pub record Wrote (told : Told) (asked : Asked) (way : Course) (old new : Option (List ℕ)) : Type 0 where
   pub planned : Planned
   pub found : IsAsked told asked planned
   pub course : WentSo asked planned way
   pub written : WroteCourse asked planned way old new
 
--- a front of the output over some such journal was written; of early output perhaps no more than some lines
+-- a front of the output over such a run was written; of early output perhaps no more than some lines
 pub record WroteFront (told : Told) (asked : Asked) (old new : Option (List ℕ)) : Type 0 where
   pub planned : Planned
   pub found : IsAsked told asked planned

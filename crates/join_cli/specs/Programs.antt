@@ -4,13 +4,13 @@ use Rattle.join_rows.specs.Shelves.{Told}
 use Rattle.join_words.specs.Words.{Asked, asked_of}
 use Rattle.join_cli.specs.Ends.{Course, Wrote, WroteFront}
 
--- the output of what these words ask for was written, over this journal of a run of it that went so
+-- the output of what these words ask for was written, over a run of it that went this way
 pub record WroteOver (words : List (List ℕ)) (told : Told) (way : Course) (old new : Option (List ℕ)) : Type 0 where
   pub asked : Asked
   pub are : asked_of words ≡ Ok asked
   pub wrote : Wrote told asked way old new
 
--- over the journal of some run of it
+-- the output of what these words ask for was written, over some run of it
 pub record WroteBy (words : List (List ℕ)) (told : Told) (old new : Option (List ℕ)) : Type 0 where
   pub way : Course
   pub over : WroteOver words told way old new

@@ -57,9 +57,11 @@ pub record Leaves {H K : Type 0} (h : ShelfGhosts H) (k : SinkGhosts K)
   pub told : h.told new ≡ h.told old
   -- a shelf of which no call fails but for a missing file stays so
   pub sound : h.sound old → h.sound new × (h.faults new ≡ h.faults old)
-  -- failed calls are told
+  -- a failed call of the shelf is told
   pub shelf_counts : outcome ≢ Read → h.faults new ≡ h.faults old
+  -- so is one of the sink
   pub sink_counts : outcome ≢ Write → k.faults after ≡ k.faults before
+  -- and only such a one is
   pub write : outcome ≡ Write → k.faults before < k.faults after
   -- the sink takes what it took behind what was put
   pub left : PutsSome (k.written before) (k.written after) (k.takes before) (k.takes after)
@@ -72,9 +74,13 @@ pub record Promises {H K : Type 0} (h : ShelfGhosts H) (k : SinkGhosts K) (words
   -- of words that ask for nothing it is their fault, without a call of shelf or sink
   pub words_fault : (fault : WordsFault) → asked_of words ≡ Err fault
       → ((outcome ≡ Words fault) ⊎ (outcome ≡ Memory)) × (new ≡ old) × (after ≡ before)
+  -- which is told only of such words
   pub only_words : (fault : WordsFault) → outcome ≡ Words fault → asked_of words ≡ Err fault
+  -- of words that ask for something, which outcome it is
   pub answers : (asked : Asked) → asked_of words ≡ Ok asked → Answers h k asked old new before after outcome
+  -- why
   pub causes : (asked : Asked) → asked_of words ≡ Ok asked → Causes h k asked old new before after outcome
+  -- and what it leaves
   pub leaves : Leaves h k old new before after outcome
   -- the headline: the output over a run that went so was written
   pub done : (way : Course) → course_of outcome ≡ Some way
@@ -85,6 +91,9 @@ pub record Promises {H K : Type 0} (h : ShelfGhosts H) (k : SinkGhosts K) (words
 -- a status is that of an outcome of which all this holds
 pub record RanAs {H K : Type 0} (h : ShelfGhosts H) (k : SinkGhosts K) (words : List (List ℕ))
     (old new : H) (before after : K) (status : ℕ) : Type 0 where
+  -- the outcome
   pub outcome : Outcome
+  -- whose status it is
   pub is : status ≡ status_of outcome
+  -- and which is as promised
   pub promises : Promises h k words old new before after outcome

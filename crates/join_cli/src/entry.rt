@@ -1,6 +1,6 @@
 // The whole program, over its words, a shelf and two streams.
 
-ghost use Rattle.std.specs.Prelude.{◌≡◌, ◌⊎◌, ◌<◌, ◌≤◌, IfErr, IfOk, IsOkAnd, map};
+ghost use Rattle.std.specs.Prelude.{◌≡◌, ◌≢◌, ◌⊎◌, ◌<◌, ◌≤◌, IfErr, IfOk, IsOkAnd, map};
 ghost use Rattle.std.specs.Prelude.{string_bytes};
 ghost use Rattle.std.specs.Process.{exit_status};
 ghost use Rattle.join_rows.specs.Shelves.{last_fault};
@@ -124,6 +124,7 @@ pub fn jm_program<R: Threads + Wait + Sync, H: Shelf, K: Sink, E: Sink, G: Gate>
     ensures done { result ≡ 0 → IsOkAnd words (λ given.
         WroteBy (map string_bytes given.items) (H.told shelf.old)
         (K.written sink.old) (K.written sink.new)) }
+    ensures nothing { result ≢ 0 → result ≢ 7 → result ≢ 8 → sink.new ≡ sink.old }
     ensures quiet { result ≡ 0 → errors.new ≡ errors.old }
     ensures memory { IfErr words (λ fault. (result ≡ 8) × (shelf.new ≡ shelf.old)
         × (sink.new ≡ sink.old)) }

@@ -73,6 +73,7 @@ pub fn join_main<R: Threads + Wait + Sync, H: Shelf, K: Sink, G: Gate>(
     requires sink { K.faults sink.old < last_fault }
     ensures promises { Promises H.Shelf K.Sink (map string_bytes words.now)
         shelf.old shelf.new sink.old sink.new result }
+    // the headline: what WroteOver says stands in specs/Programs, Ends and Courses
     ensures done { (way : Course) → course_of result ≡ Some way
         → WroteOver (map string_bytes words.now) (H.told shelf.old) way
         (K.written sink.old) (K.written sink.new) }

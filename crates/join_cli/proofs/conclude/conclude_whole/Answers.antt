@@ -17,8 +17,9 @@ returns-in-Ok-put_all-clause-ends g c = (
 
 pub returns-clause-ends : goal.returns-clause-ends
 returns-clause-ends g c =
-    whole_stopped (asked c.args.options.now) c.args.planned c.in-Ok.joined.journal c.as_slice.result.now (g.K.Sink.written c.args.sink.now) (g.K.Sink.written c.put_all.new.sink) c.requires.whole
-    c.in-Ok.ensures.course.lawful (c.as_slice.ensures ∙ c.in-Ok.ensures.text) c.in-Err-put_all.ensures.front
+    whole_stopped (asked c.args.options.now) c.args.planned c.in-Ok.joined.journal c.in-Ok.joined.trail
+    c.as_slice.result.now (g.K.Sink.written c.args.sink.now) (g.K.Sink.written c.put_all.new.sink) c.requires.whole
+    c.in-Ok.ensures.course (c.as_slice.ensures ∙ c.in-Ok.ensures.text) c.in-Err-put_all.ensures.front
 
 pub returns-clause-complete : goal.returns-clause-complete
 returns-clause-complete g c takes =

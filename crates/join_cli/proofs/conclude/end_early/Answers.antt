@@ -15,7 +15,7 @@ returns-in-Ok-clause-ends g c planned is = (
 pub returns-in-Err-Write-clause-ends : goal.returns-in-Err-Write-clause-ends
 returns-in-Err-Write-clause-ends g c planned is =
     early_stopped (asked c.args.options.now) planned c.args.input.now c.args.setting.now (g.K.Sink.written c.args.sink.now) (g.K.Sink.written c.put_found.new.sink)
-    is c.requires.is c.requires.input c.requires.setting c.requires.early (c.in-Err-Write.ensures.part (ap Err c.in-Err-Write.field-0-is))
+    is c.requires.is c.requires.input c.requires.setting c.requires.early c.requires.alone.0 (c.in-Err-Write.ensures.part (ap Err c.in-Err-Write.field-0-is))
 
 pub returns-in-Err-Write-clause-complete : goal.returns-in-Err-Write-clause-complete
 returns-in-Err-Write-clause-complete g c planned is takes =

@@ -1,5 +1,6 @@
 use Rattle.std.proofs.Common.{◌≡◌, ◌+◌, Err, inr, ap, length}
 use Rattle.join_runtime.specs.declared.early.EarlyFault.TheVariants as faults
+use Rattle.join_cli.specs.Courses.{IsRunInThreads}
 use Rattle.join_cli.specs.Plan.{report_asked}
 use Rattle.join_cli.proofs.EarlyOutput.{put_cut, put_whole}
 use Rattle.join_report.proofs.Puts.{PutsSome-trans}
@@ -13,8 +14,16 @@ returns-in-Ok-clause-whole g c =
 pub returns-in-Err-clause-part : goal.returns-in-Err-clause-part
 returns-in-Err-clause-part g c is =
     let same : c.in-Err.fault ≡ faults.Write = cc is in
-    inr (put_cut c.args.options.now.report c.args.input.now c.args.setting.now c.in_ok-run.field-0.run (g.K.Sink.written c.args.sink.now) (g.K.Sink.written c.run_early.new.sink)
-    (g.K.Sink.written c.put_report.new.sink) c.in_ok-run.ensures.run c.in_ok-run.ensures.whole (c.in-Err.ensures.front (ap Err same)))
+    let went : IsRunInThreads c.args.input.now c.args.setting.now c.in_ok-run.field-0.run.journal c.in_ok-trail.trail =
+    record {
+      ends = c.in_ok-run.field-0.ends;
+      family = c.in_ok-run.ensures.family;
+      only = c.in_ok-trail.ensures.only;
+    } in
+    inr (put_cut c.args.options.now.report c.args.input.now c.args.setting.now c.in_ok-run.field-0.run
+    c.in_ok-trail.trail (g.K.Sink.written c.args.sink.now) (g.K.Sink.written c.run_early.new.sink)
+    (g.K.Sink.written c.put_report.new.sink) c.in_ok-run.ensures.run went c.in_ok-run.ensures.whole
+    (c.in-Err.ensures.front (ap Err same)))
 
 pub returns-in-Err-clause-takes : goal.returns-in-Err-clause-takes
 returns-in-Err-clause-takes g c takes is =

@@ -1,7 +1,14 @@
 use Rattle.std.specs.Prelude.{map, string_bytes}
-use Rattle.join_cli.proofs.Ran.{ran_by}
+use Rattle.join_cli.proofs.Ran.{ran_by, ran_without}
 use Rattle.join_cli.proofs.entry.jm_program.Goals as goal
 
 pub returns-in-Ok-clause-done : goal.returns-in-Ok-clause-done
 returns-in-Ok-clause-done g c zero =
-    rw c.in-Ok.is (ran_by g.H.Shelf g.K.Sink (map string_bytes c.in-Ok.words.items) c.args.shelf.now c.run_words.new.shelf c.args.sink.now c.run_words.new.sink c.run_words.result c.run_words.ensures.ran zero)
+    rw c.in-Ok.is
+    (ran_by g.H.Shelf g.K.Sink (map string_bytes c.in-Ok.words.items) c.args.shelf.now c.run_words.new.shelf
+    c.args.sink.now c.run_words.new.sink c.run_words.result c.run_words.ensures.ran zero)
+
+pub returns-in-Ok-clause-nothing : goal.returns-in-Ok-clause-nothing
+returns-in-Ok-clause-nothing g c some other memory =
+    ran_without g.H.Shelf g.K.Sink (map string_bytes c.in-Ok.words.items) c.args.shelf.now c.run_words.new.shelf
+    c.args.sink.now c.run_words.new.sink c.run_words.result c.run_words.ensures.ran some other memory
