@@ -96,7 +96,7 @@ fn accessed(alloc: Global, theta: &Theta) -> Result<Store, AllocError>
     Store::new(alloc, key(theta)?).with_access(theta.access()?)
 }
 
-// That a store that has the access before its rows finds these, and one that is given it after them.
+// That a store that has the access before its rows finds these.
 fn find_by_access(
     rt: &impl Abort,
     alloc: Global,
@@ -107,11 +107,35 @@ fn find_by_access(
     requires r { theta.now.width_r ≡ 2 }
     requires s { theta.now.width_s ≡ 2 }
 {
-    let before = filled(alloc, theta, accessed(alloc, theta)?, lines)?;
-    find(rt, alloc, &before, theta, probes)?;
-    let after = filled(alloc, theta, Store::new(alloc, key(theta)?), lines)?;
-    let after = after.with_access(theta.access()?)?;
-    find(rt, alloc, &after, theta, probes)
+    let store = filled(alloc, theta, accessed(alloc, theta)?, lines)?;
+    find(rt, alloc, &store, theta, probes)
+}
+
+// A store of these lines that is given the access after them.
+fn accessed_after(alloc: Global, theta: &Theta, lines: &[&str]) -> Result<Store, AllocError>
+    requires r { theta.now.width_r ≡ 2 }
+    requires s { theta.now.width_s ≡ 2 }
+    ensures widths { IfOk result (λ store. HaveWidths theta.now store) }
+    ensures own { IfOk result (λ store. IsOwn theta.now store.key) }
+    ensures access { IfOk result (λ store. IsOwnAccess theta.now store.access) }
+{
+    let store = filled(alloc, theta, Store::new(alloc, key(theta)?), lines)?;
+    store.with_access(theta.access()?)
+}
+
+// That such a store finds these, too.
+fn find_by_later_access(
+    rt: &impl Abort,
+    alloc: Global,
+    theta: &Theta,
+    lines: &[&str],
+    probes: &[&str],
+) -> Result<(), AllocError>
+    requires r { theta.now.width_r ≡ 2 }
+    requires s { theta.now.width_s ≡ 2 }
+{
+    let store = accessed_after(alloc, theta, lines)?;
+    find(rt, alloc, &store, theta, probes)
 }
 
 // The same with no key, with the predicate's, with a copy of it, and by the predicate's access.
@@ -128,7 +152,20 @@ fn find_with_each(
     find_with(rt, alloc, theta, no_key(theta), lines, probes)?;
     find_with(rt, alloc, theta, key(theta)?, lines, probes)?;
     find_with(rt, alloc, theta, key_copy(alloc, theta)?, lines, probes)?;
-    find_by_access(rt, alloc, theta, lines, probes)
+    find_by_access(rt, alloc, theta, lines, probes)?;
+    find_by_later_access(rt, alloc, theta, lines, probes)
+}
+
+// Whether the predicate has a key, and whether an access.
+fn finds_by(
+    rt: &impl Abort,
+    theta: &Theta,
+    predicate: &str,
+    wanted: (bool, bool),
+) -> Result<(), AllocError> {
+    let found = (has_key(theta)?, has_access(theta)?);
+    assert!(rt; found == wanted, "{predicate}");
+    Ok(())
 }
 
 // That a store of these lines finds these, whatever its key, and by the access, which there is or isn't.
@@ -142,8 +179,7 @@ fn probed(
     probes: &[&str],
 ) -> Result<(), AllocError> {
     let theta = over_x_and_a(rt, alloc, predicate)?;
-    assert_eq!(rt; has_key(&theta)?, keyed, "{predicate}");
-    assert_eq!(rt; has_access(&theta)?, accessed, "{predicate}");
+    finds_by(rt, &theta, predicate, (keyed, accessed))?;
     find_with_each(rt, alloc, &theta, lines, probes)
 }
 
