@@ -1,7 +1,7 @@
 #!/bin/sh
 # Runs jm-rows over small files and compares its status, its output and what it says on standard error with what
-# docs/USAGE.md says. It is no part of the gate, in which no test may start a program. JM names another program than
-# the repository's own.
+# docs/USAGE.md says; then installs all into a folder and runs what stands there. It is no part of the gate, in which no
+# test may start a program. JM names another program than the repository's own, and then nothing is installed.
 set -u
 top=$(cd "$(dirname "$0")/.." && pwd -P)
 rows=$top/jm-rows
@@ -147,6 +147,24 @@ if [ -w /dev/full ]; then
     "$rows" --names r.csv >/dev/full 2>got.err
     if [ $? = 7 ] && [ "$(cat got.err)" = 'write: failed' ]; then pass; else fail '--names: output is full'; fi
 fi
+
+# what is installed stands alone
+if [ -z "${JM:-}" ]; then
+    "$top/install.sh" 'a prefix' >first.out || fail 'install.sh'
+    while read -r each; do [ -s "$each" ] || fail "$each"; done <first.out
+    rows="$room/a prefix/bin/jm-rows"
+    check 0 'r_id\n2\n2\n3\n' '' --columns r.id --on 'r.x = s.y' r.csv s.csv
+    mkdir elsewhere && ln -s "../a prefix/bin/jm-rows" elsewhere/rows
+    rows="$room/elsewhere/rows"
+    check 0 'r_id\n2\n2\n3\n' '' --columns r.id --on 'r.x = s.y' r.csv s.csv
+    bin=$room/a\ prefix/bin
+    "$bin/jm" --on 'r.x = s.y' --report r.csv s.csv | "$bin/jm-picture" >got.svg
+    if grep -q '^<svg' got.svg; then pass; else fail 'the installed jm and jm-picture'; fi
+    "$top/install.sh" 'a prefix' >again.out
+    if [ $? = 0 ] && cmp -s first.out again.out; then pass; else fail 'install.sh once more'; fi
+fi
+"$top/install.sh" >got.out 2>got.err
+[ $? = 2 ] && [ "$(cat got.err)" = 'usage: install.sh PREFIX' ] && pass || fail 'install.sh without a prefix'
 
 echo "$passed passed, $failed failed"
 [ "$failed" = 0 ]
