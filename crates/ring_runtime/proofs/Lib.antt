@@ -1,0 +1,3 @@
+mod KnownAtEnds
+mod Flushing
+mod Worked
