@@ -10,7 +10,7 @@ ghost use Rattle.pair_collector.specs.Answer.{Collects};
 
 use crate::answer::{all_pairs, fresh_pairs, loads, made, moved};
 use crate::collected::Collected;
-use crate::order::sorted;
+use crate::order::in_order;
 use crate::part::Part;
 use epoch_tags::{Actor, Counts, Pairs, ToCollector};
 use std::alloc::{AllocError, Global};
@@ -102,7 +102,7 @@ impl Collector {
         let given = made(self.alloc, &self.parts)?;
         let pairs = fresh_pairs(self.alloc, &self.parts, &self.given)?;
         self.given = given;
-        Ok(sorted(pairs))
+        Ok(in_order(pairs))
     }
 
     /// Whether each joiner has ended. It takes no memory.
@@ -126,7 +126,7 @@ impl Collector {
         let moved = moved(alloc, &self.parts)?;
         let pairs = all_pairs(alloc, self.parts)?;
         Ok(Collected {
-            pairs: sorted(pairs),
+            pairs: in_order(pairs),
             made,
             loads,
             moved,

@@ -13,8 +13,8 @@ fn sort_pairs(pairs: &mut [Pair])
     pairs.sort_unstable_by_key(|pair| (pair.i, pair.j));
 }
 
-/// The pairs of a vector, sorted.
-pub(crate) fn sorted(mut pairs: Vec<Pair>) -> Pairs
+/// The pairs of a vector by the row of R and then by the row of S. Equal pairs stay. It takes no memory.
+pub fn in_order(mut pairs: Vec<Pair>) -> Pairs
     ensures permutation { IsPermutation pairs.items result }
     ensures order { InOrder result }
 {

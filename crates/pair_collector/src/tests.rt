@@ -1,4 +1,4 @@
-use crate::{Collected, Collector};
+use crate::{Collected, Collector, in_order};
 use epoch_tags::{Actor, Counts, Pair, Pairs, ToCollector};
 use std::alloc::{AllocError, Global};
 use std::process::Abort;
@@ -150,5 +150,15 @@ fn fresh_pairs_are_given_once(rt: HostRuntime) -> Result<(), Fail> {
     assert!(rt; given(&first, &[(0, 2), (1, 0)]));
     assert!(rt; given(&second, &[]));
     assert!(rt; given(&third, &[(0, 2)]));
+    Ok(())
+}
+
+#[test]
+fn pairs_come_in_order(rt: HostRuntime) -> Result<(), Fail> {
+    let mut pairs = Vec::new(rt.alloc());
+    for (i, j) in [(2, 0), (0, 5), (2, 0), (0, 1)] {
+        pairs.push(Pair { i, j })?;
+    }
+    assert!(rt; given(&in_order(pairs), &[(0, 1), (0, 5), (2, 0), (2, 0)]));
     Ok(())
 }

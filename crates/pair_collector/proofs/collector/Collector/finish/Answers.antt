@@ -11,8 +11,8 @@ returns c = λ joiners lists stands.
     let parts : c.self.inside.parts.items ≡ c.args.self.joiners = ap (λ (state : CollectorState). state.joiners) c.self.view_is in
     collects joiners lists c.args.self stands _ c.in_ok-pairs.pairs.items
     (c.in_ok-pairs.ensures ∙ ap (flat_map (λ (kept : Kept). kept.pairs)) parts)
-    c.sorted.ensures.permutation
-    c.sorted.ensures.order
+    c.in_order.ensures.permutation
+    c.in_order.ensures.order
     (c.in_ok-made.ensures ∙ ap (map (λ (kept : Kept). length kept.pairs)) (c.deref.ensures.value ∙ parts))
     (c.in_ok-loads.ensures ∙ ap (map (λ (kept : Kept). held_of kept.last)) (c.deref-2.ensures.value ∙ parts))
     (c.in_ok-moved.ensures

@@ -12,12 +12,12 @@ returns-clause-gives c = λ joiners earlier lists stands gave.
     let old = c.args.self.now in
     let kept : c.deref-2.result.now ≡ old.joiners = c.deref-2.ensures.value ∙ ap (λ (state : CollectorState). state.joiners) c.self.view_is in
     let given : c.self.inside.given ≡ old.given = ap (λ (state : CollectorState). state.given) c.self.view_is in
-    subst (λ (ps : List Pair). IsPermutation ps c.sorted.result)
+    subst (λ (ps : List Pair). IsPermutation ps c.in_order.result)
     (c.in_ok-pairs.ensures
     ∙ ap (λ (kept : List Kept). kept_behind c.self.inside.given kept (length kept)) kept
     ∙ ap (λ given. kept_behind given old.joiners (length old.joiners)) given
     ∙ behind_is_since joiners lists old stands earlier gave)
-    c.sorted.ensures.permutation
+    c.in_order.ensures.permutation
 
 pub returns-clause-given : goal.returns-clause-given
 returns-clause-given c = λ joiners lists stands.
