@@ -6,7 +6,7 @@ use Rattle.std.proofs.lemmas.Bool.{cases_Bool, eq-eqb, leb-true}
 use Rattle.std.proofs.lemmas.Bool.Decides.{nat_tests}
 use Rattle.std.proofs.lemmas.List.Sums.{sum_by-append}
 use Rattle.join_rows.specs.declared.table.Side.TheVariants.{R, S}
-use Rattle.join_rows.specs.Lists.{SameBag, IsWithinBag, gather, total}
+use Rattle.join_rows.specs.Lists.{SameBag, gather, total}
 use Rattle.join_rows.proofs.Bags.{only_if, sum-same, sum_of_map}
 use Rattle.join_rows.specs.declared.table.Side.{Side}
 use Rattle.join_rows.proofs.Totals.{sum_plus, sum_same_on, sum-gather, total_same, exchange, one_index, zeros}
