@@ -51,3 +51,4 @@ pub mod HeldMoved
 pub mod Later
 pub mod LaterController
 pub mod LaterLaws
+pub mod AcrossWaves
