@@ -75,7 +75,7 @@ fed_by (suc p) j low low' = absurd (omega arith)
 fed_by p (suc (suc j)) low low' = absurd (omega arith)
 
 -- it keeps its law
-feeder_law : (p : ℕ) → p < 1 → FeederLaw (feeder_start input setting rest p) (family.feeder p) orders
+pub feeder_law : (p : ℕ) → p < 1 → FeederLaw (feeder_start input setting rest p) (family.feeder p) orders
 feeder_law zero low = record {
   held = [];
   splits = refl;
@@ -93,7 +93,7 @@ feeder_law (suc p) low = absurd (omega arith)
 -- ---- the joiners
 
 -- epochs count up from the wave's first
-counts_up : (j : ℕ) → CountsUp 3 (fed j)
+pub counts_up : (j : ℕ) → CountsUp 3 (fed j)
 counts_up zero = (refl, refl)
 counts_up (suc j) = (refl, (refl, refl))
 
@@ -102,7 +102,7 @@ not_four : (n : ℕ) → (4 == 3 + suc (suc n)) ≡ false
 not_four n = ne_eqb 4 (3 + suc (suc n)) (λ is. absurd (omega arith))
 
 -- the turns carry shift 1 for epoch 4
-shifts_of : (j n : ℕ)
+pub shifts_of : (j n : ℕ)
     → AllByRecursion (λ shift. shift ≡ shift_after (start j) (taken j) n) (turn_shifts (3 + n) (fed j))
 shifts_of zero zero = tt
 shifts_of zero (suc zero) = (refl, tt)
@@ -112,7 +112,8 @@ shifts_of zero (suc (suc n)) = rw (not_four n) tt
 shifts_of (suc j) (suc (suc n)) = rw (not_four n) tt
 
 -- a step goes to the next shift
-by_one : (j n : ℕ) → n < 1 → AreNeighbours (shift_after (start j) (taken j) n) (shift_after (start j) (taken j) (n + 1))
+pub by_one : (j n : ℕ) → n < 1
+    → AreNeighbours (shift_after (start j) (taken j) n) (shift_after (start j) (taken j) (n + 1))
 by_one j zero low = inl refl
 by_one j (suc n) low = absurd (omega arith)
 
@@ -157,25 +158,25 @@ first_step : (n : ℕ) → 3 + n + 1 ≡ 4 → n ≡ 0
 first_step n is = omega arith
 
 -- it is settled
-settled : (j n : ℕ) → j < 2 → n < 1 → IsSettled (start j) (taken j) n
+pub settled : (j n : ℕ) → j < 2 → n < 1 → IsSettled (start j) (taken j) n
 settled zero zero low low' = (λ p low_p. omega arith, omega arith)
 settled (suc zero) zero low low' = (λ p low_p. omega arith, omega arith)
 settled (suc (suc j)) n low low' = absurd (omega arith)
 settled j (suc n) low low' = absurd (omega arith)
 
 -- and all is at rest
-at_rest : (j : ℕ) → j < 2 → IsAtRest (start j) (taken j)
+pub at_rest : (j : ℕ) → j < 2 → IsAtRest (start j) (taken j)
 at_rest zero low = (λ p low_p. omega arith, λ n low'. settled 0 n low low')
 at_rest (suc zero) low = (λ p low_p. omega arith, λ n low'. settled 1 n low low')
 at_rest (suc (suc j)) low = absurd (omega arith)
 
 -- the feeder has turned in this step alone
-turned_in : (j n : ℕ) → j < 2 → AllTurned (start j) (taken j) n → n < 1
+pub turned_in : (j n : ℕ) → j < 2 → AllTurned (start j) (taken j) n → n < 1
 turned_in zero n low turned = turned 0 (omega arith)
 turned_in (suc j) n low turned = turned 0 (omega arith)
 
 -- epochs on a link never fall
-never_falls : (j q : ℕ) → NeverFalls 3 (passed j q)
+pub never_falls : (j q : ℕ) → NeverFalls 3 (passed j q)
 never_falls zero zero = tt
 never_falls zero (suc zero) = (omega arith, tt)
 never_falls zero (suc (suc q)) = tt
@@ -192,26 +193,26 @@ moved (suc (suc j)) n low low' = absurd (omega arith)
 moved j (suc n) low low' = absurd (omega arith)
 
 -- and then ends its part
-ended : (j n : ℕ) → j < 2 → n < 1 → moved_ends (3 + n + 1) (passed j (partner_of (start j) (taken j) n)) ≡ 1
+pub ended : (j n : ℕ) → j < 2 → n < 1 → moved_ends (3 + n + 1) (passed j (partner_of (start j) (taken j) n)) ≡ 1
 ended zero zero low low' = refl
 ended (suc zero) zero low low' = refl
 ended (suc (suc j)) n low low' = absurd (omega arith)
 ended j (suc n) low low' = absurd (omega arith)
 
 -- in no other step
-moved_only : (j q e : ℕ) → j < 2 → 0 < length (moved_of e (passed j q))
+pub moved_only : (j q e : ℕ) → j < 2 → 0 < length (moved_of e (passed j q))
     → (n : ℕ) × (e ≡ 3 + n + 1) × (n < 1) × (q ≡ partner_of (start j) (taken j) n)
 moved_only j q e low has =
     (0, at_step e (of_epoch j q e (omega arith)), omega arith, to_partner j q e low (omega arith))
 
 -- nor there
-ended_only : (j q e : ℕ) → j < 2 → 0 < moved_ends e (passed j q)
+pub ended_only : (j q e : ℕ) → j < 2 → 0 < moved_ends e (passed j q)
     → (n : ℕ) × (e ≡ 3 + n + 1) × AllTurned (start j) (taken j) n × (q ≡ partner_of (start j) (taken j) n)
 ended_only j q e low has =
     (0, at_step e (of_epoch j q e (omega arith)), (settled j 0 low (omega arith)).0, to_partner j q e low (omega arith))
 
 -- what it took of joiners was its partner's
-took_of_partner : (j q n : ℕ) → j < 2 → q < 2
+pub took_of_partner : (j q n : ℕ) → j < 2 → q < 2
     → 0 < length (moved_of (3 + n + 1) (passed q j)) + moved_ends (3 + n + 1) (passed q j)
     → (n < 1) × (q ≡ partner_of (start j) (taken j) n)
 took_of_partner j q n low low' has =
@@ -221,7 +222,7 @@ took_of_partner j q n low low' has =
     (omega arith, subst (λ m. q ≡ partner_of (start j) (taken j) m) (sym first) (of_partner j q low low' has'))
 
 -- each joiner keeps its law
-joiner_law : (j : ℕ) → j < 2 → JoinerLaw (start j) (family.joiner j) (taken j)
+pub joiner_law : (j : ℕ) → j < 2 → JoinerLaw (start j) (family.joiner j) (taken j)
 joiner_law zero low = record {
   done = 1;
   of_feeders = λ p low_p. all_of _ (fed 0);
@@ -323,7 +324,7 @@ quiet = record {
 }
 
 -- input and setting are valid
-valid : IsValid input setting
+pub valid : IsValid input setting
 valid = record {
   of_input = record { sides = sides_of; bytes = bytes_of };
   some = omega arith;

@@ -52,3 +52,4 @@ pub mod Later
 pub mod LaterController
 pub mod LaterLaws
 pub mod AcrossWaves
+pub mod Ahead
