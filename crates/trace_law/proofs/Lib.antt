@@ -53,3 +53,4 @@ pub mod LaterController
 pub mod LaterLaws
 pub mod AcrossWaves
 pub mod Ahead
+pub mod TwoWaves
