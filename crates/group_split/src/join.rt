@@ -1,0 +1,246 @@
+// The join in groups.
+
+ghost use Rattle.std.specs.Prelude.{◌≡◌, ◌++◌, ◌∷◌, ◌^◌, ◌<◌, ◌≤◌, [], None, All, IfOk, OnOk, IsPermutation, length, map};
+ghost use Rattle.pair_collector.specs.Order.{InOrder};
+ghost use Rattle.trace_law.specs.Join.{nested_loop};
+ghost use Rattle.trace_law.specs.Validity.{IsValidInput, IsValidSetting};
+ghost use Rattle.group_split.specs.Groups.{AreGroups};
+ghost use Rattle.group_split.specs.Joining.{AddsRun, HasJoined, pairs_of_part};
+ghost use Rattle.group_split.specs.Parts.{IsPartOf, input_of_part, pair_in, part, setting_of_group};
+ghost use Rattle.group_split.specs.Sizes.{digits};
+
+use crate::pairing::add_pairs;
+use crate::parts::{no_part, part, put_rows};
+use crate::sizing::digits;
+use epoch_tags::{Counts, Pairs};
+use join_rows::Items;
+use join_runtime::{Told, Trail, run};
+use pair_collector::in_order;
+use std::alloc::{AllocError, Global};
+use std::sync::Wait;
+use std::thread::Threads;
+use trace_law::{Input, Run, Setting, begins_with_all, limits_suffice, sorts_into_the_loop};
+use worker_gate::Gate;
+
+pub type Runs = Items<Run>;
+
+/// What a join in groups answers.
+#[derive(Drop)]
+pub struct GroupsRun {
+    /// The pairs of all groups, by the row of R and then by the row of S.
+    pub pairs: Pairs,
+    /// The run of each group, in whose pairs R's rows have their numbers within the group, counted from 0.
+    pub runs: Runs,
+    /// What the actors of each group's run leave.
+    pub trail: Trail,
+}
+
+// Of no group.
+fn no_groups(alloc: Global) -> GroupsRun
+    ensures { result ≡ record { pairs = []; runs = []; trail = [] } }
+{
+    GroupsRun {
+        pairs: Pairs::new(alloc),
+        runs: Runs::new(alloc),
+        trail: Trail::new(alloc),
+    }
+}
+
+// The same, its pairs in order.
+fn ordered(found: GroupsRun) -> GroupsRun
+    ensures permutation { IsPermutation found.pairs result.pairs }
+    ensures order { InOrder result.pairs }
+    ensures runs { result.runs ≡ found.runs }
+    ensures trail { result.trail ≡ found.trail }
+{
+    let GroupsRun { pairs, runs, trail } = found;
+    GroupsRun {
+        pairs: in_order(pairs.into_vec()),
+        runs,
+        trail,
+    }
+}
+
+// The setting of the group of this digit.
+fn setting_at(setting: &Setting, place: u64) -> Setting
+    requires { place < 7 }
+    ensures { result ≡ setting_of_group setting.now place }
+{
+    Setting {
+        k: place as u32,
+        ..*setting
+    }
+}
+
+// Adds a group's run, and its pairs by the numbers that its rows have in R.
+fn add_told(found: &mut GroupsRun, indices: &Counts, told: Told) -> Result<(), AllocError>
+    requires there { All (λ pair. pair.i < length indices.now) told.run.pairs }
+    requires small { All (λ index. index < 2 ^ 32) indices.now }
+    ensures pairs { OnOk result
+        (found.new.pairs ≡ found.old.pairs ++ map (pair_in indices.now) told.run.pairs) }
+    ensures runs { OnOk result (found.new.runs ≡ found.old.runs ++ told.run ∷ []) }
+    ensures trail { OnOk result (found.new.trail ≡ found.old.trail ++ told.ends ∷ []) }
+{
+    let Told { run, ends } = told;
+    add_pairs(&mut found.pairs, indices, &run.pairs)?;
+    found.runs.push(run)?;
+    found.trail.push(ends)
+}
+
+// Runs a group's input, whose rows of R have these indices, and adds what it answers.
+fn run_part<R: Threads + Wait + Sync, G: Gate>(
+    rt: &R,
+    alloc: Global,
+    group_input: &Input,
+    indices: &Counts,
+    setting: &Setting,
+    gate: &G,
+    found: &mut GroupsRun,
+) -> Result<(), AllocError>
+    requires input { IsValidInput group_input.now }
+    requires setting { IsValidSetting setting.now }
+    requires rows { length group_input.now.table_r.rows ≡ length indices.now }
+    requires small { All (λ index. index < 2 ^ 32) indices.now }
+    ensures { OnOk result (AddsRun group_input.now setting.now
+        (map (pair_in indices.now) (nested_loop group_input.now)) found.old found.new) }
+{
+    limits_suffice();
+    begins_with_all();
+    let told = run(rt, alloc, group_input, setting, gate)?;
+    add_told(found, indices, told)
+}
+
+// Joins one group, of which `group_input` has the rows then.
+fn join_group<R: Threads + Wait + Sync, G: Gate>(
+    rt: &R,
+    alloc: Global,
+    input: &Input,
+    joiners: u32,
+    numbers: &Counts,
+    group: u64,
+    setting: &Setting,
+    gate: &G,
+    group_input: &mut Input,
+    found: &mut GroupsRun,
+) -> Result<(), AllocError>
+    requires input { IsValidInput input.now }
+    requires setting { IsValidSetting setting.now }
+    requires few { joiners ≤ 64 }
+    requires many { length numbers.now ≡ length input.now.table_r.rows }
+    requires below { All (λ number. number < joiners) numbers.now }
+    requires part { IsPartOf input.now group_input.old }
+    ensures part { OnOk result (IsPartOf input.now group_input.new) }
+    ensures adds { OnOk result (AddsRun
+        (input_of_part input.now (part joiners numbers.now group)) setting.now
+        (pairs_of_part input.now (part joiners numbers.now group)) found.old found.new) }
+{
+    let indices = part(alloc, joiners, numbers, group)?;
+    put_rows(alloc, input, &indices, group_input)?;
+    run_part(rt, alloc, group_input, &indices, setting, gate, found)
+}
+
+// Joins all groups, whose digits these are, one after the other.
+fn join_all<R: Threads + Wait + Sync, G: Gate>(
+    rt: &R,
+    alloc: Global,
+    input: &Input,
+    joiners: u32,
+    numbers: &Counts,
+    places: &Counts,
+    setting: &Setting,
+    gate: &G,
+    group_input: &mut Input,
+) -> Result<GroupsRun, AllocError>
+    requires input { IsValidInput input.now }
+    requires setting { IsValidSetting setting.now }
+    requires free { setting.now.fixed ≡ None }
+    requires few { joiners ≤ 64 }
+    requires many { length numbers.now ≡ length input.now.table_r.rows }
+    requires below { All (λ number. number < joiners) numbers.now }
+    requires places { places.now ≡ digits joiners }
+    requires small { All (λ place. place < 7) places.now }
+    requires part { IsPartOf input.now group_input.old }
+    ensures { IfOk result (λ found.
+        HasJoined input.now joiners numbers.now setting.now (length (digits joiners)) found) }
+{
+    let mut found = no_groups(alloc);
+    for group in 0..places.len() {
+        let its = setting_at(setting, *places.at(group));
+        join_group(
+            rt,
+            alloc,
+            input,
+            joiners,
+            numbers,
+            group,
+            &its,
+            gate,
+            group_input,
+            &mut found,
+        )?;
+    }
+    Ok(found)
+}
+
+// Makes the input that the groups have one after the other, and joins them all.
+fn join_parts<R: Threads + Wait + Sync, G: Gate>(
+    rt: &R,
+    alloc: Global,
+    input: &Input,
+    joiners: u32,
+    numbers: &Counts,
+    setting: &Setting,
+    gate: &G,
+) -> Result<GroupsRun, AllocError>
+    requires input { IsValidInput input.now }
+    requires setting { IsValidSetting setting.now }
+    requires free { setting.now.fixed ≡ None }
+    requires few { joiners ≤ 64 }
+    requires many { length numbers.now ≡ length input.now.table_r.rows }
+    requires below { All (λ number. number < joiners) numbers.now }
+    ensures { IfOk result (λ found.
+        HasJoined input.now joiners numbers.now setting.now (length (digits joiners)) found) }
+{
+    let places = digits(alloc, joiners)?;
+    let mut group_input = no_part(alloc, input)?;
+    join_all(
+        rt,
+        alloc,
+        input,
+        joiners,
+        numbers,
+        &places,
+        setting,
+        gate,
+        &mut group_input,
+    )
+}
+
+/// Joins in groups of joiners, so many in all: a run for each group, over the rows of R whose number is of the group and
+/// all of S, one run after the other. The setting's `k` isn't used. What it promises holds if it returns.
+pub fn run_groups<R: Threads + Wait + Sync, G: Gate>(
+    rt: &R,
+    alloc: Global,
+    input: &Input,
+    joiners: u32,
+    numbers: &Counts,
+    setting: &Setting,
+    gate: &G,
+) -> Result<GroupsRun, AllocError>
+    requires input { IsValidInput input.now }
+    requires setting { IsValidSetting setting.now }
+    requires free { setting.now.fixed ≡ None }
+    requires some { 1 ≤ joiners }
+    requires few { joiners ≤ 64 }
+    requires many { length numbers.now ≡ length input.now.table_r.rows }
+    requires below { All (λ number. number < joiners) numbers.now }
+    ensures pairs { IfOk result (λ answer. answer.pairs ≡ nested_loop input.now) }
+    ensures groups { IfOk result (λ answer.
+        AreGroups input.now joiners numbers.now setting.now answer.runs answer.trail) }
+{
+    limits_suffice();
+    begins_with_all();
+    sorts_into_the_loop();
+    let found = join_parts(rt, alloc, input, joiners, numbers, setting, gate)?;
+    Ok(ordered(found))
+}

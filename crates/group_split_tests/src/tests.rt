@@ -1,0 +1,255 @@
+ghost use Rattle.std.specs.Prelude.{◌<◌, ◌↔◌, All, IsTrue};
+
+use epoch_tags::{Counts, Pairs};
+use grid_map::Weights;
+use group_split::{GroupsRun, group_of, numbers, run_groups, sizes};
+use join_rows::{Bytes, Cell, Cells, Names, Rows, Table};
+use row_tickets::Feed;
+use std::alloc::{AllocError, Global};
+use std::sync::Wait;
+use std::test::Fail;
+use std::thread::Threads;
+use theta_pred::{Theta, parse, resolve};
+use trace_law::{Input, Run, Setting};
+use worker_gate::NoGate;
+
+// Numbers below 100 as one number, two digits each.
+fn as_number(numbers: &Counts) -> u64 {
+    let mut all = 0u64;
+    for number in numbers.as_slice() {
+        all = all.wrapping_mul(100).wrapping_add(*number);
+    }
+    all
+}
+
+fn sizes_of(alloc: Global, joiners: u32) -> Result<u64, AllocError> {
+    if !(1..=64).contains(&joiners) {
+        return Err(AllocError);
+    }
+    let sizes = sizes(alloc, joiners)?;
+    Ok(as_number(&sizes))
+}
+
+fn numbers_of(alloc: Global, seed: u64, joiners: u32, count: u64) -> Result<u64, AllocError> {
+    if !(1..=64).contains(&joiners) {
+        return Err(AllocError);
+    }
+    let numbers = numbers(alloc, seed, joiners, count)?;
+    Ok(as_number(&numbers))
+}
+
+fn group_at(joiners: u32, number: u64) -> Option<u32> {
+    if joiners <= 64 && number < u64::from(joiners) {
+        Some(group_of(joiners, number))
+    } else {
+        None
+    }
+}
+
+#[test]
+fn sizes_are_those_of_the_binary_digits(rt: HostRuntime) -> Result<(), Fail> {
+    let cases = [
+        (1u32, 1u64),
+        (5, 4_01),
+        (6, 4_02),
+        (7, 4_02_01),
+        (63, 32_16_08_04_02_01),
+        (64, 64),
+    ];
+    for (joiners, wanted) in cases {
+        assert_eq!(rt; sizes_of(rt.alloc(), joiners)?, wanted, "{joiners} joiners");
+    }
+    Ok(())
+}
+
+#[test]
+fn each_number_is_of_one_group(rt: HostRuntime) -> Result<(), Fail> {
+    let cases = [
+        (5u32, 3u64, 0u32),
+        (5, 4, 1),
+        (7, 3, 0),
+        (7, 4, 1),
+        (7, 6, 2),
+        (63, 62, 5),
+        (64, 63, 0),
+    ];
+    for (joiners, number, wanted) in cases {
+        assert_eq!(rt;
+            group_at(joiners, number),
+            Some(wanted),
+            "{number} of {joiners}"
+        );
+    }
+    Ok(())
+}
+
+// Those of seed 42 are the words of another program's generator.
+#[test]
+fn numbers_are_words_of_stream_57(rt: HostRuntime) -> Result<(), Fail> {
+    assert_eq!(rt; numbers_of(rt.alloc(), 1, 1, 3)?, 0, "one joiner");
+    assert_eq!(rt;
+        numbers_of(rt.alloc(), 42, 5, 8)?,
+        4_03_03_02_01_04_01_02,
+        "five"
+    );
+    assert_eq!(rt;
+        numbers_of(rt.alloc(), 42, 64, 4)?,
+        23_49_26_53,
+        "sixty-four"
+    );
+    Ok(())
+}
+
+fn row(alloc: Global, number: i64) -> Result<Cells, AllocError> {
+    let mut row = Cells::new(alloc);
+    row.push(Cell {
+        text: Bytes::new(alloc),
+        num: Some(number),
+    })?;
+    Ok(row)
+}
+
+// A table with one column.
+fn table(alloc: Global, name: &[u8], numbers: [i64; 3]) -> Result<Table, AllocError> {
+    let mut names = Names::new(alloc);
+    names.push(Bytes::from_slice(alloc, name)?)?;
+    let mut rows = Rows::new(alloc);
+    for number in numbers {
+        rows.push(row(alloc, number)?)?;
+    }
+    Ok(Table { names, rows })
+}
+
+fn equality(alloc: Global, table_r: &Table, table_s: &Table) -> Result<Theta, AllocError> {
+    let Ok(pred) = parse(alloc, "r.x = s.y") else {
+        return Err(AllocError);
+    };
+    match resolve(alloc, &pred, &table_r.names, &table_s.names) {
+        Ok(theta) => Ok(theta),
+        Err(_) => Err(AllocError),
+    }
+}
+
+fn three_rows_a_side(alloc: Global) -> Result<Input, AllocError> {
+    let tickets_r = Bytes::from_slice(alloc, &[161, 123, 186])?;
+    let tickets_s = Bytes::from_slice(alloc, &[161, 123, 186])?;
+    let table_r = table(alloc, b"x", [10, 20, 30])?;
+    let table_s = table(alloc, b"y", [20, 30, 20])?;
+    let theta = equality(alloc, &table_r, &table_s)?;
+    Ok(Input {
+        table_r,
+        table_s,
+        theta,
+        tickets_r,
+        tickets_s,
+    })
+}
+
+// Two feeders and two workers; the number of joiners in it isn't used.
+fn setting() -> Setting {
+    Setting {
+        k: 0,
+        feeders: 2,
+        workers: 2,
+        batch: 1,
+        feed: Feed::Alternate,
+        fixed: None,
+        weights: Weights { r: 1, s: 1 },
+    }
+}
+
+fn all_below(numbers: &Counts, joiners: u64) -> bool
+    ensures { IsTrue result ↔ All (λ number. number < joiners) numbers.now }
+{
+    numbers.as_slice().iter().all(|number| *number < joiners)
+}
+
+fn run_checked<R: Threads + Wait + Sync>(
+    rt: &R,
+    alloc: Global,
+    input: &Input,
+    joiners: u32,
+    numbers: &Counts,
+    setting: &Setting,
+) -> Result<GroupsRun, AllocError> {
+    if input.valid()
+        && setting.valid()
+        && setting.fixed.is_none()
+        && (1..=64).contains(&joiners)
+        && numbers.len() == input.table_r.rows.len()
+        && all_below(numbers, u64::from(joiners))
+    {
+        run_groups(rt, alloc, input, joiners, numbers, setting, &NoGate)
+    } else {
+        Err(AllocError)
+    }
+}
+
+// The pairs as digits: each row of R and of S, behind a 9.
+fn pairs_number(pairs: &Pairs) -> u64 {
+    let mut number = 9u64;
+    for pair in pairs.as_slice() {
+        let digits = u64::from(pair.i)
+            .wrapping_mul(10)
+            .wrapping_add(u64::from(pair.j));
+        number = number.wrapping_mul(100).wrapping_add(digits);
+    }
+    number
+}
+
+fn pairs_of(run: Option<&Run>) -> u64 {
+    match run {
+        Some(run) => pairs_number(&run.pairs),
+        None => 0,
+    }
+}
+
+// What is seen of an answer: all pairs, those of the first two groups, and how many groups left their ends.
+fn seen(answer: &GroupsRun) -> (u64, u64, u64, u64) {
+    let runs = answer.runs.as_slice();
+    (
+        pairs_number(&answer.pairs),
+        pairs_of(runs.first()),
+        pairs_of(runs.get(1)),
+        answer.trail.len(),
+    )
+}
+
+// The same of three rows a side with these numbers.
+fn seen_of_three<R: Threads + Wait + Sync>(
+    rt: &R,
+    alloc: Global,
+    joiners: u32,
+    numbers: &Counts,
+) -> Result<(u64, u64, u64, u64), AllocError> {
+    let input = three_rows_a_side(alloc)?;
+    let answer = run_checked(rt, alloc, &input, joiners, numbers, &setting())?;
+    Ok(seen(&answer))
+}
+
+fn seen_with<R: Threads + Wait + Sync>(
+    rt: &R,
+    alloc: Global,
+    joiners: u32,
+    numbers: [u64; 3],
+) -> Result<(u64, u64, u64, u64), AllocError> {
+    let mut held = Counts::new(alloc);
+    for number in numbers {
+        held.push(number)?;
+    }
+    seen_of_three(rt, alloc, joiners, &held)
+}
+
+#[test]
+fn two_groups_find_the_pairs(rt: HostRuntime) -> Result<(), Fail> {
+    let seen = seen_with(&rt, rt.alloc(), 5, [0, 4, 2])?;
+    assert_eq!(rt; seen, (9_10_12_21, 9_11, 9_00_02, 2));
+    Ok(())
+}
+
+#[test]
+fn a_group_without_rows_finds_none(rt: HostRuntime) -> Result<(), Fail> {
+    let seen = seen_with(&rt, rt.alloc(), 3, [0, 0, 0])?;
+    assert_eq!(rt; seen, (9_10_12_21, 9_10_12_21, 9, 2));
+    Ok(())
+}
