@@ -47,6 +47,7 @@ rules = text_rule (codes "on")
     ∷ flag_rule (codes "early")
     ∷ flag_rule (codes "report")
     ∷ flag_rule (codes "rows")
+    ∷ flag_rule (codes "groups")
     ∷ files_rule (codes "files") ∷ []
 
 -- a command with these arguments too

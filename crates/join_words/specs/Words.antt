@@ -1,5 +1,5 @@
 -- What the words of the command line ask for.
-use Rattle.std.specs.Prelude.{◌≡◌, ◌≤◌, ℕ, Bool, true, false, List, [], ◌∷◌, Option, Some, None, IfSome, Result, Ok, Err, codes, unwrap_or, option_and_then, nat_le, if◌then◌else◌}
+use Rattle.std.specs.Prelude.{◌≡◌, ◌≤◌, ℕ, Bool, true, false, List, [], ◌∷◌, length, Option, Some, None, IfSome, is_some, Result, Ok, Err, codes, unwrap_or, option_and_then, nat_le, nat_lt, if◌then◌else◌}
 use Rattle.std.specs.Int.{is_power_of_two, trailing_zeros, w64}
 use Rattle.std.specs.Borrow.{Bor}
 use Rattle.std.specs.Str.{bytes_eq}
@@ -13,12 +13,14 @@ use Rattle.clap.specs.Walk.{Row, Text, all_of, first_of}
 use Rattle.clap.specs.Simple.{matches_of}
 use Rattle.clap.specs.Faults.{fault_of}
 use Rattle.clap.specs.Kinds.{Kinds}
+use Rattle.join_words.specs.Apart.{any_of, apart}
 use Rattle.join_words.specs.Command.{jm_command}
+use Rattle.join_words.specs.declared.apart.Given.{Given}
 use Rattle.join_words.specs.declared.options.Options.{Options}
 use Rattle.join_words.specs.declared.options.WordsFault.{WordsFault}
 use Rattle.join_words.specs.declared.options.WordsFault.TheVariants.{NoMatch, Joiners, Fixed, Together, Files}
 
--- what the words ask for: the predicate's text; 2^k joiners; the feeders; the workers, which are the threads of a run that
+-- what the words ask for: the predicate's text; 2^k joiners, or how many there are where they form groups; the feeders; the workers, which are the threads of a run that
 -- isn't a replay; how many rows each feeder asks for at once and in which order; the shift at which the grid stays, where one
 -- is given; what a row of each side weighs in a grid's load; the seed of the tickets; the seed of the order of a replay, where
 -- one is given; how many rows a side has, where tables are to be made; whether the pairs of each bout are wanted early; whether a
@@ -26,6 +28,7 @@ use Rattle.join_words.specs.declared.options.WordsFault.TheVariants.{NoMatch, Jo
 pub record Asked : Type 0 where
   pub on : List ℕ
   pub k : ℕ
+  pub groups : Option ℕ
   pub feeders : ℕ
   pub workers : ℕ
   pub batch : ℕ
@@ -46,6 +49,7 @@ abbrev pub asked : Options → Asked
 asked options = record {
   on = options.on.now;
   k = options.k;
+  groups = options.groups;
   feeders = options.feeders;
   workers = options.workers;
   batch = options.batch;
@@ -104,6 +108,26 @@ weights_at rows = record { r = unwrap_or (number_at (codes "weight-r") rows) 1; 
 abbrev pub make_at : List Row → Option ℕ
 make_at rows = number_at (codes "make") rows
 
+-- whether the joiners are to form groups
+abbrev pub groups_at : List Row → Bool
+groups_at rows = flag_at (codes "groups") rows
+
+-- the names of files
+abbrev pub names_given : List Row → List Text
+names_given rows = unwrap_or (all_of (codes "files") rows) []
+
+-- which of the words are given that don't stand together with each other one
+abbrev pub given_by : List Row → Given
+given_by rows = record {
+  fixed = is_some (number_at (codes "fixed") rows);
+  replay = is_some (number_at (codes "replay") rows);
+  make = is_some (make_at rows);
+  early = flag_at (codes "early") rows;
+  rows = flag_at (codes "rows") rows;
+  groups = groups_at rows;
+  many_files = nat_lt 2 (length (names_given rows));
+}
+
 -- ---- the checks, in their order
 
 -- one check after another
@@ -128,19 +152,24 @@ abbrev pub fixed_within : ℕ → Option ℕ → Result (Option ℕ) WordsFault
 fixed_within k None = Ok None
 fixed_within k (Some fixed) = if nat_le fixed k then Ok (Some fixed) else Err Fixed
 
--- made tables don't go together with joined rows
-abbrev pub make_apart : Option ℕ → Bool → Result (Option ℕ) WordsFault
-make_apart None joined = Ok None
-make_apart (Some count) false = Ok (Some count)
-make_apart (Some count) true = Err Together
+-- k of the joiners' number; groups have theirs each
+abbrev pub grid_of : Bool → ℕ → Result ℕ WordsFault
+grid_of false joiners = exponent_of joiners
+grid_of true joiners = Ok 0
 
--- early output doesn't go together with a replay, made tables or joined rows
-abbrev pub early_alone : Bool → Option ℕ → Option ℕ → Bool → Result Bool WordsFault
-early_alone false replay make joined = Ok false
-early_alone true None None false = Ok true
-early_alone true None None true = Err Together
-early_alone true None (Some count) joined = Err Together
-early_alone true (Some order) make joined = Err Together
+-- the shift at which the grid stays, where one is given; with groups it isn't looked at here
+abbrev pub staying_of : Bool → ℕ → Option ℕ → Result (Option ℕ) WordsFault
+staying_of false k fixed = fixed_within k fixed
+staying_of true k fixed = Ok None
+
+-- how many joiners there are, where they form groups
+abbrev pub members_of : Bool → ℕ → Option ℕ
+members_of false joiners = None
+members_of true joiners = Some joiners
+
+-- no two words are given that don't stand together
+abbrev pub unless_apart : {A : Type 0} → Given → Result A WordsFault → Result A WordsFault
+unless_apart given next = if any_of given apart then Err Together else next
 
 -- just two names
 abbrev pub two_names : List Text → Result (Text × Text) WordsFault
@@ -149,7 +178,7 @@ two_names _ = Err Files
 
 -- the names of the two files
 abbrev pub files_at : List Row → Result (Text × Text) WordsFault
-files_at rows = two_names (unwrap_or (all_of (codes "files") rows) [])
+files_at rows = two_names (names_given rows)
 
 -- no name
 abbrev pub no_names : List Text → Result (Text × Text) WordsFault
@@ -158,7 +187,7 @@ no_names _ = Err Files
 
 -- where tables are made, no file is named
 abbrev pub no_files_at : List Row → Result (Text × Text) WordsFault
-no_files_at rows = no_names (unwrap_or (all_of (codes "files") rows) [])
+no_files_at rows = no_names (names_given rows)
 
 -- the names of the two files, and none where tables are made
 abbrev pub names_at : Option ℕ → List Row → Result (Text × Text) WordsFault
@@ -169,13 +198,13 @@ names_at (Some count) rows = no_files_at rows
 abbrev pub asked_by : List Row → Result Asked WordsFault
 asked_by rows =
     then_of (feed_named (text_at (codes "feed") rows)) (λ feed.
-    then_of (exponent_of (joiners_at rows)) (λ k.
-    then_of (fixed_within k (number_at (codes "fixed") rows)) (λ fixed.
-    then_of (make_apart (make_at rows) (flag_at (codes "rows") rows)) (λ make.
-    then_of (early_alone (flag_at (codes "early") rows) (number_at (codes "replay") rows) make (flag_at (codes "rows") rows)) (λ early.
-    then_of (names_at make rows) (λ names. Ok (record {
+    then_of (grid_of (groups_at rows) (joiners_at rows)) (λ k.
+    then_of (staying_of (groups_at rows) k (number_at (codes "fixed") rows)) (λ fixed.
+    unless_apart (given_by rows) (
+    then_of (names_at (make_at rows) rows) (λ names. Ok (record {
       on = text_at (codes "on") rows;
       k = k;
+      groups = members_of (groups_at rows) (joiners_at rows);
       feeders = feeders_at rows;
       workers = workers_at rows;
       batch = batch_at rows;
@@ -184,13 +213,13 @@ asked_by rows =
       weights = weights_at rows;
       seed = unwrap_or (number_at (codes "seed") rows) 1;
       replay = number_at (codes "replay") rows;
-      make = make;
-      early = early;
+      make = make_at rows;
+      early = flag_at (codes "early") rows;
       report = flag_at (codes "report") rows;
       rows = flag_at (codes "rows") rows;
       name_r = names.0;
       name_s = names.1;
-    })))))))
+    }))))))
 
 -- ---- the words
 
@@ -205,7 +234,7 @@ asked_of words = asked_unless (fault_of jm_command words) (matches_of jm_command
 
 -- the numbers of a match are within the bounds of their arguments
 pub record AreBounded (rows : List Row) : Type 0 where
-  pub joiners : joiners_at rows ≤ 64
+  pub joiners : (1 ≤ joiners_at rows) × (joiners_at rows ≤ 64)
   pub feeders : (1 ≤ feeders_at rows) × (feeders_at rows ≤ 8)
   pub workers : (1 ≤ workers_at rows) × (workers_at rows ≤ 16)
   pub batch : (1 ≤ batch_at rows) × (batch_at rows ≤ 4096)

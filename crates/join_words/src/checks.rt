@@ -4,10 +4,12 @@ ghost use Rattle.std.specs.Prelude.{◌≡◌, ◌≤◌, ◌<◌, ◌^◌, IfOk
 ghost use Rattle.clap.specs.Matches.{found_of};
 ghost use Rattle.clap.specs.Walk.{rows_of};
 ghost use Rattle.grid_map.specs.Load.{AreWeights};
-ghost use Rattle.join_words.specs.Words.{AreBounded, Gives, asked_by, early_alone, exponent_of, feed_named, fixed_within, make_apart, number_at, weights_at};
+ghost use Rattle.join_words.specs.Words.{AreBounded, Gives, asked_by, exponent_of, feed_named, fixed_within, given_by};
+ghost use Rattle.join_words.specs.Words.{grid_of, members_of, number_at, staying_of, weights_at};
 
+use crate::apart::Given;
 use crate::found::{flag, number, text};
-use crate::names::names;
+use crate::names::{are_many, names};
 use crate::options::{Options, WordsFault};
 use clap::ArgMatches;
 use grid_map::Weights;
@@ -69,33 +71,44 @@ fn feed(name: &str) -> Result<Feed, WordsFault>
     }
 }
 
-/// How many rows a side is to have; not where joined rows are wanted.
-fn apart(make: Option<u64>, rows: bool) -> Result<Option<u64>, WordsFault>
-    ensures exact { result ≡ make_apart make rows }
-    ensures same { IfOk result (λ count. count ≡ make) }
-    ensures alone { IfOk result (λ count. IfSome count (λ _. rows ≡ false)) }
+/// k of the joiners' number; groups have theirs each.
+fn grid(groups: bool, joiners: u64) -> Result<u32, WordsFault>
+    ensures exact { result ≡ grid_of groups joiners }
+    ensures small { joiners ≤ 64 → IfOk result (λ k. k ≤ 6) }
 {
-    match make {
-        Some(_) if rows => Err(WordsFault::Together),
-        _ => Ok(make),
-    }
+    if groups { Ok(0) } else { exponent(joiners) }
 }
 
-/// Whether pairs are wanted early; not with a replay, made tables or joined rows.
-fn alone(
-    early: bool,
-    replay: Option<u64>,
-    make: Option<u64>,
-    rows: bool,
-) -> Result<bool, WordsFault>
-    ensures exact { result ≡ early_alone early replay make rows }
-    ensures alone { IfOk result (λ early.
-        early ≡ true → (replay ≡ None) × (make ≡ None) × (rows ≡ false)) }
+/// The shift at which the grid stays, where one is given. With groups it isn't looked at here.
+fn staying(groups: bool, k: u32, fixed: Option<u64>) -> Result<Option<u32>, WordsFault>
+    ensures exact { result ≡ staying_of groups k fixed }
+    ensures fits { IfOk result (λ fixed. IfSome fixed (λ fixed. fixed ≤ k)) }
+    ensures none { groups ≡ true → IfOk result (λ fixed. fixed ≡ None) }
 {
-    match (early, replay, make, rows) {
-        (false, _, _, _) => Ok(false),
-        (true, None, None, false) => Ok(true),
-        _ => Err(WordsFault::Together),
+    if groups { Ok(None) } else { within(k, fixed) }
+}
+
+/// How many joiners there are, where they form groups.
+fn members(groups: bool, joiners: u64) -> Option<u32>
+    requires { joiners ≤ 64 }
+    ensures exact { result ≡ members_of groups joiners }
+    ensures same { IfSome result (λ members. (members ≡ joiners) × (groups ≡ true)) }
+{
+    if groups { Some(joiners as u32) } else { None }
+}
+
+/// Which of the words are given that don't stand together with each other one.
+fn given(matches: &ArgMatches<'_>) -> Given
+    ensures { result ≡ given_by (rows_of (found_of matches.now)) }
+{
+    Given {
+        fixed: number(matches, "fixed").is_some(),
+        replay: number(matches, "replay").is_some(),
+        make: number(matches, "make").is_some(),
+        early: flag(matches, "early"),
+        rows: flag(matches, "rows"),
+        groups: flag(matches, "groups"),
+        many_files: are_many(matches),
     }
 }
 
@@ -114,18 +127,25 @@ pub(crate) fn checked<'a>(matches: &ArgMatches<'a>) -> Result<Options<'a>, Words
     ensures apart { IfOk result (λ options. IfSome options.make (λ _. options.rows ≡ false)) }
     ensures alone { IfOk result (λ options. options.early ≡ true
         → (options.replay ≡ None) × (options.make ≡ None) × (options.rows ≡ false)) }
+    ensures groups { IfOk result (λ options.
+        IfSome options.groups (λ joiners. (1 ≤ joiners) × (joiners ≤ 64))) }
+    ensures grouped { IfOk result (λ options. IfSome options.groups (λ _.
+        (options.fixed ≡ None) × (options.early ≡ false) × (options.replay ≡ None))) }
 {
     let feed = feed(text(matches, "feed"))?;
-    let k = exponent(number(matches, "joiners").unwrap_or(4))?;
-    let fixed = within(k, number(matches, "fixed"))?;
-    let rows = flag(matches, "rows");
-    let make = apart(number(matches, "make"), rows)?;
-    let replay = number(matches, "replay");
-    let early = alone(flag(matches, "early"), replay, make, rows)?;
+    let groups = flag(matches, "groups");
+    let joiners = number(matches, "joiners").unwrap_or(4);
+    let k = grid(groups, joiners)?;
+    let fixed = staying(groups, k, number(matches, "fixed"))?;
+    if given(matches).clash() {
+        return Err(WordsFault::Together);
+    }
+    let make = number(matches, "make");
     let (name_r, name_s) = names(matches, make)?;
     Ok(Options {
         on: text(matches, "on"),
         k,
+        groups: members(groups, joiners),
         feeders: small_number(matches, "feeders", 2),
         workers: small_number(matches, "workers", 4),
         batch: small_number(matches, "batch", 64),
@@ -133,11 +153,11 @@ pub(crate) fn checked<'a>(matches: &ArgMatches<'a>) -> Result<Options<'a>, Words
         fixed,
         weights: weights(matches),
         seed: number(matches, "seed").unwrap_or(1),
-        replay,
+        replay: number(matches, "replay"),
         make,
-        early,
+        early: flag(matches, "early"),
         report: flag(matches, "report"),
-        rows,
+        rows: flag(matches, "rows"),
         name_r,
         name_s,
     })

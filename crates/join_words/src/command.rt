@@ -79,5 +79,6 @@ pub(crate) fn command<'a>(alloc: Global) -> Result<Command<'a>, AllocError>
         .arg(flag(alloc, "early"))?
         .arg(flag(alloc, "report"))?
         .arg(flag(alloc, "rows"))?
+        .arg(flag(alloc, "groups"))?
         .arg(files(alloc, "files"))
 }

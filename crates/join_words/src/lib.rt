@@ -1,6 +1,7 @@
 //! The words of the command line: what they ask for, or the first thing that is wrong with them.
 #![tactic(auto)]
 
+mod apart;
 mod checks;
 mod command;
 mod found;
@@ -12,6 +13,3 @@ mod reading;
 pub use laws::requests_have_no_match;
 pub use options::{Options, WordsError, WordsFault};
 pub use reading::read_words;
-
-#[cfg(test)]
-mod tests;

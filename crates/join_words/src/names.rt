@@ -3,7 +3,8 @@
 ghost use Rattle.std.specs.Prelude.{◌≡◌};
 ghost use Rattle.clap.specs.Matches.{found_of};
 ghost use Rattle.clap.specs.Walk.{rows_of, texts};
-ghost use Rattle.join_words.specs.Words.{GivesFiles, files_at, names_at, no_files_at, no_names, two_names};
+ghost use Rattle.std.specs.Prelude.{length, nat_lt};
+ghost use Rattle.join_words.specs.Words.{GivesFiles, files_at, names_at, names_given, no_files_at, no_names, two_names};
 
 use crate::options::WordsFault;
 use clap::ArgMatches;
@@ -45,6 +46,16 @@ fn no_files<'a>(matches: &ArgMatches<'a>) -> Result<(&'a str, &'a str), WordsFau
     match matches.get_strs("files") {
         Some(names) => none(names),
         None => Ok(("", "")),
+    }
+}
+
+/// Whether there are more than two names of files.
+pub(crate) fn are_many(matches: &ArgMatches<'_>) -> bool
+    ensures { result ≡ nat_lt 2 (length (names_given (rows_of (found_of matches.now)))) }
+{
+    match matches.get_strs("files") {
+        Some(names) => names.len() > 2,
+        None => false,
     }
 }
 

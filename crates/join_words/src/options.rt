@@ -8,8 +8,11 @@ use row_tickets::Feed;
 pub struct Options<'a> {
     /// The text of the predicate.
     pub on: &'a str,
-    /// There are 2^k joiners.
+    /// There are 2^k joiners, unless they form groups; k is 0 then.
     pub k: u32,
+    /// How many joiners there are, 1 to 64, where they are to form groups: one for each binary digit of the number,
+    /// of as many joiners as the digit is worth. No shift is fixed then, there is no replay, and pairs aren't wanted early.
+    pub groups: Option<u32>,
     /// How many feeders share the rows, 1 to 8.
     pub feeders: u32,
     /// How many threads work the run, 1 to 16. A replay has one thread, whatever stands here.
@@ -29,8 +32,8 @@ pub struct Options<'a> {
     pub replay: Option<u64>,
     /// How many rows a side has, 1 to 65,536, where tables are to be made. There are no files then.
     pub make: Option<u64>,
-    /// The pairs are wanted as they are found, bout by bout. There is no replay then, there are files, and joined rows aren't
-    /// wanted.
+    /// The pairs are wanted as they are found, bout by bout. There is no replay then, there are files, joined rows aren't
+    /// wanted, and joiners form no groups.
     pub early: bool,
     /// A report is wanted beside the output.
     pub report: bool,
@@ -48,11 +51,12 @@ pub enum WordsFault {
     /// The list of words is empty, or the command has no match for it, or `--feed` has no order's name. A
     /// request for help or for the version is no match.
     NoMatch,
-    /// The number of joiners isn't a power of two.
+    /// The number of joiners isn't a power of two. With `--groups` any number will do.
     Joiners,
-    /// `--fixed` is given, and is greater than k.
+    /// `--fixed` is given without `--groups`, and is greater than k.
     Fixed,
-    /// `--early` stands with `--replay`, `--make` or `--rows`; or `--make` stands with `--rows`.
+    /// `--early` stands with `--replay`, `--make` or `--rows`; `--make` stands with `--rows`; or `--groups` stands with
+    /// `--fixed`, `--early`, `--replay` or more than two names of files.
     Together,
     /// There aren't just two names of files, or with `--make` there is one.
     Files,

@@ -64,6 +64,10 @@ pub fn read_words<'a>(alloc: Global, words: &'a [String]) -> Result<Options<'a>,
     ensures apart { IfOk result (λ options. IfSome options.make (λ _. options.rows ≡ false)) }
     ensures alone { IfOk result (λ options. options.early ≡ true
         → (options.replay ≡ None) × (options.make ≡ None) × (options.rows ≡ false)) }
+    ensures groups { IfOk result (λ options.
+        IfSome options.groups (λ joiners. (1 ≤ joiners) × (joiners ≤ 64))) }
+    ensures grouped { IfOk result (λ options. IfSome options.groups (λ _.
+        (options.fixed ≡ None) × (options.early ≡ false) × (options.replay ≡ None))) }
 {
     let matches = matched(alloc, words)?;
     match checked(&matches) {

@@ -57,6 +57,9 @@ returns c =
     let r15 : Rule = flag_rule (codes "rows") in
     let a15 : App = with_rule a14 r15 in
     let e15 : IsApp c.in_ok-arg-15.field-0 a15 = added a14 c.in_ok-arg-14.field-0 c.in_ok-arg-15.field-0 c.flag-3.result r15 e14 c.flag-3.ensures.local c.flag-3.ensures.rule c.in_ok-arg-15.ensures in
-    IfOk-weaker c.arg-16.result (λ r. AddsArg c.in_ok-arg-15.field-0 c.files.result r) (λ r. IsCommand (app_of r)) (λ r adds.
-    let e16 : IsApp r (with_rule a15 (files_rule (codes "files"))) = added a15 c.in_ok-arg-15.field-0 r c.files.result (files_rule (codes "files")) e15 c.files.ensures.local c.files.ensures.rule adds in
-    record { is = e16.is }) c.arg-16.ensures
+    let r16 : Rule = flag_rule (codes "groups") in
+    let a16 : App = with_rule a15 r16 in
+    let e16 : IsApp c.in_ok-arg-16.field-0 a16 = added a15 c.in_ok-arg-15.field-0 c.in_ok-arg-16.field-0 c.flag-4.result r16 e15 c.flag-4.ensures.local c.flag-4.ensures.rule c.in_ok-arg-16.ensures in
+    IfOk-weaker c.arg-17.result (λ r. AddsArg c.in_ok-arg-16.field-0 c.files.result r) (λ r. IsCommand (app_of r)) (λ r adds.
+    let e17 : IsApp r (with_rule a16 (files_rule (codes "files"))) = added a16 c.in_ok-arg-16.field-0 r c.files.result (files_rule (codes "files")) e16 c.files.ensures.local c.files.ensures.rule adds in
+    record { is = e17.is }) c.arg-17.ensures

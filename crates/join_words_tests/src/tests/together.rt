@@ -1,5 +1,5 @@
 use super::{PLAIN, words};
-use crate::{Options, WordsError, WordsFault, read_words};
+use join_words::{Options, WordsError, WordsFault, read_words};
 use std::test::Fail;
 
 fn made(count: u64) -> Options<'static> {
@@ -34,12 +34,41 @@ fn made_tables_joined_rows_and_early_pairs(rt: HostRuntime) -> Result<(), Fail> 
     Ok(())
 }
 
+fn groups(joiners: u32) -> Options<'static> {
+    Options {
+        k: 0,
+        groups: Some(joiners),
+        ..PLAIN
+    }
+}
+
+#[test]
+fn any_number_of_joiners_forms_groups(rt: HostRuntime) -> Result<(), Fail> {
+    let made = Options {
+        make: Some(7),
+        name_r: "",
+        name_s: "",
+        ..groups(63)
+    };
+    let cases = [
+        ("jm|--on|p|--groups|r|s", groups(4)),
+        ("jm|--on|p|--joiners|5|--groups|r|s", groups(5)),
+        ("jm|--groups|--joiners=1|--on|p|r|s", groups(1)),
+        ("jm|--on|p|--joiners|63|--groups|--make|7", made),
+    ];
+    for (line, wanted) in cases {
+        let words = words(rt.alloc(), line)?;
+        assert_eq!(rt; read_words(rt.alloc(), &words), Ok(wanted), "{line}");
+    }
+    Ok(())
+}
+
 #[test]
 fn faults_of_words_that_do_not_go_together(rt: HostRuntime) -> Result<(), Fail> {
     let cases = [
         (
             WordsFault::NoMatch,
-            "jm|--on|p|--make|0\njm|--on|p|--make|65537\njm|--on|p|--make\njm|--on|p|--rows=true|r|s\njm|--on|p|--make|3|--rows|--feed|both\njm|--on|p|--early=true|r|s",
+            "jm|--on|p|--make|0\njm|--on|p|--make|65537\njm|--on|p|--make\njm|--on|p|--rows=true|r|s\njm|--on|p|--make|3|--rows|--feed|both\njm|--on|p|--early=true|r|s\njm|--on|p|--groups=true|r|s\njm|--on|p|--groups|--joiners|65|r|s\njm|--on|p|--groups|--groups|r|s",
         ),
         (
             WordsFault::Fixed,
@@ -50,8 +79,12 @@ fn faults_of_words_that_do_not_go_together(rt: HostRuntime) -> Result<(), Fail> 
             "jm|--on|p|--make|3|--rows\njm|--on|p|--rows|--make|3|r|s\njm|--on|p|--early|--rows|r|s\njm|--on|p|--early|--replay|7|r|s\njm|--on|p|--early|--make|3\njm|--on|p|--early|--make|3|--rows|r",
         ),
         (
+            WordsFault::Together,
+            "jm|--on|p|--groups|--fixed|0|r|s\njm|--on|p|--groups|--joiners|3|--fixed|6|r|s\njm|--on|p|--early|--groups|r|s\njm|--on|p|--groups|--replay|7|r|s\njm|--on|p|--groups|r|s|t\njm|--on|p|--groups|--make|3|r|s|t|u",
+        ),
+        (
             WordsFault::Files,
-            "jm|--on|p|--make|3|r|s\njm|--on|p|--make|3|r\njm|--on|p|--rows|r\njm|--on|p|--rows\njm|--on|p|--early|r",
+            "jm|--on|p|--make|3|r|s\njm|--on|p|--make|3|r\njm|--on|p|--rows|r\njm|--on|p|--rows\njm|--on|p|--early|r\njm|--on|p|--groups|r\njm|--on|p|--groups|--make|3|r|s\njm|--on|p|--early|r|s|t",
         ),
     ];
     for (fault, lines) in cases {

@@ -1,7 +1,7 @@
 mod together;
 
-use crate::{Options, WordsError, WordsFault, read_words};
 use grid_map::Weights;
+use join_words::{Options, WordsError, WordsFault, read_words};
 use row_tickets::Feed;
 use std::alloc::{AllocError, Global};
 use std::test::Fail;
@@ -20,6 +20,7 @@ fn words(alloc: Global, line: &str) -> Result<Vec<String>, AllocError> {
 const PLAIN: Options<'static> = Options {
     on: "p",
     k: 2,
+    groups: None,
     feeders: 2,
     workers: 4,
     batch: 64,

@@ -1,0 +1,84 @@
+// Words that don't stand together.
+
+ghost use Rattle.std.specs.Prelude.{◌≡◌};
+ghost use Rattle.join_words.specs.Apart;
+ghost use Rattle.join_words.specs.Apart.{are_apart, has_word};
+
+/// A word of the command line that doesn't stand together with each other one. `ManyFiles` is more than two names of files.
+#[derive(Clone, Copy, Debug, PartialEq, Eq)]
+pub(crate) enum Word {
+    Fixed,
+    Replay,
+    Make,
+    Early,
+    Rows,
+    Groups,
+    ManyFiles,
+}
+
+/// Which of these words are given.
+#[derive(Clone, Copy, Debug)]
+pub(crate) struct Given {
+    pub(crate) fixed: bool,
+    pub(crate) replay: bool,
+    pub(crate) make: bool,
+    pub(crate) early: bool,
+    pub(crate) rows: bool,
+    pub(crate) groups: bool,
+    pub(crate) many_files: bool,
+}
+
+/// The pairs of words that don't stand together.
+const APART: [(Word, Word); 8] = [
+    (Word::Early, Word::Replay),
+    (Word::Early, Word::Make),
+    (Word::Early, Word::Rows),
+    (Word::Make, Word::Rows),
+    (Word::Groups, Word::Fixed),
+    (Word::Groups, Word::Early),
+    (Word::Groups, Word::Replay),
+    (Word::Groups, Word::ManyFiles),
+];
+
+impl Given {
+    /// Whether this word is.
+    fn has(&self, word: Word) -> bool
+        ensures { result ≡ has_word self.now word }
+    {
+        match word {
+            Word::Fixed => self.fixed,
+            Word::Replay => self.replay,
+            Word::Make => self.make,
+            Word::Early => self.early,
+            Word::Rows => self.rows,
+            Word::Groups => self.groups,
+            Word::ManyFiles => self.many_files,
+        }
+    }
+
+    /// Whether both words of a pair are.
+    fn has_both(&self, pair: &(Word, Word)) -> bool
+        ensures { result ≡ are_apart self.now pair.now }
+    {
+        self.has(pair.0) && self.has(pair.1)
+    }
+
+    /// Whether one of these pairs has both its words.
+    fn has_any(&self, pairs: &[(Word, Word)]) -> bool
+        ensures { result ≡ Apart.any_of self.now pairs.now }
+    {
+        for pair in pairs {
+            if self.has_both(pair) {
+                return true;
+            }
+        }
+        false
+    }
+
+    /// Whether two words are given that don't stand together.
+    pub(crate) fn clash(&self) -> bool
+        ensures { result ≡ Apart.any_of self.now Apart.apart }
+    {
+        self.has_any(&APART)
+    }
+}
