@@ -1,6 +1,6 @@
 -- What early output has written, from the lines of the pairs to the report.
 use Rattle.std.proofs.Common.{◌≡◌, ◌∙◌, ◌+◌, inl, inr, ℕ, Bool, true, false, List, [], ◌++◌, append_assoc, length, length-append, take, arith, Option, None, Some, refl, sym, ap, subst}
-use Rattle.std.specs.Prelude.{IsPermutation}
+use Rattle.std.specs.Prelude.{IfSome, IsPermutation}
 use Rattle.std.specs.Io.KnownBytes.{append_known}
 use Rattle.std.proofs.Math.Seq.{take-append-add}
 use Rattle.epoch_tags.specs.declared.tuple.Pair.{Pair}
@@ -19,11 +19,12 @@ use Rattle.join_runtime.specs.Early.{WroteEach, WroteSome}
 use Rattle.join_words.specs.Words.{Asked}
 use Rattle.join_cli.specs.declared.plan.Planned.{Planned}
 use Rattle.join_cli.specs.Early.{CutFound, IsFoundText, IsOutput, PutFound, PutPart, StoppedAt, TakesFound, WroteLines, WroteOutput}
-use Rattle.join_cli.specs.Ends.{TakesEach}
-use Rattle.join_cli.specs.Plan.{IsJournalOf, answer_of, input_of, output_of, report_asked, setting_of}
+use Rattle.join_cli.specs.Ends.{ConcludesBy, IsMade, TakesEach}
+use Rattle.join_cli.specs.declared.outcome.Outcome.{Outcome}
+use Rattle.join_cli.specs.Plan.{answer_of, input_of, output_of, report_asked, setting_of}
 use Rattle.join_report.proofs.Pieces.{known-none}
 use Rattle.join_runtime.specs.Endings.{EndsView}
-use Rattle.join_cli.specs.Courses.{IsCourseOf, IsRunInThreads}
+use Rattle.join_cli.specs.Courses.{Course, IsRunInThreads, by_run}
 use Rattle.join_cli.proofs.Inputs.{course_in_threads, journal_of_run}
 
 -- bytes, and more behind them
@@ -76,44 +77,43 @@ none_written input old = record { pairs = []; right = record { sums = λ f. omeg
 
 -- ---- by what is asked for
 
-same_output : (asked : Asked) (planned : Planned) (input : Input) (setting : Setting) (journal : List TurnLine) (text : List ℕ)
+same_output : (asked : Asked) (planned : Planned) (input : Input) (setting : Setting) (journal : List TurnLine) (trail : List EndsView) (text : List ℕ)
     → input ≡ input_of asked.seed planned → setting ≡ setting_of asked → asked.early ≡ true
-    → IsFoundText asked.report input setting journal text → IsOutput asked.early asked planned journal text
-same_output asked planned input setting journal text input_is setting_is early is =
-    subst (λ e. IsOutput e asked planned journal text) (sym early)
+    → IsFoundText asked.report input setting journal text → IsOutput asked.early asked planned (by_run journal trail) text
+same_output asked planned input setting journal trail text input_is setting_is early is =
+    subst (λ e. IsOutput e asked planned (by_run journal trail) text) (sym early)
     (subst (λ i. IsFoundText asked.report i (setting_of asked) journal text) input_is (subst (λ s. IsFoundText asked.report input s journal text) setting_is is))
 
-pub early_written : (asked : Asked) (planned : Planned) (input : Input) (setting : Setting) (journal : List TurnLine) (old new : Option (List ℕ))
+pub early_written : (asked : Asked) (planned : Planned) (input : Input) (setting : Setting) (journal : List TurnLine) (trail : List EndsView) (old new : Option (List ℕ))
     → input ≡ input_of asked.seed planned → setting ≡ setting_of asked → asked.early ≡ true
-    → PutFound asked.report input setting journal old new → WroteOutput asked planned journal old new
-early_written asked planned input setting journal old new input_is setting_is early put =
-    record { text = put.text; output = same_output asked planned input setting journal put.text input_is setting_is early put.is; written = put.written }
+    → PutFound asked.report input setting journal old new → WroteOutput asked planned (by_run journal trail) old new
+early_written asked planned input setting journal trail old new input_is setting_is early put =
+    record { text = put.text; output = same_output asked planned input setting journal trail put.text input_is setting_is early put.is; written = put.written }
 
 -- early output that stopped, of what is asked for
 pub early_stopped : (asked : Asked) (planned : Planned) (input : Input) (setting : Setting) (old new : Option (List ℕ))
     → input ≡ input_of asked.seed planned → setting ≡ setting_of asked → IsValidInput input → IsValidSetting setting
-    → asked.early ≡ true → asked.replay ≡ None
+    → asked.early ≡ true → asked.replay ≡ None → asked.groups ≡ None
     → PutPart asked.report input setting old new → StoppedAt asked.early asked planned old new
-early_stopped asked planned input setting old new input_is setting_is of_input of_setting early threads put =
+early_stopped asked planned input setting old new input_is setting_is of_input of_setting early threads single put =
     subst (λ e. StoppedAt e asked planned old new) (sym early) (elim put [
       | inl some ↦ inl (subst (λ i. WroteSome i old new) input_is some)
       | inr cut ↦ inr (record {
-        journal = cut.run.journal;
-        trail = cut.trail;
+        way = by_run cut.run.journal cut.trail;
         course =
             course_in_threads asked planned input setting cut.run cut.trail input_is setting_is of_input of_setting threads
-            cut.is_run cut.went;
+            single cut.is_run cut.went;
         text = cut.text;
-        output = same_output asked planned input setting cut.run.journal cut.text input_is setting_is early cut.is;
+        output = same_output asked planned input setting cut.run.journal cut.trail cut.text input_is setting_is early cut.is;
         front = cut.front;
       })
     ])
 
 pub early_takes : (takes : ℕ → Type 0) (asked : Asked) (planned : Planned) (input : Input) (setting : Setting)
     → input ≡ input_of asked.seed planned → setting ≡ setting_of asked → IsValidInput input → IsValidSetting setting
-    → asked.early ≡ true → asked.make ≡ None → asked.rows ≡ false
+    → asked.early ≡ true → asked.make ≡ None → asked.rows ≡ false → asked.groups ≡ None
     → TakesEach takes asked planned → TakesFound takes asked.report input setting
-early_takes takes asked planned input setting input_is setting_is of_input of_setting early make rows each =
+early_takes takes asked planned input setting input_is setting_is of_input of_setting early make rows single each =
     let lines = pair_lines (nested_loop (input_of asked.seed planned)) in
     let of : Input → Setting → List TurnLine → List ℕ = λ i s journal. report_asked asked.report i s journal in
     record {
@@ -125,7 +125,7 @@ early_takes takes asked planned input setting input_is setting_is of_input of_se
           ∙ ap (λ r. answer_of None r (input_of asked.seed planned) ++ of (input_of asked.seed planned) (setting_of asked) run.journal) rows in
           subst (λ i. takes (length (pair_lines (nested_loop i)) + (length (of i setting run.journal) + 0))) (sym input_is)
           (subst (λ s. takes (length lines + (length (of (input_of asked.seed planned) s run.journal) + 0))) (sym setting_is)
-          (subst takes (ap length same ∙ two_parts lines (of (input_of asked.seed planned) (setting_of asked) run.journal)) (each.each run.journal lawful)));
+          (subst takes (ap length same ∙ two_parts lines (of (input_of asked.seed planned) (setting_of asked) run.journal)) (each.each single run.journal lawful)));
     }
   where
     plus_none : (n : ℕ) → n ≡ n + 0
@@ -136,25 +136,36 @@ early_takes takes asked planned input setting input_is setting_is of_input of_se
 
 -- ---- an output that was made whole
 
-pub whole_written : (asked : Asked) (planned : Planned) (journal : List TurnLine) (text : List ℕ) (old new : Option (List ℕ)) → asked.early ≡ false
-    → text ≡ output_of asked planned journal → new ≡ append_known old text → WroteOutput asked planned journal old new
-whole_written asked planned journal text old new whole is written = record { text = text; output = subst (λ e. IsOutput e asked planned journal text) (sym whole) is; written = written }
+-- what was made was written
+pub whole_written : (asked : Asked) (planned : Planned) (text : List ℕ) (old new : Option (List ℕ)) (outcome : Outcome)
+    (way : Option Course) → asked.early ≡ false → IsMade asked planned text way → new ≡ append_known old text
+    → ConcludesBy asked planned old new outcome way
+whole_written asked planned text old new outcome None whole made written = absurd made
+whole_written asked planned text old new outcome (Some way) whole made written = (
+  made.0,
+  record { text = text; output = subst (λ e. IsOutput e asked planned way text) (sym whole) made.1; written = written },
+)
 
 -- an output that was made whole and of which a front was written
-pub whole_stopped : (asked : Asked) (planned : Planned) (journal : List TurnLine) (trail : List EndsView)
-    (text : List ℕ) (old new : Option (List ℕ)) → asked.early ≡ false → IsCourseOf asked planned journal trail
-    → text ≡ output_of asked planned journal → AppendsFront old new text
+pub whole_stopped : (asked : Asked) (planned : Planned) (text : List ℕ) (old new : Option (List ℕ)) (way : Option Course)
+    → asked.early ≡ false → IsMade asked planned text way → AppendsFront old new text
     → StoppedAt asked.early asked planned old new
-whole_stopped asked planned journal trail text old new whole course is front =
+whole_stopped asked planned text old new None whole made front = absurd made
+whole_stopped asked planned text old new (Some way) whole made front =
     subst (λ e. StoppedAt e asked planned old new) (sym whole)
     (record {
-      journal = journal;
-      trail = trail;
-      course = course;
+      way = way;
+      course = made.0;
       text = text;
-      output = subst (λ e. IsOutput e asked planned journal text) (sym whole) is;
+      output = subst (λ e. IsOutput e asked planned way text) (sym whole) made.1;
       front = front;
     })
 
 pub whole_lines : (asked : Asked) (planned : Planned) (old new : Option (List ℕ)) → asked.early ≡ false → new ≡ old → WroteLines asked.early asked planned old new
 whole_lines asked planned old new whole same = rw whole same
+
+-- early output is of joiners in one grid
+pub one_grid : (groups : Option ℕ) (early : Bool) (P Q : Type 0) → IfSome groups (λ _. P × (early ≡ false) × Q) → early ≡ true
+    → groups ≡ None
+one_grid None early P Q alone is = refl
+one_grid (Some joiners) early P Q alone is = absurd (cc (sym is ∙ alone.1))

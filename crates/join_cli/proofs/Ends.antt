@@ -7,9 +7,9 @@ use Rattle.join_words.specs.Words.{Asked}
 use Rattle.join_cli.specs.declared.plan.Planned.{Planned}
 use Rattle.join_cli.specs.declared.outcome.Outcome.{Outcome}
 use Rattle.join_cli.specs.declared.outcome.Outcome.TheVariants as outcomes
-use Rattle.load_controller.specs.declared.line.TurnLine.{TurnLine}
-use Rattle.join_cli.specs.Ends.{Concludes, ConcludesBy, Course, course_of, Refuses, EndsAs, IsAsked, IsDone, IsOutcomeOf, TakesEach, Wrote, WroteFront, WroteSoFar}
-use Rattle.join_cli.specs.Plan.{IsJournalOf, output_of, plan_of}
+use Rattle.join_cli.specs.Courses.{Course, WentSo, by_groups, by_run, output_over}
+use Rattle.join_cli.specs.Ends.{Concludes, ConcludesBy, course_of, Refuses, EndsAs, IsAsked, IsDone, IsMade, IsOutcomeOf, IsSomeCourse, TakesEach, Wrote, WroteFront, WroteSoFar}
+use Rattle.join_cli.specs.Plan.{plan_of}
 use Rattle.join_cli.proofs.Seen.{no_plan}
 
 -- a plan that was carried out has an outcome of it, unless a put failed
@@ -21,6 +21,10 @@ ends_concluded None asked reading planned old new outcome concludes put h = tt
 ends_concluded (Some files) asked reading planned old new (outcomes.Done journal trail) (course, written) put h = elim (h files refl) [
   | inl m ↦ absurd (cc m)
   | inr f ↦ inr (subst (λ p. IsOutcomeOf asked p (outcomes.Done journal trail)) f course)
+]
+ends_concluded (Some files) asked reading planned old new (outcomes.DoneGroups journals trail) (course, written) put h = elim (h files refl) [
+  | inl m ↦ absurd (cc m)
+  | inr f ↦ inr (subst (λ p. IsOutcomeOf asked p (outcomes.DoneGroups journals trail)) f course)
 ]
 ends_concluded (Some files) asked reading planned old new outcomes.Memory concludes put h = inl refl
 ends_concluded (Some files) asked reading planned old new outcomes.Write concludes put h = absurd (put refl)
@@ -40,6 +44,7 @@ wrote told asked planned old new outcome found concludes way is =
 -- a refusal has no course
 pub no_course : (old new : ℕ) (told : Told) (spot : Spot) (asked : Asked) (outcome : Outcome) (way : Course) → Refuses old new told spot asked outcome → course_of outcome ≡ Some way → ⊥
 no_course old new told spot asked (outcomes.Done journal trail) way refuses is = refuses
+no_course old new told spot asked (outcomes.DoneGroups journals trail) way refuses is = refuses
 no_course old new told spot asked (outcomes.Words fault) way refuses is = cc is
 no_course old new told spot asked (outcomes.Predicate fault) way refuses is = cc is
 no_course old new told spot asked (outcomes.Input fault) way refuses is = cc is
@@ -62,6 +67,7 @@ wrote_so_far told asked planned old new outcome found concludes is =
 pub concludes_well : (asked : Asked) (planned : Planned) (old new : Option (List ℕ)) (outcome : Outcome) → Concludes asked planned old new outcome
     → IsDone outcome ⊎ ((outcome ≡ outcomes.Write) ⊎ (outcome ≡ outcomes.Memory))
 concludes_well asked planned old new (outcomes.Done journal trail) concludes = inl tt
+concludes_well asked planned old new (outcomes.DoneGroups journals trail) concludes = inl tt
 concludes_well asked planned old new outcomes.Write concludes = inr (inl refl)
 concludes_well asked planned old new outcomes.Memory concludes = inr (inr refl)
 concludes_well asked planned old new (outcomes.Words _) concludes = elim concludes [ ]
@@ -92,7 +98,21 @@ complete_refused refusal plan planned found is = elim found [
 pub complete_made : (made planned : Planned) (plan : Result Planned Outcome) → (Ok made ≡ Err outcomes.Memory) ⊎ (Ok made ≡ plan) → plan ≡ Ok planned → made ≡ planned
 complete_made made planned plan found is = elim found [ inl m ↦ absurd (cc m) | inr f ↦ cc (f ∙ is) ]
 
--- a sink that takes the output over each lawful journal takes the bytes of one
-pub takes_made : (takes : ℕ → Type 0) (asked : Asked) (planned : Planned) (journal : List TurnLine) (bytes : List ℕ)
-    → IsJournalOf asked planned journal → bytes ≡ output_of asked planned journal → TakesEach takes asked planned → takes (length bytes + 0)
-takes_made takes asked planned journal bytes lawful is each = let none : length bytes ≡ length bytes + 0 = omega arith in subst takes none (subst takes (ap length (sym is)) (each.each journal lawful))
+-- a sink that takes each output takes the one over how a run went
+takes_over : (takes : ℕ → Type 0) (asked : Asked) (planned : Planned) (way : Course) → WentSo asked planned way
+    → TakesEach takes asked planned → takes (length (output_over asked planned way))
+takes_over takes asked planned (by_run journal trail) course each = each.each course.single journal course.lawful
+takes_over takes asked planned (by_groups journals trail) course each = each.groups journals trail course
+
+-- and so the bytes that were made
+pub takes_made : (takes : ℕ → Type 0) (asked : Asked) (planned : Planned) (bytes : List ℕ) (way : Option Course)
+    → IsMade asked planned bytes way → TakesEach takes asked planned → takes (length bytes + 0)
+takes_made takes asked planned bytes None made each = absurd made
+takes_made takes asked planned bytes (Some way) made each =
+    let none : length bytes ≡ length bytes + 0 = omega arith in
+    subst takes none (subst takes (ap length (sym made.1)) (takes_over takes asked planned way made.0 each))
+
+-- where a text was made it is done
+pub made_done : (asked : Asked) (planned : Planned) (bytes : List ℕ) (way : Option Course) → IsMade asked planned bytes way → IsSomeCourse way
+made_done asked planned bytes None made = made
+made_done asked planned bytes (Some way) made = tt

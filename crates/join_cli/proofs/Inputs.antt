@@ -63,16 +63,17 @@ journal_of_run asked planned input setting run input_is setting_is of_input of_s
 -- and what shows how it went
 pub course_of_run : (asked : Asked) (planned : Planned) (input : Input) (setting : Setting) (run : Run) (trail : List EndsView)
     → input ≡ input_of asked.seed planned → setting ≡ setting_of asked → IsValidInput input → IsValidSetting setting
-    → IsRunOf input setting (first_rest setting).line run.journal run
+    → asked.groups ≡ None → IsRunOf input setting (first_rest setting).line run.journal run
     → WentAs asked.replay input setting run.journal trail → IsCourseOf asked planned run.journal trail
-course_of_run asked planned input setting run trail input_is setting_is of_input of_setting is went = record {
+course_of_run asked planned input setting run trail input_is setting_is of_input of_setting single is went = record {
+  single = single;
   lawful = journal_of_run asked planned input setting run input_is setting_is of_input of_setting is;
   went = subst (λ i. WentAs asked.replay i (setting_of asked) run.journal trail) input_is (subst (λ s. WentAs asked.replay input s run.journal trail) setting_is went);
 }
 
 pub course_in_threads : (asked : Asked) (planned : Planned) (input : Input) (setting : Setting) (run : Run) (trail : List EndsView)
     → input ≡ input_of asked.seed planned → setting ≡ setting_of asked → IsValidInput input → IsValidSetting setting → asked.replay ≡ None
-    → IsRunOf input setting (first_rest setting).line run.journal run
+    → asked.groups ≡ None → IsRunOf input setting (first_rest setting).line run.journal run
     → IsRunInThreads input setting run.journal trail → IsCourseOf asked planned run.journal trail
-course_in_threads asked planned input setting run trail input_is setting_is of_input of_setting threads is went =
-    course_of_run asked planned input setting run trail input_is setting_is of_input of_setting is (rw threads went)
+course_in_threads asked planned input setting run trail input_is setting_is of_input of_setting threads single is went =
+    course_of_run asked planned input setting run trail input_is setting_is of_input of_setting single is (rw threads went)

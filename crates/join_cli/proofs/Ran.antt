@@ -6,7 +6,8 @@ use Rattle.join_cli.specs.declared.outcome.Outcome.{Outcome}
 use Rattle.join_cli.specs.declared.outcome.Outcome.TheVariants as outcomes
 use Rattle.join_cli.specs.Outcomes.{status_of}
 use Rattle.join_cli.specs.Programs.{WroteBy, WroteOver}
-use Rattle.join_cli.specs.Ends.{Course, IsDone, by_run, course_of}
+use Rattle.join_cli.specs.Courses.{Course, by_groups, by_run}
+use Rattle.join_cli.specs.Ends.{IsDone, course_of}
 use Rattle.join_cli.specs.Promises.{RanAs}
 
 -- a run that ended with status 0 wrote the output
@@ -20,6 +21,7 @@ ran_by h k words old new before after status ran zero = by ran.outcome (sym ran.
         → ((way : Course) → course_of outcome ≡ Some way → WroteOver words (h.told old) way (k.written before) (k.written after))
         → WroteBy words (h.told old) (k.written before) (k.written after)
     by (outcomes.Done journal trail) e done = record { way = by_run journal trail; over = done (by_run journal trail) refl }
+    by (outcomes.DoneGroups journals trail) e done = record { way = by_groups journals trail; over = done (by_groups journals trail) refl }
     by (outcomes.Words fault) e done = absurd (omega (arith, e))
     by (outcomes.Predicate fault) e done = absurd (omega (arith, e))
     by (outcomes.Input fault) e done = absurd (omega (arith, e))
@@ -31,6 +33,7 @@ ran_by h k words old new before after status ran zero = by ran.outcome (sym ran.
 -- an outcome that is done has the status 0
 done_status : (outcome : Outcome) → IsDone outcome → status_of outcome ≡ 0
 done_status (outcomes.Done journal trail) done = refl
+done_status (outcomes.DoneGroups journals trail) done = refl
 done_status (outcomes.Words fault) done = absurd done
 done_status (outcomes.Predicate fault) done = absurd done
 done_status (outcomes.Input fault) done = absurd done

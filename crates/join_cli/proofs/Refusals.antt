@@ -40,6 +40,7 @@ columns_refuse columns.Memory old new told spot asked = tt
 pub later_refuses : (old middle new : ℕ) (told later : Told) (spot : Spot) (asked : Asked) (refusal : Outcome) → old ≤ middle → later ≡ told
     → Refuses middle new later spot asked refusal → Refuses old new told spot asked refusal
 later_refuses old middle new told later spot asked (outcomes.Done journal trail) rises same refuses = refuses
+later_refuses old middle new told later spot asked (outcomes.DoneGroups journals trail) rises same refuses = refuses
 later_refuses old middle new told later spot asked (outcomes.Words fault) rises same refuses = refuses
 later_refuses old middle new told later spot asked (outcomes.Predicate fault) rises same refuses = refuses
 later_refuses old middle new told later spot asked (outcomes.Input fault) rises same refuses = tt

@@ -1,6 +1,6 @@
 -- What a report asks of a run.
-use Rattle.std.proofs.Common.{◌≡◌, ◌∙◌, ◌<◌, ◌≤◌, ◌*◌, ◌+◌, ◌^◌, List, [], ◌∷◌, length, refl, sym, ap, subst, arith}
-use Rattle.std.specs.Prelude.{reverse}
+use Rattle.std.proofs.Common.{◌≡◌, ◌∙◌, ◌<◌, ◌≤◌, ◌*◌, ◌+◌, ◌^◌, ◌++◌, ℕ, List, [], ◌∷◌, length, map, refl, sym, ap, subst, arith}
+use Rattle.std.specs.Prelude.{All, reverse}
 use Rattle.std.specs.List.{AllByRecursion}
 use Rattle.std.proofs.lemmas.List.Elements.{All-from_recursion}
 use Rattle.std.proofs.lemmas.List.FromFn.{length-map-range_with_len}
@@ -8,19 +8,33 @@ use mathlib.Core.List.{reverse-reverse}
 use Rattle.join_rows.proofs.Everywhere.{all-reverse}
 use Rattle.join_rows.specs.declared.table.Side.TheVariants.{R, S}
 use Rattle.load_controller.specs.declared.line.TurnLine.{TurnLine}
+use Rattle.pair_collector.specs.declared.collected.Held.{Held}
 use Rattle.load_controller.specs.Journal.{Fits, Follows, begun}
 use Rattle.load_controller.proofs.Bound.{shifts_within}
 use Rattle.trace_law.specs.declared.input.Input.{Input}
 use Rattle.trace_law.specs.declared.run.Run.{Run}
 use Rattle.trace_law.specs.declared.setting.Setting.{Setting}
 use Rattle.trace_law.specs.Family.{first_rest, migrations, rules_of}
-use Rattle.trace_law.specs.Runs.{IsRunOf, moved_over}
+use Rattle.trace_law.specs.Runs.{IsRunOf, load_over, made_over, moved_over}
+use Rattle.trace_law.specs.Join.{row_count}
+use Rattle.std.specs.List.{range_with_len}
 use Rattle.trace_law.specs.Validity.{IsValidInput, IsValidSetting}
 use Rattle.trace_law.proofs.Begun.{fits_begun}
 use Rattle.trace_law.proofs.Bounds.{bounded}
 use Rattle.trace_law.proofs.First.{stands as first_stands}
 use Rattle.trace_law.proofs.Validity.{within_limits}
-use Rattle.join_report.specs.Report.{AreWithin}
+use Rattle.join_report.specs.Report.{AreWithin, final_line, grid_lines, input_line, joiner_lines, last_shift, report_of}
+use Rattle.group_split.specs.Parts.{input_of_part, part, setting_of_group}
+use Rattle.group_split.specs.Sizes.{digits, has_digit}
+use Rattle.join_rows.proofs.Totals.{filter_fewer}
+use Rattle.group_split.proofs.Parted.{part_few, part_within}
+use Rattle.group_split.proofs.PartRuns.{valid_part, valid_setting}
+use Rattle.group_split.specs.Groups.{AreGroupsFrom}
+use Rattle.join_runtime.specs.Endings.{EndsView}
+use Rattle.join_cli.specs.Courses.{AreRunsFrom}
+use Rattle.join_cli.specs.Dealt.{IsDealt}
+use Rattle.join_cli.specs.Plan.{report_over}
+use Rattle.join_cli.specs.declared.groups.Dealt.{Dealt}
 
 -- no shift of a lawful journal is past the grid
 past_fits : (setting : Setting) (first : TurnLine) (journal past : List TurnLine) → Fits (rules_of setting) first → reverse journal ≡ past
@@ -53,3 +67,56 @@ few_steps input setting journal run of_input valid is =
     ap length is.moved ∙ length-map-range_with_len (moved_over input setting first journal) 0 (migrations first journal) in
     let small : setting.k ≤ 8 = valid.joiners in
     omega arith
+
+-- a report by its parts
+abbrev report_by : Setting → List TurnLine → ℕ → ℕ → List ℕ → List Held → List ℕ → List ℕ
+report_by setting journal x y moved loads made =
+    input_line x y ++ grid_lines setting journal moved
+    ++ final_line setting.k setting.weights (last_shift setting journal) x y ++ joiner_lines loads made
+
+-- the report of a run is the one over its journal
+pub report_is : (input : Input) (setting : Setting) (run : Run) (x y : ℕ)
+    → IsRunOf input setting (first_rest setting).line run.journal run → x ≡ row_count input R → y ≡ row_count input S
+    → report_of setting x y run ≡ report_over input setting run.journal
+report_is input setting run x y is of_r of_s =
+    let journal = run.journal in
+    let first = (first_rest setting).line in
+    let moved = map (moved_over input setting first journal) (range_with_len 0 (migrations first journal)) in
+    let loads = map (load_over input setting first journal) (range_with_len 0 (2 ^ setting.k)) in
+    let made = map (made_over input setting first journal) (range_with_len 0 (2 ^ setting.k)) in
+    ap (λ m. report_by setting journal x y m run.loads run.made) is.moved
+    ∙ ap (λ l. report_by setting journal x y moved l run.made) is.loads
+    ∙ ap (λ m. report_by setting journal x y moved loads m) is.made
+    ∙ ap (λ n. report_by setting journal n y moved loads made) of_r
+    ∙ ap (λ n. report_by setting journal (row_count input R) n moved loads made) of_s
+
+-- what a group joins, and its setting, are valid
+pub valid_group : (dealt : Dealt) (g k : ℕ) → IsDealt dealt → k < 7
+    → IsValidInput (input_of_part dealt.input.now (part dealt.joiners dealt.numbers.now g))
+    × IsValidSetting (setting_of_group dealt.setting.now k)
+valid_group dealt g k is low =
+    let few = part_few dealt.joiners dealt.numbers.now g in
+    let many = is.many in (
+      valid_part dealt.input.now (part dealt.joiners dealt.numbers.now g) is.input
+          (subst (λ n. All (λ i. i < n) (part dealt.joiners dealt.numbers.now g)) many
+          (part_within dealt.joiners dealt.numbers.now g))
+          (omega arith),
+      valid_setting dealt.setting.now k is.setting is.free low,
+    )
+
+-- there are few groups
+pub few_digits : (joiners : ℕ) → length (digits joiners) ≤ 7
+unfolding digits
+few_digits joiners = filter_fewer (has_digit joiners) (6 ∷ 5 ∷ 4 ∷ 3 ∷ 2 ∷ 1 ∷ 0 ∷ [])
+
+-- of groups that have their runs and their ends, the runs
+pub runs_of_groups : (input : Input) (joiners : ℕ) (numbers : List ℕ) (setting : Setting) (g : ℕ) (digits : List ℕ)
+    (runs : List Run) (trail : List EndsView) → AreGroupsFrom input joiners numbers setting g digits runs trail
+    → AreRunsFrom input joiners numbers setting g digits runs
+runs_of_groups input joiners numbers setting g [] [] [] are = tt
+runs_of_groups input joiners numbers setting g (k ∷ digits) (run ∷ runs) (ends ∷ trail) are =
+    (are.0.run, runs_of_groups input joiners numbers setting (g + 1) digits runs trail are.1)
+runs_of_groups input joiners numbers setting g [] [] (ends ∷ trail) are = absurd are
+runs_of_groups input joiners numbers setting g [] (run ∷ runs) trail are = absurd are
+runs_of_groups input joiners numbers setting g (k ∷ digits) [] trail are = absurd are
+runs_of_groups input joiners numbers setting g (k ∷ digits) (run ∷ runs) [] are = absurd are

@@ -31,6 +31,7 @@ four : Asked
 four = record {
   on = [];
   k = 2;
+  groups = None;
   feeders = 2;
   workers = 4;
   batch = 64;

@@ -1,14 +1,20 @@
--- How a run went.
-use Rattle.std.specs.Prelude.{◌≡◌, ℕ, List, [], ◌∷◌, Option, None, Some}
+-- How a run went, and the output over it.
+use Rattle.std.specs.Prelude.{◌≡◌, ◌++◌, ◌+◌, ◌^◌, ⊤, ℕ, List, [], ◌∷◌, map, length, Option, None, Some, unwrap_or, if◌then◌else◌, codes}
+use Rattle.std.specs.Fmt.{decimal}
 use Rattle.trace_law.specs.declared.input.Input.{Input}
 use Rattle.trace_law.specs.declared.run.Run.{Run}
 use Rattle.trace_law.specs.declared.setting.Setting.{Setting}
 use Rattle.load_controller.specs.declared.line.TurnLine.{TurnLine}
 use Rattle.link_trace.specs.Order.{IsReplay}
 use Rattle.join_runtime.specs.Endings.{EndsView, IsFinishedFamily, lists_left}
+use Rattle.group_split.specs.Groups.{AreGroups}
+use Rattle.group_split.specs.Parts.{input_of_part, part, setting_of_group}
+use Rattle.group_split.specs.Sizes.{digits, numbers_of}
+use Rattle.trace_law.specs.Family.{first_rest}
+use Rattle.trace_law.specs.Runs.{IsRunOf}
 use Rattle.join_words.specs.Words.{Asked}
 use Rattle.join_cli.specs.declared.plan.Planned.{Planned}
-use Rattle.join_cli.specs.Plan.{IsJournalOf, input_of, setting_of}
+use Rattle.join_cli.specs.Plan.{IsJournalOf, answer_of, input_of, output_of, report_over, setting_of}
 
 -- a replay with this number, whose controller has this journal, leaves nothing
 pub record IsReplayed (input : Input) (setting : Setting) (seed : ℕ) (journal : List TurnLine) (trail : List EndsView) : Type 0 where
@@ -28,7 +34,71 @@ abbrev pub WentAs : Option ℕ → Input → Setting → List TurnLine → List 
 WentAs (Some seed) input setting journal trail = IsReplayed input setting seed journal trail
 WentAs None input setting journal trail = IsRunInThreads input setting journal trail
 
--- what is answered of a run that was asked for: the journal of a lawful controller, and what shows how the run went
+-- what is answered of a run that was asked for, of joiners in one grid: the journal of a lawful controller, and what shows how
+-- the run went
 pub record IsCourseOf (asked : Asked) (planned : Planned) (journal : List TurnLine) (trail : List EndsView) : Type 0 where
+  pub single : asked.groups ≡ None
   pub lawful : IsJournalOf asked planned journal
   pub went : WentAs asked.replay (input_of asked.seed planned) (setting_of asked) journal trail
+
+-- the group numbers of R's rows, for so many joiners
+abbrev pub groups_drawn : Asked → Planned → ℕ → List ℕ
+groups_drawn asked planned joiners = numbers_of asked.seed joiners (length planned.tables.of_r.rows)
+
+-- what is answered of joiners in groups: each group had a run of its part of R with all of S, whose journal this is
+pub record AreGroupsOf (asked : Asked) (planned : Planned) (journals : List (List TurnLine)) (trail : List EndsView) : Type 0 where
+  pub joiners : ℕ
+  pub grouped : asked.groups ≡ Some joiners
+  pub runs : List Run
+  pub are : AreGroups (input_of asked.seed planned) joiners (groups_drawn asked planned joiners) (setting_of asked) runs trail
+  pub journals_are : journals ≡ map (λ run. run.journal) runs
+
+-- of the groups from g on, with these exponents: each has its run
+abbrev pub AreRunsFrom : Input → ℕ → List ℕ → Setting → ℕ → List ℕ → List Run → Type 0
+AreRunsFrom input joiners numbers setting g [] [] = ⊤
+AreRunsFrom input joiners numbers setting g (k ∷ digits) (run ∷ runs) =
+    IsRunOf (input_of_part input (part joiners numbers g)) (setting_of_group setting k)
+    (first_rest (setting_of_group setting k)).line run.journal run
+    × AreRunsFrom input joiners numbers setting (g + 1) digits runs
+AreRunsFrom input joiners numbers setting g _ _ = ⊥
+
+-- how a run went
+pub data Course : Type 0 where
+  by_run : List TurnLine → List EndsView → Course
+  by_groups : List (List TurnLine) → List EndsView → Course
+
+-- it went so as was asked for
+abbrev pub WentSo : Asked → Planned → Course → Type 0
+WentSo asked planned (by_run journal trail) = IsCourseOf asked planned journal trail
+WentSo asked planned (by_groups journals trail) = AreGroupsOf asked planned journals trail
+
+-- ---- the output
+
+-- the line that begins the report of a group
+abbrev pub group_line : ℕ → ℕ → List ℕ
+group_line g size = codes "group " ++ decimal g ++ codes " " ++ decimal size ++ codes "\n"
+
+-- the report of a group of 2 ^ k joiners
+abbrev pub group_report : Input → ℕ → List ℕ → Setting → ℕ → ℕ → List TurnLine → List ℕ
+group_report input joiners numbers setting g k journal =
+    group_line g (2 ^ k) ++ report_over (input_of_part input (part joiners numbers g)) (setting_of_group setting k) journal
+
+-- those of the groups from g on, whose exponents these are
+abbrev pub group_reports : Input → ℕ → List ℕ → Setting → ℕ → List ℕ → List (List TurnLine) → List ℕ
+group_reports input joiners numbers setting g [] journals = []
+group_reports input joiners numbers setting g (k ∷ digits) [] = []
+group_reports input joiners numbers setting g (k ∷ digits) (journal ∷ journals) =
+    group_report input joiners numbers setting g k journal ++ group_reports input joiners numbers setting (g + 1) digits journals
+
+-- the answer, and then the reports of all groups where they are asked for
+abbrev pub groups_text : Asked → Input → Setting → ℕ → List ℕ → List (List TurnLine) → List ℕ
+groups_text asked input setting joiners numbers journals =
+    answer_of asked.make asked.rows input
+    ++ (if asked.report then group_reports input joiners numbers setting 0 (digits joiners) journals else [])
+
+-- the output that is asked for of a plan, over how its run went
+abbrev pub output_over : Asked → Planned → Course → List ℕ
+output_over asked planned (by_run journal trail) = output_of asked planned journal
+output_over asked planned (by_groups journals trail) =
+    let joiners = unwrap_or asked.groups 0 in
+    groups_text asked (input_of asked.seed planned) (setting_of asked) joiners (groups_drawn asked planned joiners) journals

@@ -15,8 +15,8 @@ use Rattle.join_runtime.specs.Early.{WroteSome}
 use Rattle.join_words.specs.Words.{Asked}
 use Rattle.join_cli.specs.declared.plan.Planned.{Planned}
 use Rattle.join_runtime.specs.Endings.{EndsView}
-use Rattle.join_cli.specs.Courses.{IsCourseOf, IsRunInThreads}
-use Rattle.join_cli.specs.Plan.{IsJournalOf, input_of, output_of, report_asked, setting_of}
+use Rattle.join_cli.specs.Courses.{Course, IsRunInThreads, WentSo, by_groups, by_run, output_over}
+use Rattle.join_cli.specs.Plan.{input_of, report_asked, setting_of}
 
 -- the lines of the nested loop's pairs, each once in the order in which they were found, and then the report where one is asked
 -- for
@@ -51,24 +51,25 @@ pub record TakesFound (takes : ℕ → Type 0) (report : Bool) (input : Input) (
   pub each : (run : Run) → IsRunOf input setting (first_rest setting).line run.journal run
       → takes (length (pair_lines (nested_loop input)) + (length (report_asked report input setting run.journal) + 0))
 
--- the text of an output: early, of what was found, and else the one that is asked for
-abbrev pub IsOutput : Bool → Asked → Planned → List TurnLine → List ℕ → Type 0
-IsOutput false asked planned journal text = text ≡ output_of asked planned journal
-IsOutput true asked planned journal text = IsFoundText asked.report (input_of asked.seed planned) (setting_of asked) journal text
+-- the text of an output over how a run went: early, of what was found, and else the one that is asked for; groups aren't early
+abbrev pub IsOutput : Bool → Asked → Planned → Course → List ℕ → Type 0
+IsOutput false asked planned way text = text ≡ output_over asked planned way
+IsOutput true asked planned (by_run journal trail) text =
+    IsFoundText asked.report (input_of asked.seed planned) (setting_of asked) journal text
+IsOutput true asked planned (by_groups journals trail) text = ⊥
 
--- the output over this journal was written
-pub record WroteOutput (asked : Asked) (planned : Planned) (journal : List TurnLine) (old new : Option (List ℕ)) : Type 0 where
+-- the output over a run that went this way was written
+pub record WroteOutput (asked : Asked) (planned : Planned) (way : Course) (old new : Option (List ℕ)) : Type 0 where
   pub text : List ℕ
-  pub output : IsOutput asked.early asked planned journal text
+  pub output : IsOutput asked.early asked planned way text
   pub written : new ≡ append_known old text
 
--- a front of the output over the journal of a run that was asked for was
+-- a front of the output over a run that went as was asked for was
 pub record WroteCut (asked : Asked) (planned : Planned) (old new : Option (List ℕ)) : Type 0 where
-  pub journal : List TurnLine
-  pub trail : List EndsView
-  pub course : IsCourseOf asked planned journal trail
+  pub way : Course
+  pub course : WentSo asked planned way
   pub text : List ℕ
-  pub output : IsOutput asked.early asked planned journal text
+  pub output : IsOutput asked.early asked planned way text
   pub front : AppendsFront old new text
 
 -- nothing was written, but for early output, which may have written a front of the lines of some of the nested loop's pairs,

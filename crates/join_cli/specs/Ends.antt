@@ -10,7 +10,7 @@ use Rattle.load_controller.specs.declared.line.TurnLine.{TurnLine}
 use Rattle.join_runtime.specs.Endings.{EndsView}
 use Rattle.join_words.specs.Words.{Asked}
 use Rattle.join_cli.specs.declared.outcome.Outcome.{Outcome}
-use Rattle.join_cli.specs.declared.outcome.Outcome.TheVariants.{Done, Input, Limit, Memory, Predicate, Read, Words, Write}
+use Rattle.join_cli.specs.declared.outcome.Outcome.TheVariants.{Done, DoneGroups, Input, Limit, Memory, Predicate, Read, Words, Write}
 use Rattle.join_cli.specs.declared.outcome.LimitFault.TheVariants.{TooLong, TooMany}
 use Rattle.join_cli.specs.declared.plan.Planned.{Planned}
 use Rattle.join_cli.specs.Refusals.{text_refusal}
@@ -18,16 +18,13 @@ use Rattle.join_cli.specs.Texts.{IsTrueOf}
 use Rattle.trace_law.specs.Join.{nested_loop}
 use Rattle.join_report.specs.PairLines.{pair_lines}
 use Rattle.join_cli.specs.Plan.{IsJournalOf, fitted, input_of, made_tables, plan_of, output_of, tables_by}
-use Rattle.join_cli.specs.Courses.{IsCourseOf}
+use Rattle.join_cli.specs.Courses.{AreGroupsOf, Course, WentSo, by_groups, by_run, output_over}
 use Rattle.join_cli.specs.Early.{StoppedAt, WroteLines, WroteOutput}
-
--- how a run went
-pub data Course : Type 0 where
-  by_run : List TurnLine → List EndsView → Course
 
 -- how the run of an outcome went, where its output was written whole
 abbrev pub course_of : Outcome → Option Course
 course_of (Done journal trail) = Some (by_run journal trail)
+course_of (DoneGroups journals trail) = Some (by_groups journals trail)
 course_of (Words fault) = None
 course_of (Predicate fault) = None
 course_of (Input fault) = None
@@ -44,10 +41,6 @@ IsSomeCourse (Some course) = ⊤
 -- the output was written whole
 abbrev pub IsDone : Outcome → Type 0
 IsDone outcome = IsSomeCourse (course_of outcome)
-
--- it went so as was asked for
-abbrev pub WentSo : Asked → Planned → Course → Type 0
-WentSo asked planned (by_run journal trail) = IsCourseOf asked planned journal trail
 
 -- there is a course, and it is such a one
 abbrev pub WentSomehow : Asked → Planned → Option Course → Type 0
@@ -73,16 +66,12 @@ pub record IsAsked (told : Told) (asked : Asked) (planned : Planned) : Type 0 wh
   pub files : (files : List ℕ → Option (List ℕ)) → told ≡ Some files → tables_by asked.make files asked.name_r asked.name_s ≡ Ok planned.tables
   pub made : (count : ℕ) → asked.make ≡ Some count → planned.tables ≡ made_tables count
 
--- the output over a course was written
-abbrev pub WroteCourse : Asked → Planned → Course → Option (List ℕ) → Option (List ℕ) → Type 0
-WroteCourse asked planned (by_run journal trail) old new = WroteOutput asked planned journal old new
-
 -- the output of what was asked for was written, over a run that went this way
 pub record Wrote (told : Told) (asked : Asked) (way : Course) (old new : Option (List ℕ)) : Type 0 where
   pub planned : Planned
   pub found : IsAsked told asked planned
   pub course : WentSo asked planned way
-  pub written : WroteCourse asked planned way old new
+  pub written : WroteOutput asked planned way old new
 
 -- a front of the output over such a run was written; of early output perhaps no more than some lines
 pub record WroteFront (told : Told) (asked : Asked) (old new : Option (List ℕ)) : Type 0 where
@@ -104,16 +93,23 @@ Stops asked planned old new outcome = ⊥
 
 -- a plan ends by its course, or as it is left where there is none
 abbrev pub ConcludesBy : Asked → Planned → Option (List ℕ) → Option (List ℕ) → Outcome → Option Course → Type 0
-ConcludesBy asked planned old new outcome (Some course) = WentSo asked planned course × WroteCourse asked planned course old new
+ConcludesBy asked planned old new outcome (Some course) = WentSo asked planned course × WroteOutput asked planned course old new
 ConcludesBy asked planned old new outcome None = Stops asked planned old new outcome
 
 -- how a plan that is carried out ends, and what it leaves
 abbrev pub Concludes : Asked → Planned → Option (List ℕ) → Option (List ℕ) → Outcome → Type 0
 Concludes asked planned old new outcome = ConcludesBy asked planned old new outcome (course_of outcome)
 
--- the output over each such journal is taken, and early the lines of all pairs alone
+-- a text was made of a plan, over how its run went
+abbrev pub IsMade : Asked → Planned → List ℕ → Option Course → Type 0
+IsMade asked planned text None = ⊥
+IsMade asked planned text (Some way) = WentSo asked planned way × (text ≡ output_over asked planned way)
+
+-- the output over each such journal is taken, or over the journals of groups, and early the lines of all pairs alone
 pub record TakesEach (takes : ℕ → Type 0) (asked : Asked) (planned : Planned) : Type 0 where
-  pub each : (journal : List TurnLine) → IsJournalOf asked planned journal → takes (length (output_of asked planned journal))
+  pub each : asked.groups ≡ None → (journal : List TurnLine) → IsJournalOf asked planned journal → takes (length (output_of asked planned journal))
+  pub groups : (journals : List (List TurnLine)) (trail : List EndsView) → AreGroupsOf asked planned journals trail
+      → takes (length (output_over asked planned (by_groups journals trail)))
   pub early : asked.early ≡ true → takes (length (pair_lines (nested_loop (input_of asked.seed planned))))
 
 -- files and sink do for what is asked: the told files have a plan, and the sink takes the output of it
@@ -151,6 +147,7 @@ EndsEarly fault outcome = (outcome ≡ Memory) ⊎ (outcome ≡ text_refusal fau
 -- which lacks one of the two names, where files are asked for; and of the place in the file that is picked
 abbrev pub Refuses : ℕ → ℕ → Told → Spot → Asked → Outcome → Type 0
 Refuses old new told spot asked (Done journal trail) = ⊥
+Refuses old new told spot asked (DoneGroups journals trail) = ⊥
 Refuses old new told spot asked (Words fault) = ⊥
 Refuses old new told spot asked (Predicate fault) = IsTrueOf asked.on fault
 Refuses old new told spot asked (Input fault) = ⊤

@@ -11,3 +11,4 @@ pub mod Seen
 pub mod Programs
 pub mod Past
 pub mod Promises
+pub mod Dealt

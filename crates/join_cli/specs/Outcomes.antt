@@ -1,11 +1,12 @@
 -- The numbers of the outcomes.
 use Rattle.std.specs.Prelude.{ℕ}
 use Rattle.join_cli.specs.declared.outcome.Outcome.{Outcome}
-use Rattle.join_cli.specs.declared.outcome.Outcome.TheVariants.{Done, Words, Predicate, Input, Limit, Read, Write, Memory}
+use Rattle.join_cli.specs.declared.outcome.Outcome.TheVariants.{Done, DoneGroups, Words, Predicate, Input, Limit, Read, Write, Memory}
 
 -- the exit status
 abbrev pub status_of : Outcome → ℕ
 status_of (Done journal trail) = 0
+status_of (DoneGroups journals trail) = 0
 status_of (Words fault) = 2
 status_of (Predicate fault) = 3
 status_of (Input fault) = 4

@@ -2,7 +2,8 @@
 use Rattle.std.specs.Prelude.{◌≡◌, ℕ, List, Option, Ok}
 use Rattle.join_rows.specs.Shelves.{Told}
 use Rattle.join_words.specs.Words.{Asked, asked_of}
-use Rattle.join_cli.specs.Ends.{Course, Wrote, WroteFront}
+use Rattle.join_cli.specs.Courses.{Course}
+use Rattle.join_cli.specs.Ends.{Wrote, WroteFront}
 
 -- the output of what these words ask for was written, over a run of it that went this way
 pub record WroteOver (words : List (List ℕ)) (told : Told) (way : Course) (old new : Option (List ℕ)) : Type 0 where

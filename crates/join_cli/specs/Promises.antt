@@ -16,7 +16,8 @@ use Rattle.join_cli.specs.declared.outcome.LimitFault.TheVariants.{TooLong}
 use Rattle.join_cli.specs.Outcomes.{status_of}
 use Rattle.join_cli.specs.Texts.{IsRead, IsTrueOf}
 use Rattle.join_cli.specs.Seen.{EndsAsked}
-use Rattle.join_cli.specs.Ends.{Course, course_of, EndsAs, EndsEarly, IsDone, LacksOne, StandsPast, Suffices, WroteSoFar, name_of}
+use Rattle.join_cli.specs.Courses.{Course}
+use Rattle.join_cli.specs.Ends.{course_of, EndsAs, EndsEarly, IsDone, LacksOne, StandsPast, Suffices, WroteSoFar, name_of}
 use Rattle.join_cli.specs.Programs.{WroteFrontBy, WroteOver}
 
 -- which outcome it is, of what is asked for

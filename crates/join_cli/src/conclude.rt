@@ -1,6 +1,6 @@
 // Carrying out a plan: its run, and the writing of the output.
 
-ghost use Rattle.std.specs.Prelude.{◌≡◌, ◌≢◌, ◌⊎◌, ◌<◌, None, true, false};
+ghost use Rattle.std.specs.Prelude.{◌≡◌, ◌≢◌, ◌⊎◌, ◌<◌, ◌≤◌, IfSome, None, true, false};
 ghost use Rattle.join_rows.specs.Shelves.{last_fault};
 ghost use Rattle.join_rows.specs.Sinks.{PutsSome};
 ghost use Rattle.trace_law.specs.Validity.{IsValidInput, IsValidSetting};
@@ -36,6 +36,9 @@ fn conclude_whole<R: Threads + Wait + Sync, K: Sink, G: Gate>(
     requires sink { K.faults sink.old < last_fault }
     requires setting { IsValidSetting (setting_of (asked options.now)) }
     requires whole { options.now.early ≡ false }
+    requires groups { IfSome options.now.groups (λ joiners. (1 ≤ joiners) × (joiners ≤ 64)) }
+    requires grouped { IfSome options.now.groups (λ _. (options.now.fixed ≡ None)
+        × (options.now.early ≡ false) × (options.now.replay ≡ None)) }
     ensures ends { Concludes (asked options.now) planned
         (K.written sink.old) (K.written sink.new) result }
     ensures nothing { result ≡ Outcome.Memory → sink.new ≡ sink.old }
@@ -46,16 +49,12 @@ fn conclude_whole<R: Threads + Wait + Sync, K: Sink, G: Gate>(
     ensures left { PutsSome (K.written sink.old) (K.written sink.new)
         (K.takes sink.old) (K.takes sink.new) }
 {
-    let Joined {
-        text,
-        journal,
-        trail,
-    } = match output(rt, alloc, options, planned, gate) {
+    let Joined { text, done } = match output(rt, alloc, options, planned, gate) {
         Ok(joined) => joined,
         Err(AllocError) => return Outcome::Memory,
     };
     match put_all(sink, text.as_slice()) {
-        Ok(()) => Outcome::Done { journal, trail },
+        Ok(()) => done,
         Err(Failed) => Outcome::Write,
     }
 }
@@ -77,6 +76,7 @@ fn end_early<R: Threads + Wait + Sync, K: Sink, G: Gate>(
     requires early { options.now.early ≡ true }
     requires alone { (options.now.replay ≡ None) × (options.now.make ≡ None)
         × (options.now.rows ≡ false) }
+    requires single { options.now.groups ≡ None }
     ensures ends { (planned : Planned') → input.now ≡ input_of options.now.seed planned
         → Concludes (asked options.now) planned (K.written sink.old) (K.written sink.new) result }
     ensures counts { result ≢ Outcome.Write → K.faults sink.new ≡ K.faults sink.old }
@@ -112,6 +112,7 @@ fn conclude_early<R: Threads + Wait + Sync, K: Sink, G: Gate>(
     requires early { options.now.early ≡ true }
     requires alone { (options.now.replay ≡ None) × (options.now.make ≡ None)
         × (options.now.rows ≡ false) }
+    requires single { options.now.groups ≡ None }
     ensures ends { Concludes (asked options.now) planned
         (K.written sink.old) (K.written sink.new) result }
     ensures counts { result ≢ Outcome.Write → K.faults sink.new ≡ K.faults sink.old }
@@ -143,6 +144,9 @@ pub(crate) fn conclude<R: Threads + Wait + Sync, K: Sink, G: Gate>(
     requires setting { IsValidSetting (setting_of (asked options.now)) }
     requires alone { options.now.early ≡ true
         → (options.now.replay ≡ None) × (options.now.make ≡ None) × (options.now.rows ≡ false) }
+    requires groups { IfSome options.now.groups (λ joiners. (1 ≤ joiners) × (joiners ≤ 64)) }
+    requires grouped { IfSome options.now.groups (λ _. (options.now.fixed ≡ None)
+        × (options.now.early ≡ false) × (options.now.replay ≡ None)) }
     ensures ends { Concludes (asked options.now) planned
         (K.written sink.old) (K.written sink.new) result }
     ensures nothing { options.now.early ≡ false → result ≡ Outcome.Memory → sink.new ≡ sink.old }

@@ -106,7 +106,7 @@ fn run_words<R: Threads + Wait + Sync, H: Shelf, K: Sink, E: Sink, G: Gate>(
 }
 
 /// The program `jm`: runs what the words ask for, puts the output on `sink` and the one line of an
-/// outcome that isn't `Done` on `errors`, and answers the exit status; with no words for want of
+/// outcome that isn't done on `errors`, and answers the exit status; with no words for want of
 /// memory, too. What it promises holds if it returns.
 pub fn jm_program<R: Threads + Wait + Sync, H: Shelf, K: Sink, E: Sink, G: Gate>(
     rt: &R,

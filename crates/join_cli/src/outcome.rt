@@ -3,7 +3,7 @@
 ghost use Rattle.std.specs.Prelude.{◌≡◌};
 ghost use Rattle.join_cli.specs.Outcomes.{status_of};
 
-use join_rows::{Bytes, Side};
+use join_rows::{Bytes, Items, Side};
 use join_runtime::Trail;
 use join_words::WordsFault;
 use load_controller::Journal;
@@ -50,12 +50,18 @@ pub enum LimitFault {
     TooMany { side: Side },
 }
 
+/// The journals of several runs.
+pub type Journals = Items<Journal>;
+
 /// How a run ended.
 #[derive(Drop)]
 pub enum Outcome {
     /// The output was written whole; the journal is that of the run's controller. The trail has
     /// what the seats of a run in threads left, and is empty after a replay.
     Done { journal: Journal, trail: Trail },
+    /// The output was written whole, over joiners in groups: of each group, from the greatest on, the journal of
+    /// its controller, and what its seats left.
+    DoneGroups { journals: Journals, trail: Trail },
     Words(WordsFault),
     Predicate(TextFault),
     Input(InputFault),
@@ -74,7 +80,7 @@ impl Outcome {
         ensures { result ≡ status_of self.now }
     {
         match self {
-            Outcome::Done { .. } => 0,
+            Outcome::Done { .. } | Outcome::DoneGroups { .. } => 0,
             Outcome::Words(_) => 2,
             Outcome::Predicate(_) => 3,
             Outcome::Input(_) => 4,

@@ -23,12 +23,12 @@ pub fn exit_code(outcome: &Outcome) -> ExitCode
     ExitCode::from(outcome.status())
 }
 
-/// Puts the outcome's line, ended by LF, on standard error; `Done` has none. A line that can't be
+/// Puts the outcome's line, ended by LF, on standard error; one whose output was written whole has none. A line that can't be
 /// put is passed over, since the status says the rest.
 pub fn tell<E: Sink>(alloc: Global, outcome: &Outcome, errors: &mut E)
     ensures { IsDone outcome.now → errors.new ≡ errors.old }
 {
-    if let Outcome::Done { .. } = outcome {
+    if let Outcome::Done { .. } | Outcome::DoneGroups { .. } = outcome {
         return;
     }
     if let Ok(line) = format!(in alloc; "{outcome}\n") {
@@ -37,7 +37,7 @@ pub fn tell<E: Sink>(alloc: Global, outcome: &Outcome, errors: &mut E)
 }
 
 /// Runs `jm` with these words, the program's name first, as `join_main` does, and puts the line of
-/// an outcome that isn't `Done` on `errors`. Nothing else is put there, and the line is put nowhere
+/// an outcome that isn't done on `errors`. Nothing else is put there, and the line is put nowhere
 /// else. What it promises holds if it returns.
 pub fn jm_main<R: Threads + Wait + Sync, H: Shelf, K: Sink, E: Sink, G: Gate>(
     rt: &R,

@@ -1,16 +1,19 @@
 // The output of two tables and a predicate.
 
-ghost use Rattle.std.specs.Prelude.{◌≡◌, ◌<◌, ◌^◌, All, IfOk, string_bytes};
+ghost use Rattle.std.specs.Prelude.{◌≡◌, ◌<◌, ◌≤◌, ◌^◌, All, IfOk, IfSome, None, false, string_bytes};
 ghost use Rattle.trace_law.specs.Validity.{IsValidInput, IsValidSetting};
 ghost use Rattle.join_words.specs.Words.{asked};
 ghost use Rattle.trace_law.specs.Family.{first_rest};
 ghost use Rattle.trace_law.specs.Runs.{IsRunOf};
 ghost use Rattle.trace_law.specs.Join.{nested_loop};
-ghost use Rattle.join_cli.specs.Plan.{IsFit, answer_of, input_of, output_of, report_asked};
+ghost use Rattle.join_cli.specs.Plan.{IsFit, answer_of, input_of, report_asked};
 ghost use Rattle.join_cli.specs.Plan.{setting_of, text_of, tickets_of};
 ghost use Rattle.join_cli.specs.declared.plan.Planned.{Planned as Planned'};
-ghost use Rattle.join_cli.specs.Courses.{IsCourseOf, IsReplayed, IsRunInThreads, WentAs};
+ghost use Rattle.join_cli.specs.Courses.{IsReplayed, IsRunInThreads, WentAs};
+ghost use Rattle.join_cli.specs.Ends.{IsMade, course_of};
 
+use crate::groups::groups_output;
+use crate::outcome::Outcome;
 use crate::plan::Planned;
 use epoch_tags::Pair;
 use join_report::{pairs_text, report_text, rows_text, summary_text};
@@ -18,19 +21,17 @@ use join_rows::{Bytes, Side, Table};
 use join_runtime::{Told, Trail, run};
 use join_words::Options;
 use link_trace::{Input, Run, Setting, replay};
-use load_controller::Journal;
 use row_tickets::tickets;
 use std::alloc::{AllocError, Global};
 use std::sync::Wait;
 use std::thread::Threads;
 use worker_gate::Gate;
 
-/// The text of an output, with the journal of its run and what the run's seats left.
+/// The text of an output, and the outcome where it is written whole: how its run went.
 #[derive(Drop)]
 pub(crate) struct Joined {
     pub(crate) text: Bytes,
-    pub(crate) journal: Journal,
-    pub(crate) trail: Trail,
+    pub(crate) done: Outcome,
 }
 
 /// The setting that the options ask for.
@@ -87,7 +88,7 @@ pub(crate) fn input(alloc: Global, seed: u64, planned: Planned) -> Result<Input,
 }
 
 /// These bytes.
-fn bytes_of(text: String) -> Bytes
+pub(crate) fn bytes_of(text: String) -> Bytes
     ensures { result ≡ string_bytes text }
 {
     Bytes::from_vec(text.into_bytes())
@@ -95,7 +96,7 @@ fn bytes_of(text: String) -> Bytes
 
 /// The text of the pairs: the numbers of their rows, or the rows themselves; of made tables a
 /// summary.
-fn answer(
+pub(crate) fn answer(
     alloc: Global,
     options: &Options<'_>,
     input: &Input,
@@ -233,6 +234,34 @@ fn carry_out<R: Threads + Wait + Sync, G: Gate>(
     }
 }
 
+/// The output that the options ask for of an input, with this setting, of joiners in one grid.
+fn grid_output<R: Threads + Wait + Sync, G: Gate>(
+    rt: &R,
+    alloc: Global,
+    options: &Options<'_>,
+    input: &Input,
+    setting: &Setting,
+    gate: &G,
+) -> Result<Joined, AllocError>
+    requires input { IsValidInput input.now }
+    requires setting { IsValidSetting setting.now }
+    requires is { setting.now ≡ setting_of (asked options.now) }
+    requires single { options.now.groups ≡ None }
+    ensures { IfOk result
+        (λ joined. (planned : Planned') → input.now ≡ input_of options.now.seed planned
+        → IsMade (asked options.now) planned joined.text (course_of joined.done)) }
+{
+    let Course { run, trail } = carry_out(rt, alloc, options.replay, input, setting, gate)?;
+    let text = text(alloc, options, input, setting, &run)?;
+    Ok(Joined {
+        text,
+        done: Outcome::Done {
+            journal: run.journal,
+            trail,
+        },
+    })
+}
+
 /// The output that the options ask for of an input, with this setting.
 fn output_over<R: Threads + Wait + Sync, G: Gate>(
     rt: &R,
@@ -245,19 +274,17 @@ fn output_over<R: Threads + Wait + Sync, G: Gate>(
     requires input { IsValidInput input.now }
     requires setting { IsValidSetting setting.now }
     requires is { setting.now ≡ setting_of (asked options.now) }
-    ensures course { IfOk result
+    requires groups { IfSome options.now.groups (λ joiners. (1 ≤ joiners) × (joiners ≤ 64)) }
+    requires grouped { IfSome options.now.groups (λ _. (options.now.fixed ≡ None)
+        × (options.now.early ≡ false) × (options.now.replay ≡ None)) }
+    ensures { IfOk result
         (λ joined. (planned : Planned') → input.now ≡ input_of options.now.seed planned
-        → IsCourseOf (asked options.now) planned joined.journal joined.trail) }
-    ensures text { IfOk result
-        (λ joined. joined.text ≡ text_of (asked options.now) input.now setting.now joined.journal) }
+        → IsMade (asked options.now) planned joined.text (course_of joined.done)) }
 {
-    let Course { run, trail } = carry_out(rt, alloc, options.replay, input, setting, gate)?;
-    let text = text(alloc, options, input, setting, &run)?;
-    Ok(Joined {
-        text,
-        journal: run.journal,
-        trail,
-    })
+    match options.groups {
+        Some(joiners) => groups_output(rt, alloc, options, joiners, input, setting, gate),
+        None => grid_output(rt, alloc, options, input, setting, gate),
+    }
 }
 
 /// The output that the options ask for of a plan.
@@ -270,10 +297,11 @@ pub(crate) fn output<R: Threads + Wait + Sync, G: Gate>(
 ) -> Result<Joined, AllocError>
     requires fit { IsFit planned }
     requires setting { IsValidSetting (setting_of (asked options.now)) }
-    ensures course { IfOk result
-        (λ joined. IsCourseOf (asked options.now) planned joined.journal joined.trail) }
-    ensures text { IfOk result
-        (λ joined. joined.text ≡ output_of (asked options.now) planned joined.journal) }
+    requires groups { IfSome options.now.groups (λ joiners. (1 ≤ joiners) × (joiners ≤ 64)) }
+    requires grouped { IfSome options.now.groups (λ _. (options.now.fixed ≡ None)
+        × (options.now.early ≡ false) × (options.now.replay ≡ None)) }
+    ensures { IfOk result
+        (λ joined. IsMade (asked options.now) planned joined.text (course_of joined.done)) }
 {
     let setting = setting(options);
     let input = input(alloc, options.seed, planned)?;

@@ -77,12 +77,12 @@ impl fmt::Display for LimitFault {
     }
 }
 
-/// The line on standard error, without its end; nothing for `Done`. A name that isn't UTF-8 is
+/// The line on standard error, without its end; nothing where the output was written whole. A name that isn't UTF-8 is
 /// shown as `?`.
 impl fmt::Display for Outcome {
     fn fmt<W: fmt::Write>(&self, f: &mut fmt::Formatter<W>) -> fmt::Result {
         match self {
-            Outcome::Done { .. } => Ok(()),
+            Outcome::Done { .. } | Outcome::DoneGroups { .. } => Ok(()),
             Outcome::Words(_) => write!(f, "usage: jm --on TEXT [options] R.csv S.csv"),
             Outcome::Predicate(fault) => write!(f, "{fault}"),
             Outcome::Input(fault) => write!(f, "{fault}"),

@@ -7,7 +7,8 @@ ghost use Rattle.trace_law.specs.Validity.{IsValidSetting};
 ghost use Rattle.join_words.specs.Words.{asked};
 ghost use Rattle.join_words.specs.declared.options.WordsFault.{WordsFault};
 ghost use Rattle.join_cli.specs.Plan.{setting_of};
-ghost use Rattle.join_cli.specs.Ends.{Course, Wrote, WroteFront, course_of};
+ghost use Rattle.join_cli.specs.Courses.{Course};
+ghost use Rattle.join_cli.specs.Ends.{Wrote, WroteFront, course_of};
 ghost use Rattle.join_cli.specs.Programs.{WroteOver};
 ghost use Rattle.join_cli.specs.Promises.{Answers, Causes, Leaves, Promises};
 
@@ -36,6 +37,9 @@ fn join_files<R: Threads + Wait + Sync, H: Shelf, K: Sink, G: Gate>(
     requires make { IfSome options.now.make (λ count. (1 ≤ count) × (count ≤ 65536)) }
     requires alone { options.now.early ≡ true
         → (options.now.replay ≡ None) × (options.now.make ≡ None) × (options.now.rows ≡ false) }
+    requires groups { IfSome options.now.groups (λ joiners. (1 ≤ joiners) × (joiners ≤ 64)) }
+    requires grouped { IfSome options.now.groups (λ _. (options.now.fixed ≡ None)
+        × (options.now.early ≡ false) × (options.now.replay ≡ None)) }
     ensures words { (fault : WordsFault) → result ≢ Outcome.Words fault }
     ensures answers { Answers H.Shelf K.Sink (asked options.now)
         shelf.old shelf.new sink.old sink.new result }
@@ -60,7 +64,7 @@ fn join_files<R: Threads + Wait + Sync, H: Shelf, K: Sink, G: Gate>(
 /// numbers of R and then of S; then the join is run and its output made whole, and then it is
 /// written. Early output is written while the join is run. Memory may run out at each of them. The
 /// run is one in as many threads as there are workers, whose seats pass the gate at each turn, or a
-/// replay in one thread. What it promises holds if it returns.
+/// replay in one thread; where joiners form groups there is such a run for each. What it promises holds if it returns.
 pub fn join_main<R: Threads + Wait + Sync, H: Shelf, K: Sink, G: Gate>(
     rt: &R,
     alloc: Global,

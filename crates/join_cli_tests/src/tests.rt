@@ -12,6 +12,7 @@ mod calls;
 mod early;
 mod extremes;
 mod faults;
+mod groups;
 mod limits;
 mod made;
 mod pieces;

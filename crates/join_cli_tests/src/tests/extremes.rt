@@ -8,7 +8,7 @@ use std::test::Fail;
 use std::thread::Threads;
 
 // Two tables of 2,000 rows, joined on equal keys with these words, have their summary.
-fn joins_two_thousand<R: Abort + Threads + Wait + Sync>(
+pub(super) fn joins_two_thousand<R: Abort + Threads + Wait + Sync>(
     rt: &R,
     alloc: Global,
     words: &str,

@@ -1,0 +1,13 @@
+-- An input whose rows of R are dealt out to groups of joiners.
+use Rattle.std.specs.Prelude.{◌≡◌, ◌<◌, ◌≤◌, All, None, length}
+use Rattle.trace_law.specs.Validity.{IsValidInput, IsValidSetting}
+use Rattle.join_cli.specs.declared.groups.Dealt.{Dealt}
+
+-- the input and the setting are valid, no shift is fixed, and each row of R has a number below that of joiners
+pub record IsDealt (dealt : Dealt) : Type 0 where
+  pub input : IsValidInput dealt.input.now
+  pub setting : IsValidSetting dealt.setting.now
+  pub free : dealt.setting.now.fixed ≡ None
+  pub few : dealt.joiners ≤ 64
+  pub many : length dealt.numbers.now ≡ length dealt.input.now.table_r.rows
+  pub below : All (λ number. number < dealt.joiners) dealt.numbers.now
