@@ -59,7 +59,7 @@ end
 
 for program in jm jm-rows
     complete -c $program -l on -x -d 'the predicate' -a '(__jm_columns)'
-    complete -c $program -l joiners -x -d 'how many joiners the grid has: 1, 2, 4 .. 64' -a '1 2 4 8 16 32 64'
+    complete -c $program -l joiners -x -d 'how many joiners there are: 1, 2, 4 .. 64, or any number in groups' -a '1 2 4 8 16 32 64'
     complete -c $program -l feeders -x -d 'how many feeders share the rows, from 1 to 8' -a '(seq 8)'
     complete -c $program -l workers -x -d 'how many threads work, from 1 to 16' -a '(seq 16)'
     complete -c $program -l batch -x -d 'how many rows are sent at once, from 1 to 4096'
@@ -72,6 +72,7 @@ for program in jm jm-rows
     complete -c $program -l early -d 'pairs as they are found'
     complete -c $program -l report -d 'a report follows'
     complete -c $program -l rows -d 'joined rows in place of their numbers'
+    complete -c $program -l groups -d 'any number of joiners, in groups'
 end
 complete -c jm -l make -x -d 'both tables are made, from 1 to 65536 rows each'
 complete -c jm-rows -l columns -x -d 'which columns are written' -a '(__jm_columns)'

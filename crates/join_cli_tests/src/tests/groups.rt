@@ -71,3 +71,16 @@ fn each_group_leaves_its_own(rt: HostRuntime) -> Result<(), Fail> {
     }
     Ok(())
 }
+
+// One feeder, so that the counts come in one order: of the three rows of R two are drawn for the first group, whose grid is
+// soon one row of its two joiners, and one for the second.
+#[test]
+fn reports_each_group(rt: HostRuntime) -> Result<(), Fail> {
+    let alloc = rt.alloc();
+    let wide =
+        "group 0 2\ninput 2 3\ngrid 1 1 2 moved 0\nfinal 1 2 copies 7 best 7\njoiner 0 held 2 2 made 1\njoiner 1 held 2 1 made 0\n";
+    let narrow = "group 1 1\ninput 1 3\nfinal 1 1 copies 4 best 4\njoiner 0 held 1 3 made 2\n";
+    let wanted = format!(in alloc; "{PAIRS}{wide}{narrow}")?;
+    let options = "--joiners|3|--feeders|1|--seed|2|--report";
+    writes(&rt, alloc, options, 2, wanted.as_str())
+}
