@@ -82,5 +82,6 @@ fn reports_each_group(rt: HostRuntime) -> Result<(), Fail> {
     let narrow = "group 1 1\ninput 1 3\nfinal 1 1 copies 4 best 4\njoiner 0 held 1 3 made 2\n";
     let wanted = format!(in alloc; "{PAIRS}{wide}{narrow}")?;
     let options = "--joiners|3|--feeders|1|--seed|2|--report";
-    writes(&rt, alloc, options, 2, wanted.as_str())
+    writes(&rt, alloc, options, 2, wanted.as_str())?;
+    Ok(())
 }
