@@ -1,0 +1,4 @@
+pub mod Places
+pub mod Loops
+pub mod Chained
+mod Worked

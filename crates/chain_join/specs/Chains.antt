@@ -1,0 +1,76 @@
+-- A chain of three relations: R is joined with S, and the joined rows with Q.
+use Rattle.std.specs.Prelude.{◌≡◌, ◌++◌, ◌&&◌, ℕ, Bool, All, List, [], map, length, codes}
+use Rattle.std.specs.List.{range_with_len, slice_index_or}
+use Rattle.join_rows.specs.declared.table.Cell.{Cell}
+use Rattle.join_rows.specs.declared.table.Side.{Side}
+use Rattle.join_rows.specs.declared.table.Side.TheVariants.{R, S}
+use Rattle.join_rows.specs.declared.table.Table.{Table}
+use Rattle.epoch_tags.specs.declared.tuple.Pair.{Pair}
+use Rattle.theta_pred.specs.Truth.{holds}
+use Rattle.row_tickets.specs.Tickets.{ticket_of}
+use Rattle.trace_law.specs.declared.input.Input.{Input}
+use Rattle.trace_law.specs.declared.setting.Setting.{Setting}
+use Rattle.trace_law.specs.Family.{first_rest}
+use Rattle.trace_law.specs.Join.{matches_of, nested_loop, rows_of}
+use Rattle.trace_law.specs.Runs.{IsRunOf}
+use Rattle.join_runtime.specs.declared.ends.Told.{Told}
+use Rattle.join_runtime.specs.Endings.{IsFinishedFamily, lists_left}
+use Rattle.chain_join.specs.declared.second.Third.{Third}
+use Rattle.chain_join.specs.declared.triples.Triple.{Triple}
+use Rattle.chain_join.specs.Triples.{triple_loop}
+
+-- ---- the joined rows, and what is joined with the third table
+
+-- the names of R, each after `r_`, and then those of S, each after `s_`
+abbrev pub joined_names : List (List ℕ) → List (List ℕ) → List (List ℕ)
+joined_names names_r names_s = map (λ name. codes "r_" ++ name) names_r ++ map (λ name. codes "s_" ++ name) names_s
+
+-- the row at a place; one that isn't there has no cell
+abbrev pub row_at : List (List Cell) → ℕ → List Cell
+row_at rows place = slice_index_or rows place []
+
+-- the cells of a pair's row of R, and then those of its row of S
+abbrev pub joined_row : Input → Pair → List Cell
+joined_row input pair = row_at (rows_of input R) pair.i ++ row_at (rows_of input S) pair.j
+
+-- a joined row for each of the nested loop's matching pairs, in its order
+abbrev pub joined_rows : Input → List (List Cell)
+joined_rows input = map (joined_row input) (nested_loop input)
+
+-- the tickets of a side's rows
+abbrev pub tickets_of : ℕ → Side → List (List Cell) → List ℕ
+tickets_of seed side rows = map (ticket_of seed side) (range_with_len 0 (length rows))
+
+-- what the second run joins: the joined rows under their names with the third table, by its predicate, with the tickets
+-- of a seed
+abbrev pub second_input : Input → Third → ℕ → Input
+second_input input third seed = record {
+  table_r = record { names = joined_names input.table_r.names input.table_s.names; rows = joined_rows input };
+  table_s = third.table;
+  theta = third.theta;
+  tickets_r = tickets_of seed R (joined_rows input);
+  tickets_s = tickets_of seed S third.table.rows;
+}
+
+-- ---- the answer
+
+-- the first predicate is true of a row of R and a row of S, and the second of the two, one after the other, and a row
+-- of Q
+abbrev pub matches_chain : Input → Third → List Cell → List Cell → List Cell → Bool
+matches_chain input third r s q = matches_of input r s && holds third.theta (r ++ s) q
+
+-- the matching triples of all three relations
+abbrev pub nested3 : Input → Third → List Triple
+nested3 input third = triple_loop (matches_chain input third) (rows_of input R) (rows_of input S) third.table.rows
+
+-- ---- a run
+
+-- the header and each row of a table have this width
+pub record IsWide (table : Table) (width : ℕ) : Type 0 where
+  pub header : length table.names ≡ width
+  pub rows : All (λ row. length row ≡ width) table.rows
+
+-- a run of this input and setting, and its ends, whose lists are a finished, agreeing family with the run's journal
+pub record IsToldOf (input : Input) (setting : Setting) (told : Told) : Type 0 where
+  pub run : IsRunOf input setting (first_rest setting).line told.run.journal told.run
+  pub family : IsFinishedFamily input setting told.run.journal (lists_left told.ends)
