@@ -75,6 +75,13 @@ check 0 '' '' --on 'r.x != s.y' gap.csv five.csv
 for joiners in 1 2 4 8 16 32 64; do
     check 0 '2,1\n2,3\n3,2\n' '' --joiners $joiners --seed 7 --on 'r.x = s.y' r.csv s.csv
 done
+for joiners in 1 3 5 7 48 63 64; do
+    check 0 '2,1\n2,3\n3,2\n' '' --groups --joiners $joiners --on 'r.x = s.y' r.csv s.csv
+done
+check 0 'rows 7 7\npairs 1\nsum 2\n' '' --groups --joiners 7 --on 'r.key = s.key' --make 7
+check 0 '2,20,1,20\n2,20,3,20\n3,30,2,30\n' '' --groups --joiners 3 --rows --on 'r.x = s.y' r.csv s.csv
+check 0 '2,1\n2,3\n3,2\ngroup 0 2\ninput 2 3\ngrid 1 1 2 moved 0\nfinal 1 2 copies 7 best 7\njoiner 0 held 2 2 made 1\njoiner 1 held 2 1 made 0\ngroup 1 1\ninput 1 3\nfinal 1 1 copies 4 best 4\njoiner 0 held 1 3 made 2\n' '' \
+    --groups --joiners 3 --feeders 1 --seed 2 --on 'r.x = s.y' --report r.csv s.csv
 check 0 '2,1\n2,3\n3,2\ninput 3 3\nfinal 4 1 copies 15 best 12\njoiner 0 held 0 3 made 0\njoiner 1 held 1 3 made 2\njoiner 2 held 2 3 made 1\njoiner 3 held 0 3 made 0\n' '' \
     --on 'r.x = s.y' --joiners 4 --fixed 0 --seed 42 --report r.csv s.csv
 check 0 '2,1\n2,3\n3,2\ninput 3 3\nfinal 4 1 copies 24 best 24\njoiner 0 held 0 3 made 0\njoiner 1 held 1 3 made 2\njoiner 2 held 2 3 made 1\njoiner 3 held 0 3 made 0\n' '' \
@@ -104,6 +111,10 @@ check 2 '' "$usage" r.csv s.csv
 check 2 '' "$usage" --on 'r.x = s.y' r.csv
 check 2 '' "$usage" --on 'r.x = s.y' --joiners 3 r.csv s.csv
 check 2 '' "$usage" --on 'r.x = s.y' --joiners 4 --fixed 3 r.csv s.csv
+check 2 '' "$usage" --on 'r.x = s.y' --groups --fixed 0 r.csv s.csv
+check 2 '' "$usage" --on 'r.x = s.y' --groups --early r.csv s.csv
+check 2 '' "$usage" --on 'r.x = s.y' --groups --replay 7 r.csv s.csv
+check 2 '' "$usage" --on 'r.x = s.y' --groups r.csv s.csv r.csv
 check 2 '' "$usage" --on 'r.x = s.y' --unknown r.csv s.csv
 check 2 '' "$usage" --on 'r.x = s.y' --feeders 9 r.csv s.csv
 check 2 '' "$usage" --on 'r.x = s.y' --batch 0 r.csv s.csv
