@@ -16,6 +16,7 @@ falling (suc k) = k ∷ falling k
 unfoldable pub digits_below : ℕ → ℕ → List ℕ
 digits_below n k = filter (has_digit n) (falling k)
 
+-- all digits are those below the eighth
 pub digits-below : (n : ℕ) → digits n ≡ digits_below n 7
 unfolding digits digits_below
 digits-below n = refl
@@ -32,6 +33,7 @@ digits_below-suc n k = refl
 abbrev pub sum_of : List ℕ → ℕ
 sum_of places = sum (map (λ place. 2 ^ place) places)
 
+-- a sum of one number more
 pub sum-cons : (n : ℕ) (ns : List ℕ) → sum (n ∷ ns) ≡ n + sum ns
 sum-cons n ns = sum_by-cons (λ m. m) n ns
 
@@ -71,7 +73,9 @@ more_digits n step places more low so_far is =
     let below = digits_below n (6 - step) in
     ap (λ k. (places ++ more) ++ digits_below n k) next
     ∙ append_assoc places more below
-    ∙ ap (λ ds. places ++ ds) (ap (λ m. m ++ below) is ∙ front (has_digit n (6 - step)) ∙ sym (digits_below-suc n (6 - step)) ∙ ap (digits_below n) (sym here))
+    ∙ ap (λ ds. places ++ ds)
+    (ap (λ m. m ++ below) is ∙ front (has_digit n (6 - step)) ∙ sym (digits_below-suc n (6 - step))
+    ∙ ap (digits_below n) (sym here))
     ∙ so_far
   where
     front : (digit : Bool) → cond digit ((6 - step) ∷ []) [] ++ digits_below n (6 - step)
@@ -79,16 +83,19 @@ more_digits n step places more low so_far is =
     front true = refl
     front false = refl
 
-pub at_last : (n : ℕ) (places : List ℕ) (step : ℕ) → 7 ≤ step → places ++ digits_below n (7 - step) ≡ digits n → places ≡ digits n
+-- after the last digit these are all
+pub at_last : (n : ℕ) (places : List ℕ) (step : ℕ) → 7 ≤ step → places ++ digits_below n (7 - step) ≡ digits n
+    → places ≡ digits n
 at_last n places step over so_far =
     let none : 7 - step ≡ 0 = omega arith in
-    sym (append-nil places) ∙ ap (λ ds. places ++ ds) (sym (digits_below-zero n)) ∙ ap (λ k. places ++ digits_below n k) (sym none) ∙ so_far
+    sym (append-nil places) ∙ ap (λ ds. places ++ ds) (sym (digits_below-zero n))
+    ∙ ap (λ k. places ++ digits_below n k) (sym none) ∙ so_far
 
 -- ---- from one group to the next
 
 -- a digit that is 1 is the next group's
-pub here_is_one : (n step g : ℕ) → step < 7 → drop g (digits n) ≡ digits_below n (7 - step) → has_digit n (6 - step) ≡ true
-    → drop g (digits n) ≡ (6 - step) ∷ digits_below n (7 - (step + 1))
+pub here_is_one : (n step g : ℕ) → step < 7 → drop g (digits n) ≡ digits_below n (7 - step)
+    → has_digit n (6 - step) ≡ true → drop g (digits n) ≡ (6 - step) ∷ digits_below n (7 - (step + 1))
 here_is_one n step g low rest one =
     let here : 7 - step ≡ suc (6 - step) = omega arith in
     let next : 6 - step ≡ 7 - (step + 1) = omega arith in
@@ -97,8 +104,8 @@ here_is_one n step g low rest one =
     ∙ ap (λ k. (6 - step) ∷ digits_below n k) next
 
 -- one that is 0 is of none
-pub here_is_none : (n step g : ℕ) → step < 7 → drop g (digits n) ≡ digits_below n (7 - step) → has_digit n (6 - step) ≡ false
-    → drop g (digits n) ≡ digits_below n (7 - (step + 1))
+pub here_is_none : (n step g : ℕ) → step < 7 → drop g (digits n) ≡ digits_below n (7 - step)
+    → has_digit n (6 - step) ≡ false → drop g (digits n) ≡ digits_below n (7 - (step + 1))
 here_is_none n step g low rest none =
     let here : 7 - step ≡ suc (6 - step) = omega arith in
     let next : 6 - step ≡ 7 - (step + 1) = omega arith in
@@ -106,6 +113,7 @@ here_is_none n step g low rest none =
     ∙ ap (λ t. cond t ((6 - step) ∷ digits_below n (6 - step)) (digits_below n (6 - step))) none
     ∙ ap (digits_below n) next
 
+-- behind a group's digit are those of the groups after it
 pub next_place : (places rest : List ℕ) (g k : ℕ) → drop g places ≡ k ∷ rest → drop (g + 1) places ≡ rest
 next_place [] rest zero k is = absurd (cc)
 next_place [] rest (suc g) k is = absurd (cc)
@@ -114,6 +122,7 @@ next_place (p ∷ places) rest (suc g) k is =
     let one : suc g + 1 ≡ suc (g + 1) = omega arith in
     ap (λ m. drop m (p ∷ places)) one ∙ next_place places rest g k is
 
+-- one group more has as many joiners more as its digit stands for
 pub next_sum : (places rest : List ℕ) (g k : ℕ) → drop g places ≡ k ∷ rest
     → sum (take (g + 1) (map (λ place. 2 ^ place) places)) ≡ sum (take g (map (λ place. 2 ^ place) places)) + 2 ^ k
 next_sum [] rest zero k is = absurd (cc)
@@ -124,11 +133,12 @@ next_sum (p ∷ places) rest (suc g) k is =
     let front : ℕ → List ℕ = λ m. take m (map (λ place. 2 ^ place) places) in
     ap (λ m. sum (take m (map (λ place. 2 ^ place) (p ∷ places)))) one
     ∙ sum-cons (2 ^ p) (front (g + 1)) ∙ ap (λ m. 2 ^ p + m) (next_sum places rest g k is)
-    ∙ add_assoc' (2 ^ p) (sum (front g)) (2 ^ k) ∙ ap (λ m. m + 2 ^ k) (sym (sum-cons (2 ^ p) (front g)))
+    ∙ regrouped (2 ^ p) (sum (front g)) (2 ^ k) ∙ ap (λ m. m + 2 ^ k) (sym (sum-cons (2 ^ p) (front g)))
   where
-    add_assoc' : (a b d : ℕ) → a + (b + d) ≡ (a + b) + d
-    add_assoc' a b d = omega arith
+    regrouped : (a b d : ℕ) → a + (b + d) ≡ (a + b) + d
+    regrouped a b d = omega arith
 
+-- where no digit is left all sizes were taken
 pub all_taken : (places : List ℕ) (g : ℕ) → drop g places ≡ []
     → take g (map (λ place. 2 ^ place) places) ≡ map (λ place. 2 ^ place) places
 all_taken [] zero is = refl
@@ -154,4 +164,5 @@ digits_small n =
 -- an item that is pushed if the test passes
 pub same_test : {test wanted : Bool} {item place : ℕ} → test ≡ wanted → item ≡ place
     → cond test (item ∷ []) [] ≡ cond wanted (place ∷ []) []
-same_test {test = test} {place = place} tests items = ap (λ i. cond test (i ∷ []) []) items ∙ ap (λ t. cond t (place ∷ []) []) tests
+same_test {test = test} {place = place} tests items =
+    ap (λ i. cond test (i ∷ []) []) items ∙ ap (λ t. cond t (place ∷ []) []) tests

@@ -31,8 +31,8 @@ use Rattle.group_split.proofs.Parted.{part_within, part_few}
 use Rattle.group_split.proofs.PartRuns.{row_weight, part_sum, parts_sum, valid_part}
 
 -- a run of a group's input is one of its part
-pub adds_part : {A E : Type 0} (result : Result A E) (input : Input) (setting : Setting) (rows indices : List ℕ) (its : Input)
-    (old new : GroupsRun) → indices ≡ rows → its ≡ input_of_part input indices
+pub adds_part : {A E : Type 0} (result : Result A E) (input : Input) (setting : Setting) (rows indices : List ℕ)
+    (its : Input) (old new : GroupsRun) → indices ≡ rows → its ≡ input_of_part input indices
     → OnOk result (AddsRun its setting (map (pair_in indices) (nested_loop its)) old new)
     → OnOk result (AddsRun (input_of_part input rows) setting (pairs_of_part input rows) old new)
 adds_part result input setting rows indices its old new are is adds =
@@ -45,31 +45,30 @@ module _ (input : Input) (joiners : ℕ) (numbers : List ℕ) (setting : Setting
   abbrev sum_at : (Pair → ℕ) → ℕ → ℕ
   sum_at f h = sum_by f (pairs_of_part input (part joiners numbers h))
 
-  -- before the first group nothing was joined
-  pub none_joined : (found : GroupsRun) → found ≡ record { pairs = []; runs = []; trail = [] }
-      → HasJoined input joiners numbers setting 0 found
-  none_joined found is = subst (HasJoined input joiners numbers setting 0) (sym is) record {
-    groups = λ runs trail rest. rest;
-    pairs = λ f. refl;
-  }
-
   -- one group more
   pub join_more : (g k : ℕ) (its : Setting) (old new : GroupsRun) → slice_get (digits joiners) g ≡ Some k
-      → g < length (digits joiners) → its ≡ setting_of_group setting k → HasJoined input joiners numbers setting g old
-      → AddsRun (input_of_part input (part joiners numbers g)) its (pairs_of_part input (part joiners numbers g)) old new
+      → g < length (digits joiners) → its ≡ setting_of_group setting k
+      → HasJoined input joiners numbers setting g old
+      → AddsRun (input_of_part input (part joiners numbers g)) its (pairs_of_part input (part joiners numbers g))
+      old new
       → HasJoined input joiners numbers setting (g + 1) new
   join_more g k its old new here low with_k so_far adds = record {
     groups = λ runs trail rest.
         let ds = digits joiners in
         let next : drop g ds ≡ k ∷ drop (g + 1) ds =
-        drop-cons ds g 0 low ∙ ap (λ place. place ∷ drop (suc g) ds) (get_or_from_slice_get ds g k 0 here) ∙ ap (λ m. k ∷ drop m ds) (sym (add-one g)) in
+        drop-cons ds g 0 low ∙ ap (λ place. place ∷ drop (suc g) ds) (get_or_from_slice_get ds g k 0 here)
+        ∙ ap (λ m. k ∷ drop m ds) (sym (add-one g)) in
         let all_runs : old.runs ++ (adds.answer ∷ runs) ≡ new.runs ++ runs =
         sym (append_assoc old.runs (adds.answer ∷ []) runs) ∙ ap (λ rs. rs ++ runs) (sym adds.runs_are) in
         let all_ends : old.trail ++ (adds.ends ∷ trail) ≡ new.trail ++ trail =
         sym (append_assoc old.trail (adds.ends ∷ []) trail) ∙ ap (λ es. es ++ trail) (sym adds.trail_is) in
-        let is = subst (λ its. IsGroupRun (input_of_part input (part joiners numbers g)) its adds.answer adds.ends) with_k adds.is in
+        let is =
+        subst (λ its. IsGroupRun (input_of_part input (part joiners numbers g)) its adds.answer adds.ends) with_k
+        adds.is in
         let whole = so_far.groups (adds.answer ∷ runs) (adds.ends ∷ trail)
-        (subst (λ places. AreGroupsFrom input joiners numbers setting g places (adds.answer ∷ runs) (adds.ends ∷ trail)) (sym next) (is, rest)) in
+        (subst
+        (λ places. AreGroupsFrom input joiners numbers setting g places (adds.answer ∷ runs) (adds.ends ∷ trail))
+        (sym next) (is, rest)) in
         subst (λ rs. AreGroups input joiners numbers setting rs (new.trail ++ trail)) all_runs
         (subst (λ es. AreGroups input joiners numbers setting (old.runs ++ (adds.answer ∷ runs)) es) all_ends whole);
     pairs = λ f.
@@ -83,13 +82,15 @@ module _ (input : Input) (joiners : ℕ) (numbers : List ℕ) (setting : Setting
   all_groups found joined =
       let ds = digits joiners in
       let whole = joined.groups [] []
-      (subst (λ places. AreGroupsFrom input joiners numbers setting (length ds) places [] []) (sym (drop-length ds)) tt) in
+      (subst (λ places. AreGroupsFrom input joiners numbers setting (length ds) places [] []) (sym (drop-length ds))
+      tt) in
       subst (λ rs. AreGroups input joiners numbers setting rs found.trail) (append-nil found.runs)
       (subst (λ es. AreGroups input joiners numbers setting (found.runs ++ []) es) (append-nil found.trail) whole)
 
   -- their pairs are those of the nested loop
-  pub all_pairs : (found : GroupsRun) → joiners < 2 ^ 7 → All (λ number. number < joiners) numbers → length numbers ≡ row_count input R
-      → HasJoined input joiners numbers setting (length (digits joiners)) found → SameBag found.pairs (nested_loop input)
+  pub all_pairs : (found : GroupsRun) → joiners < 2 ^ 7 → All (λ number. number < joiners) numbers
+      → length numbers ≡ row_count input R → HasJoined input joiners numbers setting (length (digits joiners)) found
+      → SameBag found.pairs (nested_loop input)
   all_pairs found few below many joined = record {
     sums = λ f.
         joined.pairs f
@@ -128,15 +129,17 @@ none_weighs n (pair ∷ pairs) is =
 pub pairs_there : (input : Input) → All (λ pair. pair.i < row_count input R) (nested_loop input)
 pairs_there input =
     let n = row_count input R in
+    let m = row_count input S in
     let f : Pair → ℕ = λ pair. zero_if (nat_lt pair.i n) in
+    let test : ℕ → ℕ → Bool = λ i j. matches_of input (cells_of input R i) (cells_of input S j) in
     All-from_recursion (λ pair. pair.i < n) (nested_loop input)
     (none_weighs n (nested_loop input)
     (loop_sum input f
     ∙ total_same n
-    (λ i. total (row_count input S) (λ j. only_if (matches_of input (cells_of input R i) (cells_of input S j)) (f (loop_pair i j))))
+    (λ i. total m (λ j. only_if (test i j) (f (loop_pair i j))))
     (λ i. 0)
-    (λ i low. zeros (row_count input S) (λ j. only_if (matches_of input (cells_of input R i) (cells_of input S j)) (f (loop_pair i j)))
-    (λ j. nothing (matches_of input (cells_of input R i) (cells_of input S j)) (f (loop_pair i j)) (ap zero_if (lt-ltb i n low))))
+    (λ i low. zeros m (λ j. only_if (test i j) (f (loop_pair i j)))
+    (λ j. nothing (test i j) (f (loop_pair i j)) (ap zero_if (lt-ltb i n low))))
     ∙ total-zero n))
   where
     nothing : (t : Bool) (m : ℕ) → m ≡ 0 → only_if t m ≡ 0
@@ -154,16 +157,20 @@ run_pairs_there input line pairs n are whole many =
 
 module _ (input : Input) (joiners : ℕ) (numbers : List ℕ) (many : length numbers ≡ row_count input R)
     (g : ℕ) (indices : List ℕ) (are : indices ≡ part joiners numbers g) where
+  -- they are those of rows
   pub indices_low : All (λ index. index < row_count input R) indices
   indices_low =
       subst (All (λ index. index < row_count input R)) (sym are)
       (subst (λ n. All (λ index. index < n) (part joiners numbers g)) many (part_within joiners numbers g))
 
+  -- no more than there are rows
   pub indices_few : length indices ≤ row_count input R
   indices_few = let few = part_few joiners numbers g in let same = ap length are in omega arith
 
+  -- each fits 32 bits
   pub indices_small : IsValidInput input → All (λ index. index < 2 ^ 32) indices
   indices_small valid = λ k d low. let its = indices_low k d low in let few = (valid.sides R).few in omega arith
 
+  -- and what the group joins is valid
   pub group_valid : (its : Input) → IsValidInput input → its ≡ input_of_part input indices → IsValidInput its
   group_valid its valid is = subst IsValidInput (sym is) (valid_part input indices valid indices_low indices_few)

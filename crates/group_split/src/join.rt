@@ -216,8 +216,8 @@ fn join_parts<R: Threads + Wait + Sync, G: Gate>(
     )
 }
 
-/// Joins in groups of joiners, so many in all: a run for each group, over the rows of R whose number is of the group and
-/// all of S, one run after the other. The setting's `k` isn't used. What it promises holds if it returns.
+/// Joins in groups of joiners, so many in all: a run for each group, over the rows of R whose number is of the group
+/// and all of S, one run after the other. The setting's `k` isn't used. What it promises holds if it returns.
 pub fn run_groups<R: Threads + Wait + Sync, G: Gate>(
     rt: &R,
     alloc: Global,

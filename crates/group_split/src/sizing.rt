@@ -83,8 +83,8 @@ fn groups_before(joiners: u32, number: u64) -> u32
     group
 }
 
-/// The group of this number, counted from 0: the least group whose joiners, with those of the groups before it, are more
-/// than the number. It takes no memory.
+/// The group of this number, counted from 0: the least group whose joiners, with those of the groups before it, are
+/// more than the number. It takes no memory.
 pub fn group_of(joiners: u32, number: u64) -> u32
     requires below { number < joiners }
     requires few { joiners ≤ 64 }

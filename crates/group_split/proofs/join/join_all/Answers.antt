@@ -14,11 +14,12 @@ loop-group-preserved g c =
     let new = c.join_group.new.found in
     let k = c.at.result.now in
     let places = c.requires.places in
-    let here : slice_get (digits joiners) group ≡ Some k = subst (λ ds. slice_get ds group ≡ Some k) places c.at.ensures in
+    let here : slice_get (digits joiners) group ≡ Some k =
+    subst (λ ds. slice_get ds group ≡ Some k) places c.at.ensures in
     let many = ap length places in
     let low : group < length (digits joiners) = omega arith in
     record {
       part = c.in_ok-join_group.ensures.part;
-      joined = join_more input joiners numbers c.args.setting.now group k c.setting_at-its.result old new here low c.setting_at-its.ensures
-          c.loop-group.invariant.joined c.in_ok-join_group.ensures.adds;
+      joined = join_more input joiners numbers c.args.setting.now group k c.setting_at-its.result old new here low
+          c.setting_at-its.ensures c.loop-group.invariant.joined c.in_ok-join_group.ensures.adds;
     }

@@ -11,7 +11,9 @@ returns-clause-pairs g c =
     let found = c.in_ok-found.found in
     let valid = c.limits_suffice.ensures input setting c.requires.input c.requires.setting in
     let few : c.args.joiners < 2 ^ 7 = omega arith in
-    let same = all_pairs input c.args.joiners c.args.numbers.now setting found few c.requires.below c.requires.many c.in_ok-found.ensures in
+    let same =
+    all_pairs input c.args.joiners c.args.numbers.now setting found few c.requires.below c.requires.many
+    c.in_ok-found.ensures in
     ordered_pairs input (first_rest setting).line found.pairs c.ordered.result.pairs c.sorts_into_the_loop.ensures
     (c.begins_with_all.ensures input setting valid).1 same c.ordered.ensures.permutation c.ordered.ensures.order
 

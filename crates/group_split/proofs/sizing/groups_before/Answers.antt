@@ -48,5 +48,7 @@ returns-then-number-joined c =
 
 pub returns : goal.returns
 returns c =
-    let none = none_left c.args.joiners c.loop-step.step c.loop-step.group (omega arith) (omega arith) c.loop-step.invariant.rest in
+    let none =
+    none_left c.args.joiners c.loop-step.step c.loop-step.group (omega arith) (omega arith)
+    c.loop-step.invariant.rest in
     absurd (omega arith)
