@@ -1,6 +1,6 @@
 -- What a group joins is a valid input, and its pairs are those of its rows of R; all groups' pairs are all pairs.
-use Rattle.std.proofs.Common.{◌≡◌, ℕ, ◌+◌, ◌^◌, ◌<◌, ◌≤◌, refl, sym, ◌∙◌, ap, arith, List, [], ◌∷◌, length, map}
-use Rattle.std.specs.Prelude.{All, sum_by, slice_index, slice_index_or}
+use Rattle.std.proofs.Common.{◌≡◌, ℕ, ◌+◌, ◌^◌, ◌<◌, ◌≤◌, refl, sym, ◌∙◌, ap, subst, arith, List, [], ◌∷◌, length, map}
+use Rattle.std.specs.Prelude.{All, sum_by, slice_index, slice_index_or, None, IfSome}
 use Rattle.std.proofs.lemmas.List.{get_or-map, length-map}
 use Rattle.std.proofs.lemmas.List.Elements.{All-map}
 use Rattle.std.proofs.lemmas.List.Sums.{sum_by-cons}
@@ -11,13 +11,14 @@ use Rattle.join_rows.proofs.Bags.{only_if, sum_of_map}
 use Rattle.join_rows.proofs.Totals.{total_same, total_front}
 use Rattle.epoch_tags.specs.declared.tuple.Pair.{Pair}
 use Rattle.trace_law.specs.declared.input.Input.{Input}
-use Rattle.trace_law.specs.Validity.{IsFor, IsValidInput}
+use Rattle.trace_law.specs.declared.setting.Setting.{Setting}
+use Rattle.trace_law.specs.Validity.{IsFor, IsValidInput, IsValidSetting}
 use Rattle.trace_law.specs.Join.{nested_loop, row_count, matches_of, table_of, tickets_of}
 use Rattle.trace_law.specs.Family.{cells_of}
 use Rattle.theta_pred.specs.Truth.{width_of}
 use Rattle.trace_law.proofs.Loop.{loop_sum, loop_pair}
 use Rattle.group_split.specs.Sizes.{digits}
-use Rattle.group_split.specs.Parts.{part, input_of_part, pair_in}
+use Rattle.group_split.specs.Parts.{part, input_of_part, setting_of_group, pair_in}
 use Rattle.group_split.proofs.Parted.{parted}
 
 -- ---- validity
@@ -55,6 +56,21 @@ valid_part input indices valid low few = record { sides = sides; bytes = bytes }
         let its = low k d there in
         valid.bytes R (slice_index_or indices k d) 0 (omega arith))
     bytes S = valid.bytes S
+
+-- and so is the setting of a group where no shift is fixed
+pub valid_setting : (setting : Setting) (k : ℕ) → IsValidSetting setting → setting.fixed ≡ None → k < 7
+    → IsValidSetting (setting_of_group setting k)
+valid_setting setting k valid free low = record {
+  joiners = omega arith;
+  some_feeders = valid.some_feeders;
+  few_feeders = valid.few_feeders;
+  some_workers = valid.some_workers;
+  few_workers = valid.few_workers;
+  some_rows = valid.some_rows;
+  few_rows = valid.few_rows;
+  fixed = subst (λ fixed. IfSome fixed (λ shift. shift ≤ k)) (sym free) tt;
+  weights = valid.weights;
+}
 
 -- ---- pairs
 
