@@ -13,6 +13,3 @@ pub use put::put_all;
 pub use report::report_text;
 pub use rows::rows_text;
 pub use summary::summary_text;
-
-#[cfg(test)]
-mod tests;

@@ -16,6 +16,3 @@ pub use laws::{
     each_has_settled, fits_again, migrates_seldom, start_fits, stays_near, waves_migrate_seldom,
 };
 pub use line::{Cause, Journal, TurnLine};
-
-#[cfg(test)]
-mod tests;

@@ -11,6 +11,3 @@ mod rule;
 pub use ends::{In, Out, gather, link};
 pub use mailbox::{Inbox, Mouth, gather_mouth};
 pub use opening::{Actors, Mouths, inbox};
-
-#[cfg(test)]
-mod tests;

@@ -18,6 +18,3 @@ pub use laws::{
 };
 pub use run::Run;
 pub use setting::Setting;
-
-#[cfg(test)]
-mod tests;

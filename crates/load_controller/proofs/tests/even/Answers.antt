@@ -1,5 +1,0 @@
-use Rattle.load_controller.proofs.RowFits.{wave_fits}
-use Rattle.load_controller.proofs.tests.even.Goals as goal
-
-pub start_at-requires-clause-fits : goal.start_at-requires-clause-fits
-start_at-requires-clause-fits c = wave_fits
