@@ -218,7 +218,7 @@ impl Store {
     }
 
     /// Appends the same pairs, found by the store's access where it has one. It evaluates the predicate for just the
-    /// stored tuples that agree with this one in all of the access.
+    /// stored tuples that `which` names and that agree with this one in all of the access.
     pub fn find<L: Ledger>(
         &self,
         tuple: &Tuple,

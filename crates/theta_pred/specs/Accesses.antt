@@ -28,7 +28,7 @@ abbrev pub agreement_of : Same → Agreement
 agreement_of (Texts atom) = texts atom
 agreement_of (Sums pair) = sums pair.r_sum.parts pair.s_sum.parts pair.gap
 
--- and all of an access
+-- what all the equalities of an access say
 abbrev pub agreements : Access → List Agreement
 agreements access = map agreement_of access.sames
 
@@ -37,11 +37,11 @@ abbrev pub agrees : List Cell → List Cell → Agreement → Bool
 agrees r s (texts atom) = bytes_eq (text_at atom.r r) (text_at atom.s s)
 agrees r s (sums a b gap) = is_between (Some gap) (Some gap) (value_of a r) (value_of b s)
 
--- and in each
+-- whether a row of R and one of S agree in each of these
 abbrev pub do_agree : List Agreement → List Cell → List Cell → Bool
 do_agree all r s = list_all (agrees r s) all
 
--- of an equality of two sums
+-- what an equality of two sums says: of each side the parts that name its columns, and the gap between the constants
 abbrev pub of_sums : List SignedTerm → List SignedTerm → Agreement
 of_sums left right = sums (columns_of R false left ++ columns_of R true right)
     (columns_of S true left ++ columns_of S false right) (neg_ℤ (constant_of left -ℤ constant_of right))
@@ -58,7 +58,7 @@ abbrev mutual
   agreements_of (every fs) = agreements_in fs
   agreements_of f = option_to_list (agreement_in f)
 
-  -- and of their members
+  -- the agreements of a conjunction's members, one member after another
   pub agreements_in : Formulas → List Agreement
   agreements_in no_formula = []
   agreements_in (formula f fs) = agreements_of f ++ agreements_in fs

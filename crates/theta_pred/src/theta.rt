@@ -128,7 +128,7 @@ impl Theta {
         key_law(&self.tree, self.width_r, self.width_s);
     }
 
-    /// All equalities of the top conjunction, and of the conjunctions that are its members, by which
+    /// All equalities of the top conjunction, and of the conjunctions within it however deep, by which
     /// rows of the two sides agree: each of two sums that names a column of both sides, and each of
     /// a text of R and one of S. None where there is none, and none where the key atom is that of a
     /// band, whose own index serves better where the equalities have few distinct values.
