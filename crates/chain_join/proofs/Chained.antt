@@ -22,7 +22,9 @@ use Rattle.trace_law.specs.Validity.{IsFor, IsValidInput}
 use Rattle.trace_law.proofs.First.{all_pairs}
 use Rattle.trace_law.proofs.Validity.{both_sides}
 use Rattle.chain_join.specs.declared.second.Third.{Third}
-use Rattle.chain_join.specs.Chains.{IsWide, joined_names, joined_row, joined_rows, nested3, second_input, tickets_of}
+use Rattle.joined_rows.specs.Joined.{joined_names}
+use Rattle.joined_rows.proofs.Widths.{length-joined_names}
+use Rattle.chain_join.specs.Chains.{IsWide, joined_row, joined_rows, nested3, second_input, tickets_of}
 use Rattle.chain_join.specs.Triples.{triple_at}
 use Rattle.chain_join.proofs.Places.{IsWithin, all_of, pairs_within}
 use Rattle.chain_join.proofs.Loops.{chained}
@@ -31,11 +33,6 @@ use Rattle.chain_join.proofs.Loops.{chained}
 pub pairs_of_run : (input : Input) (setting : Setting) (run : Run)
     → IsRunOf input setting (first_rest setting).line run.journal run → run.pairs ≡ nested_loop input
 pairs_of_run input setting run is = is.pairs ∙ all_pairs input setting
-
--- as many joined names as there are names
-pub length-joined_names : (names_r names_s : List (List ℕ))
-    → length (joined_names names_r names_s) ≡ length names_r + length names_s
-length-joined_names names_r names_s = simp (length-append, length-map)
 
 -- the rows of a table that fits have as many cells as it has names
 wide_as_names : (table : Table) (tickets : List ℕ) (width : ℕ) → IsFor table tickets width

@@ -1,13 +1,8 @@
--- Worked rows: the joined names, and the triples of a chain.
+-- Worked rows: the triples of a chain.
 use Rattle.std.proofs.Common.{◌≡◌, ℕ, ◌&&◌, List, [], ◌∷◌, refl}
-use Rattle.std.specs.Prelude.{◌==◌, codes}
+use Rattle.std.specs.Prelude.{◌==◌}
 use Rattle.chain_join.specs.declared.triples.Triple.{Triple}
-use Rattle.chain_join.specs.Chains.{joined_names}
 use Rattle.chain_join.specs.Triples.{triple_loop}
-
--- `id` and `id` come to be `r_id` and `s_id`
-pub two_names : joined_names (codes "id" ∷ []) (codes "id" ∷ []) ≡ codes "r_id" ∷ codes "s_id" ∷ []
-two_names = refl
 
 -- rows `id,x` of R, `id,y` of S and `id,z` of Q
 abbrev rows_r : List (ℕ × ℕ)

@@ -1,6 +1,6 @@
 -- A chain of three relations: R is joined with S, and the joined rows with Q.
-use Rattle.std.specs.Prelude.{◌≡◌, ◌++◌, ◌&&◌, ℕ, Bool, All, List, [], map, length, codes}
-use Rattle.std.specs.List.{range_with_len, slice_index_or}
+use Rattle.std.specs.Prelude.{◌≡◌, ◌++◌, ◌&&◌, ℕ, Bool, All, List, map, length}
+use Rattle.std.specs.List.{range_with_len}
 use Rattle.join_rows.specs.declared.table.Cell.{Cell}
 use Rattle.join_rows.specs.declared.table.Side.{Side}
 use Rattle.join_rows.specs.declared.table.Side.TheVariants.{R, S}
@@ -8,6 +8,7 @@ use Rattle.join_rows.specs.declared.table.Table.{Table}
 use Rattle.epoch_tags.specs.declared.tuple.Pair.{Pair}
 use Rattle.theta_pred.specs.Truth.{holds}
 use Rattle.row_tickets.specs.Tickets.{ticket_of}
+use Rattle.joined_rows.specs.Joined.{joined_names, joined_row as joined_row_of}
 use Rattle.trace_law.specs.declared.input.Input.{Input}
 use Rattle.trace_law.specs.declared.setting.Setting.{Setting}
 use Rattle.trace_law.specs.Family.{first_rest}
@@ -21,17 +22,9 @@ use Rattle.chain_join.specs.Triples.{triple_loop}
 
 -- ---- the joined rows, and what is joined with the third table
 
--- the names of R, each after `r_`, and then those of S, each after `s_`
-abbrev pub joined_names : List (List ℕ) → List (List ℕ) → List (List ℕ)
-joined_names names_r names_s = map (λ name. codes "r_" ++ name) names_r ++ map (λ name. codes "s_" ++ name) names_s
-
--- the row at a place; one that isn't there has no cell
-abbrev pub row_at : List (List Cell) → ℕ → List Cell
-row_at rows place = slice_index_or rows place []
-
--- the cells of a pair's row of R, and then those of its row of S
+-- the joined row of a pair
 abbrev pub joined_row : Input → Pair → List Cell
-joined_row input pair = row_at (rows_of input R) pair.i ++ row_at (rows_of input S) pair.j
+joined_row input pair = joined_row_of (rows_of input R) (rows_of input S) pair
 
 -- a joined row for each of the nested loop's matching pairs, in its order
 abbrev pub joined_rows : Input → List (List Cell)

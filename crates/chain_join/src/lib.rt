@@ -2,12 +2,10 @@
 #![tactic(auto)]
 
 mod chain;
-mod names;
-mod rows;
 mod second;
 mod triples;
 
 pub use chain::{ChainFault, ChainRun, run_chain};
-pub use names::joined_names;
+pub use joined_rows::joined_names;
 pub use second::Third;
 pub use triples::{Triple, Triples};

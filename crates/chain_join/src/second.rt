@@ -3,12 +3,12 @@
 ghost use Rattle.std.specs.Prelude.{◌≡◌, ◌≤◌, ◌<◌, ◌+◌, ◌^◌, All, IfOk, length};
 ghost use Rattle.trace_law.specs.Validity.{IsValidInput};
 ghost use Rattle.trace_law.specs.Join.{nested_loop};
-ghost use Rattle.chain_join.specs.Chains.{IsWide, joined_names as joined_names', joined_rows, second_input as second_input', tickets_of};
+ghost use Rattle.joined_rows.specs.Joined.{joined_names as joined_names'};
+ghost use Rattle.chain_join.specs.Chains.{IsWide, joined_rows as joined_rows', second_input as second_input', tickets_of};
 
-use crate::names::joined_names;
-use crate::rows::rows_of;
 use epoch_tags::Pair;
 use join_rows::{Bytes, Rows, Side, Table};
+use joined_rows::{joined_names, joined_rows};
 use row_tickets::tickets;
 use std::alloc::{AllocError, Global};
 use theta_pred::Theta;
@@ -43,10 +43,10 @@ fn joined_table(alloc: Global, first: &Input, pairs: &[Pair]) -> Result<Table, A
     requires { pairs.now ≡ nested_loop first.now }
     ensures names { IfOk result (λ table. table.names
         ≡ joined_names' first.now.table_r.names first.now.table_s.names) }
-    ensures rows { IfOk result (λ table. table.rows ≡ joined_rows first.now) }
+    ensures rows { IfOk result (λ table. table.rows ≡ joined_rows' first.now) }
 {
     let names = joined_names(alloc, &first.table_r.names, &first.table_s.names)?;
-    let rows = rows_of(alloc, first, pairs)?;
+    let rows = joined_rows(alloc, &first.table_r.rows, &first.table_s.rows, pairs)?;
     Ok(Table { names, rows })
 }
 
@@ -60,7 +60,7 @@ fn joined_side(
     requires { pairs.now ≡ nested_loop first.now }
     ensures names { IfOk result (λ side. side.0.names
         ≡ joined_names' first.now.table_r.names first.now.table_s.names) }
-    ensures rows { IfOk result (λ side. side.0.rows ≡ joined_rows first.now) }
+    ensures rows { IfOk result (λ side. side.0.rows ≡ joined_rows' first.now) }
     ensures tickets { IfOk result (λ side. side.1 ≡ tickets_of seed Side.R side.0.rows) }
     ensures bytes { IfOk result (λ side. All (λ ticket. ticket < 2 ^ 8) side.1) }
 {

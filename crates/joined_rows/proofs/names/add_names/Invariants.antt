@@ -1,5 +1,5 @@
 use Rattle.std.proofs.Common.{◌≡◌, ◌++◌, map, take}
-use Rattle.chain_join.proofs.names.add_names.Given as goal
+use Rattle.joined_rows.proofs.names.add_names.Given as goal
 
 abbrev pub invariant-loop-name : goal.invariant-loop-name
 invariant-loop-name l = l.joined ≡ l.initial.joined ++ map (λ name. l.prefix ++ name) (take l.name-index l.names)

@@ -1,12 +1,11 @@
 // The joined rows.
 
 ghost use Rattle.std.specs.Prelude.{◌≡◌, ◌++◌, IfOk, OnOk, map};
-ghost use Rattle.chain_join.specs.Chains.{joined_row as joined_row', row_at as row_at'};
+ghost use Rattle.joined_rows.specs.Joined.{joined_row as joined_row', row_at as row_at'};
 
 use epoch_tags::Pair;
 use join_rows::{Cell, Cells, Rows};
 use std::alloc::{AllocError, Global};
-use trace_law::Input;
 
 // The cells of the row at a place, none where there is no such row.
 fn row_at<'a>(rows: &'a Rows, place: u32) -> &'a [Cell]
@@ -39,21 +38,27 @@ fn one_row(alloc: Global, row_r: &[Cell], row_s: &[Cell]) -> Result<Cells, Alloc
 }
 
 // The joined row of a pair.
-fn joined_row(alloc: Global, input: &Input, pair: Pair) -> Result<Cells, AllocError>
-    ensures { IfOk result (λ row. row ≡ joined_row' input.now pair) }
+fn joined_row(alloc: Global, rows_r: &Rows, rows_s: &Rows, pair: Pair) -> Result<Cells, AllocError>
+    ensures { IfOk result (λ row. row ≡ joined_row' rows_r.now rows_s.now pair) }
 {
-    let row_r = row_at(&input.table_r.rows, pair.i);
-    let row_s = row_at(&input.table_s.rows, pair.j);
+    let row_r = row_at(rows_r, pair.i);
+    let row_s = row_at(rows_s, pair.j);
     one_row(alloc, row_r, row_s)
 }
 
-/// The joined rows of pairs, in their order. Copies of a row share its cells.
-pub(crate) fn rows_of(alloc: Global, input: &Input, pairs: &[Pair]) -> Result<Rows, AllocError>
-    ensures { IfOk result (λ rows. rows ≡ map (joined_row' input.now) pairs.now) }
+/// A row for each pair, in their order: the cells of its row of R, and then those of its row of S. A place at
+/// which there is no row has no cells. The new rows have copies of the cells; copies of a new row share its cells.
+pub fn joined_rows(
+    alloc: Global,
+    rows_r: &Rows,
+    rows_s: &Rows,
+    pairs: &[Pair],
+) -> Result<Rows, AllocError>
+    ensures { IfOk result (λ rows. rows ≡ map (joined_row' rows_r.now rows_s.now) pairs.now) }
 {
     let mut rows = Rows::with_room(alloc, pairs.len())?;
     for pair in pairs {
-        rows.push(joined_row(alloc, input, *pair)?)?;
+        rows.push(joined_row(alloc, rows_r, rows_s, *pair)?)?;
     }
     Ok(rows)
 }

@@ -1,7 +1,7 @@
 // The header of the joined rows.
 
 ghost use Rattle.std.specs.Prelude.{◌≡◌, ◌++◌, IfOk, OnOk, map};
-ghost use Rattle.chain_join.specs.Chains.{joined_names as joined_names'};
+ghost use Rattle.joined_rows.specs.Joined.{joined_names as joined_names'};
 
 use join_rows::{Bytes, Names};
 use std::alloc::{AllocError, Global};
