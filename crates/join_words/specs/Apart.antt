@@ -3,7 +3,7 @@ use Rattle.std.specs.Prelude.{◌&&◌, Bool, List, [], ◌∷◌}
 use Rattle.std.specs.List.{list_any}
 use Rattle.join_words.specs.declared.apart.Given.{Given}
 use Rattle.join_words.specs.declared.apart.Word.{Word}
-use Rattle.join_words.specs.declared.apart.Word.TheVariants.{Fixed, Replay, Make, Early, Rows, Groups, ManyFiles}
+use Rattle.join_words.specs.declared.apart.Word.TheVariants.{Fixed, Replay, Make, Early, Rows, Groups, Then, ManyFiles}
 
 -- whether a word is given
 abbrev pub has_word : Given → Word → Bool
@@ -13,6 +13,7 @@ has_word given Make = given.make
 has_word given Early = given.early
 has_word given Rows = given.rows
 has_word given Groups = given.groups
+has_word given Then = given.chain
 has_word given ManyFiles = given.many_files
 
 -- whether both words of a pair are
@@ -27,4 +28,5 @@ any_of given pairs = list_any (are_apart given) pairs
 abbrev pub apart : List (Word × Word)
 apart =
     (Early, Replay) ∷ (Early, Make) ∷ (Early, Rows) ∷ (Make, Rows)
-    ∷ (Groups, Fixed) ∷ (Groups, Early) ∷ (Groups, Replay) ∷ (Groups, ManyFiles) ∷ []
+    ∷ (Groups, Fixed) ∷ (Groups, Early) ∷ (Groups, Replay) ∷ (Groups, ManyFiles) ∷ (Groups, Then)
+    ∷ (Then, Early) ∷ (Then, Rows) ∷ (Then, Make) ∷ (Then, Replay) ∷ []

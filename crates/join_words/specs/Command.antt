@@ -10,6 +10,10 @@ use Rattle.clap.specs.declared.builder.value_parser.ValueParser.TheVariants as v
 abbrev pub text_rule : Text → Rule
 text_rule id = record (new_rule id) { long = Some id; required = true }
 
+-- the same, which needn't be there
+abbrev pub option_rule : Text → Rule
+option_rule id = record (new_rule id) { long = Some id }
+
 -- `--id N`, from least to most
 abbrev pub number_rule : Text → ℕ → ℕ → Rule
 number_rule id least most = record (new_rule id) { long = Some id; parser = Some (vp.Unsigned least most) }
@@ -48,6 +52,7 @@ rules = text_rule (codes "on")
     ∷ flag_rule (codes "report")
     ∷ flag_rule (codes "rows")
     ∷ flag_rule (codes "groups")
+    ∷ option_rule (codes "then")
     ∷ files_rule (codes "files") ∷ []
 
 -- a command with these arguments too

@@ -1,7 +1,6 @@
 -- What the words of the command line ask for.
-use Rattle.std.specs.Prelude.{◌≡◌, ◌≤◌, ℕ, Bool, true, false, List, [], ◌∷◌, length, Option, Some, None, IfSome, is_some, Result, Ok, Err, codes, unwrap_or, option_and_then, nat_le, nat_lt, if◌then◌else◌}
+use Rattle.std.specs.Prelude.{◌≡◌, ◌≤◌, ℕ, Bool, true, false, List, [], ◌∷◌, length, Option, Some, None, IfSome, is_some, Result, Ok, Err, codes, unwrap_or, option_and_then, option_map, nat_le, nat_lt, if◌then◌else◌}
 use Rattle.std.specs.Int.{is_power_of_two, trailing_zeros, w64}
-use Rattle.std.specs.Borrow.{Bor}
 use Rattle.std.specs.Str.{bytes_eq}
 use Rattle.std.specs.Str.Parse.{digits_value, without_leading_plus}
 use Rattle.grid_map.specs.Load.{AreWeights}
@@ -16,15 +15,27 @@ use Rattle.clap.specs.Kinds.{Kinds}
 use Rattle.join_words.specs.Apart.{any_of, apart}
 use Rattle.join_words.specs.Command.{jm_command}
 use Rattle.join_words.specs.declared.apart.Given.{Given}
+use Rattle.join_words.specs.declared.names.Named.{Named}
+use Rattle.join_words.specs.declared.options.Chain.{Chain}
 use Rattle.join_words.specs.declared.options.Options.{Options}
 use Rattle.join_words.specs.declared.options.WordsFault.{WordsFault}
 use Rattle.join_words.specs.declared.options.WordsFault.TheVariants.{NoMatch, Joiners, Fixed, Together, Files}
+
+-- a second join, of the joined rows with a third file: the text of its predicate, and the name of the file
+pub record AskedChain : Type 0 where
+  pub on : List ℕ
+  pub name : List ℕ
+
+-- what such a join of the code says
+abbrev pub asked_chain : Chain → AskedChain
+asked_chain chain = record { on = chain.on.now; name = chain.name.now }
 
 -- what the words ask for: the predicate's text; 2^k joiners, or how many there are where they form groups; the feeders; the workers, which are the threads of a run that
 -- isn't a replay; how many rows each feeder asks for at once and in which order; the shift at which the grid stays, where one
 -- is given; what a row of each side weighs in a grid's load; the seed of the tickets; the seed of the order of a replay, where
 -- one is given; how many rows a side has, where tables are to be made; whether the pairs of each bout are wanted early; whether a
--- report is wanted; whether joined rows are; and the names of the two files, empty where there are none
+-- report is wanted; whether joined rows are; the names of the two files, empty where there are none; and the second join,
+-- where one is asked for
 pub record Asked : Type 0 where
   pub on : List ℕ
   pub k : ℕ
@@ -43,6 +54,7 @@ pub record Asked : Type 0 where
   pub rows : Bool
   pub name_r : List ℕ
   pub name_s : List ℕ
+  pub chain : Option AskedChain
 
 -- what these options say
 abbrev pub asked : Options → Asked
@@ -64,6 +76,7 @@ asked options = record {
   rows = options.rows;
   name_r = options.name_r.now;
   name_s = options.name_s.now;
+  chain = option_map asked_chain options.chain;
 }
 
 -- ---- what clap's matches say of one argument
@@ -112,6 +125,10 @@ make_at rows = number_at (codes "make") rows
 abbrev pub groups_at : List Row → Bool
 groups_at rows = flag_at (codes "groups") rows
 
+-- the text of the second predicate, where there is one
+abbrev pub then_at : List Row → Option Text
+then_at rows = first_of (codes "then") rows
+
 -- the names of files
 abbrev pub names_given : List Row → List Text
 names_given rows = unwrap_or (all_of (codes "files") rows) []
@@ -125,6 +142,7 @@ given_by rows = record {
   early = flag_at (codes "early") rows;
   rows = flag_at (codes "rows") rows;
   groups = groups_at rows;
+  chain = is_some (then_at rows);
   many_files = nat_lt 2 (length (names_given rows));
 }
 
@@ -171,28 +189,33 @@ members_of true joiners = Some joiners
 abbrev pub unless_apart : {A : Type 0} → Given → Result A WordsFault → Result A WordsFault
 unless_apart given next = if any_of given apart then Err Together else next
 
+-- the names of the two files, and the second join with a third, where one is asked for
+pub record Names : Type 0 where
+  pub name_r : Text
+  pub name_s : Text
+  pub chain : Option AskedChain
+
 -- just two names
-abbrev pub two_names : List Text → Result (Text × Text) WordsFault
-two_names (name_r ∷ name_s ∷ []) = Ok (name_r, name_s)
+abbrev pub two_names : List Text → Result Names WordsFault
+two_names (name_r ∷ name_s ∷ []) = Ok (record { name_r = name_r; name_s = name_s; chain = None })
 two_names _ = Err Files
 
--- the names of the two files
-abbrev pub files_at : List Row → Result (Text × Text) WordsFault
-files_at rows = two_names (names_given rows)
+-- just three names, the third of a second join with this predicate
+abbrev pub three_names : Text → List Text → Result Names WordsFault
+three_names on (name_r ∷ name_s ∷ name_q ∷ []) =
+    Ok (record { name_r = name_r; name_s = name_s; chain = Some (record { on = on; name = name_q }) })
+three_names on _ = Err Files
 
 -- no name
-abbrev pub no_names : List Text → Result (Text × Text) WordsFault
-no_names [] = Ok ([], [])
+abbrev pub no_names : List Text → Result Names WordsFault
+no_names [] = Ok (record { name_r = []; name_s = []; chain = None })
 no_names _ = Err Files
 
--- where tables are made, no file is named
-abbrev pub no_files_at : List Row → Result (Text × Text) WordsFault
-no_files_at rows = no_names (names_given rows)
-
--- the names of the two files, and none where tables are made
-abbrev pub names_at : Option ℕ → List Row → Result (Text × Text) WordsFault
-names_at None rows = files_at rows
-names_at (Some count) rows = no_files_at rows
+-- the names of the two files; with a second predicate there is a third, and where tables are made there is none
+abbrev pub names_by : Option ℕ → Option Text → List Text → Result Names WordsFault
+names_by (Some count) on names = no_names names
+names_by None None names = two_names names
+names_by None (Some on) names = three_names on names
 
 -- what a match asks for, or the first check that it fails
 abbrev pub asked_by : List Row → Result Asked WordsFault
@@ -201,7 +224,7 @@ asked_by rows =
     then_of (grid_of (groups_at rows) (joiners_at rows)) (λ k.
     then_of (staying_of (groups_at rows) k (number_at (codes "fixed") rows)) (λ fixed.
     unless_apart (given_by rows) (
-    then_of (names_at (make_at rows) rows) (λ names. Ok (record {
+    then_of (names_by (make_at rows) (then_at rows) (names_given rows)) (λ names. Ok (record {
       on = text_at (codes "on") rows;
       k = k;
       groups = members_of (groups_at rows) (joiners_at rows);
@@ -217,8 +240,9 @@ asked_by rows =
       early = flag_at (codes "early") rows;
       report = flag_at (codes "report") rows;
       rows = flag_at (codes "rows") rows;
-      name_r = names.0;
-      name_s = names.1;
+      name_r = names.name_r;
+      name_s = names.name_s;
+      chain = names.chain;
     }))))))
 
 -- ---- the words
@@ -249,9 +273,17 @@ pub record IsMatch (words : List Text) (rows : List Row) : Type 0 where
 
 -- ---- what a call answers
 
+-- what the code's names say
+abbrev pub names_of : Named → Names
+names_of named = record {
+  name_r = named.name_r.now;
+  name_s = named.name_s.now;
+  chain = option_map asked_chain named.chain;
+}
+
 -- the code's names are those
-abbrev pub GivesFiles : Result (Text × Text) WordsFault → Result (Bor Text × Bor Text) WordsFault → Type 0
-GivesFiles wanted (Ok names) = wanted ≡ Ok (names.0.now, names.1.now)
+abbrev pub GivesFiles : Result Names WordsFault → Result Named WordsFault → Type 0
+GivesFiles wanted (Ok named) = wanted ≡ Ok (names_of named)
 GivesFiles wanted (Err fault) = wanted ≡ Err fault
 
 -- the code's options are those

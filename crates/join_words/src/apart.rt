@@ -13,6 +13,7 @@ pub(crate) enum Word {
     Early,
     Rows,
     Groups,
+    Then,
     ManyFiles,
 }
 
@@ -25,11 +26,12 @@ pub(crate) struct Given {
     pub(crate) early: bool,
     pub(crate) rows: bool,
     pub(crate) groups: bool,
+    pub(crate) chain: bool,
     pub(crate) many_files: bool,
 }
 
 /// The pairs of words that don't stand together.
-const APART: [(Word, Word); 8] = [
+const APART: [(Word, Word); 13] = [
     (Word::Early, Word::Replay),
     (Word::Early, Word::Make),
     (Word::Early, Word::Rows),
@@ -38,6 +40,11 @@ const APART: [(Word, Word); 8] = [
     (Word::Groups, Word::Early),
     (Word::Groups, Word::Replay),
     (Word::Groups, Word::ManyFiles),
+    (Word::Groups, Word::Then),
+    (Word::Then, Word::Early),
+    (Word::Then, Word::Rows),
+    (Word::Then, Word::Make),
+    (Word::Then, Word::Replay),
 ];
 
 impl Given {
@@ -52,6 +59,7 @@ impl Given {
             Word::Early => self.early,
             Word::Rows => self.rows,
             Word::Groups => self.groups,
+            Word::Then => self.chain,
             Word::ManyFiles => self.many_files,
         }
     }

@@ -8,8 +8,8 @@ ghost use Rattle.join_words.specs.Words.{AreBounded, Gives, asked_by, exponent_o
 ghost use Rattle.join_words.specs.Words.{grid_of, members_of, number_at, staying_of, weights_at};
 
 use crate::apart::Given;
-use crate::found::{flag, number, text};
-use crate::names::{are_many, names};
+use crate::found::{flag, is_given, number, text};
+use crate::names::{Named, are_many, read_names};
 use crate::options::{Options, WordsFault};
 use clap::ArgMatches;
 use grid_map::Weights;
@@ -108,6 +108,7 @@ fn given(matches: &ArgMatches<'_>) -> Given
         early: flag(matches, "early"),
         rows: flag(matches, "rows"),
         groups: flag(matches, "groups"),
+        chain: is_given(matches, "then"),
         many_files: are_many(matches),
     }
 }
@@ -131,6 +132,9 @@ pub(crate) fn checked<'a>(matches: &ArgMatches<'a>) -> Result<Options<'a>, Words
         IfSome options.groups (λ joiners. (1 ≤ joiners) × (joiners ≤ 64))) }
     ensures grouped { IfOk result (λ options. IfSome options.groups (λ _.
         (options.fixed ≡ None) × (options.early ≡ false) × (options.replay ≡ None))) }
+    ensures chained { IfOk result (λ options. IfSome options.chain (λ _.
+        (options.groups ≡ None) × (options.early ≡ false) × (options.replay ≡ None)
+        × (options.make ≡ None) × (options.rows ≡ false))) }
 {
     let feed = feed(text(matches, "feed"))?;
     let groups = flag(matches, "groups");
@@ -141,7 +145,11 @@ pub(crate) fn checked<'a>(matches: &ArgMatches<'a>) -> Result<Options<'a>, Words
         return Err(WordsFault::Together);
     }
     let make = number(matches, "make");
-    let (name_r, name_s) = names(matches, make)?;
+    let Named {
+        name_r,
+        name_s,
+        chain,
+    } = read_names(matches, make)?;
     Ok(Options {
         on: text(matches, "on"),
         k,
@@ -160,5 +168,6 @@ pub(crate) fn checked<'a>(matches: &ArgMatches<'a>) -> Result<Options<'a>, Words
         rows: flag(matches, "rows"),
         name_r,
         name_s,
+        chain,
     })
 }

@@ -3,7 +3,7 @@
 ghost use Rattle.std.specs.Prelude.{◌≡◌, IfOk, false};
 ghost use Rattle.clap.specs.Walk.{rule_of};
 ghost use Rattle.clap.specs.Simple.{app_of};
-ghost use Rattle.join_words.specs.Command.{IsCommand, default_rule, files_rule, flag_rule, number_rule, text_or_rule, text_rule};
+ghost use Rattle.join_words.specs.Command.{IsCommand, default_rule, files_rule, flag_rule, number_rule, option_rule, text_or_rule, text_rule};
 
 use clap::builder::ValueParser;
 use clap::{Arg, ArgAction, Command};
@@ -15,6 +15,14 @@ fn text<'a>(alloc: Global, id: &'a str) -> Arg<'a>
     ensures local { result.global ≡ false }
 {
     Arg::new(alloc, id).long(id).required(true)
+}
+
+/// `--id TEXT`, which needn't be there.
+fn option<'a>(alloc: Global, id: &'a str) -> Arg<'a>
+    ensures rule { rule_of result ≡ option_rule id.entry.now }
+    ensures local { result.global ≡ false }
+{
+    Arg::new(alloc, id).long(id)
 }
 
 /// `--id N`, from `least` to `most`.
@@ -80,5 +88,6 @@ pub(crate) fn command<'a>(alloc: Global) -> Result<Command<'a>, AllocError>
         .arg(flag(alloc, "report"))?
         .arg(flag(alloc, "rows"))?
         .arg(flag(alloc, "groups"))?
+        .arg(option(alloc, "then"))?
         .arg(files(alloc, "files"))
 }

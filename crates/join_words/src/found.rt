@@ -1,8 +1,8 @@
 // What clap's matches say of one argument.
 
-ghost use Rattle.std.specs.Prelude.{◌≡◌};
+ghost use Rattle.std.specs.Prelude.{◌≡◌, is_some, option_map};
 ghost use Rattle.clap.specs.Matches.{found_of};
-ghost use Rattle.clap.specs.Walk.{rows_of};
+ghost use Rattle.clap.specs.Walk.{first_of, rows_of};
 ghost use Rattle.join_words.specs.Words.{flag_at, number_at, number_of, text_at};
 
 use clap::ArgMatches;
@@ -32,6 +32,21 @@ pub(crate) fn text<'a>(matches: &ArgMatches<'a>, id: &str) -> &'a str
         Some(text) => text,
         None => "",
     }
+}
+
+/// The text of an option, where it was given or has a default.
+pub(crate) fn given<'a>(matches: &ArgMatches<'a>, id: &str) -> Option<&'a str>
+    ensures { option_map (λ text. text.now) result
+        ≡ first_of id.now (rows_of (found_of matches.now)) }
+{
+    matches.get_str(id)
+}
+
+/// Whether an option was given, or has a default.
+pub(crate) fn is_given(matches: &ArgMatches<'_>, id: &str) -> bool
+    ensures { result ≡ is_some (first_of id.now (rows_of (found_of matches.now))) }
+{
+    given(matches, id).is_some()
 }
 
 /// The flag was given.

@@ -11,5 +11,5 @@ mod options;
 mod reading;
 
 pub use laws::requests_have_no_match;
-pub use options::{Options, WordsError, WordsFault};
+pub use options::{Chain, Options, WordsError, WordsFault};
 pub use reading::read_words;

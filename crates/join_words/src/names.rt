@@ -1,51 +1,63 @@
-// The names of the files.
+// The names of the files, and the join that a third one is for.
 
-ghost use Rattle.std.specs.Prelude.{◌≡◌};
+ghost use Rattle.std.specs.Prelude.{◌≡◌, IfOk, IfSome, IsSome, None, length, nat_lt, option_map};
 ghost use Rattle.clap.specs.Matches.{found_of};
 ghost use Rattle.clap.specs.Walk.{rows_of, texts};
-ghost use Rattle.std.specs.Prelude.{length, nat_lt};
-ghost use Rattle.join_words.specs.Words.{GivesFiles, files_at, names_at, names_given, no_files_at, no_names, two_names};
+ghost use Rattle.join_words.specs.Words.{GivesFiles, names_by, names_given, no_names, then_at, three_names, two_names};
 
-use crate::options::WordsFault;
+use crate::found::given;
+use crate::options::{Chain, WordsFault};
 use clap::ArgMatches;
 
+/// The names of the two files, and the second join with a third, where one is asked for.
+#[derive(Clone, Copy, Debug)]
+pub(crate) struct Named<'a> {
+    pub(crate) name_r: &'a str,
+    pub(crate) name_s: &'a str,
+    pub(crate) chain: Option<Chain<'a>>,
+}
+
 /// Just two names.
-fn two<'a>(names: &[&'a str]) -> Result<(&'a str, &'a str), WordsFault>
-    ensures { GivesFiles (two_names (texts names.now)) result }
+fn two<'a>(names: &[&'a str]) -> Result<Named<'a>, WordsFault>
+    ensures exact { GivesFiles (two_names (texts names.now)) result }
+    ensures single { IfOk result (λ named. named.chain ≡ None) }
 {
     match names {
-        [name_r, name_s] => Ok((*name_r, *name_s)),
+        [name_r, name_s] => Ok(Named {
+            name_r: *name_r,
+            name_s: *name_s,
+            chain: None,
+        }),
         _ => Err(WordsFault::Files),
     }
 }
 
-/// The names of the files.
-fn files<'a>(matches: &ArgMatches<'a>) -> Result<(&'a str, &'a str), WordsFault>
-    ensures { GivesFiles (files_at (rows_of (found_of matches.now))) result }
+/// Just three names, the third of a second join with this predicate.
+fn three<'a>(names: &[&'a str], on: &'a str) -> Result<Named<'a>, WordsFault>
+    ensures exact { GivesFiles (three_names on.now (texts names.now)) result }
 {
-    match matches.get_strs("files") {
-        Some(names) => two(names),
-        None => Err(WordsFault::Files),
+    match names {
+        [name_r, name_s, name] => Ok(Named {
+            name_r: *name_r,
+            name_s: *name_s,
+            chain: Some(Chain { on, name: *name }),
+        }),
+        _ => Err(WordsFault::Files),
     }
 }
 
 /// No name.
-fn none<'a>(names: &[&'a str]) -> Result<(&'a str, &'a str), WordsFault>
-    ensures { GivesFiles (no_names (texts names.now)) result }
+fn none<'a>(names: &[&'a str]) -> Result<Named<'a>, WordsFault>
+    ensures exact { GivesFiles (no_names (texts names.now)) result }
+    ensures single { IfOk result (λ named. named.chain ≡ None) }
 {
     match names {
-        [] => Ok(("", "")),
+        [] => Ok(Named {
+            name_r: "",
+            name_s: "",
+            chain: None,
+        }),
         _ => Err(WordsFault::Files),
-    }
-}
-
-/// There are no files.
-fn no_files<'a>(matches: &ArgMatches<'a>) -> Result<(&'a str, &'a str), WordsFault>
-    ensures { GivesFiles (no_files_at (rows_of (found_of matches.now))) result }
-{
-    match matches.get_strs("files") {
-        Some(names) => none(names),
-        None => Ok(("", "")),
     }
 }
 
@@ -59,15 +71,38 @@ pub(crate) fn are_many(matches: &ArgMatches<'_>) -> bool
     }
 }
 
-/// The names of the files, of which there are none where tables are made.
-pub(crate) fn names<'a>(
-    matches: &ArgMatches<'a>,
+/// These names, of which there are none where tables are made, and three with a second predicate.
+fn checked<'a>(
+    names: &[&'a str],
     make: Option<u64>,
-) -> Result<(&'a str, &'a str), WordsFault>
-    ensures { GivesFiles (names_at make (rows_of (found_of matches.now))) result }
+    on: Option<&'a str>,
+) -> Result<Named<'a>, WordsFault>
+    ensures exact { GivesFiles
+        (names_by make (option_map (λ text. text.now) on.entry) (texts names.now)) result }
+    ensures chained { IfOk result (λ named. IfSome named.chain (λ _. IsSome on.entry)) }
 {
     match make {
-        Some(_) => no_files(matches),
-        None => files(matches),
+        Some(_) => none(names),
+        None => match on {
+            Some(on) => three(names, on),
+            None => two(names),
+        },
+    }
+}
+
+/// The names of the files, and the second join, where one is asked for.
+pub(crate) fn read_names<'a>(
+    matches: &ArgMatches<'a>,
+    make: Option<u64>,
+) -> Result<Named<'a>, WordsFault>
+    ensures exact { GivesFiles (names_by make (then_at (rows_of (found_of matches.now)))
+        (names_given (rows_of (found_of matches.now)))) result }
+    ensures chained { IfOk result (λ named. IfSome named.chain
+        (λ _. IsSome (then_at (rows_of (found_of matches.now))))) }
+{
+    let on = given(matches, "then");
+    match matches.get_strs("files") {
+        Some(names) => checked(names, make, on),
+        None => checked(&[], make, on),
     }
 }

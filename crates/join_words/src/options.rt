@@ -3,6 +3,15 @@
 use grid_map::Weights;
 use row_tickets::Feed;
 
+/// A second join, of the joined rows with a third file.
+#[derive(Clone, Copy, Debug, PartialEq, Eq)]
+pub struct Chain<'a> {
+    /// The text of its predicate, in which `r` is the joined row and `s` a row of the third file.
+    pub on: &'a str,
+    /// The name of the third file.
+    pub name: &'a str,
+}
+
 /// What the words ask for.
 #[derive(Clone, Copy, Debug, PartialEq, Eq)]
 pub struct Options<'a> {
@@ -43,6 +52,9 @@ pub struct Options<'a> {
     pub name_r: &'a str,
     /// The name of the file of S, empty where tables are made.
     pub name_s: &'a str,
+    /// The second join, where one is asked for. There is no replay then, there are files, pairs aren't wanted early nor as
+    /// joined rows, and joiners form no groups.
+    pub chain: Option<Chain<'a>>,
 }
 
 /// What is wrong with the words. Where several things are, the first in this order is told.
@@ -55,10 +67,11 @@ pub enum WordsFault {
     Joiners,
     /// `--fixed` is given without `--groups`, and is greater than k.
     Fixed,
-    /// `--early` stands with `--replay`, `--make` or `--rows`; `--make` stands with `--rows`; or `--groups` stands with
-    /// `--fixed`, `--early`, `--replay` or more than two names of files.
+    /// `--early` stands with `--replay`, `--make` or `--rows`; `--make` stands with `--rows`; `--groups` stands with
+    /// `--fixed`, `--early`, `--replay`, `--then` or more than two names of files; or `--then` stands with `--early`,
+    /// `--rows`, `--make` or `--replay`.
     Together,
-    /// There aren't just two names of files, or with `--make` there is one.
+    /// There aren't just two names of files, or with `--then` three, or with `--make` there is one.
     Files,
 }
 

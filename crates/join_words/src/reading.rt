@@ -68,6 +68,9 @@ pub fn read_words<'a>(alloc: Global, words: &'a [String]) -> Result<Options<'a>,
         IfSome options.groups (λ joiners. (1 ≤ joiners) × (joiners ≤ 64))) }
     ensures grouped { IfOk result (λ options. IfSome options.groups (λ _.
         (options.fixed ≡ None) × (options.early ≡ false) × (options.replay ≡ None))) }
+    ensures chained { IfOk result (λ options. IfSome options.chain (λ _.
+        (options.groups ≡ None) × (options.early ≡ false) × (options.replay ≡ None)
+        × (options.make ≡ None) × (options.rows ≡ false))) }
 {
     let matches = matched(alloc, words)?;
     match checked(&matches) {

@@ -35,6 +35,7 @@ const PLAIN: Options<'static> = Options {
     rows: false,
     name_r: "r",
     name_s: "s",
+    chain: None,
 };
 
 fn grid(k: u32, fixed: Option<u32>) -> Options<'static> {

@@ -1,5 +1,5 @@
 use super::{PLAIN, words};
-use join_words::{Options, WordsError, WordsFault, read_words};
+use join_words::{Chain, Options, WordsError, WordsFault, read_words};
 use std::test::Fail;
 
 fn made(count: u64) -> Options<'static> {
@@ -63,6 +63,36 @@ fn any_number_of_joiners_forms_groups(rt: HostRuntime) -> Result<(), Fail> {
     Ok(())
 }
 
+fn chain(on: &'static str, name: &'static str) -> Options<'static> {
+    Options {
+        chain: Some(Chain { on, name }),
+        ..PLAIN
+    }
+}
+
+#[test]
+fn a_second_join_has_a_third_file(rt: HostRuntime) -> Result<(), Fail> {
+    let fixed = Options {
+        fixed: Some(1),
+        ..chain("p2", "q")
+    };
+    let report = Options {
+        report: true,
+        ..chain("", "s")
+    };
+    let cases = [
+        ("jm|--on|p|--then|p2|r|s|q", chain("p2", "q")),
+        ("jm|r|--then=p2|s|--on|p|q", chain("p2", "q")),
+        ("jm|--on|p|--fixed|1|--then|p2|r|s|q", fixed),
+        ("jm|--on|p|--then||--report|r|s|s", report),
+    ];
+    for (line, wanted) in cases {
+        let words = words(rt.alloc(), line)?;
+        assert_eq!(rt; read_words(rt.alloc(), &words), Ok(wanted), "{line}");
+    }
+    Ok(())
+}
+
 #[test]
 fn faults_of_words_that_do_not_go_together(rt: HostRuntime) -> Result<(), Fail> {
     let cases = [
@@ -81,6 +111,18 @@ fn faults_of_words_that_do_not_go_together(rt: HostRuntime) -> Result<(), Fail> 
         (
             WordsFault::Together,
             "jm|--on|p|--groups|--fixed|0|r|s\njm|--on|p|--groups|--joiners|3|--fixed|6|r|s\njm|--on|p|--early|--groups|r|s\njm|--on|p|--groups|--replay|7|r|s\njm|--on|p|--groups|r|s|t\njm|--on|p|--groups|--make|3|r|s|t|u",
+        ),
+        (
+            WordsFault::Together,
+            "jm|--on|p|--then|p|--groups|r|s|q\njm|--on|p|--then|p|--early|r|s|q\njm|--on|p|--then|p|--rows|r|s|q\njm|--on|p|--then|p|--make|3\njm|--on|p|--then|p|--replay|7|r|s|q\njm|--on|p|--then|p|--early|r|s",
+        ),
+        (
+            WordsFault::Files,
+            "jm|--on|p|--then|p|r|s\njm|--on|p|--then|p\njm|--on|p|--then|p|r|s|q|t\njm|--on|p|r|s|q",
+        ),
+        (
+            WordsFault::NoMatch,
+            "jm|--on|p|r|s|q|--then\njm|--then|p|r|s|q\njm|--on|p|--then|p|--then|p|r|s|q",
         ),
         (
             WordsFault::Files,

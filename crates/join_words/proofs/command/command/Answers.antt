@@ -3,7 +3,7 @@ use Rattle.std.proofs.lemmas.Result.{IfOk-weaker}
 use Rattle.clap.specs.Built.{AddsArg}
 use Rattle.clap.specs.Walk.{Rule}
 use Rattle.clap.specs.Simple.{App, app_of, new_app, with_rule}
-use Rattle.join_words.specs.Command.{IsCommand, jm_command, default_rule, files_rule, flag_rule, number_rule, text_or_rule, text_rule}
+use Rattle.join_words.specs.Command.{IsCommand, jm_command, default_rule, files_rule, flag_rule, number_rule, option_rule, text_or_rule, text_rule}
 use Rattle.join_words.proofs.Arguments.{IsApp, added}
 use Rattle.join_words.proofs.command.command.Goals as goal
 
@@ -60,6 +60,10 @@ returns c =
     let r16 : Rule = flag_rule (codes "groups") in
     let a16 : App = with_rule a15 r16 in
     let e16 : IsApp c.in_ok-arg-16.field-0 a16 = added a15 c.in_ok-arg-15.field-0 c.in_ok-arg-16.field-0 c.flag-4.result r16 e15 c.flag-4.ensures.local c.flag-4.ensures.rule c.in_ok-arg-16.ensures in
-    IfOk-weaker c.arg-17.result (λ r. AddsArg c.in_ok-arg-16.field-0 c.files.result r) (λ r. IsCommand (app_of r)) (λ r adds.
-    let e17 : IsApp r (with_rule a16 (files_rule (codes "files"))) = added a16 c.in_ok-arg-16.field-0 r c.files.result (files_rule (codes "files")) e16 c.files.ensures.local c.files.ensures.rule adds in
-    record { is = e17.is }) c.arg-17.ensures
+    let r17 : Rule = option_rule (codes "then") in
+    let a17 : App = with_rule a16 r17 in
+    let e17 : IsApp c.in_ok-arg-17.field-0 a17 = added a16 c.in_ok-arg-16.field-0 c.in_ok-arg-17.field-0 c.option.result r17 e16 c.option.ensures.local c.option.ensures.rule c.in_ok-arg-17.ensures in
+    IfOk-weaker c.arg-18.result (λ r. AddsArg c.in_ok-arg-17.field-0 c.files.result r) (λ r. IsCommand (app_of r)) (λ r adds.
+    let e18 : IsApp r (with_rule a17 (files_rule (codes "files"))) =
+    added a17 c.in_ok-arg-17.field-0 r c.files.result (files_rule (codes "files")) e17 c.files.ensures.local c.files.ensures.rule adds in
+    record { is = e18.is }) c.arg-18.ensures
