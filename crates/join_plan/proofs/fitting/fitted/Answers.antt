@@ -1,0 +1,4 @@
+use Rattle.join_plan.proofs.fitting.fitted.Goals as goal
+
+pub returns-in-Err-clause-refused : goal.returns-in-Err-clause-refused
+returns-in-Err-clause-refused c old new told spot asked same = c.in-Err.ensures.refused old new told spot asked tt

@@ -1,0 +1,9 @@
+use Rattle.join_plan.proofs.Bad.{no_fault, first_fault}
+use Rattle.join_plan.proofs.numbers.column_fault.Goals as goal
+
+pub returns-in-Ok : goal.returns-in-Ok
+returns-in-Ok c = no_fault c.args.side c.args.wave c.args.column c.args.table.now.rows c.in-Ok.ensures.ok
+
+pub returns-in-Err : goal.returns-in-Err
+returns-in-Err c =
+    first_fault c.args.side c.args.wave c.args.column c.args.table.now.rows c.in-Err.bad.row c.in-Err.ensures.first

@@ -1,0 +1,158 @@
+// The tables of both sides, made or read, and the third of a second join.
+
+ghost use Rattle.std.specs.Prelude.{◌≡◌, ◌⊎◌, ◌<◌, ◌≤◌, ℕ, List, Option, None, Some, Ok, Err};
+ghost use Rattle.std.specs.Prelude.{IfErr, IfOk, IfSome, is_some};
+ghost use Rattle.join_rows.specs.Shelves.{last_fault};
+ghost use Rattle.join_rows.specs.Records.{IsTable};
+ghost use Rattle.join_words.specs.Words.{asked};
+ghost use Rattle.join_plan.specs.Causes.{Refuses};
+ghost use Rattle.join_plan.specs.Files;
+ghost use Rattle.join_plan.specs.Files.{gathered_by, made_tables, tables_by};
+ghost use Rattle.join_plan.specs.Seen.{AllSeen, GatheredSeen, TablesAsked};
+
+use crate::fault::Refusal;
+use crate::reading::{read_tables, third_table};
+use join_rows::{Shelf, Side, Table, make_table};
+use join_words::Options;
+use std::alloc::{AllocError, Global};
+
+/// The tables of both sides.
+#[derive(Debug, Drop)]
+pub struct Tables {
+    pub of_r: Table,
+    pub of_s: Table,
+}
+
+/// The tables of both sides, and the third, where there is one.
+#[derive(Debug, Drop)]
+pub struct Gathered {
+    pub tables: Tables,
+    pub third: Option<Table>,
+}
+
+/// The tables that are made of so many rows a side.
+fn made(alloc: Global, count: u64) -> Result<Tables, AllocError>
+    requires some { 1 ≤ count }
+    requires few { count ≤ 65536 }
+    ensures made { IfOk result (λ tables. tables ≡ made_tables count) }
+    ensures whole_r { IfOk result (λ tables. IsTable tables.of_r) }
+    ensures whole_s { IfOk result (λ tables. IsTable tables.of_s) }
+{
+    let of_r = make_table(alloc, Side::R, count)?;
+    let of_s = make_table(alloc, Side::S, count)?;
+    Ok(Tables { of_r, of_s })
+}
+
+/// The two tables that the options ask for, or the first refusal: made ones, for which the shelf isn't
+/// called, or those of the two files.
+fn two_tables<H: Shelf>(
+    alloc: Global,
+    options: &Options<'_>,
+    shelf: &mut H,
+) -> Result<Tables, Refusal>
+    requires faults { H.faults shelf.old < last_fault }
+    requires make { IfSome options.now.make (λ count. (1 ≤ count) × (count ≤ 65536)) }
+    ensures told { H.told shelf.new ≡ H.told shelf.old }
+    ensures rises { H.faults shelf.old ≤ H.faults shelf.new }
+    ensures answer { (files : List ℕ → Option (List ℕ)) → H.told shelf.old ≡ Some files
+        → H.faults shelf.new ≡ H.faults shelf.old → (result ≡ Err Refusal.Memory)
+        ⊎ (result ≡ tables_by options.now.make files
+        options.now.name_r.now options.now.name_s.now) }
+    ensures found { IfOk result
+        (λ tables. (files : List ℕ → Option (List ℕ)) → H.told shelf.old ≡ Some files
+        → tables_by options.now.make files
+        options.now.name_r.now options.now.name_s.now ≡ Ok tables) }
+    ensures made { (count : ℕ) → options.now.make ≡ Some count → (shelf.new ≡ shelf.old)
+        × ((result ≡ Err Refusal.Memory) ⊎ (result ≡ Ok (made_tables count))) }
+    ensures seen { (result ≡ Err Refusal.Read → ⊥) → (result ≡ Err Refusal.Memory → ⊥)
+        → TablesAsked (H.told shelf.old) (H.picked shelf.new) (asked options.now) options.now.make
+        result }
+    ensures sound { H.sound shelf.old
+        → H.sound shelf.new × (H.faults shelf.new ≡ H.faults shelf.old) }
+    ensures counts { (result ≡ Err Refusal.Read → ⊥) → H.faults shelf.new ≡ H.faults shelf.old }
+    ensures refused { IfErr result (Refuses (H.faults shelf.old) (H.faults shelf.new)
+        (H.told shelf.old) (H.picked shelf.new) (asked options.now)) }
+    ensures whole_r { IfOk result (λ tables. IsTable tables.of_r) }
+    ensures whole_s { IfOk result (λ tables. IsTable tables.of_s) }
+{
+    match options.make {
+        Some(count) => match made(alloc, count) {
+            Ok(tables) => Ok(tables),
+            Err(AllocError) => Err(Refusal::Memory),
+        },
+        None => read_tables(alloc, shelf, options),
+    }
+}
+
+/// Two tables, and then the third of a second join.
+fn with_third<H: Shelf>(
+    alloc: Global,
+    options: &Options<'_>,
+    tables: Tables,
+    shelf: &mut H,
+) -> Result<Gathered, Refusal>
+    requires faults { H.faults shelf.old < last_fault }
+    requires chained { IfSome options.now.chain (λ _. options.now.make ≡ None) }
+    ensures told { H.told shelf.new ≡ H.told shelf.old }
+    ensures rises { H.faults shelf.old ≤ H.faults shelf.new }
+    ensures answer { (files : List ℕ → Option (List ℕ)) → H.told shelf.old ≡ Some files
+        → H.faults shelf.new ≡ H.faults shelf.old → (result ≡ Err Refusal.Memory)
+        ⊎ (result ≡ Files.with_third tables (Files.third_by (asked options.now).chain files)) }
+    ensures found { IfOk result
+        (λ found. (files : List ℕ → Option (List ℕ)) → H.told shelf.old ≡ Some files
+        → Files.with_third tables (Files.third_by (asked options.now).chain files) ≡ Ok found) }
+    ensures alone { options.now.chain ≡ None → shelf.new ≡ shelf.old }
+    ensures seen { (result ≡ Err Refusal.Read → ⊥) → (result ≡ Err Refusal.Memory → ⊥)
+        → AllSeen (H.told shelf.old) (H.picked shelf.old) (H.picked shelf.new)
+        (asked options.now).chain (Ok tables) result }
+    ensures sound { H.sound shelf.old
+        → H.sound shelf.new × (H.faults shelf.new ≡ H.faults shelf.old) }
+    ensures counts { (result ≡ Err Refusal.Read → ⊥) → H.faults shelf.new ≡ H.faults shelf.old }
+    ensures refused { IfErr result (Refuses (H.faults shelf.old) (H.faults shelf.new)
+        (H.told shelf.old) (H.picked shelf.new) (asked options.now)) }
+    ensures tables { IfOk result (λ found. found.tables ≡ tables) }
+    ensures whole { IfOk result (λ found. IfSome found.third IsTable) }
+    ensures chained { IfOk result (λ found. is_some found.third ≡ is_some options.now.chain) }
+{
+    match third_table(alloc, options, shelf) {
+        Ok(third) => Ok(Gathered { tables, third }),
+        Err(refusal) => Err(refusal),
+    }
+}
+
+/// All tables that the options ask for, or the first refusal. For made ones the shelf isn't called.
+pub(crate) fn all_tables<H: Shelf>(
+    alloc: Global,
+    options: &Options<'_>,
+    shelf: &mut H,
+) -> Result<Gathered, Refusal>
+    requires faults { H.faults shelf.old < last_fault }
+    requires make { IfSome options.now.make (λ count. (1 ≤ count) × (count ≤ 65536)) }
+    requires chained { IfSome options.now.chain (λ _. options.now.make ≡ None) }
+    ensures told { H.told shelf.new ≡ H.told shelf.old }
+    ensures rises { H.faults shelf.old ≤ H.faults shelf.new }
+    ensures answer { (files : List ℕ → Option (List ℕ)) → H.told shelf.old ≡ Some files
+        → H.faults shelf.new ≡ H.faults shelf.old → (result ≡ Err Refusal.Memory)
+        ⊎ (result ≡ gathered_by (asked options.now) files) }
+    ensures found { IfOk result
+        (λ found. (files : List ℕ → Option (List ℕ)) → H.told shelf.old ≡ Some files
+        → gathered_by (asked options.now) files ≡ Ok found) }
+    ensures made { (count : ℕ) → options.now.make ≡ Some count → (shelf.new ≡ shelf.old)
+        × IfOk result (λ found. found.tables ≡ made_tables count) }
+    ensures seen { (result ≡ Err Refusal.Read → ⊥) → (result ≡ Err Refusal.Memory → ⊥)
+        → GatheredSeen (H.told shelf.old) (H.picked shelf.new) (asked options.now) result }
+    ensures sound { H.sound shelf.old
+        → H.sound shelf.new × (H.faults shelf.new ≡ H.faults shelf.old) }
+    ensures counts { (result ≡ Err Refusal.Read → ⊥) → H.faults shelf.new ≡ H.faults shelf.old }
+    ensures refused { IfErr result (Refuses (H.faults shelf.old) (H.faults shelf.new)
+        (H.told shelf.old) (H.picked shelf.new) (asked options.now)) }
+    ensures whole_r { IfOk result (λ found. IsTable found.tables.of_r) }
+    ensures whole_s { IfOk result (λ found. IsTable found.tables.of_s) }
+    ensures whole { IfOk result (λ found. IfSome found.third IsTable) }
+    ensures chained { IfOk result (λ found. is_some found.third ≡ is_some options.now.chain) }
+{
+    match two_tables(alloc, options, shelf) {
+        Ok(tables) => with_third(alloc, options, tables, shelf),
+        Err(refusal) => Err(refusal),
+    }
+}

@@ -1,0 +1,19 @@
+//! What the words ask for, made ready to be joined: the texts of the predicates, the tables, the columns and the numbers,
+//! or the first refusal.
+#![tactic(auto)]
+
+mod columns;
+mod fault;
+mod files;
+mod fitting;
+mod numbers;
+mod plan;
+mod predicate;
+mod reading;
+mod refusal;
+
+pub use fault::{InputFault, LimitFault, Refusal, TextFault};
+pub use files::{Gathered, Tables};
+pub use fitting::{Planned, Third};
+pub use plan::prepare;
+pub use refusal::Which;

@@ -1,0 +1,139 @@
+// The files, read one after the other.
+
+ghost use Rattle.std.specs.Prelude.{◌≡◌, ◌⊎◌, ◌<◌, ◌≤◌, ℕ, List, Contains, Option, None, Some, Ok, Err};
+ghost use Rattle.std.specs.Prelude.{IfErr, IfOk, IfSome, is_some};
+ghost use Rattle.join_rows.specs.Shelves.{last_fault};
+ghost use Rattle.join_rows.specs.Records.{IsTable};
+ghost use Rattle.join_words.specs.Words.{Asked, asked};
+ghost use Rattle.join_plan.specs.Causes.{Refuses};
+ghost use Rattle.join_plan.specs.Files.{source_of, sources, table_found, tables_of, third_by};
+ghost use Rattle.join_plan.specs.Seen.{IsSeen, TablesSeen, ThirdSeen};
+
+use crate::fault::Refusal;
+use crate::files::Tables;
+use crate::refusal::file_refused;
+use join_rows::{Shelf, Side, Table, read_table};
+use join_words::Options;
+use std::alloc::Global;
+
+/// A file: that of a side in a wave.
+#[derive(Clone, Copy, Debug)]
+pub(crate) struct File<'a> {
+    pub(crate) side: Side,
+    pub(crate) wave: u32,
+    pub(crate) name: &'a str,
+}
+
+/// The table in a file.
+fn table<H: Shelf>(alloc: Global, shelf: &mut H, file: &File<'_>) -> Result<Table, Refusal>
+    requires { H.faults shelf.old < last_fault }
+    ensures told { H.told shelf.new ≡ H.told shelf.old }
+    ensures rises { H.faults shelf.old ≤ H.faults shelf.new }
+    ensures answer { (files : List ℕ → Option (List ℕ)) → H.told shelf.old ≡ Some files
+        → H.faults shelf.new ≡ H.faults shelf.old
+        → (result ≡ Err Refusal.Memory)
+        ⊎ (result ≡ table_found file.now.side file.now.wave (files file.now.name.now)) }
+    ensures found { IfOk result
+        (λ table. (files : List ℕ → Option (List ℕ)) → H.told shelf.old ≡ Some files
+        → table_found file.now.side file.now.wave (files file.now.name.now) ≡ Ok table) }
+    ensures seen { (result ≡ Err Refusal.Read → ⊥) → (result ≡ Err Refusal.Memory → ⊥)
+        → IsSeen (H.told shelf.old) (H.picked shelf.new) (source_of file.now) result }
+    ensures sound { H.sound shelf.old
+        → H.sound shelf.new × (H.faults shelf.new ≡ H.faults shelf.old) }
+    ensures counts { (result ≡ Err Refusal.Read → ⊥) → H.faults shelf.new ≡ H.faults shelf.old }
+    ensures refused { (asked : Asked) → asked.make ≡ None
+        → Contains (sources asked) (source_of file.now)
+        → IfErr result (Refuses (H.faults shelf.old) (H.faults shelf.new)
+        (H.told shelf.old) (H.picked shelf.new) asked) }
+    ensures whole { IfOk result IsTable }
+{
+    match read_table(alloc, shelf, file.name) {
+        Ok(table) => Ok(table),
+        Err(fault) => Err(file_refused(file.side, file.wave, fault)),
+    }
+}
+
+/// The tables of both sides, R before S, or the first refusal.
+pub(crate) fn read_tables<H: Shelf>(
+    alloc: Global,
+    shelf: &mut H,
+    options: &Options<'_>,
+) -> Result<Tables, Refusal>
+    requires faults { H.faults shelf.old < last_fault }
+    requires files { options.now.make ≡ None }
+    ensures told { H.told shelf.new ≡ H.told shelf.old }
+    ensures rises { H.faults shelf.old ≤ H.faults shelf.new }
+    ensures answer { (files : List ℕ → Option (List ℕ)) → H.told shelf.old ≡ Some files
+        → H.faults shelf.new ≡ H.faults shelf.old
+        → (result ≡ Err Refusal.Memory)
+        ⊎ (result ≡ tables_of files options.now.name_r.now options.now.name_s.now) }
+    ensures found { IfOk result
+        (λ tables. (files : List ℕ → Option (List ℕ)) → H.told shelf.old ≡ Some files
+        → tables_of files options.now.name_r.now options.now.name_s.now ≡ Ok tables) }
+    ensures seen { (result ≡ Err Refusal.Read → ⊥) → (result ≡ Err Refusal.Memory → ⊥)
+        → TablesSeen (H.told shelf.old) (H.picked shelf.new)
+        options.now.name_r.now options.now.name_s.now result }
+    ensures sound { H.sound shelf.old
+        → H.sound shelf.new × (H.faults shelf.new ≡ H.faults shelf.old) }
+    ensures counts { (result ≡ Err Refusal.Read → ⊥) → H.faults shelf.new ≡ H.faults shelf.old }
+    ensures refused { IfErr result (Refuses (H.faults shelf.old) (H.faults shelf.new)
+        (H.told shelf.old) (H.picked shelf.new) (asked options.now)) }
+    ensures whole_r { IfOk result (λ tables. IsTable tables.of_r) }
+    ensures whole_s { IfOk result (λ tables. IsTable tables.of_s) }
+{
+    let file_r = File {
+        side: Side::R,
+        wave: 1,
+        name: options.name_r,
+    };
+    let file_s = File {
+        side: Side::S,
+        wave: 1,
+        name: options.name_s,
+    };
+    let of_r = table(alloc, shelf, &file_r)?;
+    let of_s = table(alloc, shelf, &file_s)?;
+    Ok(Tables { of_r, of_s })
+}
+
+/// The third table of a second join, where one is asked for, or its refusal.
+pub(crate) fn third_table<H: Shelf>(
+    alloc: Global,
+    options: &Options<'_>,
+    shelf: &mut H,
+) -> Result<Option<Table>, Refusal>
+    requires faults { H.faults shelf.old < last_fault }
+    requires chained { IfSome options.now.chain (λ _. options.now.make ≡ None) }
+    ensures told { H.told shelf.new ≡ H.told shelf.old }
+    ensures rises { H.faults shelf.old ≤ H.faults shelf.new }
+    ensures answer { (files : List ℕ → Option (List ℕ)) → H.told shelf.old ≡ Some files
+        → H.faults shelf.new ≡ H.faults shelf.old → (result ≡ Err Refusal.Memory)
+        ⊎ (result ≡ third_by (asked options.now).chain files) }
+    ensures found { IfOk result
+        (λ third. (files : List ℕ → Option (List ℕ)) → H.told shelf.old ≡ Some files
+        → third_by (asked options.now).chain files ≡ Ok third) }
+    ensures alone { options.now.chain ≡ None → shelf.new ≡ shelf.old }
+    ensures seen { (result ≡ Err Refusal.Read → ⊥) → (result ≡ Err Refusal.Memory → ⊥)
+        → ThirdSeen (H.told shelf.old) (H.picked shelf.old) (H.picked shelf.new)
+        (asked options.now).chain result }
+    ensures sound { H.sound shelf.old
+        → H.sound shelf.new × (H.faults shelf.new ≡ H.faults shelf.old) }
+    ensures counts { (result ≡ Err Refusal.Read → ⊥) → H.faults shelf.new ≡ H.faults shelf.old }
+    ensures refused { IfErr result (Refuses (H.faults shelf.old) (H.faults shelf.new)
+        (H.told shelf.old) (H.picked shelf.new) (asked options.now)) }
+    ensures whole { IfOk result (λ third. IfSome third IsTable) }
+    ensures chained { IfOk result (λ third. is_some third ≡ is_some options.now.chain) }
+{
+    let Some(chain) = options.chain else {
+        return Ok(None);
+    };
+    let file = File {
+        side: Side::S,
+        wave: 2,
+        name: chain.name,
+    };
+    match table(alloc, shelf, &file) {
+        Ok(table) => Ok(Some(table)),
+        Err(refusal) => Err(refusal),
+    }
+}
