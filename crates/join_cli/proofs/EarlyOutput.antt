@@ -17,7 +17,10 @@ use Rattle.join_report.specs.PairLines.{pair_lines}
 use Rattle.load_controller.specs.declared.line.TurnLine.{TurnLine}
 use Rattle.join_runtime.specs.Early.{WroteEach, WroteSome}
 use Rattle.join_words.specs.Words.{Asked}
-use Rattle.join_cli.specs.declared.plan.Planned.{Planned}
+use Rattle.join_words.specs.declared.options.Chain.{Chain}
+use Rattle.join_words.specs.declared.options.Options.{Options}
+use Rattle.join_cli.specs.Requests.{IsChained}
+use Rattle.join_plan.specs.declared.fitting.Planned.{Planned}
 use Rattle.join_cli.specs.Early.{CutFound, IsFoundText, IsOutput, PutFound, PutPart, StoppedAt, TakesFound, WroteLines, WroteOutput}
 use Rattle.join_cli.specs.Ends.{ConcludesBy, IsMade, TakesEach}
 use Rattle.join_cli.specs.declared.outcome.Outcome.{Outcome}
@@ -93,16 +96,16 @@ early_written asked planned input setting journal trail old new input_is setting
 -- early output that stopped, of what is asked for
 pub early_stopped : (asked : Asked) (planned : Planned) (input : Input) (setting : Setting) (old new : Option (List ℕ))
     → input ≡ input_of asked.seed planned → setting ≡ setting_of asked → IsValidInput input → IsValidSetting setting
-    → asked.early ≡ true → asked.replay ≡ None → asked.groups ≡ None
+    → asked.early ≡ true → asked.replay ≡ None → asked.groups ≡ None → asked.chain ≡ None
     → PutPart asked.report input setting old new → StoppedAt asked.early asked planned old new
-early_stopped asked planned input setting old new input_is setting_is of_input of_setting early threads single put =
+early_stopped asked planned input setting old new input_is setting_is of_input of_setting early threads single alone put =
     subst (λ e. StoppedAt e asked planned old new) (sym early) (elim put [
       | inl some ↦ inl (subst (λ i. WroteSome i old new) input_is some)
       | inr cut ↦ inr (record {
         way = by_run cut.run.journal cut.trail;
         course =
             course_in_threads asked planned input setting cut.run cut.trail input_is setting_is of_input of_setting threads
-            single cut.is_run cut.went;
+            single alone cut.is_run cut.went;
         text = cut.text;
         output = same_output asked planned input setting cut.run.journal cut.trail cut.text input_is setting_is early cut.is;
         front = cut.front;
@@ -111,9 +114,9 @@ early_stopped asked planned input setting old new input_is setting_is of_input o
 
 pub early_takes : (takes : ℕ → Type 0) (asked : Asked) (planned : Planned) (input : Input) (setting : Setting)
     → input ≡ input_of asked.seed planned → setting ≡ setting_of asked → IsValidInput input → IsValidSetting setting
-    → asked.early ≡ true → asked.make ≡ None → asked.rows ≡ false → asked.groups ≡ None
+    → asked.early ≡ true → asked.make ≡ None → asked.rows ≡ false → asked.groups ≡ None → asked.chain ≡ None
     → TakesEach takes asked planned → TakesFound takes asked.report input setting
-early_takes takes asked planned input setting input_is setting_is of_input of_setting early make rows single each =
+early_takes takes asked planned input setting input_is setting_is of_input of_setting early make rows single alone each =
     let lines = pair_lines (nested_loop (input_of asked.seed planned)) in
     let of : Input → Setting → List TurnLine → List ℕ = λ i s journal. report_asked asked.report i s journal in
     record {
@@ -125,7 +128,7 @@ early_takes takes asked planned input setting input_is setting_is of_input of_se
           ∙ ap (λ r. answer_of None r (input_of asked.seed planned) ++ of (input_of asked.seed planned) (setting_of asked) run.journal) rows in
           subst (λ i. takes (length (pair_lines (nested_loop i)) + (length (of i setting run.journal) + 0))) (sym input_is)
           (subst (λ s. takes (length lines + (length (of (input_of asked.seed planned) s run.journal) + 0))) (sym setting_is)
-          (subst takes (ap length same ∙ two_parts lines (of (input_of asked.seed planned) (setting_of asked) run.journal)) (each.each single run.journal lawful)));
+          (subst takes (ap length same ∙ two_parts lines (of (input_of asked.seed planned) (setting_of asked) run.journal)) (each.each single alone run.journal lawful)));
     }
   where
     plus_none : (n : ℕ) → n ≡ n + 0
@@ -169,3 +172,8 @@ pub one_grid : (groups : Option ℕ) (early : Bool) (P Q : Type 0) → IfSome gr
     → groups ≡ None
 one_grid None early P Q alone is = refl
 one_grid (Some joiners) early P Q alone is = absurd (cc (sym is ∙ alone.1))
+
+-- and of two tables
+pub two_tables : (options : Options) (chain : Option Chain) → IfSome chain (IsChained options) → options.early ≡ true → chain ≡ None
+two_tables options None alone is = refl
+two_tables options (Some chain) alone is = absurd (cc (sym is ∙ alone.1))

@@ -1,38 +1,57 @@
 -- A run of well-formed files ends well.
-use Rattle.std.proofs.Common.{◌≡◌, ◌∙◌, ◌⊎◌, ◌+◌, inl, inr, ℕ, List, Option, None, Some, Result, Ok, Err, refl, sym, ap, subst, length, arith}
-use Rattle.join_rows.specs.Shelves.{Spot, Told}
-use Rattle.theta_text.specs.Grammar.{Tree}
-use Rattle.theta_text.specs.declared.fault.PredFault.{PredFault}
+use Rattle.std.proofs.Common.{◌≡◌, ◌∙◌, ◌⊎◌, ◌+◌, ◌≤◌, ◌<◌, ◌^◌, inl, inr, ℕ, List, Option, None, Some, Result, Ok, Err, refl, sym, ap, subst, length, arith}
+use Rattle.std.specs.Prelude.{IfSome, is_some, true, false}
+use Rattle.join_rows.specs.Shelves.{Told}
+use Rattle.trace_law.specs.Join.{nested_loop}
 use Rattle.join_words.specs.Words.{Asked}
-use Rattle.join_cli.specs.declared.plan.Planned.{Planned}
+use Rattle.join_plan.specs.declared.fault.LimitFault.TheVariants.{Between, TooLong, TooMany}
+use Rattle.join_plan.specs.declared.fault.Refusal.{Refusal}
+use Rattle.join_plan.specs.declared.fault.Refusal.TheVariants as refusals
+use Rattle.join_plan.specs.declared.fitting.Planned.{Planned}
+use Rattle.join_plan.specs.declared.fitting.Third.{Third}
+use Rattle.join_plan.specs.Plan.{IsAsked, plan_of}
+use Rattle.join_plan.specs.Texts.{Readings}
 use Rattle.join_cli.specs.declared.outcome.Outcome.{Outcome}
 use Rattle.join_cli.specs.declared.outcome.Outcome.TheVariants as outcomes
-use Rattle.join_cli.specs.Courses.{Course, WentSo, by_groups, by_run, output_over}
-use Rattle.join_cli.specs.Ends.{Concludes, ConcludesBy, course_of, Refuses, EndsAs, IsAsked, IsDone, IsMade, IsOutcomeOf, IsSomeCourse, TakesEach, Wrote, WroteFront, WroteSoFar}
-use Rattle.join_cli.specs.Plan.{plan_of}
+use Rattle.join_cli.specs.Chain.{IsFewBetween}
+use Rattle.join_cli.specs.Courses.{Course, WentSo, by_chain, by_groups, by_run, output_over}
+use Rattle.join_cli.specs.Ends.{Concludes, ConcludesBy, EndsAs, IsDone, IsEndOf, IsHalted, IsMade, IsOutcomeOf, IsSomeCourse, TakesEach, Wrote, WroteFront, WroteSoFar, course_of}
+use Rattle.join_cli.specs.Outcomes.{outcome_of}
+use Rattle.join_cli.specs.Plan.{input_of}
 use Rattle.join_cli.proofs.Seen.{no_plan}
 
--- a plan that was carried out has an outcome of it, unless a put failed
-pub ends_concluded : (told : Told) (asked : Asked) (reading : Result Tree PredFault) (planned : Planned) (old new : Option (List ℕ)) (outcome : Outcome)
+-- a plan that was carried out has an end of it, unless a put failed or memory ran out
+end_of : (asked : Asked) (planned : Planned) (old new : Option (List ℕ)) (outcome : Outcome)
     → Concludes asked planned old new outcome → (outcome ≡ outcomes.Write → ⊥)
-    → ((files : List ℕ → Option (List ℕ)) → told ≡ Some files → (Ok planned ≡ Err outcomes.Memory) ⊎ (Ok planned ≡ plan_of asked reading files))
-    → EndsAs told asked reading outcome
-ends_concluded None asked reading planned old new outcome concludes put h = tt
-ends_concluded (Some files) asked reading planned old new (outcomes.Done journal trail) (course, written) put h = elim (h files refl) [
+    → (outcome ≡ outcomes.Memory) ⊎ IsEndOf asked planned outcome
+end_of asked planned old new (outcomes.Done journal trail) (course, written) put = inr course
+end_of asked planned old new (outcomes.DoneGroups journals trail) (course, written) put = inr course
+end_of asked planned old new (outcomes.DoneChain first second trail) (course, written) put = inr course
+end_of asked planned old new outcomes.Memory concludes put = inl refl
+end_of asked planned old new outcomes.Write concludes put = absurd (put refl)
+end_of asked planned old new (outcomes.Limit (Between pairs)) (between, same) put = inr between
+end_of asked planned old new (outcomes.Limit (TooLong side wave)) concludes put = elim concludes [ ]
+end_of asked planned old new (outcomes.Limit (TooMany side wave)) concludes put = elim concludes [ ]
+end_of asked planned old new (outcomes.Words _) concludes put = elim concludes [ ]
+end_of asked planned old new (outcomes.Predicate _) concludes put = elim concludes [ ]
+end_of asked planned old new (outcomes.Then _) concludes put = elim concludes [ ]
+end_of asked planned old new (outcomes.Input _) concludes put = elim concludes [ ]
+end_of asked planned old new outcomes.Read concludes put = elim concludes [ ]
+
+-- so where the shelf tells its files, the outcome is one of the plan
+pub ends_concluded : (told : Told) (asked : Asked) (readings : Readings) (planned : Planned) (old new : Option (List ℕ)) (outcome : Outcome)
+    → Concludes asked planned old new outcome → (outcome ≡ outcomes.Write → ⊥)
+    → ((files : List ℕ → Option (List ℕ)) → told ≡ Some files
+    → (◌≡◌ {A = Result Planned Refusal} (Ok planned) (Err refusals.Memory)) ⊎ (Ok planned ≡ plan_of asked readings files))
+    → EndsAs told asked readings outcome
+ends_concluded None asked readings planned old new outcome concludes put h = tt
+ends_concluded (Some files) asked readings planned old new outcome concludes put h = elim (h files refl) [
   | inl m ↦ absurd (cc m)
-  | inr f ↦ inr (subst (λ p. IsOutcomeOf asked p (outcomes.Done journal trail)) f course)
+  | inr f ↦ elim (end_of asked planned old new outcome concludes put) [
+    | inl memory ↦ inl memory
+    | inr end ↦ inr (subst (λ p. IsOutcomeOf asked p outcome) f end)
+  ]
 ]
-ends_concluded (Some files) asked reading planned old new (outcomes.DoneGroups journals trail) (course, written) put h = elim (h files refl) [
-  | inl m ↦ absurd (cc m)
-  | inr f ↦ inr (subst (λ p. IsOutcomeOf asked p (outcomes.DoneGroups journals trail)) f course)
-]
-ends_concluded (Some files) asked reading planned old new outcomes.Memory concludes put h = inl refl
-ends_concluded (Some files) asked reading planned old new outcomes.Write concludes put h = absurd (put refl)
-ends_concluded (Some files) asked reading planned old new (outcomes.Words _) concludes put h = elim concludes [ ]
-ends_concluded (Some files) asked reading planned old new (outcomes.Predicate _) concludes put h = elim concludes [ ]
-ends_concluded (Some files) asked reading planned old new (outcomes.Input _) concludes put h = elim concludes [ ]
-ends_concluded (Some files) asked reading planned old new (outcomes.Limit _) concludes put h = elim concludes [ ]
-ends_concluded (Some files) asked reading planned old new outcomes.Read concludes put h = elim concludes [ ]
 
 -- what was written, by the outcome
 pub wrote : (told : Told) (asked : Asked) (planned : Planned) (old new : Option (List ℕ)) (outcome : Outcome) → IsAsked told asked planned → Concludes asked planned old new outcome
@@ -41,68 +60,70 @@ wrote told asked planned old new outcome found concludes way is =
     let ends = subst (ConcludesBy asked planned old new outcome) is concludes in
     record { planned = planned; found = found; course = ends.0; written = ends.1 }
 
--- a refusal has no course
-pub no_course : (old new : ℕ) (told : Told) (spot : Spot) (asked : Asked) (outcome : Outcome) (way : Course) → Refuses old new told spot asked outcome → course_of outcome ≡ Some way → ⊥
-no_course old new told spot asked (outcomes.Done journal trail) way refuses is = refuses
-no_course old new told spot asked (outcomes.DoneGroups journals trail) way refuses is = refuses
-no_course old new told spot asked (outcomes.Words fault) way refuses is = cc is
-no_course old new told spot asked (outcomes.Predicate fault) way refuses is = cc is
-no_course old new told spot asked (outcomes.Input fault) way refuses is = cc is
-no_course old new told spot asked (outcomes.Limit fault) way refuses is = cc is
-no_course old new told spot asked outcomes.Read way refuses is = cc is
-no_course old new told spot asked outcomes.Write way refuses is = cc is
-no_course old new told spot asked outcomes.Memory way refuses is = cc is
-
+-- a front of it, where a put failed
 pub wrote_front : (told : Told) (asked : Asked) (planned : Planned) (old new : Option (List ℕ)) (outcome : Outcome) → IsAsked told asked planned → Concludes asked planned old new outcome
     → outcome ≡ outcomes.Write → WroteFront told asked old new
 wrote_front told asked planned old new outcome found concludes is =
     record { planned = planned; found = found; front = subst (Concludes asked planned old new) is concludes }
 
+-- some of it, where memory ran out
 pub wrote_so_far : (told : Told) (asked : Asked) (planned : Planned) (old new : Option (List ℕ)) (outcome : Outcome) → IsAsked told asked planned → Concludes asked planned old new outcome
     → outcome ≡ outcomes.Memory → (new ≡ old) ⊎ WroteSoFar told asked old new
 wrote_so_far told asked planned old new outcome found concludes is =
     inr (record { planned = planned; found = found; lines = subst (Concludes asked planned old new) is concludes })
 
--- a plan that is carried out isn't refused
+-- there are so many pairs that a second join doesn't take them
+abbrev pub IsTold : Outcome → Type 0
+IsTold outcome = (pairs : ℕ) × (outcome ≡ outcomes.Limit (Between pairs))
+
+-- a plan that is carried out isn't refused, but for too many pairs
 pub concludes_well : (asked : Asked) (planned : Planned) (old new : Option (List ℕ)) (outcome : Outcome) → Concludes asked planned old new outcome
-    → IsDone outcome ⊎ ((outcome ≡ outcomes.Write) ⊎ (outcome ≡ outcomes.Memory))
+    → IsDone outcome ⊎ ((outcome ≡ outcomes.Write) ⊎ ((outcome ≡ outcomes.Memory) ⊎ IsTold outcome))
 concludes_well asked planned old new (outcomes.Done journal trail) concludes = inl tt
 concludes_well asked planned old new (outcomes.DoneGroups journals trail) concludes = inl tt
+concludes_well asked planned old new (outcomes.DoneChain first second trail) concludes = inl tt
 concludes_well asked planned old new outcomes.Write concludes = inr (inl refl)
-concludes_well asked planned old new outcomes.Memory concludes = inr (inr refl)
+concludes_well asked planned old new outcomes.Memory concludes = inr (inr (inl refl))
+concludes_well asked planned old new (outcomes.Limit (Between pairs)) concludes = inr (inr (inr (pairs, refl)))
+concludes_well asked planned old new (outcomes.Limit (TooLong side wave)) concludes = elim concludes [ ]
+concludes_well asked planned old new (outcomes.Limit (TooMany side wave)) concludes = elim concludes [ ]
 concludes_well asked planned old new (outcomes.Words _) concludes = elim concludes [ ]
 concludes_well asked planned old new (outcomes.Predicate _) concludes = elim concludes [ ]
+concludes_well asked planned old new (outcomes.Then _) concludes = elim concludes [ ]
 concludes_well asked planned old new (outcomes.Input _) concludes = elim concludes [ ]
-concludes_well asked planned old new (outcomes.Limit _) concludes = elim concludes [ ]
 concludes_well asked planned old new outcomes.Read concludes = elim concludes [ ]
 
 -- and its refusal is, where it was refused
-pub ends_refused : (told : Told) (asked : Asked) (reading : Result Tree PredFault) (refusal : Outcome)
-    → ((files : List ℕ → Option (List ℕ)) → told ≡ Some files → (no_plan refusal ≡ Err outcomes.Memory) ⊎ (no_plan refusal ≡ plan_of asked reading files))
-    → EndsAs told asked reading refusal
-ends_refused None asked reading refusal h = tt
-ends_refused (Some files) asked reading refusal h = elim (h files refl) [
-  | inl m ↦ let same : refusal ≡ outcomes.Memory = cc m in inl same
-  | inr f ↦ inr (subst (λ p. IsOutcomeOf asked p refusal) f refl)
+pub ends_refused : (told : Told) (asked : Asked) (readings : Readings) (refusal : Refusal)
+    → ((files : List ℕ → Option (List ℕ)) → told ≡ Some files
+    → (no_plan refusal ≡ no_plan refusals.Memory) ⊎ (no_plan refusal ≡ plan_of asked readings files))
+    → EndsAs told asked readings (outcome_of refusal)
+ends_refused None asked readings refusal h = tt
+ends_refused (Some files) asked readings refusal h = elim (h files refl) [
+  | inl m ↦ let same : refusal ≡ refusals.Memory = cc m in inl (ap outcome_of same)
+  | inr f ↦ inr (subst (λ p. IsOutcomeOf asked p (outcome_of refusal)) f refl)
 ]
 
 -- a plan that is one isn't refused, but for want of memory
-pub complete_refused : (refusal : Outcome) (plan : Result Planned Outcome) (planned : Planned) → (no_plan refusal ≡ Err outcomes.Memory) ⊎ (no_plan refusal ≡ plan) → plan ≡ Ok planned
-    → IsDone refusal ⊎ (refusal ≡ outcomes.Memory)
+pub complete_refused : (refusal : Refusal) (plan : Result Planned Refusal) (planned : Planned)
+    → (no_plan refusal ≡ no_plan refusals.Memory) ⊎ (no_plan refusal ≡ plan) → plan ≡ Ok planned
+    → IsDone (outcome_of refusal) ⊎ (outcome_of refusal ≡ outcomes.Memory)
 complete_refused refusal plan planned found is = elim found [
-  | inl m ↦ let same : refusal ≡ outcomes.Memory = cc m in inr same
+  | inl m ↦ let same : refusal ≡ refusals.Memory = cc m in inr (ap outcome_of same)
   | inr f ↦ absurd (cc (f ∙ is))
 ]
 
 -- and it is the one that is made
-pub complete_made : (made planned : Planned) (plan : Result Planned Outcome) → (Ok made ≡ Err outcomes.Memory) ⊎ (Ok made ≡ plan) → plan ≡ Ok planned → made ≡ planned
+pub complete_made : (made planned : Planned) (plan : Result Planned Refusal)
+    → (◌≡◌ {A = Result Planned Refusal} (Ok made) (Err refusals.Memory)) ⊎ (Ok made ≡ plan) → plan ≡ Ok planned → made ≡ planned
 complete_made made planned plan found is = elim found [ inl m ↦ absurd (cc m) | inr f ↦ cc (f ∙ is) ]
 
 -- a sink that takes each output takes the one over how a run went
 takes_over : (takes : ℕ → Type 0) (asked : Asked) (planned : Planned) (way : Course) → WentSo asked planned way
     → TakesEach takes asked planned → takes (length (output_over asked planned way))
-takes_over takes asked planned (by_run journal trail) course each = each.each course.single journal course.lawful
+takes_over takes asked planned (by_run journal trail) course each = each.each course.single course.whole journal course.lawful
 takes_over takes asked planned (by_groups journals trail) course each = each.groups journals trail course
+takes_over takes asked planned (by_chain first second trail) course each = each.chain first second trail course
 
 -- and so the bytes that were made
 pub takes_made : (takes : ℕ → Type 0) (asked : Asked) (planned : Planned) (bytes : List ℕ) (way : Option Course)
@@ -116,3 +137,50 @@ takes_made takes asked planned bytes (Some way) made each =
 pub made_done : (asked : Asked) (planned : Planned) (bytes : List ℕ) (way : Option Course) → IsMade asked planned bytes way → IsSomeCourse way
 made_done asked planned bytes None made = made
 made_done asked planned bytes (Some way) made = tt
+
+-- ---- no text was made
+
+-- nothing is written then, and the plan ends so
+pub halted_concludes : (asked : Asked) (planned : Planned) (written : Option (List ℕ)) (outcome : Outcome) → asked.early ≡ false
+    → IsHalted asked planned outcome → Concludes asked planned written written outcome
+halted_concludes asked planned written outcomes.Memory whole halted = rw whole refl
+halted_concludes asked planned written (outcomes.Limit (Between pairs)) whole halted = (halted, refl)
+halted_concludes asked planned written (outcomes.Limit (TooLong side wave)) whole halted = elim halted [ ]
+halted_concludes asked planned written (outcomes.Limit (TooMany side wave)) whole halted = elim halted [ ]
+halted_concludes asked planned written (outcomes.Done _ _) whole halted = elim halted [ ]
+halted_concludes asked planned written (outcomes.DoneGroups _ _) whole halted = elim halted [ ]
+halted_concludes asked planned written (outcomes.DoneChain _ _ _) whole halted = elim halted [ ]
+halted_concludes asked planned written (outcomes.Words _) whole halted = elim halted [ ]
+halted_concludes asked planned written (outcomes.Predicate _) whole halted = elim halted [ ]
+halted_concludes asked planned written (outcomes.Then _) whole halted = elim halted [ ]
+halted_concludes asked planned written (outcomes.Input _) whole halted = elim halted [ ]
+halted_concludes asked planned written outcomes.Read whole halted = elim halted [ ]
+halted_concludes asked planned written outcomes.Write whole halted = elim halted [ ]
+
+-- it isn't for a put
+pub halted_no_write : (asked : Asked) (planned : Planned) (outcome : Outcome) → IsHalted asked planned outcome → outcome ≡ outcomes.Write → ⊥
+halted_no_write asked planned outcome halted is = subst (IsHalted asked planned) is halted
+
+-- too many pairs aren't few
+many_or_few : (third : Option Third) (n : ℕ) → is_some third ≡ true → 2 ^ 18 < n → IfSome third (λ _. n ≤ 2 ^ 18) → ⊥
+many_or_few None n chained many few = cc chained
+many_or_few (Some third) n chained many few = absurd (omega (arith, many, few))
+
+-- and where the pairs are few, memory ran out
+pub halted_few : (asked : Asked) (planned : Planned) (outcome : Outcome) → IsHalted asked planned outcome
+    → IsFewBetween asked planned → IsDone outcome ⊎ (outcome ≡ outcomes.Memory)
+halted_few asked planned outcomes.Memory halted few = inr refl
+halted_few asked planned (outcomes.Limit (Between pairs)) halted few =
+    let many : 2 ^ 18 < length (nested_loop (input_of asked.seed planned)) = subst (λ n. 2 ^ 18 < n) halted.are halted.many in
+    absurd (many_or_few planned.third (length (nested_loop (input_of asked.seed planned))) halted.chained many few)
+halted_few asked planned (outcomes.Limit (TooLong side wave)) halted few = elim halted [ ]
+halted_few asked planned (outcomes.Limit (TooMany side wave)) halted few = elim halted [ ]
+halted_few asked planned (outcomes.Done _ _) halted few = elim halted [ ]
+halted_few asked planned (outcomes.DoneGroups _ _) halted few = elim halted [ ]
+halted_few asked planned (outcomes.DoneChain _ _ _) halted few = elim halted [ ]
+halted_few asked planned (outcomes.Words _) halted few = elim halted [ ]
+halted_few asked planned (outcomes.Predicate _) halted few = elim halted [ ]
+halted_few asked planned (outcomes.Then _) halted few = elim halted [ ]
+halted_few asked planned (outcomes.Input _) halted few = elim halted [ ]
+halted_few asked planned outcomes.Read halted few = elim halted [ ]
+halted_few asked planned outcomes.Write halted few = elim halted [ ]

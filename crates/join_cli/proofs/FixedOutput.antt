@@ -16,7 +16,7 @@ use Rattle.trace_law.specs.Join.{held, made, row_count}
 use Rattle.trace_law.specs.Runs.{StaysAt, load_over, made_over, moved_over}
 use Rattle.join_report.specs.Report.{final_line, grid_lines, input_line, joiner_lines}
 use Rattle.join_words.specs.Words.{Asked}
-use Rattle.join_cli.specs.declared.plan.Planned.{Planned}
+use Rattle.join_plan.specs.declared.fitting.Planned.{Planned}
 use Rattle.join_cli.specs.Plan.{IsJournalOf, answer_of, input_of, output_of, report_over, setting_of, text_of}
 
 shift_stays : (b e : ℕ) (journal : List TurnLine) → AllByRecursion (StaysAt 0 b) journal → shift_at b e journal ≡ b

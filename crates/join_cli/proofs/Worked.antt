@@ -12,11 +12,14 @@ use Rattle.theta_text.specs.declared.tree.Op.TheVariants.{Eq}
 use Rattle.theta_text.specs.declared.tree.TextSide.TheVariants.{Col}
 use Rattle.row_tickets.specs.declared.place.Feed.TheVariants.{Alternate}
 use Rattle.join_words.specs.Words.{Asked}
-use Rattle.join_cli.specs.declared.outcome.Outcome.{Outcome}
-use Rattle.join_cli.specs.declared.outcome.Outcome.TheVariants.{Input, Predicate}
-use Rattle.join_cli.specs.declared.outcome.TextFault.TheVariants.{NoColumn, TwoColumns}
-use Rattle.join_cli.specs.declared.outcome.InputFault.TheVariants.{Width, NoHeader}
-use Rattle.join_cli.specs.Plan.{plan_of, output_of, then_of}
+use Rattle.join_plan.specs.declared.fault.Refusal.{Refusal}
+use Rattle.join_plan.specs.declared.fault.Refusal.TheVariants.{Input, Predicate, Then}
+use Rattle.join_plan.specs.declared.fault.TextFault.TheVariants.{NoColumn, TwoColumns}
+use Rattle.join_plan.specs.declared.fault.InputFault.TheVariants.{Width, NoHeader}
+use Rattle.join_plan.specs.Plan.{plan_of}
+use Rattle.join_plan.specs.Refusals.{then_of}
+use Rattle.join_cli.specs.Chain.{chain_output}
+use Rattle.join_cli.specs.Plan.{output_of}
 
 -- these lines, each with its line feed
 lines : List (List ℕ) → List ℕ
@@ -46,12 +49,13 @@ four = record {
   rows = false;
   name_r = codes "r";
   name_s = codes "s";
+  chain = None;
 }
 
 -- the output of two files by a tree, or the refusal
-joined : Tree → List ℕ → List ℕ → Result (List ℕ) Outcome
+joined : Tree → List ℕ → List ℕ → Result (List ℕ) Refusal
 joined tree of_r of_s =
-    then_of (plan_of four (Ok tree) (λ name. if bytes_eq name (codes "r") then Some of_r else (if bytes_eq name (codes "s") then Some of_s else None)))
+    then_of (plan_of four (record { on = Ok tree; further = None }) (λ name. if bytes_eq name (codes "r") then Some of_r else (if bytes_eq name (codes "s") then Some of_s else None)))
     (λ planned. Ok (output_of four planned []))
 
 of_r : List ℕ
@@ -80,10 +84,41 @@ two_columns : joined equal_keys (lines (codes "k,k" ∷ [])) of_s ≡ Err (Predi
 unfolding lines equal_keys four joined of_s table_of table_of_records fault_of_rows records_from next_record after_marks
 two_columns = refl
 
-narrow : joined equal_keys (codes "a,b" ++ 10 ∷ codes "1,2" ++ 10 ∷ codes "3") of_s ≡ Err (Input (Width sides.R 2 1))
+narrow : joined equal_keys (codes "a,b" ++ 10 ∷ codes "1,2" ++ 10 ∷ codes "3") of_s ≡ Err (Input (Width sides.R 1 2 1))
 unfolding equal_keys four joined of_s table_of table_of_records fault_of_rows records_from next_record after_marks
 narrow = refl
 
-no_header : joined equal_keys [] [] ≡ Err (Input (NoHeader sides.R))
+no_header : joined equal_keys [] [] ≡ Err (Input (NoHeader sides.R 1))
 unfolding equal_keys four joined table_of table_of_records fault_of_rows records_from next_record after_marks
 no_header = refl
+
+-- ---- a second join
+
+-- the same two files, and the third `q`, by the texts of their columns `k`, the joined row's by this name
+texts_of : List ℕ → Tree
+texts_of name = txt (Col (record { side = sides.R; word = name })) Eq (Col (record { side = sides.S; word = codes "k" }))
+
+-- the output of three files by two trees, or the refusal
+chained : Tree → Tree → List ℕ → List ℕ → List ℕ → Result (List ℕ) Refusal
+chained tree further of_r of_s of_q =
+    let asked : Asked = record four { chain = Some (record { on = []; name = codes "q" }) } in
+    then_of (plan_of asked (record { on = Ok tree; further = Some (Ok further) })
+    (λ name. if bytes_eq name (codes "r") then Some of_r else (if bytes_eq name (codes "s") then Some of_s
+    else (if bytes_eq name (codes "q") then Some of_q else None))))
+    (λ planned. Ok (chain_output asked planned planned.third [] []))
+
+of_q : List ℕ
+of_q = lines (codes "k" ∷ codes "c" ∷ codes "a" ∷ codes "c" ∷ [])
+
+triples : chained equal_keys (texts_of (codes "r_v")) of_r of_s of_q
+    ≡ Ok (lines (codes "1,1,2" ∷ codes "1,3,2" ∷ codes "3,1,1" ∷ codes "3,1,3" ∷ codes "3,3,1" ∷ codes "3,3,3" ∷ []))
+unfolding lines equal_keys texts_of four chained of_r of_s of_q table_of table_of_records fault_of_rows records_from next_record after_marks digits
+triples = refl
+
+no_joined_column : chained equal_keys (texts_of (codes "v")) of_r of_s of_q ≡ Err (Then (NoColumn sides.R (codes "v")))
+unfolding lines equal_keys texts_of four chained of_r of_s of_q table_of table_of_records fault_of_rows records_from next_record after_marks
+no_joined_column = refl
+
+narrow_third : chained equal_keys (texts_of (codes "v")) of_r of_s (codes "a,b" ++ 10 ∷ codes "1") ≡ Err (Input (Width sides.S 2 1 1))
+unfolding lines equal_keys texts_of four chained of_r of_s table_of table_of_records fault_of_rows records_from next_record after_marks
+narrow_third = refl

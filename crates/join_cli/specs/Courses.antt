@@ -13,7 +13,8 @@ use Rattle.group_split.specs.Sizes.{digits, numbers_of}
 use Rattle.trace_law.specs.Family.{first_rest}
 use Rattle.trace_law.specs.Runs.{IsRunOf}
 use Rattle.join_words.specs.Words.{Asked}
-use Rattle.join_cli.specs.declared.plan.Planned.{Planned}
+use Rattle.join_plan.specs.declared.fitting.Planned.{Planned}
+use Rattle.join_cli.specs.Chain.{IsChainOf, chain_output}
 use Rattle.join_cli.specs.Plan.{IsJournalOf, answer_of, input_of, output_of, report_over, setting_of}
 
 -- a replay with this number, whose controller has this journal, leaves nothing
@@ -34,10 +35,11 @@ abbrev pub WentAs : Option ℕ → Input → Setting → List TurnLine → List 
 WentAs (Some seed) input setting journal trail = IsReplayed input setting seed journal trail
 WentAs None input setting journal trail = IsRunInThreads input setting journal trail
 
--- what is answered of a run that was asked for, of joiners in one grid: the journal of a lawful controller, and what shows how
+-- what is answered of a run that was asked for, of two tables and joiners in one grid: the journal of a lawful controller, and what shows how
 -- the run went
 pub record IsCourseOf (asked : Asked) (planned : Planned) (journal : List TurnLine) (trail : List EndsView) : Type 0 where
   pub single : asked.groups ≡ None
+  pub whole : asked.chain ≡ None
   pub lawful : IsJournalOf asked planned journal
   pub went : WentAs asked.replay (input_of asked.seed planned) (setting_of asked) journal trail
 
@@ -66,11 +68,13 @@ AreRunsFrom input joiners numbers setting g _ _ = ⊥
 pub data Course : Type 0 where
   by_run : List TurnLine → List EndsView → Course
   by_groups : List (List TurnLine) → List EndsView → Course
+  by_chain : List TurnLine → List TurnLine → List EndsView → Course
 
 -- it went so as was asked for
 abbrev pub WentSo : Asked → Planned → Course → Type 0
 WentSo asked planned (by_run journal trail) = IsCourseOf asked planned journal trail
 WentSo asked planned (by_groups journals trail) = AreGroupsOf asked planned journals trail
+WentSo asked planned (by_chain first second trail) = IsChainOf asked planned first second trail
 
 -- ---- the output
 
@@ -102,3 +106,4 @@ output_over asked planned (by_run journal trail) = output_of asked planned journ
 output_over asked planned (by_groups journals trail) =
     let joiners = unwrap_or asked.groups 0 in
     groups_text asked (input_of asked.seed planned) (setting_of asked) joiners (groups_drawn asked planned joiners) journals
+output_over asked planned (by_chain first second trail) = chain_output asked planned planned.third first second

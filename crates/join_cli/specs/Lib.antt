@@ -1,9 +1,6 @@
 pub mod Outcomes
-pub mod Refusals
-pub mod Texts
-pub mod Columns
-pub mod Numbers
 pub mod Plan
+pub mod Chain
 pub mod Courses
 pub mod Early
 pub mod Ends
@@ -12,3 +9,4 @@ pub mod Programs
 pub mod Past
 pub mod Promises
 pub mod Dealt
+pub mod Requests

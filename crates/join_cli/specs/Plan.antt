@@ -1,17 +1,7 @@
--- What the words and the files come to, in the order in which they are looked at.
-use Rattle.std.specs.Prelude.{◌≡◌, ◌^◌, ◌++◌, ℕ, Bool, true, false, All, List, [], map, length, Option, None, Some, Result, Ok, Err, if◌then◌else◌}
+-- What is run of a plan, and what is written of it.
+use Rattle.std.specs.Prelude.{◌≡◌, ◌^◌, ◌++◌, ℕ, Bool, true, false, All, List, [], map, Option, None, Some, if◌then◌else◌}
 use Rattle.std.specs.List.{range_with_len}
-use Rattle.join_rows.specs.declared.table.Side.{Side}
 use Rattle.join_rows.specs.declared.table.Side.TheVariants.{R, S}
-use Rattle.join_rows.specs.declared.table.Cell.{Cell}
-use Rattle.join_rows.specs.declared.table.Table.{Table}
-use Rattle.join_rows.specs.declared.fault.TableFault.{TableFault}
-use Rattle.join_rows.specs.Made.{made_table}
-use Rattle.join_rows.specs.Records.{IsTable, table_of}
-use Rattle.theta_text.specs.Grammar.{Tree}
-use Rattle.theta_text.specs.declared.fault.PredFault.{PredFault}
-use Rattle.theta_pred.specs.Formula.{Meaning}
-use Rattle.row_tickets.specs.Tickets.{ticket_of}
 use Rattle.trace_law.specs.declared.input.Input.{Input}
 use Rattle.trace_law.specs.declared.run.Run.{Run}
 use Rattle.trace_law.specs.declared.setting.Setting.{Setting}
@@ -25,93 +15,27 @@ use Rattle.join_report.specs.PairLines.{pair_lines}
 use Rattle.join_report.specs.Report.{report_of}
 use Rattle.join_report.specs.RowLines.{row_lines}
 use Rattle.join_report.specs.Summary.{summary_of}
+use Rattle.chain_join.specs.Chains.{tickets_of}
 use Rattle.join_words.specs.Words.{Asked}
-use Rattle.join_cli.specs.declared.outcome.InputFault.{InputFault}
-use Rattle.join_cli.specs.declared.outcome.Outcome.{Outcome}
-use Rattle.join_cli.specs.declared.outcome.Outcome.TheVariants.{Input as Unfit, Read}
-use Rattle.join_cli.specs.declared.reading.Tables.{Tables}
-use Rattle.join_cli.specs.declared.plan.Planned.{Planned}
-use Rattle.join_cli.specs.Refusals.{file_refusal}
-use Rattle.join_cli.specs.Texts.{tree_or_refused}
-use Rattle.join_cli.specs.Columns.{theta_over}
-use Rattle.join_cli.specs.Numbers.{number_fault_of}
-
--- one stage after another
-abbrev pub then_of : {A B : Type 0} → Result A Outcome → (A → Result B Outcome) → Result B Outcome
-then_of (Ok x) next = next x
-then_of (Err refusal) next = Err refusal
-
--- ---- the tables
-
--- a side's table, or the refusal that its file's fault is
-abbrev pub or_refused : Side → Result Table TableFault → Result Table Outcome
-or_refused side (Ok table) = Ok table
-or_refused side (Err fault) = Err (file_refusal side fault)
-
--- the table of a side's file, where there is one
-abbrev pub table_found : Side → Option (List ℕ) → Result Table Outcome
-table_found side None = Err Read
-table_found side (Some bytes) = or_refused side (table_of bytes)
-
--- the tables in two files, R before S
-abbrev pub tables_in : Option (List ℕ) → Option (List ℕ) → Result Tables Outcome
-tables_in file_r file_s = then_of (table_found R file_r) (λ r. then_of (table_found S file_s) (λ s. Ok (record { of_r = r; of_s = s })))
-
--- and under two names
-abbrev pub tables_of : (List ℕ → Option (List ℕ)) → List ℕ → List ℕ → Result Tables Outcome
-tables_of files name_r name_s = tables_in (files name_r) (files name_s)
-
--- the tables that are made where there are no files
-abbrev pub made_tables : ℕ → Tables
-made_tables count = record { of_r = made_table R count; of_s = made_table S count }
-
--- made tables, or those of the two files
-abbrev pub tables_by : Option ℕ → (List ℕ → Option (List ℕ)) → List ℕ → List ℕ → Result Tables Outcome
-tables_by None files name_r name_s = tables_of files name_r name_s
-tables_by (Some count) files name_r name_s = Ok (made_tables count)
-
--- ---- the predicate over them
-
--- what was planned, unless a cell doesn't fit the predicate
-abbrev pub unless_unfit : Option InputFault → Planned → Result Planned Outcome
-unless_unfit None planned = Ok planned
-unless_unfit (Some fault) planned = Err (Unfit fault)
-
--- the cells that are to be numbers are numbers or empty
-abbrev pub checked : Tables → Meaning → Result Planned Outcome
-checked tables theta = unless_unfit (number_fault_of tables theta) (record { tables = tables; theta = theta })
-
--- the names have their columns, and these their numbers
-abbrev pub fitted : Tree → Tables → Result Planned Outcome
-fitted tree tables = then_of (theta_over tables.of_r.names tables.of_s.names tree) (checked tables)
-
--- the text, the two tables, the columns, the numbers
-abbrev pub plan_of : Asked → Result Tree PredFault → (List ℕ → Option (List ℕ)) → Result Planned Outcome
-plan_of asked reading files =
-    then_of (tree_or_refused reading) (λ tree. then_of (tables_by asked.make files asked.name_r asked.name_s) (fitted tree))
-
--- tables with a predicate over their headers
-pub record IsFit (planned : Planned) : Type 0 where
-  pub table_r : IsTable planned.tables.of_r
-  pub table_s : IsTable planned.tables.of_s
-  pub width_r : planned.theta.width_r ≡ length planned.tables.of_r.names
-  pub width_s : planned.theta.width_s ≡ length planned.tables.of_s.names
+use Rattle.theta_pred.specs.Formula.{Meaning}
+use Rattle.join_plan.specs.declared.files.Tables.{Tables}
+use Rattle.join_plan.specs.declared.fitting.Planned.{Planned}
 
 -- ---- the run
 
--- the tickets of a side's rows
-abbrev pub tickets_of : ℕ → Side → List (List Cell) → List ℕ
-tickets_of seed side rows = map (ticket_of seed side) (range_with_len 0 (length rows))
-
--- what is joined: the tables and the predicate, with the tickets of a seed
-abbrev pub input_of : ℕ → Planned → Input
-input_of seed planned = record {
-  table_r = planned.tables.of_r;
-  table_s = planned.tables.of_s;
-  theta = planned.theta;
-  tickets_r = tickets_of seed R planned.tables.of_r.rows;
-  tickets_s = tickets_of seed S planned.tables.of_s.rows;
+-- tables and a predicate, with the tickets of a seed
+abbrev pub input_with : ℕ → Tables → Meaning → Input
+input_with seed tables theta = record {
+  table_r = tables.of_r;
+  table_s = tables.of_s;
+  theta = theta;
+  tickets_r = tickets_of seed R tables.of_r.rows;
+  tickets_s = tickets_of seed S tables.of_s.rows;
 }
+
+-- what is joined first of a plan
+abbrev pub input_of : ℕ → Planned → Input
+input_of seed planned = input_with seed planned.tables planned.theta
 
 -- the setting that the words ask for
 abbrev pub setting_of : Asked → Setting
@@ -133,11 +57,15 @@ IsLawfulFor input setting journal =
 
 -- the journal of a lawful controller of this run; each line that isn't moving is near the best grid for its counts and for what
 -- rows weigh, and where the shift is fixed there is one epoch, whose lines all have it
-pub record IsJournalOf (asked : Asked) (planned : Planned) (journal : List TurnLine) : Type 0 where
-  pub lawful : IsLawfulFor (input_of asked.seed planned) (setting_of asked) journal
-  pub near : asked.fixed ≡ None → AreNear asked.k asked.weights journal
-  pub one_epoch : (shift : ℕ) → asked.fixed ≡ Some shift → last_epoch journal ≡ 0
-  pub stays : (shift : ℕ) → asked.fixed ≡ Some shift → All (StaysAt 0 shift) journal
+pub record IsJournalOver (input : Input) (setting : Setting) (journal : List TurnLine) : Type 0 where
+  pub lawful : IsLawfulFor input setting journal
+  pub near : setting.fixed ≡ None → AreNear setting.k setting.weights journal
+  pub one_epoch : (shift : ℕ) → setting.fixed ≡ Some shift → last_epoch journal ≡ 0
+  pub stays : (shift : ℕ) → setting.fixed ≡ Some shift → All (StaysAt 0 shift) journal
+
+-- that of the run of a plan, of joiners in one grid
+abbrev pub IsJournalOf : Asked → Planned → List TurnLine → Type 0
+IsJournalOf asked planned journal = IsJournalOver (input_of asked.seed planned) (setting_of asked) journal
 
 -- ---- the output
 
@@ -161,6 +89,10 @@ abbrev pub answer_of : Option ℕ → Bool → Input → List ℕ
 answer_of None false input = pair_lines (nested_loop input)
 answer_of None true input = row_lines input.table_r.rows input.table_s.rows (nested_loop input)
 answer_of (Some count) rows input = summary_of (row_count input R) (row_count input S) (nested_loop input)
+
+-- the report of a run over so many rows a side, where one is asked for
+abbrev pub bare_report_of : Bool → Setting → ℕ → ℕ → Run → List ℕ
+bare_report_of report setting rows_r rows_s run = if report then report_of setting rows_r rows_s run else []
 
 -- the report where one is asked for
 abbrev pub report_asked : Bool → Input → Setting → List TurnLine → List ℕ

@@ -1,5 +1,5 @@
 -- What the top call promises, over what shelf and sink tell before and after it.
-use Rattle.std.specs.Prelude.{◌≡◌, ◌≢◌, ◌⊎◌, ◌<◌, ℕ, List, false, Some, Result, Ok, Err}
+use Rattle.std.specs.Prelude.{◌≡◌, ◌≢◌, ◌⊎◌, ◌<◌, ℕ, List, false, Some, Ok, Err}
 use Rattle.join_rows.specs.Sinks.{PutsSome}
 use Rattle.join_rows.specs.declared.shelf.Shelf.{Ghosts as ShelfGhosts}
 use Rattle.join_rows.specs.declared.sink.Sink.{Ghosts as SinkGhosts}
@@ -7,30 +7,36 @@ use Rattle.join_rows.specs.declared.table.Side.{Side}
 use Rattle.theta_text.specs.Grammar.{Tree}
 use Rattle.theta_text.specs.declared.fault.PredFault.{PredFault}
 use Rattle.theta_text.specs.Texts.{IsFaultOf, TextReads, limits}
-use Rattle.join_words.specs.Words.{Asked, asked_of}
+use Rattle.join_words.specs.Words.{Asked, AskedChain, asked_of}
 use Rattle.join_words.specs.declared.options.WordsFault.{WordsFault}
 use Rattle.join_cli.specs.declared.outcome.Outcome.{Outcome}
-use Rattle.join_cli.specs.declared.outcome.Outcome.TheVariants.{Limit, Memory, Predicate, Read, Words, Write}
-use Rattle.join_cli.specs.declared.outcome.TextFault.{TextFault}
-use Rattle.join_cli.specs.declared.outcome.LimitFault.TheVariants.{TooLong}
+use Rattle.join_cli.specs.declared.outcome.Outcome.TheVariants.{Limit, Memory, Predicate, Read, Then, Words, Write}
+use Rattle.join_plan.specs.declared.fault.TextFault.{TextFault}
+use Rattle.join_plan.specs.declared.fault.LimitFault.TheVariants.{TooLong}
+use Rattle.join_plan.specs.declared.refusal.Which.TheVariants as texts
+use Rattle.join_plan.specs.Causes.{IsTrueFurther, LacksOne, StandsPast}
+use Rattle.join_plan.specs.Files.{sources}
+use Rattle.join_plan.specs.Texts.{AreRead, HaveTrees, IsTrueOf, Readings, Trees}
 use Rattle.join_cli.specs.Outcomes.{status_of}
-use Rattle.join_cli.specs.Texts.{IsRead, IsTrueOf}
-use Rattle.join_cli.specs.Seen.{EndsAsked}
+use Rattle.join_cli.specs.Seen.{EndsOver}
 use Rattle.join_cli.specs.Courses.{Course}
-use Rattle.join_cli.specs.Ends.{course_of, EndsAs, EndsEarly, IsDone, LacksOne, StandsPast, Suffices, WroteSoFar, name_of}
+use Rattle.join_cli.specs.Ends.{EndsAs, EndsEarly, IsDone, Suffices, WroteSoFar, course_of}
 use Rattle.join_cli.specs.Programs.{WroteFrontBy, WroteOver}
 
 -- which outcome it is, of what is asked for
 pub record Answers {H K : Type 0} (h : ShelfGhosts H) (k : SinkGhosts K) (asked : Asked)
     (old new : H) (before after : K) (outcome : Outcome) : Type 0 where
   -- of a text that is no predicate, before any call of the shelf
-  pub early : (fault : PredFault) → IsFaultOf limits asked.on fault → EndsEarly fault outcome × (new ≡ old)
+  pub early : (fault : PredFault) → IsFaultOf limits asked.on fault → EndsEarly texts.On fault outcome × (new ≡ old)
+  -- and of a second text behind one that is a predicate
+  pub further_early : (tree : Tree) (chain : AskedChain) (fault : PredFault) → TextReads limits asked.on tree
+      → asked.chain ≡ Some chain → IsFaultOf limits chain.on fault → EndsEarly texts.Then fault outcome × (new ≡ old)
   -- where no call failed, that of the plan
-  pub answer : (reading : Result Tree PredFault) → IsRead asked.on reading
-      → h.faults new ≡ h.faults old → k.faults after ≡ k.faults before → EndsAs (h.told old) asked reading outcome
-  -- and over each shelf that of what was read
-  pub seen : (tree : Tree) → TextReads limits asked.on tree → outcome ≢ Read → outcome ≢ Memory
-      → EndsAsked (h.told old) (h.picked new) asked asked.make tree (k.written before) (k.written after) outcome
+  pub answer : (readings : Readings) → AreRead asked readings
+      → h.faults new ≡ h.faults old → k.faults after ≡ k.faults before → EndsAs (h.told old) asked readings outcome
+  -- and over each shelf that of what was read, or of the made tables
+  pub seen : (trees : Trees) → HaveTrees asked trees → outcome ≢ Read → outcome ≢ Memory
+      → EndsOver (h.told old) (h.picked new) asked trees (k.written before) (k.written after) outcome
   -- of made tables without a call of the shelf
   pub made : (count : ℕ) → asked.make ≡ Some count → (new ≡ old) × (outcome ≢ Read)
   -- where all is well it is done
@@ -41,10 +47,12 @@ pub record Causes {H K : Type 0} (h : ShelfGhosts H) (k : SinkGhosts K) (asked :
     (old new : H) (before after : K) (outcome : Outcome) : Type 0 where
   -- a fault of the text is the text's
   pub text : (fault : TextFault) → outcome ≡ Predicate fault → IsTrueOf asked.on fault
+  -- and one of the second text is that text's
+  pub further_text : (fault : TextFault) → outcome ≡ Then fault → IsTrueFurther asked.chain fault
   -- of a file that is too long the place is past the limit
-  pub long : (side : Side) → outcome ≡ Limit (TooLong side) → StandsPast (h.picked new) (name_of side asked)
+  pub long : (side : Side) (wave : ℕ) → outcome ≡ Limit (TooLong side wave) → StandsPast (h.picked new) side wave (sources asked)
   -- a call of the shelf failed, or a file isn't there
-  pub read : outcome ≡ Read → (h.faults old < h.faults new) ⊎ LacksOne (h.told old) asked
+  pub read : outcome ≡ Read → (h.faults old < h.faults new) ⊎ LacksOne (h.told old) (sources asked)
   -- what was written where memory ran out
   pub memory : outcome ≡ Memory
       → (k.written after ≡ k.written before) ⊎ WroteSoFar (h.told old) asked (k.written before) (k.written after)

@@ -1,18 +1,22 @@
 // Carrying out a plan: its run, and the writing of the output.
 
-ghost use Rattle.std.specs.Prelude.{◌≡◌, ◌≢◌, ◌⊎◌, ◌<◌, ◌≤◌, IfSome, None, true, false};
+ghost use Rattle.std.specs.Prelude.{◌≡◌, ◌≢◌, ◌⊎◌, ◌<◌, ◌≤◌, ℕ, IfSome, None, is_some, true, false};
 ghost use Rattle.join_rows.specs.Shelves.{last_fault};
 ghost use Rattle.join_rows.specs.Sinks.{PutsSome};
 ghost use Rattle.trace_law.specs.Validity.{IsValidInput, IsValidSetting};
 ghost use Rattle.join_words.specs.Words.{asked};
-ghost use Rattle.join_cli.specs.Plan.{IsFit, input_of, setting_of};
-ghost use Rattle.join_cli.specs.declared.plan.Planned.{Planned as Planned'};
+ghost use Rattle.join_plan.specs.Plan.{IsFit};
+ghost use Rattle.join_plan.specs.declared.fault.LimitFault.TheVariants.{Between};
+ghost use Rattle.join_plan.specs.declared.fitting.Planned.{Planned as Planned'};
+ghost use Rattle.join_cli.specs.Plan.{input_of, setting_of};
 ghost use Rattle.join_cli.specs.Ends.{Concludes, IsDone, TakesEach};
+ghost use Rattle.join_cli.specs.Chain.{IsFewBetween};
+ghost use Rattle.join_cli.specs.Requests.{IsChained};
 
 use crate::early::put_found;
 use crate::outcome::Outcome;
-use crate::plan::Planned;
 use crate::run::{Course, Joined, input, output, setting};
+use join_plan::Planned;
 use join_report::put_all;
 use join_rows::{Failed, Sink};
 use join_runtime::EarlyFault;
@@ -39,19 +43,22 @@ fn conclude_whole<R: Threads + Wait + Sync, K: Sink, G: Gate>(
     requires groups { IfSome options.now.groups (λ joiners. (1 ≤ joiners) × (joiners ≤ 64)) }
     requires grouped { IfSome options.now.groups (λ _. (options.now.fixed ≡ None)
         × (options.now.early ≡ false) × (options.now.replay ≡ None)) }
+    requires there { is_some planned.third ≡ is_some options.now.chain }
     ensures ends { Concludes (asked options.now) planned
         (K.written sink.old) (K.written sink.new) result }
     ensures nothing { result ≡ Outcome.Memory → sink.new ≡ sink.old }
     ensures counts { result ≢ Outcome.Write → K.faults sink.new ≡ K.faults sink.old }
     ensures fails { result ≡ Outcome.Write → K.faults sink.old < K.faults sink.new }
+    ensures between { (pairs : ℕ) → result ≡ Outcome.Limit (Between pairs) → sink.new ≡ sink.old }
     ensures complete { TakesEach (K.takes sink.old) (asked options.now) planned
+        → IsFewBetween (asked options.now) planned
         → IsDone result ⊎ (result ≡ Outcome.Memory) }
     ensures left { PutsSome (K.written sink.old) (K.written sink.new)
         (K.takes sink.old) (K.takes sink.new) }
 {
     let Joined { text, done } = match output(rt, alloc, options, planned, gate) {
         Ok(joined) => joined,
-        Err(AllocError) => return Outcome::Memory,
+        Err(outcome) => return outcome,
     };
     match put_all(sink, text.as_slice()) {
         Ok(()) => done,
@@ -77,10 +84,12 @@ fn end_early<R: Threads + Wait + Sync, K: Sink, G: Gate>(
     requires alone { (options.now.replay ≡ None) × (options.now.make ≡ None)
         × (options.now.rows ≡ false) }
     requires single { options.now.groups ≡ None }
+    requires whole { options.now.chain ≡ None }
     ensures ends { (planned : Planned') → input.now ≡ input_of options.now.seed planned
         → Concludes (asked options.now) planned (K.written sink.old) (K.written sink.new) result }
     ensures counts { result ≢ Outcome.Write → K.faults sink.new ≡ K.faults sink.old }
     ensures fails { result ≡ Outcome.Write → K.faults sink.old < K.faults sink.new }
+    ensures between { (pairs : ℕ) → result ≡ Outcome.Limit (Between pairs) → sink.new ≡ sink.old }
     ensures complete { (planned : Planned') → input.now ≡ input_of options.now.seed planned
         → TakesEach (K.takes sink.old) (asked options.now) planned
         → IsDone result ⊎ (result ≡ Outcome.Memory) }
@@ -113,17 +122,20 @@ fn conclude_early<R: Threads + Wait + Sync, K: Sink, G: Gate>(
     requires alone { (options.now.replay ≡ None) × (options.now.make ≡ None)
         × (options.now.rows ≡ false) }
     requires single { options.now.groups ≡ None }
+    requires whole { options.now.chain ≡ None }
     ensures ends { Concludes (asked options.now) planned
         (K.written sink.old) (K.written sink.new) result }
     ensures counts { result ≢ Outcome.Write → K.faults sink.new ≡ K.faults sink.old }
     ensures fails { result ≡ Outcome.Write → K.faults sink.old < K.faults sink.new }
+    ensures between { (pairs : ℕ) → result ≡ Outcome.Limit (Between pairs) → sink.new ≡ sink.old }
     ensures complete { TakesEach (K.takes sink.old) (asked options.now) planned
+        → IsFewBetween (asked options.now) planned
         → IsDone result ⊎ (result ≡ Outcome.Memory) }
     ensures left { PutsSome (K.written sink.old) (K.written sink.new)
         (K.takes sink.old) (K.takes sink.new) }
 {
     let setting = setting(options);
-    match input(alloc, options.seed, planned) {
+    match input(alloc, options.seed, planned.tables, planned.theta) {
         Ok(input) => end_early(rt, alloc, options, &input, &setting, sink, gate),
         Err(AllocError) => Outcome::Memory,
     }
@@ -147,12 +159,16 @@ pub(crate) fn conclude<R: Threads + Wait + Sync, K: Sink, G: Gate>(
     requires groups { IfSome options.now.groups (λ joiners. (1 ≤ joiners) × (joiners ≤ 64)) }
     requires grouped { IfSome options.now.groups (λ _. (options.now.fixed ≡ None)
         × (options.now.early ≡ false) × (options.now.replay ≡ None)) }
+    requires chained { IfSome options.now.chain (IsChained options.now) }
+    requires there { is_some planned.third ≡ is_some options.now.chain }
     ensures ends { Concludes (asked options.now) planned
         (K.written sink.old) (K.written sink.new) result }
     ensures nothing { options.now.early ≡ false → result ≡ Outcome.Memory → sink.new ≡ sink.old }
     ensures counts { result ≢ Outcome.Write → K.faults sink.new ≡ K.faults sink.old }
     ensures fails { result ≡ Outcome.Write → K.faults sink.old < K.faults sink.new }
+    ensures between { (pairs : ℕ) → result ≡ Outcome.Limit (Between pairs) → sink.new ≡ sink.old }
     ensures complete { TakesEach (K.takes sink.old) (asked options.now) planned
+        → IsFewBetween (asked options.now) planned
         → IsDone result ⊎ (result ≡ Outcome.Memory) }
     ensures left { PutsSome (K.written sink.old) (K.written sink.new)
         (K.takes sink.old) (K.takes sink.new) }

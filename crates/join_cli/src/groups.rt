@@ -9,7 +9,7 @@ ghost use Rattle.group_split.specs.Parts.{input_of_part, part as part', setting_
 ghost use Rattle.group_split.specs.Sizes.{digits as digits'};
 ghost use Rattle.join_words.specs.Words.{asked};
 ghost use Rattle.join_cli.specs.Plan.{input_of, setting_of};
-ghost use Rattle.join_cli.specs.declared.plan.Planned.{Planned as Planned'};
+ghost use Rattle.join_plan.specs.declared.fitting.Planned.{Planned as Planned'};
 ghost use Rattle.join_cli.specs.Courses.{AreRunsFrom, group_report, group_reports, groups_text};
 ghost use Rattle.join_cli.specs.Dealt.{IsDealt};
 ghost use Rattle.join_cli.specs.Ends.{IsMade, course_of};
@@ -78,7 +78,7 @@ fn report_of_group(
     Ok(text)
 }
 
-/// The reports of the groups from this one on, which have so many digits' joiners each.
+/// The reports of the groups from this one on, with these exponents.
 fn reports_from(
     alloc: Global,
     dealt: &Dealt<'_>,

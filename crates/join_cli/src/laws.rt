@@ -9,7 +9,7 @@ pub fn fixed_output_is_one()
     ensures { FixedOutputIsOne }
 {}
 
-/// Where a run of two files ended at a place past the greatest length, what `join_main` says of
+/// Where a run of files ended at a place past the greatest length, what `join_main` says of
 /// each shelf (`seen`) leaves one answer: that file is too long.
 pub fn past_is_too_long()
     ensures { PastIsTooLong }

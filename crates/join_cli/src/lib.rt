@@ -1,26 +1,22 @@
 //! The top call of `jm`: the words, two files, a predicate, the run of their join, and the output.
 #![tactic(auto)]
 
-mod columns;
+mod chain;
 mod conclude;
 mod early;
 mod entry;
 mod groups;
 mod laws;
-mod numbers;
 mod outcome;
-mod plan;
-mod predicate;
 mod program;
-mod reading;
-mod refusal;
 mod run;
 mod text;
 mod top;
 
 pub use entry::{Ended, command_words, jm_program};
+pub use join_plan::{InputFault, LimitFault, TextFault};
 pub use join_words::WordsFault;
 pub use laws::{fixed_output_is_one, past_is_too_long};
-pub use outcome::{InputFault, Journals, LimitFault, Outcome, TextFault};
+pub use outcome::{Journals, Outcome};
 pub use program::{exit_code, jm_main, tell};
 pub use top::join_main;

@@ -28,7 +28,7 @@ pub fn exit_code(outcome: &Outcome) -> ExitCode
 pub fn tell<E: Sink>(alloc: Global, outcome: &Outcome, errors: &mut E)
     ensures { IsDone outcome.now → errors.new ≡ errors.old }
 {
-    if let Outcome::Done { .. } | Outcome::DoneGroups { .. } = outcome {
+    if let Outcome::Done { .. } | Outcome::DoneGroups { .. } | Outcome::DoneChain { .. } = outcome {
         return;
     }
     if let Ok(line) = format!(in alloc; "{outcome}\n") {

@@ -1,21 +1,28 @@
 // The output of two tables and a predicate.
 
-ghost use Rattle.std.specs.Prelude.{◌≡◌, ◌<◌, ◌≤◌, ◌^◌, All, IfOk, IfSome, None, false, string_bytes};
+ghost use Rattle.std.specs.Prelude.{◌≡◌, ◌<◌, ◌≤◌, ◌^◌, All, IfErr, IfOk, IfSome, None};
+ghost use Rattle.std.specs.Prelude.{false, is_some, length, string_bytes};
 ghost use Rattle.trace_law.specs.Validity.{IsValidInput, IsValidSetting};
 ghost use Rattle.join_words.specs.Words.{asked};
 ghost use Rattle.trace_law.specs.Family.{first_rest};
 ghost use Rattle.trace_law.specs.Runs.{IsRunOf};
 ghost use Rattle.trace_law.specs.Join.{nested_loop};
-ghost use Rattle.join_cli.specs.Plan.{IsFit, answer_of, input_of, report_asked};
-ghost use Rattle.join_cli.specs.Plan.{setting_of, text_of, tickets_of};
-ghost use Rattle.join_cli.specs.declared.plan.Planned.{Planned as Planned'};
+ghost use Rattle.chain_join.specs.Chains.{tickets_of};
+ghost use Rattle.join_rows.specs.Records.{IsTable};
+ghost use Rattle.join_plan.specs.declared.fitting.Planned.{Planned as Planned'};
+ghost use Rattle.join_cli.specs.Plan.{answer_of, bare_report_of, input_of, input_with, report_asked};
+ghost use Rattle.join_cli.specs.Plan.{setting_of, text_of};
+ghost use Rattle.join_report.specs.Report.{AreWithin};
 ghost use Rattle.join_cli.specs.Courses.{IsReplayed, IsRunInThreads, WentAs};
-ghost use Rattle.join_cli.specs.Ends.{IsMade, course_of};
+ghost use Rattle.join_plan.specs.Plan.{IsFit};
+ghost use Rattle.join_cli.specs.Chain.{IsThirdOver};
+ghost use Rattle.join_cli.specs.Ends.{IsHalted, IsMade, course_of};
 
+use crate::chain::chain_output;
 use crate::groups::groups_output;
 use crate::outcome::Outcome;
-use crate::plan::Planned;
 use epoch_tags::Pair;
+use join_plan::{Planned, Tables, Third};
 use join_report::{pairs_text, report_text, rows_text, summary_text};
 use join_rows::{Bytes, Side, Table};
 use join_runtime::{Told, Trail, run};
@@ -25,6 +32,7 @@ use row_tickets::tickets;
 use std::alloc::{AllocError, Global};
 use std::sync::Wait;
 use std::thread::Threads;
+use theta_pred::Theta;
 use worker_gate::Gate;
 
 /// The text of an output, and the outcome where it is written whole: how its run went.
@@ -68,20 +76,28 @@ fn drawn(alloc: Global, seed: u64, side: Side, table: &Table) -> Result<Bytes, A
     Ok(drawn)
 }
 
-/// What is joined, with the tickets of a seed.
-pub(crate) fn input(alloc: Global, seed: u64, planned: Planned) -> Result<Input, AllocError>
-    requires { IsFit planned }
-    ensures is { IfOk result (λ input. input ≡ input_of seed planned) }
+/// Tables and a predicate, with the tickets of a seed.
+pub(crate) fn input(
+    alloc: Global,
+    seed: u64,
+    tables: Tables,
+    theta: Theta,
+) -> Result<Input, AllocError>
+    requires table_r { IsTable tables.of_r }
+    requires table_s { IsTable tables.of_s }
+    requires width_r { theta.width_r ≡ length tables.of_r.names }
+    requires width_s { theta.width_s ≡ length tables.of_s.names }
+    ensures is { IfOk result (λ input. input ≡ input_with seed tables theta) }
     ensures valid { IfOk result IsValidInput }
 {
-    let table_r = planned.tables.of_r;
-    let table_s = planned.tables.of_s;
+    let table_r = tables.of_r;
+    let table_s = tables.of_s;
     let tickets_r = drawn(alloc, seed, Side::R, &table_r)?;
     let tickets_s = drawn(alloc, seed, Side::S, &table_s)?;
     Ok(Input {
         table_r,
         table_s,
-        theta: planned.theta,
+        theta,
         tickets_r,
         tickets_s,
     })
@@ -115,6 +131,28 @@ pub(crate) fn answer(
     }
 }
 
+/// The report of a run over so many rows a side where it is asked for, and else no bytes.
+pub(crate) fn bare_report(
+    alloc: Global,
+    options: &Options<'_>,
+    setting: &Setting,
+    rows_r: u64,
+    rows_s: u64,
+    run: &Run,
+) -> Result<Bytes, AllocError>
+    requires setting { IsValidSetting setting.now }
+    requires shifts { AreWithin setting.now.k run.now.journal }
+    requires steps { length run.now.moved < 2 ^ 32 }
+    requires rows_r { rows_r ≤ 2 ^ 18 }
+    requires rows_s { rows_s ≤ 2 ^ 18 }
+    ensures { IfOk result (λ lines. lines ≡ bare_report_of options.now.report setting.now rows_r rows_s run.now) }
+{
+    if !options.report {
+        return Ok(Bytes::new(alloc));
+    }
+    Ok(bytes_of(report_text(alloc, setting, rows_r, rows_s, run)?))
+}
+
 /// The report where one is asked for, and else no bytes.
 pub(crate) fn report(
     alloc: Global,
@@ -130,12 +168,9 @@ pub(crate) fn report(
     ensures { IfOk result
         (λ lines. lines ≡ report_asked options.now.report input.now setting.now run.now.journal) }
 {
-    if !options.report {
-        return Ok(Bytes::new(alloc));
-    }
     let rows_r = input.table_r.rows.len();
     let rows_s = input.table_s.rows.len();
-    Ok(bytes_of(report_text(alloc, setting, rows_r, rows_s, run)?))
+    bare_report(alloc, options, setting, rows_r, rows_s, run)
 }
 
 /// The text of the pairs, and then the report where one is asked for.
@@ -247,6 +282,7 @@ fn grid_output<R: Threads + Wait + Sync, G: Gate>(
     requires setting { IsValidSetting setting.now }
     requires is { setting.now ≡ setting_of (asked options.now) }
     requires single { options.now.groups ≡ None }
+    requires whole { options.now.chain ≡ None }
     ensures { IfOk result
         (λ joined. (planned : Planned') → input.now ≡ input_of options.now.seed planned
         → IsMade (asked options.now) planned joined.text (course_of joined.done)) }
@@ -277,6 +313,7 @@ fn output_over<R: Threads + Wait + Sync, G: Gate>(
     requires groups { IfSome options.now.groups (λ joiners. (1 ≤ joiners) × (joiners ≤ 64)) }
     requires grouped { IfSome options.now.groups (λ _. (options.now.fixed ≡ None)
         × (options.now.early ≡ false) × (options.now.replay ≡ None)) }
+    requires whole { options.now.chain ≡ None }
     ensures { IfOk result
         (λ joined. (planned : Planned') → input.now ≡ input_of options.now.seed planned
         → IsMade (asked options.now) planned joined.text (course_of joined.done)) }
@@ -287,23 +324,62 @@ fn output_over<R: Threads + Wait + Sync, G: Gate>(
     }
 }
 
-/// The output that the options ask for of a plan.
+/// The output that the options ask for of two tables' input, or of a second join behind it, or why there is none.
+fn output_with<R: Threads + Wait + Sync, G: Gate>(
+    rt: &R,
+    alloc: Global,
+    options: &Options<'_>,
+    input: &Input,
+    third: Option<Third>,
+    setting: &Setting,
+    gate: &G,
+) -> Result<Joined, Outcome>
+    requires input { IsValidInput input.now }
+    requires setting { IsValidSetting setting.now }
+    requires is { setting.now ≡ setting_of (asked options.now) }
+    requires third { IfSome third (IsThirdOver input.now) }
+    requires groups { IfSome options.now.groups (λ joiners. (1 ≤ joiners) × (joiners ≤ 64)) }
+    requires grouped { IfSome options.now.groups (λ _. (options.now.fixed ≡ None)
+        × (options.now.early ≡ false) × (options.now.replay ≡ None)) }
+    requires there { is_some third ≡ is_some options.now.chain }
+    ensures made { IfOk result
+        (λ joined. (planned : Planned') → input.now ≡ input_of options.now.seed planned
+        → planned.third ≡ third
+        → IsMade (asked options.now) planned joined.text (course_of joined.done)) }
+    ensures halted { IfErr result
+        (λ outcome. (planned : Planned') → input.now ≡ input_of options.now.seed planned
+        → planned.third ≡ third → IsHalted (asked options.now) planned outcome) }
+{
+    match third {
+        Some(third) => chain_output(rt, alloc, options, input, third, setting, gate),
+        None => match output_over(rt, alloc, options, input, setting, gate) {
+            Ok(joined) => Ok(joined),
+            Err(AllocError) => Err(Outcome::Memory),
+        },
+    }
+}
+
+/// The output that the options ask for of a plan, or why there is none.
 pub(crate) fn output<R: Threads + Wait + Sync, G: Gate>(
     rt: &R,
     alloc: Global,
     options: &Options<'_>,
     planned: Planned,
     gate: &G,
-) -> Result<Joined, AllocError>
+) -> Result<Joined, Outcome>
     requires fit { IsFit planned }
     requires setting { IsValidSetting (setting_of (asked options.now)) }
     requires groups { IfSome options.now.groups (λ joiners. (1 ≤ joiners) × (joiners ≤ 64)) }
     requires grouped { IfSome options.now.groups (λ _. (options.now.fixed ≡ None)
         × (options.now.early ≡ false) × (options.now.replay ≡ None)) }
-    ensures { IfOk result
+    requires there { is_some planned.third ≡ is_some options.now.chain }
+    ensures made { IfOk result
         (λ joined. IsMade (asked options.now) planned joined.text (course_of joined.done)) }
+    ensures halted { IfErr result (IsHalted (asked options.now) planned) }
 {
     let setting = setting(options);
-    let input = input(alloc, options.seed, planned)?;
-    output_over(rt, alloc, options, &input, &setting, gate)
+    match input(alloc, options.seed, planned.tables, planned.theta) {
+        Ok(input) => output_with(rt, alloc, options, &input, planned.third, &setting, gate),
+        Err(AllocError) => Err(Outcome::Memory),
+    }
 }

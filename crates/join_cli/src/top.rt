@@ -7,14 +7,15 @@ ghost use Rattle.trace_law.specs.Validity.{IsValidSetting};
 ghost use Rattle.join_words.specs.Words.{asked};
 ghost use Rattle.join_words.specs.declared.options.WordsFault.{WordsFault};
 ghost use Rattle.join_cli.specs.Plan.{setting_of};
+ghost use Rattle.join_cli.specs.Requests.{IsChained};
 ghost use Rattle.join_cli.specs.Courses.{Course};
 ghost use Rattle.join_cli.specs.Ends.{Wrote, WroteFront, course_of};
 ghost use Rattle.join_cli.specs.Programs.{WroteOver};
 ghost use Rattle.join_cli.specs.Promises.{Answers, Causes, Leaves, Promises};
 
 use crate::conclude::conclude;
-use crate::outcome::Outcome;
-use crate::plan::prepare;
+use crate::outcome::{Outcome, refused};
+use join_plan::prepare;
 use join_rows::{Shelf, Sink};
 use join_words::{Options, WordsError, read_words};
 use std::alloc::Global;
@@ -40,6 +41,7 @@ fn join_files<R: Threads + Wait + Sync, H: Shelf, K: Sink, G: Gate>(
     requires groups { IfSome options.now.groups (λ joiners. (1 ≤ joiners) × (joiners ≤ 64)) }
     requires grouped { IfSome options.now.groups (λ _. (options.now.fixed ≡ None)
         × (options.now.early ≡ false) × (options.now.replay ≡ None)) }
+    requires chained { IfSome options.now.chain (IsChained options.now) }
     ensures words { (fault : WordsFault) → result ≢ Outcome.Words fault }
     ensures answers { Answers H.Shelf K.Sink (asked options.now)
         shelf.old shelf.new sink.old sink.new result }
@@ -55,13 +57,14 @@ fn join_files<R: Threads + Wait + Sync, H: Shelf, K: Sink, G: Gate>(
 {
     match prepare(alloc, options, shelf) {
         Ok(planned) => conclude(rt, alloc, options, planned, sink, gate),
-        Err(refusal) => refusal,
+        Err(refusal) => refused(refusal),
     }
 }
 
 /// Runs `jm` with these words, the program's name first. The first of these that applies is
-/// answered: the words, the text of the predicate, the file of R, the file of S, the columns, the
-/// numbers of R and then of S; then the join is run and its output made whole, and then it is
+/// answered: the words, the text of the predicate, that of the second, the file of R, the file of S, the third,
+/// the columns, those of the second predicate, the numbers of R and then of S, those of the second predicate;
+/// then the join is run, and the second behind it, and the output made whole, and then it is
 /// written. Early output is written while the join is run. Memory may run out at each of them. The
 /// run is one in as many threads as there are workers, whose seats pass the gate at each turn, or a
 /// replay in one thread; where joiners form groups there is such a run for each. What it promises holds if it returns.

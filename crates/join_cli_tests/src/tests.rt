@@ -9,6 +9,8 @@ use std::thread::Threads;
 use worker_gate::{Gate, NoGate};
 
 mod calls;
+mod chain;
+mod chain_faults;
 mod early;
 mod extremes;
 mod faults;

@@ -1,47 +1,67 @@
-use Rattle.std.proofs.Common.{inl, refl, subst}
+use Rattle.std.proofs.Common.{inl, subst}
 use Rattle.join_words.specs.Words.{asked}
 use Rattle.join_cli.specs.Ends.{IsMade, course_of}
-use Rattle.join_cli.proofs.EarlyOutput.{whole_lines, whole_stopped, whole_written}
-use Rattle.join_cli.proofs.Ends.{made_done, takes_made}
+use Rattle.join_cli.proofs.EarlyOutput.{whole_stopped, whole_written}
+use Rattle.join_cli.proofs.Ends.{halted_concludes, halted_few, halted_no_write, made_done, takes_made}
 use Rattle.join_report.proofs.Puts.{PutsSome-front, PutsSome-refl}
 use Rattle.join_cli.proofs.conclude.conclude_whole.Goals as goal
 
+-- ---- no text was made
+
 pub returns-in-Err-clause-ends : goal.returns-in-Err-clause-ends
-returns-in-Err-clause-ends g c = whole_lines (asked c.args.options.now) c.args.planned (g.K.Sink.written c.args.sink.now) (g.K.Sink.written c.args.sink.now) c.requires.whole refl
+returns-in-Err-clause-ends g c =
+    halted_concludes (asked c.args.options.now) c.args.planned (g.K.Sink.written c.args.sink.now) c.in-Err.outcome c.requires.whole
+    c.in-Err.ensures.halted
+
+pub returns-in-Err-clause-fails : goal.returns-in-Err-clause-fails
+returns-in-Err-clause-fails g c is =
+    absurd (halted_no_write (asked c.args.options.now) c.args.planned c.in-Err.outcome c.in-Err.ensures.halted is)
+
+pub returns-in-Err-clause-complete : goal.returns-in-Err-clause-complete
+returns-in-Err-clause-complete g c takes few =
+    halted_few (asked c.args.options.now) c.args.planned c.in-Err.outcome c.in-Err.ensures.halted few
+
+pub returns-in-Err-clause-left : goal.returns-in-Err-clause-left
+returns-in-Err-clause-left g c = PutsSome-refl (g.K.Sink.written c.args.sink.now) (g.K.Sink.takes c.args.sink.now)
+
+-- ---- it was made and written
 
 pub returns-in-Ok-put_all-clause-ends : goal.returns-in-Ok-put_all-clause-ends
 returns-in-Ok-put_all-clause-ends g c =
     whole_written (asked c.args.options.now) c.args.planned c.as_slice.result.now (g.K.Sink.written c.args.sink.now)
     (g.K.Sink.written c.put_all.new.sink) c.in-Ok.joined.done (course_of c.in-Ok.joined.done) c.requires.whole
-    (rw c.as_slice.ensures c.in-Ok.ensures) c.in-Ok-put_all.ensures.written
+    (rw c.as_slice.ensures c.in-Ok.ensures.made) c.in-Ok-put_all.ensures.written
 
 -- what was made is no refusal
 pub returns-in-Ok-put_all-clause-nothing : goal.returns-in-Ok-put_all-clause-nothing
 returns-in-Ok-put_all-clause-nothing g c is =
-    absurd (subst (λ o. IsMade (asked c.args.options.now) c.args.planned c.in-Ok.joined.text (course_of o)) is c.in-Ok.ensures)
+    absurd (subst (λ o. IsMade (asked c.args.options.now) c.args.planned c.in-Ok.joined.text (course_of o)) is c.in-Ok.ensures.made)
+
+pub returns-in-Ok-put_all-clause-between : goal.returns-in-Ok-put_all-clause-between
+returns-in-Ok-put_all-clause-between g c pairs is =
+    absurd (subst (λ o. IsMade (asked c.args.options.now) c.args.planned c.in-Ok.joined.text (course_of o)) is c.in-Ok.ensures.made)
 
 pub returns-in-Ok-put_all-clause-fails : goal.returns-in-Ok-put_all-clause-fails
 returns-in-Ok-put_all-clause-fails g c is =
-    absurd (subst (λ o. IsMade (asked c.args.options.now) c.args.planned c.in-Ok.joined.text (course_of o)) is c.in-Ok.ensures)
+    absurd (subst (λ o. IsMade (asked c.args.options.now) c.args.planned c.in-Ok.joined.text (course_of o)) is c.in-Ok.ensures.made)
 
 pub returns-in-Ok-put_all-clause-complete : goal.returns-in-Ok-put_all-clause-complete
-returns-in-Ok-put_all-clause-complete g c takes =
-    inl (made_done (asked c.args.options.now) c.args.planned c.in-Ok.joined.text (course_of c.in-Ok.joined.done) c.in-Ok.ensures)
+returns-in-Ok-put_all-clause-complete g c takes few =
+    inl (made_done (asked c.args.options.now) c.args.planned c.in-Ok.joined.text (course_of c.in-Ok.joined.done) c.in-Ok.ensures.made)
+
+-- ---- a put failed
 
 pub returns-clause-ends : goal.returns-clause-ends
 returns-clause-ends g c =
     whole_stopped (asked c.args.options.now) c.args.planned c.as_slice.result.now (g.K.Sink.written c.args.sink.now)
     (g.K.Sink.written c.put_all.new.sink) (course_of c.in-Ok.joined.done) c.requires.whole
-    (rw c.as_slice.ensures c.in-Ok.ensures) c.in-Err-put_all.ensures.front
+    (rw c.as_slice.ensures c.in-Ok.ensures.made) c.in-Err-put_all.ensures.front
 
 pub returns-clause-complete : goal.returns-clause-complete
-returns-clause-complete g c takes =
+returns-clause-complete g c takes few =
     absurd (cc (c.in-Err-put_all.ensures.takes 0
     (takes_made (g.K.Sink.takes c.args.sink.now) (asked c.args.options.now) c.args.planned c.as_slice.result.now
-    (course_of c.in-Ok.joined.done) (rw c.as_slice.ensures c.in-Ok.ensures) takes)).0)
-
-pub returns-in-Err-clause-left : goal.returns-in-Err-clause-left
-returns-in-Err-clause-left g c = PutsSome-refl (g.K.Sink.written c.args.sink.now) (g.K.Sink.takes c.args.sink.now)
+    (course_of c.in-Ok.joined.done) (rw c.as_slice.ensures c.in-Ok.ensures.made) takes)).0)
 
 pub returns-clause-left : goal.returns-clause-left
 returns-clause-left g c =

@@ -1,0 +1,147 @@
+-- The output of a second join is what the definitions say.
+use Rattle.std.proofs.Common.{◌≡◌, ◌∙◌, ◌≤◌, ◌++◌, ◌^◌, ℕ, Bool, true, false, List, [], ◌∷◌, length, arith, Option, None, Some, refl, sym, ap, subst}
+use Rattle.std.specs.Prelude.{All, IfSome, is_some}
+use Rattle.std.proofs.lemmas.List.{length-map}
+use Rattle.join_rows.specs.declared.table.Side.TheVariants.{R}
+use Rattle.trace_law.specs.declared.input.Input.{Input}
+use Rattle.trace_law.specs.declared.setting.Setting.{Setting}
+use Rattle.trace_law.specs.Join.{nested_loop, row_count}
+use Rattle.trace_law.specs.Validity.{IsValidInput, IsValidSetting}
+use Rattle.trace_law.proofs.First.{all_pairs}
+use Rattle.join_runtime.specs.Endings.{EndsView}
+use Rattle.load_controller.specs.declared.line.TurnLine.{TurnLine}
+use Rattle.chain_join.specs.declared.chain.ChainRun.{ChainRun}
+use Rattle.chain_join.specs.declared.second.Third.{Third as ChainThird}
+use Rattle.chain_join.specs.Chains.{IsToldOf, IsWide, joined_row, nested3, second_input}
+use Rattle.join_words.specs.Words.{Asked}
+use Rattle.join_words.specs.declared.options.Chain.{Chain}
+use Rattle.join_plan.specs.declared.fitting.Planned.{Planned}
+use Rattle.join_plan.specs.declared.fitting.Third.{Third}
+use Rattle.join_plan.specs.Plan.{IsFit, IsThirdFit}
+use Rattle.join_cli.specs.declared.outcome.Outcome.{Outcome}
+use Rattle.join_cli.specs.declared.outcome.Outcome.TheVariants as outcomes
+use Rattle.join_plan.specs.declared.fault.LimitFault.TheVariants.{Between, TooLong, TooMany}
+use Rattle.join_cli.specs.Chain.{IsChainOver, IsStopped, IsThirdOver, bare_text, chain_text, third_of, triple_lines}
+use Rattle.join_cli.specs.Courses.{by_chain}
+use Rattle.join_cli.specs.Ends.{IsHalted, IsMade}
+use Rattle.join_cli.specs.Plan.{bare_report_of, input_of, report_asked, setting_of}
+use Rattle.join_cli.proofs.Inputs.{journal_over}
+use Rattle.join_cli.proofs.Reports.{report_is}
+
+-- where there is no third table no second join is asked for
+pub none_asked : (third : Option Third) (chain : Option Chain) → third ≡ None → is_some third ≡ is_some chain → chain ≡ None
+none_asked third None none same = refl
+none_asked third (Some chain) none same = cc (sym (ap is_some none) ∙ same)
+
+-- a third table that fits the tables fits their input
+pub third_over : (seed : ℕ) (planned : Planned) (input : Input) → input ≡ input_of seed planned → IsFit planned
+    → IfSome planned.third (IsThirdOver input)
+third_over seed planned input is fit = subst (λ i. IfSome planned.third (IsThirdOver i)) (sym is) (by planned.third fit.third)
+  where
+    by : (third : Option Third) → IfSome third (IsThirdFit planned.tables) → IfSome third (IsThirdOver (input_of seed planned))
+    by None fits = tt
+    by (Some third) fits = record { table = fits.table; width_r = fits.width_r; width_s = fits.width_s }
+
+-- it is as wide as its predicate says
+pub third_wide : (input : Input) (third : Third) → IsThirdOver input third → IsWide third.table third.theta.width_s
+third_wide input third over = record {
+  header = sym over.width_s;
+  rows = subst (λ w. All (λ row. length row ≡ w) third.table.rows) (sym over.width_s) over.table.wide;
+}
+
+-- ---- the two runs
+
+module _ (input : Input) (third : ChainThird) (seed : ℕ) (setting : Setting) (run : ChainRun) where
+  -- what the second joins
+  abbrev second : Input
+  second = second_input input third seed
+
+  -- so many rows as the first has pairs, and those of the third table
+  rows_joined : IsToldOf input setting run.first → length run.first.run.pairs ≡ row_count second R
+  rows_joined told =
+      ap length (told.run.pairs ∙ all_pairs input setting) ∙ sym (length-map (nested_loop input) (joined_row input))
+
+  -- the first has few pairs
+  pub few_pairs : IsToldOf input setting run.first → length (nested_loop input) ≤ 2 ^ 18 → length run.first.run.pairs ≤ 2 ^ 18
+  few_pairs told few =
+      let same : length run.first.run.pairs ≡ length (nested_loop input) = ap length (told.run.pairs ∙ all_pairs input setting) in
+      omega (arith, same, few)
+
+  -- the report of the second is the one over its journal
+  second_report : (report : Bool) → IsToldOf input setting run.first → IsToldOf second setting run.second
+      → bare_report_of report setting (length run.first.run.pairs) (length third.table.rows) run.second.run
+      ≡ report_asked report second setting run.second.run.journal
+  second_report false first told = refl
+  second_report true first told =
+      report_is second setting run.second.run (length run.first.run.pairs) (length third.table.rows) told.run
+      (rows_joined first) refl
+
+  -- so the text is that of the definitions
+  pub text_is : (report : Bool) (rows : ℕ) → rows ≡ length third.table.rows
+      → IsToldOf input setting run.first → IsToldOf second setting run.second → run.triples ≡ nested3 input third
+      → bare_text report input setting rows run
+      ≡ chain_text report input third seed setting run.first.run.journal run.second.run.journal
+  text_is report rows rows_are first told triples =
+      let middle = report_asked report input setting run.first.run.journal in
+      ap (λ n. triple_lines run.triples ++ middle ++ bare_report_of report setting (length run.first.run.pairs) n run.second.run) rows_are
+      ∙ ap (λ lines. triple_lines run.triples ++ middle ++ lines) (second_report report first told)
+      ∙ ap (λ ts. triple_lines ts ++ middle ++ report_asked report second setting run.second.run.journal) triples
+
+  -- and the runs are a chain's
+  pub chain_is : (trail : List EndsView) → IsValidInput input → IsValidSetting setting → IsValidInput second
+      → IsToldOf input setting run.first → IsToldOf second setting run.second → length (nested_loop input) ≤ 2 ^ 18
+      → trail ≡ run.first.ends ∷ run.second.ends ∷ []
+      → IsChainOver input third seed setting run.first.run.journal run.second.run.journal trail
+  chain_is trail of_input of_setting of_second first told few only = record {
+    few = few;
+    lawful_first = journal_over input setting run.first.run of_input of_setting first.run;
+    lawful_second = journal_over second setting run.second.run of_second of_setting told.run;
+    ends_first = run.first.ends;
+    family_first = first.family;
+    ends_second = run.second.ends;
+    family_second = told.family;
+    only = only;
+  }
+
+-- ---- what is asked for
+
+-- the output over a chain's runs is the one that is asked for
+pub chain_made : (asked : Asked) (planned : Planned) (input : Input) (setting : Setting) (third : Third) (text : List ℕ)
+    (first second : List TurnLine) (trail : List EndsView)
+    → input ≡ input_of asked.seed planned → setting ≡ setting_of asked → planned.third ≡ Some third
+    → IsChainOver input (third_of third) asked.seed setting first second trail
+    → text ≡ chain_text asked.report input (third_of third) asked.seed setting first second
+    → IsMade asked planned text (Some (by_chain first second trail))
+chain_made asked planned input setting third text first second trail input_is setting_is third_is over text_is = (
+  record {
+    third = third;
+    chained = third_is;
+    over = subst (λ i. IsChainOver i (third_of third) asked.seed (setting_of asked) first second trail) input_is
+        (subst (λ s. IsChainOver input (third_of third) asked.seed s first second trail) setting_is over);
+  },
+  text_is
+      ∙ ap (λ i. chain_text asked.report i (third_of third) asked.seed setting first second) input_is
+      ∙ ap (λ s. chain_text asked.report (input_of asked.seed planned) (third_of third) asked.seed s first second) setting_is
+      ∙ rw third_is refl,
+)
+
+-- and why there is none is so of what is asked for
+pub chain_halted : (asked : Asked) (planned : Planned) (input : Input) (third : Third) (outcome : Outcome)
+    → input ≡ input_of asked.seed planned → planned.third ≡ Some third → IsStopped input outcome → IsHalted asked planned outcome
+chain_halted asked planned input third outcomes.Memory input_is third_is stopped = tt
+chain_halted asked planned input third (outcomes.Limit (Between pairs)) input_is third_is stopped = record {
+  chained = ap is_some third_is;
+  are = stopped.0 ∙ ap (λ i. length (nested_loop i)) input_is;
+  many = stopped.1;
+}
+chain_halted asked planned input third (outcomes.Limit (TooLong side wave)) input_is third_is stopped = elim stopped [ ]
+chain_halted asked planned input third (outcomes.Limit (TooMany side wave)) input_is third_is stopped = elim stopped [ ]
+chain_halted asked planned input third (outcomes.Done _ _) input_is third_is stopped = elim stopped [ ]
+chain_halted asked planned input third (outcomes.DoneGroups _ _) input_is third_is stopped = elim stopped [ ]
+chain_halted asked planned input third (outcomes.DoneChain _ _ _) input_is third_is stopped = elim stopped [ ]
+chain_halted asked planned input third (outcomes.Words _) input_is third_is stopped = elim stopped [ ]
+chain_halted asked planned input third (outcomes.Predicate _) input_is third_is stopped = elim stopped [ ]
+chain_halted asked planned input third (outcomes.Then _) input_is third_is stopped = elim stopped [ ]
+chain_halted asked planned input third (outcomes.Input _) input_is third_is stopped = elim stopped [ ]
+chain_halted asked planned input third outcomes.Read input_is third_is stopped = elim stopped [ ]
+chain_halted asked planned input third outcomes.Write input_is third_is stopped = elim stopped [ ]

@@ -1,8 +1,0 @@
-use Rattle.join_cli.proofs.Bad.{no_fault, first_fault}
-use Rattle.join_cli.proofs.numbers.column_fault.Goals as goal
-
-pub returns-in-Ok : goal.returns-in-Ok
-returns-in-Ok c = no_fault c.args.side c.args.column c.args.table.now.rows c.in-Ok.ensures.ok
-
-pub returns-in-Err : goal.returns-in-Err
-returns-in-Err c = first_fault c.args.side c.args.column c.args.table.now.rows c.in-Err.bad.row c.in-Err.ensures.first

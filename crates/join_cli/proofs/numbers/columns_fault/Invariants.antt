@@ -1,6 +1,0 @@
-use Rattle.std.proofs.Common.{◌≡◌, drop}
-use Rattle.join_cli.specs.Numbers.{number_fault}
-use Rattle.join_cli.proofs.numbers.columns_fault.Given as goal
-
-abbrev pub invariant-loop-column : goal.invariant-loop-column
-invariant-loop-column l = number_fault l.side l.table.rows (drop l.column-index l.columns) ≡ number_fault l.side l.table.rows l.columns

@@ -1,0 +1,215 @@
+// The output of a second join, of the joined rows with a third table.
+
+ghost use Rattle.std.specs.Prelude.{◌≡◌, ◌++◌, ◌<◌, ◌≤◌, ◌^◌, Some, IfErr, IfOk, OnOk};
+ghost use Rattle.std.specs.Prelude.{[], ◌∷◌, length, string_bytes};
+ghost use Rattle.trace_law.specs.Validity.{IsValidInput, IsValidSetting};
+ghost use Rattle.join_report.specs.Report.{AreWithin};
+ghost use Rattle.chain_join.specs.Chains.{IsToldOf};
+ghost use Rattle.join_words.specs.Words.{asked};
+ghost use Rattle.join_plan.specs.declared.fitting.Planned.{Planned as Planned'};
+ghost use Rattle.join_cli.specs.Chain.{IsChainOver, IsStopped, IsThirdOver, bare_text, chain_text};
+ghost use Rattle.join_cli.specs.Chain.{third_of, triple_line, triple_lines};
+ghost use Rattle.join_cli.specs.Ends.{IsHalted, IsMade, course_of};
+ghost use Rattle.join_cli.specs.Plan.{input_of, setting_of};
+
+use crate::outcome::Outcome;
+use crate::run::{Joined, bare_report, bytes_of, report};
+use chain_join::{ChainFault, ChainRun, Triple, run_chain};
+use join_plan::{LimitFault, Third};
+use join_rows::Bytes;
+use join_runtime::{Ends, Told, Trail};
+use join_words::Options;
+use link_trace::{Input, Setting};
+use load_controller::Journal;
+use std::alloc::{AllocError, Global};
+use std::sync::Wait;
+use std::thread::Threads;
+use worker_gate::Gate;
+
+/// Adds the line of a triple.
+fn write_triple(text: &mut String, triple: Triple) -> Result<(), AllocError>
+    ensures { OnOk result (string_bytes text.new ≡ string_bytes text.old ++ triple_line triple) }
+{
+    let i = u64::from(triple.i) + 1;
+    let j = u64::from(triple.j) + 1;
+    let l = u64::from(triple.l) + 1;
+    write!(text, "{i},{j},{l}\n")
+}
+
+/// A line for each triple, in their order: the numbers of its rows, counted from 1.
+fn triples_text(alloc: Global, triples: &[Triple]) -> Result<String, AllocError>
+    ensures { IfOk result (λ text. string_bytes text ≡ triple_lines triples.now) }
+{
+    let mut text = String::new(alloc);
+    for triple in triples {
+        write_triple(&mut text, *triple)?;
+    }
+    Ok(text)
+}
+
+/// The text of a chain's output, the journals of its two runs, and what their seats left.
+#[derive(Drop)]
+struct Chained {
+    text: Bytes,
+    first: Journal,
+    second: Journal,
+    trail: Trail,
+}
+
+/// The lines of all triples, and then the reports of both runs where they are asked for: the second over as many
+/// joined rows as the first has pairs, and over so many rows of the third table.
+fn text_of_chain(
+    alloc: Global,
+    options: &Options<'_>,
+    input: &Input,
+    setting: &Setting,
+    run: &ChainRun,
+    rows: u64,
+) -> Result<Bytes, AllocError>
+    requires input { IsValidInput input.now }
+    requires setting { IsValidSetting setting.now }
+    requires first { IsToldOf input.now setting.now run.now.first }
+    requires shifts { AreWithin setting.now.k run.now.second.run.journal }
+    requires steps { length run.now.second.run.moved < 2 ^ 32 }
+    requires joined { length run.now.first.run.pairs ≤ 2 ^ 18 }
+    requires rows { rows ≤ 2 ^ 18 }
+    ensures { IfOk result
+        (λ text. text ≡ bare_text options.now.report input.now setting.now rows run.now) }
+{
+    let mut text = bytes_of(triples_text(alloc, run.triples.as_slice())?);
+    let first = report(alloc, options, input, setting, &run.first.run)?;
+    text.append(first.as_slice())?;
+    let joined = run.first.run.pairs.len();
+    let second = bare_report(alloc, options, setting, joined, rows, &run.second.run)?;
+    text.append(second.as_slice())?;
+    Ok(text)
+}
+
+/// A trail of the ends of two runs.
+fn trail_of_both(alloc: Global, first: Ends, second: Ends) -> Result<Trail, AllocError>
+    ensures { IfOk result (λ trail. trail ≡ first ∷ second ∷ []) }
+{
+    let mut trail = Trail::new(alloc);
+    trail.push(first)?;
+    trail.push(second)?;
+    Ok(trail)
+}
+
+/// A chain's journals and trail, beside this text.
+fn with_text(alloc: Global, text: Bytes, run: ChainRun) -> Result<Chained, AllocError>
+    ensures text { IfOk result (λ chained. chained.text ≡ text) }
+    ensures first { IfOk result (λ chained. chained.first ≡ run.first.run.journal) }
+    ensures second { IfOk result (λ chained. chained.second ≡ run.second.run.journal) }
+    ensures trail { IfOk result (λ chained. chained.trail ≡ run.first.ends ∷ run.second.ends ∷ []) }
+{
+    let Told {
+        run: first,
+        ends: ends_first,
+    } = run.first;
+    let Told {
+        run: second,
+        ends: ends_second,
+    } = run.second;
+    let trail = trail_of_both(alloc, ends_first, ends_second)?;
+    Ok(Chained {
+        text,
+        first: first.journal,
+        second: second.journal,
+        trail,
+    })
+}
+
+/// What a chain's runs come to.
+fn chained_of(
+    alloc: Global,
+    options: &Options<'_>,
+    input: &Input,
+    setting: &Setting,
+    run: ChainRun,
+    rows: u64,
+) -> Result<Chained, AllocError>
+    requires input { IsValidInput input.now }
+    requires setting { IsValidSetting setting.now }
+    requires first { IsToldOf input.now setting.now run.first }
+    requires shifts { AreWithin setting.now.k run.second.run.journal }
+    requires steps { length run.second.run.moved < 2 ^ 32 }
+    requires joined { length run.first.run.pairs ≤ 2 ^ 18 }
+    requires rows { rows ≤ 2 ^ 18 }
+    ensures text { IfOk result (λ chained.
+        chained.text ≡ bare_text options.now.report input.now setting.now rows run) }
+    ensures first { IfOk result (λ chained. chained.first ≡ run.first.run.journal) }
+    ensures second { IfOk result (λ chained. chained.second ≡ run.second.run.journal) }
+    ensures trail { IfOk result (λ chained. chained.trail ≡ run.first.ends ∷ run.second.ends ∷ []) }
+{
+    let text = text_of_chain(alloc, options, input, setting, &run, rows)?;
+    with_text(alloc, text, run)
+}
+
+/// The two runs of a chain over this input and a third table, and the text of its output, or why there is none.
+fn run_both<R: Threads + Wait + Sync, G: Gate>(
+    rt: &R,
+    alloc: Global,
+    options: &Options<'_>,
+    input: &Input,
+    third: Third,
+    setting: &Setting,
+    gate: &G,
+) -> Result<Chained, Outcome>
+    requires input { IsValidInput input.now }
+    requires setting { IsValidSetting setting.now }
+    requires third { IsThirdOver input.now third }
+    ensures over { IfOk result (λ chained. IsChainOver input.now (third_of third)
+        options.now.seed setting.now chained.first chained.second chained.trail) }
+    ensures text { IfOk result (λ chained. chained.text ≡ chain_text options.now.report
+        input.now (third_of third) options.now.seed setting.now chained.first chained.second) }
+    ensures stopped { IfErr result (IsStopped input.now) }
+{
+    let rows = third.table.rows.len();
+    let third = chain_join::Third {
+        table: third.table,
+        theta: third.theta,
+    };
+    match run_chain(rt, alloc, input, third, setting, options.seed, gate) {
+        Ok(run) => match chained_of(alloc, options, input, setting, run, rows) {
+            Ok(chained) => Ok(chained),
+            Err(AllocError) => Err(Outcome::Memory),
+        },
+        Err(ChainFault::Between { pairs }) => Err(Outcome::Limit(LimitFault::Between { pairs })),
+        Err(ChainFault::Memory) => Err(Outcome::Memory),
+    }
+}
+
+/// The output that the options ask for of a second join behind this input, or why there is none.
+pub(crate) fn chain_output<R: Threads + Wait + Sync, G: Gate>(
+    rt: &R,
+    alloc: Global,
+    options: &Options<'_>,
+    input: &Input,
+    third: Third,
+    setting: &Setting,
+    gate: &G,
+) -> Result<Joined, Outcome>
+    requires input { IsValidInput input.now }
+    requires setting { IsValidSetting setting.now }
+    requires is { setting.now ≡ setting_of (asked options.now) }
+    requires third { IsThirdOver input.now third }
+    ensures made { IfOk result
+        (λ joined. (planned : Planned') → input.now ≡ input_of options.now.seed planned
+        → planned.third ≡ Some third
+        → IsMade (asked options.now) planned joined.text (course_of joined.done)) }
+    ensures halted { IfErr result
+        (λ outcome. (planned : Planned') → input.now ≡ input_of options.now.seed planned
+        → planned.third ≡ Some third → IsHalted (asked options.now) planned outcome) }
+{
+    match run_both(rt, alloc, options, input, third, setting, gate) {
+        Ok(chained) => Ok(Joined {
+            text: chained.text,
+            done: Outcome::DoneChain {
+                first: chained.first,
+                second: chained.second,
+                trail: chained.trail,
+            },
+        }),
+        Err(outcome) => Err(outcome),
+    }
+}
