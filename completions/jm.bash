@@ -152,7 +152,7 @@ _jm() {
     local _jm_cur _jm_tail _jm_word _jm_quote _jm_files
     local options='--on --joiners --feeders --workers --batch --feed --seed --fixed --weight-r --weight-s
         --replay --early --report --rows --groups --make'
-    [[ $program == jm-rows ]] && options="$options --columns --names"
+    [[ $program == jm-rows ]] && options="$options --columns --names" || options="$options --then"
     COMPREPLY=()
     _jm_current
     if [[ $_jm_cur == '=' ]]; then
@@ -162,6 +162,7 @@ _jm() {
     fi
     case $option in
         --on | --columns) _jm_columns ;;
+        --then) ;;
         --joiners) _jm_one_of '1 2 4 8 16 32 64' ;;
         --feeders) _jm_one_of '1 2 3 4 5 6 7 8' ;;
         --workers) _jm_one_of '1 2 3 4 5 6 7 8 9 10 11 12 13 14 15 16' ;;

@@ -74,6 +74,7 @@ for program in jm jm-rows
     complete -c $program -l rows -d 'joined rows in place of their numbers'
     complete -c $program -l groups -d 'any number of joiners, in groups'
 end
+complete -c jm -l then -x -d 'the predicate of a second join, with a third file'
 complete -c jm -l make -x -d 'both tables are made, from 1 to 65536 rows each'
 complete -c jm-rows -l columns -x -d 'which columns are written' -a '(__jm_columns)'
 complete -c jm-rows -l names -r -d "the names of one file's columns"

@@ -111,6 +111,10 @@ check 2 '' "$usage" r.csv s.csv
 check 2 '' "$usage" --on 'r.x = s.y' r.csv
 check 2 '' "$usage" --on 'r.x = s.y' --joiners 3 r.csv s.csv
 check 2 '' "$usage" --on 'r.x = s.y' --joiners 4 --fixed 3 r.csv s.csv
+check 2 '' "$usage" --on 'r.x = s.y' --then 'r.r_x = s.x' r.csv s.csv
+check 2 '' "$usage" --on 'r.x = s.y' --then 'r.r_x = s.x' --rows r.csv s.csv r.csv
+check 3 '' 'then: not understood at byte 2' --on 'r.x = s.y' --then 'r.' r.csv s.csv r.csv
+check 3 '' 'then: R has no column x' --on 'r.x = s.y' --then 'r.x = s.x' r.csv s.csv r.csv
 check 2 '' "$usage" --on 'r.x = s.y' --groups --fixed 0 r.csv s.csv
 check 2 '' "$usage" --on 'r.x = s.y' --groups --early r.csv s.csv
 check 2 '' "$usage" --on 'r.x = s.y' --groups --replay 7 r.csv s.csv
