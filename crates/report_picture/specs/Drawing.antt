@@ -1,7 +1,8 @@
--- The picture of a report, an SVG. Every number in it that isn't the report's is a place, a width or a shade.
-use Rattle.std.specs.Prelude.{◌+◌, ◌*◌, ◌/◌, ◌%◌, ◌==◌, ◌++◌, ℕ, List, flat_map, length, min, max, nat_lt, if◌then◌else◌, codes}
+-- The picture of a report, an SVG. What isn't the report's own in it is a total, a ratio, a place, a width or a shade.
+use Rattle.std.specs.Prelude.{◌+◌, ◌-◌, ◌*◌, ◌/◌, ◌%◌, ◌==◌, ◌++◌, ℕ, List, flat_map, length, min, max, nat_le, nat_lt, if◌then◌else◌, codes}
 use Rattle.std.specs.List.{enumerate_from}
 use Rattle.std.specs.Fmt.{decimal}
+use Rattle.report_picture.specs.Totals.{held_by, most_held, all_rows_r, all_rows_s, all_made}
 use Rattle.report_picture.specs.declared.report.Step.{Step}
 use Rattle.report_picture.specs.declared.report.Joiner.{Joiner}
 use Rattle.report_picture.specs.declared.report.Report.{Report}
@@ -11,13 +12,48 @@ unfoldable pub head_of : ℕ → ℕ → List ℕ
 head_of width height =
     codes "<svg xmlns='http://www.w3.org/2000/svg' width='" ++ (decimal width
     ++ (codes "' height='" ++ (decimal height ++ (codes "' viewBox='0 0 " ++ (decimal width
-    ++ (codes " " ++ (decimal height ++ codes "' font-family='monospace' font-size='11' text-anchor='middle' fill='#1c2733'>\n<rect width='100%' height='100%' fill='#ffffff'/>\n")))))))
+    ++ (codes " " ++ (decimal height ++ codes "' role='img' font-family='monospace' font-size='11' text-anchor='middle' fill='#1c2733'>\n")))))))
 
--- the numbers of rows
-unfoldable pub title_of : ℕ → ℕ → List ℕ
-title_of x y =
-    codes "<text x='24' y='32' text-anchor='start' font-size='15'>R: " ++ (decimal x
-    ++ (codes " rows, S: " ++ (decimal y ++ codes " rows</text>\n")))
+-- the picture's name, for who doesn't see it
+unfoldable pub name_of : ℕ → List ℕ
+name_of joiners = codes "<title>A run of jm, joiners: " ++ (decimal joiners ++ codes "</title>\n")
+
+-- what follows in words: the numbers of rows, pairs and changes
+unfoldable pub counts_of : ℕ → ℕ → ℕ → ℕ → List ℕ
+counts_of x y made steps =
+    codes "<desc>Rows of R: " ++ (decimal x ++ (codes ", rows of S: " ++ (decimal y ++ (codes ", pairs: " ++ (decimal made
+    ++ (codes ". Changes of the grid: " ++ (decimal steps ++ codes ".")))))))
+
+-- the last grid in words
+unfoldable pub shape_of : ℕ → ℕ → List ℕ
+shape_of n m =
+    codes " Last grid: rows " ++ (decimal n ++ (codes ", columns " ++ (decimal m ++ codes ". Load: ")))
+
+-- hundredths as a number with two places behind the point
+unfoldable pub ratio_of : ℕ → List ℕ
+ratio_of hundredths =
+    decimal (hundredths / 100) ++ (codes "." ++ (decimal (hundredths / 10 % 10) ++ decimal (hundredths % 10)))
+
+-- the end of the words, and the ground
+unfoldable pub ground : List ℕ
+ground = codes " times the best.</desc>\n<rect width='100%' height='100%' fill='#ffffff'/>\n"
+
+-- how many hundredths of the best the load is, the nearest number; 1.00 where the best is nothing
+abbrev pub hundredths_of : ℕ → ℕ → ℕ
+hundredths_of copies best = if best == 0 then 100 else (copies * 100 + best / 2) / best
+
+-- the picture in words: how many joiners, rows, pairs and changes, the last grid, and its load against the best
+abbrev pub words_of : Report → List ℕ
+words_of report =
+    name_of (report.n * report.m)
+    ++ counts_of report.x report.y (all_made report.joiners.items) (length report.steps.items)
+    ++ shape_of report.n report.m ++ ratio_of (hundredths_of report.copies report.best) ++ ground
+
+-- the numbers of rows and pairs
+unfoldable pub title_of : ℕ → ℕ → ℕ → List ℕ
+title_of x y made =
+    codes "<text x='24' y='32' text-anchor='start' font-size='15'>rows of R: " ++ (decimal x
+    ++ (codes ", rows of S: " ++ (decimal y ++ (codes ", pairs: " ++ (decimal made ++ codes "</text>\n")))))
 
 -- a pattern of cells of which a square has n rows and m columns
 unfoldable pub pattern_of : ℕ → ℕ → ℕ → List ℕ
@@ -46,14 +82,21 @@ columns_at_start joiners =
 abbrev pub first_columns : Report → ℕ
 first_columns report = if length report.steps.items == 0 then report.m else columns_at_start (report.n * report.m)
 
--- what stands above the first grid
-unfoldable pub first_name : List ℕ
-first_name = codes "<text x='64' y='-10'>first</text></g>\n"
+-- the rows of the first grid, which has as many joiners as the last
+abbrev pub first_rows : Report → ℕ
+first_rows report = (report.n * report.m) / first_columns report
 
--- the first grid, without numbers
+-- the names of the first grid
+unfoldable pub first_names_of : ℕ → ℕ → List ℕ
+first_names_of n m =
+    codes "<text x='64' y='-10'>first grid</text><text x='64' y='148'>" ++ (decimal n
+    ++ (codes " &#215; " ++ (decimal m ++ codes "</text></g>\n")))
+
+-- the first grid
 abbrev pub first_of : Report → List ℕ
 first_of report =
-    opening_of 24 ++ square_of 0 ((report.n * report.m) / first_columns report) (first_columns report) ++ first_name
+    opening_of 24 ++ square_of 0 (first_rows report) (first_columns report)
+    ++ first_names_of (first_rows report) (first_columns report)
 
 -- an arrow to the grid of a step, with the rows that moved
 unfoldable pub moved_of : ℕ → List ℕ
@@ -76,33 +119,52 @@ step_of epoch step =
 abbrev pub steps_of : List Step → List ℕ
 steps_of steps = flat_map (λ step. step_of (step.0 + 1) step.1) (enumerate_from 0 steps)
 
--- how long a bar is where the longest has this amount
+-- the load
+unfoldable pub load_name_of : ℕ → List ℕ
+load_name_of copies =
+    codes "<g transform='translate(24 272)' text-anchor='start'><text font-size='13'>load " ++ (decimal copies ++ codes ": ")
+
+-- the best behind the ratio
+unfoldable pub best_name_of : ℕ → List ℕ
+best_name_of best = codes " &#215; best (" ++ (decimal best ++ codes "), ")
+
+-- whether the load is within the bound that a changing grid keeps
+abbrev pub verdict_of : ℕ → ℕ → List ℕ
+verdict_of copies best = if nat_le (copies * 4) (best * 5) then codes "at most" else codes "more than"
+
+-- how much of a scale that begins at the best and is 400 wide the load fills; more than 5/4 of the best fills it
 abbrev pub bar_of : ℕ → ℕ → ℕ
-bar_of amount most = if most == 0 then 0 else amount * 400 / most
+bar_of copies best = if best == 0 then 0 else min ((copies - best) * 1600 / best) 400
 
--- the copies above the fewest, each with a bar of this length
-unfoldable pub bars_of : ℕ → ℕ → ℕ → ℕ → List ℕ
-bars_of held copies fewest best =
-    codes "<g transform='translate(24 264)' text-anchor='start'><text y='12'>copies</text><rect x='64' width='" ++ (decimal held
-    ++ (codes "' height='16' fill='#4c9be8'/><text x='480' y='12'>" ++ (decimal copies
-    ++ (codes "</text>\n<text y='36'>best</text><rect x='64' y='24' width='" ++ (decimal fewest
-    ++ (codes "' height='16' fill='#9aa7b4'/><text x='480' y='36'>" ++ (decimal best ++ codes "</text></g>\n")))))))
+-- the scale with a bar of this length
+unfoldable pub scale_of : ℕ → List ℕ
+scale_of bar =
+    codes " 5/4 of it</text>\n<rect y='12' width='" ++ (decimal bar
+    ++ (codes "' height='12' fill='#4c9be8'/><path d='M0 12H400V24H0Z' fill='none' stroke='#1f5fa8'/><path d='M" ++ (decimal bar
+    ++ codes " 8v20' stroke='#1c2733' stroke-width='3'/><text y='40'>best</text><text x='400' y='40' text-anchor='end'>5/4 of best</text></g>\n")))
 
--- the two bars, the longer one 400 wide
-abbrev pub copies_of : ℕ → ℕ → List ℕ
-copies_of copies best = bars_of (bar_of copies (max copies best)) copies (bar_of best (max copies best)) best
+-- the load against the best, in words and on a scale
+abbrev pub load_of : ℕ → ℕ → List ℕ
+load_of copies best =
+    load_name_of copies ++ ratio_of (hundredths_of copies best) ++ best_name_of best ++ verdict_of copies best
+    ++ scale_of (bar_of copies best)
 
--- the words above the last grid
-unfoldable pub last_of : ℕ → ℕ → List ℕ
-last_of n m =
-    codes "<text x='24' y='336' text-anchor='start' font-size='13'>last grid: " ++ (decimal n
-    ++ (codes " &#215; " ++ (decimal m ++ codes " joiners, shaded by the rows that they hold</text>\n")))
+-- the words above the last grid, with all rows that its joiners hold
+unfoldable pub last_of : ℕ → ℕ → ℕ → ℕ → List ℕ
+last_of n m rows_r rows_s =
+    codes "<g transform='translate(24 352)' text-anchor='start'><text font-size='13'>last grid: " ++ (decimal n
+    ++ (codes " &#215; " ++ (decimal m ++ (codes " joiners, rows of R that they hold: " ++ (decimal rows_r
+    ++ (codes ", of S: " ++ (decimal rows_s ++ codes "</text>\n")))))))
 
--- tenths of the full colour: 1 without rows, 5 with as many as a joiner holds on the average, 9 from twice as many on
-abbrev pub shade_of : Report → Joiner → ℕ
-shade_of report joiner =
-    if report.copies == 0 then 1
-    else 1 + 2 * min ((joiner.rows_r + joiner.rows_s) * (2 * (report.n * report.m)) / report.copies) 4
+-- what the shades mean
+unfoldable pub legend_of : ℕ → List ℕ
+legend_of most =
+    codes "<linearGradient id='shade'><stop stop-color='#4c9be8' stop-opacity='.1'/><stop offset='1' stop-color='#4c9be8' stop-opacity='.9'/></linearGradient><text y='26'>shade: 0 rows</text><rect x='96' y='16' width='200' height='12' fill='url(#shade)' stroke='#1f5fa8'/><text x='304' y='26'>"
+    ++ (decimal most ++ codes " rows, the most that a joiner holds</text></g>\n")
+
+-- thousandths of the full colour: 100 without rows, 900 with the most rows, between them in proportion
+abbrev pub shade_of : ℕ → Joiner → ℕ
+shade_of most joiner = if most == 0 then 100 else 100 + 800 * held_by joiner / most
 
 -- the cell of a joiner, at this place and with this shade
 unfoldable pub cell_of : ℕ → ℕ → ℕ → List ℕ
@@ -116,20 +178,22 @@ labels_of id joiner =
     codes "<text x='60' y='15'>joiner " ++ (decimal id
     ++ (codes "</text><text x='60' y='31'>R " ++ (decimal joiner.rows_r
     ++ (codes "</text><text x='60' y='46'>S " ++ (decimal joiner.rows_s
-    ++ (codes "</text><text x='60' y='61'>" ++ (decimal joiner.made ++ codes " pairs</text></g>\n")))))))
+    ++ (codes "</text><text x='60' y='61'>pairs " ++ (decimal joiner.made ++ codes "</text></g>\n")))))))
 
--- a joiner at its row and column of the grid, which are numbered row by row
-abbrev pub joiner_of : Report → ℕ → Joiner → List ℕ
-joiner_of report id joiner =
-    cell_of (24 + 124 * (id % report.m)) (352 + 72 * (id / report.m)) (shade_of report joiner) ++ labels_of id joiner
+-- a joiner at its row and column of a grid of m columns, whose joiners are numbered row by row
+abbrev pub joiner_of : ℕ → ℕ → ℕ → Joiner → List ℕ
+joiner_of m most id joiner =
+    cell_of (24 + 124 * (id % m)) (396 + 72 * (id / m)) (shade_of most joiner) ++ labels_of id joiner
 
 -- joiners, numbered from 0
-abbrev pub cells_of : Report → List Joiner → List ℕ
-cells_of report joiners = flat_map (λ joiner. joiner_of report joiner.0 joiner.1) (enumerate_from 0 joiners)
+abbrev pub cells_of : ℕ → ℕ → List Joiner → List ℕ
+cells_of m most joiners = flat_map (λ joiner. joiner_of m most joiner.0 joiner.1) (enumerate_from 0 joiners)
 
--- the joiners of the last grid
-abbrev pub joiners_of : Report → List ℕ
-joiners_of report = cells_of report report.joiners.items
+-- the last grid: what its joiners hold, what their shades mean, and each of them
+abbrev pub field_of : ℕ → ℕ → List Joiner → List ℕ
+field_of n m joiners =
+    last_of n m (all_rows_r joiners) (all_rows_s joiners) ++ legend_of (most_held joiners)
+    ++ cells_of m (most_held joiners) joiners
 
 -- room for the title, all grids and the field
 abbrev pub width_of : Report → ℕ
@@ -137,11 +201,12 @@ width_of report = max 640 (max (24 + 208 * (length report.steps.items + 1)) (48 
 
 -- the same from above to below
 abbrev pub height_of : Report → ℕ
-height_of report = 376 + 72 * report.n
+height_of report = 416 + 72 * report.n
 
--- the numbers of rows, the grids in their order, the copies, and the last grid's joiners
+-- the picture in words, the numbers of rows and pairs, the grids in their order, the load, and the last grid's joiners
 abbrev pub picture_of : Report → List ℕ
 picture_of report =
-    head_of (width_of report) (height_of report) ++ title_of report.x report.y
-    ++ first_of report ++ steps_of report.steps.items ++ copies_of report.copies report.best
-    ++ last_of report.n report.m ++ joiners_of report ++ codes "</svg>\n"
+    head_of (width_of report) (height_of report) ++ words_of report
+    ++ title_of report.x report.y (all_made report.joiners.items)
+    ++ first_of report ++ steps_of report.steps.items ++ load_of report.copies report.best
+    ++ field_of report.n report.m report.joiners.items ++ codes "</svg>\n"

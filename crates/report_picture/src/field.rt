@@ -1,67 +1,48 @@
-// The last grid's copies, and its joiners.
+// The last grid's joiners.
 
-ghost use Rattle.std.specs.Prelude.{◌≡◌, ◌<◌, ◌≤◌, ◌*◌, ◌++◌, length, max, OnOk, string_bytes};
-ghost use Rattle.report_picture.specs.Lines.{IsSide, IsWhole};
+ghost use Rattle.std.specs.Prelude.{◌≡◌, ◌<◌, ◌≤◌, ◌*◌, ◌^◌, ◌++◌, length, OnOk, string_bytes};
+ghost use Rattle.report_picture.specs.Lines.{IsSide};
 ghost use Rattle.report_picture.specs.Drawing as drawing;
+ghost use Rattle.report_picture.specs.Totals as of;
 
-use crate::report::{Joiner, Report};
+use crate::report::Joiner;
+use crate::totals::{Totals, held};
 use std::alloc::AllocError;
 
-fn bar(amount: u64, most: u64) -> u128
-    ensures { result ≡ drawing.bar_of amount most }
-{
-    if most == 0 {
-        0
-    } else {
-        u128::from(amount) * 400 / u128::from(most)
-    }
-}
-
-fn write_bars(
+fn write_last(
     text: &mut String,
-    held: u128,
-    copies: u64,
-    fewest: u128,
-    best: u64,
+    n: u64,
+    m: u64,
+    rows_r: u128,
+    rows_s: u128,
 ) -> Result<(), AllocError>
     ensures { OnOk result
-        (string_bytes text.new ≡ string_bytes text.old ++ drawing.bars_of held copies fewest best) }
+        (string_bytes text.new ≡ string_bytes text.old ++ drawing.last_of n m rows_r rows_s) }
 {
     write!(
         text,
-        "<g transform='translate(24 264)' text-anchor='start'><text y='12'>copies</text><rect x='64' width='{held}' height='16' fill='#4c9be8'/><text x='480' y='12'>{copies}</text>\n<text y='36'>best</text><rect x='64' y='24' width='{fewest}' height='16' fill='#9aa7b4'/><text x='480' y='36'>{best}</text></g>\n"
+        "<g transform='translate(24 352)' text-anchor='start'><text font-size='13'>last grid: {n} &#215; {m} joiners, rows of R that they hold: {rows_r}, of S: {rows_s}</text>\n"
     )
 }
 
-/// Adds the copies above the fewest.
-pub(crate) fn write_copies(text: &mut String, copies: u64, best: u64) -> Result<(), AllocError>
+fn write_legend(text: &mut String, most: u128) -> Result<(), AllocError>
     ensures { OnOk result
-        (string_bytes text.new ≡ string_bytes text.old ++ drawing.copies_of copies best) }
-{
-    let most = copies.max(best);
-    write_bars(text, bar(copies, most), copies, bar(best, most), best)
-}
-
-/// Adds the words above the field.
-pub(crate) fn write_last(text: &mut String, n: u64, m: u64) -> Result<(), AllocError>
-    ensures { OnOk result (string_bytes text.new ≡ string_bytes text.old ++ drawing.last_of n m) }
+        (string_bytes text.new ≡ string_bytes text.old ++ drawing.legend_of most) }
 {
     write!(
         text,
-        "<text x='24' y='336' text-anchor='start' font-size='13'>last grid: {n} &#215; {m} joiners, shaded by the rows that they hold</text>\n"
+        "<linearGradient id='shade'><stop stop-color='#4c9be8' stop-opacity='.1'/><stop offset='1' stop-color='#4c9be8' stop-opacity='.9'/></linearGradient><text y='26'>shade: 0 rows</text><rect x='96' y='16' width='200' height='12' fill='url(#shade)' stroke='#1f5fa8'/><text x='304' y='26'>{most} rows, the most that a joiner holds</text></g>\n"
     )
 }
 
-fn shade(report: &Report, joiner: Joiner) -> u128
-    requires { IsWhole report.now }
-    ensures { result ≡ drawing.shade_of report.now joiner }
+fn shade(most: u128, joiner: Joiner) -> u128
+    ensures { result ≡ drawing.shade_of most joiner }
 {
-    if report.copies == 0 {
-        return 1;
+    if most == 0 {
+        100
+    } else {
+        100 + 800 * held(joiner) / most
     }
-    let held = u128::from(joiner.rows_r) + u128::from(joiner.rows_s);
-    let joiners = u128::from(report.n * report.m);
-    1 + 2 * (held * (2 * joiners) / u128::from(report.copies)).min(4)
 }
 
 fn write_cell(text: &mut String, x: u64, y: u64, shade: u128) -> Result<(), AllocError>
@@ -85,44 +66,62 @@ fn write_labels(text: &mut String, id: u64, joiner: Joiner) -> Result<(), AllocE
     } = joiner;
     write!(
         text,
-        "<text x='60' y='15'>joiner {id}</text><text x='60' y='31'>R {rows_r}</text><text x='60' y='46'>S {rows_s}</text><text x='60' y='61'>{made} pairs</text></g>\n"
+        "<text x='60' y='15'>joiner {id}</text><text x='60' y='31'>R {rows_r}</text><text x='60' y='46'>S {rows_s}</text><text x='60' y='61'>pairs {made}</text></g>\n"
     )
 }
 
 fn write_joiner(
     text: &mut String,
-    report: &Report,
+    m: u64,
+    most: u128,
     id: u64,
     joiner: Joiner,
 ) -> Result<(), AllocError>
-    requires whole { IsWhole report.now }
-    requires id { id < report.now.n * report.now.m }
+    requires side { IsSide m }
+    requires id { id < 2 ^ 12 }
     ensures { OnOk result
-        (string_bytes text.new ≡ string_bytes text.old ++ drawing.joiner_of report.now id joiner) }
+        (string_bytes text.new ≡ string_bytes text.old ++ drawing.joiner_of m most id joiner) }
 {
-    let x = 24 + 124 * (id % report.m);
-    let y = 352 + 72 * (id / report.m);
-    write_cell(text, x, y, shade(report, joiner))?;
+    let x = 24 + 124 * (id % m);
+    let y = 396 + 72 * (id / m);
+    write_cell(text, x, y, shade(most, joiner))?;
     write_labels(text, id, joiner)
 }
 
-fn write_all(text: &mut String, report: &Report, joiners: &[Joiner]) -> Result<(), AllocError>
-    requires whole { IsWhole report.now }
-    requires few { length joiners.now ≤ report.now.n * report.now.m }
+fn write_joiners(
+    text: &mut String,
+    m: u64,
+    most: u128,
+    joiners: &[Joiner],
+) -> Result<(), AllocError>
+    requires side { IsSide m }
+    requires few { length joiners.now ≤ 2 ^ 12 }
     ensures { OnOk result
-        (string_bytes text.new ≡ string_bytes text.old ++ drawing.cells_of report.now joiners.now) }
+        (string_bytes text.new ≡ string_bytes text.old ++ drawing.cells_of m most joiners.now) }
 {
     for id in 0..joiners.len() {
-        write_joiner(text, report, id as u64, joiners[id])?;
+        write_joiner(text, m, most, id as u64, joiners[id])?;
     }
     Ok(())
 }
 
-/// Adds all joiners of the last grid.
-pub(crate) fn write_joiners(text: &mut String, report: &Report) -> Result<(), AllocError>
-    requires { IsWhole report.now }
+/// Adds the last grid: what its joiners hold, what their shades mean, and each of them.
+pub(crate) fn write_field(
+    text: &mut String,
+    n: u64,
+    m: u64,
+    joiners: &[Joiner],
+    totals: Totals,
+) -> Result<(), AllocError>
+    requires side { IsSide m }
+    requires few { length joiners.now ≤ 2 ^ 12 }
+    requires rows_r { totals.rows_r ≡ of.all_rows_r joiners.now }
+    requires rows_s { totals.rows_s ≡ of.all_rows_s joiners.now }
+    requires most { totals.most ≡ of.most_held joiners.now }
     ensures { OnOk result
-        (string_bytes text.new ≡ string_bytes text.old ++ drawing.joiners_of report.now) }
+        (string_bytes text.new ≡ string_bytes text.old ++ drawing.field_of n m joiners.now) }
 {
-    write_all(text, report, &report.joiners)
+    write_last(text, n, m, totals.rows_r, totals.rows_s)?;
+    write_legend(text, totals.most)?;
+    write_joiners(text, m, totals.most, joiners)
 }

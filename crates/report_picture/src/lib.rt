@@ -1,13 +1,16 @@
-//! The report of a run as a picture: the grid's life, its copies and its last field, as one SVG.
+//! The report of a run as a picture: the grid's life, its load and its last joiners, as one SVG.
 #![tactic(auto)]
 
 mod error;
 mod field;
 mod life;
 mod lines;
+mod load;
 mod read;
 mod report;
 mod svg;
+mod totals;
+mod words;
 
 pub use error::ReportError;
 pub use read::read_report;

@@ -46,10 +46,14 @@ fn write_opening(text: &mut String, x: u64) -> Result<(), AllocError>
     write!(text, "<g transform='translate({x} 84)'>\n")
 }
 
-fn write_first_name(text: &mut String) -> Result<(), AllocError>
-    ensures { OnOk result (string_bytes text.new ≡ string_bytes text.old ++ drawing.first_name) }
+fn write_first_names(text: &mut String, n: u64, m: u64) -> Result<(), AllocError>
+    ensures { OnOk result
+        (string_bytes text.new ≡ string_bytes text.old ++ drawing.first_names_of n m) }
 {
-    write!(text, "<text x='64' y='-10'>first</text></g>\n")
+    write!(
+        text,
+        "<text x='64' y='-10'>first grid</text><text x='64' y='148'>{n} &#215; {m}</text></g>\n"
+    )
 }
 
 fn columns_at_start(joiners: u64) -> u64
@@ -88,9 +92,10 @@ pub(crate) fn write_first(text: &mut String, report: &Report) -> Result<(), Allo
         (string_bytes text.new ≡ string_bytes text.old ++ drawing.first_of report.now) }
 {
     let columns = first_columns(report);
+    let rows = report.n * report.m / columns;
     write_opening(text, 24)?;
-    write_square(text, 0, report.n * report.m / columns, columns)?;
-    write_first_name(text)
+    write_square(text, 0, rows, columns)?;
+    write_first_names(text, rows, columns)
 }
 
 fn write_moved(text: &mut String, moved: u64) -> Result<(), AllocError>

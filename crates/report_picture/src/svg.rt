@@ -4,9 +4,12 @@ ghost use Rattle.std.specs.Prelude.{◌≡◌, ◌≤◌, ◌++◌, IfOk, OnOk, 
 ghost use Rattle.report_picture.specs.Lines.{IsSide, IsWhole};
 ghost use Rattle.report_picture.specs.Drawing as drawing;
 
-use crate::field::{write_copies, write_joiners, write_last};
+use crate::field::write_field;
 use crate::life::{write_first, write_steps};
+use crate::load::write_load;
 use crate::report::Report;
+use crate::totals::sum_up;
+use crate::words::write_words;
 use std::alloc::{AllocError, Global};
 
 fn write_head(text: &mut String, width: u64, height: u64) -> Result<(), AllocError>
@@ -15,16 +18,17 @@ fn write_head(text: &mut String, width: u64, height: u64) -> Result<(), AllocErr
 {
     write!(
         text,
-        "<svg xmlns='http://www.w3.org/2000/svg' width='{width}' height='{height}' viewBox='0 0 {width} {height}' font-family='monospace' font-size='11' text-anchor='middle' fill='#1c2733'>\n<rect width='100%' height='100%' fill='#ffffff'/>\n"
+        "<svg xmlns='http://www.w3.org/2000/svg' width='{width}' height='{height}' viewBox='0 0 {width} {height}' role='img' font-family='monospace' font-size='11' text-anchor='middle' fill='#1c2733'>\n"
     )
 }
 
-fn write_title(text: &mut String, x: u64, y: u64) -> Result<(), AllocError>
-    ensures { OnOk result (string_bytes text.new ≡ string_bytes text.old ++ drawing.title_of x y) }
+fn write_title(text: &mut String, x: u64, y: u64, made: u128) -> Result<(), AllocError>
+    ensures { OnOk result
+        (string_bytes text.new ≡ string_bytes text.old ++ drawing.title_of x y made) }
 {
     write!(
         text,
-        "<text x='24' y='32' text-anchor='start' font-size='15'>R: {x} rows, S: {y} rows</text>\n"
+        "<text x='24' y='32' text-anchor='start' font-size='15'>rows of R: {x}, rows of S: {y}, pairs: {made}</text>\n"
     )
 }
 
@@ -41,24 +45,27 @@ fn height(report: &Report) -> u64
     requires { IsWhole report.now }
     ensures { result ≡ drawing.height_of report.now }
 {
-    376 + 72 * report.n
+    416 + 72 * report.n
 }
 
-/// A report as an SVG, from above to below: the numbers of rows; the grid's shapes from the first over each step to
-/// the last, between them the rows that moved; the copies beside the fewest; and the joiners at their places in the
-/// last grid, with the rows that they hold and the pairs that they made, shaded by these rows.
+/// A report as an SVG: for those who don't see it a description in words; and then, from above to below, the numbers
+/// of rows and pairs; the grid's shapes from the first over each step to the last, between them the rows that moved;
+/// the load against the best, in words and on a scale from the best to 5/4 of it; and the joiners at their places in
+/// the last grid, with the rows that they hold and the pairs that they made, shaded by these rows from none to the
+/// most that a joiner holds.
 pub fn picture(alloc: Global, report: &Report) -> Result<String, AllocError>
     requires { IsWhole report.now }
     ensures { IfOk result (λ text. string_bytes text ≡ drawing.picture_of report.now) }
 {
     let mut text = String::new(alloc);
+    let all = sum_up(&report.joiners);
     write_head(&mut text, width(report), height(report))?;
-    write_title(&mut text, report.x, report.y)?;
+    write_words(&mut text, report, all.made)?;
+    write_title(&mut text, report.x, report.y, all.made)?;
     write_first(&mut text, report)?;
     write_steps(&mut text, &report.steps)?;
-    write_copies(&mut text, report.copies, report.best)?;
-    write_last(&mut text, report.n, report.m)?;
-    write_joiners(&mut text, report)?;
+    write_load(&mut text, report.copies, report.best)?;
+    write_field(&mut text, report.n, report.m, &report.joiners, all)?;
     text.push_str("</svg>\n")?;
     Ok(text)
 }

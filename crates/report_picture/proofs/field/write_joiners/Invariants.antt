@@ -2,8 +2,9 @@ use Rattle.std.proofs.Common.{◌≡◌, ◌++◌, take}
 use Rattle.std.specs.Prelude.{string_bytes}
 use Rattle.report_picture.specs.Drawing.{joiner_of}
 use Rattle.report_picture.proofs.Numbered.{lines_from}
-use Rattle.report_picture.proofs.field.write_all.Given as goal
+use Rattle.report_picture.proofs.field.write_joiners.Given as goal
 
 abbrev pub invariant-loop-id : goal.invariant-loop-id
 invariant-loop-id l =
-    string_bytes l.text ≡ string_bytes l.initial.text ++ lines_from (joiner_of l.report) 0 (take l.id l.joiners)
+    string_bytes l.text
+    ≡ string_bytes l.initial.text ++ lines_from (joiner_of l.m l.most) 0 (take l.id l.joiners)
