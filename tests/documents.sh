@@ -1,6 +1,6 @@
 #!/bin/sh
-# Runs what README.md, docs/USAGE.md and docs/jm.1 show, and compares. It is no part of the gate, in which no test may
-# start a program. JM and JM_PICTURE name other programs than the repository's own.
+# Runs what README.md, docs/USAGE.md, docs/jm.1 and examples/README.md show, and compares. It is no part of the gate, in
+# which no test may start a program. JM and JM_PICTURE name other programs than the repository's own.
 #
 # An indented line that begins with "$ " is a command, and the lines below it, up to the next such or the block's end,
 # are what it prints; the lines of --early may come in another order. An indented line that begins with "./jm" is run,
@@ -225,6 +225,7 @@ document "$top/README.md"
 document "$top/docs/USAGE.md"
 page "$top/docs/jm.1" >page.md
 document "$room/page.md"
+document "$top/examples/README.md"
 
 # the page names each option and each message that USAGE does
 sed 's/\\-/-/g; s/\\fI//g; s/\\fR//g' "$top/docs/jm.1" >page.txt
