@@ -1,2 +1,5 @@
 mod Endings
+mod Feeds
 mod Numbered
+mod Starts
+mod Worked

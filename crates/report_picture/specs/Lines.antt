@@ -1,6 +1,6 @@
 -- The lines of a report.
-use Rattle.std.specs.Prelude.{◌≡◌, ◌≤◌, ◌<◌, ◌+◌, ◌*◌, ◌^◌, ◌==◌, ◌++◌, ◌⊎◌, ℕ, All, List, [], ◌∷◌, flat_map, count_by, length, codes}
-use Rattle.std.specs.List.{enumerate_from}
+use Rattle.std.specs.Prelude.{◌≡◌, ◌≤◌, ◌<◌, ◌+◌, ◌-◌, ◌*◌, ◌^◌, ◌==◌, ◌++◌, ◌⊎◌, ℕ, All, IsTrue, List, [], ◌∷◌, eqb, get_or, drop, flat_map, count_by, length, codes}
+use Rattle.std.specs.List.{enumerate_from, starts_with}
 use Rattle.std.specs.Fmt.{decimal}
 use Rattle.report_picture.specs.declared.report.Step.{Step}
 use Rattle.report_picture.specs.declared.report.Joiner.{Joiner}
@@ -79,3 +79,12 @@ pub record EndsWith (text end : List ℕ) : Type 0 where
 -- some lines, and then just the lines of this report
 abbrev pub EndsWithReport : List ℕ → Report → Type 0
 EndsWithReport text report = EndsWith text (report_lines report)
+
+-- a line begins at this place of a text
+abbrev pub BeginsLine : List ℕ → ℕ → Type 0
+BeginsLine text place = 0 < place → get_or text (place - 1) 0 ≡ 10
+
+-- a line begins at this place with `input `, so a report may begin there
+pub record MayBegin (text : List ℕ) (place : ℕ) : Type 0 where
+  pub line : BeginsLine text place
+  pub input : IsTrue (starts_with eqb (drop place text) (codes "input "))

@@ -1,8 +1,8 @@
 // A report's numbers, read back from its text. The lines are read loosely, each number by its place in its line,
 // into a report that is whole in any case; the text of that report is then compared with the one that was read.
 
-ghost use Rattle.std.specs.Prelude.{◌≡◌, ◌≤◌, ◌<◌, ◌+◌, ℕ, Err, IfOk, IsTrue, OnOk, length, take};
-ghost use Rattle.report_picture.specs.Lines.{AreLines, EndsWith, EndsWithReport, HasGrids, IsSide, IsWhole, feeds_in};
+ghost use Rattle.std.specs.Prelude.{◌≡◌, ◌≢◌, ◌≤◌, ◌<◌, ◌+◌, ◌⊎◌, ℕ, Err, IfOk, IsTrue, OnOk, get_or, length, take};
+ghost use Rattle.report_picture.specs.Lines.{AreLines, BeginsLine, EndsWith, EndsWithReport, HasGrids, IsSide, IsWhole, MayBegin, feeds_in};
 ghost use Rattle.report_picture.specs.declared.error.ReportError.TheVariants.{Line};
 
 use crate::error::ReportError;
@@ -122,23 +122,43 @@ fn nearest(alloc: Global, text: &[u8]) -> Result<Report, AllocError>
 
 // How many bytes a line has without its line feed.
 fn line_len(text: &[u8]) -> usize
-    ensures { result ≤ length text.now }
+    ensures within { result ≤ length text.now }
+    ensures line { (place : ℕ) → place < result → get_or text.now place 0 ≢ 10 }
+    ensures feed { result < length text.now → get_or text.now result 0 ≡ 10 }
 {
-    text.iter().take_while(|byte| **byte != b'\n').count()
+    let mut len = 0;
+    while len < text.len() && text[len] != b'\n' {
+        len += 1;
+    }
+    len
+}
+
+// This place if a report may begin there, else the one that was found before.
+fn later_start(text: &[u8], place: usize, start: usize) -> usize
+    requires place { place < length text.now }
+    requires line { BeginsLine text.now place }
+    ensures yes { MayBegin text.now place → result ≡ place }
+    ensures no { (MayBegin text.now place → ⊥) → result ≡ start }
+    ensures either { (result ≡ start) ⊎ ((result ≡ place) × MayBegin text.now place) }
+{
+    if text[place..].starts_with(b"input ") {
+        place
+    } else {
+        start
+    }
 }
 
 // Where the last line begins that begins with `input `; the text's end where there is none.
 fn report_start(text: &[u8]) -> usize
-    ensures { result ≤ length text.now }
+    ensures within { result ≤ length text.now }
+    ensures there { result < length text.now → MayBegin text.now result }
+    ensures last { (place : ℕ) → MayBegin text.now place → place ≤ result }
 {
     let mut start = text.len();
     let mut place = 0;
     while place < text.len() {
-        let rest = &text[place..];
-        if rest.starts_with(b"input ") {
-            start = place;
-        }
-        place += line_len(rest) + 1;
+        start = later_start(text, place, start);
+        place += line_len(&text[place..]) + 1;
     }
     start
 }
@@ -176,6 +196,14 @@ fn alike(text: &[u8], other: &[u8]) -> usize
         .count()
 }
 
+// The number of the line in which this place is, counted from 1.
+fn line_at(text: &[u8], place: usize) -> u64
+    requires { place ≤ length text.now }
+    ensures { result ≡ feeds_in (take place text.now) + 1 }
+{
+    line_feeds(&text[..place]) as u64 + 1
+}
+
 /// The report that a text ends with. Lines before it are passed over: it begins at the last line that begins with
 /// `input `. A report has at most 65,536 `grid` lines.
 pub fn read_report(alloc: Global, text: &[u8]) -> Result<Report, ReportError>
@@ -183,6 +211,10 @@ pub fn read_report(alloc: Global, text: &[u8]) -> Result<Report, ReportError>
     ensures whole { IfOk result IsWhole }
     ensures line { (line : ℕ) → result ≡ Err (Line line)
         → (0 < line) × (line ≤ feeds_in text.now + 1) }
+    ensures behind { (line place : ℕ) → result ≡ Err (Line line) → MayBegin text.now place
+        → feeds_in (take place text.now) < line }
+    ensures missing { (line : ℕ) → result ≡ Err (Line line)
+        → ((place : ℕ) → MayBegin text.now place → ⊥) → line ≡ feeds_in text.now + 1 }
 {
     let start = report_start(text);
     let rest = &text[start..];
@@ -192,6 +224,6 @@ pub fn read_report(alloc: Global, text: &[u8]) -> Result<Report, ReportError>
         return Ok(report);
     }
     let place = start + alike(rest, wanted.as_bytes());
-    let line = line_feeds(&text[..place]) as u64 + 1;
+    let line = line_at(text, place);
     Err(ReportError::Line { line })
 }
