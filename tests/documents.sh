@@ -279,7 +279,11 @@ printf 'id,x\n1,10\n2,20\n3,30\n' >r.csv
 gzip -k r.csv
 ln -sf "$jm" jm
 does "$(tool './jm --on TEXT <(zcat' | sed "s/TEXT/'r.x = s.y'/")" "$pairs"
+does "$(tool './jm --on TEXT r.csv /dev/stdin' | sed "s/TEXT/'r.x = s.y'/")" "$pairs"
+cp s.csv ./-
+does "$(tool './jm --on TEXT r.csv ./-' | sed "s/TEXT/'r.x = s.y'/")" "$pairs"
 does "cat s.csv | ./jm --on 'r.x = s.y' r.csv /dev/stdin" "$pairs"
+does "cat s.csv | ./jm --on 'r.id = s.id' /dev/stdin /dev/stdin" 'input: S has no header\n'
 sed 1d r.csv >rows.csv
 does "./jm --on 'r.x = s.y' $(tool '<(echo id,x;' | sed 's/r.csv/rows.csv/') s.csv" "$pairs"
 printf 'a;b\n1;2\n' >old.csv
