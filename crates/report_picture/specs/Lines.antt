@@ -1,6 +1,6 @@
 -- The lines of a report.
 use Rattle.std.specs.Prelude.{◌≡◌, ◌≤◌, ◌<◌, ◌+◌, ◌-◌, ◌*◌, ◌^◌, ◌==◌, ◌++◌, ◌⊎◌, ℕ, All, IsTrue, List, [], ◌∷◌, eqb, get_or, drop, flat_map, count_by, length, codes}
-use Rattle.std.specs.List.{enumerate_from, starts_with}
+use Rattle.std.specs.List.{enumerate_from, slice_split, starts_with}
 use Rattle.std.specs.Fmt.{decimal}
 use Rattle.report_picture.specs.declared.report.Step.{Step}
 use Rattle.report_picture.specs.declared.report.Joiner.{Joiner}
@@ -88,3 +88,7 @@ BeginsLine text place = 0 < place → get_or text (place - 1) 0 ≡ 10
 pub record MayBegin (text : List ℕ) (place : ℕ) : Type 0 where
   pub line : BeginsLine text place
   pub input : IsTrue (starts_with eqb (drop place text) (codes "input "))
+
+-- the words of a line, parted by spaces
+abbrev pub words_in : List ℕ → List (List ℕ)
+words_in line = slice_split (λ byte. byte == 32) line

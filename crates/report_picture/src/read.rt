@@ -1,8 +1,9 @@
 // A report's numbers, read back from its text. The lines are read loosely, each number by its place in its line,
 // into a report that is whole in any case; the text of that report is then compared with the one that was read.
 
-ghost use Rattle.std.specs.Prelude.{◌≡◌, ◌≢◌, ◌≤◌, ◌<◌, ◌+◌, ◌⊎◌, ℕ, Err, IfOk, IsTrue, OnOk, get_or, length, take};
-ghost use Rattle.report_picture.specs.Lines.{AreLines, BeginsLine, EndsWith, EndsWithReport, HasGrids, IsSide, IsWhole, MayBegin, feeds_in};
+ghost use Rattle.std.specs.Prelude.{◌≡◌, ◌≢◌, ◌≤◌, ◌<◌, ◌+◌, ◌⊎◌, ℕ, Err, IfOk, IsTrue, OnOk, Some, [], ◌^◌, get_or, length, slice_get, take, unwrap_or};
+ghost use Rattle.std.specs.Fmt.{decimal};
+ghost use Rattle.report_picture.specs.Lines.{AreLines, BeginsLine, EndsWith, EndsWithReport, HasGrids, IsSide, IsWhole, MayBegin, feeds_in, words_in};
 ghost use Rattle.report_picture.specs.declared.error.ReportError.TheVariants.{Line};
 
 use crate::error::ReportError;
@@ -11,15 +12,32 @@ use crate::report::{Joiner, Report, Step};
 use std::alloc::{AllocError, Global};
 use std::str;
 
-// The number that a word of a line writes, the words parted by spaces; 0 where there is none.
-fn number(line: &[u8], place: usize) -> u64 {
+// A word of a line, the words parted by spaces; the empty one where there is none.
+fn word(line: &[u8], place: usize) -> &[u8]
+    ensures { result.now ≡ unwrap_or (slice_get (words_in line.now) place) [] }
+{
     let Some(word) = line.split(|byte| *byte == b' ').nth(place) else {
-        return 0;
+        return &[];
     };
+    word
+}
+
+// The number that a word writes; 0 where it writes none.
+fn value(word: &[u8]) -> u64
+    ensures { (n : ℕ) → n < 2 ^ 64 → word.now ≡ decimal n → result ≡ n }
+{
     let Ok(word) = str::from_utf8(word) else {
         return 0;
     };
     word.parse().unwrap_or(0)
+}
+
+// The number that a word of a line writes.
+fn number(line: &[u8], place: usize) -> u64
+    ensures { (n : ℕ) → n < 2 ^ 64 → slice_get (words_in line.now) place ≡ Some (decimal n)
+        → result ≡ n }
+{
+    value(word(line, place))
 }
 
 // The same as a number of rows or columns, the nearest one.
