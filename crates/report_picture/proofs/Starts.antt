@@ -1,5 +1,6 @@
 -- The places at which lines begin, where a line is passed over.
-use Rattle.std.proofs.Common.{◌≡◌, ◌≢◌, ◌≤◌, ◌<◌, ◌+◌, ◌-◌, ◌⊎◌, inl, inr, ℕ, sym, ◌∙◌, ap, subst, List, get_or, drop, length, arith}
+use Rattle.std.proofs.Common.{◌≡◌, ◌≢◌, ◌≤◌, ◌<◌, ◌+◌, ◌-◌, ◌⊎◌, inl, inr, ℕ, sym, ◌∙◌, ap, subst, arith}
+use Rattle.std.proofs.Common.{List, get_or, drop, length}
 use Rattle.std.specs.Prelude.{nat_lt}
 use Rattle.std.proofs.lemmas.Bool.{cases_eq, ltb-true, ltb-false, cond_both}
 use Rattle.std.proofs.lemmas.List.{get_or-drop, length-drop}

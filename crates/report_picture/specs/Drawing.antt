@@ -1,5 +1,6 @@
 -- The picture of a report, an SVG. What isn't the report's own in it is a total, a ratio, a place, a width or a shade.
-use Rattle.std.specs.Prelude.{◌+◌, ◌-◌, ◌*◌, ◌/◌, ◌%◌, ◌==◌, ◌++◌, ℕ, List, flat_map, length, min, max, nat_le, nat_lt, if◌then◌else◌, codes}
+use Rattle.std.specs.Prelude.{◌+◌, ◌-◌, ◌*◌, ◌/◌, ◌%◌, ◌==◌, ◌++◌, ℕ, List, flat_map, length, min, max}
+use Rattle.std.specs.Prelude.{nat_le, nat_lt, if◌then◌else◌, codes}
 use Rattle.std.specs.List.{enumerate_from}
 use Rattle.std.specs.Fmt.{decimal}
 use Rattle.report_picture.specs.Totals.{held_by, most_held, all_rows_r, all_rows_s, all_made}

@@ -1,5 +1,6 @@
 -- The lines of a report.
-use Rattle.std.specs.Prelude.{◌≡◌, ◌≤◌, ◌<◌, ◌+◌, ◌-◌, ◌*◌, ◌^◌, ◌==◌, ◌++◌, ◌⊎◌, ℕ, All, IsTrue, List, [], ◌∷◌, eqb, get_or, drop, flat_map, count_by, length, codes}
+use Rattle.std.specs.Prelude.{◌≡◌, ◌≤◌, ◌<◌, ◌+◌, ◌-◌, ◌*◌, ◌^◌, ◌==◌, ◌++◌, ◌⊎◌, ℕ, All, IsTrue}
+use Rattle.std.specs.Prelude.{List, [], ◌∷◌, eqb, get_or, drop, flat_map, count_by, length, codes}
 use Rattle.std.specs.List.{enumerate_from, slice_split, starts_with}
 use Rattle.std.specs.Fmt.{decimal}
 use Rattle.report_picture.specs.declared.report.Step.{Step}

@@ -1,9 +1,11 @@
 // A report's numbers, read back from its text. The lines are read loosely, each number by its place in its line,
 // into a report that is whole in any case; the text of that report is then compared with the one that was read.
 
-ghost use Rattle.std.specs.Prelude.{◌≡◌, ◌≢◌, ◌≤◌, ◌<◌, ◌+◌, ◌⊎◌, ℕ, Err, IfOk, IsTrue, OnOk, Some, [], ◌^◌, get_or, length, slice_get, take, unwrap_or};
+ghost use Rattle.std.specs.Prelude.{◌≡◌, ◌≢◌, ◌≤◌, ◌<◌, ◌+◌, ◌^◌, ◌⊎◌, ℕ, [], IfOk, IsTrue, OnOk};
+ghost use Rattle.std.specs.Prelude.{Err, Some, get_or, length, slice_get, take, unwrap_or};
 ghost use Rattle.std.specs.Fmt.{decimal};
-ghost use Rattle.report_picture.specs.Lines.{AreLines, BeginsLine, EndsWith, EndsWithReport, HasGrids, IsSide, IsWhole, MayBegin, feeds_in, words_in};
+ghost use Rattle.report_picture.specs.Lines.{AreLines, BeginsLine, EndsWith, EndsWithReport};
+ghost use Rattle.report_picture.specs.Lines.{HasGrids, IsSide, IsWhole, MayBegin, feeds_in, words_in};
 ghost use Rattle.report_picture.specs.declared.error.ReportError.TheVariants.{Line};
 
 use crate::error::ReportError;
@@ -222,8 +224,8 @@ fn line_at(text: &[u8], place: usize) -> u64
     line_feeds(&text[..place]) as u64 + 1
 }
 
-/// The report that a text ends with. Lines before it are passed over: it begins at the last line that begins with
-/// `input `. A report has at most 65,536 `grid` lines.
+/// The report that a text ends with. Lines before it are passed over: it begins at the last line
+/// that begins with `input `. A report has at most 65,536 `grid` lines.
 pub fn read_report(alloc: Global, text: &[u8]) -> Result<Report, ReportError>
     ensures ok { IfOk result (EndsWithReport text.now) }
     ensures whole { IfOk result IsWhole }

@@ -48,11 +48,12 @@ fn height(report: &Report) -> u64
     416 + 72 * report.n
 }
 
-/// A report as an SVG: for those who don't see it a description in words; and then, from above to below, the numbers
-/// of rows and pairs; the grid's shapes from the first over each step to the last, between them the rows that moved;
-/// the load against the best, in words and on a scale from the best to 5/4 of it; and the joiners at their places in
-/// the last grid, with the rows that they hold and the pairs that they made, shaded by these rows from none to the
-/// most that a joiner holds.
+/// A report as an SVG. For those who don't see it a title and a description in words; then, from
+/// above to below, the numbers of rows and pairs; the grid's shapes from the first over each step
+/// to the last, between them the rows that moved; the load against the best, in words and on a
+/// scale from the best to 5/4 of it; and the joiners at their places in the last grid, with the
+/// rows that they hold and the pairs that they made, shaded by these rows from none to the most
+/// that a joiner holds.
 pub fn picture(alloc: Global, report: &Report) -> Result<String, AllocError>
     requires { IsWhole report.now }
     ensures { IfOk result (λ text. string_bytes text ≡ drawing.picture_of report.now) }

@@ -10,7 +10,8 @@ loop-place-preserved c =
     let start = c.loop-place.start in
     let rest = between_to_end c.args.text.now c.loop-place.place (length c.args.text.now) (omega arith) in
     record {
-      within = start_within text place start _ c.loop-place.invariant.within c.loop-place-test.true c.later_start-start.ensures.either;
+      within = start_within text place start _ c.loop-place.invariant.within c.loop-place-test.true
+          c.later_start-start.ensures.either;
       line = behind_line text _ place c.line_len.result rest c.line_len.ensures.feed;
       there = there_so_far text place start _ c.loop-place.invariant.there c.later_start-start.ensures.either;
       last = last_so_far text _ place c.line_len.result start _ rest c.line_len.ensures.line c.loop-place.invariant.last
