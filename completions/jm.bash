@@ -152,7 +152,7 @@ _jm() {
     local _jm_cur _jm_tail _jm_word _jm_quote _jm_files
     local options='--on --joiners --feeders --workers --batch --feed --seed --fixed --weight-r --weight-s
         --replay --early --report --rows --groups --make'
-    [[ $program == jm-rows ]] && options="$options --columns --names" || options="$options --then"
+    [[ $program == jm-rows ]] && options+=' --columns --names' || options+=' --then'
     COMPREPLY=()
     _jm_current
     if [[ $_jm_cur == '=' ]]; then
