@@ -1,12 +1,12 @@
 // Words that don't stand together.
 
-ghost use Rattle.std.specs.Prelude.{◌≡◌};
+ghost use Rattle.std.specs.Prelude.{◌≡◌, IfSome, is_some, true};
 ghost use Rattle.join_words.specs.Apart;
 ghost use Rattle.join_words.specs.Apart.{are_apart, has_word};
 
 /// A word of the command line that doesn't stand together with each other one. `ManyFiles` is more than two names of files.
 #[derive(Clone, Copy, Debug, PartialEq, Eq)]
-pub(crate) enum Word {
+pub enum Word {
     Fixed,
     Replay,
     Make,
@@ -71,22 +71,24 @@ impl Given {
         self.has(pair.0) && self.has(pair.1)
     }
 
-    /// Whether one of these pairs has both its words.
-    fn has_any(&self, pairs: &[(Word, Word)]) -> bool
-        ensures { result ≡ Apart.any_of self.now pairs.now }
+    /// The first of these pairs that has both its words.
+    fn first_of(&self, pairs: &[(Word, Word)]) -> Option<(Word, Word)>
+        ensures any { is_some result ≡ Apart.any_of self.now pairs.now }
+        ensures both { IfSome result (λ pair. are_apart self.now pair ≡ true) }
     {
         for pair in pairs {
             if self.has_both(pair) {
-                return true;
+                return Some(*pair);
             }
         }
-        false
+        None
     }
 
-    /// Whether two words are given that don't stand together.
-    pub(crate) fn clash(&self) -> bool
-        ensures { result ≡ Apart.any_of self.now Apart.apart }
+    /// The first two words that are given and don't stand together.
+    pub(crate) fn clash(&self) -> Option<(Word, Word)>
+        ensures any { is_some result ≡ Apart.any_of self.now Apart.apart }
+        ensures both { IfSome result (λ pair. are_apart self.now pair ≡ true) }
     {
-        self.has_any(&APART)
+        self.first_of(&APART)
     }
 }

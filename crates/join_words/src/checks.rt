@@ -1,13 +1,14 @@
 // The checks of a match, in the order of their faults.
 
-ghost use Rattle.std.specs.Prelude.{◌≡◌, ◌≤◌, ◌<◌, ◌^◌, IfOk, IfSome, None, true, false, unwrap_or};
+ghost use Rattle.std.specs.Prelude.{◌≡◌, ◌≤◌, ◌<◌, ◌^◌, IfOk, IfSome, None, true, false, is_some, unwrap_or};
 ghost use Rattle.clap.specs.Matches.{found_of};
 ghost use Rattle.clap.specs.Walk.{rows_of};
 ghost use Rattle.grid_map.specs.Load.{AreWeights};
+ghost use Rattle.join_words.specs.Apart.{any_of, apart, are_apart};
 ghost use Rattle.join_words.specs.Words.{AreBounded, Gives, asked_by, exponent_of, feed_named, fixed_within, given_by};
 ghost use Rattle.join_words.specs.Words.{grid_of, members_of, number_at, staying_of, weights_at};
 
-use crate::apart::Given;
+use crate::apart::{Given, Word};
 use crate::found::{flag, is_given, number, text};
 use crate::names::{Named, are_many, read_names};
 use crate::options::{Options, WordsFault};
@@ -113,6 +114,15 @@ fn given(matches: &ArgMatches<'_>) -> Given
     }
 }
 
+/// The first two words of a match that don't stand together.
+pub fn words_apart(matches: &ArgMatches<'_>) -> Option<(Word, Word)>
+    ensures any { is_some result ≡ any_of (given_by (rows_of (found_of matches.now))) apart }
+    ensures both { IfSome result
+        (λ pair. are_apart (given_by (rows_of (found_of matches.now))) pair ≡ true) }
+{
+    given(matches).clash()
+}
+
 /// What a match asks for, or the first check that it fails.
 pub(crate) fn checked<'a>(matches: &ArgMatches<'a>) -> Result<Options<'a>, WordsFault>
     requires bounded { AreBounded (rows_of (found_of matches.now)) }
@@ -141,7 +151,7 @@ pub(crate) fn checked<'a>(matches: &ArgMatches<'a>) -> Result<Options<'a>, Words
     let joiners = number(matches, "joiners").unwrap_or(4);
     let k = grid(groups, joiners)?;
     let fixed = staying(groups, k, number(matches, "fixed"))?;
-    if given(matches).clash() {
+    if given(matches).clash().is_some() {
         return Err(WordsFault::Together);
     }
     let make = number(matches, "make");

@@ -3,13 +3,16 @@
 
 mod apart;
 mod checks;
-mod command;
 mod found;
 mod laws;
 mod names;
 mod options;
 mod reading;
+mod syntax;
 
+pub use apart::Word;
+pub use checks::words_apart;
 pub use laws::requests_have_no_match;
 pub use options::{Chain, Options, WordsError, WordsFault};
 pub use reading::read_words;
+pub use syntax::command;

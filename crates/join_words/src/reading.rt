@@ -10,8 +10,8 @@ ghost use Rattle.join_words.specs.Words.{IsMatch, asked, asked_of};
 ghost use Rattle.join_words.specs.declared.options.WordsFault.{WordsFault};
 
 use crate::checks::checked;
-use crate::command::command;
 use crate::options::{Options, WordsError, WordsFault};
+use crate::syntax::command;
 use clap::error::ErrorKind;
 use clap::{ArgMatches, Error};
 use std::alloc::{AllocError, Global};

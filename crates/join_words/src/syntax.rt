@@ -67,8 +67,8 @@ fn files<'a>(alloc: Global, id: &'a str) -> Arg<'a>
     Arg::new(alloc, id).num_args(0..)
 }
 
-/// The command of `jm`.
-pub(crate) fn command<'a>(alloc: Global) -> Result<Command<'a>, AllocError>
+/// The command of `jm`, by which clap matches its words.
+pub fn command<'a>(alloc: Global) -> Result<Command<'a>, AllocError>
     ensures { IfOk result (λ command. IsCommand (app_of command)) }
 {
     Command::new(alloc, "jm")

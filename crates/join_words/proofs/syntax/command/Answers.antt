@@ -5,7 +5,7 @@ use Rattle.clap.specs.Walk.{Rule}
 use Rattle.clap.specs.Simple.{App, app_of, new_app, with_rule}
 use Rattle.join_words.specs.Command.{IsCommand, jm_command, default_rule, files_rule, flag_rule, number_rule, option_rule, text_or_rule, text_rule}
 use Rattle.join_words.proofs.Arguments.{IsApp, added}
-use Rattle.join_words.proofs.command.command.Goals as goal
+use Rattle.join_words.proofs.syntax.command.Goals as goal
 
 pub returns : goal.returns
 unfolding jm_command
