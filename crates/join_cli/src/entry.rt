@@ -14,10 +14,8 @@ use join_rows::{Shelf, Sink};
 use std::alloc::{AllocError, Global};
 use std::marker::Model;
 use std::process::{ExitCode, Termination};
-use std::rt::Env;
 use std::sync::Wait;
 use std::thread::Threads;
-use std::{env, io};
 use worker_gate::Gate;
 
 /// The exit status of a run of the program. Only `jm_program` makes one, so a `main` that answers
@@ -51,22 +49,6 @@ impl Termination for Ended {
     {
         self.code
     }
-}
-
-/// The words of the command line, the program's name first. Words of which one isn't UTF-8 have no
-/// match, and are taken as none.
-pub fn command_words<V: Env + AllocGlobal>(process: &V) -> Result<Vec<String>, AllocError> {
-    let mut words = Vec::new(process.alloc());
-    match env::args(process) {
-        Ok(args) => {
-            for word in args {
-                words.push(word)?;
-            }
-        }
-        Err(error) if error.kind() == io::ErrorKind::OutOfMemory => return Err(AllocError),
-        Err(_) => {}
-    }
-    Ok(words)
 }
 
 /// The end with the status of an outcome.

@@ -13,9 +13,9 @@ mod run;
 mod text;
 mod top;
 
-pub use entry::{Ended, command_words, jm_program};
+pub use entry::{Ended, jm_program};
 pub use join_plan::{InputFault, LimitFault, TextFault};
-pub use join_words::WordsFault;
+pub use join_words::{WordsFault, command_words};
 pub use laws::{fixed_output_is_one, past_is_too_long};
 pub use outcome::{Journals, Outcome};
 pub use program::{exit_code, jm_main, tell};

@@ -7,6 +7,7 @@ mod found;
 mod laws;
 mod names;
 mod options;
+mod process;
 mod reading;
 mod syntax;
 
@@ -14,5 +15,6 @@ pub use apart::Word;
 pub use checks::words_apart;
 pub use laws::requests_have_no_match;
 pub use options::{Chain, Options, WordsError, WordsFault};
+pub use process::command_words;
 pub use reading::read_words;
 pub use syntax::command;
