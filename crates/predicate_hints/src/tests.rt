@@ -1,0 +1,2 @@
+mod meanings;
+mod places;

@@ -1,0 +1,108 @@
+// What first tries meant, at the places that `parse` names.
+
+use crate::meant;
+use crate::sentences::{
+    ABS_LEFT, ABS_RIGHT, BRACKETS, CHAIN, COLUMN, EQUAL, FUNCTION, NEGATION, NULL, OR_EQUAL,
+    PRODUCT, QUOTES, QUOTIENT, SEMICOLON, TABLE, TEXTS, UNCLOSED, UNEQUAL, WHOLE,
+};
+use theta_text::{PredFault, parse};
+
+// The first tries of the table in docs/USAGE.md, but for `r.name = s.name`, which is a predicate.
+const TRIES: [(&str, u64, &str); 18] = [
+    ("x = y", 0, COLUMN),
+    (
+        "r.id = s.id AND r.a = s.a",
+        12,
+        "keywords are lower case: write and",
+    ),
+    ("r.a <> s.a", 5, UNEQUAL),
+    ("r.a == s.a", 5, EQUAL),
+    ("r.a * 2 = s.a", 4, PRODUCT),
+    ("(r.a + 1) = s.a", 8, BRACKETS),
+    ("r.a - (s.a - 1) = 0", 6, BRACKETS),
+    (
+        "r.a between 10 and 20",
+        4,
+        "there is no between: write r.a >= 10 and r.a <= 20",
+    ),
+    (
+        "r.a in (10, 20)",
+        4,
+        "there is no in: write r.a = 10 or r.a = 20",
+    ),
+    (
+        "r.name like 'A%'",
+        7,
+        "there is no like: write text(r.NAME) >= 'A' and text(r.NAME) < 'B'",
+    ),
+    ("r.name = 'x'", 9, TEXTS),
+    ("text(r.name) = \"x\"", 15, QUOTES),
+    ("r.name is null", 7, NULL),
+    ("r.price = 3.5", 11, WHOLE),
+    ("abs(r.a - s.a) <= r.b", 18, ABS_RIGHT),
+    ("5 >= abs(r.a - s.a)", 5, ABS_LEFT),
+    ("r.a < s.a < 40", 10, CHAIN),
+    ("lower(text(r.name)) = text(s.name)", 0, FUNCTION),
+];
+
+// Others like them.
+const OTHERS: [(&str, u64, &str); 16] = [
+    ("R.a = s.a", 0, TABLE),
+    ("ABS(r.a) = 1", 0, "keywords are lower case: write abs(..)"),
+    ("r = s.a", 2, COLUMN),
+    ("text(name) = 'x'", 5, COLUMN),
+    ("r.a = 1 and b = 2", 12, COLUMN),
+    ("text(r.name) = s.name", 15, TEXTS),
+    ("r.name = text(s.name)", 9, TEXTS),
+    ("abs(r.a - s.a) <= -5", 18, ABS_RIGHT),
+    ("abs((r.a - s.a)) <= 5", 4, BRACKETS),
+    ("r.a not in (1, 2)", 4, NEGATION),
+    ("r.a => s.a", 5, OR_EQUAL),
+    ("r.a = 1e5", 7, WHOLE),
+    ("r.a / 2 = s.a", 4, QUOTIENT),
+    ("\"name\" = 'x'", 0, QUOTES),
+    ("text(r.name) = 'x", 15, UNCLOSED),
+    ("r.id = s.id;", 11, SEMICOLON),
+];
+
+#[test]
+fn each_first_try_has_a_sentence(rt: HostRuntime) {
+    for (text, place, sentence) in TRIES {
+        assert_eq!(rt;
+            parse(rt.alloc(), text).err(),
+            Some(PredFault::Syntax { place }),
+            "{text}"
+        );
+        assert_eq!(rt; meant(text, place), Some(sentence), "{text}");
+    }
+}
+
+#[test]
+fn others_like_them_have_one(rt: HostRuntime) {
+    for (text, place, sentence) in OTHERS {
+        assert_eq!(rt;
+            parse(rt.alloc(), text).err(),
+            Some(PredFault::Syntax { place }),
+            "{text}"
+        );
+        assert_eq!(rt; meant(text, place), Some(sentence), "{text}");
+    }
+}
+
+// Texts that are refused where no first try is known: `and` at the beginning, a bracket too many, a
+// comparison behind one, and one that nests too deep.
+const UNKNOWN: [(&str, u64); 5] = [
+    ("and r.x = 1", 0),
+    ("r.x = s.y)", 9),
+    ("r.x = 1 s.y = 2", 8),
+    ("r.x = 1 and = 2", 12),
+    ("(((((((((((((((((((((((((((((((((1=1", 32),
+];
+
+#[test]
+fn no_other_text_has_one(rt: HostRuntime) {
+    for (text, place) in UNKNOWN {
+        assert!(rt; parse(rt.alloc(), text).is_err(), "{text}");
+        assert_eq!(rt; meant(text, place), None, "{text}");
+    }
+}
