@@ -1,5 +1,5 @@
 -- What parsing a text shows of what may follow it.
-use Rattle.std.proofs.Common.{◌≡◌, ◌≢◌, ◌↔◌, ◌⊎◌, inl, inr, ℕ, List, [], ◌∷◌, ◌++◌, length, take, Option, None, Some, Result, Ok, Err, IfOk, MatchResult, Bool, true, false, IsTrue, refl, sym, ap, subst}
+use Rattle.std.proofs.Common.{◌≡◌, ◌≢◌, ◌↔◌, ◌⊎◌, inl, inr, ℕ, List, [], ◌∷◌, ◌++◌, length, take, Option, Some, Result, Ok, Err, IfOk, MatchResult, Bool, IsTrue, refl, sym, ap, subst}
 use Rattle.std.specs.Result.{result_err}
 use Rattle.std.specs.Str.{IsCharBoundary}
 use Rattle.std.specs.declared.alloc.AllocError.{AllocError}
@@ -8,7 +8,7 @@ use Rattle.theta_text.specs.Texts.{TextReads, IsFaultOf, IsSyntaxAt, IsDeepAt, I
 use Rattle.theta_text.specs.declared.tree.Pred.{Pred}
 use Rattle.theta_text.specs.declared.fault.PredFault.{PredFault}
 use Rattle.theta_text.specs.declared.fault.PredFault.TheVariants.{Syntax, Deep, Wide, Literal, Memory}
-use Rattle.predicate_hints.specs.Follow.{IsPredicate, IsReading, IsUnfinished, MayFollow, Stands}
+use Rattle.predicate_hints.specs.Follow.{IsReading, MayFollow, Stands}
 
 -- a fault that is told, and not for want of memory, is the text's one fault
 told : (text : List ℕ) (found : PredFault)

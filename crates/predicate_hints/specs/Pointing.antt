@@ -1,5 +1,5 @@
 -- A place shown below its line.
-use Rattle.std.specs.Prelude.{ℕ, ◌-◌, List, [], ◌∷◌, ◌++◌, length, take, drop, Bool, not, cond, ◌&&◌, ◌||◌, ◌==◌, nat_le, map}
+use Rattle.std.specs.Prelude.{ℕ, ◌-◌, List, [], ◌∷◌, ◌++◌, length, take, drop, Bool, not, cond, ◌||◌, ◌==◌, nat_le, map}
 use Rattle.std.specs.List.{prefix_len, suffix_len, filter}
 
 -- a byte that is no line end, that is neither LF nor CR

@@ -73,13 +73,11 @@ fn beginning(front: &[u8], word: &[u8], behind: &[u8]) -> Option<&'static str> {
 /// without blanks at its end.
 pub(crate) fn of_word(near: &[u8], front: &[u8], rest: &[u8]) -> Option<&'static str> {
     let (word, behind) = first_word(rest);
-    if ends_in(near, b"0123456789") {
-        return Some(WHOLE);
-    }
     if let Some(sentence) = upper_case(word, behind) {
-        return Some(sentence);
-    }
-    if begins_part(front) {
+        Some(sentence)
+    } else if ends_in(near, b"0123456789") {
+        Some(WHOLE)
+    } else if begins_part(front) {
         beginning(front, word, behind)
     } else {
         operator(word)

@@ -1,4 +1,4 @@
-use Rattle.std.proofs.Common.{ℕ, List, ◌++◌, drop}
+use Rattle.std.proofs.Common.{List, ◌++◌, drop}
 use Rattle.predicate_hints.specs.declared.kinds.Expected.{Expected}
 use Rattle.predicate_hints.specs.Listing.{AreThose, CanStand}
 use Rattle.predicate_hints.proofs.listing.those.Given as goal
