@@ -1,0 +1,22 @@
+-- What a plan or a refusal says, a verdict that tells it says too.
+use Rattle.std.proofs.Common.{◌≡◌, ◌⊎◌, inl, inr, Result, Ok, Err, ap}
+use Rattle.theta_text.specs.declared.fault.PredFault.{PredFault}
+use Rattle.join_plan.specs.declared.fault.Refusal.{Refusal}
+use Rattle.join_plan.specs.declared.fault.Refusal.TheVariants as refusals
+use Rattle.join_plan.specs.declared.fitting.Planned.{Planned}
+use Rattle.join_plan.specs.declared.refusal.Which.{Which}
+use Rattle.join_plan.specs.Texts.{RefusesText}
+use Rattle.join_why.specs.declared.verdict.Verdict.TheVariants.{Refuses}
+use Rattle.join_why.specs.Verdicts.{TellsEarly, lacks_memory, verdict_of}
+
+-- where the one is the plan's or want of memory, so is the verdict
+pub told_by : (result plan : Result Planned Refusal) → (result ≡ Err refusals.Memory) ⊎ (result ≡ plan)
+    → (verdict_of result ≡ lacks_memory) ⊎ (verdict_of result ≡ verdict_of plan)
+told_by result plan (inl memory) = inl (ap verdict_of memory)
+told_by result plan (inr is) = inr (ap verdict_of is)
+
+-- a text that is refused by its fault is told so
+pub told_early : (which : Which) (fault : PredFault) (refusal : Refusal)
+    → RefusesText {T = Planned} which fault (Err refusal) → TellsEarly which fault (Refuses refusal)
+told_early which fault refusal (inl memory) = inl (ap Refuses memory)
+told_early which fault refusal (inr is) = inr (ap Refuses is)

@@ -1,0 +1,169 @@
+// What a join that nothing is wrong with would be.
+
+ghost use Rattle.std.specs.Prelude.{◌≤◌};
+ghost use Rattle.grid_map.specs.Load.{AreWeights};
+
+use crate::lookup::{Headers, push_lookup};
+use grid_map::{Shape, Weights, best_shift, copies};
+use join_plan::{Planned, Third};
+use join_rows::Table;
+use join_words::Options;
+use joined_rows::joined_names;
+use std::alloc::{AllocError, Global};
+
+/// What a run takes beside its rows, in bytes.
+const BESIDE: u64 = 8_000_000;
+/// What a cell, a row and a copy of a row in a joiner's store take, in bytes, as measured.
+const PER_CELL: u64 = 60;
+
+const PER_ROW: u64 = 60;
+
+const PER_COPY: u64 = 160;
+
+/// More rows than any file may have, within which the sums below stay.
+const MOST_ROWS: u64 = 1 << 20;
+/// And more columns.
+const MOST_COLUMNS: u64 = 1 << 24;
+
+/// How many rows a table has.
+fn rows_in(table: &Table) -> u64
+    ensures { result ≤ 1048576 }
+{
+    table.rows.len().min(MOST_ROWS)
+}
+
+/// What the cells and rows of a table take, in bytes.
+fn bytes_of(table: &Table) -> u64
+    ensures { result ≤ 1125899906842624 }
+{
+    let columns = table.names.len().min(MOST_COLUMNS);
+    let rows = rows_in(table);
+    (rows * PER_ROW + rows * columns * PER_CELL).min(1 << 50)
+}
+
+/// Appends how many rows and columns a table has.
+fn push_table(text: &mut String, label: &str, name: &str, table: &Table) -> Result<(), AllocError> {
+    let rows = table.rows.len();
+    let columns = table.names.len();
+    let name = if name.is_empty() { "made" } else { name };
+    write!(text, "{label}, {name}: rows {rows}, columns {columns}\n")
+}
+
+/// Appends the shape of a grid.
+fn push_shape(text: &mut String, shape: Shape) -> Result<(), AllocError>
+    requires k { shape.k ≤ 6 }
+    requires shift { shape.shift ≤ shape.k }
+{
+    let rows = 1u64 << (shape.k - shape.shift);
+    let columns = 1u64 << shape.shift;
+    write!(text, "{rows} × {columns}")
+}
+
+/// The grid with which a run begins.
+fn first_shape(options: &Options<'_>) -> Shape
+    requires { options.now.k ≤ 6 }
+    ensures k { result.k ≤ 6 }
+    ensures shift { result.shift ≤ result.k }
+{
+    let k = options.k;
+    let shift = options.fixed.unwrap_or(k / 2).min(k);
+    Shape { k, shift }
+}
+
+/// The grid with the fewest copies of all rows, or the one that stays.
+fn last_shape(options: &Options<'_>, x: u64, y: u64) -> Shape
+    requires k { options.now.k ≤ 6 }
+    requires weights { AreWeights options.now.weights }
+    requires x { x ≤ 1048576 }
+    requires y { y ≤ 1048576 }
+    ensures k { result.k ≤ 6 }
+    ensures shift { result.shift ≤ result.k }
+{
+    let first = first_shape(options);
+    if options.fixed.is_some() {
+        return first;
+    }
+    let shift = best_shift(first, options.weights, x, y).min(first.k);
+    Shape { k: first.k, shift }
+}
+
+/// Appends the grid, and what it takes with all rows.
+fn push_grid(text: &mut String, options: &Options<'_>, planned: &Planned) -> Result<(), AllocError>
+    requires k { options.now.k ≤ 6 }
+    requires weights { AreWeights options.now.weights }
+{
+    let x = rows_in(&planned.tables.of_r);
+    let y = rows_in(&planned.tables.of_s);
+    let last = last_shape(options, x, y);
+    let held = copies(last, Weights { r: 1, s: 1 }, x, y).min(1 << 40);
+    text.push_str("grid: begins as ")?;
+    push_shape(text, first_shape(options))?;
+    text.push_str(", and the best for all rows is ")?;
+    push_shape(text, last)?;
+    let tables = bytes_of(&planned.tables.of_r) + bytes_of(&planned.tables.of_s);
+    let bytes = BESIDE + tables + held * PER_COPY;
+    let megabytes = bytes / 1_000_000;
+    write!(text, "\nmemory: some {megabytes} MB, and the output\n")
+}
+
+/// Appends the sizes of the groups that so many joiners form.
+fn push_groups(text: &mut String, joiners: u32) -> Result<(), AllocError> {
+    write!(
+        text,
+        "groups: the {joiners} joiners form some, each with a grid of its own, of"
+    )?;
+    for digit in [64u32, 32, 16, 8, 4, 2, 1] {
+        if joiners & digit != 0 {
+            write!(text, " {digit}")?;
+        }
+    }
+    text.push('\n')
+}
+
+/// Appends how the second join finds its matches; how many rows it has shows only at the first.
+fn push_second(
+    alloc: Global,
+    text: &mut String,
+    options: &Options<'_>,
+    planned: &Planned,
+    third: &Third,
+) -> Result<(), AllocError> {
+    let name = options.chain.map_or("", |chain| chain.name);
+    push_table(text, "S2", name, &third.table)?;
+    let tables = &planned.tables;
+    let joined = joined_names(alloc, &tables.of_r.names, &tables.of_s.names)?;
+    let headers = Headers {
+        r: &joined,
+        s: &third.table.names,
+    };
+    text.push_str("in the second join, whose R are the joined rows, ")?;
+    push_lookup(text, &third.theta, headers)
+}
+
+/// What the join would be that these options ask for.
+pub(crate) fn explain_plan(
+    alloc: Global,
+    options: &Options<'_>,
+    planned: &Planned,
+) -> Result<String, AllocError>
+    requires k { options.now.k ≤ 6 }
+    requires weights { AreWeights options.now.weights }
+{
+    let tables = &planned.tables;
+    let mut text = format!(in alloc; "jm would join:\n")?;
+    push_table(&mut text, "R", options.name_r, &tables.of_r)?;
+    push_table(&mut text, "S", options.name_s, &tables.of_s)?;
+    let headers = Headers {
+        r: &tables.of_r.names,
+        s: &tables.of_s.names,
+    };
+    push_lookup(&mut text, &planned.theta, headers)?;
+    match options.groups {
+        Some(joiners) => push_groups(&mut text, joiners)?,
+        None => push_grid(&mut text, options, planned)?,
+    }
+    if let Some(third) = &planned.third {
+        push_second(alloc, &mut text, options, planned, third)?;
+    }
+    Ok(text)
+}

@@ -1,0 +1,73 @@
+// What would be joined, and how.
+
+use super::{FILES, tells};
+use std::alloc::{AllocError, Global};
+use std::process::Abort;
+use std::test::Fail;
+
+// Of a predicate that nothing is wrong with the lines that say how matches are found.
+fn finds<R: Abort>(rt: &R, alloc: Global, on: &str, lines: &str) -> Result<(), AllocError> {
+    let line = format!(in alloc; "jm|--on|{on}|--joiners|1|r|s")?;
+    let text = format!(in alloc;
+        "jm would join:\nR, r: rows 3, columns 2\nS, s: rows 3, columns 2\n{lines}grid: begins as 1 × 1, and the best for all rows is 1 × 1\nmemory: some 8 MB, and the output\n"
+    )?;
+    tells(rt, alloc, line.as_str(), FILES, (0, text.as_str()))
+}
+
+#[test]
+fn equalities_are_looked_up(rt: HostRuntime) -> Result<(), Fail> {
+    let lines =
+        "rows that agree are looked up by their values:\n    r.x = s.y + 1\n    text(r.id) = text(s.id)\n";
+    finds(
+        &rt,
+        rt.alloc(),
+        "r.x = s.y + 1 and text(r.id) = text(s.id)",
+        lines,
+    )?;
+    Ok(())
+}
+
+#[test]
+fn a_range_is_looked_up(rt: HostRuntime) -> Result<(), Fail> {
+    let band = "rows are looked up in a range:\n    r.x less s.y from -5 to 5\n";
+    finds(&rt, rt.alloc(), "abs(r.x - s.y) <= 5", band)?;
+    let bound = "rows are looked up in a range:\n    r.x less s.y at most -1\n";
+    finds(&rt, rt.alloc(), "r.x < s.y", bound)?;
+    Ok(())
+}
+
+#[test]
+fn else_all_are_compared(rt: HostRuntime) -> Result<(), Fail> {
+    let lines =
+        "nothing is looked up, since no member of the top `and` serves: each row of R is compared with each of S\n";
+    finds(&rt, rt.alloc(), "r.x = s.y or r.id = s.id", lines)?;
+    Ok(())
+}
+
+#[test]
+fn of_two_joins(rt: HostRuntime) -> Result<(), Fail> {
+    let text =
+        "jm would join:\nR, r: rows 3, columns 2\nS, s: rows 3, columns 2\nrows that agree are looked up by their values:\n    r.x = s.y\ngrid: begins as 2 × 2, and the best for all rows is 2 × 2\nmemory: some 8 MB, and the output\nS2, q: rows 2, columns 2\nin the second join, whose R are the joined rows, rows that agree are looked up by their values:\n    r.s_id = s.z\n";
+    tells(
+        &rt,
+        rt.alloc(),
+        "jm|--on|r.x = s.y|--then|r.s_id = s.z|r|s|q",
+        FILES,
+        (0, text),
+    )?;
+    Ok(())
+}
+
+#[test]
+fn of_made_tables_in_groups(rt: HostRuntime) -> Result<(), Fail> {
+    let text =
+        "jm would join:\nR, made: rows 100, columns 3\nS, made: rows 100, columns 3\nrows that agree are looked up by their values:\n    r.key = s.key\ngroups: the 7 joiners form some, each with a grid of its own, of 4 2 1\n";
+    tells(
+        &rt,
+        rt.alloc(),
+        "jm|--on|r.key = s.key|--make|100|--joiners|7|--groups",
+        FILES,
+        (0, text),
+    )?;
+    Ok(())
+}
