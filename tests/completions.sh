@@ -80,6 +80,7 @@ check 'jm --we' jm --we :: --weight-r --weight-s
 check 'jm --r' jm --r :: --replay --report --rows
 check 'jm --columns' jm --columns :: ''
 check 'jm-rows --c' jm-rows --c :: --columns
+check 'jm-why --th' jm-why --th :: --then
 check 'jm --joiners 1' jm --joiners 1 :: 1 16
 check 'jm --joiners=6' jm --joiners = 6 :: 64
 check 'jm --joiners=' jm --joiners = :: 1 2 4 8 16 32 64

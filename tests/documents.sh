@@ -1,6 +1,6 @@
 #!/bin/sh
 # Runs what README.md, docs/USAGE.md, docs/jm.1 and examples/README.md show, and compares. It is no part of the gate, in
-# which no test may start a program. JM and JM_PICTURE name other programs than the repository's own.
+# which no test may start a program. JM, JM_PICTURE and JM_WHY name other programs than the repository's own.
 #
 # An indented line that begins with "$ " is a command, and the lines below it, up to the next such or the block's end,
 # are what it prints; the lines of --early may come in another order. An indented line that begins with "./jm" is run,
@@ -13,6 +13,7 @@ set -u
 top=$(cd "$(dirname "$0")/.." && pwd -P)
 jm=${JM:-$top/jm}
 jm_picture=${JM_PICTURE:-$top/jm-picture}
+jm_why=${JM_WHY:-$top/jm-why}
 room=$(mktemp -d)
 trap 'rm -rf "$room"' EXIT
 cd "$room" || exit 1
@@ -134,6 +135,7 @@ document() {
     for place in . ../bin; do
         ln -sf "$jm" $place/jm
         ln -sf "$jm_picture" $place/jm-picture
+        ln -sf "$jm_why" $place/jm-why
         ln -sf "$top/jm-rows" $place/jm-rows
     done
     for step in steps/*; do
