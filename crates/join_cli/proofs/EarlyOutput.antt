@@ -87,7 +87,9 @@ same_output asked planned input setting journal trail text input_is setting_is e
     subst (λ e. IsOutput e asked planned (by_run journal trail) text) (sym early)
     (subst (λ i. IsFoundText asked.report i (setting_of asked) journal text) input_is (subst (λ s. IsFoundText asked.report input s journal text) setting_is is))
 
-pub early_written : (asked : Asked) (planned : Planned) (input : Input) (setting : Setting) (journal : List TurnLine) (trail : List EndsView) (old new : Option (List ℕ))
+-- early output that was put whole is the output that is asked for
+pub early_written : (asked : Asked) (planned : Planned) (input : Input) (setting : Setting) (journal : List TurnLine)
+    (trail : List EndsView) (old new : Option (List ℕ))
     → input ≡ input_of asked.seed planned → setting ≡ setting_of asked → asked.early ≡ true
     → PutFound asked.report input setting journal old new → WroteOutput asked planned (by_run journal trail) old new
 early_written asked planned input setting journal trail old new input_is setting_is early put =
@@ -112,6 +114,7 @@ early_stopped asked planned input setting old new input_is setting_is of_input o
       })
     ])
 
+-- a sink that takes each output that is asked for takes the early one
 pub early_takes : (takes : ℕ → Type 0) (asked : Asked) (planned : Planned) (input : Input) (setting : Setting)
     → input ≡ input_of asked.seed planned → setting ≡ setting_of asked → IsValidInput input → IsValidSetting setting
     → asked.early ≡ true → asked.make ≡ None → asked.rows ≡ false → asked.groups ≡ None → asked.chain ≡ None
@@ -164,7 +167,9 @@ whole_stopped asked planned text old new (Some way) whole made front =
       front = front;
     })
 
-pub whole_lines : (asked : Asked) (planned : Planned) (old new : Option (List ℕ)) → asked.early ≡ false → new ≡ old → WroteLines asked.early asked planned old new
+-- where nothing is wanted early and nothing was written, no more than that was
+pub whole_lines : (asked : Asked) (planned : Planned) (old new : Option (List ℕ)) → asked.early ≡ false → new ≡ old
+    → WroteLines asked.early asked planned old new
 whole_lines asked planned old new whole same = rw whole same
 
 -- early output is of joiners in one grid

@@ -94,6 +94,7 @@ text_stays : (asked : Asked) (input : Input) (setting : Setting) (b : ℕ) (jour
 text_stays asked input setting b journal fixed stays none =
     ap (λ lines. answer_of asked.make asked.rows input ++ (if asked.report then lines else [])) (report_stays input setting b journal (each_shift setting b journal fixed stays) none)
 
+-- with a fixed shift two such journals have one output
 pub one_output : (asked : Asked) (planned : Planned) (shift : ℕ) (one other : List TurnLine) → asked.fixed ≡ Some shift
     → IsJournalOf asked planned one → IsJournalOf asked planned other → output_of asked planned one ≡ output_of asked planned other
 one_output asked planned shift one other fixed is_one is_other =

@@ -112,6 +112,7 @@ ended : (asked : Asked) (trees : Trees) (old new : Option (List ℕ)) (outcome :
     → found ≡ Err refusal → Ends asked old new (then_of found (fitted trees)) outcome → outcome ≡ outcome_of refusal
 ended asked trees old new outcome found refusal is ends = (subst (λ f. Ends asked old new (then_of f (fitted trees)) outcome) is ends).0
 
+-- what was read up to a place past the greatest length is no table, so the refusal is the one that tells its file
 pub past_is_too_long : (told : Told) (spot : Spot) (asked : Asked) (trees : Trees) (old new : Option (List ℕ)) (outcome : Outcome)
     (name : List ℕ) (place : ℕ) → asked.make ≡ None → EndsOver told spot asked trees old new outcome
     → spot ≡ Some (name, place) → 2 ^ 24 < place → IsTooLong asked name outcome

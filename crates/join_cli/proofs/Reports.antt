@@ -45,6 +45,7 @@ past_fits setting first journal (line ∷ past) fits is follows =
     let each : AllByRecursion P (line ∷ past) = shifts_within (rules_of setting) first line past fits follows in
     All-from_recursion P journal (subst (AllByRecursion P) (ap reverse (sym is) ∙ reverse-reverse journal) (all-reverse P (line ∷ past) each))
 
+-- each line of a run's journal has a shift of its grid
 pub shifts_fit : (input : Input) (setting : Setting) (journal : List TurnLine) (run : Run) → IsValidInput input → IsValidSetting setting
     → IsRunOf input setting (first_rest setting).line journal run → AreWithin setting.k journal
 shifts_fit input setting journal run of_input valid is =

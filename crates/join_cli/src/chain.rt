@@ -13,7 +13,7 @@ ghost use Rattle.join_cli.specs.Ends.{IsHalted, IsMade, course_of};
 ghost use Rattle.join_cli.specs.Plan.{input_of, setting_of};
 
 use crate::outcome::Outcome;
-use crate::run::{Joined, bare_report, bytes_of, report};
+use crate::output::{Joined, bare_report, bytes_of, report};
 use chain_join::{ChainFault, ChainRun, Triple, run_chain};
 use join_plan::{LimitFault, Third};
 use join_rows::Bytes;

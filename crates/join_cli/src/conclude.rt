@@ -14,8 +14,10 @@ ghost use Rattle.join_cli.specs.Chain.{IsFewBetween};
 ghost use Rattle.join_cli.specs.Requests.{IsChained};
 
 use crate::early::put_found;
+use crate::input::{input, setting};
 use crate::outcome::Outcome;
-use crate::run::{Course, Joined, input, output, setting};
+use crate::output::{Joined, output};
+use crate::run::Course;
 use join_plan::Planned;
 use join_report::put_all;
 use join_rows::{Failed, Sink};

@@ -1,5 +1,5 @@
 use Rattle.join_cli.proofs.Inputs.{valid_input}
-use Rattle.join_cli.proofs.run.input.Goals as goal
+use Rattle.join_cli.proofs.input.input.Goals as goal
 
 pub returns-clause-valid : goal.returns-clause-valid
 returns-clause-valid c =

@@ -3,7 +3,7 @@ use Rattle.join_words.specs.Words.{asked}
 use Rattle.join_cli.specs.Plan.{input_of, text_of}
 use Rattle.join_cli.proofs.Inputs.{course_of_run}
 use Rattle.join_cli.proofs.Told.{not_chained}
-use Rattle.join_cli.proofs.run.grid_output.Goals as goal
+use Rattle.join_cli.proofs.output.grid_output.Goals as goal
 
 pub returns : goal.returns
 returns g c = λ planned is.

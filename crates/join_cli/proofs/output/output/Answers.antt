@@ -1,7 +1,7 @@
 use Rattle.std.proofs.Common.{refl}
 use Rattle.std.proofs.lemmas.Result.{IfErr-weaker, IfOk-weaker}
 use Rattle.join_cli.proofs.Chained.{third_over}
-use Rattle.join_cli.proofs.run.output.Goals as goal
+use Rattle.join_cli.proofs.output.output.Goals as goal
 
 pub output_with-requires-clause-third : goal.output_with-requires-clause-third
 output_with-requires-clause-third g c lifetimes within = third_over c.args.options.now.seed c.args.planned c.in-Ok.input c.in-Ok.ensures.is c.requires.fit

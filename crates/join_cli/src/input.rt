@@ -1,0 +1,77 @@
+// The input and the setting of a run.
+
+ghost use Rattle.std.specs.Prelude.{◌≡◌, ◌<◌, ◌^◌, All, IfOk, length};
+ghost use Rattle.trace_law.specs.Validity.{IsValidInput, IsValidSetting};
+ghost use Rattle.join_words.specs.Words.{asked};
+ghost use Rattle.chain_join.specs.Chains.{tickets_of};
+ghost use Rattle.join_rows.specs.Records.{IsTable};
+ghost use Rattle.join_cli.specs.Plan.{input_with, setting_of};
+
+use join_plan::Tables;
+use join_rows::{Bytes, Side, Table};
+use join_words::Options;
+use link_trace::{Input, Setting};
+use row_tickets::tickets;
+use std::alloc::{AllocError, Global};
+use theta_pred::Theta;
+
+/// The setting that the options ask for.
+pub(crate) fn setting(options: &Options<'_>) -> Setting
+    requires setting { IsValidSetting (setting_of (asked options.now)) }
+    ensures is { result ≡ setting_of (asked options.now) }
+    ensures valid { IsValidSetting result }
+{
+    Setting {
+        k: options.k,
+        feeders: options.feeders,
+        workers: options.workers,
+        batch: options.batch,
+        feed: options.feed,
+        fixed: options.fixed,
+        weights: options.weights,
+    }
+}
+
+/// What is in a list of bytes is below 256.
+fn are_bytes(tickets: &[u8])
+    ensures { All (λ ticket. ticket < 2 ^ 8) tickets.now }
+{
+    let _count = tickets.len();
+}
+
+/// The tickets of a table's rows.
+fn drawn(alloc: Global, seed: u64, side: Side, table: &Table) -> Result<Bytes, AllocError>
+    ensures is { IfOk result (λ drawn. drawn ≡ tickets_of seed side table.now.rows) }
+    ensures bytes { IfOk result (λ drawn. All (λ ticket. ticket < 2 ^ 8) drawn) }
+{
+    let drawn = tickets(alloc, seed, side, table.rows.len())?;
+    are_bytes(drawn.as_slice());
+    Ok(drawn)
+}
+
+/// Tables and a predicate, with the tickets of a seed.
+pub(crate) fn input(
+    alloc: Global,
+    seed: u64,
+    tables: Tables,
+    theta: Theta,
+) -> Result<Input, AllocError>
+    requires table_r { IsTable tables.of_r }
+    requires table_s { IsTable tables.of_s }
+    requires width_r { theta.width_r ≡ length tables.of_r.names }
+    requires width_s { theta.width_s ≡ length tables.of_s.names }
+    ensures is { IfOk result (λ input. input ≡ input_with seed tables theta) }
+    ensures valid { IfOk result IsValidInput }
+{
+    let table_r = tables.of_r;
+    let table_s = tables.of_s;
+    let tickets_r = drawn(alloc, seed, Side::R, &table_r)?;
+    let tickets_s = drawn(alloc, seed, Side::S, &table_s)?;
+    Ok(Input {
+        table_r,
+        table_s,
+        theta,
+        tickets_r,
+        tickets_s,
+    })
+}
