@@ -66,7 +66,7 @@ fn threaded<R: Threads + Wait + Sync, G: Gate>(
 }
 
 /// The run that the options ask for: in threads, or as a replay where a number of one is given.
-fn carry_out<R: Threads + Wait + Sync, G: Gate>(
+pub(crate) fn carry_out<R: Threads + Wait + Sync, G: Gate>(
     rt: &R,
     alloc: Global,
     number: Option<u64>,

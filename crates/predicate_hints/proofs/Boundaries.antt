@@ -14,13 +14,15 @@ pub line_end_ascii : (b : ℕ) → is_within_line b ≡ false → b < 128
 line_end_ascii b e = grind (arith, nat_tests)
 
 -- the first line ends at a character's beginning, or where the text does
-pub first_line_ends : (text : List ℕ) (n : ℕ) → n ≡ prefix_len is_within_line text → n ≤ length text → IsCharBoundary text n
+pub first_line_ends : (text : List ℕ) (n : ℕ) → n ≡ prefix_len is_within_line text → n ≤ length text
+    → IsCharBoundary text n
 first_line_ends text n e le = elim (eq-or-lt_of_le le) [
   | inl all ↦ subst (IsCharBoundary text) (sym all) (IsCharBoundary-end text)
   | inr lt ↦
       let within : prefix_len is_within_line text < length text = omega arith in
       let stops = prefix_len_stops is_within_line text 0 within in
-      let here : is_within_line (get_or text n 0) ≡ false = subst (λ k. is_within_line (get_or text k 0) ≡ false) (sym e) stops in
+      let here : is_within_line (get_or text n 0) ≡ false =
+      subst (λ k. is_within_line (get_or text k 0) ≡ false) (sym e) stops in
       IsCharBoundary-before_ascii text n lt (line_end_ascii (get_or text n 0) here)
 ]
 

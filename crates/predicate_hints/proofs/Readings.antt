@@ -30,10 +30,14 @@ pub reading_told : (text : List ℕ) (found : PredFault)
     → ((place : ℕ) → found ≡ Literal place → IsLiteralAt limits text place)
     → ((fault : PredFault) → IsFaultOf limits text fault → (found ≡ fault) ⊎ (found ≡ Memory))
     → found ≢ Memory → IsReading text (Some found)
-reading_told text (Syntax place) only syntax deep wide literal exact other = told text _ only exact other (syntax place refl)
-reading_told text (Deep place) only syntax deep wide literal exact other = told text _ only exact other (deep place refl)
-reading_told text (Wide place) only syntax deep wide literal exact other = told text _ only exact other (wide place refl)
-reading_told text (Literal place) only syntax deep wide literal exact other = told text _ only exact other (literal place refl)
+reading_told text (Syntax place) only syntax deep wide literal exact other =
+    told text _ only exact other (syntax place refl)
+reading_told text (Deep place) only syntax deep wide literal exact other =
+    told text _ only exact other (deep place refl)
+reading_told text (Wide place) only syntax deep wide literal exact other =
+    told text _ only exact other (wide place refl)
+reading_told text (Literal place) only syntax deep wide literal exact other =
+    told text _ only exact other (literal place refl)
 reading_told text Memory only syntax deep wide literal exact other = absurd (other refl)
 
 -- the same of the whole answer

@@ -1,7 +1,8 @@
 -- Which kinds of things can stand at a place.
 use Rattle.std.specs.Prelude.{◌≡◌, ◌⊎◌, ℕ, List, [], ◌∷◌, Option, Some, None, MatchOption, codes}
 use Rattle.predicate_hints.specs.declared.kinds.Expected.{Expected}
-use Rattle.predicate_hints.specs.declared.kinds.Expected.TheVariants.{Column, Number, Text, Distance, Quoted, Not, Open, Close, Point, Name, Sign, Comparison, And, Or, End}
+use Rattle.predicate_hints.specs.declared.kinds.Expected.TheVariants.{Column, Number, Text, Distance, Quoted, Not, Open}
+use Rattle.predicate_hints.specs.declared.kinds.Expected.TheVariants.{Close, Point, Name, Sign, Comparison, And, Or, End}
 use Rattle.predicate_hints.specs.Follow.{MayEnd, MayFollow}
 
 -- the kinds in the order in which they are listed

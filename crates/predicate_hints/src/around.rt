@@ -108,18 +108,21 @@ fn side_of(side: &[u8]) -> Left {
     }
 }
 
-/// What the left side is of the comparison that what stands before a place ends with, without blanks.
+/// The left side of the comparison that the bytes end with.
 pub(crate) fn left_of(front: &[u8]) -> Option<Left> {
     Some(side_of(before_comparison(front)?))
 }
 
-/// Whether the bytes end with `abs(` or `text(`.
-pub(crate) fn opens_sum(front: &[u8]) -> bool {
-    if !ends_in(front, b"(") {
+/// Whether the last bracket opens what stands within `abs(..)` or `text(..)`.
+pub(crate) fn is_within_call(front: &[u8]) -> bool {
+    let Some(at) = front
+        .iter()
+        .rposition(|byte| *byte == b'(' || *byte == b')')
+    else {
         return false;
-    }
-    match opener(front) {
-        Some(b"abs" | b"text") => true,
+    };
+    match bare_word(front[..at].trim_ascii_end()) {
+        b"abs" | b"text" => front[at] == b'(',
         _ => false,
     }
 }

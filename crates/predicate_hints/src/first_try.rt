@@ -7,9 +7,9 @@ use crate::signs::of_sign;
 use crate::words::of_word;
 
 /// What a first try in SQL's syntax meant at the place at which the text is refused, in plain words
-/// without a line end; `None` where nothing is known. A text that is only unfinished is refused at its
-/// end, where nothing is meant. The place is a byte's offset, counted from 0, as `theta_text::parse`
-/// names it.
+/// without a line end; `None` where nothing is known. A text that is only unfinished is refused at
+/// its end, where nothing is meant. The place is a byte's offset, counted from 0, as
+/// `theta_text::parse` names it.
 pub fn meant(text: &str, place: u64) -> Option<&'static str>
     ensures unfinished { length text.now ≤ place → result ≡ None }
 {

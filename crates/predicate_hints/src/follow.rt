@@ -1,6 +1,7 @@
 // What may follow the front of a text.
 
-ghost use Rattle.std.specs.Prelude.{◌≡◌, ◌≢◌, ◌↔◌, [], ◌∷◌, ◌++◌, take, IfOk, IsTrue, MatchOption, string_bytes};
+ghost use Rattle.std.specs.Prelude.{◌≡◌, ◌≢◌, ◌↔◌, [], ◌∷◌, ◌++◌, take};
+ghost use Rattle.std.specs.Prelude.{IfOk, IsTrue, MatchOption, string_bytes};
 ghost use Rattle.std.specs.Str.{IsCharBoundary};
 ghost use Rattle.predicate_hints.specs.Follow.{IsPredicate, IsReading, MayEnd, MayFollow, Stands};
 

@@ -1,5 +1,5 @@
-//! Why a predicate's text is refused: what may follow what stands before a place, the place itself below its line, and what a
-//! first try in SQL's syntax meant there.
+//! Why a predicate's text is refused: what may follow what stands before a place, the place below
+//! its line, and what a first try in SQL's syntax meant there.
 #![tactic(auto)]
 
 mod around;

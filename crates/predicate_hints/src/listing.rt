@@ -54,8 +54,8 @@ fn those(
 }
 
 /// The kinds of things that can follow what stands before the place in some predicate within the
-/// limits of `theta_text`, in the order of `Expected`. The place is a byte's offset, counted from 0,
-/// or the text's length; there is none at a place within a character or past the text.
+/// limits of `theta_text`, in the order of `Expected`. The place is a byte's offset, counted from
+/// 0, or the text's length; there is no such thing at a place within a character or past the text.
 pub fn expected(alloc: Global, text: &str, place: u64) -> Result<Vec<Expected>, AllocError>
     ensures { IfOk result (λ found. AreThose (CanStand text.now place) kinds found.items) }
 {

@@ -101,9 +101,9 @@ fn marked(alloc: Global, before: &str, behind: &str) -> Result<String, AllocErro
 
 /// The line of the text in which the place stands, and in the next line a `^` below the place, with
 /// no line end behind it. The place is a byte's offset, counted from 0, or the text's length; one
-/// within a character or past the text counts as the text's length. A line ends with LF, CR or CR LF.
-/// Below each character before the place stands a blank, and below a tab a tab, so that the `^` stands
-/// below its place wherever each character is as wide as a blank.
+/// within a character or past the text counts as the text's length. A line ends with LF, CR or
+/// CR LF. Below each character before the place stands a blank, and below a tab a tab, so that the
+/// `^` stands below its place wherever each character is as wide as a blank.
 pub fn caret(alloc: Global, text: &str, place: u64) -> Result<String, AllocError>
     ensures there { IsCharBoundary text.now place
         → IfOk result (λ both. string_bytes both ≡ shown.shown_at text.now place) }

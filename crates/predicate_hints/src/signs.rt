@@ -1,11 +1,11 @@
 // What a sign, a quote or a number meant.
 
 use crate::around::{
-    Left, bare_word, begins_in, begins_part, ends_in, last_word, left_of, opens_sum,
+    Left, bare_word, begins_in, begins_part, ends_in, is_within_call, last_word, left_of,
 };
 use crate::sentences::{
-    ABS_LEFT, ABS_RIGHT, BRACKETS, CHAIN, COLUMN, EQUAL, OR_EQUAL, PRODUCT, QUOTES, QUOTIENT,
-    SEMICOLON, TEXTS, UNCLOSED, UNEQUAL, WHOLE,
+    ABS_RIGHT, BRACKETS, CHAIN, COLUMN, EQUAL, OR_EQUAL, PRODUCT, QUOTES, QUOTIENT, SEMICOLON,
+    TEXTS, UNCLOSED, UNEQUAL, WHOLE,
 };
 
 // Signs of comparison that stand one behind the other: the last of what stands before, the first of
@@ -30,7 +30,7 @@ fn doubled(near: &[u8], sign: u8) -> Option<&'static str> {
 fn second(front: &[u8]) -> Option<&'static str> {
     match bare_word(front) {
         b"r" | b"s" | b"text" | b"abs" => Some(COLUMN),
-        _ if begins_part(front) => None,
+        _ if begins_part(front) || is_within_call(front) => None,
         _ => Some(CHAIN),
     }
 }
@@ -68,7 +68,7 @@ fn of_quote(front: &[u8], quote: u8, behind: &[u8]) -> Option<&'static str> {
 }
 
 fn of_opening(front: &[u8]) -> Option<&'static str> {
-    if ends_in(front, b"+-=<>") || opens_sum(front) {
+    if ends_in(front, b"+-=<>") || is_within_call(front) {
         Some(BRACKETS)
     } else {
         None
@@ -100,8 +100,8 @@ fn of_digit(front: &[u8]) -> Option<&'static str> {
     }
 }
 
-/// What meant the byte that the rest begins with, which is no letter, by what stands before it with no blank
-/// between, and without blanks at its end.
+/// What a byte that is no letter meant, by what stands before it, with the blanks between and
+/// without them, and by what stands behind it.
 pub(crate) fn of_sign(near: &[u8], front: &[u8], sign: u8, behind: &[u8]) -> Option<&'static str> {
     match sign {
         b'=' | b'<' | b'>' => of_comparison(near, front, sign),

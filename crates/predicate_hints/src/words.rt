@@ -69,8 +69,8 @@ fn beginning(front: &[u8], word: &[u8], behind: &[u8]) -> Option<&'static str> {
     }
 }
 
-/// What the word meant that the rest begins with, by what stands before it with no blank between, and
-/// without blanks at its end.
+/// What the word meant that the rest begins with, by what stands before it, with the blanks between
+/// and without them.
 pub(crate) fn of_word(near: &[u8], front: &[u8], rest: &[u8]) -> Option<&'static str> {
     let (word, behind) = first_word(rest);
     if let Some(sentence) = upper_case(word, behind) {

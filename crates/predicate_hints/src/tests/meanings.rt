@@ -89,13 +89,15 @@ fn others_like_them_have_one(rt: HostRuntime) {
     }
 }
 
-// Texts that are refused where no first try is known: `and` at the beginning, a bracket too many, a
-// comparison behind one, and one that nests too deep.
-const UNKNOWN: [(&str, u64); 5] = [
+// Texts that are refused where no first try is known: `and` at the beginning, a bracket too many, no
+// `and` between two comparisons, no sum before a comparison, one within `abs`, and a text that nests
+// too deep.
+const UNKNOWN: [(&str, u64); 6] = [
     ("and r.x = 1", 0),
     ("r.x = s.y)", 9),
     ("r.x = 1 s.y = 2", 8),
     ("r.x = 1 and = 2", 12),
+    ("abs(r.a = 1) = 1", 8),
     ("(((((((((((((((((((((((((((((((((1=1", 32),
 ];
 

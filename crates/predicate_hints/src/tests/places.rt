@@ -43,8 +43,8 @@ fn a_place_is_shown(rt: HostRuntime) -> Result<(), Fail> {
     Ok(())
 }
 
-// A text, and what can stand at its end. In the last two no bracket more may be open, and the sum is as
-// long as one can be.
+// A text, and what can stand at its end. In the last two no bracket more may be open, and the sum
+// is as long as one can be.
 const LISTED: [(&str, &[Expected]); 12] = [
     (
         "",

@@ -8,12 +8,12 @@ pub loop-kind-preserved : goal.loop-kind-preserved
 loop-kind-preserved c = elim c.if-branch.branch [
   | then-branch+in_ok-push w ↦
       rw (w.found-is, w.in_ok-push.ensures.items)
-      (one_more (CanStand c.args.text.now c.args.place) c.args.kinds.now c.loop-kind.found.items c.loop-kind.kind-index Column
-      c.loop-kind-test.true c.loop-kind.invariant (c.in_ok-can_stand.ensures.0 w.if-branch.true))
+      (one_more (CanStand c.args.text.now c.args.place) c.args.kinds.now c.loop-kind.found.items
+      c.loop-kind.kind-index Column c.loop-kind-test.true c.loop-kind.invariant (c.in_ok-can_stand.ensures.0 w.if-branch.true))
   | else-branch w ↦
       rw w.found-is
-      (none_more (CanStand c.args.text.now c.args.place) c.args.kinds.now c.loop-kind.found.items c.loop-kind.kind-index Column
-      c.loop-kind-test.true c.loop-kind.invariant
+      (none_more (CanStand c.args.text.now c.args.place) c.args.kinds.now c.loop-kind.found.items
+      c.loop-kind.kind-index Column c.loop-kind-test.true c.loop-kind.invariant
       (λ can. absurd (let e = c.in_ok-can_stand.ensures.1 can in let f = w.if-branch.false in cc)))
 ]
 
