@@ -1,0 +1,19 @@
+-- The bound that is drawn, and when it holds.
+use Rattle.std.specs.Prelude.{◌≡◌, ◌≤◌, ◌*◌, ℕ, false, All, List}
+use Rattle.grid_map.specs.declared.cost.Weights.{Weights}
+use Rattle.grid_map.specs.Load.{IsNear}
+use Rattle.load_controller.specs.declared.line.TurnLine.{TurnLine}
+use Rattle.journal_picture.specs.declared.point.Point.{Point}
+
+-- where a line isn't moving it is near the best grid for its counts and these weights
+abbrev pub IsNearWhereStill : ℕ → Weights → TurnLine → Type 0
+IsNearWhereStill k weights line =
+    line.moving ≡ false → IsNear k line.shift (weights.r * line.rows_r) (weights.s * line.rows_s)
+
+-- that is so of each line
+abbrev pub AreNear : ℕ → Weights → List TurnLine → Type 0
+AreNear k weights journal = All (IsNearWhereStill k weights) journal
+
+-- where a point isn't moving, four times its load is at most five times the best
+abbrev pub IsWithin : Point → Type 0
+IsWithin point = point.moving ≡ false → 4 * point.load ≤ 5 * point.best

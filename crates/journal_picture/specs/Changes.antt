@@ -1,0 +1,25 @@
+-- The changes of the grid that a journal tells.
+use Rattle.std.specs.Prelude.{◌==◌, ◌&&◌, ℕ, List, [], ◌∷◌, if◌then◌else◌}
+use Rattle.load_controller.specs.declared.line.TurnLine.{TurnLine}
+use Rattle.journal_picture.specs.declared.changes.Step.{Step}
+
+-- the line that ends the step of this epoch, of those behind a line of it: the first that isn't moving or has another
+-- epoch, or where there is none the last
+abbrev pub ended_at : ℕ → TurnLine → List TurnLine → TurnLine
+ended_at epoch last [] = last
+ended_at epoch last (next ∷ rest) = if next.moving && next.epoch == epoch then ended_at epoch next rest else next
+
+-- the step that a line begins, with the line before it and those behind it
+abbrev pub step_at : TurnLine → TurnLine → List TurnLine → Step
+step_at before line rest = record { before = before; begun = line; ended = ended_at line.epoch line rest }
+
+-- the steps behind a line: each line whose epoch isn't that of the line before it begins one
+abbrev pub steps_from : TurnLine → List TurnLine → List Step
+steps_from before [] = []
+steps_from before (line ∷ rest) =
+    if line.epoch == before.epoch then steps_from line rest else step_at before line rest ∷ steps_from line rest
+
+-- the steps of a journal
+abbrev pub steps_of : List TurnLine → List Step
+steps_of [] = []
+steps_of (first ∷ rest) = steps_from first rest

@@ -1,0 +1,18 @@
+//! The journal of a run as a picture over time: the grid's load against the best, and each change of the grid, as one SVG.
+#![tactic(auto)]
+
+mod axes;
+mod changes;
+mod curve;
+mod drawing;
+mod labels;
+mod panel;
+mod place;
+mod point;
+mod words;
+
+pub use changes::{Step, steps};
+pub use curve::{Greatest, greatest_heights, peaks};
+pub use drawing::Drawing;
+pub use place::height;
+pub use point::{Point, points};
