@@ -1,2 +1,4 @@
 mod Covered
+mod Kept
+mod Lawful
 mod Within

@@ -1,8 +1,9 @@
 -- The points of a journal: what is drawn of its lines.
-use Rattle.std.specs.Prelude.{◌+◌, ◌*◌, ◌^◌, ℕ, Bool, ◌&&◌, nat_le, nat_lt, List, filter, map}
+use Rattle.std.specs.Prelude.{◌≡◌, ◌+◌, ◌*◌, ◌^◌, ◌≤◌, ℕ, Bool, ◌&&◌, nat_le, nat_lt, All, List, filter, map, reverse}
 use Rattle.grid_map.specs.declared.cost.Weights.{Weights}
 use Rattle.grid_map.specs.Load.{best_shift, copies}
 use Rattle.load_controller.specs.declared.line.TurnLine.{TurnLine}
+use Rattle.load_controller.specs.Journal.{Rules, Fits, Follows}
 use Rattle.journal_picture.specs.declared.point.Point.{Point}
 
 -- what the rows of R of a line weigh together
@@ -42,3 +43,19 @@ has_point k line =
 -- the points of a journal, in its order
 abbrev pub points_of : ℕ → Weights → List TurnLine → List Point
 points_of k weights journal = map (point_of k weights) (filter (has_point k) journal)
+
+-- a line counts at most 2 ^ 32 rows of a side
+pub record IsFew (line : TurnLine) : Type 0 where
+  pub few_r : line.rows_r ≤ 2 ^ 32
+  pub few_s : line.rows_s ≤ 2 ^ 32
+
+-- it counts a row
+abbrev pub counts_rows : TurnLine → Bool
+counts_rows line = nat_lt 0 (line.rows_r + line.rows_s)
+
+-- each line with rows of a journal that a controller makes of not too many has its point
+abbrev pub EachHasItsPoint : Type 0
+EachHasItsPoint =
+    (rules : Rules) (first : TurnLine) (journal : List TurnLine) → Fits rules first
+    → Follows rules first (reverse journal) → All IsFew journal
+    → points_of rules.k rules.weights journal ≡ map (point_of rules.k rules.weights) (filter counts_rows journal)
