@@ -1,5 +1,5 @@
 -- Each line with rows of a lawful journal has its point.
-use Rattle.std.proofs.Common.{◌≡◌, ◌+◌, ◌≤◌, ◌^◌, ℕ, true, ap, subst, refl, List, [], ◌∷◌}
+use Rattle.std.proofs.Common.{◌≡◌, ◌≤◌, ◌^◌, ℕ, true, ap, subst, refl, List, [], ◌∷◌}
 use Rattle.std.specs.Prelude.{All, nat_le, filter, map, reverse}
 use Rattle.std.specs.List.{AllByRecursion}
 use Rattle.std.proofs.lemmas.Bool.{le-leb}
@@ -42,4 +42,4 @@ each_has_its_point rules first journal fits follows few =
     let back = all-reverse IsOfGrid (reverse journal) (past_within rules first (reverse journal) fits follows) in
     ap (map (point_of rules.k rules.weights))
     (same_kept rules.k journal (subst (AllByRecursion IsOfGrid) (reverse-reverse journal) back)
-      (recursion_from_All IsFew journal few))
+    (recursion_from_All IsFew journal few))

@@ -1,5 +1,5 @@
 -- The points of a lawful journal are within the bound.
-use Rattle.std.proofs.Common.{◌≡◌, ℕ, subst, List, [], ◌∷◌}
+use Rattle.std.proofs.Common.{◌≡◌, subst, List, [], ◌∷◌}
 use Rattle.std.specs.Prelude.{None, All, reverse}
 use Rattle.std.specs.List.{AllByRecursion}
 use Rattle.std.proofs.lemmas.List.{reverse-reverse}
@@ -18,9 +18,10 @@ all_near : (rules : Rules) (first : TurnLine) (past : List TurnLine) → Fits ru
 all_near rules first [] fits free follows = absurd follows
 all_near rules first (line ∷ []) fits free follows =
     (λ still. still_is_near rules first line [] fits free follows still, tt)
-all_near rules first (line ∷ before ∷ past) fits free follows =
-    (λ still. still_is_near rules first line (before ∷ past) fits free follows still,
-      all_near rules first (before ∷ past) fits free follows.2)
+all_near rules first (line ∷ before ∷ past) fits free follows = (
+  λ still. still_is_near rules first line (before ∷ past) fits free follows still,
+  all_near rules first (before ∷ past) fits free follows.2,
+)
 
 pub stays_within : (rules : Rules) (first : TurnLine) (journal : List TurnLine) → Fits rules first → rules.fixed ≡ None
     → Follows rules first (reverse journal) → All IsWithin (points_of rules.k rules.weights journal)

@@ -1,4 +1,4 @@
 mod Covered
 mod Kept
 mod Lawful
-mod Within
+pub mod Within

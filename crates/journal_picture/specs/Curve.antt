@@ -1,33 +1,48 @@
--- The points that are drawn: the highest of each column.
-use Rattle.std.specs.Prelude.{◌≡◌, ◌≤◌, ◌==◌, ℕ, Bool, MatchBool, List, [], ◌∷◌, Any, nat_le, max, if◌then◌else◌}
+-- What is drawn of points that follow one another in one column of pixels: the highest, and the last.
+use Rattle.std.specs.Prelude.{◌≡◌, ◌≤◌, ◌==◌, ℕ, List, [], ◌∷◌, Any, Contains, nat_le, max, if◌then◌else◌}
 use Rattle.std.specs.List.{fold}
 use Rattle.journal_picture.specs.declared.point.Point.{Point}
+use Rattle.journal_picture.specs.declared.curve.Stretch.{Stretch}
 use Rattle.journal_picture.specs.Places.{column_of, height_of}
 
 -- the higher of two points, the first where they are as high
 abbrev pub higher : Point → Point → Point
 higher peak point = if nat_le (height_of point) (height_of peak) then peak else point
 
--- of a point and those behind it: the highest of those in a row that have one column, for each such row
-abbrev pub peaks_from : ℕ → Point → List Point → List Point
-peaks_from total peak [] = peak ∷ []
-peaks_from total peak (point ∷ points) =
-    if column_of total point == column_of total peak then peaks_from total (higher peak point) points
-    else peak ∷ peaks_from total point points
+-- a stretch with one point more
+abbrev pub with_point : Stretch → Point → Stretch
+with_point stretch point = record { highest = higher stretch.highest point; last = point }
 
--- the same of all points
-abbrev pub peaks_of : ℕ → List Point → List Point
-peaks_of total [] = []
-peaks_of total (point ∷ points) = peaks_from total point points
+-- a point alone
+abbrev pub alone : Point → Stretch
+alone point = record { highest = point; last = point }
 
--- a peak stands in the column of a point, and is at least as high
-pub record StandsFor (total : ℕ) (point peak : Point) : Type 0 where
-  pub column : column_of total peak ≡ column_of total point
-  pub high : height_of point ≤ height_of peak
+-- the stretches from this one on: as many points as follow one another in one column are one
+abbrev pub stretches_from : ℕ → Stretch → List Point → List Stretch
+stretches_from total stretch [] = stretch ∷ []
+stretches_from total stretch (point ∷ points) =
+    if column_of total point == column_of total stretch.last then stretches_from total (with_point stretch point) points
+    else stretch ∷ stretches_from total (alone point) points
 
--- one of the peaks does
-abbrev pub IsCovered : ℕ → List Point → Point → Type 0
-IsCovered total peaks point = Any (StandsFor total point) peaks
+-- the stretches of all points
+abbrev pub stretches_of : ℕ → List Point → List Stretch
+stretches_of total [] = []
+stretches_of total (point ∷ points) = stretches_from total (alone point) points
+
+-- both ends of a stretch are among the points
+pub record IsAmong (points : List Point) (stretch : Stretch) : Type 0 where
+  pub highest : Contains points stretch.highest
+  pub last : Contains points stretch.last
+
+-- a stretch is drawn in the column of a point, and goes up at least as high
+pub record StandsFor (total : ℕ) (point : Point) (stretch : Stretch) : Type 0 where
+  pub column : column_of total stretch.highest ≡ column_of total point
+  pub leaves : column_of total stretch.last ≡ column_of total point
+  pub high : height_of point ≤ height_of stretch.highest
+
+-- one of the stretches is
+abbrev pub IsCovered : ℕ → List Stretch → Point → Type 0
+IsCovered total stretches point = Any (StandsFor total point) stretches
 
 -- the greatest height of a point at which no step is under way, 0 where there is none
 abbrev pub greatest_still : List Point → ℕ

@@ -1,8 +1,8 @@
 // The points that are drawn.
 
-ghost use Rattle.std.specs.Prelude.{◌≡◌, All, Contains, IfOk};
+ghost use Rattle.std.specs.Prelude.{◌≡◌, All, IfOk};
 ghost use Rattle.journal_picture.specs.Curve as of;
-ghost use Rattle.journal_picture.specs.Curve.{IsCovered};
+ghost use Rattle.journal_picture.specs.Curve.{IsAmong, IsCovered};
 
 use crate::place::{column, height};
 use crate::point::Point;
@@ -20,28 +20,56 @@ fn higher(peak: Point, point: Point) -> Point
     }
 }
 
-/// The points that are drawn of all, in their order, over an axis of so many rows: of those that follow one another in a
-/// column of pixels one that is as high as each. An axis has 601 columns.
-pub fn peaks(alloc: Global, total: u64, points: &[Point]) -> Result<Items<Point>, AllocError>
-    ensures is { IfOk result (λ peaks. peaks ≡ of.peaks_of total points.now) }
-    ensures among { IfOk result (λ peaks. All (Contains points.now) peaks) }
-    ensures highest { IfOk result (λ peaks. All (IsCovered total peaks) points.now) }
+/// What is drawn of points that follow one another in one column of pixels.
+#[derive(Clone, Copy, Debug, PartialEq, Eq)]
+pub struct Stretch {
+    /// The first that is as high as each.
+    pub highest: Point,
+    pub last: Point,
+}
+
+/// A stretch with one point more.
+fn with_point(stretch: Stretch, point: Point) -> Stretch
+    ensures { result ≡ of.with_point stretch point }
 {
-    let mut peaks = Items::new(alloc);
+    Stretch {
+        highest: higher(stretch.highest, point),
+        last: point,
+    }
+}
+
+/// A point alone.
+fn alone(point: Point) -> Stretch
+    ensures { result ≡ of.alone point }
+{
+    Stretch {
+        highest: point,
+        last: point,
+    }
+}
+
+/// The stretches of points, in their order, over an axis of so many rows. Where the points' rows never fall, as in a
+/// journal, there are at most 601, one for each column.
+pub fn stretches(alloc: Global, total: u64, points: &[Point]) -> Result<Items<Stretch>, AllocError>
+    ensures is { IfOk result (λ stretches. stretches ≡ of.stretches_of total points.now) }
+    ensures among { IfOk result (λ stretches. All (IsAmong points.now) stretches) }
+    ensures highest { IfOk result (λ stretches. All (IsCovered total stretches) points.now) }
+{
+    let mut stretches = Items::new(alloc);
     let [first, rest @ ..] = points else {
-        return Ok(peaks);
+        return Ok(stretches);
     };
-    let mut peak = *first;
+    let mut stretch = alone(*first);
     for &point in rest {
-        if column(total, point) == column(total, peak) {
-            peak = higher(peak, point);
+        if column(total, point) == column(total, stretch.last) {
+            stretch = with_point(stretch, point);
         } else {
-            peaks.push(peak)?;
-            peak = point;
+            stretches.push(stretch)?;
+            stretch = alone(point);
         }
     }
-    peaks.push(peak)?;
-    Ok(peaks)
+    stretches.push(stretch)?;
+    Ok(stretches)
 }
 
 /// The greatest height of a point at which no step is under way, and of one at which a step is; 0 where there is none.

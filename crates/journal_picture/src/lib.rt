@@ -13,8 +13,11 @@ mod point;
 mod words;
 
 pub use changes::{Step, steps};
-pub use curve::{Greatest, greatest_heights, peaks};
+pub use curve::{Greatest, Stretch, greatest_heights, stretches};
 pub use drawing::Drawing;
 pub use laws::{each_line_has_its_point, points_stay_within};
 pub use place::height;
 pub use point::{Point, points};
+
+#[cfg(test)]
+mod tests;

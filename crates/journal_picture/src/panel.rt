@@ -5,7 +5,7 @@ ghost use Rattle.grid_map.specs.Load.{AreWeights};
 
 use crate::axes::{tick, write_axis_across, write_axis_up, write_bound};
 use crate::changes::{Step, steps};
-use crate::curve::{Greatest, greatest_heights, peaks};
+use crate::curve::{Greatest, Stretch, greatest_heights, stretches};
 use crate::labels::{Labels, lanes};
 use crate::place::{across, down, height, rows};
 use crate::point::{Point, points};
@@ -22,7 +22,7 @@ pub(crate) struct Chart {
     /// How many rows were counted in the end.
     pub(crate) total: u64,
     pub(crate) greatest: Greatest,
-    pub(crate) peaks: Items<Point>,
+    pub(crate) stretches: Items<Stretch>,
     pub(crate) steps: Items<Step>,
 }
 
@@ -49,7 +49,7 @@ pub(crate) fn make_chart(
         k,
         total,
         greatest: greatest_heights(points.as_slice()),
-        peaks: peaks(alloc, total, points.as_slice())?,
+        stretches: stretches(alloc, total, points.as_slice())?,
         steps: steps(alloc, journal)?,
     })
 }
@@ -99,25 +99,40 @@ fn write_labels(text: &mut String, chart: &Chart, lanes: u64) -> Result<(), Allo
     Ok(())
 }
 
+/// Adds a stretch: up to its highest point, and to its last, from where the curve goes on.
+fn write_stretch(
+    text: &mut String,
+    total: u64,
+    tick: u128,
+    stretch: &Stretch,
+) -> Result<(), AllocError> {
+    let x = across(total, stretch.last.rows);
+    let highest = down(tick, height(stretch.highest));
+    let last = down(tick, height(stretch.last));
+    write!(text, "H{x}V{highest}")?;
+    if last != highest {
+        write!(text, "V{last}")?;
+    }
+    Ok(())
+}
+
 fn write_curve(
     text: &mut String,
     total: u64,
     tick: u128,
-    peaks: &[Point],
+    stretches: &[Stretch],
 ) -> Result<(), AllocError> {
-    let [first, rest @ ..] = peaks else {
+    let [first, ..] = stretches else {
         return Ok(());
     };
-    let x = across(total, first.rows);
-    let y = down(tick, height(*first));
+    let x = across(total, first.last.rows);
+    let y = down(tick, height(first.highest));
     write!(
         text,
         "<path fill='none' stroke='#1f5fa8' stroke-width='1.5' d='M{x} {y}"
     )?;
-    for point in rest {
-        let x = across(total, point.rows);
-        let y = down(tick, height(*point));
-        write!(text, "H{x}V{y}")?;
+    for stretch in stretches {
+        write_stretch(text, total, tick, stretch)?;
     }
     write!(text, "H600'/>\n")
 }
@@ -163,7 +178,7 @@ pub(crate) fn write_panel(
     write_labels(text, chart, lanes)?;
     write_axis_across(text, chart.total)?;
     write_bound(text, tick)?;
-    write_curve(text, chart.total, tick, chart.peaks.as_slice())?;
+    write_curve(text, chart.total, tick, chart.stretches.as_slice())?;
     write!(text, "</g>\n")?;
     Ok(above.saturating_add(260))
 }
