@@ -1,4 +1,4 @@
-# Completion of jm, jm-rows and jm-why in bash: the options and their values, files, and in the text of --on (and in
+# Completion of jm, jm-rows, jm-why and jm-journal in bash: the options and their values, files, and in the text of --on (and in
 # the list of --columns) the names of the two files' columns behind r. and s., where the files stand on the line.
 # jm-rows, beside jm or on the path, reads the headers.
 
@@ -182,4 +182,4 @@ _jm() {
     esac
 }
 
-complete -F _jm jm jm-rows jm-why
+complete -F _jm jm jm-rows jm-why jm-journal

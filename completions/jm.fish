@@ -1,4 +1,4 @@
-# Completion of jm, jm-rows and jm-why in fish: the options and their values, files, and in the text of --on (and in
+# Completion of jm, jm-rows, jm-why and jm-journal in fish: the options and their values, files, and in the text of --on (and in
 # the list of --columns) the names of the two files' columns behind r. and s., where the files stand on the line.
 # jm-rows, beside jm or on the path, reads the headers.
 
@@ -57,7 +57,7 @@ function __jm_columns
     end
 end
 
-for program in jm jm-rows jm-why
+for program in jm jm-rows jm-why jm-journal
     complete -c $program -l on -x -d 'the predicate' -a '(__jm_columns)'
     complete -c $program -l joiners -x -d 'how many joiners there are: 1, 2, 4 .. 64, or any number in groups' -a '1 2 4 8 16 32 64'
     complete -c $program -l feeders -x -d 'how many feeders share the rows, from 1 to 8' -a '(seq 8)'
@@ -74,7 +74,7 @@ for program in jm jm-rows jm-why
     complete -c $program -l rows -d 'joined rows in place of their numbers'
     complete -c $program -l groups -d 'any number of joiners, in groups'
 end
-for program in jm jm-why
+for program in jm jm-why jm-journal
     complete -c $program -l then -x -d 'the predicate of a second join, with a third file'
     complete -c $program -l make -x -d 'both tables are made, from 1 to 65536 rows each'
 end

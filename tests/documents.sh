@@ -1,6 +1,6 @@
 #!/bin/sh
 # Runs what README.md, docs/USAGE.md, docs/jm.1 and examples/README.md show, and compares. It is no part of the gate, in
-# which no test may start a program. JM, JM_PICTURE and JM_WHY name other programs than the repository's own.
+# which no test may start a program. JM, JM_PICTURE, JM_WHY and JM_JOURNAL name other programs than the repository's own.
 #
 # An indented line that begins with "$ " is a command, and the lines below it, up to the next such or the block's end,
 # are what it prints; the lines of --early may come in another order. An indented line that begins with "./jm" is run,
@@ -14,6 +14,7 @@ top=$(cd "$(dirname "$0")/.." && pwd -P)
 jm=${JM:-$top/jm}
 jm_picture=${JM_PICTURE:-$top/jm-picture}
 jm_why=${JM_WHY:-$top/jm-why}
+jm_journal=${JM_JOURNAL:-$top/jm-journal}
 room=$(mktemp -d)
 trap 'rm -rf "$room"' EXIT
 cd "$room" || exit 1
@@ -136,6 +137,7 @@ document() {
         ln -sf "$jm" $place/jm
         ln -sf "$jm_picture" $place/jm-picture
         ln -sf "$jm_why" $place/jm-why
+        ln -sf "$jm_journal" $place/jm-journal
         ln -sf "$top/jm-rows" $place/jm-rows
     done
     for step in steps/*; do
@@ -162,9 +164,10 @@ document() {
                 ;;
         esac
     done
-    if [ -e grid.svg ]; then
-        if cmp -s grid.svg "$top/docs/grid.svg"; then pass; else fail 'docs/grid.svg is another picture'; fi
-    fi
+    for drawn in *.svg; do
+        [ -e "$drawn" ] || continue
+        if cmp -s "$drawn" "$top/docs/$drawn"; then pass; else fail "docs/$drawn is another picture"; fi
+    done
     cd ..
 }
 

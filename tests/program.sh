@@ -1,11 +1,12 @@
 #!/bin/sh
 # Runs the built program over small files and compares its status, its output and its line on standard
 # error with what docs/USAGE.md says. It is no part of the gate, in which no test may start a program.
-# JM and JM_PICTURE name other programs than the repository's own.
+# JM, JM_PICTURE and JM_JOURNAL name other programs than the repository's own.
 set -u
 top=$(cd "$(dirname "$0")/.." && pwd -P)
 jm=${JM:-$top/jm}
 jm_picture=${JM_PICTURE:-$top/jm-picture}
+jm_journal=${JM_JOURNAL:-$top/jm-journal}
 room=$(mktemp -d)
 trap 'rm -rf "$room"' EXIT
 cd "$room" || exit 1
@@ -46,6 +47,22 @@ picture() {
     else
         failed=$((failed + 1))
         echo "failed: the picture of jm $*: $lacking" >&2
+    fi
+}
+
+# journal WORDS..: the journal of a run that is done is drawn; of another nothing is, and status and line are those of jm
+journal() {
+    "$jm" "$@" >got.out 2>wanted.err </dev/null
+    status=$?
+    "$jm_journal" "$@" >got.svg 2>got.err </dev/null
+    got=$?
+    drawn=$(grep -c '^<svg' got.svg)
+    if [ "$got" = "$status" ] && [ "$drawn" = $((status == 0)) ] && cmp -s wanted.err got.err; then
+        passed=$((passed + 1))
+    else
+        failed=$((failed + 1))
+        echo "failed: the journal of jm $*: status $got, wanted $status, drawn: $drawn" >&2
+        diff wanted.err got.err >&2
     fi
 }
 
@@ -151,6 +168,18 @@ picture --on 'r.x = s.y' --weight-r 4 r.csv s.csv
 picture --on 'r.key = s.key' --make 2000
 picture --on 'r.key = s.key' --make 3000 --joiners 64 --feeders 8 --feed rfirst --replay 7
 picture --on 'r.x = s.y' --rows r.csv s.csv
+journal --on 'r.x = s.y' r.csv s.csv
+journal --on 'r.x = s.x' header.csv header.csv
+journal --on 'r.x = s.y' --early r.csv s.csv
+journal --on 'r.x = s.y' --rows --report r.csv s.csv
+journal --on 'r.x = s.y' --then 'r.s_y = s.y' r.csv s.csv s.csv
+journal --on 'r.key = s.key' --make 2000 --joiners 64 --feed rfirst
+journal --on 'r.key = s.key' --make 2000 --joiners 21 --groups
+journal --on 'r.key = s.key' --make 2000 --fixed 0 --weight-s 9
+journal
+journal --on 'r.x =' r.csv s.csv
+journal --on 'r.x = s.y' r.csv text.csv
+journal --on 'r.x = s.y' r.csv missing.csv
 
 # a sink that takes nothing
 if [ -w /dev/full ]; then

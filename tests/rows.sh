@@ -160,6 +160,8 @@ if [ -z "${JM:-}" ]; then
     bin=$room/a\ prefix/bin
     "$bin/jm" --on 'r.x = s.y' --report r.csv s.csv | "$bin/jm-picture" >got.svg
     if grep -q '^<svg' got.svg; then pass; else fail 'the installed jm and jm-picture'; fi
+    "$bin/jm-journal" --on 'r.x = s.y' r.csv s.csv >got.svg
+    if grep -q '^<svg' got.svg; then pass; else fail 'the installed jm-journal'; fi
     "$top/install.sh" 'a prefix' >again.out
     if [ $? = 0 ] && cmp -s first.out again.out; then pass; else fail 'install.sh once more'; fi
 fi

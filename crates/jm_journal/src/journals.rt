@@ -1,0 +1,136 @@
+// The journals of a run that is done, as a picture.
+
+ghost use Rattle.std.specs.Prelude.{◌<◌, ◌≤◌, All, IfOk, IsNone, IsSome};
+ghost use Rattle.grid_map.specs.Load.{AreWeights};
+ghost use Rattle.join_cli.specs.Ends.{IsDone};
+
+use group_split::digits;
+use join_cli::{Journals, Outcome};
+use join_words::Options;
+use journal_picture::Drawing;
+use load_controller::Journal;
+use std::alloc::{AllocError, Global};
+
+/// Adds the journal of a run of 2^k joiners, of which so much is told beside their number.
+fn add(
+    alloc: Global,
+    drawing: &mut Drawing,
+    options: &Options<'_>,
+    name: &str,
+    k: u32,
+    journal: &Journal,
+) -> Result<(), AllocError>
+    requires k { k ≤ 8 }
+    requires weights { AreWeights options.now.weights }
+{
+    let joiners = 1u64 << k;
+    let heading = format!(in alloc; "{name}joiners: {joiners}")?;
+    drawing.add(
+        alloc,
+        heading.as_str(),
+        k,
+        options.weights,
+        journal.as_slice(),
+    )
+}
+
+/// Adds the journals of the groups from this one on, with these exponents.
+fn add_groups(
+    alloc: Global,
+    drawing: &mut Drawing,
+    options: &Options<'_>,
+    group: u64,
+    exponents: &[u64],
+    journals: &[Journal],
+) -> Result<(), AllocError>
+    requires weights { AreWeights options.now.weights }
+    requires small { All (λ exponent. exponent < 7) exponents.now }
+{
+    let [exponent, exponents @ ..] = exponents else {
+        return Ok(());
+    };
+    let [journal, journals @ ..] = journals else {
+        return Ok(());
+    };
+    let name = format!(in alloc; "group {group}, ")?;
+    add(
+        alloc,
+        drawing,
+        options,
+        name.as_str(),
+        *exponent as u32,
+        journal,
+    )?;
+    add_groups(
+        alloc,
+        drawing,
+        options,
+        group.saturating_add(1),
+        exponents,
+        journals,
+    )
+}
+
+/// Adds the journals of all groups of so many joiners.
+fn add_all_groups(
+    alloc: Global,
+    drawing: &mut Drawing,
+    options: &Options<'_>,
+    joiners: u32,
+    journals: &Journals,
+) -> Result<(), AllocError>
+    requires weights { AreWeights options.now.weights }
+{
+    let exponents = digits(alloc, joiners)?;
+    add_groups(
+        alloc,
+        drawing,
+        options,
+        0,
+        exponents.as_slice(),
+        journals.as_slice(),
+    )
+}
+
+/// The picture of the journals of an outcome whose output was written whole; of another there is none.
+pub(crate) fn picture(
+    alloc: Global,
+    options: &Options<'_>,
+    outcome: &Outcome,
+) -> Result<Option<String>, AllocError>
+    requires k { options.now.k ≤ 6 }
+    requires weights { AreWeights options.now.weights }
+    ensures done { IsDone outcome.now → IfOk result IsSome }
+    ensures refused { (IsDone outcome.now → ⊥) → IfOk result IsNone }
+{
+    let mut drawing = Drawing::new(alloc);
+    match outcome {
+        Outcome::Done { journal, .. } => {
+            add(alloc, &mut drawing, options, "", options.k, journal)?;
+        }
+        Outcome::DoneGroups { journals, .. } => {
+            let joiners = options.groups.unwrap_or(0);
+            add_all_groups(alloc, &mut drawing, options, joiners, journals)?;
+        }
+        Outcome::DoneChain { first, second, .. } => {
+            add(
+                alloc,
+                &mut drawing,
+                options,
+                "first join, ",
+                options.k,
+                first,
+            )?;
+            add(
+                alloc,
+                &mut drawing,
+                options,
+                "second join, ",
+                options.k,
+                second,
+            )?;
+        }
+        _ => return Ok(None),
+    }
+    Ok(Some(drawing.picture(alloc)?))
+}
