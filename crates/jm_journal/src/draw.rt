@@ -15,8 +15,8 @@ use std::sync::Wait;
 use std::thread::Threads;
 use worker_gate::Gate;
 
-/// Puts the picture of an outcome that is done, once it is made whole, and answers that outcome; or that memory ran out, or
-/// that the picture couldn't be put. Another outcome is answered as it is.
+/// Puts the picture of an outcome that is done, once it is made whole, and answers that outcome; or that memory ran
+/// out, or that the picture couldn't be put. Another outcome is answered as it is.
 fn drawn<K: Sink>(alloc: Global, options: &Options<'_>, outcome: Outcome, sink: &mut K) -> Outcome
     requires k { options.now.k ≤ 6 }
     requires weights { AreWeights options.now.weights }
@@ -33,8 +33,9 @@ fn drawn<K: Sink>(alloc: Global, options: &Options<'_>, outcome: Outcome, sink: 
     }
 }
 
-/// Makes the run that `jm` makes for these words, the program's name first, with pairs that go nowhere, and puts the picture of
-/// its journal on the sink. It answers as `join_main` does, and `Outcome::Write` where the picture can't be put whole.
+/// Makes the run that `jm` makes for these words, the program's name first, with pairs that go nowhere, and puts the
+/// picture of its journal on the sink. It answers as `join_main` does, and `Outcome::Write` where the picture can't
+/// be put whole.
 pub(crate) fn draw<R: Threads + Wait + Sync, H: Shelf, K: Sink, G: Gate>(
     rt: &R,
     alloc: Global,

@@ -1,5 +1,5 @@
-//! `jm_journal --on TEXT [options] R.csv S.csv > journal.svg` makes the run that `jm` makes for these words, and draws its
-//! journal.
+//! `jm_journal --on TEXT [options] R.csv S.csv > journal.svg` makes the run that `jm` makes for these words, and
+//! draws its journal.
 #![tactic(auto)]
 
 mod draw;

@@ -30,7 +30,9 @@ pub points_within : (k : ℕ) (weights : Weights) (journal : List TurnLine) → 
     → All IsWithin (points_of k weights journal)
 points_within k weights journal near =
     let lines = filter (has_point k) journal in
-    let nears : All (IsNearWhereStill k weights) lines = All-filter (has_point k) (IsNearWhereStill k weights) journal near in
+    let nears : All (IsNearWhereStill k weights) lines =
+    All-filter (has_point k) (IsNearWhereStill k weights) journal near in
     let passes : All (λ line. has_point k line ≡ true) lines = filter_passes (has_point k) journal in
     All-map IsWithin (point_of k weights) lines
-    (λ i d low. point_within k weights (get_or lines i d) (of_grid k (get_or lines i d) (passes i d low)) (nears i d low))
+    (λ i d low. let line = get_or lines i d in
+    point_within k weights line (of_grid k line (passes i d low)) (nears i d low))

@@ -21,7 +21,9 @@ load_of k weights line = copies k line.shift (weight_r weights line) (weight_s w
 -- the least load of a grid of as many joiners for the same rows
 abbrev pub best_of : ℕ → Weights → TurnLine → ℕ
 best_of k weights line =
-    copies k (best_shift k line.shift (weight_r weights line) (weight_s weights line)) (weight_r weights line) (weight_s weights line)
+    let x = weight_r weights line in
+    let y = weight_s weights line in
+    copies k (best_shift k line.shift x y) x y
 
 -- the point of a line
 abbrev pub point_of : ℕ → Weights → TurnLine → Point

@@ -9,8 +9,8 @@ use std::alloc::AllocError;
 /// How many marks the axis of rows has at most behind its first.
 const MOST_MARKS: u64 = 8;
 
-/// The distance between the marks of an axis of this length: the least of 1, 2, 5, 10, 20, 50 and so on of which so many are
-/// as long.
+/// The distance between the marks of an axis of this length: the least of 1, 2, 5, 10, 20, 50 and so on of which so
+/// many are as long.
 pub(crate) fn tick(length: u128, marks: u64) -> u128 {
     let mut decade: u128 = 1;
     for _ in 0..32 {

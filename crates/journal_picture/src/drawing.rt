@@ -30,10 +30,10 @@ impl Drawing {
         }
     }
 
-    /// Adds the panel of a journal of 2^k joiners, whose rows weigh so much, under a heading without markup: to the right
-    /// the rows of both sides that were counted, upward the load at each line against the best; each change of the
-    /// grid as a band from the line that began it to the one that ended it, with the grid's rows and columns before and
-    /// after; and a line at 5/4 of the best. After an error the picture is of no use.
+    /// Adds the panel of a journal of 2^k joiners, whose rows weigh so much, under a heading without markup: to the
+    /// right the rows of both sides that were counted, upward the load at each line against the best; each change of
+    /// the grid as a band from the line that began it to the one that ended it, with the grid's rows and columns
+    /// before and after; and a line at 5/4 of the best. After an error the picture is of no use.
     pub fn add(
         &mut self,
         alloc: Global,
@@ -52,8 +52,8 @@ impl Drawing {
         Ok(())
     }
 
-    /// The picture as an SVG: for those who don't see it a title and a description in words, then what the marks mean, and
-    /// the panels.
+    /// The picture as an SVG: for those who don't see it a title and a description in words, then what the marks
+    /// mean, and the panels.
     pub fn picture(&self, alloc: Global) -> Result<String, AllocError> {
         let mut text = String::new(alloc);
         write_head(&mut text, self.height)?;

@@ -25,8 +25,8 @@ impl Labels {
         }
     }
 
-    /// One label more, at this place. Where an earlier one reaches that far it stands a lane below the last, so that no line
-    /// from a label down to its step crosses another label.
+    /// One label more, at this place. Where an earlier one reaches that far it stands a lane below the last, so that
+    /// no line from a label down to its step crosses another label.
     pub(crate) fn with(self, place: u128) -> Labels {
         let lane = if self.reach <= place {
             0

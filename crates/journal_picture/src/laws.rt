@@ -3,8 +3,8 @@
 ghost use Rattle.journal_picture.specs.Bound.{StaysWithin};
 ghost use Rattle.journal_picture.specs.Points.{EachHasItsPoint};
 
-/// Where no shift is fixed, four times the load of each point of a lawful journal at which no step is under way is at most five
-/// times the best.
+/// Where no shift is fixed, four times the load of each point of a lawful journal at which no step is under way is at
+/// most five times the best.
 pub fn points_stay_within()
     ensures { StaysWithin }
 {}

@@ -1,4 +1,5 @@
-//! The journal of a run as a picture over time: the grid's load against the best, and each change of the grid, as one SVG.
+//! The journal of a run as a picture over time: the grid's load against the best, and each change of the grid, as one
+//! SVG.
 #![tactic(auto)]
 
 mod axes;

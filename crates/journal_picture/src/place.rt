@@ -36,8 +36,8 @@ pub(crate) fn column(total: u64, point: Point) -> u128
     across(total, point.rows)
 }
 
-/// How far below the top of an axis of 200 pixels so many thousandths are drawn, where the axis goes up to five times the
-/// tick over the best.
+/// How far below the top of an axis of 200 pixels so many thousandths are drawn, where the axis goes up to five times
+/// the tick over the best.
 pub(crate) fn down(tick: u128, thousandths: u128) -> u128
     requires few { thousandths ≤ 2 ^ 100 }
     ensures { result ≡ of.down tick thousandths }
