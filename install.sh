@@ -2,8 +2,8 @@
 # Copies the built programs, jm-rows, the man page and the completions of three shells to a place of their own:
 #   ./install.sh PREFIX
 # What isn't built is built first, as ./jm, ./jm-picture, ./jm-why and ./jm-journal do it at their first run: each is
-# run once here, over a made table. Nothing that is copied looks back at this tree. Each file that was written is told on
-# standard output.
+# run once here, over a made table. Nothing that is copied looks back at this tree. Each file that was written is told
+# on standard output.
 
 if [ $# != 1 ] || [ -z "$1" ]; then
     echo 'usage: install.sh PREFIX' >&2

@@ -1,6 +1,6 @@
-# Completion of jm, jm-rows, jm-why and jm-journal in bash: the options and their values, files, and in the text of --on (and in
-# the list of --columns) the names of the two files' columns behind r. and s., where the files stand on the line.
-# jm-rows, beside jm or on the path, reads the headers.
+# Completion of jm, jm-rows, jm-why and jm-journal in bash: the options and their values, files, and in the text of
+# --on (and in the list of --columns) the names of the two files' columns behind r. and s., where the files stand on the
+# line. jm-rows, beside jm or on the path, reads the headers.
 
 # _jm_plain WORD: the word without its quotes in _jm_word, and in _jm_quote the quote that is left open
 _jm_plain() {

@@ -1,6 +1,6 @@
 #!/bin/sh
 # Runs what README.md, docs/USAGE.md, docs/jm.1 and examples/README.md show, and compares. It is no part of the gate, in
-# which no test may start a program. JM, JM_PICTURE, JM_WHY and JM_JOURNAL name other programs than the repository's own.
+# which no test may start a program. JM, JM_PICTURE, JM_WHY and JM_JOURNAL name other programs than the repository's.
 #
 # An indented line that begins with "$ " is a command, and the lines below it, up to the next such or the block's end,
 # are what it prints; the lines of --early may come in another order. An indented line that begins with "./jm" is run,

@@ -1,7 +1,7 @@
 #!/bin/sh
-# Runs jm-why over small files: what it says of files that can't be read, that a pipe will do, and that its status is that
-# of jm for the same words, where jm refuses them, and 0 where jm joins. It is no part of the gate, in which no test may
-# start a program. JM and JM_WHY name other programs than the repository's own.
+# Runs jm-why over small files: what it says of files that can't be read, that a pipe will do, and that its status is
+# that of jm for the same words, where jm refuses them, and 0 where jm joins. It is no part of the gate, in which no
+# test may start a program. JM and JM_WHY name other programs than the repository's own.
 set -u
 top=$(cd "$(dirname "$0")/.." && pwd -P)
 jm=${JM:-$top/jm}
