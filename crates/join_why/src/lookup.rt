@@ -91,19 +91,19 @@ impl Headers<'_> {
     }
 }
 
-/// Appends how a joiner finds the rows that match one.
+/// Appends what is looked up of a row, where anything is, and answers whether it is.
 pub(crate) fn push_lookup(
     text: &mut String,
     theta: &Theta,
     headers: Headers<'_>,
-) -> Result<(), AllocError> {
+) -> Result<bool, AllocError> {
     if let Some(access) = theta.access()? {
-        return headers.push_access(text, &access);
+        headers.push_access(text, &access)?;
+        return Ok(true);
     }
     if let Some(atom) = theta.key_atom()? {
-        return headers.push_range(text, &atom);
+        headers.push_range(text, &atom)?;
+        return Ok(true);
     }
-    text.push_str(
-        "nothing is looked up, since no member of the top `and` serves: each row of R is compared with each of S\n",
-    )
+    Ok(false)
 }

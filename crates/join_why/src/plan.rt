@@ -137,7 +137,10 @@ fn push_second(
         s: &third.table.names,
     };
     text.push_str("in the second join, whose R are the joined rows, ")?;
-    push_lookup(text, &third.theta, headers)
+    if !push_lookup(text, &third.theta, headers)? {
+        text.push_str("there is no key: each joined row is compared with each row of S2\n")?;
+    }
+    Ok(())
 }
 
 /// What the join would be that these options ask for.
@@ -157,7 +160,14 @@ pub(crate) fn explain_plan(
         r: &tables.of_r.names,
         s: &tables.of_s.names,
     };
-    push_lookup(&mut text, &planned.theta, headers)?;
+    if !push_lookup(&mut text, &planned.theta, headers)? {
+        let rows_r = tables.of_r.rows.len();
+        let rows_s = tables.of_s.rows.len();
+        write!(
+            text,
+            "no key: {rows_r} times {rows_s} evaluations, since no member of the top `and` serves\n"
+        )?;
+    }
     match options.groups {
         Some(joiners) => push_groups(&mut text, joiners)?,
         None => push_grid(&mut text, options, planned)?,

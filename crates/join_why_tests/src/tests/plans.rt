@@ -38,8 +38,7 @@ fn a_range_is_looked_up(rt: HostRuntime) -> Result<(), Fail> {
 
 #[test]
 fn else_all_are_compared(rt: HostRuntime) -> Result<(), Fail> {
-    let lines =
-        "nothing is looked up, since no member of the top `and` serves: each row of R is compared with each of S\n";
+    let lines = "no key: 3 times 3 evaluations, since no member of the top `and` serves\n";
     finds(&rt, rt.alloc(), "r.x = s.y or r.id = s.id", lines)?;
     Ok(())
 }
