@@ -116,6 +116,7 @@ holds 'high is proved before jm' stands_before 'lib high' 'run jm'
 holds 'a first run says that it builds' grep -q '^jm: building; .* half an hour' got.err
 holds 'it says which crate it is at' grep -q '^jm: proving high, crate 3 of 4$' got.err
 holds 'it comes to the program' grep -q '^jm: proving jm, crate 4 of 4$' got.err
+holds 'and says where a refusal is explained' grep -q '^jm: built; .*/jm-why ' got.err
 same 'each line of a build begins with the name' '' "$(grep -v '^jm: ' got.err)"
 same 'no room is left' '' "$(ls -d "$tree"/crates/jm/out/rooms 2>/dev/null)"
 

@@ -252,6 +252,7 @@ build() {
     # (a source that was edited in the meantime is newer)
     touch -r "$rooms/started" "$program"
     rm -rf "$rooms"
+    [ -z "$2" ] || echo "$name: $2" >&2
 }
 
 # Builds under a lock, where the system has one: of two first runs in one tree, also of two programs, the second waits,
@@ -265,6 +266,6 @@ build_once() {
             echo "$name: another run builds in this tree; waiting for it" >&2
             flock 9
         fi
-        is_fresh || build "$1" 9>&-
+        is_fresh || build "$1" "$2" 9>&-
     ) 9>"$lock" </dev/null
 }

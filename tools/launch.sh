@@ -1,7 +1,8 @@
 # shellcheck shell=sh
 # Sourced by the launchers at the top of the tree: starts a program of crates/, built first where it isn't built or a
 # source of it is newer. A launcher sets self, its own path, with a slash in it and not that of a link, and calls
-#   make_ready CRATE TIME    builds that crate's program where that is needed; TIME says how long a first build takes
+#   make_ready CRATE TIME [HINT]   builds that crate's program where that is needed; TIME says how long a first build
+#                            takes, and HINT is told once it is built
 # and then either exec "$program" or, if the program shows on a terminal how far it has come,
 #   run_clearing WORDS..     runs it, and leaves no line of it on the terminal that is half done
 
@@ -36,7 +37,7 @@ make_ready() {
         ! is_fresh || return 0
     fi
     . "$top/tools/build.sh"
-    build_once "$2" || exit 1
+    build_once "$2" "${3:-}" || exit 1
 }
 
 # Ends by a signal, as the program would, but without a core, which would be the shell's and lie over the program's.
