@@ -15,11 +15,11 @@ use Rattle.ruled_links.proofs.PartsLemmas.{name_once}
 use Rattle.pair_collector.specs.Standing.{nothing_yet}
 use Rattle.trace_law.specs.declared.input.Input.{Input}
 use Rattle.trace_law.specs.declared.setting.Setting.{Setting}
-use Rattle.link_trace.specs.Lists.{no_lists}
-use Rattle.link_trace.specs.Standing.{Stands, IsLive, given_by}
-use Rattle.link_trace.specs.Families.{start_for, IsActor}
-use Rattle.link_trace.specs.Numbers.{number, at_number}
-use Rattle.link_trace.proofs.OwnNumbers.{number_actor}
+use Rattle.actor_core.specs.Lists.{no_lists}
+use Rattle.actor_core.specs.Standing.{Stands, IsLive, given_by}
+use Rattle.actor_core.specs.Families.{start_for, IsActor}
+use Rattle.actor_core.specs.Numbers.{number, at_number}
+use Rattle.actor_core.proofs.OwnNumbers.{number_actor}
 use Rattle.join_runtime.specs.Views.{SeatView, Frame, frame_of, lists_of, address_of, contents, sent_by, sent_at}
 use Rattle.join_runtime.specs.Joins.{AreJoined, AreSettled, AllLead, IsPlaced, Leads, HasMouthTo, IsGathered, Knows, slot_of}
 use Rattle.join_runtime.specs.Bouts.{SeatsView, StandsFor, lists_at, lists_in, mouth_at, mouth_of, seat_of}
@@ -27,7 +27,7 @@ use Rattle.join_runtime.specs.Seating.{IsNewSeat, AreNew, AreFilled}
 use Rattle.join_runtime.specs.Early.{AreGiven, given_at, given_in}
 use Rattle.join_runtime.proofs.KnownCounts.{is_sender-named}
 use Rattle.join_runtime.proofs.FramePlaces.{address_at}
-use Rattle.link_trace.proofs.Beginnings.{there}
+use Rattle.actor_core.proofs.Beginnings.{there}
 use Rattle.join_runtime.proofs.LinkLists.{number_low}
 
 -- ---- members of lists

@@ -23,16 +23,16 @@ use Rattle.trace_law.specs.Validity.{IsValid}
 use Rattle.trace_law.specs.Laws.{EventsAreFew}
 use Rattle.trace_law.specs.Family.{first_rest}
 use Rattle.trace_law.proofs.First.{stands as first_stands}
-use Rattle.link_trace.specs.Lists.{ActorLists, Cause, Took, Began, no_lists, posted_to, same_actor, with_event}
-use Rattle.link_trace.specs.Standing.{Event, GoOut, Stands, Waits}
-use Rattle.link_trace.specs.Families.{AreFronts, IsActor, after_event, changed, family_of, start_for}
-use Rattle.link_trace.specs.Order.{most_events}
-use Rattle.link_trace.specs.Numbers.{actor_at, at_number, number}
-use Rattle.link_trace.specs.declared.machines.Core.{Core}
-use Rattle.link_trace.specs.declared.machines.Core.TheVariants.{Feeder as TheFeeder, Joiner as TheJoiner, Controller as TheController, Collector as TheCollector}
-use Rattle.link_trace.proofs.Balances.{same_is}
-use Rattle.link_trace.proofs.OwnNumbers.{is_actor, same_self, number_there}
-use Rattle.link_trace.proofs.EventCounts.{AreLinked, IsLinked, began_counts, count, left_linked, linked_after, took_counts}
+use Rattle.actor_core.specs.Lists.{ActorLists, Cause, Took, Began, no_lists, posted_to, same_actor, with_event}
+use Rattle.actor_core.specs.Standing.{Event, GoOut, Stands, Waits}
+use Rattle.actor_core.specs.Families.{AreFronts, IsActor, after_event, changed, family_of, start_for}
+use Rattle.actor_core.specs.Counts.{most_events}
+use Rattle.actor_core.specs.Numbers.{actor_at, at_number, number}
+use Rattle.actor_core.specs.declared.machines.Core.{Core}
+use Rattle.actor_core.specs.declared.machines.Core.TheVariants.{Feeder as TheFeeder, Joiner as TheJoiner, Controller as TheController, Collector as TheCollector}
+use Rattle.actor_core.proofs.Balances.{same_is}
+use Rattle.actor_core.proofs.OwnNumbers.{is_actor, same_self, number_there}
+use Rattle.actor_core.proofs.EventCounts.{AreLinked, IsLinked, began_counts, count, left_linked, linked_after, took_counts}
 use Rattle.join_runtime.specs.Views.{SeatView, lists_of}
 use Rattle.join_runtime.specs.Turns.{MakesEvent, MayBegin, Rests, Runs}
 use Rattle.join_runtime.specs.Bouts.{AllAdvance, Extends, IsReady, SeatsView, SomeReady, StandsFor, lists_at, lists_in}

@@ -18,15 +18,15 @@ use Rattle.trace_law.specs.Runs.{IsRunOf, run_of}
 use Rattle.trace_law.specs.Laws.{CompleteIsFinished, FinishedAnswers}
 use Rattle.trace_law.specs.Family.{first_rest}
 use Rattle.trace_law.proofs.First.{stands as first_stands}
-use Rattle.link_trace.specs.Lists.{ActorLists, collector_lists, no_lists}
-use Rattle.link_trace.specs.Standing.{Stands, OfCollector}
-use Rattle.link_trace.specs.Families.{AreFronts, journal_of}
-use Rattle.link_trace.specs.Numbers.{number, at_number}
-use Rattle.link_trace.specs.Worlds.{IsAnswerOf}
-use Rattle.link_trace.specs.declared.machines.Core.{Core}
-use Rattle.link_trace.specs.declared.machines.Core.TheVariants.{Feeder as TheFeeder, Joiner as TheJoiner, Controller as TheController, Collector as TheCollector}
-use Rattle.link_trace.proofs.OwnNumbers.{none_some, some_is}
-use Rattle.link_trace.proofs.WorldAnswer.{before_last, last_of}
+use Rattle.actor_core.specs.Lists.{ActorLists, collector_lists, no_lists}
+use Rattle.actor_core.specs.Standing.{Stands, OfCollector}
+use Rattle.actor_core.specs.Families.{AreFronts, journal_of}
+use Rattle.actor_core.specs.Numbers.{number, at_number}
+use Rattle.actor_core.specs.Endings.{IsAnswerOf}
+use Rattle.actor_core.specs.declared.machines.Core.{Core}
+use Rattle.actor_core.specs.declared.machines.Core.TheVariants.{Feeder as TheFeeder, Joiner as TheJoiner, Controller as TheController, Collector as TheCollector}
+use Rattle.actor_core.proofs.OwnNumbers.{none_some, some_is}
+use Rattle.actor_core.proofs.LastTwo.{before_last, last_of}
 use Rattle.join_runtime.specs.Views.{SeatView, frame_of}
 use Rattle.join_runtime.specs.Joins.{AreJoined}
 use Rattle.join_runtime.specs.Bouts.{SeatsView, StandsFor, seat_of, lists_at, lists_in}

@@ -4,9 +4,9 @@ use Rattle.join_rows.specs.Lists.{IsPrefix}
 use Rattle.epoch_tags.specs.declared.actor.Actor.{Actor}
 use Rattle.epoch_tags.specs.declared.message.Msg.{Msg}
 use Rattle.ruled_links.specs.Inboxes.{OfSender, is_sender, fresh}
-use Rattle.link_trace.specs.Lists.{ActorLists, Cause, Took, Began, same_actor, posted_to, with_cause}
-use Rattle.link_trace.specs.Standing.{Start, Stands, IsLive, given_by}
-use Rattle.link_trace.proofs.Balances.{same_is}
+use Rattle.actor_core.specs.Lists.{ActorLists, Cause, Took, Began, same_actor, posted_to, with_cause}
+use Rattle.actor_core.specs.Standing.{Start, Stands, IsLive, given_by}
+use Rattle.actor_core.proofs.Balances.{same_is}
 use Rattle.join_runtime.specs.Views.{SeatView, Frame, lists_of, frame_of}
 use Rattle.join_runtime.specs.Turns.{IsHeard, Runs}
 use Rattle.join_runtime.specs.Joins.{HearsSenders}

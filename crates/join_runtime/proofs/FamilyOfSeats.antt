@@ -5,9 +5,9 @@ use Rattle.epoch_tags.specs.declared.actor.Actor.TheVariants.{Controller}
 use Rattle.trace_law.specs.declared.input.Input.{Input}
 use Rattle.trace_law.specs.declared.setting.Setting.{Setting}
 use Rattle.trace_law.specs.Family.{IsAgreeing, first_rest}
-use Rattle.link_trace.specs.Standing.{Stands}
-use Rattle.link_trace.specs.Families.{AreFronts, IsActor, family_of, journal_of, start_for}
-use Rattle.link_trace.proofs.Families.{agrees as agreeing}
+use Rattle.actor_core.specs.Standing.{Stands}
+use Rattle.actor_core.specs.Families.{AreFronts, IsActor, family_of, journal_of, start_for}
+use Rattle.actor_core.proofs.Families.{agrees as agreeing}
 use Rattle.join_runtime.specs.Bouts.{SeatsView, StandsFor, lists_at, lists_in}
 use Rattle.join_runtime.specs.Endings.{family_in, journal_at, journal_in}
 

@@ -2,8 +2,8 @@
 use Rattle.std.proofs.Common.{◌≡◌, ℕ, zero, suc, ◌+◌, ◌-◌, ◌<◌, refl, sym, ap, ◌∙◌, Option, None, List, [], ◌∷◌, get_or, map, length, arith}
 use Rattle.std.proofs.lemmas.List.{get_or-map}
 use Rattle.ruled_links.specs.Ends.{Sending}
-use Rattle.link_trace.specs.Numbers.{number, actor_at}
-use Rattle.link_trace.proofs.OwnNumbers.{some_is, number_there}
+use Rattle.actor_core.specs.Numbers.{number, actor_at}
+use Rattle.actor_core.proofs.OwnNumbers.{some_is, number_there}
 use Rattle.join_runtime.specs.Views.{SeatView, frame_of, address_of}
 
 -- so at two places stand two actors

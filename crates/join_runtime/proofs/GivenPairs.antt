@@ -13,9 +13,9 @@ use Rattle.pair_collector.specs.Law.{CollectorLists}
 use Rattle.pair_collector.specs.Fresh.{pairs_since}
 use Rattle.trace_law.specs.declared.input.Input.{Input}
 use Rattle.trace_law.specs.declared.setting.Setting.{Setting}
-use Rattle.link_trace.specs.Lists.{ActorLists}
-use Rattle.link_trace.specs.Standing.{IsLive, OfCollector, Start, Stands, given_by}
-use Rattle.link_trace.proofs.OwnNumbers.{some_is}
+use Rattle.actor_core.specs.Lists.{ActorLists}
+use Rattle.actor_core.specs.Standing.{IsLive, OfCollector, Start, Stands, given_by}
+use Rattle.actor_core.proofs.OwnNumbers.{some_is}
 use Rattle.join_runtime.specs.Views.{SeatView, frame_of, lists_of}
 use Rattle.join_runtime.specs.Joins.{AreGathered, AreJoined, AreSettled, HearsSenders, IsGathered, slot_of}
 use Rattle.join_runtime.specs.Bouts.{AllAdvance, SeatsView, StandsFor, lists_in, seat_of}

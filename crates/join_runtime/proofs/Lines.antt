@@ -23,8 +23,8 @@ use Rattle.trace_law.specs.Family.{first_rest}
 use Rattle.trace_law.proofs.First.{all_pairs, stands as first_stands}
 use Rattle.trace_law.specs.Laws.{AnswersInTheEnd, TakesNothingWrong}
 use Rattle.trace_law.specs.Validity.{IsValid}
-use Rattle.link_trace.specs.Families.{AreFronts, family_of}
-use Rattle.link_trace.specs.Lists.{ActorLists, collector_lists, no_lists}
+use Rattle.actor_core.specs.Families.{AreFronts, family_of}
+use Rattle.actor_core.specs.Lists.{ActorLists, collector_lists, no_lists}
 use Rattle.join_report.specs.PairLines.{pair_lines}
 use Rattle.join_runtime.specs.Bouts.{AllAdvance, Extends, SeatsView, StandsFor, lists_in}
 use Rattle.join_runtime.specs.Endings.{IsFinishedFamily, family_in}

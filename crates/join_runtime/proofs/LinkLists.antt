@@ -11,11 +11,11 @@ use Rattle.epoch_tags.specs.declared.message.Msg.{Msg}
 use Rattle.epoch_tags.specs.declared.message.Envelope.{Envelope}
 use Rattle.ruled_links.specs.Ends.{Sending}
 use Rattle.ruled_links.specs.Inboxes.{messages_of, is_sender, fresh, all_known}
-use Rattle.link_trace.specs.Lists.{ActorLists, no_lists}
-use Rattle.link_trace.specs.Families.{AreFronts}
-use Rattle.link_trace.specs.Numbers.{number, actor_at, at_number}
-use Rattle.link_trace.proofs.OwnNumbers.{number_actor, none_some, some_is, number_there}
-use Rattle.link_trace.proofs.Beginnings.{there}
+use Rattle.actor_core.specs.Lists.{ActorLists, no_lists}
+use Rattle.actor_core.specs.Families.{AreFronts}
+use Rattle.actor_core.specs.Numbers.{number, actor_at, at_number}
+use Rattle.actor_core.proofs.OwnNumbers.{number_actor, none_some, some_is, number_there}
+use Rattle.actor_core.proofs.Beginnings.{there}
 use Rattle.join_runtime.specs.Views.{SeatView, Frame, lists_of, frame_of, address_of, contents, received_of, sent_by, sent_at, sent_through}
 use Rattle.join_runtime.specs.Joins.{AreJoined, ActorsDiffer, Leads, AreSettled, HasMouthTo, IsKnown, IsGathered, Knows, slot_of}
 use Rattle.join_runtime.specs.Bouts.{SeatsView, lists_at, lists_in, AllRest, IsReady, IsStill, SomeReady}

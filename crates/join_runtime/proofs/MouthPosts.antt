@@ -7,7 +7,7 @@ use Rattle.epoch_tags.specs.declared.actor.Actor.{Actor}
 use Rattle.epoch_tags.specs.declared.message.Msg.{Msg}
 use Rattle.epoch_tags.specs.declared.message.Post.{Post}
 use Rattle.ruled_links.specs.Ends.{Sending}
-use Rattle.link_trace.specs.Lists.{same_actor, posted_to}
+use Rattle.actor_core.specs.Lists.{same_actor, posted_to}
 use Rattle.join_runtime.specs.Views.{address_of, sent_through}
 
 pub addresses-set : (mouths : List (Option Sending)) (place : ℕ) (slot new : Option Sending) → slot ≡ get_or mouths place slot → address_of new ≡ address_of slot

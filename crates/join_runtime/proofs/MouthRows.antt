@@ -11,11 +11,11 @@ use Rattle.epoch_tags.specs.Links.{HasLink}
 use Rattle.ruled_links.specs.Ends.{Sending}
 use Rattle.trace_law.specs.declared.input.Input.{Input}
 use Rattle.trace_law.specs.declared.setting.Setting.{Setting}
-use Rattle.link_trace.specs.Numbers.{number}
-use Rattle.link_trace.proofs.OwnNumbers.{none_some, number_actor, some_is}
+use Rattle.actor_core.specs.Numbers.{number}
+use Rattle.actor_core.proofs.OwnNumbers.{none_some, number_actor, some_is}
 use Rattle.join_runtime.specs.Views.{SeatView}
 use Rattle.join_runtime.specs.Joins.{slot_of}
-use Rattle.link_trace.proofs.Beginnings.{there}
+use Rattle.actor_core.proofs.Beginnings.{there}
 use Rattle.join_runtime.specs.Seating.{AreBelow, AreLinked, AreNew, IsNewSeat, Puts, IsOneOf, Places, AreFilled}
 
 -- ---- one mouth

@@ -9,11 +9,11 @@ use Rattle.join_rows.specs.Lists.{IsPrefix}
 use Rattle.epoch_tags.specs.declared.actor.Actor.{Actor}
 use Rattle.trace_law.specs.declared.input.Input.{Input}
 use Rattle.trace_law.specs.declared.setting.Setting.{Setting}
-use Rattle.link_trace.specs.Lists.{ActorLists, no_lists}
-use Rattle.link_trace.specs.Standing.{Start, Stands}
-use Rattle.link_trace.specs.Families.{start_for, IsActor}
-use Rattle.link_trace.specs.Numbers.{number, at_number}
-use Rattle.link_trace.proofs.OwnNumbers.{none_some}
+use Rattle.actor_core.specs.Lists.{ActorLists, no_lists}
+use Rattle.actor_core.specs.Standing.{Start, Stands}
+use Rattle.actor_core.specs.Families.{start_for, IsActor}
+use Rattle.actor_core.specs.Numbers.{number, at_number}
+use Rattle.actor_core.proofs.OwnNumbers.{none_some}
 use Rattle.join_runtime.specs.Views.{SeatView, lists_of, frame_of}
 use Rattle.join_runtime.specs.Turns.{Advances, AllStep, AllWork, IsAlike, Steps, Works}
 use Rattle.join_runtime.specs.Joins.{AreSettled, AreGathered}

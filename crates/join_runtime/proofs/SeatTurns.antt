@@ -1,7 +1,7 @@
 -- Turns and events of a seat.
 use Rattle.std.proofs.Common.{◌≡◌, ℕ, ◌+◌, zero, suc, inl, inr, refl, sym, ap, subst, ◌∙◌, true, arith}
-use Rattle.link_trace.specs.Standing.{Event, IsLive, given_by}
-use Rattle.link_trace.specs.declared.machines.Core.{Core}
+use Rattle.actor_core.specs.Standing.{Event, IsLive, given_by}
+use Rattle.actor_core.specs.declared.machines.Core.{Core}
 use Rattle.join_runtime.specs.Views.{SeatView, frame_of}
 use Rattle.join_runtime.specs.Turns.{Advances, IsAlike, MakesEvent, Rests, Runs, Steps, Works}
 

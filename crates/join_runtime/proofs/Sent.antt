@@ -13,7 +13,7 @@ use Rattle.ruled_links.proofs.mailbox.Mouth.TheSendSync as mouths
 use Rattle.theta_pred.specs.contracts.theta.Theta as theta
 use Rattle.joiner_core.specs.contracts.epochs.Epochs as epochs
 use Rattle.joiner_core.specs.contracts.joiner.Joiner as joiner
-use Rattle.link_trace.specs.contracts.machines.Core as core
+use Rattle.actor_core.specs.contracts.machines.Core as core
 use Rattle.join_runtime.specs.contracts.seat.Seat as seat
 
 -- part by part, since a `search` that goes down through a seat to its machine's parts runs out of steps

@@ -14,18 +14,18 @@ use Rattle.trace_law.specs.Validity.{IsValid}
 use Rattle.trace_law.specs.Laws.{QuietIsFinished}
 use Rattle.trace_law.specs.Family.{IsQuiet, feeder_start, first_rest}
 use Rattle.trace_law.proofs.First.{stands as first_stands}
-use Rattle.link_trace.specs.Lists.{ActorLists, collector_lists}
-use Rattle.link_trace.specs.Standing.{OfCollector, Stands, Waits}
-use Rattle.link_trace.specs.Families.{AreFronts}
-use Rattle.link_trace.specs.Numbers.{at_number, number}
-use Rattle.link_trace.specs.declared.machines.Core.{Core}
-use Rattle.link_trace.specs.declared.machines.Core.TheVariants.{Feeder as TheFeeder, Joiner as TheJoiner, Controller as TheController, Collector as TheCollector}
-use Rattle.link_trace.proofs.OwnNumbers.{none_some}
+use Rattle.actor_core.specs.Lists.{ActorLists, collector_lists}
+use Rattle.actor_core.specs.Standing.{OfCollector, Stands, Waits}
+use Rattle.actor_core.specs.Families.{AreFronts}
+use Rattle.actor_core.specs.Numbers.{at_number, number}
+use Rattle.actor_core.specs.declared.machines.Core.{Core}
+use Rattle.actor_core.specs.declared.machines.Core.TheVariants.{Feeder as TheFeeder, Joiner as TheJoiner, Controller as TheController, Collector as TheCollector}
+use Rattle.actor_core.proofs.OwnNumbers.{none_some}
 use Rattle.join_runtime.specs.Views.{SeatView}
 use Rattle.join_runtime.specs.Bouts.{IsStill, SeatsView, StandsFor, lists_in, seat_of}
 use Rattle.join_runtime.specs.Endings.{family_in, is_collected, is_complete_at, is_complete_core}
 use Rattle.join_runtime.proofs.FamilyOfSeats.{agrees, stands_in}
-use Rattle.link_trace.proofs.Stilled.{waits_says}
+use Rattle.actor_core.proofs.Waiting.{waits_says}
 
 -- a collector's machine that took all is complete
 complete_core : (n : ℕ) (ls : ActorLists) (core : Core) → Stands (OfCollector n) ls core → IsComplete n (collector_lists ls) → is_complete_core core ≡ true

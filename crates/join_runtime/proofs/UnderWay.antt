@@ -4,9 +4,9 @@ use mathlib.Core.Path.{fun_ext}
 use Rattle.epoch_tags.specs.declared.actor.Actor.{Actor}
 use Rattle.trace_law.specs.declared.input.Input.{Input}
 use Rattle.trace_law.specs.declared.setting.Setting.{Setting}
-use Rattle.link_trace.specs.Lists.{ActorLists, no_lists}
-use Rattle.link_trace.specs.Families.{AreFronts}
-use Rattle.link_trace.proofs.EventCounts.{AreLinked, count}
+use Rattle.actor_core.specs.Lists.{ActorLists, no_lists}
+use Rattle.actor_core.specs.Families.{AreFronts}
+use Rattle.actor_core.proofs.EventCounts.{AreLinked, count}
 use Rattle.join_runtime.specs.Bouts.{AllAdvance, Extends, SeatsView, SomeReady, StandsFor, lists_in}
 use Rattle.join_runtime.proofs.Counted.{IsCounted, counted_more, none_counted}
 use Rattle.join_runtime.proofs.Ended.{fronts_none}

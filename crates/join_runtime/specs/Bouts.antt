@@ -6,10 +6,10 @@ use Rattle.ruled_links.specs.Ends.{Sending}
 use Rattle.ruled_links.specs.Inboxes.{all_known}
 use Rattle.trace_law.specs.declared.input.Input.{Input}
 use Rattle.trace_law.specs.declared.setting.Setting.{Setting}
-use Rattle.link_trace.specs.Lists.{ActorLists, no_lists}
-use Rattle.link_trace.specs.Standing.{Stands, Waits, IsLive}
-use Rattle.link_trace.specs.Families.{start_for, IsActor}
-use Rattle.link_trace.specs.Numbers.{number, at_number}
+use Rattle.actor_core.specs.Lists.{ActorLists, no_lists}
+use Rattle.actor_core.specs.Standing.{Stands, Waits, IsLive}
+use Rattle.actor_core.specs.Families.{start_for, IsActor}
+use Rattle.actor_core.specs.Numbers.{number, at_number}
 use Rattle.join_runtime.specs.Views.{SeatView, lists_of}
 use Rattle.join_runtime.specs.Turns.{Rests, Advances}
 

@@ -10,9 +10,9 @@ use Rattle.pair_collector.specs.Law.{CollectorLists}
 use Rattle.pair_collector.specs.Fresh.{pairs_since}
 use Rattle.trace_law.specs.declared.input.Input.{Input}
 use Rattle.trace_law.specs.Join.{nested_loop}
-use Rattle.link_trace.specs.Lists.{ActorLists, collector_lists}
-use Rattle.link_trace.specs.Standing.{OfCollector, Start, Stands, IsLive, given_by}
-use Rattle.link_trace.specs.declared.machines.Core.{Core}
+use Rattle.actor_core.specs.Lists.{ActorLists, collector_lists}
+use Rattle.actor_core.specs.Standing.{OfCollector, Start, Stands, IsLive, given_by}
+use Rattle.actor_core.specs.declared.machines.Core.{Core}
 use Rattle.join_report.specs.PairLines.{pair_lines}
 use Rattle.join_runtime.specs.Views.{SeatView}
 use Rattle.join_runtime.specs.Bouts.{SeatsView, seat_of, lists_in}

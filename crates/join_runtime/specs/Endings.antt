@@ -10,11 +10,11 @@ use Rattle.ruled_links.specs.Inboxes.{InboxView}
 use Rattle.trace_law.specs.declared.input.Input.{Input}
 use Rattle.trace_law.specs.declared.setting.Setting.{Setting}
 use Rattle.trace_law.specs.Family.{Family, IsAgreeing, IsFinished, first_rest}
-use Rattle.link_trace.specs.Lists.{ActorLists, no_lists}
-use Rattle.link_trace.specs.Families.{family_of, journal_of}
-use Rattle.link_trace.specs.Numbers.{number, at_number}
-use Rattle.link_trace.specs.declared.machines.Core.{Core}
-use Rattle.link_trace.specs.declared.machines.Core.TheVariants.{Feeder as TheFeeder, Joiner as TheJoiner, Controller as TheController, Collector as TheCollector}
+use Rattle.actor_core.specs.Lists.{ActorLists, no_lists}
+use Rattle.actor_core.specs.Families.{family_of, journal_of}
+use Rattle.actor_core.specs.Numbers.{number, at_number}
+use Rattle.actor_core.specs.declared.machines.Core.{Core}
+use Rattle.actor_core.specs.declared.machines.Core.TheVariants.{Feeder as TheFeeder, Joiner as TheJoiner, Controller as TheController, Collector as TheCollector}
 use Rattle.join_runtime.specs.Views.{SeatView, received_of, sent_through}
 use Rattle.join_runtime.specs.Bouts.{SeatsView, seat_of, lists_in}
 

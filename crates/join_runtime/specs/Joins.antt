@@ -4,8 +4,8 @@ use Rattle.epoch_tags.specs.declared.actor.Actor.{Actor}
 use Rattle.ruled_links.specs.Ends.{Sending, AreLeft}
 use Rattle.ruled_links.specs.Delivery.{number_of}
 use Rattle.ruled_links.specs.Inboxes.{InboxView, OfSender, IsMouthOf, messages_of, is_sender, fresh, told}
-use Rattle.link_trace.specs.Standing.{IsLive}
-use Rattle.link_trace.specs.Numbers.{number, actor_at}
+use Rattle.actor_core.specs.Standing.{IsLive}
+use Rattle.actor_core.specs.Numbers.{number, actor_at}
 use Rattle.join_runtime.specs.Views.{SeatView, Frame, Address, lists_of}
 
 -- the seat at this number is that actor's

@@ -6,10 +6,10 @@ use Rattle.ruled_links.specs.Ends.{Sending}
 use Rattle.ruled_links.specs.Inboxes.{Differ, fresh, opened}
 use Rattle.trace_law.specs.declared.input.Input.{Input}
 use Rattle.trace_law.specs.declared.setting.Setting.{Setting}
-use Rattle.link_trace.specs.Lists.{no_lists}
-use Rattle.link_trace.specs.Standing.{Stands, HasGivenNone, IsLive}
-use Rattle.link_trace.specs.Families.{start_for}
-use Rattle.link_trace.specs.Numbers.{number, actor_at}
+use Rattle.actor_core.specs.Lists.{no_lists}
+use Rattle.actor_core.specs.Standing.{Stands, HasGivenNone, IsLive}
+use Rattle.actor_core.specs.Families.{start_for}
+use Rattle.actor_core.specs.Numbers.{number, actor_at}
 use Rattle.join_runtime.specs.Views.{SeatView}
 use Rattle.join_runtime.specs.Joins.{slot_of}
 

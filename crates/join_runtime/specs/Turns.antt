@@ -3,11 +3,11 @@ use Rattle.std.specs.Prelude.{◌≡◌, ◌<◌, ◌⊎◌, ⊤, ℕ, zero, suc
 use Rattle.epoch_tags.specs.declared.actor.Actor.{Actor}
 use Rattle.epoch_tags.specs.declared.message.Post.{Post}
 use Rattle.ruled_links.specs.Inboxes.{InboxView, OfSender, all_known, is_sender}
-use Rattle.link_trace.specs.Lists.{Cause, Took, Began, with_event, with_cause}
-use Rattle.link_trace.specs.Standing.{Event, Occurs, Waits, IsLive, given_by}
-use Rattle.link_trace.specs.declared.machines.Core.{Core}
-use Rattle.link_trace.specs.declared.step.Step.{Step}
-use Rattle.link_trace.specs.declared.step.Step.TheVariants.{Took as TookStep, Idle}
+use Rattle.actor_core.specs.Lists.{Cause, Took, Began, with_event, with_cause}
+use Rattle.actor_core.specs.Standing.{Event, Occurs, Waits, IsLive, given_by}
+use Rattle.actor_core.specs.declared.machines.Core.{Core}
+use Rattle.actor_core.specs.declared.step.Step.{Step}
+use Rattle.actor_core.specs.declared.step.Step.TheVariants.{Took as TookStep, Idle}
 use Rattle.join_runtime.specs.Views.{SeatView, lists_of, frame_of, received_of}
 
 -- a message that was taken is of one of the inbox's senders

@@ -5,9 +5,9 @@ use Rattle.epoch_tags.specs.declared.message.Msg.{Msg}
 use Rattle.epoch_tags.specs.declared.message.Envelope.{Envelope}
 use Rattle.ruled_links.specs.Ends.{LinkId, Sending}
 use Rattle.ruled_links.specs.Inboxes.{InboxView, messages_of, senders_of}
-use Rattle.link_trace.specs.Lists.{ActorLists}
-use Rattle.link_trace.specs.Numbers.{number, at_number}
-use Rattle.link_trace.specs.declared.machines.Core.{Core}
+use Rattle.actor_core.specs.Lists.{ActorLists}
+use Rattle.actor_core.specs.Numbers.{number, at_number}
+use Rattle.actor_core.specs.declared.machines.Core.{Core}
 
 -- an actor of a run with so many joiners and feeders: its machine, its inbox, and by the numbers of actors a mouth for
 -- each to which it sends

@@ -4,7 +4,7 @@ ghost use Rattle.std.specs.Prelude.{◌≡◌, ◌<◌, ℕ, true, false, Ok, On
 ghost use Rattle.trace_law.specs.declared.input.Input.{Input as Input'};
 ghost use Rattle.trace_law.specs.declared.setting.Setting.{Setting as Setting'};
 ghost use Rattle.trace_law.specs.Validity.{IsValid};
-ghost use Rattle.link_trace.specs.Families.{AreFronts};
+ghost use Rattle.actor_core.specs.Families.{AreFronts};
 ghost use Rattle.join_runtime.specs.Views.{SeatView, frame_of};
 ghost use Rattle.join_runtime.specs.Turns.{AllStep, IsAlike};
 ghost use Rattle.join_runtime.specs.Joins.{ActorsDiffer, AllLead, AreGathered, IsSlotOf, Tells, slot_of};

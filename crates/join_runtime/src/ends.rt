@@ -7,14 +7,14 @@ ghost use Rattle.trace_law.specs.declared.setting.Setting.{Setting as Setting'};
 ghost use Rattle.trace_law.specs.Validity.{IsValid};
 ghost use Rattle.trace_law.specs.Family.{first_rest};
 ghost use Rattle.trace_law.specs.Runs.{IsRunOf};
-ghost use Rattle.link_trace.specs.Families.{AreFronts};
+ghost use Rattle.actor_core.specs.Families.{AreFronts};
 ghost use Rattle.join_runtime.specs.Bouts.{StandsFor, lists_in};
 ghost use Rattle.join_runtime.specs.Endings.{EndsIn, IsFinishedFamily, end_of, is_collected, lists_left};
 
 use crate::bouts::Seats;
 use crate::seat::Seat;
 use join_rows::Items;
-use link_trace::{Core, answer};
+use actor_core::{Core, answer};
 use load_controller::Controller;
 use pair_collector::Collector;
 use ruled_links::{Inbox, Mouth};

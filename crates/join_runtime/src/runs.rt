@@ -5,7 +5,7 @@ ghost use Rattle.trace_law.specs.Validity.{IsValidInput, IsValidSetting};
 ghost use Rattle.trace_law.specs.Family.{first_rest};
 ghost use Rattle.trace_law.specs.Runs.{IsRunOf};
 ghost use Rattle.load_controller.specs.Journal.{last_epoch};
-ghost use Rattle.link_trace.specs.Order.{most_events};
+ghost use Rattle.actor_core.specs.Counts.{most_events};
 ghost use Rattle.join_runtime.specs.Endings.{IsFinishedFamily, lists_left};
 
 use crate::bouts::{Seats, bout};

@@ -3,8 +3,8 @@
 mod turns;
 
 ghost use Rattle.std.specs.Prelude.{◌≡◌, ◌<◌, ◌+◌, ◌^◌, ℕ, Ok, true, false, None, Some, [], OnOk, OnErr, IfOk, length, slice_set, slice_index_or};
-ghost use Rattle.link_trace.specs.declared.step.Step.TheVariants.{Took as Took', Idle as Idle'};
-ghost use Rattle.link_trace.specs.Standing.{Waits, IsLive};
+ghost use Rattle.actor_core.specs.declared.step.Step.TheVariants.{Took as Took', Idle as Idle'};
+ghost use Rattle.actor_core.specs.Standing.{Waits, IsLive};
 ghost use Rattle.ruled_links.specs.Inboxes.{IsSameInbox, all_known};
 ghost use Rattle.join_runtime.specs.Views.{frame_of};
 ghost use Rattle.join_runtime.specs.Turns.{MakesEvent, Opens, Rests};
@@ -16,7 +16,7 @@ ghost use Rattle.join_runtime.specs.Early.{Gives};
 use crate::ends::End;
 use crate::mouths::put_all;
 use epoch_tags::{Actor, Envelope, Pairs, Sends};
-use link_trace::{Core, Step};
+use actor_core::{Core, Step};
 use ruled_links::{Inbox, Mouth, gather_mouth};
 use std::alloc::{AllocError, Global};
 use std::marker::Model;

@@ -13,13 +13,14 @@ use Rattle.epoch_tags.specs.declared.actor.Actor.TheVariants.{Feeder, Joiner, Co
 use Rattle.trace_law.specs.declared.input.Input.{Input}
 use Rattle.trace_law.specs.declared.setting.Setting.{Setting}
 use Rattle.trace_law.specs.Validity.{IsValid}
-use Rattle.link_trace.specs.Lists.{ActorLists}
+use Rattle.actor_core.specs.Lists.{ActorLists}
+use Rattle.actor_core.specs.Elements.{IsAllAt}
 use Rattle.link_trace.specs.declared.slots.Slot.{Slot}
 use Rattle.link_trace.specs.declared.slots.Slot.TheVariants.{Begin, Link}
-use Rattle.link_trace.specs.Worlds.{WorldState, StandsFor, IsAllAt, IsStill, left_of}
+use Rattle.link_trace.specs.Worlds.{WorldState, StandsFor, IsStill, left_of}
 use Rattle.link_trace.specs.Order.{AreIdleFrom, IsIdle, from_joiners, slots_of, to_joiners, to_partners}
 use Rattle.link_trace.specs.Starving.{AreIdleBelow}
-use Rattle.link_trace.proofs.OwnNumbers.{none_some, some_is}
+use Rattle.actor_core.proofs.OwnNumbers.{none_some, some_is}
 
 -- ---- what holds at each place of a list holds at each of its parts
 

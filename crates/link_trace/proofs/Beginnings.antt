@@ -1,36 +1,23 @@
 -- All actors at the beginning of a run.
-use Rattle.std.proofs.Common.{◌≡◌, ℕ, zero, suc, ◌+◌, ◌<◌, ◌^◌, lt-ltb, refl, sym, ap, subst, ◌∙◌, cond, Option, Some, None, List, [], ◌∷◌, ◌++◌, get_or, map, take, drop, ◌*◌, ◌/◌, ◌-◌, ap₂, length, All, inl, inr, ◌⊎◌, arith}
-use Rattle.std.specs.List.{AllByRecursion, range_with_len}
-use Rattle.reshuffler_core.specs.Batches.{cut}
+use Rattle.std.proofs.Common.{◌≡◌, ℕ, zero, suc, ◌+◌, ◌<◌, ◌^◌, refl, sym, ap, subst, ◌∙◌, Option, Some, None, List, [], ◌∷◌, ◌++◌, get_or, map, ◌-◌, length, All, inl, inr, ◌⊎◌}
+use Rattle.std.specs.List.{AllByRecursion}
 use Rattle.std.specs.declared.alloc.Global.{Global}
 use Rattle.std.specs.declared.collections.VecDeque.{VecDeque}
 use Rattle.std.proofs.lemmas.List.Elements.{recursion_from_All}
 use Rattle.std.specs.Prelude.{slice_get}
-use Rattle.std.proofs.lemmas.List.{length-map, map-append, length-append, take-map, drop-map}
+use Rattle.std.proofs.lemmas.List.{length-map, map-append, length-append}
 use Rattle.epoch_tags.specs.declared.actor.Actor.{Actor}
-use Rattle.epoch_tags.specs.declared.actor.Actor.TheVariants.{Feeder, Joiner, Controller, Collector}
 use Rattle.epoch_tags.specs.declared.message.Msg.{Msg}
 use Rattle.trace_law.specs.declared.input.Input.{Input}
 use Rattle.trace_law.specs.declared.setting.Setting.{Setting}
-use Rattle.link_trace.specs.Lists.{no_lists}
-use Rattle.link_trace.specs.Standing.{Stands}
-use Rattle.link_trace.specs.Families.{start_for, IsActor}
-use Rattle.link_trace.specs.Numbers.{number, actor_at, at_number}
-use Rattle.link_trace.specs.Worlds.{StandsFor, AreNew, cores_of, waiting_at, waiting_of, waits, core_in}
-use Rattle.link_trace.specs.declared.machines.Core.{Core}
+use Rattle.actor_core.specs.Lists.{no_lists}
+use Rattle.actor_core.specs.Standing.{Stands}
+use Rattle.actor_core.specs.Families.{start_for, IsActor, core_in}
+use Rattle.actor_core.specs.Numbers.{number, actor_at, at_number}
+use Rattle.actor_core.specs.declared.machines.Core.{Core}
+use Rattle.link_trace.specs.Worlds.{StandsFor, AreNew, cores_of, waiting_at, waiting_of, waits}
 use Rattle.link_trace.specs.declared.places.Place.{Place}
-use Rattle.link_trace.proofs.OwnNumbers.{number_actor, some_is}
-
--- ---- a feeder's batches
-
-pub map-cut : {X Y : Type 0} (f : X → Y) (size : ℕ) (xs : List X) → cut size (map f xs) ≡ map (map f) (cut size xs)
-map-cut f size xs =
-    ap (λ n. map (λ i. take size (drop (i * size) (map f xs))) (range_with_len 0 ((n + size - 1) / size))) (length-map xs f)
-    ∙ pieces (range_with_len 0 ((length xs + size - 1) / size))
-  where
-    pieces : (is : List ℕ) → map (λ i. take size (drop (i * size) (map f xs))) is ≡ map (map f) (map (λ i. take size (drop (i * size) xs)) is)
-    pieces [] = refl
-    pieces (i ∷ is) = ap₂ (λ y ys. y ∷ ys) (ap (take size) (drop-map f (i * size) xs) ∙ take-map f size (drop (i * size) xs)) (pieces is)
+use Rattle.actor_core.proofs.OwnNumbers.{number_actor, some_is}
 
 -- ---- one more place
 
@@ -72,17 +59,6 @@ module _ (input : Input) (setting : Setting) (n : ℕ) (places : List Place) (ne
   }
 
 -- ---- all of them
-
-has_number : (setting : Setting) (a : Actor) → IsActor setting a → (n : ℕ) × (number (2 ^ setting.k) setting.feeders a ≡ Some n) × (n < setting.feeders + 2 ^ setting.k + 2)
-has_number setting (Feeder p) is = (p, ap (λ b. cond b (Some p) None) (lt-ltb p setting.feeders is), omega arith)
-has_number setting (Joiner j) is = (setting.feeders + j, ap (λ b. cond b (Some (setting.feeders + j)) None) (lt-ltb j (2 ^ setting.k) is), omega arith)
-has_number setting Controller is = (setting.feeders + 2 ^ setting.k, refl, omega arith)
-has_number setting Collector is = (setting.feeders + 2 ^ setting.k + 1, refl, omega arith)
-
-pub there : {X : Type 0} (xs : List X) (n : ℕ) → n < length xs → (x : X) × (slice_get xs n ≡ Some x)
-there [] n low = absurd (omega arith)
-there (x ∷ xs) zero low = (x, refl)
-there (x ∷ xs) (suc n) low = there xs n (omega arith)
 
 nothing_left : (ws : List (List (List Msg))) → ((r s : ℕ) → waits ws r s ≡ []) → (i k : Option ℕ) → at_number [] i (λ r. at_number [] k (λ s. waits ws r s)) ≡ []
 nothing_left ws empty None k = refl

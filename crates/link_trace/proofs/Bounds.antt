@@ -15,14 +15,15 @@ use Rattle.trace_law.specs.Runs.{IsRunOf}
 use Rattle.trace_law.specs.Laws.{EventsAreFew}
 use Rattle.trace_law.proofs.First.{stands as first_stands}
 use Rattle.trace_law.proofs.Validity.{within_limits}
-use Rattle.link_trace.specs.declared.machines.Core.{Core}
+use Rattle.actor_core.specs.declared.machines.Core.{Core}
+use Rattle.actor_core.specs.Lists.{ActorLists, Took, Began, no_lists}
+use Rattle.actor_core.specs.Families.{journal_of, family_of, after_event}
+use Rattle.actor_core.specs.Counts.{most_events}
 use Rattle.link_trace.specs.declared.slots.Slot.{Slot}
 use Rattle.link_trace.specs.declared.slots.Slot.TheVariants.{Begin, Link}
-use Rattle.link_trace.specs.Lists.{ActorLists, Took, Began, no_lists}
-use Rattle.link_trace.specs.Families.{journal_of, family_of, after_event}
 use Rattle.link_trace.specs.Worlds.{WorldState, StandsFor, MakesEvent, Delivers, core_of}
-use Rattle.link_trace.specs.Order.{Happens, most_events}
-use Rattle.link_trace.proofs.EventCounts.{count, AreLinked, took_counts, began_counts, linked_after, left_linked}
+use Rattle.link_trace.specs.Order.{Happens}
+use Rattle.actor_core.proofs.EventCounts.{count, AreLinked, took_counts, began_counts, linked_after, left_linked}
 use Rattle.link_trace.proofs.WorldAnswer.{agree}
 
 -- it stands for lists of this input and setting, whose messages go over links, and which count so many events at least

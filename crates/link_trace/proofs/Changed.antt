@@ -6,10 +6,10 @@ use Rattle.std.proofs.lemmas.List.{map-set, get_or-map, length-map}
 use Rattle.std.proofs.lemmas.Option.{slice_get-get_or, get_or_from_slice_get}
 use Rattle.epoch_tags.specs.declared.message.Msg.{Msg}
 use Rattle.epoch_tags.specs.declared.message.Post.{Post}
-use Rattle.link_trace.specs.Lists.{Cause}
-use Rattle.link_trace.specs.Standing.{Occurs}
+use Rattle.actor_core.specs.Lists.{Cause}
+use Rattle.actor_core.specs.Standing.{Occurs}
+use Rattle.actor_core.specs.declared.machines.Core.{Core}
 use Rattle.link_trace.specs.Worlds.{cores_of, waiting_at, waiting_of, waits, with_waiting, HasRoom, TakesOff, PutsOn, OccursAt}
-use Rattle.link_trace.specs.declared.machines.Core.{Core}
 use Rattle.link_trace.specs.declared.places.Place.{Place}
 
 -- g of an element is that element of g of all

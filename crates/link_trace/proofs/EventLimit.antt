@@ -10,15 +10,16 @@ use Rattle.trace_law.specs.declared.setting.Setting.{Setting}
 use Rattle.trace_law.specs.Join.{row_count}
 use Rattle.trace_law.specs.Laws.{EventsAreFew, KeepsALawfulJournal, LawfulIsBounded}
 use Rattle.trace_law.specs.Validity.{IsValidInput, IsValidSetting}
-use Rattle.link_trace.specs.Families.{family_of, journal_of}
-use Rattle.link_trace.specs.Order.{EventsFit, most_events}
-use Rattle.link_trace.specs.Worlds.{WorldState}
-use Rattle.link_trace.proofs.Bounds.{IsCounted, few_events}
 use Rattle.trace_law.specs.Family.{first_rest}
 use Rattle.trace_law.proofs.First.{stands as first_stands}
 use Rattle.trace_law.proofs.Validity.{within_limits}
+use Rattle.actor_core.specs.Families.{family_of, journal_of}
+use Rattle.actor_core.specs.Counts.{most_events}
+use Rattle.link_trace.specs.Order.{EventsFit}
+use Rattle.link_trace.specs.Worlds.{WorldState}
+use Rattle.actor_core.proofs.OwnNumbers.{some_is}
+use Rattle.link_trace.proofs.Bounds.{IsCounted, few_events}
 use Rattle.link_trace.proofs.WorldAnswer.{agree}
-use Rattle.link_trace.proofs.OwnNumbers.{some_is}
 
 under : (n m most : ℕ) → n ≤ m → m < most → n < most
 under n m most low high = omega arith

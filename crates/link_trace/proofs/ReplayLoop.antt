@@ -10,12 +10,13 @@ use Rattle.epoch_tags.specs.declared.actor.Actor.TheVariants.{Controller}
 use Rattle.trace_law.specs.declared.input.Input.{Input}
 use Rattle.trace_law.specs.declared.setting.Setting.{Setting}
 use Rattle.trace_law.specs.declared.run.Run.{Run}
-use Rattle.link_trace.specs.declared.machines.Core.{Core}
+use Rattle.actor_core.specs.declared.machines.Core.{Core}
+use Rattle.actor_core.specs.Lists.{ActorLists, no_lists}
+use Rattle.actor_core.specs.Standing.{GoesOn, IsOver}
+use Rattle.actor_core.specs.Families.{journal_of}
+use Rattle.actor_core.specs.Elements.{IsSomeAt, IsAllAt}
 use Rattle.link_trace.specs.declared.slots.Slot.{Slot}
-use Rattle.link_trace.specs.Lists.{ActorLists, no_lists}
-use Rattle.link_trace.specs.Standing.{GoesOn, IsOver}
-use Rattle.link_trace.specs.Families.{journal_of}
-use Rattle.link_trace.specs.Worlds.{WorldState, StandsFor, IsSomeAt, IsAllAt, core_of}
+use Rattle.link_trace.specs.Worlds.{WorldState, StandsFor, core_of}
 use Rattle.link_trace.specs.Order.{MakesFirst, Replays, IsReplay, start, event, slots_of}
 use Rattle.link_trace.specs.Marks.{AreMarked}
 use Rattle.link_trace.proofs.Bounds.{IsCounted, none_counted, slot_counted}

@@ -3,9 +3,9 @@ use Rattle.std.proofs.Common.{◌≡◌, ℕ, ◌<◌, sym, ◌∙◌, Bool, fal
 use Rattle.std.specs.Prelude.{slice_get}
 use Rattle.epoch_tags.specs.declared.actor.Actor.{Actor}
 use Rattle.epoch_tags.specs.declared.actor.Actor.TheVariants.{Feeder}
+use Rattle.actor_core.specs.Lists.{same_actor}
 use Rattle.link_trace.specs.declared.slots.Slot.{Slot}
 use Rattle.link_trace.specs.declared.slots.Slot.TheVariants.{Begin, Link}
-use Rattle.link_trace.specs.Lists.{same_actor}
 use Rattle.link_trace.specs.Worlds.{WorldState, KeepsOthers}
 use Rattle.link_trace.specs.Order.{IsIdle, Happens}
 use Rattle.link_trace.specs.Marks.{filler_of, maker_of, AreMarked, IsMarkedFor}

@@ -1,5 +1,5 @@
 -- A world in which nothing is left, and no feeder would begin, is done.
-use Rattle.std.proofs.Common.{◌≡◌, ℕ, ◌<◌, ◌⊎◌, inl, inr, refl, sym, ap, subst, ◌∙◌, Bool, true, false, Option, None, Some, List, ◌++◌, append-nil, filter_map, arith}
+use Rattle.std.proofs.Common.{◌≡◌, ℕ, ◌<◌, ◌⊎◌, refl, sym, ap, subst, ◌∙◌, Bool, true, false, Option, None, Some, ◌++◌, append-nil, filter_map}
 use Rattle.std.specs.Prelude.{slice_get}
 use Rattle.std.proofs.lemmas.Option.{slice_get_within}
 use Rattle.epoch_tags.specs.Links.{HasLink, feeder_joiner, controller_feeder, feeder_controller, joiner_controller, joiner_collector}
@@ -7,37 +7,22 @@ use Rattle.epoch_tags.specs.Messages.{asks, draineds, grants}
 use Rattle.epoch_tags.specs.Posts.{joiner_msg, feeder_msg, controller_msg, collector_msg}
 use Rattle.epoch_tags.specs.declared.actor.Actor.{Actor}
 use Rattle.epoch_tags.specs.declared.actor.Actor.TheVariants.{Feeder, Joiner, Controller, Collector}
-use Rattle.epoch_tags.specs.declared.message.ToFeeder.{ToFeeder}
-use Rattle.reshuffler_core.specs.Law.{FeederLaw, FeederStart}
-use Rattle.reshuffler_core.proofs.TakesAll.{taken_is_one}
 use Rattle.trace_law.specs.declared.input.Input.{Input}
 use Rattle.trace_law.specs.declared.setting.Setting.{Setting}
 use Rattle.trace_law.specs.Validity.{IsValid}
 use Rattle.trace_law.specs.Laws.{QuietIsFinished}
 use Rattle.trace_law.proofs.First.{stands as first_stands}
 use Rattle.trace_law.specs.Family.{IsAgreeing, IsQuiet, feeder_start, first_rest}
-use Rattle.link_trace.specs.Lists.{ActorLists, feeder_lists}
-use Rattle.link_trace.specs.Standing.{GoesOn, OfFeeder, Stands, Waits}
-use Rattle.link_trace.specs.Families.{IsActor, family_of, journal_of, start_for}
-use Rattle.link_trace.specs.Numbers.{actor_at, at_number}
-use Rattle.link_trace.specs.Worlds.{WorldState, StandsFor, IsSomeAt, IsStill, core_of, left_of}
-use Rattle.link_trace.specs.declared.machines.Core.{Core}
-use Rattle.link_trace.specs.declared.machines.Core.TheVariants.{Feeder as TheFeeder, Joiner as TheJoiner, Controller as TheController, Collector as TheCollector}
-use Rattle.link_trace.proofs.Balances.{balanced_fronts}
-use Rattle.link_trace.proofs.Families.{agrees, none_goes}
-use Rattle.link_trace.proofs.OwnNumbers.{is_actor, number_there, some_is}
-
--- a feeder that waits has drained, or its last batch isn't granted
-pub waits_says : (p feeders : ℕ) (s : FeederStart) (ls : ActorLists) (core : Core) (taken : List ToFeeder) → Stands (OfFeeder p feeders s) ls core → FeederLaw s (feeder_lists ls) taken → Waits core
-    → (0 < draineds (feeder_lists ls).to_controller) ⊎ (grants taken < asks (feeder_lists ls).to_controller)
-waits_says p feeders s ls (TheFeeder f) taken st law (inl asked) =
-    let one = st.asked.0 asked in
-    let same = ap grants (taken_is_one s (feeder_lists ls) st.taken taken st.law law) in
-    inr (omega (arith, one, same))
-waits_says p feeders s ls (TheFeeder f) taken st law (inr drained) = inl (st.drained.0 drained)
-waits_says p feeders s ls (TheJoiner c) taken st law waits = absurd st
-waits_says p feeders s ls (TheController c) taken st law waits = absurd st
-waits_says p feeders s ls (TheCollector c) taken st law waits = absurd st
+use Rattle.actor_core.specs.Lists.{ActorLists, feeder_lists}
+use Rattle.actor_core.specs.Standing.{GoesOn, Stands}
+use Rattle.actor_core.specs.Families.{IsActor, family_of, journal_of, start_for}
+use Rattle.actor_core.specs.Numbers.{actor_at, at_number}
+use Rattle.actor_core.specs.Elements.{IsSomeAt}
+use Rattle.actor_core.specs.declared.machines.Core.{Core}
+use Rattle.link_trace.specs.Worlds.{WorldState, StandsFor, IsStill, core_of, left_of}
+use Rattle.actor_core.proofs.Balances.{balanced_fronts}
+use Rattle.actor_core.proofs.Families.{agrees, none_goes}
+use Rattle.actor_core.proofs.OwnNumbers.{is_actor, number_there, some_is}
 
 module _ (input : Input) (setting : Setting) (w : WorldState) (lists : Actor → ActorLists) (stands : StandsFor input setting w lists) (still : IsStill setting w) where
   abbrev machines : (a : Actor) → IsActor setting a → (core : Core) × Stands (start_for input setting a) (lists a) core

@@ -9,12 +9,12 @@ use Rattle.epoch_tags.specs.declared.actor.Actor.{Actor}
 use Rattle.epoch_tags.specs.declared.message.Msg.{Msg}
 use Rattle.epoch_tags.specs.declared.message.Post.{Post}
 use Rattle.theta_pred.proofs.KeyMembers.{and_left, and_right}
-use Rattle.link_trace.specs.Lists.{same_actor, posted_to}
-use Rattle.link_trace.specs.Families.{taken_off, put_on}
-use Rattle.link_trace.specs.Numbers.{number, at_number}
+use Rattle.actor_core.specs.Lists.{same_actor, posted_to}
+use Rattle.actor_core.specs.Families.{taken_off, put_on}
+use Rattle.actor_core.specs.Numbers.{number, at_number}
 use Rattle.link_trace.specs.Worlds.{waits, with_waiting, HasRoom, PutsOn, left_in, put_one}
-use Rattle.link_trace.proofs.Balances.{same_is}
-use Rattle.link_trace.proofs.OwnNumbers.{same_number, none_some}
+use Rattle.actor_core.proofs.Balances.{same_is}
+use Rattle.actor_core.proofs.OwnNumbers.{same_number, none_some}
 
 -- an element of a list in which one was set
 get-set : {X : Type 0} (xs : List X) (i k : ℕ) (x d : X) → i < length xs → get_or (set xs i x) k d ≡ cond (i == k) x (get_or xs k d)

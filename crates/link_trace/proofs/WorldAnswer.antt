@@ -1,7 +1,6 @@
 -- A world whose actors are all over answers its run.
-use Rattle.std.proofs.Common.{◌≡◌, ℕ, suc, ◌+◌, ◌^◌, refl, sym, ap, subst, ◌∙◌, Option, Some, None, List, [], ◌∷◌, ◌++◌, length, arith}
+use Rattle.std.proofs.Common.{◌≡◌, ℕ, ◌+◌, ◌^◌, sym, ap, subst, ◌∙◌, Option, Some, None, List, arith}
 use Rattle.std.specs.Prelude.{slice_get, ⊤}
-use Rattle.std.proofs.lemmas.List.{length-append}
 use Rattle.epoch_tags.specs.declared.actor.Actor.{Actor}
 use Rattle.epoch_tags.specs.declared.actor.Actor.TheVariants.{Controller, Collector}
 use Rattle.load_controller.specs.declared.line.TurnLine.{TurnLine}
@@ -16,32 +15,18 @@ use Rattle.trace_law.specs.Family.{first_rest}
 use Rattle.trace_law.specs.Runs.{IsRunOf, run_of}
 use Rattle.trace_law.specs.Laws.{FinishedAnswers}
 use Rattle.trace_law.proofs.First.{stands as first_stands}
-use Rattle.link_trace.specs.Lists.{ActorLists, collector_lists}
-use Rattle.link_trace.specs.Standing.{Stands, OfCollector, IsOver}
-use Rattle.link_trace.specs.Families.{start_for, IsActor, family_of, journal_of}
-use Rattle.link_trace.specs.Numbers.{number, at_number}
-use Rattle.link_trace.specs.Worlds.{WorldState, StandsFor, IsAllAt, IsAnswerOf, WorldAgrees, core_of, left_of}
-use Rattle.link_trace.specs.Endings.{AreLast}
-use Rattle.link_trace.specs.declared.machines.Core.{Core}
-use Rattle.link_trace.specs.declared.machines.Core.TheVariants.{Controller as TheController, Collector as TheCollector}
-use Rattle.link_trace.proofs.Balances.{balanced_fronts}
-use Rattle.link_trace.proofs.Families.{agrees, is_finished}
-use Rattle.link_trace.proofs.OwnNumbers.{some_is, none_some}
-
--- ---- the last two of a list
-
-pub last_of : {X : Type 0} (xs : List X) (x y : X) → slice_get ((xs ++ x ∷ []) ++ y ∷ []) (length xs + 1) ≡ Some y
-last_of [] x y = refl
-last_of (z ∷ xs) x y =
-    let next : suc (length xs + 1) ≡ suc (length xs) + 1 = omega arith in
-    subst (λ n. slice_get (((z ∷ xs) ++ x ∷ []) ++ y ∷ []) n ≡ Some y) next (last_of xs x y)
-
-pub before_last : {X : Type 0} (xs : List X) (x y : X) → slice_get ((xs ++ x ∷ []) ++ y ∷ []) (length xs) ≡ Some x
-before_last [] x y = refl
-before_last (z ∷ xs) x y = before_last xs x y
-
-plus_two : (n : ℕ) → n + 1 + 1 ≡ n + 2
-plus_two n = omega arith
+use Rattle.actor_core.specs.Lists.{ActorLists, collector_lists}
+use Rattle.actor_core.specs.Standing.{Stands, OfCollector, IsOver}
+use Rattle.actor_core.specs.Families.{start_for, IsActor, family_of, journal_of}
+use Rattle.actor_core.specs.Numbers.{number, at_number}
+use Rattle.actor_core.specs.Elements.{IsAllAt}
+use Rattle.actor_core.specs.Endings.{IsAnswerOf, AreLast}
+use Rattle.actor_core.specs.declared.machines.Core.{Core}
+use Rattle.actor_core.specs.declared.machines.Core.TheVariants.{Controller as TheController, Collector as TheCollector}
+use Rattle.link_trace.specs.Worlds.{WorldState, StandsFor, WorldAgrees, core_of, left_of}
+use Rattle.actor_core.proofs.Balances.{balanced_fronts}
+use Rattle.actor_core.proofs.Families.{agrees, is_finished}
+use Rattle.actor_core.proofs.OwnNumbers.{some_is, none_some}
 
 -- ---- what holds at each number holds of each actor's machine
 
@@ -78,23 +63,8 @@ pub agree : WorldAgrees
 agree input setting w lists stands =
     agrees input setting lists (λ a is. ((stands.stands a is).0, (stands.stands a is).2)) (balanced_fronts lists (left_of w) stands.balanced) ⊥ (λ none a is. absurd none)
 
--- ---- the two machines are the last
+-- ---- the last two machines are the controller's and the collector's
 
-module _ (cores rest : List Core) (told : ControllerState) (kept : CollectorState) (is : cores ≡ (rest ++ TheController told ∷ []) ++ TheCollector kept ∷ []) where
-  many_are : length cores ≡ length rest + 2
-  many_are =
-      ap length is
-      ∙ (length-append (rest ++ TheController told ∷ []) (TheCollector kept ∷ []) ∙ (ap (λ m. m + 1) (length-append rest (TheController told ∷ [])) ∙ plus_two (length rest)))
-
-  pub last_two : AreLast cores told kept
-  last_two = record {
-    before = length rest;
-    many = many_are;
-    controller_is = ap (λ cs. slice_get cs (length rest)) is ∙ before_last rest (TheController told) (TheCollector kept);
-    collector_is = ap (λ cs. slice_get cs (length rest + 1)) is ∙ last_of rest (TheController told) (TheCollector kept);
-  }
-
--- in a world, they are the controller's and the collector's
 module _ (input : Input) (setting : Setting) (w : WorldState) (lists : Actor → ActorLists) (stands : StandsFor input setting w lists) (controller : ControllerState) (collector : CollectorState) (last : AreLast w.cores controller collector) where
   place_is : last.before ≡ w.feeders + w.joiners
   place_is = let whole = sym last.many ∙ stands.all in omega arith

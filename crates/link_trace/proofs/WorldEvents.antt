@@ -10,14 +10,14 @@ use Rattle.epoch_tags.specs.declared.message.Msg.{Msg}
 use Rattle.epoch_tags.specs.declared.message.Post.{Post}
 use Rattle.trace_law.specs.declared.input.Input.{Input}
 use Rattle.trace_law.specs.declared.setting.Setting.{Setting}
-use Rattle.link_trace.specs.Lists.{ActorLists, Cause, Took, Began, same_actor, posted_to, with_event}
-use Rattle.link_trace.specs.Standing.{Stands, Event, GoOut}
-use Rattle.link_trace.specs.Families.{start_for, IsActor, changed, put_on, taken_off, after_event}
-use Rattle.link_trace.specs.Numbers.{number, at_number}
-use Rattle.link_trace.specs.Worlds.{MakesEvent, Delivers, OccursAt, TakesOff, KeepsOthers, core_in, left_in}
-use Rattle.link_trace.specs.declared.machines.Core.{Core}
-use Rattle.link_trace.proofs.Balances.{same_is, delivery_balances, beginning_balances}
-use Rattle.link_trace.proofs.OwnNumbers.{same_number, none_some, some_is, is_actor}
+use Rattle.actor_core.specs.Lists.{ActorLists, Cause, Took, Began, same_actor, posted_to, with_event}
+use Rattle.actor_core.specs.Standing.{Stands, Event, GoOut}
+use Rattle.actor_core.specs.Families.{start_for, IsActor, changed, put_on, taken_off, after_event, core_in}
+use Rattle.actor_core.specs.Numbers.{number, at_number}
+use Rattle.actor_core.specs.declared.machines.Core.{Core}
+use Rattle.link_trace.specs.Worlds.{MakesEvent, Delivers, OccursAt, TakesOff, KeepsOthers, left_in}
+use Rattle.actor_core.proofs.Balances.{same_is, delivery_balances, beginning_balances}
+use Rattle.actor_core.proofs.OwnNumbers.{same_number, none_some, some_is, is_actor}
 use Rattle.link_trace.proofs.WaitingMessages.{left-with, left_between}
 
 -- ---- machines

@@ -1,24 +1,24 @@
 -- What can happen next in a world, and the order in which a replay makes it happen.
-use Rattle.std.specs.Prelude.{◌≡◌, ℕ, ◌+◌, ◌-◌, ◌*◌, ◌%◌, ◌^◌, ◌<◌, List, ◌++◌, length, [], map, flat_map, slice_get, Some, bit_xor}
+use Rattle.std.specs.Prelude.{◌≡◌, ℕ, ◌+◌, ◌-◌, ◌%◌, ◌^◌, ◌<◌, List, ◌++◌, length, [], map, flat_map, slice_get, Some, bit_xor}
 use Rattle.std.specs.List.{range_with_len}
 use Rattle.epoch_tags.specs.declared.actor.Actor.{Actor}
 use Rattle.epoch_tags.specs.declared.actor.Actor.TheVariants.{Feeder, Joiner, Controller, Collector}
 use Rattle.rand_pcg.specs.Lcg.{advance, started, increment_of}
 use Rattle.rand_pcg.specs.Pcg.{multiplier_64, pcg32}
-use Rattle.join_rows.specs.declared.table.Side.TheVariants.{R, S}
 use Rattle.load_controller.specs.Journal.{last_epoch}
-use Rattle.trace_law.specs.Join.{row_count}
 use Rattle.trace_law.specs.Validity.{IsValidInput, IsValidSetting}
 use Rattle.trace_law.specs.declared.input.Input.{Input}
 use Rattle.trace_law.specs.declared.setting.Setting.{Setting}
 use Rattle.trace_law.specs.declared.run.Run.{Run}
+use Rattle.actor_core.specs.declared.machines.Core.{Core}
+use Rattle.actor_core.specs.Lists.{ActorLists, Began, no_lists}
+use Rattle.actor_core.specs.Standing.{IsOver, GoesOn, Waits}
+use Rattle.actor_core.specs.Families.{journal_of}
+use Rattle.actor_core.specs.Elements.{IsAllAt, IsSomeAt}
+use Rattle.actor_core.specs.Counts.{most_events}
 use Rattle.link_trace.specs.declared.slots.Slot.{Slot}
 use Rattle.link_trace.specs.declared.slots.Slot.TheVariants.{Begin, Link}
-use Rattle.link_trace.specs.declared.machines.Core.{Core}
-use Rattle.link_trace.specs.Lists.{ActorLists, Began, no_lists}
-use Rattle.link_trace.specs.Standing.{IsOver, GoesOn, Waits}
-use Rattle.link_trace.specs.Families.{journal_of}
-use Rattle.link_trace.specs.Worlds.{WorldState, StandsFor, MakesEvent, Delivers, IsAllAt, IsSomeAt, core_of, left_of}
+use Rattle.link_trace.specs.Worlds.{WorldState, StandsFor, MakesEvent, Delivers, core_of, left_of}
 
 -- ---- slots
 
@@ -98,10 +98,6 @@ pub record IsReplay (input : Input) (setting : Setting) (seed : ℕ) (run : Run)
   pub journal : (core : Core) → core_of last Controller ≡ Some core → run.journal ≡ journal_of core
 
 -- ---- how many events there are
-
--- the most events that a run with so many migrations has
-abbrev pub most_events : Input → Setting → ℕ → ℕ
-most_events input setting migrations = 8 * (row_count input R + row_count input S + setting.feeders + 2) * 2 ^ setting.k * (migrations + 2)
 
 -- a world's controller never has a journal by which a run could have more events than a number of 64 bits counts
 abbrev pub EventsFit : Type 0

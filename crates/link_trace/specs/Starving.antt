@@ -5,12 +5,13 @@ use Rattle.epoch_tags.specs.declared.actor.Actor.TheVariants.{Controller}
 use Rattle.trace_law.specs.declared.input.Input.{Input}
 use Rattle.trace_law.specs.declared.setting.Setting.{Setting}
 use Rattle.trace_law.specs.declared.run.Run.{Run}
-use Rattle.link_trace.specs.declared.machines.Core.{Core}
+use Rattle.actor_core.specs.declared.machines.Core.{Core}
+use Rattle.actor_core.specs.Lists.{same_actor, no_lists}
+use Rattle.actor_core.specs.Standing.{IsOver, GoesOn}
+use Rattle.actor_core.specs.Families.{journal_of}
+use Rattle.actor_core.specs.Elements.{IsAllAt, IsSomeAt}
 use Rattle.link_trace.specs.declared.slots.Slot.{Slot}
-use Rattle.link_trace.specs.Lists.{same_actor, no_lists}
-use Rattle.link_trace.specs.Standing.{IsOver, GoesOn}
-use Rattle.link_trace.specs.Families.{journal_of}
-use Rattle.link_trace.specs.Worlds.{WorldState, StandsFor, IsAllAt, IsSomeAt, core_of}
+use Rattle.link_trace.specs.Worlds.{WorldState, StandsFor, core_of}
 use Rattle.link_trace.specs.Order.{IsIdle, Happens, slots_of}
 use Rattle.link_trace.specs.Marks.{maker_of}
 

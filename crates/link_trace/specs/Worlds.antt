@@ -1,24 +1,18 @@
 -- A world: its machines, and what is left on each link.
-use Rattle.std.specs.Prelude.{◌≡◌, ℕ, ◌+◌, ◌<◌, ◌^◌, Option, Some, None, List, [], ◌∷◌, ◌++◌, map, slice_get, slice_index_or, slice_set, length, ◌&&◌, false, if◌then◌else◌}
+use Rattle.std.specs.Prelude.{◌≡◌, ℕ, ◌+◌, ◌<◌, ◌^◌, Option, Some, List, [], ◌∷◌, ◌++◌, map, slice_get, slice_index_or, slice_set, length, ◌&&◌, false, if◌then◌else◌}
 use Rattle.epoch_tags.specs.declared.actor.Actor.{Actor}
 use Rattle.epoch_tags.specs.declared.actor.Actor.TheVariants.{Feeder, Controller}
 use Rattle.epoch_tags.specs.Links.{HasLink}
 use Rattle.epoch_tags.specs.declared.message.Msg.{Msg}
 use Rattle.epoch_tags.specs.declared.message.Post.{Post}
-use Rattle.load_controller.specs.declared.line.TurnLine.{TurnLine}
-use Rattle.pair_collector.specs.declared.collected.Collected.{Collected}
-use Rattle.pair_collector.specs.Law.{CollectorLists}
-use Rattle.pair_collector.specs.Answer.{Collects}
-use Rattle.trace_law.specs.declared.run.Run.{Run}
-use Rattle.trace_law.specs.Runs.{run_of}
 use Rattle.trace_law.specs.Family.{IsAgreeing, first_rest}
 use Rattle.trace_law.specs.declared.input.Input.{Input}
 use Rattle.trace_law.specs.declared.setting.Setting.{Setting}
-use Rattle.link_trace.specs.Lists.{ActorLists, Cause, Took, same_actor, no_lists}
-use Rattle.link_trace.specs.Standing.{Stands, Occurs, GoOut, Asks, Waits}
-use Rattle.link_trace.specs.Families.{start_for, IsActor, IsBalanced, after_event, family_of, journal_of}
-use Rattle.link_trace.specs.Numbers.{number, actor_at, at_number}
-use Rattle.link_trace.specs.declared.machines.Core.{Core}
+use Rattle.actor_core.specs.Lists.{ActorLists, Cause, Took, same_actor, no_lists}
+use Rattle.actor_core.specs.Standing.{Stands, Occurs, GoOut, Asks, Waits}
+use Rattle.actor_core.specs.Families.{start_for, IsActor, IsBalanced, after_event, core_in, family_of, journal_of}
+use Rattle.actor_core.specs.Numbers.{number, actor_at, at_number}
+use Rattle.actor_core.specs.declared.machines.Core.{Core}
 use Rattle.link_trace.specs.declared.places.Place.{Place}
 use Rattle.link_trace.specs.declared.world.World.{World}
 
@@ -78,10 +72,6 @@ pub record WorldState : Type 0 where
   pub cores : List Core
   pub waiting : List (List (List Msg))
 
--- the machine of an actor, if it is one of the run
-abbrev pub core_in : ℕ → ℕ → List Core → Actor → Option Core
-core_in joiners feeders cores a = at_number None (number joiners feeders a) (λ n. slice_get cores n)
-
 -- what is left on the link from one actor to another
 abbrev pub left_in : ℕ → ℕ → List (List (List Msg)) → Actor → Actor → List Msg
 left_in joiners feeders waiting from to =
@@ -116,27 +106,6 @@ pub record AreNew (input : Input) (setting : Setting) (count : ℕ) (places : Li
   pub all : length places ≡ count
   pub fresh : (n : ℕ) (core : Core) → slice_get (cores_of places) n ≡ Some core → Stands (start_for input setting (actor_at (2 ^ setting.k) setting.feeders n)) no_lists core
   pub empty : (receiver sender : ℕ) → waits (waiting_of places) receiver sender ≡ []
-
--- the run that a collector with these lists answers, with this journal
-pub record IsAnswerOf (joiners : ℕ) (lists : CollectorLists) (journal : List TurnLine) (bouts : ℕ) (run : Run) : Type 0 where
-  pub collected : Collected
-  pub collects : Collects joiners lists collected
-  pub run_is : run ≡ run_of collected journal bouts
-
--- P of the one at this place, if there is one
-abbrev pub IsAt : {X : Type 0} → (X → Type 0) → ℕ → List X → Type 0
-IsAt {X} P place xs = (there : X) → slice_get xs place ≡ Some there → P there
-
--- P of the one at each place
-abbrev pub IsAllAt : {X : Type 0} → (X → Type 0) → List X → Type 0
-IsAllAt {X} P xs = (place : ℕ) (there : X) → slice_get xs place ≡ Some there → P there
-
--- P of the one at some place
-pub record IsSomeAt {X : Type 0} (P : X → Type 0) (xs : List X) : Type 0 where
-  pub place : ℕ
-  pub there : X
-  pub is : slice_get xs place ≡ Some there
-  pub holds : P there
 
 -- every other actor has the machine that it had, and where nothing was left of what it sends, nothing is
 pub record KeepsOthers (self : Actor) (old new : WorldState) : Type 0 where

@@ -1,17 +1,18 @@
 // The first slot that has an event, found without looking at each.
 
-ghost use Rattle.std.specs.Prelude.{◌≡◌, ℕ, ◌+◌, ◌%◌, ◌<◌, length, slice_get, Some, Ok, OnOk, true, false};
-ghost use Rattle.link_trace.specs.declared.step.Step.TheVariants.{Took as Took', Idle as Idle'};
+ghost use Rattle.std.specs.Prelude.{◌≡◌, ◌+◌, ◌%◌, ◌<◌, length, slice_get, Some, Ok, OnOk, true, false};
+ghost use Rattle.actor_core.specs.declared.step.Step.TheVariants.{Took as Took', Idle as Idle'};
+ghost use Rattle.actor_core.specs.Lists.{same_actor};
+ghost use Rattle.actor_core.specs.Elements.{IsAllAt};
 ghost use Rattle.link_trace.specs.declared.slots.Slot.{Slot as Slot'};
-ghost use Rattle.link_trace.specs.Lists.{same_actor};
-ghost use Rattle.link_trace.specs.Worlds.{state_of, IsAllAt};
+ghost use Rattle.link_trace.specs.Worlds.{state_of};
 ghost use Rattle.link_trace.specs.Order.{IsIdle, Happens, MakesFirst};
 ghost use Rattle.link_trace.specs.Marks.{AreMarked, IsMarkedFor};
 ghost use Rattle.link_trace.specs.Marks as marked;
 
 use crate::slots::Slot;
-use crate::step::Step;
 use crate::world::World;
+use actor_core::Step;
 use epoch_tags::Actor;
 use std::alloc::AllocError;
 

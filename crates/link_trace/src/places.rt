@@ -1,11 +1,12 @@
 // An actor's machine, and what waits for it.
 
-ghost use Rattle.std.specs.Prelude.{◌≡◌, ◌++◌, ◌∷◌, [], ℕ, List, ◌<◌, MatchOption, OnOk, IfOk, MatchBool, Ok, true, false, length, slice_set, slice_index_or, Some, None};
-ghost use Rattle.link_trace.specs.Lists.{Took, Began};
-ghost use Rattle.link_trace.specs.Standing.{Occurs, Waits};
-ghost use Rattle.link_trace.specs.Worlds.{waiting_at, waiting_of, cores_of, waits, TakesOff, PutsOn, OccursAt, IsAt};
+ghost use Rattle.std.specs.Prelude.{◌≡◌, ◌++◌, ◌∷◌, [], List, ◌<◌, MatchOption, OnOk, IfOk, MatchBool, Ok, true, false, length, slice_set, slice_index_or, None};
+ghost use Rattle.actor_core.specs.Lists.{Took, Began};
+ghost use Rattle.actor_core.specs.Standing.{Occurs, Waits};
+ghost use Rattle.actor_core.specs.Elements.{IsAt};
+ghost use Rattle.link_trace.specs.Worlds.{waiting_at, waiting_of, cores_of, waits, TakesOff, PutsOn, OccursAt};
 
-use crate::machines::Core;
+use actor_core::Core;
 use epoch_tags::{Actor, Msg, Sends};
 use std::alloc::AllocError;
 use std::collections::VecDeque;

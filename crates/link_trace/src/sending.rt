@@ -1,11 +1,11 @@
 // Messages on their way, by the names of actors.
 
-ghost use Rattle.std.specs.Prelude.{◌≡◌, ◌++◌, ◌∷◌, [], OnOk};
-ghost use Rattle.link_trace.specs.Families.{put_on};
+ghost use Rattle.std.specs.Prelude.{◌≡◌, OnOk};
+ghost use Rattle.actor_core.specs.Families.{put_on};
 ghost use Rattle.link_trace.specs.Worlds.{waiting_of, cores_of, left_in, put_one};
 
-use crate::numbers::number;
 use crate::places::{Place, put};
+use actor_core::number;
 use epoch_tags::{Actor, Post, Sends};
 use std::alloc::AllocError;
 

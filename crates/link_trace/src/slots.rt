@@ -2,11 +2,11 @@
 
 ghost use Rattle.std.specs.Prelude.{◌≡◌, ◌≤◌, ◌++◌, ◌^◌, map, flat_map, OnOk, IfOk};
 ghost use Rattle.std.specs.List.{range_with_len};
-ghost use Rattle.epoch_tags.specs.declared.actor.Actor.TheVariants.{Feeder as Feeder', Controller as Controller', Collector as Collector'};
+ghost use Rattle.epoch_tags.specs.declared.actor.Actor.TheVariants.{Feeder as Feeder', Controller as Controller'};
 ghost use Rattle.link_trace.specs.declared.slots.Slot.TheVariants.{Begin as Begin', Link as Link'};
 ghost use Rattle.link_trace.specs.Order as order;
 
-use crate::start::joiners_of;
+use actor_core::joiners_of;
 use epoch_tags::Actor;
 use std::alloc::{AllocError, Global};
 use trace_law::Setting;

@@ -1,13 +1,15 @@
 // A run on one thread in which one actor is served last.
 
-ghost use Rattle.std.specs.Prelude.{◌≡◌, ◌≤◌, ◌<◌, ℕ, IfOk, OnOk, Ok, Some, true, false, length, slice_get};
+ghost use Rattle.std.specs.Prelude.{◌≡◌, ◌≤◌, ◌<◌, IfOk, OnOk, Ok, Some, true, false, length, slice_get};
 ghost use Rattle.load_controller.specs.Journal.{last_epoch};
 ghost use Rattle.trace_law.specs.Validity.{IsValidInput, IsValidSetting};
 ghost use Rattle.trace_law.specs.Family.{first_rest};
 ghost use Rattle.trace_law.specs.Runs.{IsRunOf};
+ghost use Rattle.actor_core.specs.Elements.{IsAllAt};
+ghost use Rattle.actor_core.specs.Counts.{most_events};
 ghost use Rattle.link_trace.specs.declared.slots.Slot.{Slot as Slot'};
-ghost use Rattle.link_trace.specs.Worlds.{state_of, IsAllAt};
-ghost use Rattle.link_trace.specs.Order.{IsIdle, Happens, most_events};
+ghost use Rattle.link_trace.specs.Worlds.{state_of};
+ghost use Rattle.link_trace.specs.Order.{IsIdle, Happens};
 ghost use Rattle.link_trace.specs.Marks.{AreMarked};
 ghost use Rattle.link_trace.specs.Starving.{AreIdleBelow, MakesLeast, MakesStarving, IsStarvingReplay};
 ghost use Rattle.link_trace.specs.Starving as starving;

@@ -1,35 +1,27 @@
 // All machines of a run on one thread, and what is under way between them.
 
-ghost use Rattle.std.specs.Prelude.{ℕ, ◌≡◌, ◌++◌, ◌∷◌, [], All, Ok, Some, None, IfOk, IfSome, OnOk, OnErr, IsTrue, ◌↔◌, true, false};
+ghost use Rattle.std.specs.Prelude.{◌≡◌, [], All, Ok, Some, None, IfOk, IfSome, OnOk, OnErr, IsTrue, ◌↔◌, true, false};
 ghost use Rattle.epoch_tags.specs.Links.{HasLink};
 ghost use Rattle.epoch_tags.specs.declared.actor.Actor.TheVariants.{Feeder as Feeder', Controller as Controller'};
-ghost use Rattle.link_trace.specs.declared.step.Step.TheVariants.{Took as Took', Idle as Idle'};
 ghost use Rattle.epoch_tags.specs.declared.actor.Actor.{Actor as Actor'};
-ghost use Rattle.pair_collector.specs.Law.{CollectorLists};
-ghost use Rattle.pair_collector.specs.Standing.{is_complete, StandsFor as CollectorStands};
 ghost use Rattle.trace_law.specs.declared.input.Input.{Input as Input'};
 ghost use Rattle.trace_law.specs.declared.setting.Setting.{Setting as Setting'};
 ghost use Rattle.trace_law.specs.Validity.{IsValidInput, IsValidSetting, IsValid};
 ghost use Rattle.trace_law.specs.Family.{first_rest};
 ghost use Rattle.trace_law.specs.Runs.{IsRunOf};
-ghost use Rattle.link_trace.specs.Lists.{Began, ActorLists, no_lists};
-ghost use Rattle.link_trace.specs.Families.{journal_of};
-ghost use Rattle.link_trace.specs.Endings.{AreLast};
-ghost use Rattle.link_trace.specs.Standing.{IsOver, GoesOn, Waits};
-ghost use Rattle.link_trace.specs.declared.machines.Core.{Core as Core'};
-ghost use Rattle.link_trace.specs.Numbers.{number as number'};
-ghost use Rattle.link_trace.specs.Worlds.{state_of, left_of, core_of, cores_of, IsAnswerOf, StandsFor, AreNew, IsAllAt, IsSomeAt, IsStill, Delivers, MakesEvent};
+ghost use Rattle.actor_core.specs.declared.step.Step.TheVariants.{Took as Took', Idle as Idle'};
+ghost use Rattle.actor_core.specs.Lists.{Began, ActorLists, no_lists};
+ghost use Rattle.actor_core.specs.Families.{journal_of};
+ghost use Rattle.actor_core.specs.Standing.{IsOver, GoesOn, Waits};
+ghost use Rattle.actor_core.specs.declared.machines.Core.{Core as Core'};
+ghost use Rattle.actor_core.specs.Numbers.{number as number'};
+ghost use Rattle.actor_core.specs.Elements.{IsAllAt, IsSomeAt};
+ghost use Rattle.link_trace.specs.Worlds.{state_of, left_of, core_of, cores_of, StandsFor, AreNew, IsStill, Delivers, MakesEvent};
 
-use crate::links::has_link;
-use crate::machines::Core;
-use crate::numbers::number;
 use crate::places::{Place, begin, hand, take};
 use crate::sending::send_all;
-use crate::start::{core_at, joiners_of};
-use crate::step::Step;
+use actor_core::{Core, Step, answer, core_at, has_link, joiners_of, last_machines, number};
 use epoch_tags::{Actor, Msg, Sends};
-use load_controller::{Controller, Journal};
-use pair_collector::Collector;
 use std::alloc::{AllocError, Global};
 use std::collections::VecDeque;
 use trace_law::{Input, Run, Setting, finished_answers, quiet_is_finished};
@@ -88,61 +80,15 @@ fn all_are_over(places: &[Place]) -> bool
     true
 }
 
-// The lines of a journal.
-fn copied(alloc: Global, journal: &Journal) -> Result<Journal, AllocError>
-    ensures { IfOk result (λ copy. copy ≡ journal.now) }
+// The machines of all places.
+fn machines<'a>(alloc: Global, places: Vec<Place<'a>>) -> Result<Vec<Core<'a>>, AllocError>
+    ensures { IfOk result (λ cores. cores.items ≡ cores_of places.entry.items) }
 {
-    let mut copy = Journal::with_room(alloc, journal.len() as usize)?;
-    for line in journal.as_slice() {
-        copy.push(*line)?;
+    let mut cores = Vec::new(alloc);
+    for place in places {
+        cores.push(place.core)?;
     }
-    Ok(copy)
-}
-
-/// What a controller and a complete collector have to tell.
-pub fn answer(
-    alloc: Global,
-    controller: &Controller,
-    collector: Collector,
-    bouts: u64,
-) -> Result<Run, AllocError>
-    requires { is_complete collector ≡ true }
-    ensures run { IfOk result (λ run. (joiners : ℕ) (lists : CollectorLists)
-        → CollectorStands joiners lists collector
-        → IsAnswerOf joiners lists controller.now.journal bouts run) }
-    ensures journal { IfOk result (λ run. run.journal ≡ controller.now.journal) }
-    ensures bouts { IfOk result (λ run. run.bouts ≡ bouts) }
-{
-    let journal = copied(alloc, controller.journal())?;
-    let collected = collector.finish()?;
-    Ok(Run {
-        pairs: collected.pairs,
-        made: collected.made,
-        loads: collected.loads,
-        moved: collected.moved,
-        journal,
-        bouts,
-    })
-}
-
-// The machine of the last actor, which is taken off.
-fn last_core<'a>(places: &mut Vec<Place<'a>>) -> Option<Core<'a>>
-    ensures { IfSome result
-        (λ core. cores_of places.old.items ≡ cores_of places.new.items ++ core ∷ []) }
-{
-    match places.pop() {
-        Some(place) => Some(place.core),
-        None => None,
-    }
-}
-
-// The last two machines, a controller and a collector.
-fn parted<'a>(mut places: Vec<Place<'a>>) -> Option<(Controller, Collector)>
-    ensures { IfSome result (λ two. AreLast (cores_of places.entry.items) two.0 two.1) }
-{
-    let collector = last_core(&mut places)?.into_collector()?;
-    let controller = last_core(&mut places)?.into_controller()?;
-    Some((controller, collector))
+    Ok(cores)
 }
 
 impl<'a> World<'a> {
@@ -218,7 +164,8 @@ impl<'a> World<'a> {
     {
         finished_answers();
         let World { alloc, places, .. } = self;
-        let Some((controller, collector)) = parted(places) else {
+        let cores = machines(alloc, places)?;
+        let Some((controller, collector)) = last_machines(cores) else {
             return Err(AllocError);
         };
         answer(alloc, &controller, collector, bouts)

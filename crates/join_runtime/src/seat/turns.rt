@@ -5,7 +5,7 @@ ghost use Rattle.join_runtime.specs.Views.{frame_of};
 ghost use Rattle.join_runtime.specs.Turns.{Steps, Works};
 
 use crate::seat::Seat;
-use link_trace::{Core, Step};
+use actor_core::{Core, Step};
 use std::alloc::AllocError;
 use std::sync::Wait;
 use worker_gate::Gate;

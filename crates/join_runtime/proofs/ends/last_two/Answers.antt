@@ -1,6 +1,6 @@
 use Rattle.std.proofs.Common.{◌∙◌, ◌++◌, ◌∷◌, [], ap}
 use Rattle.std.specs.Option.{option_to_list}
-use Rattle.link_trace.specs.declared.machines.Core.TheVariants.{Controller as TheController}
+use Rattle.actor_core.specs.declared.machines.Core.TheVariants.{Controller as TheController}
 use Rattle.join_runtime.proofs.ends.last_two.Goals as goal
 
 pub returns : goal.returns

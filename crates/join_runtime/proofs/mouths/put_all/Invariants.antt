@@ -1,6 +1,6 @@
 use Rattle.std.proofs.Common.{◌≡◌, ◌++◌, map}
 use Rattle.epoch_tags.specs.declared.actor.Actor.{Actor}
-use Rattle.link_trace.specs.Lists.{posted_to}
+use Rattle.actor_core.specs.Lists.{posted_to}
 use Rattle.join_runtime.specs.Views.{address_of, sent_through}
 use Rattle.join_runtime.proofs.mouths.put_all.Given as goal
 

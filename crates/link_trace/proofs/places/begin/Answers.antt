@@ -1,8 +1,8 @@
 use Rattle.std.proofs.Common.{◌<◌, ◌∙◌, subst}
 use Rattle.std.proofs.lemmas.Result.{IfOk-weaker}
-use Rattle.link_trace.specs.Lists.{Began}
-use Rattle.link_trace.specs.Standing.{Waits}
-use Rattle.link_trace.specs.declared.machines.Core.{Core}
+use Rattle.actor_core.specs.Lists.{Began}
+use Rattle.actor_core.specs.Standing.{Waits}
+use Rattle.actor_core.specs.declared.machines.Core.{Core}
 use Rattle.link_trace.proofs.Changed.{same_waiting, begins_at, core_there}
 use Rattle.link_trace.proofs.places.begin.Goals as goal
 

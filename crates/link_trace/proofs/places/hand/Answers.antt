@@ -1,6 +1,6 @@
 use Rattle.std.proofs.Common.{refl, subst, ◌<◌, ◌∙◌}
 use Rattle.std.proofs.lemmas.Result.{on_ok_weaker}
-use Rattle.link_trace.specs.Lists.{Took}
+use Rattle.actor_core.specs.Lists.{Took}
 use Rattle.link_trace.proofs.Changed.{same_waiting, occurs_at}
 use Rattle.link_trace.proofs.places.hand.Goals as goal
 

@@ -1,5 +1,5 @@
 use Rattle.std.proofs.Common.{◌≡◌}
-use Rattle.link_trace.specs.Families.{put_on}
+use Rattle.actor_core.specs.Families.{put_on}
 use Rattle.link_trace.specs.Worlds.{waiting_of, cores_of, left_in}
 use Rattle.link_trace.proofs.sending.send_all.Given as goal
 

@@ -2,7 +2,7 @@ use Rattle.std.proofs.Common.{◌≡◌, ◌<◌, sym, subst, length, slice_inde
 use Rattle.std.proofs.lemmas.Bool.{cases_eq}
 use Rattle.std.proofs.lemmas.List.{length-map}
 use Rattle.std.proofs.lemmas.Option.{slice_get_within}
-use Rattle.link_trace.specs.Standing.{IsOver}
+use Rattle.actor_core.specs.Standing.{IsOver}
 use Rattle.link_trace.specs.Worlds.{cores_of}
 use Rattle.link_trace.proofs.Changed.{core_there}
 use Rattle.link_trace.proofs.world.all_are_over.Goals as goal

@@ -1,8 +1,8 @@
 use Rattle.std.proofs.Common.{ℕ, ◌<◌, ◌≡◌, Some}
 use Rattle.std.specs.Prelude.{slice_get}
-use Rattle.link_trace.specs.Standing.{IsOver}
+use Rattle.actor_core.specs.Standing.{IsOver}
+use Rattle.actor_core.specs.declared.machines.Core.{Core}
 use Rattle.link_trace.specs.Worlds.{cores_of}
-use Rattle.link_trace.specs.declared.machines.Core.{Core}
 use Rattle.link_trace.proofs.world.all_are_over.Given as goal
 
 abbrev pub invariant-loop-place : goal.invariant-loop-place

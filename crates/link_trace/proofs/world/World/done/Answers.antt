@@ -1,6 +1,7 @@
 use Rattle.std.proofs.Common.{subst}
-use Rattle.link_trace.specs.Standing.{GoesOn}
-use Rattle.link_trace.specs.Worlds.{state_of, cores_of, IsSomeAt}
+use Rattle.actor_core.specs.Standing.{GoesOn}
+use Rattle.actor_core.specs.Elements.{IsSomeAt}
+use Rattle.link_trace.specs.Worlds.{state_of, cores_of}
 use Rattle.link_trace.proofs.Stilled.{still_is_done}
 use Rattle.link_trace.proofs.world.World.done.Goals as goal
 

@@ -1,7 +1,7 @@
 use Rattle.std.proofs.Common.{◌∙◌, ◌+◌}
 use Rattle.std.proofs.lemmas.Result.{IfOk-weaker}
+use Rattle.actor_core.specs.declared.machines.Core.TheVariants.{Collector as TheCollector}
 use Rattle.link_trace.specs.Worlds.{state_of}
-use Rattle.link_trace.specs.declared.machines.Core.TheVariants.{Collector as TheCollector}
 use Rattle.link_trace.proofs.WorldAnswer.{ends, controller_named, collector_named, journal_there}
 use Rattle.link_trace.proofs.world.World.finish.Goals as goal
 

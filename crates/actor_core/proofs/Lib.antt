@@ -1,0 +1,12 @@
+pub mod TypedLists
+pub mod Events
+pub mod Families
+pub mod Balances
+pub mod OwnNumbers
+pub mod Fresh
+pub mod Beginnings
+pub mod LastTwo
+pub mod Waiting
+pub mod Joined
+pub mod EventCounts
+pub mod Sent

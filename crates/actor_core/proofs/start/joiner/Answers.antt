@@ -1,0 +1,11 @@
+use Rattle.std.proofs.Common.{subst, ℕ, []}
+use Rattle.joiner_core.specs.Machine.{start_of}
+use Rattle.joiner_core.specs.Standing.{StandsFor}
+use Rattle.actor_core.specs.Lists.{no_lists, joiner_lists}
+use Rattle.actor_core.proofs.start.joiner.Goals as goal
+
+pub returns-clause-stands : goal.returns-clause-stands
+returns-clause-stands c =
+    let setting = c.args.setting.now in
+    subst (λ (shift : ℕ). StandsFor (start_of setting.k c.args.j shift 0 setting.feeders c.args.input.now.theta []) (joiner_lists no_lists) c.in_ok-joiner.joiner)
+    c.first_shift-shift.ensures c.in_ok-joiner.ensures.fresh

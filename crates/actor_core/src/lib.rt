@@ -1,0 +1,21 @@
+//! The actors of a run as one kind: their machines behind one type, their numbers and links, how each begins, and what
+//! the last two of them answer.
+#![tactic(auto)]
+
+mod answers;
+mod crossing;
+mod endings;
+mod links;
+mod machines;
+mod numbers;
+mod start;
+mod step;
+
+pub use answers::answer;
+pub use crossing::shares_predicates;
+pub use endings::last_machines;
+pub use links::has_link;
+pub use machines::Core;
+pub use numbers::number;
+pub use start::{core_at, joiners_of};
+pub use step::Step;

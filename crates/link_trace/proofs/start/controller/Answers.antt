@@ -1,6 +1,0 @@
-use Rattle.trace_law.specs.Family.{rules_of, first_rest}
-use Rattle.link_trace.proofs.Fresh.{fresh_controller}
-use Rattle.link_trace.proofs.start.controller.Goals as goal
-
-pub returns-clause-stands : goal.returns-clause-stands
-returns-clause-stands c = fresh_controller (rules_of c.args.setting.now) (first_rest c.args.setting.now).line c.in_ok-start.field-0 c.in_ok-start.ensures
