@@ -6,6 +6,7 @@ use Rattle.epoch_tags.specs.declared.message.Msg.{Msg}
 use Rattle.actor_core.specs.Lists.{ActorLists, Took, Began, same_actor, posted_to, with_event}
 use Rattle.actor_core.specs.Families.{IsBalanced, AreFronts, DeliveryBalances, BeginningBalances}
 
+-- names that are one actor's are equal
 pub same_is : (a b : Actor) → same_actor a b ≡ true → a ≡ b
 same_is (Feeder p) (Feeder q) e = ap Feeder (eqb-true p q e)
 same_is (Feeder p) (Joiner q) e = absurd (true≢false (sym e))
@@ -29,9 +30,11 @@ same_is Collector Collector e = refl
 more_sent : (received left sent put : List Msg) → received ++ left ≡ sent → received ++ (left ++ put) ≡ sent ++ put
 more_sent received left sent put e = sym (append_assoc received left put) ∙ ap (λ xs. xs ++ put) e
 
-less_left : (received left sent got rest : List Msg) → received ++ left ≡ sent → left ≡ got ++ rest → (received ++ got) ++ rest ≡ sent
+less_left : (received left sent got rest : List Msg) → received ++ left ≡ sent → left ≡ got ++ rest
+    → (received ++ got) ++ rest ≡ sent
 less_left received left sent got rest e is = append_assoc received got rest ∙ ap (λ xs. received ++ xs) (sym is) ∙ e
 
+-- what an actor sends at a beginning is left on its links
 pub beginning_balances : BeginningBalances
 beginning_balances self posts f left balanced x y = go (same_actor self x) (same_actor self y) refl refl
   where
@@ -53,10 +56,12 @@ and_false false rest left = refl
 abbrev got_at : Actor → Actor → Msg → ActorLists → List Msg
 got_at from x m ls = cond (same_actor from x) (ls.received x ++ m ∷ []) (ls.received x)
 
+-- what was taken off a link is received, and what its receiver sends is left on its links
 pub delivery_balances : DeliveryBalances
 delivery_balances from to m rest posts f left balanced first x y = go (same_actor to x) (same_actor to y) refl refl
   where
-    moved : (to ≡ y) → (d : Bool) → same_actor from x ≡ d → cond d ((f to).received x ++ m ∷ []) ((f to).received x) ++ cond d rest (left x y) ≡ (f x).sent y
+    moved : (to ≡ y) → (d : Bool) → same_actor from x ≡ d
+        → cond d ((f to).received x ++ m ∷ []) ((f to).received x) ++ cond d rest (left x y) ≡ (f x).sent y
     moved is true e =
         less_left ((f to).received x) (left x y) ((f x).sent y) (m ∷ []) rest
         (subst (λ z. (f z).received x ++ left x y ≡ (f x).sent y) (sym is) (balanced x y))
@@ -78,5 +83,6 @@ delivery_balances from to m rest posts f left balanced first x y = go (same_acto
     go false true e d = subst (λ l. got_at from x m (f to) ++ l ≡ (f x).sent y) (sym (and_true (same_actor from x) rest (left x y))) (moved (same_is to y d) (same_actor from x) refl)
     go false false e d = subst (λ l. (f y).received x ++ l ≡ (f x).sent y) (sym (and_false (same_actor from x) rest (left x y))) (balanced x y)
 
+-- where what is left makes up what was sent, what was received is a front of it
 pub balanced_fronts : (f : Actor → ActorLists) (left : Actor → Actor → List Msg) → IsBalanced f left → AreFronts f
 balanced_fronts f left balanced from to = record { rest = left from to; joins = balanced from to }

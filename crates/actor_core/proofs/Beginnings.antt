@@ -12,23 +12,29 @@ use Rattle.actor_core.specs.Numbers.{number}
 
 -- ---- a feeder's batches
 
+-- a feeder's batches of mapped rows are its batches, mapped
 pub map-cut : {X Y : Type 0} (f : X → Y) (size : ℕ) (xs : List X) → cut size (map f xs) ≡ map (map f) (cut size xs)
 map-cut f size xs =
     ap (λ n. map (λ i. take size (drop (i * size) (map f xs))) (range_with_len 0 ((n + size - 1) / size))) (length-map xs f)
     ∙ pieces (range_with_len 0 ((length xs + size - 1) / size))
   where
-    pieces : (is : List ℕ) → map (λ i. take size (drop (i * size) (map f xs))) is ≡ map (map f) (map (λ i. take size (drop (i * size) xs)) is)
+    pieces : (is : List ℕ)
+        → map (λ i. take size (drop (i * size) (map f xs))) is ≡ map (map f) (map (λ i. take size (drop (i * size) xs)) is)
     pieces [] = refl
     pieces (i ∷ is) = ap₂ (λ y ys. y ∷ ys) (ap (take size) (drop-map f (i * size) xs) ∙ take-map f size (drop (i * size) xs)) (pieces is)
 
 -- ---- what is there
 
-pub has_number : (setting : Setting) (a : Actor) → IsActor setting a → (n : ℕ) × (number (2 ^ setting.k) setting.feeders a ≡ Some n) × (n < setting.feeders + 2 ^ setting.k + 2)
+-- each actor of a run has a number, which is below the number of all actors
+pub has_number : (setting : Setting) (a : Actor) → IsActor setting a
+    → (n : ℕ) × (number (2 ^ setting.k) setting.feeders a ≡ Some n) × (n < setting.feeders + 2 ^ setting.k + 2)
 has_number setting (Feeder p) is = (p, ap (λ b. cond b (Some p) None) (lt-ltb p setting.feeders is), omega arith)
-has_number setting (Joiner j) is = (setting.feeders + j, ap (λ b. cond b (Some (setting.feeders + j)) None) (lt-ltb j (2 ^ setting.k) is), omega arith)
+has_number setting (Joiner j) is =
+    (setting.feeders + j, ap (λ b. cond b (Some (setting.feeders + j)) None) (lt-ltb j (2 ^ setting.k) is), omega arith)
 has_number setting Controller is = (setting.feeders + 2 ^ setting.k, refl, omega arith)
 has_number setting Collector is = (setting.feeders + 2 ^ setting.k + 1, refl, omega arith)
 
+-- below a list's length there is an element
 pub there : {X : Type 0} (xs : List X) (n : ℕ) → n < length xs → (x : X) × (slice_get xs n ≡ Some x)
 there [] n low = absurd (omega arith)
 there (x ∷ xs) zero low = (x, refl)

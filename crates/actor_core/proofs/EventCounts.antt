@@ -45,6 +45,7 @@ of_joiner setting f j =
 abbrev of_ends : (Actor → ActorLists) → ℕ → ℕ
 of_ends f j = length (filter_map controller_msg ((f Controller).received (Joiner j))) + length (filter_map collector_msg ((f Collector).received (Joiner j)))
 
+-- so many events there were, by these lists
 abbrev pub count : Setting → (Actor → ActorLists) → ℕ
 count setting f = total setting.feeders (of_feeder f) + total (2 ^ setting.k) (of_joiner setting f) + total (2 ^ setting.k) (of_ends f)
 
@@ -53,17 +54,20 @@ count setting f = total setting.feeders (of_feeder f) + total (2 ^ setting.k) (o
 same_le : (n : ℕ) → n ≤ n
 same_le n = omega arith
 
-grows : {X : Type 0} (kind : Msg → Option X) (ms more : List Msg) → length (filter_map kind ms) ≤ length (filter_map kind (ms ++ more))
+grows : {X : Type 0} (kind : Msg → Option X) (ms more : List Msg)
+    → length (filter_map kind ms) ≤ length (filter_map kind (ms ++ more))
 grows kind ms more =
     let e : length (filter_map kind (ms ++ more)) ≡ length (filter_map kind ms) + length (filter_map kind more) =
     ap length (filter_map-append kind ms more) ∙ length-append (filter_map kind ms) (filter_map kind more) in
     omega arith
 
-grows_if : {X : Type 0} (kind : Msg → Option X) (b : Bool) (ms more : List Msg) → length (filter_map kind ms) ≤ length (filter_map kind (cond b (ms ++ more) ms))
+grows_if : {X : Type 0} (kind : Msg → Option X) (b : Bool) (ms more : List Msg)
+    → length (filter_map kind ms) ≤ length (filter_map kind (cond b (ms ++ more) ms))
 grows_if kind true ms more = grows kind ms more
 grows_if kind false ms more = same_le (length (filter_map kind ms))
 
-cause_grows : {X : Type 0} (kind : Msg → Option X) (cause : Cause) (g : Actor → List Msg) (x : Actor) → length (filter_map kind (g x)) ≤ length (filter_map kind (with_cause cause g x))
+cause_grows : {X : Type 0} (kind : Msg → Option X) (cause : Cause) (g : Actor → List Msg) (x : Actor)
+    → length (filter_map kind (g x)) ≤ length (filter_map kind (with_cause cause g x))
 cause_grows kind (Took from m) g x = grows_if kind (same_actor from x) (g x) (m ∷ [])
 cause_grows kind Began g x = same_le (length (filter_map kind (g x)))
 
@@ -71,17 +75,21 @@ total_more : (n i : ℕ) (g h : ℕ → ℕ) → i < n → ((q : ℕ) → q < n 
 total_more n i g h low each more = let but = total_but n i g h low each in omega arith
 
 module _ (self : Actor) (cause : Cause) (posts : List Post) (f : Actor → ActorLists) where
-  received_grows : {X : Type 0} (kind : Msg → Option X) (x y : Actor) → length (filter_map kind ((f y).received x)) ≤ length (filter_map kind ((after_event self cause posts f y).received x))
+  received_grows : {X : Type 0} (kind : Msg → Option X) (x y : Actor)
+      → length (filter_map kind ((f y).received x)) ≤ length (filter_map kind ((after_event self cause posts f y).received x))
   received_grows kind x y = go (same_actor self y) refl
     where
-      go : (b : Bool) → same_actor self y ≡ b → length (filter_map kind ((f y).received x)) ≤ length (filter_map kind ((cond b (with_event cause posts (f self)) (f y)).received x))
+      go : (b : Bool) → same_actor self y ≡ b
+          → length (filter_map kind ((f y).received x)) ≤ length (filter_map kind ((cond b (with_event cause posts (f self)) (f y)).received x))
       go true e = subst (λ z. length (filter_map kind ((f z).received x)) ≤ length (filter_map kind (with_cause cause (f self).received x))) (same_is self y e) (cause_grows kind cause (f self).received x)
       go false e = same_le (length (filter_map kind ((f y).received x)))
 
-  sent_grows : {X : Type 0} (kind : Msg → Option X) (x y : Actor) → length (filter_map kind ((f x).sent y)) ≤ length (filter_map kind ((after_event self cause posts f x).sent y))
+  sent_grows : {X : Type 0} (kind : Msg → Option X) (x y : Actor)
+      → length (filter_map kind ((f x).sent y)) ≤ length (filter_map kind ((after_event self cause posts f x).sent y))
   sent_grows kind x y = go (same_actor self x) refl
     where
-      go : (b : Bool) → same_actor self x ≡ b → length (filter_map kind ((f x).sent y)) ≤ length (filter_map kind ((cond b (with_event cause posts (f self)) (f x)).sent y))
+      go : (b : Bool) → same_actor self x ≡ b
+          → length (filter_map kind ((f x).sent y)) ≤ length (filter_map kind ((cond b (with_event cause posts (f self)) (f x)).sent y))
       go true e = subst (λ z. length (filter_map kind ((f z).sent y)) ≤ length (filter_map kind ((f self).sent y ++ posted_to y posts))) (same_is self x e) (grows kind ((f self).sent y) (posted_to y posts))
       go false e = same_le (length (filter_map kind ((f x).sent y)))
 
@@ -102,7 +110,8 @@ module _ (self : Actor) (cause : Cause) (posts : List Post) (f : Actor → Actor
       ≤ total (2 ^ setting.k) (λ i. length (filter_map joiner_msg ((after_event self cause posts f (Joiner j)).received (Joiner i))))
   from_joiners_grow setting j = total_le (2 ^ setting.k) _ _ (λ i low. received_grows joiner_msg (Joiner i) (Joiner j))
 
-  joiner_grows : (setting : Setting) (j : ℕ) → of_joiner setting f j ≤ of_joiner setting (after_event self cause posts f) j
+  joiner_grows : (setting : Setting) (j : ℕ)
+      → of_joiner setting f j ≤ of_joiner setting (after_event self cause posts f) j
   joiner_grows setting j = let one = from_feeders_grow setting j in let two = from_joiners_grow setting j in omega arith
 
   ends_grow : (j : ℕ) → of_ends f j ≤ of_ends (after_event self cause posts f) j
@@ -114,7 +123,8 @@ module _ (self : Actor) (cause : Cause) (posts : List Post) (f : Actor → Actor
   -- where one of the three sums has one more, the count has
   module _ (setting : Setting) where
     all_feeders : total setting.feeders (of_feeder f) ≤ total setting.feeders (of_feeder (after_event self cause posts f))
-    all_feeders = total_le setting.feeders (of_feeder f) (of_feeder (after_event self cause posts f)) (λ p low. feeder_grows p)
+    all_feeders =
+        total_le setting.feeders (of_feeder f) (of_feeder (after_event self cause posts f)) (λ p low. feeder_grows p)
 
     all_joiners : total (2 ^ setting.k) (of_joiner setting f) ≤ total (2 ^ setting.k) (of_joiner setting (after_event self cause posts f))
     all_joiners = total_le (2 ^ setting.k) (of_joiner setting f) (of_joiner setting (after_event self cause posts f)) (λ j low. joiner_grows setting j)
@@ -122,17 +132,21 @@ module _ (self : Actor) (cause : Cause) (posts : List Post) (f : Actor → Actor
     all_ends : total (2 ^ setting.k) (of_ends f) ≤ total (2 ^ setting.k) (of_ends (after_event self cause posts f))
     all_ends = total_le (2 ^ setting.k) (of_ends f) (of_ends (after_event self cause posts f)) (λ j low. ends_grow j)
 
-    feeder_more : (p : ℕ) → p < setting.feeders → of_feeder f p + 1 ≤ of_feeder (after_event self cause posts f) p → count setting f + 1 ≤ count setting (after_event self cause posts f)
+    feeder_more : (p : ℕ) → p < setting.feeders → of_feeder f p + 1 ≤ of_feeder (after_event self cause posts f) p
+        → count setting f + 1 ≤ count setting (after_event self cause posts f)
     feeder_more p low more =
         let one = total_more setting.feeders p (of_feeder f) (of_feeder (after_event self cause posts f)) low (λ q l. feeder_grows q) more in
         let two = all_joiners in let three = all_ends in omega arith
 
-    joiner_more : (j : ℕ) → j < 2 ^ setting.k → of_joiner setting f j + 1 ≤ of_joiner setting (after_event self cause posts f) j → count setting f + 1 ≤ count setting (after_event self cause posts f)
+    joiner_more : (j : ℕ) → j < 2 ^ setting.k
+        → of_joiner setting f j + 1 ≤ of_joiner setting (after_event self cause posts f) j
+        → count setting f + 1 ≤ count setting (after_event self cause posts f)
     joiner_more j low more =
         let one = total_more (2 ^ setting.k) j (of_joiner setting f) (of_joiner setting (after_event self cause posts f)) low (λ q l. joiner_grows setting q) more in
         let two = all_feeders in let three = all_ends in omega arith
 
-    ends_more : (j : ℕ) → j < 2 ^ setting.k → of_ends f j + 1 ≤ of_ends (after_event self cause posts f) j → count setting f + 1 ≤ count setting (after_event self cause posts f)
+    ends_more : (j : ℕ) → j < 2 ^ setting.k → of_ends f j + 1 ≤ of_ends (after_event self cause posts f) j
+        → count setting f + 1 ≤ count setting (after_event self cause posts f)
     ends_more j low more =
         let one = total_more (2 ^ setting.k) j (of_ends f) (of_ends (after_event self cause posts f)) low (λ q l. ends_grow q) more in
         let two = all_feeders in let three = all_joiners in omega arith
@@ -178,7 +192,9 @@ collector_kind (Collector' m) is = (m, refl)
 
 -- ---- one event
 
-pub took_counts : (setting : Setting) (from self : Actor) (m : Msg) (posts : List Post) (f : Actor → ActorLists) → HasLink setting.k setting.feeders from self → IsActor setting self → IsOfKind self m
+-- a message of the link's kind, taken over a link by one of the run's actors, is one event more
+pub took_counts : (setting : Setting) (from self : Actor) (m : Msg) (posts : List Post) (f : Actor → ActorLists)
+    → HasLink setting.k setting.feeders from self → IsActor setting self → IsOfKind self m
     → count setting f + 1 ≤ count setting (after_event self (Took from m) posts f)
 took_counts setting _ _ m posts f (feeder_joiner {p = p} {j = j} p_low j_low) actor kind =
     let typed = joiner_kind j m kind in
@@ -216,7 +232,9 @@ took_counts setting _ _ m posts f (joiner_collector {j = j} j_low) actor kind =
     let one = received_grows Collector (Took (Joiner j) m) posts f controller_msg (Joiner j) Controller in
     ends_more Collector (Took (Joiner j) m) posts f setting j j_low (omega arith)
 
-pub began_counts : (setting : Setting) (p : ℕ) (posts : List Post) (f : Actor → ActorLists) → p < setting.feeders → length (posted_to_controller posts) ≡ 1
+-- a beginning that sends the controller one message is one event more
+pub began_counts : (setting : Setting) (p : ℕ) (posts : List Post) (f : Actor → ActorLists) → p < setting.feeders
+    → length (posted_to_controller posts) ≡ 1
     → count setting f + 1 ≤ count setting (after_event (Feeder p) Began posts f)
 began_counts setting p posts f low asks =
     let before = (f (Feeder p)).sent Controller in
@@ -232,37 +250,53 @@ began_counts setting p posts f low asks =
 
 -- ---- what was sent goes over links
 
+-- the message goes over a link, and is of that link's kind
 abbrev pub IsLinked : Setting → Actor → Actor → Msg → Type 0
 IsLinked setting from to m = HasLink setting.k setting.feeders from to × IsOfKind to m
 
+-- all that was sent goes over links, and is of their kinds
 abbrev pub AreLinked : Setting → (Actor → ActorLists) → Type 0
 AreLinked setting f = (from to : Actor) → AllByRecursion (IsLinked setting from to) ((f from).sent to)
 
-posted_linked : (setting : Setting) (self to : Actor) (posts : List Post) → AllByRecursion (GoesOver setting.k setting.feeders self) posts → AllByRecursion (IsLinked setting self to) (posted_to to posts)
+posted_linked : (setting : Setting) (self to : Actor) (posts : List Post)
+    → AllByRecursion (GoesOver setting.k setting.feeders self) posts
+    → AllByRecursion (IsLinked setting self to) (posted_to to posts)
 posted_linked setting self to [] all = tt
-posted_linked setting self to (post ∷ posts) all = go (same_actor post.to to) refl (posted_linked setting self to posts all.1)
+posted_linked setting self to (post ∷ posts) all =
+    go (same_actor post.to to) refl (posted_linked setting self to posts all.1)
   where
     go : (b : Bool) → same_actor post.to to ≡ b → AllByRecursion (IsLinked setting self to) (posted_to to posts)
         → AllByRecursion (IsLinked setting self to) (cons_option (cond b (Some post.msg) None) (posted_to to posts))
-    go true e rest = (subst (λ z. IsLinked setting self z post.msg) (same_is post.to to e) (all.0.link, all.0.kind), rest)
+    go true e rest =
+        (subst (λ z. IsLinked setting self z post.msg) (same_is post.to to e) (all.0.link, all.0.kind), rest)
     go false e rest = rest
 
-all_over : (input : Input) (setting : Setting) (self : Actor) (posts : List Post) → IsActor setting self → GoOut (start_for input setting self) posts → AllByRecursion (GoesOver setting.k setting.feeders self) posts
-all_over input setting (Feeder p) posts is out = recursion_from_All (GoesOver setting.k setting.feeders (Feeder p)) posts (out is)
-all_over input setting (Joiner j) posts is out = recursion_from_All (GoesOver setting.k setting.feeders (Joiner j)) posts out
-all_over input setting Controller posts is out = recursion_from_All (GoesOver setting.k setting.feeders Controller) posts out
-all_over input setting Collector posts is out = subst (AllByRecursion (GoesOver setting.k setting.feeders Collector)) (sym out) tt
+all_over : (input : Input) (setting : Setting) (self : Actor) (posts : List Post) → IsActor setting self
+    → GoOut (start_for input setting self) posts → AllByRecursion (GoesOver setting.k setting.feeders self) posts
+all_over input setting (Feeder p) posts is out =
+    recursion_from_All (GoesOver setting.k setting.feeders (Feeder p)) posts (out is)
+all_over input setting (Joiner j) posts is out =
+    recursion_from_All (GoesOver setting.k setting.feeders (Joiner j)) posts out
+all_over input setting Controller posts is out =
+    recursion_from_All (GoesOver setting.k setting.feeders Controller) posts out
+all_over input setting Collector posts is out =
+    subst (AllByRecursion (GoesOver setting.k setting.feeders Collector)) (sym out) tt
 
-pub linked_after : (input : Input) (setting : Setting) (self : Actor) (cause : Cause) (posts : List Post) (f : Actor → ActorLists) → AreLinked setting f
+-- so it is after an event whose posts go over its actor's links
+pub linked_after : (input : Input) (setting : Setting) (self : Actor) (cause : Cause) (posts : List Post) (f : Actor → ActorLists)
+    → AreLinked setting f
     → IsActor setting self → GoOut (start_for input setting self) posts → AreLinked setting (after_event self cause posts f)
 linked_after input setting self cause posts f linked is out from to = go (same_actor self from) refl
   where
-    go : (b : Bool) → same_actor self from ≡ b → AllByRecursion (IsLinked setting from to) ((cond b (with_event cause posts (f self)) (f from)).sent to)
+    go : (b : Bool) → same_actor self from ≡ b
+        → AllByRecursion (IsLinked setting from to) ((cond b (with_event cause posts (f self)) (f from)).sent to)
     go true e = subst (λ z. AllByRecursion (IsLinked setting z to) ((f self).sent to ++ posted_to to posts)) (same_is self from e)
         (all-append (IsLinked setting self to) ((f self).sent to) (posted_to to posts) (linked self to) (posted_linked setting self to posts (all_over input setting self posts is out)))
     go false e = linked from to
 
-pub left_linked : (setting : Setting) (from to : Actor) (received rest sent : List Msg) (m : Msg) → received ++ m ∷ rest ≡ sent → AllByRecursion (IsLinked setting from to) sent → IsLinked setting from to m
+-- a message that is left on a link goes over it too
+pub left_linked : (setting : Setting) (from to : Actor) (received rest sent : List Msg) (m : Msg)
+    → received ++ m ∷ rest ≡ sent → AllByRecursion (IsLinked setting from to) sent → IsLinked setting from to m
 left_linked setting from to received rest sent m is all =
     let behind = all-back (IsLinked setting from to) received (m ∷ rest) (subst (AllByRecursion (IsLinked setting from to)) (sym is) all) in
     behind.0

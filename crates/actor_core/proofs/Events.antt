@@ -28,44 +28,54 @@ use Rattle.actor_core.proofs.TypedLists.{joiner_posts, feeder_posts, controller_
 
 -- ---- a joiner's own numbers
 
-grid_of : (old : JoinerState) (s : JoinerStart) (lists : JoinerLists) → JoinerStands s lists old → (k_of old ≡ s.k) × (feeders_of old ≡ s.feeders) × (id_of old ≡ s.id)
+grid_of : (old : JoinerState) (s : JoinerStart) (lists : JoinerLists) → JoinerStands s lists old
+    → (k_of old ≡ s.k) × (feeders_of old ≡ s.feeders) × (id_of old ≡ s.id)
 grid_of old s lists st =
     let fixed = st.machine.between.within.stands.fixed in
     (fixed.k, fixed.feeders, fixed.id)
 
-joiner_over : (old : JoinerState) (posts : List Post) (s : JoinerStart) (lists : JoinerLists) → JoinerStands s lists old → AllGoOver (k_of old) (feeders_of old) (Joiner (id_of old)) posts → AllGoOver s.k s.feeders (Joiner s.id) posts
+joiner_over : (old : JoinerState) (posts : List Post) (s : JoinerStart) (lists : JoinerLists) → JoinerStands s lists old
+    → AllGoOver (k_of old) (feeders_of old) (Joiner (id_of old)) posts → AllGoOver s.k s.feeders (Joiner s.id) posts
 joiner_over old posts s lists st over =
     let grid = grid_of old s lists st in
     subst (λ k. AllGoOver k s.feeders (Joiner s.id) posts) grid.0 (subst (λ n. AllGoOver (k_of old) n (Joiner s.id) posts) grid.1 (subst (λ id. AllGoOver (k_of old) (feeders_of old) (Joiner id) posts) grid.2 over))
 
 -- ---- a feeder
 
-feeder_lists_are : (m : ToFeeder) (posts : List Post) (ls : ActorLists) → feeder_with_sent (feeder_with m (feeder_lists ls)) posts ≡ feeder_lists (with_event (Took Controller (Feeder' m)) posts ls)
+feeder_lists_are : (m : ToFeeder) (posts : List Post) (ls : ActorLists)
+    → feeder_with_sent (feeder_with m (feeder_lists ls)) posts ≡ feeder_lists (with_event (Took Controller (Feeder' m)) posts ls)
 feeder_lists_are m posts ls =
     let a = appended feeder_msg (ls.received Controller) (Feeder' m ∷ []) (m ∷ []) refl in
     let b = appended controller_msg (ls.sent Controller) _ _ (controller_posts posts) in
     let c = λ (j : ℕ). appended joiner_msg (ls.sent (Joiner j)) _ _ (joiner_posts j posts) in
     sym (λ i. record { received = a i; to_controller = b i; to_joiner = λ j. c j i })
 
-pub feeder_takes : (old new : FeederState) (m : ToFeeder) (before after : List Post) → FeederTakes m old new before after
+-- a feeder's call with a message is one event
+pub feeder_takes : (old new : FeederState) (m : ToFeeder) (before after : List Post)
+    → FeederTakes m old new before after
     → Occurs (Took Controller (Feeder' m)) (TheFeeder old) (TheFeeder new) before after
-feeder_takes old new m before after t = record { added = t.added; sends = t.sends; event = record { stands = stands; over = over; asks = tt } }
+feeder_takes old new m before after t =
+    record { added = t.added; sends = t.sends; event = record { stands = stands; over = over; asks = tt } }
   where
-    stands : (s : Start) (ls : ActorLists) → Stands s ls (TheFeeder old) → Stands s (with_event (Took Controller (Feeder' m)) t.added ls) (TheFeeder new)
-    stands (OfFeeder p feeders s) ls st = subst (λ x. FeederStands s x new) (feeder_lists_are m t.added ls) (t.stands s (feeder_lists ls) st)
+    stands : (s : Start) (ls : ActorLists) → Stands s ls (TheFeeder old)
+        → Stands s (with_event (Took Controller (Feeder' m)) t.added ls) (TheFeeder new)
+    stands (OfFeeder p feeders s) ls st =
+        subst (λ x. FeederStands s x new) (feeder_lists_are m t.added ls) (t.stands s (feeder_lists ls) st)
     stands (OfJoiner s) ls st = st
     stands (OfController s) ls st = st
     stands (OfCollector n) ls st = st
 
     over : (s : Start) (ls : ActorLists) → Stands s ls (TheFeeder old) → GoOut s t.added
-    over (OfFeeder p feeders s) ls st = λ low. subst (λ (x : FeederStart). AllGoOver x.k feeders (Feeder p) t.added) st.began (t.over p feeders low)
+    over (OfFeeder p feeders s) ls st =
+        λ low. subst (λ (x : FeederStart). AllGoOver x.k feeders (Feeder p) t.added) st.began (t.over p feeders low)
     over (OfJoiner s) ls st = absurd st
     over (OfController s) ls st = absurd st
     over (OfCollector n) ls st = absurd st
 
 -- ---- the collector
 
-collector_lists_are : (from : Actor) (m : ToCollector) (ls : ActorLists) → collector_with from m (collector_lists ls) ≡ collector_lists (with_event (Took from (Collector' m)) [] ls)
+collector_lists_are : (from : Actor) (m : ToCollector) (ls : ActorLists)
+    → collector_with from m (collector_lists ls) ≡ collector_lists (with_event (Took from (Collector' m)) [] ls)
 collector_lists_are (Feeder p) m ls = refl
 collector_lists_are (Joiner q) m ls =
     let a = λ (j : ℕ). got collector_msg (q == j) (Collector' m) m (ls.received (Joiner j)) refl in
@@ -74,15 +84,20 @@ collector_lists_are (Joiner q) m ls =
 collector_lists_are Controller m ls = refl
 collector_lists_are Collector m ls = refl
 
-pub collector_takes : (old new : CollectorState) (from : Actor) (m : ToCollector) (before : List Post) → CollectorTakes from m old new
+-- the collector's call is one event, and sends nothing
+pub collector_takes : (old new : CollectorState) (from : Actor) (m : ToCollector) (before : List Post)
+    → CollectorTakes from m old new
     → Occurs (Took from (Collector' m)) (TheCollector old) (TheCollector new) before before
-collector_takes old new from m before t = record { added = []; sends = sym (append-nil before); event = record { stands = stands; over = over; asks = tt } }
+collector_takes old new from m before t =
+    record { added = []; sends = sym (append-nil before); event = record { stands = stands; over = over; asks = tt } }
   where
-    stands : (s : Start) (ls : ActorLists) → Stands s ls (TheCollector old) → Stands s (with_event (Took from (Collector' m)) [] ls) (TheCollector new)
+    stands : (s : Start) (ls : ActorLists) → Stands s ls (TheCollector old)
+        → Stands s (with_event (Took from (Collector' m)) [] ls) (TheCollector new)
     stands (OfFeeder p feeders s) ls st = st
     stands (OfJoiner s) ls st = st
     stands (OfController s) ls st = st
-    stands (OfCollector n) ls st = subst (λ x. CollectorStands n x new) (collector_lists_are from m ls) (t.stands n (collector_lists ls) st)
+    stands (OfCollector n) ls st =
+        subst (λ x. CollectorStands n x new) (collector_lists_are from m ls) (t.stands n (collector_lists ls) st)
 
     over : (s : Start) (ls : ActorLists) → Stands s ls (TheCollector old) → GoOut s []
     over (OfFeeder p feeders s) ls st = absurd st
@@ -92,24 +107,29 @@ collector_takes old new from m before t = record { added = []; sends = sym (appe
 
 -- ---- a feeder that begins
 
-feeder_lists_begun : (posts : List Post) (ls : ActorLists) → feeder_with_sent (feeder_lists ls) posts ≡ feeder_lists (with_event Began posts ls)
+feeder_lists_begun : (posts : List Post) (ls : ActorLists)
+    → feeder_with_sent (feeder_lists ls) posts ≡ feeder_lists (with_event Began posts ls)
 feeder_lists_begun posts ls =
     let b = appended controller_msg (ls.sent Controller) _ _ (controller_posts posts) in
     let c = λ (j : ℕ). appended joiner_msg (ls.sent (Joiner j)) _ _ (joiner_posts j posts) in
     sym (λ i. record { received = filter_map feeder_msg (ls.received Controller); to_controller = b i; to_joiner = λ j. c j i })
 
+-- a feeder's beginning is one event
 pub feeder_begins : (old new : FeederState) (before after : List Post) → Begins old new before after
     → Occurs Began (TheFeeder old) (TheFeeder new) before after
 feeder_begins old new before after t = record { added = t.added; sends = t.sends; event = record { stands = stands; over = over; asks = ap length t.asks_next } }
   where
-    stands : (s : Start) (ls : ActorLists) → Stands s ls (TheFeeder old) → Stands s (with_event Began t.added ls) (TheFeeder new)
-    stands (OfFeeder p feeders s) ls st = subst (λ x. FeederStands s x new) (feeder_lists_begun t.added ls) (t.stands s (feeder_lists ls) st)
+    stands : (s : Start) (ls : ActorLists) → Stands s ls (TheFeeder old)
+        → Stands s (with_event Began t.added ls) (TheFeeder new)
+    stands (OfFeeder p feeders s) ls st =
+        subst (λ x. FeederStands s x new) (feeder_lists_begun t.added ls) (t.stands s (feeder_lists ls) st)
     stands (OfJoiner s) ls st = st
     stands (OfController s) ls st = st
     stands (OfCollector n) ls st = st
 
     over : (s : Start) (ls : ActorLists) → Stands s ls (TheFeeder old) → GoOut s t.added
-    over (OfFeeder p feeders s) ls st = λ low. subst (λ (x : FeederStart). AllGoOver x.k feeders (Feeder p) t.added) st.began (t.over p feeders low)
+    over (OfFeeder p feeders s) ls st =
+        λ low. subst (λ (x : FeederStart). AllGoOver x.k feeders (Feeder p) t.added) st.began (t.over p feeders low)
     over (OfJoiner s) ls st = absurd st
     over (OfController s) ls st = absurd st
     over (OfCollector n) ls st = absurd st
@@ -133,11 +153,15 @@ controller_lists_are Collector m posts old new ls =
     let c = λ (q : ℕ). appended feeder_msg (ls.sent (Feeder q)) _ _ (feeder_posts q posts) in
     sym (λ i. record { from_feeder = λ q. filter_map controller_msg (ls.received (Feeder q)); from_joiner = λ j. filter_map controller_msg (ls.received (Joiner j)); to_feeder = λ q. c q i; journal = new })
 
-pub controller_takes : (old new : ControllerState) (from : Actor) (m : ToController) (before after : List Post) → ControllerTakes from m old new before after
+-- the controller's call is one event
+pub controller_takes : (old new : ControllerState) (from : Actor) (m : ToController) (before after : List Post)
+    → ControllerTakes from m old new before after
     → Occurs (Took from (Controller' m)) (TheController old) (TheController new) before after
-controller_takes old new from m before after t = record { added = t.added; sends = t.sends; event = record { stands = stands; over = over; asks = tt } }
+controller_takes old new from m before after t =
+    record { added = t.added; sends = t.sends; event = record { stands = stands; over = over; asks = tt } }
   where
-    stands : (s : Start) (ls : ActorLists) → Stands s ls (TheController old) → Stands s (with_event (Took from (Controller' m)) t.added ls) (TheController new)
+    stands : (s : Start) (ls : ActorLists) → Stands s ls (TheController old)
+        → Stands s (with_event (Took from (Controller' m)) t.added ls) (TheController new)
     stands (OfFeeder p feeders s) ls st = st
     stands (OfJoiner s) ls st = st
     stands (OfController s) ls st = subst (λ x. ControllerStands s x new) (controller_lists_are from m t.added old.journal new.journal ls) (t.stands s (controller_lists old.journal ls) st)
@@ -179,13 +203,18 @@ joiner_lists_are Collector m posts ls =
     let d = appended collector_msg (ls.sent Collector) _ _ (collector_posts posts) in
     sym (λ i. record { from_feeder = λ q. filter_map joiner_msg (ls.received (Feeder q)); from_joiner = λ q. filter_map joiner_msg (ls.received (Joiner q)); to_joiner = λ j. c j i; to_controller = b i; to_collector = d i })
 
-pub joiner_takes : (old new : JoinerState) (from : Actor) (m : ToJoiner) (before after : List Post) → JoinerTakes from m old new before after
+-- a joiner's call is one event
+pub joiner_takes : (old new : JoinerState) (from : Actor) (m : ToJoiner) (before after : List Post)
+    → JoinerTakes from m old new before after
     → Occurs (Took from (Joiner' m)) (TheJoiner old) (TheJoiner new) before after
-joiner_takes old new from m before after t = record { added = t.added; sends = t.sends; event = record { stands = stands; over = over; asks = tt } }
+joiner_takes old new from m before after t =
+    record { added = t.added; sends = t.sends; event = record { stands = stands; over = over; asks = tt } }
   where
-    stands : (s : Start) (ls : ActorLists) → Stands s ls (TheJoiner old) → Stands s (with_event (Took from (Joiner' m)) t.added ls) (TheJoiner new)
+    stands : (s : Start) (ls : ActorLists) → Stands s ls (TheJoiner old)
+        → Stands s (with_event (Took from (Joiner' m)) t.added ls) (TheJoiner new)
     stands (OfFeeder p feeders s) ls st = st
-    stands (OfJoiner s) ls st = subst (λ x. JoinerStands s x new) (joiner_lists_are from m t.added ls) (t.stands s (joiner_lists ls) st)
+    stands (OfJoiner s) ls st =
+        subst (λ x. JoinerStands s x new) (joiner_lists_are from m t.added ls) (t.stands s (joiner_lists ls) st)
     stands (OfController s) ls st = st
     stands (OfCollector n) ls st = st
 

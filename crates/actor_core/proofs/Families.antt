@@ -26,43 +26,55 @@ use Rattle.actor_core.specs.declared.machines.Core.TheVariants.{Feeder as TheFee
 
 -- ---- the laws, read off
 
-pub feeder_law : (p feeders : ℕ) (s : FeederStart) (ls : ActorLists) (core : Core) → Stands (OfFeeder p feeders s) ls core
+-- a feeder's machine keeps the feeder's law, by what it took, which tells whether its work is over
+pub feeder_law : (p feeders : ℕ) (s : FeederStart) (ls : ActorLists) (core : Core)
+    → Stands (OfFeeder p feeders s) ls core
     → (taken : List ToFeeder) × FeederLaw s (feeder_lists ls) taken × (IsOver core → 0 < stops taken) × (0 < stops taken → ¬ GoesOn core)
-feeder_law p feeders s ls (TheFeeder f) st = (st.taken, st.law, (λ over. st.stopped.0 over), (λ stopped goes. true≢false (sym (st.stopped.1 stopped) ∙ goes)))
+feeder_law p feeders s ls (TheFeeder f) st =
+    (st.taken, st.law, (λ over. st.stopped.0 over), (λ stopped goes. true≢false (sym (st.stopped.1 stopped) ∙ goes)))
 feeder_law p feeders s ls (TheJoiner j) st = absurd st
 feeder_law p feeders s ls (TheController c) st = absurd st
 feeder_law p feeders s ls (TheCollector c) st = absurd st
 
+-- a joiner's machine keeps the joiner's law, by what it took, which tells whether its work is over
 pub joiner_law : (s : JoinerStart) (ls : ActorLists) (core : Core) → Stands (OfJoiner s) ls core
     → (taken : Taken) × JoinerLaw s (joiner_lists ls) taken × (IsOver core → IsFinishedJoiner s (joiner_lists ls) taken) × (IsFinishedJoiner s (joiner_lists ls) taken → ¬ GoesOn core)
 joiner_law s ls (TheFeeder f) st = absurd st
-joiner_law s ls (TheJoiner j) st = (st.taken, st.law, (λ over. over s (joiner_lists ls) st), (λ finished goes. goes s (joiner_lists ls) st finished))
+joiner_law s ls (TheJoiner j) st =
+    (st.taken, st.law, (λ over. over s (joiner_lists ls) st), (λ finished goes. goes s (joiner_lists ls) st finished))
 joiner_law s ls (TheController c) st = absurd st
 joiner_law s ls (TheCollector c) st = absurd st
 
-pub controller_law : (s : ControllerStart) (ls : ActorLists) (core : Core) → Stands (OfController s) ls core → ControllerLaw s.rules s.first (controller_lists (journal_of core) ls)
+-- the controller's machine keeps the controller's law, with its own journal
+pub controller_law : (s : ControllerStart) (ls : ActorLists) (core : Core) → Stands (OfController s) ls core
+    → ControllerLaw s.rules s.first (controller_lists (journal_of core) ls)
 controller_law s ls (TheFeeder f) st = absurd st
 controller_law s ls (TheJoiner j) st = absurd st
 controller_law s ls (TheController c) st = st.law
 controller_law s ls (TheCollector c) st = absurd st
 
-controller_goes : (s : ControllerStart) (ls : ActorLists) (core : Core) → Stands (OfController s) ls core → ¬ GoesOn core
+controller_goes : (s : ControllerStart) (ls : ActorLists) (core : Core) → Stands (OfController s) ls core
+    → ¬ GoesOn core
 controller_goes s ls (TheFeeder f) st = absurd st
 controller_goes s ls (TheJoiner j) st = absurd st
 controller_goes s ls (TheController c) st = λ goes. goes
 controller_goes s ls (TheCollector c) st = absurd st
 
-pub collector_over : (n : ℕ) (ls : ActorLists) (core : Core) → Stands (OfCollector n) ls core → IsOver core → IsComplete n (collector_lists ls)
+-- the lists of a collector's machine whose work is over are complete
+pub collector_over : (n : ℕ) (ls : ActorLists) (core : Core) → Stands (OfCollector n) ls core → IsOver core
+    → IsComplete n (collector_lists ls)
 collector_over n ls (TheFeeder f) st = absurd st
 collector_over n ls (TheJoiner j) st = absurd st
 collector_over n ls (TheController c) st = absurd st
 collector_over n ls (TheCollector c) st = λ over. (complete_says n (collector_lists ls) c st).0 over
 
-collector_goes : (n : ℕ) (ls : ActorLists) (core : Core) → Stands (OfCollector n) ls core → IsComplete n (collector_lists ls) → ¬ GoesOn core
+collector_goes : (n : ℕ) (ls : ActorLists) (core : Core) → Stands (OfCollector n) ls core
+    → IsComplete n (collector_lists ls) → ¬ GoesOn core
 collector_goes n ls (TheFeeder f) st = absurd st
 collector_goes n ls (TheJoiner j) st = absurd st
 collector_goes n ls (TheController c) st = absurd st
-collector_goes n ls (TheCollector c) st = λ all goes. true≢false (sym ((complete_says n (collector_lists ls) c st).1 all) ∙ goes)
+collector_goes n ls (TheCollector c) st =
+    λ all goes. true≢false (sym ((complete_says n (collector_lists ls) c st).1 all) ∙ goes)
 
 -- ---- one choice for each index below n
 
@@ -76,19 +88,23 @@ module _ {A : Type 0} (P : ℕ → A → Type 0) (n : ℕ) (other : A) (given : 
   picked p low true e = (given p (ltb-true p n e)).1
   picked p low false e = absurd (true≢false (sym (lt-ltb p n low) ∙ e))
 
+  -- where each index below n has some x with P, there is a function that gives one
   pub choice : (f : ℕ → A) × ((p : ℕ) → p < n → P p (f p))
   choice = ((λ p. pick p (ltb p n) refl), (λ p low. picked p low (ltb p n) refl))
 
 -- ---- fronts
 
-read_front : {M X : Type 0} (kind : M → Option X) (front whole : List M) → IsPrefix front whole → IsPrefix (filter_map kind front) (filter_map kind whole)
+read_front : {M X : Type 0} (kind : M → Option X) (front whole : List M) → IsPrefix front whole
+    → IsPrefix (filter_map kind front) (filter_map kind whole)
 read_front kind front whole prefix =
     record { rest = filter_map kind prefix.rest; joins = sym (filter_map-append kind front prefix.rest) ∙ ap (filter_map kind) prefix.joins }
 
 -- ---- the family
 
 -- the machines of a run, each standing for its actor's lists; where W holds, their work is over
-module _ (input : Input) (setting : Setting) (f : Actor → ActorLists) (cores : (a : Actor) → IsActor setting a → (core : Core) × Stands (start_for input setting a) (f a) core) (fronts : AreFronts f)
+module _ (input : Input) (setting : Setting) (f : Actor → ActorLists)
+    (cores : (a : Actor) → IsActor setting a → (core : Core) × Stands (start_for input setting a) (f a) core)
+    (fronts : AreFronts f)
     (W : Type 0) (over : W → (a : Actor) (is : IsActor setting a) → IsOver (cores a is).0) where
   abbrev feeder_took : ℕ → List ToFeeder → Type 0
   feeder_took p taken =
@@ -114,6 +130,7 @@ module _ (input : Input) (setting : Setting) (f : Actor → ActorLists) (cores :
         (law.1, (λ w. law.2 (over w (Joiner j) low)), (λ is finished. subst (λ (l : j < 2 ^ setting.k). ¬ GoesOn (cores (Joiner j) l).0) (le_prop low is) (law.3 finished))),
       ))
 
+  -- the family agrees
   pub agrees : IsAgreeing input setting (first_rest setting) (family_of (journal_of (cores Controller tt).0) f)
   agrees = record {
     taken_by_feeder = feeders.0;
@@ -129,7 +146,9 @@ module _ (input : Input) (setting : Setting) (f : Actor → ActorLists) (cores :
     joiner_collector = λ j low. read_front collector_msg _ _ (fronts (Joiner j) Collector);
   }
 
-  pub is_finished : W → IsFinished input setting (first_rest setting) (family_of (journal_of (cores Controller tt).0) f) agrees
+  -- it is finished where W holds
+  pub is_finished : W
+      → IsFinished input setting (first_rest setting) (family_of (journal_of (cores Controller tt).0) f) agrees
   unfolding agrees
   is_finished w = record {
     feeders = λ p low. (feeders.1 p low).1 w;
@@ -138,9 +157,11 @@ module _ (input : Input) (setting : Setting) (f : Actor → ActorLists) (cores :
   }
 
   -- where the family is finished, the work of none goes on
-  pub none_goes : IsFinished input setting (first_rest setting) (family_of (journal_of (cores Controller tt).0) f) agrees → (a : Actor) (is : IsActor setting a) → ¬ GoesOn (cores a is).0
+  pub none_goes : IsFinished input setting (first_rest setting) (family_of (journal_of (cores Controller tt).0) f) agrees
+      → (a : Actor) (is : IsActor setting a) → ¬ GoesOn (cores a is).0
   unfolding agrees
   none_goes finished (Feeder p) is = (feeders.1 p is).2 is (finished.feeders p is)
   none_goes finished (Joiner j) is = (joiners.1 j is).2 is (finished.joiners j is)
   none_goes finished Controller is = controller_goes (record { rules = rules_of setting; first = begun (first_rest setting).line }) (f Controller) (cores Controller is).0 (cores Controller is).1
-  none_goes finished Collector is = collector_goes (2 ^ setting.k) (f Collector) (cores Collector is).0 (cores Collector is).1 finished.collector
+  none_goes finished Collector is =
+      collector_goes (2 ^ setting.k) (f Collector) (cores Collector is).0 (cores Collector is).1 finished.collector

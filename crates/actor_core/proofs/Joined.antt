@@ -8,6 +8,7 @@ use Rattle.epoch_tags.specs.declared.actor.Actor.{Actor}
 use Rattle.epoch_tags.specs.declared.actor.Actor.TheVariants.{Feeder, Joiner, Controller, Collector}
 use Rattle.actor_core.specs.Numbers.{AreJoined}
 
+-- powers of two keep the order of their exponents
 pub below : (low k : ℕ) → 2 ^ low < 2 ^ k → low < k
 below low k less = elim (cases_lt low k) [
   | inl is ↦ is
@@ -16,7 +17,8 @@ below low k less = elim (cases_lt low k) [
 
 joined : (k feeders : ℕ) (from to : Actor) → HasLink k feeders from to → AreJoined (2 ^ k) feeders from to
 joined k feeders _ _ (feeder_joiner low high) = (low, high)
-joined k feeders _ _ (joiner_joiner {low = low} high within) = (high, record { low = low; below = pow-lt within; other = refl })
+joined k feeders _ _ (joiner_joiner {low = low} high within) =
+    (high, record { low = low; below = pow-lt within; other = refl })
 joined k feeders _ _ (controller_feeder low) = low
 joined k feeders _ _ (feeder_controller low) = low
 joined k feeders _ _ (joiner_controller low) = low
@@ -44,7 +46,9 @@ link k feeders Collector to is = absurd (none to is)
     none Collector is = is
 
 -- a test that is true where they are joined, and false where they aren't, tells the links
-pub links : (k joiners feeders : ℕ) (from to : Actor) (b : Bool) → (b ≡ true → AreJoined joiners feeders from to) → (b ≡ false → ¬ AreJoined joiners feeders from to)
+pub links : (k joiners feeders : ℕ) (from to : Actor) (b : Bool) → (b ≡ true → AreJoined joiners feeders from to)
+    → (b ≡ false → ¬ AreJoined joiners feeders from to)
     → joiners ≡ 2 ^ k → (IsTrue b ↔ HasLink k feeders from to)
-links k joiners feeders from to true up down grid = (λ is. link k feeders from to (subst (λ n. AreJoined n feeders from to) grid (up refl)), λ is. refl)
+links k joiners feeders from to true up down grid =
+    (λ is. link k feeders from to (subst (λ n. AreJoined n feeders from to) grid (up refl)), λ is. refl)
 links k joiners feeders from to false up down grid = (λ is. absurd (true≢false (sym is)), λ is. absurd (down refl (subst (λ n. AreJoined n feeders from to) (sym grid) (joined k feeders from to is))))

@@ -21,5 +21,6 @@ module _ (theta_sync : IsSync theta.the_row) where
   joiner_send : (κ : _) → IsSend (joiner.the_row κ)
   joiner_send κ = search (sendable, heap.crosses, epochs_send, helds.the_send, messages.the_send) depth 40 fits 20000
 
+  -- a machine may be sent
   pub core_send : (κ : _) → IsSend (core.the_field κ).row
   core_send κ = search (sendable, feeders.the_send, joiner_send, controllers.the_send, collectors.the_send) depth 40

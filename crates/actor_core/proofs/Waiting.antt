@@ -10,7 +10,8 @@ use Rattle.actor_core.specs.declared.machines.Core.{Core}
 use Rattle.actor_core.specs.declared.machines.Core.TheVariants.{Feeder as TheFeeder, Joiner as TheJoiner, Controller as TheController, Collector as TheCollector}
 
 -- a feeder that waits has drained, or its last batch isn't granted
-pub waits_says : (p feeders : ℕ) (s : FeederStart) (ls : ActorLists) (core : Core) (taken : List ToFeeder) → Stands (OfFeeder p feeders s) ls core → FeederLaw s (feeder_lists ls) taken → Waits core
+pub waits_says : (p feeders : ℕ) (s : FeederStart) (ls : ActorLists) (core : Core) (taken : List ToFeeder)
+    → Stands (OfFeeder p feeders s) ls core → FeederLaw s (feeder_lists ls) taken → Waits core
     → (0 < draineds (feeder_lists ls).to_controller) ⊎ (grants taken < asks (feeder_lists ls).to_controller)
 waits_says p feeders s ls (TheFeeder f) taken st law (inl asked) =
     let one = st.asked.0 asked in

@@ -19,7 +19,8 @@ pub record AreLast (cores : List Core) (controller : ControllerState) (collector
   pub collector_is : slice_get cores (before + 1) ≡ Some (TheCollector collector)
 
 -- the run that a collector with these lists answers, with this journal
-pub record IsAnswerOf (joiners : ℕ) (lists : CollectorLists) (journal : List TurnLine) (bouts : ℕ) (run : Run) : Type 0 where
+pub record IsAnswerOf (joiners : ℕ) (lists : CollectorLists) (journal : List TurnLine) (bouts : ℕ)
+    (run : Run) : Type 0 where
   pub collected : Collected
   pub collects : Collects joiners lists collected
   pub run_is : run ≡ run_of collected journal bouts

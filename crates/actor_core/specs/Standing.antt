@@ -69,14 +69,16 @@ pub record Occurs (cause : Cause) (old new : Core) (before after : List Post) : 
 -- whatever its lists are, they show that its work is over
 abbrev pub IsOver : Core → Type 0
 IsOver (TheFeeder f) = f.stopped ≡ true
-IsOver (TheJoiner j) = (s : JoinerStart) (lists : JoinerLists) (stands : JoinerStands s lists j) → IsFinished s lists stands.taken
+IsOver (TheJoiner j) =
+    (s : JoinerStart) (lists : JoinerLists) (stands : JoinerStands s lists j) → IsFinished s lists stands.taken
 IsOver (TheController c) = ⊤
 IsOver (TheCollector c) = is_complete c ≡ true
 
 -- whatever they are, they show that it isn't
 abbrev pub GoesOn : Core → Type 0
 GoesOn (TheFeeder f) = f.stopped ≡ false
-GoesOn (TheJoiner j) = (s : JoinerStart) (lists : JoinerLists) (stands : JoinerStands s lists j) → ¬ IsFinished s lists stands.taken
+GoesOn (TheJoiner j) =
+    (s : JoinerStart) (lists : JoinerLists) (stands : JoinerStands s lists j) → ¬ IsFinished s lists stands.taken
 GoesOn (TheController c) = ⊥
 GoesOn (TheCollector c) = is_complete c ≡ false
 

@@ -27,4 +27,5 @@ pub record AreMarked (slots : List Slot) (marks : List Bool) (w : WorldState) : 
 pub record IsMarkedFor (actor : Actor) (slots : List Slot) (old new : List Bool) : Type 0 where
   pub each : length new ≡ length old
   pub was : (n : ℕ) → slice_get new n ≡ Some false → slice_get old n ≡ Some false
-  pub other : (n : ℕ) (slot : Slot) → slice_get slots n ≡ Some slot → slice_get new n ≡ Some false → same_actor actor (filler_of slot) ≡ false
+  pub other : (n : ℕ) (slot : Slot) → slice_get slots n ≡ Some slot → slice_get new n ≡ Some false
+      → same_actor actor (filler_of slot) ≡ false

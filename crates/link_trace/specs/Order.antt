@@ -63,7 +63,8 @@ Happens (Link from to) old new = Delivers from to old new
 
 -- from the place that a word names on, going round, so many slots have no event
 abbrev pub AreIdleFrom : List Slot → ℕ → ℕ → WorldState → Type 0
-AreIdleFrom slots word count w = (i : ℕ) (slot : Slot) → i < count → slice_get slots ((word + i) % length slots) ≡ Some slot → IsIdle w slot
+AreIdleFrom slots word count w =
+    (i : ℕ) (slot : Slot) → i < count → slice_get slots ((word + i) % length slots) ≡ Some slot → IsIdle w slot
 
 -- the event of the first slot that has one is made, going round from the place that a word names
 pub record MakesFirst (slots : List Slot) (word : ℕ) (old new : WorldState) : Type 0 where

@@ -21,7 +21,8 @@ may_go all starved slot = all || not (same_actor starved (maker_of slot))
 
 -- of the slots below this place, those that may be served have no event
 abbrev pub AreIdleBelow : Bool → Actor → List Slot → ℕ → WorldState → Type 0
-AreIdleBelow all starved slots place w = (n : ℕ) (slot : Slot) → n < place → slice_get slots n ≡ Some slot → may_go all starved slot ≡ true → IsIdle w slot
+AreIdleBelow all starved slots place w =
+    (n : ℕ) (slot : Slot) → n < place → slice_get slots n ≡ Some slot → may_go all starved slot ≡ true → IsIdle w slot
 
 -- the event of the least slot that may be served and has one is made
 pub record MakesLeast (all : Bool) (starved : Actor) (slots : List Slot) (old new : WorldState) : Type 0 where

@@ -36,7 +36,8 @@ waits waiting receiver sender = slice_index_or (slice_index_or waiting receiver 
 
 -- the same with this list there
 abbrev pub with_waiting : List (List (List Msg)) → ℕ → ℕ → List Msg → List (List (List Msg))
-with_waiting waiting receiver sender ms = slice_set waiting receiver (slice_set (slice_index_or waiting receiver []) sender ms)
+with_waiting waiting receiver sender ms =
+    slice_set waiting receiver (slice_set (slice_index_or waiting receiver []) sender ms)
 
 -- there is a place for what this actor sends to that one
 pub record HasRoom (waiting : List (List (List Msg))) (receiver sender : ℕ) : Type 0 where
@@ -98,13 +99,15 @@ pub record StandsFor (input : Input) (setting : Setting) (w : WorldState) (f : A
   pub joiners : w.joiners ≡ 2 ^ setting.k
   pub feeders : w.feeders ≡ setting.feeders
   pub all : length w.cores ≡ w.feeders + w.joiners + 2
-  pub stands : (a : Actor) → IsActor setting a → (core : Core) × (core_of w a ≡ Some core) × Stands (start_for input setting a) (f a) core
+  pub stands : (a : Actor) → IsActor setting a
+      → (core : Core) × (core_of w a ≡ Some core) × Stands (start_for input setting a) (f a) core
   pub balanced : IsBalanced f (left_of w)
 
 -- so many actors at the beginning of a run: each machine stands for empty lists, and nothing waits
 pub record AreNew (input : Input) (setting : Setting) (count : ℕ) (places : List Place) : Type 0 where
   pub all : length places ≡ count
-  pub fresh : (n : ℕ) (core : Core) → slice_get (cores_of places) n ≡ Some core → Stands (start_for input setting (actor_at (2 ^ setting.k) setting.feeders n)) no_lists core
+  pub fresh : (n : ℕ) (core : Core) → slice_get (cores_of places) n ≡ Some core
+      → Stands (start_for input setting (actor_at (2 ^ setting.k) setting.feeders n)) no_lists core
   pub empty : (receiver sender : ℕ) → waits (waiting_of places) receiver sender ≡ []
 
 -- every other actor has the machine that it had, and where nothing was left of what it sends, nothing is
