@@ -9,4 +9,5 @@ pub mod LastTwo
 pub mod Waiting
 pub mod Joined
 pub mod EventCounts
+pub mod EventLimit
 pub mod Sent

@@ -5,6 +5,7 @@
 mod answers;
 mod crossing;
 mod endings;
+mod laws;
 mod links;
 mod machines;
 mod numbers;
@@ -14,6 +15,7 @@ mod step;
 pub use answers::answer;
 pub use crossing::shares_predicates;
 pub use endings::last_machines;
+pub use laws::events_fit;
 pub use links::has_link;
 pub use machines::Core;
 pub use numbers::number;

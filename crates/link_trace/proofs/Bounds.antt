@@ -1,5 +1,5 @@
 -- A world's events are those that its lists count, and so they are few.
-use Rattle.std.proofs.Common.{◌≡◌, ℕ, ◌+◌, ◌-◌, ◌≤◌, sym, subst, Some, List, ◌∷◌, ◌++◌, Result, Ok, Err, arith}
+use Rattle.std.proofs.Common.{◌≡◌, ℕ, ◌+◌, ◌-◌, ◌^◌, ◌<◌, ◌≤◌, sym, ap, subst, ◌∙◌, Some, List, ◌∷◌, ◌++◌, Result, Ok, Err, arith}
 use Rattle.std.specs.Prelude.{IfOk}
 use Rattle.std.specs.declared.alloc.AllocError.{AllocError}
 use Rattle.epoch_tags.specs.declared.actor.Actor.{Actor}
@@ -18,11 +18,13 @@ use Rattle.trace_law.proofs.Validity.{within_limits}
 use Rattle.actor_core.specs.declared.machines.Core.{Core}
 use Rattle.actor_core.specs.Lists.{ActorLists, Took, Began, no_lists}
 use Rattle.actor_core.specs.Families.{journal_of, family_of, after_event}
-use Rattle.actor_core.specs.Counts.{most_events}
+use Rattle.actor_core.specs.Counts.{most_events, EventsFit}
 use Rattle.link_trace.specs.declared.slots.Slot.{Slot}
 use Rattle.link_trace.specs.declared.slots.Slot.TheVariants.{Begin, Link}
 use Rattle.link_trace.specs.Worlds.{WorldState, StandsFor, MakesEvent, Delivers, core_of}
 use Rattle.link_trace.specs.Order.{Happens}
+use Rattle.actor_core.proofs.EventLimit.{under}
+use Rattle.actor_core.proofs.OwnNumbers.{some_is}
 use Rattle.actor_core.proofs.EventCounts.{count, AreLinked, took_counts, began_counts, linked_after, left_linked}
 use Rattle.link_trace.proofs.WorldAnswer.{agree}
 
@@ -34,7 +36,8 @@ pub record IsCounted (input : Input) (setting : Setting) (w : WorldState) (n : �
   pub enough : n ≤ count setting lists
 
 module _ (input : Input) (setting : Setting) where
-  begin_counted : (p n : ℕ) (old new : WorldState) → MakesEvent (Feeder p) Began old new → IsCounted input setting old n → IsCounted input setting new (n + 1)
+  begin_counted : (p n : ℕ) (old new : WorldState) → MakesEvent (Feeder p) Began old new → IsCounted input setting old n
+      → IsCounted input setting new (n + 1)
   begin_counted p n old new made before =
       let out = made.over input setting before.lists before.stands in
       let more = began_counts setting p made.posts before.lists out.0 made.asks in
@@ -46,7 +49,8 @@ module _ (input : Input) (setting : Setting) where
         enough = omega arith;
       }
 
-  delivery_counted : (from to : Actor) (n : ℕ) (old new : WorldState) → Delivers from to old new → IsCounted input setting old n → IsCounted input setting new (n + 1)
+  delivery_counted : (from to : Actor) (n : ℕ) (old new : WorldState) → Delivers from to old new
+      → IsCounted input setting old n → IsCounted input setting new (n + 1)
   delivery_counted from to n old new delivers before =
       let made = delivers.event in
       let out = made.over input setting before.lists before.stands in
@@ -62,14 +66,17 @@ module _ (input : Input) (setting : Setting) where
         enough = omega arith;
       }
 
-  pub slot_counted : (slot : Slot) (n : ℕ) (old new : WorldState) → Happens slot old new → IsCounted input setting old n → IsCounted input setting new (n + 1)
+  pub slot_counted : (slot : Slot) (n : ℕ) (old new : WorldState) → Happens slot old new → IsCounted input setting old n
+      → IsCounted input setting new (n + 1)
   slot_counted (Begin p) n old new happens before = begin_counted p n old new happens.1 before
   slot_counted (Link from to) n old new happens before = delivery_counted from to n old new happens before
 
   pub none_counted : (w : WorldState) → StandsFor input setting w (λ actor. no_lists) → IsCounted input setting w 0
-  none_counted w stands = record { lists = λ actor. no_lists; stands = stands; linked = λ from to. tt; enough = omega arith }
+  none_counted w stands =
+      record { lists = λ actor. no_lists; stands = stands; linked = λ from to. tt; enough = omega arith }
 
-  pub few_events : EventsAreFew → IsValid input setting → (w : WorldState) (n : ℕ) → IsCounted input setting w n → (journal : List TurnLine)
+  pub few_events : EventsAreFew → IsValid input setting → (w : WorldState) (n : ℕ) → IsCounted input setting w n
+      → (journal : List TurnLine)
       → ((core : Core) → core_of w Controller ≡ Some core → journal ≡ journal_of core) → n ≤ most_events input setting (last_epoch journal)
   few_events few valid w n counted journal told =
       let own = counted.stands.stands Controller tt in
@@ -80,14 +87,25 @@ module _ (input : Input) (setting : Setting) where
       let enough = counted.enough in
       omega arith
 
+-- so what was made so far is fewer
+pub counts_on : EventsAreFew → EventsFit → (input : Input) (setting : Setting) → IsValidInput input
+    → IsValidSetting setting → (w : WorldState) (n : ℕ) → IsCounted input setting w n → n < 2 ^ 64 - 1
+counts_on few fits input setting of_input of_setting w n counted =
+    let own = counted.stands.stands Controller tt in
+    let most = fits input setting (journal_of own.0) counted.lists of_input of_setting (agree input setting w counted.lists counted.stands) in
+    let made : n ≤ most_events input setting (last_epoch (journal_of own.0)) = few_events input setting few (within_limits input setting of_input of_setting) w n counted (journal_of own.0) (λ core there. ap journal_of (some_is own.0 core (sym own.1 ∙ there))) in
+    under n (most_events input setting (last_epoch (journal_of own.0))) (2 ^ 64 - 1) made most
+
 -- ---- of a run of a world
 
 -- what a world that made so many events answers
-module _ (input : Input) (setting : Setting) (w : WorldState) (events : ℕ) (reached : IsCounted input setting w events) (of_input : IsValidInput input) (of_setting : IsValidSetting setting) where
+module _ (input : Input) (setting : Setting) (w : WorldState) (events : ℕ) (reached : IsCounted input setting w events)
+    (of_input : IsValidInput input) (of_setting : IsValidSetting setting) where
   pub run_answers : (result : Result Run AllocError)
       → IfOk result (λ run. (input' : Input) (setting' : Setting) (lists : Actor → ActorLists) → IsValid input' setting' → StandsFor input' setting' w lists → IsRunOf input' setting' (first_rest setting').line run.journal run)
       → IfOk result (λ run. IsRunOf input setting (first_rest setting).line run.journal run)
-  run_answers (Ok run) is = is input setting reached.lists (within_limits input setting of_input of_setting) reached.stands
+  run_answers (Ok run) is =
+      is input setting reached.lists (within_limits input setting of_input of_setting) reached.stands
   run_answers (Err e) is = tt
 
   pub run_bounded : EventsAreFew → (result : Result Run AllocError)

@@ -5,17 +5,14 @@ use Rattle.epoch_tags.specs.declared.actor.Actor.{Actor}
 use Rattle.epoch_tags.specs.declared.actor.Actor.TheVariants.{Feeder, Joiner, Controller, Collector}
 use Rattle.rand_pcg.specs.Lcg.{advance, started, increment_of}
 use Rattle.rand_pcg.specs.Pcg.{multiplier_64, pcg32}
-use Rattle.load_controller.specs.Journal.{last_epoch}
-use Rattle.trace_law.specs.Validity.{IsValidInput, IsValidSetting}
 use Rattle.trace_law.specs.declared.input.Input.{Input}
 use Rattle.trace_law.specs.declared.setting.Setting.{Setting}
 use Rattle.trace_law.specs.declared.run.Run.{Run}
 use Rattle.actor_core.specs.declared.machines.Core.{Core}
-use Rattle.actor_core.specs.Lists.{ActorLists, Began, no_lists}
+use Rattle.actor_core.specs.Lists.{Began, no_lists}
 use Rattle.actor_core.specs.Standing.{IsOver, GoesOn, Waits}
 use Rattle.actor_core.specs.Families.{journal_of}
 use Rattle.actor_core.specs.Elements.{IsAllAt, IsSomeAt}
-use Rattle.actor_core.specs.Counts.{most_events}
 use Rattle.link_trace.specs.declared.slots.Slot.{Slot}
 use Rattle.link_trace.specs.declared.slots.Slot.TheVariants.{Begin, Link}
 use Rattle.link_trace.specs.Worlds.{WorldState, StandsFor, MakesEvent, Delivers, core_of, left_of}
@@ -97,10 +94,3 @@ pub record IsReplay (input : Input) (setting : Setting) (seed : ℕ) (run : Run)
   pub replays : Replays (slots_of setting) seed first run.bouts last
   pub over : IsAllAt IsOver last.cores
   pub journal : (core : Core) → core_of last Controller ≡ Some core → run.journal ≡ journal_of core
-
--- ---- how many events there are
-
--- a world's controller never has a journal by which a run could have more events than a number of 64 bits counts
-abbrev pub EventsFit : Type 0
-EventsFit = (input : Input) (setting : Setting) (w : WorldState) (lists : Actor → ActorLists) → IsValidInput input → IsValidSetting setting
-    → (stands : StandsFor input setting w lists) → most_events input setting (last_epoch (journal_of (stands.stands Controller tt).0)) < 2 ^ 64 - 1

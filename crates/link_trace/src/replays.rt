@@ -12,10 +12,10 @@ ghost use Rattle.link_trace.specs.Worlds.{state_of};
 ghost use Rattle.link_trace.specs.Marks.{AreMarked};
 ghost use Rattle.link_trace.specs.Order.{IsIdle, IsReplay, MakesFirst};
 
-use crate::laws::events_fit;
 use crate::order::make_first;
 use crate::slots::{Slot, slots_of};
 use crate::world::World;
+use actor_core::events_fit;
 use rand_core::utils::NextWord;
 use rand_pcg::Lcg64Xsh32;
 use std::alloc::{AllocError, Global};

@@ -14,11 +14,11 @@ ghost use Rattle.link_trace.specs.Marks.{AreMarked};
 ghost use Rattle.link_trace.specs.Starving.{AreIdleBelow, MakesLeast, MakesStarving, IsStarvingReplay};
 ghost use Rattle.link_trace.specs.Starving as starving;
 
-use crate::laws::events_fit;
 use crate::order::{is_same, make_at, maker_of};
 use crate::replays::all_marked;
 use crate::slots::{Slot, slots_of};
 use crate::world::World;
+use actor_core::events_fit;
 use epoch_tags::Actor;
 use std::alloc::{AllocError, Global};
 use trace_law::{Input, Run, Setting, events_are_few};

@@ -1,8 +1,7 @@
 use Rattle.std.proofs.Common.{◌∙◌, arith}
 use Rattle.link_trace.specs.Worlds.{state_of}
-use Rattle.link_trace.proofs.Bounds.{run_answers, run_bounded}
+use Rattle.link_trace.proofs.Bounds.{counts_on, run_answers, run_bounded}
 use Rattle.trace_law.proofs.Validity.{within_limits}
-use Rattle.link_trace.proofs.EventLimit.{counts_on}
 use Rattle.link_trace.proofs.ServedLast.{begins, goes_on, starved_order}
 use Rattle.link_trace.proofs.AllSlots.{some_has_one}
 use Rattle.link_trace.proofs.starving.replay_starving.Goals as goal

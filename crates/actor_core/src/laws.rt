@@ -1,0 +1,13 @@
+// Laws of a run's lists. Each is the contract of a function that does nothing, so that calls above can cite it.
+
+ghost use Rattle.actor_core.specs.Counts.{EventsFit};
+
+use trace_law::{keeps_a_lawful_journal, lawful_is_bounded};
+
+/// A `u64` counts the events of a run, by the bound on them.
+pub fn events_fit()
+    ensures { EventsFit }
+{
+    keeps_a_lawful_journal();
+    lawful_is_bounded();
+}
