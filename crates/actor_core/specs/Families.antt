@@ -79,7 +79,8 @@ put_on self posts left x y = if same_actor self x then left x y ++ posted_to y p
 
 -- a message taken off its link, and what its receiver sends put on, keep the balance
 abbrev pub DeliveryBalances : Type 0
-DeliveryBalances = (from to : Actor) (m : Msg) (rest : List Msg) (posts : List Post) (f : Actor → ActorLists) (left : Actor → Actor → List Msg)
+DeliveryBalances = (from to : Actor) (m : Msg) (rest : List Msg) (posts : List Post)
+    (f : Actor → ActorLists) (left : Actor → Actor → List Msg)
     → IsBalanced f left → left from to ≡ m ∷ rest
     → IsBalanced (after_event to (Took from m) posts f) (put_on to posts (taken_off from to rest left))
 

@@ -78,15 +78,15 @@ pub record MakesFirst (slots : List Slot) (word : ℕ) (old new : WorldState) : 
 abbrev pub word_of : ℕ → ℕ → ℕ
 word_of seed n = (pcg32 (advance 64 multiplier_64 n (started 64 multiplier_64 seed (increment_of 64 56)))).0
 
--- after so many events, from this world to that one: as long as the work of some goes on, a word is drawn, and the first
--- slot that has an event makes it
+-- after so many events, from this world to that one: as long as the work of some goes on, a word is drawn, and the
+-- first slot that has an event makes it
 pub data Replays (slots : List Slot) (seed : ℕ) (first : WorldState) : ℕ → WorldState → Type 0 where
   start : Replays slots seed first 0 first
   event : {events : ℕ} {old new : WorldState} → Replays slots seed first events old → IsSomeAt GoesOn old.cores
       → MakesFirst slots (word_of seed events) old new → Replays slots seed first (events + 1) new
 
--- the run is that of a world of this input and setting which was driven to its end in the order of this seed; `bouts` is
--- the number of its events
+-- the run is that of a world of this input and setting which was driven to its end in the order of this seed; `bouts`
+-- is the number of its events
 pub record IsReplay (input : Input) (setting : Setting) (seed : ℕ) (run : Run) : Type 0 where
   pub first : WorldState
   pub last : WorldState

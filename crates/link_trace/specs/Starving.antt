@@ -36,7 +36,8 @@ pub record MakesLeast (all : Bool) (starved : Actor) (slots : List Slot) (old ne
 -- that of the least slot of another actor; where no other has one, that of the least slot
 abbrev pub MakesStarving : Actor → List Slot → WorldState → WorldState → Type 0
 MakesStarving starved slots old new =
-    MakesLeast false starved slots old new ⊎ (AreIdleBelow false starved slots (length slots) old × MakesLeast true starved slots old new)
+    MakesLeast false starved slots old new
+    ⊎ (AreIdleBelow false starved slots (length slots) old × MakesLeast true starved slots old new)
 
 -- after so many events, from this world to that one: as long as the work of some goes on, an event is made
 pub data Starves (slots : List Slot) (starved : Actor) (first : WorldState) : ℕ → WorldState → Type 0 where
@@ -44,7 +45,8 @@ pub data Starves (slots : List Slot) (starved : Actor) (first : WorldState) : �
   event : {events : ℕ} {old new : WorldState} → Starves slots starved first events old → IsSomeAt GoesOn old.cores
       → MakesStarving starved slots old new → Starves slots starved first (events + 1) new
 
--- the run is that of a world of this input and setting which was driven to its end so; `bouts` is the number of its events
+-- the run is that of a world of this input and setting which was driven to its end so; `bouts` is the number of its
+-- events
 pub record IsStarvingReplay (input : Input) (setting : Setting) (starved : Actor) (run : Run) : Type 0 where
   pub first : WorldState
   pub last : WorldState

@@ -76,7 +76,8 @@ pub record WorldState : Type 0 where
 -- what is left on the link from one actor to another
 abbrev pub left_in : ℕ → ℕ → List (List (List Msg)) → Actor → Actor → List Msg
 left_in joiners feeders waiting from to =
-    at_number [] (number joiners feeders to) (λ receiver. at_number [] (number joiners feeders from) (λ sender. waits waiting receiver sender))
+    at_number [] (number joiners feeders to)
+    (λ receiver. at_number [] (number joiners feeders from) (λ sender. waits waiting receiver sender))
 
 -- the machine of an actor of the world
 abbrev pub core_of : WorldState → Actor → Option Core
@@ -88,7 +89,12 @@ left_of w from to = left_in w.joiners w.feeders w.waiting from to
 
 -- what contracts see of a world
 abbrev pub state_of : World → WorldState
-state_of w = record { joiners = w.joiners; feeders = w.feeders; cores = cores_of w.places.items; waiting = waiting_of w.places.items }
+state_of w = record {
+  joiners = w.joiners;
+  feeders = w.feeders;
+  cores = cores_of w.places.items;
+  waiting = waiting_of w.places.items;
+}
 
 -- one message more on the link between them
 abbrev pub put_one : Actor → Actor → Msg → (Actor → Actor → List Msg) → Actor → Actor → List Msg
@@ -140,5 +146,6 @@ pub record IsStill (setting : Setting) (w : WorldState) : Type 0 where
 
 -- the lists for which a world stands are an agreeing family
 abbrev pub WorldAgrees : Type 0
-WorldAgrees = (input : Input) (setting : Setting) (w : WorldState) (lists : Actor → ActorLists) → (stands : StandsFor input setting w lists)
+WorldAgrees = (input : Input) (setting : Setting) (w : WorldState) (lists : Actor → ActorLists)
+    → (stands : StandsFor input setting w lists)
     → IsAgreeing input setting (first_rest setting) (family_of (journal_of (stands.stands Controller tt).0) lists)
