@@ -17,6 +17,7 @@ use Rattle.actor_core.specs.Numbers.{number, actor_at, at_number}
 use Rattle.actor_core.specs.declared.machines.Core.{Core}
 use Rattle.link_trace.specs.Worlds.{StandsFor, AreNew, cores_of, waiting_at, waiting_of, waits}
 use Rattle.link_trace.specs.declared.places.Place.{Place}
+use Rattle.actor_core.proofs.Beginnings.{has_number, there}
 use Rattle.actor_core.proofs.OwnNumbers.{number_actor, some_is}
 
 -- ---- one more place

@@ -1,5 +1,5 @@
 -- A world in which nothing is left, and no feeder would begin, is done.
-use Rattle.std.proofs.Common.{◌≡◌, ℕ, ◌<◌, ◌⊎◌, refl, sym, ap, subst, ◌∙◌, Bool, true, false, Option, None, Some, ◌++◌, append-nil, filter_map}
+use Rattle.std.proofs.Common.{◌≡◌, ℕ, ◌<◌, ◌⊎◌, inl, inr, refl, sym, ap, subst, ◌∙◌, Bool, true, false, Option, None, Some, List, ◌++◌, append-nil, filter_map, arith}
 use Rattle.std.specs.Prelude.{slice_get}
 use Rattle.std.proofs.lemmas.Option.{slice_get_within}
 use Rattle.epoch_tags.specs.Links.{HasLink, feeder_joiner, controller_feeder, feeder_controller, joiner_controller, joiner_collector}
@@ -23,6 +23,7 @@ use Rattle.link_trace.specs.Worlds.{WorldState, StandsFor, IsStill, core_of, lef
 use Rattle.actor_core.proofs.Balances.{balanced_fronts}
 use Rattle.actor_core.proofs.Families.{agrees, none_goes}
 use Rattle.actor_core.proofs.OwnNumbers.{is_actor, number_there, some_is}
+use Rattle.actor_core.proofs.Waiting.{waits_says}
 
 module _ (input : Input) (setting : Setting) (w : WorldState) (lists : Actor → ActorLists) (stands : StandsFor input setting w lists) (still : IsStill setting w) where
   abbrev machines : (a : Actor) → IsActor setting a → (core : Core) × Stands (start_for input setting a) (lists a) core
