@@ -11,3 +11,8 @@ pub mod Joined
 pub mod EventCounts
 pub mod EventLimit
 pub mod Sent
+pub mod Runs
+pub mod Seated
+pub mod CompleteAnswer
+pub mod Stilled
+pub mod EventsCounted

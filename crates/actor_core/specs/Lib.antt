@@ -5,3 +5,4 @@ pub mod Families
 pub mod Elements
 pub mod Endings
 pub mod Counts
+pub mod Players

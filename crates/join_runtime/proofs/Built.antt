@@ -19,16 +19,17 @@ use Rattle.actor_core.specs.Lists.{no_lists}
 use Rattle.actor_core.specs.Standing.{Stands, IsLive, given_by}
 use Rattle.actor_core.specs.Families.{start_for, IsActor}
 use Rattle.actor_core.specs.Numbers.{number, at_number}
+use Rattle.actor_core.specs.Players.{lists_among, lists_at}
 use Rattle.actor_core.proofs.OwnNumbers.{number_actor}
 use Rattle.join_runtime.specs.Views.{SeatView, Frame, frame_of, lists_of, address_of, contents, sent_by, sent_at}
 use Rattle.join_runtime.specs.Joins.{AreJoined, AreSettled, AllLead, IsPlaced, Leads, HasMouthTo, IsGathered, Knows, slot_of}
-use Rattle.join_runtime.specs.Bouts.{SeatsView, StandsFor, lists_at, lists_in, mouth_at, mouth_of, seat_of}
+use Rattle.join_runtime.specs.Bouts.{SeatsView, StandsFor, lists_in, mouth_at, mouth_of, seat_of}
 use Rattle.join_runtime.specs.Seating.{IsNewSeat, AreNew, AreFilled}
 use Rattle.join_runtime.specs.Early.{AreGiven, given_at, given_in}
 use Rattle.join_runtime.proofs.KnownCounts.{is_sender-named}
 use Rattle.join_runtime.proofs.FramePlaces.{address_at}
-use Rattle.actor_core.proofs.Beginnings.{there}
-use Rattle.join_runtime.proofs.LinkLists.{number_low}
+use Rattle.actor_core.proofs.Beginnings.{has_number, there}
+use Rattle.actor_core.proofs.Seated.{core_there, lists_there, number_low}
 
 -- ---- members of lists
 
@@ -74,12 +75,6 @@ knows_fresh from (x ∷ names) = ((λ e. refl), knows_fresh from names)
 some_address : (o : Option Sending) → IsSome o → IsSome (address_of o)
 some_address None is = is
 some_address (Some mouth) is = refl
-
-has_number : (setting : Setting) (a : Actor) → IsActor setting a → (n : ℕ) × (number (2 ^ setting.k) setting.feeders a ≡ Some n)
-has_number setting (Feeder p) is = (p, ap (λ b. cond b (Some p) None) (lt-ltb p setting.feeders is))
-has_number setting (Joiner j) is = (setting.feeders + j, ap (λ b. cond b (Some (setting.feeders + j)) None) (lt-ltb j (2 ^ setting.k) is))
-has_number setting Controller is = (setting.feeders + 2 ^ setting.k, refl)
-has_number setting Collector is = (setting.feeders + 2 ^ setting.k + 1, refl)
 
 -- the two ends of a link are actors of the run
 actors_linked : (setting : Setting) (from to : Actor) → HasLink setting.k setting.feeders from to → IsActor setting from × IsActor setting to
@@ -250,16 +245,16 @@ module _ (input : Input) (setting : Setting) (count : ℕ) (first seats : List S
   all_stand spent = record {
     joiners_are = refl;
     feeders_are = refl;
-    all = long ∙ many;
+    all = length-map seats (λ (s : SeatView). s.core) ∙ (long ∙ many);
     stands = λ a is.
         let num = has_number setting a is in
         let low = subst (λ z. num.0 < z) (sym many) (number_low (2 ^ setting.k) setting.feeders a num.0 num.1) in
         let low' = subst (λ z. num.0 < z) (sym long) low in
         let d = (there seats num.0 low').0 in
         let one = made num.0 d low in (
-          get_or seats num.0 d,
-          ap (λ (o : Option ℕ). at_number None o (λ k. slice_get seats k)) num.1 ∙ slice_get-get_or seats num.0 d low',
-          subst (λ ls. Stands (start_for input setting a) ls (get_or seats num.0 d).core) (sym (empty_lists num.0 d low))
+          (get_or seats num.0 d).core,
+          core_there (λ (s : SeatView). s.core) (2 ^ setting.k) setting.feeders seats a num.0 d num.1 low',
+          subst (λ ls. Stands (start_for input setting a) ls (get_or seats num.0 d).core) (sym (lists_there lists_of (2 ^ setting.k) setting.feeders seats a num.0 d num.1 low' ∙ empty_lists num.0 d low))
               (subst (λ c. Stands (start_for input setting a) no_lists c) (sym (ap (λ (s : SeatView). s.core) (still num.0 d low)))
               (subst (λ z. Stands (start_for input setting z) no_lists (get_or first num.0 d).core) (number_actor (2 ^ setting.k) setting.feeders a num.0 num.1) one.stands)),
         );
@@ -272,18 +267,18 @@ module _ (input : Input) (setting : Setting) (count : ℕ) (first seats : List S
       let low : place < count = omega (arith, many) in
       let low' = subst (λ z. place < z) (sym long) low in
       let d = (there seats place low').0 in
-      ap (λ given. slice_index given j) (ap given_at (slice_get-get_or seats place d low') ∙ ap (λ (s : SeatView). given_by s.core) (still place d low)) ∙ (made place d low).given j below
+      ap (λ given. slice_index given j) (ap given_at (core_there (λ (s : SeatView). s.core) (2 ^ setting.k) setting.feeders seats Collector place d refl low') ∙ ap (λ (s : SeatView). given_by s.core) (still place d low)) ∙ (made place d low).given j below
 
   pub all_empty : (spent : Bool) (a : Actor) → lists_in (record { joiners = 2 ^ setting.k; feeders = setting.feeders; seats = seats; spent = spent }) a ≡ no_lists
   all_empty spent a = go (number (2 ^ setting.k) setting.feeders a) refl
     where
-      go : (o : Option ℕ) → number (2 ^ setting.k) setting.feeders a ≡ o → lists_at (at_number None o (λ k. slice_get seats k)) ≡ no_lists
-      go None is = refl
+      go : (o : Option ℕ) → number (2 ^ setting.k) setting.feeders a ≡ o → lists_among lists_of (2 ^ setting.k) setting.feeders seats a ≡ no_lists
+      go None is = ap (λ (o : Option ℕ). lists_at lists_of (at_number None o (λ k. slice_get seats k))) is
       go (Some n) is =
           let low = subst (λ z. n < z) (sym many) (number_low (2 ^ setting.k) setting.feeders a n is) in
           let low' = subst (λ z. n < z) (sym long) low in
           let d = (there seats n low').0 in
-          ap lists_at (slice_get-get_or seats n d low') ∙ empty_lists n d low
+          lists_there lists_of (2 ^ setting.k) setting.feeders seats a n d is low' ∙ empty_lists n d low
 
   -- ---- one actor has a mouth to another exactly where there is a link
 

@@ -1,11 +1,11 @@
 -- The collector of seats gives what it took, and nothing else changes.
 use Rattle.std.proofs.Common.{◌≡◌, ℕ, ◌+◌, ◌-◌, ◌^◌, ◌<◌, ◌==◌, inl, inr, refl, sym, ap, subst, ◌∙◌, Result, Ok, Err, Some, List, get_or, set, length, length-set, map, true, arith}
-use Rattle.std.specs.Prelude.{IfOk, OnErr, OnOk, None, IsPermutation, slice_get, slice_index_or}
+use Rattle.std.specs.Prelude.{IfOk, OnErr, OnOk, IsPermutation, slice_get, slice_index_or}
 use Rattle.std.specs.declared.alloc.AllocError.{AllocError}
 use Rattle.std.proofs.lemmas.Bool.{cases_Bool, eqb-true, eq-eqb}
 use Rattle.std.proofs.lemmas.Grind.{get_or-set_at}
 use Rattle.std.proofs.lemmas.List.{get_or-set_other, get_or-set_same}
-use Rattle.std.proofs.lemmas.Option.{get_or_from_slice_get, slice_get-get_or, slice_get_within}
+use Rattle.std.proofs.lemmas.Option.{get_or_from_slice_get, slice_get-get_or}
 use Rattle.epoch_tags.specs.declared.actor.Actor.{Actor}
 use Rattle.epoch_tags.specs.declared.actor.Actor.TheVariants.{Collector}
 use Rattle.epoch_tags.specs.declared.tuple.Pair.{Pair}
@@ -15,37 +15,34 @@ use Rattle.trace_law.specs.declared.input.Input.{Input}
 use Rattle.trace_law.specs.declared.setting.Setting.{Setting}
 use Rattle.actor_core.specs.Lists.{ActorLists}
 use Rattle.actor_core.specs.Standing.{IsLive, OfCollector, Start, Stands, given_by}
+use Rattle.actor_core.specs.Families.{core_in}
+use Rattle.actor_core.specs.Players.{Player, lists_among}
 use Rattle.actor_core.proofs.OwnNumbers.{some_is}
+use Rattle.actor_core.proofs.Runs.{runs_given}
+use Rattle.actor_core.proofs.Seated.{AllRelate, HasRun, all_relate, core_at, of_lists, related_at, still_stand}
 use Rattle.join_runtime.specs.Views.{SeatView, frame_of, lists_of}
 use Rattle.join_runtime.specs.Joins.{AreGathered, AreJoined, AreSettled, HearsSenders, IsGathered, slot_of}
-use Rattle.join_runtime.specs.Bouts.{AllAdvance, SeatsView, StandsFor, lists_in, seat_of}
+use Rattle.join_runtime.specs.Bouts.{AllAdvance, SeatsView, StandsFor, cores_in, lists_in}
 use Rattle.join_runtime.specs.Early.{AreGiven, Gives, collected_in, given_at, given_in}
-use Rattle.join_runtime.proofs.FamilyOfSeats.{stands_in}
-use Rattle.join_runtime.proofs.SeatBouts.{of_lists, still_stand}
-use Rattle.join_runtime.proofs.Ended.{last_seat}
+use Rattle.join_runtime.proofs.SeatBouts.{all_ran}
+use Rattle.join_runtime.proofs.Ended.{last_core, many_seats}
 use Rattle.join_runtime.proofs.FramePlaces.{frames_same}
-use Rattle.join_runtime.proofs.EventRuns.{runs_given}
+use Rattle.join_runtime.proofs.UnderWay.{many, same_feeders, same_joiners, same_long}
 
 -- ---- a bout gives nothing
 
 pub given_kept : (input : Input) (setting : Setting) (old new : SeatsView) → StandsFor input setting old → StandsFor input setting new → AllAdvance old.seats new.seats → given_in new ≡ given_in old
 given_kept input setting old new st st' advance =
-    let place = old.feeders + old.joiners + 1 in
+    let ran = all_ran old.joiners old.feeders old.seats new.seats (same_long input setting old new st st') (many input setting old new st st') advance in
     let own = st.stands Collector tt in
-    let s = own.0 in
-    let low = slice_get_within old.seats place s own.1 in
-    let joiners = st'.joiners_are ∙ sym st.joiners_are in
-    let feeders = st'.feeders_are ∙ sym st.feeders_are in
-    let one = st.all in
-    let two = st'.all in
-    let same_place : new.feeders + new.joiners + 1 ≡ place = omega (arith, joiners, feeders) in
-    let there = slice_get-get_or new.seats place s (omega (arith, low, one, two, joiners, feeders)) in
-    let before : get_or old.seats place s ≡ s = get_or_from_slice_get old.seats place s s own.1 in
-    let moves = advance place s low in
-    ap (λ n. given_at (slice_get new.seats n)) same_place
-    ∙ (ap given_at there
-    ∙ (runs_given moves.count (get_or old.seats place s) (get_or new.seats place s) moves.runs
-    ∙ (ap (λ (z : SeatView). given_by z.core) before ∙ sym (ap given_at own.1))))
+    let before = lists_in old in
+    let after = lists_among lists_of old.joiners old.feeders new.seats in
+    let now = related_at HasRun old.joiners old.feeders (cores_in old) (cores_in new) before after ran Collector own.0 own.1 in
+    let numbers : core_in new.joiners new.feeders (cores_in new) Collector ≡ core_in old.joiners old.feeders (cores_in new) Collector =
+    ap (λ j. core_in j new.feeders (cores_in new) Collector) (same_joiners input setting old new st st')
+    ∙ ap (λ p. core_in old.joiners p (cores_in new) Collector) (same_feeders input setting old new st st') in
+    let given = runs_given now.2.count (record { core = own.0; lists = before Collector }) (record { core = now.0; lists = after Collector }) now.2.runs in
+    ap given_at (numbers ∙ now.1) ∙ (given ∙ sym (ap given_at own.1))
 
 -- ---- seats of which one gave
 
@@ -65,6 +62,11 @@ kin_by (Err e) s t rest gives fails = subst (IsKin s) (sym fails) (kin_self s)
 pub on_ok_by : {X E : Type 0} (result : Result X E) (P : X → Type 0) (Q : Type 0) → IfOk result P → ((x : X) → P x → Q) → OnOk result Q
 on_ok_by (Ok x) P Q is follows = follows x is
 on_ok_by (Err e) P Q is follows = tt
+
+-- the same lists, and a machine that stands for what the other stood for
+record StandsAs (old new : Player) : Type 0 where
+  lists : new.lists ≡ old.lists
+  stands : (start : Start) (ls : ActorLists) → Stands start ls old.core → Stands start ls new.core
 
 -- the last seat is `s`, and then `t`
 module _ (v : SeatsView) (joined : AreJoined v.joiners v.feeders (map frame_of v.seats)) (place : ℕ) (last : place ≡ length v.seats - 1) (low : place < length v.seats) (s t : SeatView) (is : s ≡ get_or v.seats place s) (kin : IsKin s t) where
@@ -98,11 +100,19 @@ module _ (v : SeatsView) (joined : AreJoined v.joiners v.feeders (map frame_of v
   pub joined_still : AreJoined v.joiners v.feeders (map frame_of changed)
   joined_still = subst (AreJoined v.joiners v.feeders) (sym frames_kept) joined
 
+  all_as : AllRelate StandsAs v.joiners v.feeders (cores_in v) (cores_in after) (lists_in v) (lists_in after)
+  all_as =
+      all_relate (λ (x : SeatView). x.core) lists_of StandsAs v.joiners v.feeders v.seats changed long (many_seats v joined)
+      (λ n d low'. let same = all_kin n d low' in record { lists = ap lists_of same.rest; stands = same.stands })
+
   pub lists_kept : (a : Actor) → lists_in after a ≡ lists_in v a
-  lists_kept = of_lists IsKin v after refl refl long all_kin (λ ls ls'. ls' ≡ ls) refl (λ x y same. ap lists_of same.rest)
+  lists_kept =
+      of_lists StandsAs v.joiners v.feeders (cores_in v) (cores_in after) (lists_in v) (lists_in after) all_as (λ ls ls'. ls' ≡ ls) (λ ls ls' is. is) (λ x y same. same.lists)
 
   pub stands_kept : (input : Input) (setting : Setting) → StandsFor input setting v → StandsFor input setting after
-  stands_kept = still_stand IsKin v after refl refl long all_kin (λ x y same start st. subst (λ ls. Stands start ls y.core) (sym (ap lists_of same.rest)) (same.stands start (lists_of x) st))
+  stands_kept =
+      still_stand StandsAs v.joiners v.feeders (cores_in v) (cores_in after) (lists_in v) (lists_in after) all_as
+      (λ x y same start st. subst (λ ls. Stands start ls y.core) (sym same.lists) (same.stands start x.lists st))
 
   gathered_kept : AreGathered v.seats → AreGathered changed
   gathered_kept gathered n r d low' low'' =
@@ -121,21 +131,25 @@ module _ (v : SeatsView) (joined : AreJoined v.joiners v.feeders (map frame_of v
   }
 
   module _ (input : Input) (setting : Setting) (st : StandsFor input setting v) (pairs : List Pair) (gives : Gives s.core t.core pairs) where
-    own : seat_of v Collector ≡ Some s
-    own = sym (last_seat v joined) ∙ (ap (slice_get v.seats) (sym last) ∙ here)
+    -- the collector's machine is that of the last seat
+    own : core_in v.joiners v.feeders (cores_in v) Collector ≡ Some s.core
+    own =
+        sym (last_core v joined)
+        ∙ (ap (slice_get (cores_in v)) (sym last) ∙ (core_at (λ (x : SeatView). x.core) v.seats place s low ∙ ap (λ (x : SeatView). Some x.core) (sym is)))
 
     stood : Stands (OfCollector (2 ^ setting.k)) (lists_in v Collector) s.core
     stood =
         let one = st.stands Collector tt in
-        subst (λ (z : SeatView). Stands (OfCollector (2 ^ setting.k)) (lists_in v Collector) z.core) (some_is one.0 s (sym one.1 ∙ own)) (stands_in input setting v st Collector tt)
+        subst (Stands (OfCollector (2 ^ setting.k)) (lists_in v Collector)) (some_is one.0 s.core (sym one.1 ∙ own)) one.2
 
     pub gives_since : (earlier : CollectorLists) → AreGiven (2 ^ setting.k) earlier (given_in v) → IsPermutation (pairs_since (2 ^ setting.k) earlier (collected_in v)) pairs
     gives_since earlier gave = gives.gives (2 ^ setting.k) earlier (lists_in v Collector) stood (subst (AreGiven (2 ^ setting.k) earlier) (ap given_at own) gave)
 
-    own_after : seat_of after Collector ≡ Some t
+    own_after : core_in v.joiners v.feeders (cores_in after) Collector ≡ Some t.core
     own_after =
-        let there : slice_get changed place ≡ Some (get_or changed place t) = slice_get-get_or changed place t (omega (arith, low, long)) in
-        sym (last_seat after joined_still) ∙ (ap (λ n. slice_get changed (n - 1)) long ∙ (ap (slice_get changed) (sym last) ∙ (there ∙ ap Some (get_or-set_same v.seats place t t low))))
+        sym (last_core after joined_still)
+        ∙ (ap (λ n. slice_get (cores_in after) (n - 1)) long ∙ (ap (slice_get (cores_in after)) (sym last)
+        ∙ (core_at (λ (x : SeatView). x.core) changed place t (omega (arith, low, long)) ∙ ap (λ (x : SeatView). Some x.core) (get_or-set_same v.seats place t t low))))
 
     pub all_given : AreGiven (2 ^ setting.k) (collected_in v) (given_in after)
     all_given = subst (AreGiven (2 ^ setting.k) (collected_in v)) (sym (ap given_at own_after)) (gives.given (2 ^ setting.k) (lists_in v Collector) stood)

@@ -3,15 +3,11 @@ pub mod SeatTurns
 pub mod KnownCounts
 pub mod FramePlaces
 pub mod LinkEnds
-pub mod EventRuns
 pub mod LinkLists
 pub mod MouthRows
 pub mod Built
-pub mod FamilyOfSeats
 pub mod Ended
 pub mod SeatBouts
-pub mod Counted
-pub mod Stilled
 pub mod Sent
 pub mod Rearranged
 pub mod Written

@@ -26,10 +26,11 @@ use Rattle.trace_law.specs.Validity.{IsValid}
 use Rattle.actor_core.specs.Families.{AreFronts, family_of}
 use Rattle.actor_core.specs.Lists.{ActorLists, collector_lists, no_lists}
 use Rattle.join_report.specs.PairLines.{pair_lines}
-use Rattle.join_runtime.specs.Bouts.{AllAdvance, Extends, SeatsView, StandsFor, lists_in}
-use Rattle.join_runtime.specs.Endings.{IsFinishedFamily, family_in}
+use Rattle.actor_core.specs.Players.{Extends, IsFinishedFamily}
+use Rattle.actor_core.proofs.CompleteAnswer.{agrees}
+use Rattle.join_runtime.specs.Bouts.{AllAdvance, SeatsView, StandsFor, cores_in, lists_in}
+use Rattle.join_runtime.specs.Endings.{family_in}
 use Rattle.join_runtime.specs.Early.{AreGiven, WroteEach, WroteSome, collected_in, given_in}
-use Rattle.join_runtime.proofs.FamilyOfSeats.{agrees}
 use Rattle.join_runtime.proofs.GivenPairs.{given_kept}
 use Rattle.join_runtime.proofs.UnderWay.{IsUnderWay, begun, same_lists}
 use Rattle.join_runtime.proofs.Written.{HasWritten, cut_written, each_written, nothing_written, room_behind, room_within, same_long, some_written, written_more}
@@ -70,7 +71,7 @@ nothing_put input setting v old room stands empty given =
 right : TakesNothingWrong → (input : Input) (setting : Setting) → IsValid input setting → (v : SeatsView) → StandsFor input setting v → AreFronts (lists_in v) → IsWithinBag (taken_in setting v) (nested_loop input)
 right law input setting valid v stands fronts =
     subst (IsWithinBag (taken_in setting v)) (all_pairs input setting)
-    (law input setting (first_rest setting) (family_in v) valid (first_stands input setting valid) (agrees input setting v stands fronts))
+    (law input setting (first_rest setting) (family_in v) valid (first_stands input setting valid) (agrees input setting v.joiners v.feeders (cores_in v) (lists_in v) stands fronts))
 
 pub some_put : TakesNothingWrong → (input : Input) (setting : Setting) → IsValid input setting → (v : SeatsView) (bouts : ℕ) (old new : Option (List ℕ)) (room room' : ℕ → Type 0)
     → HasPut input setting v bouts old new room room' → WroteSome input old new

@@ -11,32 +11,27 @@ use Rattle.epoch_tags.specs.declared.message.Msg.{Msg}
 use Rattle.epoch_tags.specs.declared.message.Envelope.{Envelope}
 use Rattle.ruled_links.specs.Ends.{Sending}
 use Rattle.ruled_links.specs.Inboxes.{messages_of, is_sender, fresh, all_known}
+use Rattle.trace_law.specs.declared.input.Input.{Input}
+use Rattle.trace_law.specs.declared.setting.Setting.{Setting}
+use Rattle.trace_law.specs.Validity.{IsValid}
+use Rattle.trace_law.specs.Laws.{QuietIsFinished}
 use Rattle.actor_core.specs.Lists.{ActorLists, no_lists}
-use Rattle.actor_core.specs.Families.{AreFronts}
+use Rattle.actor_core.specs.Families.{AreFronts, core_in}
+use Rattle.actor_core.specs.Standing.{Waits}
 use Rattle.actor_core.specs.Numbers.{number, actor_at, at_number}
+use Rattle.actor_core.specs.Players.{lists_at}
+use Rattle.actor_core.specs.declared.machines.Core.{Core}
 use Rattle.actor_core.proofs.OwnNumbers.{number_actor, none_some, some_is, number_there}
 use Rattle.actor_core.proofs.Beginnings.{there}
+use Rattle.actor_core.proofs.Seated.{core_there, number_low, lists_there as seat_lists}
+use Rattle.actor_core.proofs.Stilled.{still_complete}
 use Rattle.join_runtime.specs.Views.{SeatView, Frame, lists_of, frame_of, address_of, contents, received_of, sent_by, sent_at, sent_through}
 use Rattle.join_runtime.specs.Joins.{AreJoined, ActorsDiffer, Leads, AreSettled, HasMouthTo, IsKnown, IsGathered, Knows, slot_of}
-use Rattle.join_runtime.specs.Bouts.{SeatsView, lists_at, lists_in, AllRest, IsReady, IsStill, SomeReady}
+use Rattle.join_runtime.specs.Bouts.{SeatsView, StandsFor, cores_in, lists_in, AllRest, IsReady, IsStill, SomeReady}
+use Rattle.join_runtime.specs.Endings.{is_collected}
 use Rattle.join_runtime.proofs.KnownCounts.{is_sender-named, knows_none, knows_some}
 use Rattle.join_runtime.proofs.FramePlaces.{actors_differ, frame_at, address_at}
 use Rattle.join_runtime.proofs.LinkEnds.{within, leads_at}
-
--- a number is below that of all actors
-pub number_low : (joiners feeders : ℕ) (a : Actor) (n : ℕ) → number joiners feeders a ≡ Some n → n < feeders + joiners + 2
-number_low joiners feeders (Feeder p) n is = go (ltb p feeders) refl is
-  where
-    go : (b : Bool) → ltb p feeders ≡ b → cond b (Some p) None ≡ Some n → n < feeders + joiners + 2
-    go true e is' = let low = ltb-true p feeders e in let same = some_is p n is' in omega arith
-    go false e is' = absurd (none_some n is')
-number_low joiners feeders (Joiner j) n is = go (ltb j joiners) refl is
-  where
-    go : (b : Bool) → ltb j joiners ≡ b → cond b (Some (feeders + j)) None ≡ Some n → n < feeders + joiners + 2
-    go true e is' = let low = ltb-true j joiners e in let same = some_is (feeders + j) n is' in omega arith
-    go false e is' = absurd (none_some n is')
-number_low joiners feeders Controller n is = let same = some_is (feeders + joiners) n is in omega arith
-number_low joiners feeders Collector n is = let same = some_is (feeders + joiners + 1) n is in omega arith
 
 -- no two seats of a run are of one actor
 pub differ_of : (v : SeatsView) → AreJoined v.joiners v.feeders (map frame_of v.seats) → ActorsDiffer (map frame_of v.seats)
@@ -70,12 +65,10 @@ module _ (v : SeatsView) (joined : AreJoined v.joiners v.feeders (map frame_of v
   low_of a n is = subst (λ z. n < z) (sym many) (number_low v.joiners v.feeders a n is)
 
   pub lists_there : (a : Actor) (n : ℕ) (d : SeatView) → number v.joiners v.feeders a ≡ Some n → lists_in v a ≡ lists_of (get_or v.seats n d)
-  lists_there a n d is =
-      ap (λ (o : Option ℕ). lists_at (at_number None o (λ k. slice_get v.seats k))) is
-      ∙ ap lists_at (slice_get-get_or v.seats n d (low_of a n is))
+  lists_there a n d is = seat_lists lists_of v.joiners v.feeders v.seats a n d is (low_of a n is)
 
   pub lists_none : (a : Actor) → number v.joiners v.feeders a ≡ None → lists_in v a ≡ no_lists
-  lists_none a is = ap (λ (o : Option ℕ). lists_at (at_number None o (λ k. slice_get v.seats k))) is
+  lists_none a is = ap (λ (o : Option ℕ). lists_at lists_of (at_number None o (λ k. slice_get v.seats k))) is
 
   module _ (d : SeatView) where
     -- a sender has a mouth
@@ -223,6 +216,24 @@ left_between s t from to is some (inr has) same =
     omega (arith, more, long, one, other, whole, left)
 
 module _ (v : SeatsView) (joined : AreJoined v.joiners v.feeders (map frame_of v.seats)) (settled : AreSettled v.seats) where
+  -- no actor's machine would begin
+  waits_there : AllRest v.seats → (a : Actor) (core : Core) → core_in v.joiners v.feeders (cores_in v) a ≡ Some core → Waits core
+  waits_there rest a core is = go (number v.joiners v.feeders a) refl
+    where
+      go : (o : Option ℕ) → number v.joiners v.feeders a ≡ o → Waits core
+      go None num = absurd (none_some core (sym (ap (λ (o : Option ℕ). at_number None o (λ k. slice_get (cores_in v) k)) num) ∙ is))
+      go (Some n) num =
+          let low = low_of v joined settled a n num in
+          let d = (there v.seats n low).0 in
+          let same = some_is (get_or v.seats n d).core core (sym (core_there (λ (s : SeatView). s.core) v.joiners v.feeders v.seats a n d num low) ∙ is) in
+          subst Waits same (rest n d low).waits
+
+  -- so the collector is complete
+  pub rest_collected : AllRest v.seats → QuietIsFinished → (input : Input) (setting : Setting) → IsValid input setting → StandsFor input setting v → is_collected v ≡ true
+  rest_collected rest law input setting valid stands =
+      still_complete input setting v.joiners v.feeders (cores_in v) (lists_in v) stands (fronts v joined settled)
+      (λ from to link. all_received v joined settled rest from to) (λ p low core is. waits_there rest (Feeder p) core is) law valid
+
   pub still : AllRest v.seats → IsStill v
   still rest = record { received = all_received v joined settled rest; waits = λ n d low. (rest n d low).waits }
 

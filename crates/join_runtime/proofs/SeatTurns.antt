@@ -1,83 +1,120 @@
--- Turns and events of a seat.
-use Rattle.std.proofs.Common.{◌≡◌, ℕ, ◌+◌, zero, suc, inl, inr, refl, sym, ap, subst, ◌∙◌, true, arith}
-use Rattle.actor_core.specs.Standing.{Event, IsLive, given_by}
-use Rattle.actor_core.specs.declared.machines.Core.{Core}
-use Rattle.join_runtime.specs.Views.{SeatView, frame_of}
-use Rattle.join_runtime.specs.Turns.{Advances, IsAlike, MakesEvent, Rests, Runs, Steps, Works}
+-- Turns of a seat: what its actor did, and what its ends keep.
+use Rattle.std.proofs.Common.{◌≡◌, ℕ, ◌+◌, suc, inl, inr, true≢false, refl, sym, ap, subst, ◌∙◌, Bool, true, false, cond, List, ◌∷◌, ◌++◌, [], map, arith}
+use Rattle.epoch_tags.specs.declared.actor.Actor.{Actor}
+use Rattle.epoch_tags.specs.declared.message.Msg.{Msg}
+use Rattle.ruled_links.specs.Inboxes.{OfSender, fresh, is_sender}
+use Rattle.actor_core.specs.Lists.{ActorLists, Cause, Took, Began, same_actor, with_cause}
+use Rattle.actor_core.specs.Players.{Player, Runs}
+use Rattle.actor_core.proofs.Balances.{same_is}
+use Rattle.actor_core.proofs.Runs.{runs_joined}
+use Rattle.join_runtime.specs.Views.{Frame, SeatView, frame_of, lists_of, player}
+use Rattle.join_runtime.specs.Turns.{Advances, IsAlike, IsHeard, KeepsEnds, MakesTurn, Rests, Steps, Works}
+use Rattle.join_runtime.specs.Joins.{HearsSenders}
+use Rattle.join_runtime.proofs.KnownCounts.{is_sender-named}
 
--- ---- several events
+-- ---- what the ends keep
 
-pub alike_self : (s : SeatView) → IsAlike s s
-alike_self s = record { core = refl; lists = refl; frame = refl }
+-- frames that are the same have the same senders
+same_senders : (s t : SeatView) (a : Actor) → frame_of t ≡ frame_of s → is_sender a t.inbox.senders ≡ is_sender a s.inbox.senders
+same_senders s t a frame = sym (is_sender-named a t.inbox.senders) ∙ (ap (λ (f : Frame). is_sender a (map fresh f.senders)) frame ∙ is_sender-named a s.inbox.senders)
 
-pub runs_alike : (n : ℕ) (s t u : SeatView) → Runs n s t → IsAlike t u → Runs n s u
-runs_alike zero s t u runs alike = record { core = alike.core ∙ runs.core; lists = alike.lists ∙ runs.lists; frame = alike.frame ∙ runs.frame }
-runs_alike (suc n) s t u runs alike = (
-  runs.0,
-  runs.1,
-  record {
-    cause = runs.2.cause;
-    posts = runs.2.posts;
-    event = subst (λ (c : Core). Event runs.2.cause runs.0.core c runs.2.posts) (sym alike.core) runs.2.event;
-    free = runs.2.free;
-    heard = runs.2.heard;
-    live = subst IsLive (sym alike.core) runs.2.live;
-    given = ap given_by alike.core ∙ runs.2.given;
-    lists = alike.lists ∙ runs.2.lists;
-    frame = alike.frame ∙ runs.2.frame;
-  },
-)
+heard_more : (cause : Cause) (senders : List OfSender) (f : Actor → List Msg) (a : Actor) → IsHeard cause senders → is_sender a senders ≡ false → with_cause cause f a ≡ f a
+heard_more (Took from m) senders f a heard none = go (same_actor from a) refl
+  where
+    go : (b : Bool) → same_actor from a ≡ b → cond b (f a ++ m ∷ []) (f a) ≡ f a
+    go true e = absurd (true≢false (sym heard ∙ subst (λ z. is_sender z senders ≡ false) (sym (same_is from a e)) none))
+    go false e = refl
+heard_more Began senders f a heard none = refl
 
-pub runs_frame : (n : ℕ) (s t : SeatView) → Runs n s t → frame_of t ≡ frame_of s
-runs_frame zero s t runs = runs.frame
-runs_frame (suc n) s t runs = runs.2.frame ∙ runs_frame n s runs.0 runs.1
+-- where nothing changed
+pub ends_self : (s t : SeatView) → t ≡ s → KeepsEnds s t
+ends_self s t same = record { frame = ap frame_of same; heard = λ from none. ap (λ (u : SeatView). (lists_of u).received from) same }
 
-pub runs_joined : (m n : ℕ) (s t u : SeatView) → Runs m s t → Runs n t u → (k : ℕ) × (k ≡ n + m) × Runs k s u
-runs_joined m zero s t u first then = (m, omega arith, runs_alike m s t u first then)
-runs_joined m (suc n) s t u first then =
-    let before = runs_joined m n s t then.0 first then.1 in
-    (suc before.0, omega (arith, before.1), (then.0, before.2, then.2))
+-- one after the other
+pub ends_joined : (s t u : SeatView) → KeepsEnds s t → KeepsEnds t u → KeepsEnds s u
+ends_joined s t u first then = record {
+  frame = then.frame ∙ first.frame;
+  heard = λ from none. then.heard from (same_senders s t from first.frame ∙ none) ∙ first.heard from none;
+}
+
+-- a turn keeps them
+pub turn_ends : (s t : SeatView) → MakesTurn s t → KeepsEnds s t
+turn_ends s t turn = record {
+  frame = turn.frame;
+  heard = λ from none. ap (λ (ls : ActorLists). ls.received from) turn.event.lists ∙ heard_more turn.event.cause s.inbox.senders (lists_of s).received from turn.heard none;
+}
+
+-- and so does a seat that is told what is left
+pub alike_ends : (s t : SeatView) → IsAlike s t → KeepsEnds s t
+alike_ends s t alike = record { frame = alike.frame; heard = λ from none. ap (λ (ls : ActorLists). ls.received from) alike.lists }
+
+-- so senders alone are heard still
+pub ends_hear : (s t : SeatView) → KeepsEnds s t → HearsSenders s → HearsSenders t
+ends_hear s t ends hears from none =
+    let none' = sym (same_senders s t from ends.frame) ∙ none in
+    ends.heard from none' ∙ hears from none'
+
+-- a seat that is alike has the same player
+pub alike_player : (s t : SeatView) → IsAlike s t → player t ≡ player s
+alike_player s t alike = λ i. record { core = alike.core i; lists = alike.lists i }
 
 -- ---- events ahead of others
 
 pub steps_none : (s t : SeatView) → t ≡ s → Steps s t
-steps_none s t same = record { count = 0; runs = subst (Runs 0 s) (sym same) (alike_self s); same = λ z. same }
+steps_none s t same = record { count = 0; runs = ap player same; ends = ends_self s t same; same = λ z. same }
 
 pub steps_joined : (s t u : SeatView) → Steps s t → Steps t u → Steps s u
 steps_joined s t u first then =
-    let both = runs_joined first.count then.count s t u first.runs then.runs in
+    let both = runs_joined first.count then.count (player s) (player t) (player u) first.runs then.runs in
     record {
       count = both.0;
       runs = both.2;
+      ends = ends_joined s t u first.ends then.ends;
       same = λ z. then.same (omega (arith, z, both.1)) ∙ first.same (omega (arith, z, both.1));
     }
 
-pub steps_more : (s t u : SeatView) → Steps s t → MakesEvent t u → Steps s u
-steps_more s t u first event = record {
+pub steps_more : (s t u : SeatView) → Steps s t → MakesTurn t u → Steps s u
+steps_more s t u first turn = record {
   count = suc first.count;
-  runs = (t, first.runs, event);
+  runs = (player t, first.runs, turn.event);
+  ends = ends_joined s t u first.ends (turn_ends t u turn);
   same = λ z. absurd (omega (arith, z));
 }
 
 pub advances_after : (s t u : SeatView) → Steps s t → Advances t u → Advances s u
 advances_after s t u first then =
-    let both = runs_joined first.count then.count s t u first.runs then.runs in
+    let both = runs_joined first.count then.count (player s) (player t) (player u) first.runs then.runs in
     record {
       count = both.0;
       runs = both.2;
+      ends = ends_joined s t u first.ends then.ends;
       none = λ z. subst (λ (v : SeatView). Rests v.core v.inbox) (first.same (omega (arith, z, both.1))) (then.none (omega (arith, z, both.1)));
     }
 
--- after these events the seat rests, or has had all its turns
-pub works_rested : (n : ℕ) (s t u : SeatView) → Runs n s t → (n ≡ 0 → t ≡ s) → u ≡ t → Rests t.core t.inbox → Works s u
-works_rested n s t u runs none same rests = record {
-  frame = ap frame_of same ∙ runs_frame n s t runs;
-  advances = inr (record {
-    count = n;
-    runs = subst (λ v. Runs n s v) (sym same) runs;
-    none = λ z. subst (λ (v : SeatView). Rests v.core v.inbox) (none z) rests;
-  });
+-- a seat that advanced, and then is told what is left
+pub advances_alike : (s t u : SeatView) → Advances s t → IsAlike t u → Advances s u
+advances_alike s t u a alike = record {
+  count = a.count;
+  runs = subst (Runs a.count (player s)) (sym (alike_player t u alike)) a.runs;
+  ends = ends_joined s t u a.ends (alike_ends t u alike);
+  none = a.none;
 }
+
+-- ---- the turns of one bout
+
+-- after these events the seat rests, or has had all its turns
+pub works_rested : (n : ℕ) (s t u : SeatView) → Runs n (player s) (player t) → KeepsEnds s t → (n ≡ 0 → t ≡ s) → u ≡ t → Rests t.core t.inbox → Works s u
+works_rested n s t u runs ends none same rests =
+    let last = ends_joined s t u ends (ends_self t u same) in
+    record {
+      frame = last.frame;
+      advances = inr (record {
+        count = n;
+        runs = subst (λ v. Runs n (player s) (player v)) (sym same) runs;
+        ends = last;
+        none = λ z. subst (λ (v : SeatView). Rests v.core v.inbox) (none z) rests;
+      });
+    }
 
 pub works_spent : (s t : SeatView) → frame_of t ≡ frame_of s → t.spent ≡ true → Works s t
 works_spent s t frame is = record { frame = frame; advances = inl is }

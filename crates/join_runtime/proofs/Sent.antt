@@ -1,31 +1,13 @@
 -- A seat may go to another thread, where a predicate may be shared.
 use denote.Param.Send.{IsSend, IsSync, sendable}
 use Rattle.std.proofs.Crossing as heap
-use Rattle.joiner_core.proofs.stock.Stock.TheSendSync as stocks
-use Rattle.epoch_tags.proofs.held.Held.TheSendSync as helds
-use Rattle.epoch_tags.proofs.message.ToJoiner.TheSendSync as messages
-use Rattle.joiner_core.proofs.epochs.Opened.TheSendSync as steps
-use Rattle.reshuffler_core.proofs.feeder.Feeder.TheSendSync as feeders
-use Rattle.load_controller.proofs.controller.Controller.TheSendSync as controllers
-use Rattle.pair_collector.proofs.collector.Collector.TheSendSync as collectors
 use Rattle.ruled_links.proofs.mailbox.Inbox.TheSendSync as inboxes
 use Rattle.ruled_links.proofs.mailbox.Mouth.TheSendSync as mouths
 use Rattle.theta_pred.specs.contracts.theta.Theta as theta
-use Rattle.joiner_core.specs.contracts.epochs.Epochs as epochs
-use Rattle.joiner_core.specs.contracts.joiner.Joiner as joiner
-use Rattle.actor_core.specs.contracts.machines.Core as core
+use Rattle.actor_core.proofs.Sent.{core_send}
 use Rattle.join_runtime.specs.contracts.seat.Seat as seat
 
--- part by part, since a `search` that goes down through a seat to its machine's parts runs out of steps
-module _ (theta_sync : IsSync theta.the_row) where
-  epochs_send : (κ : _) → IsSend (epochs.the_row κ)
-  epochs_send κ = search (sendable, heap.crosses, stocks.the_send, steps.the_send) depth 40 fits 20000
-
-  joiner_send : (κ : _) → IsSend (joiner.the_row κ)
-  joiner_send κ = search (sendable, heap.crosses, epochs_send, helds.the_send, messages.the_send) depth 40 fits 20000
-
-  core_send : (κ : _) → IsSend (core.the_field κ).row
-  core_send κ = search (sendable, feeders.the_send, joiner_send, controllers.the_send, collectors.the_send) depth 40
-
-  pub seat_send : (κ : _) → IsSend (seat.the_row κ)
-  seat_send κ = search (sendable, heap.crosses, core_send, inboxes.the_send, mouths.the_send) depth 40 fits 20000
+-- so it may, since its machine, its inbox and its mouths may
+pub seat_send : IsSync theta.the_row → (κ : _) → IsSend (seat.the_row κ)
+seat_send theta_sync κ =
+    let core = core_send theta_sync in search (sendable, heap.crosses, core, inboxes.the_send, mouths.the_send) depth 40 fits 20000

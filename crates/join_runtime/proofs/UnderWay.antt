@@ -1,39 +1,131 @@
 -- A run between two bouts.
-use Rattle.std.proofs.Common.{◌≡◌, ℕ, ◌+◌, ◌≤◌, sym, subst}
+use Rattle.std.proofs.Common.{◌≡◌, ℕ, zero, suc, ◌+◌, ◌<◌, ◌≤◌, inl, inr, refl, sym, ap, subst, ◌∙◌, Bool, true, false, true≢false, List, get_or, length, map, Result, Ok, Err, arith}
+use Rattle.std.specs.Prelude.{IfOk}
+use Rattle.std.specs.declared.alloc.AllocError.{AllocError}
+use Rattle.std.proofs.lemmas.List.{length-map}
 use mathlib.Core.Path.{fun_ext}
+use Rattle.join_rows.specs.Lists.{IsPrefix}
 use Rattle.epoch_tags.specs.declared.actor.Actor.{Actor}
+use Rattle.load_controller.specs.declared.line.TurnLine.{TurnLine}
+use Rattle.load_controller.specs.Journal.{last_epoch}
 use Rattle.trace_law.specs.declared.input.Input.{Input}
 use Rattle.trace_law.specs.declared.setting.Setting.{Setting}
+use Rattle.trace_law.specs.Validity.{IsValid}
+use Rattle.trace_law.specs.Laws.{EventsAreFew}
+use Rattle.actor_core.specs.Counts.{most_events}
 use Rattle.actor_core.specs.Lists.{ActorLists, no_lists}
 use Rattle.actor_core.specs.Families.{AreFronts}
-use Rattle.actor_core.proofs.EventCounts.{AreLinked, count}
-use Rattle.join_runtime.specs.Bouts.{AllAdvance, Extends, SeatsView, SomeReady, StandsFor, lists_in}
-use Rattle.join_runtime.proofs.Counted.{IsCounted, counted_more, none_counted}
-use Rattle.join_runtime.proofs.Ended.{fronts_none}
+use Rattle.actor_core.specs.Numbers.{actor_at}
+use Rattle.actor_core.specs.Players.{IsFinishedFamily, Player, Runs, lists_among}
+use Rattle.actor_core.specs.declared.machines.Core.{Core}
+use Rattle.actor_core.proofs.OwnNumbers.{number_there}
+use Rattle.actor_core.proofs.Beginnings.{there}
+use Rattle.actor_core.proofs.EventsCounted.{HasMadeSome, IsCounted, counted_more, few_events, none_counted}
+use Rattle.actor_core.proofs.Seated.{AllRelate, HasRun, Relates, relate}
+use Rattle.join_runtime.specs.Views.{SeatView, lists_of, player}
+use Rattle.join_runtime.specs.Turns.{Advances, Rests}
+use Rattle.join_runtime.specs.Bouts.{AllAdvance, IsReady, SeatsView, SomeReady, StandsFor, cores_in, lists_in}
+use Rattle.join_runtime.proofs.SeatBouts.{all_ran}
 
 -- the seats stand for a run of this input and setting, and so many bouts were made
 pub record IsUnderWay (input : Input) (setting : Setting) (v : SeatsView) (bouts : ℕ) : Type 0 where
   pub stands : StandsFor input setting v
   pub fronts : AreFronts (lists_in v)
-  pub counted : IsCounted setting v bouts
+  pub counted : IsCounted setting (lists_in v) bouts
 
+fronts_none : (f : Actor → ActorLists) → ((a : Actor) → f a ≡ no_lists) → AreFronts f
+fronts_none f empty from to =
+    subst (λ ls. IsPrefix ls ((f from).sent to)) (sym (ap (λ (x : ActorLists). x.received from) (empty to)))
+    (subst (IsPrefix []) (sym (ap (λ (x : ActorLists). x.sent to) (empty from))) (record { rest = []; joins = refl }))
+
+-- before the first bout
 pub begun : (input : Input) (setting : Setting) (v : SeatsView) → StandsFor input setting v → ((a : Actor) → lists_in v a ≡ no_lists) → IsUnderWay input setting v 0
-begun input setting v stands empty = record { stands = stands; fronts = fronts_none (lists_in v) empty; counted = none_counted setting v empty }
+begun input setting v stands empty =
+    record { stands = stands; fronts = fronts_none (lists_in v) empty; counted = none_counted setting (lists_in v) empty }
+
+-- ---- a bout that goes on
+
+-- the seats of one run, before a bout and after it, are of as many actors
+module _ (input : Input) (setting : Setting) (old new : SeatsView) (stands : StandsFor input setting old) (stands' : StandsFor input setting new) where
+  pub same_joiners : new.joiners ≡ old.joiners
+  same_joiners = stands'.joiners_are ∙ sym stands.joiners_are
+
+  pub same_feeders : new.feeders ≡ old.feeders
+  same_feeders = stands'.feeders_are ∙ sym stands.feeders_are
+
+  pub many : length old.seats ≡ old.feeders + old.joiners + 2
+  many = sym (length-map old.seats (λ (s : SeatView). s.core)) ∙ stands.all
+
+  pub same_long : length new.seats ≡ length old.seats
+  same_long =
+      let one = many in
+      let two = sym (length-map new.seats (λ (s : SeatView). s.core)) ∙ stands'.all in
+      omega (arith, one, two, same_joiners, same_feeders)
+
+  -- their lists, found with the numbers of before
+  pub same_lists_in : lists_among lists_of old.joiners old.feeders new.seats ≡ lists_in new
+  same_lists_in =
+      ap (λ j. lists_among lists_of j old.feeders new.seats) (sym same_joiners) ∙ ap (λ p. lists_among lists_of new.joiners p new.seats) (sym same_feeders)
+
+rested : (s : SeatView) → Rests s.core s.inbox → IsReady s → ⊥
+rested s rests (inl some) = let none = rests.none_known in omega (arith, some, none)
+rested s rests (inr free) = free rests.waits
+
+-- a seat that was ready made an event
+some_made : (s t : SeatView) → IsReady s → Advances s t → HasMadeSome (player s) (player t)
+some_made s t ready a = go a.count a.runs a.none
+  where
+    go : (n : ℕ) → Runs n (player s) (player t) → (n ≡ 0 → Rests s.core s.inbox) → HasMadeSome (player s) (player t)
+    go zero runs none = absurd (rested s (none refl) ready)
+    go (suc n) runs none = record { before = n; runs = runs }
 
 -- a bout that made an event
-pub one_bout_more : (input : Input) (setting : Setting) (old new : SeatsView) (bouts bouts' : ℕ) → AllAdvance old.seats new.seats → SomeReady old.seats → Extends (lists_in old) (lists_in new) → AreFronts (lists_in new)
+pub one_bout_more : (input : Input) (setting : Setting) (old new : SeatsView) (bouts bouts' : ℕ) → AllAdvance old.seats new.seats → SomeReady old.seats → AreFronts (lists_in new)
     → (StandsFor input setting old → StandsFor input setting new) → bouts' ≤ bouts + 1 → IsUnderWay input setting old bouts → IsUnderWay input setting new bouts'
-one_bout_more input setting old new bouts bouts' advance some extends fronts keeps few before =
-    let stands = keeps before.stands in
-    record { stands = stands; fronts = fronts; counted = counted_more input setting old new before.stands stands advance some extends fronts bouts bouts' few before.counted }
+one_bout_more input setting old new bouts bouts' advance some fronts keeps few before =
+    let stands = before.stands in
+    let stands' = keeps stands in
+    let all = many input setting old new stands stands' in
+    let long = same_long input setting old new stands stands' in
+    let same = same_lists_in input setting old new stands stands' in
+    let place = some.place in
+    let a = actor_at old.joiners old.feeders place in
+    let is = number_there old.joiners old.feeders place (subst (λ z. place < z) all some.there) in
+    let d = (there old.seats place some.there).0 in
+    let made = some_made (get_or old.seats place d) (get_or new.seats place d) (some.ready d) (advance place d some.there) in
+    let one = relate (λ (s : SeatView). s.core) lists_of HasMadeSome old.joiners old.feeders old.seats new.seats long a place d is some.there made in
+    let ran = all_ran old.joiners old.feeders old.seats new.seats long all advance in
+    record {
+      stands = stands';
+      fronts = fronts;
+      counted = subst (λ f. IsCounted setting f bouts') same
+          (counted_more input setting old.joiners old.feeders (cores_in old) (cores_in new) (lists_in old) (lists_among lists_of old.joiners old.feeders new.seats) stands ran a place is one
+          (subst AreFronts (sym same) fronts) bouts bouts' few before.counted);
+    }
 
 -- the lists are the same, and the seats stand for the run still
 pub same_lists : (input : Input) (setting : Setting) (old new : SeatsView) (bouts : ℕ) → ((a : Actor) → lists_in new a ≡ lists_in old a) → (StandsFor input setting old → StandsFor input setting new)
     → IsUnderWay input setting old bouts → IsUnderWay input setting new bouts
 same_lists input setting old new bouts same keeps before =
     let is : lists_in old ≡ lists_in new = sym (fun_ext same) in
-    record {
-      stands = keeps before.stands;
-      fronts = subst AreFronts is before.fronts;
-      counted = record { linked = subst (AreLinked setting) is before.counted.linked; enough = subst (λ (f : Actor → ActorLists). bouts ≤ count setting f) is before.counted.enough };
-    }
+    record { stands = keeps before.stands; fronts = subst AreFronts is before.fronts; counted = subst (λ f. IsCounted setting f bouts) is before.counted }
+
+abbrev pub answer : Bool → Result Bool AllocError
+answer went = Ok went
+
+-- where `false` would mean that all is done, and it isn't, the answer is `true`
+pub goes_on : (went done : Bool) → (answer went ≡ answer false → done ≡ true) → done ≡ false → answer went ≡ answer true
+goes_on true done ends open_yet = refl
+goes_on false done ends open_yet = absurd (true≢false (sym (ends refl) ∙ open_yet))
+
+-- ---- so bouts are few
+
+-- once the lists are a finished family
+pub few_bouts : EventsAreFew → (input : Input) (setting : Setting) → IsValid input setting → (v : SeatsView) (bouts : ℕ) → IsCounted setting (lists_in v) bouts
+    → (journal : List TurnLine) (lists : Actor → ActorLists) → ((a : Actor) → lists a ≡ lists_in v a) → IsFinishedFamily input setting journal lists → bouts ≤ most_events input setting (last_epoch journal)
+few_bouts few input setting valid v bouts counted journal lists same family =
+    few_events few input setting valid journal lists family.agrees bouts (subst (λ f. IsCounted setting f bouts) (sym (fun_ext same)) counted)
+
+pub from_three : {X E : Type 0} (result : Result X E) (P Q R S : X → Type 0) → IfOk result P → IfOk result Q → IfOk result R → ((x : X) → P x → Q x → R x → S x) → IfOk result S
+from_three (Ok x) P Q R S p q r follows = follows x p q r
+from_three (Err e) P Q R S p q r follows = tt

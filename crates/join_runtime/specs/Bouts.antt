@@ -1,15 +1,15 @@
 -- All seats of a run, their lists, and what a bout does.
-use Rattle.std.specs.Prelude.{◌≡◌, ◌<◌, ◌+◌, ◌^◌, ◌⊎◌, ℕ, Bool, false, Option, Some, None, List, length, slice_get, slice_index_or}
-use Rattle.join_rows.specs.Lists.{IsPrefix}
+use Rattle.std.specs.Prelude.{◌≡◌, ◌<◌, ◌⊎◌, ℕ, Bool, false, Option, Some, None, List, length, map, slice_get, slice_index_or}
 use Rattle.epoch_tags.specs.declared.actor.Actor.{Actor}
 use Rattle.ruled_links.specs.Ends.{Sending}
 use Rattle.ruled_links.specs.Inboxes.{all_known}
 use Rattle.trace_law.specs.declared.input.Input.{Input}
 use Rattle.trace_law.specs.declared.setting.Setting.{Setting}
-use Rattle.actor_core.specs.Lists.{ActorLists, no_lists}
-use Rattle.actor_core.specs.Standing.{Stands, Waits, IsLive}
-use Rattle.actor_core.specs.Families.{start_for, IsActor}
+use Rattle.actor_core.specs.Lists.{ActorLists}
+use Rattle.actor_core.specs.Standing.{Waits, IsLive}
 use Rattle.actor_core.specs.Numbers.{number, at_number}
+use Rattle.actor_core.specs.Players.{AllReceived, AllStand, lists_among}
+use Rattle.actor_core.specs.declared.machines.Core.{Core}
 use Rattle.join_runtime.specs.Views.{SeatView, lists_of}
 use Rattle.join_runtime.specs.Turns.{Rests, Advances}
 
@@ -33,30 +33,17 @@ mouth_at (Some seat) place = at_number None place (λ n. slice_index_or seat.mou
 abbrev pub mouth_of : SeatsView → Actor → Actor → Option Sending
 mouth_of v from to = mouth_at (seat_of v from) (number v.joiners v.feeders to)
 
--- the lists of a seat, where there is one
-abbrev pub lists_at : Option SeatView → ActorLists
-lists_at None = no_lists
-lists_at (Some seat) = lists_of seat
+-- the machines of these seats, by the numbers of actors
+abbrev pub cores_in : SeatsView → List Core
+cores_in v = map (λ seat. seat.core) v.seats
 
 -- what each actor has received and sent
 abbrev pub lists_in : SeatsView → Actor → ActorLists
-lists_in v a = lists_at (seat_of v a)
+lists_in v = lists_among lists_of v.joiners v.feeders v.seats
 
 -- there is a seat for each actor; its machine began as this input and setting say, and stands for the lists of the seat
-pub record StandsFor (input : Input) (setting : Setting) (v : SeatsView) : Type 0 where
-  pub joiners_are : v.joiners ≡ 2 ^ setting.k
-  pub feeders_are : v.feeders ≡ setting.feeders
-  pub all : length v.seats ≡ v.feeders + v.joiners + 2
-  pub stands : (a : Actor) → IsActor setting a → (seat : SeatView) × (seat_of v a ≡ Some seat) × Stands (start_for input setting a) (lists_of seat) seat.core
-
--- each list is a front of the later one
-pub record Extends (old new : Actor → ActorLists) : Type 0 where
-  pub received : (from to : Actor) → IsPrefix ((old to).received from) ((new to).received from)
-  pub sent : (from to : Actor) → IsPrefix ((old from).sent to) ((new from).sent to)
-
--- what was sent from whomever to whomever was received
-abbrev pub AllReceived : (Actor → ActorLists) → Type 0
-AllReceived f = (from to : Actor) → (f to).received from ≡ (f from).sent to
+abbrev pub StandsFor : Input → Setting → SeatsView → Type 0
+StandsFor input setting v = AllStand input setting v.joiners v.feeders (cores_in v) (lists_in v)
 
 -- nothing is left on any link, and no machine would begin
 pub record IsStill (v : SeatsView) : Type 0 where

@@ -12,10 +12,10 @@ use Rattle.trace_law.specs.declared.input.Input.{Input}
 use Rattle.trace_law.specs.Join.{nested_loop}
 use Rattle.actor_core.specs.Lists.{ActorLists, collector_lists}
 use Rattle.actor_core.specs.Standing.{OfCollector, Start, Stands, IsLive, given_by}
+use Rattle.actor_core.specs.Families.{core_in}
 use Rattle.actor_core.specs.declared.machines.Core.{Core}
 use Rattle.join_report.specs.PairLines.{pair_lines}
-use Rattle.join_runtime.specs.Views.{SeatView}
-use Rattle.join_runtime.specs.Bouts.{SeatsView, seat_of, lists_in}
+use Rattle.join_runtime.specs.Bouts.{SeatsView, cores_in, lists_in}
 
 -- ---- what was written
 
@@ -38,14 +38,14 @@ pub record WroteEach (pairs : List Pair) (old new : Option (List ℕ)) : Type 0 
 abbrev pub collected_in : SeatsView → CollectorLists
 collected_in v = collector_lists (lists_in v Collector)
 
--- how many pairs of each joiner a seat's machine gave, where there is a seat
-abbrev pub given_at : Option SeatView → List ℕ
+-- how many pairs of each joiner a machine gave, where there is one
+abbrev pub given_at : Option Core → List ℕ
 given_at None = []
-given_at (Some seat) = given_by seat.core
+given_at (Some core) = given_by core
 
 -- how many pairs of each joiner it gave
 abbrev pub given_in : SeatsView → List ℕ
-given_in v = given_at (seat_of v Collector)
+given_in v = given_at (core_in v.joiners v.feeders (cores_in v) Collector)
 
 -- of each joiner as many as these lists have
 abbrev pub AreGiven : ℕ → CollectorLists → List ℕ → Type 0

@@ -1,35 +1,26 @@
 -- What a turn of a seat does, and several turns.
-use Rattle.std.specs.Prelude.{◌≡◌, ◌<◌, ◌⊎◌, ⊤, ℕ, zero, suc, true, List, length, slice_index_or}
+use Rattle.std.specs.Prelude.{◌≡◌, ◌<◌, ◌⊎◌, ⊤, ℕ, true, false, List, length, slice_index_or}
 use Rattle.epoch_tags.specs.declared.actor.Actor.{Actor}
 use Rattle.epoch_tags.specs.declared.message.Post.{Post}
 use Rattle.ruled_links.specs.Inboxes.{InboxView, OfSender, all_known, is_sender}
-use Rattle.actor_core.specs.Lists.{Cause, Took, Began, with_event, with_cause}
-use Rattle.actor_core.specs.Standing.{Event, Occurs, Waits, IsLive, given_by}
+use Rattle.actor_core.specs.Lists.{Cause, Took, Began, with_cause}
+use Rattle.actor_core.specs.Standing.{Occurs, Waits, IsLive, given_by}
+use Rattle.actor_core.specs.Players.{MakesEvent, MayBegin, Runs}
 use Rattle.actor_core.specs.declared.machines.Core.{Core}
 use Rattle.actor_core.specs.declared.step.Step.{Step}
 use Rattle.actor_core.specs.declared.step.Step.TheVariants.{Took as TookStep, Idle}
-use Rattle.join_runtime.specs.Views.{SeatView, lists_of, frame_of, received_of}
+use Rattle.join_runtime.specs.Views.{SeatView, frame_of, lists_of, player, received_of}
 
 -- a message that was taken is of one of the inbox's senders
 abbrev pub IsHeard : Cause → List OfSender → Type 0
 IsHeard (Took from m) senders = is_sender from senders ≡ true
 IsHeard Began senders = ⊤
 
--- an actor begins only where it doesn't wait
-abbrev pub MayBegin : Cause → Core → Type 0
-MayBegin (Took from m) core = ⊤
-MayBegin Began core = ¬ Waits core
-
--- one event of the machine: a message that it took came out of the inbox, and what it sent went into the mouths, in order
-pub record MakesEvent (old new : SeatView) : Type 0 where
-  pub cause : Cause
-  pub posts : List Post
-  pub event : Event cause old.core new.core posts
-  pub free : MayBegin cause old.core
-  pub heard : IsHeard cause old.inbox.senders
-  pub live : IsLive new.core
-  pub given : given_by new.core ≡ given_by old.core
-  pub lists : lists_of new ≡ with_event cause posts (lists_of old)
+-- one event of the seat's actor: a message that it took came out of the inbox, and what it sent went into the mouths, in
+-- order
+pub record MakesTurn (old new : SeatView) : Type 0 where
+  pub event : MakesEvent (player old) (player new)
+  pub heard : IsHeard event.cause old.inbox.senders
   pub frame : frame_of new ≡ frame_of old
 
 -- nothing is known to be left for the seat, and its machine would not begin
@@ -58,21 +49,24 @@ pub record IsAlike (old new : SeatView) : Type 0 where
   pub lists : lists_of new ≡ lists_of old
   pub frame : frame_of new ≡ frame_of old
 
--- so many events, one after another
-abbrev pub Runs : ℕ → SeatView → SeatView → Type 0
-Runs zero old new = IsAlike old new
-Runs (suc n) old new = (middle : SeatView) × Runs n old middle × MakesEvent middle new
+-- it is the same actor's seat, with the ends of the same links, and no more was received of one that is no sender
+pub record KeepsEnds (old new : SeatView) : Type 0 where
+  pub frame : frame_of new ≡ frame_of old
+  pub heard : (from : Actor) → is_sender from old.inbox.senders ≡ false
+      → (lists_of new).received from ≡ (lists_of old).received from
 
 -- some events, and none only where the seat rested
 pub record Advances (old new : SeatView) : Type 0 where
   pub count : ℕ
-  pub runs : Runs count old new
+  pub runs : Runs count (player old) (player new)
+  pub ends : KeepsEnds old new
   pub none : count ≡ 0 → Rests old.core old.inbox
 
 -- some events, or none and nothing changed
 pub record Steps (old new : SeatView) : Type 0 where
   pub count : ℕ
-  pub runs : Runs count old new
+  pub runs : Runs count (player old) (player new)
+  pub ends : KeepsEnds old new
   pub same : count ≡ 0 → new ≡ old
 
 -- so it is of each seat

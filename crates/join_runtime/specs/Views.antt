@@ -7,6 +7,7 @@ use Rattle.ruled_links.specs.Ends.{LinkId, Sending}
 use Rattle.ruled_links.specs.Inboxes.{InboxView, messages_of, senders_of}
 use Rattle.actor_core.specs.Lists.{ActorLists}
 use Rattle.actor_core.specs.Numbers.{number, at_number}
+use Rattle.actor_core.specs.Players.{Player}
 use Rattle.actor_core.specs.declared.machines.Core.{Core}
 
 -- an actor of a run with so many joiners and feeders: its machine, its inbox, and by the numbers of actors a mouth for
@@ -47,6 +48,10 @@ lists_of seat = record {
   received = received_of seat.inbox.received;
   sent = sent_through seat.joiners seat.feeders seat.mouths;
 }
+
+-- the actor of a seat at work: its machine and its lists
+abbrev pub player : SeatView → Player
+player seat = record { core = seat.core; lists = lists_of seat }
 
 -- which link a mouth is of, who sends, and who receives
 pub record Address : Type 0 where

@@ -5,10 +5,11 @@ ghost use Rattle.trace_law.specs.declared.input.Input.{Input as Input'};
 ghost use Rattle.trace_law.specs.declared.setting.Setting.{Setting as Setting'};
 ghost use Rattle.trace_law.specs.Validity.{IsValid};
 ghost use Rattle.actor_core.specs.Families.{AreFronts};
+ghost use Rattle.actor_core.specs.Players.{Extends};
 ghost use Rattle.join_runtime.specs.Views.{SeatView, frame_of};
 ghost use Rattle.join_runtime.specs.Turns.{AllStep, IsAlike};
 ghost use Rattle.join_runtime.specs.Joins.{ActorsDiffer, AllLead, AreGathered, IsSlotOf, Tells, slot_of};
-ghost use Rattle.join_runtime.specs.Bouts.{AllAdvance, AllLive, AllRest, Extends, IsStill, NoneSpent, SomeReady, StandsFor, lists_in};
+ghost use Rattle.join_runtime.specs.Bouts.{AllAdvance, AllLive, AllRest, IsStill, NoneSpent, SomeReady, StandsFor, lists_in};
 ghost use Rattle.join_runtime.specs.Endings.{is_collected};
 
 use crate::dealt::work;

@@ -3,8 +3,8 @@
 ghost use Rattle.std.specs.Prelude.{◌<◌, ◌≤◌, length};
 ghost use Rattle.join_runtime.specs.Turns.{AllWork};
 
-use crate::crossing::shares_predicates;
 use crate::seat::Seat;
+use actor_core::shares_predicates;
 use std::sync::Wait;
 use std::thread;
 use std::thread::Threads;

@@ -10,9 +10,10 @@ ghost use Rattle.trace_law.specs.Family.{first_rest};
 ghost use Rattle.trace_law.specs.Runs.{IsRunOf};
 ghost use Rattle.load_controller.specs.Journal.{last_epoch};
 ghost use Rattle.actor_core.specs.Counts.{most_events};
+ghost use Rattle.actor_core.specs.Players.{IsFinishedFamily};
 ghost use Rattle.join_report.specs.PairLines.{pair_lines};
 ghost use Rattle.join_runtime.specs.declared.early.EarlyFault.TheVariants.{Memory as Memory', Write as Write'};
-ghost use Rattle.join_runtime.specs.Endings.{IsFinishedFamily, lists_left};
+ghost use Rattle.join_runtime.specs.Endings.{lists_left};
 ghost use Rattle.join_runtime.specs.Early.{WroteEach, WroteSome};
 
 use crate::bouts::{Seats, bout};

@@ -1,20 +1,22 @@
 // What finished seats leave.
 
-ghost use Rattle.std.specs.Prelude.{◌≡◌, true, IfOk, IfSome, map};
+ghost use Rattle.std.specs.Prelude.{◌≡◌, true, IfOk, map};
 ghost use Rattle.epoch_tags.specs.declared.actor.Actor.{Actor as Actor'};
 ghost use Rattle.trace_law.specs.declared.input.Input.{Input as Input'};
 ghost use Rattle.trace_law.specs.declared.setting.Setting.{Setting as Setting'};
 ghost use Rattle.trace_law.specs.Validity.{IsValid};
 ghost use Rattle.trace_law.specs.Family.{first_rest};
 ghost use Rattle.trace_law.specs.Runs.{IsRunOf};
+ghost use Rattle.actor_core.specs.Endings.{AreLast};
 ghost use Rattle.actor_core.specs.Families.{AreFronts};
+ghost use Rattle.actor_core.specs.Players.{IsFinishedFamily};
 ghost use Rattle.join_runtime.specs.Bouts.{StandsFor, lists_in};
-ghost use Rattle.join_runtime.specs.Endings.{EndsIn, IsFinishedFamily, end_of, is_collected, lists_left};
+ghost use Rattle.join_runtime.specs.Endings.{end_of, is_collected, journal_in, lists_left};
 
 use crate::bouts::Seats;
 use crate::seat::Seat;
 use join_rows::Items;
-use actor_core::{Core, answer};
+use actor_core::{Core, answer, last_machines};
 use load_controller::Controller;
 use pair_collector::Collector;
 use ruled_links::{Inbox, Mouth};
@@ -89,20 +91,11 @@ fn parts<'a>(alloc: Global, seats: Vec<Seat<'a>>) -> Result<(Vec<Core<'a>>, Vec<
     Ok((cores, ends))
 }
 
-// The controller's machine and the collector's, where they are the last two.
-fn last_two<'a>(mut cores: Vec<Core<'a>>) -> Option<(Controller, Collector)>
-    ensures { IfSome result (λ last. EndsIn cores.entry.items last.0 last.1) }
+// The controller's machine and the collector's, or an error where they aren't the last two.
+fn last_two<'a>(cores: Vec<Core<'a>>) -> Result<(Controller, Collector), AllocError>
+    ensures { IfOk result (λ last. AreLast cores.entry.items last.0 last.1) }
 {
-    let collector = cores.pop()?.into_collector()?;
-    let controller = cores.pop()?.into_controller()?;
-    Some((controller, collector))
-}
-
-// The same, or an error.
-fn last_machines<'a>(cores: Vec<Core<'a>>) -> Result<(Controller, Collector), AllocError>
-    ensures { IfOk result (λ last. EndsIn cores.entry.items last.0 last.1) }
-{
-    match last_two(cores) {
+    match last_machines(cores) {
         Some(last) => Ok(last),
         None => Err(AllocError),
     }
@@ -133,6 +126,7 @@ impl<'a> Seats<'a> {
             → IsRunOf input setting (first_rest setting).line told.run.journal told.run) }
         ensures ends { IfOk result (λ told.
             (a : Actor') → lists_left told.ends a ≡ lists_in self.entry a) }
+        ensures journal { IfOk result (λ told. told.run.journal ≡ journal_in self.entry) }
         ensures bouts { IfOk result (λ told. told.run.bouts ≡ bouts) }
     {
         complete_is_finished();
@@ -145,7 +139,7 @@ impl<'a> Seats<'a> {
             ..
         } = self;
         let (cores, ends) = parts(alloc, seats)?;
-        let (controller, collector) = last_machines(cores)?;
+        let (controller, collector) = last_two(cores)?;
         let run = answer(alloc, &controller, collector, bouts)?;
         Ok(Told {
             run,

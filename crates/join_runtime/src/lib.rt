@@ -2,7 +2,6 @@
 #![tactic(auto)]
 
 mod bouts;
-mod crossing;
 mod dealt;
 mod early;
 mod ends;

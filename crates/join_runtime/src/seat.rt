@@ -5,12 +5,13 @@ mod turns;
 ghost use Rattle.std.specs.Prelude.{◌≡◌, ◌<◌, ◌+◌, ◌^◌, ℕ, Ok, true, false, None, Some, [], OnOk, OnErr, IfOk, length, slice_set, slice_index_or};
 ghost use Rattle.actor_core.specs.declared.step.Step.TheVariants.{Took as Took', Idle as Idle'};
 ghost use Rattle.actor_core.specs.Standing.{Waits, IsLive};
+ghost use Rattle.actor_core.specs.Players.{is_complete_core};
 ghost use Rattle.ruled_links.specs.Inboxes.{IsSameInbox, all_known};
 ghost use Rattle.join_runtime.specs.Views.{frame_of};
-ghost use Rattle.join_runtime.specs.Turns.{MakesEvent, Opens, Rests};
+ghost use Rattle.join_runtime.specs.Turns.{MakesTurn, Opens, Rests};
 ghost use Rattle.join_runtime.specs.Joins.{IsSlotOf, Tells};
 ghost use Rattle.join_runtime.specs.Bouts.{IsReady};
-ghost use Rattle.join_runtime.specs.Endings.{end_of, is_complete_core};
+ghost use Rattle.join_runtime.specs.Endings.{end_of};
 ghost use Rattle.join_runtime.specs.Early.{Gives};
 
 use crate::ends::End;
@@ -151,7 +152,7 @@ impl<'a> Seat<'a> {
     /// begins; then puts what the machine sends, in order. `Idle`: this turn's pop found none, and no feeder began. A
     /// strange message is answered by the error. After an error the seat is spent.
     pub fn turn<R: Wait, G: Gate>(&mut self, rt: &R, gate: &G) -> Result<Step, AllocError>
-        ensures took { result ≡ Ok Took' → MakesEvent self.old self.new }
+        ensures took { result ≡ Ok Took' → MakesTurn self.old self.new }
         ensures idle { result ≡ Ok Idle' → self.new ≡ self.old }
         ensures none_known { result ≡ Ok Idle' → all_known self.old.inbox.senders ≡ 0 }
         ensures waits { result ≡ Ok Idle' → Waits self.old.core }
@@ -174,7 +175,7 @@ impl<'a> Seat<'a> {
     }
 
     fn event<R: Wait>(&mut self, rt: &R) -> Result<Step, AllocError>
-        ensures took { result ≡ Ok Took' → MakesEvent self.old self.new }
+        ensures took { result ≡ Ok Took' → MakesTurn self.old self.new }
         ensures idle { result ≡ Ok Idle' → self.new ≡ self.old }
         ensures none_known { result ≡ Ok Idle' → all_known self.old.inbox.senders ≡ 0 }
         ensures waits { result ≡ Ok Idle' → Waits self.old.core }

@@ -1,10 +1,9 @@
 use Rattle.std.proofs.Common.{◌≡◌, ◌∙◌, Ok, ap, false, length, map, subst, sym}
-use Rattle.std.proofs.lemmas.List.{with_items_is}
+use Rattle.std.proofs.lemmas.List.{length-map, with_items_is}
 use Rattle.join_runtime.specs.Views.{frame_of}
 use Rattle.join_runtime.specs.Joins.{AreJoined}
 use Rattle.join_runtime.specs.Bouts.{SeatsView}
-use Rattle.join_runtime.proofs.Stilled.{still_collected}
-use Rattle.join_runtime.proofs.LinkLists.{busy, fronts, still}
+use Rattle.join_runtime.proofs.LinkLists.{busy, fronts, rest_collected, still}
 use Rattle.join_runtime.proofs.SeatBouts.{extends_after, settled_after, stands_after}
 use Rattle.join_runtime.proofs.bouts.bout.Goals as goal
 
@@ -50,10 +49,9 @@ pub returns-clause-collected : goal.returns-clause-collected
 returns-clause-collected g c =
     let said = rw c.as_mut_slice.ensures.value at c.in_ok-went.ensures in
     let v : SeatsView = record { joiners = c.seats.inside.joiners; feeders = c.seats.inside.feeders; seats = c.seats.inside.seats.items; spent = c.seats.inside.spent } in
-    let settled = c.seats.invariant.1 c.if-seats.false in
     λ is.
     rw (← c.seats.view_is)
-    (λ input setting valid stands. still_collected v (still v c.seats.invariant.0 settled (said.rest is)) input setting stands (fronts v c.seats.invariant.0 settled) c.quiet_is_finished.ensures valid)
+    (λ input setting valid stands. rest_collected v c.seats.invariant.0 (c.seats.invariant.1 c.if-seats.false) (said.rest is) c.quiet_is_finished.ensures input setting valid stands)
 
 pub returns-clause-extends : goal.returns-clause-extends
 returns-clause-extends g c =
@@ -63,8 +61,9 @@ returns-clause-extends g c =
     let long : length new ≡ length seats.items = c.bout_of.auto.seats ∙ ap length value in
     let items = with_items_is seats new (long ∙ sym seats.ok.0) in
     let said = rw value at c.in_ok-went.ensures in
+    let all = sym (length-map seats.items frame_of) ∙ c.seats.invariant.0.all in
     rw (← c.seats.view_is, items)
-    (extends_after c.in_ok-went.went (record { joiners = c.seats.inside.joiners; feeders = c.seats.inside.feeders; seats = seats.items; spent = c.seats.inside.spent }) new false long (λ is. said.went (ap Ok is)) (λ is. said.same (ap Ok is)))
+    (extends_after c.in_ok-went.went c.seats.inside.joiners c.seats.inside.feeders seats.items new long all (λ is. said.went (ap Ok is)) (λ is. said.same (ap Ok is)))
 
 pub returns-clause-stands : goal.returns-clause-stands
 returns-clause-stands g c =
@@ -74,5 +73,6 @@ returns-clause-stands g c =
     let long : length new ≡ length seats.items = c.bout_of.auto.seats ∙ ap length value in
     let items = with_items_is seats new (long ∙ sym seats.ok.0) in
     let said = rw value at c.in_ok-went.ensures in
+    let all = sym (length-map seats.items frame_of) ∙ c.seats.invariant.0.all in
     rw (← c.seats.view_is, items)
-    (stands_after c.in_ok-went.went (record { joiners = c.seats.inside.joiners; feeders = c.seats.inside.feeders; seats = seats.items; spent = c.seats.inside.spent }) new false long (λ is. said.went (ap Ok is)) (λ is. said.same (ap Ok is)))
+    (stands_after c.in_ok-went.went c.seats.inside.joiners c.seats.inside.feeders seats.items new long all (λ is. said.went (ap Ok is)) (λ is. said.same (ap Ok is)))

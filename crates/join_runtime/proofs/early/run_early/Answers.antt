@@ -5,9 +5,10 @@ use Rattle.pair_collector.specs.Fresh.{pairs_since}
 use Rattle.join_report.proofs.Puts.{PutsSome-refl, PutsSome-trans}
 use Rattle.join_runtime.specs.Early.{collected_in}
 use Rattle.join_runtime.specs.Endings.{lists_left}
-use Rattle.join_runtime.proofs.Counted.{IsCounted, few_bouts, goes_on}
+use Rattle.actor_core.proofs.EventsCounted.{IsCounted}
+use Rattle.join_runtime.specs.Bouts.{lists_in}
 use Rattle.join_runtime.proofs.Lines.{each_put, fresh_cut, fresh_put, fresh_room, none_put, nothing_put, room_left, some_put}
-use Rattle.join_runtime.proofs.UnderWay.{one_bout_more}
+use Rattle.join_runtime.proofs.UnderWay.{few_bouts, goes_on, one_bout_more}
 use Rattle.join_runtime.proofs.early.run_early.Goals as goal
 
 pub loop-init : goal.loop-init
@@ -28,7 +29,7 @@ loop-preserved g c =
     let valid = c.limits_suffice.ensures input setting c.requires.input c.requires.setting in
     let put = c.loop.invariant.put in
     let went = goes_on c.in_ok-bout.field-0 _ (λ rested. said.collected rested input setting valid put.way.stands) (sym c.complete.ensures ∙ c.if-complete.false) in
-    let way = one_bout_more input setting c.loop.seats c.bout.new.seats c.loop.bouts c.saturating_add-bouts.result (said.went went) (said.ready went) said.extends said.agrees (said.stands input setting)
+    let way = one_bout_more input setting c.loop.seats c.bout.new.seats c.loop.bouts c.saturating_add-bouts.result (said.went went) (said.ready went) said.agrees (said.stands input setting)
     (let sum = c.saturating_add-bouts.ensures in omega (arith, sum)) put.way in
     record {
       put = fresh_put input setting c.loop.seats c.bout.new.seats c.loop.bouts c.saturating_add-bouts.result (g.K.Sink.written c.args.sink.now) (g.K.Sink.written c.loop.sink)
@@ -65,7 +66,7 @@ returns-in_err-put_lines-clause-lines g c =
     let valid = c.limits_suffice.ensures input setting c.requires.input c.requires.setting in
     let put = c.loop.invariant.put in
     let went = goes_on c.in_ok-bout.field-0 _ (λ rested. said.collected rested input setting valid put.way.stands) (sym c.complete.ensures ∙ c.if-complete.false) in
-    let way = one_bout_more input setting c.loop.seats c.bout.new.seats c.loop.bouts c.saturating_add-bouts.result (said.went went) (said.ready went) said.extends said.agrees (said.stands input setting)
+    let way = one_bout_more input setting c.loop.seats c.bout.new.seats c.loop.bouts c.saturating_add-bouts.result (said.went went) (said.ready went) said.agrees (said.stands input setting)
     (let sum = c.saturating_add-bouts.ensures in omega (arith, sum)) put.way in
     fresh_cut input setting c.loop.seats c.bout.new.seats c.loop.bouts c.saturating_add-bouts.result (g.K.Sink.written c.args.sink.now) (g.K.Sink.written c.loop.sink)
     (g.K.Sink.takes c.args.sink.now) (g.K.Sink.takes c.loop.sink) put way (said.went went) said.extends c.as_slice.result.now (λ earlier st gave. subst (λ (ps : List Pair). IsPermutation (pairs_since (2 ^ setting.k) earlier (collected_in c.bout.new.seats)) ps) (sym c.as_slice.ensures) (c.in_ok-fresh.ensures.gives input setting earlier st gave))
@@ -79,7 +80,7 @@ returns-in_err-put_lines-clause-takes g c more has =
     let valid = c.limits_suffice.ensures input setting c.requires.input c.requires.setting in
     let put = c.loop.invariant.put in
     let went = goes_on c.in_ok-bout.field-0 _ (λ rested. said.collected rested input setting valid put.way.stands) (sym c.complete.ensures ∙ c.if-complete.false) in
-    let way = one_bout_more input setting c.loop.seats c.bout.new.seats c.loop.bouts c.saturating_add-bouts.result (said.went went) (said.ready went) said.extends said.agrees (said.stands input setting)
+    let way = one_bout_more input setting c.loop.seats c.bout.new.seats c.loop.bouts c.saturating_add-bouts.result (said.went went) (said.ready went) said.agrees (said.stands input setting)
     (let sum = c.saturating_add-bouts.ensures in omega (arith, sum)) put.way in
     let room = fresh_room input setting c.loop.seats c.bout.new.seats c.loop.bouts c.saturating_add-bouts.result (g.K.Sink.written c.args.sink.now) (g.K.Sink.written c.loop.sink)
     (g.K.Sink.takes c.args.sink.now) (g.K.Sink.takes c.loop.sink) put way (said.went went) said.extends c.as_slice.result.now (λ earlier st gave. subst (λ (ps : List Pair). IsPermutation (pairs_since (2 ^ setting.k) earlier (collected_in c.bout.new.seats)) ps) (sym c.as_slice.ensures) (c.in_ok-fresh.ensures.gives input setting earlier st gave))
@@ -126,7 +127,7 @@ returns-clause-bound g c =
     let way = c.loop.invariant.put.way in
     let told = c.in_ok-finish.field-0 in
     let said = c.in_ok-finish.ensures in
-    few_bouts c.events_are_few.ensures input setting valid c.loop.seats told.run.bouts (subst (IsCounted setting c.loop.seats) (sym said.bouts) way.counted) told.run.journal (lists_left told.ends) said.ends
+    few_bouts c.events_are_few.ensures input setting valid c.loop.seats told.run.bouts (subst (IsCounted setting (lists_in c.loop.seats)) (sym said.bouts) way.counted) told.run.journal (lists_left told.ends) said.ends
     (said.family input setting valid way.stands way.fronts)
 
 pub returns-clause-lines : goal.returns-clause-lines

@@ -1,8 +1,9 @@
 use Rattle.std.proofs.Common.{◌∙◌, subst, sym, arith}
 use Rattle.join_runtime.specs.Endings.{lists_left}
-use Rattle.join_runtime.proofs.Counted.{IsCounted, few_bouts, from_three, goes_on}
 use Rattle.std.proofs.lemmas.Result.{IfOk-weaker}
-use Rattle.join_runtime.proofs.UnderWay.{begun, one_bout_more}
+use Rattle.actor_core.proofs.EventsCounted.{IsCounted}
+use Rattle.join_runtime.specs.Bouts.{lists_in}
+use Rattle.join_runtime.proofs.UnderWay.{begun, few_bouts, from_three, goes_on, one_bout_more}
 use Rattle.join_runtime.proofs.runs.run.Goals as goal
 
 pub loop-init : goal.loop-init
@@ -15,7 +16,7 @@ loop-preserved g c =
     let said = c.in_ok-bout.ensures in
     let valid = c.limits_suffice.ensures input setting c.requires.input c.requires.setting in
     let went = goes_on c.in_ok-bout.field-0 _ (λ rested. said.collected rested input setting valid c.loop.invariant.stands) (sym c.complete.ensures ∙ c.if-complete.false) in
-    one_bout_more input setting c.loop.seats c.bout.new.seats c.loop.bouts c.saturating_add-bouts.result (said.went went) (said.ready went) said.extends said.agrees (said.stands input setting)
+    one_bout_more input setting c.loop.seats c.bout.new.seats c.loop.bouts c.saturating_add-bouts.result (said.went went) (said.ready went) said.agrees (said.stands input setting)
     (let sum = c.saturating_add-bouts.ensures in omega (arith, sum)) c.loop.invariant
 
 pub returns-clause-family : goal.returns-clause-family
@@ -39,5 +40,5 @@ returns-clause-bound g c =
     let valid = c.limits_suffice.ensures input setting c.requires.input c.requires.setting in
     from_three c.finish.result _ _ _ _ c.finish.ensures.family c.finish.ensures.ends c.finish.ensures.bouts
     (λ told family same bouts.
-    let counted = subst (IsCounted setting c.loop.seats) (sym bouts) c.loop.invariant.counted in
+    let counted = subst (IsCounted setting (lists_in c.loop.seats)) (sym bouts) c.loop.invariant.counted in
     few_bouts c.events_are_few.ensures input setting valid c.loop.seats told.run.bouts counted told.run.journal (lists_left told.ends) same (family input setting valid c.loop.invariant.stands c.loop.invariant.fronts))

@@ -1,38 +1,51 @@
-use Rattle.std.proofs.Common.{◌≡◌, ◌∙◌, refl, sym, subst, true}
-use Rattle.join_runtime.specs.Bouts.{SeatsView, lists_in}
-use Rattle.join_runtime.specs.Endings.{EndsView, is_collected, lists_left}
-use Rattle.join_runtime.proofs.Ended.{collector_complete, ends_keep, told_family, told_run}
+use Rattle.std.proofs.Common.{◌≡◌, ◌∙◌, List, map, subst, sym, true}
+use Rattle.actor_core.specs.Endings.{AreLast}
+use Rattle.join_runtime.specs.Bouts.{SeatsView, cores_in, lists_in}
+use Rattle.join_runtime.specs.Endings.{EndsView, end_of, is_collected, lists_left}
+use Rattle.join_runtime.proofs.Ended.{complete_there, ends_keep, told_family, told_journal, told_run}
 use Rattle.join_runtime.proofs.bouts.Seats.finish.Goals as goal
 
 pub answer-requires : goal.answer-requires
 answer-requires c =
     let own = c.self.inside in
     let v : SeatsView = record { joiners = own.joiners; feeders = own.feeders; seats = own.seats.items; spent = own.spent } in
-    let last = c.in_ok-controller in
+    let two = c.in_ok-controller in
+    let last = subst (λ cores. AreLast cores two.controller two.collector) c.in_ok-cores.ensures.cores two.ensures in
     let done : is_collected v ≡ true = rw (← c.self.view_is) at c.requires in
-    collector_complete v c.self.invariant.0 last.ensures.0 _ _ (sym c.in_ok-cores.ensures.cores ∙ last.ensures.1) last.collector refl done
+    complete_there v c.self.invariant.0 two.controller two.collector last done
 
 pub returns-clause-family : goal.returns-clause-family
 returns-clause-family c =
     let own = c.self.inside in
     let v : SeatsView = record { joiners = own.joiners; feeders = own.feeders; seats = own.seats.items; spent = own.spent } in
-    let last = c.in_ok-controller in
+    let two = c.in_ok-controller in
+    let last = subst (λ cores. AreLast cores two.controller two.collector) c.in_ok-cores.ensures.cores two.ensures in
     let done : is_collected v ≡ true = rw (← c.self.view_is) at c.requires in
     let e : EndsView = record { joiners = own.joiners; feeders = own.feeders; ends = c.in_ok-cores.ends.items } in
     rw (← c.self.view_is)
     (λ input setting valid stands fronts.
-    told_family c.complete_is_finished.ensures v done input setting valid stands fronts c.finished_answers.ensures c.self.invariant.0 last.ensures.0 last.controller last.collector (sym c.in_ok-cores.ensures.cores ∙ last.ensures.1) c.args.bouts c.in_ok-run.run' c.in_ok-run.ensures.run e
+    told_family v c.self.invariant.0 two.controller two.collector last c.complete_is_finished.ensures done input setting valid stands fronts c.in_ok-run.run' c.in_ok-run.ensures.journal e
     (λ a. subst (λ es. lists_left (record { joiners = own.joiners; feeders = own.feeders; ends = es }) a ≡ lists_in v a) (sym c.in_ok-cores.ensures.ends) (ends_keep v a)))
 
 pub returns-clause-run : goal.returns-clause-run
 returns-clause-run c =
     let own = c.self.inside in
     let v : SeatsView = record { joiners = own.joiners; feeders = own.feeders; seats = own.seats.items; spent = own.spent } in
-    let last = c.in_ok-controller in
+    let two = c.in_ok-controller in
+    let last = subst (λ cores. AreLast cores two.controller two.collector) c.in_ok-cores.ensures.cores two.ensures in
     let done : is_collected v ≡ true = rw (← c.self.view_is) at c.requires in
     rw (← c.self.view_is)
     (λ input setting valid stands fronts.
-    told_run c.complete_is_finished.ensures v done input setting valid stands fronts c.finished_answers.ensures c.self.invariant.0 last.ensures.0 last.controller last.collector (sym c.in_ok-cores.ensures.cores ∙ last.ensures.1) c.args.bouts c.in_ok-run.run' c.in_ok-run.ensures.run)
+    told_run v c.self.invariant.0 two.controller two.collector last c.complete_is_finished.ensures done input setting valid stands fronts c.in_ok-run.run' c.finished_answers.ensures c.args.bouts c.in_ok-run.ensures.run)
+
+pub returns-clause-journal : goal.returns-clause-journal
+returns-clause-journal c =
+    let own = c.self.inside in
+    let v : SeatsView = record { joiners = own.joiners; feeders = own.feeders; seats = own.seats.items; spent = own.spent } in
+    let two = c.in_ok-controller in
+    let last = subst (λ cores. AreLast cores two.controller two.collector) c.in_ok-cores.ensures.cores two.ensures in
+    rw (← c.self.view_is)
+    (told_journal v c.self.invariant.0 two.controller two.collector last c.in_ok-run.run' c.in_ok-run.ensures.journal)
 
 pub returns-clause-ends : goal.returns-clause-ends
 returns-clause-ends c =

@@ -1,27 +1,40 @@
-use Rattle.std.proofs.Common.{◌∙◌, Ok, ap, arith, inr}
-use Rattle.join_runtime.proofs.SeatTurns.{runs_frame, works_rested, works_spent}
+use Rattle.std.proofs.Common.{◌∙◌, Ok, ap, arith, inr, refl}
+use Rattle.join_runtime.specs.Views.{player}
+use Rattle.join_runtime.proofs.SeatTurns.{ends_joined, ends_self, turn_ends, works_rested, works_spent}
 use Rattle.join_runtime.proofs.seat.Seat.turns_up_to.Goals as goal
+
+pub loop-round-init : goal.loop-round-init
+loop-round-init g c = record { runs = refl; ends = ends_self c.args.self.now c.args.self.now refl; none = λ z. refl }
+
+pub loop-round-preserved : goal.loop-round-preserved
+loop-round-preserved g c =
+    let turn = c.in-Ok-Took.ensures.took (ap Ok c.in-Ok-Took.field-0-is) in
+    record {
+      runs = (player c.loop-round.self, c.loop-round.invariant.runs, turn.event);
+      ends = ends_joined c.args.self.now c.loop-round.self c.turn.new.self c.loop-round.invariant.ends (turn_ends c.loop-round.self c.turn.new.self turn);
+      none = λ z. absurd (omega (arith, z));
+    }
 
 pub returns-in-Ok-Idle : goal.returns-in-Ok-Idle
 returns-in-Ok-Idle g c =
     let is = ap Ok c.in-Ok-Idle.field-0-is in
     let said = c.in-Ok-Idle.ensures in
-    works_rested c.loop-round.round c.args.self.now c.loop-round.self c.turn.new.self c.loop-round.invariant.runs c.loop-round.invariant.none (said.idle is)
+    works_rested c.loop-round.round c.args.self.now c.loop-round.self c.turn.new.self c.loop-round.invariant.runs c.loop-round.invariant.ends c.loop-round.invariant.none (said.idle is)
     (record { none_known = said.none_known is; waits = said.waits is })
 
 pub returns-in-Err : goal.returns-in-Err
-returns-in-Err g c =
-    works_spent c.args.self.now c.turn.new.self (c.in-Err.ensures.frame ∙ runs_frame c.loop-round.round c.args.self.now c.loop-round.self c.loop-round.invariant.runs) c.in-Err.ensures.fails
+returns-in-Err g c = works_spent c.args.self.now c.turn.new.self (c.in-Err.ensures.frame ∙ c.loop-round.invariant.ends.frame) c.in-Err.ensures.fails
 
 pub returns : goal.returns
 returns g c =
     let some = c.requires in
     let over = c.loop-round-test.false in
     record {
-      frame = runs_frame c.loop-round.round c.args.self.now c.loop-round.self c.loop-round.invariant.runs;
+      frame = c.loop-round.invariant.ends.frame;
       advances = inr (record {
         count = c.loop-round.round;
         runs = c.loop-round.invariant.runs;
+        ends = c.loop-round.invariant.ends;
         none = λ z. absurd (omega (arith, z, some, over));
       });
     }

@@ -1,0 +1,119 @@
+-- The lists of all actors are an agreeing family, and once the collector is complete they answer the run.
+use Rattle.std.proofs.Common.{◌≡◌, ℕ, ◌+◌, ◌^◌, sym, ap, subst, ◌∙◌, true, Option, Some, None, List, length, arith}
+use Rattle.std.specs.Prelude.{slice_get, ⊤}
+use Rattle.epoch_tags.specs.declared.actor.Actor.{Actor}
+use Rattle.epoch_tags.specs.declared.actor.Actor.TheVariants.{Controller, Collector}
+use Rattle.load_controller.specs.Standing.{ControllerState}
+use Rattle.pair_collector.specs.Law.{CollectorLists, IsComplete}
+use Rattle.pair_collector.specs.Standing.{CollectorState, StandsFor as CollectorStands, is_complete}
+use Rattle.pair_collector.proofs.KeptMessages.{complete_says}
+use Rattle.trace_law.specs.declared.input.Input.{Input}
+use Rattle.trace_law.specs.declared.setting.Setting.{Setting}
+use Rattle.trace_law.specs.declared.run.Run.{Run}
+use Rattle.trace_law.specs.Validity.{IsValid}
+use Rattle.trace_law.specs.Runs.{IsRunOf, run_of}
+use Rattle.trace_law.specs.Laws.{CompleteIsFinished, FinishedAnswers}
+use Rattle.trace_law.specs.Family.{IsAgreeing, first_rest}
+use Rattle.trace_law.proofs.First.{stands as first_stands}
+use Rattle.actor_core.specs.Lists.{ActorLists, collector_lists}
+use Rattle.actor_core.specs.Standing.{Stands, OfCollector, IsOver}
+use Rattle.actor_core.specs.Families.{AreFronts, IsActor, core_in, family_of, journal_of, start_for}
+use Rattle.actor_core.specs.Numbers.{number, at_number}
+use Rattle.actor_core.specs.Elements.{IsAllAt}
+use Rattle.actor_core.specs.Endings.{AreLast, IsAnswerOf}
+use Rattle.actor_core.specs.Players.{AllStand, IsFinishedFamily, is_complete_among, is_complete_at, is_complete_core, journal_among, journal_at}
+use Rattle.actor_core.specs.declared.machines.Core.{Core}
+use Rattle.actor_core.specs.declared.machines.Core.TheVariants.{Feeder as TheFeeder, Joiner as TheJoiner, Controller as TheController, Collector as TheCollector}
+use Rattle.actor_core.proofs.Families.{agrees as agreeing, is_finished}
+use Rattle.actor_core.proofs.OwnNumbers.{none_some, some_is}
+
+-- ---- what a collector's machine says
+
+-- it took all only if it is complete
+pub core_says : (n : ℕ) (ls : ActorLists) (core : Core) → Stands (OfCollector n) ls core → is_complete_core core ≡ true → IsComplete n (collector_lists ls)
+core_says n ls (TheFeeder f) st done = absurd st
+core_says n ls (TheJoiner j) st done = absurd st
+core_says n ls (TheController c) st done = absurd st
+core_says n ls (TheCollector c) st done = (complete_says n (collector_lists ls) c st).0 done
+
+-- and it is complete if it took all
+pub complete_core : (n : ℕ) (ls : ActorLists) (core : Core) → Stands (OfCollector n) ls core → IsComplete n (collector_lists ls) → is_complete_core core ≡ true
+complete_core n ls (TheFeeder f) st all = absurd st
+complete_core n ls (TheJoiner c) st all = absurd st
+complete_core n ls (TheController c) st all = absurd st
+complete_core n ls (TheCollector c) st all = (complete_says n (collector_lists ls) c st).1 all
+
+-- ---- the last two machines are the controller's and the collector's
+
+module _ (joiners feeders : ℕ) (cores : List Core) (all : length cores ≡ feeders + joiners + 2) (controller : ControllerState) (collector : CollectorState) (last : AreLast cores controller collector) where
+  place_is : last.before ≡ feeders + joiners
+  place_is = let whole = sym last.many ∙ all in omega arith
+
+  pub controller_named : core_in joiners feeders cores Controller ≡ Some (TheController controller)
+  controller_named = subst (λ n. slice_get cores n ≡ Some (TheController controller)) place_is last.controller_is
+
+  pub collector_named : core_in joiners feeders cores Collector ≡ Some (TheCollector collector)
+  collector_named = subst (λ n. slice_get cores (n + 1) ≡ Some (TheCollector collector)) place_is last.collector_is
+
+  -- the journal is that controller's
+  pub journal_named : journal_among joiners feeders cores ≡ controller.journal
+  journal_named = ap journal_at controller_named
+
+  -- the collector is complete, if that among the machines is
+  pub collector_complete : is_complete_among joiners feeders cores ≡ true → is_complete collector ≡ true
+  collector_complete done = sym (ap is_complete_at collector_named) ∙ done
+
+-- ---- the family
+
+module _ (input : Input) (setting : Setting) (joiners feeders : ℕ) (cores : List Core) (f : Actor → ActorLists) (all : AllStand input setting joiners feeders cores f) (fronts : AreFronts f) where
+  abbrev pub machines : (a : Actor) → IsActor setting a → (core : Core) × Stands (start_for input setting a) (f a) core
+  machines a is = ((all.stands a is).0, (all.stands a is).2)
+
+  journal_is : journal_among joiners feeders cores ≡ journal_of (all.stands Controller tt).0
+  journal_is = ap journal_at (all.stands Controller tt).1
+
+  -- the lists agree
+  pub agrees : IsAgreeing input setting (first_rest setting) (family_of (journal_among joiners feeders cores) f)
+  agrees =
+      subst (λ js. IsAgreeing input setting (first_rest setting) (family_of js f)) (sym journal_is)
+      (agreeing input setting f machines fronts ⊥ (λ w. absurd w))
+
+  -- where the collector is complete, they are finished
+  pub complete_finished : CompleteIsFinished → IsValid input setting → is_complete_among joiners feeders cores ≡ true → IsFinishedFamily input setting (journal_among joiners feeders cores) f
+  complete_finished law valid done =
+      let own = all.stands Collector tt in
+      let collected = core_says (2 ^ setting.k) (f Collector) own.0 own.2 (sym (ap is_complete_at own.1) ∙ done) in
+      record { agrees = agrees; finished = law input setting (first_rest setting) (family_of (journal_among joiners feeders cores) f) valid (first_stands input setting valid) agrees collected }
+
+  -- and so they are where the work of all is over
+  pub over_finished : IsAllAt IsOver cores → IsFinishedFamily input setting (journal_among joiners feeders cores) f
+  over_finished over =
+      subst (λ js. IsFinishedFamily input setting js f) (sym journal_is)
+      (record { agrees = agreeing input setting f machines fronts ⊤ all_over; finished = is_finished input setting f machines fronts ⊤ all_over tt })
+    where
+      found : (n : Option ℕ) (core : Core) → at_number None n (λ k. slice_get cores k) ≡ Some core → IsOver core
+      found None core is = absurd (none_some core is)
+      found (Some n) core is = over n core is
+
+      all_over : ⊤ → (a : Actor) (is : IsActor setting a) → IsOver (machines a is).0
+      all_over u a is = found (number joiners feeders a) (all.stands a is).0 (all.stands a is).1
+
+-- ---- the answer
+
+-- the last two machines of a finished family answer its run
+module _ (law : FinishedAnswers) (input : Input) (setting : Setting) (joiners feeders : ℕ) (cores : List Core) (f : Actor → ActorLists) (valid : IsValid input setting) (all : AllStand input setting joiners feeders cores f)
+    (family : IsFinishedFamily input setting (journal_among joiners feeders cores) f) (controller : ControllerState) (collector : CollectorState) (last : AreLast cores controller collector) (bouts : ℕ) (run : Run)
+    (answers : (joiners' : ℕ) (ls : CollectorLists) → CollectorStands joiners' ls collector → IsAnswerOf joiners' ls controller.journal bouts run) where
+  run_among : IsRunOf input setting (first_rest setting).line (journal_among joiners feeders cores) run
+  run_among =
+      let own = all.stands Collector tt in
+      let core_is = some_is own.0 (TheCollector collector) (sym own.1 ∙ collector_named joiners feeders cores all.all controller collector last) in
+      let its = subst (λ core. Stands (OfCollector (2 ^ setting.k)) (f Collector) core) core_is own.2 in
+      let answer = answers (2 ^ setting.k) (collector_lists (f Collector)) its in
+      let told = law input setting (first_rest setting) (family_of (journal_among joiners feeders cores) f) valid (first_stands input setting valid) family.agrees family.finished answer.collected answer.collects bouts in
+      let journal_is = journal_named joiners feeders cores all.all controller collector last in
+      let run_is : run ≡ run_of answer.collected (journal_among joiners feeders cores) bouts = answer.run_is ∙ ap (λ js. run_of answer.collected js bouts) (sym journal_is) in
+      subst (IsRunOf input setting (first_rest setting).line (journal_among joiners feeders cores)) (sym run_is) told
+
+  pub run_ends : IsRunOf input setting (first_rest setting).line run.journal run
+  run_ends = subst (λ js. IsRunOf input setting (first_rest setting).line js run) (sym run_among.keeps) run_among

@@ -1,0 +1,172 @@
+-- What holds of the seats of a run, one for each number, holds of its actors.
+use Rattle.std.proofs.Common.{◌≡◌, ℕ, ◌+◌, ◌<◌, ltb, ltb-true, refl, sym, ap, subst, ◌∙◌, Bool, true, false, cond, Option, Some, None, List, get_or, map, length, arith}
+use Rattle.std.specs.Prelude.{slice_get}
+use Rattle.std.proofs.lemmas.List.{get_or-map, length-map}
+use Rattle.std.proofs.lemmas.Option.{slice_get-get_or}
+use Rattle.epoch_tags.specs.declared.actor.Actor.{Actor}
+use Rattle.epoch_tags.specs.declared.actor.Actor.TheVariants.{Feeder, Joiner, Controller, Collector}
+use Rattle.trace_law.specs.declared.input.Input.{Input}
+use Rattle.trace_law.specs.declared.setting.Setting.{Setting}
+use Rattle.actor_core.specs.Lists.{ActorLists}
+use Rattle.actor_core.specs.Standing.{Start, Stands}
+use Rattle.actor_core.specs.Families.{core_in, start_for}
+use Rattle.actor_core.specs.Numbers.{number, at_number}
+use Rattle.actor_core.specs.Players.{AllStand, Extends, Player, Runs, lists_among, lists_at}
+use Rattle.actor_core.specs.declared.machines.Core.{Core}
+use Rattle.actor_core.proofs.Beginnings.{there}
+use Rattle.actor_core.proofs.OwnNumbers.{none_some, some_is}
+use Rattle.actor_core.proofs.Runs.{Grows, grows_same, runs_grow, runs_stand}
+
+-- a number is below that of all actors
+pub number_low : (joiners feeders : ℕ) (a : Actor) (n : ℕ) → number joiners feeders a ≡ Some n → n < feeders + joiners + 2
+number_low joiners feeders (Feeder p) n is = go (ltb p feeders) refl is
+  where
+    go : (b : Bool) → ltb p feeders ≡ b → cond b (Some p) None ≡ Some n → n < feeders + joiners + 2
+    go true e is' = let low = ltb-true p feeders e in let same = some_is p n is' in omega arith
+    go false e is' = absurd (none_some n is')
+number_low joiners feeders (Joiner j) n is = go (ltb j joiners) refl is
+  where
+    go : (b : Bool) → ltb j joiners ≡ b → cond b (Some (feeders + j)) None ≡ Some n → n < feeders + joiners + 2
+    go true e is' = let low = ltb-true j joiners e in let same = some_is (feeders + j) n is' in omega arith
+    go false e is' = absurd (none_some n is')
+number_low joiners feeders Controller n is = let same = some_is (feeders + joiners) n is in omega arith
+number_low joiners feeders Collector n is = let same = some_is (feeders + joiners + 1) n is in omega arith
+
+-- ---- seats of any kind
+
+-- the machine of the seat at a place, among the machines of all
+pub core_at : {S : Type 0} (core_of : S → Core) (seats : List S) (n : ℕ) (d : S) → n < length seats
+    → slice_get (map core_of seats) n ≡ Some (core_of (get_or seats n d))
+core_at core_of seats n d low =
+    slice_get-get_or (map core_of seats) n (core_of d) (subst (λ z. n < z) (sym (length-map seats core_of)) low)
+    ∙ ap Some (get_or-map core_of seats n d (core_of d) low)
+
+-- the machine of an actor's seat
+pub core_there : {S : Type 0} (core_of : S → Core) (joiners feeders : ℕ) (seats : List S) (a : Actor) (n : ℕ) (d : S)
+    → number joiners feeders a ≡ Some n → n < length seats
+    → core_in joiners feeders (map core_of seats) a ≡ Some (core_of (get_or seats n d))
+core_there core_of joiners feeders seats a n d is low =
+    ap (λ (o : Option ℕ). at_number None o (λ k. slice_get (map core_of seats) k)) is
+    ∙ core_at core_of seats n d low
+
+-- the lists of an actor's seat
+pub lists_there : {S : Type 0} (lists_of : S → ActorLists) (joiners feeders : ℕ) (seats : List S) (a : Actor) (n : ℕ) (d : S)
+    → number joiners feeders a ≡ Some n → n < length seats
+    → lists_among lists_of joiners feeders seats a ≡ lists_of (get_or seats n d)
+lists_there lists_of joiners feeders seats a n d is low =
+    ap (λ (o : Option ℕ). lists_at lists_of (at_number None o (λ k. slice_get seats k))) is
+    ∙ ap (lists_at lists_of) (slice_get-get_or seats n d low)
+
+-- an actor and the same later are so related
+pub record Relates (R : Player → Player → Type 0) (joiners feeders : ℕ) (old new : List Core) (f g : Actor → ActorLists)
+    (a : Actor) : Type 0 where
+  pub before : Core
+  pub after : Core
+  pub was : core_in joiners feeders old a ≡ Some before
+  pub now : core_in joiners feeders new a ≡ Some after
+  pub holds : R (record { core = before; lists = f a }) (record { core = after; lists = g a })
+
+-- each actor of a run with so many joiners and feeders, and no other's lists change
+pub record AllRelate (R : Player → Player → Type 0) (joiners feeders : ℕ) (old new : List Core)
+    (f g : Actor → ActorLists) : Type 0 where
+  pub long : length new ≡ length old
+  pub each : (a : Actor) (n : ℕ) → number joiners feeders a ≡ Some n → Relates R joiners feeders old new f g a
+  pub others : (a : Actor) → number joiners feeders a ≡ None → g a ≡ f a
+
+module _ {S : Type 0} (core_of : S → Core) (lists_of : S → ActorLists) (R : Player → Player → Type 0) (joiners feeders : ℕ) (old new : List S) (long : length new ≡ length old) where
+  abbrev player : S → Player
+  player s = record { core = core_of s; lists = lists_of s }
+
+  -- so is the actor of one seat
+  pub relate : (a : Actor) (n : ℕ) (d : S) → number joiners feeders a ≡ Some n → n < length old
+      → R (player (get_or old n d)) (player (get_or new n d))
+      → Relates R joiners feeders (map core_of old) (map core_of new) (lists_among lists_of joiners feeders old) (lists_among lists_of joiners feeders new) a
+  relate a n d is low related =
+      let low' : n < length new = subst (λ z. n < z) (sym long) low in
+      let one = core_of (get_or old n d) in
+      let other = core_of (get_or new n d) in
+      record {
+        before = one;
+        after = other;
+        was = core_there core_of joiners feeders old a n d is low;
+        now = core_there core_of joiners feeders new a n d is low';
+        holds =
+            subst (λ ls. R (record { core = one; lists = ls }) (record { core = other; lists = lists_among lists_of joiners feeders new a })) (sym (lists_there lists_of joiners feeders old a n d is low))
+            (subst (λ ls. R (record { core = one; lists = lists_of (get_or old n d) }) (record { core = other; lists = ls })) (sym (lists_there lists_of joiners feeders new a n d is low')) related);
+      }
+
+  -- and so are all actors
+  pub all_relate : length old ≡ feeders + joiners + 2
+      → ((n : ℕ) (d : S) → n < length old → R (player (get_or old n d)) (player (get_or new n d)))
+      → AllRelate R joiners feeders (map core_of old) (map core_of new) (lists_among lists_of joiners feeders old) (lists_among lists_of joiners feeders new)
+  all_relate all related = record {
+    long = length-map new core_of ∙ (long ∙ sym (length-map old core_of));
+    each = λ a n is.
+        let low = subst (λ z. n < z) (sym all) (number_low joiners feeders a n is) in
+        let d = (there old n low).0 in
+        relate a n d is low (related n d low);
+    others = λ a is.
+        ap (λ (o : Option ℕ). lists_at lists_of (at_number None o (λ k. slice_get new k))) is
+        ∙ sym (ap (λ (o : Option ℕ). lists_at lists_of (at_number None o (λ k. slice_get old k))) is);
+  }
+
+-- ---- what follows for all actors
+
+module _ (R : Player → Player → Type 0) (joiners feeders : ℕ) (old new : List Core) (f g : Actor → ActorLists) (all : AllRelate R joiners feeders old new f g) where
+  -- of an actor whose machine is known before
+  pub related_at : (a : Actor) (core : Core) → core_in joiners feeders old a ≡ Some core
+      → (core' : Core) × (core_in joiners feeders new a ≡ Some core') × R (record { core = core; lists = f a }) (record { core = core'; lists = g a })
+  related_at a core here = go (number joiners feeders a) refl
+    where
+      go : (o : Option ℕ) → number joiners feeders a ≡ o
+          → (core' : Core) × (core_in joiners feeders new a ≡ Some core') × R (record { core = core; lists = f a }) (record { core = core'; lists = g a })
+      go None is = absurd (none_some core (sym (ap (λ (o : Option ℕ). at_number None o (λ k. slice_get old k)) is) ∙ here))
+      go (Some n) is =
+          let own = all.each a n is in
+          let same = some_is own.before core (sym own.was ∙ here) in
+          (own.after, own.now, subst (λ c. R (record { core = c; lists = f a }) (record { core = own.after; lists = g a })) same own.holds)
+
+  -- what holds of the lists of related players, and of lists that are the same, holds of each actor's
+  pub of_lists : (P : ActorLists → ActorLists → Type 0) → ((ls ls' : ActorLists) → ls' ≡ ls → P ls ls') → ((s t : Player) → R s t → P s.lists t.lists)
+      → (a : Actor) → P (f a) (g a)
+  of_lists P same some a = go (number joiners feeders a) refl
+    where
+      go : (o : Option ℕ) → number joiners feeders a ≡ o → P (f a) (g a)
+      go None is = same (f a) (g a) (all.others a is)
+      go (Some n) is =
+          let own = all.each a n is in
+          some (record { core = own.before; lists = f a }) (record { core = own.after; lists = g a }) own.holds
+
+  -- the machines stand for the lists still
+  pub still_stand : ((s t : Player) → R s t → (start : Start) → Stands start s.lists s.core → Stands start t.lists t.core)
+      → (input : Input) (setting : Setting) → AllStand input setting joiners feeders old f → AllStand input setting joiners feeders new g
+  still_stand keeps input setting st = record {
+    joiners_are = st.joiners_are;
+    feeders_are = st.feeders_are;
+    all = all.long ∙ st.all;
+    stands = λ a is.
+        let own = st.stands a is in
+        let now = related_at a own.0 own.1 in (
+          now.0,
+          now.1,
+          keeps (record { core = own.0; lists = f a }) (record { core = now.0; lists = g a }) now.2 (start_for input setting a) own.2,
+        );
+  }
+
+-- ---- where each actor made some events
+
+-- so many events or none
+pub record HasRun (old new : Player) : Type 0 where
+  pub count : ℕ
+  pub runs : Runs count old new
+
+module _ (joiners feeders : ℕ) (old new : List Core) (f g : Actor → ActorLists) (all : AllRelate HasRun joiners feeders old new f g) where
+  -- each actor's lists grow
+  pub all_grow : (a : Actor) → Grows (f a) (g a)
+  all_grow = of_lists HasRun joiners feeders old new f g all Grows grows_same (λ s t ran. runs_grow ran.count s t ran.runs)
+
+  pub extends : Extends f g
+  extends = record { received = λ from to. (all_grow to).received from; sent = λ from to. (all_grow from).sent to }
+
+  pub stand_after : (input : Input) (setting : Setting) → AllStand input setting joiners feeders old f → AllStand input setting joiners feeders new g
+  stand_after = still_stand HasRun joiners feeders old new f g all (λ s t ran. runs_stand ran.count s t ran.runs)
