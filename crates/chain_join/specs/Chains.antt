@@ -15,7 +15,8 @@ use Rattle.trace_law.specs.Family.{first_rest}
 use Rattle.trace_law.specs.Join.{matches_of, nested_loop, rows_of}
 use Rattle.trace_law.specs.Runs.{IsRunOf}
 use Rattle.join_runtime.specs.declared.ends.Told.{Told}
-use Rattle.join_runtime.specs.Endings.{IsFinishedFamily, lists_left}
+use Rattle.actor_core.specs.Players.{IsFinishedFamily}
+use Rattle.join_runtime.specs.Endings.{lists_left}
 use Rattle.chain_join.specs.declared.second.Third.{Third}
 use Rattle.chain_join.specs.declared.triples.Triple.{Triple}
 use Rattle.chain_join.specs.Triples.{triple_loop}

@@ -5,7 +5,8 @@ use Rattle.trace_law.specs.declared.setting.Setting.{Setting}
 use Rattle.trace_law.specs.declared.run.Run.{Run}
 use Rattle.trace_law.specs.Family.{first_rest}
 use Rattle.trace_law.specs.Runs.{IsRunOf}
-use Rattle.join_runtime.specs.Endings.{EndsView, IsFinishedFamily, lists_left}
+use Rattle.actor_core.specs.Players.{IsFinishedFamily}
+use Rattle.join_runtime.specs.Endings.{EndsView, lists_left}
 pub use Rattle.group_split.specs.Sizes.{digits, sizes, before, IsGroupOf, is_of, word_of, numbers_of}
 pub use Rattle.group_split.specs.Parts.{part, input_of_part, setting_of_group, pair_in}
 

@@ -6,7 +6,8 @@ use Rattle.trace_law.specs.declared.input.Input.{Input}
 use Rattle.trace_law.specs.declared.setting.Setting.{Setting}
 use Rattle.trace_law.specs.Join.{nested_loop}
 use Rattle.load_controller.specs.declared.line.TurnLine.{TurnLine}
-use Rattle.join_runtime.specs.Endings.{EndsView, IsFinishedFamily, lists_left}
+use Rattle.actor_core.specs.Players.{IsFinishedFamily}
+use Rattle.join_runtime.specs.Endings.{EndsView, lists_left}
 use Rattle.chain_join.specs.declared.chain.ChainRun.{ChainRun}
 use Rattle.chain_join.specs.declared.second.Third.{Third as ChainThird}
 use Rattle.chain_join.specs.declared.triples.Triple.{Triple}

@@ -6,7 +6,8 @@ use Rattle.trace_law.specs.declared.run.Run.{Run}
 use Rattle.trace_law.specs.declared.setting.Setting.{Setting}
 use Rattle.load_controller.specs.declared.line.TurnLine.{TurnLine}
 use Rattle.link_trace.specs.Order.{IsReplay}
-use Rattle.join_runtime.specs.Endings.{EndsView, IsFinishedFamily, lists_left}
+use Rattle.actor_core.specs.Players.{IsFinishedFamily}
+use Rattle.join_runtime.specs.Endings.{EndsView, lists_left}
 use Rattle.group_split.specs.Groups.{AreGroups}
 use Rattle.group_split.specs.Parts.{input_of_part, part, setting_of_group}
 use Rattle.group_split.specs.Sizes.{digits, numbers_of}
