@@ -12,6 +12,7 @@ pub mod EventCounts
 pub mod EventLimit
 pub mod Sent
 pub mod Runs
+pub mod Journals
 pub mod Seated
 pub mod CompleteAnswer
 pub mod Stilled

@@ -5,6 +5,7 @@ use Rattle.epoch_tags.specs.declared.actor.Actor.{Actor}
 use Rattle.epoch_tags.specs.declared.message.Msg.{Msg}
 use Rattle.actor_core.specs.Lists.{ActorLists, Cause, Took, Began, same_actor, posted_to, with_cause}
 use Rattle.actor_core.specs.Standing.{Start, Stands, IsLive, given_by}
+use Rattle.actor_core.specs.Families.{journal_of}
 use Rattle.actor_core.specs.Players.{Player, Runs}
 
 -- ---- one after another
@@ -54,6 +55,12 @@ cause_extends (Took from m) f a = go (same_actor from a)
     go true = record { rest = m ∷ []; joins = refl }
     go false = prefix_self (f a) (f a) refl
 cause_extends Began f a = prefix_self (f a) (f a) refl
+
+-- the journal grows
+pub runs_journal : (n : ℕ) (s t : Player) → Runs n s t → IsPrefix (journal_of s.core) (journal_of t.core)
+runs_journal zero s t runs = prefix_self (journal_of s.core) (journal_of t.core) (ap (λ (p : Player). journal_of p.core) runs)
+runs_journal (suc n) s t runs =
+    prefix_more (journal_of s.core) (journal_of runs.0.core) (journal_of t.core) (runs_journal n s runs.0 runs.1) runs.2.grows
 
 -- each list of the one is a front of the other's
 pub record Grows (old new : ActorLists) : Type 0 where

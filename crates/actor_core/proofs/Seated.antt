@@ -3,19 +3,20 @@ use Rattle.std.proofs.Common.{◌≡◌, ℕ, ◌+◌, ◌<◌, ltb, ltb-true, r
 use Rattle.std.specs.Prelude.{slice_get}
 use Rattle.std.proofs.lemmas.List.{get_or-map, length-map}
 use Rattle.std.proofs.lemmas.Option.{slice_get-get_or}
+use Rattle.join_rows.specs.Lists.{IsPrefix}
 use Rattle.epoch_tags.specs.declared.actor.Actor.{Actor}
 use Rattle.epoch_tags.specs.declared.actor.Actor.TheVariants.{Feeder, Joiner, Controller, Collector}
 use Rattle.trace_law.specs.declared.input.Input.{Input}
 use Rattle.trace_law.specs.declared.setting.Setting.{Setting}
 use Rattle.actor_core.specs.Lists.{ActorLists}
 use Rattle.actor_core.specs.Standing.{Start, Stands}
-use Rattle.actor_core.specs.Families.{core_in, start_for}
+use Rattle.actor_core.specs.Families.{core_in, journal_of, start_for}
 use Rattle.actor_core.specs.Numbers.{number, at_number}
-use Rattle.actor_core.specs.Players.{AllStand, Extends, Player, Runs, lists_among, lists_at}
+use Rattle.actor_core.specs.Players.{AllStand, Extends, Player, Runs, journal_among, journal_at, lists_among, lists_at}
 use Rattle.actor_core.specs.declared.machines.Core.{Core}
 use Rattle.actor_core.proofs.Beginnings.{there}
 use Rattle.actor_core.proofs.OwnNumbers.{none_some, some_is}
-use Rattle.actor_core.proofs.Runs.{Grows, grows_same, runs_grow, runs_stand}
+use Rattle.actor_core.proofs.Runs.{Grows, grows_same, runs_grow, runs_journal, runs_stand}
 
 -- a number is below that of all actors
 pub number_low : (joiners feeders : ℕ) (a : Actor) (n : ℕ) → number joiners feeders a ≡ Some n → n < feeders + joiners + 2
@@ -167,6 +168,14 @@ module _ (joiners feeders : ℕ) (old new : List Core) (f g : Actor → ActorLis
 
   pub extends : Extends f g
   extends = record { received = λ from to. (all_grow to).received from; sent = λ from to. (all_grow from).sent to }
+
+  -- the controller's journal grows
+  pub journal_grows : IsPrefix (journal_among joiners feeders old) (journal_among joiners feeders new)
+  journal_grows =
+      let own = all.each Controller (feeders + joiners) refl in
+      let front = runs_journal own.holds.count (record { core = own.before; lists = f Controller }) (record { core = own.after; lists = g Controller }) own.holds.runs in
+      subst (λ js. IsPrefix js (journal_among joiners feeders new)) (sym (ap journal_at own.was))
+      (subst (IsPrefix (journal_of own.before)) (sym (ap journal_at own.now)) front)
 
   pub stand_after : (input : Input) (setting : Setting) → AllStand input setting joiners feeders old f → AllStand input setting joiners feeders new g
   stand_after = still_stand HasRun joiners feeders old new f g all (λ s t ran. runs_stand ran.count s t ran.runs)

@@ -7,6 +7,7 @@ use Rattle.epoch_tags.specs.Messages.{asks, draineds, grants}
 use Rattle.epoch_tags.specs.Posts.{joiner_msg, feeder_msg, controller_msg, collector_msg}
 use Rattle.epoch_tags.specs.declared.actor.Actor.{Actor}
 use Rattle.epoch_tags.specs.declared.actor.Actor.TheVariants.{Feeder, Joiner, Controller, Collector}
+use Rattle.load_controller.specs.declared.line.TurnLine.{TurnLine}
 use Rattle.trace_law.specs.declared.input.Input.{Input}
 use Rattle.trace_law.specs.declared.setting.Setting.{Setting}
 use Rattle.trace_law.specs.Validity.{IsValid}
@@ -28,7 +29,7 @@ use Rattle.actor_core.proofs.Waiting.{waits_says}
 module _ (input : Input) (setting : Setting) (joiners feeders : ℕ) (cores : List Core) (f : Actor → ActorLists) (all : AllStand input setting joiners feeders cores f) (fronts : AreFronts f)
     (received : (from to : Actor) → HasLink setting.k setting.feeders from to → (f to).received from ≡ (f from).sent to)
     (waits : (p : ℕ) → p < setting.feeders → (core : Core) → core_in joiners feeders cores (Feeder p) ≡ Some core → Waits core) where
-  abbrev journal : List _
+  abbrev journal : List TurnLine
   journal = journal_of (all.stands Controller tt).0
 
   abbrev agrees : IsAgreeing input setting (first_rest setting) (family_of journal f)

@@ -28,7 +28,8 @@ abbrev pub MayBegin : Cause → Core → Type 0
 MayBegin (Took from m) core = ⊤
 MayBegin Began core = ¬ Waits core
 
--- one event of the machine: its cause was received and its posts were sent, in order
+-- one event of the machine: its cause was received and its posts were sent, in order; its journal grows, and it gives no
+-- pair
 pub record MakesEvent (old new : Player) : Type 0 where
   pub cause : Cause
   pub posts : List Post
@@ -36,6 +37,7 @@ pub record MakesEvent (old new : Player) : Type 0 where
   pub free : MayBegin cause old.core
   pub live : IsLive new.core
   pub given : given_by new.core ≡ given_by old.core
+  pub grows : IsPrefix (journal_of old.core) (journal_of new.core)
   pub lists : new.lists ≡ with_event cause posts old.lists
 
 -- so many events, one after another

@@ -3,6 +3,8 @@ ghost use Rattle.std.specs.Prelude.{◌≡◌, Ok, true, false, IfSome, IfNone, 
 ghost use Rattle.load_controller.specs.Standing.{ControllerState};
 ghost use Rattle.pair_collector.specs.Standing.{CollectorState};
 ghost use Rattle.actor_core.specs.declared.machines.Core.TheVariants.{Controller as TheController, Collector as TheCollector};
+ghost use Rattle.join_rows.specs.Lists.{IsPrefix};
+ghost use Rattle.actor_core.specs.Families.{journal_of};
 ghost use Rattle.actor_core.specs.Lists.{Took, Began};
 ghost use Rattle.actor_core.specs.Standing.{Occurs, IsOver, GoesOn, Waits, IsLive, given_by};
 
@@ -29,6 +31,7 @@ impl<'a> Core<'a> {
             (Occurs (Took from msg) self.old self.new sends.old sends.new) }
         ensures live { OnOk result (IsLive self.new) }
         ensures given { given_by self.new ≡ given_by self.old }
+        ensures grows { OnOk result (IsPrefix (journal_of self.old) (journal_of self.new)) }
     {
         match self {
             Core::Feeder(feeder) => match (from, msg) {
@@ -63,6 +66,7 @@ impl<'a> Core<'a> {
         ensures free { result ≡ Ok true → ¬ Waits self.old }
         ensures live { OnOk result (IsLive self.new) }
         ensures given { given_by self.new ≡ given_by self.old }
+        ensures grows { OnOk result (IsPrefix (journal_of self.old) (journal_of self.new)) }
     {
         match self {
             Core::Feeder(feeder) => feeder.begin(sends),

@@ -3,11 +3,12 @@ use Rattle.std.proofs.Common.{◌≡◌, ℕ, ◌+◌, ◌<◌, inl, inr, refl, 
 use Rattle.std.specs.List.{SwappedAt}
 use Rattle.std.proofs.lemmas.Bool.{cases_eq}
 use Rattle.std.proofs.lemmas.List.{get_or_default, get_or-set_other, get_or-set_same, length-set}
+use Rattle.join_rows.specs.Lists.{IsPrefix}
 use Rattle.trace_law.specs.declared.input.Input.{Input}
 use Rattle.trace_law.specs.declared.setting.Setting.{Setting}
-use Rattle.actor_core.specs.Players.{AllStand, Extends, lists_among}
+use Rattle.actor_core.specs.Players.{AllStand, Extends, journal_among, lists_among}
 use Rattle.actor_core.proofs.Runs.{runs_live}
-use Rattle.actor_core.proofs.Seated.{AllRelate, HasRun, all_relate, extends, stand_after}
+use Rattle.actor_core.proofs.Seated.{AllRelate, HasRun, all_relate, extends, journal_grows, stand_after}
 use Rattle.join_runtime.specs.Views.{SeatView, frame_of, lists_of, player}
 use Rattle.join_runtime.specs.Turns.{Advances, AllStep, AllWork, IsAlike, Steps, Works}
 use Rattle.join_runtime.specs.Joins.{AreGathered, AreSettled}
@@ -115,6 +116,9 @@ module _ (went : Bool) (joiners feeders : ℕ) (old new : List SeatView) (long :
 
   pub extends_after : Extends (lists_among lists_of joiners feeders old) (lists_among lists_of joiners feeders new)
   extends_after = extends joiners feeders _ _ _ _ ran
+
+  pub journal_after : IsPrefix (journal_among joiners feeders (map (λ s. s.core) old)) (journal_among joiners feeders (map (λ s. s.core) new))
+  journal_after = journal_grows joiners feeders _ _ _ _ ran
 
   pub stands_after : (input : Input) (setting : Setting) → AllStand input setting joiners feeders (map (λ s. s.core) old) (lists_among lists_of joiners feeders old)
       → AllStand input setting joiners feeders (map (λ s. s.core) new) (lists_among lists_of joiners feeders new)

@@ -1,10 +1,12 @@
 -- What a turn of a seat does, and several turns.
 use Rattle.std.specs.Prelude.{◌≡◌, ◌<◌, ◌⊎◌, ⊤, ℕ, true, false, List, length, slice_index_or}
+use Rattle.join_rows.specs.Lists.{IsPrefix}
 use Rattle.epoch_tags.specs.declared.actor.Actor.{Actor}
 use Rattle.epoch_tags.specs.declared.message.Post.{Post}
 use Rattle.ruled_links.specs.Inboxes.{InboxView, OfSender, all_known, is_sender}
 use Rattle.actor_core.specs.Lists.{Cause, Took, Began, with_cause}
 use Rattle.actor_core.specs.Standing.{Occurs, Waits, IsLive, given_by}
+use Rattle.actor_core.specs.Families.{journal_of}
 use Rattle.actor_core.specs.Players.{MakesEvent, MayBegin, Runs}
 use Rattle.actor_core.specs.declared.machines.Core.{Core}
 use Rattle.actor_core.specs.declared.step.Step.{Step}
@@ -36,6 +38,7 @@ pub record IsCaused (old new : Core) (before after : InboxView) (none sends : Li
   pub heard : IsHeard cause before.senders
   pub live : IsLive new
   pub given : given_by new ≡ given_by old
+  pub grows : IsPrefix (journal_of old) (journal_of new)
   pub received : (from : Actor) → received_of after.received from ≡ with_cause cause (received_of before.received) from
 
 -- by what the step tells: the first half of an event, or nothing was to be done

@@ -1,6 +1,7 @@
 // A bout: turns of all seats side by side, and then the two ends of each link held together.
 
 ghost use Rattle.std.specs.Prelude.{◌≡◌, ◌<◌, ℕ, true, false, Ok, OnOk, OnErr, None, length, map, slice_index_or};
+ghost use Rattle.join_rows.specs.Lists.{IsPrefix};
 ghost use Rattle.trace_law.specs.declared.input.Input.{Input as Input'};
 ghost use Rattle.trace_law.specs.declared.setting.Setting.{Setting as Setting'};
 ghost use Rattle.trace_law.specs.Validity.{IsValid};
@@ -10,7 +11,7 @@ ghost use Rattle.join_runtime.specs.Views.{SeatView, frame_of};
 ghost use Rattle.join_runtime.specs.Turns.{AllStep, IsAlike};
 ghost use Rattle.join_runtime.specs.Joins.{ActorsDiffer, AllLead, AreGathered, IsSlotOf, Tells, slot_of};
 ghost use Rattle.join_runtime.specs.Bouts.{AllAdvance, AllLive, AllRest, IsStill, NoneSpent, SomeReady, StandsFor, lists_in};
-ghost use Rattle.join_runtime.specs.Endings.{is_collected};
+ghost use Rattle.join_runtime.specs.Endings.{is_collected, journal_in};
 
 use crate::dealt::work;
 use crate::seat::Seat;
@@ -215,6 +216,7 @@ pub fn bout<R: Threads + Wait + Sync, G: Gate>(
         → is_collected seats.old ≡ true }
     ensures agrees { OnOk result (AreFronts (lists_in seats.new)) }
     ensures extends { OnOk result (Extends (lists_in seats.old) (lists_in seats.new)) }
+    ensures journal { OnOk result (IsPrefix (journal_in seats.old) (journal_in seats.new)) }
     ensures stands { OnOk result ((input : Input') (setting : Setting')
         → StandsFor input setting seats.old → StandsFor input setting seats.new) }
     ensures goes_on { OnOk result ((seats.old.spent ≡ false) × (seats.new.spent ≡ false)) }

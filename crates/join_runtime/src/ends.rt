@@ -15,8 +15,8 @@ ghost use Rattle.join_runtime.specs.Endings.{end_of, is_collected, journal_in, l
 
 use crate::bouts::Seats;
 use crate::seat::Seat;
-use join_rows::Items;
 use actor_core::{Core, answer, last_machines};
+use join_rows::Items;
 use load_controller::Controller;
 use pair_collector::Collector;
 use ruled_links::{Inbox, Mouth};

@@ -5,8 +5,8 @@ ghost use Rattle.epoch_tags.specs.declared.actor.Actor.{Actor as Actor'};
 ghost use Rattle.actor_core.specs.Lists.{posted_to};
 ghost use Rattle.join_runtime.specs.Views.{address_of, sent_by, sent_at, sent_through};
 
-use epoch_tags::{Envelope, Msg, Post, Sends};
 use actor_core::number;
+use epoch_tags::{Envelope, Msg, Post, Sends};
 use ruled_links::Mouth;
 use std::alloc::AllocError;
 use std::sync::Wait;

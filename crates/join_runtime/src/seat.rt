@@ -16,8 +16,8 @@ ghost use Rattle.join_runtime.specs.Early.{Gives};
 
 use crate::ends::End;
 use crate::mouths::put_all;
-use epoch_tags::{Actor, Envelope, Pairs, Sends};
 use actor_core::{Core, Step};
+use epoch_tags::{Actor, Envelope, Pairs, Sends};
 use ruled_links::{Inbox, Mouth, gather_mouth};
 use std::alloc::{AllocError, Global};
 use std::marker::Model;

@@ -16,8 +16,8 @@ ghost use Rattle.pair_collector.specs.Standing.{nothing_yet};
 
 use crate::bouts::Seats;
 use crate::seat::{Seat, no_mouths};
-use epoch_tags::Actor;
 use actor_core::{core_at, has_link, joiners_of, number};
+use epoch_tags::Actor;
 use ruled_links::{Actors, Mouth, Mouths, inbox};
 use std::alloc::{AllocError, Global};
 use std::mem;

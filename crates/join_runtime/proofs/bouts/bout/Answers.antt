@@ -4,7 +4,7 @@ use Rattle.join_runtime.specs.Views.{frame_of}
 use Rattle.join_runtime.specs.Joins.{AreJoined}
 use Rattle.join_runtime.specs.Bouts.{SeatsView}
 use Rattle.join_runtime.proofs.LinkLists.{busy, fronts, rest_collected, still}
-use Rattle.join_runtime.proofs.SeatBouts.{extends_after, settled_after, stands_after}
+use Rattle.join_runtime.proofs.SeatBouts.{extends_after, journal_after, settled_after, stands_after}
 use Rattle.join_runtime.proofs.bouts.bout.Goals as goal
 
 pub invariant_of-seats-2 : goal.invariant_of-seats-2
@@ -64,6 +64,18 @@ returns-clause-extends g c =
     let all = sym (length-map seats.items frame_of) ∙ c.seats.invariant.0.all in
     rw (← c.seats.view_is, items)
     (extends_after c.in_ok-went.went c.seats.inside.joiners c.seats.inside.feeders seats.items new long all (λ is. said.went (ap Ok is)) (λ is. said.same (ap Ok is)))
+
+pub returns-clause-journal : goal.returns-clause-journal
+returns-clause-journal g c =
+    let seats = c.seats.inside.seats in
+    let new = c.bout_of.new.seats in
+    let value = c.as_mut_slice.ensures.value in
+    let long : length new ≡ length seats.items = c.bout_of.auto.seats ∙ ap length value in
+    let items = with_items_is seats new (long ∙ sym seats.ok.0) in
+    let said = rw value at c.in_ok-went.ensures in
+    let all = sym (length-map seats.items frame_of) ∙ c.seats.invariant.0.all in
+    rw (← c.seats.view_is, items)
+    (journal_after c.in_ok-went.went c.seats.inside.joiners c.seats.inside.feeders seats.items new long all (λ is. said.went (ap Ok is)) (λ is. said.same (ap Ok is)))
 
 pub returns-clause-stands : goal.returns-clause-stands
 returns-clause-stands g c =

@@ -1,4 +1,5 @@
-use Rattle.std.proofs.Common.{◌∙◌, Ok, ap, arith, inr, refl}
+use Rattle.std.proofs.Common.{◌∙◌, Ok, add-one, ap, arith, inr, refl, subst, suc, sym}
+use Rattle.actor_core.specs.Players.{Runs}
 use Rattle.join_runtime.specs.Views.{player}
 use Rattle.join_runtime.proofs.SeatTurns.{ends_joined, ends_self, turn_ends, works_rested, works_spent}
 use Rattle.join_runtime.proofs.seat.Seat.turns_up_to.Goals as goal
@@ -9,8 +10,9 @@ loop-round-init g c = record { runs = refl; ends = ends_self c.args.self.now c.a
 pub loop-round-preserved : goal.loop-round-preserved
 loop-round-preserved g c =
     let turn = c.in-Ok-Took.ensures.took (ap Ok c.in-Ok-Took.field-0-is) in
+    let more : Runs (suc c.loop-round.round) (player c.args.self.now) (player c.turn.new.self) = (player c.loop-round.self, c.loop-round.invariant.runs, turn.event) in
     record {
-      runs = (player c.loop-round.self, c.loop-round.invariant.runs, turn.event);
+      runs = subst (λ n. Runs n (player c.args.self.now) (player c.turn.new.self)) (sym (add-one c.loop-round.round)) more;
       ends = ends_joined c.args.self.now c.loop-round.self c.turn.new.self c.loop-round.invariant.ends (turn_ends c.loop-round.self c.turn.new.self turn);
       none = λ z. absurd (omega (arith, z));
     }
