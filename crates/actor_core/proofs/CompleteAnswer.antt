@@ -3,6 +3,7 @@ use Rattle.std.proofs.Common.{◌≡◌, ℕ, ◌+◌, ◌^◌, sym, ap, subst, 
 use Rattle.std.specs.Prelude.{slice_get, ⊤}
 use Rattle.epoch_tags.specs.declared.actor.Actor.{Actor}
 use Rattle.epoch_tags.specs.declared.actor.Actor.TheVariants.{Controller, Collector}
+use Rattle.load_controller.specs.declared.line.TurnLine.{TurnLine}
 use Rattle.load_controller.specs.Standing.{ControllerState}
 use Rattle.pair_collector.specs.Law.{CollectorLists, IsComplete}
 use Rattle.pair_collector.specs.Standing.{CollectorState, StandsFor as CollectorStands, is_complete}
@@ -30,14 +31,16 @@ use Rattle.actor_core.proofs.OwnNumbers.{none_some, some_is}
 -- ---- what a collector's machine says
 
 -- it took all only if it is complete
-pub core_says : (n : ℕ) (ls : ActorLists) (core : Core) → Stands (OfCollector n) ls core → is_complete_core core ≡ true → IsComplete n (collector_lists ls)
+pub core_says : (n : ℕ) (ls : ActorLists) (core : Core) → Stands (OfCollector n) ls core → is_complete_core core ≡ true
+    → IsComplete n (collector_lists ls)
 core_says n ls (TheFeeder f) st done = absurd st
 core_says n ls (TheJoiner j) st done = absurd st
 core_says n ls (TheController c) st done = absurd st
 core_says n ls (TheCollector c) st done = (complete_says n (collector_lists ls) c st).0 done
 
 -- and it is complete if it took all
-pub complete_core : (n : ℕ) (ls : ActorLists) (core : Core) → Stands (OfCollector n) ls core → IsComplete n (collector_lists ls) → is_complete_core core ≡ true
+pub complete_core : (n : ℕ) (ls : ActorLists) (core : Core) → Stands (OfCollector n) ls core
+    → IsComplete n (collector_lists ls) → is_complete_core core ≡ true
 complete_core n ls (TheFeeder f) st all = absurd st
 complete_core n ls (TheJoiner c) st all = absurd st
 complete_core n ls (TheController c) st all = absurd st
@@ -45,7 +48,8 @@ complete_core n ls (TheCollector c) st all = (complete_says n (collector_lists l
 
 -- ---- the last two machines are the controller's and the collector's
 
-module _ (joiners feeders : ℕ) (cores : List Core) (all : length cores ≡ feeders + joiners + 2) (controller : ControllerState) (collector : CollectorState) (last : AreLast cores controller collector) where
+module _ (joiners feeders : ℕ) (cores : List Core) (all : length cores ≡ feeders + joiners + 2)
+    (controller : ControllerState) (collector : CollectorState) (last : AreLast cores controller collector) where
   place_is : last.before ≡ feeders + joiners
   place_is = let whole = sym last.many ∙ all in omega arith
 
@@ -65,31 +69,43 @@ module _ (joiners feeders : ℕ) (cores : List Core) (all : length cores ≡ fee
 
 -- ---- the family
 
-module _ (input : Input) (setting : Setting) (joiners feeders : ℕ) (cores : List Core) (f : Actor → ActorLists) (all : AllStand input setting joiners feeders cores f) (fronts : AreFronts f) where
+module _ (input : Input) (setting : Setting) (joiners feeders : ℕ) (cores : List Core) (f : Actor → ActorLists)
+    (all : AllStand input setting joiners feeders cores f) (fronts : AreFronts f) where
   abbrev pub machines : (a : Actor) → IsActor setting a → (core : Core) × Stands (start_for input setting a) (f a) core
   machines a is = ((all.stands a is).0, (all.stands a is).2)
 
-  journal_is : journal_among joiners feeders cores ≡ journal_of (all.stands Controller tt).0
+  abbrev journal : List TurnLine
+  journal = journal_among joiners feeders cores
+
+  pub journal_is : journal ≡ journal_of (all.stands Controller tt).0
   journal_is = ap journal_at (all.stands Controller tt).1
 
   -- the lists agree
-  pub agrees : IsAgreeing input setting (first_rest setting) (family_of (journal_among joiners feeders cores) f)
+  pub agrees : IsAgreeing input setting (first_rest setting) (family_of journal f)
   agrees =
       subst (λ js. IsAgreeing input setting (first_rest setting) (family_of js f)) (sym journal_is)
       (agreeing input setting f machines fronts ⊥ (λ w. absurd w))
 
   -- where the collector is complete, they are finished
-  pub complete_finished : CompleteIsFinished → IsValid input setting → is_complete_among joiners feeders cores ≡ true → IsFinishedFamily input setting (journal_among joiners feeders cores) f
+  pub complete_finished : CompleteIsFinished → IsValid input setting → is_complete_among joiners feeders cores ≡ true
+      → IsFinishedFamily input setting journal f
   complete_finished law valid done =
       let own = all.stands Collector tt in
+      let begins = first_stands input setting valid in
       let collected = core_says (2 ^ setting.k) (f Collector) own.0 own.2 (sym (ap is_complete_at own.1) ∙ done) in
-      record { agrees = agrees; finished = law input setting (first_rest setting) (family_of (journal_among joiners feeders cores) f) valid (first_stands input setting valid) agrees collected }
+      record {
+        agrees = agrees;
+        finished = law input setting (first_rest setting) (family_of journal f) valid begins agrees collected;
+      }
 
   -- and so they are where the work of all is over
-  pub over_finished : IsAllAt IsOver cores → IsFinishedFamily input setting (journal_among joiners feeders cores) f
+  pub over_finished : IsAllAt IsOver cores → IsFinishedFamily input setting journal f
   over_finished over =
       subst (λ js. IsFinishedFamily input setting js f) (sym journal_is)
-      (record { agrees = agreeing input setting f machines fronts ⊤ all_over; finished = is_finished input setting f machines fronts ⊤ all_over tt })
+      (record {
+        agrees = agreeing input setting f machines fronts ⊤ all_over;
+        finished = is_finished input setting f machines fronts ⊤ all_over tt;
+      })
     where
       found : (n : Option ℕ) (core : Core) → at_number None n (λ k. slice_get cores k) ≡ Some core → IsOver core
       found None core is = absurd (none_some core is)
@@ -101,19 +117,35 @@ module _ (input : Input) (setting : Setting) (joiners feeders : ℕ) (cores : Li
 -- ---- the answer
 
 -- the last two machines of a finished family answer its run
-module _ (law : FinishedAnswers) (input : Input) (setting : Setting) (joiners feeders : ℕ) (cores : List Core) (f : Actor → ActorLists) (valid : IsValid input setting) (all : AllStand input setting joiners feeders cores f)
-    (family : IsFinishedFamily input setting (journal_among joiners feeders cores) f) (controller : ControllerState) (collector : CollectorState) (last : AreLast cores controller collector) (bouts : ℕ) (run : Run)
-    (answers : (joiners' : ℕ) (ls : CollectorLists) → CollectorStands joiners' ls collector → IsAnswerOf joiners' ls controller.journal bouts run) where
-  run_among : IsRunOf input setting (first_rest setting).line (journal_among joiners feeders cores) run
-  run_among =
+module _ (law : FinishedAnswers) (input : Input) (setting : Setting) (joiners feeders : ℕ) (cores : List Core)
+    (f : Actor → ActorLists) (valid : IsValid input setting) (all : AllStand input setting joiners feeders cores f)
+    (family : IsFinishedFamily input setting (journal_among joiners feeders cores) f)
+    (controller : ControllerState) (collector : CollectorState) (last : AreLast cores controller collector)
+    (bouts : ℕ) (run : Run) (answers : (joiners' : ℕ) (ls : CollectorLists) → CollectorStands joiners' ls collector
+    → IsAnswerOf joiners' ls controller.journal bouts run) where
+  abbrev told : List TurnLine
+  told = journal_among joiners feeders cores
+
+  answer : IsAnswerOf (2 ^ setting.k) (collector_lists (f Collector)) controller.journal bouts run
+  answer =
       let own = all.stands Collector tt in
-      let core_is = some_is own.0 (TheCollector collector) (sym own.1 ∙ collector_named joiners feeders cores all.all controller collector last) in
-      let its = subst (λ core. Stands (OfCollector (2 ^ setting.k)) (f Collector) core) core_is own.2 in
-      let answer = answers (2 ^ setting.k) (collector_lists (f Collector)) its in
-      let told = law input setting (first_rest setting) (family_of (journal_among joiners feeders cores) f) valid (first_stands input setting valid) family.agrees family.finished answer.collected answer.collects bouts in
+      let named = collector_named joiners feeders cores all.all controller collector last in
+      let is = some_is own.0 (TheCollector collector) (sym own.1 ∙ named) in
+      let its = subst (λ core. Stands (OfCollector (2 ^ setting.k)) (f Collector) core) is own.2 in
+      answers (2 ^ setting.k) (collector_lists (f Collector)) its
+
+  run_among : IsRunOf input setting (first_rest setting).line told run
+  run_among =
+      let rest = first_rest setting in
+      let begins = first_stands input setting valid in
+      let collected = answer.collected in
+      let agreed = family.agrees in
+      let is_run =
+      law input setting rest (family_of told f) valid begins agreed family.finished collected answer.collects bouts in
       let journal_is = journal_named joiners feeders cores all.all controller collector last in
-      let run_is : run ≡ run_of answer.collected (journal_among joiners feeders cores) bouts = answer.run_is ∙ ap (λ js. run_of answer.collected js bouts) (sym journal_is) in
-      subst (IsRunOf input setting (first_rest setting).line (journal_among joiners feeders cores)) (sym run_is) told
+      let run_is : run ≡ run_of collected told bouts =
+      answer.run_is ∙ ap (λ js. run_of collected js bouts) (sym journal_is) in
+      subst (IsRunOf input setting rest.line told) (sym run_is) is_run
 
   pub run_ends : IsRunOf input setting (first_rest setting).line run.journal run
   run_ends = subst (λ js. IsRunOf input setting (first_rest setting).line js run) (sym run_among.keeps) run_among

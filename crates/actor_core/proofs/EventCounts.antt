@@ -22,6 +22,7 @@ use Rattle.trace_law.specs.declared.input.Input.{Input}
 use Rattle.trace_law.specs.declared.setting.Setting.{Setting}
 use Rattle.actor_core.specs.Lists.{ActorLists, Cause, Took, Began, same_actor, posted_to, with_cause, with_event}
 use Rattle.actor_core.specs.Standing.{GoOut}
+use Rattle.actor_core.specs.Players.{AreLinked, IsLinked}
 use Rattle.actor_core.specs.Families.{start_for, IsActor, after_event}
 use Rattle.actor_core.proofs.Balances.{same_is}
 use Rattle.actor_core.proofs.OwnNumbers.{same_self}
@@ -249,14 +250,6 @@ began_counts setting p posts f low asks =
     feeder_more (Feeder p) Began posts f setting p low (omega arith)
 
 -- ---- what was sent goes over links
-
--- the message goes over a link, and is of that link's kind
-abbrev pub IsLinked : Setting → Actor → Actor → Msg → Type 0
-IsLinked setting from to m = HasLink setting.k setting.feeders from to × IsOfKind to m
-
--- all that was sent goes over links, and is of their kinds
-abbrev pub AreLinked : Setting → (Actor → ActorLists) → Type 0
-AreLinked setting f = (from to : Actor) → AllByRecursion (IsLinked setting from to) ((f from).sent to)
 
 posted_linked : (setting : Setting) (self to : Actor) (posts : List Post)
     → AllByRecursion (GoesOver setting.k setting.feeders self) posts

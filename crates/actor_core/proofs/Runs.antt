@@ -19,7 +19,8 @@ runs_joined m (suc n) s t u first then =
 -- ---- what the machine stands for, and what it gave
 
 -- the machine stands for the lists that it has then
-pub runs_stand : (n : ℕ) (s t : Player) → Runs n s t → (start : Start) → Stands start s.lists s.core → Stands start t.lists t.core
+pub runs_stand : (n : ℕ) (s t : Player) → Runs n s t → (start : Start) → Stands start s.lists s.core
+    → Stands start t.lists t.core
 runs_stand zero s t runs start st = subst (λ (p : Player). Stands start p.lists p.core) (sym runs) st
 runs_stand (suc n) s t runs start st =
     subst (λ ls. Stands start ls t.core) (sym runs.2.lists)
@@ -58,9 +59,11 @@ cause_extends Began f a = prefix_self (f a) (f a) refl
 
 -- the journal grows
 pub runs_journal : (n : ℕ) (s t : Player) → Runs n s t → IsPrefix (journal_of s.core) (journal_of t.core)
-runs_journal zero s t runs = prefix_self (journal_of s.core) (journal_of t.core) (ap (λ (p : Player). journal_of p.core) runs)
+runs_journal zero s t runs =
+    prefix_self (journal_of s.core) (journal_of t.core) (ap (λ (p : Player). journal_of p.core) runs)
 runs_journal (suc n) s t runs =
-    prefix_more (journal_of s.core) (journal_of runs.0.core) (journal_of t.core) (runs_journal n s runs.0 runs.1) runs.2.grows
+    prefix_more (journal_of s.core) (journal_of runs.0.core) (journal_of t.core) (runs_journal n s runs.0 runs.1)
+    runs.2.grows
 
 -- each list of the one is a front of the other's
 pub record Grows (old new : ActorLists) : Type 0 where
@@ -70,7 +73,8 @@ pub record Grows (old new : ActorLists) : Type 0 where
 -- lists that are the same
 pub grows_same : (old new : ActorLists) → new ≡ old → Grows old new
 grows_same old new is = record {
-  received = λ from. prefix_self (old.received from) (new.received from) (ap (λ (ls : ActorLists). ls.received from) is);
+  received = λ from.
+      prefix_self (old.received from) (new.received from) (ap (λ (ls : ActorLists). ls.received from) is);
   sent = λ to. prefix_self (old.sent to) (new.sent to) (ap (λ (ls : ActorLists). ls.sent to) is);
 }
 
@@ -82,9 +86,14 @@ runs_grow (suc n) s t runs =
     let middle = runs.0.lists in
     record {
       received = λ from.
-          prefix_more (s.lists.received from) (middle.received from) (t.lists.received from) (before.received from)
-          (subst (IsPrefix (middle.received from)) (sym (ap (λ (ls : ActorLists). ls.received from) runs.2.lists)) (cause_extends runs.2.cause middle.received from));
+          prefix_more (s.lists.received from) (middle.received from) (t.lists.received from)
+          (before.received from)
+          (subst (IsPrefix (middle.received from)) (sym (ap (λ (ls : ActorLists). ls.received from) runs.2.lists))
+          (cause_extends runs.2.cause middle.received from));
       sent = λ to.
           prefix_more (s.lists.sent to) (middle.sent to) (t.lists.sent to) (before.sent to)
-          (record { rest = posted_to to runs.2.posts; joins = sym (ap (λ (ls : ActorLists). ls.sent to) runs.2.lists) });
+          (record {
+            rest = posted_to to runs.2.posts;
+            joins = sym (ap (λ (ls : ActorLists). ls.sent to) runs.2.lists);
+          });
     }

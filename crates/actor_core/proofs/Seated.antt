@@ -19,7 +19,8 @@ use Rattle.actor_core.proofs.OwnNumbers.{none_some, some_is}
 use Rattle.actor_core.proofs.Runs.{Grows, grows_same, runs_grow, runs_journal, runs_stand}
 
 -- a number is below that of all actors
-pub number_low : (joiners feeders : ℕ) (a : Actor) (n : ℕ) → number joiners feeders a ≡ Some n → n < feeders + joiners + 2
+pub number_low : (joiners feeders : ℕ) (a : Actor) (n : ℕ) → number joiners feeders a ≡ Some n
+    → n < feeders + joiners + 2
 number_low joiners feeders (Feeder p) n is = go (ltb p feeders) refl is
   where
     go : (b : Bool) → ltb p feeders ≡ b → cond b (Some p) None ≡ Some n → n < feeders + joiners + 2
@@ -47,12 +48,11 @@ pub core_there : {S : Type 0} (core_of : S → Core) (joiners feeders : ℕ) (se
     → number joiners feeders a ≡ Some n → n < length seats
     → core_in joiners feeders (map core_of seats) a ≡ Some (core_of (get_or seats n d))
 core_there core_of joiners feeders seats a n d is low =
-    ap (λ (o : Option ℕ). at_number None o (λ k. slice_get (map core_of seats) k)) is
-    ∙ core_at core_of seats n d low
+    ap (λ (o : Option ℕ). at_number None o (λ k. slice_get (map core_of seats) k)) is ∙ core_at core_of seats n d low
 
 -- the lists of an actor's seat
-pub lists_there : {S : Type 0} (lists_of : S → ActorLists) (joiners feeders : ℕ) (seats : List S) (a : Actor) (n : ℕ) (d : S)
-    → number joiners feeders a ≡ Some n → n < length seats
+pub lists_there : {S : Type 0} (lists_of : S → ActorLists) (joiners feeders : ℕ) (seats : List S) (a : Actor) (n : ℕ)
+    (d : S) → number joiners feeders a ≡ Some n → n < length seats
     → lists_among lists_of joiners feeders seats a ≡ lists_of (get_or seats n d)
 lists_there lists_of joiners feeders seats a n d is low =
     ap (λ (o : Option ℕ). lists_at lists_of (at_number None o (λ k. slice_get seats k))) is
@@ -74,32 +74,41 @@ pub record AllRelate (R : Player → Player → Type 0) (joiners feeders : ℕ) 
   pub each : (a : Actor) (n : ℕ) → number joiners feeders a ≡ Some n → Relates R joiners feeders old new f g a
   pub others : (a : Actor) → number joiners feeders a ≡ None → g a ≡ f a
 
-module _ {S : Type 0} (core_of : S → Core) (lists_of : S → ActorLists) (R : Player → Player → Type 0) (joiners feeders : ℕ) (old new : List S) (long : length new ≡ length old) where
+module _ {S : Type 0} (core_of : S → Core) (lists_of : S → ActorLists) (R : Player → Player → Type 0)
+    (joiners feeders : ℕ) (old new : List S) (long : length new ≡ length old) where
   abbrev player : S → Player
   player s = record { core = core_of s; lists = lists_of s }
+
+  abbrev before : Actor → ActorLists
+  before = lists_among lists_of joiners feeders old
+
+  abbrev after : Actor → ActorLists
+  after = lists_among lists_of joiners feeders new
 
   -- so is the actor of one seat
   pub relate : (a : Actor) (n : ℕ) (d : S) → number joiners feeders a ≡ Some n → n < length old
       → R (player (get_or old n d)) (player (get_or new n d))
-      → Relates R joiners feeders (map core_of old) (map core_of new) (lists_among lists_of joiners feeders old) (lists_among lists_of joiners feeders new) a
+      → Relates R joiners feeders (map core_of old) (map core_of new) before after a
   relate a n d is low related =
       let low' : n < length new = subst (λ z. n < z) (sym long) low in
       let one = core_of (get_or old n d) in
       let other = core_of (get_or new n d) in
+      let first = lists_there lists_of joiners feeders old a n d is low in
+      let last = lists_there lists_of joiners feeders new a n d is low' in
       record {
         before = one;
         after = other;
         was = core_there core_of joiners feeders old a n d is low;
         now = core_there core_of joiners feeders new a n d is low';
         holds =
-            subst (λ ls. R (record { core = one; lists = ls }) (record { core = other; lists = lists_among lists_of joiners feeders new a })) (sym (lists_there lists_of joiners feeders old a n d is low))
-            (subst (λ ls. R (record { core = one; lists = lists_of (get_or old n d) }) (record { core = other; lists = ls })) (sym (lists_there lists_of joiners feeders new a n d is low')) related);
+            subst (λ ls. R (record { core = one; lists = ls }) (record { core = other; lists = after a })) (sym first)
+            (subst (λ ls. R (player (get_or old n d)) (record { core = other; lists = ls })) (sym last) related);
       }
 
   -- and so are all actors
   pub all_relate : length old ≡ feeders + joiners + 2
       → ((n : ℕ) (d : S) → n < length old → R (player (get_or old n d)) (player (get_or new n d)))
-      → AllRelate R joiners feeders (map core_of old) (map core_of new) (lists_among lists_of joiners feeders old) (lists_among lists_of joiners feeders new)
+      → AllRelate R joiners feeders (map core_of old) (map core_of new) before after
   all_relate all related = record {
     long = length-map new core_of ∙ (long ∙ sym (length-map old core_of));
     each = λ a n is.
@@ -113,23 +122,31 @@ module _ {S : Type 0} (core_of : S → Core) (lists_of : S → ActorLists) (R : 
 
 -- ---- what follows for all actors
 
-module _ (R : Player → Player → Type 0) (joiners feeders : ℕ) (old new : List Core) (f g : Actor → ActorLists) (all : AllRelate R joiners feeders old new f g) where
+module _ (R : Player → Player → Type 0) (joiners feeders : ℕ) (old new : List Core) (f g : Actor → ActorLists)
+    (all : AllRelate R joiners feeders old new f g) where
   -- of an actor whose machine is known before
   pub related_at : (a : Actor) (core : Core) → core_in joiners feeders old a ≡ Some core
-      → (core' : Core) × (core_in joiners feeders new a ≡ Some core') × R (record { core = core; lists = f a }) (record { core = core'; lists = g a })
+      → (core' : Core) × (core_in joiners feeders new a ≡ Some core')
+      × R (record { core = core; lists = f a }) (record { core = core'; lists = g a })
   related_at a core here = go (number joiners feeders a) refl
     where
       go : (o : Option ℕ) → number joiners feeders a ≡ o
-          → (core' : Core) × (core_in joiners feeders new a ≡ Some core') × R (record { core = core; lists = f a }) (record { core = core'; lists = g a })
-      go None is = absurd (none_some core (sym (ap (λ (o : Option ℕ). at_number None o (λ k. slice_get old k)) is) ∙ here))
+          → (core' : Core) × (core_in joiners feeders new a ≡ Some core')
+          × R (record { core = core; lists = f a }) (record { core = core'; lists = g a })
+      go None is =
+          let none = ap (λ (o : Option ℕ). at_number None o (λ k. slice_get old k)) is in
+          absurd (none_some core (sym none ∙ here))
       go (Some n) is =
           let own = all.each a n is in
-          let same = some_is own.before core (sym own.was ∙ here) in
-          (own.after, own.now, subst (λ c. R (record { core = c; lists = f a }) (record { core = own.after; lists = g a })) same own.holds)
+          let same = some_is own.before core (sym own.was ∙ here) in (
+            own.after,
+            own.now,
+            subst (λ c. R (record { core = c; lists = f a }) (record { core = own.after; lists = g a })) same own.holds,
+          )
 
   -- what holds of the lists of related players, and of lists that are the same, holds of each actor's
-  pub of_lists : (P : ActorLists → ActorLists → Type 0) → ((ls ls' : ActorLists) → ls' ≡ ls → P ls ls') → ((s t : Player) → R s t → P s.lists t.lists)
-      → (a : Actor) → P (f a) (g a)
+  pub of_lists : (P : ActorLists → ActorLists → Type 0) → ((ls ls' : ActorLists) → ls' ≡ ls → P ls ls')
+      → ((s t : Player) → R s t → P s.lists t.lists) → (a : Actor) → P (f a) (g a)
   of_lists P same some a = go (number joiners feeders a) refl
     where
       go : (o : Option ℕ) → number joiners feeders a ≡ o → P (f a) (g a)
@@ -139,19 +156,20 @@ module _ (R : Player → Player → Type 0) (joiners feeders : ℕ) (old new : L
           some (record { core = own.before; lists = f a }) (record { core = own.after; lists = g a }) own.holds
 
   -- the machines stand for the lists still
-  pub still_stand : ((s t : Player) → R s t → (start : Start) → Stands start s.lists s.core → Stands start t.lists t.core)
-      → (input : Input) (setting : Setting) → AllStand input setting joiners feeders old f → AllStand input setting joiners feeders new g
+  pub still_stand : ((s t : Player) → R s t → (start : Start) → Stands start s.lists s.core
+      → Stands start t.lists t.core)
+      → (input : Input) (setting : Setting) → AllStand input setting joiners feeders old f
+      → AllStand input setting joiners feeders new g
   still_stand keeps input setting st = record {
     joiners_are = st.joiners_are;
     feeders_are = st.feeders_are;
     all = all.long ∙ st.all;
     stands = λ a is.
         let own = st.stands a is in
-        let now = related_at a own.0 own.1 in (
-          now.0,
-          now.1,
-          keeps (record { core = own.0; lists = f a }) (record { core = now.0; lists = g a }) now.2 (start_for input setting a) own.2,
-        );
+        let now = related_at a own.0 own.1 in
+        let one : Player = record { core = own.0; lists = f a } in
+        let other : Player = record { core = now.0; lists = g a } in
+        (now.0, now.1, keeps one other now.2 (start_for input setting a) own.2);
   }
 
 -- ---- where each actor made some events
@@ -161,11 +179,14 @@ pub record HasRun (old new : Player) : Type 0 where
   pub count : ℕ
   pub runs : Runs count old new
 
-module _ (joiners feeders : ℕ) (old new : List Core) (f g : Actor → ActorLists) (all : AllRelate HasRun joiners feeders old new f g) where
+module _ (joiners feeders : ℕ) (old new : List Core) (f g : Actor → ActorLists)
+    (all : AllRelate HasRun joiners feeders old new f g) where
   -- each actor's lists grow
   pub all_grow : (a : Actor) → Grows (f a) (g a)
-  all_grow = of_lists HasRun joiners feeders old new f g all Grows grows_same (λ s t ran. runs_grow ran.count s t ran.runs)
+  all_grow =
+      of_lists HasRun joiners feeders old new f g all Grows grows_same (λ s t ran. runs_grow ran.count s t ran.runs)
 
+  -- so the lists of all extend those of before
   pub extends : Extends f g
   extends = record { received = λ from to. (all_grow to).received from; sent = λ from to. (all_grow from).sent to }
 
@@ -173,9 +194,14 @@ module _ (joiners feeders : ℕ) (old new : List Core) (f g : Actor → ActorLis
   pub journal_grows : IsPrefix (journal_among joiners feeders old) (journal_among joiners feeders new)
   journal_grows =
       let own = all.each Controller (feeders + joiners) refl in
-      let front = runs_journal own.holds.count (record { core = own.before; lists = f Controller }) (record { core = own.after; lists = g Controller }) own.holds.runs in
+      let one : Player = record { core = own.before; lists = f Controller } in
+      let other : Player = record { core = own.after; lists = g Controller } in
+      let front = runs_journal own.holds.count one other own.holds.runs in
       subst (λ js. IsPrefix js (journal_among joiners feeders new)) (sym (ap journal_at own.was))
       (subst (IsPrefix (journal_of own.before)) (sym (ap journal_at own.now)) front)
 
-  pub stand_after : (input : Input) (setting : Setting) → AllStand input setting joiners feeders old f → AllStand input setting joiners feeders new g
-  stand_after = still_stand HasRun joiners feeders old new f g all (λ s t ran. runs_stand ran.count s t ran.runs)
+  -- the machines stand for the lists still
+  pub stand_after : (input : Input) (setting : Setting) → AllStand input setting joiners feeders old f
+      → AllStand input setting joiners feeders new g
+  stand_after =
+      still_stand HasRun joiners feeders old new f g all (λ s t ran. runs_stand ran.count s t ran.runs)

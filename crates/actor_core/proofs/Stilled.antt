@@ -15,8 +15,8 @@ use Rattle.trace_law.specs.Laws.{QuietIsFinished}
 use Rattle.trace_law.specs.Family.{IsAgreeing, IsFinished, IsQuiet, feeder_start, first_rest}
 use Rattle.trace_law.proofs.First.{stands as first_stands}
 use Rattle.actor_core.specs.Lists.{ActorLists, feeder_lists}
-use Rattle.actor_core.specs.Standing.{GoesOn, Waits}
-use Rattle.actor_core.specs.Families.{AreFronts, core_in, family_of, journal_of}
+use Rattle.actor_core.specs.Standing.{GoesOn, Stands, Waits}
+use Rattle.actor_core.specs.Families.{AreFronts, IsActor, core_in, family_of, journal_of, start_for}
 use Rattle.actor_core.specs.Numbers.{actor_at, at_number}
 use Rattle.actor_core.specs.Elements.{IsSomeAt}
 use Rattle.actor_core.specs.Players.{AllStand, is_complete_among, is_complete_at}
@@ -26,35 +26,52 @@ use Rattle.actor_core.proofs.Families.{agrees as agreeing, none_goes}
 use Rattle.actor_core.proofs.OwnNumbers.{is_actor, number_there, some_is}
 use Rattle.actor_core.proofs.Waiting.{waits_says}
 
-module _ (input : Input) (setting : Setting) (joiners feeders : ℕ) (cores : List Core) (f : Actor → ActorLists) (all : AllStand input setting joiners feeders cores f) (fronts : AreFronts f)
+module _ (input : Input) (setting : Setting) (joiners feeders : ℕ) (cores : List Core) (f : Actor → ActorLists)
+    (all : AllStand input setting joiners feeders cores f) (fronts : AreFronts f)
     (received : (from to : Actor) → HasLink setting.k setting.feeders from to → (f to).received from ≡ (f from).sent to)
-    (waits : (p : ℕ) → p < setting.feeders → (core : Core) → core_in joiners feeders cores (Feeder p) ≡ Some core → Waits core) where
+    (waits : (p : ℕ) → p < setting.feeders → (core : Core) → core_in joiners feeders cores (Feeder p) ≡ Some core
+    → Waits core) where
   abbrev journal : List TurnLine
   journal = journal_of (all.stands Controller tt).0
 
+  abbrev cores_by_actor : (a : Actor) → IsActor setting a
+      → (core : Core) × Stands (start_for input setting a) (f a) core
+  cores_by_actor = machines input setting joiners feeders cores f all fronts
+
   abbrev agrees : IsAgreeing input setting (first_rest setting) (family_of journal f)
-  agrees = agreeing input setting f (machines input setting joiners feeders cores f all fronts) fronts ⊥ (λ w. absurd w)
+  agrees = agreeing input setting f cores_by_actor fronts ⊥ (λ w. absurd w)
 
   none_begins : (p : ℕ) → p < setting.feeders
-      → (0 < draineds (feeder_lists (f (Feeder p))).to_controller) ⊎ (grants (agrees.taken_by_feeder p) < asks (feeder_lists (f (Feeder p))).to_controller)
+      → (0 < draineds (feeder_lists (f (Feeder p))).to_controller)
+      ⊎ (grants (agrees.taken_by_feeder p) < asks (feeder_lists (f (Feeder p))).to_controller)
   none_begins p low =
       let own = all.stands (Feeder p) low in
-      waits_says p setting.feeders (feeder_start input setting (first_rest setting) p) (f (Feeder p)) own.0 (agrees.taken_by_feeder p) own.2 (agrees.feeders p low) (waits p low own.0 own.1)
+      let start = feeder_start input setting (first_rest setting) p in
+      let law = agrees.feeders p low in
+      waits_says p setting.feeders start (f (Feeder p)) own.0 (agrees.taken_by_feeder p) own.2 law
+      (waits p low own.0 own.1)
 
   quiet : IsQuiet input setting (first_rest setting) (family_of journal f) agrees
   quiet = record {
-    feeder_joiner = λ p j low low'. ap (filter_map joiner_msg) (received (Feeder p) (Joiner j) (feeder_joiner low low'));
+    feeder_joiner = λ p j low low'.
+        ap (filter_map joiner_msg) (received (Feeder p) (Joiner j) (feeder_joiner low low'));
     joiner_joiner = λ i j link. ap (filter_map joiner_msg) (received (Joiner i) (Joiner j) link);
-    controller_feeder = λ p low. ap (filter_map feeder_msg) (received Controller (Feeder p) (controller_feeder low));
-    feeder_controller = λ p low. ap (filter_map controller_msg) (received (Feeder p) Controller (feeder_controller low));
-    joiner_controller = λ j low. ap (filter_map controller_msg) (received (Joiner j) Controller (joiner_controller low));
-    joiner_collector = λ j low. ap (filter_map collector_msg) (received (Joiner j) Collector (joiner_collector low));
+    controller_feeder = λ p low.
+        ap (filter_map feeder_msg) (received Controller (Feeder p) (controller_feeder low));
+    feeder_controller = λ p low.
+        ap (filter_map controller_msg) (received (Feeder p) Controller (feeder_controller low));
+    joiner_controller = λ j low.
+        ap (filter_map controller_msg) (received (Joiner j) Controller (joiner_controller low));
+    joiner_collector = λ j low.
+        ap (filter_map collector_msg) (received (Joiner j) Collector (joiner_collector low));
     none_begins = none_begins;
   }
 
   module _ (law : QuietIsFinished) (valid : IsValid input setting) where
     finished : IsFinished input setting (first_rest setting) (family_of journal f) agrees
-    finished = law input setting (first_rest setting) (family_of journal f) valid (first_stands input setting valid) agrees quiet
+    finished =
+        let begins = first_stands input setting valid in
+        law input setting (first_rest setting) (family_of journal f) valid begins agrees quiet
 
     -- the collector is complete
     pub still_complete : is_complete_among joiners feeders cores ≡ true
@@ -69,9 +86,10 @@ module _ (input : Input) (setting : Setting) (joiners feeders : ℕ) (cores : Li
         let numbered = number_there joiners feeders some.place (subst (λ z. some.place < z) all.all low) in
         let is = is_actor setting joiners feeders a some.place all.joiners_are all.feeders_are numbered in
         let own = all.stands a is in
-        let there : core_in joiners feeders cores a ≡ Some some.there = ap (λ (i : Option ℕ). at_number None i (λ n. slice_get cores n)) numbered ∙ some.is in
-        none_goes input setting f (machines input setting joiners feeders cores f all fronts) fronts ⊥ (λ w. absurd w) finished a is
-        (subst GoesOn (some_is some.there own.0 (sym there ∙ own.1)) some.holds)
+        let there : core_in joiners feeders cores a ≡ Some some.there =
+        ap (λ (i : Option ℕ). at_number None i (λ n. slice_get cores n)) numbered ∙ some.is in
+        let same = some_is some.there own.0 (sym there ∙ own.1) in
+        none_goes input setting f cores_by_actor fronts ⊥ (λ w. absurd w) finished a is (subst GoesOn same some.holds)
 
     -- so who finds that some work goes on, or that none does, finds that none does
     pub still_is_done : (done : Bool) → (done ≡ false → IsSomeAt GoesOn cores) → done ≡ true

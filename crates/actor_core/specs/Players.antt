@@ -1,8 +1,12 @@
 -- Actors at work: what the events of a run do to machines and lists, and how a run ends.
 use Rattle.std.specs.Prelude.{◌≡◌, ◌+◌, ◌^◌, ⊤, ℕ, zero, suc, Bool, false, Option, Some, None, List, [], length, slice_get}
+use Rattle.std.specs.List.{AllByRecursion}
 use Rattle.join_rows.specs.Lists.{IsPrefix}
 use Rattle.epoch_tags.specs.declared.actor.Actor.{Actor}
 use Rattle.epoch_tags.specs.declared.actor.Actor.TheVariants.{Controller, Collector}
+use Rattle.epoch_tags.specs.Links.{HasLink}
+use Rattle.epoch_tags.specs.Posts.{IsOfKind}
+use Rattle.epoch_tags.specs.declared.message.Msg.{Msg}
 use Rattle.epoch_tags.specs.declared.message.Post.{Post}
 use Rattle.load_controller.specs.declared.line.TurnLine.{TurnLine}
 use Rattle.pair_collector.specs.Standing.{is_complete}
@@ -11,7 +15,7 @@ use Rattle.trace_law.specs.declared.setting.Setting.{Setting}
 use Rattle.trace_law.specs.Family.{IsAgreeing, IsFinished, first_rest}
 use Rattle.actor_core.specs.Lists.{ActorLists, Cause, Took, Began, no_lists, with_event}
 use Rattle.actor_core.specs.Standing.{Event, Stands, Waits, IsLive, given_by}
-use Rattle.actor_core.specs.Families.{IsActor, core_in, family_of, journal_of, start_for}
+use Rattle.actor_core.specs.Families.{AreFronts, IsActor, core_in, family_of, journal_of, start_for}
 use Rattle.actor_core.specs.Numbers.{number, at_number}
 use Rattle.actor_core.specs.declared.machines.Core.{Core}
 use Rattle.actor_core.specs.declared.machines.Core.TheVariants.{Feeder as TheFeeder, Joiner as TheJoiner, Controller as TheController, Collector as TheCollector}
@@ -28,8 +32,8 @@ abbrev pub MayBegin : Cause → Core → Type 0
 MayBegin (Took from m) core = ⊤
 MayBegin Began core = ¬ Waits core
 
--- one event of the machine: its cause was received and its posts were sent, in order; its journal grows, and it gives no
--- pair
+-- one event of the machine: its cause was received and its posts were sent, in order; its journal grows, and it gives
+-- no pair
 pub record MakesEvent (old new : Player) : Type 0 where
   pub cause : Cause
   pub posts : List Post
@@ -64,6 +68,19 @@ pub record Extends (old new : Actor → ActorLists) : Type 0 where
 -- what was sent from whomever to whomever was received
 abbrev pub AllReceived : (Actor → ActorLists) → Type 0
 AllReceived f = (from to : Actor) → (f to).received from ≡ (f from).sent to
+
+-- the message goes over a link of the run, and is of the kind that its receiver takes
+abbrev pub IsLinked : Setting → Actor → Actor → Msg → Type 0
+IsLinked setting from to m = HasLink setting.k setting.feeders from to × IsOfKind to m
+
+-- so does each message that was sent
+abbrev pub AreLinked : Setting → (Actor → ActorLists) → Type 0
+AreLinked setting f = (from to : Actor) → AllByRecursion (IsLinked setting from to) ((f from).sent to)
+
+-- and what was received on each link is a front of what was sent
+pub record AgreesOnLinks (setting : Setting) (f : Actor → ActorLists) : Type 0 where
+  pub fronts : AreFronts f
+  pub linked : AreLinked setting f
 
 -- ---- seats of any kind, one for each number: their actors' lists
 
@@ -104,7 +121,8 @@ is_complete_at (Some core) = is_complete_core core
 abbrev pub is_complete_among : ℕ → ℕ → List Core → Bool
 is_complete_among joiners feeders cores = is_complete_at (core_in joiners feeders cores Collector)
 
--- these lists and this journal are a family of the input and the setting that begins with no rows, agrees and is finished
+-- these lists and this journal are a family of the input and the setting that begins with no rows, agrees and is
+-- finished
 pub record IsFinishedFamily (input : Input) (setting : Setting) (journal : List TurnLine)
     (lists : Actor → ActorLists) : Type 0 where
   pub agrees : IsAgreeing input setting (first_rest setting) (family_of journal lists)

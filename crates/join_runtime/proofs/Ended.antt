@@ -27,16 +27,22 @@ use Rattle.join_runtime.specs.Endings.{EndsView, end_of, is_collected, journal_i
 
 -- ---- what is left of seats
 
-at_ends : (seats : List SeatView) (n : ℕ) → lists_at lists_of_end (slice_get (map end_of seats) n) ≡ lists_at lists_of (slice_get seats n)
+at_ends : (seats : List SeatView) (n : ℕ)
+    → lists_at lists_of_end (slice_get (map end_of seats) n) ≡ lists_at lists_of (slice_get seats n)
 at_ends [] n = refl
 at_ends (s ∷ seats) zero = refl
 at_ends (s ∷ seats) (suc n) = at_ends seats n
 
--- the ends have the lists of their seats
-pub ends_keep : (v : SeatsView) (a : Actor) → lists_left (record { joiners = v.joiners; feeders = v.feeders; ends = map end_of v.seats }) a ≡ lists_in v a
+-- the ends of seats
+abbrev pub ends_in : SeatsView → EndsView
+ends_in v = record { joiners = v.joiners; feeders = v.feeders; ends = map end_of v.seats }
+
+-- they have the lists of their seats
+pub ends_keep : (v : SeatsView) (a : Actor) → lists_left (ends_in v) a ≡ lists_in v a
 ends_keep v a = go (number v.joiners v.feeders a)
   where
-    go : (o : Option ℕ) → lists_at lists_of_end (at_number None o (λ n. slice_get (map end_of v.seats) n)) ≡ lists_at lists_of (at_number None o (λ n. slice_get v.seats n))
+    go : (o : Option ℕ) → lists_at lists_of_end (at_number None o (λ n. slice_get (map end_of v.seats) n))
+        ≡ lists_at lists_of (at_number None o (λ n. slice_get v.seats n))
     go None = refl
     go (Some n) = at_ends v.seats n
 
@@ -57,26 +63,35 @@ module _ (v : SeatsView) (joined : AreJoined v.joiners v.feeders (map frame_of v
 
   -- ---- the last two machines
 
-  module _ (controller : ControllerState) (collector : CollectorState) (last : AreLast (cores_in v) controller collector) where
+  module _ (controller : ControllerState) (collector : CollectorState)
+      (last : AreLast (cores_in v) controller collector) where
     -- the collector is complete
     pub complete_there : is_collected v ≡ true → is_complete collector ≡ true
     complete_there = collector_complete v.joiners v.feeders (cores_in v) many_cores controller collector last
 
     -- a run with that controller's journal has that of the seats
     pub told_journal : (run : Run) → run.journal ≡ controller.journal → run.journal ≡ journal_in v
-    told_journal run is = is ∙ sym (journal_named v.joiners v.feeders (cores_in v) many_cores controller collector last)
+    told_journal run is =
+        is ∙ sym (journal_named v.joiners v.feeders (cores_in v) many_cores controller collector last)
 
     -- a complete collector ends the run
-    module _ (law : CompleteIsFinished) (done : is_collected v ≡ true) (input : Input) (setting : Setting) (valid : IsValid input setting) (stands : StandsFor input setting v) (fronts : AreFronts (lists_in v)) (run : Run) where
+    module _ (law : CompleteIsFinished) (done : is_collected v ≡ true) (input : Input) (setting : Setting)
+        (valid : IsValid input setting) (stands : StandsFor input setting v) (fronts : AreFronts (lists_in v))
+        (run : Run) where
       family_ends : IsFinishedFamily input setting (journal_in v) (lists_in v)
-      family_ends = complete_finished input setting v.joiners v.feeders (cores_in v) (lists_in v) stands fronts law valid done
+      family_ends =
+          complete_finished input setting v.joiners v.feeders (cores_in v) (lists_in v) stands fronts law valid done
 
-      pub told_family : run.journal ≡ controller.journal → (e : EndsView) → ((a : Actor) → lists_left e a ≡ lists_in v a) → IsFinishedFamily input setting run.journal (lists_left e)
+      pub told_family : run.journal ≡ controller.journal → (e : EndsView)
+          → ((a : Actor) → lists_left e a ≡ lists_in v a) → IsFinishedFamily input setting run.journal (lists_left e)
       told_family is e same =
           subst (λ js. IsFinishedFamily input setting js (lists_left e)) (sym (told_journal run is))
           (subst (IsFinishedFamily input setting (journal_in v)) (sym (fun_ext same)) family_ends)
 
-      pub told_run : FinishedAnswers → (bouts : ℕ) → ((joiners : ℕ) (ls : CollectorLists) → CollectorStands joiners ls collector → IsAnswerOf joiners ls controller.journal bouts run)
+      pub told_run : FinishedAnswers → (bouts : ℕ)
+          → ((joiners : ℕ) (ls : CollectorLists) → CollectorStands joiners ls collector
+          → IsAnswerOf joiners ls controller.journal bouts run)
           → IsRunOf input setting (first_rest setting).line run.journal run
       told_run answers_law bouts answers =
-          run_ends answers_law input setting v.joiners v.feeders (cores_in v) (lists_in v) valid stands family_ends controller collector last bouts run answers
+          run_ends answers_law input setting v.joiners v.feeders (cores_in v) (lists_in v) valid stands family_ends
+          controller collector last bouts run answers

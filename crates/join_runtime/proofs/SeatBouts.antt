@@ -4,9 +4,13 @@ use Rattle.std.specs.List.{SwappedAt}
 use Rattle.std.proofs.lemmas.Bool.{cases_eq}
 use Rattle.std.proofs.lemmas.List.{get_or_default, get_or-set_other, get_or-set_same, length-set}
 use Rattle.join_rows.specs.Lists.{IsPrefix}
+use Rattle.epoch_tags.specs.declared.actor.Actor.{Actor}
 use Rattle.trace_law.specs.declared.input.Input.{Input}
 use Rattle.trace_law.specs.declared.setting.Setting.{Setting}
-use Rattle.actor_core.specs.Players.{AllStand, Extends, journal_among, lists_among}
+use Rattle.actor_core.specs.Lists.{ActorLists}
+use Rattle.actor_core.specs.declared.machines.Core.{Core}
+use Rattle.actor_core.specs.Players.{AllStand, AreLinked, Extends, journal_among, lists_among}
+use Rattle.actor_core.proofs.EventsCounted.{still_linked}
 use Rattle.actor_core.proofs.Runs.{runs_live}
 use Rattle.actor_core.proofs.Seated.{AllRelate, HasRun, all_relate, extends, journal_grows, stand_after}
 use Rattle.join_runtime.specs.Views.{SeatView, frame_of, lists_of, player}
@@ -80,46 +84,76 @@ pub frames_worked : (old new : List SeatView) → length new ≡ length old → 
 frames_worked old new long works = frames_same old new long (λ n d low. (works n d low).frame)
 
 -- the seats that are not spent are settled still
-pub still_settled : (old new : List SeatView) → length new ≡ length old → AllAdvance old new → AreGathered new → AreSettled old → AreSettled new
+pub still_settled : (old new : List SeatView) → length new ≡ length old → AllAdvance old new → AreGathered new
+    → AreSettled old → AreSettled new
 still_settled old new long advance gathered settled = record {
   hear = λ n d low.
       let a = advance n d (omega (arith, long)) in
       ends_hear (get_or old n d) (get_or new n d) a.ends (settled.hear n d (omega (arith, long)));
   live = λ n d low.
       let a = advance n d (omega (arith, long)) in
-      runs_live a.count (player (get_or old n d)) (player (get_or new n d)) a.runs (settled.live n d (omega (arith, long)));
+      let live = settled.live n d (omega (arith, long)) in
+      runs_live a.count (player (get_or old n d)) (player (get_or new n d)) a.runs live;
   gathered = gathered;
 }
 
+-- so it is of each actor of a run with so many joiners and feeders, whose seats these were and are
+abbrev pub AllRan : ℕ → ℕ → List SeatView → List SeatView → Type 0
+AllRan joiners feeders old new =
+    AllRelate HasRun joiners feeders (map (λ (s : SeatView). s.core) old) (map (λ (s : SeatView). s.core) new)
+    (lists_among lists_of joiners feeders old) (lists_among lists_of joiners feeders new)
+
 -- each actor made some events
-pub all_ran : (joiners feeders : ℕ) (old new : List SeatView) → length new ≡ length old → length old ≡ feeders + joiners + 2 → AllAdvance old new
-    → AllRelate HasRun joiners feeders (map (λ s. s.core) old) (map (λ s. s.core) new) (lists_among lists_of joiners feeders old) (lists_among lists_of joiners feeders new)
+pub all_ran : (joiners feeders : ℕ) (old new : List SeatView) → length new ≡ length old
+    → length old ≡ feeders + joiners + 2 → AllAdvance old new → AllRan joiners feeders old new
 all_ran joiners feeders old new long all advance =
-    all_relate (λ (s : SeatView). s.core) lists_of HasRun joiners feeders old new long all (λ n d low. let a = advance n d low in record { count = a.count; runs = a.runs })
+    all_relate (λ (s : SeatView). s.core) lists_of HasRun joiners feeders old new long all
+    (λ n d low. let a = advance n d low in record { count = a.count; runs = a.runs })
 
 -- ---- a bout by its answer
 
-pub settled_after : (went : Bool) (old new : List SeatView) → length new ≡ length old → (went ≡ true → AllAdvance old new) → (went ≡ true → AreGathered new) → (went ≡ false → new ≡ old) → AreSettled old → AreSettled new
-settled_after true old new long advance gathered same settled = still_settled old new long (advance refl) (gathered refl) settled
+pub settled_after : (went : Bool) (old new : List SeatView) → length new ≡ length old
+    → (went ≡ true → AllAdvance old new) → (went ≡ true → AreGathered new) → (went ≡ false → new ≡ old) → AreSettled old → AreSettled new
+settled_after true old new long advance gathered same settled =
+    still_settled old new long (advance refl) (gathered refl) settled
 settled_after false old new long advance gathered same settled = subst AreSettled (sym (same refl)) settled
 
 -- the seats of a run with so many joiners and feeders, before a bout and after it
-module _ (went : Bool) (joiners feeders : ℕ) (old new : List SeatView) (long : length new ≡ length old) (all : length old ≡ feeders + joiners + 2) (advance : went ≡ true → AllAdvance old new) (same : went ≡ false → new ≡ old) where
-  ran : AllRelate HasRun joiners feeders (map (λ s. s.core) old) (map (λ s. s.core) new) (lists_among lists_of joiners feeders old) (lists_among lists_of joiners feeders new)
+module _ (went : Bool) (joiners feeders : ℕ) (old new : List SeatView) (long : length new ≡ length old)
+    (all : length old ≡ feeders + joiners + 2) (advance : went ≡ true → AllAdvance old new)
+    (same : went ≡ false → new ≡ old) where
+  abbrev cores_of : List SeatView → List Core
+  cores_of seats = map (λ (s : SeatView). s.core) seats
+
+  abbrev before : Actor → ActorLists
+  before = lists_among lists_of joiners feeders old
+
+  abbrev after : Actor → ActorLists
+  after = lists_among lists_of joiners feeders new
+
+  ran : AllRan joiners feeders old new
   ran = go went refl
     where
-      go : (b : Bool) → went ≡ b → AllRelate HasRun joiners feeders (map (λ s. s.core) old) (map (λ s. s.core) new) (lists_among lists_of joiners feeders old) (lists_among lists_of joiners feeders new)
+      go : (b : Bool) → went ≡ b → AllRan joiners feeders old new
       go true e = all_ran joiners feeders old new long all (advance e)
       go false e =
-          all_relate (λ (s : SeatView). s.core) lists_of HasRun joiners feeders old new long all
-          (λ n d low. record { count = 0; runs = ap (λ (seats : List SeatView). player (get_or seats n d)) (same e) })
+          all_relate (λ (s : SeatView). s.core) lists_of HasRun joiners feeders old new long all (λ n d low. record {
+            count = 0;
+            runs = ap (λ (seats : List SeatView). player (get_or seats n d)) (same e);
+          })
 
-  pub extends_after : Extends (lists_among lists_of joiners feeders old) (lists_among lists_of joiners feeders new)
-  extends_after = extends joiners feeders _ _ _ _ ran
+  pub extends_after : Extends before after
+  extends_after = extends joiners feeders (cores_of old) (cores_of new) before after ran
 
-  pub journal_after : IsPrefix (journal_among joiners feeders (map (λ s. s.core) old)) (journal_among joiners feeders (map (λ s. s.core) new))
-  journal_after = journal_grows joiners feeders _ _ _ _ ran
+  pub journal_after : IsPrefix (journal_among joiners feeders (cores_of old))
+      (journal_among joiners feeders (cores_of new))
+  journal_after = journal_grows joiners feeders (cores_of old) (cores_of new) before after ran
 
-  pub stands_after : (input : Input) (setting : Setting) → AllStand input setting joiners feeders (map (λ s. s.core) old) (lists_among lists_of joiners feeders old)
-      → AllStand input setting joiners feeders (map (λ s. s.core) new) (lists_among lists_of joiners feeders new)
-  stands_after = stand_after joiners feeders _ _ _ _ ran
+  pub stands_after : (input : Input) (setting : Setting) → AllStand input setting joiners feeders (cores_of old) before
+      → AllStand input setting joiners feeders (cores_of new) after
+  stands_after = stand_after joiners feeders (cores_of old) (cores_of new) before after ran
+
+  pub linked_after : (input : Input) (setting : Setting) → AllStand input setting joiners feeders (cores_of old) before
+      → AreLinked setting before → AreLinked setting after
+  linked_after input setting stands =
+      still_linked input setting joiners feeders (cores_of old) (cores_of new) before after stands ran

@@ -15,10 +15,14 @@ use Rattle.join_runtime.proofs.KnownCounts.{is_sender-named}
 -- ---- what the ends keep
 
 -- frames that are the same have the same senders
-same_senders : (s t : SeatView) (a : Actor) → frame_of t ≡ frame_of s → is_sender a t.inbox.senders ≡ is_sender a s.inbox.senders
-same_senders s t a frame = sym (is_sender-named a t.inbox.senders) ∙ (ap (λ (f : Frame). is_sender a (map fresh f.senders)) frame ∙ is_sender-named a s.inbox.senders)
+same_senders : (s t : SeatView) (a : Actor) → frame_of t ≡ frame_of s
+    → is_sender a t.inbox.senders ≡ is_sender a s.inbox.senders
+same_senders s t a frame =
+    sym (is_sender-named a t.inbox.senders)
+    ∙ (ap (λ (f : Frame). is_sender a (map fresh f.senders)) frame ∙ is_sender-named a s.inbox.senders)
 
-heard_more : (cause : Cause) (senders : List OfSender) (f : Actor → List Msg) (a : Actor) → IsHeard cause senders → is_sender a senders ≡ false → with_cause cause f a ≡ f a
+heard_more : (cause : Cause) (senders : List OfSender) (f : Actor → List Msg) (a : Actor) → IsHeard cause senders
+    → is_sender a senders ≡ false → with_cause cause f a ≡ f a
 heard_more (Took from m) senders f a heard none = go (same_actor from a) refl
   where
     go : (b : Bool) → same_actor from a ≡ b → cond b (f a ++ m ∷ []) (f a) ≡ f a
@@ -28,7 +32,10 @@ heard_more Began senders f a heard none = refl
 
 -- where nothing changed
 pub ends_self : (s t : SeatView) → t ≡ s → KeepsEnds s t
-ends_self s t same = record { frame = ap frame_of same; heard = λ from none. ap (λ (u : SeatView). (lists_of u).received from) same }
+ends_self s t same = record {
+  frame = ap frame_of same;
+  heard = λ from none. ap (λ (u : SeatView). (lists_of u).received from) same;
+}
 
 -- one after the other
 pub ends_joined : (s t u : SeatView) → KeepsEnds s t → KeepsEnds t u → KeepsEnds s u
@@ -41,12 +48,17 @@ ends_joined s t u first then = record {
 pub turn_ends : (s t : SeatView) → MakesTurn s t → KeepsEnds s t
 turn_ends s t turn = record {
   frame = turn.frame;
-  heard = λ from none. ap (λ (ls : ActorLists). ls.received from) turn.event.lists ∙ heard_more turn.event.cause s.inbox.senders (lists_of s).received from turn.heard none;
+  heard = λ from none.
+      ap (λ (ls : ActorLists). ls.received from) turn.event.lists
+      ∙ heard_more turn.event.cause s.inbox.senders (lists_of s).received from turn.heard none;
 }
 
 -- and so does a seat that is told what is left
 pub alike_ends : (s t : SeatView) → IsAlike s t → KeepsEnds s t
-alike_ends s t alike = record { frame = alike.frame; heard = λ from none. ap (λ (ls : ActorLists). ls.received from) alike.lists }
+alike_ends s t alike = record {
+  frame = alike.frame;
+  heard = λ from none. ap (λ (ls : ActorLists). ls.received from) alike.lists;
+}
 
 -- so senders alone are heard still
 pub ends_hear : (s t : SeatView) → KeepsEnds s t → HearsSenders s → HearsSenders t
@@ -88,7 +100,9 @@ advances_after s t u first then =
       count = both.0;
       runs = both.2;
       ends = ends_joined s t u first.ends then.ends;
-      none = λ z. subst (λ (v : SeatView). Rests v.core v.inbox) (first.same (omega (arith, z, both.1))) (then.none (omega (arith, z, both.1)));
+      none = λ z.
+          let before = first.same (omega (arith, z, both.1)) in
+          subst (λ (v : SeatView). Rests v.core v.inbox) before (then.none (omega (arith, z, both.1)));
     }
 
 -- a seat that advanced, and then is told what is left
@@ -103,7 +117,8 @@ advances_alike s t u a alike = record {
 -- ---- the turns of one bout
 
 -- after these events the seat rests, or has had all its turns
-pub works_rested : (n : ℕ) (s t u : SeatView) → Runs n (player s) (player t) → KeepsEnds s t → (n ≡ 0 → t ≡ s) → u ≡ t → Rests t.core t.inbox → Works s u
+pub works_rested : (n : ℕ) (s t u : SeatView) → Runs n (player s) (player t) → KeepsEnds s t → (n ≡ 0 → t ≡ s) → u ≡ t
+    → Rests t.core t.inbox → Works s u
 works_rested n s t u runs ends none same rests =
     let last = ends_joined s t u ends (ends_self t u same) in
     record {

@@ -10,4 +10,5 @@ use Rattle.join_runtime.specs.contracts.seat.Seat as seat
 -- so it may, since its machine, its inbox and its mouths may
 pub seat_send : IsSync theta.the_row → (κ : _) → IsSend (seat.the_row κ)
 seat_send theta_sync κ =
-    let core = core_send theta_sync in search (sendable, heap.crosses, core, inboxes.the_send, mouths.the_send) depth 40 fits 20000
+    let core = core_send theta_sync in
+    search (sendable, heap.crosses, core, inboxes.the_send, mouths.the_send) depth 40 fits 20000

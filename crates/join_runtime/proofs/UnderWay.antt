@@ -16,12 +16,11 @@ use Rattle.actor_core.specs.Counts.{most_events}
 use Rattle.actor_core.specs.Lists.{ActorLists, no_lists}
 use Rattle.actor_core.specs.Families.{AreFronts}
 use Rattle.actor_core.specs.Numbers.{actor_at}
-use Rattle.actor_core.specs.Players.{IsFinishedFamily, Player, Runs, lists_among}
-use Rattle.actor_core.specs.declared.machines.Core.{Core}
+use Rattle.actor_core.specs.Players.{AgreesOnLinks, IsFinishedFamily, Runs, lists_among}
 use Rattle.actor_core.proofs.OwnNumbers.{number_there}
 use Rattle.actor_core.proofs.Beginnings.{there}
 use Rattle.actor_core.proofs.EventsCounted.{HasMadeSome, IsCounted, counted_more, few_events, none_counted}
-use Rattle.actor_core.proofs.Seated.{AllRelate, HasRun, Relates, relate}
+use Rattle.actor_core.proofs.Seated.{relate}
 use Rattle.join_runtime.specs.Views.{SeatView, lists_of, player}
 use Rattle.join_runtime.specs.Turns.{Advances, Rests}
 use Rattle.join_runtime.specs.Bouts.{AllAdvance, IsReady, SeatsView, SomeReady, StandsFor, cores_in, lists_in}
@@ -39,14 +38,17 @@ fronts_none f empty from to =
     (subst (IsPrefix []) (sym (ap (λ (x : ActorLists). x.sent to) (empty from))) (record { rest = []; joins = refl }))
 
 -- before the first bout
-pub begun : (input : Input) (setting : Setting) (v : SeatsView) → StandsFor input setting v → ((a : Actor) → lists_in v a ≡ no_lists) → IsUnderWay input setting v 0
+pub begun : (input : Input) (setting : Setting) (v : SeatsView) → StandsFor input setting v
+    → ((a : Actor) → lists_in v a ≡ no_lists) → IsUnderWay input setting v 0
 begun input setting v stands empty =
-    record { stands = stands; fronts = fronts_none (lists_in v) empty; counted = none_counted setting (lists_in v) empty }
+    let lists = lists_in v in
+    record { stands = stands; fronts = fronts_none lists empty; counted = none_counted setting lists empty }
 
 -- ---- a bout that goes on
 
 -- the seats of one run, before a bout and after it, are of as many actors
-module _ (input : Input) (setting : Setting) (old new : SeatsView) (stands : StandsFor input setting old) (stands' : StandsFor input setting new) where
+module _ (input : Input) (setting : Setting) (old new : SeatsView) (stands : StandsFor input setting old)
+    (stands' : StandsFor input setting new) where
   pub same_joiners : new.joiners ≡ old.joiners
   same_joiners = stands'.joiners_are ∙ sym stands.joiners_are
 
@@ -65,7 +67,8 @@ module _ (input : Input) (setting : Setting) (old new : SeatsView) (stands : Sta
   -- their lists, found with the numbers of before
   pub same_lists_in : lists_among lists_of old.joiners old.feeders new.seats ≡ lists_in new
   same_lists_in =
-      ap (λ j. lists_among lists_of j old.feeders new.seats) (sym same_joiners) ∙ ap (λ p. lists_among lists_of new.joiners p new.seats) (sym same_feeders)
+      ap (λ j. lists_among lists_of j old.feeders new.seats) (sym same_joiners)
+      ∙ ap (λ p. lists_among lists_of new.joiners p new.seats) (sym same_feeders)
 
 rested : (s : SeatView) → Rests s.core s.inbox → IsReady s → ⊥
 rested s rests (inl some) = let none = rests.none_known in omega (arith, some, none)
@@ -80,35 +83,58 @@ some_made s t ready a = go a.count a.runs a.none
     go (suc n) runs none = record { before = n; runs = runs }
 
 -- a bout that made an event
-pub one_bout_more : (input : Input) (setting : Setting) (old new : SeatsView) (bouts bouts' : ℕ) → AllAdvance old.seats new.seats → SomeReady old.seats → AreFronts (lists_in new)
-    → (StandsFor input setting old → StandsFor input setting new) → bouts' ≤ bouts + 1 → IsUnderWay input setting old bouts → IsUnderWay input setting new bouts'
-one_bout_more input setting old new bouts bouts' advance some fronts keeps few before =
-    let stands = before.stands in
-    let stands' = keeps stands in
-    let all = many input setting old new stands stands' in
-    let long = same_long input setting old new stands stands' in
-    let same = same_lists_in input setting old new stands stands' in
-    let place = some.place in
-    let a = actor_at old.joiners old.feeders place in
-    let is = number_there old.joiners old.feeders place (subst (λ z. place < z) all some.there) in
-    let d = (there old.seats place some.there).0 in
-    let made = some_made (get_or old.seats place d) (get_or new.seats place d) (some.ready d) (advance place d some.there) in
-    let one = relate (λ (s : SeatView). s.core) lists_of HasMadeSome old.joiners old.feeders old.seats new.seats long a place d is some.there made in
-    let ran = all_ran old.joiners old.feeders old.seats new.seats long all advance in
-    record {
-      stands = stands';
-      fronts = fronts;
-      counted = subst (λ f. IsCounted setting f bouts') same
-          (counted_more input setting old.joiners old.feeders (cores_in old) (cores_in new) (lists_in old) (lists_among lists_of old.joiners old.feeders new.seats) stands ran a place is one
-          (subst AreFronts (sym same) fronts) bouts bouts' few before.counted);
-    }
+module _ (input : Input) (setting : Setting) (old new : SeatsView) (bouts bouts' : ℕ)
+    (advance : AllAdvance old.seats new.seats) (some : SomeReady old.seats) (fronts : AreFronts (lists_in new))
+    (keeps : StandsFor input setting old → StandsFor input setting new) (few : bouts' ≤ bouts + 1) where
+  abbrev after : Actor → ActorLists
+  after = lists_among lists_of old.joiners old.feeders new.seats
+
+  counted_after : StandsFor input setting old → IsCounted setting (lists_in old) bouts → IsCounted setting after bouts'
+  counted_after stands counted =
+      let joiners = old.joiners in
+      let feeders = old.feeders in
+      let place = some.place in
+      let all = many input setting old new stands (keeps stands) in
+      let long = same_long input setting old new stands (keeps stands) in
+      let d = (there old.seats place some.there).0 in
+      let moved = advance place d some.there in
+      let made = some_made (get_or old.seats place d) (get_or new.seats place d) (some.ready d) moved in
+      let a = actor_at joiners feeders place in
+      let is = number_there joiners feeders place (subst (λ z. place < z) all some.there) in
+      let one =
+      relate (λ (s : SeatView). s.core) lists_of HasMadeSome joiners feeders old.seats new.seats long a place d is
+      some.there made in
+      let ran = all_ran joiners feeders old.seats new.seats long all advance in
+      let same = same_lists_in input setting old new stands (keeps stands) in
+      counted_more input setting joiners feeders (cores_in old) (cores_in new) (lists_in old) after stands ran a place
+      is one (subst AreFronts (sym same) fronts) bouts bouts' few counted
+
+  pub one_bout_more : IsUnderWay input setting old bouts → IsUnderWay input setting new bouts'
+  one_bout_more before =
+      let same = same_lists_in input setting old new before.stands (keeps before.stands) in
+      record {
+        stands = keeps before.stands;
+        fronts = fronts;
+        counted = subst (λ f. IsCounted setting f bouts') same (counted_after before.stands before.counted);
+      }
 
 -- the lists are the same, and the seats stand for the run still
-pub same_lists : (input : Input) (setting : Setting) (old new : SeatsView) (bouts : ℕ) → ((a : Actor) → lists_in new a ≡ lists_in old a) → (StandsFor input setting old → StandsFor input setting new)
+pub same_lists : (input : Input) (setting : Setting) (old new : SeatsView) (bouts : ℕ)
+    → ((a : Actor) → lists_in new a ≡ lists_in old a) → (StandsFor input setting old → StandsFor input setting new)
     → IsUnderWay input setting old bouts → IsUnderWay input setting new bouts
 same_lists input setting old new bouts same keeps before =
     let is : lists_in old ≡ lists_in new = sym (fun_ext same) in
-    record { stands = keeps before.stands; fronts = subst AreFronts is before.fronts; counted = subst (λ f. IsCounted setting f bouts) is before.counted }
+    record {
+      stands = keeps before.stands;
+      fronts = subst AreFronts is before.fronts;
+      counted = subst (λ f. IsCounted setting f bouts) is before.counted;
+    }
+
+-- what is left of the seats agrees on the links of the run
+pub left_linked : (input : Input) (setting : Setting) (v : SeatsView) (bouts : ℕ) → IsUnderWay input setting v bouts
+    → (lists : Actor → ActorLists) → ((a : Actor) → lists a ≡ lists_in v a) → AgreesOnLinks setting lists
+left_linked input setting v bouts way lists same =
+    subst (AgreesOnLinks setting) (sym (fun_ext same)) (record { fronts = way.fronts; linked = way.counted.linked })
 
 abbrev pub answer : Bool → Result Bool AllocError
 answer went = Ok went
@@ -121,11 +147,16 @@ goes_on false done ends open_yet = absurd (true≢false (sym (ends refl) ∙ ope
 -- ---- so bouts are few
 
 -- once the lists are a finished family
-pub few_bouts : EventsAreFew → (input : Input) (setting : Setting) → IsValid input setting → (v : SeatsView) (bouts : ℕ) → IsCounted setting (lists_in v) bouts
-    → (journal : List TurnLine) (lists : Actor → ActorLists) → ((a : Actor) → lists a ≡ lists_in v a) → IsFinishedFamily input setting journal lists → bouts ≤ most_events input setting (last_epoch journal)
-few_bouts few input setting valid v bouts counted journal lists same family =
-    few_events few input setting valid journal lists family.agrees bouts (subst (λ f. IsCounted setting f bouts) (sym (fun_ext same)) counted)
+module _ (few : EventsAreFew) (input : Input) (setting : Setting) (valid : IsValid input setting) (v : SeatsView)
+    (bouts : ℕ) (counted : IsCounted setting (lists_in v) bouts) where
+  pub few_bouts : (journal : List TurnLine) (lists : Actor → ActorLists) → ((a : Actor) → lists a ≡ lists_in v a)
+      → IsFinishedFamily input setting journal lists → bouts ≤ most_events input setting (last_epoch journal)
+  few_bouts journal lists same family =
+      let counted' = subst (λ f. IsCounted setting f bouts) (sym (fun_ext same)) counted in
+      few_events few input setting valid journal lists family.agrees bouts counted'
 
-pub from_three : {X E : Type 0} (result : Result X E) (P Q R S : X → Type 0) → IfOk result P → IfOk result Q → IfOk result R → ((x : X) → P x → Q x → R x → S x) → IfOk result S
+-- what follows from three clauses of one result
+pub from_three : {X E : Type 0} (result : Result X E) (P Q R S : X → Type 0) → IfOk result P → IfOk result Q
+    → IfOk result R → ((x : X) → P x → Q x → R x → S x) → IfOk result S
 from_three (Ok x) P Q R S p q r follows = follows x p q r
 from_three (Err e) P Q R S p q r follows = tt

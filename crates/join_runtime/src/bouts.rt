@@ -6,7 +6,7 @@ ghost use Rattle.trace_law.specs.declared.input.Input.{Input as Input'};
 ghost use Rattle.trace_law.specs.declared.setting.Setting.{Setting as Setting'};
 ghost use Rattle.trace_law.specs.Validity.{IsValid};
 ghost use Rattle.actor_core.specs.Families.{AreFronts};
-ghost use Rattle.actor_core.specs.Players.{Extends};
+ghost use Rattle.actor_core.specs.Players.{AgreesOnLinks, Extends};
 ghost use Rattle.join_runtime.specs.Views.{SeatView, frame_of};
 ghost use Rattle.join_runtime.specs.Turns.{AllStep, IsAlike};
 ghost use Rattle.join_runtime.specs.Joins.{ActorsDiffer, AllLead, AreGathered, IsSlotOf, Tells, slot_of};
@@ -219,6 +219,9 @@ pub fn bout<R: Threads + Wait + Sync, G: Gate>(
     ensures journal { OnOk result (IsPrefix (journal_in seats.old) (journal_in seats.new)) }
     ensures stands { OnOk result ((input : Input') (setting : Setting')
         → StandsFor input setting seats.old → StandsFor input setting seats.new) }
+    ensures linked { OnOk result ((input : Input') (setting : Setting')
+        → StandsFor input setting seats.old → AgreesOnLinks setting (lists_in seats.old)
+        → AgreesOnLinks setting (lists_in seats.new)) }
     ensures goes_on { OnOk result ((seats.old.spent ≡ false) × (seats.new.spent ≡ false)) }
     ensures fails { OnErr result (seats.new.spent ≡ true) }
     ensures actors { (seats.new.joiners ≡ seats.old.joiners)

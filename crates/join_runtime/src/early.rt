@@ -10,7 +10,7 @@ ghost use Rattle.trace_law.specs.Family.{first_rest};
 ghost use Rattle.trace_law.specs.Runs.{IsRunOf};
 ghost use Rattle.load_controller.specs.Journal.{last_epoch};
 ghost use Rattle.actor_core.specs.Counts.{most_events};
-ghost use Rattle.actor_core.specs.Players.{IsFinishedFamily};
+ghost use Rattle.actor_core.specs.Players.{AgreesOnLinks, IsFinishedFamily};
 ghost use Rattle.join_report.specs.PairLines.{pair_lines};
 ghost use Rattle.join_runtime.specs.declared.early.EarlyFault.TheVariants.{Memory as Memory', Write as Write'};
 ghost use Rattle.join_runtime.specs.Endings.{lists_left};
@@ -86,6 +86,8 @@ pub fn run_early<R: Threads + Wait + Sync, G: Gate, K: Sink>(
     requires sink { K.faults sink.old < last_fault }
     ensures family { IfOk result
         (λ told. IsFinishedFamily input.now setting.now told.run.journal (lists_left told.ends)) }
+    ensures linked { IfOk result
+        (λ told. AgreesOnLinks setting.now (lists_left told.ends)) }
     ensures run { IfOk result (λ told. IsRunOf input.now setting.now
         (first_rest setting.now).line told.run.journal told.run) }
     ensures bound { IfOk result

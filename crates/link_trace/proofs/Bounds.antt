@@ -25,7 +25,8 @@ use Rattle.link_trace.specs.Worlds.{WorldState, StandsFor, MakesEvent, Delivers,
 use Rattle.link_trace.specs.Order.{Happens}
 use Rattle.actor_core.proofs.EventLimit.{under}
 use Rattle.actor_core.proofs.OwnNumbers.{some_is}
-use Rattle.actor_core.proofs.EventCounts.{count, AreLinked, took_counts, began_counts, linked_after, left_linked}
+use Rattle.actor_core.specs.Players.{AreLinked}
+use Rattle.actor_core.proofs.EventCounts.{count, took_counts, began_counts, linked_after, left_linked}
 use Rattle.link_trace.proofs.WorldAnswer.{agree}
 
 -- it stands for lists of this input and setting, whose messages go over links, and which count so many events at least

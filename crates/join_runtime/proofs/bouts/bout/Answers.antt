@@ -4,7 +4,7 @@ use Rattle.join_runtime.specs.Views.{frame_of}
 use Rattle.join_runtime.specs.Joins.{AreJoined}
 use Rattle.join_runtime.specs.Bouts.{SeatsView}
 use Rattle.join_runtime.proofs.LinkLists.{busy, fronts, rest_collected, still}
-use Rattle.join_runtime.proofs.SeatBouts.{extends_after, journal_after, settled_after, stands_after}
+use Rattle.join_runtime.proofs.SeatBouts.{extends_after, journal_after, linked_after, settled_after, stands_after}
 use Rattle.join_runtime.proofs.bouts.bout.Goals as goal
 
 pub invariant_of-seats-2 : goal.invariant_of-seats-2
@@ -88,3 +88,20 @@ returns-clause-stands g c =
     let all = sym (length-map seats.items frame_of) ∙ c.seats.invariant.0.all in
     rw (← c.seats.view_is, items)
     (stands_after c.in_ok-went.went c.seats.inside.joiners c.seats.inside.feeders seats.items new long all (λ is. said.went (ap Ok is)) (λ is. said.same (ap Ok is)))
+
+pub returns-clause-linked : goal.returns-clause-linked
+returns-clause-linked g c =
+    let seats = c.seats.inside.seats in
+    let new = c.bout_of.new.seats in
+    let value = c.as_mut_slice.ensures.value in
+    let long : length new ≡ length seats.items = c.bout_of.auto.seats ∙ ap length value in
+    let items = with_items_is seats new (long ∙ sym seats.ok.0) in
+    let said = rw value at c.in_ok-went.ensures in
+    let all = sym (length-map seats.items frame_of) ∙ c.seats.invariant.0.all in
+    let joined = subst (AreJoined c.seats.inside.joiners c.seats.inside.feeders) (sym (c.bout_of.ensures.frames ∙ ap (map frame_of) value)) c.seats.invariant.0 in
+    let settled = settled_after c.in_ok-went.went seats.items new long (λ is. said.went (ap Ok is)) (λ is. said.gathered (ap Ok is)) (λ is. said.same (ap Ok is)) (c.seats.invariant.1 c.if-seats.false) in
+    rw (← c.seats.view_is, items)
+    (λ input setting stands before. record {
+      fronts = fronts (record { joiners = c.seats.inside.joiners; feeders = c.seats.inside.feeders; seats = new; spent = false }) joined settled;
+      linked = linked_after c.in_ok-went.went c.seats.inside.joiners c.seats.inside.feeders seats.items new long all (λ is. said.went (ap Ok is)) (λ is. said.same (ap Ok is)) input setting stands before.linked;
+    })

@@ -8,7 +8,7 @@ use Rattle.join_runtime.specs.Endings.{lists_left}
 use Rattle.actor_core.proofs.EventsCounted.{IsCounted}
 use Rattle.join_runtime.specs.Bouts.{lists_in}
 use Rattle.join_runtime.proofs.Lines.{each_put, fresh_cut, fresh_put, fresh_room, none_put, nothing_put, room_left, some_put}
-use Rattle.join_runtime.proofs.UnderWay.{few_bouts, goes_on, one_bout_more}
+use Rattle.join_runtime.proofs.UnderWay.{few_bouts, goes_on, left_linked, one_bout_more}
 use Rattle.join_runtime.proofs.early.run_early.Goals as goal
 
 pub loop-init : goal.loop-init
@@ -160,3 +160,7 @@ returns-clause-takes g c more has =
       room_left c.answers_in_the_end.ensures input setting valid c.loop.seats c.loop.bouts (g.K.Sink.written c.args.sink.now) (g.K.Sink.written c.loop.sink) (g.K.Sink.takes c.args.sink.now) (g.K.Sink.takes c.loop.sink) put
           told.run.journal (lists_left told.ends) said.ends (said.family input setting valid put.way.stands put.way.fronts) more has,
     )
+
+pub returns-clause-linked : goal.returns-clause-linked
+returns-clause-linked g c =
+    left_linked c.args.input.now c.args.setting.now c.loop.seats c.loop.bouts c.loop.invariant.put.way (lists_left c.in_ok-finish.field-0.ends) c.in_ok-finish.ensures.ends

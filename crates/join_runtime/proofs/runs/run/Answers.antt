@@ -3,7 +3,7 @@ use Rattle.join_runtime.specs.Endings.{lists_left}
 use Rattle.std.proofs.lemmas.Result.{IfOk-weaker}
 use Rattle.actor_core.proofs.EventsCounted.{IsCounted}
 use Rattle.join_runtime.specs.Bouts.{lists_in}
-use Rattle.join_runtime.proofs.UnderWay.{begun, few_bouts, from_three, goes_on, one_bout_more}
+use Rattle.join_runtime.proofs.UnderWay.{begun, few_bouts, from_three, goes_on, left_linked, one_bout_more}
 use Rattle.join_runtime.proofs.runs.run.Goals as goal
 
 pub loop-init : goal.loop-init
@@ -42,3 +42,7 @@ returns-clause-bound g c =
     (λ told family same bouts.
     let counted = subst (IsCounted setting (lists_in c.loop.seats)) (sym bouts) c.loop.invariant.counted in
     few_bouts c.events_are_few.ensures input setting valid c.loop.seats told.run.bouts counted told.run.journal (lists_left told.ends) same (family input setting valid c.loop.invariant.stands c.loop.invariant.fronts))
+
+pub returns-clause-linked : goal.returns-clause-linked
+returns-clause-linked g c =
+    IfOk-weaker c.finish.result _ _ (λ told same. left_linked c.args.input.now c.args.setting.now c.loop.seats c.loop.bouts c.loop.invariant (lists_left told.ends) same) c.finish.ensures.ends
