@@ -1,5 +1,5 @@
 -- What an event of one actor keeps.
-use Rattle.std.proofs.Common.{◌≡◌, ◌&&◌, eqb-true, true≢false, refl, sym, ap, subst, ◌∙◌, Bool, true, false, cond, List, [], ◌∷◌, ◌++◌, append_assoc}
+use Rattle.std.proofs.Common.{◌≡◌, ◌&&◌, append-nil, eqb-true, true≢false, refl, sym, ap, subst, ◌∙◌, Bool, true, false, cond, List, [], ◌∷◌, ◌++◌, append_assoc}
 use Rattle.epoch_tags.specs.declared.actor.Actor.{Actor}
 use Rattle.epoch_tags.specs.declared.actor.Actor.TheVariants.{Feeder, Joiner, Controller, Collector}
 use Rattle.epoch_tags.specs.declared.message.Msg.{Msg}
@@ -86,3 +86,9 @@ delivery_balances from to m rest posts f left balanced first x y = go (same_acto
 -- where what is left makes up what was sent, what was received is a front of it
 pub balanced_fronts : (f : Actor → ActorLists) (left : Actor → Actor → List Msg) → IsBalanced f left → AreFronts f
 balanced_fronts f left balanced from to = record { rest = left from to; joins = balanced from to }
+
+-- and where nothing is left, all that was sent was received
+pub none_left : (f : Actor → ActorLists) (left : Actor → Actor → List Msg) → IsBalanced f left
+    → (from to : Actor) → left from to ≡ [] → (f to).received from ≡ (f from).sent to
+none_left f left balanced from to none =
+    sym (append-nil ((f to).received from)) ∙ (ap (λ rest. (f to).received from ++ rest) (sym none) ∙ balanced from to)

@@ -69,10 +69,7 @@ nothing_left ws empty (Some r) (Some s) = empty r s
 pub all_new : (input : Input) (setting : Setting) (joiners count : ℕ) (places : List Place) → joiners ≡ 2 ^ setting.k → count ≡ setting.feeders + joiners + 2 → AreNew input setting count places
     → StandsFor input setting (record { joiners = joiners; feeders = setting.feeders; cores = cores_of places; waiting = waiting_of places }) (λ actor. no_lists)
 all_new input setting joiners count places grid many new = subst (λ n. StandsFor input setting (record { joiners = n; feeders = setting.feeders; cores = cores_of places; waiting = waiting_of places }) (λ actor. no_lists)) (sym grid) (record {
-  joiners = refl;
-  feeders = refl;
-  all = long;
-  stands = stands;
+  machines = record { joiners_are = refl; feeders_are = refl; all = long; stands = stands };
   balanced = λ from to. nothing_left (waiting_of places) new.empty (number (2 ^ setting.k) setting.feeders to) (number (2 ^ setting.k) setting.feeders from);
 })
   where

@@ -19,7 +19,7 @@ use Rattle.link_trace.specs.declared.slots.Slot.{Slot}
 use Rattle.link_trace.specs.Worlds.{WorldState, StandsFor, core_of}
 use Rattle.link_trace.specs.Order.{MakesFirst, Replays, IsReplay, start, event, slots_of}
 use Rattle.link_trace.specs.Marks.{AreMarked}
-use Rattle.link_trace.proofs.Bounds.{IsCounted, none_counted, slot_counted}
+use Rattle.link_trace.proofs.Bounds.{IsReached, none_reached, slot_reached}
 
 -- at first all slots are marked
 pub all_unsure : (slots : List Slot) (marks : List Bool) (w : WorldState) → length marks ≡ length slots → ((n : ℕ) → ¬ (slice_get marks n ≡ Some false)) → AreMarked slots marks w
@@ -32,7 +32,7 @@ pub record IsUnderWay (input : Input) (setting : Setting) (seed : ℕ) (marks : 
   pub replays : Replays (slots_of setting) seed first events w
   pub draws_are : draws ≡ advance 64 multiplier_64 events (started 64 multiplier_64 seed (increment_of 64 56))
   pub marked : AreMarked (slots_of setting) marks w
-  pub counted : IsCounted input setting w events
+  pub reached : IsReached input setting w events
 
 pub begins : (input : Input) (setting : Setting) (seed : ℕ) (marks : List Bool) (draws : Lcg) (slots : List Slot) (w : WorldState) → StandsFor input setting w (λ actor. no_lists)
     → draws ≡ started 64 multiplier_64 seed (increment_of 64 56) → slots ≡ slots_of setting → length marks ≡ length slots → ((n : ℕ) → ¬ (slice_get marks n ≡ Some false))
@@ -44,7 +44,7 @@ begins input setting seed marks draws slots w fresh new is long all = record {
   replays = start;
   draws_are = new;
   marked = all_unsure (slots_of setting) marks w (long ∙ ap length is) all;
-  counted = none_counted input setting w fresh;
+  reached = none_reached input setting w fresh;
 }
 
 module _ (input : Input) (setting : Setting) (seed : ℕ) (marks marks' : List Bool) (draws draws' : Lcg) (events events' : ℕ) (w w' : WorldState) (under : IsUnderWay input setting seed marks draws events w) where
@@ -62,7 +62,7 @@ module _ (input : Input) (setting : Setting) (seed : ℕ) (marks marks' : List B
         replays = event under.replays goes (subst (λ g. MakesFirst (slots_of setting) (pcg32 g).0 w w') under.draws_are makes);
         draws_are = drawn_more drawn;
         marked = subst (λ s. AreMarked s marks' w') is marked;
-        counted = slot_counted input setting made.slot events w w' made.happens under.counted;
+        reached = slot_reached input setting made.slot events w w' made.happens under.reached;
       })
 
 pub replayed : (input : Input) (setting : Setting) (seed : ℕ) (marks : List Bool) (draws : Lcg) (events : ℕ) (w : WorldState) → IsUnderWay input setting seed marks draws events w
@@ -76,6 +76,6 @@ replayed input setting seed marks draws events w under (Ok run) over journal bou
   fresh = under.fresh;
   replays = subst (λ n. Replays (slots_of setting) seed under.first n w) (sym bouts) under.replays;
   over = over;
-  journal = journal input setting under.counted.lists under.counted.stands;
+  journal = journal input setting under.reached.lists under.reached.stands;
 }
 replayed input setting seed marks draws events w under (Err e) over journal bouts = tt

@@ -17,7 +17,7 @@ use Rattle.link_trace.specs.Worlds.{WorldState, StandsFor, core_of}
 use Rattle.link_trace.specs.Order.{Happens, slots_of}
 use Rattle.link_trace.specs.Marks.{AreMarked}
 use Rattle.link_trace.specs.Starving.{MakesStarving, Starves, IsStarvingReplay, start, event}
-use Rattle.link_trace.proofs.Bounds.{IsCounted, none_counted, slot_counted}
+use Rattle.link_trace.proofs.Bounds.{IsReached, none_reached, slot_reached}
 use Rattle.link_trace.proofs.ReplayLoop.{all_unsure}
 
 starving_happens : (starved : Actor) (slots : List Slot) (old new : WorldState) → MakesStarving starved slots old new → (slot : Slot) × Happens slot old new
@@ -30,7 +30,7 @@ pub record IsServedSo (input : Input) (setting : Setting) (starved : Actor) (mar
   pub fresh : StandsFor input setting first (λ actor. no_lists)
   pub starves : Starves (slots_of setting) starved first events w
   pub marked : AreMarked (slots_of setting) marks w
-  pub counted : IsCounted input setting w events
+  pub reached : IsReached input setting w events
 
 pub begins : (input : Input) (setting : Setting) (starved : Actor) (marks : List Bool) (slots : List Slot) (w : WorldState) → StandsFor input setting w (λ actor. no_lists)
     → slots ≡ slots_of setting → length marks ≡ length slots → ((n : ℕ) → ¬ (slice_get marks n ≡ Some false)) → IsServedSo input setting starved marks 0 w
@@ -39,7 +39,7 @@ begins input setting starved marks slots w fresh is long all = record {
   fresh = fresh;
   starves = start;
   marked = all_unsure (slots_of setting) marks w (long ∙ ap length is) all;
-  counted = none_counted input setting w fresh;
+  reached = none_reached input setting w fresh;
 }
 
 pub goes_on : (input : Input) (setting : Setting) (starved : Actor) (marks marks' : List Bool) (events : ℕ) (w w' : WorldState) → IsServedSo input setting starved marks events w
@@ -52,7 +52,7 @@ goes_on input setting starved marks marks' events w w' so slots is goes marked m
       fresh = so.fresh;
       starves = event so.starves goes (subst (λ s. MakesStarving starved s w w') is made);
       marked = subst (λ s. AreMarked s marks' w') is marked;
-      counted = slot_counted input setting one.0 events w w' one.1 so.counted;
+      reached = slot_reached input setting one.0 events w w' one.1 so.reached;
     }
 
 pub starved_order : (input : Input) (setting : Setting) (starved : Actor) (marks : List Bool) (events : ℕ) (w : WorldState) → IsServedSo input setting starved marks events w
@@ -66,6 +66,6 @@ starved_order input setting starved marks events w so (Ok run) over journal bout
   fresh = so.fresh;
   starves = subst (λ n. Starves (slots_of setting) starved so.first n w) (sym bouts) so.starves;
   over = over;
-  journal = journal input setting so.counted.lists so.counted.stands;
+  journal = journal input setting so.reached.lists so.reached.stands;
 }
 starved_order input setting starved marks events w so (Err e) over journal bouts = tt

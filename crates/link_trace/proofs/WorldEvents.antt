@@ -101,18 +101,20 @@ module _ (joiners feeders : ℕ) (self : Actor) (n : ℕ) (at : number joiners f
   makes_event balances = record {
     posts = occurs.occurs.added;
     stands = λ input setting f w. record {
-      joiners = w.joiners;
-      feeders = w.feeders;
-      all = ap length occurs.now ∙ length-set cores n occurs.next ∙ w.all;
-      stands = stands_after self cause occurs.core occurs.next (core_in joiners feeders cores) (core_in joiners feeders cores') occurs.occurs.added was now occurs.occurs.event input setting f w.stands;
+      machines = record {
+        joiners_are = w.machines.joiners_are;
+        feeders_are = w.machines.feeders_are;
+        all = ap length occurs.now ∙ length-set cores n occurs.next ∙ w.machines.all;
+        stands = stands_after self cause occurs.core occurs.next (core_in joiners feeders cores) (core_in joiners feeders cores') occurs.occurs.added was now occurs.occurs.event input setting f w.machines.stands;
+      };
       balanced =
           subst (λ l. (x y : Actor) → (after_event self cause occurs.occurs.added f y).received x ++ l x y ≡ (after_event self cause occurs.occurs.added f x).sent y)
           (ap (λ ps. put_on self ps (left_in joiners feeders middle)) (sym occurs.occurs.sends) ∙ sym put)
           (balances f w.balanced);
     };
     over = λ input setting f w.
-        let is = is_actor setting joiners feeders self n w.joiners w.feeders at in
-        (is, goes_out self cause occurs.core occurs.next (core_in joiners feeders cores) occurs.occurs.added was occurs.occurs.event input setting f is w.stands);
+        let is = is_actor setting joiners feeders self n w.machines.joiners_are w.machines.feeders_are at in
+        (is, goes_out self cause occurs.core occurs.next (core_in joiners feeders cores) occurs.occurs.added was occurs.occurs.event input setting f is w.machines.stands);
     asks = occurs.occurs.event.asks;
     others = others;
   }

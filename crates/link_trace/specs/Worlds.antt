@@ -1,16 +1,18 @@
 -- A world: its machines, and what is left on each link.
 use Rattle.std.specs.Prelude.{◌≡◌, ℕ, ◌+◌, ◌<◌, ◌^◌, Option, Some, List, [], ◌∷◌, ◌++◌, map, slice_get, slice_index_or, slice_set, length, ◌&&◌, false, if◌then◌else◌}
 use Rattle.epoch_tags.specs.declared.actor.Actor.{Actor}
-use Rattle.epoch_tags.specs.declared.actor.Actor.TheVariants.{Feeder, Controller}
+use Rattle.epoch_tags.specs.declared.actor.Actor.TheVariants.{Feeder}
 use Rattle.epoch_tags.specs.Links.{HasLink}
+use Rattle.load_controller.specs.declared.line.TurnLine.{TurnLine}
 use Rattle.epoch_tags.specs.declared.message.Msg.{Msg}
 use Rattle.epoch_tags.specs.declared.message.Post.{Post}
 use Rattle.trace_law.specs.Family.{IsAgreeing, first_rest}
 use Rattle.trace_law.specs.declared.input.Input.{Input}
 use Rattle.trace_law.specs.declared.setting.Setting.{Setting}
 use Rattle.actor_core.specs.Lists.{ActorLists, Cause, Took, same_actor, no_lists}
+use Rattle.actor_core.specs.Players.{AllStand, journal_among}
 use Rattle.actor_core.specs.Standing.{Stands, Occurs, GoOut, Asks, Waits}
-use Rattle.actor_core.specs.Families.{start_for, IsActor, IsBalanced, after_event, core_in, family_of, journal_of}
+use Rattle.actor_core.specs.Families.{start_for, IsActor, IsBalanced, after_event, core_in, family_of}
 use Rattle.actor_core.specs.Numbers.{number, actor_at, at_number}
 use Rattle.actor_core.specs.declared.machines.Core.{Core}
 use Rattle.link_trace.specs.declared.places.Place.{Place}
@@ -100,13 +102,10 @@ state_of w = record {
 abbrev pub put_one : Actor → Actor → Msg → (Actor → Actor → List Msg) → Actor → Actor → List Msg
 put_one from to m left x y = if same_actor from x && same_actor to y then left x y ++ m ∷ [] else left x y
 
--- these lists are what its actors have received and sent
+-- these lists are what its actors have received and sent: each machine stands for those of its actor, and on each link
+-- what was received, and then what is left, is what was sent
 pub record StandsFor (input : Input) (setting : Setting) (w : WorldState) (f : Actor → ActorLists) : Type 0 where
-  pub joiners : w.joiners ≡ 2 ^ setting.k
-  pub feeders : w.feeders ≡ setting.feeders
-  pub all : length w.cores ≡ w.feeders + w.joiners + 2
-  pub stands : (a : Actor) → IsActor setting a
-      → (core : Core) × (core_of w a ≡ Some core) × Stands (start_for input setting a) (f a) core
+  pub machines : AllStand input setting w.joiners w.feeders w.cores f
   pub balanced : IsBalanced f (left_of w)
 
 -- so many actors at the beginning of a run: each machine stands for empty lists, and nothing waits
@@ -144,8 +143,12 @@ pub record IsStill (setting : Setting) (w : WorldState) : Type 0 where
   pub links : (from to : Actor) → HasLink setting.k setting.feeders from to → left_of w from to ≡ []
   pub waits : (p : ℕ) → p < setting.feeders → (core : Core) → core_of w (Feeder p) ≡ Some core → Waits core
 
+-- the journal of the controller's machine
+abbrev pub journal_in : WorldState → List TurnLine
+journal_in w = journal_among w.joiners w.feeders w.cores
+
 -- the lists for which a world stands are an agreeing family
 abbrev pub WorldAgrees : Type 0
 WorldAgrees = (input : Input) (setting : Setting) (w : WorldState) (lists : Actor → ActorLists)
-    → (stands : StandsFor input setting w lists)
-    → IsAgreeing input setting (first_rest setting) (family_of (journal_of (stands.stands Controller tt).0) lists)
+    → StandsFor input setting w lists
+    → IsAgreeing input setting (first_rest setting) (family_of (journal_in w) lists)

@@ -18,13 +18,14 @@ loop-init g c =
 
 pub make_next-requires-clause-ready : goal.make_next-requires-clause-ready
 make_next-requires-clause-ready g c =
-    let counted = c.loop.invariant.counted in
-    some_has_one c.args.input.now c.args.setting.now (state_of c.loop.world) counted.lists (within_limits c.args.input.now c.args.setting.now c.requires.input c.requires.setting) counted.stands
+    let reached = c.loop.invariant.reached in
+    some_has_one c.args.input.now c.args.setting.now (state_of c.loop.world) reached.lists (within_limits c.args.input.now c.args.setting.now c.requires.input c.requires.setting) reached.stands
     c.deref.result.now (c.deref.ensures.value ∙ c.in_ok-slots.ensures) c.done.result c.done.ensures.still c.if-done.false
 
 pub make_next-requires-clause-few : goal.make_next-requires-clause-few
 make_next-requires-clause-few g c =
-    counts_on c.events_are_few.ensures c.events_fit.ensures c.args.input.now c.args.setting.now c.requires.input c.requires.setting (state_of c.loop.world) c.loop.events c.loop.invariant.counted
+    counts_on c.args.input.now c.args.setting.now c.events_are_few.ensures (state_of c.loop.world) c.loop.events c.loop.invariant.reached
+    c.events_fit.ensures c.requires.input c.requires.setting
 
 pub loop-preserved : goal.loop-preserved
 loop-preserved g c =
@@ -34,7 +35,7 @@ loop-preserved g c =
 
 pub returns-clause-run : goal.returns-clause-run
 returns-clause-run g c =
-    run_answers c.args.input.now c.args.setting.now (state_of c.loop.world) c.loop.events c.loop.invariant.counted c.requires.input c.requires.setting c.finish.result c.finish.ensures.run
+    run_answers c.args.input.now c.args.setting.now (state_of c.loop.world) c.loop.events c.loop.invariant.reached c.requires.input c.requires.setting c.finish.result c.finish.ensures.run
 
 pub returns-clause-order : goal.returns-clause-order
 returns-clause-order g c =
@@ -43,5 +44,5 @@ returns-clause-order g c =
 
 pub returns-clause-bound : goal.returns-clause-bound
 returns-clause-bound g c =
-    run_bounded c.args.input.now c.args.setting.now (state_of c.loop.world) c.loop.events c.loop.invariant.counted c.requires.input c.requires.setting c.events_are_few.ensures c.finish.result
+    run_bounded c.args.input.now c.args.setting.now (state_of c.loop.world) c.loop.events c.loop.invariant.reached c.requires.input c.requires.setting c.events_are_few.ensures c.finish.result
     c.finish.ensures.journal c.finish.ensures.bouts

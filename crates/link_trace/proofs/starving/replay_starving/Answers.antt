@@ -13,8 +13,8 @@ loop-events-init c =
 
 pub make_starving-requires-clause-ready : goal.make_starving-requires-clause-ready
 make_starving-requires-clause-ready c =
-    let counted = c.loop-events.invariant.counted in
-    some_has_one c.args.input.now c.args.setting.now (state_of c.loop-events.world) counted.lists (within_limits c.args.input.now c.args.setting.now c.requires.input c.requires.setting) counted.stands
+    let reached = c.loop-events.invariant.reached in
+    some_has_one c.args.input.now c.args.setting.now (state_of c.loop-events.world) reached.lists (within_limits c.args.input.now c.args.setting.now c.requires.input c.requires.setting) reached.stands
     c.deref.result.now (c.deref.ensures.value ∙ c.in_ok-slots.ensures) c.done.result c.done.ensures.still c.if-done.false
 
 pub loop-events-preserved : goal.loop-events-preserved
@@ -25,7 +25,7 @@ loop-events-preserved c =
 
 pub returns-then-done-clause-run : goal.returns-then-done-clause-run
 returns-then-done-clause-run c =
-    run_answers c.args.input.now c.args.setting.now (state_of c.loop-events.world) c.loop-events.events c.loop-events.invariant.counted c.requires.input c.requires.setting c.finish.result c.finish.ensures.run
+    run_answers c.args.input.now c.args.setting.now (state_of c.loop-events.world) c.loop-events.events c.loop-events.invariant.reached c.requires.input c.requires.setting c.finish.result c.finish.ensures.run
 
 pub returns-then-done-clause-order : goal.returns-then-done-clause-order
 returns-then-done-clause-order c =
@@ -34,11 +34,11 @@ returns-then-done-clause-order c =
 
 pub returns-then-done-clause-bound : goal.returns-then-done-clause-bound
 returns-then-done-clause-bound c =
-    run_bounded c.args.input.now c.args.setting.now (state_of c.loop-events.world) c.loop-events.events c.loop-events.invariant.counted c.requires.input c.requires.setting c.events_are_few.ensures
+    run_bounded c.args.input.now c.args.setting.now (state_of c.loop-events.world) c.loop-events.events c.loop-events.invariant.reached c.requires.input c.requires.setting c.events_are_few.ensures
     c.finish.result c.finish.ensures.journal c.finish.ensures.bouts
 
 pub unreachable-requires : goal.unreachable-requires
 unreachable-requires c =
     let end = c.loop-events-test.false in
-    let few = counts_on c.events_are_few.ensures c.events_fit.ensures c.args.input.now c.args.setting.now c.requires.input c.requires.setting (state_of c.loop-events.world) c.loop-events.events c.loop-events.invariant.counted in
+    let few = counts_on c.args.input.now c.args.setting.now c.events_are_few.ensures (state_of c.loop-events.world) c.loop-events.events c.loop-events.invariant.reached c.events_fit.ensures c.requires.input c.requires.setting in
     omega arith

@@ -2,7 +2,7 @@ use Rattle.std.proofs.Common.{subst}
 use Rattle.actor_core.specs.Standing.{GoesOn}
 use Rattle.actor_core.specs.Elements.{IsSomeAt}
 use Rattle.link_trace.specs.Worlds.{state_of, cores_of}
-use Rattle.link_trace.proofs.Stilled.{still_is_done}
+use Rattle.link_trace.proofs.WorldAnswer.{still_is_done}
 use Rattle.link_trace.proofs.world.World.done.Goals as goal
 
 pub returns-clause-still : goal.returns-clause-still
