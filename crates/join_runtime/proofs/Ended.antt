@@ -2,6 +2,7 @@
 use Rattle.std.proofs.Common.{◌≡◌, ℕ, zero, suc, ◌+◌, ◌-◌, refl, sym, ap, subst, ◌∙◌, true, Option, Some, None, List, [], ◌∷◌, map, length, arith}
 use Rattle.std.specs.Prelude.{slice_get}
 use Rattle.std.proofs.lemmas.List.{length-map}
+use Rattle.std.proofs.lemmas.Option.{get_or_from_slice_get, slice_get_within}
 use mathlib.Core.Path.{fun_ext}
 use Rattle.epoch_tags.specs.declared.actor.Actor.{Actor}
 use Rattle.epoch_tags.specs.declared.actor.Actor.TheVariants.{Collector}
@@ -18,8 +19,9 @@ use Rattle.trace_law.specs.Family.{first_rest}
 use Rattle.actor_core.specs.Endings.{AreLast, IsAnswerOf}
 use Rattle.actor_core.specs.Families.{AreFronts, core_in}
 use Rattle.actor_core.specs.Numbers.{number, at_number}
-use Rattle.actor_core.specs.Players.{IsFinishedFamily, lists_at}
+use Rattle.actor_core.specs.Players.{IsFinishedFamily, is_complete_at, is_complete_core, lists_at}
 use Rattle.actor_core.proofs.CompleteAnswer.{collector_complete, complete_finished, journal_named, run_ends}
+use Rattle.actor_core.proofs.Seated.{core_at}
 use Rattle.join_runtime.specs.Views.{SeatView, frame_of, lists_of}
 use Rattle.join_runtime.specs.Joins.{AreJoined}
 use Rattle.join_runtime.specs.Bouts.{SeatsView, StandsFor, cores_in, lists_in}
@@ -60,6 +62,15 @@ module _ (v : SeatsView) (joined : AreJoined v.joiners v.feeders (map frame_of v
       let all = many_seats in
       let place : length v.seats - 1 ≡ v.feeders + v.joiners + 1 = omega (arith, all) in
       ap (slice_get (cores_in v)) place
+
+  -- so it tells whether the collector is complete
+  pub last_complete : (seat : SeatView) → slice_get v.seats (length v.seats - 1) ≡ Some seat
+      → is_complete_core seat.core ≡ is_collected v
+  last_complete seat is =
+      let place = length v.seats - 1 in
+      let here = core_at (λ (s : SeatView). s.core) v.seats place seat (slice_get_within v.seats place seat is) in
+      let same = ap (λ (s : SeatView). Some s.core) (get_or_from_slice_get v.seats place seat seat is) in
+      ap is_complete_at (sym (here ∙ same) ∙ last_core)
 
   -- ---- the last two machines
 

@@ -1,5 +1,5 @@
 -- The collector of seats gives what it took, and nothing else changes.
-use Rattle.std.proofs.Common.{◌≡◌, ℕ, ◌+◌, ◌-◌, ◌^◌, ◌<◌, ◌==◌, inl, inr, refl, sym, ap, subst, ◌∙◌, Result, Ok, Err, Some, List, get_or, set, length, length-set, map, true, arith}
+use Rattle.std.proofs.Common.{◌≡◌, ℕ, ◌+◌, ◌-◌, ◌^◌, ◌<◌, ◌==◌, inl, inr, refl, sym, ap, subst, ◌∙◌, Result, Ok, Err, None, Some, List, get_or, set, length, length-set, map, true, arith}
 use Rattle.std.specs.Prelude.{IfOk, OnErr, OnOk, IsPermutation, slice_get, slice_index_or}
 use Rattle.std.specs.declared.alloc.AllocError.{AllocError}
 use Rattle.std.proofs.lemmas.Bool.{cases_Bool, eqb-true, eq-eqb}

@@ -1,14 +1,17 @@
 -- Turns of a seat: what its actor did, and what its ends keep.
-use Rattle.std.proofs.Common.{◌≡◌, ℕ, ◌+◌, suc, inl, inr, true≢false, refl, sym, ap, subst, ◌∙◌, Bool, true, false, cond, List, ◌∷◌, ◌++◌, [], map, arith}
+use Rattle.std.proofs.Common.{◌≡◌, ℕ, ◌+◌, suc, inl, inr, true≢false, refl, sym, ap, subst, ◌∙◌, Bool, true, false, cond, Option, List, ◌∷◌, ◌++◌, [], map, arith}
 use Rattle.epoch_tags.specs.declared.actor.Actor.{Actor}
 use Rattle.epoch_tags.specs.declared.message.Msg.{Msg}
-use Rattle.ruled_links.specs.Inboxes.{OfSender, fresh, is_sender}
-use Rattle.actor_core.specs.Lists.{ActorLists, Cause, Took, Began, same_actor, with_cause}
-use Rattle.actor_core.specs.Players.{Player, Runs}
+use Rattle.epoch_tags.specs.declared.message.Post.{Post}
+use Rattle.ruled_links.specs.Ends.{Sending}
+use Rattle.ruled_links.specs.Inboxes.{InboxView, OfSender, fresh, is_sender}
+use Rattle.actor_core.specs.Lists.{ActorLists, Cause, Took, Began, posted_to, same_actor, with_cause}
+use Rattle.actor_core.specs.Players.{Runs}
+use Rattle.actor_core.specs.declared.machines.Core.{Core}
 use Rattle.actor_core.proofs.Balances.{same_is}
 use Rattle.actor_core.proofs.Runs.{runs_joined}
-use Rattle.join_runtime.specs.Views.{Frame, SeatView, frame_of, lists_of, player}
-use Rattle.join_runtime.specs.Turns.{Advances, IsAlike, IsHeard, KeepsEnds, MakesTurn, Rests, Steps, Works}
+use Rattle.join_runtime.specs.Views.{Frame, SeatView, frame_of, lists_of, player, sent_through}
+use Rattle.join_runtime.specs.Turns.{Advances, IsAlike, IsCaused, IsHeard, KeepsEnds, MakesTurn, Rests, Steps, Works}
 use Rattle.join_runtime.specs.Joins.{HearsSenders}
 use Rattle.join_runtime.proofs.KnownCounts.{is_sender-named}
 
@@ -53,7 +56,41 @@ turn_ends s t turn = record {
       ∙ heard_more turn.event.cause s.inbox.senders (lists_of s).received from turn.heard none;
 }
 
--- and so does a seat that is told what is left
+-- ---- one turn
+
+-- a seat whose machine was called, and whose mouths took what that sent
+module _ (old : SeatView) (core : Core) (inbox : InboxView) (mouths : List (Option Sending)) (none sends : List Post)
+    (caused : IsCaused old.core core old.inbox inbox none sends) (empty : none ≡ [])
+    (sent : (a : Actor) → sent_through old.joiners old.feeders mouths a
+    ≡ sent_through old.joiners old.feeders old.mouths a ++ posted_to a sends) where
+  abbrev after : SeatView
+  after = record old { core = core; inbox = inbox; mouths = mouths }
+
+  sent_then : (a : Actor) → (lists_of after).sent a ≡ (lists_of old).sent a ++ posted_to a caused.occurs.added
+  sent_then a =
+      let all = caused.occurs.sends ∙ ap (λ ps. ps ++ caused.occurs.added) empty in
+      sent a ∙ ap (λ ps. (lists_of old).sent a ++ posted_to a ps) all
+
+  -- it made an event
+  pub made_turn : frame_of after ≡ frame_of old → MakesTurn old after
+  made_turn frame = record {
+    event = record {
+      cause = caused.cause;
+      posts = caused.occurs.added;
+      event = caused.occurs.event;
+      free = caused.free;
+      live = caused.live;
+      given = caused.given;
+      grows = caused.grows;
+      lists = λ i. record { received = λ from. caused.received from i; sent = λ to. sent_then to i };
+    };
+    heard = caused.heard;
+    frame = frame;
+  }
+
+-- ---- a seat that is told what is left
+
+-- it keeps its ends
 pub alike_ends : (s t : SeatView) → IsAlike s t → KeepsEnds s t
 alike_ends s t alike = record {
   frame = alike.frame;
