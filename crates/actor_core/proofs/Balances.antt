@@ -1,5 +1,6 @@
 -- What an event of one actor keeps.
-use Rattle.std.proofs.Common.{◌≡◌, ◌&&◌, append-nil, eqb-true, true≢false, refl, sym, ap, subst, ◌∙◌, Bool, true, false, cond, List, [], ◌∷◌, ◌++◌, append_assoc}
+use Rattle.std.proofs.Common.{◌≡◌, ◌&&◌, append-nil, eqb-true, true≢false, refl, sym, ap, subst, ◌∙◌, Bool, true, false}
+use Rattle.std.proofs.Common.{cond, List, [], ◌∷◌, ◌++◌, append_assoc}
 use Rattle.epoch_tags.specs.declared.actor.Actor.{Actor}
 use Rattle.epoch_tags.specs.declared.actor.Actor.TheVariants.{Feeder, Joiner, Controller, Collector}
 use Rattle.epoch_tags.specs.declared.message.Msg.{Msg}
@@ -39,9 +40,16 @@ pub beginning_balances : BeginningBalances
 beginning_balances self posts f left balanced x y = go (same_actor self x) (same_actor self y) refl refl
   where
     go : (b c : Bool) → same_actor self x ≡ b → same_actor self y ≡ c
-        → (cond c (with_event Began posts (f self)) (f y)).received x ++ cond b (left x y ++ posted_to y posts) (left x y) ≡ (cond b (with_event Began posts (f self)) (f x)).sent y
-    go true true e d = subst (λ z. (f self).received x ++ (left x y ++ posted_to y posts) ≡ (f z).sent y ++ posted_to y posts) (sym (same_is self x e)) (more_sent ((f self).received x) (left x y) ((f x).sent y) (posted_to y posts) (subst (λ z. (f z).received x ++ left x y ≡ (f x).sent y) (sym (same_is self y d)) (balanced x y)))
-    go true false e d = subst (λ z. (f y).received x ++ (left x y ++ posted_to y posts) ≡ (f z).sent y ++ posted_to y posts) (sym (same_is self x e)) (more_sent ((f y).received x) (left x y) ((f x).sent y) (posted_to y posts) (balanced x y))
+        → (cond c (with_event Began posts (f self)) (f y)).received x
+        ++ cond b (left x y ++ posted_to y posts) (left x y)
+        ≡ (cond b (with_event Began posts (f self)) (f x)).sent y
+    go true true e d = subst (λ z. (f self).received x ++ (left x y ++ posted_to y posts) ≡ (f z).sent y
+        ++ posted_to y posts) (sym (same_is self x e)) (more_sent ((f self).received x) (left x y) ((f x).sent y)
+        (posted_to y posts) (subst (λ z. (f z).received x ++ left x y ≡ (f x).sent y) (sym (same_is self y d))
+        (balanced x y)))
+    go true false e d = subst (λ z. (f y).received x ++ (left x y ++ posted_to y posts) ≡ (f z).sent y
+        ++ posted_to y posts) (sym (same_is self x e)) (more_sent ((f y).received x) (left x y) ((f x).sent y)
+        (posted_to y posts) (balanced x y))
     go false true e d = subst (λ z. (f z).received x ++ left x y ≡ (f x).sent y) (sym (same_is self y d)) (balanced x y)
     go false false e d = balanced x y
 
@@ -70,18 +78,27 @@ delivery_balances from to m rest posts f left balanced first x y = go (same_acto
 
     go : (b c : Bool) → same_actor to x ≡ b → same_actor to y ≡ c
         → (cond c (with_event (Took from m) posts (f to)) (f y)).received x
-        ++ cond b (cond (same_actor from x && c) rest (left x y) ++ posted_to y posts) (cond (same_actor from x && c) rest (left x y))
+        ++ cond b (cond (same_actor from x && c) rest (left x y) ++ posted_to y posts)
+        (cond (same_actor from x && c) rest (left x y))
         ≡ (cond b (with_event (Took from m) posts (f to)) (f x)).sent y
     go true true e d =
-        let now = subst (λ l. got_at from x m (f to) ++ l ≡ (f x).sent y) (sym (and_true (same_actor from x) rest (left x y))) (moved (same_is to y d) (same_actor from x) refl) in
-        subst (λ z. got_at from x m (f to) ++ (cond (same_actor from x && true) rest (left x y) ++ posted_to y posts) ≡ (f z).sent y ++ posted_to y posts) (sym (same_is to x e))
-        (more_sent (got_at from x m (f to)) (cond (same_actor from x && true) rest (left x y)) ((f x).sent y) (posted_to y posts) now)
+        let now = subst (λ l. got_at from x m (f to) ++ l ≡ (f x).sent y)
+        (sym (and_true (same_actor from x) rest (left x y))) (moved (same_is to y d) (same_actor from x) refl) in
+        subst (λ z. got_at from x m (f to) ++ (cond (same_actor from x && true) rest (left x y) ++ posted_to y posts)
+        ≡ (f z).sent y ++ posted_to y posts) (sym (same_is to x e))
+        (more_sent (got_at from x m (f to)) (cond (same_actor from x && true) rest (left x y)) ((f x).sent y)
+        (posted_to y posts) now)
     go true false e d =
-        let now = subst (λ l. (f y).received x ++ l ≡ (f x).sent y) (sym (and_false (same_actor from x) rest (left x y))) (balanced x y) in
-        subst (λ z. (f y).received x ++ (cond (same_actor from x && false) rest (left x y) ++ posted_to y posts) ≡ (f z).sent y ++ posted_to y posts) (sym (same_is to x e))
-        (more_sent ((f y).received x) (cond (same_actor from x && false) rest (left x y)) ((f x).sent y) (posted_to y posts) now)
-    go false true e d = subst (λ l. got_at from x m (f to) ++ l ≡ (f x).sent y) (sym (and_true (same_actor from x) rest (left x y))) (moved (same_is to y d) (same_actor from x) refl)
-    go false false e d = subst (λ l. (f y).received x ++ l ≡ (f x).sent y) (sym (and_false (same_actor from x) rest (left x y))) (balanced x y)
+        let now = subst (λ l. (f y).received x ++ l ≡ (f x).sent y)
+        (sym (and_false (same_actor from x) rest (left x y))) (balanced x y) in
+        subst (λ z. (f y).received x ++ (cond (same_actor from x && false) rest (left x y) ++ posted_to y posts)
+        ≡ (f z).sent y ++ posted_to y posts) (sym (same_is to x e))
+        (more_sent ((f y).received x) (cond (same_actor from x && false) rest (left x y)) ((f x).sent y)
+        (posted_to y posts) now)
+    go false true e d = subst (λ l. got_at from x m (f to) ++ l ≡ (f x).sent y)
+        (sym (and_true (same_actor from x) rest (left x y))) (moved (same_is to y d) (same_actor from x) refl)
+    go false false e d = subst (λ l. (f y).received x ++ l ≡ (f x).sent y)
+        (sym (and_false (same_actor from x) rest (left x y))) (balanced x y)
 
 -- where what is left makes up what was sent, what was received is a front of it
 pub balanced_fronts : (f : Actor → ActorLists) (left : Actor → Actor → List Msg) → IsBalanced f left → AreFronts f

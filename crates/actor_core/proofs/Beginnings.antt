@@ -1,5 +1,6 @@
 -- A feeder's batches, and the machines that are there, at the beginning of a run.
-use Rattle.std.proofs.Common.{◌≡◌, ℕ, zero, suc, ◌+◌, ◌<◌, ◌^◌, lt-ltb, refl, ap, ◌∙◌, cond, Some, None, List, [], ◌∷◌, map, take, drop, ◌*◌, ◌/◌, ◌-◌, ap₂, length, arith}
+use Rattle.std.proofs.Common.{◌≡◌, ℕ, zero, suc, ◌+◌, ◌<◌, ◌^◌, lt-ltb, refl, ap, ◌∙◌, cond, Some, None, List, [], ◌∷◌}
+use Rattle.std.proofs.Common.{map, take, drop, ◌*◌, ◌/◌, ◌-◌, ap₂, length, arith}
 use Rattle.std.specs.List.{range_with_len}
 use Rattle.std.specs.Prelude.{slice_get}
 use Rattle.std.proofs.lemmas.List.{length-map, take-map, drop-map}
@@ -15,13 +16,16 @@ use Rattle.actor_core.specs.Numbers.{number}
 -- a feeder's batches of mapped rows are its batches, mapped
 pub map-cut : {X Y : Type 0} (f : X → Y) (size : ℕ) (xs : List X) → cut size (map f xs) ≡ map (map f) (cut size xs)
 map-cut f size xs =
-    ap (λ n. map (λ i. take size (drop (i * size) (map f xs))) (range_with_len 0 ((n + size - 1) / size))) (length-map xs f)
+    ap (λ n. map (λ i. take size (drop (i * size) (map f xs))) (range_with_len 0 ((n + size - 1) / size)))
+    (length-map xs f)
     ∙ pieces (range_with_len 0 ((length xs + size - 1) / size))
   where
     pieces : (is : List ℕ)
-        → map (λ i. take size (drop (i * size) (map f xs))) is ≡ map (map f) (map (λ i. take size (drop (i * size) xs)) is)
+        → map (λ i. take size (drop (i * size) (map f xs))) is
+        ≡ map (map f) (map (λ i. take size (drop (i * size) xs)) is)
     pieces [] = refl
-    pieces (i ∷ is) = ap₂ (λ y ys. y ∷ ys) (ap (take size) (drop-map f (i * size) xs) ∙ take-map f size (drop (i * size) xs)) (pieces is)
+    pieces (i ∷ is) = ap₂ (λ y ys. y ∷ ys) (ap (take size) (drop-map f (i * size) xs)
+        ∙ take-map f size (drop (i * size) xs)) (pieces is)
 
 -- ---- what is there
 

@@ -22,9 +22,11 @@ use Rattle.actor_core.specs.Families.{AreFronts, IsActor, core_in, family_of, jo
 use Rattle.actor_core.specs.Numbers.{number, at_number}
 use Rattle.actor_core.specs.Elements.{IsAllAt}
 use Rattle.actor_core.specs.Endings.{AreLast, IsAnswerOf}
-use Rattle.actor_core.specs.Players.{AllStand, IsFinishedFamily, is_complete_among, is_complete_at, is_complete_core, journal_among, journal_at}
+use Rattle.actor_core.specs.Players.{AllStand, IsFinishedFamily, is_complete_among, is_complete_at, is_complete_core}
+use Rattle.actor_core.specs.Players.{journal_among, journal_at}
 use Rattle.actor_core.specs.declared.machines.Core.{Core}
-use Rattle.actor_core.specs.declared.machines.Core.TheVariants.{Feeder as TheFeeder, Joiner as TheJoiner, Controller as TheController, Collector as TheCollector}
+use Rattle.actor_core.specs.declared.machines.Core.TheVariants.{Feeder as TheFeeder, Joiner as TheJoiner}
+use Rattle.actor_core.specs.declared.machines.Core.TheVariants.{Controller as TheController, Collector as TheCollector}
 use Rattle.actor_core.proofs.Families.{agrees as agreeing, is_finished}
 use Rattle.actor_core.proofs.OwnNumbers.{none_some, some_is}
 

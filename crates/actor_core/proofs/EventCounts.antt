@@ -1,5 +1,6 @@
 -- Each event of a world is counted by its lists.
-use Rattle.std.proofs.Common.{◌≡◌, ℕ, ◌+◌, ◌^◌, ◌<◌, ◌≤◌, refl, sym, ap, subst, ◌∙◌, Bool, true, false, cond, Option, Some, None, List, [], ◌∷◌, ◌++◌, filter_map, length, arith}
+use Rattle.std.proofs.Common.{◌≡◌, ℕ, ◌+◌, ◌^◌, ◌<◌, ◌≤◌, refl, sym, ap, subst, ◌∙◌, Bool, true, false, cond, Option}
+use Rattle.std.proofs.Common.{Some, None, List, [], ◌∷◌, ◌++◌, filter_map, length, arith}
 use Rattle.std.specs.Prelude.{bit_xor}
 use Rattle.std.specs.List.{AllByRecursion, cons_option}
 use Rattle.std.proofs.lemmas.List.{length-append}
@@ -10,14 +11,17 @@ use Rattle.join_rows.proofs.Everywhere.{all-append, all-back}
 use Rattle.epoch_tags.specs.declared.actor.Actor.{Actor}
 use Rattle.epoch_tags.specs.declared.actor.Actor.TheVariants.{Feeder, Joiner, Controller, Collector}
 use Rattle.epoch_tags.specs.declared.message.Msg.{Msg}
-use Rattle.epoch_tags.specs.declared.message.Msg.TheVariants.{Joiner as Joiner', Feeder as Feeder', Controller as Controller', Collector as Collector'}
+use Rattle.epoch_tags.specs.declared.message.Msg.TheVariants.{Joiner as Joiner', Feeder as Feeder'}
+use Rattle.epoch_tags.specs.declared.message.Msg.TheVariants.{Controller as Controller', Collector as Collector'}
 use Rattle.epoch_tags.specs.declared.message.Post.{Post}
 use Rattle.epoch_tags.specs.declared.message.ToFeeder.{ToFeeder}
 use Rattle.epoch_tags.specs.declared.message.ToJoiner.{ToJoiner}
 use Rattle.epoch_tags.specs.declared.message.ToController.{ToController}
 use Rattle.epoch_tags.specs.declared.message.ToCollector.{ToCollector}
-use Rattle.epoch_tags.specs.Links.{HasLink, feeder_joiner, joiner_joiner, controller_feeder, feeder_controller, joiner_controller, joiner_collector}
-use Rattle.epoch_tags.specs.Posts.{IsOfKind, GoesOver, joiner_msg, feeder_msg, controller_msg, collector_msg, posted_to_controller}
+use Rattle.epoch_tags.specs.Links.{HasLink, feeder_joiner, joiner_joiner, controller_feeder, feeder_controller}
+use Rattle.epoch_tags.specs.Links.{joiner_controller, joiner_collector}
+use Rattle.epoch_tags.specs.Posts.{IsOfKind, GoesOver, joiner_msg, feeder_msg, controller_msg, collector_msg}
+use Rattle.epoch_tags.specs.Posts.{posted_to_controller}
 use Rattle.trace_law.specs.declared.input.Input.{Input}
 use Rattle.trace_law.specs.declared.setting.Setting.{Setting}
 use Rattle.actor_core.specs.Lists.{ActorLists, Cause, Took, Began, same_actor, posted_to, with_cause, with_event}
@@ -33,7 +37,8 @@ use Rattle.actor_core.proofs.TypedLists.{got, appended, controller_posts}
 -- at a feeder: its requests, what it received, and what the controller received of it
 abbrev of_feeder : (Actor → ActorLists) → ℕ → ℕ
 of_feeder f p =
-    length (filter_map controller_msg ((f (Feeder p)).sent Controller)) + length (filter_map feeder_msg ((f (Feeder p)).received Controller))
+    length (filter_map controller_msg ((f (Feeder p)).sent Controller))
+    + length (filter_map feeder_msg ((f (Feeder p)).received Controller))
     + length (filter_map controller_msg ((f Controller).received (Feeder p)))
 
 -- what a joiner received
@@ -44,11 +49,13 @@ of_joiner setting f j =
 
 -- what the controller and the collector received of a joiner
 abbrev of_ends : (Actor → ActorLists) → ℕ → ℕ
-of_ends f j = length (filter_map controller_msg ((f Controller).received (Joiner j))) + length (filter_map collector_msg ((f Collector).received (Joiner j)))
+of_ends f j = length (filter_map controller_msg ((f Controller).received (Joiner j)))
+    + length (filter_map collector_msg ((f Collector).received (Joiner j)))
 
 -- so many events there were, by these lists
 abbrev pub count : Setting → (Actor → ActorLists) → ℕ
-count setting f = total setting.feeders (of_feeder f) + total (2 ^ setting.k) (of_joiner setting f) + total (2 ^ setting.k) (of_ends f)
+count setting f = total setting.feeders (of_feeder f) + total (2 ^ setting.k) (of_joiner setting f)
+    + total (2 ^ setting.k) (of_ends f)
 
 -- ---- lists that grow
 
@@ -77,12 +84,16 @@ total_more n i g h low each more = let but = total_but n i g h low each in omega
 
 module _ (self : Actor) (cause : Cause) (posts : List Post) (f : Actor → ActorLists) where
   received_grows : {X : Type 0} (kind : Msg → Option X) (x y : Actor)
-      → length (filter_map kind ((f y).received x)) ≤ length (filter_map kind ((after_event self cause posts f y).received x))
+      → length (filter_map kind ((f y).received x)) ≤ length
+      (filter_map kind ((after_event self cause posts f y).received x))
   received_grows kind x y = go (same_actor self y) refl
     where
       go : (b : Bool) → same_actor self y ≡ b
-          → length (filter_map kind ((f y).received x)) ≤ length (filter_map kind ((cond b (with_event cause posts (f self)) (f y)).received x))
-      go true e = subst (λ z. length (filter_map kind ((f z).received x)) ≤ length (filter_map kind (with_cause cause (f self).received x))) (same_is self y e) (cause_grows kind cause (f self).received x)
+          → length (filter_map kind ((f y).received x)) ≤ length
+          (filter_map kind ((cond b (with_event cause posts (f self)) (f y)).received x))
+      go true e = subst (λ z. length (filter_map kind ((f z).received x))
+          ≤ length (filter_map kind (with_cause cause (f self).received x))) (same_is self y e)
+          (cause_grows kind cause (f self).received x)
       go false e = same_le (length (filter_map kind ((f y).received x)))
 
   sent_grows : {X : Type 0} (kind : Msg → Option X) (x y : Actor)
@@ -90,8 +101,11 @@ module _ (self : Actor) (cause : Cause) (posts : List Post) (f : Actor → Actor
   sent_grows kind x y = go (same_actor self x) refl
     where
       go : (b : Bool) → same_actor self x ≡ b
-          → length (filter_map kind ((f x).sent y)) ≤ length (filter_map kind ((cond b (with_event cause posts (f self)) (f x)).sent y))
-      go true e = subst (λ z. length (filter_map kind ((f z).sent y)) ≤ length (filter_map kind ((f self).sent y ++ posted_to y posts))) (same_is self x e) (grows kind ((f self).sent y) (posted_to y posts))
+          → length (filter_map kind ((f x).sent y)) ≤ length
+          (filter_map kind ((cond b (with_event cause posts (f self)) (f x)).sent y))
+      go true e = subst (λ z. length (filter_map kind ((f z).sent y))
+          ≤ length (filter_map kind ((f self).sent y ++ posted_to y posts))) (same_is self x e)
+          (grows kind ((f self).sent y) (posted_to y posts))
       go false e = same_le (length (filter_map kind ((f x).sent y)))
 
   feeder_grows : (p : ℕ) → of_feeder f p ≤ of_feeder (after_event self cause posts f) p
@@ -103,12 +117,14 @@ module _ (self : Actor) (cause : Cause) (posts : List Post) (f : Actor → Actor
 
   from_feeders_grow : (setting : Setting) (j : ℕ)
       → total setting.feeders (λ p. length (filter_map joiner_msg ((f (Joiner j)).received (Feeder p))))
-      ≤ total setting.feeders (λ p. length (filter_map joiner_msg ((after_event self cause posts f (Joiner j)).received (Feeder p))))
+      ≤ total setting.feeders (λ p. length (filter_map joiner_msg
+      ((after_event self cause posts f (Joiner j)).received (Feeder p))))
   from_feeders_grow setting j = total_le setting.feeders _ _ (λ p low. received_grows joiner_msg (Feeder p) (Joiner j))
 
   from_joiners_grow : (setting : Setting) (j : ℕ)
       → total (2 ^ setting.k) (λ i. length (filter_map joiner_msg ((f (Joiner j)).received (Joiner i))))
-      ≤ total (2 ^ setting.k) (λ i. length (filter_map joiner_msg ((after_event self cause posts f (Joiner j)).received (Joiner i))))
+      ≤ total (2 ^ setting.k) (λ i. length (filter_map joiner_msg
+      ((after_event self cause posts f (Joiner j)).received (Joiner i))))
   from_joiners_grow setting j = total_le (2 ^ setting.k) _ _ (λ i low. received_grows joiner_msg (Joiner i) (Joiner j))
 
   joiner_grows : (setting : Setting) (j : ℕ)
@@ -123,12 +139,15 @@ module _ (self : Actor) (cause : Cause) (posts : List Post) (f : Actor → Actor
 
   -- where one of the three sums has one more, the count has
   module _ (setting : Setting) where
-    all_feeders : total setting.feeders (of_feeder f) ≤ total setting.feeders (of_feeder (after_event self cause posts f))
+    all_feeders : total setting.feeders (of_feeder f) ≤ total setting.feeders
+        (of_feeder (after_event self cause posts f))
     all_feeders =
         total_le setting.feeders (of_feeder f) (of_feeder (after_event self cause posts f)) (λ p low. feeder_grows p)
 
-    all_joiners : total (2 ^ setting.k) (of_joiner setting f) ≤ total (2 ^ setting.k) (of_joiner setting (after_event self cause posts f))
-    all_joiners = total_le (2 ^ setting.k) (of_joiner setting f) (of_joiner setting (after_event self cause posts f)) (λ j low. joiner_grows setting j)
+    all_joiners : total (2 ^ setting.k) (of_joiner setting f)
+        ≤ total (2 ^ setting.k) (of_joiner setting (after_event self cause posts f))
+    all_joiners = total_le (2 ^ setting.k) (of_joiner setting f) (of_joiner setting (after_event self cause posts f))
+        (λ j low. joiner_grows setting j)
 
     all_ends : total (2 ^ setting.k) (of_ends f) ≤ total (2 ^ setting.k) (of_ends (after_event self cause posts f))
     all_ends = total_le (2 ^ setting.k) (of_ends f) (of_ends (after_event self cause posts f)) (λ j low. ends_grow j)
@@ -136,33 +155,41 @@ module _ (self : Actor) (cause : Cause) (posts : List Post) (f : Actor → Actor
     feeder_more : (p : ℕ) → p < setting.feeders → of_feeder f p + 1 ≤ of_feeder (after_event self cause posts f) p
         → count setting f + 1 ≤ count setting (after_event self cause posts f)
     feeder_more p low more =
-        let one = total_more setting.feeders p (of_feeder f) (of_feeder (after_event self cause posts f)) low (λ q l. feeder_grows q) more in
+        let one = total_more setting.feeders p (of_feeder f) (of_feeder (after_event self cause posts f)) low
+        (λ q l. feeder_grows q) more in
         let two = all_joiners in let three = all_ends in omega arith
 
     joiner_more : (j : ℕ) → j < 2 ^ setting.k
         → of_joiner setting f j + 1 ≤ of_joiner setting (after_event self cause posts f) j
         → count setting f + 1 ≤ count setting (after_event self cause posts f)
     joiner_more j low more =
-        let one = total_more (2 ^ setting.k) j (of_joiner setting f) (of_joiner setting (after_event self cause posts f)) low (λ q l. joiner_grows setting q) more in
+        let one = total_more (2 ^ setting.k) j (of_joiner setting f)
+        (of_joiner setting (after_event self cause posts f)) low (λ q l. joiner_grows setting q) more in
         let two = all_feeders in let three = all_ends in omega arith
 
     ends_more : (j : ℕ) → j < 2 ^ setting.k → of_ends f j + 1 ≤ of_ends (after_event self cause posts f) j
         → count setting f + 1 ≤ count setting (after_event self cause posts f)
     ends_more j low more =
-        let one = total_more (2 ^ setting.k) j (of_ends f) (of_ends (after_event self cause posts f)) low (λ q l. ends_grow q) more in
+        let one = total_more (2 ^ setting.k) j (of_ends f) (of_ends (after_event self cause posts f)) low
+        (λ q l. ends_grow q) more in
         let two = all_feeders in let three = all_joiners in omega arith
 
 -- ---- a message taken is one more
 
 module _ (from self : Actor) (m : Msg) (posts : List Post) (f : Actor → ActorLists) where
   took_more : {X : Type 0} (kind : Msg → Option X) (x : X) → kind m ≡ Some x
-      → length (filter_map kind ((f self).received from)) + 1 ≤ length (filter_map kind ((after_event self (Took from m) posts f self).received from))
+      → length (filter_map kind ((f self).received from)) + 1
+      ≤ length (filter_map kind ((after_event self (Took from m) posts f self).received from))
   took_more kind x is =
       let before = (f self).received from in
-      let more : length (filter_map kind (cond (same_actor from from) (before ++ m ∷ []) before)) ≡ length (filter_map kind before) + 1 =
+      let more : length (filter_map kind (cond (same_actor from from) (before ++ m ∷ []) before))
+      ≡ length (filter_map kind before) + 1 =
       ap length (got kind (same_actor from from) m x before is)
-      ∙ (ap (λ b. length (cond b (filter_map kind before ++ x ∷ []) (filter_map kind before))) (same_self from) ∙ length-append (filter_map kind before) (x ∷ [])) in
-      subst (λ b. length (filter_map kind before) + 1 ≤ length (filter_map kind ((cond b (with_event (Took from m) posts (f self)) (f self)).received from))) (sym (same_self self))
+      ∙ (ap (λ b. length (cond b (filter_map kind before ++ x ∷ []) (filter_map kind before))) (same_self from)
+      ∙ length-append (filter_map kind before) (x ∷ [])) in
+      subst (λ b. length (filter_map kind before) + 1 ≤ length
+      (filter_map kind ((cond b (with_event (Took from m) posts (f self)) (f self)).received from)))
+      (sym (same_self self))
       (subst (λ n. length (filter_map kind before) + 1 ≤ n) (sym more) (same_le (length (filter_map kind before) + 1)))
 
 -- ---- kinds
@@ -200,14 +227,16 @@ pub took_counts : (setting : Setting) (from self : Actor) (m : Msg) (posts : Lis
 took_counts setting _ _ m posts f (feeder_joiner {p = p} {j = j} p_low j_low) actor kind =
     let typed = joiner_kind j m kind in
     let here = took_more (Feeder p) (Joiner j) m posts f joiner_msg typed.0 typed.1 in
-    let one = total_more setting.feeders p _ _ p_low (λ q low. received_grows (Joiner j) (Took (Feeder p) m) posts f joiner_msg (Feeder q) (Joiner j)) here in
+    let one = total_more setting.feeders p _ _ p_low (λ q low. received_grows (Joiner j) (Took (Feeder p) m)
+    posts f joiner_msg (Feeder q) (Joiner j)) here in
     let two = from_joiners_grow (Joiner j) (Took (Feeder p) m) posts f setting j in
     joiner_more (Joiner j) (Took (Feeder p) m) posts f setting j j_low (omega arith)
 took_counts setting _ _ m posts f (joiner_joiner {i = i} {low = low} i_low bit_low) actor kind =
     let j = bit_xor i (2 ^ low) in
     let typed = joiner_kind j m kind in
     let here = took_more (Joiner i) (Joiner j) m posts f joiner_msg typed.0 typed.1 in
-    let one = total_more (2 ^ setting.k) i _ _ i_low (λ q l. received_grows (Joiner j) (Took (Joiner i) m) posts f joiner_msg (Joiner q) (Joiner j)) here in
+    let one = total_more (2 ^ setting.k) i _ _ i_low (λ q l. received_grows (Joiner j) (Took (Joiner i) m)
+    posts f joiner_msg (Joiner q) (Joiner j)) here in
     let two = from_feeders_grow (Joiner j) (Took (Joiner i) m) posts f setting j in
     joiner_more (Joiner j) (Took (Joiner i) m) posts f setting j actor (omega arith)
 took_counts setting _ _ m posts f (controller_feeder {p = p} p_low) actor kind =
@@ -239,12 +268,19 @@ pub began_counts : (setting : Setting) (p : ℕ) (posts : List Post) (f : Actor 
     → count setting f + 1 ≤ count setting (after_event (Feeder p) Began posts f)
 began_counts setting p posts f low asks =
     let before = (f (Feeder p)).sent Controller in
-    let sent : length (filter_map controller_msg (before ++ posted_to Controller posts)) ≡ length (filter_map controller_msg before) + 1 =
-    ap length (appended controller_msg before (posted_to Controller posts) (posted_to_controller posts) (controller_posts posts))
-    ∙ (length-append (filter_map controller_msg before) (posted_to_controller posts) ∙ ap (λ n. length (filter_map controller_msg before) + n) asks) in
-    let here : length (filter_map controller_msg before) + 1 ≤ length (filter_map controller_msg ((after_event (Feeder p) Began posts f (Feeder p)).sent Controller)) =
-    subst (λ b. length (filter_map controller_msg before) + 1 ≤ length (filter_map controller_msg ((cond b (with_event Began posts (f (Feeder p))) (f (Feeder p))).sent Controller))) (sym (same_self (Feeder p)))
-    (subst (λ n. length (filter_map controller_msg before) + 1 ≤ n) (sym sent) (same_le (length (filter_map controller_msg before) + 1))) in
+    let sent : length (filter_map controller_msg (before ++ posted_to Controller posts))
+    ≡ length (filter_map controller_msg before) + 1 =
+    ap length (appended controller_msg before (posted_to Controller posts) (posted_to_controller posts)
+    (controller_posts posts))
+    ∙ (length-append (filter_map controller_msg before) (posted_to_controller posts)
+    ∙ ap (λ n. length (filter_map controller_msg before) + n) asks) in
+    let here : length (filter_map controller_msg before) + 1
+    ≤ length (filter_map controller_msg ((after_event (Feeder p) Began posts f (Feeder p)).sent Controller)) =
+    subst (λ b. length (filter_map controller_msg before) + 1
+    ≤ length (filter_map controller_msg ((cond b (with_event Began posts (f (Feeder p))) (f (Feeder p))).sent
+    Controller))) (sym (same_self (Feeder p)))
+    (subst (λ n. length (filter_map controller_msg before) + 1 ≤ n) (sym sent)
+    (same_le (length (filter_map controller_msg before) + 1))) in
     let two = received_grows (Feeder p) Began posts f feeder_msg Controller (Feeder p) in
     let three = received_grows (Feeder p) Began posts f controller_msg (Feeder p) Controller in
     feeder_more (Feeder p) Began posts f setting p low (omega arith)
@@ -276,20 +312,25 @@ all_over input setting Collector posts is out =
     subst (AllByRecursion (GoesOver setting.k setting.feeders Collector)) (sym out) tt
 
 -- so it is after an event whose posts go over its actor's links
-pub linked_after : (input : Input) (setting : Setting) (self : Actor) (cause : Cause) (posts : List Post) (f : Actor → ActorLists)
+pub linked_after : (input : Input) (setting : Setting) (self : Actor) (cause : Cause) (posts : List Post) (f : Actor
+    → ActorLists)
     → AreLinked setting f
-    → IsActor setting self → GoOut (start_for input setting self) posts → AreLinked setting (after_event self cause posts f)
+    → IsActor setting self → GoOut (start_for input setting self) posts
+    → AreLinked setting (after_event self cause posts f)
 linked_after input setting self cause posts f linked is out from to = go (same_actor self from) refl
   where
     go : (b : Bool) → same_actor self from ≡ b
         → AllByRecursion (IsLinked setting from to) ((cond b (with_event cause posts (f self)) (f from)).sent to)
-    go true e = subst (λ z. AllByRecursion (IsLinked setting z to) ((f self).sent to ++ posted_to to posts)) (same_is self from e)
-        (all-append (IsLinked setting self to) ((f self).sent to) (posted_to to posts) (linked self to) (posted_linked setting self to posts (all_over input setting self posts is out)))
+    go true e = subst (λ z. AllByRecursion (IsLinked setting z to) ((f self).sent to ++ posted_to to posts))
+        (same_is self from e)
+        (all-append (IsLinked setting self to) ((f self).sent to) (posted_to to posts) (linked self to)
+        (posted_linked setting self to posts (all_over input setting self posts is out)))
     go false e = linked from to
 
 -- a message that is left on a link goes over it too
 pub left_linked : (setting : Setting) (from to : Actor) (received rest sent : List Msg) (m : Msg)
     → received ++ m ∷ rest ≡ sent → AllByRecursion (IsLinked setting from to) sent → IsLinked setting from to m
 left_linked setting from to received rest sent m is all =
-    let behind = all-back (IsLinked setting from to) received (m ∷ rest) (subst (AllByRecursion (IsLinked setting from to)) (sym is) all) in
+    let behind = all-back (IsLinked setting from to) received (m ∷ rest)
+    (subst (AllByRecursion (IsLinked setting from to)) (sym is) all) in
     behind.0

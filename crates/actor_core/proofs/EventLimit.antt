@@ -23,7 +23,8 @@ numbers_fit r s feeders k epochs few_r few_s few small late =
     let rows : 8 * (r + s + feeders + 2) ≤ 4194384 = omega arith in
     let joiners : 2 ^ k ≤ 2 ^ 8 = pow_mono {i = k} {j = 8} small in
     let lines : epochs + 2 ≤ 306 = omega arith in
-    let most = mul-le (8 * (r + s + feeders + 2) * 2 ^ k) (epochs + 2) (4194384 * 2 ^ 8) 306 (mul-le (8 * (r + s + feeders + 2)) (2 ^ k) 4194384 (2 ^ 8) rows joiners) lines in
+    let most = mul-le (8 * (r + s + feeders + 2) * 2 ^ k) (epochs + 2) (4194384 * 2 ^ 8) 306
+    (mul-le (8 * (r + s + feeders + 2)) (2 ^ k) 4194384 (2 ^ 8) rows joiners) lines in
     under (8 * (r + s + feeders + 2) * 2 ^ k * (epochs + 2)) (4194384 * 2 ^ 8 * 306) (2 ^ 64 - 1) most (omega arith)
 
 -- so a number of 64 bits counts the events
@@ -35,8 +36,10 @@ fit keeps bounded input setting journal lists of_input of_setting agrees =
     let few_r = (of_input.sides R).few in
     let few_s = (of_input.sides S).few in
     let line = (first_rest setting).line in
-    let late = (bounded input setting line journal valid begins.line lawful 19 19 (below_2_19 (row_count input R) few_r) (below_2_19 (row_count input S) few_s)).0 in
-    numbers_fit (row_count input R) (row_count input S) setting.feeders setting.k (last_epoch journal) few_r few_s of_setting.few_feeders of_setting.joiners (omega (arith, late))
+    let late = (bounded input setting line journal valid begins.line lawful 19 19 (below_2_19 (row_count input R) few_r)
+    (below_2_19 (row_count input S) few_s)).0 in
+    numbers_fit (row_count input R) (row_count input S) setting.feeders setting.k (last_epoch journal)
+    few_r few_s of_setting.few_feeders of_setting.joiners (omega (arith, late))
   where
     below_2_19 : (n : ℕ) → n ≤ 2 ^ 18 → n < 2 ^ 19
     below_2_19 n few = omega arith

@@ -1,5 +1,6 @@
 -- Where some actor of a run made an event, the lists count one more; so events are few.
-use Rattle.std.proofs.Common.{◌≡◌, ℕ, zero, suc, ◌+◌, ◌-◌, ◌^◌, ◌<◌, ◌≤◌, refl, sym, ap, subst, ◌∙◌, Bool, true, false, cond, Option, Some, None, List, [], ◌∷◌, ◌++◌, filter_map, length, append_assoc, arith}
+use Rattle.std.proofs.Common.{◌≡◌, ℕ, zero, suc, ◌+◌, ◌-◌, ◌^◌, ◌<◌, ◌≤◌, refl, sym, ap, subst, ◌∙◌, Bool, true, false}
+use Rattle.std.proofs.Common.{cond, Option, Some, None, List, [], ◌∷◌, ◌++◌, filter_map, length, append_assoc, arith}
 use Rattle.std.specs.List.{AllByRecursion}
 use Rattle.std.proofs.lemmas.List.{length-append}
 use Rattle.std.proofs.lemmas.List.Elements.{filter_map-append}
@@ -26,7 +27,8 @@ use Rattle.actor_core.specs.Counts.{most_events}
 use Rattle.actor_core.specs.Numbers.{number}
 use Rattle.actor_core.specs.Players.{AllStand, AreLinked, IsLinked, MakesEvent, MayBegin, Player, Runs}
 use Rattle.actor_core.specs.declared.machines.Core.{Core}
-use Rattle.actor_core.specs.declared.machines.Core.TheVariants.{Feeder as TheFeeder, Joiner as TheJoiner, Controller as TheController, Collector as TheCollector}
+use Rattle.actor_core.specs.declared.machines.Core.TheVariants.{Feeder as TheFeeder, Joiner as TheJoiner}
+use Rattle.actor_core.specs.declared.machines.Core.TheVariants.{Controller as TheController, Collector as TheCollector}
 use Rattle.actor_core.proofs.Balances.{same_is}
 use Rattle.actor_core.proofs.OwnNumbers.{is_actor, same_self, some_is}
 use Rattle.actor_core.proofs.EventCounts.{began_counts, count, left_linked, linked_after, took_counts}

@@ -1,5 +1,6 @@
 -- The typed family of machines that stand for their lists agrees, and is finished where their work is over.
-use Rattle.std.proofs.Common.{◌≡◌, ℕ, ◌<◌, ◌^◌, ltb, ltb-true, lt-ltb, true≢false, refl, sym, ap, subst, ◌∙◌, Bool, true, false, Option, List, [], filter_map}
+use Rattle.std.proofs.Common.{◌≡◌, ℕ, ◌<◌, ◌^◌, ltb, ltb-true, lt-ltb, true≢false, refl, sym, ap, subst, ◌∙◌, Bool}
+use Rattle.std.proofs.Common.{true, false, Option, List, [], filter_map}
 use Rattle.std.proofs.Math.Bridge.{le_prop}
 use Rattle.std.proofs.lemmas.List.Elements.{filter_map-append}
 use Rattle.join_rows.specs.Lists.{IsPrefix}
@@ -22,14 +23,16 @@ use Rattle.actor_core.specs.Lists.{ActorLists, feeder_lists, joiner_lists, contr
 use Rattle.actor_core.specs.Standing.{OfFeeder, OfJoiner, OfController, OfCollector, Stands, IsOver, GoesOn}
 use Rattle.actor_core.specs.Families.{AreFronts, IsActor, start_for, family_of, journal_of}
 use Rattle.actor_core.specs.declared.machines.Core.{Core}
-use Rattle.actor_core.specs.declared.machines.Core.TheVariants.{Feeder as TheFeeder, Joiner as TheJoiner, Controller as TheController, Collector as TheCollector}
+use Rattle.actor_core.specs.declared.machines.Core.TheVariants.{Feeder as TheFeeder, Joiner as TheJoiner}
+use Rattle.actor_core.specs.declared.machines.Core.TheVariants.{Controller as TheController, Collector as TheCollector}
 
 -- ---- the laws, read off
 
 -- a feeder's machine keeps the feeder's law, by what it took, which tells whether its work is over
 pub feeder_law : (p feeders : ℕ) (s : FeederStart) (ls : ActorLists) (core : Core)
     → Stands (OfFeeder p feeders s) ls core
-    → (taken : List ToFeeder) × FeederLaw s (feeder_lists ls) taken × (IsOver core → 0 < stops taken) × (0 < stops taken → ¬ GoesOn core)
+    → (taken : List ToFeeder) × FeederLaw s (feeder_lists ls) taken × (IsOver core → 0 < stops taken)
+    × (0 < stops taken → ¬ GoesOn core)
 feeder_law p feeders s ls (TheFeeder f) st =
     (st.taken, st.law, (λ over. st.stopped.0 over), (λ stopped goes. true≢false (sym (st.stopped.1 stopped) ∙ goes)))
 feeder_law p feeders s ls (TheJoiner j) st = absurd st
@@ -38,7 +41,8 @@ feeder_law p feeders s ls (TheCollector c) st = absurd st
 
 -- a joiner's machine keeps the joiner's law, by what it took, which tells whether its work is over
 pub joiner_law : (s : JoinerStart) (ls : ActorLists) (core : Core) → Stands (OfJoiner s) ls core
-    → (taken : Taken) × JoinerLaw s (joiner_lists ls) taken × (IsOver core → IsFinishedJoiner s (joiner_lists ls) taken) × (IsFinishedJoiner s (joiner_lists ls) taken → ¬ GoesOn core)
+    → (taken : Taken) × JoinerLaw s (joiner_lists ls) taken × (IsOver core → IsFinishedJoiner s (joiner_lists ls) taken)
+    × (IsFinishedJoiner s (joiner_lists ls) taken → ¬ GoesOn core)
 joiner_law s ls (TheFeeder f) st = absurd st
 joiner_law s ls (TheJoiner j) st =
     (st.taken, st.law, (λ over. over s (joiner_lists ls) st), (λ finished goes. goes s (joiner_lists ls) st finished))
@@ -97,7 +101,11 @@ module _ {A : Type 0} (P : ℕ → A → Type 0) (n : ℕ) (other : A) (given : 
 read_front : {M X : Type 0} (kind : M → Option X) (front whole : List M) → IsPrefix front whole
     → IsPrefix (filter_map kind front) (filter_map kind whole)
 read_front kind front whole prefix =
-    record { rest = filter_map kind prefix.rest; joins = sym (filter_map-append kind front prefix.rest) ∙ ap (filter_map kind) prefix.joins }
+    record {
+      rest = filter_map kind prefix.rest;
+      joins = sym (filter_map-append kind front prefix.rest)
+          ∙ ap (filter_map kind) prefix.joins;
+    }
 
 -- ---- the family
 
@@ -108,26 +116,46 @@ module _ (input : Input) (setting : Setting) (f : Actor → ActorLists)
     (W : Type 0) (over : W → (a : Actor) (is : IsActor setting a) → IsOver (cores a is).0) where
   abbrev feeder_took : ℕ → List ToFeeder → Type 0
   feeder_took p taken =
-      FeederLaw (feeder_start input setting (first_rest setting) p) (feeder_lists (f (Feeder p))) taken × (W → 0 < stops taken)
+      FeederLaw (feeder_start input setting (first_rest setting) p) (feeder_lists (f (Feeder p))) taken
+      × (W → 0 < stops taken)
       × ((is : p < setting.feeders) → 0 < stops taken → ¬ GoesOn (cores (Feeder p) is).0)
 
   feeders : (taken : ℕ → List ToFeeder) × ((p : ℕ) → p < setting.feeders → feeder_took p (taken p))
   feeders = choice feeder_took setting.feeders [] (λ p low.
-      let law = feeder_law p setting.feeders (feeder_start input setting (first_rest setting) p) (f (Feeder p)) (cores (Feeder p) low).0 (cores (Feeder p) low).1 in (
+      let law = feeder_law p setting.feeders (feeder_start input setting (first_rest setting) p) (f (Feeder p))
+      (cores (Feeder p) low).0 (cores (Feeder p) low).1 in (
         law.0,
-        (law.1, (λ w. law.2 (over w (Feeder p) low)), (λ is stopped. subst (λ (l : p < setting.feeders). ¬ GoesOn (cores (Feeder p) l).0) (le_prop low is) (law.3 stopped))),
+        (
+          law.1,
+          (λ w. law.2 (over w (Feeder p) low)),
+          (λ is stopped. subst (λ (l : p < setting.feeders). ¬ GoesOn (cores (Feeder p) l).0) (le_prop low is)
+              (law.3 stopped)),
+        ),
       ))
 
   abbrev joiner_took : ℕ → Taken → Type 0
   joiner_took j taken =
-      JoinerLaw (joiner_start input setting (first_rest setting) j) (joiner_lists (f (Joiner j))) taken × (W → IsFinishedJoiner (joiner_start input setting (first_rest setting) j) (joiner_lists (f (Joiner j))) taken)
-      × ((is : j < 2 ^ setting.k) → IsFinishedJoiner (joiner_start input setting (first_rest setting) j) (joiner_lists (f (Joiner j))) taken → ¬ GoesOn (cores (Joiner j) is).0)
+      JoinerLaw (joiner_start input setting (first_rest setting) j) (joiner_lists (f (Joiner j))) taken
+      × (W → IsFinishedJoiner (joiner_start input setting (first_rest setting) j) (joiner_lists (f (Joiner j)))
+      taken)
+      × ((is : j < 2 ^ setting.k) → IsFinishedJoiner (joiner_start input setting (first_rest setting) j)
+      (joiner_lists (f (Joiner j))) taken → ¬ GoesOn (cores (Joiner j) is).0)
 
   joiners : (taken : ℕ → Taken) × ((j : ℕ) → j < 2 ^ setting.k → joiner_took j (taken j))
-  joiners = choice joiner_took (2 ^ setting.k) (record { from_feeder = λ p. []; from_joiner = λ q. []; shift_at = λ e. 0 }) (λ j low.
-      let law = joiner_law (joiner_start input setting (first_rest setting) j) (f (Joiner j)) (cores (Joiner j) low).0 (cores (Joiner j) low).1 in (
+  joiners = choice joiner_took (2 ^ setting.k) (record {
+    from_feeder = λ p. [];
+    from_joiner = λ q. [];
+    shift_at = λ e. 0;
+  }) (λ j low.
+      let law = joiner_law (joiner_start input setting (first_rest setting) j) (f (Joiner j)) (cores (Joiner j) low).0
+      (cores (Joiner j) low).1 in (
         law.0,
-        (law.1, (λ w. law.2 (over w (Joiner j) low)), (λ is finished. subst (λ (l : j < 2 ^ setting.k). ¬ GoesOn (cores (Joiner j) l).0) (le_prop low is) (law.3 finished))),
+        (
+          law.1,
+          (λ w. law.2 (over w (Joiner j) low)),
+          (λ is finished. subst (λ (l : j < 2 ^ setting.k). ¬ GoesOn (cores (Joiner j) l).0) (le_prop low is)
+              (law.3 finished)),
+        ),
       ))
 
   -- the family agrees
@@ -137,7 +165,8 @@ module _ (input : Input) (setting : Setting) (f : Actor → ActorLists)
     taken_by_joiner = joiners.0;
     feeders = λ p low. (feeders.1 p low).0;
     joiners = λ j low. (joiners.1 j low).0;
-    controller = controller_law (record { rules = rules_of setting; first = begun (first_rest setting).line }) (f Controller) (cores Controller tt).0 (cores Controller tt).1;
+    controller = controller_law (record { rules = rules_of setting; first = begun (first_rest setting).line })
+        (f Controller) (cores Controller tt).0 (cores Controller tt).1;
     feeder_joiner = λ p j low low'. read_front joiner_msg _ _ (fronts (Feeder p) (Joiner j));
     joiner_joiner = λ i j low low'. read_front joiner_msg _ _ (fronts (Joiner i) (Joiner j));
     controller_feeder = λ p low. read_front feeder_msg _ _ (fronts Controller (Feeder p));
@@ -153,15 +182,20 @@ module _ (input : Input) (setting : Setting) (f : Actor → ActorLists)
   is_finished w = record {
     feeders = λ p low. (feeders.1 p low).1 w;
     joiners = λ j low. (joiners.1 j low).1 w;
-    collector = collector_over (2 ^ setting.k) (f Collector) (cores Collector tt).0 (cores Collector tt).1 (over w Collector tt);
+    collector = collector_over (2 ^ setting.k) (f Collector) (cores Collector tt).0 (cores Collector tt).1
+        (over w Collector tt);
   }
 
   -- where the family is finished, the work of none goes on
-  pub none_goes : IsFinished input setting (first_rest setting) (family_of (journal_of (cores Controller tt).0) f) agrees
+  pub none_goes : IsFinished input setting (first_rest setting) (family_of (journal_of (cores Controller tt).0) f)
+      agrees
       → (a : Actor) (is : IsActor setting a) → ¬ GoesOn (cores a is).0
   unfolding agrees
   none_goes finished (Feeder p) is = (feeders.1 p is).2 is (finished.feeders p is)
   none_goes finished (Joiner j) is = (joiners.1 j is).2 is (finished.joiners j is)
-  none_goes finished Controller is = controller_goes (record { rules = rules_of setting; first = begun (first_rest setting).line }) (f Controller) (cores Controller is).0 (cores Controller is).1
+  none_goes finished Controller is = controller_goes (record {
+    rules = rules_of setting;
+    first = begun (first_rest setting).line;
+  }) (f Controller) (cores Controller is).0 (cores Controller is).1
   none_goes finished Collector is =
       collector_goes (2 ^ setting.k) (f Collector) (cores Collector is).0 (cores Collector is).1 finished.collector

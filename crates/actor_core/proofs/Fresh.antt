@@ -11,4 +11,5 @@ use Rattle.actor_core.specs.declared.machines.Core.TheVariants.{Controller as Th
 pub fresh_controller : (rules : Rules) (first : TurnLine) (c : ControllerState) → IsFresh rules first c
     → Stands (OfController (record { rules = rules; first = first })) no_lists (TheController c)
 fresh_controller rules first c fresh =
-    subst (λ (j : List TurnLine). ControllerStands (record { rules = rules; first = first }) (controller_lists j no_lists) c) (sym fresh.journal) fresh.stands
+    subst (λ (j : List TurnLine). ControllerStands (record { rules = rules; first = first })
+    (controller_lists j no_lists) c) (sym fresh.journal) fresh.stands

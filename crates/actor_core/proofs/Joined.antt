@@ -3,7 +3,8 @@ use Rattle.std.proofs.Common.{◌≡◌, ℕ, ◌<◌, ◌^◌, ◌↔◌, refl,
 use Rattle.std.specs.Prelude.{IsTrue}
 use Rattle.std.proofs.Math.Pow.{pow-lt, pow_mono}
 use Rattle.std.proofs.lemmas.Bool.{cases_lt}
-use Rattle.epoch_tags.specs.Links.{HasLink, feeder_joiner, joiner_joiner, controller_feeder, feeder_controller, joiner_controller, joiner_collector}
+use Rattle.epoch_tags.specs.Links.{HasLink, feeder_joiner, joiner_joiner, controller_feeder, feeder_controller}
+use Rattle.epoch_tags.specs.Links.{joiner_controller, joiner_collector}
 use Rattle.epoch_tags.specs.declared.actor.Actor.{Actor}
 use Rattle.epoch_tags.specs.declared.actor.Actor.TheVariants.{Feeder, Joiner, Controller, Collector}
 use Rattle.actor_core.specs.Numbers.{AreJoined}
@@ -30,7 +31,8 @@ link k feeders (Feeder p) (Joiner j) is = feeder_joiner is.0 is.1
 link k feeders (Feeder p) Controller is = feeder_controller is
 link k feeders (Feeder p) Collector is = absurd is
 link k feeders (Joiner i) (Feeder q) is = absurd is
-link k feeders (Joiner i) (Joiner j) is = subst (λ (z : ℕ). HasLink k feeders (Joiner i) (Joiner z)) (sym is.1.other) (joiner_joiner is.0 (below is.1.low k is.1.below))
+link k feeders (Joiner i) (Joiner j) is = subst (λ (z : ℕ). HasLink k feeders (Joiner i) (Joiner z)) (sym is.1.other)
+    (joiner_joiner is.0 (below is.1.low k is.1.below))
 link k feeders (Joiner i) Controller is = joiner_controller is
 link k feeders (Joiner i) Collector is = joiner_collector is
 link k feeders Controller (Feeder q) is = controller_feeder is
@@ -51,4 +53,7 @@ pub links : (k joiners feeders : ℕ) (from to : Actor) (b : Bool) → (b ≡ tr
     → joiners ≡ 2 ^ k → (IsTrue b ↔ HasLink k feeders from to)
 links k joiners feeders from to true up down grid =
     (λ is. link k feeders from to (subst (λ n. AreJoined n feeders from to) grid (up refl)), λ is. refl)
-links k joiners feeders from to false up down grid = (λ is. absurd (true≢false (sym is)), λ is. absurd (down refl (subst (λ n. AreJoined n feeders from to) (sym grid) (joined k feeders from to is))))
+links k joiners feeders from to false up down grid = (
+  λ is. absurd (true≢false (sym is)),
+  λ is. absurd (down refl (subst (λ n. AreJoined n feeders from to) (sym grid) (joined k feeders from to is))),
+)

@@ -32,13 +32,15 @@ module _ (cores rest : List Core) (told : ControllerState) (kept : CollectorStat
   many_are : length cores ≡ length rest + 2
   many_are =
       ap length is
-      ∙ (length-append (rest ++ TheController told ∷ []) (TheCollector kept ∷ []) ∙ (ap (λ m. m + 1) (length-append rest (TheController told ∷ [])) ∙ plus_two (length rest)))
+      ∙ (length-append (rest ++ TheController told ∷ []) (TheCollector kept ∷ [])
+      ∙ (ap (λ m. m + 1) (length-append rest (TheController told ∷ [])) ∙ plus_two (length rest)))
 
   -- so the two machines are the last of all
   pub last_two : AreLast cores told kept
   last_two = record {
     before = length rest;
     many = many_are;
-    controller_is = ap (λ cs. slice_get cs (length rest)) is ∙ before_last rest (TheController told) (TheCollector kept);
+    controller_is = ap (λ cs. slice_get cs (length rest)) is
+        ∙ before_last rest (TheController told) (TheCollector kept);
     collector_is = ap (λ cs. slice_get cs (length rest + 1)) is ∙ last_of rest (TheController told) (TheCollector kept);
   }

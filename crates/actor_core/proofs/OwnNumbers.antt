@@ -1,5 +1,6 @@
 -- The number of an actor is its own.
-use Rattle.std.proofs.Common.{◌≡◌, ◌≢◌, ℕ, ◌+◌, ◌-◌, ◌==◌, ◌<◌, ◌≤◌, ◌^◌, ltb, eqb-true, eq-eqb, ne_eqb, true≢false, refl, sym, ap, subst, ◌∙◌, Bool, true, false, cond, Some, None, arith}
+use Rattle.std.proofs.Common.{◌≡◌, ◌≢◌, ℕ, ◌+◌, ◌-◌, ◌==◌, ◌<◌, ◌≤◌, ◌^◌, ltb, eqb-true, eq-eqb, ne_eqb, true≢false}
+use Rattle.std.proofs.Common.{refl, sym, ap, subst, ◌∙◌, Bool, true, false, cond, Some, None, arith}
 use Rattle.std.specs.Option.{is_none}
 use Rattle.std.proofs.lemmas.Bool.{lt-ltb, le-ltb, ltb-true, ltb-false}
 use Rattle.epoch_tags.specs.declared.actor.Actor.{Actor}
@@ -34,15 +35,27 @@ module _ (joiners feeders : ℕ) where
   joiner_there : (j : ℕ) → j < joiners → actor_at joiners feeders (feeders + j) ≡ Joiner j
   joiner_there j low =
       let minus : (feeders + j) - feeders ≡ j = omega arith in
-      rw (le-ltb (feeders + j) feeders (omega arith), lt-ltb (feeders + j) (feeders + joiners) (omega arith), minus) refl
+      rw (
+        le-ltb (feeders + j) feeders (omega arith),
+        lt-ltb (feeders + j) (feeders + joiners) (omega arith),
+        minus,
+      ) refl
 
   controller_there : actor_at joiners feeders (feeders + joiners) ≡ Controller
   controller_there =
-      rw (le-ltb (feeders + joiners) feeders (omega arith), le-ltb (feeders + joiners) (feeders + joiners) (omega arith), eq-eqb (feeders + joiners) (feeders + joiners) refl) refl
+      rw (
+        le-ltb (feeders + joiners) feeders (omega arith),
+        le-ltb (feeders + joiners) (feeders + joiners) (omega arith),
+        eq-eqb (feeders + joiners) (feeders + joiners) refl,
+      ) refl
 
   collector_there : actor_at joiners feeders (feeders + joiners + 1) ≡ Collector
   collector_there =
-      rw (le-ltb (feeders + joiners + 1) feeders (omega arith), le-ltb (feeders + joiners + 1) (feeders + joiners) (omega arith), ne_eqb (feeders + joiners + 1) (feeders + joiners) (λ e. omega arith)) refl
+      rw (
+        le-ltb (feeders + joiners + 1) feeders (omega arith),
+        le-ltb (feeders + joiners + 1) (feeders + joiners) (omega arith),
+        ne_eqb (feeders + joiners + 1) (feeders + joiners) (λ e. omega arith),
+      ) refl
 
   at_some : (a : Actor) (m n : ℕ) → actor_at joiners feeders m ≡ a → Some m ≡ Some n → actor_at joiners feeders n ≡ a
   at_some a m n there e = subst (λ z. actor_at joiners feeders z ≡ a) (some_is m n e) there
@@ -94,7 +107,8 @@ number_there joiners feeders n low = first (ltb n feeders) refl
         ap Some is
 
     second : (c : Bool) → ltb n (feeders + joiners) ≡ c → feeders ≤ n
-        → number joiners feeders (cond c (Joiner (n - feeders)) (cond (n == feeders + joiners) Controller Collector)) ≡ Some n
+        → number joiners feeders (cond c (Joiner (n - feeders)) (cond (n == feeders + joiners) Controller Collector))
+        ≡ Some n
     second true e high =
         let under = ltb-true n (feeders + joiners) e in
         let low' : n - feeders < joiners = omega arith in
@@ -103,7 +117,8 @@ number_there joiners feeders n low = first (ltb n feeders) refl
     second false e high = last (n == feeders + joiners) refl (ltb-false n (feeders + joiners) e)
 
     first : (b : Bool) → ltb n feeders ≡ b
-        → number joiners feeders (cond b (Feeder n) (cond (ltb n (feeders + joiners)) (Joiner (n - feeders)) (cond (n == feeders + joiners) Controller Collector))) ≡ Some n
+        → number joiners feeders (cond b (Feeder n) (cond (ltb n (feeders + joiners)) (Joiner (n - feeders))
+        (cond (n == feeders + joiners) Controller Collector))) ≡ Some n
     first true e = ap (λ b. cond b (Some n) None) e
     first false e = second (ltb n (feeders + joiners)) refl (ltb-false n feeders e)
 

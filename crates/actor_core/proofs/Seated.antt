@@ -1,5 +1,6 @@
 -- What holds of the seats of a run, one for each number, holds of its actors.
-use Rattle.std.proofs.Common.{◌≡◌, ℕ, ◌+◌, ◌<◌, ltb, ltb-true, refl, sym, ap, subst, ◌∙◌, Bool, true, false, cond, Option, Some, None, List, get_or, map, length, arith}
+use Rattle.std.proofs.Common.{◌≡◌, ℕ, ◌+◌, ◌<◌, ltb, ltb-true, refl, sym, ap, subst, ◌∙◌, Bool, true, false, cond}
+use Rattle.std.proofs.Common.{Option, Some, None, List, get_or, map, length, arith}
 use Rattle.std.specs.Prelude.{slice_get}
 use Rattle.std.proofs.lemmas.List.{get_or-map, length-map}
 use Rattle.std.proofs.lemmas.Option.{slice_get-get_or}

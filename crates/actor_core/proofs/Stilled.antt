@@ -1,8 +1,10 @@
 -- Where nothing is left on any link, and no feeder would begin, the run is finished.
-use Rattle.std.proofs.Common.{◌≡◌, ℕ, ◌^◌, ◌<◌, ◌⊎◌, refl, sym, ap, subst, ◌∙◌, Bool, true, false, Option, None, Some, List, filter_map}
+use Rattle.std.proofs.Common.{◌≡◌, ℕ, ◌^◌, ◌<◌, ◌⊎◌, refl, sym, ap, subst, ◌∙◌, Bool, true, false, Option, None, Some}
+use Rattle.std.proofs.Common.{List, filter_map}
 use Rattle.std.specs.Prelude.{slice_get}
 use Rattle.std.proofs.lemmas.Option.{slice_get_within}
-use Rattle.epoch_tags.specs.Links.{HasLink, feeder_joiner, controller_feeder, feeder_controller, joiner_controller, joiner_collector}
+use Rattle.epoch_tags.specs.Links.{HasLink, feeder_joiner, controller_feeder, feeder_controller, joiner_controller}
+use Rattle.epoch_tags.specs.Links.{joiner_collector}
 use Rattle.epoch_tags.specs.Messages.{asks, draineds, grants}
 use Rattle.epoch_tags.specs.Posts.{joiner_msg, feeder_msg, controller_msg, collector_msg}
 use Rattle.epoch_tags.specs.declared.actor.Actor.{Actor}

@@ -1,5 +1,6 @@
 -- The typed lists after an event are the typed lists with that event.
-use Rattle.std.proofs.Common.{◌≡◌, ℕ, ◌==◌, refl, ap, ◌∙◌, Bool, true, false, cond, Option, Some, None, List, [], ◌∷◌, ◌++◌, filter_map}
+use Rattle.std.proofs.Common.{◌≡◌, ℕ, ◌==◌, refl, ap, ◌∙◌, Bool, true, false, cond, Option, Some, None, List, [], ◌∷◌}
+use Rattle.std.proofs.Common.{◌++◌, filter_map}
 use Rattle.std.specs.List.{cons_option}
 use Rattle.std.proofs.lemmas.List.Elements.{filter_map-append}
 use Rattle.epoch_tags.specs.declared.actor.Actor.{Actor}
@@ -10,7 +11,9 @@ use Rattle.epoch_tags.specs.declared.message.ToJoiner.{ToJoiner}
 use Rattle.epoch_tags.specs.declared.message.ToFeeder.{ToFeeder}
 use Rattle.epoch_tags.specs.declared.message.ToController.{ToController}
 use Rattle.epoch_tags.specs.declared.message.ToCollector.{ToCollector}
-use Rattle.epoch_tags.specs.Posts.{joiner_msg, feeder_msg, controller_msg, collector_msg, for_joiner, for_feeder, for_controller, for_collector, posted_to_joiner, posted_to_feeder, posted_to_controller, posted_to_collector}
+use Rattle.epoch_tags.specs.Posts.{joiner_msg, feeder_msg, controller_msg, collector_msg, for_joiner, for_feeder}
+use Rattle.epoch_tags.specs.Posts.{for_controller, for_collector, posted_to_joiner, posted_to_feeder}
+use Rattle.epoch_tags.specs.Posts.{posted_to_controller, posted_to_collector}
 use Rattle.actor_core.specs.Lists.{same_actor, posted_to}
 
 -- ---- posts
@@ -23,7 +26,8 @@ picked kind false m rest typed e = e
 
 joiner_post : (to : Actor) (m : Msg) (j : ℕ) (rest : List Msg) (typed : List ToJoiner)
     → filter_map joiner_msg rest ≡ typed
-    → filter_map joiner_msg (cons_option (cond (same_actor to (Joiner j)) (Some m) None) rest) ≡ cons_option (for_joiner j to m) typed
+    → filter_map joiner_msg (cons_option (cond (same_actor to (Joiner j)) (Some m) None) rest)
+    ≡ cons_option (for_joiner j to m) typed
 joiner_post (Feeder p) m j rest typed e = e
 joiner_post (Joiner id) m j rest typed e = picked joiner_msg (id == j) m rest typed e
 joiner_post Controller m j rest typed e = e
@@ -38,7 +42,8 @@ joiner_posts j (post ∷ posts) =
 
 feeder_post : (to : Actor) (m : Msg) (j : ℕ) (rest : List Msg) (typed : List ToFeeder)
     → filter_map feeder_msg rest ≡ typed
-    → filter_map feeder_msg (cons_option (cond (same_actor to (Feeder j)) (Some m) None) rest) ≡ cons_option (for_feeder j to m) typed
+    → filter_map feeder_msg (cons_option (cond (same_actor to (Feeder j)) (Some m) None) rest)
+    ≡ cons_option (for_feeder j to m) typed
 feeder_post (Feeder p) m j rest typed e = picked feeder_msg (p == j) m rest typed e
 feeder_post (Joiner id) m j rest typed e = e
 feeder_post Controller m j rest typed e = e
@@ -53,7 +58,8 @@ feeder_posts p (post ∷ posts) =
 
 controller_post : (to : Actor) (m : Msg) (rest : List Msg) (typed : List ToController)
     → filter_map controller_msg rest ≡ typed
-    → filter_map controller_msg (cons_option (cond (same_actor to Controller) (Some m) None) rest) ≡ cons_option (for_controller to m) typed
+    → filter_map controller_msg (cons_option (cond (same_actor to Controller) (Some m) None) rest)
+    ≡ cons_option (for_controller to m) typed
 controller_post (Feeder p) m rest typed e = e
 controller_post (Joiner id) m rest typed e = e
 controller_post Controller m rest typed e = picked controller_msg true m rest typed e
@@ -68,7 +74,8 @@ controller_posts (post ∷ posts) =
 
 collector_post : (to : Actor) (m : Msg) (rest : List Msg) (typed : List ToCollector)
     → filter_map collector_msg rest ≡ typed
-    → filter_map collector_msg (cons_option (cond (same_actor to Collector) (Some m) None) rest) ≡ cons_option (for_collector to m) typed
+    → filter_map collector_msg (cons_option (cond (same_actor to Collector) (Some m) None) rest)
+    ≡ cons_option (for_collector to m) typed
 collector_post (Feeder p) m rest typed e = e
 collector_post (Joiner id) m rest typed e = e
 collector_post Controller m rest typed e = e
@@ -91,6 +98,7 @@ appended kind before posts typed e = filter_map-append kind before posts ∙ ap 
 
 -- a message of the kind, to the list that b says or not
 pub got : {M : Type 0} (kind : Msg → Option M) (b : Bool) (m : Msg) (x : M) (before : List Msg) → kind m ≡ Some x
-    → filter_map kind (cond b (before ++ m ∷ []) before) ≡ cond b (filter_map kind before ++ x ∷ []) (filter_map kind before)
+    → filter_map kind (cond b (before ++ m ∷ []) before) ≡ cond b (filter_map kind before ++ x ∷ [])
+    (filter_map kind before)
 got kind true m x before e = appended kind before (m ∷ []) (x ∷ []) (ap (λ o. cons_option o []) e)
 got kind false m x before e = refl

@@ -7,7 +7,8 @@ use Rattle.reshuffler_core.proofs.TakesAll.{taken_is_one}
 use Rattle.actor_core.specs.Lists.{ActorLists, feeder_lists}
 use Rattle.actor_core.specs.Standing.{OfFeeder, Stands, Waits}
 use Rattle.actor_core.specs.declared.machines.Core.{Core}
-use Rattle.actor_core.specs.declared.machines.Core.TheVariants.{Feeder as TheFeeder, Joiner as TheJoiner, Controller as TheController, Collector as TheCollector}
+use Rattle.actor_core.specs.declared.machines.Core.TheVariants.{Feeder as TheFeeder, Joiner as TheJoiner}
+use Rattle.actor_core.specs.declared.machines.Core.TheVariants.{Controller as TheController, Collector as TheCollector}
 
 -- a feeder that waits has drained, or its last batch isn't granted
 pub waits_says : (p feeders : ℕ) (s : FeederStart) (ls : ActorLists) (core : Core) (taken : List ToFeeder)

@@ -1,5 +1,6 @@
 -- Actors at work: what the events of a run do to machines and lists, and how a run ends.
-use Rattle.std.specs.Prelude.{◌≡◌, ◌+◌, ◌^◌, ⊤, ℕ, zero, suc, Bool, false, Option, Some, None, List, [], length, slice_get}
+use Rattle.std.specs.Prelude.{◌≡◌, ◌+◌, ◌^◌, ⊤, ℕ, zero, suc, Bool, false, Option, Some, None, List, [], length}
+use Rattle.std.specs.Prelude.{slice_get}
 use Rattle.std.specs.List.{AllByRecursion}
 use Rattle.join_rows.specs.Lists.{IsPrefix}
 use Rattle.epoch_tags.specs.declared.actor.Actor.{Actor}
@@ -18,7 +19,8 @@ use Rattle.actor_core.specs.Standing.{Event, Stands, Waits, IsLive, given_by}
 use Rattle.actor_core.specs.Families.{AreFronts, IsActor, core_in, family_of, journal_of, start_for}
 use Rattle.actor_core.specs.Numbers.{number, at_number}
 use Rattle.actor_core.specs.declared.machines.Core.{Core}
-use Rattle.actor_core.specs.declared.machines.Core.TheVariants.{Feeder as TheFeeder, Joiner as TheJoiner, Controller as TheController, Collector as TheCollector}
+use Rattle.actor_core.specs.declared.machines.Core.TheVariants.{Feeder as TheFeeder, Joiner as TheJoiner}
+use Rattle.actor_core.specs.declared.machines.Core.TheVariants.{Controller as TheController, Collector as TheCollector}
 
 -- ---- one actor
 

@@ -9,9 +9,11 @@ use Rattle.joiner_law.specs.Law.{JoinerStart, JoinerLists, IsFinished}
 use Rattle.joiner_core.specs.Standing.{StandsFor as JoinerStands}
 use Rattle.load_controller.specs.Standing.{ControllerStart, StandsFor as ControllerStands}
 use Rattle.pair_collector.specs.Standing.{StandsFor as CollectorStands, is_complete}
-use Rattle.actor_core.specs.Lists.{ActorLists, Cause, Took, Began, feeder_lists, joiner_lists, controller_lists, collector_lists, with_event}
+use Rattle.actor_core.specs.Lists.{ActorLists, Cause, Took, Began, feeder_lists, joiner_lists, controller_lists}
+use Rattle.actor_core.specs.Lists.{collector_lists, with_event}
 use Rattle.actor_core.specs.declared.machines.Core.{Core}
-use Rattle.actor_core.specs.declared.machines.Core.TheVariants.{Feeder as TheFeeder, Joiner as TheJoiner, Controller as TheController, Collector as TheCollector}
+use Rattle.actor_core.specs.declared.machines.Core.TheVariants.{Feeder as TheFeeder, Joiner as TheJoiner}
+use Rattle.actor_core.specs.declared.machines.Core.TheVariants.{Controller as TheController, Collector as TheCollector}
 
 -- how an actor begins: a feeder with its number and that of all feeders, a collector with the number of joiners
 pub data Start : Type 0 where

@@ -1,5 +1,6 @@
 -- Where no slot has an event, nothing is left on any link, and no feeder would begin.
-use Rattle.std.proofs.Common.{◌≡◌, ℕ, zero, suc, ◌+◌, ◌-◌, ◌%◌, ◌^◌, ◌<◌, ◌≤◌, refl, sym, ap, subst, ◌∙◌, inl, inr, Bool, true, false, true≢false, List, [], ◌∷◌, ◌++◌, length, map, Some, arith}
+use Rattle.std.proofs.Common.{◌≡◌, ℕ, zero, suc, ◌+◌, ◌-◌, ◌%◌, ◌^◌, ◌<◌, ◌≤◌, refl, sym, ap, subst, ◌∙◌, inl, inr}
+use Rattle.std.proofs.Common.{Bool, true, false, true≢false, List, [], ◌∷◌, ◌++◌, length, map, Some, arith}
 use Rattle.std.specs.Prelude.{bit_xor, flat_map, slice_get}
 use Rattle.std.specs.List.{range_with_len}
 use Rattle.std.proofs.Math.Nat.{add-mod_right, mod-add-mod, mod-eq_of_lt}
@@ -7,7 +8,8 @@ use Rattle.std.proofs.lemmas.Bool.{cases_lt}
 use Rattle.std.proofs.lemmas.List.FromFn.{get_or-range_with_len, length-range_with_len}
 use Rattle.std.proofs.lemmas.Nat.{mod_below}
 use Rattle.std.proofs.lemmas.Option.{slice_get-get_or, slice_get_within}
-use Rattle.epoch_tags.specs.Links.{HasLink, feeder_joiner, joiner_joiner, controller_feeder, feeder_controller, joiner_controller, joiner_collector}
+use Rattle.epoch_tags.specs.Links.{HasLink, feeder_joiner, joiner_joiner, controller_feeder, feeder_controller}
+use Rattle.epoch_tags.specs.Links.{joiner_controller, joiner_collector}
 use Rattle.epoch_tags.specs.declared.actor.Actor.{Actor}
 use Rattle.epoch_tags.specs.declared.actor.Actor.TheVariants.{Feeder, Joiner, Controller, Collector}
 use Rattle.trace_law.specs.declared.input.Input.{Input}
@@ -41,7 +43,8 @@ module _ {X : Type 0} (P : X → Type 0) where
 
   all_flat : {Y : Type 0} (g : Y → List X) (ys : List Y) → IsAllAt P (flat_map g ys) → IsAllAt (λ y. IsAllAt P (g y)) ys
   all_flat g [] all n y is = absurd (none_some y is)
-  all_flat g (z ∷ ys) all zero y is = subst (λ x. IsAllAt P (g x)) (some_is z y is) (all_front (g z) (flat_map g ys) all)
+  all_flat g (z ∷ ys) all zero y is = subst (λ x. IsAllAt P (g x)) (some_is z y is)
+      (all_front (g z) (flat_map g ys) all)
   all_flat g (z ∷ ys) all (suc n) y is = all_flat g ys (all_rest (g z) (flat_map g ys) all) n y is
 
 -- so it holds of each number below n
@@ -98,14 +101,17 @@ module _ (setting : Setting) (w : WorldState) (all : IsAllAt (IsIdle w) (slots_o
   dealt_to : (p j : ℕ) → p < setting.feeders → j < 2 ^ setting.k → IsIdle w (Link (Feeder p) (Joiner j))
   dealt_to p j low low' =
       let row = all_below (λ p. IsAllAt (IsIdle w) (to_joiners (2 ^ setting.k) p)) setting.feeders p low
-      (all_flat (IsIdle w) (to_joiners (2 ^ setting.k)) (range_with_len 0 setting.feeders) (all_rest (IsIdle w) begins dealt to_dealt)) in
+      (all_flat (IsIdle w) (to_joiners (2 ^ setting.k)) (range_with_len 0 setting.feeders)
+      (all_rest (IsIdle w) begins dealt to_dealt)) in
       all_below (λ j. IsIdle w (Link (Feeder p) (Joiner j))) (2 ^ setting.k) j low'
       (all_mapped (IsIdle w) (λ j. Link (Feeder p) (Joiner j)) (range_with_len 0 (2 ^ setting.k)) row)
 
-  exchanged_with : (i bit : ℕ) → i < 2 ^ setting.k → bit < setting.k → IsIdle w (Link (Joiner i) (Joiner (bit_xor i (2 ^ bit))))
+  exchanged_with : (i bit : ℕ) → i < 2 ^ setting.k → bit < setting.k
+      → IsIdle w (Link (Joiner i) (Joiner (bit_xor i (2 ^ bit))))
   exchanged_with i bit low low' =
       let row = all_below (λ i. IsAllAt (IsIdle w) (to_partners setting.k i)) (2 ^ setting.k) i low
-      (all_flat (IsIdle w) (to_partners setting.k) (range_with_len 0 (2 ^ setting.k)) (all_rest (IsIdle w) (begins ++ dealt) exchanged to_exchanged)) in
+      (all_flat (IsIdle w) (to_partners setting.k) (range_with_len 0 (2 ^ setting.k))
+      (all_rest (IsIdle w) (begins ++ dealt) exchanged to_exchanged)) in
       all_below (λ bit. IsIdle w (Link (Joiner i) (Joiner (bit_xor i (2 ^ bit))))) setting.k bit low'
       (all_mapped (IsIdle w) (λ bit. Link (Joiner i) (Joiner (bit_xor i (2 ^ bit)))) (range_with_len 0 setting.k) row)
 
@@ -114,16 +120,20 @@ module _ (setting : Setting) (w : WorldState) (all : IsAllAt (IsIdle w) (slots_o
   nothing_left _ _ (joiner_joiner {i = i} {low = bit} high within) = exchanged_with i bit high within
   nothing_left _ _ (controller_feeder {p = p} low) =
       all_below (λ p. IsIdle w (Link Controller (Feeder p))) setting.feeders p low
-      (all_mapped (IsIdle w) (λ p. Link Controller (Feeder p)) (range_with_len 0 setting.feeders) (all_rest (IsIdle w) (begins ++ dealt ++ exchanged) ordered to_ordered))
+      (all_mapped (IsIdle w) (λ p. Link Controller (Feeder p)) (range_with_len 0 setting.feeders)
+      (all_rest (IsIdle w) (begins ++ dealt ++ exchanged) ordered to_ordered))
   nothing_left _ _ (feeder_controller {p = p} low) =
       all_below (λ p. IsIdle w (Link (Feeder p) Controller)) setting.feeders p low
-      (all_mapped (IsIdle w) (λ p. Link (Feeder p) Controller) (range_with_len 0 setting.feeders) (all_rest (IsIdle w) (begins ++ dealt ++ exchanged ++ ordered) asked to_asked))
+      (all_mapped (IsIdle w) (λ p. Link (Feeder p) Controller) (range_with_len 0 setting.feeders)
+      (all_rest (IsIdle w) (begins ++ dealt ++ exchanged ++ ordered) asked to_asked))
   nothing_left _ _ (joiner_controller {j = j} low) =
       all_below (λ i. IsIdle w (Link (Joiner i) Controller)) (2 ^ setting.k) j low
-      (all_mapped (IsIdle w) (λ i. Link (Joiner i) Controller) (range_with_len 0 (2 ^ setting.k)) (all_rest (IsIdle w) (begins ++ dealt ++ exchanged ++ ordered ++ asked) settled to_settled))
+      (all_mapped (IsIdle w) (λ i. Link (Joiner i) Controller) (range_with_len 0 (2 ^ setting.k))
+      (all_rest (IsIdle w) (begins ++ dealt ++ exchanged ++ ordered ++ asked) settled to_settled))
   nothing_left _ _ (joiner_collector {j = j} low) =
       all_below (λ i. IsIdle w (Link (Joiner i) Collector)) (2 ^ setting.k) j low
-      (all_mapped (IsIdle w) (λ i. Link (Joiner i) Collector) (range_with_len 0 (2 ^ setting.k)) (all_rest (IsIdle w) (begins ++ dealt ++ exchanged ++ ordered ++ asked ++ settled) found all))
+      (all_mapped (IsIdle w) (λ i. Link (Joiner i) Collector) (range_with_len 0 (2 ^ setting.k))
+      (all_rest (IsIdle w) (begins ++ dealt ++ exchanged ++ ordered ++ asked ++ settled) found all))
 
   pub idle_is_still : IsStill setting w
   idle_is_still = record { links = nothing_left; waits = waiting }
@@ -143,7 +153,8 @@ goes_round word count n low = elim (cases_lt n (word % count)) [
       let step = step_on (word % count) n count (mod_below word count (omega arith)) before in (
         n + count - word % count,
         step.0,
-        sym (mod-add-mod word count (n + count - word % count)) ∙ (ap (λ z. z % count) step.1 ∙ (add-mod_right n count ∙ mod-eq_of_lt low)),
+        sym (mod-add-mod word count (n + count - word % count))
+            ∙ (ap (λ z. z % count) step.1 ∙ (add-mod_right n count ∙ mod-eq_of_lt low)),
       )
   | inr behind ↦
       let step = step_to (word % count) n count low behind in (
@@ -153,19 +164,24 @@ goes_round word count n low = elim (cases_lt n (word % count)) [
       )
 ]
 
-pub idle_round : (slots : List Slot) (word : ℕ) (w : WorldState) → AreIdleFrom slots word (length slots) w → IsAllAt (IsIdle w) slots
+pub idle_round : (slots : List Slot) (word : ℕ) (w : WorldState) → AreIdleFrom slots word (length slots) w
+    → IsAllAt (IsIdle w) slots
 idle_round slots word w idle n slot there =
     let at = goes_round word (length slots) n (slice_get_within slots n slot there) in
     idle at.0 slot at.1 (subst (λ z. slice_get slots z ≡ Some slot) (sym at.2) there)
 
-pub idle_below : (slots : List Slot) (starved : Actor) (w : WorldState) → AreIdleBelow true starved slots (length slots) w → IsAllAt (IsIdle w) slots
+pub idle_below : (slots : List Slot) (starved : Actor) (w : WorldState)
+    → AreIdleBelow true starved slots (length slots) w → IsAllAt (IsIdle w) slots
 idle_below slots starved w idle n slot there = idle n slot (slice_get_within slots n slot there) there refl
 
 -- ---- what isn't done has a slot with an event
 
-pub some_has_one : (input : Input) (setting : Setting) (w : WorldState) (lists : Actor → ActorLists) → IsValid input setting → StandsFor input setting w lists
+pub some_has_one : (input : Input) (setting : Setting) (w : WorldState) (lists : Actor → ActorLists)
+    → IsValid input setting → StandsFor input setting w lists
     → (slots : List Slot) → slots ≡ slots_of setting → (done : Bool)
-    → ((input' : Input) (setting' : Setting) (lists' : Actor → ActorLists) → IsValid input' setting' → StandsFor input' setting' w lists' → IsStill setting' w → done ≡ true)
+    → ((input' : Input) (setting' : Setting) (lists' : Actor → ActorLists) → IsValid input' setting'
+    → StandsFor input' setting' w lists' → IsStill setting' w → done ≡ true)
     → done ≡ false → ¬ IsAllAt (IsIdle w) slots
 some_has_one input setting w lists valid stands slots is done still goes idle =
-    true≢false (sym (still input setting lists valid stands (idle_is_still setting w (subst (λ s. IsAllAt (IsIdle w) s) is idle))) ∙ goes)
+    true≢false (sym (still input setting lists valid stands
+    (idle_is_still setting w (subst (λ s. IsAllAt (IsIdle w) s) is idle))) ∙ goes)

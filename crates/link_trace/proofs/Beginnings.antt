@@ -1,5 +1,6 @@
 -- All actors at the beginning of a run.
-use Rattle.std.proofs.Common.{◌≡◌, ℕ, zero, suc, ◌+◌, ◌<◌, ◌^◌, refl, sym, ap, subst, ◌∙◌, Option, Some, None, List, [], ◌∷◌, ◌++◌, get_or, map, ◌-◌, length, All, inl, inr, ◌⊎◌}
+use Rattle.std.proofs.Common.{◌≡◌, ℕ, zero, suc, ◌+◌, ◌<◌, ◌^◌, refl, sym, ap, subst, ◌∙◌, Option, Some, None, List, []}
+use Rattle.std.proofs.Common.{◌∷◌, ◌++◌, get_or, map, ◌-◌, length, All, inl, inr, ◌⊎◌}
 use Rattle.std.specs.List.{AllByRecursion}
 use Rattle.std.specs.declared.alloc.Global.{Global}
 use Rattle.std.specs.declared.collections.VecDeque.{VecDeque}
@@ -22,7 +23,8 @@ use Rattle.actor_core.proofs.OwnNumbers.{number_actor, some_is}
 
 -- ---- one more place
 
-last_is : {X : Type 0} (xs : List X) (x y : X) (n : ℕ) → slice_get (xs ++ x ∷ []) n ≡ Some y → (slice_get xs n ≡ Some y) ⊎ ((n ≡ length xs) × (x ≡ y))
+last_is : {X : Type 0} (xs : List X) (x y : X) (n : ℕ) → slice_get (xs ++ x ∷ []) n ≡ Some y → (slice_get xs n ≡ Some y)
+    ⊎ ((n ≡ length xs) × (x ≡ y))
 last_is [] x y zero is = inr (refl, some_is x y is)
 last_is [] x y (suc n) is = inl is
 last_is (z ∷ xs) x y zero is = inl is
@@ -31,56 +33,82 @@ last_is (z ∷ xs) x y (suc n) is = elim (last_is xs x y n is) [
   | inr last ↦ inr (ap suc last.0, last.1)
 ]
 
-rows_more : (ws : List (List (List Msg))) (row : List (List Msg)) → ((sender : ℕ) → get_or row sender [] ≡ []) → ((r s : ℕ) → waits ws r s ≡ []) → (r s : ℕ) → waits (ws ++ row ∷ []) r s ≡ []
+rows_more : (ws : List (List (List Msg))) (row : List (List Msg)) → ((sender : ℕ) → get_or row sender [] ≡ [])
+    → ((r s : ℕ) → waits ws r s ≡ []) → (r s : ℕ) → waits (ws ++ row ∷ []) r s ≡ []
 rows_more [] row empty old zero s = empty s
 rows_more [] row empty old (suc r) s = refl
 rows_more (w ∷ ws) row empty old zero s = old zero s
 rows_more (w ∷ ws) row empty old (suc r) s = rows_more ws row empty (λ r' s'. old (suc r') s') r s
 
-empty_row : (queues : List (VecDeque Msg Global)) → AllByRecursion (λ queue. queue.items ≡ []) queues → (sender : ℕ) → get_or (map (λ queue. queue.items) queues) sender [] ≡ []
+empty_row : (queues : List (VecDeque Msg Global)) → AllByRecursion (λ queue. queue.items ≡ []) queues → (sender : ℕ)
+    → get_or (map (λ queue. queue.items) queues) sender [] ≡ []
 empty_row [] all sender = refl
 empty_row (queue ∷ queues) all zero = all.0
 empty_row (queue ∷ queues) all (suc sender) = empty_row queues all.1 sender
 
-module _ (input : Input) (setting : Setting) (n : ℕ) (places : List Place) (new : AreNew input setting n places) (place : Place) (stands : Stands (start_for input setting (actor_at (2 ^ setting.k) setting.feeders n)) no_lists place.core) (empty : All (λ queue. queue.items ≡ []) place.waiting.items) where
-  fresh : (m : ℕ) (core : Core) → slice_get (cores_of (places ++ place ∷ [])) m ≡ Some core → Stands (start_for input setting (actor_at (2 ^ setting.k) setting.feeders m)) no_lists core
-  fresh m core is = elim (last_is (cores_of places) place.core core m (sym (ap (λ cs. slice_get cs m) (map-append (λ (p : Place). p.core) places (place ∷ []))) ∙ is)) [
-    | inl there ↦ new.fresh m core there
-    | inr last ↦
-        let at_end : n ≡ m = sym new.all ∙ (sym (length-map places (λ (p : Place). p.core)) ∙ sym last.0) in
-        subst (λ z. Stands (start_for input setting (actor_at (2 ^ setting.k) setting.feeders z)) no_lists core) at_end
-        (subst (λ z. Stands (start_for input setting (actor_at (2 ^ setting.k) setting.feeders n)) no_lists z) last.1 stands)
-  ]
+module _ (input : Input) (setting : Setting) (n : ℕ) (places : List Place) (new : AreNew input setting n places)
+    (place : Place) (stands : Stands (start_for input setting (actor_at (2 ^ setting.k) setting.feeders n))
+    no_lists place.core) (empty : All (λ queue. queue.items ≡ []) place.waiting.items) where
+  fresh : (m : ℕ) (core : Core) → slice_get (cores_of (places ++ place ∷ [])) m ≡ Some core
+      → Stands (start_for input setting (actor_at (2 ^ setting.k) setting.feeders m)) no_lists core
+  fresh m core is = elim (last_is (cores_of places) place.core core m
+      (sym (ap (λ cs. slice_get cs m) (map-append (λ (p : Place). p.core) places (place ∷ []))) ∙ is)) [
+        | inl there ↦ new.fresh m core there
+        | inr last ↦
+            let at_end : n ≡ m = sym new.all ∙ (sym (length-map places (λ (p : Place). p.core)) ∙ sym last.0) in
+            subst (λ z. Stands (start_for input setting (actor_at (2 ^ setting.k) setting.feeders z)) no_lists core) at_end
+            (subst (λ z. Stands (start_for input setting (actor_at (2 ^ setting.k) setting.feeders n)) no_lists z)
+            last.1 stands)
+      ]
 
   pub one_new : AreNew input setting (n + 1) (places ++ place ∷ [])
   one_new = record {
     all = length-append places (place ∷ []) ∙ ap (λ z. z + 1) new.all;
     fresh = fresh;
-    empty = λ r s. ap (λ ws. waits ws r s) (map-append waiting_at places (place ∷ [])) ∙ rows_more (waiting_of places) (waiting_at place) (empty_row place.waiting.items (recursion_from_All (λ queue. queue.items ≡ []) place.waiting.items empty)) new.empty r s;
+    empty = λ r s. ap (λ ws. waits ws r s) (map-append waiting_at places (place ∷ []))
+        ∙ rows_more (waiting_of places) (waiting_at place) (empty_row place.waiting.items
+        (recursion_from_All (λ queue. queue.items ≡ []) place.waiting.items empty)) new.empty r s;
   }
 
 -- ---- all of them
 
-nothing_left : (ws : List (List (List Msg))) → ((r s : ℕ) → waits ws r s ≡ []) → (i k : Option ℕ) → at_number [] i (λ r. at_number [] k (λ s. waits ws r s)) ≡ []
+nothing_left : (ws : List (List (List Msg))) → ((r s : ℕ) → waits ws r s ≡ []) → (i k : Option ℕ)
+    → at_number [] i (λ r. at_number [] k (λ s. waits ws r s)) ≡ []
 nothing_left ws empty None k = refl
 nothing_left ws empty (Some r) None = refl
 nothing_left ws empty (Some r) (Some s) = empty r s
 
-pub all_new : (input : Input) (setting : Setting) (joiners count : ℕ) (places : List Place) → joiners ≡ 2 ^ setting.k → count ≡ setting.feeders + joiners + 2 → AreNew input setting count places
-    → StandsFor input setting (record { joiners = joiners; feeders = setting.feeders; cores = cores_of places; waiting = waiting_of places }) (λ actor. no_lists)
-all_new input setting joiners count places grid many new = subst (λ n. StandsFor input setting (record { joiners = n; feeders = setting.feeders; cores = cores_of places; waiting = waiting_of places }) (λ actor. no_lists)) (sym grid) (record {
-  machines = record { joiners_are = refl; feeders_are = refl; all = long; stands = stands };
-  balanced = λ from to. nothing_left (waiting_of places) new.empty (number (2 ^ setting.k) setting.feeders to) (number (2 ^ setting.k) setting.feeders from);
-})
+pub all_new : (input : Input) (setting : Setting) (joiners count : ℕ) (places : List Place) → joiners ≡ 2 ^ setting.k
+    → count ≡ setting.feeders + joiners + 2 → AreNew input setting count places
+    → StandsFor input setting (record {
+      joiners = joiners;
+      feeders = setting.feeders;
+      cores = cores_of places;
+      waiting = waiting_of places;
+    }) (λ actor. no_lists)
+all_new input setting joiners count places grid many new = subst
+    (λ n. StandsFor input setting (record {
+      joiners = n;
+      feeders = setting.feeders;
+      cores = cores_of places;
+      waiting = waiting_of places;
+    }) (λ actor. no_lists)) (sym grid) (record {
+      machines = record { joiners_are = refl; feeders_are = refl; all = long; stands = stands };
+      balanced = λ from to. nothing_left (waiting_of places) new.empty (number (2 ^ setting.k) setting.feeders to)
+          (number (2 ^ setting.k) setting.feeders from);
+    })
   where
     long : length (cores_of places) ≡ setting.feeders + 2 ^ setting.k + 2
     long = length-map places (λ (p : Place). p.core) ∙ (new.all ∙ (many ∙ ap (λ n. setting.feeders + n + 2) grid))
 
-    stands : (a : Actor) → IsActor setting a → (core : Core) × (core_in (2 ^ setting.k) setting.feeders (cores_of places) a ≡ Some core) × Stands (start_for input setting a) no_lists core
+    stands : (a : Actor) → IsActor setting a → (core : Core)
+        × (core_in (2 ^ setting.k) setting.feeders (cores_of places) a ≡ Some core)
+        × Stands (start_for input setting a) no_lists core
     stands a is =
         let at = has_number setting a is in
         let core = there (cores_of places) at.0 (subst (λ z. at.0 < z) (sym long) at.2) in (
           core.0,
           ap (λ (i : Option ℕ). at_number None i (λ k. slice_get (cores_of places) k)) at.1 ∙ core.1,
-          subst (λ z. Stands (start_for input setting z) no_lists core.0) (number_actor (2 ^ setting.k) setting.feeders a at.0 at.1) (new.fresh at.0 core.0 core.1),
+          subst (λ z. Stands (start_for input setting z) no_lists core.0)
+              (number_actor (2 ^ setting.k) setting.feeders a at.0 at.1) (new.fresh at.0 core.0 core.1),
         )

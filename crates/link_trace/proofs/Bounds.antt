@@ -1,5 +1,6 @@
 -- A world's events are those that its lists count, and so they are few.
-use Rattle.std.proofs.Common.{◌≡◌, ℕ, ◌+◌, ◌^◌, ◌<◌, ◌≤◌, ◌-◌, refl, sym, ap, subst, ◌∙◌, Some, ◌∷◌, ◌++◌, Result, Ok, Err, arith}
+use Rattle.std.proofs.Common.{◌≡◌, ℕ, ◌+◌, ◌^◌, ◌<◌, ◌≤◌, ◌-◌, refl, sym, ap, subst, ◌∙◌, Some, ◌∷◌, ◌++◌, Result, Ok}
+use Rattle.std.proofs.Common.{Err, arith}
 use Rattle.std.specs.Prelude.{IfOk}
 use Rattle.std.specs.declared.alloc.AllocError.{AllocError}
 use Rattle.epoch_tags.specs.declared.actor.Actor.{Actor}

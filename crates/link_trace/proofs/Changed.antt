@@ -1,5 +1,6 @@
 -- What is read off places, where one of them changed.
-use Rattle.std.proofs.Common.{◌≡◌, ℕ, ◌<◌, sym, ap, subst, ◌∙◌, Option, Some, None, List, [], ◌∷◌, ◌++◌, get_or, set, map, length, MatchOption, MatchBool, Bool, true, false}
+use Rattle.std.proofs.Common.{◌≡◌, ℕ, ◌<◌, sym, ap, subst, ◌∙◌, Option, Some, None, List, [], ◌∷◌, ◌++◌, get_or, set}
+use Rattle.std.proofs.Common.{map, length, MatchOption, MatchBool, Bool, true, false}
 use Rattle.std.specs.Prelude.{slice_get}
 use Rattle.std.proofs.Math.Seq.{map-set_same}
 use Rattle.std.proofs.lemmas.List.{map-set, get_or-map, length-map}
@@ -9,7 +10,8 @@ use Rattle.epoch_tags.specs.declared.message.Post.{Post}
 use Rattle.actor_core.specs.Lists.{Cause}
 use Rattle.actor_core.specs.Standing.{Occurs}
 use Rattle.actor_core.specs.declared.machines.Core.{Core}
-use Rattle.link_trace.specs.Worlds.{cores_of, waiting_at, waiting_of, waits, with_waiting, HasRoom, TakesOff, PutsOn, OccursAt}
+use Rattle.link_trace.specs.Worlds.{cores_of, waiting_at, waiting_of, waits, with_waiting, HasRoom, TakesOff, PutsOn}
+use Rattle.link_trace.specs.Worlds.{OccursAt}
 use Rattle.link_trace.specs.declared.places.Place.{Place}
 
 -- g of an element is that element of g of all
@@ -22,19 +24,33 @@ module _ {X Y : Type 0} (g : X → Y) (xs : List X) (i : ℕ) (x : X) (is : x �
 
 -- ---- one queue
 
-module _ {Q : Type 0} (items : Q → List Msg) (queues : List Q) (i : ℕ) (queue new : Q) (is : queue ≡ get_or queues i queue) (low : i < length queues) where
-  pub popped : (o : Option Msg) → MatchOption o ((items new ≡ items queue) × (items queue ≡ [])) (λ m. items queue ≡ m ∷ items new)
+module _ {Q : Type 0} (items : Q → List Msg) (queues : List Q) (i : ℕ) (queue new : Q)
+    (is : queue ≡ get_or queues i queue) (low : i < length queues) where
+  pub popped : (o : Option Msg) → MatchOption o ((items new ≡ items queue)
+      × (items queue ≡ [])) (λ m. items queue ≡ m ∷ items new)
       → MatchOption o ((map items (set queues i new) ≡ map items queues) × (get_or (map items queues) i [] ≡ []))
-      (λ m. (rest : List Msg) × (i < length (map items queues)) × (get_or (map items queues) i [] ≡ m ∷ rest) × (map items (set queues i new) ≡ set (map items queues) i rest))
+      (λ m. (rest : List Msg) × (i < length (map items queues)) × (get_or (map items queues) i [] ≡ m ∷ rest)
+      × (map items (set queues i new) ≡ set (map items queues) i rest))
   popped None e = (set_same items queues i queue is low new e.0, map_at items queues i queue is low [] ∙ e.1)
-  popped (Some m) e = (items new, subst (λ n. i < n) (sym (length-map queues items)) low, map_at items queues i queue is low [] ∙ e, map-set items queues i new)
+  popped (Some m) e = (
+    items new,
+    subst (λ n. i < n) (sym (length-map queues items)) low,
+    map_at items queues i queue is low [] ∙ e,
+    map-set items queues i new,
+  )
 
-  pub pushed : (m : Msg) → items new ≡ items queue ++ m ∷ [] → (i < length (map items queues)) × (map items (set queues i new) ≡ set (map items queues) i (get_or (map items queues) i [] ++ m ∷ []))
-  pushed m e = (subst (λ n. i < n) (sym (length-map queues items)) low, map-set items queues i new ∙ ap (set (map items queues) i) (e ∙ ap (λ ms. ms ++ m ∷ []) (sym (map_at items queues i queue is low []))))
+  pub pushed : (m : Msg) → items new ≡ items queue ++ m ∷ [] → (i < length (map items queues))
+      × (map items (set queues i new) ≡ set (map items queues) i (get_or (map items queues) i [] ++ m ∷ []))
+  pushed m e = (
+    subst (λ n. i < n) (sym (length-map queues items)) low,
+    map-set items queues i new ∙ ap (set (map items queues) i)
+        (e ∙ ap (λ ms. ms ++ m ∷ []) (sym (map_at items queues i queue is low []))),
+  )
 
 -- ---- one place
 
-module _ (places : List Place) (at : ℕ) (place new : Place) (is : place ≡ get_or places at place) (low : at < length places) where
+module _ (places : List Place) (at : ℕ) (place new : Place) (is : place ≡ get_or places at place)
+    (low : at < length places) where
   row : get_or (waiting_of places) at [] ≡ waiting_at place
   row = map_at waiting_at places at place is low []
 
@@ -44,13 +60,17 @@ module _ (places : List Place) (at : ℕ) (place new : Place) (is : place ≡ ge
     sender_is = subst (λ ms. sender < length ms) (sym row) low';
   }
 
-  with_row : (sender : ℕ) (ms : List Msg) → waiting_at new ≡ set (waiting_at place) sender ms → waiting_of (set places at new) ≡ with_waiting (waiting_of places) at sender ms
-  with_row sender ms e = map-set waiting_at places at new ∙ ap (set (waiting_of places) at) (e ∙ ap (λ r. set r sender ms) (sym row))
+  with_row : (sender : ℕ) (ms : List Msg) → waiting_at new ≡ set (waiting_at place) sender ms
+      → waiting_of (set places at new) ≡ with_waiting (waiting_of places) at sender ms
+  with_row sender ms e = map-set waiting_at places at new ∙ ap (set (waiting_of places) at)
+      (e ∙ ap (λ r. set r sender ms) (sym row))
 
   pub takes_off : (sender : ℕ) (o : Option Msg)
       → MatchOption o ((waiting_at new ≡ waiting_at place) × (get_or (waiting_at place) sender [] ≡ []))
-      (λ m. (rest : List Msg) × (sender < length (waiting_at place)) × (get_or (waiting_at place) sender [] ≡ m ∷ rest) × (waiting_at new ≡ set (waiting_at place) sender rest))
-      → MatchOption o ((waiting_of (set places at new) ≡ waiting_of places) × (waits (waiting_of places) at sender ≡ []))
+      (λ m. (rest : List Msg) × (sender < length (waiting_at place)) × (get_or (waiting_at place) sender [] ≡ m ∷ rest)
+      × (waiting_at new ≡ set (waiting_at place) sender rest))
+      → MatchOption o ((waiting_of (set places at new) ≡ waiting_of places)
+      × (waits (waiting_of places) at sender ≡ []))
       (λ m. TakesOff at sender m (waiting_of places) (waiting_of (set places at new)))
   takes_off sender None e = (set_same waiting_at places at place is low new e.0, ap (λ r. get_or r sender []) row ∙ e.1)
   takes_off sender (Some m) e = record {
@@ -60,11 +80,13 @@ module _ (places : List Place) (at : ℕ) (place new : Place) (is : place ≡ ge
     left = with_row sender e.0 e.3;
   }
 
-  pub puts_on : (sender : ℕ) (m : Msg) → (sender < length (waiting_at place)) × (waiting_at new ≡ set (waiting_at place) sender (get_or (waiting_at place) sender [] ++ m ∷ []))
+  pub puts_on : (sender : ℕ) (m : Msg) → (sender < length (waiting_at place))
+      × (waiting_at new ≡ set (waiting_at place) sender (get_or (waiting_at place) sender [] ++ m ∷ []))
       → PutsOn at sender m (waiting_of places) (waiting_of (set places at new))
   puts_on sender m e = record {
     room = room sender e.0;
-    left = with_row sender _ e.1 ∙ ap (λ r. with_waiting (waiting_of places) at sender (get_or r sender [] ++ m ∷ [])) (sym row);
+    left = with_row sender _ e.1 ∙ ap (λ r. with_waiting (waiting_of places) at sender (get_or r sender [] ++ m ∷ []))
+        (sym row);
   }
 
   pub same_waiting : waiting_at new ≡ waiting_at place → waiting_of (set places at new) ≡ waiting_of places
@@ -73,24 +95,29 @@ module _ (places : List Place) (at : ℕ) (place new : Place) (is : place ≡ ge
   pub same_cores : new.core ≡ place.core → cores_of (set places at new) ≡ cores_of places
   same_cores e = set_same (λ (p : Place). p.core) places at place is low new e
 
-  pub occurs_at : (cause : Cause) (before after : List Post) → Occurs cause place.core new.core before after → OccursAt at cause (cores_of places) (cores_of (set places at new)) before after
+  pub occurs_at : (cause : Cause) (before after : List Post) → Occurs cause place.core new.core before after
+      → OccursAt at cause (cores_of places) (cores_of (set places at new)) before after
   occurs_at cause before after occurs = record {
     core = place.core;
     next = new.core;
     was =
-        slice_get-get_or (cores_of places) at place.core (subst (λ n. at < n) (sym (length-map places (λ (p : Place). p.core))) low)
+        slice_get-get_or (cores_of places) at place.core (subst (λ n. at < n)
+        (sym (length-map places (λ (p : Place). p.core))) low)
         ∙ ap Some (map_at (λ (p : Place). p.core) places at place is low place.core);
     now = map-set (λ (p : Place). p.core) places at new;
     occurs = occurs;
   }
 
-  pub begins_at : (cause : Cause) (b : Bool) (before after : List Post) → MatchBool b (Occurs cause place.core new.core before after) (new.core ≡ place.core)
-      → MatchBool b (OccursAt at cause (cores_of places) (cores_of (set places at new)) before after) (cores_of (set places at new) ≡ cores_of places)
+  pub begins_at : (cause : Cause) (b : Bool) (before after : List Post)
+      → MatchBool b (Occurs cause place.core new.core before after) (new.core ≡ place.core)
+      → MatchBool b (OccursAt at cause (cores_of places) (cores_of (set places at new)) before after)
+      (cores_of (set places at new) ≡ cores_of places)
   begins_at cause true before after e = occurs_at cause before after e
   begins_at cause false before after e = same_cores e
 
 -- the machine at a number is that of the place there
-pub core_there : (places : List Place) (n : ℕ) (place : Place) (core : Core) → n < length places → place ≡ get_or places n place → slice_get (cores_of places) n ≡ Some core → place.core ≡ core
+pub core_there : (places : List Place) (n : ℕ) (place : Place) (core : Core) → n < length places
+    → place ≡ get_or places n place → slice_get (cores_of places) n ≡ Some core → place.core ≡ core
 core_there places n place core low is there =
     sym (map_at (λ (p : Place). p.core) places n place is low place.core)
     ∙ get_or_from_slice_get (cores_of places) n core place.core there

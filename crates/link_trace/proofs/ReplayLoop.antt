@@ -22,11 +22,13 @@ use Rattle.link_trace.specs.Marks.{AreMarked}
 use Rattle.link_trace.proofs.Bounds.{IsReached, none_reached, slot_reached}
 
 -- at first all slots are marked
-pub all_unsure : (slots : List Slot) (marks : List Bool) (w : WorldState) → length marks ≡ length slots → ((n : ℕ) → ¬ (slice_get marks n ≡ Some false)) → AreMarked slots marks w
+pub all_unsure : (slots : List Slot) (marks : List Bool) (w : WorldState) → length marks ≡ length slots
+    → ((n : ℕ) → ¬ (slice_get marks n ≡ Some false)) → AreMarked slots marks w
 all_unsure slots marks w long all = record { each = long; idle = λ n slot there none. absurd (all n none) }
 
 -- so far: the events made, a word drawn for each, marks that are sound, and lists that count the events
-pub record IsUnderWay (input : Input) (setting : Setting) (seed : ℕ) (marks : List Bool) (draws : Lcg) (events : ℕ) (w : WorldState) : Type 0 where
+pub record IsUnderWay (input : Input) (setting : Setting) (seed : ℕ) (marks : List Bool) (draws : Lcg) (events : ℕ)
+    (w : WorldState) : Type 0 where
   pub first : WorldState
   pub fresh : StandsFor input setting first (λ actor. no_lists)
   pub replays : Replays (slots_of setting) seed first events w
@@ -34,8 +36,10 @@ pub record IsUnderWay (input : Input) (setting : Setting) (seed : ℕ) (marks : 
   pub marked : AreMarked (slots_of setting) marks w
   pub reached : IsReached input setting w events
 
-pub begins : (input : Input) (setting : Setting) (seed : ℕ) (marks : List Bool) (draws : Lcg) (slots : List Slot) (w : WorldState) → StandsFor input setting w (λ actor. no_lists)
-    → draws ≡ started 64 multiplier_64 seed (increment_of 64 56) → slots ≡ slots_of setting → length marks ≡ length slots → ((n : ℕ) → ¬ (slice_get marks n ≡ Some false))
+pub begins : (input : Input) (setting : Setting) (seed : ℕ) (marks : List Bool) (draws : Lcg) (slots : List Slot)
+    (w : WorldState) → StandsFor input setting w (λ actor. no_lists)
+    → draws ≡ started 64 multiplier_64 seed (increment_of 64 56) → slots ≡ slots_of setting
+    → length marks ≡ length slots → ((n : ℕ) → ¬ (slice_get marks n ≡ Some false))
     → IsUnderWay input setting seed marks draws 0 w
 unfolding state_after
 begins input setting seed marks draws slots w fresh new is long all = record {
@@ -47,27 +51,35 @@ begins input setting seed marks draws slots w fresh new is long all = record {
   reached = none_reached input setting w fresh;
 }
 
-module _ (input : Input) (setting : Setting) (seed : ℕ) (marks marks' : List Bool) (draws draws' : Lcg) (events events' : ℕ) (w w' : WorldState) (under : IsUnderWay input setting seed marks draws events w) where
-  drawn_more : draws' ≡ (pcg32 draws).1 → draws' ≡ advance 64 multiplier_64 (events + 1) (started 64 multiplier_64 seed (increment_of 64 56))
+module _ (input : Input) (setting : Setting) (seed : ℕ) (marks marks' : List Bool) (draws draws' : Lcg)
+    (events events' : ℕ) (w w' : WorldState) (under : IsUnderWay input setting seed marks draws events w) where
+  drawn_more : draws' ≡ (pcg32 draws).1 → draws' ≡ advance 64 multiplier_64 (events + 1)
+      (started 64 multiplier_64 seed (increment_of 64 56))
   drawn_more is =
-      is ∙ ap (λ g. next 64 multiplier_64 g) under.draws_are ∙ next-advance 64 multiplier_64 events (started 64 multiplier_64 seed (increment_of 64 56))
+      is ∙ ap (λ g. next 64 multiplier_64 g) under.draws_are
+      ∙ next-advance 64 multiplier_64 events (started 64 multiplier_64 seed (increment_of 64 56))
 
-  pub goes_on : (slots : List Slot) → slots ≡ slots_of setting → IsSomeAt GoesOn w.cores → AreMarked slots marks' w' → MakesFirst slots (pcg32 draws).0 w w' → draws' ≡ (pcg32 draws).1
+  pub goes_on : (slots : List Slot) → slots ≡ slots_of setting → IsSomeAt GoesOn w.cores → AreMarked slots marks' w'
+      → MakesFirst slots (pcg32 draws).0 w w' → draws' ≡ (pcg32 draws).1
       → events' ≡ events + 1 → IsUnderWay input setting seed marks' draws' events' w'
   goes_on slots is goes marked made drawn counted =
-      let makes : MakesFirst (slots_of setting) (pcg32 draws).0 w w' = subst (λ s. MakesFirst s (pcg32 draws).0 w w') is made in
+      let makes : MakesFirst (slots_of setting) (pcg32 draws).0 w w' =
+      subst (λ s. MakesFirst s (pcg32 draws).0 w w') is made in
       subst (λ n. IsUnderWay input setting seed marks' draws' n w') (sym counted) (record {
         first = under.first;
         fresh = under.fresh;
-        replays = event under.replays goes (subst (λ g. MakesFirst (slots_of setting) (pcg32 g).0 w w') under.draws_are makes);
+        replays = event under.replays goes (subst (λ g. MakesFirst (slots_of setting) (pcg32 g).0 w w')
+            under.draws_are makes);
         draws_are = drawn_more drawn;
         marked = subst (λ s. AreMarked s marks' w') is marked;
         reached = slot_reached input setting made.slot events w w' made.happens under.reached;
       })
 
-pub replayed : (input : Input) (setting : Setting) (seed : ℕ) (marks : List Bool) (draws : Lcg) (events : ℕ) (w : WorldState) → IsUnderWay input setting seed marks draws events w
+pub replayed : (input : Input) (setting : Setting) (seed : ℕ) (marks : List Bool) (draws : Lcg) (events : ℕ)
+    (w : WorldState) → IsUnderWay input setting seed marks draws events w
     → (result : Result Run AllocError) → IsAllAt IsOver w.cores
-    → IfOk result (λ run. (input' : Input) (setting' : Setting) (lists : Actor → ActorLists) → StandsFor input' setting' w lists
+    → IfOk result (λ run. (input' : Input) (setting' : Setting) (lists : Actor → ActorLists)
+    → StandsFor input' setting' w lists
     → (core : Core) → core_of w Controller ≡ Some core → run.journal ≡ journal_of core)
     → IfOk result (λ run. run.bouts ≡ events) → IfOk result (λ run. IsReplay input setting seed run)
 replayed input setting seed marks draws events w under (Ok run) over journal bouts = record {

@@ -1,5 +1,6 @@
 -- The loop of a run in which one actor is served last: what it has made so far, and its answer.
-use Rattle.std.proofs.Common.{◌≡◌, ℕ, ◌+◌, sym, ap, subst, ◌∙◌, inl, inr, Bool, false, Some, List, length, Result, Ok, Err}
+use Rattle.std.proofs.Common.{◌≡◌, ℕ, ◌+◌, sym, ap, subst, ◌∙◌, inl, inr, Bool, false, Some, List, length, Result, Ok}
+use Rattle.std.proofs.Common.{Err}
 use Rattle.std.specs.Prelude.{IfOk, slice_get}
 use Rattle.std.specs.declared.alloc.AllocError.{AllocError}
 use Rattle.epoch_tags.specs.declared.actor.Actor.{Actor}
@@ -20,20 +21,24 @@ use Rattle.link_trace.specs.Starving.{MakesStarving, Starves, IsStarvingReplay, 
 use Rattle.link_trace.proofs.Bounds.{IsReached, none_reached, slot_reached}
 use Rattle.link_trace.proofs.ReplayLoop.{all_unsure}
 
-starving_happens : (starved : Actor) (slots : List Slot) (old new : WorldState) → MakesStarving starved slots old new → (slot : Slot) × Happens slot old new
+starving_happens : (starved : Actor) (slots : List Slot) (old new : WorldState) → MakesStarving starved slots old new
+    → (slot : Slot) × Happens slot old new
 starving_happens starved slots old new (inl least) = (least.slot, least.happens)
 starving_happens starved slots old new (inr (idle, least)) = (least.slot, least.happens)
 
 -- so far: the events made, marks that are sound, and lists that count the events
-pub record IsServedSo (input : Input) (setting : Setting) (starved : Actor) (marks : List Bool) (events : ℕ) (w : WorldState) : Type 0 where
+pub record IsServedSo (input : Input) (setting : Setting) (starved : Actor) (marks : List Bool) (events : ℕ)
+    (w : WorldState) : Type 0 where
   pub first : WorldState
   pub fresh : StandsFor input setting first (λ actor. no_lists)
   pub starves : Starves (slots_of setting) starved first events w
   pub marked : AreMarked (slots_of setting) marks w
   pub reached : IsReached input setting w events
 
-pub begins : (input : Input) (setting : Setting) (starved : Actor) (marks : List Bool) (slots : List Slot) (w : WorldState) → StandsFor input setting w (λ actor. no_lists)
-    → slots ≡ slots_of setting → length marks ≡ length slots → ((n : ℕ) → ¬ (slice_get marks n ≡ Some false)) → IsServedSo input setting starved marks 0 w
+pub begins : (input : Input) (setting : Setting) (starved : Actor) (marks : List Bool) (slots : List Slot)
+    (w : WorldState) → StandsFor input setting w (λ actor. no_lists)
+    → slots ≡ slots_of setting → length marks ≡ length slots → ((n : ℕ) → ¬ (slice_get marks n ≡ Some false))
+    → IsServedSo input setting starved marks 0 w
 begins input setting starved marks slots w fresh is long all = record {
   first = w;
   fresh = fresh;
@@ -42,8 +47,10 @@ begins input setting starved marks slots w fresh is long all = record {
   reached = none_reached input setting w fresh;
 }
 
-pub goes_on : (input : Input) (setting : Setting) (starved : Actor) (marks marks' : List Bool) (events : ℕ) (w w' : WorldState) → IsServedSo input setting starved marks events w
-    → (slots : List Slot) → slots ≡ slots_of setting → IsSomeAt GoesOn w.cores → AreMarked slots marks' w' → MakesStarving starved slots w w'
+pub goes_on : (input : Input) (setting : Setting) (starved : Actor) (marks marks' : List Bool) (events : ℕ)
+    (w w' : WorldState) → IsServedSo input setting starved marks events w
+    → (slots : List Slot) → slots ≡ slots_of setting → IsSomeAt GoesOn w.cores → AreMarked slots marks' w'
+    → MakesStarving starved slots w w'
     → IsServedSo input setting starved marks' (events + 1) w'
 goes_on input setting starved marks marks' events w w' so slots is goes marked made =
     let one = starving_happens starved slots w w' made in
@@ -55,9 +62,11 @@ goes_on input setting starved marks marks' events w w' so slots is goes marked m
       reached = slot_reached input setting one.0 events w w' one.1 so.reached;
     }
 
-pub starved_order : (input : Input) (setting : Setting) (starved : Actor) (marks : List Bool) (events : ℕ) (w : WorldState) → IsServedSo input setting starved marks events w
+pub starved_order : (input : Input) (setting : Setting) (starved : Actor) (marks : List Bool) (events : ℕ)
+    (w : WorldState) → IsServedSo input setting starved marks events w
     → (result : Result Run AllocError) → IsAllAt IsOver w.cores
-    → IfOk result (λ run. (input' : Input) (setting' : Setting) (lists : Actor → ActorLists) → StandsFor input' setting' w lists
+    → IfOk result (λ run. (input' : Input) (setting' : Setting) (lists : Actor → ActorLists)
+    → StandsFor input' setting' w lists
     → (core : Core) → core_of w Controller ≡ Some core → run.journal ≡ journal_of core)
     → IfOk result (λ run. run.bouts ≡ events) → IfOk result (λ run. IsStarvingReplay input setting starved run)
 starved_order input setting starved marks events w so (Ok run) over journal bouts = record {

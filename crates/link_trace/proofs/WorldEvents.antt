@@ -1,5 +1,7 @@
 -- One machine's event is one event of the world.
-use Rattle.std.proofs.Common.{◌≡◌, ℕ, zero, suc, ◌==◌, ◌<◌, refl, sym, ap, subst, ◌∙◌, Bool, true, false, cond, Option, Some, None, List, [], ◌∷◌, ◌++◌, set, length, ◌≢◌, ◌&&◌, eqb-true, true≢false, MatchBool, arith}
+use Rattle.std.proofs.Common.{◌≡◌, ℕ, zero, suc, ◌==◌, ◌<◌, refl, sym, ap, subst, ◌∙◌, Bool, true, false, cond, Option}
+use Rattle.std.proofs.Common.{Some, None, List, [], ◌∷◌, ◌++◌, set, length, ◌≢◌, ◌&&◌, eqb-true, true≢false, MatchBool}
+use Rattle.std.proofs.Common.{arith}
 use borrow.Author.Tests.{eqb-false}
 use Rattle.std.specs.Prelude.{slice_get}
 use Rattle.std.proofs.lemmas.Option.{slice_get_within}
@@ -34,70 +36,99 @@ set_elsewhere (y ∷ ys) zero (suc k) x other = refl
 set_elsewhere (y ∷ ys) (suc i) zero x other = refl
 set_elsewhere (y ∷ ys) (suc i) (suc k) x other = set_elsewhere ys i k x (λ e. other (ap suc e))
 
-slice_get-set : {X : Type 0} (xs : List X) (i k : ℕ) (x : X) → i < length xs → slice_get (set xs i x) k ≡ cond (i == k) (Some x) (slice_get xs k)
+slice_get-set : {X : Type 0} (xs : List X) (i k : ℕ) (x : X) → i < length xs
+    → slice_get (set xs i x) k ≡ cond (i == k) (Some x) (slice_get xs k)
 slice_get-set xs i k x low = go (i == k) refl
   where
     go : (b : Bool) → (i == k) ≡ b → slice_get (set xs i x) k ≡ cond b (Some x) (slice_get xs k)
     go true e = subst (λ z. slice_get (set xs i x) z ≡ Some x) (eqb-true i k e) (set_there xs i x low)
     go false e = set_elsewhere xs i k x (eqb-false i k e)
 
-module _ (joiners feeders : ℕ) (cores : List Core) (self : Actor) (n : ℕ) (next : Core) (at : number joiners feeders self ≡ Some n) (low : n < length cores) where
-  set_at : (a : Actor) (i : Option ℕ) → number joiners feeders a ≡ i → at_number None i (λ k. slice_get (set cores n next) k) ≡ cond (same_actor self a) (Some next) (at_number None i (λ k. slice_get cores k))
+module _ (joiners feeders : ℕ) (cores : List Core) (self : Actor) (n : ℕ) (next : Core)
+    (at : number joiners feeders self ≡ Some n) (low : n < length cores) where
+  set_at : (a : Actor) (i : Option ℕ) → number joiners feeders a ≡ i
+      → at_number None i (λ k. slice_get (set cores n next) k)
+      ≡ cond (same_actor self a) (Some next) (at_number None i (λ k. slice_get cores k))
   set_at a None is = go (same_actor self a) refl
     where
       go : (b : Bool) → same_actor self a ≡ b → None ≡ cond b (Some next) None
       go true e = absurd (none_some n (sym is ∙ subst (λ z. number joiners feeders z ≡ Some n) (same_is self a e) at))
       go false e = refl
-  set_at a (Some k) is = slice_get-set cores n k next low ∙ ap (λ b. cond b (Some next) (slice_get cores k)) (sym (same_number joiners feeders self a n k at is))
+  set_at a (Some k) is = slice_get-set cores n k next low ∙ ap (λ b. cond b (Some next) (slice_get cores k))
+      (sym (same_number joiners feeders self a n k at is))
 
   pub core-set : core_in joiners feeders (set cores n next) ≡ changed self (Some next) (core_in joiners feeders cores)
   core-set = fun_ext (λ a. set_at a (number joiners feeders a) refl)
 
 -- ---- events
 
-stands_after : (self : Actor) (cause : Cause) (core next : Core) (old new : Actor → Option Core) (posts : List Post) → old self ≡ Some core → new ≡ changed self (Some next) old → Event cause core next posts
-    → (input : Input) (setting : Setting) (f : Actor → ActorLists) → ((a : Actor) → IsActor setting a → (c : Core) × (old a ≡ Some c) × Stands (start_for input setting a) (f a) c)
-    → (a : Actor) → IsActor setting a → (c : Core) × (new a ≡ Some c) × Stands (start_for input setting a) (after_event self cause posts f a) c
+stands_after : (self : Actor) (cause : Cause) (core next : Core) (old new : Actor → Option Core) (posts : List Post)
+    → old self ≡ Some core → new ≡ changed self (Some next) old → Event cause core next posts
+    → (input : Input) (setting : Setting) (f : Actor → ActorLists)
+    → ((a : Actor) → IsActor setting a → (c : Core) × (old a ≡ Some c) × Stands (start_for input setting a) (f a) c)
+    → (a : Actor) → IsActor setting a → (c : Core) × (new a ≡ Some c)
+    × Stands (start_for input setting a) (after_event self cause posts f a) c
 stands_after self cause core next old new posts was now event input setting f stands a is =
-    subst (λ z. (c : Core) × (z a ≡ Some c) × Stands (start_for input setting a) (after_event self cause posts f a) c) (sym now) (go (same_actor self a) refl)
+    subst (λ z. (c : Core) × (z a ≡ Some c) × Stands (start_for input setting a) (after_event self cause posts f a) c)
+    (sym now) (go (same_actor self a) refl)
   where
-    go : (b : Bool) → same_actor self a ≡ b → (c : Core) × (cond b (Some next) (old a) ≡ Some c) × Stands (start_for input setting a) (cond b (with_event cause posts (f self)) (f a)) c
+    go : (b : Bool) → same_actor self a ≡ b → (c : Core) × (cond b (Some next) (old a) ≡ Some c)
+        × Stands (start_for input setting a) (cond b (with_event cause posts (f self)) (f a)) c
     go true e =
         let old_one = stands a is in
         let here = same_is self a e in
         let core_is = some_is old_one.0 core (sym old_one.1 ∙ subst (λ z. old z ≡ Some core) here was) in
-        let stood = subst (λ c. Stands (start_for input setting a) (f a) c) core_is old_one.2 in
-        (next, refl, event.stands (start_for input setting a) (f self) (subst (λ z. Stands (start_for input setting a) (f z) core) (sym here) stood))
+        let stood = subst (λ c. Stands (start_for input setting a) (f a) c) core_is old_one.2 in (
+          next,
+          refl,
+          event.stands (start_for input setting a) (f self)
+              (subst (λ z. Stands (start_for input setting a) (f z) core) (sym here) stood),
+        )
     go false e = stands a is
 
-goes_out : (self : Actor) (cause : Cause) (core next : Core) (old : Actor → Option Core) (posts : List Post) → old self ≡ Some core → Event cause core next posts
+goes_out : (self : Actor) (cause : Cause) (core next : Core) (old : Actor → Option Core) (posts : List Post)
+    → old self ≡ Some core → Event cause core next posts
     → (input : Input) (setting : Setting) (f : Actor → ActorLists) → IsActor setting self
-    → ((a : Actor) → IsActor setting a → (c : Core) × (old a ≡ Some c) × Stands (start_for input setting a) (f a) c) → GoOut (start_for input setting self) posts
+    → ((a : Actor) → IsActor setting a → (c : Core) × (old a ≡ Some c) × Stands (start_for input setting a) (f a) c)
+    → GoOut (start_for input setting self) posts
 goes_out self cause core next old posts was event input setting f is stands =
     let own = stands self is in
     let core_is = some_is own.0 core (sym own.1 ∙ was) in
-    event.over (start_for input setting self) (f self) (subst (λ c. Stands (start_for input setting self) (f self) c) core_is own.2)
+    event.over (start_for input setting self) (f self) (subst (λ c. Stands (start_for input setting self) (f self) c)
+    core_is own.2)
 
 -- a machine made an event, and its posts were put on their links
-module _ (joiners feeders : ℕ) (self : Actor) (n : ℕ) (at : number joiners feeders self ≡ Some n) (cause : Cause) (cores cores' : List Core) (ws middle ws' : List (List (List Msg))) (sends : List Post) (occurs : OccursAt n cause cores cores' [] sends) (put : left_in joiners feeders ws' ≡ put_on self sends (left_in joiners feeders middle)) (empties : (x y : Actor) → left_in joiners feeders ws x y ≡ [] → left_in joiners feeders middle x y ≡ []) where
+module _ (joiners feeders : ℕ) (self : Actor) (n : ℕ) (at : number joiners feeders self ≡ Some n) (cause : Cause)
+    (cores cores' : List Core) (ws middle ws' : List (List (List Msg))) (sends : List Post)
+    (occurs : OccursAt n cause cores cores' [] sends) (put : left_in joiners feeders ws'
+    ≡ put_on self sends (left_in joiners feeders middle)) (empties : (x y : Actor) → left_in joiners feeders ws x y ≡ []
+    → left_in joiners feeders middle x y ≡ []) where
   was : core_in joiners feeders cores self ≡ Some occurs.core
   was = ap (λ (i : Option ℕ). at_number None i (λ k. slice_get cores k)) at ∙ occurs.was
 
   now : core_in joiners feeders cores' ≡ changed self (Some occurs.next) (core_in joiners feeders cores)
-  now = ap (core_in joiners feeders) occurs.now ∙ core-set joiners feeders cores self n occurs.next at (slice_get_within cores n occurs.core occurs.was)
+  now = ap (core_in joiners feeders) occurs.now ∙ core-set joiners feeders cores self n occurs.next at
+      (slice_get_within cores n occurs.core occurs.was)
 
-  others : KeepsOthers self (record { joiners = joiners; feeders = feeders; cores = cores; waiting = ws }) (record { joiners = joiners; feeders = feeders; cores = cores'; waiting = ws' })
+  others : KeepsOthers self (record { joiners = joiners; feeders = feeders; cores = cores; waiting = ws })
+      (record { joiners = joiners; feeders = feeders; cores = cores'; waiting = ws' })
   others = record {
-    machines = λ a other. ap (λ (f : Actor → Option Core). f a) now ∙ ap (λ (b : Bool). cond b (Some occurs.next) (core_in joiners feeders cores a)) other;
+    machines = λ a other. ap (λ (f : Actor → Option Core). f a) now
+        ∙ ap (λ (b : Bool). cond b (Some occurs.next) (core_in joiners feeders cores a)) other;
     links = λ from to other none.
         ap (λ (l : Actor → Actor → List Msg). l from to) put
-        ∙ ap (λ (b : Bool). cond b (left_in joiners feeders middle from to ++ posted_to to sends) (left_in joiners feeders middle from to)) other
+        ∙ ap (λ (b : Bool). cond b (left_in joiners feeders middle from to ++ posted_to to sends)
+        (left_in joiners feeders middle from to)) other
         ∙ empties from to none;
   }
 
-  pub makes_event : ((f : Actor → ActorLists) → ((x y : Actor) → (f y).received x ++ left_in joiners feeders ws x y ≡ (f x).sent y)
-      → (x y : Actor) → (after_event self cause occurs.occurs.added f y).received x ++ put_on self occurs.occurs.added (left_in joiners feeders middle) x y ≡ (after_event self cause occurs.occurs.added f x).sent y)
-      → MakesEvent self cause (record { joiners = joiners; feeders = feeders; cores = cores; waiting = ws }) (record { joiners = joiners; feeders = feeders; cores = cores'; waiting = ws' })
+  pub makes_event : ((f : Actor → ActorLists) → ((x y : Actor)
+      → (f y).received x ++ left_in joiners feeders ws x y ≡ (f x).sent y)
+      → (x y : Actor) → (after_event self cause occurs.occurs.added f y).received x
+      ++ put_on self occurs.occurs.added (left_in joiners feeders middle) x y
+      ≡ (after_event self cause occurs.occurs.added f x).sent y)
+      → MakesEvent self cause (record { joiners = joiners; feeders = feeders; cores = cores; waiting = ws })
+      (record { joiners = joiners; feeders = feeders; cores = cores'; waiting = ws' })
   makes_event balances = record {
     posts = occurs.occurs.added;
     stands = λ input setting f w. record {
@@ -105,16 +136,22 @@ module _ (joiners feeders : ℕ) (self : Actor) (n : ℕ) (at : number joiners f
         joiners_are = w.machines.joiners_are;
         feeders_are = w.machines.feeders_are;
         all = ap length occurs.now ∙ length-set cores n occurs.next ∙ w.machines.all;
-        stands = stands_after self cause occurs.core occurs.next (core_in joiners feeders cores) (core_in joiners feeders cores') occurs.occurs.added was now occurs.occurs.event input setting f w.machines.stands;
+        stands = stands_after self cause occurs.core occurs.next (core_in joiners feeders cores)
+            (core_in joiners feeders cores') occurs.occurs.added was now occurs.occurs.event input setting f
+            w.machines.stands;
       };
       balanced =
-          subst (λ l. (x y : Actor) → (after_event self cause occurs.occurs.added f y).received x ++ l x y ≡ (after_event self cause occurs.occurs.added f x).sent y)
+          subst (λ l. (x y : Actor) → (after_event self cause occurs.occurs.added f y).received x ++ l x y
+          ≡ (after_event self cause occurs.occurs.added f x).sent y)
           (ap (λ ps. put_on self ps (left_in joiners feeders middle)) (sym occurs.occurs.sends) ∙ sym put)
           (balances f w.balanced);
     };
     over = λ input setting f w.
-        let is = is_actor setting joiners feeders self n w.machines.joiners_are w.machines.feeders_are at in
-        (is, goes_out self cause occurs.core occurs.next (core_in joiners feeders cores) occurs.occurs.added was occurs.occurs.event input setting f is w.machines.stands);
+        let is = is_actor setting joiners feeders self n w.machines.joiners_are w.machines.feeders_are at in (
+          is,
+          goes_out self cause occurs.core occurs.next (core_in joiners feeders cores)
+              occurs.occurs.added was occurs.occurs.event input setting f is w.machines.stands,
+        );
     asks = occurs.occurs.event.asks;
     others = others;
   }
@@ -128,37 +165,49 @@ unfolding is_full
 full m rest e = true≢false (ap is_full e)
 
 -- where nothing was left, nothing is with a message taken off
-emptied : (from to : Actor) (m : Msg) (rest : List Msg) (left : Actor → Actor → List Msg) → left from to ≡ m ∷ rest → (x y : Actor) → left x y ≡ [] → taken_off from to rest left x y ≡ []
+emptied : (from to : Actor) (m : Msg) (rest : List Msg) (left : Actor → Actor → List Msg) → left from to ≡ m ∷ rest
+    → (x y : Actor) → left x y ≡ [] → taken_off from to rest left x y ≡ []
 emptied from to m rest left first x y none = go (same_actor from x) (same_actor to y) refl refl
   where
     go : (b c : Bool) → same_actor from x ≡ b → same_actor to y ≡ c → cond (b && c) rest (left x y) ≡ []
     go true true e d =
-        let there : left x y ≡ m ∷ rest = subst (λ z. left z y ≡ m ∷ rest) (same_is from x e) (subst (λ z. left from z ≡ m ∷ rest) (same_is to y d) first) in
+        let there : left x y ≡ m ∷ rest = subst (λ z. left z y ≡ m ∷ rest) (same_is from x e)
+        (subst (λ z. left from z ≡ m ∷ rest) (same_is to y d) first) in
         absurd (full m rest (sym there ∙ none))
     go true false e d = none
     go false c e d = none
 
-pub begins : (joiners feeders : ℕ) (self : Actor) (n : ℕ) → number joiners feeders self ≡ Some n → (cores cores' : List Core) (ws ws' : List (List (List Msg))) (sends : List Post)
-    → OccursAt n Began cores cores' [] sends → left_in joiners feeders ws' ≡ put_on self sends (left_in joiners feeders ws)
-    → MakesEvent self Began (record { joiners = joiners; feeders = feeders; cores = cores; waiting = ws }) (record { joiners = joiners; feeders = feeders; cores = cores'; waiting = ws' })
+pub begins : (joiners feeders : ℕ) (self : Actor) (n : ℕ) → number joiners feeders self ≡ Some n
+    → (cores cores' : List Core) (ws ws' : List (List (List Msg))) (sends : List Post)
+    → OccursAt n Began cores cores' [] sends → left_in joiners feeders ws'
+    ≡ put_on self sends (left_in joiners feeders ws)
+    → MakesEvent self Began (record { joiners = joiners; feeders = feeders; cores = cores; waiting = ws })
+    (record { joiners = joiners; feeders = feeders; cores = cores'; waiting = ws' })
 begins joiners feeders self n at cores cores' ws ws' sends occurs put =
     makes_event joiners feeders self n at Began cores cores' ws ws ws' sends occurs put (λ x y none. none)
     (λ f balanced. beginning_balances self occurs.occurs.added f (left_in joiners feeders ws) balanced)
 
-pub delivers : (joiners feeders : ℕ) (from to : Actor) (sender receiver : ℕ) → number joiners feeders from ≡ Some sender → number joiners feeders to ≡ Some receiver
+pub delivers : (joiners feeders : ℕ) (from to : Actor) (sender receiver : ℕ) → number joiners feeders from ≡ Some sender
+    → number joiners feeders to ≡ Some receiver
     → (m : Msg) (cores cores' : List Core) (ws middle ws' : List (List (List Msg))) (sends : List Post)
-    → TakesOff receiver sender m ws middle → OccursAt receiver (Took from m) cores cores' [] sends → left_in joiners feeders ws' ≡ put_on to sends (left_in joiners feeders middle)
-    → Delivers from to (record { joiners = joiners; feeders = feeders; cores = cores; waiting = ws }) (record { joiners = joiners; feeders = feeders; cores = cores'; waiting = ws' })
+    → TakesOff receiver sender m ws middle → OccursAt receiver (Took from m) cores cores' [] sends
+    → left_in joiners feeders ws' ≡ put_on to sends (left_in joiners feeders middle)
+    → Delivers from to (record { joiners = joiners; feeders = feeders; cores = cores; waiting = ws })
+    (record { joiners = joiners; feeders = feeders; cores = cores'; waiting = ws' })
 delivers joiners feeders from to sender receiver from_is to_is m cores cores' ws middle ws' sends took occurs put =
     let first = left_between joiners feeders ws from to sender receiver from_is to_is took.room ∙ took.first in
-    let off = ap (left_in joiners feeders) took.left ∙ left-with joiners feeders ws from to sender receiver from_is to_is took.room took.rest in
+    let off = ap (left_in joiners feeders) took.left ∙ left-with joiners feeders ws from to sender receiver from_is
+    to_is took.room took.rest in
     record {
       m = m;
       rest = took.rest;
       first = first;
       event = makes_event joiners feeders to receiver to_is (Took from m) cores cores' ws middle ws' sends occurs put
-          (λ x y none. ap (λ (l : Actor → Actor → List Msg). l x y) off ∙ emptied from to m took.rest (left_in joiners feeders ws) first x y none)
-          (λ f balanced. subst (λ l. (x y : Actor) → (after_event to (Took from m) occurs.occurs.added f y).received x ++ put_on to occurs.occurs.added l x y ≡ (after_event to (Took from m) occurs.occurs.added f x).sent y) (sym off)
+          (λ x y none. ap (λ (l : Actor → Actor → List Msg). l x y) off
+          ∙ emptied from to m took.rest (left_in joiners feeders ws) first x y none)
+          (λ f balanced. subst (λ l. (x y : Actor) → (after_event to (Took from m) occurs.occurs.added f y).received x
+          ++ put_on to occurs.occurs.added l x y ≡ (after_event to (Took from m) occurs.occurs.added f x).sent y)
+          (sym off)
           (delivery_balances from to m took.rest occurs.occurs.added f (left_in joiners feeders ws) balanced first));
     }
 
@@ -168,22 +217,32 @@ when_begun P Q false is q = absurd (true≢false (sym is))
 
 -- ---- the same from what each call of a turn says
 
-recast : (at : ℕ) (cause : Cause) (cores cores' one other : List Core) (before sends : List Post) → one ≡ cores → cores' ≡ other → before ≡ [] → OccursAt at cause one other before sends → OccursAt at cause cores cores' [] sends
+recast : (at : ℕ) (cause : Cause) (cores cores' one other : List Core) (before sends : List Post) → one ≡ cores
+    → cores' ≡ other → before ≡ [] → OccursAt at cause one other before sends → OccursAt at cause cores cores' [] sends
 recast at cause cores cores' one other before sends e d none occurs =
-    subst (λ cs. OccursAt at cause cs cores' [] sends) e (subst (λ cs. OccursAt at cause one cs [] sends) (sym d) (subst (λ ps. OccursAt at cause one other ps sends) none occurs))
+    subst (λ cs. OccursAt at cause cs cores' [] sends) e (subst (λ cs. OccursAt at cause one cs [] sends) (sym d)
+    (subst (λ ps. OccursAt at cause one other ps sends) none occurs))
 
-pub begun : (joiners feeders : ℕ) (self : Actor) (n : ℕ) → number joiners feeders self ≡ Some n → (cores one cores' : List Core) (ws middle ws' : List (List (List Msg))) (before sends : List Post)
-    → middle ≡ ws → OccursAt n Began cores one before sends → before ≡ [] → cores' ≡ one → left_in joiners feeders ws' ≡ put_on self sends (left_in joiners feeders middle)
-    → MakesEvent self Began (record { joiners = joiners; feeders = feeders; cores = cores; waiting = ws }) (record { joiners = joiners; feeders = feeders; cores = cores'; waiting = ws' })
+pub begun : (joiners feeders : ℕ) (self : Actor) (n : ℕ) → number joiners feeders self ≡ Some n
+    → (cores one cores' : List Core) (ws middle ws' : List (List (List Msg))) (before sends : List Post)
+    → middle ≡ ws → OccursAt n Began cores one before sends → before ≡ [] → cores' ≡ one
+    → left_in joiners feeders ws' ≡ put_on self sends (left_in joiners feeders middle)
+    → MakesEvent self Began (record { joiners = joiners; feeders = feeders; cores = cores; waiting = ws })
+    (record { joiners = joiners; feeders = feeders; cores = cores'; waiting = ws' })
 begun joiners feeders self n at cores one cores' ws middle ws' before sends same occurs none d put =
-    begins joiners feeders self n at cores cores' ws ws' sends (recast n Began cores cores' cores one before sends refl d none occurs)
+    begins joiners feeders self n at cores cores' ws ws' sends
+    (recast n Began cores cores' cores one before sends refl d none occurs)
     (put ∙ ap (λ w. put_on self sends (left_in joiners feeders w)) same)
 
-pub delivered : (joiners feeders : ℕ) (from to : Actor) (sender receiver : ℕ) → number joiners feeders from ≡ Some sender → number joiners feeders to ≡ Some receiver
-    → (m : Msg) (cores one other cores' : List Core) (ws middle later ws' : List (List (List Msg))) (before sends : List Post)
-    → one ≡ cores → TakesOff receiver sender m ws middle → later ≡ middle → OccursAt receiver (Took from m) one other before sends → before ≡ [] → cores' ≡ other
+pub delivered : (joiners feeders : ℕ) (from to : Actor) (sender receiver : ℕ)
+    → number joiners feeders from ≡ Some sender → number joiners feeders to ≡ Some receiver
+    → (m : Msg) (cores one other cores' : List Core) (ws middle later ws' : List (List (List Msg)))
+    (before sends : List Post)
+    → one ≡ cores → TakesOff receiver sender m ws middle → later ≡ middle
+    → OccursAt receiver (Took from m) one other before sends → before ≡ [] → cores' ≡ other
     → left_in joiners feeders ws' ≡ put_on to sends (left_in joiners feeders later)
-    → Delivers from to (record { joiners = joiners; feeders = feeders; cores = cores; waiting = ws }) (record { joiners = joiners; feeders = feeders; cores = cores'; waiting = ws' })
+    → Delivers from to (record { joiners = joiners; feeders = feeders; cores = cores; waiting = ws })
+    (record { joiners = joiners; feeders = feeders; cores = cores'; waiting = ws' })
 delivered joiners feeders from to sender receiver from_is to_is m cores one other cores' ws middle later ws' before sends e took same occurs none d put =
     delivers joiners feeders from to sender receiver from_is to_is m cores cores' ws middle ws' sends took
     (recast receiver (Took from m) cores cores' one other before sends e d none occurs)

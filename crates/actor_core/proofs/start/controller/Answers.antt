@@ -3,4 +3,5 @@ use Rattle.actor_core.proofs.Fresh.{fresh_controller}
 use Rattle.actor_core.proofs.start.controller.Goals as goal
 
 pub returns-clause-stands : goal.returns-clause-stands
-returns-clause-stands c = fresh_controller (rules_of c.args.setting.now) (first_rest c.args.setting.now).line c.in_ok-start.field-0 c.in_ok-start.ensures
+returns-clause-stands c = fresh_controller (rules_of c.args.setting.now)
+    (first_rest c.args.setting.now).line c.in_ok-start.field-0 c.in_ok-start.ensures

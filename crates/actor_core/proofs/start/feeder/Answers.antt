@@ -17,9 +17,23 @@ returns-clause-stands c =
     let input = c.args.input.now in
     let setting = c.args.setting.now in
     let rows = share setting.feed setting.feeders c.args.p (row_count input R) (row_count input S) in
-    let batches : cut setting.batch c.in_ok-load.load ≡ map (map (tuple_of input 0)) (cut setting.batch (own_rows input setting (first_rest setting).line c.args.p)) =
+    let batches : cut setting.batch c.in_ok-load.load ≡ map (map (tuple_of input 0))
+    (cut setting.batch (own_rows input setting (first_rest setting).line c.args.p)) =
     ap (cut setting.batch) c.in_ok-load.ensures ∙ map-cut (tuple_of input 0) setting.batch rows
-    ∙ ap (λ places. map (map (tuple_of input 0)) (cut setting.batch places)) (sym (all_shares input setting c.args.p)) in
-    subst (λ (bs : List (List Tuple)). StandsFor (record { k = setting.k; epoch = 0; shift = (first_rest setting).line.shift; batches = bs }) (feeder_lists no_lists) c.start.result) batches
-    (subst (λ (shift : ℕ). StandsFor (record { k = setting.k; epoch = 0; shift = shift; batches = cut setting.batch c.in_ok-load.load }) (feeder_lists no_lists) c.start.result) c.first_shift-shift.ensures
-    (subst (λ (start : FeederStart). StandsFor start (feeder_lists no_lists) c.start.result) c.start.ensures.start c.start.ensures.fresh))
+    ∙ ap (λ places. map (map (tuple_of input 0)) (cut setting.batch places))
+    (sym (all_shares input setting c.args.p)) in
+    subst (λ (bs : List (List Tuple)). StandsFor (record {
+      k = setting.k;
+      epoch = 0;
+      shift = (first_rest setting).line.shift;
+      batches = bs;
+    }) (feeder_lists no_lists) c.start.result) batches
+    (subst (λ (shift : ℕ). StandsFor (record {
+      k = setting.k;
+      epoch = 0;
+      shift = shift;
+      batches = cut setting.batch c.in_ok-load.load;
+    }) (feeder_lists no_lists) c.start.result)
+    c.first_shift-shift.ensures
+    (subst (λ (start : FeederStart). StandsFor start (feeder_lists no_lists) c.start.result)
+    c.start.ensures.start c.start.ensures.fresh))

@@ -7,5 +7,6 @@ use Rattle.actor_core.proofs.start.joiner.Goals as goal
 pub returns-clause-stands : goal.returns-clause-stands
 returns-clause-stands c =
     let setting = c.args.setting.now in
-    subst (λ (shift : ℕ). StandsFor (start_of setting.k c.args.j shift 0 setting.feeders c.args.input.now.theta []) (joiner_lists no_lists) c.in_ok-joiner.joiner)
+    subst (λ (shift : ℕ). StandsFor (start_of setting.k c.args.j shift 0 setting.feeders c.args.input.now.theta [])
+    (joiner_lists no_lists) c.in_ok-joiner.joiner)
     c.first_shift-shift.ensures c.in_ok-joiner.ensures.fresh

@@ -14,17 +14,20 @@ returns-then-branch-clause-made c =
     let low = c.loop-i-test.true in
     let at = (c.args.word + c.loop-i.i) % length slots in
     let slot = slice_index_or slots at (Begin 0) in
-    let there : slice_get slots at ≡ Some slot = slice_get-get_or slots at (Begin 0) (mod_below (c.args.word + c.loop-i.i) (length slots) (omega arith)) in
+    let there : slice_get slots at ≡ Some slot = slice_get-get_or slots at (Begin 0)
+    (mod_below (c.args.word + c.loop-i.i) (length slots) (omega arith)) in
     record {
       skipped = c.loop-i.i;
       slot = slot;
       once = c.loop-i-test.true;
       idle = c.loop-i.invariant.idle;
       there = there;
-      happens = subst (λ w. Happens slot w (state_of c.make_at.new.world)) c.loop-i.invariant.same (c.in_ok-make_at.ensures.made (search) slot there);
+      happens = subst (λ w. Happens slot w (state_of c.make_at.new.world)) c.loop-i.invariant.same
+          (c.in_ok-make_at.ensures.made (search) slot there);
     }
 
 pub unreachable-requires : goal.unreachable-requires
 unreachable-requires c =
     let all = c.loop-i-test.false in
-    c.requires.ready (idle_round c.args.slots.now c.args.word (state_of c.args.world.now) (λ i slot low there. c.loop-i.invariant.idle i slot (omega arith) there))
+    c.requires.ready (idle_round c.args.slots.now c.args.word (state_of c.args.world.now)
+    (λ i slot low there. c.loop-i.invariant.idle i slot (omega arith) there))

@@ -8,5 +8,7 @@ pub returns-in-Some-Some-clause-left : goal.returns-in-Some-Some-clause-left
 returns-in-Some-Some-clause-left c =
     let pair = c.in-Some-Some in
     on_ok_weaker c.put.result
-    (put_left c.args.joiners c.args.feeders c.args.from c.args.post.to pair.sender pair.receiver (sym c.number.ensures ∙ pair.is-0) (sym c.number-2.ensures ∙ pair.is-1) c.args.post.msg (waiting_of c.args.places.now.items) (waiting_of c.put.new.places.items))
+    (put_left c.args.joiners c.args.feeders c.args.from c.args.post.to pair.sender pair.receiver
+    (sym c.number.ensures ∙ pair.is-0) (sym c.number-2.ensures ∙ pair.is-1) c.args.post.msg
+    (waiting_of c.args.places.now.items) (waiting_of c.put.new.places.items))
     c.put.ensures.waiting

@@ -6,4 +6,5 @@ use Rattle.link_trace.proofs.sending.send_all.Given as goal
 abbrev pub invariant-loop-post : goal.invariant-loop-post
 invariant-loop-post l =
     (cores_of l.places.items ≡ cores_of l.initial.places.items)
-    × (left_in l.joiners l.feeders (waiting_of l.places.items) ≡ put_on l.from l.yielded (left_in l.joiners l.feeders (waiting_of l.initial.places.items)))
+    × (left_in l.joiners l.feeders (waiting_of l.places.items)
+    ≡ put_on l.from l.yielded (left_in l.joiners l.feeders (waiting_of l.initial.places.items)))

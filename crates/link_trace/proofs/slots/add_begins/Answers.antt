@@ -3,4 +3,5 @@ use Rattle.link_trace.proofs.NumberedLists.{one_more}
 use Rattle.link_trace.proofs.slots.add_begins.Goals as goal
 
 pub loop-p-preserved : goal.loop-p-preserved
-loop-p-preserved c = one_more Begin c.args.slots.now.items c.loop-p.slots.items _ c.loop-p.p c.loop-p.invariant c.in_ok-push.ensures.items
+loop-p-preserved c = one_more Begin c.args.slots.now.items c.loop-p.slots.items _ c.loop-p.p c.loop-p.invariant
+    c.in_ok-push.ensures.items

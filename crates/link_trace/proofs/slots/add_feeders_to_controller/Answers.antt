@@ -4,4 +4,5 @@ use Rattle.link_trace.proofs.NumberedLists.{one_more}
 use Rattle.link_trace.proofs.slots.add_feeders_to_controller.Goals as goal
 
 pub loop-p-preserved : goal.loop-p-preserved
-loop-p-preserved c = one_more (λ p. Link (Feeder p) Controller) c.args.slots.now.items c.loop-p.slots.items _ c.loop-p.p c.loop-p.invariant c.in_ok-push.ensures.items
+loop-p-preserved c = one_more (λ p. Link (Feeder p) Controller)
+    c.args.slots.now.items c.loop-p.slots.items _ c.loop-p.p c.loop-p.invariant c.in_ok-push.ensures.items

@@ -5,4 +5,5 @@ use Rattle.link_trace.specs.declared.slots.Slot.TheVariants.{Link}
 use Rattle.link_trace.proofs.slots.add_feeders_to_controller.Given as goal
 
 abbrev pub invariant-loop-p : goal.invariant-loop-p
-invariant-loop-p l = l.slots.items ≡ l.initial.slots.items ++ map (λ p. Link (Feeder p) Controller) (range_with_len 0 l.p)
+invariant-loop-p l = l.slots.items ≡ l.initial.slots.items ++ map (λ p. Link (Feeder p) Controller)
+    (range_with_len 0 l.p)

@@ -4,4 +4,5 @@ use Rattle.link_trace.proofs.NumberedLists.{one_more}
 use Rattle.link_trace.proofs.slots.add_to_joiners.Goals as goal
 
 pub loop-j-preserved : goal.loop-j-preserved
-loop-j-preserved c = one_more (λ j. Link (Feeder c.args.p) (Joiner j)) c.args.slots.now.items c.loop-j.slots.items _ c.loop-j.j c.loop-j.invariant c.in_ok-push.ensures.items
+loop-j-preserved c = one_more (λ j. Link (Feeder c.args.p) (Joiner j))
+    c.args.slots.now.items c.loop-j.slots.items _ c.loop-j.j c.loop-j.invariant c.in_ok-push.ensures.items

@@ -11,5 +11,7 @@ loop-bit-preserved c =
     let few = c.requires in
     let low = c.loop-bit-test.true in
     let shifted = one_shl c.loop-bit.bit 32 (omega arith) in
-    one_more (λ bit. Link (Joiner c.args.i) (Joiner (bit_xor c.args.i (2 ^ bit)))) c.args.slots.now.items c.loop-bit.slots.items _ c.loop-bit.bit c.loop-bit.invariant
-    (c.in_ok-push.ensures.items ∙ ap (λ b. c.loop-bit.slots.items ++ Link (Joiner c.args.i) (Joiner (bit_xor c.args.i b)) ∷ []) shifted)
+    one_more (λ bit. Link (Joiner c.args.i) (Joiner (bit_xor c.args.i (2 ^ bit))))
+    c.args.slots.now.items c.loop-bit.slots.items _ c.loop-bit.bit c.loop-bit.invariant
+    (c.in_ok-push.ensures.items ∙ ap (λ b. c.loop-bit.slots.items
+    ++ Link (Joiner c.args.i) (Joiner (bit_xor c.args.i b)) ∷ []) shifted)

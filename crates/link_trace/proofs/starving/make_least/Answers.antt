@@ -18,5 +18,6 @@ returns-then-branch-clause-made c same =
       there = there;
       may = c.in_ok-make_allowed.ensures.may (search) slot there;
       idle = c.loop-at.invariant.idle;
-      happens = subst (λ w. Happens slot w (state_of c.make_allowed.new.world)) c.loop-at.invariant.same (c.in_ok-make_allowed.ensures.made (search) slot there);
+      happens = subst (λ w. Happens slot w (state_of c.make_allowed.new.world)) c.loop-at.invariant.same
+          (c.in_ok-make_allowed.ensures.made (search) slot there);
     }

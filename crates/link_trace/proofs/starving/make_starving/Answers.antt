@@ -9,4 +9,5 @@ pub unreachable-requires : goal.unreachable-requires
 unreachable-requires c =
     let same = c.in_ok-make_least.ensures.stays (search) in
     c.requires.ready
-    (subst (λ w. IsAllAt (IsIdle w) c.args.slots.now) same (idle_below c.args.slots.now c.args.starved (state_of c.make_least.new.world) (c.in_ok-make_least-2.ensures.idle (search))))
+    (subst (λ w. IsAllAt (IsIdle w) c.args.slots.now) same (idle_below c.args.slots.now c.args.starved
+    (state_of c.make_least.new.world) (c.in_ok-make_least-2.ensures.idle (search))))

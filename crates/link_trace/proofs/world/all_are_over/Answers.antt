@@ -11,7 +11,9 @@ pub loop-place-preserved : goal.loop-place-preserved
 loop-place-preserved c n core low is = elim (cases_eq n c.loop-place.place-index) [
   | inl here ↦
       let place = c.place-item.result in
-      subst IsOver (core_there c.args.places.now n place core (subst (λ z. z < length c.args.places.now) (sym here) c.loop-place-test.true) (subst (λ z. place ≡ slice_index_or c.args.places.now z place) (sym here) c.place-item.is) is)
+      subst IsOver (core_there c.args.places.now n place core
+      (subst (λ z. z < length c.args.places.now) (sym here) c.loop-place-test.true)
+      (subst (λ z. place ≡ slice_index_or c.args.places.now z place) (sym here) c.place-item.is) is)
       (c.is_over.ensures.over c.if-not-is_over.false)
   | inr other ↦ c.loop-place.invariant n core (omega arith) is
 ]

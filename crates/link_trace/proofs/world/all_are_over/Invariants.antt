@@ -6,4 +6,5 @@ use Rattle.link_trace.specs.Worlds.{cores_of}
 use Rattle.link_trace.proofs.world.all_are_over.Given as goal
 
 abbrev pub invariant-loop-place : goal.invariant-loop-place
-invariant-loop-place l = (n : ℕ) (core : Core) → n < l.place-index → slice_get (cores_of l.places) n ≡ Some core → IsOver core
+invariant-loop-place l = (n : ℕ) (core : Core) → n < l.place-index → slice_get (cores_of l.places) n ≡ Some core
+    → IsOver core

@@ -8,5 +8,6 @@ returns-then-sender-len-clause-waiting c =
     let queues = c.args.self.now.waiting in
     let low = subst (λ n. c.args.sender < n) (c.len.ensures ∙ queues.ok.0) c.if-sender-len.true in
     on_ok_weaker c.push_behind.result
-    (pushed (λ q. q.items) queues.items c.args.sender c.index_mut.result.now c.push_behind.new.queue c.index_mut.ensures.value low c.args.msg)
+    (pushed (λ q. q.items) queues.items c.args.sender c.index_mut.result.now c.push_behind.new.queue
+    c.index_mut.ensures.value low c.args.msg)
     c.push_behind.ensures

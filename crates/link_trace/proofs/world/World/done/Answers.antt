@@ -7,5 +7,7 @@ use Rattle.link_trace.proofs.world.World.done.Goals as goal
 
 pub returns-clause-still : goal.returns-clause-still
 returns-clause-still c input setting lists valid stands still =
-    still_is_done input setting (state_of c.args.self.now) lists stands still c.quiet_is_finished.ensures valid c.all_are_over.result
-    (λ goes. subst (λ places. IsSomeAt GoesOn (cores_of places)) c.deref.ensures.value (c.all_are_over.ensures.goes_on goes))
+    still_is_done input setting (state_of c.args.self.now) lists stands still c.quiet_is_finished.ensures valid
+    c.all_are_over.result
+    (λ goes. subst (λ places. IsSomeAt GoesOn (cores_of places)) c.deref.ensures.value
+    (c.all_are_over.ensures.goes_on goes))
