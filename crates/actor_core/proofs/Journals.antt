@@ -1,5 +1,5 @@
 -- Machines without a journal.
-use Rattle.std.proofs.Common.{◌≡◌, sym, ◌∙◌, List, [], Result, Ok, Err}
+use Rattle.std.proofs.Common.{◌≡◌, sym, ◌∙◌, [], Result, Ok, Err}
 use Rattle.std.specs.Prelude.{OnOk}
 use Rattle.join_rows.specs.Lists.{IsPrefix}
 use Rattle.actor_core.specs.Families.{journal_of}

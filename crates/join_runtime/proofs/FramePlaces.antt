@@ -1,5 +1,5 @@
 -- The numbers of actors, and frames at their places.
-use Rattle.std.proofs.Common.{◌≡◌, ℕ, zero, suc, ◌+◌, ◌-◌, ◌<◌, refl, sym, ap, ◌∙◌, Option, None, List, [], ◌∷◌, get_or, map, length, arith}
+use Rattle.std.proofs.Common.{◌≡◌, ℕ, zero, suc, ◌+◌, ◌<◌, refl, sym, ap, ◌∙◌, Option, None, List, [], ◌∷◌, get_or, map, length, arith}
 use Rattle.std.proofs.lemmas.List.{get_or-map}
 use Rattle.ruled_links.specs.Ends.{Sending}
 use Rattle.actor_core.specs.Numbers.{number, actor_at}

@@ -1,5 +1,5 @@
 -- The collector of seats gives what it took, and nothing else changes.
-use Rattle.std.proofs.Common.{◌≡◌, ℕ, ◌+◌, ◌-◌, ◌^◌, ◌<◌, ◌==◌, inl, inr, refl, sym, ap, subst, ◌∙◌, Result, Ok, Err, None, Some, List, get_or, set, length, length-set, map, true, arith}
+use Rattle.std.proofs.Common.{◌≡◌, ℕ, ◌-◌, ◌^◌, ◌<◌, ◌==◌, inl, inr, refl, sym, ap, subst, ◌∙◌, Result, Ok, Err, None, Some, List, get_or, set, length, length-set, map, true, arith}
 use Rattle.std.specs.Prelude.{IfOk, OnErr, OnOk, IsPermutation, slice_get, slice_index_or}
 use Rattle.std.specs.declared.alloc.AllocError.{AllocError}
 use Rattle.std.proofs.lemmas.Bool.{cases_Bool, eqb-true, eq-eqb}
@@ -14,7 +14,7 @@ use Rattle.pair_collector.specs.Fresh.{pairs_since}
 use Rattle.trace_law.specs.declared.input.Input.{Input}
 use Rattle.trace_law.specs.declared.setting.Setting.{Setting}
 use Rattle.actor_core.specs.Lists.{ActorLists}
-use Rattle.actor_core.specs.Standing.{IsLive, OfCollector, Start, Stands, given_by}
+use Rattle.actor_core.specs.Standing.{IsLive, OfCollector, Start, Stands}
 use Rattle.actor_core.specs.Families.{core_in}
 use Rattle.actor_core.specs.Players.{Player, lists_among}
 use Rattle.actor_core.proofs.OwnNumbers.{some_is}
@@ -31,17 +31,25 @@ use Rattle.join_runtime.proofs.UnderWay.{many, same_feeders, same_joiners, same_
 
 -- ---- a bout gives nothing
 
-pub given_kept : (input : Input) (setting : Setting) (old new : SeatsView) → StandsFor input setting old → StandsFor input setting new → AllAdvance old.seats new.seats → given_in new ≡ given_in old
+-- the collector has given what it had
+pub given_kept : (input : Input) (setting : Setting) (old new : SeatsView) → StandsFor input setting old
+    → StandsFor input setting new → AllAdvance old.seats new.seats → given_in new ≡ given_in old
 given_kept input setting old new st st' advance =
-    let ran = all_ran old.joiners old.feeders old.seats new.seats (same_long input setting old new st st') (many input setting old new st st') advance in
+    let joiners = old.joiners in
+    let feeders = old.feeders in
+    let cores = cores_in new in
+    let long = same_long input setting old new st st' in
+    let ran = all_ran joiners feeders old.seats new.seats long (many input setting old new st st') advance in
     let own = st.stands Collector tt in
     let before = lists_in old in
-    let after = lists_among lists_of old.joiners old.feeders new.seats in
-    let now = related_at HasRun old.joiners old.feeders (cores_in old) (cores_in new) before after ran Collector own.0 own.1 in
-    let numbers : core_in new.joiners new.feeders (cores_in new) Collector ≡ core_in old.joiners old.feeders (cores_in new) Collector =
-    ap (λ j. core_in j new.feeders (cores_in new) Collector) (same_joiners input setting old new st st')
-    ∙ ap (λ p. core_in old.joiners p (cores_in new) Collector) (same_feeders input setting old new st st') in
-    let given = runs_given now.2.count (record { core = own.0; lists = before Collector }) (record { core = now.0; lists = after Collector }) now.2.runs in
+    let after = lists_among lists_of joiners feeders new.seats in
+    let now = related_at HasRun joiners feeders (cores_in old) cores before after ran Collector own.0 own.1 in
+    let numbers : core_in new.joiners new.feeders cores Collector ≡ core_in joiners feeders cores Collector =
+    ap (λ j. core_in j new.feeders cores Collector) (same_joiners input setting old new st st')
+    ∙ ap (λ p. core_in joiners p cores Collector) (same_feeders input setting old new st st') in
+    let one : Player = record { core = own.0; lists = before Collector } in
+    let other : Player = record { core = now.0; lists = after Collector } in
+    let given = runs_given now.2.count one other now.2.runs in
     ap given_at (numbers ∙ now.1) ∙ (given ∙ sym (ap given_at own.1))
 
 -- ---- seats of which one gave
@@ -107,7 +115,8 @@ module _ (v : SeatsView) (joined : AreJoined v.joiners v.feeders (map frame_of v
 
   pub lists_kept : (a : Actor) → lists_in after a ≡ lists_in v a
   lists_kept =
-      of_lists StandsAs v.joiners v.feeders (cores_in v) (cores_in after) (lists_in v) (lists_in after) all_as (λ ls ls'. ls' ≡ ls) (λ ls ls' is. is) (λ x y same. same.lists)
+      of_lists StandsAs v.joiners v.feeders (cores_in v) (cores_in after) (lists_in v) (lists_in after) all_as
+      (λ ls ls'. ls' ≡ ls) (λ ls ls' is. is) (λ x y same. same.lists)
 
   pub stands_kept : (input : Input) (setting : Setting) → StandsFor input setting v → StandsFor input setting after
   stands_kept =

@@ -1,12 +1,10 @@
 -- What was received and sent between two actors of a run, once the two ends of each link were held together.
-use Rattle.std.proofs.Common.{◌≡◌, ◌≢◌, ℕ, ◌+◌, ◌<◌, ◌⊎◌, inl, inr, ltb, true≢false, refl, sym, ap, subst, ◌∙◌, Bool, true, false, cond, Option, Some, None, List, [], ◌∷◌, ◌++◌, get_or, map, length, append-nil, arith}
+use Rattle.std.proofs.Common.{◌≡◌, ◌≢◌, ℕ, ◌+◌, ◌<◌, ◌⊎◌, inl, inr, true≢false, refl, sym, ap, subst, ◌∙◌, Bool, true, false, Option, Some, None, List, [], ◌∷◌, ◌++◌, get_or, map, length, append-nil, arith}
 use Rattle.std.specs.Prelude.{slice_get, IsSome}
-use Rattle.std.proofs.lemmas.Bool.{ltb-true}
 use Rattle.std.proofs.lemmas.List.{length-map, length-append, map-append}
-use Rattle.std.proofs.lemmas.Option.{slice_get-get_or}
 use Rattle.join_rows.specs.Lists.{IsPrefix}
 use Rattle.epoch_tags.specs.declared.actor.Actor.{Actor}
-use Rattle.epoch_tags.specs.declared.actor.Actor.TheVariants.{Feeder, Joiner, Controller, Collector}
+use Rattle.epoch_tags.specs.declared.actor.Actor.TheVariants.{Feeder}
 use Rattle.epoch_tags.specs.declared.message.Msg.{Msg}
 use Rattle.epoch_tags.specs.declared.message.Envelope.{Envelope}
 use Rattle.ruled_links.specs.Ends.{Sending}
@@ -217,19 +215,24 @@ left_between s t from to is some (inr has) same =
 
 module _ (v : SeatsView) (joined : AreJoined v.joiners v.feeders (map frame_of v.seats)) (settled : AreSettled v.seats) where
   -- no actor's machine would begin
-  waits_there : AllRest v.seats → (a : Actor) (core : Core) → core_in v.joiners v.feeders (cores_in v) a ≡ Some core → Waits core
+  waits_there : AllRest v.seats → (a : Actor) (core : Core) → core_in v.joiners v.feeders (cores_in v) a ≡ Some core
+      → Waits core
   waits_there rest a core is = go (number v.joiners v.feeders a) refl
     where
       go : (o : Option ℕ) → number v.joiners v.feeders a ≡ o → Waits core
-      go None num = absurd (none_some core (sym (ap (λ (o : Option ℕ). at_number None o (λ k. slice_get (cores_in v) k)) num) ∙ is))
+      go None num =
+          let none = ap (λ (o : Option ℕ). at_number None o (λ k. slice_get (cores_in v) k)) num in
+          absurd (none_some core (sym none ∙ is))
       go (Some n) num =
           let low = low_of v joined settled a n num in
           let d = (there v.seats n low).0 in
-          let same = some_is (get_or v.seats n d).core core (sym (core_there (λ (s : SeatView). s.core) v.joiners v.feeders v.seats a n d num low) ∙ is) in
+          let here = core_there (λ (s : SeatView). s.core) v.joiners v.feeders v.seats a n d num low in
+          let same = some_is (get_or v.seats n d).core core (sym here ∙ is) in
           subst Waits same (rest n d low).waits
 
   -- so the collector is complete
-  pub rest_collected : AllRest v.seats → QuietIsFinished → (input : Input) (setting : Setting) → IsValid input setting → StandsFor input setting v → is_collected v ≡ true
+  pub rest_collected : AllRest v.seats → QuietIsFinished → (input : Input) (setting : Setting) → IsValid input setting
+      → StandsFor input setting v → is_collected v ≡ true
   rest_collected rest law input setting valid stands =
       still_complete input setting v.joiners v.feeders (cores_in v) (lists_in v) stands (fronts v joined settled)
       (λ from to link. all_received v joined settled rest from to) (λ p low core is. waits_there rest (Feeder p) core is) law valid

@@ -1,7 +1,5 @@
-use Rattle.std.proofs.Common.{◌≡◌, ◌∙◌, Some, ap, length, sym}
-use Rattle.std.specs.Prelude.{slice_get}
+use Rattle.std.proofs.Common.{◌∙◌, sym}
 use Rattle.join_runtime.specs.Bouts.{SeatsView}
-use Rattle.join_runtime.specs.Views.{SeatView}
 use Rattle.join_runtime.proofs.Ended.{last_complete}
 use Rattle.join_runtime.proofs.bouts.Seats.complete.Goals as goal
 

@@ -1,7 +1,7 @@
-use Rattle.std.proofs.Common.{◌≡◌, ◌∙◌, List, map, subst, sym, true}
+use Rattle.std.proofs.Common.{◌≡◌, subst, sym, true}
 use Rattle.actor_core.specs.Endings.{AreLast}
-use Rattle.join_runtime.specs.Bouts.{SeatsView, cores_in, lists_in}
-use Rattle.join_runtime.specs.Endings.{EndsView, end_of, is_collected, lists_left}
+use Rattle.join_runtime.specs.Bouts.{SeatsView, lists_in}
+use Rattle.join_runtime.specs.Endings.{EndsView, is_collected, lists_left}
 use Rattle.join_runtime.proofs.Ended.{complete_there, ends_keep, told_family, told_journal, told_run}
 use Rattle.join_runtime.proofs.bouts.Seats.finish.Goals as goal
 

@@ -1,4 +1,3 @@
-use Rattle.join_runtime.specs.Turns.{MakesTurn}
 use Rattle.join_runtime.proofs.seat.Seat.turn.Goals as goal
 
 pub returns-clause-took : goal.returns-clause-took

@@ -10,10 +10,14 @@ loop-round-init g c = record { runs = refl; ends = ends_self c.args.self.now c.a
 pub loop-round-preserved : goal.loop-round-preserved
 loop-round-preserved g c =
     let turn = c.in-Ok-Took.ensures.took (ap Ok c.in-Ok-Took.field-0-is) in
-    let more : Runs (suc c.loop-round.round) (player c.args.self.now) (player c.turn.new.self) = (player c.loop-round.self, c.loop-round.invariant.runs, turn.event) in
+    let first = c.args.self.now in
+    let middle = c.loop-round.self in
+    let last = c.turn.new.self in
+    let more : Runs (suc c.loop-round.round) (player first) (player last) =
+    (player middle, c.loop-round.invariant.runs, turn.event) in
     record {
-      runs = subst (λ n. Runs n (player c.args.self.now) (player c.turn.new.self)) (sym (add-one c.loop-round.round)) more;
-      ends = ends_joined c.args.self.now c.loop-round.self c.turn.new.self c.loop-round.invariant.ends (turn_ends c.loop-round.self c.turn.new.self turn);
+      runs = subst (λ n. Runs n (player first) (player last)) (sym (add-one c.loop-round.round)) more;
+      ends = ends_joined first middle last c.loop-round.invariant.ends (turn_ends middle last turn);
       none = λ z. absurd (omega (arith, z));
     }
 
