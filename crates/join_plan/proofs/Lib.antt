@@ -5,4 +5,6 @@ pub mod Bad
 pub mod Picked
 pub mod Refusals
 pub mod Seen
+pub mod Readings
 pub mod Prepared
+pub mod Lines

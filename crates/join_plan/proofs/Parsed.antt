@@ -8,17 +8,18 @@ use Rattle.theta_text.specs.declared.fault.PredFault.{PredFault}
 use Rattle.theta_text.specs.declared.fault.PredFault.TheVariants as texts
 use Rattle.join_plan.specs.declared.fault.Refusal.TheVariants.{Memory}
 use Rattle.join_plan.specs.Refusals.{text_refusal}
+use Rattle.text_readings.specs.Readings.{IsReading}
 use Rattle.join_words.specs.Words.{AskedChain}
 use Rattle.join_plan.specs.declared.fault.Refusal.{Refusal}
 use Rattle.join_plan.specs.declared.refusal.Which.{Which}
 use Rattle.join_plan.specs.declared.refusal.Which.TheVariants.{On, Then}
-use Rattle.join_plan.specs.Texts.{IsRead, IsReadFurther, Readings, further_tree, tree_or_refused, trees_of}
+use Rattle.join_plan.specs.Texts.{IsReadFurther, Readings, further_tree, tree_or_refused, trees_of}
 
 -- a text with a predicate reads as its tree
 pub reads_ok : (text : List ℕ) (pred : Pred) (reading : Result Tree PredFault)
     → ((tree : Tree) → TextReads limits text tree → tree_of pred ≡ tree)
     → ((fault : PredFault) → IsFaultOf limits text fault → ⊥)
-    → IsRead text reading → reading ≡ Ok (tree_of pred)
+    → IsReading limits text reading → reading ≡ Ok (tree_of pred)
 reads_ok text pred (Ok tree) only exact reads = ap Ok (sym (only tree reads))
 reads_ok text pred (Err fault) only exact reads = absurd (exact fault reads)
 
@@ -26,7 +27,7 @@ reads_ok text pred (Err fault) only exact reads = absurd (exact fault reads)
 pub reads_err : (which : Which) (text : List ℕ) (found : PredFault) (reading : Result Tree PredFault)
     → ((tree : Tree) → TextReads limits text tree → found ≡ texts.Memory)
     → ((fault : PredFault) → IsFaultOf limits text fault → (found ≡ fault) ⊎ (found ≡ texts.Memory))
-    → IsRead text reading
+    → IsReading limits text reading
     → (text_refusal which found ≡ Memory) ⊎ (tree_or_refused which reading ≡ Err (text_refusal which found))
 reads_err which text found (Ok tree) only exact reads = inl (ap (text_refusal which) (only tree reads))
 reads_err which text found (Err fault) only exact reads = elim (exact fault reads) [
@@ -74,27 +75,30 @@ first_err readings refusal (inr e) = inr (rw e refl)
 -- a second text that is asked for is the one that is read
 pub further_ok : (chain : Option AskedChain) (reading : Option (Result Tree PredFault)) (text : List ℕ) (tree : Tree)
     → option_map (λ (c : AskedChain). c.on) chain ≡ Some text
-    → ((r : Result Tree PredFault) → IsRead text r → r ≡ Ok tree)
+    → ((r : Result Tree PredFault) → IsReading limits text r → r ≡ Ok tree)
     → IsReadFurther chain reading → further_tree reading ≡ Ok (Some tree)
 further_ok None reading text tree is each read = absurd (cc is)
 further_ok (Some chain) None text tree is each read = absurd read
 further_ok (Some chain) (Some r) text tree is each read =
     let same : chain.on ≡ text = cc is in
-    let e : r ≡ Ok tree = each r (subst (λ t. IsRead t r) same read) in
+    let e : r ≡ Ok tree = each r (subst (λ t. IsReading limits t r) same read) in
     rw e refl
 
 -- and its refusal the one that is told
-pub further_err : (chain : Option AskedChain) (reading : Option (Result Tree PredFault)) (text : List ℕ) (refusal : Refusal)
+pub further_err : (chain : Option AskedChain) (reading : Option (Result Tree PredFault)) (text : List ℕ)
+    (refusal : Refusal)
     → option_map (λ (c : AskedChain). c.on) chain ≡ Some text
-    → ((r : Result Tree PredFault) → IsRead text r → (refusal ≡ Memory) ⊎ (tree_or_refused Then r ≡ Err refusal))
+    → ((r : Result Tree PredFault) → IsReading limits text r
+    → (refusal ≡ Memory) ⊎ (tree_or_refused Then r ≡ Err refusal))
     → IsReadFurther chain reading → (refusal ≡ Memory) ⊎ (further_tree reading ≡ Err refusal)
 further_err None reading text refusal is each read = absurd (cc is)
 further_err (Some chain) None text refusal is each read = absurd read
 further_err (Some chain) (Some r) text refusal is each read =
     let same : chain.on ≡ text = cc is in
-    elim (each r (subst (λ t. IsRead t r) same read)) [ inl memory ↦ inl memory | inr e ↦ inr (rw e refl) ]
+    elim (each r (subst (λ t. IsReading limits t r) same read)) [ inl memory ↦ inl memory | inr e ↦ inr (rw e refl) ]
 
 -- where no second text is asked for none is read
-pub further_none : (reading : Option (Result Tree PredFault)) → IsReadFurther None reading → further_tree reading ≡ Ok None
+pub further_none : (reading : Option (Result Tree PredFault)) → IsReadFurther None reading
+    → further_tree reading ≡ Ok None
 further_none None read = refl
 further_none (Some r) read = absurd read

@@ -1,5 +1,6 @@
 -- A plan and how it was asked for, from one stage to the next.
-use Rattle.std.proofs.Common.{◌≡◌, ◌⊎◌, inl, inr, Option, None, Some, Result, Ok, Err, refl, sym, ap, ◌∙◌}
+use Rattle.std.proofs.Common.{◌≡◌, ◌⊎◌, inl, inr, refl, sym, ap, subst, ◌∙◌}
+use Rattle.std.proofs.Common.{ℕ, List, Option, None, Some, Result, Ok, Err}
 use Rattle.std.specs.Prelude.{is_some, option_map}
 use Rattle.join_rows.specs.Shelves.{Spot, Told}
 use Rattle.theta_text.specs.Grammar.{Tree}
@@ -9,23 +10,29 @@ use Rattle.join_plan.specs.declared.fault.Refusal.{Refusal}
 use Rattle.join_plan.specs.declared.fault.Refusal.TheVariants as refusals
 use Rattle.join_plan.specs.declared.files.Gathered.{Gathered}
 use Rattle.join_plan.specs.declared.fitting.Planned.{Planned}
-use Rattle.join_plan.specs.Plan.{fitted}
-use Rattle.join_plan.specs.Seen.{GatheredSeen, PlanSeen}
-use Rattle.join_plan.specs.Texts.{AreRead, HasFurther, HaveTrees, IsReadFurther, Trees, read_so, trees_of}
+use Rattle.join_plan.specs.Files.{gathered_by}
+use Rattle.join_plan.specs.Plan.{IsPlanOf, fitted}
+use Rattle.join_plan.specs.Refusals.{then_of}
+use Rattle.join_plan.specs.Seen.{GatheredSeen, IsSeenPlan, PlanSeen, SeenBehind}
+use Rattle.join_plan.specs.Texts.{AreRead, HasFurther, HaveTrees, IsReadFurther, Readings, Trees, read_so, trees_of}
+use Rattle.join_plan.proofs.Readings.{every_request}
 
 -- there is a second tree just where a second join is asked for
-pub further_there : (chain : Option AskedChain) (further : Option Tree) → HasFurther chain further → is_some further ≡ is_some chain
+pub further_there : (chain : Option AskedChain) (further : Option Tree) → HasFurther chain further
+    → is_some further ≡ is_some chain
 further_there None None has = refl
 further_there (Some chain) (Some tree) has = refl
 further_there None (Some tree) has = absurd has
 further_there (Some chain) None has = absurd has
 
 -- the plan of what was gathered is that of what was seen
-pub fitted_seen : (told : Told) (spot : Spot) (asked : Asked) (trees : Trees) (found : Gathered) (result : Result Planned Refusal)
+pub fitted_seen : (told : Told) (spot : Spot) (asked : Asked) (trees : Trees) (found : Gathered)
+    (result : Result Planned Refusal)
     → GatheredSeen told spot asked (Ok found) → (result ≡ Err refusals.Memory) ⊎ (result ≡ fitted trees found)
     → (result ≡ Err refusals.Memory → ⊥) → PlanSeen told spot asked trees result
 fitted_seen told spot asked trees found result seen (inl m) memory = absurd (memory m)
-fitted_seen told spot asked trees found result seen (inr is) memory = record { found = Ok found; seen = seen; answer = is }
+fitted_seen told spot asked trees found result seen (inr is) memory =
+    record { found = Ok found; seen = seen; answer = is }
 
 abbrev pub none_gathered : Refusal → Result Gathered Refusal
 none_gathered refusal = Err refusal
@@ -57,17 +64,63 @@ are_read asked trees have = record { on = have.on; further = by asked.chain tree
 comes_to : (trees : Trees) → trees_of (read_so trees) ≡ Ok trees
 comes_to trees = by trees.further
   where
-    by : (further : Option Tree) → trees_of (read_so (record { on = trees.on; further = further })) ≡ Ok (record { on = trees.on; further = further })
+    by : (further : Option Tree) → trees_of (read_so (record { on = trees.on; further = further }))
+        ≡ Ok (record { on = trees.on; further = further })
     by None = refl
     by (Some tree) = refl
 
--- so the predicates found have them
-pub trees_are : (trees found : Trees) → trees_of (read_so trees) ≡ Ok found → trees ≡ found
-trees_are trees found is = cc (sym (comes_to trees) ∙ is)
+-- ---- a plan, or a refusal, by how the texts read
 
--- and a refusal is want of memory
-pub refused_unless : (trees : Trees) (refusal : Refusal)
-    → (refusal ≡ refusals.Memory) ⊎ (trees_of (read_so trees) ≡ Err refusal)
-    → (◌≡◌ {A = Result Planned Refusal} (Err refusal) (Err refusals.Memory) → ⊥) → ⊥
-refused_unless trees refusal (inl m) memory = memory (ap (λ r. Err r) m)
-refused_unless trees refusal (inr e) memory = absurd (cc (sym (comes_to trees) ∙ e))
+-- behind texts with trees the answer is that of the plan
+pub planned_by : (asked : Asked) (files : List ℕ → Option (List ℕ)) (trees : Trees) (result : Result Planned Refusal)
+    → HaveTrees asked trees
+    → (result ≡ Err refusals.Memory) ⊎ (result ≡ then_of (gathered_by asked files) (fitted trees))
+    → (result ≡ Err refusals.Memory) ⊎ IsPlanOf asked files result
+planned_by asked files trees result have (inl memory) = inl memory
+planned_by asked files trees result have (inr is) = inr (record {
+  readings = read_so trees;
+  read = are_read asked trees have;
+  is = is ∙ sym (ap (λ t. then_of t (λ trees. then_of (gathered_by asked files) (fitted trees))) (comes_to trees));
+})
+
+-- and of what was read
+pub seen_by : (told : Told) (spot : Spot) (asked : Asked) (trees : Trees) (result : Result Planned Refusal)
+    → HaveTrees asked trees → PlanSeen told spot asked trees result → IsSeenPlan told spot asked result
+seen_by told spot asked trees result have seen = record {
+  readings = read_so trees;
+  read = are_read asked trees have;
+  seen = subst (λ t. SeenBehind told spot asked t result) (sym (comes_to trees)) seen;
+}
+
+abbrev pub none_planned : Refusal → Result Planned Refusal
+none_planned refusal = Err refusal
+
+-- a text that is refused is the plan's refusal
+pub refused_by : (asked : Asked) (files : List ℕ → Option (List ℕ)) (refusal : Refusal)
+    → ((readings : Readings) → AreRead asked readings → (refusal ≡ refusals.Memory) ⊎ (trees_of readings ≡ Err refusal))
+    → (none_planned refusal ≡ Err refusals.Memory) ⊎ IsPlanOf asked files (none_planned refusal)
+refused_by asked files refusal each =
+    let (readings, read) = every_request asked in
+    elim (each readings read) [
+      | inl memory ↦ inl (ap none_planned memory)
+      | inr e ↦ inr (record {
+        readings = readings;
+        read = read;
+        is = sym (ap (λ t. then_of t (λ trees. then_of (gathered_by asked files) (fitted trees))) e);
+      })
+    ]
+
+-- whatever was read
+pub refused_unread : (told : Told) (spot : Spot) (asked : Asked) (refusal : Refusal)
+    → ((readings : Readings) → AreRead asked readings → (refusal ≡ refusals.Memory) ⊎ (trees_of readings ≡ Err refusal))
+    → (none_planned refusal ≡ Err refusals.Memory → ⊥) → IsSeenPlan told spot asked (none_planned refusal)
+refused_unread told spot asked refusal each memory =
+    let (readings, read) = every_request asked in
+    elim (each readings read) [
+      | inl lacks ↦ absurd (memory (ap none_planned lacks))
+      | inr e ↦ record {
+        readings = readings;
+        read = read;
+        seen = subst (λ t. SeenBehind told spot asked t (none_planned refusal)) (sym e) refl;
+      }
+    ]

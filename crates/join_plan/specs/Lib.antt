@@ -6,3 +6,4 @@ pub mod Files
 pub mod Plan
 pub mod Seen
 pub mod Causes
+pub mod Lines

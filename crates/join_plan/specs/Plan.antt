@@ -19,7 +19,7 @@ use Rattle.join_plan.specs.Columns.{theta_over}
 use Rattle.join_plan.specs.Files.{gathered_by, made_tables}
 use Rattle.join_plan.specs.Numbers.{number_fault_of}
 use Rattle.join_plan.specs.Refusals.{then_of}
-use Rattle.join_plan.specs.Texts.{HaveTrees, Readings, Trees, trees_of}
+use Rattle.join_plan.specs.Texts.{AreRead, HaveTrees, Readings, Trees, trees_of}
 
 -- what was planned, unless a cell doesn't fit a predicate
 abbrev pub unless_unfit : Option InputFault → Planned → Result Planned Refusal
@@ -36,15 +36,16 @@ second_theta tables tree table = theta_over Then (joined_names tables.of_r.names
 
 -- the third table with its predicate
 abbrev pub third_over : Tables → Tree → Table → Result Third Refusal
-third_over tables tree table = then_of (second_theta tables tree table) (λ theta. Ok (record { table = table; theta = theta }))
+third_over tables tree table =
+    then_of (second_theta tables tree table) (λ theta. Ok (record { table = table; theta = theta }))
 
 -- the same, where there is one
 abbrev pub third_fitted : Tables → Option Tree → Option Table → Result (Option Third) Refusal
 third_fitted tables (Some tree) (Some table) = then_of (third_over tables tree table) (λ third. Ok (Some third))
 third_fitted tables _ _ = Ok None
 
--- the plan of two tables and a predicate, behind which the names of the second have their columns, and the columns their
--- numbers
+-- the plan of two tables and a predicate, behind which the names of the second have their columns, and the columns
+-- their numbers
 abbrev pub planned_with : Tables → Meaning → Option Tree → Option Table → Result Planned Refusal
 planned_with tables theta further table = then_of (third_fitted tables further table)
     (λ third. checked (record { tables = tables; theta = theta; third = third }))
@@ -57,6 +58,22 @@ fitted trees found = then_of (theta_over On found.tables.of_r.names found.tables
 -- the texts, the tables, the columns, the numbers
 abbrev pub plan_of : Asked → Readings → (List ℕ → Option (List ℕ)) → Result Planned Refusal
 plan_of asked readings files = then_of (trees_of readings) (λ trees. then_of (gathered_by asked files) (fitted trees))
+
+-- it is the plan of what is asked for over these files, as the texts read
+pub record IsPlanOf (asked : Asked) (files : List ℕ → Option (List ℕ)) (plan : Result Planned Refusal) : Type 0 where
+  pub readings : Readings
+  pub read : AreRead asked readings
+  pub is : plan ≡ plan_of asked readings files
+
+-- over any files there is a plan of what is asked for
+abbrev pub EveryRequestHasAPlan : Type 0
+EveryRequestHasAPlan = (asked : Asked) (files : List ℕ → Option (List ℕ))
+    → (plan : Result Planned Refusal) × IsPlanOf asked files plan
+
+-- and only one
+abbrev pub RequestsHaveOnePlan : Type 0
+RequestsHaveOnePlan = (asked : Asked) (files : List ℕ → Option (List ℕ)) (one other : Result Planned Refusal)
+    → IsPlanOf asked files one → IsPlanOf asked files other → one ≡ other
 
 -- a third table with a predicate over the joined header and its own
 pub record IsThirdFit (tables : Tables) (third : Third) : Type 0 where
@@ -72,8 +89,8 @@ pub record IsFit (planned : Planned) : Type 0 where
   pub width_s : planned.theta.width_s ≡ length planned.tables.of_s.names
   pub third : IfSome planned.third (IsThirdFit planned.tables)
 
--- these are tables and predicates that were asked for: the texts have trees which fit the tables, and these are the made ones, or
--- those of the told files; there is a third table just where a second join is asked for
+-- these are tables and predicates that were asked for: the texts have trees which fit the tables, and these are the
+-- made ones, or those of the told files; there is a third table just where a second join is asked for
 pub record IsAsked (told : Told) (asked : Asked) (planned : Planned) : Type 0 where
   pub trees : Trees
   pub have : HaveTrees asked trees

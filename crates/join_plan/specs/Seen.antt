@@ -12,7 +12,7 @@ use Rattle.join_plan.specs.declared.fitting.Planned.{Planned}
 use Rattle.join_plan.specs.Files.{Source, made_tables, table_found, tables_in, with_third}
 use Rattle.join_plan.specs.Plan.{fitted}
 use Rattle.join_plan.specs.Refusals.{then_of}
-use Rattle.join_plan.specs.Texts.{Trees}
+use Rattle.join_plan.specs.Texts.{AreRead, Readings, Trees, trees_of}
 
 -- a told file begins with these bytes, and they are all of it or one more than the limit
 abbrev pub BeginsWith : Told → List ℕ → List ℕ → Type 0
@@ -29,10 +29,12 @@ pub record IsSeen (told : Told) (spot : Spot) (source : Source) (result : Result
 pub record AreSeen (told : Told) (spot : Spot) (name_r name_s seen_r seen_s : List ℕ) : Type 0 where
   pub first_r : BeginsWith told name_r seen_r
   pub first_s : BeginsWith told name_s seen_s
-  pub place : MatchResult (table_of seen_r) (λ table. spot ≡ Some (name_s, length seen_s)) (λ fault. spot ≡ Some (name_r, length seen_r))
+  pub place : MatchResult (table_of seen_r)
+      (λ table. spot ≡ Some (name_s, length seen_s)) (λ fault. spot ≡ Some (name_r, length seen_r))
 
 -- the answer is that of such bytes
-pub record TablesSeen (told : Told) (spot : Spot) (name_r name_s : List ℕ) (result : Result Tables Refusal) : Type 0 where
+pub record TablesSeen (told : Told) (spot : Spot) (name_r name_s : List ℕ)
+    (result : Result Tables Refusal) : Type 0 where
   pub seen_r : List ℕ
   pub seen_s : List ℕ
   pub are : AreSeen told spot name_r name_s seen_r seen_s
@@ -47,7 +49,8 @@ TablesAsked told spot asked (Some count) result = result ≡ Ok (made_tables cou
 abbrev pub ThirdSeen : Told → Spot → Spot → Option AskedChain → Result (Option Table) Refusal → Type 0
 ThirdSeen told middle spot None result = (spot ≡ middle) × (result ≡ Ok None)
 ThirdSeen told middle spot (Some chain) result = (table : Result Table Refusal)
-    × IsSeen told spot (record { side = S; wave = 2; name = chain.name }) table × (result ≡ then_of table (λ found. Ok (Some found)))
+    × IsSeen told spot (record { side = S; wave = 2; name = chain.name }) table
+    × (result ≡ then_of table (λ found. Ok (Some found)))
 
 -- behind two tables comes the third, and behind a refusal nothing
 abbrev pub AllSeen : Told → Spot → Spot → Option AskedChain → Result Tables Refusal → Result Gathered Refusal → Type 0
@@ -63,7 +66,19 @@ pub record GatheredSeen (told : Told) (spot : Spot) (asked : Asked) (result : Re
   pub then_third : AllSeen told middle spot asked.chain tables result
 
 -- the plan, or the refusal, is that of such bytes
-pub record PlanSeen (told : Told) (spot : Spot) (asked : Asked) (trees : Trees) (result : Result Planned Refusal) : Type 0 where
+pub record PlanSeen (told : Told) (spot : Spot) (asked : Asked) (trees : Trees)
+    (result : Result Planned Refusal) : Type 0 where
   pub found : Result Gathered Refusal
   pub seen : GatheredSeen told spot asked found
   pub answer : result ≡ then_of found (fitted trees)
+
+-- of texts with these trees the answer is that of what was read of the files, and of a text without one its refusal
+abbrev pub SeenBehind : Told → Spot → Asked → Result Trees Refusal → Result Planned Refusal → Type 0
+SeenBehind told spot asked (Ok trees) result = PlanSeen told spot asked trees result
+SeenBehind told spot asked (Err refusal) result = result ≡ Err refusal
+
+-- the answer is that of the texts, as they read, and behind them that of what was read of the files
+pub record IsSeenPlan (told : Told) (spot : Spot) (asked : Asked) (result : Result Planned Refusal) : Type 0 where
+  pub readings : Readings
+  pub read : AreRead asked readings
+  pub seen : SeenBehind told spot asked (trees_of readings) result

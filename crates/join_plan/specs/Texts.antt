@@ -1,11 +1,13 @@
 -- What the texts of the predicates are, and the refusal where one is none.
-use Rattle.std.specs.Prelude.{◌≡◌, ◌⊎◌, ◌≤◌, ℕ, List, ⊤, Option, None, Some, Result, Ok, Err, IfSome, MatchResult, option_map}
+use Rattle.std.specs.Prelude.{◌≡◌, ◌⊎◌, ◌≤◌, ℕ, List, ⊤, Option, None, Some, option_map, Result, Ok, Err}
+use Rattle.std.specs.Prelude.{IfSome, MatchResult}
 use Rattle.theta_text.specs.Grammar.{Tree}
 use Rattle.theta_text.specs.Sizes.{longest_sum}
 use Rattle.theta_text.specs.Texts.{TextReads, IsFaultOf, limits, tree_of}
 use Rattle.theta_text.specs.declared.tree.Pred.{Pred}
 use Rattle.theta_text.specs.declared.fault.PredFault.{PredFault}
 use Rattle.theta_text.specs.declared.fault.PredFault.TheVariants as texts
+use Rattle.text_readings.specs.Readings.{IsReading}
 use Rattle.join_words.specs.Words.{Asked, AskedChain}
 use Rattle.join_plan.specs.declared.fault.TextFault.{TextFault}
 use Rattle.join_plan.specs.declared.fault.TextFault.TheVariants.{Syntax, Deep, Wide, Literal}
@@ -17,11 +19,6 @@ use Rattle.join_plan.specs.declared.refusal.Which.TheVariants.{On, Then}
 use Rattle.join_plan.specs.Refusals.{text_refusal, then_of}
 
 -- ---- one text
-
--- the text's tree within the limits, or its fault
-abbrev pub IsRead : List ℕ → Result Tree PredFault → Type 0
-IsRead text (Ok tree) = TextReads limits text tree
-IsRead text (Err fault) = IsFaultOf limits text fault
 
 -- the tree, or the refusal of the text
 abbrev pub tree_or_refused : Which → Result Tree PredFault → Result Tree Refusal
@@ -43,7 +40,8 @@ Reads which reading (Err refusal) = (refusal ≡ Memory) ⊎ (tree_or_refused wh
 
 -- a text with this fault is refused by it, or memory ran out
 abbrev pub RefusesText : {T : Type 0} → Which → PredFault → Result T Refusal → Type 0
-RefusesText which fault result = MatchResult result (λ value. ⊥) (λ refusal. (refusal ≡ Memory) ⊎ (refusal ≡ text_refusal which fault))
+RefusesText which fault result =
+    MatchResult result (λ value. ⊥) (λ refusal. (refusal ≡ Memory) ⊎ (refusal ≡ text_refusal which fault))
 
 -- ---- both
 
@@ -55,12 +53,12 @@ pub record Readings : Type 0 where
 -- the second text, where there is one, reads so
 abbrev pub IsReadFurther : Option AskedChain → Option (Result Tree PredFault) → Type 0
 IsReadFurther None None = ⊤
-IsReadFurther (Some chain) (Some reading) = IsRead chain.on reading
+IsReadFurther (Some chain) (Some reading) = IsReading limits chain.on reading
 IsReadFurther _ _ = ⊥
 
 -- the texts that are asked for read so
 pub record AreRead (asked : Asked) (readings : Readings) : Type 0 where
-  pub on : IsRead asked.on readings.on
+  pub on : IsReading limits asked.on readings.on
   pub further : IsReadFurther asked.chain readings.further
 
 -- the tree of the predicate, and that of a second join's

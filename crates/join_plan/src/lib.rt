@@ -1,19 +1,22 @@
-//! What the words ask for, made ready to be joined: the texts of the predicates, the tables, the columns and the numbers,
-//! or the first refusal.
+//! What the words ask for, made ready to be joined: the texts of the predicates, the tables, the
+//! columns and the numbers, or the first refusal.
 #![tactic(auto)]
 
 mod columns;
 mod fault;
 mod files;
 mod fitting;
+mod laws;
 mod numbers;
 mod plan;
 mod predicate;
 mod reading;
 mod refusal;
+mod text;
 
 pub use fault::{InputFault, LimitFault, Refusal, TextFault};
 pub use files::{Gathered, Tables};
 pub use fitting::{Planned, Third};
+pub use laws::requests_have_one_plan;
 pub use plan::prepare;
 pub use refusal::Which;

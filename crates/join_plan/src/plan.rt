@@ -1,6 +1,7 @@
 // What the words ask for, made ready.
 
-ghost use Rattle.std.specs.Prelude.{◌≡◌, ◌⊎◌, ◌<◌, ◌≤◌, ℕ, List, None, Option, Some, Err, IfErr, IfOk, IfSome};
+ghost use Rattle.std.specs.Prelude.{◌≡◌, ◌⊎◌, ◌<◌, ◌≤◌, ℕ, List, None, Option, Some, Err};
+ghost use Rattle.std.specs.Prelude.{IfErr, IfOk, IfSome};
 ghost use Rattle.join_rows.specs.Shelves.{last_fault};
 ghost use Rattle.theta_text.specs.Grammar.{Tree};
 ghost use Rattle.theta_text.specs.Texts.{IsFaultOf, TextReads, limits};
@@ -8,10 +9,10 @@ ghost use Rattle.theta_text.specs.declared.fault.PredFault.{PredFault};
 ghost use Rattle.join_words.specs.Words.{AskedChain, asked};
 ghost use Rattle.join_plan.specs.Causes.{Refuses};
 ghost use Rattle.join_plan.specs.Files.{gathered_by};
-ghost use Rattle.join_plan.specs.Plan.{IsAsked, IsFit, fitted as fitted', plan_of};
+ghost use Rattle.join_plan.specs.Plan.{IsAsked, IsFit, IsPlanOf, fitted as fitted'};
 ghost use Rattle.join_plan.specs.Refusals.{then_of};
-ghost use Rattle.join_plan.specs.Seen.{PlanSeen};
-ghost use Rattle.join_plan.specs.Texts.{AreNarrow, AreRead, HaveTrees, Readings, RefusesText, Trees, trees_in};
+ghost use Rattle.join_plan.specs.Seen.{IsSeenPlan, PlanSeen};
+ghost use Rattle.join_plan.specs.Texts.{AreNarrow, HaveTrees, RefusesText, trees_in};
 ghost use Rattle.join_plan.specs.declared.refusal.Which.TheVariants.{On, Then};
 
 use crate::fault::Refusal;
@@ -22,8 +23,8 @@ use join_rows::Shelf;
 use join_words::Options;
 use std::alloc::Global;
 
-/// What the options ask for by these predicates, or the first refusal: of the files, of the columns, of the
-/// numbers.
+/// What the options ask for by these predicates, or the first refusal: of the files, of the
+/// columns, of the numbers.
 fn prepare_over<H: Shelf>(
     alloc: Global,
     options: &Options<'_>,
@@ -39,7 +40,8 @@ fn prepare_over<H: Shelf>(
     ensures rises { H.faults shelf.old ≤ H.faults shelf.new }
     ensures answer { (files : List ℕ → Option (List ℕ)) → H.told shelf.old ≡ Some files
         → H.faults shelf.new ≡ H.faults shelf.old → (result ≡ Err Refusal.Memory)
-        ⊎ (result ≡ then_of (gathered_by (asked options.now) files) (fitted' (trees_in preds.now))) }
+        ⊎ (result ≡ then_of (gathered_by (asked options.now) files)
+        (fitted' (trees_in preds.now))) }
     ensures seen { (result ≡ Err Refusal.Read → ⊥) → (result ≡ Err Refusal.Memory → ⊥)
         → PlanSeen (H.told shelf.old) (H.picked shelf.new) (asked options.now)
         (trees_in preds.now) result }
@@ -58,10 +60,10 @@ fn prepare_over<H: Shelf>(
     }
 }
 
-/// What the options ask for, or the first refusal: of the text of the predicate, of that of the second, of the
-/// file of R, of that of S, of the third, of the columns, of those of the second predicate, of the numbers, of
-/// those of the second predicate. A refusal of a text comes before any call of the shelf, and where tables are
-/// made there is none.
+/// What the options ask for, or the first refusal: of the text of the predicate, of that of the
+/// second, of the file of R, of that of S, of the third, of the columns, of those of the second
+/// predicate, of the numbers, of those of the second predicate. A refusal of a text comes before
+/// any call of the shelf, and where tables are made there is none.
 pub fn prepare<H: Shelf>(
     alloc: Global,
     options: &Options<'_>,
@@ -72,14 +74,11 @@ pub fn prepare<H: Shelf>(
     requires chained { IfSome options.now.chain (λ _. options.now.make ≡ None) }
     ensures told { H.told shelf.new ≡ H.told shelf.old }
     ensures rises { H.faults shelf.old ≤ H.faults shelf.new }
-    ensures answer { (files : List ℕ → Option (List ℕ)) (readings : Readings)
-        → H.told shelf.old ≡ Some files → AreRead (asked options.now) readings
+    ensures answer { (files : List ℕ → Option (List ℕ)) → H.told shelf.old ≡ Some files
         → H.faults shelf.new ≡ H.faults shelf.old
-        → (result ≡ Err Refusal.Memory)
-        ⊎ (result ≡ plan_of (asked options.now) readings files) }
-    ensures seen { (trees : Trees) → HaveTrees (asked options.now) trees
-        → (result ≡ Err Refusal.Read → ⊥) → (result ≡ Err Refusal.Memory → ⊥)
-        → PlanSeen (H.told shelf.old) (H.picked shelf.new) (asked options.now) trees result }
+        → (result ≡ Err Refusal.Memory) ⊎ IsPlanOf (asked options.now) files result }
+    ensures seen { (result ≡ Err Refusal.Read → ⊥) → (result ≡ Err Refusal.Memory → ⊥)
+        → IsSeenPlan (H.told shelf.old) (H.picked shelf.new) (asked options.now) result }
     ensures made { (count : ℕ) → options.now.make ≡ Some count → shelf.new ≡ shelf.old }
     ensures sound { H.sound shelf.old
         → H.sound shelf.new × (H.faults shelf.new ≡ H.faults shelf.old) }

@@ -1,15 +1,18 @@
 // The predicates that the words ask for.
 
-ghost use Rattle.std.specs.Prelude.{◌≡◌, ◌≤◌, ℕ, Option, Some, Result, Ok, IfErr, IfOk, IfSome, option_map};
+ghost use Rattle.std.specs.Prelude.{◌≡◌, ◌≤◌, ℕ, Option, Some, option_map, Result, Ok};
+ghost use Rattle.std.specs.Prelude.{IfErr, IfOk, IfSome};
 ghost use Rattle.theta_text.specs.Grammar.{Tree};
 ghost use Rattle.theta_text.specs.Sizes.{longest_sum};
 ghost use Rattle.theta_text.specs.Texts.{IsFaultOf, TextReads, limits, tree_of};
 ghost use Rattle.theta_text.specs.declared.fault.PredFault.{PredFault};
+ghost use Rattle.text_readings.specs.Readings.{IsReading};
 ghost use Rattle.join_rows.specs.Shelves.{Spot, Told};
 ghost use Rattle.join_words.specs.Words.{Asked, AskedChain, asked};
 ghost use Rattle.join_plan.specs.Causes.{IsTextOf, Refuses};
-ghost use Rattle.join_plan.specs.Texts.{AreNarrow, AreRead, HasFurther, HaveTrees, IsRead, IsReadFurther};
-ghost use Rattle.join_plan.specs.Texts.{ReadAll, Readings, Reads, ReadsFurther, RefusesText, trees_in};
+ghost use Rattle.join_plan.specs.Texts.{AreNarrow, AreRead, HasFurther, HaveTrees, IsReadFurther};
+ghost use Rattle.join_plan.specs.Texts.{ReadAll, Readings, Reads, ReadsFurther};
+ghost use Rattle.join_plan.specs.Texts.{RefusesText, trees_in};
 
 use crate::fault::Refusal;
 use crate::refusal::{Which, text_refused};
@@ -26,7 +29,7 @@ pub(crate) struct Preds {
 
 /// The predicate of a text.
 fn predicate(alloc: Global, which: Which, text: &str) -> Result<Pred, Refusal>
-    ensures answer { (reading : Result Tree PredFault) → IsRead text.now reading
+    ensures answer { (reading : Result Tree PredFault) → IsReading limits text.now reading
         → Reads which reading result }
     ensures early { (fault : PredFault) → IsFaultOf limits text.now fault
         → RefusesText which fault result }

@@ -1,24 +1,31 @@
-use Rattle.std.proofs.Common.{refl, sym, subst}
+use Rattle.std.proofs.Common.{refl}
 use Rattle.join_words.specs.Words.{asked}
-use Rattle.join_plan.specs.Seen.{PlanSeen}
-use Rattle.join_plan.specs.Texts.{Trees, read_so, trees_in}
-use Rattle.join_plan.proofs.Prepared.{are_read, refused_unless, trees_are}
+use Rattle.join_plan.specs.Texts.{trees_in}
+use Rattle.join_plan.proofs.Prepared.{planned_by, refused_by, refused_unread, seen_by}
 use Rattle.join_plan.proofs.plan.prepare.Goals as goal
 
+pub returns-in-Ok-clause-answer : goal.returns-in-Ok-clause-answer
+returns-in-Ok-clause-answer g c files told same =
+    planned_by (asked c.args.options.now) files (trees_in c.in-Ok.preds) c.prepare_over.result c.in-Ok.ensures.have
+    (c.prepare_over.ensures.answer files told same)
+
 pub returns-in-Ok-clause-seen : goal.returns-in-Ok-clause-seen
-returns-in-Ok-clause-seen g c trees have read memory =
-    subst (λ (t : Trees). PlanSeen (g.H.Shelf.told c.args.shelf.now) (g.H.Shelf.picked c.prepare_over.new.shelf) (asked c.args.options.now)
-    t c.prepare_over.result)
-    (sym (trees_are trees (trees_in c.in-Ok.preds) (c.in-Ok.ensures.answer (read_so trees) (are_read (asked c.args.options.now) trees have))))
-    (c.prepare_over.ensures.seen read memory)
+returns-in-Ok-clause-seen g c read memory =
+    seen_by (g.H.Shelf.told c.args.shelf.now) (g.H.Shelf.picked c.prepare_over.new.shelf) (asked c.args.options.now)
+    (trees_in c.in-Ok.preds) c.prepare_over.result c.in-Ok.ensures.have (c.prepare_over.ensures.seen read memory)
 
 pub returns-in-Ok-clause-further_early : goal.returns-in-Ok-clause-further_early
 returns-in-Ok-clause-further_early g c tree chain fault reads is wrong =
     absurd (c.in-Ok.ensures.further_early tree chain fault reads is wrong)
 
+pub returns-in-Err-clause-answer : goal.returns-in-Err-clause-answer
+returns-in-Err-clause-answer g c files told same =
+    refused_by (asked c.args.options.now) files c.in-Err.refusal c.in-Err.ensures.answer
+
 pub returns-in-Err-clause-seen : goal.returns-in-Err-clause-seen
-returns-in-Err-clause-seen g c trees have read memory =
-    absurd (refused_unless trees c.in-Err.refusal (c.in-Err.ensures.answer (read_so trees) (are_read (asked c.args.options.now) trees have)) memory)
+returns-in-Err-clause-seen g c read memory =
+    refused_unread (g.H.Shelf.told c.args.shelf.now) (g.H.Shelf.picked c.args.shelf.now) (asked c.args.options.now)
+    c.in-Err.refusal c.in-Err.ensures.answer memory
 
 pub returns-in-Err-clause-further_early : goal.returns-in-Err-clause-further_early
 returns-in-Err-clause-further_early g c tree chain fault reads is wrong =
