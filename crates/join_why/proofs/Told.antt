@@ -1,19 +1,22 @@
 -- What a plan or a refusal says, a verdict that tells it says too.
-use Rattle.std.proofs.Common.{◌≡◌, ◌⊎◌, inl, inr, Result, Ok, Err, ap}
+use Rattle.std.proofs.Common.{◌≡◌, ◌⊎◌, inl, inr, ℕ, List, Option, Result, Err, refl, ap}
 use Rattle.theta_text.specs.declared.fault.PredFault.{PredFault}
+use Rattle.join_words.specs.Words.{Asked}
+use Rattle.join_plan.specs.Plan.{IsPlanOf}
 use Rattle.join_plan.specs.declared.fault.Refusal.{Refusal}
 use Rattle.join_plan.specs.declared.fault.Refusal.TheVariants as refusals
 use Rattle.join_plan.specs.declared.fitting.Planned.{Planned}
 use Rattle.join_plan.specs.declared.refusal.Which.{Which}
 use Rattle.join_plan.specs.Texts.{RefusesText}
 use Rattle.join_why.specs.declared.verdict.Verdict.TheVariants.{Refuses}
-use Rattle.join_why.specs.Verdicts.{TellsEarly, lacks_memory, verdict_of}
+use Rattle.join_why.specs.Verdicts.{TellsEarly, TellsPlan, lacks_memory, verdict_of}
 
 -- where the one is the plan's or want of memory, so is the verdict
-pub told_by : (result plan : Result Planned Refusal) → (result ≡ Err refusals.Memory) ⊎ (result ≡ plan)
-    → (verdict_of result ≡ lacks_memory) ⊎ (verdict_of result ≡ verdict_of plan)
-told_by result plan (inl memory) = inl (ap verdict_of memory)
-told_by result plan (inr is) = inr (ap verdict_of is)
+pub told_by : (asked : Asked) (files : List ℕ → Option (List ℕ)) (result : Result Planned Refusal)
+    → (result ≡ Err refusals.Memory) ⊎ IsPlanOf asked files result
+    → (verdict_of result ≡ lacks_memory) ⊎ TellsPlan asked files (verdict_of result)
+told_by asked files result (inl memory) = inl (ap verdict_of memory)
+told_by asked files result (inr of) = inr (record { plan = result; of = of; is = refl })
 
 -- a text that is refused by its fault is told so
 pub told_early : (which : Which) (fault : PredFault) (refusal : Refusal)

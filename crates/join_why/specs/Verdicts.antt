@@ -11,10 +11,9 @@ use Rattle.join_plan.specs.declared.fault.Refusal.TheVariants as refusals
 use Rattle.join_plan.specs.declared.fitting.Planned.{Planned}
 use Rattle.join_plan.specs.declared.refusal.Which.{Which}
 use Rattle.join_plan.specs.declared.refusal.Which.TheVariants.{On, Then}
-use Rattle.join_plan.specs.Plan.{plan_of}
+use Rattle.join_plan.specs.Plan.{IsPlanOf}
 use Rattle.join_plan.specs.Refusals.{text_refusal}
-use Rattle.join_plan.specs.Seen.{PlanSeen}
-use Rattle.join_plan.specs.Texts.{AreRead, HaveTrees, Readings, Trees}
+use Rattle.join_plan.specs.Seen.{IsSeenPlan}
 use Rattle.join_why.specs.declared.verdict.Verdict.{Verdict}
 use Rattle.join_why.specs.declared.verdict.Verdict.TheVariants.{Joins, Refuses, Words}
 
@@ -46,6 +45,12 @@ lacks_memory = Refuses refusals.Memory
 abbrev pub TellsEarly : Which → PredFault → Verdict → Type 0
 TellsEarly which fault verdict = (verdict ≡ lacks_memory) ⊎ (verdict ≡ Refuses (text_refusal which fault))
 
+-- the verdict is that of the plan over these files
+pub record TellsPlan (asked : Asked) (files : List ℕ → Option (List ℕ)) (verdict : Verdict) : Type 0 where
+  pub plan : Result Planned Refusal
+  pub of : IsPlanOf asked files plan
+  pub is : verdict ≡ verdict_of plan
+
 -- what a verdict says of what is asked for, over what the shelf tells before and after
 pub record Tells {H : Type 0} (h : ShelfGhosts H) (asked : Asked) (old new : H) (verdict : Verdict) : Type 0 where
   -- of a text that is no predicate its fault, before any call of the shelf
@@ -54,12 +59,11 @@ pub record Tells {H : Type 0} (h : ShelfGhosts H) (asked : Asked) (old new : H) 
   pub further_early : (tree : Tree) (chain : AskedChain) (fault : PredFault) → TextReads limits asked.on tree
       → asked.chain ≡ Some chain → IsFaultOf limits chain.on fault → TellsEarly Then fault verdict × (new ≡ old)
   -- where no call failed, what the plan is, or its first refusal
-  pub answer : (files : List ℕ → Option (List ℕ)) (readings : Readings) → h.told old ≡ Some files
-      → AreRead asked readings → h.faults new ≡ h.faults old
-      → (verdict ≡ lacks_memory) ⊎ (verdict ≡ verdict_of (plan_of asked readings files))
-  -- and over each shelf that of what was read
-  pub seen : (trees : Trees) → HaveTrees asked trees → verdict ≢ Refuses refusals.Read → verdict ≢ lacks_memory
-      → (result : Result Planned Refusal) × PlanSeen (h.told old) (h.picked new) asked trees result
+  pub answer : (files : List ℕ → Option (List ℕ)) → h.told old ≡ Some files → h.faults new ≡ h.faults old
+      → (verdict ≡ lacks_memory) ⊎ TellsPlan asked files verdict
+  -- and over each shelf that of the texts, and behind them of what was read
+  pub seen : verdict ≢ Refuses refusals.Read → verdict ≢ lacks_memory
+      → (result : Result Planned Refusal) × IsSeenPlan (h.told old) (h.picked new) asked result
       × (verdict ≡ verdict_of result)
 
 -- what it leaves of the shelf
@@ -72,7 +76,8 @@ pub record Leaves {H : Type 0} (h : ShelfGhosts H) (old new : H) (verdict : Verd
   pub counts : verdict ≢ Refuses refusals.Read → h.faults new ≡ h.faults old
 
 -- what a verdict says of words
-pub record Judges {H : Type 0} (h : ShelfGhosts H) (words : List (List ℕ)) (old new : H) (verdict : Verdict) : Type 0 where
+pub record Judges {H : Type 0} (h : ShelfGhosts H) (words : List (List ℕ)) (old new : H)
+    (verdict : Verdict) : Type 0 where
   -- of words that ask for nothing their fault, without a call of the shelf
   pub words_fault : (fault : WordsFault) → asked_of words ≡ Err fault
       → ((verdict ≡ Words fault) ⊎ (verdict ≡ lacks_memory)) × (new ≡ old)
@@ -83,8 +88,8 @@ pub record Judges {H : Type 0} (h : ShelfGhosts H) (words : List (List ℕ)) (ol
   -- and what is left
   pub leaves : Leaves h old new verdict
 
--- an exit status is that of a verdict on these words, or memory was wanting, or the explanation couldn't be put; so it is 0 only
--- where the verdict is that they would be joined
+-- an exit status is that of a verdict on these words, or memory was wanting, or the explanation couldn't be put; so it
+-- is 0 only where the verdict is that they would be joined
 pub record IsJudgedBy {H : Type 0} (h : ShelfGhosts H) (words : List (List ℕ)) (old : H) (status : ℕ) : Type 0 where
   pub new : H
   pub verdict : Verdict
