@@ -1,5 +1,6 @@
 -- A run of well-formed files ends well.
-use Rattle.std.proofs.Common.{◌≡◌, ◌∙◌, ◌⊎◌, ◌+◌, ◌≤◌, ◌<◌, ◌^◌, inl, inr, ℕ, List, Option, None, Some, Result, Ok, Err, refl, sym, ap, subst, length, arith}
+use Rattle.std.proofs.Common.{◌≡◌, ◌⊎◌, ◌+◌, ◌≤◌, ◌<◌, ◌^◌, inl, inr, ℕ, List, Option, None, Some, Result, Ok}
+use Rattle.std.proofs.Common.{Err, refl, sym, ap, subst, length, arith}
 use Rattle.std.specs.Prelude.{IfSome, is_some, true, false}
 use Rattle.join_rows.specs.Shelves.{Told}
 use Rattle.trace_law.specs.Join.{nested_loop}
@@ -9,13 +10,14 @@ use Rattle.join_plan.specs.declared.fault.Refusal.{Refusal}
 use Rattle.join_plan.specs.declared.fault.Refusal.TheVariants as refusals
 use Rattle.join_plan.specs.declared.fitting.Planned.{Planned}
 use Rattle.join_plan.specs.declared.fitting.Third.{Third}
-use Rattle.join_plan.specs.Plan.{IsAsked, plan_of}
-use Rattle.join_plan.specs.Texts.{Readings}
+use Rattle.join_plan.specs.Plan.{IsAsked, IsPlanOf}
+use Rattle.join_plan.proofs.Readings.{one_plan}
 use Rattle.join_cli.specs.declared.outcome.Outcome.{Outcome}
 use Rattle.join_cli.specs.declared.outcome.Outcome.TheVariants as outcomes
 use Rattle.join_cli.specs.Chain.{IsFewBetween}
 use Rattle.join_cli.specs.Courses.{Course, WentSo, by_chain, by_groups, by_run, output_over}
-use Rattle.join_cli.specs.Ends.{Concludes, ConcludesBy, EndsAs, IsDone, IsEndOf, IsHalted, IsMade, IsOutcomeOf, IsSomeCourse, TakesEach, Wrote, WroteFront, WroteSoFar, course_of}
+use Rattle.join_cli.specs.Ends.{Concludes, ConcludesBy, EndsAs, IsDone, IsEndOf, IsHalted, IsMade, IsSomeCourse}
+use Rattle.join_cli.specs.Ends.{TakesEach, Wrote, WroteFront, WroteSoFar, course_of}
 use Rattle.join_cli.specs.Outcomes.{outcome_of}
 use Rattle.join_cli.specs.Plan.{input_of}
 use Rattle.join_cli.proofs.Seen.{no_plan}
@@ -39,35 +41,38 @@ end_of asked planned old new (outcomes.Input _) concludes put = elim concludes [
 end_of asked planned old new outcomes.Read concludes put = elim concludes [ ]
 
 -- so where the shelf tells its files, the outcome is one of the plan
-pub ends_concluded : (told : Told) (asked : Asked) (readings : Readings) (planned : Planned) (old new : Option (List ℕ)) (outcome : Outcome)
+pub ends_concluded : (told : Told) (asked : Asked) (planned : Planned) (old new : Option (List ℕ)) (outcome : Outcome)
     → Concludes asked planned old new outcome → (outcome ≡ outcomes.Write → ⊥)
     → ((files : List ℕ → Option (List ℕ)) → told ≡ Some files
-    → (◌≡◌ {A = Result Planned Refusal} (Ok planned) (Err refusals.Memory)) ⊎ (Ok planned ≡ plan_of asked readings files))
-    → EndsAs told asked readings outcome
-ends_concluded None asked readings planned old new outcome concludes put h = tt
-ends_concluded (Some files) asked readings planned old new outcome concludes put h = elim (h files refl) [
+    → (◌≡◌ {A = Result Planned Refusal} (Ok planned) (Err refusals.Memory)) ⊎ IsPlanOf asked files (Ok planned))
+    → EndsAs told asked outcome
+ends_concluded None asked planned old new outcome concludes put h = tt
+ends_concluded (Some files) asked planned old new outcome concludes put h = elim (h files refl) [
   | inl m ↦ absurd (cc m)
-  | inr f ↦ elim (end_of asked planned old new outcome concludes put) [
+  | inr of ↦ elim (end_of asked planned old new outcome concludes put) [
     | inl memory ↦ inl memory
-    | inr end ↦ inr (subst (λ p. IsOutcomeOf asked p outcome) f end)
+    | inr end ↦ inr (record { plan = Ok planned; of = of; end = end })
   ]
 ]
 
 -- what was written, by the outcome
-pub wrote : (told : Told) (asked : Asked) (planned : Planned) (old new : Option (List ℕ)) (outcome : Outcome) → IsAsked told asked planned → Concludes asked planned old new outcome
+pub wrote : (told : Told) (asked : Asked) (planned : Planned) (old new : Option (List ℕ)) (outcome : Outcome)
+    → IsAsked told asked planned → Concludes asked planned old new outcome
     → (way : Course) → course_of outcome ≡ Some way → Wrote told asked way old new
 wrote told asked planned old new outcome found concludes way is =
     let ends = subst (ConcludesBy asked planned old new outcome) is concludes in
     record { planned = planned; found = found; course = ends.0; written = ends.1 }
 
 -- a front of it, where a put failed
-pub wrote_front : (told : Told) (asked : Asked) (planned : Planned) (old new : Option (List ℕ)) (outcome : Outcome) → IsAsked told asked planned → Concludes asked planned old new outcome
+pub wrote_front : (told : Told) (asked : Asked) (planned : Planned) (old new : Option (List ℕ)) (outcome : Outcome)
+    → IsAsked told asked planned → Concludes asked planned old new outcome
     → outcome ≡ outcomes.Write → WroteFront told asked old new
 wrote_front told asked planned old new outcome found concludes is =
     record { planned = planned; found = found; front = subst (Concludes asked planned old new) is concludes }
 
 -- some of it, where memory ran out
-pub wrote_so_far : (told : Told) (asked : Asked) (planned : Planned) (old new : Option (List ℕ)) (outcome : Outcome) → IsAsked told asked planned → Concludes asked planned old new outcome
+pub wrote_so_far : (told : Told) (asked : Asked) (planned : Planned) (old new : Option (List ℕ)) (outcome : Outcome)
+    → IsAsked told asked planned → Concludes asked planned old new outcome
     → outcome ≡ outcomes.Memory → (new ≡ old) ⊎ WroteSoFar told asked old new
 wrote_so_far told asked planned old new outcome found concludes is =
     inr (record { planned = planned; found = found; lines = subst (Concludes asked planned old new) is concludes })
@@ -77,7 +82,8 @@ abbrev pub IsTold : Outcome → Type 0
 IsTold outcome = (pairs : ℕ) × (outcome ≡ outcomes.Limit (Between pairs))
 
 -- a plan that is carried out isn't refused, but for too many pairs
-pub concludes_well : (asked : Asked) (planned : Planned) (old new : Option (List ℕ)) (outcome : Outcome) → Concludes asked planned old new outcome
+pub concludes_well : (asked : Asked) (planned : Planned) (old new : Option (List ℕ)) (outcome : Outcome)
+    → Concludes asked planned old new outcome
     → IsDone outcome ⊎ ((outcome ≡ outcomes.Write) ⊎ ((outcome ≡ outcomes.Memory) ⊎ IsTold outcome))
 concludes_well asked planned old new (outcomes.Done journal trail) concludes = inl tt
 concludes_well asked planned old new (outcomes.DoneGroups journals trail) concludes = inl tt
@@ -94,34 +100,40 @@ concludes_well asked planned old new (outcomes.Input _) concludes = elim conclud
 concludes_well asked planned old new outcomes.Read concludes = elim concludes [ ]
 
 -- and its refusal is, where it was refused
-pub ends_refused : (told : Told) (asked : Asked) (readings : Readings) (refusal : Refusal)
+pub ends_refused : (told : Told) (asked : Asked) (refusal : Refusal)
     → ((files : List ℕ → Option (List ℕ)) → told ≡ Some files
-    → (no_plan refusal ≡ no_plan refusals.Memory) ⊎ (no_plan refusal ≡ plan_of asked readings files))
-    → EndsAs told asked readings (outcome_of refusal)
-ends_refused None asked readings refusal h = tt
-ends_refused (Some files) asked readings refusal h = elim (h files refl) [
+    → (no_plan refusal ≡ no_plan refusals.Memory) ⊎ IsPlanOf asked files (no_plan refusal))
+    → EndsAs told asked (outcome_of refusal)
+ends_refused None asked refusal h = tt
+ends_refused (Some files) asked refusal h = elim (h files refl) [
   | inl m ↦ let same : refusal ≡ refusals.Memory = cc m in inl (ap outcome_of same)
-  | inr f ↦ inr (subst (λ p. IsOutcomeOf asked p (outcome_of refusal)) f refl)
+  | inr of ↦ inr (record { plan = no_plan refusal; of = of; end = refl })
 ]
 
 -- a plan that is one isn't refused, but for want of memory
-pub complete_refused : (refusal : Refusal) (plan : Result Planned Refusal) (planned : Planned)
-    → (no_plan refusal ≡ no_plan refusals.Memory) ⊎ (no_plan refusal ≡ plan) → plan ≡ Ok planned
+pub complete_refused : (asked : Asked) (files : List ℕ → Option (List ℕ)) (refusal : Refusal) (planned : Planned)
+    → (no_plan refusal ≡ no_plan refusals.Memory) ⊎ IsPlanOf asked files (no_plan refusal)
+    → IsPlanOf asked files (Ok planned)
     → IsDone (outcome_of refusal) ⊎ (outcome_of refusal ≡ outcomes.Memory)
-complete_refused refusal plan planned found is = elim found [
+complete_refused asked files refusal planned found is = elim found [
   | inl m ↦ let same : refusal ≡ refusals.Memory = cc m in inr (ap outcome_of same)
-  | inr f ↦ absurd (cc (f ∙ is))
+  | inr of ↦ absurd (cc (one_plan asked files (no_plan refusal) (Ok planned) of is))
 ]
 
 -- and it is the one that is made
-pub complete_made : (made planned : Planned) (plan : Result Planned Refusal)
-    → (◌≡◌ {A = Result Planned Refusal} (Ok made) (Err refusals.Memory)) ⊎ (Ok made ≡ plan) → plan ≡ Ok planned → made ≡ planned
-complete_made made planned plan found is = elim found [ inl m ↦ absurd (cc m) | inr f ↦ cc (f ∙ is) ]
+pub complete_made : (asked : Asked) (files : List ℕ → Option (List ℕ)) (made planned : Planned)
+    → (◌≡◌ {A = Result Planned Refusal} (Ok made) (Err refusals.Memory)) ⊎ IsPlanOf asked files (Ok made)
+    → IsPlanOf asked files (Ok planned) → made ≡ planned
+complete_made asked files made planned found is = elim found [
+  | inl m ↦ absurd (cc m)
+  | inr of ↦ cc (one_plan asked files (Ok made) (Ok planned) of is)
+]
 
 -- a sink that takes each output takes the one over how a run went
 takes_over : (takes : ℕ → Type 0) (asked : Asked) (planned : Planned) (way : Course) → WentSo asked planned way
     → TakesEach takes asked planned → takes (length (output_over asked planned way))
-takes_over takes asked planned (by_run journal trail) course each = each.each course.single course.whole journal course.lawful
+takes_over takes asked planned (by_run journal trail) course each =
+    each.each course.single course.whole journal course.lawful
 takes_over takes asked planned (by_groups journals trail) course each = each.groups journals trail course
 takes_over takes asked planned (by_chain first second trail) course each = each.chain first second trail course
 
@@ -134,14 +146,16 @@ takes_made takes asked planned bytes (Some way) made each =
     subst takes none (subst takes (ap length (sym made.1)) (takes_over takes asked planned way made.0 each))
 
 -- where a text was made it is done
-pub made_done : (asked : Asked) (planned : Planned) (bytes : List ℕ) (way : Option Course) → IsMade asked planned bytes way → IsSomeCourse way
+pub made_done : (asked : Asked) (planned : Planned) (bytes : List ℕ) (way : Option Course)
+    → IsMade asked planned bytes way → IsSomeCourse way
 made_done asked planned bytes None made = made
 made_done asked planned bytes (Some way) made = tt
 
 -- ---- no text was made
 
 -- nothing is written then, and the plan ends so
-pub halted_concludes : (asked : Asked) (planned : Planned) (written : Option (List ℕ)) (outcome : Outcome) → asked.early ≡ false
+pub halted_concludes : (asked : Asked) (planned : Planned) (written : Option (List ℕ)) (outcome : Outcome)
+    → asked.early ≡ false
     → IsHalted asked planned outcome → Concludes asked planned written written outcome
 halted_concludes asked planned written outcomes.Memory whole halted = rw whole refl
 halted_concludes asked planned written (outcomes.Limit (Between pairs)) whole halted = (halted, refl)
@@ -158,7 +172,8 @@ halted_concludes asked planned written outcomes.Read whole halted = elim halted 
 halted_concludes asked planned written outcomes.Write whole halted = elim halted [ ]
 
 -- it isn't for a put
-pub halted_no_write : (asked : Asked) (planned : Planned) (outcome : Outcome) → IsHalted asked planned outcome → outcome ≡ outcomes.Write → ⊥
+pub halted_no_write : (asked : Asked) (planned : Planned) (outcome : Outcome) → IsHalted asked planned outcome
+    → outcome ≡ outcomes.Write → ⊥
 halted_no_write asked planned outcome halted is = subst (IsHalted asked planned) is halted
 
 -- too many pairs aren't few
@@ -171,7 +186,8 @@ pub halted_few : (asked : Asked) (planned : Planned) (outcome : Outcome) → IsH
     → IsFewBetween asked planned → IsDone outcome ⊎ (outcome ≡ outcomes.Memory)
 halted_few asked planned outcomes.Memory halted few = inr refl
 halted_few asked planned (outcomes.Limit (Between pairs)) halted few =
-    let many : 2 ^ 18 < length (nested_loop (input_of asked.seed planned)) = subst (λ n. 2 ^ 18 < n) halted.are halted.many in
+    let many : 2 ^ 18 < length (nested_loop (input_of asked.seed planned)) =
+    subst (λ n. 2 ^ 18 < n) halted.are halted.many in
     absurd (many_or_few planned.third (length (nested_loop (input_of asked.seed planned))) halted.chained many few)
 halted_few asked planned (outcomes.Limit (TooLong side wave)) halted few = elim halted [ ]
 halted_few asked planned (outcomes.Limit (TooMany side wave)) halted few = elim halted [ ]

@@ -8,4 +8,6 @@ pub mod Reports
 pub mod Chained
 pub mod FixedOutput
 pub mod Past
+pub mod Lines
 pub mod Ran
+pub mod Statuses

@@ -12,17 +12,22 @@ use Rattle.join_cli.specs.Promises.{RanAs}
 
 -- a run that ended with status 0 wrote the output
 pub ran_by : {H K : Type 0} (h : ShelfGhosts H) (k : SinkGhosts K) (words : List (List ℕ))
-    (old new : H) (before after : K) (status : ℕ)
-    → RanAs h k words old new before after status → status ≡ 0
+    (old new : H) (before after : K) (IsTold : Outcome → Type 0) (status : ℕ)
+    → RanAs h k words old new before after IsTold status → status ≡ 0
     → WroteBy words (h.told old) (k.written before) (k.written after)
-ran_by h k words old new before after status ran zero = by ran.outcome (sym ran.is ∙ zero) ran.promises.done
+ran_by h k words old new before after IsTold status ran = λ zero.
+    by ran.outcome (sym ran.is ∙ zero) ran.promises.done
   where
     by : (outcome : Outcome) → status_of outcome ≡ 0
-        → ((way : Course) → course_of outcome ≡ Some way → WroteOver words (h.told old) way (k.written before) (k.written after))
+        → ((way : Course) → course_of outcome ≡ Some way
+        → WroteOver words (h.told old) way (k.written before) (k.written after))
         → WroteBy words (h.told old) (k.written before) (k.written after)
-    by (outcomes.Done journal trail) e done = record { way = by_run journal trail; over = done (by_run journal trail) refl }
-    by (outcomes.DoneGroups journals trail) e done = record { way = by_groups journals trail; over = done (by_groups journals trail) refl }
-    by (outcomes.DoneChain first second trail) e done = record { way = by_chain first second trail; over = done (by_chain first second trail) refl }
+    by (outcomes.Done journal trail) e done =
+        record { way = by_run journal trail; over = done (by_run journal trail) refl }
+    by (outcomes.DoneGroups journals trail) e done =
+        record { way = by_groups journals trail; over = done (by_groups journals trail) refl }
+    by (outcomes.DoneChain first second trail) e done =
+        record { way = by_chain first second trail; over = done (by_chain first second trail) refl }
     by (outcomes.Words fault) e done = absurd (omega (arith, e))
     by (outcomes.Predicate fault) e done = absurd (omega (arith, e))
     by (outcomes.Then fault) e done = absurd (omega (arith, e))
@@ -48,9 +53,9 @@ done_status outcomes.Memory done = absurd done
 
 -- a run that ended with a status of a refusal left the sink as it was
 pub ran_without : {H K : Type 0} (h : ShelfGhosts H) (k : SinkGhosts K) (words : List (List ℕ))
-    (old new : H) (before after : K) (status : ℕ)
-    → RanAs h k words old new before after status → status ≢ 0 → status ≢ 7 → status ≢ 8 → after ≡ before
-ran_without h k words old new before after status ran some other memory =
+    (old new : H) (before after : K) (IsTold : Outcome → Type 0) (status : ℕ)
+    → RanAs h k words old new before after IsTold status → status ≢ 0 → status ≢ 7 → status ≢ 8 → after ≡ before
+ran_without h k words old new before after IsTold status ran = λ some other memory.
     ran.promises.leaves.nothing
     (λ done. some (ran.is ∙ done_status ran.outcome done))
     (λ e. other (ran.is ∙ ap status_of e))

@@ -11,11 +11,11 @@ use Rattle.join_plan.specs.declared.fault.LimitFault.TheVariants.{Between}
 use Rattle.join_plan.specs.declared.fault.Refusal.{Refusal}
 use Rattle.join_plan.specs.declared.fitting.Planned.{Planned}
 use Rattle.join_plan.specs.declared.refusal.Which.{Which}
-use Rattle.join_plan.specs.Plan.{IsAsked, plan_of}
+use Rattle.join_plan.specs.Plan.{IsAsked, IsPlanOf}
 use Rattle.join_plan.specs.Refusals.{text_refusal}
-use Rattle.join_plan.specs.Texts.{HaveTrees, Readings, Trees, read_so}
 use Rattle.join_cli.specs.declared.outcome.Outcome.{Outcome}
-use Rattle.join_cli.specs.declared.outcome.Outcome.TheVariants.{Done, DoneGroups, DoneChain, Input, Limit, Memory, Predicate, Read, Then, Words, Write}
+use Rattle.join_cli.specs.declared.outcome.Outcome.TheVariants.{Done, DoneGroups, DoneChain, Input, Limit, Memory}
+use Rattle.join_cli.specs.declared.outcome.Outcome.TheVariants.{Predicate, Read, Then, Words, Write}
 use Rattle.join_cli.specs.Chain.{IsBetween, IsChainOf, IsFewBetween}
 use Rattle.join_cli.specs.Courses.{AreGroupsOf, Course, WentSo, by_chain, by_groups, by_run, output_over}
 use Rattle.join_cli.specs.Early.{StoppedAt, WroteLines, WroteOutput}
@@ -60,10 +60,16 @@ abbrev pub IsOutcomeOf : Asked → Result Planned Refusal → Outcome → Type 0
 IsOutcomeOf asked (Ok planned) outcome = IsEndOf asked planned outcome
 IsOutcomeOf asked (Err refusal) outcome = outcome ≡ outcome_of refusal
 
--- where the shelf tells its files, the outcome is one of the plan, or memory ran out
-abbrev pub EndsAs : Told → Asked → Readings → Outcome → Type 0
-EndsAs None asked readings outcome = ⊤
-EndsAs (Some files) asked readings outcome = (outcome ≡ Memory) ⊎ IsOutcomeOf asked (plan_of asked readings files) outcome
+-- it is an outcome of the plan over these files
+pub record IsOutcomeOver (asked : Asked) (files : List ℕ → Option (List ℕ)) (outcome : Outcome) : Type 0 where
+  pub plan : Result Planned Refusal
+  pub of : IsPlanOf asked files plan
+  pub end : IsOutcomeOf asked plan outcome
+
+-- where the shelf tells its files, the outcome is one of the plan over them, or memory ran out
+abbrev pub EndsAs : Told → Asked → Outcome → Type 0
+EndsAs None asked outcome = ⊤
+EndsAs (Some files) asked outcome = (outcome ≡ Memory) ⊎ IsOutcomeOver asked files outcome
 
 -- the output of what was asked for was written, over a run that went this way
 pub record Wrote (told : Told) (asked : Asked) (way : Course) (old new : Option (List ℕ)) : Type 0 where
@@ -84,8 +90,8 @@ pub record WroteSoFar (told : Told) (asked : Asked) (old new : Option (List ℕ)
   pub found : IsAsked told asked planned
   pub lines : WroteLines asked.early asked planned old new
 
--- what is left of a plan whose output wasn't written whole: a put failed, or memory ran out, or there are too many pairs for a
--- second join
+-- what is left of a plan whose output wasn't written whole: a put failed, or memory ran out, or there are too many
+-- pairs for a second join
 abbrev pub Stops : Asked → Planned → Option (List ℕ) → Option (List ℕ) → Outcome → Type 0
 Stops asked planned old new Write = StoppedAt asked.early asked planned old new
 Stops asked planned old new Memory = WroteLines asked.early asked planned old new
@@ -94,7 +100,8 @@ Stops asked planned old new outcome = ⊥
 
 -- a plan ends by its course, or as it is left where there is none
 abbrev pub ConcludesBy : Asked → Planned → Option (List ℕ) → Option (List ℕ) → Outcome → Option Course → Type 0
-ConcludesBy asked planned old new outcome (Some course) = WentSo asked planned course × WroteOutput asked planned course old new
+ConcludesBy asked planned old new outcome (Some course) =
+    WentSo asked planned course × WroteOutput asked planned course old new
 ConcludesBy asked planned old new outcome None = Stops asked planned old new outcome
 
 -- how a plan that is carried out ends, and what it leaves
@@ -112,8 +119,8 @@ IsHalted asked planned Memory = ⊤
 IsHalted asked planned (Limit (Between pairs)) = IsBetween asked planned pairs
 IsHalted asked planned outcome = ⊥
 
--- the output over each such journal is taken, or over the journals of groups, or those of a second join, and early the lines of
--- all pairs alone
+-- the output over each such journal is taken, or over the journals of groups, or those of a second join, and early the
+-- lines of all pairs alone
 pub record TakesEach (takes : ℕ → Type 0) (asked : Asked) (planned : Planned) : Type 0 where
   pub each : asked.groups ≡ None → asked.chain ≡ None → (journal : List TurnLine) → IsJournalOf asked planned journal
       → takes (length (output_of asked planned journal))
@@ -123,15 +130,13 @@ pub record TakesEach (takes : ℕ → Type 0) (asked : Asked) (planned : Planned
       → takes (length (output_over asked planned (by_chain first second trail)))
   pub early : asked.early ≡ true → takes (length (pair_lines (nested_loop (input_of asked.seed planned))))
 
--- files and sink do for what is asked: the texts have trees, the told files have a plan, a second join takes the pairs of the
--- first, and the sink takes the output
+-- files and sink do for what is asked: nothing of it is refused over the told files, a second join takes the pairs of
+-- the first, and the sink takes the output
 pub record Suffices (told : Told) (asked : Asked) (takes : ℕ → Type 0) : Type 0 where
   pub files : List ℕ → Option (List ℕ)
   pub tells : told ≡ Some files
-  pub trees : Trees
-  pub have : HaveTrees asked trees
   pub planned : Planned
-  pub plan : plan_of asked (read_so trees) files ≡ Ok planned
+  pub plan : IsPlanOf asked files (Ok planned)
   pub few : IsFewBetween asked planned
   pub taken : TakesEach takes asked planned
 

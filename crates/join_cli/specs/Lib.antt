@@ -7,6 +7,8 @@ pub mod Ends
 pub mod Seen
 pub mod Programs
 pub mod Past
+pub mod Lines
 pub mod Promises
+pub mod Statuses
 pub mod Dealt
 pub mod Requests

@@ -16,9 +16,9 @@ use Rattle.join_plan.specs.declared.fault.LimitFault.TheVariants.{TooLong}
 use Rattle.join_plan.specs.declared.refusal.Which.TheVariants as texts
 use Rattle.join_plan.specs.Causes.{IsTrueFurther, LacksOne, StandsPast}
 use Rattle.join_plan.specs.Files.{sources}
-use Rattle.join_plan.specs.Texts.{AreRead, HaveTrees, IsTrueOf, Readings, Trees}
+use Rattle.join_plan.specs.Texts.{IsTrueOf}
 use Rattle.join_cli.specs.Outcomes.{status_of}
-use Rattle.join_cli.specs.Seen.{EndsOver}
+use Rattle.join_cli.specs.Seen.{EndsSeen}
 use Rattle.join_cli.specs.Courses.{Course}
 use Rattle.join_cli.specs.Ends.{EndsAs, EndsEarly, IsDone, Suffices, WroteSoFar, course_of}
 use Rattle.join_cli.specs.Programs.{WroteFrontBy, WroteOver}
@@ -32,11 +32,10 @@ pub record Answers {H K : Type 0} (h : ShelfGhosts H) (k : SinkGhosts K) (asked 
   pub further_early : (tree : Tree) (chain : AskedChain) (fault : PredFault) → TextReads limits asked.on tree
       → asked.chain ≡ Some chain → IsFaultOf limits chain.on fault → EndsEarly texts.Then fault outcome × (new ≡ old)
   -- where no call failed, that of the plan
-  pub answer : (readings : Readings) → AreRead asked readings
-      → h.faults new ≡ h.faults old → k.faults after ≡ k.faults before → EndsAs (h.told old) asked readings outcome
-  -- and over each shelf that of what was read, or of the made tables
-  pub seen : (trees : Trees) → HaveTrees asked trees → outcome ≢ Read → outcome ≢ Memory
-      → EndsOver (h.told old) (h.picked new) asked trees (k.written before) (k.written after) outcome
+  pub answer : h.faults new ≡ h.faults old → k.faults after ≡ k.faults before → EndsAs (h.told old) asked outcome
+  -- and over each shelf that of the texts, and behind them of what was read, or of the made tables
+  pub seen : outcome ≢ Read → outcome ≢ Memory
+      → EndsSeen (h.told old) (h.picked new) asked (k.written before) (k.written after) outcome
   -- of made tables without a call of the shelf
   pub made : (count : ℕ) → asked.make ≡ Some count → (new ≡ old) × (outcome ≢ Read)
   -- where all is well it is done
@@ -50,7 +49,8 @@ pub record Causes {H K : Type 0} (h : ShelfGhosts H) (k : SinkGhosts K) (asked :
   -- and one of the second text is that text's
   pub further_text : (fault : TextFault) → outcome ≡ Then fault → IsTrueFurther asked.chain fault
   -- of a file that is too long the place is past the limit
-  pub long : (side : Side) (wave : ℕ) → outcome ≡ Limit (TooLong side wave) → StandsPast (h.picked new) side wave (sources asked)
+  pub long : (side : Side) (wave : ℕ) → outcome ≡ Limit (TooLong side wave)
+      → StandsPast (h.picked new) side wave (sources asked)
   -- a call of the shelf failed, or a file isn't there
   pub read : outcome ≡ Read → (h.faults old < h.faults new) ⊎ LacksOne (h.told old) (sources asked)
   -- what was written where memory ran out
@@ -97,12 +97,14 @@ pub record Promises {H K : Type 0} (h : ShelfGhosts H) (k : SinkGhosts K) (words
   -- and where a put failed, a front of such an output
   pub front : outcome ≡ Write → WroteFrontBy words (h.told old) (k.written before) (k.written after)
 
--- a status is that of an outcome of which all this holds
+-- a status is that of an outcome of which all this holds, and which was told so
 pub record RanAs {H K : Type 0} (h : ShelfGhosts H) (k : SinkGhosts K) (words : List (List ℕ))
-    (old new : H) (before after : K) (status : ℕ) : Type 0 where
+    (old new : H) (before after : K) (IsTold : Outcome → Type 0) (status : ℕ) : Type 0 where
   -- the outcome
   pub outcome : Outcome
   -- whose status it is
   pub is : status ≡ status_of outcome
   -- and which is as promised
   pub promises : Promises h k words old new before after outcome
+  -- with its line
+  pub line : IsTold outcome

@@ -1,12 +1,15 @@
 // The whole program, over its words, a shelf and two streams.
 
-ghost use Rattle.std.specs.Prelude.{◌≡◌, ◌≢◌, ◌⊎◌, ◌<◌, ◌≤◌, IfErr, IfOk, IsOkAnd, map};
-ghost use Rattle.std.specs.Prelude.{string_bytes};
+ghost use Rattle.std.specs.Prelude.{◌≡◌, ◌≢◌, ◌⊎◌, ◌<◌, ◌≤◌, ℕ, List, map, Option, Some, Ok};
+ghost use Rattle.std.specs.Prelude.{IfErr, IfOk, IsOkAnd, string_bytes};
 ghost use Rattle.std.specs.Process.{exit_status};
 ghost use Rattle.join_rows.specs.Shelves.{last_fault};
+ghost use Rattle.join_words.specs.Words.{Asked, asked_of};
 ghost use Rattle.join_cli.specs.Outcomes.{status_of};
 ghost use Rattle.join_cli.specs.Programs.{WroteBy};
+ghost use Rattle.join_cli.specs.Lines.{TellsLine};
 ghost use Rattle.join_cli.specs.Promises.{RanAs};
+ghost use Rattle.join_cli.specs.Statuses.{IsStatusOver};
 
 use crate::outcome::Outcome;
 use crate::program::{exit_code, jm_main, tell};
@@ -62,7 +65,8 @@ fn end_of(outcome: Outcome) -> Ended
 
 /// Ends where there are no words for want of memory.
 fn lacks_words<E: Sink>(alloc: Global, errors: &mut E) -> Ended
-    ensures { result ≡ 8 }
+    ensures status { result ≡ 8 }
+    ensures line { TellsLine E.Sink errors.old errors.new Outcome.Memory }
 {
     tell(alloc, &Outcome::Memory, errors);
     end_of(Outcome::Memory)
@@ -81,7 +85,7 @@ fn run_words<R: Threads + Wait + Sync, H: Shelf, K: Sink, E: Sink, G: Gate>(
     requires shelf { H.faults shelf.old < last_fault }
     requires sink { K.faults sink.old < last_fault }
     ensures ran { RanAs H.Shelf K.Sink (map string_bytes words.items)
-        shelf.old shelf.new sink.old sink.new result }
+        shelf.old shelf.new sink.old sink.new (TellsLine E.Sink errors.old errors.new) result }
     ensures quiet { result ≡ 0 → errors.new ≡ errors.old }
 {
     end_of(jm_main(rt, alloc, &words, shelf, sink, errors, gate))
@@ -102,14 +106,21 @@ pub fn jm_program<R: Threads + Wait + Sync, H: Shelf, K: Sink, E: Sink, G: Gate>
     requires shelf { H.faults shelf.old < last_fault }
     requires sink { K.faults sink.old < last_fault }
     ensures ran { IfOk words (λ given. RanAs H.Shelf K.Sink (map string_bytes given.items)
-        shelf.old shelf.new sink.old sink.new result) }
+        shelf.old shelf.new sink.old sink.new (TellsLine E.Sink errors.old errors.new) result) }
     ensures done { result ≡ 0 → IsOkAnd words (λ given.
         WroteBy (map string_bytes given.items) (H.told shelf.old)
         (K.written sink.old) (K.written sink.new)) }
+    ensures answer { IfOk words (λ given. (files : List ℕ → Option (List ℕ))
+        → H.told shelf.old ≡ Some files → H.faults shelf.new ≡ H.faults shelf.old
+        → K.faults sink.new ≡ K.faults sink.old → (result ≡ 8)
+        ⊎ IsStatusOver (asked_of (map string_bytes given.items)) files result) }
+    ensures made { IfOk words (λ given. (asked : Asked) (count : ℕ)
+        → asked_of (map string_bytes given.items) ≡ Ok asked → asked.make ≡ Some count
+        → (result ≢ 6) × (shelf.new ≡ shelf.old)) }
     ensures nothing { result ≢ 0 → result ≢ 7 → result ≢ 8 → sink.new ≡ sink.old }
     ensures quiet { result ≡ 0 → errors.new ≡ errors.old }
     ensures memory { IfErr words (λ fault. (result ≡ 8) × (shelf.new ≡ shelf.old)
-        × (sink.new ≡ sink.old)) }
+        × (sink.new ≡ sink.old) × TellsLine E.Sink errors.old errors.new Outcome.Memory) }
     ensures statuses { (result ≡ 0) ⊎ ((2 ≤ result) × (result ≤ 8)) }
 {
     match words {

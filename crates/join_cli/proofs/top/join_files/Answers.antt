@@ -3,13 +3,12 @@ use Rattle.join_words.specs.Words.{asked}
 use Rattle.join_plan.specs.declared.fault.Refusal.TheVariants as refusals
 use Rattle.join_plan.specs.declared.fault.LimitFault.TheVariants.{TooLong}
 use Rattle.join_plan.specs.Causes.{Refuses}
-use Rattle.join_plan.specs.Plan.{plan_of}
-use Rattle.join_plan.specs.Texts.{read_so}
 use Rattle.join_plan.specs.declared.refusal.Which.TheVariants.{On, Then}
-use Rattle.join_plan.proofs.Prepared.{are_read, chain_there}
+use Rattle.join_plan.proofs.Prepared.{chain_there}
 use Rattle.join_cli.specs.Chain.{IsFewBetween}
 use Rattle.join_cli.specs.Ends.{Concludes, TakesEach}
-use Rattle.join_cli.proofs.Ends.{complete_made, complete_refused, concludes_well, ends_concluded, ends_refused, wrote, wrote_front, wrote_so_far}
+use Rattle.join_cli.proofs.Ends.{complete_made, complete_refused, concludes_well, ends_concluded, ends_refused, wrote}
+use Rattle.join_cli.proofs.Ends.{wrote_front, wrote_so_far}
 use Rattle.join_cli.proofs.Seen.{end_concluded, end_refused, other_outcome}
 use Rattle.join_cli.proofs.Told.{chained_files, no_course, no_words, no_write, none_is_some, refused_early, was}
 use Rattle.join_report.proofs.Puts.{PutsSome-refl}
@@ -19,38 +18,44 @@ pub prepare-requires-clause-chained : goal.prepare-requires-clause-chained
 prepare-requires-clause-chained g c = chained_files c.args.options.now c.args.options.now.chain c.requires.chained
 
 pub conclude-requires-clause-there : goal.conclude-requires-clause-there
-conclude-requires-clause-there g c lifetimes within = c.in-Ok.ensures.asked.chained ∙ chain_there c.args.options.now.chain
+conclude-requires-clause-there g c lifetimes within =
+    c.in-Ok.ensures.asked.chained ∙ chain_there c.args.options.now.chain
 
 -- ---- a plan that was carried out
 
 pub returns-in-Ok-clause-words : goal.returns-in-Ok-clause-words
 returns-in-Ok-clause-words g c fault is =
-    subst (Concludes (asked c.args.options.now) c.in-Ok.planned (g.K.Sink.written c.args.sink.now) (g.K.Sink.written c.conclude.new.sink))
+    subst (Concludes (asked c.args.options.now) c.in-Ok.planned (g.K.Sink.written c.args.sink.now)
+    (g.K.Sink.written c.conclude.new.sink))
     is c.conclude.ensures.ends
 
 pub returns-in-Ok-clause-done : goal.returns-in-Ok-clause-done
 returns-in-Ok-clause-done g c =
-    wrote (g.H.Shelf.told c.args.shelf.now) (asked c.args.options.now) c.in-Ok.planned (g.K.Sink.written c.args.sink.now)
-    (g.K.Sink.written c.conclude.new.sink) c.conclude.result c.in-Ok.ensures.asked c.conclude.ensures.ends
+    wrote (g.H.Shelf.told c.args.shelf.now) (asked c.args.options.now) c.in-Ok.planned
+    (g.K.Sink.written c.args.sink.now) (g.K.Sink.written c.conclude.new.sink) c.conclude.result c.in-Ok.ensures.asked
+    c.conclude.ensures.ends
 
 pub returns-in-Ok-clause-front : goal.returns-in-Ok-clause-front
 returns-in-Ok-clause-front g c =
-    wrote_front (g.H.Shelf.told c.args.shelf.now) (asked c.args.options.now) c.in-Ok.planned (g.K.Sink.written c.args.sink.now)
-    (g.K.Sink.written c.conclude.new.sink) c.conclude.result c.in-Ok.ensures.asked c.conclude.ensures.ends
+    wrote_front (g.H.Shelf.told c.args.shelf.now) (asked c.args.options.now) c.in-Ok.planned
+    (g.K.Sink.written c.args.sink.now) (g.K.Sink.written c.conclude.new.sink) c.conclude.result c.in-Ok.ensures.asked
+    c.conclude.ensures.ends
 
 pub returns-in-Ok-clause-answers : goal.returns-in-Ok-clause-answers
 returns-in-Ok-clause-answers g c = record {
   early = λ fault is. absurd (c.in-Ok.ensures.early fault is).0;
-  further_early = λ tree chain fault reads is wrong. absurd (c.in-Ok.ensures.further_early tree chain fault reads is wrong).0;
-  answer = λ readings are same same_sink.
-      ends_concluded (g.H.Shelf.told c.args.shelf.now) (asked c.args.options.now) readings c.in-Ok.planned
-      (g.K.Sink.written c.args.sink.now) (g.K.Sink.written c.conclude.new.sink) c.conclude.result c.conclude.ensures.ends
+  further_early = λ tree chain fault reads is wrong.
+      absurd (c.in-Ok.ensures.further_early tree chain fault reads is wrong).0;
+  answer = λ same same_sink.
+      ends_concluded (g.H.Shelf.told c.args.shelf.now) (asked c.args.options.now) c.in-Ok.planned
+      (g.K.Sink.written c.args.sink.now) (g.K.Sink.written c.conclude.new.sink) c.conclude.result
+      c.conclude.ensures.ends
       (λ put. let rose = c.conclude.ensures.fails put in omega (arith, rose, same_sink))
-      (λ files told. c.in-Ok.ensures.answer files readings told are same);
-  seen = λ trees have read memory.
-      end_concluded (g.H.Shelf.told c.args.shelf.now) (g.H.Shelf.picked c.prepare.new.shelf) (asked c.args.options.now) trees
+      (λ files told. c.in-Ok.ensures.answer files told same);
+  seen = λ read memory.
+      end_concluded (g.H.Shelf.told c.args.shelf.now) (g.H.Shelf.picked c.prepare.new.shelf) (asked c.args.options.now)
       (g.K.Sink.written c.args.sink.now) (g.K.Sink.written c.conclude.new.sink) c.in-Ok.planned c.conclude.result
-      (c.in-Ok.ensures.seen trees have (λ e. cc e) (λ e. cc e)) c.conclude.ensures.ends;
+      (c.in-Ok.ensures.seen (λ e. cc e) (λ e. cc e)) c.conclude.ensures.ends;
   made = λ count is. (
     c.in-Ok.ensures.made count is,
     λ read. subst (Concludes (asked c.args.options.now) c.in-Ok.planned (g.K.Sink.written c.args.sink.now)
@@ -58,10 +63,8 @@ returns-in-Ok-clause-answers g c = record {
   );
   complete = λ enough sound.
       let own = asked c.args.options.now in
-      let plan = plan_of own (read_so enough.trees) enough.files in
-      let made = complete_made c.in-Ok.planned enough.planned plan
-      (c.in-Ok.ensures.answer enough.files (read_so enough.trees) enough.tells (are_read own enough.trees enough.have)
-      (c.in-Ok.ensures.sound sound).1) enough.plan in
+      let made = complete_made own enough.files c.in-Ok.planned enough.planned
+      (c.in-Ok.ensures.answer enough.files enough.tells (c.in-Ok.ensures.sound sound).1) enough.plan in
       c.conclude.ensures.complete (subst (TakesEach (g.K.Sink.takes c.args.sink.now) own) (sym made) enough.taken)
       (subst (IsFewBetween own) (sym made) enough.few);
 }
@@ -81,8 +84,9 @@ returns-in-Ok-clause-causes g c = record {
       absurd (subst (Concludes (asked c.args.options.now) c.in-Ok.planned (g.K.Sink.written c.args.sink.now)
       (g.K.Sink.written c.conclude.new.sink)) is c.conclude.ensures.ends);
   memory =
-      wrote_so_far (g.H.Shelf.told c.args.shelf.now) (asked c.args.options.now) c.in-Ok.planned (g.K.Sink.written c.args.sink.now)
-      (g.K.Sink.written c.conclude.new.sink) c.conclude.result c.in-Ok.ensures.asked c.conclude.ensures.ends;
+      wrote_so_far (g.H.Shelf.told c.args.shelf.now) (asked c.args.options.now) c.in-Ok.planned
+      (g.K.Sink.written c.args.sink.now) (g.K.Sink.written c.conclude.new.sink) c.conclude.result c.in-Ok.ensures.asked
+      c.conclude.ensures.ends;
   spared = search rules;
 }
 
@@ -100,7 +104,10 @@ returns-in-Ok-clause-leaves g c = record {
         | inl is_done ↦ absurd (done is_done)
         | inr other ↦ elim other [
           | inl is ↦ absurd (write is)
-          | inr stopped ↦ elim stopped [ inl is ↦ absurd (memory is) | inr many ↦ c.conclude.ensures.between many.0 many.1 ]
+          | inr stopped ↦ elim stopped [
+            | inl is ↦ absurd (memory is)
+            | inr many ↦ c.conclude.ensures.between many.0 many.1
+          ]
         ]
       ];
 }
@@ -119,52 +126,51 @@ returns-in-Err-clause-front g c is = absurd (no_write c.in-Err.refusal (sym c.re
 pub returns-in-Err-clause-answers : goal.returns-in-Err-clause-answers
 returns-in-Err-clause-answers g c = record {
   early = λ fault is.
-      let told = c.in-Err.ensures.early fault is in (rw c.refused.ensures (refused_early On fault c.in-Err.refusal told.0), told.1);
+      let told = c.in-Err.ensures.early fault is in
+      (rw c.refused.ensures (refused_early On fault c.in-Err.refusal told.0), told.1);
   further_early = λ tree chain fault reads is wrong.
       let told = c.in-Err.ensures.further_early tree chain fault reads is wrong in
       (rw c.refused.ensures (refused_early Then fault c.in-Err.refusal told.0), told.1);
-  answer = λ readings are same same_sink.
+  answer = λ same same_sink.
       rw c.refused.ensures
-      (ends_refused (g.H.Shelf.told c.args.shelf.now) (asked c.args.options.now) readings c.in-Err.refusal
-      (λ files told. c.in-Err.ensures.answer files readings told are same));
-  seen = λ trees have read memory.
+      (ends_refused (g.H.Shelf.told c.args.shelf.now) (asked c.args.options.now) c.in-Err.refusal
+      (λ files told. c.in-Err.ensures.answer files told same));
+  seen = λ read memory.
       rw c.refused.ensures
-      (end_refused (g.H.Shelf.told c.args.shelf.now) (g.H.Shelf.picked c.prepare.new.shelf) (asked c.args.options.now) trees
+      (end_refused (g.H.Shelf.told c.args.shelf.now) (g.H.Shelf.picked c.prepare.new.shelf) (asked c.args.options.now)
       (g.K.Sink.written c.args.sink.now) c.in-Err.refusal
-      (c.in-Err.ensures.seen trees have (other_outcome c.in-Err.refusal refusals.Read (λ e. read (c.refused.ensures ∙ e)))
+      (c.in-Err.ensures.seen (other_outcome c.in-Err.refusal refusals.Read (λ e. read (c.refused.ensures ∙ e)))
       (other_outcome c.in-Err.refusal refusals.Memory (λ e. memory (c.refused.ensures ∙ e)))));
   made = λ count is. (
     c.in-Err.ensures.made count is,
     λ read. none_is_some count is
-        (subst (Refuses (g.H.Shelf.faults c.args.shelf.now) (g.H.Shelf.faults c.prepare.new.shelf) (g.H.Shelf.told c.args.shelf.now)
-        (g.H.Shelf.picked c.prepare.new.shelf) (asked c.args.options.now))
+        (subst (Refuses (g.H.Shelf.faults c.args.shelf.now) (g.H.Shelf.faults c.prepare.new.shelf)
+        (g.H.Shelf.told c.args.shelf.now) (g.H.Shelf.picked c.prepare.new.shelf) (asked c.args.options.now))
         (was c.in-Err.refusal refusals.Read (sym c.refused.ensures ∙ read)) c.in-Err.ensures.refused).0,
   );
   complete = λ enough sound.
-      let own = asked c.args.options.now in
       rw c.refused.ensures
-      (complete_refused c.in-Err.refusal (plan_of own (read_so enough.trees) enough.files) enough.planned
-      (c.in-Err.ensures.answer enough.files (read_so enough.trees) enough.tells (are_read own enough.trees enough.have)
-      (c.in-Err.ensures.sound sound).1) enough.plan);
+      (complete_refused (asked c.args.options.now) enough.files c.in-Err.refusal enough.planned
+      (c.in-Err.ensures.answer enough.files enough.tells (c.in-Err.ensures.sound sound).1) enough.plan);
 }
 
 pub returns-in-Err-clause-causes : goal.returns-in-Err-clause-causes
 returns-in-Err-clause-causes g c = record {
   text = λ fault is.
-      subst (Refuses (g.H.Shelf.faults c.args.shelf.now) (g.H.Shelf.faults c.prepare.new.shelf) (g.H.Shelf.told c.args.shelf.now)
-      (g.H.Shelf.picked c.prepare.new.shelf) (asked c.args.options.now))
+      subst (Refuses (g.H.Shelf.faults c.args.shelf.now) (g.H.Shelf.faults c.prepare.new.shelf)
+      (g.H.Shelf.told c.args.shelf.now) (g.H.Shelf.picked c.prepare.new.shelf) (asked c.args.options.now))
       (was c.in-Err.refusal (refusals.Predicate fault) (sym c.refused.ensures ∙ is)) c.in-Err.ensures.refused;
   further_text = λ fault is.
-      subst (Refuses (g.H.Shelf.faults c.args.shelf.now) (g.H.Shelf.faults c.prepare.new.shelf) (g.H.Shelf.told c.args.shelf.now)
-      (g.H.Shelf.picked c.prepare.new.shelf) (asked c.args.options.now))
+      subst (Refuses (g.H.Shelf.faults c.args.shelf.now) (g.H.Shelf.faults c.prepare.new.shelf)
+      (g.H.Shelf.told c.args.shelf.now) (g.H.Shelf.picked c.prepare.new.shelf) (asked c.args.options.now))
       (was c.in-Err.refusal (refusals.Then fault) (sym c.refused.ensures ∙ is)) c.in-Err.ensures.refused;
   long = λ side wave is.
-      subst (Refuses (g.H.Shelf.faults c.args.shelf.now) (g.H.Shelf.faults c.prepare.new.shelf) (g.H.Shelf.told c.args.shelf.now)
-      (g.H.Shelf.picked c.prepare.new.shelf) (asked c.args.options.now))
+      subst (Refuses (g.H.Shelf.faults c.args.shelf.now) (g.H.Shelf.faults c.prepare.new.shelf)
+      (g.H.Shelf.told c.args.shelf.now) (g.H.Shelf.picked c.prepare.new.shelf) (asked c.args.options.now))
       (was c.in-Err.refusal (refusals.Limit (TooLong side wave)) (sym c.refused.ensures ∙ is)) c.in-Err.ensures.refused;
   read = λ is.
-      (subst (Refuses (g.H.Shelf.faults c.args.shelf.now) (g.H.Shelf.faults c.prepare.new.shelf) (g.H.Shelf.told c.args.shelf.now)
-      (g.H.Shelf.picked c.prepare.new.shelf) (asked c.args.options.now))
+      (subst (Refuses (g.H.Shelf.faults c.args.shelf.now) (g.H.Shelf.faults c.prepare.new.shelf)
+      (g.H.Shelf.told c.args.shelf.now) (g.H.Shelf.picked c.prepare.new.shelf) (asked c.args.options.now))
       (was c.in-Err.refusal refusals.Read (sym c.refused.ensures ∙ is)) c.in-Err.ensures.refused).1;
   memory = search rules;
   spared = search rules;
@@ -174,7 +180,8 @@ pub returns-in-Err-clause-leaves : goal.returns-in-Err-clause-leaves
 returns-in-Err-clause-leaves g c = record {
   told = search rules;
   sound = search rules;
-  shelf_counts = λ read. c.in-Err.ensures.counts (other_outcome c.in-Err.refusal refusals.Read (λ e. read (c.refused.ensures ∙ e)));
+  shelf_counts = λ read.
+      c.in-Err.ensures.counts (other_outcome c.in-Err.refusal refusals.Read (λ e. read (c.refused.ensures ∙ e)));
   sink_counts = search rules;
   write = λ is. absurd (no_write c.in-Err.refusal (sym c.refused.ensures ∙ is));
   left = PutsSome-refl (g.K.Sink.written c.args.sink.now) (g.K.Sink.takes c.args.sink.now);
