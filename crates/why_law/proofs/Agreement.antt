@@ -1,19 +1,19 @@
 -- A verdict and an outcome over the same words and files say the same.
-use Rattle.std.proofs.Common.{◌≡◌, ◌≢◌, ◌⊎◌, ◌∙◌, inl, inr, ℕ, List, Option, None, Some, Result, Ok, Err, refl, sym, subst}
+use Rattle.std.proofs.Common.{◌≡◌, ◌≢◌, ◌⊎◌, inl, inr, ℕ, List, Option, Some, Result, Ok, Err, sym}
+use Rattle.std.proofs.Common.{subst}
 use Rattle.join_rows.specs.Shelves.{Told}
 use Rattle.join_words.specs.Words.{Asked}
 use Rattle.join_words.specs.declared.options.WordsFault.{WordsFault}
 use Rattle.join_plan.specs.declared.fault.LimitFault.TheVariants.{Between, TooLong, TooMany}
 use Rattle.join_plan.specs.declared.fault.Refusal.{Refusal}
 use Rattle.join_plan.specs.declared.fitting.Planned.{Planned}
-use Rattle.join_plan.specs.Plan.{plan_of}
-use Rattle.join_plan.specs.Texts.{Readings}
+use Rattle.join_plan.proofs.Readings.{one_plan}
 use Rattle.join_cli.specs.declared.outcome.Outcome.{Outcome}
 use Rattle.join_cli.specs.declared.outcome.Outcome.TheVariants as outcomes
 use Rattle.join_cli.specs.Ends.{EndsAs, IsDone, IsEndOf, IsOutcomeOf}
 use Rattle.join_why.specs.declared.verdict.Verdict.{Verdict}
 use Rattle.join_why.specs.declared.verdict.Verdict.TheVariants as verdicts
-use Rattle.join_why.specs.Verdicts.{lacks_memory, verdict_of}
+use Rattle.join_why.specs.Verdicts.{TellsPlan, lacks_memory, verdict_of}
 use Rattle.why_law.specs.Agreement.{HasTooManyBetween, SayTheSame}
 
 -- a plan that was carried out is done, or its first join has too many pairs for a second
@@ -40,21 +40,25 @@ of_plan asked (Ok planned) outcome ends = ended asked planned outcome ends
 of_plan asked (Err refusal) outcome ends = ends
 
 -- so do those of what is asked for
-pub of_asked : (told : Told) (files : List ℕ → Option (List ℕ)) (asked : Asked) (readings : Readings) (verdict : Verdict)
-    (outcome : Outcome) → told ≡ Some files → (verdict ≡ lacks_memory) ⊎ (verdict ≡ verdict_of (plan_of asked readings files))
-    → EndsAs told asked readings outcome → verdict ≢ lacks_memory → outcome ≢ outcomes.Memory → SayTheSame verdict outcome
-of_asked told files asked readings verdict outcome tells said ends has_memory memory =
+pub of_asked : (told : Told) (files : List ℕ → Option (List ℕ)) (asked : Asked) (verdict : Verdict)
+    (outcome : Outcome) → told ≡ Some files → (verdict ≡ lacks_memory) ⊎ TellsPlan asked files verdict
+    → EndsAs told asked outcome → verdict ≢ lacks_memory → outcome ≢ outcomes.Memory → SayTheSame verdict outcome
+of_asked told files asked verdict outcome tells said ends has_memory memory =
     elim said [
       | inl lacks ↦ absurd (has_memory lacks)
-      | inr is ↦ elim (subst (λ (t : Told). EndsAs t asked readings outcome) tells ends) [
+      | inr said_of ↦ elim (subst (λ (t : Told). EndsAs t asked outcome) tells ends) [
         | inl lacks ↦ absurd (memory lacks)
-        | inr end ↦ subst (λ (v : Verdict). SayTheSame v outcome) (sym is) (of_plan asked (plan_of asked readings files) outcome end)
+        | inr over ↦
+            let one : over.plan ≡ said_of.plan = one_plan asked files over.plan said_of.plan over.of said_of.of in
+            subst (λ (v : Verdict). SayTheSame v outcome) (sym said_of.is)
+            (of_plan asked said_of.plan outcome (subst (λ plan. IsOutcomeOf asked plan outcome) one over.end))
       ]
     ]
 
 -- and those of words that ask for nothing
 pub of_fault : (fault : WordsFault) (verdict : Verdict) (outcome : Outcome)
-    → (verdict ≡ verdicts.Words fault) ⊎ (verdict ≡ lacks_memory) → (outcome ≡ outcomes.Words fault) ⊎ (outcome ≡ outcomes.Memory)
+    → (verdict ≡ verdicts.Words fault) ⊎ (verdict ≡ lacks_memory)
+    → (outcome ≡ outcomes.Words fault) ⊎ (outcome ≡ outcomes.Memory)
     → verdict ≢ lacks_memory → outcome ≢ outcomes.Memory → SayTheSame verdict outcome
 of_fault fault verdict outcome (inr lacks) ends has_memory memory = absurd (has_memory lacks)
 of_fault fault verdict outcome (inl is) (inr lacks) has_memory memory = absurd (memory lacks)

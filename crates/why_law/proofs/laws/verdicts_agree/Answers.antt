@@ -10,9 +10,11 @@ returns g c words looked_old looked_new old new before after verdict outcome qui
     by (asked_of words) refl
   where
     by : (found : Result Asked WordsFault) → asked_of words ≡ found → SayTheSame verdict outcome
-    by (Err fault) is = of_fault fault verdict outcome (judges.words_fault fault is).0 (promises.words_fault fault is).0 has_memory memory
+    by (Err fault) is =
+        of_fault fault verdict outcome (judges.words_fault fault is).0 (promises.words_fault fault is).0
+        has_memory memory
     by (Ok asked) is =
-        of_asked (g.H.Shelf.told old) quiet.files asked quiet.readings verdict outcome quiet.told
-        ((judges.tells asked is).answer quiet.files quiet.readings quiet.told_looked (quiet.read asked is) quiet.no_fault_looked)
-        ((promises.answers asked is).answer quiet.readings (quiet.read asked is) quiet.no_fault quiet.no_fault_sink)
+        of_asked (g.H.Shelf.told old) quiet.files asked verdict outcome quiet.told
+        ((judges.tells asked is).answer quiet.files quiet.told_looked quiet.no_fault_looked)
+        ((promises.answers asked is).answer quiet.no_fault quiet.no_fault_sink)
         has_memory memory
