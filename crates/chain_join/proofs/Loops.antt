@@ -1,6 +1,7 @@
 -- The joined rows are counted in the order of their pairs, so a pair of a joined row and a third row is a triple, and
 -- all these triples are those of three enumerations, one inside the other.
-use Rattle.std.proofs.Common.{◌≡◌, ℕ, ◌+◌, refl, sym, ap, subst, ◌∙◌, Bool, true, false, cond, ◌&&◌, Some, None, List, [], ◌∷◌, ◌++◌, get_or, map, length, append_assoc}
+use Rattle.std.proofs.Common.{◌≡◌, ℕ, ◌+◌, refl, sym, ap, subst, ◌∙◌, Bool, true, false, cond, ◌&&◌, Some, None, List}
+use Rattle.std.proofs.Common.{[], ◌∷◌, ◌++◌, get_or, map, length, append_assoc}
 use Rattle.std.specs.Prelude.{filter_map, flat_map}
 use Rattle.std.specs.List.{AllByRecursion, cons_option, enumerate_from}
 use Rattle.std.proofs.lemmas.List.{map-append, length-append}

@@ -1,5 +1,6 @@
 -- Lists whose entries are counted, and the places in the pairs of a nested loop over them.
-use Rattle.std.proofs.Common.{◌≡◌, ℕ, zero, suc, ◌+◌, ◌<◌, subst, arith, Bool, true, false, cond, Some, None, List, [], ◌∷◌, ◌++◌, get_or, length, append_assoc}
+use Rattle.std.proofs.Common.{◌≡◌, ℕ, zero, suc, ◌+◌, ◌<◌, subst, arith, Bool, true, false, cond, Some, None, List, []}
+use Rattle.std.proofs.Common.{◌∷◌, ◌++◌, get_or, length, append_assoc}
 use Rattle.std.specs.Prelude.{All, filter_map}
 use Rattle.std.specs.List.{AllByRecursion, cons_option, enumerate_from}
 use Rattle.std.proofs.lemmas.List.{length-append}

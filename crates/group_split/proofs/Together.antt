@@ -1,5 +1,7 @@
 -- The answers of groups put together: group by group, and in the end all pairs.
-use Rattle.std.proofs.Common.{◌≡◌, ℕ, suc, ◌+◌, ◌<◌, ◌≤◌, ◌^◌, Bool, true, false, cond, Some, refl, sym, ◌∙◌, ap, subst, arith, add-one, List, [], ◌∷◌, ◌++◌, append_assoc, append-nil, length, map, drop, ltb-true, Result, OnOk}
+use Rattle.std.proofs.Common.{◌≡◌, ℕ, suc, ◌+◌, ◌<◌, ◌≤◌, ◌^◌, Bool, true, false, cond, Some, refl, sym, ◌∙◌, ap, subst}
+use Rattle.std.proofs.Common.{arith, add-one, List, [], ◌∷◌, ◌++◌, append_assoc, append-nil, length, map, drop}
+use Rattle.std.proofs.Common.{ltb-true, Result, OnOk}
 use Rattle.std.specs.Prelude.{All, sum_by, nat_lt, slice_get}
 use Rattle.std.specs.List.{AllByRecursion}
 use Rattle.std.specs.List.Sorted.{IsPermutation}

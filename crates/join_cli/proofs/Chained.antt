@@ -1,5 +1,6 @@
 -- The output of a second join is what the definitions say.
-use Rattle.std.proofs.Common.{◌≡◌, ◌∙◌, ◌≤◌, ◌++◌, ◌^◌, ℕ, Bool, true, false, List, [], ◌∷◌, length, arith, Option, None, Some, refl, sym, ap, subst}
+use Rattle.std.proofs.Common.{◌≡◌, ◌∙◌, ◌≤◌, ◌++◌, ◌^◌, ℕ, Bool, true, false, List, [], ◌∷◌, length, arith, Option}
+use Rattle.std.proofs.Common.{None, Some, refl, sym, ap, subst}
 use Rattle.std.specs.Prelude.{All, IfSome, is_some}
 use Rattle.std.proofs.lemmas.List.{length-map}
 use Rattle.join_rows.specs.declared.table.Side.TheVariants.{R}
@@ -29,16 +30,19 @@ use Rattle.join_cli.proofs.Inputs.{journal_over}
 use Rattle.join_cli.proofs.Reports.{report_is}
 
 -- where there is no third table no second join is asked for
-pub none_asked : (third : Option Third) (chain : Option Chain) → third ≡ None → is_some third ≡ is_some chain → chain ≡ None
+pub none_asked : (third : Option Third) (chain : Option Chain) → third ≡ None → is_some third ≡ is_some chain
+    → chain ≡ None
 none_asked third None none same = refl
 none_asked third (Some chain) none same = cc (sym (ap is_some none) ∙ same)
 
 -- a third table that fits the tables fits their input
 pub third_over : (seed : ℕ) (planned : Planned) (input : Input) → input ≡ input_of seed planned → IsFit planned
     → IfSome planned.third (IsThirdOver input)
-third_over seed planned input is fit = subst (λ i. IfSome planned.third (IsThirdOver i)) (sym is) (by planned.third fit.third)
+third_over seed planned input is fit = subst (λ i. IfSome planned.third (IsThirdOver i)) (sym is)
+    (by planned.third fit.third)
   where
-    by : (third : Option Third) → IfSome third (IsThirdFit planned.tables) → IfSome third (IsThirdOver (input_of seed planned))
+    by : (third : Option Third) → IfSome third (IsThirdFit planned.tables)
+        → IfSome third (IsThirdOver (input_of seed planned))
     by None fits = tt
     by (Some third) fits = record { table = fits.table; width_r = fits.width_r; width_s = fits.width_s }
 
@@ -62,9 +66,11 @@ module _ (input : Input) (third : ChainThird) (seed : ℕ) (setting : Setting) (
       ap length (told.run.pairs ∙ all_pairs input setting) ∙ sym (length-map (nested_loop input) (joined_row input))
 
   -- the first has few pairs
-  pub few_pairs : IsToldOf input setting run.first → length (nested_loop input) ≤ 2 ^ 18 → length run.first.run.pairs ≤ 2 ^ 18
+  pub few_pairs : IsToldOf input setting run.first → length (nested_loop input) ≤ 2 ^ 18
+      → length run.first.run.pairs ≤ 2 ^ 18
   few_pairs told few =
-      let same : length run.first.run.pairs ≡ length (nested_loop input) = ap length (told.run.pairs ∙ all_pairs input setting) in
+      let same : length run.first.run.pairs ≡ length (nested_loop input) =
+      ap length (told.run.pairs ∙ all_pairs input setting) in
       omega (arith, same, few)
 
   -- the report of the second is the one over its journal
@@ -83,7 +89,8 @@ module _ (input : Input) (third : ChainThird) (seed : ℕ) (setting : Setting) (
       ≡ chain_text report input third seed setting run.first.run.journal run.second.run.journal
   text_is report rows rows_are first told triples =
       let middle = report_asked report input setting run.first.run.journal in
-      ap (λ n. triple_lines run.triples ++ middle ++ bare_report_of report setting (length run.first.run.pairs) n run.second.run) rows_are
+      ap (λ n. triple_lines run.triples ++ middle ++ bare_report_of report setting (length run.first.run.pairs)
+      n run.second.run) rows_are
       ∙ ap (λ lines. triple_lines run.triples ++ middle ++ lines) (second_report report first told)
       ∙ ap (λ ts. triple_lines ts ++ middle ++ report_asked report second setting run.second.run.journal) triples
 
@@ -121,13 +128,15 @@ chain_made asked planned input setting third text first second trail input_is se
   },
   text_is
       ∙ ap (λ i. chain_text asked.report i (third_of third) asked.seed setting first second) input_is
-      ∙ ap (λ s. chain_text asked.report (input_of asked.seed planned) (third_of third) asked.seed s first second) setting_is
+      ∙ ap (λ s. chain_text asked.report (input_of asked.seed planned) (third_of third) asked.seed s first second)
+      setting_is
       ∙ rw third_is refl,
 )
 
 -- and why there is none is so of what is asked for
 pub chain_halted : (asked : Asked) (planned : Planned) (input : Input) (third : Third) (outcome : Outcome)
-    → input ≡ input_of asked.seed planned → planned.third ≡ Some third → IsStopped input outcome → IsHalted asked planned outcome
+    → input ≡ input_of asked.seed planned → planned.third ≡ Some third → IsStopped input outcome
+    → IsHalted asked planned outcome
 chain_halted asked planned input third outcomes.Memory input_is third_is stopped = tt
 chain_halted asked planned input third (outcomes.Limit (Between pairs)) input_is third_is stopped = record {
   chained = ap is_some third_is;

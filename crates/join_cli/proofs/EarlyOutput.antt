@@ -1,5 +1,6 @@
 -- What early output has written, from the lines of the pairs to the report.
-use Rattle.std.proofs.Common.{◌≡◌, ◌∙◌, ◌+◌, inl, inr, ℕ, Bool, true, false, List, [], ◌++◌, append_assoc, length, length-append, take, arith, Option, None, Some, refl, sym, ap, subst}
+use Rattle.std.proofs.Common.{◌≡◌, ◌∙◌, ◌+◌, inl, inr, ℕ, Bool, true, false, List, [], ◌++◌, append_assoc, length}
+use Rattle.std.proofs.Common.{length-append, take, arith, Option, None, Some, refl, sym, ap, subst}
 use Rattle.std.specs.Prelude.{IfSome, IsPermutation}
 use Rattle.std.specs.Io.KnownBytes.{append_known}
 use Rattle.std.proofs.Math.Seq.{take-append-add}
@@ -21,7 +22,8 @@ use Rattle.join_words.specs.declared.options.Chain.{Chain}
 use Rattle.join_words.specs.declared.options.Options.{Options}
 use Rattle.join_cli.specs.Requests.{IsChained}
 use Rattle.join_plan.specs.declared.fitting.Planned.{Planned}
-use Rattle.join_cli.specs.Early.{CutFound, IsFoundText, IsOutput, PutFound, PutPart, StoppedAt, TakesFound, WroteLines, WroteOutput}
+use Rattle.join_cli.specs.Early.{CutFound, IsFoundText, IsOutput, PutFound, PutPart, StoppedAt, TakesFound, WroteLines}
+use Rattle.join_cli.specs.Early.{WroteOutput}
 use Rattle.join_cli.specs.Ends.{ConcludesBy, IsMade, TakesEach}
 use Rattle.join_cli.specs.declared.outcome.Outcome.{Outcome}
 use Rattle.join_cli.specs.Plan.{answer_of, input_of, output_of, report_asked, setting_of}
@@ -31,24 +33,31 @@ use Rattle.join_cli.specs.Courses.{Course, IsRunInThreads, by_run}
 use Rattle.join_cli.proofs.Inputs.{course_in_threads, journal_of_run}
 
 -- bytes, and more behind them
-behind : (known : Option (List ℕ)) (xs ys : List ℕ) → append_known (append_known known xs) ys ≡ append_known known (xs ++ ys)
+behind : (known : Option (List ℕ)) (xs ys : List ℕ) → append_known (append_known known xs) ys
+    ≡ append_known known (xs ++ ys)
 behind None xs ys = refl
 behind (Some bytes) xs ys = ap Some (append_assoc bytes xs ys)
 
-front_behind : (old middle new : Option (List ℕ)) (xs ys : List ℕ) → middle ≡ append_known old xs → AppendsFront middle new ys → AppendsFront old new (xs ++ ys)
+front_behind : (old middle new : Option (List ℕ)) (xs ys : List ℕ) → middle ≡ append_known old xs
+    → AppendsFront middle new ys → AppendsFront old new (xs ++ ys)
 front_behind old middle new xs ys is (n, front) = (
   length xs + n,
-  front ∙ ap (λ m. append_known m (take n ys)) is ∙ behind old xs (take n ys) ∙ ap (append_known old) (sym (take-append-add xs ys n)),
+  front ∙ ap (λ m. append_known m (take n ys)) is ∙ behind old xs (take n ys)
+      ∙ ap (append_known old) (sym (take-append-add xs ys n)),
 )
 
 -- the lines of a run's pairs are those of the nested loop's, in another order
-reordered : (input : Input) (setting : Setting) (run : Run) (order : List Pair) → IsRunOf input setting (first_rest setting).line run.journal run → IsPermutation run.pairs order
+reordered : (input : Input) (setting : Setting) (run : Run) (order : List Pair)
+    → IsRunOf input setting (first_rest setting).line run.journal run → IsPermutation run.pairs order
     → IsPermutation (nested_loop input) order
-reordered input setting run order is each = subst (λ pairs. IsPermutation pairs order) (is.pairs ∙ all_pairs input setting) each
+reordered input setting run order is each = subst (λ pairs. IsPermutation pairs order)
+    (is.pairs ∙ all_pairs input setting) each
 
 -- the lines of all pairs, and the report behind them, are the whole
-pub put_whole : (report : Bool) (input : Input) (setting : Setting) (run : Run) (old middle new : Option (List ℕ)) → IsRunOf input setting (first_rest setting).line run.journal run
-    → WroteEach run.pairs old middle → new ≡ append_known middle (report_asked report input setting run.journal) → PutFound report input setting run.journal old new
+pub put_whole : (report : Bool) (input : Input) (setting : Setting) (run : Run) (old middle new : Option (List ℕ))
+    → IsRunOf input setting (first_rest setting).line run.journal run
+    → WroteEach run.pairs old middle → new ≡ append_known middle (report_asked report input setting run.journal)
+    → PutFound report input setting run.journal old new
 put_whole report input setting run old middle new is_run wrote more =
     let lines = report_asked report input setting run.journal in
     record {
@@ -76,16 +85,23 @@ put_cut report input setting run trail old middle new is_run went wrote front =
 
 -- nothing was written
 pub none_written : (input : Input) (old : Option (List ℕ)) → WroteSome input old old
-none_written input old = record { pairs = []; right = record { sums = λ f. omega arith }; front = (0, sym (known-none old)) }
+none_written input old = record {
+  pairs = [];
+  right = record { sums = λ f. omega arith };
+  front = (0, sym (known-none old));
+}
 
 -- ---- by what is asked for
 
-same_output : (asked : Asked) (planned : Planned) (input : Input) (setting : Setting) (journal : List TurnLine) (trail : List EndsView) (text : List ℕ)
+same_output : (asked : Asked) (planned : Planned) (input : Input) (setting : Setting) (journal : List TurnLine)
+    (trail : List EndsView) (text : List ℕ)
     → input ≡ input_of asked.seed planned → setting ≡ setting_of asked → asked.early ≡ true
-    → IsFoundText asked.report input setting journal text → IsOutput asked.early asked planned (by_run journal trail) text
+    → IsFoundText asked.report input setting journal text → IsOutput asked.early asked planned (by_run journal trail)
+    text
 same_output asked planned input setting journal trail text input_is setting_is early is =
     subst (λ e. IsOutput e asked planned (by_run journal trail) text) (sym early)
-    (subst (λ i. IsFoundText asked.report i (setting_of asked) journal text) input_is (subst (λ s. IsFoundText asked.report input s journal text) setting_is is))
+    (subst (λ i. IsFoundText asked.report i (setting_of asked) journal text) input_is
+    (subst (λ s. IsFoundText asked.report input s journal text) setting_is is))
 
 -- early output that was put whole is the output that is asked for
 pub early_written : (asked : Asked) (planned : Planned) (input : Input) (setting : Setting) (journal : List TurnLine)
@@ -93,7 +109,12 @@ pub early_written : (asked : Asked) (planned : Planned) (input : Input) (setting
     → input ≡ input_of asked.seed planned → setting ≡ setting_of asked → asked.early ≡ true
     → PutFound asked.report input setting journal old new → WroteOutput asked planned (by_run journal trail) old new
 early_written asked planned input setting journal trail old new input_is setting_is early put =
-    record { text = put.text; output = same_output asked planned input setting journal trail put.text input_is setting_is early put.is; written = put.written }
+    record {
+      text = put.text;
+      output = same_output asked planned input setting journal trail put.text input_is
+          setting_is early put.is;
+      written = put.written;
+    }
 
 -- early output that stopped, of what is asked for
 pub early_stopped : (asked : Asked) (planned : Planned) (input : Input) (setting : Setting) (old new : Option (List ℕ))
@@ -106,10 +127,12 @@ early_stopped asked planned input setting old new input_is setting_is of_input o
       | inr cut ↦ inr (record {
         way = by_run cut.run.journal cut.trail;
         course =
-            course_in_threads asked planned input setting cut.run cut.trail input_is setting_is of_input of_setting threads
+            course_in_threads asked planned input setting cut.run cut.trail input_is setting_is of_input of_setting
+            threads
             single alone cut.is_run cut.went;
         text = cut.text;
-        output = same_output asked planned input setting cut.run.journal cut.trail cut.text input_is setting_is early cut.is;
+        output = same_output asked planned input setting cut.run.journal cut.trail cut.text input_is setting_is early
+            cut.is;
         front = cut.front;
       })
     ])
@@ -123,15 +146,22 @@ early_takes takes asked planned input setting input_is setting_is of_input of_se
     let lines = pair_lines (nested_loop (input_of asked.seed planned)) in
     let of : Input → Setting → List TurnLine → List ℕ = λ i s journal. report_asked asked.report i s journal in
     record {
-      lines = subst (λ i. takes (length (pair_lines (nested_loop i)) + 0)) (sym input_is) (subst takes (plus_none (length lines)) (each.early early));
+      lines = subst (λ i. takes (length (pair_lines (nested_loop i)) + 0)) (sym input_is)
+          (subst takes (plus_none (length lines)) (each.early early));
       each = λ run is.
           let lawful = journal_of_run asked planned input setting run input_is setting_is of_input of_setting is in
-          let same : output_of asked planned run.journal ≡ lines ++ of (input_of asked.seed planned) (setting_of asked) run.journal =
-          ap (λ m. answer_of m asked.rows (input_of asked.seed planned) ++ of (input_of asked.seed planned) (setting_of asked) run.journal) make
-          ∙ ap (λ r. answer_of None r (input_of asked.seed planned) ++ of (input_of asked.seed planned) (setting_of asked) run.journal) rows in
-          subst (λ i. takes (length (pair_lines (nested_loop i)) + (length (of i setting run.journal) + 0))) (sym input_is)
-          (subst (λ s. takes (length lines + (length (of (input_of asked.seed planned) s run.journal) + 0))) (sym setting_is)
-          (subst takes (ap length same ∙ two_parts lines (of (input_of asked.seed planned) (setting_of asked) run.journal)) (each.each single alone run.journal lawful)));
+          let same : output_of asked planned run.journal ≡ lines
+          ++ of (input_of asked.seed planned) (setting_of asked) run.journal =
+          ap (λ m. answer_of m asked.rows (input_of asked.seed planned)
+          ++ of (input_of asked.seed planned) (setting_of asked) run.journal) make
+          ∙ ap (λ r. answer_of None r (input_of asked.seed planned)
+          ++ of (input_of asked.seed planned) (setting_of asked) run.journal) rows in
+          subst (λ i. takes (length (pair_lines (nested_loop i)) + (length (of i setting run.journal) + 0)))
+          (sym input_is)
+          (subst (λ s. takes (length lines + (length (of (input_of asked.seed planned) s run.journal) + 0)))
+          (sym setting_is)
+          (subst takes (ap length same ∙ two_parts lines (of (input_of asked.seed planned) (setting_of asked)
+          run.journal)) (each.each single alone run.journal lawful)));
     }
   where
     plus_none : (n : ℕ) → n ≡ n + 0
@@ -153,7 +183,8 @@ whole_written asked planned text old new outcome (Some way) whole made written =
 )
 
 -- an output that was made whole and of which a front was written
-pub whole_stopped : (asked : Asked) (planned : Planned) (text : List ℕ) (old new : Option (List ℕ)) (way : Option Course)
+pub whole_stopped : (asked : Asked) (planned : Planned) (text : List ℕ) (old new : Option (List ℕ))
+    (way : Option Course)
     → asked.early ≡ false → IsMade asked planned text way → AppendsFront old new text
     → StoppedAt asked.early asked planned old new
 whole_stopped asked planned text old new None whole made front = absurd made
@@ -173,12 +204,14 @@ pub whole_lines : (asked : Asked) (planned : Planned) (old new : Option (List �
 whole_lines asked planned old new whole same = rw whole same
 
 -- early output is of joiners in one grid
-pub one_grid : (groups : Option ℕ) (early : Bool) (P Q : Type 0) → IfSome groups (λ _. P × (early ≡ false) × Q) → early ≡ true
+pub one_grid : (groups : Option ℕ) (early : Bool) (P Q : Type 0) → IfSome groups (λ _. P × (early ≡ false) × Q)
+    → early ≡ true
     → groups ≡ None
 one_grid None early P Q alone is = refl
 one_grid (Some joiners) early P Q alone is = absurd (cc (sym is ∙ alone.1))
 
 -- and of two tables
-pub two_tables : (options : Options) (chain : Option Chain) → IfSome chain (IsChained options) → options.early ≡ true → chain ≡ None
+pub two_tables : (options : Options) (chain : Option Chain) → IfSome chain (IsChained options) → options.early ≡ true
+    → chain ≡ None
 two_tables options None alone is = refl
 two_tables options (Some chain) alone is = absurd (cc (sym is ∙ alone.1))

@@ -1,5 +1,6 @@
 -- With a fixed shift the numbers of a run are those of that shift, whatever the journal.
-use Rattle.std.proofs.Common.{◌≡◌, ◌∙◌, ◌-◌, ◌/◌, ◌^◌, ◌==◌, ℕ, Bool, true, false, List, [], ◌∷◌, ◌++◌, Some, map, refl, sym, ap}
+use Rattle.std.proofs.Common.{◌≡◌, ◌∙◌, ◌-◌, ◌/◌, ◌^◌, ◌==◌, ℕ, Bool, true, false, List, [], ◌∷◌, ◌++◌, Some, map, refl}
+use Rattle.std.proofs.Common.{sym, ap}
 use Rattle.std.specs.Prelude.{All, if◌then◌else◌, unwrap_or}
 use Rattle.std.specs.List.{AllByRecursion, range_with_len}
 use Rattle.std.proofs.lemmas.List.Elements.{recursion_from_All}
@@ -28,7 +29,8 @@ shift_stays b e (line ∷ journal) (here, rest) = by (line.epoch == e) (shift_st
     by false later = later
 
 -- the shift of every epoch
-each_shift : (setting : Setting) (b : ℕ) (journal : List TurnLine) → setting.fixed ≡ Some b → All (StaysAt 0 b) journal → (e : ℕ)
+each_shift : (setting : Setting) (b : ℕ) (journal : List TurnLine) → setting.fixed ≡ Some b → All (StaysAt 0 b) journal
+    → (e : ℕ)
     → shift_by (first_rest setting).line journal e ≡ b
 each_shift setting b journal fixed stays e =
     let first : (first_rest setting).line.shift ≡ b = ap (λ o. unwrap_or o (setting.k / 2)) fixed in
@@ -38,7 +40,8 @@ each_shift setting b journal fixed stays e =
 made_at : Input → Setting → ℕ → ℕ → ℕ
 made_at input setting b j = made input (first_rest setting).line setting.k (λ side index. 0) (λ e. b) j
 
-made_stays : (input : Input) (setting : Setting) (b : ℕ) (journal : List TurnLine) → ((e : ℕ) → shift_by (first_rest setting).line journal e ≡ b) → (j : ℕ)
+made_stays : (input : Input) (setting : Setting) (b : ℕ) (journal : List TurnLine)
+    → ((e : ℕ) → shift_by (first_rest setting).line journal e ≡ b) → (j : ℕ)
     → made_over input setting (first_rest setting).line journal j ≡ made_at input setting b j
 unfolding made_at
 made_stays input setting b journal each j =
@@ -49,7 +52,8 @@ made_stays input setting b journal each j =
 load_at : Input → ℕ → ℕ → ℕ → Held
 load_at input k b j = record { rows_r = held input k b R j; rows_s = held input k b S j }
 
-load_stays : (input : Input) (setting : Setting) (b : ℕ) (journal : List TurnLine) → ((e : ℕ) → shift_by (first_rest setting).line journal e ≡ b) → (j : ℕ)
+load_stays : (input : Input) (setting : Setting) (b : ℕ) (journal : List TurnLine)
+    → ((e : ℕ) → shift_by (first_rest setting).line journal e ≡ b) → (j : ℕ)
     → load_over input setting (first_rest setting).line journal j ≡ load_at input setting.k b j
 unfolding load_at
 load_stays input setting b journal each j = ap (λ shift. load_at input setting.k shift j) (each (last_epoch journal))
@@ -60,43 +64,55 @@ report_at input setting b =
     let x = row_count input R in
     let y = row_count input S in
     input_line x y ++ [] ++ final_line setting.k setting.weights b x y
-    ++ joiner_lines (map (load_at input setting.k b) (range_with_len 0 (2 ^ setting.k))) (map (made_at input setting b) (range_with_len 0 (2 ^ setting.k)))
+    ++ joiner_lines (map (load_at input setting.k b) (range_with_len 0 (2 ^ setting.k)))
+    (map (made_at input setting b) (range_with_len 0 (2 ^ setting.k)))
 
-same_parts : (k : ℕ) (w : Weights) (x y : ℕ) (grids : List ℕ) (one other : ℕ) (loads_one loads_other : List Held) (made_one made_other : List ℕ)
+same_parts : (k : ℕ) (w : Weights) (x y : ℕ) (grids : List ℕ) (one other : ℕ) (loads_one loads_other : List Held)
+    (made_one made_other : List ℕ)
     → grids ≡ [] → one ≡ other → loads_one ≡ loads_other → made_one ≡ made_other
-    → input_line x y ++ grids ++ final_line k w one x y ++ joiner_lines loads_one made_one ≡ input_line x y ++ [] ++ final_line k w other x y ++ joiner_lines loads_other made_other
+    → input_line x y ++ grids ++ final_line k w one x y ++ joiner_lines loads_one made_one ≡ input_line x y ++ []
+    ++ final_line k w other x y ++ joiner_lines loads_other made_other
 same_parts k w x y grids one other loads_one loads_other made_one made_other no_grids same_shift same_loads same_made =
     ap (λ g. input_line x y ++ g ++ final_line k w one x y ++ joiner_lines loads_one made_one) no_grids
     ∙ ap (λ b. input_line x y ++ [] ++ final_line k w b x y ++ joiner_lines loads_one made_one) same_shift
     ∙ ap (λ ls. input_line x y ++ [] ++ final_line k w other x y ++ joiner_lines ls made_one) same_loads
     ∙ ap (λ ms. input_line x y ++ [] ++ final_line k w other x y ++ joiner_lines loads_other ms) same_made
 
-report_stays : (input : Input) (setting : Setting) (b : ℕ) (journal : List TurnLine) → ((e : ℕ) → shift_by (first_rest setting).line journal e ≡ b) → last_epoch journal ≡ 0
+report_stays : (input : Input) (setting : Setting) (b : ℕ) (journal : List TurnLine)
+    → ((e : ℕ) → shift_by (first_rest setting).line journal e ≡ b) → last_epoch journal ≡ 0
     → report_over input setting journal ≡ report_at input setting b
 report_stays input setting b journal each none =
     let ids = range_with_len 0 (2 ^ setting.k) in
     let first = (first_rest setting).line in
     same_parts setting.k setting.weights (row_count input R) (row_count input S)
-    (grid_lines setting journal (map (moved_over input setting first journal) (range_with_len 0 (migrations first journal))))
+    (grid_lines setting journal (map (moved_over input setting first journal)
+    (range_with_len 0 (migrations first journal))))
     (shift_by first journal (last_epoch journal)) b
     (map (load_over input setting first journal) ids) (map (load_at input setting.k b) ids)
     (map (made_over input setting first journal) ids) (map (made_at input setting b) ids)
-    (ap (λ n. grid_lines setting journal (map (moved_over input setting first journal) (range_with_len 0 (n - 0)))) none)
+    (ap (λ n. grid_lines setting journal (map (moved_over input setting first journal) (range_with_len 0 (n - 0))))
+    none)
     (each (last_epoch journal))
     (ap (λ f. map f ids) (fun_ext (load_stays input setting b journal each)))
     (ap (λ f. map f ids) (fun_ext (made_stays input setting b journal each)))
 
 abbrev text_at : Asked → Input → Setting → ℕ → List ℕ
-text_at asked input setting b = answer_of asked.make asked.rows input ++ (if asked.report then report_at input setting b else [])
+text_at asked input setting b = answer_of asked.make asked.rows input ++ (if asked.report then report_at input setting b
+    else [])
 
-text_stays : (asked : Asked) (input : Input) (setting : Setting) (b : ℕ) (journal : List TurnLine) → setting.fixed ≡ Some b → All (StaysAt 0 b) journal → last_epoch journal ≡ 0
+text_stays : (asked : Asked) (input : Input) (setting : Setting) (b : ℕ) (journal : List TurnLine)
+    → setting.fixed ≡ Some b → All (StaysAt 0 b) journal → last_epoch journal ≡ 0
     → text_of asked input setting journal ≡ text_at asked input setting b
 text_stays asked input setting b journal fixed stays none =
-    ap (λ lines. answer_of asked.make asked.rows input ++ (if asked.report then lines else [])) (report_stays input setting b journal (each_shift setting b journal fixed stays) none)
+    ap (λ lines. answer_of asked.make asked.rows input ++ (if asked.report then lines else []))
+    (report_stays input setting b journal (each_shift setting b journal fixed stays) none)
 
 -- with a fixed shift two such journals have one output
 pub one_output : (asked : Asked) (planned : Planned) (shift : ℕ) (one other : List TurnLine) → asked.fixed ≡ Some shift
-    → IsJournalOf asked planned one → IsJournalOf asked planned other → output_of asked planned one ≡ output_of asked planned other
+    → IsJournalOf asked planned one → IsJournalOf asked planned other
+    → output_of asked planned one ≡ output_of asked planned other
 one_output asked planned shift one other fixed is_one is_other =
-    text_stays asked (input_of asked.seed planned) (setting_of asked) shift one fixed (is_one.stays shift fixed) (is_one.one_epoch shift fixed)
-    ∙ sym (text_stays asked (input_of asked.seed planned) (setting_of asked) shift other fixed (is_other.stays shift fixed) (is_other.one_epoch shift fixed))
+    text_stays asked (input_of asked.seed planned) (setting_of asked) shift one fixed (is_one.stays shift fixed)
+    (is_one.one_epoch shift fixed)
+    ∙ sym (text_stays asked (input_of asked.seed planned) (setting_of asked) shift other fixed
+    (is_other.stays shift fixed) (is_other.one_epoch shift fixed))

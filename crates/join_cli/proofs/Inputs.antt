@@ -24,7 +24,8 @@ use Rattle.join_runtime.specs.Endings.{EndsView}
 use Rattle.join_cli.specs.Courses.{IsCourseOf, IsRunInThreads, WentAs}
 use Rattle.join_cli.specs.Plan.{IsJournalOf, IsJournalOver, input_of, setting_of}
 
-fits : (seed : ℕ) (side : Side) (table : Table) (tickets : List ℕ) (width : ℕ) → IsTable table → tickets ≡ tickets_of seed side table.rows
+fits : (seed : ℕ) (side : Side) (table : Table) (tickets : List ℕ) (width : ℕ) → IsTable table
+    → tickets ≡ tickets_of seed side table.rows
     → width ≡ length table.names → IsFor table tickets width
 fits seed side table tickets width is drawn same = record {
   few = is.few;
@@ -39,9 +40,21 @@ pub valid_input : (seed : ℕ) (tables : Tables) (theta : Meaning) (tickets_r ti
     → theta.width_r ≡ length tables.of_r.names → theta.width_s ≡ length tables.of_s.names
     → tickets_r ≡ tickets_of seed R tables.of_r.rows → tickets_s ≡ tickets_of seed S tables.of_s.rows
     → All (λ ticket. ticket < 2 ^ 8) tickets_r → All (λ ticket. ticket < 2 ^ 8) tickets_s
-    → IsValidInput (record { table_r = tables.of_r; table_s = tables.of_s; theta = theta; tickets_r = tickets_r; tickets_s = tickets_s })
+    → IsValidInput (record {
+      table_r = tables.of_r;
+      table_s = tables.of_s;
+      theta = theta;
+      tickets_r = tickets_r;
+      tickets_s = tickets_s;
+    })
 valid_input seed tables theta tickets_r tickets_s table_r table_s width_r width_s drawn_r drawn_s bytes_r bytes_s =
-    both_sides (record { table_r = tables.of_r; table_s = tables.of_s; theta = theta; tickets_r = tickets_r; tickets_s = tickets_s })
+    both_sides (record {
+      table_r = tables.of_r;
+      table_s = tables.of_s;
+      theta = theta;
+      tickets_r = tickets_r;
+      tickets_s = tickets_s;
+    })
     (fits seed R tables.of_r tickets_r theta.width_r table_r drawn_r width_r)
     (fits seed S tables.of_s tickets_s theta.width_s table_s drawn_s width_s)
     bytes_r bytes_s
@@ -69,21 +82,27 @@ journal_of_run asked planned input setting run input_is setting_is of_input of_s
     (subst (λ s. IsJournalOver input s run.journal) setting_is (journal_over input setting run of_input of_setting is))
 
 -- and what shows how it went
-pub course_of_run : (asked : Asked) (planned : Planned) (input : Input) (setting : Setting) (run : Run) (trail : List EndsView)
+pub course_of_run : (asked : Asked) (planned : Planned) (input : Input) (setting : Setting) (run : Run)
+    (trail : List EndsView)
     → input ≡ input_of asked.seed planned → setting ≡ setting_of asked → IsValidInput input → IsValidSetting setting
     → asked.groups ≡ None → asked.chain ≡ None → IsRunOf input setting (first_rest setting).line run.journal run
     → WentAs asked.replay input setting run.journal trail → IsCourseOf asked planned run.journal trail
-course_of_run asked planned input setting run trail input_is setting_is of_input of_setting single whole is went = record {
-  single = single;
-  whole = whole;
-  lawful = journal_of_run asked planned input setting run input_is setting_is of_input of_setting is;
-  went = subst (λ i. WentAs asked.replay i (setting_of asked) run.journal trail) input_is (subst (λ s. WentAs asked.replay input s run.journal trail) setting_is went);
-}
+course_of_run asked planned input setting run trail input_is setting_is of_input of_setting single whole is went =
+    record {
+      single = single;
+      whole = whole;
+      lawful = journal_of_run asked planned input setting run input_is setting_is of_input of_setting is;
+      went = subst (λ i. WentAs asked.replay i (setting_of asked) run.journal trail) input_is
+          (subst (λ s. WentAs asked.replay input s run.journal trail) setting_is went);
+    }
 
 -- of a run in threads
-pub course_in_threads : (asked : Asked) (planned : Planned) (input : Input) (setting : Setting) (run : Run) (trail : List EndsView)
-    → input ≡ input_of asked.seed planned → setting ≡ setting_of asked → IsValidInput input → IsValidSetting setting → asked.replay ≡ None
+pub course_in_threads : (asked : Asked) (planned : Planned) (input : Input) (setting : Setting) (run : Run)
+    (trail : List EndsView)
+    → input ≡ input_of asked.seed planned → setting ≡ setting_of asked → IsValidInput input → IsValidSetting setting
+    → asked.replay ≡ None
     → asked.groups ≡ None → asked.chain ≡ None → IsRunOf input setting (first_rest setting).line run.journal run
     → IsRunInThreads input setting run.journal trail → IsCourseOf asked planned run.journal trail
 course_in_threads asked planned input setting run trail input_is setting_is of_input of_setting threads single whole is went =
-    course_of_run asked planned input setting run trail input_is setting_is of_input of_setting single whole is (rw threads went)
+    course_of_run asked planned input setting run trail input_is setting_is of_input of_setting single whole is
+    (rw threads went)

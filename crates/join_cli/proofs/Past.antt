@@ -1,5 +1,6 @@
 -- A place past the greatest length is told.
-use Rattle.std.proofs.Common.{◌≡◌, ◌<◌, ◌^◌, ◌∙◌, ℕ, Bool, true, false, List, [], length, arith, Option, None, Some, Result, Ok, Err, refl, sym, ap, subst}
+use Rattle.std.proofs.Common.{◌≡◌, ◌<◌, ◌^◌, ◌∙◌, ℕ, Bool, true, false, List, [], length, arith, Option, None, Some}
+use Rattle.std.proofs.Common.{Result, Ok, Err, refl, sym, ap, subst}
 use Rattle.std.specs.Prelude.{Contains, nat_lt}
 use Rattle.join_rows.specs.Records.{most_bytes, table_of}
 use Rattle.join_rows.specs.Shelves.{Spot, Told}
@@ -42,10 +43,12 @@ abbrev place_at : Spot → ℕ
 place_at None = 0
 place_at (Some at) = at.1
 
-name_there : (spot : Spot) (name other : List ℕ) (place size : ℕ) → spot ≡ Some (name, place) → spot ≡ Some (other, size) → other ≡ name
+name_there : (spot : Spot) (name other : List ℕ) (place size : ℕ) → spot ≡ Some (name, place)
+    → spot ≡ Some (other, size) → other ≡ name
 name_there spot name other place size is so = ap name_at (sym so ∙ is)
 
-place_there : (spot : Spot) (name other : List ℕ) (place size : ℕ) → spot ≡ Some (name, place) → spot ≡ Some (other, size) → place ≡ size
+place_there : (spot : Spot) (name other : List ℕ) (place size : ℕ) → spot ≡ Some (name, place)
+    → spot ≡ Some (other, size) → place ≡ size
 place_there spot name other place size is so = ap place_at (sym is ∙ so)
 
 abbrev no_tables : Refusal → Result Tables Refusal
@@ -58,13 +61,15 @@ no_third refusal = Err refusal
 long_r : (seen_r seen_s : List ℕ) → table_of seen_r ≡ Err files.TooLong
     → tables_in (Some seen_r) (Some seen_s) ≡ no_tables (refusals.Limit (TooLong R 1))
 long_r seen_r seen_s is =
-    ap (λ r. then_of (or_refused R 1 r) (λ of_r. then_of (table_found S 1 (Some seen_s)) (λ of_s. Ok (record { of_r = of_r; of_s = of_s })))) is
+    ap (λ r. then_of (or_refused R 1 r) (λ of_r. then_of (table_found S 1 (Some seen_s))
+    (λ of_s. Ok (record { of_r = of_r; of_s = of_s })))) is
 
 -- and of a table R and a file S that is too long
 long_s : (seen_r seen_s : List ℕ) (table : Table) → table_of seen_r ≡ Ok table → table_of seen_s ≡ Err files.TooLong
     → tables_in (Some seen_r) (Some seen_s) ≡ no_tables (refusals.Limit (TooLong S 1))
 long_s seen_r seen_s table is_r is_s =
-    ap (λ r. then_of (or_refused R 1 r) (λ of_r. then_of (table_found S 1 (Some seen_s)) (λ of_s. Ok (record { of_r = of_r; of_s = of_s })))) is_r
+    ap (λ r. then_of (or_refused R 1 r) (λ of_r. then_of (table_found S 1 (Some seen_s))
+    (λ of_s. Ok (record { of_r = of_r; of_s = of_s })))) is_r
     ∙ ap (λ s. then_of (or_refused S 1 s) (λ of_s. Ok (record { of_r = table; of_s = of_s }))) is_s
 
 -- at a place past the greatest length in one of the first two files, that one is refused
@@ -98,7 +103,8 @@ two_long told spot asked tables name place seen is past = by (table_of seen.seen
 
 -- and in the third
 third_long : (told : Told) (spot : Spot) (chain : AskedChain) (table : Result Table Refusal) (name : List ℕ) (place : ℕ)
-    → IsSeen told spot (record { side = S; wave = 2; name = chain.name }) table → spot ≡ Some (name, place) → 2 ^ 24 < place
+    → IsSeen told spot (record { side = S; wave = 2; name = chain.name }) table → spot ≡ Some (name, place)
+    → 2 ^ 24 < place
     → (chain.name ≡ name) × (◌≡◌ {A = Result Table Refusal} table (Err (refusals.Limit (TooLong S 2))))
 third_long told spot chain table name place seen is past =
     let long : 2 ^ 24 < length seen.seen =
@@ -108,16 +114,20 @@ third_long told spot chain table name place seen is past =
     )
 
 -- the outcome of a refused plan
-ended : (asked : Asked) (trees : Trees) (old new : Option (List ℕ)) (outcome : Outcome) (found : Result Gathered Refusal) (refusal : Refusal)
+ended : (asked : Asked) (trees : Trees) (old new : Option (List ℕ)) (outcome : Outcome)
+    (found : Result Gathered Refusal) (refusal : Refusal)
     → found ≡ Err refusal → Ends asked old new (then_of found (fitted trees)) outcome → outcome ≡ outcome_of refusal
-ended asked trees old new outcome found refusal is ends = (subst (λ f. Ends asked old new (then_of f (fitted trees)) outcome) is ends).0
+ended asked trees old new outcome found refusal is ends =
+    (subst (λ f. Ends asked old new (then_of f (fitted trees)) outcome) is ends).0
 
 -- what was read up to a place past the greatest length is no table, so the refusal is the one that tells its file
-pub past_is_too_long : (told : Told) (spot : Spot) (asked : Asked) (trees : Trees) (old new : Option (List ℕ)) (outcome : Outcome)
+pub past_is_too_long : (told : Told) (spot : Spot) (asked : Asked) (trees : Trees) (old new : Option (List ℕ))
+    (outcome : Outcome)
     (name : List ℕ) (place : ℕ) → asked.make ≡ None → EndsOver told spot asked trees old new outcome
     → spot ≡ Some (name, place) → 2 ^ 24 < place → IsTooLong asked name outcome
 past_is_too_long told spot asked trees old new outcome name place none over is past =
-    by over.seen.tables (subst (λ make. TablesAsked told over.seen.middle asked make over.seen.tables) none over.seen.first) over.seen.then_third
+    by over.seen.tables (subst (λ make. TablesAsked told over.seen.middle asked make over.seen.tables)
+    none over.seen.first) over.seen.then_third
   where
     -- behind two tables, the third file
     third : (chain : Option AskedChain) (middle : Spot) (tables : Tables) → asked.chain ≡ chain
@@ -135,7 +145,8 @@ past_is_too_long told spot asked trees old new outcome name place none over is p
           source = record { side = S; wave = 2; name = chain.name };
           among = third_among asked chain here;
           named = long.0;
-          told = ended asked trees old new outcome over.found (refusals.Limit (TooLong S 2)) (all.2 ∙ ap (with_third tables) refused) over.ends;
+          told = ended asked trees old new outcome over.found (refusals.Limit (TooLong S 2))
+              (all.2 ∙ ap (with_third tables) refused) over.ends;
         }
 
     by : (tables : Result Tables Refusal) → TablesSeen told over.seen.middle asked.name_r asked.name_s tables

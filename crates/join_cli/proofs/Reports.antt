@@ -1,5 +1,6 @@
 -- What a report asks of a run.
-use Rattle.std.proofs.Common.{◌≡◌, ◌∙◌, ◌<◌, ◌≤◌, ◌*◌, ◌+◌, ◌^◌, ◌++◌, ℕ, List, [], ◌∷◌, length, map, refl, sym, ap, subst, arith}
+use Rattle.std.proofs.Common.{◌≡◌, ◌∙◌, ◌<◌, ◌≤◌, ◌*◌, ◌+◌, ◌^◌, ◌++◌, ℕ, List, [], ◌∷◌, length, map, refl, sym, ap}
+use Rattle.std.proofs.Common.{subst, arith}
 use Rattle.std.specs.Prelude.{All, reverse}
 use Rattle.std.specs.List.{AllByRecursion}
 use Rattle.std.proofs.lemmas.List.Elements.{All-from_recursion}
@@ -37,24 +38,29 @@ use Rattle.join_cli.specs.Plan.{report_over}
 use Rattle.join_cli.specs.declared.groups.Dealt.{Dealt}
 
 -- no shift of a lawful journal is past the grid
-past_fits : (setting : Setting) (first : TurnLine) (journal past : List TurnLine) → Fits (rules_of setting) first → reverse journal ≡ past
+past_fits : (setting : Setting) (first : TurnLine) (journal past : List TurnLine) → Fits (rules_of setting) first
+    → reverse journal ≡ past
     → Follows (rules_of setting) first past → AreWithin setting.k journal
 past_fits setting first journal [] fits is follows = absurd follows
 past_fits setting first journal (line ∷ past) fits is follows =
     let P : TurnLine → Type 0 = λ l. l.shift ≤ setting.k in
     let each : AllByRecursion P (line ∷ past) = shifts_within (rules_of setting) first line past fits follows in
-    All-from_recursion P journal (subst (AllByRecursion P) (ap reverse (sym is) ∙ reverse-reverse journal) (all-reverse P (line ∷ past) each))
+    All-from_recursion P journal (subst (AllByRecursion P) (ap reverse (sym is) ∙ reverse-reverse journal)
+    (all-reverse P (line ∷ past) each))
 
 -- each line of a run's journal has a shift of its grid
-pub shifts_fit : (input : Input) (setting : Setting) (journal : List TurnLine) (run : Run) → IsValidInput input → IsValidSetting setting
+pub shifts_fit : (input : Input) (setting : Setting) (journal : List TurnLine) (run : Run) → IsValidInput input
+    → IsValidSetting setting
     → IsRunOf input setting (first_rest setting).line journal run → AreWithin setting.k journal
 shifts_fit input setting journal run of_input valid is =
     let first = (first_rest setting).line in
-    let fits = fits_begun (rules_of setting) first (first_stands input setting (within_limits input setting of_input valid)).line.fits in
+    let fits = fits_begun (rules_of setting) first (first_stands input setting
+    (within_limits input setting of_input valid)).line.fits in
     past_fits setting (begun first) journal (reverse journal) fits refl is.lawful.so_far.follows
 
 -- it has few steps
-pub few_steps : (input : Input) (setting : Setting) (journal : List TurnLine) (run : Run) → IsValidInput input → IsValidSetting setting
+pub few_steps : (input : Input) (setting : Setting) (journal : List TurnLine) (run : Run) → IsValidInput input
+    → IsValidSetting setting
     → IsRunOf input setting (first_rest setting).line journal run → length run.moved < 2 ^ 32
 few_steps input setting journal run of_input valid is =
     let first = (first_rest setting).line in
@@ -63,9 +69,11 @@ few_steps input setting journal run of_input valid is =
     let few_s = (of_input.sides S).few in
     let few_joiners = valid.joiners in
     let steps : migrations first journal ≤ setting.k * (19 + 19) =
-    (bounded input setting first journal limits (first_stands input setting limits).line is.lawful.so_far 19 19 (omega arith) (omega arith)).0 in
+    (bounded input setting first journal limits (first_stands input setting limits).line is.lawful.so_far 19 19
+    (omega arith) (omega arith)).0 in
     let size : length run.moved ≡ migrations first journal =
-    ap length is.moved ∙ length-map-range_with_len (moved_over input setting first journal) 0 (migrations first journal) in
+    ap length is.moved ∙ length-map-range_with_len (moved_over input setting first journal) 0
+    (migrations first journal) in
     let small : setting.k ≤ 8 = valid.joiners in
     omega arith
 

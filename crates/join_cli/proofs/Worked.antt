@@ -27,7 +27,8 @@ lines texts = flat_map (λ text. text ++ 10 ∷ []) texts
 
 -- the texts of the columns `k` are equal
 equal_keys : Tree
-equal_keys = txt (Col (record { side = sides.R; word = codes "k" })) Eq (Col (record { side = sides.S; word = codes "k" }))
+equal_keys = txt (Col (record { side = sides.R; word = codes "k" })) Eq
+    (Col (record { side = sides.S; word = codes "k" }))
 
 -- the files `r` and `s` are joined by four joiners, without a report
 four : Asked
@@ -55,7 +56,8 @@ four = record {
 -- the output of two files by a tree, or the refusal
 joined : Tree → List ℕ → List ℕ → Result (List ℕ) Refusal
 joined tree of_r of_s =
-    then_of (plan_of four (record { on = Ok tree; further = None }) (λ name. if bytes_eq name (codes "r") then Some of_r else (if bytes_eq name (codes "s") then Some of_s else None)))
+    then_of (plan_of four (record { on = Ok tree; further = None }) (λ name. if bytes_eq name (codes "r") then Some of_r
+    else (if bytes_eq name (codes "s") then Some of_s else None)))
     (λ planned. Ok (output_of four planned []))
 
 of_r : List ℕ
@@ -65,15 +67,19 @@ of_s : List ℕ
 of_s = lines (codes "k" ∷ codes "7" ∷ codes "9" ∷ codes "7" ∷ [])
 
 pairs : joined equal_keys of_r of_s ≡ Ok (lines (codes "1,1" ∷ codes "1,3" ∷ codes "3,1" ∷ codes "3,3" ∷ []))
-unfolding lines equal_keys four joined of_r of_s table_of table_of_records fault_of_rows records_from next_record after_marks digits
+unfolding lines equal_keys four joined of_r of_s table_of table_of_records fault_of_rows records_from next_record
+    after_marks digits
 pairs = refl
 
 other_texts : joined equal_keys (lines (codes "k" ∷ codes "7" ∷ [])) (lines (codes "k" ∷ codes "07" ∷ [])) ≡ Ok []
-unfolding lines equal_keys four joined table_of table_of_records fault_of_rows records_from next_record after_marks digits
+unfolding lines equal_keys four joined table_of table_of_records fault_of_rows records_from next_record after_marks
+    digits
 other_texts = refl
 
-empty_texts : joined equal_keys (lines (codes "k,v" ∷ codes ",a" ∷ [])) (lines (codes "k,w" ∷ codes ",b" ∷ [])) ≡ Ok (lines (codes "1,1" ∷ []))
-unfolding lines equal_keys four joined table_of table_of_records fault_of_rows records_from next_record after_marks digits
+empty_texts : joined equal_keys (lines (codes "k,v" ∷ codes ",a" ∷ [])) (lines (codes "k,w" ∷ codes ",b" ∷ []))
+    ≡ Ok (lines (codes "1,1" ∷ []))
+unfolding lines equal_keys four joined table_of table_of_records fault_of_rows records_from next_record after_marks
+    digits
 empty_texts = refl
 
 no_column : joined equal_keys of_r (lines (codes "x" ∷ codes "7" ∷ [])) ≡ Err (Predicate (NoColumn sides.S (codes "k")))
@@ -96,7 +102,8 @@ no_header = refl
 
 -- the same two files, and the third `q`, by the texts of their columns `k`, the joined row's by this name
 texts_of : List ℕ → Tree
-texts_of name = txt (Col (record { side = sides.R; word = name })) Eq (Col (record { side = sides.S; word = codes "k" }))
+texts_of name = txt (Col (record { side = sides.R; word = name })) Eq
+    (Col (record { side = sides.S; word = codes "k" }))
 
 -- the output of three files by two trees, or the refusal
 chained : Tree → Tree → List ℕ → List ℕ → List ℕ → Result (List ℕ) Refusal
@@ -112,13 +119,17 @@ of_q = lines (codes "k" ∷ codes "c" ∷ codes "a" ∷ codes "c" ∷ [])
 
 triples : chained equal_keys (texts_of (codes "r_v")) of_r of_s of_q
     ≡ Ok (lines (codes "1,1,2" ∷ codes "1,3,2" ∷ codes "3,1,1" ∷ codes "3,1,3" ∷ codes "3,3,1" ∷ codes "3,3,3" ∷ []))
-unfolding lines equal_keys texts_of four chained of_r of_s of_q table_of table_of_records fault_of_rows records_from next_record after_marks digits
+unfolding lines equal_keys texts_of four chained of_r of_s of_q table_of table_of_records fault_of_rows records_from
+    next_record after_marks digits
 triples = refl
 
 no_joined_column : chained equal_keys (texts_of (codes "v")) of_r of_s of_q ≡ Err (Then (NoColumn sides.R (codes "v")))
-unfolding lines equal_keys texts_of four chained of_r of_s of_q table_of table_of_records fault_of_rows records_from next_record after_marks
+unfolding lines equal_keys texts_of four chained of_r of_s of_q table_of table_of_records fault_of_rows records_from
+    next_record after_marks
 no_joined_column = refl
 
-narrow_third : chained equal_keys (texts_of (codes "v")) of_r of_s (codes "a,b" ++ 10 ∷ codes "1") ≡ Err (Input (Width sides.S 2 1 1))
-unfolding lines equal_keys texts_of four chained of_r of_s table_of table_of_records fault_of_rows records_from next_record after_marks
+narrow_third : chained equal_keys (texts_of (codes "v")) of_r of_s (codes "a,b" ++ 10 ∷ codes "1")
+    ≡ Err (Input (Width sides.S 2 1 1))
+unfolding lines equal_keys texts_of four chained of_r of_s table_of table_of_records fault_of_rows records_from
+    next_record after_marks
 narrow_third = refl

@@ -1,5 +1,6 @@
 -- A second join, of the joined rows with a third table.
-use Rattle.std.specs.Prelude.{◌≡◌, ◌≤◌, ◌<◌, ◌+◌, ◌++◌, ◌^◌, ℕ, ⊤, Bool, true, List, [], ◌∷◌, flat_map, length, Option, None, Some, IfSome, is_some, codes}
+use Rattle.std.specs.Prelude.{◌≡◌, ◌≤◌, ◌<◌, ◌+◌, ◌++◌, ◌^◌, ℕ, ⊤, Bool, true, List, [], ◌∷◌, flat_map, length, Option}
+use Rattle.std.specs.Prelude.{None, Some, IfSome, is_some, codes}
 use Rattle.std.specs.Fmt.{decimal}
 use Rattle.join_rows.specs.Records.{IsTable}
 use Rattle.trace_law.specs.declared.input.Input.{Input}
@@ -30,9 +31,11 @@ pub record IsThirdOver (input : Input) (third : Third) : Type 0 where
   pub width_r : third.theta.width_r ≡ length input.table_r.names + length input.table_s.names
   pub width_s : third.theta.width_s ≡ length third.table.names
 
--- the two runs of a chain in threads, whose controllers have these journals: the first has few enough pairs, the second is over
+-- the two runs of a chain in threads, whose controllers have these journals: the first has few enough pairs, the second
+-- is over
 -- the joined rows, and the seats of both left ends whose lists are finished, agreeing families
-pub record IsChainOver (input : Input) (third : ChainThird) (seed : ℕ) (setting : Setting) (first second : List TurnLine)
+pub record IsChainOver (input : Input) (third : ChainThird) (seed : ℕ) (setting : Setting)
+    (first second : List TurnLine)
     (trail : List EndsView) : Type 0 where
   pub few : length (nested_loop input) ≤ 2 ^ 18
   pub lawful_first : IsJournalOver input setting first
@@ -44,7 +47,8 @@ pub record IsChainOver (input : Input) (third : ChainThird) (seed : ℕ) (settin
   pub only : trail ≡ ends_first ∷ ends_second ∷ []
 
 -- what is answered of a second join that was asked for
-pub record IsChainOf (asked : Asked) (planned : Planned) (first second : List TurnLine) (trail : List EndsView) : Type 0 where
+pub record IsChainOf (asked : Asked) (planned : Planned) (first second : List TurnLine)
+    (trail : List EndsView) : Type 0 where
   pub third : Third
   pub chained : planned.third ≡ Some third
   pub over : IsChainOver (input_of asked.seed planned) (third_of third) asked.seed (setting_of asked) first second trail

@@ -1,5 +1,6 @@
 -- How a run went, and the output over it.
-use Rattle.std.specs.Prelude.{◌≡◌, ◌++◌, ◌+◌, ◌^◌, ⊤, ℕ, List, [], ◌∷◌, map, length, Option, None, Some, unwrap_or, if◌then◌else◌, codes}
+use Rattle.std.specs.Prelude.{◌≡◌, ◌++◌, ◌+◌, ◌^◌, ⊤, ℕ, List, [], ◌∷◌, map, length, Option, None, Some, unwrap_or}
+use Rattle.std.specs.Prelude.{if◌then◌else◌, codes}
 use Rattle.std.specs.Fmt.{decimal}
 use Rattle.trace_law.specs.declared.input.Input.{Input}
 use Rattle.trace_law.specs.declared.run.Run.{Run}
@@ -19,14 +20,17 @@ use Rattle.join_cli.specs.Chain.{IsChainOf, chain_output}
 use Rattle.join_cli.specs.Plan.{IsJournalOf, answer_of, input_of, output_of, report_over, setting_of}
 
 -- a replay with this number, whose controller has this journal, leaves nothing
-pub record IsReplayed (input : Input) (setting : Setting) (seed : ℕ) (journal : List TurnLine) (trail : List EndsView) : Type 0 where
+pub record IsReplayed (input : Input) (setting : Setting) (seed : ℕ) (journal : List TurnLine)
+    (trail : List EndsView) : Type 0 where
   pub run : Run
   pub order : IsReplay input setting seed run
   pub journal_is : run.journal ≡ journal
   pub nothing : trail ≡ []
 
--- a run in threads leaves its seats' ends: their lists are a finished, agreeing family, whose controller has this journal
-pub record IsRunInThreads (input : Input) (setting : Setting) (journal : List TurnLine) (trail : List EndsView) : Type 0 where
+-- a run in threads leaves its seats' ends: their lists are a finished, agreeing family, whose controller has this
+-- journal
+pub record IsRunInThreads (input : Input) (setting : Setting) (journal : List TurnLine)
+    (trail : List EndsView) : Type 0 where
   pub ends : EndsView
   pub family : IsFinishedFamily input setting journal (lists_left ends)
   pub only : trail ≡ ends ∷ []
@@ -36,9 +40,11 @@ abbrev pub WentAs : Option ℕ → Input → Setting → List TurnLine → List 
 WentAs (Some seed) input setting journal trail = IsReplayed input setting seed journal trail
 WentAs None input setting journal trail = IsRunInThreads input setting journal trail
 
--- what is answered of a run that was asked for, of two tables and joiners in one grid: the journal of a lawful controller, and what shows how
+-- what is answered of a run that was asked for, of two tables and joiners in one grid: the journal of a lawful
+-- controller, and what shows how
 -- the run went
-pub record IsCourseOf (asked : Asked) (planned : Planned) (journal : List TurnLine) (trail : List EndsView) : Type 0 where
+pub record IsCourseOf (asked : Asked) (planned : Planned) (journal : List TurnLine)
+    (trail : List EndsView) : Type 0 where
   pub single : asked.groups ≡ None
   pub whole : asked.chain ≡ None
   pub lawful : IsJournalOf asked planned journal
@@ -49,11 +55,13 @@ abbrev pub groups_drawn : Asked → Planned → ℕ → List ℕ
 groups_drawn asked planned joiners = numbers_of asked.seed joiners (length planned.tables.of_r.rows)
 
 -- what is answered of joiners in groups: each group had a run of its part of R with all of S, whose journal this is
-pub record AreGroupsOf (asked : Asked) (planned : Planned) (journals : List (List TurnLine)) (trail : List EndsView) : Type 0 where
+pub record AreGroupsOf (asked : Asked) (planned : Planned) (journals : List (List TurnLine))
+    (trail : List EndsView) : Type 0 where
   pub joiners : ℕ
   pub grouped : asked.groups ≡ Some joiners
   pub runs : List Run
-  pub are : AreGroups (input_of asked.seed planned) joiners (groups_drawn asked planned joiners) (setting_of asked) runs trail
+  pub are : AreGroups (input_of asked.seed planned) joiners (groups_drawn asked planned joiners) (setting_of asked)
+      runs trail
   pub journals_are : journals ≡ map (λ run. run.journal) runs
 
 -- of the groups from g on, with these exponents: each has its run
@@ -86,14 +94,16 @@ group_line g size = codes "group " ++ decimal g ++ codes " " ++ decimal size ++ 
 -- the report of a group of 2 ^ k joiners
 abbrev pub group_report : Input → ℕ → List ℕ → Setting → ℕ → ℕ → List TurnLine → List ℕ
 group_report input joiners numbers setting g k journal =
-    group_line g (2 ^ k) ++ report_over (input_of_part input (part joiners numbers g)) (setting_of_group setting k) journal
+    group_line g (2 ^ k) ++ report_over (input_of_part input (part joiners numbers g)) (setting_of_group setting k)
+    journal
 
 -- those of the groups from g on, whose exponents these are
 abbrev pub group_reports : Input → ℕ → List ℕ → Setting → ℕ → List ℕ → List (List TurnLine) → List ℕ
 group_reports input joiners numbers setting g [] journals = []
 group_reports input joiners numbers setting g (k ∷ digits) [] = []
 group_reports input joiners numbers setting g (k ∷ digits) (journal ∷ journals) =
-    group_report input joiners numbers setting g k journal ++ group_reports input joiners numbers setting (g + 1) digits journals
+    group_report input joiners numbers setting g k journal ++ group_reports input joiners numbers setting (g + 1)
+    digits journals
 
 -- the answer, and then the reports of all groups where they are asked for
 abbrev pub groups_text : Asked → Input → Setting → ℕ → List ℕ → List (List TurnLine) → List ℕ
@@ -106,5 +116,6 @@ abbrev pub output_over : Asked → Planned → Course → List ℕ
 output_over asked planned (by_run journal trail) = output_of asked planned journal
 output_over asked planned (by_groups journals trail) =
     let joiners = unwrap_or asked.groups 0 in
-    groups_text asked (input_of asked.seed planned) (setting_of asked) joiners (groups_drawn asked planned joiners) journals
+    groups_text asked (input_of asked.seed planned) (setting_of asked) joiners (groups_drawn asked planned joiners)
+    journals
 output_over asked planned (by_chain first second trail) = chain_output asked planned planned.third first second

@@ -18,15 +18,18 @@ use Rattle.join_runtime.specs.Endings.{EndsView}
 use Rattle.join_cli.specs.Courses.{Course, IsRunInThreads, WentSo, by_chain, by_groups, by_run, output_over}
 use Rattle.join_cli.specs.Plan.{input_of, report_asked, setting_of}
 
--- the lines of the nested loop's pairs, each once in the order in which they were found, and then the report where one is asked
+-- the lines of the nested loop's pairs, each once in the order in which they were found, and then the report where one
+-- is asked
 -- for
-pub record IsFoundText (report : Bool) (input : Input) (setting : Setting) (journal : List TurnLine) (text : List ℕ) : Type 0 where
+pub record IsFoundText (report : Bool) (input : Input) (setting : Setting) (journal : List TurnLine)
+    (text : List ℕ) : Type 0 where
   pub found : List Pair
   pub all : IsPermutation (nested_loop input) found
   pub is : text ≡ pair_lines found ++ report_asked report input setting journal
 
 -- it was written
-pub record PutFound (report : Bool) (input : Input) (setting : Setting) (journal : List TurnLine) (old new : Option (List ℕ)) : Type 0 where
+pub record PutFound (report : Bool) (input : Input) (setting : Setting) (journal : List TurnLine)
+    (old new : Option (List ℕ)) : Type 0 where
   pub text : List ℕ
   pub is : IsFoundText report input setting journal text
   pub written : new ≡ append_known old text
@@ -74,7 +77,8 @@ pub record WroteCut (asked : Asked) (planned : Planned) (old new : Option (List 
   pub output : IsOutput asked.early asked planned way text
   pub front : AppendsFront old new text
 
--- nothing was written, but for early output, which may have written a front of the lines of some of the nested loop's pairs,
+-- nothing was written, but for early output, which may have written a front of the lines of some of the nested loop's
+-- pairs,
 -- none twice
 abbrev pub WroteLines : Bool → Asked → Planned → Option (List ℕ) → Option (List ℕ) → Type 0
 WroteLines false asked planned old new = new ≡ old

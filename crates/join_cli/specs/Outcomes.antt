@@ -3,7 +3,8 @@ use Rattle.std.specs.Prelude.{ℕ}
 use Rattle.join_plan.specs.declared.fault.Refusal.{Refusal}
 use Rattle.join_plan.specs.declared.fault.Refusal.TheVariants as refusals
 use Rattle.join_cli.specs.declared.outcome.Outcome.{Outcome}
-use Rattle.join_cli.specs.declared.outcome.Outcome.TheVariants.{Done, DoneGroups, DoneChain, Words, Predicate, Then, Input, Limit, Read, Write, Memory}
+use Rattle.join_cli.specs.declared.outcome.Outcome.TheVariants.{Done, DoneGroups, DoneChain, Words, Predicate, Then}
+use Rattle.join_cli.specs.declared.outcome.Outcome.TheVariants.{Input, Limit, Read, Write, Memory}
 
 -- the exit status
 abbrev pub status_of : Outcome → ℕ

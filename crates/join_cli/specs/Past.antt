@@ -16,8 +16,10 @@ pub record IsTooLong (asked : Asked) (name : List ℕ) (outcome : Outcome) : Typ
   pub named : source.name ≡ name
   pub told : outcome ≡ Limit (TooLong source.side source.wave)
 
--- a run of files that ends as what was read of them says, at a place past the greatest length, has told that file as too long
+-- a run of files that ends as what was read of them says, at a place past the greatest length, has told that file as
+-- too long
 abbrev pub PastIsTooLong : Type 0
-PastIsTooLong = (told : Told) (spot : Spot) (asked : Asked) (trees : Trees) (old new : Option (List ℕ)) (outcome : Outcome)
+PastIsTooLong = (told : Told) (spot : Spot) (asked : Asked) (trees : Trees) (old new : Option (List ℕ))
+    (outcome : Outcome)
     (name : List ℕ) (place : ℕ) → asked.make ≡ None → EndsOver told spot asked trees old new outcome
     → spot ≡ Some (name, place) → 2 ^ 24 < place → IsTooLong asked name outcome

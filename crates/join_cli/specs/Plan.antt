@@ -1,5 +1,6 @@
 -- What is run of a plan, and what is written of it.
-use Rattle.std.specs.Prelude.{◌≡◌, ◌^◌, ◌++◌, ℕ, Bool, true, false, All, List, [], map, Option, None, Some, if◌then◌else◌}
+use Rattle.std.specs.Prelude.{◌≡◌, ◌^◌, ◌++◌, ℕ, Bool, true, false, All, List, [], map, Option, None, Some}
+use Rattle.std.specs.Prelude.{if◌then◌else◌}
 use Rattle.std.specs.List.{range_with_len}
 use Rattle.join_rows.specs.declared.table.Side.TheVariants.{R, S}
 use Rattle.trace_law.specs.declared.input.Input.{Input}
@@ -55,7 +56,8 @@ IsLawfulFor input setting journal =
     let first = (first_rest setting).line in
     IsLawful (rules_of setting) (begun first) (λ p. map size_of (batches input setting first p)) journal
 
--- the journal of a lawful controller of this run; each line that isn't moving is near the best grid for its counts and for what
+-- the journal of a lawful controller of this run; each line that isn't moving is near the best grid for its counts and
+-- for what
 -- rows weigh, and where the shift is fixed there is one epoch, whose lines all have it
 pub record IsJournalOver (input : Input) (setting : Setting) (journal : List TurnLine) : Type 0 where
   pub lawful : IsLawfulFor input setting journal
@@ -75,14 +77,16 @@ run_over input setting journal = record {
   pairs = nested_loop input;
   made = map (made_over input setting (first_rest setting).line journal) (range_with_len 0 (2 ^ setting.k));
   loads = map (load_over input setting (first_rest setting).line journal) (range_with_len 0 (2 ^ setting.k));
-  moved = map (moved_over input setting (first_rest setting).line journal) (range_with_len 0 (migrations (first_rest setting).line journal));
+  moved = map (moved_over input setting (first_rest setting).line journal)
+      (range_with_len 0 (migrations (first_rest setting).line journal));
   journal = journal;
   bouts = 0;
 }
 
 -- its report
 abbrev pub report_over : Input → Setting → List TurnLine → List ℕ
-report_over input setting journal = report_of setting (row_count input R) (row_count input S) (run_over input setting journal)
+report_over input setting journal = report_of setting (row_count input R) (row_count input S)
+    (run_over input setting journal)
 
 -- the nested loop's pairs: the numbers of their rows, or the rows themselves; of made tables a summary of them
 abbrev pub answer_of : Option ℕ → Bool → Input → List ℕ
@@ -100,7 +104,8 @@ report_asked report input setting journal = if report then report_over input set
 
 -- the answer, and then the report
 abbrev pub text_of : Asked → Input → Setting → List TurnLine → List ℕ
-text_of asked input setting journal = answer_of asked.make asked.rows input ++ report_asked asked.report input setting journal
+text_of asked input setting journal = answer_of asked.make asked.rows input
+    ++ report_asked asked.report input setting journal
 
 -- the output that is asked for of a plan, over a journal
 abbrev pub output_of : Asked → Planned → List TurnLine → List ℕ
@@ -108,5 +113,7 @@ output_of asked planned journal = text_of asked (input_of asked.seed planned) (s
 
 -- with a fixed shift the output is the same over each such journal
 abbrev pub FixedOutputIsOne : Type 0
-FixedOutputIsOne = (asked : Asked) (planned : Planned) (shift : ℕ) (one other : List TurnLine) → asked.fixed ≡ Some shift
-    → IsJournalOf asked planned one → IsJournalOf asked planned other → output_of asked planned one ≡ output_of asked planned other
+FixedOutputIsOne = (asked : Asked) (planned : Planned) (shift : ℕ) (one other : List TurnLine)
+    → asked.fixed ≡ Some shift
+    → IsJournalOf asked planned one → IsJournalOf asked planned other
+    → output_of asked planned one ≡ output_of asked planned other

@@ -1,5 +1,6 @@
 -- The first bad cell of a column.
-use Rattle.std.proofs.Common.{◌≡◌, ◌<◌, ◌+◌, ℕ, zero, suc, Bool, true, false, List, [], ◌∷◌, drop, get_or, length, refl, ◌∙◌, ap, Option, Some, None, arith}
+use Rattle.std.proofs.Common.{◌≡◌, ◌<◌, ◌+◌, ℕ, zero, suc, Bool, true, false, List, [], ◌∷◌, drop, get_or, length, refl}
+use Rattle.std.proofs.Common.{◌∙◌, ap, Option, Some, None, arith}
 use Rattle.std.specs.List.{slice_get}
 use Rattle.std.specs.Option.{unwrap_or}
 use Rattle.std.proofs.lemmas.Option.{none-some}
@@ -25,13 +26,20 @@ good_is column row good = by (slice_get row column) refl
     by (Some cell) there = of cell there (is_bad cell) refl
 
 pub first_bad-none : (column number : ℕ) (rows : List (List Cell))
-    → ((place : ℕ) (row : List Cell) → slice_get rows place ≡ Some row → ¬ (IsBad column row)) → first_bad column number rows ≡ None
+    → ((place : ℕ) (row : List Cell) → slice_get rows place ≡ Some row → ¬ (IsBad column row))
+    → first_bad column number rows ≡ None
 first_bad-none column number [] good = refl
 first_bad-none column number (row ∷ rows) good =
-    rw (good_is column row (good 0 row refl), first_bad-none column (number + 1) rows (λ place other there. good (suc place) other there)) refl
+    rw (
+      good_is column row (good 0 row refl),
+      first_bad-none column (number + 1) rows
+          (λ place other there. good (suc place) other there),
+    ) refl
 
-first_bad-at : (column number : ℕ) (rows : List (List Cell)) (place : ℕ) (row : List Cell) → slice_get rows place ≡ Some row → IsBad column row
-    → ((earlier : ℕ) (other : List Cell) → earlier < place → slice_get rows earlier ≡ Some other → ¬ (IsBad column other))
+first_bad-at : (column number : ℕ) (rows : List (List Cell)) (place : ℕ) (row : List Cell)
+    → slice_get rows place ≡ Some row → IsBad column row
+    → ((earlier : ℕ) (other : List Cell) → earlier < place → slice_get rows earlier ≡ Some other
+    → ¬ (IsBad column other))
     → first_bad column number rows ≡ Some (number + place)
 first_bad-at column number [] place row there bad before = absurd (none-some row there)
 first_bad-at column number (first ∷ rows) zero row there bad before =
@@ -41,18 +49,21 @@ first_bad-at column number (first ∷ rows) zero row there bad before =
     rw (is, sum) refl
 first_bad-at column number (first ∷ rows) (suc place) row there bad before =
     let is : is_bad_cell (slice_get first column) ≡ false = good_is column first (before 0 first (omega arith) refl) in
-    let rest = first_bad-at column (number + 1) rows place row there bad (λ earlier other lower at. before (suc earlier) other (omega (arith, lower)) at) in
+    let rest = first_bad-at column (number + 1) rows place row there bad
+    (λ earlier other lower at. before (suc earlier) other (omega (arith, lower)) at) in
     let sum : number + suc place ≡ number + 1 + place = omega arith in
     rw (is, sum) rest
 
-pub first_bad-first : (column : ℕ) (rows : List (List Cell)) (number : ℕ) → IsFirstBad column rows number → first_bad column 1 rows ≡ Some number
+pub first_bad-first : (column : ℕ) (rows : List (List Cell)) (number : ℕ) → IsFirstBad column rows number
+    → first_bad column 1 rows ≡ Some number
 first_bad-first column rows number first =
     let sum : number ≡ 1 + first.place = omega (arith, first.counted) in
     rw sum (first_bad-at column 1 rows first.place first.row first.there first.bad first.before)
 
 -- a column with no bad cell has no fault
 pub no_fault : (side : Side) (wave column : ℕ) (rows : List (List Cell))
-    → ((place : ℕ) (row : List Cell) → slice_get rows place ≡ Some row → ¬ (IsBad column row)) → None ≡ column_fault side wave rows column
+    → ((place : ℕ) (row : List Cell) → slice_get rows place ≡ Some row → ¬ (IsBad column row))
+    → None ≡ column_fault side wave rows column
 no_fault side wave column rows good = rw (first_bad-none column 1 rows good) refl
 
 -- and one with a first bad cell has that
@@ -61,7 +72,8 @@ pub first_fault : (side : Side) (wave column : ℕ) (rows : List (List Cell)) (n
 first_fault side wave column rows number first = rw (first_bad-first column rows number first) refl
 
 -- of several columns one with a fault is the first from its place on
-pub first_of-here : (fault_of : ℕ → Option InputFault) (columns : List ℕ) (i : ℕ) (fault : InputFault) → i < length columns
+pub first_of-here : (fault_of : ℕ → Option InputFault) (columns : List ℕ) (i : ℕ) (fault : InputFault)
+    → i < length columns
     → fault_of (get_or columns i 0) ≡ Some fault → first_of fault_of (drop i columns) ≡ Some fault
 first_of-here fault_of [] i fault within is = absurd (omega (arith, within))
 first_of-here fault_of (column ∷ columns) zero fault within is = rw is refl

@@ -1,5 +1,6 @@
 -- What is told where nothing was carried out is so.
-use Rattle.std.proofs.Common.{◌≡◌, ◌≤◌, inl, inr, ℕ, List, Option, None, Some, Result, Err, true, refl, sym, subst, arith}
+use Rattle.std.proofs.Common.{◌≡◌, ◌≤◌, inl, inr, ℕ, List, Option, None, Some, Result, Err, true, refl, sym, subst}
+use Rattle.std.proofs.Common.{arith}
 use Rattle.std.specs.Prelude.{is_some}
 use Rattle.join_rows.specs.Shelves.{Spot, Told}
 use Rattle.theta_text.specs.Texts.{IsDeepAt, IsLiteralAt, IsSyntaxAt, IsWideAt, limits}
@@ -45,10 +46,14 @@ pub text_refuses : (which : Which) (text : List ℕ) (fault : PredFault)
     → ((place : ℕ) → no_pred fault ≡ Err (texts.Literal place) → IsLiteralAt limits text place)
     → (old new : ℕ) (told : Told) (spot : Spot) (asked : Asked) → IsTextOf which text asked
     → Refuses old new told spot asked (text_refusal which fault)
-text_refuses which text (texts.Syntax place) syntax deep wide literal = told_refuses which text (Syntax place) (syntax place refl)
-text_refuses which text (texts.Deep place) syntax deep wide literal = told_refuses which text (Deep place) (deep place refl)
-text_refuses which text (texts.Wide place) syntax deep wide literal = told_refuses which text (Wide place) (wide place refl)
-text_refuses which text (texts.Literal place) syntax deep wide literal = told_refuses which text (Literal place) (literal place refl)
+text_refuses which text (texts.Syntax place) syntax deep wide literal =
+    told_refuses which text (Syntax place) (syntax place refl)
+text_refuses which text (texts.Deep place) syntax deep wide literal =
+    told_refuses which text (Deep place) (deep place refl)
+text_refuses which text (texts.Wide place) syntax deep wide literal =
+    told_refuses which text (Wide place) (wide place refl)
+text_refuses which text (texts.Literal place) syntax deep wide literal =
+    told_refuses which text (Literal place) (literal place refl)
 text_refuses which text texts.Memory syntax deep wide literal = λ old new told spot asked same. tt
 
 -- ---- of the columns, whatever the shelf tells

@@ -1,5 +1,6 @@
 -- What was read of the files, from one stage to the next.
-use Rattle.std.proofs.Common.{◌≡◌, ◌≤◌, ◌<◌, ◌+◌, ◌^◌, ◌∙◌, ◌⊎◌, inl, inr, ℕ, Bool, true, false, List, [], length, take, arith, Option, None, Some, Result, Ok, Err, refl, sym, ap, subst}
+use Rattle.std.proofs.Common.{◌≡◌, ◌≤◌, ◌<◌, ◌+◌, ◌^◌, ◌∙◌, ◌⊎◌, inl, inr, ℕ, Bool, true, false, List, [], length, take}
+use Rattle.std.proofs.Common.{arith, Option, None, Some, Result, Ok, Err, refl, sym, ap, subst}
 use Rattle.std.specs.Prelude.{Contains, MatchResult, nat_lt}
 use Rattle.join_rows.specs.Reads.{IsOfBytes}
 use Rattle.join_rows.specs.Records.{table_of}
@@ -63,7 +64,8 @@ module _ (source : Source) where
   -- and where there is a table, it is that one
   pub table_told_ok : (told : Told) (same : Type 0) (table : Table)
       → (Lacks told source.name → Ok table ≡ Err files.Read)
-      → ((file : List ℕ) → Tells told source.name file → same → (Ok table ≡ Err files.Memory) ⊎ (Ok table ≡ table_of file))
+      → ((file : List ℕ) → Tells told source.name file → same → (Ok table ≡ Err files.Memory)
+      ⊎ (Ok table ≡ table_of file))
       → (all : List ℕ → Option (List ℕ)) → told ≡ Some all → same → in_files all ≡ Ok table
   table_told_ok told same table lacks answer all is h =
       elim (table_told told same (Ok table) lacks answer all is h) [ inl m ↦ absurd (cc m) | inr f ↦ sym f ]
@@ -82,18 +84,21 @@ module _ (source : Source) where
   refused_as fault = Err (file_refusal source.side source.wave fault)
 
   -- a fault that isn't refused as one of reading is none
-  pub not_read : (fault : TableFault) → (refused_as fault ≡ Err refusals.Read → ⊥) → refused_table fault ≡ Err files.Read → ⊥
+  pub not_read : (fault : TableFault) → (refused_as fault ≡ Err refusals.Read → ⊥)
+      → refused_table fault ≡ Err files.Read → ⊥
   not_read fault h e = let same : fault ≡ files.Read = cc e in h (ap refused_as same)
 
   -- nor one that isn't refused as want of memory
-  pub not_memory : (fault : TableFault) → (refused_as fault ≡ Err refusals.Memory → ⊥) → refused_table fault ≡ Err files.Memory → ⊥
+  pub not_memory : (fault : TableFault) → (refused_as fault ≡ Err refusals.Memory → ⊥)
+      → refused_table fault ≡ Err files.Memory → ⊥
   not_memory fault h e = let same : fault ≡ files.Memory = cc e in h (ap refused_as same)
 
   -- what is told of a file is so, by where the shelf stands then
   pub file_refuses : (fault : TableFault) (old new : ℕ) (told : Told) (spot : Spot) (D : ℕ → Type 0) (asked : Asked)
       → (refused_table fault ≡ Err files.Read → (old < new) ⊎ Lacks told source.name)
       → ((refused_table fault ≡ Err files.Read → ⊥)
-      → (place : ℕ) × (spot ≡ Some (source.name, place)) × (place ≤ 2 ^ 24 + 1) × (refused_table fault ≡ Err files.TooLong → 2 ^ 24 < place) × D place)
+      → (place : ℕ) × (spot ≡ Some (source.name, place)) × (place ≤ 2 ^ 24 + 1)
+      × (refused_table fault ≡ Err files.TooLong → 2 ^ 24 < place) × D place)
       → asked.make ≡ None → Contains (sources asked) source
       → Refuses old new told spot asked (file_refusal source.side source.wave fault)
   file_refuses files.TooLong old new told spot D asked read place none among =
@@ -110,7 +115,10 @@ module _ (source : Source) where
       }
   file_refuses files.Read old new told spot D asked read place none among = (
     none,
-    elim (read refl) [ inl rose ↦ inl rose | inr lacks ↦ inr (record { source = source; among = among; lacks = lacks }) ],
+    elim (read refl) [
+      | inl rose ↦ inl rose
+      | inr lacks ↦ inr (record { source = source; among = among; lacks = lacks })
+    ],
   )
   file_refuses files.NoHeader old new told spot D asked read place none among = tt
   file_refuses (files.Width number found) old new told spot D asked read place none among = tt
@@ -184,7 +192,8 @@ seen_one told spot name_r name_s refusal is = record {
 }
 
 -- it is one, and then S's file is read
-pub seen_both : (told : Told) (middle spot : Spot) (name_r name_s : List ℕ) (table_r : Table) (second : Result Table Refusal)
+pub seen_both : (told : Told) (middle spot : Spot) (name_r name_s : List ℕ) (table_r : Table)
+    (second : Result Table Refusal)
     → IsSeen told middle (source_r name_r) (Ok table_r) → IsSeen told spot (source_s name_s) second
     → TablesSeen told spot name_r name_s (then_of second (λ table_s. Ok (record { of_r = table_r; of_s = table_s })))
 seen_both told middle spot name_r name_s table_r second is_r is_s = record {
@@ -205,7 +214,8 @@ seen_both told middle spot name_r name_s table_r second is_r is_s = record {
 -- ---- the third
 
 -- it is asked for, and so seen
-pub third_is_seen : (told : Told) (middle spot : Spot) (chain : Option AskedChain) (asked : AskedChain) (table : Result Table Refusal)
+pub third_is_seen : (told : Told) (middle spot : Spot) (chain : Option AskedChain) (asked : AskedChain)
+    (table : Result Table Refusal)
     → chain ≡ Some asked → IsSeen told spot (record { side = S; wave = 2; name = asked.name }) table
     → ThirdSeen told middle spot chain (then_of table (λ found. Ok (Some found)))
 third_is_seen told middle spot chain asked table is seen =

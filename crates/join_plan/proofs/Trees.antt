@@ -14,12 +14,14 @@ use Rattle.join_plan.specs.Columns.{tree_names, trees_names, formula_over, formu
 abbrev HasNames : Pred → Type 0
 HasNames p = names_in p ≡ tree_names (tree_of p)
 
-all_names : (ps : List ((p : Pred) × HasNames p)) → joined (map names_in (map (λ e. e.0) ps)) ≡ trees_names (trees (map tree_of (map (λ e. e.0) ps)))
+all_names : (ps : List ((p : Pred) × HasNames p)) → joined (map names_in (map (λ e. e.0) ps))
+    ≡ trees_names (trees (map tree_of (map (λ e. e.0) ps)))
 all_names [] = refl
 all_names (p ∷ ps) = rw (p.1, all_names ps) refl
 
 layer_names : (y : Pred-F ((p : Pred) × HasNames p)) →
-    names_step (map-Pred _ _ names_in (map-Pred _ _ (λ e. e.0) y)) ≡ tree_names (tree_step (map-Pred _ _ tree_of (map-Pred _ _ (λ e. e.0) y)))
+    names_step (map-Pred _ _ names_in (map-Pred _ _ (λ e. e.0) y))
+    ≡ tree_names (tree_step (map-Pred _ _ tree_of (map-Pred _ _ (λ e. e.0) y)))
 layer_names (Pred-F.Or members) = all_names members.items
 layer_names (Pred-F.And members) = all_names members.items
 layer_names (Pred-F.Not member) = member.value.1
@@ -29,7 +31,8 @@ layer_names (Pred-F.Txt left op right) = refl
 
 pub names_in-tree : (pred : Pred) → names_in pred ≡ tree_names (tree_of pred)
 names_in-tree = ind-Pred HasNames (λ x y is.
-    let layer = subst (λ z. names_step (map-Pred _ _ names_in z) ≡ tree_names (tree_step (map-Pred _ _ tree_of z))) is (layer_names y) in
+    let layer = subst (λ z. names_step (map-Pred _ _ names_in z) ≡ tree_names (tree_step (map-Pred _ _ tree_of z))) is
+    (layer_names y) in
     fold-roll-Pred (List Name) names_step x ∙ layer ∙ sym (ap tree_names (fold-roll-Pred Tree tree_step x)))
 
 module _ (names_r names_s : List (List ℕ)) where
@@ -37,7 +40,8 @@ module _ (names_r names_s : List (List ℕ)) where
   HasFormula p = resolved names_r names_s p ≡ formula_over names_r names_s (tree_of p)
 
   all_formulas : (ps : List ((p : Pred) × HasFormula p)) →
-      formulas (map (resolved names_r names_s) (map (λ e. e.0) ps)) ≡ formulas_over names_r names_s (trees (map tree_of (map (λ e. e.0) ps)))
+      formulas (map (resolved names_r names_s) (map (λ e. e.0) ps))
+      ≡ formulas_over names_r names_s (trees (map tree_of (map (λ e. e.0) ps)))
   all_formulas [] = refl
   all_formulas (p ∷ ps) = rw (p.1, all_formulas ps) refl
 
@@ -53,5 +57,7 @@ module _ (names_r names_s : List (List ℕ)) where
 
   pub resolved-tree : (pred : Pred) → resolved names_r names_s pred ≡ formula_over names_r names_s (tree_of pred)
   resolved-tree = ind-Pred HasFormula (λ x y is.
-      let layer = subst (λ z. resolved_step names_r names_s (map-Pred _ _ (resolved names_r names_s) z) ≡ formula_over names_r names_s (tree_step (map-Pred _ _ tree_of z))) is (layer_formula y) in
-      fold-roll-Pred Formula (resolved_step names_r names_s) x ∙ layer ∙ sym (ap (formula_over names_r names_s) (fold-roll-Pred Tree tree_step x)))
+      let layer = subst (λ z. resolved_step names_r names_s (map-Pred _ _ (resolved names_r names_s) z)
+      ≡ formula_over names_r names_s (tree_step (map-Pred _ _ tree_of z))) is (layer_formula y) in
+      fold-roll-Pred Formula (resolved_step names_r names_s) x ∙ layer
+      ∙ sym (ap (formula_over names_r names_s) (fold-roll-Pred Tree tree_step x)))

@@ -45,7 +45,8 @@ abbrev pub HasText : Which → Asked → Type 0
 HasText On asked = ⊤
 HasText Further asked = is_some asked.chain ≡ true
 
--- what is told where nothing was carried out is so: of the texts; of the shelf, whose count rose from the one to the other or
+-- what is told where nothing was carried out is so: of the texts; of the shelf, whose count rose from the one to the
+-- other or
 -- which lacks one of the files, where files are asked for; and of the place in the file that is picked
 abbrev pub Refuses : ℕ → ℕ → Told → Spot → Asked → Refusal → Type 0
 Refuses old new told spot asked (Predicate fault) = IsTrueOf asked.on fault

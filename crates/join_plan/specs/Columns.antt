@@ -33,13 +33,16 @@ abbrev mutual
   formula_over names_r names_s (any members) = says.any (formulas_over names_r names_s members)
   formula_over names_r names_s (every members) = says.every (formulas_over names_r names_s members)
   formula_over names_r names_s (negation member) = says.negation (formula_over names_r names_s member)
-  formula_over names_r names_s (num left op right) = says.num (resolved_sum names_r names_s left) op (resolved_sum names_r names_s right)
+  formula_over names_r names_s (num left op right) = says.num (resolved_sum names_r names_s left) op
+      (resolved_sum names_r names_s right)
   formula_over names_r names_s (band sum op bound) = says.band (resolved_sum names_r names_s sum) op bound
-  formula_over names_r names_s (txt left op right) = says.txt (resolved_side names_r names_s left) op (resolved_side names_r names_s right)
+  formula_over names_r names_s (txt left op right) = says.txt (resolved_side names_r names_s left) op
+      (resolved_side names_r names_s right)
 
   pub formulas_over : List (List ℕ) → List (List ℕ) → Trees → Formulas
   formulas_over names_r names_s no_trees = no_formula
-  formulas_over names_r names_s (tree first others) = formula (formula_over names_r names_s first) (formulas_over names_r names_s others)
+  formulas_over names_r names_s (tree first others) = formula (formula_over names_r names_s first)
+      (formulas_over names_r names_s others)
 
 -- what is wrong with a name that stands at these places in its header, if anything
 abbrev pub wrong_at : Name → List ℕ → Option TextFault
@@ -50,7 +53,8 @@ wrong_at name (place ∷ other ∷ places) = Some (TwoColumns name.side name.wor
 -- what is wrong with the first of these names that doesn't stand in its header just once
 abbrev pub first_wrong : List (List ℕ) → List (List ℕ) → List Name → Option TextFault
 first_wrong names_r names_s [] = None
-first_wrong names_r names_s (name ∷ names) = option_or (wrong_at name (places_of names_r names_s name)) (first_wrong names_r names_s names)
+first_wrong names_r names_s (name ∷ names) = option_or (wrong_at name (places_of names_r names_s name))
+    (first_wrong names_r names_s names)
 
 -- the predicate, unless a name is wrong
 abbrev pub unless_wrong : Which → Option TextFault → Meaning → Result Meaning Refusal

@@ -32,7 +32,11 @@ third_source (Some chain) = record { side = S; wave = 2; name = chain.name } ∷
 -- the files that are asked for where no tables are made, in the order in which they are read
 abbrev pub sources : Asked → List Source
 sources asked =
-    record { side = R; wave = 1; name = asked.name_r } ∷ record { side = S; wave = 1; name = asked.name_s } ∷ third_source asked.chain
+    record { side = R; wave = 1; name = asked.name_r } ∷ record {
+      side = S;
+      wave = 1;
+      name = asked.name_s;
+    } ∷ third_source asked.chain
 
 -- the table of a side's file in a wave, or the refusal that its fault is
 abbrev pub or_refused : Side → ℕ → Result Table TableFault → Result Table Refusal
@@ -74,4 +78,5 @@ with_third tables third = then_of third (λ found. Ok (record { tables = tables;
 -- all tables that are asked for, or the first refusal
 abbrev pub gathered_by : Asked → (List ℕ → Option (List ℕ)) → Result Gathered Refusal
 gathered_by asked files =
-    then_of (tables_by asked.make files asked.name_r asked.name_s) (λ tables. with_third tables (third_by asked.chain files))
+    then_of (tables_by asked.make files asked.name_r asked.name_s)
+    (λ tables. with_third tables (third_by asked.chain files))

@@ -1,5 +1,6 @@
 -- The cells that a predicate reads as numbers.
-use Rattle.std.specs.Prelude.{◌≡◌, ℕ, ◌+◌, ◌-◌, ◌==◌, nat_lt, Bool, false, List, [], ◌∷◌, filter, if◌then◌else◌, length, Option, None, Some, option_map}
+use Rattle.std.specs.Prelude.{◌≡◌, ℕ, ◌+◌, ◌-◌, ◌==◌, nat_lt, Bool, false, List, [], ◌∷◌, filter, if◌then◌else◌, length}
+use Rattle.std.specs.Prelude.{Option, None, Some, option_map}
 use Rattle.std.specs.Option.{option_or}
 use Rattle.std.specs.List.{list_any, range_with_len, slice_get}
 use Rattle.join_rows.specs.declared.table.Cell.{Cell}
@@ -24,7 +25,8 @@ is_bad_cell (Some cell) = is_bad cell
 -- the number of the first such row, if there is one, where the first is this
 abbrev pub first_bad : ℕ → ℕ → List (List Cell) → Option ℕ
 first_bad column number [] = None
-first_bad column number (row ∷ rows) = if is_bad_cell (slice_get row column) then Some number else first_bad column (number + 1) rows
+first_bad column number (row ∷ rows) = if is_bad_cell (slice_get row column) then Some number
+    else first_bad column (number + 1) rows
 
 -- the first such row of a column of a side's file in a wave; rows and columns are counted from 1 in a fault
 abbrev pub column_fault : Side → ℕ → List (List Cell) → ℕ → Option InputFault
@@ -42,7 +44,8 @@ number_fault side wave rows columns = first_of (column_fault side wave rows) col
 -- a side's columns that stand in a sum, from the left
 abbrev pub summed_columns : Meaning → Side → List ℕ
 summed_columns theta side =
-    filter (λ column. list_any (λ place. place == column) (sum_places side theta.formula)) (range_with_len 0 (width_of theta side))
+    filter (λ column. list_any (λ place. place == column) (sum_places side theta.formula))
+    (range_with_len 0 (width_of theta side))
 
 -- the predicate is one over the header of this table
 abbrev pub HasWidth : Meaning → Side → Table → Type 0
@@ -51,7 +54,8 @@ HasWidth theta side table = width_of theta side ≡ length table.names
 -- the first cell of R, or else of S, that is to be a number and is none
 abbrev pub first_fault : Tables → Meaning → Option InputFault
 first_fault tables theta =
-    option_or (number_fault R 1 tables.of_r.rows (summed_columns theta R)) (number_fault S 1 tables.of_s.rows (summed_columns theta S))
+    option_or (number_fault R 1 tables.of_r.rows (summed_columns theta R))
+    (number_fault S 1 tables.of_s.rows (summed_columns theta S))
 
 -- ---- the second join
 
@@ -68,7 +72,8 @@ joined_fault tables columns = first_of (joined_column_fault tables) columns
 -- the first cell of the joined rows' columns, or else of the third file, that is to be a number and is none
 abbrev pub second_fault : Tables → Third → Option InputFault
 second_fault tables third =
-    option_or (joined_fault tables (summed_columns third.theta R)) (number_fault S 2 third.table.rows (summed_columns third.theta S))
+    option_or (joined_fault tables (summed_columns third.theta R))
+    (number_fault S 2 third.table.rows (summed_columns third.theta S))
 
 -- the same of the second join, where there is one
 abbrev pub third_fault : Tables → Option Third → Option InputFault
@@ -77,4 +82,5 @@ third_fault tables (Some third) = second_fault tables third
 
 -- the first cell of a plan that is to be a number and is none
 abbrev pub number_fault_of : Planned → Option InputFault
-number_fault_of planned = option_or (first_fault planned.tables planned.theta) (third_fault planned.tables planned.third)
+number_fault_of planned = option_or (first_fault planned.tables planned.theta)
+    (third_fault planned.tables planned.third)

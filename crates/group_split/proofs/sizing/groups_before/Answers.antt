@@ -1,6 +1,7 @@
 use Rattle.std.proofs.Common.{◌∙◌, ◌-◌, ◌+◌, ap, sym, refl, arith, drop}
 use Rattle.group_split.specs.Sizes.{digits, before}
-use Rattle.group_split.proofs.BinaryDigits.{digits_below, digits-below, here_is_one, here_is_none, next_place, next_sum, none_left}
+use Rattle.group_split.proofs.BinaryDigits.{digits_below, digits-below, here_is_one, here_is_none, next_place, next_sum}
+use Rattle.group_split.proofs.BinaryDigits.{none_left}
 use Rattle.group_split.proofs.sizing.groups_before.Goals as goal
 use Rattle.group_split.proofs.sizing.groups_before.Goals.{then-has_digit+else-number-joined, else-has_digit}
 

@@ -35,4 +35,5 @@ returns-in-Ok-chained_of-clause-text g c =
     rw (c.in-Ok-chained_of.ensures.first, c.in-Ok-chained_of.ensures.second)
     (c.in-Ok-chained_of.ensures.text
     ∙ text_is c.args.input.now (third_of c.args.third) c.args.options.now.seed c.args.setting.now c.in-Ok.run'
-    c.args.options.now.report c.len-rows.result c.len-rows.ensures c.in-Ok.ensures.first c.in-Ok.ensures.second c.in-Ok.ensures.triples)
+    c.args.options.now.report c.len-rows.result c.len-rows.ensures c.in-Ok.ensures.first c.in-Ok.ensures.second
+    c.in-Ok.ensures.triples)

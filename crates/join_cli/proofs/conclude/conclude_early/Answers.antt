@@ -5,7 +5,8 @@ use Rattle.join_cli.proofs.conclude.conclude_early.Goals as goal
 
 pub returns-clause-ends : goal.returns-clause-ends
 returns-clause-ends g c =
-    rw c.requires.early (none_written (input_of c.args.options.now.seed c.args.planned) (g.K.Sink.written c.args.sink.now))
+    rw c.requires.early (none_written (input_of c.args.options.now.seed c.args.planned)
+    (g.K.Sink.written c.args.sink.now))
 
 pub returns-clause-left : goal.returns-clause-left
 returns-clause-left g c = PutsSome-refl (g.K.Sink.written c.args.sink.now) (g.K.Sink.takes c.args.sink.now)

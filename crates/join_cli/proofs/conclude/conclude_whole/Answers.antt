@@ -10,7 +10,8 @@ use Rattle.join_cli.proofs.conclude.conclude_whole.Goals as goal
 
 pub returns-in-Err-clause-ends : goal.returns-in-Err-clause-ends
 returns-in-Err-clause-ends g c =
-    halted_concludes (asked c.args.options.now) c.args.planned (g.K.Sink.written c.args.sink.now) c.in-Err.outcome c.requires.whole
+    halted_concludes (asked c.args.options.now) c.args.planned (g.K.Sink.written c.args.sink.now)
+    c.in-Err.outcome c.requires.whole
     c.in-Err.ensures.halted
 
 pub returns-in-Err-clause-fails : goal.returns-in-Err-clause-fails
@@ -35,19 +36,23 @@ returns-in-Ok-put_all-clause-ends g c =
 -- what was made is no refusal
 pub returns-in-Ok-put_all-clause-nothing : goal.returns-in-Ok-put_all-clause-nothing
 returns-in-Ok-put_all-clause-nothing g c is =
-    absurd (subst (λ o. IsMade (asked c.args.options.now) c.args.planned c.in-Ok.joined.text (course_of o)) is c.in-Ok.ensures.made)
+    absurd (subst (λ o. IsMade (asked c.args.options.now) c.args.planned c.in-Ok.joined.text (course_of o))
+    is c.in-Ok.ensures.made)
 
 pub returns-in-Ok-put_all-clause-between : goal.returns-in-Ok-put_all-clause-between
 returns-in-Ok-put_all-clause-between g c pairs is =
-    absurd (subst (λ o. IsMade (asked c.args.options.now) c.args.planned c.in-Ok.joined.text (course_of o)) is c.in-Ok.ensures.made)
+    absurd (subst (λ o. IsMade (asked c.args.options.now) c.args.planned c.in-Ok.joined.text (course_of o))
+    is c.in-Ok.ensures.made)
 
 pub returns-in-Ok-put_all-clause-fails : goal.returns-in-Ok-put_all-clause-fails
 returns-in-Ok-put_all-clause-fails g c is =
-    absurd (subst (λ o. IsMade (asked c.args.options.now) c.args.planned c.in-Ok.joined.text (course_of o)) is c.in-Ok.ensures.made)
+    absurd (subst (λ o. IsMade (asked c.args.options.now) c.args.planned c.in-Ok.joined.text (course_of o))
+    is c.in-Ok.ensures.made)
 
 pub returns-in-Ok-put_all-clause-complete : goal.returns-in-Ok-put_all-clause-complete
 returns-in-Ok-put_all-clause-complete g c takes few =
-    inl (made_done (asked c.args.options.now) c.args.planned c.in-Ok.joined.text (course_of c.in-Ok.joined.done) c.in-Ok.ensures.made)
+    inl (made_done (asked c.args.options.now) c.args.planned c.in-Ok.joined.text (course_of c.in-Ok.joined.done)
+    c.in-Ok.ensures.made)
 
 -- ---- a put failed
 
@@ -66,4 +71,5 @@ returns-clause-complete g c takes few =
 pub returns-clause-left : goal.returns-clause-left
 returns-clause-left g c =
     PutsSome-front (g.K.Sink.written c.args.sink.now) (g.K.Sink.written c.put_all.new.sink)
-    (g.K.Sink.takes c.args.sink.now) (g.K.Sink.takes c.put_all.new.sink) c.as_slice.result.now c.in-Err-put_all.ensures.left
+    (g.K.Sink.takes c.args.sink.now) (g.K.Sink.takes c.put_all.new.sink)
+    c.as_slice.result.now c.in-Err-put_all.ensures.left

@@ -8,7 +8,8 @@ use Rattle.join_cli.proofs.early.put_found.Goals as goal
 
 pub returns-in-Ok-clause-whole : goal.returns-in-Ok-clause-whole
 returns-in-Ok-clause-whole g c =
-    put_whole c.args.options.now.report c.args.input.now c.args.setting.now c.in_ok-run.field-0.run (g.K.Sink.written c.args.sink.now) (g.K.Sink.written c.run_early.new.sink)
+    put_whole c.args.options.now.report c.args.input.now c.args.setting.now c.in_ok-run.field-0.run
+    (g.K.Sink.written c.args.sink.now) (g.K.Sink.written c.run_early.new.sink)
     (g.K.Sink.written c.put_report.new.sink) c.in_ok-run.ensures.run c.in_ok-run.ensures.whole c.in-Ok.ensures.whole
 
 pub returns-in-Err-clause-part : goal.returns-in-Err-clause-part
@@ -28,15 +29,21 @@ returns-in-Err-clause-part g c is =
 pub returns-in-Err-clause-takes : goal.returns-in-Err-clause-takes
 returns-in-Err-clause-takes g c takes is =
     let same : c.in-Err.fault ≡ faults.Write = cc is in
-    let lines = report_asked c.args.options.now.report c.args.input.now c.args.setting.now c.in_ok-run.field-0.run.journal in
-    c.in-Err.ensures.takes (c.in_ok-run.ensures.takes (length lines + 0) (takes.each c.in_ok-run.field-0.run c.in_ok-run.ensures.run)).1 (ap Err same)
+    let lines = report_asked c.args.options.now.report c.args.input.now c.args.setting.now
+    c.in_ok-run.field-0.run.journal in
+    c.in-Err.ensures.takes (c.in_ok-run.ensures.takes (length lines + 0)
+    (takes.each c.in_ok-run.field-0.run c.in_ok-run.ensures.run)).1 (ap Err same)
 
 pub returns-in-Ok-clause-left : goal.returns-in-Ok-clause-left
 returns-in-Ok-clause-left g c =
-    PutsSome-trans (g.K.Sink.written c.args.sink.now) (g.K.Sink.written c.run_early.new.sink) (g.K.Sink.written c.put_report.new.sink)
-    (g.K.Sink.takes c.args.sink.now) (g.K.Sink.takes c.run_early.new.sink) (g.K.Sink.takes c.put_report.new.sink) c.in_ok-run.ensures.left c.in-Ok.ensures.left
+    PutsSome-trans (g.K.Sink.written c.args.sink.now) (g.K.Sink.written c.run_early.new.sink)
+    (g.K.Sink.written c.put_report.new.sink)
+    (g.K.Sink.takes c.args.sink.now) (g.K.Sink.takes c.run_early.new.sink) (g.K.Sink.takes c.put_report.new.sink)
+    c.in_ok-run.ensures.left c.in-Ok.ensures.left
 
 pub returns-in-Err-clause-left : goal.returns-in-Err-clause-left
 returns-in-Err-clause-left g c =
-    PutsSome-trans (g.K.Sink.written c.args.sink.now) (g.K.Sink.written c.run_early.new.sink) (g.K.Sink.written c.put_report.new.sink)
-    (g.K.Sink.takes c.args.sink.now) (g.K.Sink.takes c.run_early.new.sink) (g.K.Sink.takes c.put_report.new.sink) c.in_ok-run.ensures.left c.in-Err.ensures.left
+    PutsSome-trans (g.K.Sink.written c.args.sink.now) (g.K.Sink.written c.run_early.new.sink)
+    (g.K.Sink.written c.put_report.new.sink)
+    (g.K.Sink.takes c.args.sink.now) (g.K.Sink.takes c.run_early.new.sink) (g.K.Sink.takes c.put_report.new.sink)
+    c.in_ok-run.ensures.left c.in-Err.ensures.left

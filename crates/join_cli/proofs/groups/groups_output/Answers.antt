@@ -9,7 +9,8 @@ pub text_of_groups-requires-clause-runs : goal.text_of_groups-requires-clause-ru
 text_of_groups-requires-clause-runs g c =
     let found = c.in_ok-pairs.field-0 in
     let same : c.as_slice-2.result.now ≡ found.runs = c.as_slice-2.ensures in
-    subst (λ (runs : List Run). AreRunsFrom c.args.input.now c.args.joiners c.in_ok-numbers.numbers c.args.setting.now 0 (digits c.args.joiners) runs)
+    subst (λ (runs : List Run). AreRunsFrom c.args.input.now c.args.joiners c.in_ok-numbers.numbers c.args.setting.now 0
+    (digits c.args.joiners) runs)
     (sym same)
     (runs_of_groups c.args.input.now c.args.joiners c.in_ok-numbers.numbers c.args.setting.now 0 (digits c.args.joiners)
     found.runs found.trail c.in_ok-pairs.ensures.groups)

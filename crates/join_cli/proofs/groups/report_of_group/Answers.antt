@@ -6,21 +6,24 @@ use Rattle.join_cli.proofs.Reports.{few_steps, shifts_fit, valid_group}
 use Rattle.join_cli.proofs.groups.report_of_group.Goals as goal
 
 pub report_text-requires-clause-setting : goal.report_text-requires-clause-setting
-report_text-requires-clause-setting c = (valid_group c.args.dealt.now c.args.group c.args.exponent c.requires.dealt c.requires.small).1
+report_text-requires-clause-setting c =
+    (valid_group c.args.dealt.now c.args.group c.args.exponent c.requires.dealt c.requires.small).1
 
 pub report_text-requires-clause-shifts : goal.report_text-requires-clause-shifts
 report_text-requires-clause-shifts c =
     let dealt = c.args.dealt.now in
     let valid = valid_group dealt c.args.group c.args.exponent c.requires.dealt c.requires.small in
     shifts_fit (input_of_part dealt.input.now (part dealt.joiners dealt.numbers.now c.args.group))
-    (setting_of_group dealt.setting.now c.args.exponent) c.args.run.now.journal c.args.run.now valid.0 valid.1 c.requires.run
+    (setting_of_group dealt.setting.now c.args.exponent) c.args.run.now.journal c.args.run.now valid.0 valid.1
+    c.requires.run
 
 pub report_text-requires-clause-steps : goal.report_text-requires-clause-steps
 report_text-requires-clause-steps c =
     let dealt = c.args.dealt.now in
     let valid = valid_group dealt c.args.group c.args.exponent c.requires.dealt c.requires.small in
     few_steps (input_of_part dealt.input.now (part dealt.joiners dealt.numbers.now c.args.group))
-    (setting_of_group dealt.setting.now c.args.exponent) c.args.run.now.journal c.args.run.now valid.0 valid.1 c.requires.run
+    (setting_of_group dealt.setting.now c.args.exponent) c.args.run.now.journal c.args.run.now valid.0 valid.1
+    c.requires.run
 
 pub report_text-requires-clause-rows_r : goal.report_text-requires-clause-rows_r
 report_text-requires-clause-rows_r c =

@@ -10,5 +10,6 @@ pub summary_text-requires : goal.summary_text-requires
 summary_text-requires c = record {
   small =
       subst (λ pairs. sum_by numbers_of pairs < 2 ^ 64) (sym c.requires.pairs)
-      (loop_sum_fits (matches_of c.args.input.now) (rows_of c.args.input.now R) (rows_of c.args.input.now S) (c.requires.input.sides R).few (c.requires.input.sides S).few);
+      (loop_sum_fits (matches_of c.args.input.now) (rows_of c.args.input.now R) (rows_of c.args.input.now S)
+      (c.requires.input.sides R).few (c.requires.input.sides S).few);
 }

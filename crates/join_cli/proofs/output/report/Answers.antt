@@ -4,11 +4,13 @@ use Rattle.join_cli.proofs.Reports.{few_steps, shifts_fit}
 use Rattle.join_cli.proofs.output.report.Goals as goal
 
 pub bare_report-requires-clause-shifts : goal.bare_report-requires-clause-shifts
-bare_report-requires-clause-shifts c = shifts_fit c.args.input.now c.args.setting.now c.args.run.now.journal c.args.run.now c.requires.input c.requires.setting c.requires.run
+bare_report-requires-clause-shifts c = shifts_fit c.args.input.now c.args.setting.now c.args.run.now.journal
+    c.args.run.now c.requires.input c.requires.setting c.requires.run
 
 pub bare_report-requires-clause-steps : goal.bare_report-requires-clause-steps
 bare_report-requires-clause-steps c =
-    few_steps c.args.input.now c.args.setting.now c.args.run.now.journal c.args.run.now c.requires.input c.requires.setting c.requires.run
+    few_steps c.args.input.now c.args.setting.now c.args.run.now.journal c.args.run.now c.requires.input
+    c.requires.setting c.requires.run
 
 pub bare_report-requires-clause-rows_r : goal.bare_report-requires-clause-rows_r
 bare_report-requires-clause-rows_r c =

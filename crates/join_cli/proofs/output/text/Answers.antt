@@ -4,4 +4,5 @@ use Rattle.join_cli.proofs.output.text.Goals as goal
 
 -- a run that begins with no rows has all pairs of the nested loop
 pub answer-requires-clause-pairs : goal.answer-requires-clause-pairs
-answer-requires-clause-pairs c = c.as_slice.ensures ∙ c.requires.run.pairs ∙ all_pairs c.args.input.now c.args.setting.now
+answer-requires-clause-pairs c = c.as_slice.ensures ∙ c.requires.run.pairs
+    ∙ all_pairs c.args.input.now c.args.setting.now

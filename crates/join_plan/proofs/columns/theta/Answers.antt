@@ -16,7 +16,8 @@ returns-in-Ok-clause-found c =
 pub returns-in-Err-clause-answer : goal.returns-in-Err-clause-answer
 returns-in-Err-clause-answer c =
     rw c.columns_refused.ensures
-    (refused_over c.args.which c.args.names_r.now c.args.names_s.now c.args.pred.now c.in-Err.fault c.in-Err.ensures.err)
+    (refused_over c.args.which c.args.names_r.now c.args.names_s.now c.args.pred.now c.in-Err.fault
+    c.in-Err.ensures.err)
 
 pub returns-in-Err-clause-refused : goal.returns-in-Err-clause-refused
 returns-in-Err-clause-refused c = λ old new told spot asked has.

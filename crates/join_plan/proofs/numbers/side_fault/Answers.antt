@@ -12,4 +12,5 @@ pub returns : goal.returns
 returns c =
     c.columns_fault.ensures
     ∙ ap (number_fault c.args.side c.args.wave c.args.table.now.rows)
-    (c.as_slice.ensures ∙ sym (summed_columns-places c.args.theta.now c.args.side c.numeric.result.now c.numeric.ensures))
+    (c.as_slice.ensures ∙ sym (summed_columns-places c.args.theta.now c.args.side c.numeric.result.now
+    c.numeric.ensures))

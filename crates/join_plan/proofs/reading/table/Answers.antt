@@ -5,7 +5,8 @@ use Rattle.join_plan.proofs.reading.table.Goals as goal
 
 pub returns-in-Ok-clause-found : goal.returns-in-Ok-clause-found
 returns-in-Ok-clause-found g c files is =
-    let same = not_rose (g.H.Shelf.faults c.args.shelf.now) (g.H.Shelf.faults c.read_table.new.shelf) c.in-Ok.ensures.rises
+    let same = not_rose (g.H.Shelf.faults c.args.shelf.now) (g.H.Shelf.faults c.read_table.new.shelf)
+    c.in-Ok.ensures.rises
     (λ rose. cc (c.in-Ok.ensures.read.1 (inl rose))) in
     table_told_ok (source_of c.args.file.now) (g.H.Shelf.told c.args.shelf.now)
     (g.H.Shelf.faults c.read_table.new.shelf ≡ g.H.Shelf.faults c.args.shelf.now) c.in-Ok.table
@@ -22,12 +23,14 @@ pub returns-in-Err-clause-refused : goal.returns-in-Err-clause-refused
 returns-in-Err-clause-refused g c asked none among =
     rw c.file_refused.ensures
     (file_refuses (source_of c.args.file.now) c.in-Err.fault (g.H.Shelf.faults c.args.shelf.now)
-    (g.H.Shelf.faults c.read_table.new.shelf) (g.H.Shelf.told c.args.shelf.now) (g.H.Shelf.picked c.read_table.new.shelf) _ asked
+    (g.H.Shelf.faults c.read_table.new.shelf) (g.H.Shelf.told c.args.shelf.now)
+    (g.H.Shelf.picked c.read_table.new.shelf) _ asked
     c.in-Err.ensures.read.0 c.in-Err.ensures.place none among)
 
 pub returns-in-Ok-clause-seen : goal.returns-in-Ok-clause-seen
 returns-in-Ok-clause-seen g c read memory =
-    file_seen (source_of c.args.file.now) (g.H.Shelf.told c.args.shelf.now) (g.H.Shelf.picked c.read_table.new.shelf) (Ok c.in-Ok.table)
+    file_seen (source_of c.args.file.now) (g.H.Shelf.told c.args.shelf.now) (g.H.Shelf.picked c.read_table.new.shelf)
+    (Ok c.in-Ok.table)
     (c.in-Ok.ensures.bytes (λ e. cc e) (λ e. cc e))
 
 pub returns-in-Err-clause-seen : goal.returns-in-Err-clause-seen
@@ -36,4 +39,5 @@ returns-in-Err-clause-seen g c read memory =
     let of_bytes = c.in-Err.ensures.bytes (not_read source c.in-Err.fault (rw c.file_refused.ensures at read))
     (not_memory source c.in-Err.fault (rw c.file_refused.ensures at memory)) in
     rw c.file_refused.ensures
-    (file_seen source (g.H.Shelf.told c.args.shelf.now) (g.H.Shelf.picked c.read_table.new.shelf) (Err c.in-Err.fault) of_bytes)
+    (file_seen source (g.H.Shelf.told c.args.shelf.now) (g.H.Shelf.picked c.read_table.new.shelf) (Err c.in-Err.fault)
+    of_bytes)
