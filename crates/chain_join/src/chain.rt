@@ -47,7 +47,7 @@ impl From<AllocError> for ChainFault {
 }
 
 // A run that begins with no rows, so that its pairs are those of the nested loop.
-fn whole_run<R: Threads + Wait + Sync, G: Gate>(
+fn whole_run<R: Threads + Wait + Sync, G: Gate + Sync>(
     rt: &R,
     alloc: Global,
     input: &Input,
@@ -63,7 +63,7 @@ fn whole_run<R: Threads + Wait + Sync, G: Gate>(
 }
 
 // The second run, over this input, behind the first.
-fn run_over<R: Threads + Wait + Sync, G: Gate>(
+fn run_over<R: Threads + Wait + Sync, G: Gate + Sync>(
     rt: &R,
     alloc: Global,
     first: Told,
@@ -89,7 +89,7 @@ fn run_over<R: Threads + Wait + Sync, G: Gate>(
 }
 
 // The second run, behind the first.
-fn run_second<R: Threads + Wait + Sync, G: Gate>(
+fn run_second<R: Threads + Wait + Sync, G: Gate + Sync>(
     rt: &R,
     alloc: Global,
     first: &Input,
@@ -121,7 +121,7 @@ fn run_second<R: Threads + Wait + Sync, G: Gate>(
 /// order, with the third table by another, with tickets of `seed` for both of its sides. In the third's
 /// predicate `r` is the joined row and `s` the row of the third table. `Between` comes before a joined
 /// row is made. Where memory runs out the answer is `Memory`. What it promises holds if it returns.
-pub fn run_chain<R: Threads + Wait + Sync, G: Gate>(
+pub fn run_chain<R: Threads + Wait + Sync, G: Gate + Sync>(
     rt: &R,
     alloc: Global,
     first: &Input,

@@ -88,7 +88,7 @@ fn add_told(found: &mut GroupsRun, indices: &Counts, told: Told) -> Result<(), A
 }
 
 // Runs a group's input, whose rows of R have these indices, and adds what it answers.
-fn run_part<R: Threads + Wait + Sync, G: Gate>(
+fn run_part<R: Threads + Wait + Sync, G: Gate + Sync>(
     rt: &R,
     alloc: Global,
     group_input: &Input,
@@ -111,7 +111,7 @@ fn run_part<R: Threads + Wait + Sync, G: Gate>(
 }
 
 // Joins one group, of which `group_input` has the rows then.
-fn join_group<R: Threads + Wait + Sync, G: Gate>(
+fn join_group<R: Threads + Wait + Sync, G: Gate + Sync>(
     rt: &R,
     alloc: Global,
     input: &Input,
@@ -140,7 +140,7 @@ fn join_group<R: Threads + Wait + Sync, G: Gate>(
 }
 
 // Joins all groups, whose digits these are, one after the other.
-fn join_all<R: Threads + Wait + Sync, G: Gate>(
+fn join_all<R: Threads + Wait + Sync, G: Gate + Sync>(
     rt: &R,
     alloc: Global,
     input: &Input,
@@ -183,7 +183,7 @@ fn join_all<R: Threads + Wait + Sync, G: Gate>(
 }
 
 // Makes the input that the groups have one after the other, and joins them all.
-fn join_parts<R: Threads + Wait + Sync, G: Gate>(
+fn join_parts<R: Threads + Wait + Sync, G: Gate + Sync>(
     rt: &R,
     alloc: Global,
     input: &Input,
@@ -218,7 +218,7 @@ fn join_parts<R: Threads + Wait + Sync, G: Gate>(
 
 /// Joins in groups of joiners, so many in all: a run for each group, over the rows of R whose number is of the group
 /// and all of S, one run after the other. The setting's `k` isn't used. What it promises holds if it returns.
-pub fn run_groups<R: Threads + Wait + Sync, G: Gate>(
+pub fn run_groups<R: Threads + Wait + Sync, G: Gate + Sync>(
     rt: &R,
     alloc: Global,
     input: &Input,

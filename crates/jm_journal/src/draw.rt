@@ -36,7 +36,7 @@ fn drawn<K: Sink>(alloc: Global, options: &Options<'_>, outcome: Outcome, sink: 
 /// Makes the run that `jm` makes for these words, the program's name first, with pairs that go nowhere, and puts the
 /// picture of its journal on the sink. It answers as `join_main` does, and `Outcome::Write` where the picture can't
 /// be put whole.
-pub(crate) fn draw<R: Threads + Wait + Sync, H: Shelf, K: Sink, G: Gate>(
+pub(crate) fn draw<R: Threads + Wait + Sync, H: Shelf, K: Sink, G: Gate + Sync>(
     rt: &R,
     alloc: Global,
     words: &[String],

@@ -146,7 +146,7 @@ fn chained_of(
 }
 
 /// The two runs of a chain over this input and a third table, and the text of its output, or why there is none.
-fn run_both<R: Threads + Wait + Sync, G: Gate>(
+fn run_both<R: Threads + Wait + Sync, G: Gate + Sync>(
     rt: &R,
     alloc: Global,
     options: &Options<'_>,
@@ -180,7 +180,7 @@ fn run_both<R: Threads + Wait + Sync, G: Gate>(
 }
 
 /// The output that the options ask for of a second join behind this input, or why there is none.
-pub(crate) fn chain_output<R: Threads + Wait + Sync, G: Gate>(
+pub(crate) fn chain_output<R: Threads + Wait + Sync, G: Gate + Sync>(
     rt: &R,
     alloc: Global,
     options: &Options<'_>,

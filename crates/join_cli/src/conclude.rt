@@ -30,7 +30,7 @@ use std::thread::Threads;
 use worker_gate::Gate;
 
 /// Makes the output whole, and then writes it.
-fn conclude_whole<R: Threads + Wait + Sync, K: Sink, G: Gate>(
+fn conclude_whole<R: Threads + Wait + Sync, K: Sink, G: Gate + Sync>(
     rt: &R,
     alloc: Global,
     options: &Options<'_>,
@@ -69,7 +69,7 @@ fn conclude_whole<R: Threads + Wait + Sync, K: Sink, G: Gate>(
 }
 
 /// Writes the lines of an input's pairs as they are found.
-fn end_early<R: Threads + Wait + Sync, K: Sink, G: Gate>(
+fn end_early<R: Threads + Wait + Sync, K: Sink, G: Gate + Sync>(
     rt: &R,
     alloc: Global,
     options: &Options<'_>,
@@ -109,7 +109,7 @@ fn end_early<R: Threads + Wait + Sync, K: Sink, G: Gate>(
 }
 
 /// Writes the lines of the pairs as they are found.
-fn conclude_early<R: Threads + Wait + Sync, K: Sink, G: Gate>(
+fn conclude_early<R: Threads + Wait + Sync, K: Sink, G: Gate + Sync>(
     rt: &R,
     alloc: Global,
     options: &Options<'_>,
@@ -145,7 +145,7 @@ fn conclude_early<R: Threads + Wait + Sync, K: Sink, G: Gate>(
 
 /// Carries a plan out: the output is made whole and then written, or early, pair by pair. What it
 /// promises holds if it returns.
-pub(crate) fn conclude<R: Threads + Wait + Sync, K: Sink, G: Gate>(
+pub(crate) fn conclude<R: Threads + Wait + Sync, K: Sink, G: Gate + Sync>(
     rt: &R,
     alloc: Global,
     options: &Options<'_>,

@@ -76,7 +76,7 @@ fn put_report<K: Sink>(
 
 /// Runs in threads and puts the pairs' lines after each bout, and then the report where one is
 /// asked for.
-pub(crate) fn put_found<R: Threads + Wait + Sync, G: Gate, K: Sink>(
+pub(crate) fn put_found<R: Threads + Wait + Sync, G: Gate + Sync, K: Sink>(
     rt: &R,
     alloc: Global,
     options: &Options<'_>,

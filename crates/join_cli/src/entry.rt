@@ -73,7 +73,7 @@ fn lacks_words<E: Sink>(alloc: Global, errors: &mut E) -> Ended
 }
 
 /// Runs what these words ask for, and ends with the status of its outcome.
-fn run_words<R: Threads + Wait + Sync, H: Shelf, K: Sink, E: Sink, G: Gate>(
+fn run_words<R: Threads + Wait + Sync, H: Shelf, K: Sink, E: Sink, G: Gate + Sync>(
     rt: &R,
     alloc: Global,
     words: Vec<String>,
@@ -94,7 +94,7 @@ fn run_words<R: Threads + Wait + Sync, H: Shelf, K: Sink, E: Sink, G: Gate>(
 /// The program `jm`: runs what the words ask for, puts the output on `sink` and the one line of an
 /// outcome that isn't done on `errors`, and answers the exit status; with no words for want of
 /// memory, too. What it promises holds if it returns.
-pub fn jm_program<R: Threads + Wait + Sync, H: Shelf, K: Sink, E: Sink, G: Gate>(
+pub fn jm_program<R: Threads + Wait + Sync, H: Shelf, K: Sink, E: Sink, G: Gate + Sync>(
     rt: &R,
     alloc: Global,
     words: Result<Vec<String>, AllocError>,

@@ -145,7 +145,7 @@ fn text_of_groups(
 }
 
 /// The output that the options ask for of an input, with this setting, of so many joiners in groups.
-pub(crate) fn groups_output<R: Threads + Wait + Sync, G: Gate>(
+pub(crate) fn groups_output<R: Threads + Wait + Sync, G: Gate + Sync>(
     rt: &R,
     alloc: Global,
     options: &Options<'_>,

@@ -131,7 +131,7 @@ fn text(
 }
 
 /// The output that the options ask for of an input, with this setting, of joiners in one grid.
-fn grid_output<R: Threads + Wait + Sync, G: Gate>(
+fn grid_output<R: Threads + Wait + Sync, G: Gate + Sync>(
     rt: &R,
     alloc: Global,
     options: &Options<'_>,
@@ -160,7 +160,7 @@ fn grid_output<R: Threads + Wait + Sync, G: Gate>(
 }
 
 /// The output that the options ask for of an input, with this setting.
-fn output_over<R: Threads + Wait + Sync, G: Gate>(
+fn output_over<R: Threads + Wait + Sync, G: Gate + Sync>(
     rt: &R,
     alloc: Global,
     options: &Options<'_>,
@@ -186,7 +186,7 @@ fn output_over<R: Threads + Wait + Sync, G: Gate>(
 }
 
 /// The output that the options ask for of two tables' input, or of a second join behind it, or why there is none.
-fn output_with<R: Threads + Wait + Sync, G: Gate>(
+fn output_with<R: Threads + Wait + Sync, G: Gate + Sync>(
     rt: &R,
     alloc: Global,
     options: &Options<'_>,
@@ -221,7 +221,7 @@ fn output_with<R: Threads + Wait + Sync, G: Gate>(
 }
 
 /// The output that the options ask for of a plan, or why there is none.
-pub(crate) fn output<R: Threads + Wait + Sync, G: Gate>(
+pub(crate) fn output<R: Threads + Wait + Sync, G: Gate + Sync>(
     rt: &R,
     alloc: Global,
     options: &Options<'_>,

@@ -50,7 +50,7 @@ pub fn tell<E: Sink>(alloc: Global, outcome: &Outcome, errors: &mut E)
 /// Runs `jm` with these words, the program's name first, as `join_main` does, and puts the line of
 /// an outcome that isn't done on `errors`. Nothing else is put there, and the line is put nowhere
 /// else. What it promises holds if it returns.
-pub fn jm_main<R: Threads + Wait + Sync, H: Shelf, K: Sink, E: Sink, G: Gate>(
+pub fn jm_main<R: Threads + Wait + Sync, H: Shelf, K: Sink, E: Sink, G: Gate + Sync>(
     rt: &R,
     alloc: Global,
     words: &[String],

@@ -44,7 +44,7 @@ fn replayed<R: Wait>(
 }
 
 /// A run in threads.
-fn threaded<R: Threads + Wait + Sync, G: Gate>(
+fn threaded<R: Threads + Wait + Sync, G: Gate + Sync>(
     rt: &R,
     alloc: Global,
     input: &Input,
@@ -66,7 +66,7 @@ fn threaded<R: Threads + Wait + Sync, G: Gate>(
 }
 
 /// The run that the options ask for: in threads, or as a replay where a number of one is given.
-pub(crate) fn carry_out<R: Threads + Wait + Sync, G: Gate>(
+pub(crate) fn carry_out<R: Threads + Wait + Sync, G: Gate + Sync>(
     rt: &R,
     alloc: Global,
     number: Option<u64>,

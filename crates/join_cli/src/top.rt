@@ -24,7 +24,7 @@ use std::thread::Threads;
 use worker_gate::Gate;
 
 /// Joins what the options ask for. What it promises holds if it returns.
-fn join_files<R: Threads + Wait + Sync, H: Shelf, K: Sink, G: Gate>(
+fn join_files<R: Threads + Wait + Sync, H: Shelf, K: Sink, G: Gate + Sync>(
     rt: &R,
     alloc: Global,
     options: &Options<'_>,
@@ -68,7 +68,7 @@ fn join_files<R: Threads + Wait + Sync, H: Shelf, K: Sink, G: Gate>(
 /// written. Early output is written while the join is run. Memory may run out at each of them. The
 /// run is one in as many threads as there are workers, whose seats pass the gate at each turn, or a
 /// replay in one thread; where joiners form groups there is such a run for each. What it promises holds if it returns.
-pub fn join_main<R: Threads + Wait + Sync, H: Shelf, K: Sink, G: Gate>(
+pub fn join_main<R: Threads + Wait + Sync, H: Shelf, K: Sink, G: Gate + Sync>(
     rt: &R,
     alloc: Global,
     words: &[String],

@@ -76,7 +76,7 @@ fn failing_sink(alloc: Global, room: u64, put: u64) -> Result<ListSink, AllocErr
 }
 
 // How a run with the words of this line ends.
-fn outcome_of<R: Threads + Wait + Sync, K: Sink, G: Gate>(
+fn outcome_of<R: Threads + Wait + Sync, K: Sink, G: Gate + Sync>(
     rt: &R,
     alloc: Global,
     line: &str,
@@ -91,7 +91,7 @@ fn outcome_of<R: Threads + Wait + Sync, K: Sink, G: Gate>(
     Ok(join_main(rt, alloc, &words, shelf, sink, gate))
 }
 
-fn status_of<R: Threads + Wait + Sync, K: Sink, G: Gate>(
+fn status_of<R: Threads + Wait + Sync, K: Sink, G: Gate + Sync>(
     rt: &R,
     alloc: Global,
     line: &str,
@@ -107,7 +107,7 @@ fn status_of<R: Threads + Wait + Sync, K: Sink, G: Gate>(
 }
 
 // How many ends a run that is done leaves.
-fn ends_left<R: Threads + Wait + Sync, K: Sink, G: Gate>(
+fn ends_left<R: Threads + Wait + Sync, K: Sink, G: Gate + Sync>(
     rt: &R,
     alloc: Global,
     line: &str,

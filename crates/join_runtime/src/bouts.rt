@@ -130,7 +130,7 @@ fn gather_all<R: Wait>(rt: &R, seats: &mut [Seat])
 }
 
 // A bout of these seats. `Ok(false)`: all rest.
-fn bout_of<R: Threads + Wait + Sync, G: Gate>(
+fn bout_of<R: Threads + Wait + Sync, G: Gate + Sync>(
     rt: &R,
     seats: &mut [Seat],
     workers: u32,
@@ -199,7 +199,7 @@ impl<'a> Model for Seats<'a> {
 /// bout, in as many chunks side by side as there are workers; then the two ends of each link are held together.
 /// `Ok(false)`: nothing was left on any link, and no feeder would begin; then nothing changed, and of a valid input the
 /// collector is complete. After an error the seats are spent.
-pub fn bout<R: Threads + Wait + Sync, G: Gate>(
+pub fn bout<R: Threads + Wait + Sync, G: Gate + Sync>(
     rt: &R,
     seats: &mut Seats,
     workers: u32,

@@ -73,7 +73,7 @@ fn put_lines<K: Sink>(alloc: Global, pairs: &[Pair], sink: &mut K) -> Result<(),
 /// bytes. At any answer a front of the lines of pairs of the nested loop was appended, none of them twice, so the last line
 /// may be cut; after `Ok` it is the line of each pair of the run, once and whole, in an order that may differ from run to
 /// run. `Write` comes at the first put that fails, and no put follows it. What it promises holds if it returns.
-pub fn run_early<R: Threads + Wait + Sync, G: Gate, K: Sink>(
+pub fn run_early<R: Threads + Wait + Sync, G: Gate + Sync, K: Sink>(
     rt: &R,
     alloc: Global,
     input: &Input,

@@ -19,7 +19,7 @@ use worker_gate::Gate;
 
 /// Runs the seats of this input and setting, in as many threads as there are workers, bout after bout until the collector
 /// is complete. `bouts` stays at 2^64 - 1 once it is there. What it promises holds if it returns.
-pub fn run<R: Threads + Wait + Sync, G: Gate>(
+pub fn run<R: Threads + Wait + Sync, G: Gate + Sync>(
     rt: &R,
     alloc: Global,
     input: &Input,

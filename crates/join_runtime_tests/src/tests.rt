@@ -71,7 +71,7 @@ fn setting(feeders: u32, workers: u32) -> Setting {
     }
 }
 
-fn run_checked<R: Threads + Wait + Sync, G: Gate>(
+fn run_checked<R: Threads + Wait + Sync, G: Gate + Sync>(
     rt: &R,
     alloc: Global,
     input: &Input,
@@ -107,7 +107,7 @@ struct Found {
     made: Option<u64>,
 }
 
-fn seen<R: Threads + Wait + Sync, G: Gate>(
+fn seen<R: Threads + Wait + Sync, G: Gate + Sync>(
     rt: &R,
     alloc: Global,
     input: &Input,
@@ -123,7 +123,7 @@ fn seen<R: Threads + Wait + Sync, G: Gate>(
 }
 
 // The same of three rows a side with these tickets.
-fn seen_of_three<R: Threads + Wait + Sync, G: Gate>(
+fn seen_of_three<R: Threads + Wait + Sync, G: Gate + Sync>(
     rt: &R,
     alloc: Global,
     tickets: [u8; 3],

@@ -10,7 +10,7 @@ pub struct Spot {
 }
 
 /// What an actor passes as a turn begins. A pass promises nothing, and takes no memory.
-pub trait Gate: Sync {
+pub trait Gate {
     fn pass(&self, spot: Spot);
 
     /// Is told after each bout how many of the batches of all feeders were sent. It promises nothing, too.

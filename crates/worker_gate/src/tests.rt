@@ -12,7 +12,7 @@ fn spot(actor: Actor, turn: u64) -> Spot {
 }
 
 // Two actors pass a gate, each in a thread of its own.
-fn pass_side_by_side<R: Threads + Sync, G: Gate>(rt: &R, gate: &G, a: Actor, b: Actor) {
+fn pass_side_by_side<R: Threads + Sync, G: Gate + Sync>(rt: &R, gate: &G, a: Actor, b: Actor) {
     thread::join(rt, || gate.pass(spot(a, 0)), || gate.pass(spot(b, 0)));
 }
 

@@ -36,7 +36,7 @@ fn has_each_line(text: &[u8], report: &[u8]) -> bool {
 }
 
 // Whether an early run with these words writes each of the three lines, and then this report.
-fn writes_each<R: Threads + Wait + Sync, G: Gate>(
+fn writes_each<R: Threads + Wait + Sync, G: Gate + Sync>(
     rt: &R,
     alloc: Global,
     line: &str,

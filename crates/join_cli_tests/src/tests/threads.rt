@@ -14,7 +14,7 @@ const R: &str = "id,x\n1,10\n2,20\n3,30\n";
 const S: &str = "id,y\n1,20\n2,30\n3,20\n";
 
 // Whether a run with the words of this line writes the three pairs, and leaves so many ends.
-fn writes_all<R: Threads + Wait + Sync, G: Gate>(
+fn writes_all<R: Threads + Wait + Sync, G: Gate + Sync>(
     rt: &R,
     alloc: Global,
     line: &str,
