@@ -55,7 +55,7 @@ fn work_by<R: Wait, T: Drop, W: Task<T>>(
     }
 }
 
-impl<'s, T: Send + Drop + 's, W: Task<T>> Pool<'s, T, W> {
+impl<'s, T: Send + Drop + 's, W: Task<T> + Sync> Pool<'s, T, W> {
     /// Starts a thread for each of the signals, as far as the system and memory allow; with none it starts no thread. The
     /// scope waits until all have ended, so the pool is to be ended in it.
     pub fn start<E, R: Wait + Sync>(

@@ -3,10 +3,8 @@
 ghost use Rattle.std.specs.Prelude.{◌<◌, ℕ, length, slice_index_or};
 ghost use Rattle.kept_threads.specs.Changes.{EachChanged};
 
-use std::marker::Sync;
-
 /// What a pool does to each item, in any of its threads.
-pub trait Task<T>: Sync {
+pub trait Task<T> {
     /// What it may leave of an item.
     ghost changes: { T → T → Type 0 };
 

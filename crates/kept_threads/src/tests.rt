@@ -68,7 +68,7 @@ fn rounds_of<R: Wait, W: Task<u64>>(
 }
 
 // So many rounds of work on these numbers, by the caller and a thread for each of the signals; and how many threads did it.
-fn worked<R: Threads + Wait + Sync, W: Task<u64>>(
+fn worked<R: Threads + Wait + Sync, W: Task<u64> + Sync>(
     rt: &R,
     alloc: Global,
     items: Vec<u64>,
