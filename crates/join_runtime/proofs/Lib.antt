@@ -14,3 +14,4 @@ pub mod Written
 pub mod UnderWay
 pub mod GivenPairs
 pub mod Lines
+pub mod WorkedBouts

@@ -5,3 +5,5 @@ pub mod Bouts
 pub mod Seating
 pub mod Endings
 pub mod Early
+pub mod Runs
+pub mod Workers

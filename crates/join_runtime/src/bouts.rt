@@ -9,15 +9,17 @@ ghost use Rattle.actor_core.specs.Families.{AreFronts};
 ghost use Rattle.actor_core.specs.Players.{AgreesOnLinks, Extends};
 ghost use Rattle.join_runtime.specs.Views.{SeatView, frame_of};
 ghost use Rattle.join_runtime.specs.Turns.{AllStep, IsAlike};
+ghost use Rattle.join_runtime.specs.Workers.{AllWorked};
 ghost use Rattle.join_runtime.specs.Joins.{ActorsDiffer, AllLead, AreGathered, IsSlotOf, Tells, slot_of};
 ghost use Rattle.join_runtime.specs.Bouts.{AllAdvance, AllLive, AllRest, IsStill, NoneSpent, SomeReady, StandsFor, lists_in};
 ghost use Rattle.join_runtime.specs.Endings.{is_collected, journal_in};
 
-use crate::dealt::work;
 use crate::seat::Seat;
+use crate::started::work_started;
 use ruled_links::Mouth;
 use std::alloc::{AllocError, Global};
 use std::marker::Model;
+use std::mem;
 use std::sync::Wait;
 use std::thread::Threads;
 use trace_law::quiet_is_finished;
@@ -129,21 +131,16 @@ fn gather_all<R: Wait>(rt: &R, seats: &mut [Seat])
     }
 }
 
-// A bout of these seats. `Ok(false)`: all rest.
-fn bout_of<R: Threads + Wait + Sync, G: Gate + Sync>(
+// What stands before the turns of all seats: turns ahead of the others. `Ok(false)`: all rest.
+fn begin_bout<R: Wait, G: Gate>(
     rt: &R,
     seats: &mut [Seat],
-    workers: u32,
     gate: &G,
 ) -> Result<bool, AllocError>
-    requires workers { 0 < workers }
-    requires leads { AllLead (map frame_of seats.old) }
-    requires differ { ActorsDiffer (map frame_of seats.old) }
-    requires live { AllLive seats.old }
+    requires { AllLive seats.old }
     ensures frames { map frame_of seats.new ≡ map frame_of seats.old }
-    ensures went { result ≡ Ok true → AllAdvance seats.old seats.new }
+    ensures stepped { result ≡ Ok true → AllStep seats.old seats.new }
     ensures ready { result ≡ Ok true → SomeReady seats.old }
-    ensures gathered { result ≡ Ok true → AreGathered seats.new }
     ensures rest { result ≡ Ok false → AllRest seats.old }
     ensures same { result ≡ Ok false → seats.new ≡ seats.old }
 {
@@ -151,11 +148,54 @@ fn bout_of<R: Threads + Wait + Sync, G: Gate + Sync>(
         return Ok(false);
     }
     go_ahead(rt, seats, gate)?;
-    work(rt, seats, workers, gate);
+    Ok(true)
+}
+
+// What stands behind them: the two ends of each link are held together, where no seat is spent.
+fn end_bout<R: Wait>(rt: &R, seats: &mut [Seat]) -> Result<(), AllocError>
+    requires leads { AllLead (map frame_of seats.old) }
+    requires differ { ActorsDiffer (map frame_of seats.old) }
+    ensures frames { map frame_of seats.new ≡ map frame_of seats.old }
+    ensures none_spent { OnOk result (NoneSpent seats.old) }
+    ensures alike { OnOk result ((n : ℕ) (d : SeatView) → n < length seats.old
+        → IsAlike (slice_index_or seats.old n d) (slice_index_or seats.new n d)) }
+    ensures gathered { OnOk result (AreGathered seats.new) }
+{
     if any_spent(seats) {
         return Err(AllocError);
     }
     gather_all(rt, seats);
+    Ok(())
+}
+
+// A bout of these seats, by what gives all of them their turns. `Ok(false)`: all rest.
+fn bout_of<'a, R: Wait, G: Gate, F: FnOnce(Vec<Seat<'a>>) -> Vec<Seat<'a>>>(
+    rt: &R,
+    alloc: Global,
+    seats: &mut Vec<Seat<'a>>,
+    gate: &G,
+    work: F,
+) -> Result<bool, AllocError>
+    requires takes { (standing : _) → F.pre work standing }
+    requires works { (standing worked : _) → F.post work standing worked
+        → AllWorked standing.items worked.items }
+    requires leads { AllLead (map frame_of seats.old.items) }
+    requires differ { ActorsDiffer (map frame_of seats.old.items) }
+    requires live { AllLive seats.old.items }
+    ensures long { length seats.new.items ≡ length seats.old.items }
+    ensures frames { map frame_of seats.new.items ≡ map frame_of seats.old.items }
+    ensures went { result ≡ Ok true → AllAdvance seats.old.items seats.new.items }
+    ensures ready { result ≡ Ok true → SomeReady seats.old.items }
+    ensures gathered { result ≡ Ok true → AreGathered seats.new.items }
+    ensures rest { result ≡ Ok false → AllRest seats.old.items }
+    ensures same { result ≡ Ok false → seats.new.items ≡ seats.old.items }
+{
+    if !begin_bout(rt, seats.as_mut_slice(), gate)? {
+        return Ok(false);
+    }
+    let standing = mem::replace(seats, Vec::new(alloc));
+    *seats = work(standing);
+    end_bout(rt, seats.as_mut_slice())?;
     Ok(true)
 }
 
@@ -194,6 +234,48 @@ impl<'a> Model for Seats<'a> {
         × (s.spent ≡ false → AreSettled s.seats.items) };
 }
 
+// One bout, by what gives all seats their turns.
+pub(crate) fn bout_by<'a, R: Wait, G: Gate, F: FnOnce(Vec<Seat<'a>>) -> Vec<Seat<'a>>>(
+    rt: &R,
+    seats: &mut Seats<'a>,
+    gate: &G,
+    work: F,
+) -> Result<bool, AllocError>
+    requires takes { (standing : _) → F.pre work standing }
+    requires works { (standing worked : _) → F.post work standing worked
+        → AllWorked standing.items worked.items }
+    ensures went { result ≡ Ok true → AllAdvance seats.old.seats seats.new.seats }
+    ensures same { result ≡ Ok false → seats.new ≡ seats.old }
+    ensures still { result ≡ Ok false → IsStill seats.old }
+    ensures busy { result ≡ Ok true → ¬ IsStill seats.old }
+    ensures ready { result ≡ Ok true → SomeReady seats.old.seats }
+    ensures collected { result ≡ Ok false → (input : Input') (setting : Setting')
+        → IsValid input setting → StandsFor input setting seats.old
+        → is_collected seats.old ≡ true }
+    ensures agrees { OnOk result (AreFronts (lists_in seats.new)) }
+    ensures extends { OnOk result (Extends (lists_in seats.old) (lists_in seats.new)) }
+    ensures journal { OnOk result (IsPrefix (journal_in seats.old) (journal_in seats.new)) }
+    ensures stands { OnOk result ((input : Input') (setting : Setting')
+        → StandsFor input setting seats.old → StandsFor input setting seats.new) }
+    ensures linked { OnOk result ((input : Input') (setting : Setting')
+        → StandsFor input setting seats.old → AgreesOnLinks setting (lists_in seats.old)
+        → AgreesOnLinks setting (lists_in seats.new)) }
+    ensures goes_on { OnOk result ((seats.old.spent ≡ false) × (seats.new.spent ≡ false)) }
+    ensures fails { OnErr result (seats.new.spent ≡ true) }
+    ensures actors { (seats.new.joiners ≡ seats.old.joiners)
+        × (seats.new.feeders ≡ seats.old.feeders) }
+{
+    quiet_is_finished();
+    if seats.spent {
+        return Err(AllocError);
+    }
+    seats.spent = true;
+    let alloc = seats.alloc;
+    let went = bout_of(rt, alloc, &mut seats.seats, gate, work)?;
+    seats.spent = false;
+    Ok(went)
+}
+
 /// One bout. First the feeders and the controller go ahead, in the calling thread and by 64 turns each at most, unless
 /// some seat knows of more messages than it can take. Then each seat has turns until it is idle or has had 256 in this
 /// bout, in as many chunks side by side as there are workers; then the two ends of each link are held together.
@@ -227,12 +309,8 @@ pub fn bout<R: Threads + Wait + Sync, G: Gate + Sync>(
     ensures actors { (seats.new.joiners ≡ seats.old.joiners)
         × (seats.new.feeders ≡ seats.old.feeders) }
 {
-    quiet_is_finished();
-    if seats.spent {
-        return Err(AllocError);
-    }
-    seats.spent = true;
-    let went = bout_of(rt, seats.seats.as_mut_slice(), workers, gate)?;
-    seats.spent = false;
-    Ok(went)
+    let alloc = seats.alloc;
+    bout_by(rt, seats, gate, move |standing| {
+        work_started(rt, alloc, standing, workers, gate)
+    })
 }

@@ -1,70 +1,65 @@
 // The turns of all seats side by side, in chunks to which the seats are dealt in turn.
 
-ghost use Rattle.std.specs.Prelude.{◌<◌, ◌≤◌, length};
-ghost use Rattle.join_runtime.specs.Turns.{AllWork};
+ghost use Rattle.std.specs.Prelude.{◌≡◌, ◌<◌, ◌≤◌, length};
+ghost use Rattle.std.specs.List.{SwappedAt};
+ghost use Rattle.join_runtime.specs.Workers.{AllWorked};
 
+use crate::kept::Turns;
 use crate::seat::Seat;
-use actor_core::shares_predicates;
+use kept_threads::Pool;
 use std::sync::Wait;
-use std::thread;
-use std::thread::Threads;
 use worker_gate::{Gate, standing_at};
 
-// The turns of all seats as they stand, which are cut into as many chunks as there are workers.
-fn work_as_they_stand<R: Threads + Wait + Sync, G: Gate + Sync>(
-    rt: &R,
-    seats: &mut [Seat],
-    workers: u32,
-    gate: &G,
-)
-    requires { 0 < workers }
-    ensures { AllWork seats.old seats.new }
+// Two seats change places.
+fn swap(seats: &mut Vec<Seat>, a: usize, b: usize)
+    requires a { a < length seats.old.items }
+    requires b { b < length seats.old.items }
+    ensures len { length seats.new.items ≡ length seats.old.items }
+    ensures swapped { SwappedAt seats.old.items seats.new.items a b }
 {
-    shares_predicates();
-    thread::for_each_mut(rt, seats, workers as usize, &|_, seat| seat.turns(rt, gate));
+    seats.as_mut_slice().swap(a, b);
 }
 
-// The turns of all seats, of which those at so many last places are still to be dealt; each stands in its place again
-// behind them.
-fn work_dealt<R: Threads + Wait + Sync, G: Gate + Sync>(
+// The turns of all seats, of which those at so many last places are still to be dealt to chunks of this size; each stands
+// in its place again behind them.
+fn work_dealt<'a, R: Wait, G: Gate>(
     rt: &R,
-    seats: &mut [Seat],
-    workers: u32,
-    gate: &G,
+    seats: Vec<Seat<'a>>,
+    pool: &mut Pool<Seat<'a>, Turns<R, G>>,
+    size: usize,
     left: usize,
-)
-    requires workers { 0 < workers }
-    requires left { left ≤ length seats.old }
-    ensures { AllWork seats.old seats.new }
+) -> Vec<Seat<'a>>
+    requires size { 0 < size }
+    requires left { left ≤ length seats.items }
+    ensures { AllWorked seats.entry.items result.items }
 {
     if left == 0 {
-        work_as_they_stand(rt, seats, workers, gate);
-        return;
+        return pool.work(rt, seats);
     }
     let count = seats.len();
     let place = count - left;
-    let size = count.div_ceil(workers as usize).max(1);
     let from = standing_at(place, count, size);
+    let mut seats = seats;
     if from < count {
-        seats.swap(place, from);
-        work_dealt(rt, seats, workers, gate, left - 1);
-        seats.swap(place, from);
+        swap(&mut seats, place, from);
+        let mut worked = work_dealt(rt, seats, pool, size, left - 1);
+        swap(&mut worked, place, from);
+        worked
     } else {
-        work_dealt(rt, seats, workers, gate, left - 1);
+        work_dealt(rt, seats, pool, size, left - 1)
     }
 }
 
-// The turns of all seats, which are dealt to as many chunks as there are workers: so each has as many joiners as the
+// The turns of all seats, which are dealt to as many chunks as there are threads: so each has as many joiners as the
 // others, or one more or less.
-pub(crate) fn work<R: Threads + Wait + Sync, G: Gate + Sync>(
+pub(crate) fn work_by<'a, R: Wait, G: Gate>(
     rt: &R,
-    seats: &mut [Seat],
-    workers: u32,
-    gate: &G,
-)
-    requires { 0 < workers }
-    ensures { AllWork seats.old seats.new }
+    seats: Vec<Seat<'a>>,
+    pool: &mut Pool<Seat<'a>, Turns<R, G>>,
+) -> Vec<Seat<'a>>
+    ensures { AllWorked seats.entry.items result.items }
 {
     let count = seats.len();
-    work_dealt(rt, seats, workers, gate, count);
+    let size = count.div_ceil(pool.threads()).max(1);
+    work_dealt(rt, seats, pool, size, count)
 }

@@ -6,11 +6,13 @@ mod dealt;
 mod early;
 mod ends;
 mod fresh;
+mod kept;
 mod left;
 mod mouths;
 mod runs;
 mod seat;
 mod seating;
+mod started;
 
 pub use bouts::{Seats, bout};
 pub use early::{EarlyFault, run_early};

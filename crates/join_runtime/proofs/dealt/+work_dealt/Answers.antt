@@ -1,4 +1,4 @@
-use Rattle.std.proofs.Common.{arith}
+use Rattle.std.proofs.Common.{◌∙◌, arith}
 use Rattle.join_runtime.proofs.SeatBouts.{swapped_work}
 use Rattle.join_runtime.proofs.dealt.+work_dealt.Goals as goal
 
@@ -6,5 +6,12 @@ pub returns-then-from-count : goal.returns-then-from-count
 returns-then-from-count g t c =
     let some = c.if-left-eq0.false in
     let few = c.requires.left in
-    swapped_work c.args.seats.now c.swap.new.self c.work_dealt.new.seats c.swap-then-from-count.new.self _ c.standing_at-from.result
-    c.swap.ensures.len (omega (arith, some, few)) c.if-from-count.true c.swap.ensures.by_index c.work_dealt.ensures c.swap-then-from-count.ensures.by_index
+    let within = c.if-from-count.true in
+    let all = c.args.seats.ok.0 in
+    let counted = c.len-count.ensures in
+    let worked = c.work_dealt-worked.ensures in
+    record {
+      len = c.swap-then-from-count.ensures.len ∙ worked.len ∙ c.swap.ensures.len;
+      each = swapped_work c.args.seats.items c.swap.new.seats.items c.work_dealt-worked.result.items c.swap-then-from-count.new.seats.items _ c.standing_at-from.result
+          c.swap.ensures.len (omega (arith, some, few, all, counted)) (omega (arith, within, all, counted)) c.swap.ensures.swapped worked.each c.swap-then-from-count.ensures.swapped;
+    }

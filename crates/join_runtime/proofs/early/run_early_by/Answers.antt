@@ -9,7 +9,7 @@ use Rattle.actor_core.proofs.EventsCounted.{IsCounted}
 use Rattle.join_runtime.specs.Bouts.{lists_in}
 use Rattle.join_runtime.proofs.Lines.{each_put, fresh_cut, fresh_put, fresh_room, none_put, nothing_put, room_left, some_put}
 use Rattle.join_runtime.proofs.UnderWay.{few_bouts, goes_on, left_linked, one_bout_more}
-use Rattle.join_runtime.proofs.early.run_early.Goals as goal
+use Rattle.join_runtime.proofs.early.run_early_by.Goals as goal
 
 pub loop-init : goal.loop-init
 loop-init g c =
@@ -24,16 +24,16 @@ pub loop-preserved : goal.loop-preserved
 loop-preserved g c =
     let input = c.args.input.now in
     let setting = c.args.setting.now in
-    let said = c.in_ok-bout.ensures in
+    let said = c.in_ok-bout_by.ensures in
     let news = c.in_ok-fresh.ensures in
     let valid = c.limits_suffice.ensures input setting c.requires.input c.requires.setting in
     let put = c.loop.invariant.put in
-    let went = goes_on c.in_ok-bout.field-0 _ (λ rested. said.collected rested input setting valid put.way.stands) (sym c.complete.ensures ∙ c.if-complete.false) in
-    let way = one_bout_more input setting c.loop.seats c.bout.new.seats c.loop.bouts c.saturating_add-bouts.result (said.went went) (said.ready went) said.agrees (said.stands input setting)
+    let went = goes_on c.in_ok-bout_by.field-0 _ (λ rested. said.collected rested input setting valid put.way.stands) (sym c.complete.ensures ∙ c.if-complete.false) in
+    let way = one_bout_more input setting c.loop.seats c.bout_by.new.seats c.loop.bouts c.saturating_add-bouts.result (said.went went) (said.ready went) said.agrees (said.stands input setting)
     (let sum = c.saturating_add-bouts.ensures in omega (arith, sum)) put.way in
     record {
-      put = fresh_put input setting c.loop.seats c.bout.new.seats c.loop.bouts c.saturating_add-bouts.result (g.K.Sink.written c.args.sink.now) (g.K.Sink.written c.loop.sink)
-          (g.K.Sink.takes c.args.sink.now) (g.K.Sink.takes c.loop.sink) put way (said.went went) said.extends c.as_slice.result.now (λ earlier st gave. subst (λ (ps : List Pair). IsPermutation (pairs_since (2 ^ setting.k) earlier (collected_in c.bout.new.seats)) ps) (sym c.as_slice.ensures) (c.in_ok-fresh.ensures.gives input setting earlier st gave))
+      put = fresh_put input setting c.loop.seats c.bout_by.new.seats c.loop.bouts c.saturating_add-bouts.result (g.K.Sink.written c.args.sink.now) (g.K.Sink.written c.loop.sink)
+          (g.K.Sink.takes c.args.sink.now) (g.K.Sink.takes c.loop.sink) put way (said.went went) said.extends c.as_slice.result.now (λ earlier st gave. subst (λ (ps : List Pair). IsPermutation (pairs_since (2 ^ setting.k) earlier (collected_in c.bout_by.new.seats)) ps) (sym c.as_slice.ensures) (c.in_ok-fresh.ensures.gives input setting earlier st gave))
           c.fresh.new.self c.fresh.ensures.lists (c.fresh.ensures.stands input setting) (news.given input setting) (g.K.Sink.written c.put_lines.new.sink) c.in_ok-put_lines.ensures.written
           (g.K.Sink.takes c.put_lines.new.sink) (λ more has. (c.in_ok-put_lines.ensures.takes more has).1);
       left = PutsSome-trans (g.K.Sink.written c.args.sink.now) (g.K.Sink.written c.loop.sink) (g.K.Sink.written c.put_lines.new.sink)
@@ -44,8 +44,8 @@ loop-preserved g c =
 pub returns-in_err-seats-clause-lines : goal.returns-in_err-seats-clause-lines
 returns-in_err-seats-clause-lines g c = none_put c.args.input.now (g.K.Sink.written c.args.sink.now) (g.K.Sink.written c.args.sink.now) refl
 
-pub returns-in_err-bout-clause-lines : goal.returns-in_err-bout-clause-lines
-returns-in_err-bout-clause-lines g c =
+pub returns-in_err-bout_by-clause-lines : goal.returns-in_err-bout_by-clause-lines
+returns-in_err-bout_by-clause-lines g c =
     let input = c.args.input.now in
     let setting = c.args.setting.now in
     let valid = c.limits_suffice.ensures input setting c.requires.input c.requires.setting in
@@ -62,28 +62,28 @@ pub returns-in_err-put_lines-clause-lines : goal.returns-in_err-put_lines-clause
 returns-in_err-put_lines-clause-lines g c =
     let input = c.args.input.now in
     let setting = c.args.setting.now in
-    let said = c.in_ok-bout.ensures in
+    let said = c.in_ok-bout_by.ensures in
     let valid = c.limits_suffice.ensures input setting c.requires.input c.requires.setting in
     let put = c.loop.invariant.put in
-    let went = goes_on c.in_ok-bout.field-0 _ (λ rested. said.collected rested input setting valid put.way.stands) (sym c.complete.ensures ∙ c.if-complete.false) in
-    let way = one_bout_more input setting c.loop.seats c.bout.new.seats c.loop.bouts c.saturating_add-bouts.result (said.went went) (said.ready went) said.agrees (said.stands input setting)
+    let went = goes_on c.in_ok-bout_by.field-0 _ (λ rested. said.collected rested input setting valid put.way.stands) (sym c.complete.ensures ∙ c.if-complete.false) in
+    let way = one_bout_more input setting c.loop.seats c.bout_by.new.seats c.loop.bouts c.saturating_add-bouts.result (said.went went) (said.ready went) said.agrees (said.stands input setting)
     (let sum = c.saturating_add-bouts.ensures in omega (arith, sum)) put.way in
-    fresh_cut input setting c.loop.seats c.bout.new.seats c.loop.bouts c.saturating_add-bouts.result (g.K.Sink.written c.args.sink.now) (g.K.Sink.written c.loop.sink)
-    (g.K.Sink.takes c.args.sink.now) (g.K.Sink.takes c.loop.sink) put way (said.went went) said.extends c.as_slice.result.now (λ earlier st gave. subst (λ (ps : List Pair). IsPermutation (pairs_since (2 ^ setting.k) earlier (collected_in c.bout.new.seats)) ps) (sym c.as_slice.ensures) (c.in_ok-fresh.ensures.gives input setting earlier st gave))
+    fresh_cut input setting c.loop.seats c.bout_by.new.seats c.loop.bouts c.saturating_add-bouts.result (g.K.Sink.written c.args.sink.now) (g.K.Sink.written c.loop.sink)
+    (g.K.Sink.takes c.args.sink.now) (g.K.Sink.takes c.loop.sink) put way (said.went went) said.extends c.as_slice.result.now (λ earlier st gave. subst (λ (ps : List Pair). IsPermutation (pairs_since (2 ^ setting.k) earlier (collected_in c.bout_by.new.seats)) ps) (sym c.as_slice.ensures) (c.in_ok-fresh.ensures.gives input setting earlier st gave))
     c.takes_nothing_wrong.ensures valid (g.K.Sink.written c.put_lines.new.sink) c.in_err-put_lines.ensures.front
 
 pub returns-in_err-put_lines-clause-takes : goal.returns-in_err-put_lines-clause-takes
 returns-in_err-put_lines-clause-takes g c more has =
     let input = c.args.input.now in
     let setting = c.args.setting.now in
-    let said = c.in_ok-bout.ensures in
+    let said = c.in_ok-bout_by.ensures in
     let valid = c.limits_suffice.ensures input setting c.requires.input c.requires.setting in
     let put = c.loop.invariant.put in
-    let went = goes_on c.in_ok-bout.field-0 _ (λ rested. said.collected rested input setting valid put.way.stands) (sym c.complete.ensures ∙ c.if-complete.false) in
-    let way = one_bout_more input setting c.loop.seats c.bout.new.seats c.loop.bouts c.saturating_add-bouts.result (said.went went) (said.ready went) said.agrees (said.stands input setting)
+    let went = goes_on c.in_ok-bout_by.field-0 _ (λ rested. said.collected rested input setting valid put.way.stands) (sym c.complete.ensures ∙ c.if-complete.false) in
+    let way = one_bout_more input setting c.loop.seats c.bout_by.new.seats c.loop.bouts c.saturating_add-bouts.result (said.went went) (said.ready went) said.agrees (said.stands input setting)
     (let sum = c.saturating_add-bouts.ensures in omega (arith, sum)) put.way in
-    let room = fresh_room input setting c.loop.seats c.bout.new.seats c.loop.bouts c.saturating_add-bouts.result (g.K.Sink.written c.args.sink.now) (g.K.Sink.written c.loop.sink)
-    (g.K.Sink.takes c.args.sink.now) (g.K.Sink.takes c.loop.sink) put way (said.went went) said.extends c.as_slice.result.now (λ earlier st gave. subst (λ (ps : List Pair). IsPermutation (pairs_since (2 ^ setting.k) earlier (collected_in c.bout.new.seats)) ps) (sym c.as_slice.ensures) (c.in_ok-fresh.ensures.gives input setting earlier st gave))
+    let room = fresh_room input setting c.loop.seats c.bout_by.new.seats c.loop.bouts c.saturating_add-bouts.result (g.K.Sink.written c.args.sink.now) (g.K.Sink.written c.loop.sink)
+    (g.K.Sink.takes c.args.sink.now) (g.K.Sink.takes c.loop.sink) put way (said.went went) said.extends c.as_slice.result.now (λ earlier st gave. subst (λ (ps : List Pair). IsPermutation (pairs_since (2 ^ setting.k) earlier (collected_in c.bout_by.new.seats)) ps) (sym c.as_slice.ensures) (c.in_ok-fresh.ensures.gives input setting earlier st gave))
     c.takes_nothing_wrong.ensures valid more has in
     let other = (c.in_err-put_lines.ensures.takes _ room).0 in
     (search (rules, other), search rules)

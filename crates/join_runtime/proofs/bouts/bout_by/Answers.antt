@@ -1,53 +1,49 @@
-use Rattle.std.proofs.Common.{◌≡◌, ◌∙◌, Ok, ap, false, length, map, subst, sym}
-use Rattle.std.proofs.lemmas.List.{length-map, with_items_is}
+use Rattle.std.proofs.Common.{◌∙◌, Ok, ap, false, subst, sym}
+use Rattle.std.proofs.lemmas.List.{length-map}
 use Rattle.join_runtime.specs.Views.{frame_of}
 use Rattle.join_runtime.specs.Joins.{AreJoined}
 use Rattle.join_runtime.specs.Bouts.{SeatsView}
 use Rattle.join_runtime.proofs.LinkLists.{busy, fronts, rest_collected, still}
 use Rattle.join_runtime.proofs.SeatBouts.{extends_after, journal_after, linked_after, settled_after, stands_after}
-use Rattle.join_runtime.proofs.bouts.bout.Goals as goal
+use Rattle.join_runtime.proofs.bouts.bout_by.Goals as goal
 
 pub invariant_of-seats-2 : goal.invariant_of-seats-2
 invariant_of-seats-2 g c =
     let seats = c.seats.inside.seats in
-    let new = c.bout_of.new.seats in
-    let value = c.as_mut_slice.ensures.value in
-    let long : length new ≡ length seats.items = c.bout_of.auto.seats ∙ ap length value in
-    let items = with_items_is seats new (long ∙ sym seats.ok.0) in
-    let said = rw value at c.in_ok-went.ensures in
-    let joined = subst (AreJoined c.seats.inside.joiners c.seats.inside.feeders) (sym (c.bout_of.ensures.frames ∙ ap (map frame_of) value)) c.seats.invariant.0 in
+    let new = c.bout_of.new.seats.items in
+    let long = c.bout_of.ensures.long in
+    let said = c.in_ok-went.ensures in
+    let joined = subst (AreJoined c.seats.inside.joiners c.seats.inside.feeders) (sym c.bout_of.ensures.frames) c.seats.invariant.0 in
     let settled = settled_after c.in_ok-went.went seats.items new long (λ is. said.went (ap Ok is)) (λ is. said.gathered (ap Ok is)) (λ is. said.same (ap Ok is)) (c.seats.invariant.1 c.if-seats.false) in
-    rw items (joined, λ z. settled)
+    (joined, λ z. settled)
 
 pub returns-clause-agrees : goal.returns-clause-agrees
 returns-clause-agrees g c =
     let seats = c.seats.inside.seats in
-    let new = c.bout_of.new.seats in
-    let value = c.as_mut_slice.ensures.value in
-    let long : length new ≡ length seats.items = c.bout_of.auto.seats ∙ ap length value in
-    let items = with_items_is seats new (long ∙ sym seats.ok.0) in
-    let said = rw value at c.in_ok-went.ensures in
-    let joined = subst (AreJoined c.seats.inside.joiners c.seats.inside.feeders) (sym (c.bout_of.ensures.frames ∙ ap (map frame_of) value)) c.seats.invariant.0 in
+    let new = c.bout_of.new.seats.items in
+    let long = c.bout_of.ensures.long in
+    let said = c.in_ok-went.ensures in
+    let joined = subst (AreJoined c.seats.inside.joiners c.seats.inside.feeders) (sym c.bout_of.ensures.frames) c.seats.invariant.0 in
     let settled = settled_after c.in_ok-went.went seats.items new long (λ is. said.went (ap Ok is)) (λ is. said.gathered (ap Ok is)) (λ is. said.same (ap Ok is)) (c.seats.invariant.1 c.if-seats.false) in
-    rw items (fronts (record { joiners = c.seats.inside.joiners; feeders = c.seats.inside.feeders; seats = new; spent = false }) joined settled)
+    (fronts (record { joiners = c.seats.inside.joiners; feeders = c.seats.inside.feeders; seats = new; spent = false }) joined settled)
 
 pub returns-clause-still : goal.returns-clause-still
 returns-clause-still g c =
-    let said = rw c.as_mut_slice.ensures.value at c.in_ok-went.ensures in
+    let said = c.in_ok-went.ensures in
     λ is.
     rw (← c.seats.view_is)
     (still (record { joiners = c.seats.inside.joiners; feeders = c.seats.inside.feeders; seats = c.seats.inside.seats.items; spent = c.seats.inside.spent }) c.seats.invariant.0 (c.seats.invariant.1 c.if-seats.false) (said.rest is))
 
 pub returns-clause-busy : goal.returns-clause-busy
 returns-clause-busy g c =
-    let said = rw c.as_mut_slice.ensures.value at c.in_ok-went.ensures in
+    let said = c.in_ok-went.ensures in
     λ is.
     rw (← c.seats.view_is)
     (busy (record { joiners = c.seats.inside.joiners; feeders = c.seats.inside.feeders; seats = c.seats.inside.seats.items; spent = c.seats.inside.spent }) c.seats.invariant.0 (c.seats.invariant.1 c.if-seats.false) (said.ready is))
 
 pub returns-clause-collected : goal.returns-clause-collected
 returns-clause-collected g c =
-    let said = rw c.as_mut_slice.ensures.value at c.in_ok-went.ensures in
+    let said = c.in_ok-went.ensures in
     let v : SeatsView = record { joiners = c.seats.inside.joiners; feeders = c.seats.inside.feeders; seats = c.seats.inside.seats.items; spent = c.seats.inside.spent } in
     λ is.
     rw (← c.seats.view_is)
@@ -56,51 +52,43 @@ returns-clause-collected g c =
 pub returns-clause-extends : goal.returns-clause-extends
 returns-clause-extends g c =
     let seats = c.seats.inside.seats in
-    let new = c.bout_of.new.seats in
-    let value = c.as_mut_slice.ensures.value in
-    let long : length new ≡ length seats.items = c.bout_of.auto.seats ∙ ap length value in
-    let items = with_items_is seats new (long ∙ sym seats.ok.0) in
-    let said = rw value at c.in_ok-went.ensures in
+    let new = c.bout_of.new.seats.items in
+    let long = c.bout_of.ensures.long in
+    let said = c.in_ok-went.ensures in
     let all = sym (length-map seats.items frame_of) ∙ c.seats.invariant.0.all in
-    rw (← c.seats.view_is, items)
+    rw (← c.seats.view_is)
     (extends_after c.in_ok-went.went c.seats.inside.joiners c.seats.inside.feeders seats.items new long all (λ is. said.went (ap Ok is)) (λ is. said.same (ap Ok is)))
 
 pub returns-clause-journal : goal.returns-clause-journal
 returns-clause-journal g c =
     let seats = c.seats.inside.seats in
-    let new = c.bout_of.new.seats in
-    let value = c.as_mut_slice.ensures.value in
-    let long : length new ≡ length seats.items = c.bout_of.auto.seats ∙ ap length value in
-    let items = with_items_is seats new (long ∙ sym seats.ok.0) in
-    let said = rw value at c.in_ok-went.ensures in
+    let new = c.bout_of.new.seats.items in
+    let long = c.bout_of.ensures.long in
+    let said = c.in_ok-went.ensures in
     let all = sym (length-map seats.items frame_of) ∙ c.seats.invariant.0.all in
-    rw (← c.seats.view_is, items)
+    rw (← c.seats.view_is)
     (journal_after c.in_ok-went.went c.seats.inside.joiners c.seats.inside.feeders seats.items new long all (λ is. said.went (ap Ok is)) (λ is. said.same (ap Ok is)))
 
 pub returns-clause-stands : goal.returns-clause-stands
 returns-clause-stands g c =
     let seats = c.seats.inside.seats in
-    let new = c.bout_of.new.seats in
-    let value = c.as_mut_slice.ensures.value in
-    let long : length new ≡ length seats.items = c.bout_of.auto.seats ∙ ap length value in
-    let items = with_items_is seats new (long ∙ sym seats.ok.0) in
-    let said = rw value at c.in_ok-went.ensures in
+    let new = c.bout_of.new.seats.items in
+    let long = c.bout_of.ensures.long in
+    let said = c.in_ok-went.ensures in
     let all = sym (length-map seats.items frame_of) ∙ c.seats.invariant.0.all in
-    rw (← c.seats.view_is, items)
+    rw (← c.seats.view_is)
     (stands_after c.in_ok-went.went c.seats.inside.joiners c.seats.inside.feeders seats.items new long all (λ is. said.went (ap Ok is)) (λ is. said.same (ap Ok is)))
 
 pub returns-clause-linked : goal.returns-clause-linked
 returns-clause-linked g c =
     let seats = c.seats.inside.seats in
-    let new = c.bout_of.new.seats in
-    let value = c.as_mut_slice.ensures.value in
-    let long : length new ≡ length seats.items = c.bout_of.auto.seats ∙ ap length value in
-    let items = with_items_is seats new (long ∙ sym seats.ok.0) in
-    let said = rw value at c.in_ok-went.ensures in
+    let new = c.bout_of.new.seats.items in
+    let long = c.bout_of.ensures.long in
+    let said = c.in_ok-went.ensures in
     let all = sym (length-map seats.items frame_of) ∙ c.seats.invariant.0.all in
-    let joined = subst (AreJoined c.seats.inside.joiners c.seats.inside.feeders) (sym (c.bout_of.ensures.frames ∙ ap (map frame_of) value)) c.seats.invariant.0 in
+    let joined = subst (AreJoined c.seats.inside.joiners c.seats.inside.feeders) (sym c.bout_of.ensures.frames) c.seats.invariant.0 in
     let settled = settled_after c.in_ok-went.went seats.items new long (λ is. said.went (ap Ok is)) (λ is. said.gathered (ap Ok is)) (λ is. said.same (ap Ok is)) (c.seats.invariant.1 c.if-seats.false) in
-    rw (← c.seats.view_is, items)
+    rw (← c.seats.view_is)
     (λ input setting stands before. record {
       fronts = fronts (record { joiners = c.seats.inside.joiners; feeders = c.seats.inside.feeders; seats = new; spent = false }) joined settled;
       linked = linked_after c.in_ok-went.went c.seats.inside.joiners c.seats.inside.feeders seats.items new long all (λ is. said.went (ap Ok is)) (λ is. said.same (ap Ok is)) input setting stands before.linked;
