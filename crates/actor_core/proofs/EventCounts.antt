@@ -5,7 +5,7 @@ use Rattle.std.specs.Prelude.{bit_xor}
 use Rattle.std.specs.List.{AllByRecursion, cons_option}
 use Rattle.std.proofs.lemmas.List.{length-append}
 use Rattle.std.proofs.lemmas.List.Elements.{filter_map-append, recursion_from_All}
-use Rattle.join_rows.specs.Lists.{total}
+use Rattle.join_rows.specs.Lists.{IsPrefix, total}
 use Rattle.join_rows.proofs.Totals.{total_le, total_but}
 use Rattle.join_rows.proofs.Everywhere.{all-append, all-back}
 use Rattle.epoch_tags.specs.declared.actor.Actor.{Actor}
@@ -24,13 +24,14 @@ use Rattle.epoch_tags.specs.Posts.{IsOfKind, GoesOver, joiner_msg, feeder_msg, c
 use Rattle.epoch_tags.specs.Posts.{posted_to_controller}
 use Rattle.trace_law.specs.declared.input.Input.{Input}
 use Rattle.trace_law.specs.declared.setting.Setting.{Setting}
-use Rattle.actor_core.specs.Lists.{ActorLists, Cause, Took, Began, same_actor, posted_to, with_cause, with_event}
+use Rattle.actor_core.specs.Lists.{ActorLists, Cause, Took, Began, same_actor, posted_to, with_event}
 use Rattle.actor_core.specs.Standing.{GoOut}
 use Rattle.actor_core.specs.Players.{AreLinked, IsLinked}
 use Rattle.actor_core.specs.Families.{start_for, IsActor, after_event}
 use Rattle.actor_core.proofs.Balances.{same_is}
 use Rattle.actor_core.proofs.OwnNumbers.{same_self}
-use Rattle.actor_core.proofs.TypedLists.{got, appended, controller_posts}
+use Rattle.actor_core.proofs.Runs.{Grows, grows_same, prefix_self, with_event_grows}
+use Rattle.actor_core.proofs.TypedLists.{appended, controller_posts}
 
 -- ---- what the events of these lists are
 
@@ -57,140 +58,31 @@ abbrev pub count : Setting → (Actor → ActorLists) → ℕ
 count setting f = total setting.feeders (of_feeder f) + total (2 ^ setting.k) (of_joiner setting f)
     + total (2 ^ setting.k) (of_ends f)
 
--- ---- lists that grow
+-- ---- what a list counts
 
-same_le : (n : ℕ) → n ≤ n
-same_le n = omega arith
+front_counts : {X : Type 0} (kind : Msg → Option X) (xs ys : List Msg) → IsPrefix xs ys
+    → length (filter_map kind xs) ≤ length (filter_map kind ys)
+front_counts kind xs ys front =
+    let more = filter_map kind front.rest in
+    let e : length (filter_map kind (xs ++ front.rest)) ≡ length (filter_map kind xs) + length more =
+    ap length (filter_map-append kind xs front.rest) ∙ length-append (filter_map kind xs) more in
+    let less : length (filter_map kind xs) ≤ length (filter_map kind (xs ++ front.rest)) = omega (arith, e) in
+    subst (λ zs. length (filter_map kind xs) ≤ length (filter_map kind zs)) front.joins less
 
-grows : {X : Type 0} (kind : Msg → Option X) (ms more : List Msg)
-    → length (filter_map kind ms) ≤ length (filter_map kind (ms ++ more))
-grows kind ms more =
-    let e : length (filter_map kind (ms ++ more)) ≡ length (filter_map kind ms) + length (filter_map kind more) =
-    ap length (filter_map-append kind ms more) ∙ length-append (filter_map kind ms) (filter_map kind more) in
-    omega arith
-
-grows_if : {X : Type 0} (kind : Msg → Option X) (b : Bool) (ms more : List Msg)
-    → length (filter_map kind ms) ≤ length (filter_map kind (cond b (ms ++ more) ms))
-grows_if kind true ms more = grows kind ms more
-grows_if kind false ms more = same_le (length (filter_map kind ms))
-
-cause_grows : {X : Type 0} (kind : Msg → Option X) (cause : Cause) (g : Actor → List Msg) (x : Actor)
-    → length (filter_map kind (g x)) ≤ length (filter_map kind (with_cause cause g x))
-cause_grows kind (Took from m) g x = grows_if kind (same_actor from x) (g x) (m ∷ [])
-cause_grows kind Began g x = same_le (length (filter_map kind (g x)))
+-- a message behind what was there before is one more
+got_more : {X : Type 0} (kind : Msg → Option X) (x : X) (m : Msg) → kind m ≡ Some x → (before between after : List Msg)
+    → IsPrefix before between → IsPrefix (between ++ m ∷ []) after
+    → length (filter_map kind before) + 1 ≤ length (filter_map kind after)
+got_more kind x m is before between after old new =
+    let one = front_counts kind before between old in
+    let two = front_counts kind (between ++ m ∷ []) after new in
+    let typed : filter_map kind (m ∷ []) ≡ x ∷ [] = ap (λ o. cons_option o []) is in
+    let all = ap length (appended kind between (m ∷ []) (x ∷ []) typed) in
+    let long = all ∙ length-append (filter_map kind between) (x ∷ []) in
+    omega (arith, one, two, long)
 
 total_more : (n i : ℕ) (g h : ℕ → ℕ) → i < n → ((q : ℕ) → q < n → g q ≤ h q) → g i + 1 ≤ h i → total n g + 1 ≤ total n h
 total_more n i g h low each more = let but = total_but n i g h low each in omega arith
-
-module _ (self : Actor) (cause : Cause) (posts : List Post) (f : Actor → ActorLists) where
-  received_grows : {X : Type 0} (kind : Msg → Option X) (x y : Actor)
-      → length (filter_map kind ((f y).received x)) ≤ length
-      (filter_map kind ((after_event self cause posts f y).received x))
-  received_grows kind x y = go (same_actor self y) refl
-    where
-      go : (b : Bool) → same_actor self y ≡ b
-          → length (filter_map kind ((f y).received x)) ≤ length
-          (filter_map kind ((cond b (with_event cause posts (f self)) (f y)).received x))
-      go true e = subst (λ z. length (filter_map kind ((f z).received x))
-          ≤ length (filter_map kind (with_cause cause (f self).received x))) (same_is self y e)
-          (cause_grows kind cause (f self).received x)
-      go false e = same_le (length (filter_map kind ((f y).received x)))
-
-  sent_grows : {X : Type 0} (kind : Msg → Option X) (x y : Actor)
-      → length (filter_map kind ((f x).sent y)) ≤ length (filter_map kind ((after_event self cause posts f x).sent y))
-  sent_grows kind x y = go (same_actor self x) refl
-    where
-      go : (b : Bool) → same_actor self x ≡ b
-          → length (filter_map kind ((f x).sent y)) ≤ length
-          (filter_map kind ((cond b (with_event cause posts (f self)) (f x)).sent y))
-      go true e = subst (λ z. length (filter_map kind ((f z).sent y))
-          ≤ length (filter_map kind ((f self).sent y ++ posted_to y posts))) (same_is self x e)
-          (grows kind ((f self).sent y) (posted_to y posts))
-      go false e = same_le (length (filter_map kind ((f x).sent y)))
-
-  feeder_grows : (p : ℕ) → of_feeder f p ≤ of_feeder (after_event self cause posts f) p
-  feeder_grows p =
-      let one = sent_grows controller_msg (Feeder p) Controller in
-      let two = received_grows feeder_msg Controller (Feeder p) in
-      let three = received_grows controller_msg (Feeder p) Controller in
-      omega arith
-
-  from_feeders_grow : (setting : Setting) (j : ℕ)
-      → total setting.feeders (λ p. length (filter_map joiner_msg ((f (Joiner j)).received (Feeder p))))
-      ≤ total setting.feeders (λ p. length (filter_map joiner_msg
-      ((after_event self cause posts f (Joiner j)).received (Feeder p))))
-  from_feeders_grow setting j = total_le setting.feeders _ _ (λ p low. received_grows joiner_msg (Feeder p) (Joiner j))
-
-  from_joiners_grow : (setting : Setting) (j : ℕ)
-      → total (2 ^ setting.k) (λ i. length (filter_map joiner_msg ((f (Joiner j)).received (Joiner i))))
-      ≤ total (2 ^ setting.k) (λ i. length (filter_map joiner_msg
-      ((after_event self cause posts f (Joiner j)).received (Joiner i))))
-  from_joiners_grow setting j = total_le (2 ^ setting.k) _ _ (λ i low. received_grows joiner_msg (Joiner i) (Joiner j))
-
-  joiner_grows : (setting : Setting) (j : ℕ)
-      → of_joiner setting f j ≤ of_joiner setting (after_event self cause posts f) j
-  joiner_grows setting j = let one = from_feeders_grow setting j in let two = from_joiners_grow setting j in omega arith
-
-  ends_grow : (j : ℕ) → of_ends f j ≤ of_ends (after_event self cause posts f) j
-  ends_grow j =
-      let one = received_grows controller_msg (Joiner j) Controller in
-      let two = received_grows collector_msg (Joiner j) Collector in
-      omega arith
-
-  -- where one of the three sums has one more, the count has
-  module _ (setting : Setting) where
-    all_feeders : total setting.feeders (of_feeder f) ≤ total setting.feeders
-        (of_feeder (after_event self cause posts f))
-    all_feeders =
-        total_le setting.feeders (of_feeder f) (of_feeder (after_event self cause posts f)) (λ p low. feeder_grows p)
-
-    all_joiners : total (2 ^ setting.k) (of_joiner setting f)
-        ≤ total (2 ^ setting.k) (of_joiner setting (after_event self cause posts f))
-    all_joiners = total_le (2 ^ setting.k) (of_joiner setting f) (of_joiner setting (after_event self cause posts f))
-        (λ j low. joiner_grows setting j)
-
-    all_ends : total (2 ^ setting.k) (of_ends f) ≤ total (2 ^ setting.k) (of_ends (after_event self cause posts f))
-    all_ends = total_le (2 ^ setting.k) (of_ends f) (of_ends (after_event self cause posts f)) (λ j low. ends_grow j)
-
-    feeder_more : (p : ℕ) → p < setting.feeders → of_feeder f p + 1 ≤ of_feeder (after_event self cause posts f) p
-        → count setting f + 1 ≤ count setting (after_event self cause posts f)
-    feeder_more p low more =
-        let one = total_more setting.feeders p (of_feeder f) (of_feeder (after_event self cause posts f)) low
-        (λ q l. feeder_grows q) more in
-        let two = all_joiners in let three = all_ends in omega arith
-
-    joiner_more : (j : ℕ) → j < 2 ^ setting.k
-        → of_joiner setting f j + 1 ≤ of_joiner setting (after_event self cause posts f) j
-        → count setting f + 1 ≤ count setting (after_event self cause posts f)
-    joiner_more j low more =
-        let one = total_more (2 ^ setting.k) j (of_joiner setting f)
-        (of_joiner setting (after_event self cause posts f)) low (λ q l. joiner_grows setting q) more in
-        let two = all_feeders in let three = all_ends in omega arith
-
-    ends_more : (j : ℕ) → j < 2 ^ setting.k → of_ends f j + 1 ≤ of_ends (after_event self cause posts f) j
-        → count setting f + 1 ≤ count setting (after_event self cause posts f)
-    ends_more j low more =
-        let one = total_more (2 ^ setting.k) j (of_ends f) (of_ends (after_event self cause posts f)) low
-        (λ q l. ends_grow q) more in
-        let two = all_feeders in let three = all_joiners in omega arith
-
--- ---- a message taken is one more
-
-module _ (from self : Actor) (m : Msg) (posts : List Post) (f : Actor → ActorLists) where
-  took_more : {X : Type 0} (kind : Msg → Option X) (x : X) → kind m ≡ Some x
-      → length (filter_map kind ((f self).received from)) + 1
-      ≤ length (filter_map kind ((after_event self (Took from m) posts f self).received from))
-  took_more kind x is =
-      let before = (f self).received from in
-      let more : length (filter_map kind (cond (same_actor from from) (before ++ m ∷ []) before))
-      ≡ length (filter_map kind before) + 1 =
-      ap length (got kind (same_actor from from) m x before is)
-      ∙ (ap (λ b. length (cond b (filter_map kind before ++ x ∷ []) (filter_map kind before))) (same_self from)
-      ∙ length-append (filter_map kind before) (x ∷ [])) in
-      subst (λ b. length (filter_map kind before) + 1 ≤ length
-      (filter_map kind ((cond b (with_event (Took from m) posts (f self)) (f self)).received from)))
-      (sym (same_self self))
-      (subst (λ n. length (filter_map kind before) + 1 ≤ n) (sym more) (same_le (length (filter_map kind before) + 1)))
 
 -- ---- kinds
 
@@ -218,72 +110,164 @@ collector_kind (Feeder' m) is = absurd is
 collector_kind (Controller' m) is = absurd is
 collector_kind (Collector' m) is = (m, refl)
 
--- ---- one event
+-- ---- lists that grow
 
--- a message of the link's kind, taken over a link by one of the run's actors, is one event more
+module _ (setting : Setting) (f g : Actor → ActorLists) (grow : (a : Actor) → Grows (f a) (g a)) where
+  received_le : {X : Type 0} (kind : Msg → Option X) (x y : Actor)
+      → length (filter_map kind ((f y).received x)) ≤ length (filter_map kind ((g y).received x))
+  received_le kind x y = front_counts kind ((f y).received x) ((g y).received x) ((grow y).received x)
+
+  sent_le : {X : Type 0} (kind : Msg → Option X) (x y : Actor)
+      → length (filter_map kind ((f x).sent y)) ≤ length (filter_map kind ((g x).sent y))
+  sent_le kind x y = front_counts kind ((f x).sent y) ((g x).sent y) ((grow x).sent y)
+
+  feeder_le : (p : ℕ) → of_feeder f p ≤ of_feeder g p
+  feeder_le p =
+      let one = sent_le controller_msg (Feeder p) Controller in
+      let two = received_le feeder_msg Controller (Feeder p) in
+      let three = received_le controller_msg (Feeder p) Controller in
+      omega arith
+
+  from_feeders_le : (j : ℕ)
+      → total setting.feeders (λ p. length (filter_map joiner_msg ((f (Joiner j)).received (Feeder p))))
+      ≤ total setting.feeders (λ p. length (filter_map joiner_msg ((g (Joiner j)).received (Feeder p))))
+  from_feeders_le j = total_le setting.feeders _ _ (λ p low. received_le joiner_msg (Feeder p) (Joiner j))
+
+  from_joiners_le : (j : ℕ)
+      → total (2 ^ setting.k) (λ i. length (filter_map joiner_msg ((f (Joiner j)).received (Joiner i))))
+      ≤ total (2 ^ setting.k) (λ i. length (filter_map joiner_msg ((g (Joiner j)).received (Joiner i))))
+  from_joiners_le j = total_le (2 ^ setting.k) _ _ (λ i low. received_le joiner_msg (Joiner i) (Joiner j))
+
+  joiner_le : (j : ℕ) → of_joiner setting f j ≤ of_joiner setting g j
+  joiner_le j = let one = from_feeders_le j in let two = from_joiners_le j in omega arith
+
+  ends_le : (j : ℕ) → of_ends f j ≤ of_ends g j
+  ends_le j =
+      let one = received_le controller_msg (Joiner j) Controller in
+      let two = received_le collector_msg (Joiner j) Collector in
+      omega arith
+
+  all_feeders : total setting.feeders (of_feeder f) ≤ total setting.feeders (of_feeder g)
+  all_feeders = total_le setting.feeders (of_feeder f) (of_feeder g) (λ p low. feeder_le p)
+
+  all_joiners : total (2 ^ setting.k) (of_joiner setting f) ≤ total (2 ^ setting.k) (of_joiner setting g)
+  all_joiners = total_le (2 ^ setting.k) (of_joiner setting f) (of_joiner setting g) (λ j low. joiner_le j)
+
+  all_ends : total (2 ^ setting.k) (of_ends f) ≤ total (2 ^ setting.k) (of_ends g)
+  all_ends = total_le (2 ^ setting.k) (of_ends f) (of_ends g) (λ j low. ends_le j)
+
+  -- where one of the three sums has one more, the count has
+  feeder_more : (p : ℕ) → p < setting.feeders → of_feeder f p + 1 ≤ of_feeder g p
+      → count setting f + 1 ≤ count setting g
+  feeder_more p low more =
+      let one = total_more setting.feeders p (of_feeder f) (of_feeder g) low (λ q l. feeder_le q) more in
+      let two = all_joiners in let three = all_ends in omega arith
+
+  joiner_more : (j : ℕ) → j < 2 ^ setting.k → of_joiner setting f j + 1 ≤ of_joiner setting g j
+      → count setting f + 1 ≤ count setting g
+  joiner_more j low more =
+      let one =
+      total_more (2 ^ setting.k) j (of_joiner setting f) (of_joiner setting g) low (λ q l. joiner_le q) more in
+      let two = all_feeders in let three = all_ends in omega arith
+
+  ends_more : (j : ℕ) → j < 2 ^ setting.k → of_ends f j + 1 ≤ of_ends g j → count setting f + 1 ≤ count setting g
+  ends_more j low more =
+      let one = total_more (2 ^ setting.k) j (of_ends f) (of_ends g) low (λ q l. ends_le q) more in
+      let two = all_feeders in let three = all_joiners in omega arith
+
+  -- a message of the link's kind, taken over a link by one of the run's actors, is one event more
+  pub taking_counts : (from self : Actor) (m : Msg) (between : List Msg) → HasLink setting.k setting.feeders from self
+      → IsActor setting self → IsOfKind self m → IsPrefix ((f self).received from) between
+      → IsPrefix (between ++ m ∷ []) ((g self).received from) → count setting f + 1 ≤ count setting g
+  taking_counts _ _ m between (feeder_joiner {p = p} {j = j} p_low j_low) actor kind old new =
+      let typed = joiner_kind j m kind in
+      let here = got_more joiner_msg typed.0 m typed.1 _ between _ old new in
+      let one = total_more setting.feeders p _ _ p_low (λ q low. received_le joiner_msg (Feeder q) (Joiner j)) here in
+      let two = from_joiners_le j in
+      joiner_more j j_low (omega arith)
+  taking_counts _ _ m between (joiner_joiner {i = i} {low = low} i_low bit_low) actor kind old new =
+      let j = bit_xor i (2 ^ low) in
+      let typed = joiner_kind j m kind in
+      let here = got_more joiner_msg typed.0 m typed.1 _ between _ old new in
+      let one = total_more (2 ^ setting.k) i _ _ i_low (λ q l. received_le joiner_msg (Joiner q) (Joiner j)) here in
+      let two = from_feeders_le j in
+      joiner_more j actor (omega arith)
+  taking_counts _ _ m between (controller_feeder {p = p} p_low) actor kind old new =
+      let typed = feeder_kind p m kind in
+      let here = got_more feeder_msg typed.0 m typed.1 _ between _ old new in
+      let one = sent_le controller_msg (Feeder p) Controller in
+      let three = received_le controller_msg (Feeder p) Controller in
+      feeder_more p p_low (omega arith)
+  taking_counts _ _ m between (feeder_controller {p = p} p_low) actor kind old new =
+      let typed = controller_kind m kind in
+      let here = got_more controller_msg typed.0 m typed.1 _ between _ old new in
+      let one = sent_le controller_msg (Feeder p) Controller in
+      let two = received_le feeder_msg Controller (Feeder p) in
+      feeder_more p p_low (omega arith)
+  taking_counts _ _ m between (joiner_controller {j = j} j_low) actor kind old new =
+      let typed = controller_kind m kind in
+      let here = got_more controller_msg typed.0 m typed.1 _ between _ old new in
+      let two = received_le collector_msg (Joiner j) Collector in
+      ends_more j j_low (omega arith)
+  taking_counts _ _ m between (joiner_collector {j = j} j_low) actor kind old new =
+      let typed = collector_kind m kind in
+      let here = got_more collector_msg typed.0 m typed.1 _ between _ old new in
+      let one = received_le controller_msg (Joiner j) Controller in
+      ends_more j j_low (omega arith)
+
+  -- a beginning that sends the controller one message is one event more
+  pub beginning_counts : (p : ℕ) (posts : List Post) (between : List Msg) → p < setting.feeders
+      → length (posted_to_controller posts) ≡ 1 → IsPrefix ((f (Feeder p)).sent Controller) between
+      → IsPrefix (between ++ posted_to Controller posts) ((g (Feeder p)).sent Controller)
+      → count setting f + 1 ≤ count setting g
+  beginning_counts p posts between low asks old new =
+      let sent = posted_to_controller posts in
+      let all = appended controller_msg between (posted_to Controller posts) sent (controller_posts posts) in
+      let long = ap length all ∙ length-append (filter_map controller_msg between) sent in
+      let one = front_counts controller_msg ((f (Feeder p)).sent Controller) between old in
+      let two =
+      front_counts controller_msg (between ++ posted_to Controller posts) ((g (Feeder p)).sent Controller) new in
+      let three = received_le feeder_msg Controller (Feeder p) in
+      let four = received_le controller_msg (Feeder p) Controller in
+      feeder_more p low (omega (arith, long, asks, one, two, three, four))
+
+-- ---- one event of one actor
+
+-- its lists grow, and no other's change
+event_grows : (self : Actor) (cause : Cause) (posts : List Post) (f : Actor → ActorLists) (a : Actor)
+    → Grows (f a) (after_event self cause posts f a)
+event_grows self cause posts f a = go (same_actor self a) refl
+  where
+    go : (b : Bool) → same_actor self a ≡ b → Grows (f a) (cond b (with_event cause posts (f self)) (f a))
+    go true e =
+        subst (λ z. Grows (f z) (with_event cause posts (f self))) (same_is self a e)
+        (with_event_grows cause posts (f self))
+    go false e = grows_same (f a) (f a) refl
+
+-- a message taken over a link is one event more
 pub took_counts : (setting : Setting) (from self : Actor) (m : Msg) (posts : List Post) (f : Actor → ActorLists)
     → HasLink setting.k setting.feeders from self → IsActor setting self → IsOfKind self m
     → count setting f + 1 ≤ count setting (after_event self (Took from m) posts f)
-took_counts setting _ _ m posts f (feeder_joiner {p = p} {j = j} p_low j_low) actor kind =
-    let typed = joiner_kind j m kind in
-    let here = took_more (Feeder p) (Joiner j) m posts f joiner_msg typed.0 typed.1 in
-    let one = total_more setting.feeders p _ _ p_low (λ q low. received_grows (Joiner j) (Took (Feeder p) m)
-    posts f joiner_msg (Feeder q) (Joiner j)) here in
-    let two = from_joiners_grow (Joiner j) (Took (Feeder p) m) posts f setting j in
-    joiner_more (Joiner j) (Took (Feeder p) m) posts f setting j j_low (omega arith)
-took_counts setting _ _ m posts f (joiner_joiner {i = i} {low = low} i_low bit_low) actor kind =
-    let j = bit_xor i (2 ^ low) in
-    let typed = joiner_kind j m kind in
-    let here = took_more (Joiner i) (Joiner j) m posts f joiner_msg typed.0 typed.1 in
-    let one = total_more (2 ^ setting.k) i _ _ i_low (λ q l. received_grows (Joiner j) (Took (Joiner i) m)
-    posts f joiner_msg (Joiner q) (Joiner j)) here in
-    let two = from_feeders_grow (Joiner j) (Took (Joiner i) m) posts f setting j in
-    joiner_more (Joiner j) (Took (Joiner i) m) posts f setting j actor (omega arith)
-took_counts setting _ _ m posts f (controller_feeder {p = p} p_low) actor kind =
-    let typed = feeder_kind p m kind in
-    let here = took_more Controller (Feeder p) m posts f feeder_msg typed.0 typed.1 in
-    let one = sent_grows (Feeder p) (Took Controller m) posts f controller_msg (Feeder p) Controller in
-    let three = received_grows (Feeder p) (Took Controller m) posts f controller_msg (Feeder p) Controller in
-    feeder_more (Feeder p) (Took Controller m) posts f setting p p_low (omega arith)
-took_counts setting _ _ m posts f (feeder_controller {p = p} p_low) actor kind =
-    let typed = controller_kind m kind in
-    let here = took_more (Feeder p) Controller m posts f controller_msg typed.0 typed.1 in
-    let one = sent_grows Controller (Took (Feeder p) m) posts f controller_msg (Feeder p) Controller in
-    let two = received_grows Controller (Took (Feeder p) m) posts f feeder_msg Controller (Feeder p) in
-    feeder_more Controller (Took (Feeder p) m) posts f setting p p_low (omega arith)
-took_counts setting _ _ m posts f (joiner_controller {j = j} j_low) actor kind =
-    let typed = controller_kind m kind in
-    let here = took_more (Joiner j) Controller m posts f controller_msg typed.0 typed.1 in
-    let two = received_grows Controller (Took (Joiner j) m) posts f collector_msg (Joiner j) Collector in
-    ends_more Controller (Took (Joiner j) m) posts f setting j j_low (omega arith)
-took_counts setting _ _ m posts f (joiner_collector {j = j} j_low) actor kind =
-    let typed = collector_kind m kind in
-    let here = took_more (Joiner j) Collector m posts f collector_msg typed.0 typed.1 in
-    let one = received_grows Collector (Took (Joiner j) m) posts f controller_msg (Joiner j) Controller in
-    ends_more Collector (Took (Joiner j) m) posts f setting j j_low (omega arith)
+took_counts setting from self m posts f link actor kind =
+    let before = (f self).received from in
+    let got : (after_event self (Took from m) posts f self).received from ≡ before ++ m ∷ [] =
+    ap (λ b. (cond b (with_event (Took from m) posts (f self)) (f self)).received from) (same_self self)
+    ∙ ap (λ c. cond c (before ++ m ∷ []) before) (same_self from) in
+    taking_counts setting f (after_event self (Took from m) posts f) (event_grows self (Took from m) posts f) from self
+    m before link actor kind (prefix_self before before refl) (prefix_self (before ++ m ∷ []) _ got)
 
--- a beginning that sends the controller one message is one event more
+-- and so is a beginning
 pub began_counts : (setting : Setting) (p : ℕ) (posts : List Post) (f : Actor → ActorLists) → p < setting.feeders
     → length (posted_to_controller posts) ≡ 1
     → count setting f + 1 ≤ count setting (after_event (Feeder p) Began posts f)
 began_counts setting p posts f low asks =
-    let before = (f (Feeder p)).sent Controller in
-    let sent : length (filter_map controller_msg (before ++ posted_to Controller posts))
-    ≡ length (filter_map controller_msg before) + 1 =
-    ap length (appended controller_msg before (posted_to Controller posts) (posted_to_controller posts)
-    (controller_posts posts))
-    ∙ (length-append (filter_map controller_msg before) (posted_to_controller posts)
-    ∙ ap (λ n. length (filter_map controller_msg before) + n) asks) in
-    let here : length (filter_map controller_msg before) + 1
-    ≤ length (filter_map controller_msg ((after_event (Feeder p) Began posts f (Feeder p)).sent Controller)) =
-    subst (λ b. length (filter_map controller_msg before) + 1
-    ≤ length (filter_map controller_msg ((cond b (with_event Began posts (f (Feeder p))) (f (Feeder p))).sent
-    Controller))) (sym (same_self (Feeder p)))
-    (subst (λ n. length (filter_map controller_msg before) + 1 ≤ n) (sym sent)
-    (same_le (length (filter_map controller_msg before) + 1))) in
-    let two = received_grows (Feeder p) Began posts f feeder_msg Controller (Feeder p) in
-    let three = received_grows (Feeder p) Began posts f controller_msg (Feeder p) Controller in
-    feeder_more (Feeder p) Began posts f setting p low (omega arith)
+    let self = Feeder p in
+    let before = (f self).sent Controller in
+    let sent = before ++ posted_to Controller posts in
+    let got : (after_event self Began posts f self).sent Controller ≡ sent =
+    ap (λ b. (cond b (with_event Began posts (f self)) (f self)).sent Controller) (same_self self) in
+    beginning_counts setting f (after_event self Began posts f) (event_grows self Began posts f) p posts before low asks
+    (prefix_self before before refl) (prefix_self sent _ got)
 
 -- ---- what was sent goes over links
 

@@ -1,17 +1,14 @@
 -- Where some actor of a run made an event, the lists count one more; so events are few.
-use Rattle.std.proofs.Common.{◌≡◌, ℕ, zero, suc, ◌+◌, ◌-◌, ◌^◌, ◌<◌, ◌≤◌, refl, sym, ap, subst, ◌∙◌, Bool, true, false}
-use Rattle.std.proofs.Common.{cond, Option, Some, None, List, [], ◌∷◌, ◌++◌, filter_map, length, append_assoc, arith}
+use Rattle.std.proofs.Common.{◌≡◌, ℕ, zero, suc, ◌+◌, ◌-◌, ◌<◌, ◌≤◌, refl, sym, ap, subst, ◌∙◌, cond, Option, Some}
+use Rattle.std.proofs.Common.{None, List, [], ◌∷◌, ◌++◌, length, append_assoc, arith}
 use Rattle.std.specs.List.{AllByRecursion}
-use Rattle.std.proofs.lemmas.List.{length-append}
-use Rattle.std.proofs.lemmas.List.Elements.{filter_map-append}
 use Rattle.join_rows.specs.Lists.{IsPrefix}
-use Rattle.join_rows.proofs.Totals.{total_le}
 use Rattle.join_rows.proofs.Everywhere.{all-append}
 use Rattle.epoch_tags.specs.declared.actor.Actor.{Actor}
 use Rattle.epoch_tags.specs.declared.actor.Actor.TheVariants.{Feeder, Joiner, Controller, Collector}
 use Rattle.epoch_tags.specs.declared.message.Msg.{Msg}
 use Rattle.epoch_tags.specs.declared.message.Post.{Post}
-use Rattle.epoch_tags.specs.Posts.{posted_to_controller, joiner_msg, feeder_msg, controller_msg, collector_msg}
+use Rattle.epoch_tags.specs.Posts.{posted_to_controller}
 use Rattle.load_controller.specs.declared.line.TurnLine.{TurnLine}
 use Rattle.load_controller.specs.Journal.{last_epoch}
 use Rattle.trace_law.specs.declared.input.Input.{Input}
@@ -20,84 +17,19 @@ use Rattle.trace_law.specs.Validity.{IsValid}
 use Rattle.trace_law.specs.Laws.{EventsAreFew}
 use Rattle.trace_law.specs.Family.{IsAgreeing, first_rest}
 use Rattle.trace_law.proofs.First.{stands as first_stands}
-use Rattle.actor_core.specs.Lists.{ActorLists, Cause, Took, Began, no_lists, posted_to, same_actor, with_event}
+use Rattle.actor_core.specs.Lists.{ActorLists, Cause, Took, Began, no_lists, posted_to, with_event}
 use Rattle.actor_core.specs.Standing.{Event, GoOut, Stands, Waits}
-use Rattle.actor_core.specs.Families.{AreFronts, IsActor, after_event, changed, family_of, start_for}
+use Rattle.actor_core.specs.Families.{AreFronts, IsActor, family_of, start_for}
 use Rattle.actor_core.specs.Counts.{most_events}
 use Rattle.actor_core.specs.Numbers.{number}
-use Rattle.actor_core.specs.Players.{AllStand, AreLinked, IsLinked, MakesEvent, MayBegin, Player, Runs}
+use Rattle.actor_core.specs.Players.{AllStand, AreLinked, IsLinked, MayBegin, Player, Runs}
 use Rattle.actor_core.specs.declared.machines.Core.{Core}
 use Rattle.actor_core.specs.declared.machines.Core.TheVariants.{Feeder as TheFeeder, Joiner as TheJoiner}
 use Rattle.actor_core.specs.declared.machines.Core.TheVariants.{Controller as TheController, Collector as TheCollector}
-use Rattle.actor_core.proofs.Balances.{same_is}
 use Rattle.actor_core.proofs.OwnNumbers.{is_actor, same_self, some_is}
-use Rattle.actor_core.proofs.EventCounts.{began_counts, count, left_linked, linked_after, took_counts}
-use Rattle.actor_core.proofs.Runs.{Grows, grows_same, runs_grow, runs_stand}
+use Rattle.actor_core.proofs.EventCounts.{beginning_counts, count, left_linked, linked_after, taking_counts}
+use Rattle.actor_core.proofs.Runs.{Grows, prefix_self, runs_grow, runs_stand}
 use Rattle.actor_core.proofs.Seated.{AllRelate, HasRun, Relates, all_grow}
-
--- ---- lists that grow
-
-abbrev AllGrow : (Actor → ActorLists) → (Actor → ActorLists) → Type 0
-AllGrow f g = (a : Actor) → Grows (f a) (g a)
-
--- one actor's lists in between
-module _ (a : Actor) (x : ActorLists) (f : Actor → ActorLists) where
-  to_changed : Grows (f a) x → AllGrow f (changed a x f)
-  to_changed here b = go (same_actor a b) refl
-    where
-      go : (c : Bool) → same_actor a b ≡ c → Grows (f b) (cond c x (f b))
-      go true e = subst (λ z. Grows (f z) x) (same_is a b e) here
-      go false e = grows_same (f b) (f b) refl
-
-  from_changed : (g : Actor → ActorLists) → Grows x (g a) → AllGrow f g → AllGrow (changed a x f) g
-  from_changed g here all b = go (same_actor a b) refl
-    where
-      go : (c : Bool) → same_actor a b ≡ c → Grows (cond c x (f b)) (g b)
-      go true e = subst (λ z. Grows x (g z)) (same_is a b e) here
-      go false e = all b
-
-  changed_there : changed a x f a ≡ x
-  changed_there = ap (λ c. cond c x (f a)) (same_self a)
-
--- ---- what they count
-
-front_counts : {X : Type 0} (kind : Msg → Option X) (xs ys : List Msg) → IsPrefix xs ys
-    → length (filter_map kind xs) ≤ length (filter_map kind ys)
-front_counts kind xs ys front =
-    let more = filter_map kind front.rest in
-    let e : length (filter_map kind (xs ++ front.rest)) ≡ length (filter_map kind xs) + length more =
-    ap length (filter_map-append kind xs front.rest) ∙ length-append (filter_map kind xs) more in
-    let less : length (filter_map kind xs) ≤ length (filter_map kind (xs ++ front.rest)) = omega (arith, e) in
-    subst (λ zs. length (filter_map kind xs) ≤ length (filter_map kind zs)) front.joins less
-
-both_le : (a b c d : ℕ) → a ≤ c → b ≤ d → a + b ≤ c + d
-both_le a b c d one two = omega (arith, one, two)
-
-module _ (setting : Setting) (f g : Actor → ActorLists) (grow : AllGrow f g) where
-  received_le : {X : Type 0} (kind : Msg → Option X) (x y : Actor)
-      → length (filter_map kind ((f y).received x)) ≤ length (filter_map kind ((g y).received x))
-  received_le kind x y = front_counts kind ((f y).received x) ((g y).received x) ((grow y).received x)
-
-  sent_le : {X : Type 0} (kind : Msg → Option X) (x y : Actor)
-      → length (filter_map kind ((f x).sent y)) ≤ length (filter_map kind ((g x).sent y))
-  sent_le kind x y = front_counts kind ((f x).sent y) ((g x).sent y) ((grow x).sent y)
-
-  count_grows : count setting f ≤ count setting g
-  count_grows =
-      both_le _ _ _ _
-      (both_le _ _ _ _
-      (total_le setting.feeders _ _ (λ p low.
-      both_le _ _ _ _
-      (both_le _ _ _ _ (sent_le controller_msg (Feeder p) Controller) (received_le feeder_msg Controller (Feeder p)))
-      (received_le controller_msg (Feeder p) Controller)))
-      (total_le (2 ^ setting.k) _ _ (λ j low.
-      both_le _ _ _ _
-      (total_le setting.feeders _ _ (λ p low'. received_le joiner_msg (Feeder p) (Joiner j)))
-      (total_le (2 ^ setting.k) _ _ (λ i low'. received_le joiner_msg (Joiner i) (Joiner j))))))
-      (total_le (2 ^ setting.k) _ _ (λ j low.
-      both_le _ _ _ _
-      (received_le controller_msg (Joiner j) Controller)
-      (received_le collector_msg (Joiner j) Collector)))
 
 -- ---- one actor of a run
 
@@ -145,64 +77,52 @@ module _ (input : Input) (setting : Setting) (a : Actor) (is : IsActor setting a
 
   -- ---- one event is one more
 
-  -- it went from `middle` to `last` by one event, the lists from `between` to `after`
-  module _ (middle last : Player) (event : MakesEvent middle last)
-      (st : Stands (start_for input setting a) middle.lists middle.core) (between after : Actor → ActorLists)
-      (own : between a ≡ middle.lists) (is_last : after a ≡ last.lists) (linked : AreLinked setting after)
-      (fronts : AreFronts after) (grow : AllGrow between after) where
-    took_more : (from : Actor) (m : Msg) (posts : List Post)
-        → last.lists ≡ with_event (Took from m) posts middle.lists
-        → count setting between + 1 ≤ count setting (after_event a (Took from m) posts between)
-    took_more from m posts lists =
-        let before = middle.lists.received from in
-        let front = fronts from a in
-        let got : (after a).received from ≡ before ++ m ∷ [] =
-        ap (λ (ls : ActorLists). ls.received from) (is_last ∙ lists)
-        ∙ ap (λ c. cond c (before ++ m ∷ []) before) (same_self from) in
-        let whole : before ++ m ∷ front.rest ≡ (after from).sent a =
-        sym (append_assoc before (m ∷ []) front.rest) ∙ (ap (λ ms. ms ++ front.rest) (sym got) ∙ front.joins) in
-        let link = left_linked setting from a before front.rest ((after from).sent a) m whole (linked from a) in
-        took_counts setting from a m posts between link.0 is link.1
-
-    began_more : (posts : List Post) → (¬ Waits middle.core) → length (posted_to_controller posts) ≡ 1
-        → count setting between + 1 ≤ count setting (after_event a Began posts between)
-    began_more posts free asks =
-        let feeder = begins_feeder input setting a middle.lists middle.core is st free in
-        subst (λ z. count setting between + 1 ≤ count setting (after_event z Began posts between)) (sym feeder.1)
-        (began_counts setting feeder.0 posts between feeder.2 asks)
-
-    more : (cause : Cause) (posts : List Post) → Event cause middle.core last.core posts → MayBegin cause middle.core
-        → last.lists ≡ with_event cause posts middle.lists
-        → count setting between + 1 ≤ count setting (after_event a cause posts between)
-    more (Took from m) posts event' free lists = took_more from m posts lists
-    more Began posts event' free lists = began_more posts free event'.asks
-
-    event_counts : count setting between + 1 ≤ count setting after
-    event_counts =
-        let one = more event.cause event.posts event.event event.free event.lists in
-        let there = with_event event.cause event.posts (between a) in
-        let same = ap (with_event event.cause event.posts) (sym own) in
-        let here = grows_same there (after a) (is_last ∙ (event.lists ∙ same)) in
-        let grows = from_changed a there between after here grow in
-        let rest = count_grows setting (after_event a event.cause event.posts between) after grows in
-        omega (arith, one, rest)
-
   -- it made some events and then one more, the others' lists growing
   module _ (n : ℕ) (s t : Player) (runs : Runs (suc n) s t) (st : Stands (start_for input setting a) s.lists s.core)
       (before after : Actor → ActorLists) (first : before a ≡ s.lists) (last : after a ≡ t.lists)
-      (grow : AllGrow before after) (linked : AreLinked setting after) (fronts : AreFronts after) where
+      (grow : (b : Actor) → Grows (before b) (after b)) (linked : AreLinked setting after)
+      (fronts : AreFronts after) where
+    abbrev middle : Player
+    middle = runs.0
+
+    up : Grows (before a) middle.lists
+    up = subst (λ ls. Grows ls middle.lists) (sym first) (runs_grow n s middle runs.1)
+
+    took_more : (from : Actor) (m : Msg) (posts : List Post) → t.lists ≡ with_event (Took from m) posts middle.lists
+        → count setting before + 1 ≤ count setting after
+    took_more from m posts lists =
+        let between = middle.lists.received from in
+        let front = fronts from a in
+        let got : (after a).received from ≡ between ++ m ∷ [] =
+        ap (λ (ls : ActorLists). ls.received from) (last ∙ lists)
+        ∙ ap (λ c. cond c (between ++ m ∷ []) between) (same_self from) in
+        let whole : between ++ m ∷ front.rest ≡ (after from).sent a =
+        sym (append_assoc between (m ∷ []) front.rest) ∙ (ap (λ ms. ms ++ front.rest) (sym got) ∙ front.joins) in
+        let link = left_linked setting from a between front.rest ((after from).sent a) m whole (linked from a) in
+        taking_counts setting before after grow from a m between link.0 is link.1 (up.received from)
+        (prefix_self (between ++ m ∷ []) ((after a).received from) got)
+
+    began_more : (posts : List Post) → t.lists ≡ with_event Began posts middle.lists → (¬ Waits middle.core)
+        → length (posted_to_controller posts) ≡ 1 → count setting before + 1 ≤ count setting after
+    began_more posts lists free asks =
+        let stood = runs_stand n s middle runs.1 (start_for input setting a) st in
+        let feeder = begins_feeder input setting a middle.lists middle.core is stood free in
+        let between = middle.lists.sent Controller in
+        let sent = between ++ posted_to Controller posts in
+        let same = ap (λ (ls : ActorLists). ls.sent Controller) (last ∙ lists) in
+        let got = prefix_self sent ((after a).sent Controller) same in
+        beginning_counts setting before after grow feeder.0 posts between feeder.2 asks
+        (subst (λ z. IsPrefix ((before z).sent Controller) between) feeder.1 (up.sent Controller))
+        (subst (λ z. IsPrefix sent ((after z).sent Controller)) feeder.1 got)
+
+    more : (cause : Cause) (posts : List Post) → Event cause middle.core t.core posts → MayBegin cause middle.core
+        → t.lists ≡ with_event cause posts middle.lists → count setting before + 1 ≤ count setting after
+    more (Took from m) posts event free lists = took_more from m posts lists
+    more Began posts event free lists = began_more posts lists free event.asks
+
     runs_count : count setting before + 1 ≤ count setting after
     runs_count =
-        let middle = runs.0 in
-        let own = middle.lists in
-        let up = subst (λ ls. Grows ls own) (sym first) (runs_grow n s middle runs.1) in
-        let on = subst (Grows own) (sym last) (runs_grow (suc zero) middle t (middle, refl, runs.2)) in
-        let one = count_grows setting before (changed a own before) (to_changed a own before up) in
-        let stood = runs_stand n s middle runs.1 (start_for input setting a) st in
-        let rest = from_changed a own before after on grow in
-        let there = changed_there a own before in
-        let two = event_counts middle t runs.2 stood (changed a own before) after there last linked fronts rest in
-        omega (arith, one, two)
+        let event = runs.2 in more event.cause event.posts event.event event.free event.lists
 
 -- ---- lists that count so many events
 

@@ -4,7 +4,8 @@ use Rattle.std.proofs.Common.{◌++◌, append-nil, append_assoc, arith}
 use Rattle.join_rows.specs.Lists.{IsPrefix}
 use Rattle.epoch_tags.specs.declared.actor.Actor.{Actor}
 use Rattle.epoch_tags.specs.declared.message.Msg.{Msg}
-use Rattle.actor_core.specs.Lists.{ActorLists, Cause, Took, Began, same_actor, posted_to, with_cause}
+use Rattle.epoch_tags.specs.declared.message.Post.{Post}
+use Rattle.actor_core.specs.Lists.{ActorLists, Cause, Took, Began, same_actor, posted_to, with_cause, with_event}
 use Rattle.actor_core.specs.Standing.{Start, Stands, IsLive, given_by}
 use Rattle.actor_core.specs.Families.{journal_of}
 use Rattle.actor_core.specs.Players.{Player, Runs}
@@ -79,22 +80,27 @@ grows_same old new is = record {
   sent = λ to. prefix_self (old.sent to) (new.sent to) (ap (λ (ls : ActorLists). ls.sent to) is);
 }
 
+-- one after the other
+pub grows_then : (one other last : ActorLists) → Grows one other → Grows other last → Grows one last
+grows_then one other last first then = record {
+  received = λ from.
+      prefix_more (one.received from) (other.received from) (last.received from) (first.received from)
+      (then.received from);
+  sent = λ to. prefix_more (one.sent to) (other.sent to) (last.sent to) (first.sent to) (then.sent to);
+}
+
+-- what an event adds
+pub with_event_grows : (cause : Cause) (posts : List Post) (ls : ActorLists) → Grows ls (with_event cause posts ls)
+with_event_grows cause posts ls = record {
+  received = λ from. cause_extends cause ls.received from;
+  sent = λ to. record { rest = posted_to to posts; joins = refl };
+}
+
 -- an actor's lists grow by its events
 pub runs_grow : (n : ℕ) (s t : Player) → Runs n s t → Grows s.lists t.lists
 runs_grow zero s t runs = grows_same s.lists t.lists (ap (λ (p : Player). p.lists) runs)
 runs_grow (suc n) s t runs =
-    let before = runs_grow n s runs.0 runs.1 in
     let middle = runs.0.lists in
-    record {
-      received = λ from.
-          prefix_more (s.lists.received from) (middle.received from) (t.lists.received from)
-          (before.received from)
-          (subst (IsPrefix (middle.received from)) (sym (ap (λ (ls : ActorLists). ls.received from) runs.2.lists))
-          (cause_extends runs.2.cause middle.received from));
-      sent = λ to.
-          prefix_more (s.lists.sent to) (middle.sent to) (t.lists.sent to) (before.sent to)
-          (record {
-            rest = posted_to to runs.2.posts;
-            joins = sym (ap (λ (ls : ActorLists). ls.sent to) runs.2.lists);
-          });
-    }
+    let event = runs.2 in
+    grows_then s.lists middle t.lists (runs_grow n s runs.0 runs.1)
+    (subst (Grows middle) (sym event.lists) (with_event_grows event.cause event.posts middle))
