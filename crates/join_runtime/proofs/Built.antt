@@ -1,5 +1,7 @@
 -- Seats whose mouths all came to their senders are joined, and have empty lists.
-use Rattle.std.proofs.Common.{◌≡◌, ℕ, zero, suc, ◌+◌, ◌<◌, ◌^◌, ◌↔◌, ◌++◌, refl, sym, ap, subst, ◌∙◌, Bool, true, false, Option, Some, None, List, [], ◌∷◌, get_or, map, length, arith, true≢false, eqb, cond, eq-eqb, eqb-true}
+use Rattle.std.proofs.Common.{◌≡◌, ℕ, zero, suc, ◌+◌, ◌<◌, ◌^◌, ◌↔◌, ◌++◌, refl, sym, ap, subst, ◌∙◌, Bool, true, false}
+use Rattle.std.proofs.Common.{Option, Some, None, List, [], ◌∷◌, get_or, map, length, arith, true≢false, eqb, cond}
+use Rattle.std.proofs.Common.{eq-eqb, eqb-true}
 use Rattle.std.specs.Prelude.{slice_get, slice_index, IsSome, Contains}
 use Rattle.std.proofs.Math.Pow.{pow-lt}
 use Rattle.std.proofs.lemmas.Nat.{xor_lt}
@@ -7,7 +9,8 @@ use Rattle.std.proofs.lemmas.List.{length-map, get_or-map, get_or_default}
 use Rattle.std.proofs.lemmas.Option.{slice_get-get_or}
 use Rattle.epoch_tags.specs.declared.actor.Actor.{Actor}
 use Rattle.epoch_tags.specs.declared.actor.Actor.TheVariants.{Collector}
-use Rattle.epoch_tags.specs.Links.{HasLink, feeder_joiner, joiner_joiner, controller_feeder, feeder_controller, joiner_controller, joiner_collector}
+use Rattle.epoch_tags.specs.Links.{HasLink, feeder_joiner, joiner_joiner, controller_feeder, feeder_controller}
+use Rattle.epoch_tags.specs.Links.{joiner_controller, joiner_collector}
 use Rattle.ruled_links.specs.Ends.{Sending}
 use Rattle.ruled_links.specs.Delivery.{number_of}
 use Rattle.ruled_links.specs.Inboxes.{InboxView, OfSender, is_sender, fresh, opened, messages_of}
@@ -22,7 +25,8 @@ use Rattle.actor_core.specs.Numbers.{number, at_number}
 use Rattle.actor_core.specs.Players.{lists_among, lists_at}
 use Rattle.actor_core.proofs.OwnNumbers.{number_actor}
 use Rattle.join_runtime.specs.Views.{SeatView, Frame, frame_of, lists_of, address_of, contents, sent_by, sent_at}
-use Rattle.join_runtime.specs.Joins.{AreJoined, AreSettled, AllLead, IsPlaced, Leads, HasMouthTo, IsGathered, Knows, slot_of}
+use Rattle.join_runtime.specs.Joins.{AreJoined, AreSettled, AllLead, IsPlaced, Leads, HasMouthTo, IsGathered, Knows}
+use Rattle.join_runtime.specs.Joins.{slot_of}
 use Rattle.join_runtime.specs.Bouts.{SeatsView, StandsFor, lists_in, mouth_at, mouth_of, seat_of}
 use Rattle.join_runtime.specs.Seating.{IsNewSeat, AreNew, AreFilled}
 use Rattle.join_runtime.specs.Early.{AreGiven, given_at, given_in}
@@ -33,25 +37,32 @@ use Rattle.actor_core.proofs.Seated.{core_there, lists_there, number_low}
 
 -- ---- members of lists
 
-contains_map : {X Y : Type 0} (g : X → Y) (xs : List X) (y : Y) → Contains (map g xs) y → (x : X) × Contains xs x × (g x ≡ y)
+contains_map : {X Y : Type 0} (g : X → Y) (xs : List X) (y : Y) → Contains (map g xs) y → (x : X) × Contains xs x
+    × (g x ≡ y)
 contains_map g [] y has = absurd (let low = has.1 in omega (arith, low))
 contains_map g (x ∷ xs) y has = go has.0 has.1 has.2
   where
-    go : (k : ℕ) → k < length (map g (x ∷ xs)) → get_or (map g (x ∷ xs)) k y ≡ y → (z : _) × Contains (x ∷ xs) z × (g z ≡ y)
+    go : (k : ℕ) → k < length (map g (x ∷ xs)) → get_or (map g (x ∷ xs)) k y ≡ y → (z : _) × Contains (x ∷ xs) z
+        × (g z ≡ y)
     go k low is =
         let low' : k < length (x ∷ xs) = subst (λ n. k < n) (length-map (x ∷ xs) g) low in
         let z = get_or (x ∷ xs) k x in
         (z, (k, low', get_or_default (x ∷ xs) k z x low'), sym (get_or-map g (x ∷ xs) k x y low') ∙ is)
 
 map_contains : {X Y : Type 0} (g : X → Y) (xs : List X) (x : X) → Contains xs x → Contains (map g xs) (g x)
-map_contains g xs x has = (has.0, subst (λ n. has.0 < n) (sym (length-map xs g)) has.1, get_or-map g xs has.0 x (g x) has.1 ∙ ap g has.2)
+map_contains g xs x has = (
+  has.0,
+  subst (λ n. has.0 < n) (sym (length-map xs g)) has.1,
+  get_or-map g xs has.0 x (g x) has.1 ∙ ap g has.2,
+)
 
 -- a sender of a new inbox is one of the names
 named : (a : Actor) (names : List Actor) → is_sender a (map fresh names) ≡ true → Contains names a
 named a [] is = absurd (true≢false (sym is))
 named a (x ∷ names) is = go (eqb (number_of x) (number_of a)) refl is (λ is'. named a names is')
   where
-    go : (b : Bool) → eqb (number_of x) (number_of a) ≡ b → cond b true (is_sender a (map fresh names)) ≡ true → (is_sender a (map fresh names) ≡ true → Contains names a) → Contains (x ∷ names) a
+    go : (b : Bool) → eqb (number_of x) (number_of a) ≡ b → cond b true (is_sender a (map fresh names)) ≡ true
+        → (is_sender a (map fresh names) ≡ true → Contains names a) → Contains (x ∷ names) a
     go true e is' rest = (0, omega arith, name_once x a (eqb-true (number_of x) (number_of a) e))
     go false e is' rest = let later = rest is' in (suc later.0, omega (arith, later.1), later.2)
 
@@ -60,8 +71,11 @@ is_named : (a : Actor) (names : List Actor) → Contains names a → is_sender a
 is_named a [] has = absurd (let low = has.1 in omega (arith, low))
 is_named a (x ∷ names) has = go has.0 has.1 has.2 (λ rest. is_named a names rest)
   where
-    go : (k : ℕ) → k < length (x ∷ names) → get_or (x ∷ names) k a ≡ a → (Contains names a → is_sender a (map fresh names) ≡ true) → cond (eqb (number_of x) (number_of a)) true (is_sender a (map fresh names)) ≡ true
-    go zero low is rest = ap (λ b. cond b true (is_sender a (map fresh names))) (eq-eqb (number_of x) (number_of a) (ap number_of is))
+    go : (k : ℕ) → k < length (x ∷ names) → get_or (x ∷ names) k a ≡ a
+        → (Contains names a → is_sender a (map fresh names) ≡ true)
+        → cond (eqb (number_of x) (number_of a)) true (is_sender a (map fresh names)) ≡ true
+    go zero low is rest = ap (λ b. cond b true (is_sender a (map fresh names)))
+        (eq-eqb (number_of x) (number_of a) (ap number_of is))
     go (suc k) low is rest = later (eqb (number_of x) (number_of a)) (rest (k, omega arith, is))
       where
         later : (b : Bool) → is_sender a (map fresh names) ≡ true → cond b true (is_sender a (map fresh names)) ≡ true
@@ -77,9 +91,11 @@ some_address None is = is
 some_address (Some mouth) is = refl
 
 -- the two ends of a link are actors of the run
-actors_linked : (setting : Setting) (from to : Actor) → HasLink setting.k setting.feeders from to → IsActor setting from × IsActor setting to
+actors_linked : (setting : Setting) (from to : Actor) → HasLink setting.k setting.feeders from to → IsActor setting from
+    × IsActor setting to
 actors_linked setting _ _ (feeder_joiner low high) = (low, high)
-actors_linked setting _ _ (joiner_joiner {i = i} {low = low} high within) = (high, xor_lt setting.k i (2 ^ low) high (pow-lt within))
+actors_linked setting _ _ (joiner_joiner {i = i} {low = low} high within) =
+    (high, xor_lt setting.k i (2 ^ low) high (pow-lt within))
 actors_linked setting _ _ (controller_feeder low) = (tt, low)
 actors_linked setting _ _ (feeder_controller low) = (low, tt)
 actors_linked setting _ _ (joiner_controller low) = (low, tt)
@@ -87,7 +103,8 @@ actors_linked setting _ _ (joiner_collector low) = (low, tt)
 
 -- ---- frames of seats
 
-lead_frames : (seats : List SeatView) → ((n r : ℕ) (d : SeatView) → n < length seats → r < length seats → Leads (address_of (slot_of seats d n r)) (frame_of (get_or seats n d)) (frame_of (get_or seats r d)))
+lead_frames : (seats : List SeatView) → ((n r : ℕ) (d : SeatView) → n < length seats → r < length seats
+    → Leads (address_of (slot_of seats d n r)) (frame_of (get_or seats n d)) (frame_of (get_or seats r d)))
     → AllLead (map frame_of seats)
 lead_frames seats leads n r f low low' =
     let here = subst (λ z. n < z) (length-map seats frame_of) low in
@@ -96,12 +113,16 @@ lead_frames seats leads n r f low low' =
     let one = get_or-map frame_of seats n d f here in
     let other = get_or-map frame_of seats r d f there' in
     subst (λ (x : Frame). Leads (get_or x.addresses r None) x (get_or (map frame_of seats) r f)) (sym one)
-    (subst (λ (x : Frame). Leads (get_or (frame_of (get_or seats n d)).addresses r None) (frame_of (get_or seats n d)) x) (sym other)
-    (subst (λ a. Leads a (frame_of (get_or seats n d)) (frame_of (get_or seats r d))) (sym (address_at (get_or seats n d).mouths r)) (leads n r d here there')))
+    (subst (λ (x : Frame). Leads (get_or (frame_of (get_or seats n d)).addresses r None) (frame_of (get_or seats n d))
+    x) (sym other)
+    (subst (λ a. Leads a (frame_of (get_or seats n d)) (frame_of (get_or seats r d)))
+    (sym (address_at (get_or seats n d).mouths r)) (leads n r d here there')))
 
 -- ---- the seats
 
-module _ (input : Input) (setting : Setting) (count : ℕ) (first seats : List SeatView) (mouths : List (List Sending)) (new : AreNew input setting count first mouths) (filled : AreFilled (2 ^ setting.k) setting.feeders count mouths first seats) (many : count ≡ setting.feeders + 2 ^ setting.k + 2) where
+module _ (input : Input) (setting : Setting) (count : ℕ) (first seats : List SeatView) (mouths : List (List Sending))
+    (new : AreNew input setting count first mouths) (filled : AreFilled (2 ^ setting.k)
+    setting.feeders count mouths first seats) (many : count ≡ setting.feeders + 2 ^ setting.k + 2) where
   long : length seats ≡ count
   long = filled.all ∙ new.all
 
@@ -111,7 +132,8 @@ module _ (input : Input) (setting : Setting) (count : ℕ) (first seats : List S
   made : (n : ℕ) (d : SeatView) → n < count → IsNewSeat input setting n (get_or first n d) (get_or mouths n [])
   made n d low = new.new n d low
 
-  still : (n : ℕ) (d : SeatView) → n < count → get_or seats n d ≡ record (get_or first n d) { mouths = (get_or seats n d).mouths }
+  still : (n : ℕ) (d : SeatView) → n < count → get_or seats n d
+      ≡ record (get_or first n d) { mouths = (get_or seats n d).mouths }
   still n d low = filled.same n d (subst (λ z. n < z) (sym new.all) low)
 
   inbox_is : (n : ℕ) (d : SeatView) → n < count → (get_or seats n d).inbox ≡ (get_or first n d).inbox
@@ -119,23 +141,30 @@ module _ (input : Input) (setting : Setting) (count : ℕ) (first seats : List S
 
   -- a mouth of the seat n to the seat r is one that was opened for n
   opened_is : (n r : ℕ) (d : SeatView) (mouth : Sending) → n < count → slot_of seats d n r ≡ Some mouth
-      → (r < count) × (number (2 ^ setting.k) setting.feeders mouth.from ≡ Some n) × ((names : List Actor) → (get_or first r d).inbox.senders ≡ map fresh names → is_sender mouth.from (map fresh names) ≡ true) × ((a : Actor) × (opened (get_or first r d).inbox.link (get_or first r d).inbox.to a ≡ mouth))
+      → (r < count) × (number (2 ^ setting.k) setting.feeders mouth.from ≡ Some n)
+      × ((names : List Actor) → (get_or first r d).inbox.senders ≡ map fresh names
+      → is_sender mouth.from (map fresh names) ≡ true) × ((a : Actor)
+      × (opened (get_or first r d).inbox.link (get_or first r d).inbox.to a ≡ mouth))
   opened_is n r d mouth low is =
       let own = filled.own n r d mouth (subst (λ z. n < z) (sym new.all) low) is in
       let one = new.new r d own.0 in
       let inbox = (get_or first r d).inbox in
-      let found = contains_map (opened inbox.link inbox.to) one.names mouth (subst (λ ms. Contains ms mouth) one.mouths_are own.1.one) in
+      let found = contains_map (opened inbox.link inbox.to) one.names mouth
+      (subst (λ ms. Contains ms mouth) one.mouths_are own.1.one) in
       let from_is : found.0 ≡ mouth.from = ap (λ (m : Sending). m.from) found.2 in (
         own.0,
         own.1.sender,
-        λ names same. subst (λ (ss : List OfSender). is_sender mouth.from ss ≡ true) (sym one.senders ∙ same) (subst (λ a. is_sender a (map fresh one.names) ≡ true) from_is (is_named found.0 one.names found.1)),
+        λ names same. subst (λ (ss : List OfSender). is_sender mouth.from ss ≡ true) (sym one.senders ∙ same)
+            (subst (λ a. is_sender a (map fresh one.names) ≡ true) from_is (is_named found.0 one.names found.1)),
         (found.0, found.2),
       )
 
-  leads : (n r : ℕ) (d : SeatView) → n < length seats → r < length seats → Leads (address_of (slot_of seats d n r)) (frame_of (get_or seats n d)) (frame_of (get_or seats r d))
+  leads : (n r : ℕ) (d : SeatView) → n < length seats → r < length seats
+      → Leads (address_of (slot_of seats d n r)) (frame_of (get_or seats n d)) (frame_of (get_or seats r d))
   leads n r d low low' = go (slot_of seats d n r) refl
     where
-      go : (slot : Option Sending) → slot_of seats d n r ≡ slot → Leads (address_of slot) (frame_of (get_or seats n d)) (frame_of (get_or seats r d))
+      go : (slot : Option Sending) → slot_of seats d n r ≡ slot
+          → Leads (address_of slot) (frame_of (get_or seats n d)) (frame_of (get_or seats r d))
       go None is = tt
       go (Some mouth) is =
           let own = opened_is n r d mouth (low_of n low) is in
@@ -147,7 +176,8 @@ module _ (input : Input) (setting : Setting) (count : ℕ) (first seats : List S
             from = sym (number_actor (2 ^ setting.k) setting.feeders mouth.from n own.1) ∙ sym actor;
           }
 
-  placed : (n : ℕ) (f : Frame) → n < length (map frame_of seats) → IsPlaced (2 ^ setting.k) setting.feeders n (get_or (map frame_of seats) n f)
+  placed : (n : ℕ) (f : Frame) → n < length (map frame_of seats)
+      → IsPlaced (2 ^ setting.k) setting.feeders n (get_or (map frame_of seats) n f)
   placed n f low =
       let here = subst (λ z. n < z) (length-map seats frame_of) low in
       let d = (there seats n here).0 in
@@ -160,19 +190,27 @@ module _ (input : Input) (setting : Setting) (count : ℕ) (first seats : List S
         to = ap (λ (s : SeatView). s.inbox.to) same ∙ (one.to ∙ sym (ap (λ (s : SeatView). s.actor) same));
       })
 
-  heard : (r : ℕ) (a : Actor) (f : Frame) → r < length (map frame_of seats) → is_sender a (map fresh (get_or (map frame_of seats) r f).senders) ≡ true → HasMouthTo (2 ^ setting.k) setting.feeders (map frame_of seats) r a
+  heard : (r : ℕ) (a : Actor) (f : Frame) → r < length (map frame_of seats)
+      → is_sender a (map fresh (get_or (map frame_of seats) r f).senders) ≡ true
+      → HasMouthTo (2 ^ setting.k) setting.feeders (map frame_of seats) r a
   heard r a f low is =
       let here = subst (λ z. r < z) (length-map seats frame_of) low in
       let d = (there seats r here).0 in
       let one = made r d (low_of r here) in
       let senders_are = ap (λ (i : InboxView). i.senders) (inbox_is r d (low_of r here)) ∙ one.senders in
-      let is_one = sym (is_sender-named a (get_or seats r d).inbox.senders) ∙ subst (λ (x : Frame). is_sender a (map fresh x.senders) ≡ true) (get_or-map frame_of seats r d f here) is in
+      let is_one = sym (is_sender-named a (get_or seats r d).inbox.senders)
+      ∙ subst (λ (x : Frame). is_sender a (map fresh x.senders) ≡ true) (get_or-map frame_of seats r d f here) is in
       let name = named a one.names (subst (λ (ss : List OfSender). is_sender a ss ≡ true) senders_are is_one) in
       let given_name = one.numbers.each name.0 a name.1 in
-      let num : (n : ℕ) × (number (2 ^ setting.k) setting.feeders a ≡ Some n) = (given_name.0, subst (λ x. number (2 ^ setting.k) setting.feeders x ≡ Some given_name.0) name.2 given_name.1) in
+      let num : (n : ℕ) × (number (2 ^ setting.k) setting.feeders a ≡ Some n) = (
+        given_name.0,
+        subst (λ x. number (2 ^ setting.k) setting.feeders x ≡ Some given_name.0)
+            name.2 given_name.1,
+      ) in
       let inbox = (get_or first r d).inbox in
       let mouth = opened inbox.link inbox.to a in
-      let has = subst (λ ms. Contains ms mouth) (sym one.mouths_are) (map_contains (opened inbox.link inbox.to) one.names a name) in
+      let has = subst (λ ms. Contains ms mouth) (sym one.mouths_are)
+      (map_contains (opened inbox.link inbox.to) one.names a name) in
       let given = filled.has num.0 r d mouth (low_of r here) (record { one = has; sender = num.1 }) in
       let low_n : num.0 < length seats = subst (λ z. num.0 < z) (sym filled.all) given.0 in
       record {
@@ -181,7 +219,8 @@ module _ (input : Input) (setting : Setting) (count : ℕ) (first seats : List S
         there = subst (λ z. num.0 < z) (sym (length-map seats frame_of)) low_n;
         mouth = λ g.
             subst (λ (x : Frame). IsSome (get_or x.addresses r None)) (sym (get_or-map frame_of seats num.0 d g low_n))
-            (subst IsSome (sym (address_at (get_or seats num.0 d).mouths r)) (some_address (slot_of seats d num.0 r) given.1));
+            (subst IsSome (sym (address_at (get_or seats num.0 d).mouths r))
+            (some_address (slot_of seats d num.0 r) given.1));
       }
 
   pub all_joined : AreJoined (2 ^ setting.k) setting.feeders (map frame_of seats)
@@ -202,7 +241,8 @@ module _ (input : Input) (setting : Setting) (count : ℕ) (first seats : List S
   nothing_received : (n : ℕ) (d : SeatView) → n < count → (get_or seats n d).inbox.received ≡ []
   nothing_received n d low = ap (λ (i : InboxView). i.received) (inbox_is n d low) ∙ (made n d low).received
 
-  gathered : (n r : ℕ) (d : SeatView) → n < length seats → r < length seats → IsGathered (slot_of seats d n r) (get_or seats r d).inbox
+  gathered : (n r : ℕ) (d : SeatView) → n < length seats → r < length seats
+      → IsGathered (slot_of seats d n r) (get_or seats r d).inbox
   gathered n r d low low' = go (slot_of seats d n r) refl
     where
       go : (slot : Option Sending) → slot_of seats d n r ≡ slot → IsGathered slot (get_or seats r d).inbox
@@ -210,20 +250,27 @@ module _ (input : Input) (setting : Setting) (count : ℕ) (first seats : List S
       go (Some mouth) is =
           let own = opened_is n r d mouth (low_of n low) is in
           let one = made r d (low_of r low') in
-          let senders_are : (get_or seats r d).inbox.senders ≡ map fresh one.names = ap (λ (i : InboxView). i.senders) (inbox_is r d (low_of r low')) ∙ one.senders in
-          let none : messages_of mouth.from (get_or seats r d).inbox.received ≡ [] = ap (messages_of mouth.from) (nothing_received r d (low_of r low')) in
+          let senders_are : (get_or seats r d).inbox.senders ≡ map fresh one.names =
+          ap (λ (i : InboxView). i.senders) (inbox_is r d (low_of r low')) ∙ one.senders in
+          let none : messages_of mouth.from (get_or seats r d).inbox.received ≡ [] =
+          ap (messages_of mouth.from) (nothing_received r d (low_of r low')) in
           let unsent : mouth.sent ≡ [] = ap (λ (m : Sending). m.sent) (sym own.3.1) in
           record {
             count = 0;
-            agrees = record { prefix = record { rest = []; joins = ap (λ xs. xs ++ []) none ∙ sym unsent }; left = refl };
+            agrees = record {
+              prefix = record { rest = []; joins = ap (λ xs. xs ++ []) none ∙ sym unsent };
+              left = refl;
+            };
             knows = subst (Knows mouth.from 0) (sym senders_are) (knows_fresh mouth.from one.names);
-            sender = subst (λ (ss : List OfSender). is_sender mouth.from ss ≡ true) (sym senders_are) (own.2 one.names one.senders);
+            sender = subst (λ (ss : List OfSender). is_sender mouth.from ss ≡ true) (sym senders_are)
+                (own.2 one.names one.senders);
           }
 
   pub all_settled : AreSettled seats
   all_settled = record {
     hear = λ n d low from none. ap (λ xs. contents (messages_of from xs)) (nothing_received n d (low_of n low));
-    live = λ n d low. subst IsLive (sym (ap (λ (s : SeatView). s.core) (still n d (low_of n low)))) (made n d (low_of n low)).live;
+    live = λ n d low. subst IsLive (sym (ap (λ (s : SeatView). s.core) (still n d (low_of n low))))
+        (made n d (low_of n low)).live;
     gathered = gathered;
   }
 
@@ -241,7 +288,12 @@ module _ (input : Input) (setting : Setting) (count : ℕ) (first seats : List S
           go None = refl
           go (Some r) = nothing_sent n r d low
 
-  pub all_stand : (spent : Bool) → StandsFor input setting (record { joiners = 2 ^ setting.k; feeders = setting.feeders; seats = seats; spent = spent })
+  pub all_stand : (spent : Bool) → StandsFor input setting (record {
+    joiners = 2 ^ setting.k;
+    feeders = setting.feeders;
+    seats = seats;
+    spent = spent;
+  })
   all_stand spent = record {
     joiners_are = refl;
     feeders_are = refl;
@@ -254,25 +306,38 @@ module _ (input : Input) (setting : Setting) (count : ℕ) (first seats : List S
         let one = made num.0 d low in (
           (get_or seats num.0 d).core,
           core_there (λ (s : SeatView). s.core) (2 ^ setting.k) setting.feeders seats a num.0 d num.1 low',
-          subst (λ ls. Stands (start_for input setting a) ls (get_or seats num.0 d).core) (sym (lists_there lists_of (2 ^ setting.k) setting.feeders seats a num.0 d num.1 low' ∙ empty_lists num.0 d low))
-              (subst (λ c. Stands (start_for input setting a) no_lists c) (sym (ap (λ (s : SeatView). s.core) (still num.0 d low)))
-              (subst (λ z. Stands (start_for input setting z) no_lists (get_or first num.0 d).core) (number_actor (2 ^ setting.k) setting.feeders a num.0 num.1) one.stands)),
+          subst (λ ls. Stands (start_for input setting a) ls (get_or seats num.0 d).core)
+              (sym (lists_there lists_of (2 ^ setting.k) setting.feeders seats a num.0 d num.1 low'
+              ∙ empty_lists num.0 d low))
+              (subst (λ c. Stands (start_for input setting a) no_lists c)
+              (sym (ap (λ (s : SeatView). s.core) (still num.0 d low)))
+              (subst (λ z. Stands (start_for input setting z) no_lists (get_or first num.0 d).core)
+              (number_actor (2 ^ setting.k) setting.feeders a num.0 num.1) one.stands)),
         );
   }
 
   -- the collector's seat is the last
-  pub none_given : (spent : Bool) → AreGiven (2 ^ setting.k) nothing_yet (given_in (record { joiners = 2 ^ setting.k; feeders = setting.feeders; seats = seats; spent = spent }))
+  pub none_given : (spent : Bool) → AreGiven (2 ^ setting.k) nothing_yet
+      (given_in (record { joiners = 2 ^ setting.k; feeders = setting.feeders; seats = seats; spent = spent }))
   none_given spent j below =
       let place = setting.feeders + 2 ^ setting.k + 1 in
       let low : place < count = omega (arith, many) in
       let low' = subst (λ z. place < z) (sym long) low in
       let d = (there seats place low').0 in
-      ap (λ given. slice_index given j) (ap given_at (core_there (λ (s : SeatView). s.core) (2 ^ setting.k) setting.feeders seats Collector place d refl low') ∙ ap (λ (s : SeatView). given_by s.core) (still place d low)) ∙ (made place d low).given j below
+      ap (λ given. slice_index given j) (ap given_at (core_there (λ (s : SeatView). s.core) (2 ^ setting.k)
+      setting.feeders seats Collector place d refl low')
+      ∙ ap (λ (s : SeatView). given_by s.core) (still place d low)) ∙ (made place d low).given j below
 
-  pub all_empty : (spent : Bool) (a : Actor) → lists_in (record { joiners = 2 ^ setting.k; feeders = setting.feeders; seats = seats; spent = spent }) a ≡ no_lists
+  pub all_empty : (spent : Bool) (a : Actor) → lists_in (record {
+    joiners = 2 ^ setting.k;
+    feeders = setting.feeders;
+    seats = seats;
+    spent = spent;
+  }) a ≡ no_lists
   all_empty spent a = go (number (2 ^ setting.k) setting.feeders a) refl
     where
-      go : (o : Option ℕ) → number (2 ^ setting.k) setting.feeders a ≡ o → lists_among lists_of (2 ^ setting.k) setting.feeders seats a ≡ no_lists
+      go : (o : Option ℕ) → number (2 ^ setting.k) setting.feeders a ≡ o
+          → lists_among lists_of (2 ^ setting.k) setting.feeders seats a ≡ no_lists
       go None is = ap (λ (o : Option ℕ). lists_at lists_of (at_number None o (λ k. slice_get seats k))) is
       go (Some n) is =
           let low = subst (λ z. n < z) (sym many) (number_low (2 ^ setting.k) setting.feeders a n is) in
@@ -286,9 +351,12 @@ module _ (input : Input) (setting : Setting) (count : ℕ) (first seats : List S
     abbrev pub v : SeatsView
     v = record { joiners = 2 ^ setting.k; feeders = setting.feeders; seats = seats; spent = spent }
 
-    mouth_is : (from to : Actor) (n r : ℕ) (d : SeatView) → number (2 ^ setting.k) setting.feeders from ≡ Some n → number (2 ^ setting.k) setting.feeders to ≡ Some r → n < length seats → mouth_of v from to ≡ slot_of seats d n r
+    mouth_is : (from to : Actor) (n r : ℕ) (d : SeatView) → number (2 ^ setting.k) setting.feeders from ≡ Some n
+        → number (2 ^ setting.k) setting.feeders to ≡ Some r → n < length seats
+        → mouth_of v from to ≡ slot_of seats d n r
     mouth_is from to n r d is is' low =
-        ap (λ (o : Option ℕ). mouth_at (at_number None o (λ k. slice_get seats k)) (number (2 ^ setting.k) setting.feeders to)) is
+        ap (λ (o : Option ℕ). mouth_at (at_number None o (λ k. slice_get seats k))
+        (number (2 ^ setting.k) setting.feeders to)) is
         ∙ ap (mouth_at (slice_get seats n)) is'
         ∙ ap (λ (o : Option SeatView). mouth_at o (Some r)) (slice_get-get_or seats n d low)
 
@@ -298,32 +366,45 @@ module _ (input : Input) (setting : Setting) (count : ℕ) (first seats : List S
     link_of : (from to : Actor) → IsSome (mouth_of v from to) → HasLink setting.k setting.feeders from to
     link_of from to some = go (number (2 ^ setting.k) setting.feeders from) refl
       where
-        by_mouth : (n r : ℕ) (d : SeatView) → number (2 ^ setting.k) setting.feeders from ≡ Some n → number (2 ^ setting.k) setting.feeders to ≡ Some r → n < count → (slot : Option Sending) → slot_of seats d n r ≡ slot → IsSome slot → HasLink setting.k setting.feeders from to
+        by_mouth : (n r : ℕ) (d : SeatView) → number (2 ^ setting.k) setting.feeders from ≡ Some n
+            → number (2 ^ setting.k) setting.feeders to ≡ Some r → n < count → (slot : Option Sending)
+            → slot_of seats d n r ≡ slot → IsSome slot → HasLink setting.k setting.feeders from to
         by_mouth n r d is is' low None slot none = absurd (true≢false (sym none))
         by_mouth n r d is is' low (Some mouth) slot there' =
             let own = filled.own n r d mouth (subst (λ z. n < z) (sym new.all) low) slot in
             let one = new.new r d own.0 in
             let inbox = (get_or first r d).inbox in
-            let found = contains_map (opened inbox.link inbox.to) one.names mouth (subst (λ ms. Contains ms mouth) one.mouths_are own.1.one) in
+            let found = contains_map (opened inbox.link inbox.to) one.names mouth
+            (subst (λ ms. Contains ms mouth) one.mouths_are own.1.one) in
             let from_is : found.0 ≡ from =
-            ap (λ (m : Sending). m.from) found.2 ∙ (sym (number_actor (2 ^ setting.k) setting.feeders mouth.from n own.1.sender) ∙ number_actor (2 ^ setting.k) setting.feeders from n is) in
+            ap (λ (m : Sending). m.from) found.2
+            ∙ (sym (number_actor (2 ^ setting.k) setting.feeders mouth.from n own.1.sender)
+            ∙ number_actor (2 ^ setting.k) setting.feeders from n is) in
             subst (λ a. HasLink setting.k setting.feeders a to) from_is
-            (subst (HasLink setting.k setting.feeders found.0) (number_actor (2 ^ setting.k) setting.feeders to r is') (one.links.sound setting.k refl found.0 found.1))
+            (subst (HasLink setting.k setting.feeders found.0) (number_actor (2 ^ setting.k) setting.feeders to r is')
+            (one.links.sound setting.k refl found.0 found.1))
 
         nowhere : (o : Option SeatView) → mouth_at o None ≡ None
         nowhere None = refl
         nowhere (Some seat) = refl
 
-        to_there : (n : ℕ) → number (2 ^ setting.k) setting.feeders from ≡ Some n → (o : Option ℕ) → number (2 ^ setting.k) setting.feeders to ≡ o → HasLink setting.k setting.feeders from to
-        to_there n is None is' = absurd (true≢false (sym (subst IsSome (ap (mouth_at (seat_of v from)) is' ∙ nowhere (seat_of v from)) some)))
+        to_there : (n : ℕ) → number (2 ^ setting.k) setting.feeders from ≡ Some n → (o : Option ℕ)
+            → number (2 ^ setting.k) setting.feeders to ≡ o → HasLink setting.k setting.feeders from to
+        to_there n is None is' =
+            absurd (true≢false (sym (subst IsSome (ap (mouth_at (seat_of v from)) is' ∙ nowhere (seat_of v from))
+            some)))
         to_there n is (Some r) is' =
             let low = low_number from n is in
             let low' = subst (λ z. n < z) (sym long) low in
             let d = (there seats n low').0 in
-            by_mouth n r d is is' low (slot_of seats d n r) refl (subst IsSome (mouth_is from to n r d is is' low') some)
+            by_mouth n r d is is' low (slot_of seats d n r) refl
+            (subst IsSome (mouth_is from to n r d is is' low') some)
 
-        go : (o : Option ℕ) → number (2 ^ setting.k) setting.feeders from ≡ o → HasLink setting.k setting.feeders from to
-        go None is = absurd (true≢false (sym (subst IsSome (ap (λ (o : Option ℕ). mouth_at (at_number None o (λ k. slice_get seats k)) (number (2 ^ setting.k) setting.feeders to)) is) some)))
+        go : (o : Option ℕ) → number (2 ^ setting.k) setting.feeders from ≡ o
+            → HasLink setting.k setting.feeders from to
+        go None is = absurd (true≢false
+            (sym (subst IsSome (ap (λ (o : Option ℕ). mouth_at (at_number None o (λ k. slice_get seats k))
+            (number (2 ^ setting.k) setting.feeders to)) is) some)))
         go (Some n) is = to_there n is (number (2 ^ setting.k) setting.feeders to) refl
 
     has_mouth : (from to : Actor) → HasLink setting.k setting.feeders from to → IsSome (mouth_of v from to)
@@ -337,9 +418,15 @@ module _ (input : Input) (setting : Setting) (count : ℕ) (first seats : List S
         let d = (there seats num.0 low_seat).0 in
         let one = new.new num'.0 d low in
         let inbox = (get_or first num'.0 d).inbox in
-        let name = one.links.whole setting.k refl from num.0 num.1 (subst (λ z. num.0 < z) many low_from) (subst (HasLink setting.k setting.feeders from) (sym (number_actor (2 ^ setting.k) setting.feeders to num'.0 num'.1)) link) in
-        let has = subst (λ ms. Contains ms (opened inbox.link inbox.to from)) (sym one.mouths_are) (map_contains (opened inbox.link inbox.to) one.names from name) in
-        let given = filled.has num.0 num'.0 d (opened inbox.link inbox.to from) low (record { one = has; sender = num.1 }) in
+        let name = one.links.whole setting.k refl from num.0 num.1 (subst (λ z. num.0 < z) many low_from)
+        (subst (HasLink setting.k setting.feeders from)
+        (sym (number_actor (2 ^ setting.k) setting.feeders to num'.0 num'.1)) link) in
+        let has = subst (λ ms. Contains ms (opened inbox.link inbox.to from)) (sym one.mouths_are)
+        (map_contains (opened inbox.link inbox.to) one.names from name) in
+        let given = filled.has num.0 num'.0 d (opened inbox.link inbox.to from) low (record {
+          one = has;
+          sender = num.1;
+        }) in
         subst IsSome (sym (mouth_is from to num.0 num'.0 d num.1 num'.1 low_seat)) given.1
 
     pub all_linked : (from to : Actor) → (IsSome (mouth_of v from to) ↔ HasLink setting.k setting.feeders from to)
@@ -347,31 +434,67 @@ module _ (input : Input) (setting : Setting) (count : ℕ) (first seats : List S
 
 -- ---- the same from what each call says
 
-module _ (input : Input) (setting : Setting) (joiners : ℕ) (first seats : List SeatView) (mouths : List (List Sending)) (is : joiners ≡ 2 ^ setting.k) (new : AreNew input setting (setting.feeders + joiners + 2) first mouths) (filled : AreFilled joiners setting.feeders (length mouths) mouths first seats) where
+module _ (input : Input) (setting : Setting) (joiners : ℕ) (first seats : List SeatView) (mouths : List (List Sending))
+    (is : joiners ≡ 2 ^ setting.k) (new : AreNew input setting (setting.feeders + joiners + 2) first mouths)
+    (filled : AreFilled joiners setting.feeders (length mouths) mouths first seats) where
   count_is : setting.feeders + joiners + 2 ≡ setting.feeders + 2 ^ setting.k + 2
   count_is = ap (λ n. setting.feeders + n + 2) is
 
   all_filled : AreFilled (2 ^ setting.k) setting.feeders (setting.feeders + joiners + 2) mouths first seats
-  all_filled = subst (λ j. AreFilled j setting.feeders (setting.feeders + joiners + 2) mouths first seats) is (subst (λ n. AreFilled joiners setting.feeders n mouths first seats) new.each filled)
+  all_filled = subst (λ j. AreFilled j setting.feeders (setting.feeders + joiners + 2) mouths first seats) is
+      (subst (λ n. AreFilled joiners setting.feeders n mouths first seats) new.each filled)
 
   pub start_joined : AreJoined joiners setting.feeders (map frame_of seats)
-  start_joined = subst (λ j. AreJoined j setting.feeders (map frame_of seats)) (sym is) (all_joined input setting (setting.feeders + joiners + 2) first seats mouths new all_filled count_is)
+  start_joined = subst (λ j. AreJoined j setting.feeders (map frame_of seats)) (sym is)
+      (all_joined input setting (setting.feeders + joiners + 2) first seats mouths new all_filled count_is)
 
   pub start_settled : AreSettled seats
   start_settled = all_settled input setting (setting.feeders + joiners + 2) first seats mouths new all_filled count_is
 
-  pub start_stands : (spent : Bool) → StandsFor input setting (record { joiners = joiners; feeders = setting.feeders; seats = seats; spent = spent })
-  start_stands spent = subst (λ j. StandsFor input setting (record { joiners = j; feeders = setting.feeders; seats = seats; spent = spent })) (sym is) (all_stand input setting (setting.feeders + joiners + 2) first seats mouths new all_filled count_is spent)
+  pub start_stands : (spent : Bool) → StandsFor input setting (record {
+    joiners = joiners;
+    feeders = setting.feeders;
+    seats = seats;
+    spent = spent;
+  })
+  start_stands spent = subst (λ j. StandsFor input setting (record {
+    joiners = j;
+    feeders = setting.feeders;
+    seats = seats;
+    spent = spent;
+  })) (sym is) (all_stand input setting (setting.feeders + joiners + 2)
+      first seats mouths new all_filled count_is spent)
 
-  pub start_empty : (spent : Bool) (a : Actor) → lists_in (record { joiners = joiners; feeders = setting.feeders; seats = seats; spent = spent }) a ≡ no_lists
-  start_empty spent a = subst (λ j. lists_in (record { joiners = j; feeders = setting.feeders; seats = seats; spent = spent }) a ≡ no_lists) (sym is) (all_empty input setting (setting.feeders + joiners + 2) first seats mouths new all_filled count_is spent a)
+  pub start_empty : (spent : Bool) (a : Actor) → lists_in (record {
+    joiners = joiners;
+    feeders = setting.feeders;
+    seats = seats;
+    spent = spent;
+  }) a ≡ no_lists
+  start_empty spent a = subst (λ j. lists_in (record {
+    joiners = j;
+    feeders = setting.feeders;
+    seats = seats;
+    spent = spent;
+  }) a ≡ no_lists) (sym is) (all_empty input setting (setting.feeders + joiners + 2)
+      first seats mouths new all_filled count_is spent a)
 
-  pub start_given : (spent : Bool) → AreGiven (2 ^ setting.k) nothing_yet (given_in (record { joiners = joiners; feeders = setting.feeders; seats = seats; spent = spent }))
+  pub start_given : (spent : Bool) → AreGiven (2 ^ setting.k) nothing_yet
+      (given_in (record { joiners = joiners; feeders = setting.feeders; seats = seats; spent = spent }))
   start_given spent =
-      subst (λ j. AreGiven (2 ^ setting.k) nothing_yet (given_in (record { joiners = j; feeders = setting.feeders; seats = seats; spent = spent }))) (sym is)
+      subst (λ j. AreGiven (2 ^ setting.k) nothing_yet (given_in (record {
+        joiners = j;
+        feeders = setting.feeders;
+        seats = seats;
+        spent = spent;
+      }))) (sym is)
       (none_given input setting (setting.feeders + joiners + 2) first seats mouths new all_filled count_is spent)
 
-  pub start_linked : (spent : Bool) (from to : Actor) → (IsSome (mouth_of (record { joiners = joiners; feeders = setting.feeders; seats = seats; spent = spent }) from to) ↔ HasLink setting.k setting.feeders from to)
+  pub start_linked : (spent : Bool) (from to : Actor)
+      → (IsSome (mouth_of (record { joiners = joiners; feeders = setting.feeders; seats = seats; spent = spent })
+      from to) ↔ HasLink setting.k setting.feeders from to)
   start_linked spent from to =
-      subst (λ j. IsSome (mouth_of (record { joiners = j; feeders = setting.feeders; seats = seats; spent = spent }) from to) ↔ HasLink setting.k setting.feeders from to) (sym is)
-      (all_linked input setting (setting.feeders + joiners + 2) first seats mouths new all_filled count_is spent from to)
+      subst (λ j. IsSome (mouth_of (record { joiners = j; feeders = setting.feeders; seats = seats; spent = spent })
+      from to) ↔ HasLink setting.k setting.feeders from to) (sym is)
+      (all_linked input setting (setting.feeders + joiners + 2)
+      first seats mouths new all_filled count_is spent from to)

@@ -1,5 +1,6 @@
 -- The numbers of actors, and frames at their places.
-use Rattle.std.proofs.Common.{◌≡◌, ℕ, zero, suc, ◌+◌, ◌<◌, refl, sym, ap, ◌∙◌, Option, None, List, [], ◌∷◌, get_or, map, length, arith}
+use Rattle.std.proofs.Common.{◌≡◌, ℕ, zero, suc, ◌+◌, ◌<◌, refl, sym, ap, ◌∙◌, Option, None, List, [], ◌∷◌, get_or, map}
+use Rattle.std.proofs.Common.{length, arith}
 use Rattle.std.proofs.lemmas.List.{get_or-map}
 use Rattle.ruled_links.specs.Ends.{Sending}
 use Rattle.actor_core.specs.Numbers.{number, actor_at}
@@ -7,21 +8,27 @@ use Rattle.actor_core.proofs.OwnNumbers.{some_is, number_there}
 use Rattle.join_runtime.specs.Views.{SeatView, frame_of, address_of}
 
 -- so at two places stand two actors
-pub actors_differ : (joiners feeders i k : ℕ) → i < feeders + joiners + 2 → k < feeders + joiners + 2 → actor_at joiners feeders i ≡ actor_at joiners feeders k → i ≡ k
+pub actors_differ : (joiners feeders i k : ℕ) → i < feeders + joiners + 2 → k < feeders + joiners + 2
+    → actor_at joiners feeders i ≡ actor_at joiners feeders k → i ≡ k
 actors_differ joiners feeders i k low low' e =
-    some_is i k (sym (number_there joiners feeders i low) ∙ (ap (number joiners feeders) e ∙ number_there joiners feeders k low'))
+    some_is i k (sym (number_there joiners feeders i low) ∙ (ap (number joiners feeders) e
+    ∙ number_there joiners feeders k low'))
 
 -- ---- frames
 
-pub frame_at : (seats : List SeatView) (n : ℕ) (d : SeatView) → n < length seats → get_or (map frame_of seats) n (frame_of d) ≡ frame_of (get_or seats n d)
+pub frame_at : (seats : List SeatView) (n : ℕ) (d : SeatView) → n < length seats
+    → get_or (map frame_of seats) n (frame_of d) ≡ frame_of (get_or seats n d)
 frame_at seats n d low = get_or-map frame_of seats n d (frame_of d) low
 
-pub address_at : (mouths : List (Option Sending)) (r : ℕ) → get_or (map address_of mouths) r None ≡ address_of (get_or mouths r None)
+pub address_at : (mouths : List (Option Sending)) (r : ℕ) → get_or (map address_of mouths) r None
+    ≡ address_of (get_or mouths r None)
 address_at [] r = refl
 address_at (m ∷ mouths) zero = refl
 address_at (m ∷ mouths) (suc r) = address_at mouths r
 
-pub frames_same : (old new : List SeatView) → length new ≡ length old → ((n : ℕ) (d : SeatView) → n < length old → frame_of (get_or new n d) ≡ frame_of (get_or old n d)) → map frame_of new ≡ map frame_of old
+pub frames_same : (old new : List SeatView) → length new ≡ length old
+    → ((n : ℕ) (d : SeatView) → n < length old → frame_of (get_or new n d) ≡ frame_of (get_or old n d))
+    → map frame_of new ≡ map frame_of old
 frames_same [] [] long same = refl
 frames_same [] (y ∷ ys) long same = absurd (omega arith)
 frames_same (x ∷ xs) [] long same = absurd (omega arith)

@@ -1,5 +1,6 @@
 -- The collector of seats gives what it took, and nothing else changes.
-use Rattle.std.proofs.Common.{◌≡◌, ℕ, ◌-◌, ◌^◌, ◌<◌, ◌==◌, inl, inr, refl, sym, ap, subst, ◌∙◌, Result, Ok, Err, None, Some, List, get_or, set, length, length-set, map, true, arith}
+use Rattle.std.proofs.Common.{◌≡◌, ℕ, ◌-◌, ◌^◌, ◌<◌, ◌==◌, inl, inr, refl, sym, ap, subst, ◌∙◌, Result, Ok, Err, None}
+use Rattle.std.proofs.Common.{Some, List, get_or, set, length, length-set, map, true, arith}
 use Rattle.std.specs.Prelude.{IfOk, OnErr, OnOk, IsPermutation, slice_get, slice_index_or}
 use Rattle.std.specs.declared.alloc.AllocError.{AllocError}
 use Rattle.std.proofs.lemmas.Bool.{cases_Bool, eqb-true, eq-eqb}
@@ -63,11 +64,13 @@ pub record IsKin (s t : SeatView) : Type 0 where
 kin_self : (s : SeatView) → IsKin s s
 kin_self s = record { rest = refl; stands = λ start ls st. st; live = λ live. live }
 
-pub kin_by : (result : Result (List Pair) AllocError) (s t : SeatView) → t ≡ record s { core = t.core } → IfOk result (λ pairs. Gives s.core t.core pairs) → OnErr result (t ≡ s) → IsKin s t
+pub kin_by : (result : Result (List Pair) AllocError) (s t : SeatView) → t ≡ record s { core = t.core }
+    → IfOk result (λ pairs. Gives s.core t.core pairs) → OnErr result (t ≡ s) → IsKin s t
 kin_by (Ok pairs) s t rest gives fails = record { rest = rest; stands = gives.stands; live = gives.live }
 kin_by (Err e) s t rest gives fails = subst (IsKin s) (sym fails) (kin_self s)
 
-pub on_ok_by : {X E : Type 0} (result : Result X E) (P : X → Type 0) (Q : Type 0) → IfOk result P → ((x : X) → P x → Q) → OnOk result Q
+pub on_ok_by : {X E : Type 0} (result : Result X E) (P : X → Type 0) (Q : Type 0) → IfOk result P → ((x : X) → P x → Q)
+    → OnOk result Q
 on_ok_by (Ok x) P Q is follows = follows x is
 on_ok_by (Err e) P Q is follows = tt
 
@@ -77,7 +80,9 @@ record StandsAs (old new : Player) : Type 0 where
   stands : (start : Start) (ls : ActorLists) → Stands start ls old.core → Stands start ls new.core
 
 -- the last seat is `s`, and then `t`
-module _ (v : SeatsView) (joined : AreJoined v.joiners v.feeders (map frame_of v.seats)) (place : ℕ) (last : place ≡ length v.seats - 1) (low : place < length v.seats) (s t : SeatView) (is : s ≡ get_or v.seats place s) (kin : IsKin s t) where
+module _ (v : SeatsView) (joined : AreJoined v.joiners v.feeders (map frame_of v.seats)) (place : ℕ)
+    (last : place ≡ length v.seats - 1) (low : place < length v.seats) (s t : SeatView)
+    (is : s ≡ get_or v.seats place s) (kin : IsKin s t) where
   abbrev changed : List SeatView
   changed = set v.seats place t
 
@@ -94,12 +99,14 @@ module _ (v : SeatsView) (joined : AreJoined v.joiners v.feeders (map frame_of v
   all_kin n d low' = elim (cases_Bool (n == place)) [
     | inl found ↦
         let same = eqb-true n place found in
-        let before : get_or v.seats n d ≡ s = get_or_from_slice_get v.seats n s d (ap (slice_get v.seats) same ∙ here) in
+        let before : get_or v.seats n d ≡ s = get_or_from_slice_get v.seats n s d
+        (ap (slice_get v.seats) same ∙ here) in
         let now : get_or changed n d ≡ t = get_or-set_at v.seats place n t d same low in
         subst (λ x. IsKin x (get_or changed n d)) (sym before) (subst (IsKin s) (sym now) kin)
     | inr differs ↦
         let other : n ≡ place → ⊥ = λ same. let found : (n == place) ≡ true = eq-eqb n place same in cc in
-        subst (IsKin (get_or v.seats n d)) (sym (get_or-set_other v.seats place n t d other)) (kin_self (get_or v.seats n d))
+        subst (IsKin (get_or v.seats n d)) (sym (get_or-set_other v.seats place n t d other))
+        (kin_self (get_or v.seats n d))
   ]
 
   pub frames_kept : map frame_of changed ≡ map frame_of v.seats
@@ -110,7 +117,8 @@ module _ (v : SeatsView) (joined : AreJoined v.joiners v.feeders (map frame_of v
 
   all_as : AllRelate StandsAs v.joiners v.feeders (cores_in v) (cores_in after) (lists_in v) (lists_in after)
   all_as =
-      all_relate (λ (x : SeatView). x.core) lists_of StandsAs v.joiners v.feeders v.seats changed long (many_seats v joined)
+      all_relate (λ (x : SeatView). x.core) lists_of StandsAs v.joiners v.feeders v.seats changed long
+      (many_seats v joined)
       (λ n d low'. let same = all_kin n d low' in record { lists = ap lists_of same.rest; stands = same.stands })
 
   pub lists_kept : (a : Actor) → lists_in after a ≡ lists_in v a
@@ -127,38 +135,49 @@ module _ (v : SeatsView) (joined : AreJoined v.joiners v.feeders (map frame_of v
   gathered_kept gathered n r d low' low'' =
       let first = all_kin n d (omega (arith, low', long)) in
       let second = all_kin r d (omega (arith, low'', long)) in
-      let mouth : slot_of changed d n r ≡ slot_of v.seats d n r = ap (λ (z : SeatView). slice_index_or z.mouths r None) first.rest in
+      let mouth : slot_of changed d n r ≡ slot_of v.seats d n r =
+      ap (λ (z : SeatView). slice_index_or z.mouths r None) first.rest in
       let inbox = ap (λ (z : SeatView). z.inbox) second.rest in
       subst (λ o. IsGathered o (get_or changed r d).inbox) (sym mouth)
-      (subst (IsGathered (slot_of v.seats d n r)) (sym inbox) (gathered n r d (omega (arith, low', long)) (omega (arith, low'', long))))
+      (subst (IsGathered (slot_of v.seats d n r)) (sym inbox)
+      (gathered n r d (omega (arith, low', long)) (omega (arith, low'', long))))
 
   pub settled_kept : AreSettled v.seats → AreSettled changed
   settled_kept settled = record {
-    hear = λ n d low'. let same = all_kin n d (omega (arith, low', long)) in subst HearsSenders (sym same.rest) (settled.hear n d (omega (arith, low', long)));
-    live = λ n d low'. let same = all_kin n d (omega (arith, low', long)) in same.live (settled.live n d (omega (arith, low', long)));
+    hear = λ n d low'. let same = all_kin n d (omega (arith, low', long)) in
+        subst HearsSenders (sym same.rest) (settled.hear n d (omega (arith, low', long)));
+    live = λ n d low'. let same = all_kin n d (omega (arith, low', long)) in
+        same.live (settled.live n d (omega (arith, low', long)));
     gathered = gathered_kept settled.gathered;
   }
 
-  module _ (input : Input) (setting : Setting) (st : StandsFor input setting v) (pairs : List Pair) (gives : Gives s.core t.core pairs) where
+  module _ (input : Input) (setting : Setting) (st : StandsFor input setting v) (pairs : List Pair)
+      (gives : Gives s.core t.core pairs) where
     -- the collector's machine is that of the last seat
     own : core_in v.joiners v.feeders (cores_in v) Collector ≡ Some s.core
     own =
         sym (last_core v joined)
-        ∙ (ap (slice_get (cores_in v)) (sym last) ∙ (core_at (λ (x : SeatView). x.core) v.seats place s low ∙ ap (λ (x : SeatView). Some x.core) (sym is)))
+        ∙ (ap (slice_get (cores_in v)) (sym last) ∙ (core_at (λ (x : SeatView). x.core) v.seats place s low
+        ∙ ap (λ (x : SeatView). Some x.core) (sym is)))
 
     stood : Stands (OfCollector (2 ^ setting.k)) (lists_in v Collector) s.core
     stood =
         let one = st.stands Collector tt in
-        subst (Stands (OfCollector (2 ^ setting.k)) (lists_in v Collector)) (some_is one.0 s.core (sym one.1 ∙ own)) one.2
+        subst (Stands (OfCollector (2 ^ setting.k)) (lists_in v Collector)) (some_is one.0 s.core (sym one.1 ∙ own))
+        one.2
 
-    pub gives_since : (earlier : CollectorLists) → AreGiven (2 ^ setting.k) earlier (given_in v) → IsPermutation (pairs_since (2 ^ setting.k) earlier (collected_in v)) pairs
-    gives_since earlier gave = gives.gives (2 ^ setting.k) earlier (lists_in v Collector) stood (subst (AreGiven (2 ^ setting.k) earlier) (ap given_at own) gave)
+    pub gives_since : (earlier : CollectorLists) → AreGiven (2 ^ setting.k) earlier (given_in v)
+        → IsPermutation (pairs_since (2 ^ setting.k) earlier (collected_in v)) pairs
+    gives_since earlier gave = gives.gives (2 ^ setting.k) earlier (lists_in v Collector) stood
+        (subst (AreGiven (2 ^ setting.k) earlier) (ap given_at own) gave)
 
     own_after : core_in v.joiners v.feeders (cores_in after) Collector ≡ Some t.core
     own_after =
         sym (last_core after joined_still)
         ∙ (ap (λ n. slice_get (cores_in after) (n - 1)) long ∙ (ap (slice_get (cores_in after)) (sym last)
-        ∙ (core_at (λ (x : SeatView). x.core) changed place t (omega (arith, low, long)) ∙ ap (λ (x : SeatView). Some x.core) (get_or-set_same v.seats place t t low))))
+        ∙ (core_at (λ (x : SeatView). x.core) changed place t (omega (arith, low, long))
+        ∙ ap (λ (x : SeatView). Some x.core) (get_or-set_same v.seats place t t low))))
 
     pub all_given : AreGiven (2 ^ setting.k) (collected_in v) (given_in after)
-    all_given = subst (AreGiven (2 ^ setting.k) (collected_in v)) (sym (ap given_at own_after)) (gives.given (2 ^ setting.k) (lists_in v Collector) stood)
+    all_given = subst (AreGiven (2 ^ setting.k) (collected_in v)) (sym (ap given_at own_after))
+        (gives.given (2 ^ setting.k) (lists_in v Collector) stood)

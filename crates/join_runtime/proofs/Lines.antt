@@ -1,5 +1,6 @@
 -- A run that puts lines, between two bouts and at its end.
-use Rattle.std.proofs.Common.{◌≡◌, ℕ, zero, suc, ◌+◌, ◌-◌, ◌^◌, refl, sym, ap, subst, ◌∙◌, Option, List, [], ◌++◌, filter_map, length, arith}
+use Rattle.std.proofs.Common.{◌≡◌, ℕ, zero, suc, ◌+◌, ◌-◌, ◌^◌, refl, sym, ap, subst, ◌∙◌, Option, List, [], ◌++◌}
+use Rattle.std.proofs.Common.{filter_map, length, arith}
 use Rattle.std.specs.Io.KnownBytes.{append_known}
 use Rattle.std.specs.List.Sorted.{IsPermutation}
 use Rattle.std.proofs.lemmas.List.Elements.{filter_map-append}
@@ -33,14 +34,16 @@ use Rattle.join_runtime.specs.Endings.{family_in}
 use Rattle.join_runtime.specs.Early.{AreGiven, WroteEach, WroteSome, collected_in, given_in}
 use Rattle.join_runtime.proofs.GivenPairs.{given_kept}
 use Rattle.join_runtime.proofs.UnderWay.{IsUnderWay, begun, same_lists}
-use Rattle.join_runtime.proofs.Written.{HasWritten, cut_written, each_written, nothing_written, room_behind, room_within, same_long, some_written, written_more}
+use Rattle.join_runtime.proofs.Written.{HasWritten, cut_written, each_written, nothing_written, room_behind}
+use Rattle.join_runtime.proofs.Written.{room_within, same_long, some_written, written_more}
 
 -- the pairs that the collector of these seats took
 abbrev pub taken_in : Setting → SeatsView → List Pair
 taken_in setting v = pairs_taken (2 ^ setting.k) (collected_in v)
 
 -- each of them was given, and its line put; what had room for the lines has room for what comes behind them
-pub record HasPut (input : Input) (setting : Setting) (v : SeatsView) (bouts : ℕ) (old new : Option (List ℕ)) (room room' : ℕ → Type 0) : Type 0 where
+pub record HasPut (input : Input) (setting : Setting) (v : SeatsView) (bouts : ℕ) (old new : Option (List ℕ))
+    (room room' : ℕ → Type 0) : Type 0 where
   pub way : IsUnderWay input setting v bouts
   pub given : AreGiven (2 ^ setting.k) (collected_in v) (given_in v)
   pub written : HasWritten (taken_in setting v) old new
@@ -52,7 +55,8 @@ gather_none : {X : Type 0} (n : ℕ) (xs : ℕ → List X) → ((j : ℕ) → xs
 gather_none zero xs none = refl
 gather_none (suc n) xs none = ap (λ ys. ys ++ xs n) (gather_none n xs none) ∙ none n
 
-pub nothing_put : (input : Input) (setting : Setting) (v : SeatsView) (old : Option (List ℕ)) (room : ℕ → Type 0) → StandsFor input setting v → ((a : Actor) → lists_in v a ≡ no_lists)
+pub nothing_put : (input : Input) (setting : Setting) (v : SeatsView) (old : Option (List ℕ)) (room : ℕ → Type 0)
+    → StandsFor input setting v → ((a : Actor) → lists_in v a ≡ no_lists)
     → AreGiven (2 ^ setting.k) nothing_yet (given_in v) → HasPut input setting v 0 old old room room
 nothing_put input setting v old room stands empty given =
     let none : taken_in setting v ≡ [] =
@@ -61,82 +65,123 @@ nothing_put input setting v old room stands empty given =
     let short : length (pair_lines (taken_in setting v)) ≡ 0 = ap (λ ps. length (pair_lines ps)) none in
     record {
       way = begun input setting v stands empty;
-      given = subst (λ (ls : ActorLists). AreGiven (2 ^ setting.k) (collector_lists ls) (given_in v)) (sym (empty Collector)) given;
+      given = subst (λ (ls : ActorLists). AreGiven (2 ^ setting.k) (collector_lists ls) (given_in v))
+          (sym (empty Collector)) given;
       written = nothing_written (taken_in setting v) old old none refl;
-      takes = λ more has. let is : length (pair_lines (taken_in setting v)) + more ≡ more = omega (arith, short) in subst room is has;
+      takes = λ more has. let is : length (pair_lines (taken_in setting v)) + more ≡ more = omega (arith, short) in
+          subst room is has;
     }
 
 -- ---- a front of the lines
 
-right : TakesNothingWrong → (input : Input) (setting : Setting) → IsValid input setting → (v : SeatsView) → StandsFor input setting v → AreFronts (lists_in v) → IsWithinBag (taken_in setting v) (nested_loop input)
+right : TakesNothingWrong → (input : Input) (setting : Setting) → IsValid input setting → (v : SeatsView)
+    → StandsFor input setting v → AreFronts (lists_in v) → IsWithinBag (taken_in setting v) (nested_loop input)
 right law input setting valid v stands fronts =
     subst (IsWithinBag (taken_in setting v)) (all_pairs input setting)
-    (law input setting (first_rest setting) (family_in v) valid (first_stands input setting valid) (agrees input setting v.joiners v.feeders (cores_in v) (lists_in v) stands fronts))
+    (law input setting (first_rest setting) (family_in v) valid (first_stands input setting valid)
+    (agrees input setting v.joiners v.feeders (cores_in v) (lists_in v) stands fronts))
 
-pub some_put : TakesNothingWrong → (input : Input) (setting : Setting) → IsValid input setting → (v : SeatsView) (bouts : ℕ) (old new : Option (List ℕ)) (room room' : ℕ → Type 0)
+pub some_put : TakesNothingWrong → (input : Input) (setting : Setting) → IsValid input setting
+    → (v : SeatsView) (bouts : ℕ) (old new : Option (List ℕ)) (room room' : ℕ → Type 0)
     → HasPut input setting v bouts old new room room' → WroteSome input old new
 some_put law input setting valid v bouts old new room room' put =
-    some_written input (taken_in setting v) old new (right law input setting valid v put.way.stands put.way.fronts) put.written
+    some_written input (taken_in setting v) old new (right law input setting valid v put.way.stands put.way.fronts)
+    put.written
 
 pub none_put : (input : Input) (old new : Option (List ℕ)) → new ≡ old → WroteSome input old new
-none_put input old new is = some_written input [] old new (record { sums = λ f. omega arith }) (nothing_written [] old new refl is)
+none_put input old new is = some_written input [] old new (record { sums = λ f. omega arith })
+    (nothing_written [] old new refl is)
 
 -- ---- a bout, and the pairs that came in it
 
-typed_front : {X : Type 0} (kind : Msg → Option X) (xs ys : List Msg) → IsPrefix xs ys → IsPrefix (filter_map kind xs) (filter_map kind ys)
-typed_front kind xs ys front = record { rest = filter_map kind front.rest; joins = sym (filter_map-append kind xs front.rest) ∙ ap (filter_map kind) front.joins }
+typed_front : {X : Type 0} (kind : Msg → Option X) (xs ys : List Msg) → IsPrefix xs ys
+    → IsPrefix (filter_map kind xs) (filter_map kind ys)
+typed_front kind xs ys front = record {
+  rest = filter_map kind front.rest;
+  joins = sym (filter_map-append kind xs front.rest) ∙ ap (filter_map kind) front.joins;
+}
 
 -- a bout leads from `v` to `middle`, whose collector gives these pairs
-module _ (input : Input) (setting : Setting) (v middle : SeatsView) (bouts bouts' : ℕ) (old now : Option (List ℕ)) (room room' : ℕ → Type 0) (before : HasPut input setting v bouts old now room room')
-    (way : IsUnderWay input setting middle bouts') (advance : AllAdvance v.seats middle.seats) (extends : Extends (lists_in v) (lists_in middle)) (fresh : List Pair)
-    (gives : (earlier : CollectorLists) → StandsFor input setting middle → AreGiven (2 ^ setting.k) earlier (given_in middle) → IsPermutation (pairs_since (2 ^ setting.k) earlier (collected_in middle)) fresh) where
+module _ (input : Input) (setting : Setting) (v middle : SeatsView) (bouts bouts' : ℕ) (old now : Option (List ℕ))
+    (room room' : ℕ → Type 0) (before : HasPut input setting v bouts old now room room')
+    (way : IsUnderWay input setting middle bouts') (advance : AllAdvance v.seats middle.seats)
+    (extends : Extends (lists_in v) (lists_in middle)) (fresh : List Pair)
+    (gives : (earlier : CollectorLists) → StandsFor input setting middle
+    → AreGiven (2 ^ setting.k) earlier (given_in middle)
+    → IsPermutation (pairs_since (2 ^ setting.k) earlier (collected_in middle)) fresh) where
   moved : IsPermutation (pairs_since (2 ^ setting.k) (collected_in v) (collected_in middle)) fresh
-  moved = gives (collected_in v) way.stands (subst (AreGiven (2 ^ setting.k) (collected_in v)) (sym (given_kept input setting v middle before.way.stands way.stands advance)) before.given)
+  moved = gives (collected_in v) way.stands (subst (AreGiven (2 ^ setting.k) (collected_in v))
+      (sym (given_kept input setting v middle before.way.stands way.stands advance)) before.given)
 
-  all : SameBag (taken_in setting v ++ pairs_since (2 ^ setting.k) (collected_in v) (collected_in middle)) (taken_in setting middle)
+  all : SameBag (taken_in setting v ++ pairs_since (2 ^ setting.k) (collected_in v) (collected_in middle))
+      (taken_in setting middle)
   all = since_joins (2 ^ setting.k) (collected_in v) (collected_in middle)
-      (λ j low. typed_front collector_msg ((lists_in v Collector).received (Joiner j)) ((lists_in middle Collector).received (Joiner j)) (extends.received (Joiner j) Collector))
+      (λ j low. typed_front collector_msg ((lists_in v Collector).received (Joiner j))
+      ((lists_in middle Collector).received (Joiner j)) (extends.received (Joiner j) Collector))
 
-  pub fresh_cut : TakesNothingWrong → IsValid input setting → (new : Option (List ℕ)) → AppendsFront now new (pair_lines fresh) → WroteSome input old new
+  pub fresh_cut : TakesNothingWrong → IsValid input setting → (new : Option (List ℕ))
+      → AppendsFront now new (pair_lines fresh) → WroteSome input old new
   fresh_cut law valid new front =
-      cut_written (taken_in setting v) (pairs_since (2 ^ setting.k) (collected_in v) (collected_in middle)) (taken_in setting middle) fresh moved all old now before.written input new
+      cut_written (taken_in setting v) (pairs_since (2 ^ setting.k) (collected_in v) (collected_in middle))
+      (taken_in setting middle) fresh moved all old now before.written input new
       (right law input setting valid middle way.stands way.fronts) front
 
-  pub fresh_room : TakesNothingWrong → IsValid input setting → (more : ℕ) → room (length (pair_lines (nested_loop input)) + more)
-      → room' (length (pair_lines fresh) + (length (pair_lines (nested_loop input)) - length (pair_lines (taken_in setting middle)) + more))
+  pub fresh_room : TakesNothingWrong → IsValid input setting → (more : ℕ)
+      → room (length (pair_lines (nested_loop input)) + more)
+      → room' (length (pair_lines fresh) + (length (pair_lines (nested_loop input))
+      - length (pair_lines (taken_in setting middle)) + more))
   fresh_room law valid more has =
-      before.takes (length (pair_lines fresh) + (length (pair_lines (nested_loop input)) - length (pair_lines (taken_in setting middle)) + more))
-      (room_within (taken_in setting v) (pairs_since (2 ^ setting.k) (collected_in v) (collected_in middle)) (taken_in setting middle) fresh moved all room (nested_loop input) more
+      before.takes (length (pair_lines fresh) + (length (pair_lines (nested_loop input))
+      - length (pair_lines (taken_in setting middle)) + more))
+      (room_within (taken_in setting v) (pairs_since (2 ^ setting.k) (collected_in v) (collected_in middle))
+      (taken_in setting middle) fresh moved all room (nested_loop input) more
       (right law input setting valid middle way.stands way.fronts) has)
 
-  pub fresh_put : (after : SeatsView) → ((a : Actor) → lists_in after a ≡ lists_in middle a) → (StandsFor input setting middle → StandsFor input setting after)
-      → (StandsFor input setting middle → AreGiven (2 ^ setting.k) (collected_in middle) (given_in after)) → (new : Option (List ℕ)) → new ≡ append_known now (pair_lines fresh)
-      → (room'' : ℕ → Type 0) → ((more : ℕ) → room' (length (pair_lines fresh) + more) → room'' more) → HasPut input setting after bouts' old new room room''
+  pub fresh_put : (after : SeatsView) → ((a : Actor) → lists_in after a ≡ lists_in middle a)
+      → (StandsFor input setting middle → StandsFor input setting after)
+      → (StandsFor input setting middle → AreGiven (2 ^ setting.k) (collected_in middle) (given_in after))
+      → (new : Option (List ℕ)) → new ≡ append_known now (pair_lines fresh)
+      → (room'' : ℕ → Type 0) → ((more : ℕ) → room' (length (pair_lines fresh) + more) → room'' more)
+      → HasPut input setting after bouts' old new room room''
   fresh_put after same keeps given new is room'' takes =
       let alike : lists_in middle Collector ≡ lists_in after Collector = sym (same Collector) in
       record {
         way = same_lists input setting middle after bouts' same keeps way;
-        given = subst (λ (ls : ActorLists). AreGiven (2 ^ setting.k) (collector_lists ls) (given_in after)) alike (given way.stands);
-        written = subst (λ (ls : ActorLists). HasWritten (pairs_taken (2 ^ setting.k) (collector_lists ls)) old new) alike
-            (written_more (taken_in setting v) (pairs_since (2 ^ setting.k) (collected_in v) (collected_in middle)) (taken_in setting middle) fresh moved all old now before.written new is);
+        given = subst (λ (ls : ActorLists). AreGiven (2 ^ setting.k) (collector_lists ls) (given_in after)) alike
+            (given way.stands);
+        written = subst (λ (ls : ActorLists). HasWritten (pairs_taken (2 ^ setting.k) (collector_lists ls)) old new)
+            alike
+            (written_more (taken_in setting v) (pairs_since (2 ^ setting.k) (collected_in v) (collected_in middle))
+            (taken_in setting middle) fresh moved all old now before.written new is);
         takes = λ more has.
-            let long : length (pair_lines (taken_in setting after)) ≡ length (pair_lines (taken_in setting middle)) = ap (λ (ls : ActorLists). length (pair_lines (pairs_taken (2 ^ setting.k) (collector_lists ls)))) (sym alike) in
+            let long : length (pair_lines (taken_in setting after)) ≡ length (pair_lines (taken_in setting middle)) =
+            ap (λ (ls : ActorLists). length (pair_lines (pairs_taken (2 ^ setting.k) (collector_lists ls))))
+            (sym alike) in
             takes more (before.takes (length (pair_lines fresh) + more)
-            (room_behind (taken_in setting v) (pairs_since (2 ^ setting.k) (collected_in v) (collected_in middle)) (taken_in setting middle) fresh moved all room more (subst (λ n. room (n + more)) long has)));
+            (room_behind (taken_in setting v) (pairs_since (2 ^ setting.k) (collected_in v) (collected_in middle))
+            (taken_in setting middle) fresh moved all room more (subst (λ n. room (n + more)) long has)));
       }
 
 -- ---- at the end
 
-module _ (law : AnswersInTheEnd) (input : Input) (setting : Setting) (valid : IsValid input setting) (v : SeatsView) (bouts : ℕ) (old new : Option (List ℕ)) (room room' : ℕ → Type 0) (put : HasPut input setting v bouts old new room room')
-    (journal : List TurnLine) (lists : Actor → ActorLists) (same : (a : Actor) → lists a ≡ lists_in v a) (family : IsFinishedFamily input setting journal lists) where
+module _ (law : AnswersInTheEnd) (input : Input) (setting : Setting) (valid : IsValid input setting) (v : SeatsView)
+    (bouts : ℕ) (old new : Option (List ℕ)) (room room' : ℕ
+    → Type 0) (put : HasPut input setting v bouts old new room room')
+    (journal : List TurnLine) (lists : Actor → ActorLists) (same : (a : Actor)
+    → lists a ≡ lists_in v a) (family : IsFinishedFamily input setting journal lists) where
   all_taken : SameBag (taken_in setting v) (nested_loop input)
   all_taken =
-      let answer = law input setting (first_rest setting) (family_of journal lists) valid (first_stands input setting valid) family.agrees family.finished in
-      subst (λ (ls : ActorLists). SameBag (pairs_taken (2 ^ setting.k) (collector_lists ls)) (nested_loop input)) (same Collector)
-      (subst (SameBag (pairs_taken (2 ^ setting.k) (collector_lists (lists Collector)))) (all_pairs input setting) answer.pairs)
+      let answer = law input setting (first_rest setting) (family_of journal lists) valid
+      (first_stands input setting valid) family.agrees family.finished in
+      subst (λ (ls : ActorLists). SameBag (pairs_taken (2 ^ setting.k) (collector_lists ls)) (nested_loop input))
+      (same Collector)
+      (subst (SameBag (pairs_taken (2 ^ setting.k) (collector_lists (lists Collector)))) (all_pairs input setting)
+      answer.pairs)
 
   pub each_put : (pairs : List Pair) → pairs ≡ wave_pairs input (first_rest setting).line → WroteEach pairs old new
-  each_put pairs are = each_written input (taken_in setting v) pairs old new all_taken (are ∙ all_pairs input setting) put.written
+  each_put pairs are = each_written input (taken_in setting v) pairs old new all_taken (are ∙ all_pairs input setting)
+      put.written
 
   pub room_left : (more : ℕ) → room (length (pair_lines (nested_loop input)) + more) → room' more
-  room_left more has = put.takes more (subst (λ n. room (n + more)) (same_long (nested_loop input) (taken_in setting v) (SameBag-sym all_taken)) has)
+  room_left more has = put.takes more (subst (λ n. room (n + more))
+      (same_long (nested_loop input) (taken_in setting v) (SameBag-sym all_taken)) has)

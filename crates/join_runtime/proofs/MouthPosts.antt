@@ -1,5 +1,6 @@
 -- What is sent through the mouths of a seat.
-use Rattle.std.proofs.Common.{◌≡◌, ℕ, true≢false, refl, sym, ap, ◌∙◌, Bool, true, false, cond, Option, Some, None, List, [], ◌∷◌, ◌++◌, get_or, set, map, append-nil, append_assoc}
+use Rattle.std.proofs.Common.{◌≡◌, ℕ, true≢false, refl, sym, ap, ◌∙◌, Bool, true, false, cond, Option, Some, None, List}
+use Rattle.std.proofs.Common.{[], ◌∷◌, ◌++◌, get_or, set, map, append-nil, append_assoc}
 use Rattle.std.specs.List.{cons_option}
 use Rattle.std.proofs.Math.Seq.{map-set_same}
 use Rattle.std.proofs.lemmas.List.Elements.{filter_map-append}
@@ -10,12 +11,14 @@ use Rattle.ruled_links.specs.Ends.{Sending}
 use Rattle.actor_core.specs.Lists.{same_actor, posted_to}
 use Rattle.join_runtime.specs.Views.{address_of, sent_through}
 
-pub addresses-set : (mouths : List (Option Sending)) (place : ℕ) (slot new : Option Sending) → slot ≡ get_or mouths place slot → address_of new ≡ address_of slot
+pub addresses-set : (mouths : List (Option Sending)) (place : ℕ) (slot new : Option Sending)
+    → slot ≡ get_or mouths place slot → address_of new ≡ address_of slot
     → map address_of (set mouths place new) ≡ map address_of mouths
 addresses-set mouths place slot new is same = map-set_same address_of mouths place new slot (same ∙ ap address_of is)
 
 -- of one post
-posted : (b c : Bool) (xs : List Msg) (m : Msg) → b ≡ c → cond c (xs ++ m ∷ []) xs ≡ xs ++ cons_option (cond b (Some m) None) []
+posted : (b c : Bool) (xs : List Msg) (m : Msg) → b ≡ c → cond c (xs ++ m ∷ []) xs ≡ xs
+    ++ cons_option (cond b (Some m) None) []
 posted true true xs m e = refl
 posted true false xs m e = absurd (true≢false e)
 posted false true xs m e = absurd (true≢false (sym e))
@@ -25,7 +28,10 @@ posted false false xs m e = sym (append-nil xs)
 pub sent_through-more : (joiners feeders : ℕ) (first old new : List (Option Sending)) (posts : List Post) (post : Post)
     → ((a : Actor) → sent_through joiners feeders old a ≡ sent_through joiners feeders first a ++ posted_to a posts)
     → ((a : Actor) → sent_through joiners feeders new a ≡ sent_through joiners feeders old a ++ posted_to a (post ∷ []))
-    → (a : Actor) → sent_through joiners feeders new a ≡ sent_through joiners feeders first a ++ posted_to a (posts ++ post ∷ [])
+    → (a : Actor) → sent_through joiners feeders new a ≡ sent_through joiners feeders first a
+    ++ posted_to a (posts ++ post ∷ [])
 sent_through-more joiners feeders first old new posts post before last a =
-    last a ∙ ap (λ ms. ms ++ posted_to a (post ∷ [])) (before a) ∙ append_assoc (sent_through joiners feeders first a) (posted_to a posts) (posted_to a (post ∷ []))
-    ∙ ap (λ ms. sent_through joiners feeders first a ++ ms) (sym (filter_map-append (λ (p : Post). cond (same_actor p.to a) (Some p.msg) None) posts (post ∷ [])))
+    last a ∙ ap (λ ms. ms ++ posted_to a (post ∷ [])) (before a)
+    ∙ append_assoc (sent_through joiners feeders first a) (posted_to a posts) (posted_to a (post ∷ []))
+    ∙ ap (λ ms. sent_through joiners feeders first a ++ ms)
+    (sym (filter_map-append (λ (p : Post). cond (same_actor p.to a) (Some p.msg) None) posts (post ∷ [])))

@@ -1,5 +1,6 @@
 -- Mouths that come to their senders, one after another.
-use Rattle.std.proofs.Common.{◌≡◌, ◌≢◌, ℕ, ◌+◌, ◌^◌, ◌==◌, ◌<◌, ◌⊎◌, inl, inr, eqb-true, refl, sym, ap, subst, ◌∙◌, Bool, true, false, Option, Some, None, List, [], ◌∷◌, ◌++◌, get_or, set, length, arith}
+use Rattle.std.proofs.Common.{◌≡◌, ◌≢◌, ℕ, ◌+◌, ◌^◌, ◌==◌, ◌<◌, ◌⊎◌, inl, inr, eqb-true, refl, sym, ap, subst, ◌∙◌}
+use Rattle.std.proofs.Common.{Bool, true, false, Option, Some, None, List, [], ◌∷◌, ◌++◌, get_or, set, length, arith}
 use borrow.Author.Tests.{eqb-false}
 use Rattle.std.proofs.lemmas.Bool.{cases_lt}
 use Rattle.std.specs.Prelude.{IsSome, Contains}
@@ -20,7 +21,8 @@ use Rattle.join_runtime.specs.Seating.{AreBelow, AreLinked, AreNew, IsNewSeat, P
 
 -- ---- one mouth
 
-module _ (joiners feeders receiver : ℕ) (mouth : Sending) (old new : List SeatView) (puts : Puts joiners feeders receiver mouth old new) where
+module _ (joiners feeders receiver : ℕ) (mouth : Sending) (old new : List SeatView)
+    (puts : Puts joiners feeders receiver mouth old new) where
   put_at : SeatView → SeatView
   put_at d = record (get_or old puts.sender d) { mouths = set (get_or old puts.sender d).mouths receiver (Some mouth) }
 
@@ -30,7 +32,8 @@ module _ (joiners feeders receiver : ℕ) (mouth : Sending) (old new : List Seat
 
   at_sender : (d : SeatView) → get_or new puts.sender d ≡ put_at d
   unfolding put_at
-  at_sender d = ap (λ xs. get_or xs puts.sender d) (puts.now d) ∙ get_or-set_same old puts.sender (put_at d) d puts.there
+  at_sender d = ap (λ xs. get_or xs puts.sender d) (puts.now d)
+      ∙ get_or-set_same old puts.sender (put_at d) d puts.there
 
   elsewhere : (n : ℕ) (d : SeatView) → n ≢ puts.sender → get_or new n d ≡ get_or old n d
   unfolding put_at
@@ -40,16 +43,20 @@ module _ (joiners feeders receiver : ℕ) (mouth : Sending) (old new : List Seat
   unfolding put_at
   same_seat n d = go (n == puts.sender) refl
     where
-      go : (b : Bool) → (n == puts.sender) ≡ b → get_or new n d ≡ record (get_or old n d) { mouths = (get_or new n d).mouths }
+      go : (b : Bool) → (n == puts.sender) ≡ b → get_or new n d
+          ≡ record (get_or old n d) { mouths = (get_or new n d).mouths }
       go true e =
           let here = eqb-true n puts.sender e in
           subst (λ z. get_or new z d ≡ record (get_or old z d) { mouths = (get_or new z d).mouths }) (sym here)
-          (subst (λ (s : SeatView). s ≡ record (get_or old puts.sender d) { mouths = s.mouths }) (sym (at_sender d)) refl)
-      go false e = subst (λ (s : SeatView). s ≡ record (get_or old n d) { mouths = s.mouths }) (sym (elsewhere n d (eqb-false n puts.sender e))) refl
+          (subst (λ (s : SeatView). s ≡ record (get_or old puts.sender d) { mouths = s.mouths }) (sym (at_sender d))
+          refl)
+      go false e = subst (λ (s : SeatView). s ≡ record (get_or old n d) { mouths = s.mouths })
+          (sym (elsewhere n d (eqb-false n puts.sender e))) refl
 
   slot_here : (d : SeatView) → slot_of new d puts.sender receiver ≡ Some mouth
   unfolding put_at
-  slot_here d = ap (λ (s : SeatView). get_or s.mouths receiver None) (at_sender d) ∙ get_or-set_same (get_or old puts.sender d).mouths receiver (Some mouth) None (puts.room d)
+  slot_here d = ap (λ (s : SeatView). get_or s.mouths receiver None) (at_sender d)
+      ∙ get_or-set_same (get_or old puts.sender d).mouths receiver (Some mouth) None (puts.room d)
 
   slot_other : (n r : ℕ) (d : SeatView) → r ≢ receiver → slot_of new d n r ≡ slot_of old d n r
   unfolding put_at
@@ -58,7 +65,8 @@ module _ (joiners feeders receiver : ℕ) (mouth : Sending) (old new : List Seat
       go : (b : Bool) → (n == puts.sender) ≡ b → slot_of new d n r ≡ slot_of old d n r
       go true e =
           subst (λ z. slot_of new d z r ≡ slot_of old d z r) (sym (eqb-true n puts.sender e))
-          (ap (λ (s : SeatView). get_or s.mouths r None) (at_sender d) ∙ get_or-set_other (get_or old puts.sender d).mouths receiver r (Some mouth) None other)
+          (ap (λ (s : SeatView). get_or s.mouths r None) (at_sender d)
+          ∙ get_or-set_other (get_or old puts.sender d).mouths receiver r (Some mouth) None other)
       go false e = ap (λ (s : SeatView). get_or s.mouths r None) (elsewhere n d (eqb-false n puts.sender e))
 
   slot_elsewhere : (n r : ℕ) (d : SeatView) → n ≢ puts.sender → slot_of new d n r ≡ slot_of old d n r
@@ -66,13 +74,18 @@ module _ (joiners feeders receiver : ℕ) (mouth : Sending) (old new : List Seat
 
 -- ---- several
 
-one_more : (joiners feeders n : ℕ) (mouths : List Sending) (last mouth : Sending) → IsOneOf joiners feeders n mouths mouth → IsOneOf joiners feeders n (mouths ++ last ∷ []) mouth
-one_more joiners feeders n mouths last mouth is = record { one = Contains-append_left mouths (last ∷ []) mouth is.one; sender = is.sender }
+one_more : (joiners feeders n : ℕ) (mouths : List Sending) (last mouth : Sending)
+    → IsOneOf joiners feeders n mouths mouth → IsOneOf joiners feeders n (mouths ++ last ∷ []) mouth
+one_more joiners feeders n mouths last mouth is = record {
+  one = Contains-append_left mouths (last ∷ []) mouth is.one;
+  sender = is.sender;
+}
 
 some_still : (o : Option Sending) (mouth : Sending) → o ≡ Some mouth → IsSome o
 some_still o mouth e = subst IsSome (sym e) refl
 
-pub places_none : (joiners feeders receiver : ℕ) (seats : List SeatView) → Places joiners feeders receiver [] seats seats
+pub places_none : (joiners feeders receiver : ℕ) (seats : List SeatView)
+    → Places joiners feeders receiver [] seats seats
 places_none joiners feeders receiver seats = record {
   all = refl;
   same = λ n d low. refl;
@@ -81,59 +94,78 @@ places_none joiners feeders receiver seats = record {
   has = λ n d mouth is. let one = is.one in absurd (omega (arith, one.1));
 }
 
-pub places_more : (joiners feeders receiver : ℕ) (mouths : List Sending) (mouth : Sending) (first old new : List SeatView) → Places joiners feeders receiver mouths first old → Puts joiners feeders receiver mouth old new
+pub places_more : (joiners feeders receiver : ℕ) (mouths : List Sending) (mouth : Sending)
+    (first old new : List SeatView) → Places joiners feeders receiver mouths first old
+    → Puts joiners feeders receiver mouth old new
     → Places joiners feeders receiver (mouths ++ mouth ∷ []) first new
 places_more joiners feeders receiver mouths mouth first old new before puts = record {
   all = long joiners feeders receiver mouth old new puts ∙ before.all;
   same = same;
-  others = λ n r d low other. slot_other joiners feeders receiver mouth old new puts n r d other ∙ before.others n r d low other;
+  others = λ n r d low other. slot_other joiners feeders receiver mouth old new puts n r d other
+      ∙ before.others n r d low other;
   own = own;
   has = has;
 }
   where
-    same : (n : ℕ) (d : SeatView) → n < length first → get_or new n d ≡ record (get_or first n d) { mouths = (get_or new n d).mouths }
+    same : (n : ℕ) (d : SeatView) → n < length first → get_or new n d
+        ≡ record (get_or first n d) { mouths = (get_or new n d).mouths }
     same n d low =
         same_seat joiners feeders receiver mouth old new puts n d
         ∙ ap (λ (s : SeatView). record s { mouths = (get_or new n d).mouths }) (before.same n d low)
 
-    own : (n : ℕ) (d : SeatView) (m : Sending) → n < length first → slot_of new d n receiver ≡ Some m → (slot_of first d n receiver ≡ Some m) ⊎ IsOneOf joiners feeders n (mouths ++ mouth ∷ []) m
+    own : (n : ℕ) (d : SeatView) (m : Sending) → n < length first → slot_of new d n receiver ≡ Some m
+        → (slot_of first d n receiver ≡ Some m) ⊎ IsOneOf joiners feeders n (mouths ++ mouth ∷ []) m
     own n d m low is = go (n == puts.sender) refl
       where
-        go : (b : Bool) → (n == puts.sender) ≡ b → (slot_of first d n receiver ≡ Some m) ⊎ IsOneOf joiners feeders n (mouths ++ mouth ∷ []) m
+        go : (b : Bool) → (n == puts.sender) ≡ b → (slot_of first d n receiver ≡ Some m)
+            ⊎ IsOneOf joiners feeders n (mouths ++ mouth ∷ []) m
         go true e =
             let here = eqb-true n puts.sender e in
-            let same : mouth ≡ m = some_is mouth m (sym (slot_here joiners feeders receiver mouth old new puts d) ∙ subst (λ z. slot_of new d z receiver ≡ Some m) here is) in
+            let same : mouth ≡ m = some_is mouth m (sym (slot_here joiners feeders receiver mouth old new puts d)
+            ∙ subst (λ z. slot_of new d z receiver ≡ Some m) here is) in
             inr (record {
               one = subst (Contains (mouths ++ mouth ∷ [])) same (Contains-push mouths mouth);
-              sender = subst (λ (x : Sending). number joiners feeders x.from ≡ Some n) same (puts.is ∙ ap Some (sym here));
+              sender = subst (λ (x : Sending). number joiners feeders x.from ≡ Some n) same
+                  (puts.is ∙ ap Some (sym here));
             })
         go false e =
-            elim (before.own n d m low (sym (slot_elsewhere joiners feeders receiver mouth old new puts n receiver d (eqb-false n puts.sender e)) ∙ is)) [
+            elim (before.own n d m low (sym (slot_elsewhere joiners feeders receiver mouth old new puts n receiver d
+            (eqb-false n puts.sender e)) ∙ is)) [
               | inl first_is ↦ inl first_is
               | inr one ↦ inr (one_more joiners feeders n mouths mouth m one)
             ]
 
-    has : (n : ℕ) (d : SeatView) (m : Sending) → IsOneOf joiners feeders n (mouths ++ mouth ∷ []) m → (n < length first) × IsSome (slot_of new d n receiver)
+    has : (n : ℕ) (d : SeatView) (m : Sending) → IsOneOf joiners feeders n (mouths ++ mouth ∷ []) m → (n < length first)
+        × IsSome (slot_of new d n receiver)
     has n d m is = elim (Contains-push_cases mouths mouth m is.one) [
       | inl one ↦
           let old_one = before.has n d m (record { one = one; sender = is.sender }) in
           (old_one.0, kept (n == puts.sender) refl old_one.1)
       | inr same ↦
-          let here : puts.sender ≡ n = some_is puts.sender n (sym puts.is ∙ subst (λ (x : Sending). number joiners feeders x.from ≡ Some n) (sym same) is.sender) in (
+          let here : puts.sender ≡ n = some_is puts.sender n
+          (sym puts.is ∙ subst (λ (x : Sending). number joiners feeders x.from ≡ Some n) (sym same) is.sender) in (
             subst (λ z. n < z) before.all (subst (λ z. z < length old) here puts.there),
-            subst (λ z. IsSome (slot_of new d z receiver)) here (some_still (slot_of new d puts.sender receiver) mouth (slot_here joiners feeders receiver mouth old new puts d)),
+            subst (λ z. IsSome (slot_of new d z receiver)) here
+                (some_still (slot_of new d puts.sender receiver) mouth
+                (slot_here joiners feeders receiver mouth old new puts d)),
           )
     ]
       where
-        kept : (b : Bool) → (n == puts.sender) ≡ b → IsSome (slot_of old d n receiver) → IsSome (slot_of new d n receiver)
+        kept : (b : Bool) → (n == puts.sender) ≡ b → IsSome (slot_of old d n receiver)
+            → IsSome (slot_of new d n receiver)
         kept true e some =
             let here = eqb-true n puts.sender e in
-            subst (λ z. IsSome (slot_of new d z receiver)) (sym here) (some_still (slot_of new d puts.sender receiver) mouth (slot_here joiners feeders receiver mouth old new puts d))
-        kept false e some = subst IsSome (sym (slot_elsewhere joiners feeders receiver mouth old new puts n receiver d (eqb-false n puts.sender e))) some
+            subst (λ z. IsSome (slot_of new d z receiver)) (sym here)
+            (some_still (slot_of new d puts.sender receiver) mouth
+            (slot_here joiners feeders receiver mouth old new puts d))
+        kept false e some = subst IsSome (sym (slot_elsewhere joiners feeders receiver mouth old new puts n receiver d
+            (eqb-false n puts.sender e))) some
 
 -- ---- all receivers
 
-pub filled_none : (joiners feeders : ℕ) (mouths : List (List Sending)) (seats : List SeatView) → ((n r : ℕ) (d : SeatView) → n < length seats → slot_of seats d n r ≡ None) → AreFilled joiners feeders 0 mouths seats seats
+pub filled_none : (joiners feeders : ℕ) (mouths : List (List Sending)) (seats : List SeatView)
+    → ((n r : ℕ) (d : SeatView) → n < length seats → slot_of seats d n r ≡ None)
+    → AreFilled joiners feeders 0 mouths seats seats
 filled_none joiners feeders mouths seats none = record {
   all = refl;
   same = λ n d low. refl;
@@ -141,16 +173,20 @@ filled_none joiners feeders mouths seats none = record {
   has = λ n r d mouth low is. absurd (omega arith);
 }
 
-pub filled_more : (joiners feeders below : ℕ) (mouths : List (List Sending)) (first old new : List SeatView) → AreFilled joiners feeders below mouths first old
-    → Places joiners feeders below (get_or mouths below []) old new → AreFilled joiners feeders (below + 1) mouths first new
+pub filled_more : (joiners feeders below : ℕ) (mouths : List (List Sending)) (first old new : List SeatView)
+    → AreFilled joiners feeders below mouths first old
+    → Places joiners feeders below (get_or mouths below []) old new
+    → AreFilled joiners feeders (below + 1) mouths first new
 filled_more joiners feeders below mouths first old new before places = record {
   all = places.all ∙ before.all;
-  same = λ n d low. places.same n d (subst (λ z. n < z) (sym before.all) low) ∙ ap (λ (s : SeatView). record s { mouths = (get_or new n d).mouths }) (before.same n d low);
+  same = λ n d low. places.same n d (subst (λ z. n < z) (sym before.all) low)
+      ∙ ap (λ (s : SeatView). record s { mouths = (get_or new n d).mouths }) (before.same n d low);
   own = own;
   has = has;
 }
   where
-    own : (n r : ℕ) (d : SeatView) (m : Sending) → n < length first → slot_of new d n r ≡ Some m → (r < below + 1) × IsOneOf joiners feeders n (get_or mouths r []) m
+    own : (n r : ℕ) (d : SeatView) (m : Sending) → n < length first → slot_of new d n r ≡ Some m → (r < below + 1)
+        × IsOneOf joiners feeders n (get_or mouths r []) m
     own n r d m low is = go (r == below) refl
       where
         low' : n < length old
@@ -167,7 +203,8 @@ filled_more joiners feeders below mouths first old new before places = record {
             let past = before.own n r d m low (sym (places.others n r d low' (eqb-false r below e)) ∙ is) in
             (omega (arith, past.0), past.1)
 
-    has : (n r : ℕ) (d : SeatView) (m : Sending) → r < below + 1 → IsOneOf joiners feeders n (get_or mouths r []) m → (n < length first) × IsSome (slot_of new d n r)
+    has : (n r : ℕ) (d : SeatView) (m : Sending) → r < below + 1 → IsOneOf joiners feeders n (get_or mouths r []) m
+        → (n < length first) × IsSome (slot_of new d n r)
     has n r d m low is = go (r == below) refl
       where
         go : (b : Bool) → (r == below) ≡ b → (n < length first) × IsSome (slot_of new d n r)
@@ -188,30 +225,41 @@ below_none joiners feeders = record {
   differ = λ i k d before low. absurd (omega arith);
 }
 
-pub below_more : (joiners feeders n : ℕ) (actors : List Actor) → AreBelow joiners feeders n actors → AreBelow joiners feeders (n + 1) actors
+pub below_more : (joiners feeders n : ℕ) (actors : List Actor) → AreBelow joiners feeders n actors
+    → AreBelow joiners feeders (n + 1) actors
 below_more joiners feeders n actors below = record {
   each = λ k d low. let old = below.each k d low in (old.0, old.1, omega (arith, old.2));
   differ = below.differ;
 }
 
 -- one actor more, of the number n
-pub below_push : (joiners feeders n : ℕ) (actors : List Actor) (last : Actor) → number joiners feeders last ≡ Some n → AreBelow joiners feeders n actors → AreBelow joiners feeders (n + 1) (actors ++ last ∷ [])
+pub below_push : (joiners feeders n : ℕ) (actors : List Actor) (last : Actor) → number joiners feeders last ≡ Some n
+    → AreBelow joiners feeders n actors → AreBelow joiners feeders (n + 1) (actors ++ last ∷ [])
 below_push joiners feeders n actors last is below = record { each = each; differ = differ }
   where
     long : length (actors ++ last ∷ []) ≡ length actors + 1
     long = length-append actors (last ∷ [])
 
-    each : (k : ℕ) (d : Actor) → k < length (actors ++ last ∷ []) → (m : ℕ) × (number joiners feeders (get_or (actors ++ last ∷ []) k d) ≡ Some m) × (m < n + 1)
+    each : (k : ℕ) (d : Actor) → k < length (actors ++ last ∷ []) → (m : ℕ)
+        × (number joiners feeders (get_or (actors ++ last ∷ []) k d) ≡ Some m) × (m < n + 1)
     each k d low = elim (cases_lt k (length actors)) [
       | inl less ↦
-          let old = below.each k d less in
-          (old.0, ap (number joiners feeders) (get_or_append_left actors (last ∷ []) d k less) ∙ old.1, omega (arith, old.2))
+          let old = below.each k d less in (
+            old.0,
+            ap (number joiners feeders) (get_or_append_left actors (last ∷ []) d k less) ∙ old.1,
+            omega (arith, old.2),
+          )
       | inr more ↦
-          let at : length actors ≡ k = omega (arith, long) in
-          (n, ap (number joiners feeders) (subst (λ z. get_or (actors ++ last ∷ []) z d ≡ last) at (get_or-append_seam actors last [] d)) ∙ is, omega arith)
+          let at : length actors ≡ k = omega (arith, long) in (
+            n,
+            ap (number joiners feeders) (subst (λ z. get_or (actors ++ last ∷ []) z d ≡ last) at
+                (get_or-append_seam actors last [] d)) ∙ is,
+            omega arith,
+          )
     ]
 
-    differ : (i k : ℕ) (d : Actor) → i < k → k < length (actors ++ last ∷ []) → get_or (actors ++ last ∷ []) i d ≢ get_or (actors ++ last ∷ []) k d
+    differ : (i k : ℕ) (d : Actor) → i < k → k < length (actors ++ last ∷ [])
+        → get_or (actors ++ last ∷ []) i d ≢ get_or (actors ++ last ∷ []) k d
     differ i k d before low same = elim (cases_lt k (length actors)) [
       | inl less ↦
           let left = get_or_append_left actors (last ∷ []) d i (omega arith) in
@@ -222,7 +270,8 @@ below_push joiners feeders n actors last is below = record { each = each; differ
           let left = get_or_append_left actors (last ∷ []) d i (omega arith) in
           let right = subst (λ z. get_or (actors ++ last ∷ []) z d ≡ last) at (get_or-append_seam actors last [] d) in
           let old = below.each i d (omega arith) in
-          let equal : old.0 ≡ n = some_is old.0 n (sym old.1 ∙ (ap (number joiners feeders) (sym left ∙ (same ∙ right)) ∙ is)) in
+          let equal : old.0 ≡ n = some_is old.0 n (sym old.1
+          ∙ (ap (number joiners feeders) (sym left ∙ (same ∙ right)) ∙ is)) in
           let low' = old.2 in
           omega (arith, equal, low')
     ]
@@ -233,24 +282,30 @@ linked_none joiners feeders to = record {
   whole = λ k grid a n is low link. absurd (omega arith);
 }
 
-same_actors : (joiners feeders : ℕ) (a b : Actor) (n : ℕ) → number joiners feeders a ≡ Some n → number joiners feeders b ≡ Some n → a ≡ b
-same_actors joiners feeders a b n is is' = sym (number_actor joiners feeders a n is) ∙ number_actor joiners feeders b n is'
+same_actors : (joiners feeders : ℕ) (a b : Actor) (n : ℕ) → number joiners feeders a ≡ Some n
+    → number joiners feeders b ≡ Some n → a ≡ b
+same_actors joiners feeders a b n is is' = sym (number_actor joiners feeders a n is)
+    ∙ number_actor joiners feeders b n is'
 
 -- an actor more, of the number n, that has no link
-pub linked_more : (joiners feeders n : ℕ) (to next : Actor) (actors : List Actor) → number joiners feeders next ≡ Some n → ((k : ℕ) → joiners ≡ 2 ^ k → ¬ HasLink k feeders next to)
+pub linked_more : (joiners feeders n : ℕ) (to next : Actor) (actors : List Actor) → number joiners feeders next ≡ Some n
+    → ((k : ℕ) → joiners ≡ 2 ^ k → ¬ HasLink k feeders next to)
     → AreLinked joiners feeders n to actors → AreLinked joiners feeders (n + 1) to actors
 linked_more joiners feeders n to next actors is none linked = record { sound = linked.sound; whole = whole }
   where
-    whole : (k : ℕ) → joiners ≡ 2 ^ k → (a : Actor) (m : ℕ) → number joiners feeders a ≡ Some m → m < n + 1 → HasLink k feeders a to → Contains actors a
+    whole : (k : ℕ) → joiners ≡ 2 ^ k → (a : Actor) (m : ℕ) → number joiners feeders a ≡ Some m → m < n + 1
+        → HasLink k feeders a to → Contains actors a
     whole k grid a m is' low link = elim (cases_lt m n) [
       | inl less ↦ linked.whole k grid a m is' less link
       | inr more ↦
           let at : m ≡ n = omega arith in
-          absurd (none k grid (subst (λ z. HasLink k feeders z to) (same_actors joiners feeders a next n (is' ∙ ap Some at) is) link))
+          absurd (none k grid (subst (λ z. HasLink k feeders z to)
+          (same_actors joiners feeders a next n (is' ∙ ap Some at) is) link))
     ]
 
 -- and one that has
-pub linked_push : (joiners feeders n : ℕ) (to last : Actor) (actors : List Actor) → number joiners feeders last ≡ Some n → ((k : ℕ) → joiners ≡ 2 ^ k → HasLink k feeders last to)
+pub linked_push : (joiners feeders n : ℕ) (to last : Actor) (actors : List Actor) → number joiners feeders last ≡ Some n
+    → ((k : ℕ) → joiners ≡ 2 ^ k → HasLink k feeders last to)
     → AreLinked joiners feeders n to actors → AreLinked joiners feeders (n + 1) to (actors ++ last ∷ [])
 linked_push joiners feeders n to last actors is has linked = record { sound = sound; whole = whole }
   where
@@ -260,25 +315,30 @@ linked_push joiners feeders n to last actors is has linked = record { sound = so
       | inr same ↦ subst (λ z. HasLink k feeders z to) same (has k grid)
     ]
 
-    whole : (k : ℕ) → joiners ≡ 2 ^ k → (a : Actor) (m : ℕ) → number joiners feeders a ≡ Some m → m < n + 1 → HasLink k feeders a to → Contains (actors ++ last ∷ []) a
+    whole : (k : ℕ) → joiners ≡ 2 ^ k → (a : Actor) (m : ℕ) → number joiners feeders a ≡ Some m → m < n + 1
+        → HasLink k feeders a to → Contains (actors ++ last ∷ []) a
     whole k grid a m is' low link = elim (cases_lt m n) [
       | inl less ↦ Contains-append_left actors (last ∷ []) a (linked.whole k grid a m is' less link)
       | inr more ↦
           let at : m ≡ n = omega arith in
-          subst (Contains (actors ++ last ∷ [])) (same_actors joiners feeders last a n is (is' ∙ ap Some at)) (Contains-push actors last)
+          subst (Contains (actors ++ last ∷ [])) (same_actors joiners feeders last a n is (is' ∙ ap Some at))
+          (Contains-push actors last)
     ]
 
 -- ---- seats as they are made
 
-pub new_more : (input : Input) (setting : Setting) (count : ℕ) (seats : List SeatView) (mouths : List (List Sending)) (seat : SeatView) (own : List Sending) → AreNew input setting count seats mouths
-    → IsNewSeat input setting count seat own → AreNew input setting (count + 1) (seats ++ seat ∷ []) (mouths ++ own ∷ [])
+pub new_more : (input : Input) (setting : Setting) (count : ℕ) (seats : List SeatView) (mouths : List (List Sending))
+    (seat : SeatView) (own : List Sending) → AreNew input setting count seats mouths
+    → IsNewSeat input setting count seat own → AreNew input setting (count + 1) (seats ++ seat ∷ [])
+    (mouths ++ own ∷ [])
 new_more input setting count seats mouths seat own old one = record {
   all = length-append seats (seat ∷ []) ∙ ap (λ n. n + 1) old.all;
   each = length-append mouths (own ∷ []) ∙ ap (λ n. n + 1) old.each;
   new = new;
 }
   where
-    new : (n : ℕ) (d : SeatView) → n < count + 1 → IsNewSeat input setting n (get_or (seats ++ seat ∷ []) n d) (get_or (mouths ++ own ∷ []) n [])
+    new : (n : ℕ) (d : SeatView) → n < count + 1 → IsNewSeat input setting n (get_or (seats ++ seat ∷ []) n d)
+        (get_or (mouths ++ own ∷ []) n [])
     new n d low = elim (cases_lt n count) [
       | inl less ↦
           let left = get_or_append_left seats (seat ∷ []) d n (omega (arith, old.all)) in
@@ -290,7 +350,8 @@ new_more input setting count seats mouths seat own old one = record {
           let here : length seats ≡ n = old.all ∙ is in
           let there' : length mouths ≡ n = old.each ∙ is in
           let left = subst (λ z. get_or (seats ++ seat ∷ []) z d ≡ seat) here (get_or-append_seam seats seat [] d) in
-          let right = subst (λ z. get_or (mouths ++ own ∷ []) z [] ≡ own) there' (get_or-append_seam mouths own [] []) in
+          let right = subst (λ z. get_or (mouths ++ own ∷ []) z [] ≡ own) there'
+          (get_or-append_seam mouths own [] []) in
           subst (λ s. IsNewSeat input setting n s (get_or (mouths ++ own ∷ []) n [])) (sym left)
           (subst (IsNewSeat input setting n seat) (sym right) (subst (λ z. IsNewSeat input setting z seat own) is one))
     ]

@@ -1,10 +1,12 @@
 -- Lists of pairs that are one bag are rearrangements of each other.
-use Rattle.std.proofs.Common.{◌≡◌, ℕ, ◌==◌, ◌<◌, refl, sym, ap, subst, Bool, true, false, cond, List, [], ◌∷◌, ◌++◌, arith}
+use Rattle.std.proofs.Common.{◌≡◌, ℕ, ◌==◌, ◌<◌, refl, sym, ap, subst, Bool, true, false, cond, List, [], ◌∷◌, ◌++◌}
+use Rattle.std.proofs.Common.{arith}
 use Rattle.std.specs.Prelude.{◌&&◌, sum_by}
 use Rattle.std.specs.List.Sorted.{IsPermutation}
 use Rattle.std.proofs.lemmas.Bool.{and_parts, eqb-true, eq-eqb}
 use Rattle.std.proofs.lemmas.List.Sums.{sum_by-append, sum_by-cons}
-use Rattle.std.proofs.lemmas.List.Sorted.{IsPermutation-cons, IsPermutation-middle, IsPermutation-refl, IsPermutation-sym, IsPermutation-trans}
+use Rattle.std.proofs.lemmas.List.Sorted.{IsPermutation-cons, IsPermutation-middle, IsPermutation-refl}
+use Rattle.std.proofs.lemmas.List.Sorted.{IsPermutation-sym, IsPermutation-trans}
 use Rattle.join_rows.specs.Lists.{SameBag}
 use Rattle.epoch_tags.specs.declared.tuple.Pair.{Pair}
 
@@ -70,6 +72,9 @@ rearranged (p ∷ ps) qs same =
     let one = sum_by-cons (counts p) p ps in
     let two = same.sums (counts p) in
     let s = stands p qs (omega (arith, here, one, two)) in
-    let front = IsPermutation-cons p ps (s.before ++ s.after) (rearranged ps (s.before ++ s.after) (less_one p ps qs same s)) in
-    let back = IsPermutation-sym (s.before ++ p ∷ s.after) (p ∷ (s.before ++ s.after)) (IsPermutation-middle s.before p s.after) in
-    subst (IsPermutation (p ∷ ps)) (sym s.is) (IsPermutation-trans (p ∷ ps) (p ∷ (s.before ++ s.after)) (s.before ++ p ∷ s.after) front back)
+    let front = IsPermutation-cons p ps (s.before ++ s.after)
+    (rearranged ps (s.before ++ s.after) (less_one p ps qs same s)) in
+    let back = IsPermutation-sym (s.before ++ p ∷ s.after) (p ∷ (s.before ++ s.after))
+    (IsPermutation-middle s.before p s.after) in
+    subst (IsPermutation (p ∷ ps)) (sym s.is) (IsPermutation-trans (p ∷ ps) (p ∷ (s.before ++ s.after))
+    (s.before ++ p ∷ s.after) front back)

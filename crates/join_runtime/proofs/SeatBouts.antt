@@ -1,5 +1,6 @@
 -- What a bout does to the seats of a run.
-use Rattle.std.proofs.Common.{◌≡◌, ℕ, ◌+◌, ◌<◌, inl, inr, refl, sym, ap, subst, ◌∙◌, Bool, true, false, true≢false, List, get_or, set, map, length, arith}
+use Rattle.std.proofs.Common.{◌≡◌, ℕ, ◌+◌, ◌<◌, inl, inr, refl, sym, ap, subst, ◌∙◌, Bool, true, false, true≢false}
+use Rattle.std.proofs.Common.{List, get_or, set, map, length, arith}
 use Rattle.std.specs.List.{SwappedAt}
 use Rattle.std.proofs.lemmas.Bool.{cases_eq}
 use Rattle.std.proofs.lemmas.List.{get_or_default, get_or-set_other, get_or-set_same, length-set}
@@ -34,36 +35,45 @@ pub all_advance : (old middle new : List SeatView) → length middle ≡ length 
     → ((n : ℕ) (d : SeatView) → n < length middle → IsAlike (get_or middle n d) (get_or new n d)) → AllAdvance old new
 all_advance old middle new long works none alike n d low =
     let low' : n < length middle = omega (arith, long) in
-    advances_alike (get_or old n d) (get_or middle n d) (get_or new n d) (advanced (get_or old n d) (get_or middle n d) (works n d low) (none n d low')) (alike n d low')
+    advances_alike (get_or old n d) (get_or middle n d) (get_or new n d)
+    (advanced (get_or old n d) (get_or middle n d) (works n d low) (none n d low')) (alike n d low')
 
 -- a seat became t, and the others stay
 module _ (seats : List SeatView) (place : ℕ) (there : place < length seats) (e t : SeatView) where
   -- what holds of that seat, and of each that stays, holds of all
-  pub at_each : (R : SeatView → SeatView → Type 0) → ((u : SeatView) → R u u) → R (get_or seats place e) t → (n : ℕ) (d : SeatView) → R (get_or seats n d) (get_or (set seats place t) n d)
+  pub at_each : (R : SeatView → SeatView → Type 0) → ((u : SeatView) → R u u) → R (get_or seats place e) t
+      → (n : ℕ) (d : SeatView) → R (get_or seats n d) (get_or (set seats place t) n d)
   at_each R self here n d = elim (cases_eq n place) [
     | inl is ↦
         subst (λ k. R (get_or seats k d) (get_or (set seats place t) k d)) (sym is)
         (subst (R (get_or seats place d)) (sym (get_or-set_same seats place t d there))
         (subst (λ u. R u t) (get_or_default seats place e d there) here))
-    | inr other ↦ subst (R (get_or seats n d)) (sym (get_or-set_other seats place n t d other)) (self (get_or seats n d))
+    | inr other ↦ subst (R (get_or seats n d)) (sym (get_or-set_other seats place n t d other))
+        (self (get_or seats n d))
   ]
 
   pub frames_at : frame_of t ≡ frame_of (get_or seats place e) → map frame_of (set seats place t) ≡ map frame_of seats
-  frames_at here = frames_same seats (set seats place t) (length-set seats place t) (λ n d low. at_each (λ u v. frame_of v ≡ frame_of u) (λ u. refl) here n d)
+  frames_at here = frames_same seats (set seats place t) (length-set seats place t)
+      (λ n d low. at_each (λ u v. frame_of v ≡ frame_of u) (λ u. refl) here n d)
 
   pub steps_at : Steps (get_or seats place e) t → AllStep seats (set seats place t)
   steps_at here n d low = at_each Steps (λ u. steps_none u u refl) here n d
 
-pub all_stepped : (old middle new : List SeatView) → length middle ≡ length old → AllStep old middle → AllStep middle new → AllStep old new
+pub all_stepped : (old middle new : List SeatView) → length middle ≡ length old → AllStep old middle
+    → AllStep middle new → AllStep old new
 all_stepped old middle new long first then n d low =
-    steps_joined (get_or old n d) (get_or middle n d) (get_or new n d) (first n d low) (then n d (omega (arith, long, low)))
+    steps_joined (get_or old n d) (get_or middle n d) (get_or new n d) (first n d low)
+    (then n d (omega (arith, long, low)))
 
-pub all_advance_after : (old middle new : List SeatView) → length middle ≡ length old → AllStep old middle → AllAdvance middle new → AllAdvance old new
+pub all_advance_after : (old middle new : List SeatView) → length middle ≡ length old → AllStep old middle
+    → AllAdvance middle new → AllAdvance old new
 all_advance_after old middle new long first then n d low =
-    advances_after (get_or old n d) (get_or middle n d) (get_or new n d) (first n d low) (then n d (omega (arith, long, low)))
+    advances_after (get_or old n d) (get_or middle n d) (get_or new n d) (first n d low)
+    (then n d (omega (arith, long, low)))
 
 -- two seats changed places before the turns, and back behind them
-pub swapped_work : (old swapped worked new : List SeatView) (i j : ℕ) → length swapped ≡ length old → i < length old → j < length old
+pub swapped_work : (old swapped worked new : List SeatView) (i j : ℕ) → length swapped ≡ length old → i < length old
+    → j < length old
     → SwappedAt old swapped i j → AllWork swapped worked → SwappedAt worked new i j → AllWork old new
 swapped_work old swapped worked new i j long low_i low_j there works back n d low =
     let moved = λ (a b : ℕ) (from : get_or swapped b d ≡ get_or old a d) (to : get_or new a d ≡ get_or worked b d) (within : b < length swapped).
@@ -80,7 +90,8 @@ swapped_work old swapped worked new i j long low_i low_j there works back n d lo
       ]
     ]
 
-pub frames_worked : (old new : List SeatView) → length new ≡ length old → AllWork old new → map frame_of new ≡ map frame_of old
+pub frames_worked : (old new : List SeatView) → length new ≡ length old → AllWork old new
+    → map frame_of new ≡ map frame_of old
 frames_worked old new long works = frames_same old new long (λ n d low. (works n d low).frame)
 
 -- the seats that are not spent are settled still
@@ -113,7 +124,8 @@ all_ran joiners feeders old new long all advance =
 -- ---- a bout by its answer
 
 pub settled_after : (went : Bool) (old new : List SeatView) → length new ≡ length old
-    → (went ≡ true → AllAdvance old new) → (went ≡ true → AreGathered new) → (went ≡ false → new ≡ old) → AreSettled old → AreSettled new
+    → (went ≡ true → AllAdvance old new) → (went ≡ true → AreGathered new) → (went ≡ false → new ≡ old) → AreSettled old
+    → AreSettled new
 settled_after true old new long advance gathered same settled =
     still_settled old new long (advance refl) (gathered refl) settled
 settled_after false old new long advance gathered same settled = subst AreSettled (sym (same refl)) settled

@@ -1,5 +1,6 @@
 -- Turns of a seat: what its actor did, and what its ends keep.
-use Rattle.std.proofs.Common.{◌≡◌, ℕ, suc, inl, inr, true≢false, refl, sym, ap, subst, ◌∙◌, Bool, true, false, cond, Option, List, ◌∷◌, ◌++◌, [], map, arith}
+use Rattle.std.proofs.Common.{◌≡◌, ℕ, suc, inl, inr, true≢false, refl, sym, ap, subst, ◌∙◌, Bool, true, false, cond}
+use Rattle.std.proofs.Common.{Option, List, ◌∷◌, ◌++◌, [], map, arith}
 use Rattle.epoch_tags.specs.declared.actor.Actor.{Actor}
 use Rattle.epoch_tags.specs.declared.message.Msg.{Msg}
 use Rattle.epoch_tags.specs.declared.message.Post.{Post}

@@ -7,7 +7,8 @@ use Rattle.join_runtime.specs.Bouts.{AllAdvance, NoneSpent}
 use Rattle.join_runtime.proofs.SeatBouts.{all_advance, all_advance_after, frames_worked}
 
 -- the frames stay through turns ahead and the turns of all
-pub frames_so_far : (old begun standing worked : List SeatView) → standing ≡ begun → map frame_of begun ≡ map frame_of old
+pub frames_so_far : (old begun standing worked : List SeatView) → standing ≡ begun
+    → map frame_of begun ≡ map frame_of old
     → AllWorked standing worked → map frame_of worked ≡ map frame_of old
 frames_so_far old begun standing worked is frames works =
     frames_worked standing worked works.len works.each ∙ ap (map frame_of) is ∙ frames

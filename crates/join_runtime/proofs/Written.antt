@@ -24,7 +24,8 @@ pub record HasWritten (taken : List Pair) (old new : Option (List ℕ)) : Type 0
   pub same : SameBag pairs taken
   pub written : new ≡ append_known old (pair_lines pairs)
 
-pub nothing_written : (taken : List Pair) (old new : Option (List ℕ)) → taken ≡ [] → new ≡ old → HasWritten taken old new
+pub nothing_written : (taken : List Pair) (old new : Option (List ℕ)) → taken ≡ [] → new ≡ old
+    → HasWritten taken old new
 nothing_written taken old new none is = record {
   pairs = [];
   same = subst (SameBag []) (sym none) (SameBag-refl []);
@@ -35,10 +36,14 @@ lines_joined : (xs ys : List Pair) → pair_lines xs ++ pair_lines ys ≡ pair_l
 lines_joined xs ys = sym (flat_map-append pair_line xs ys)
 
 within_too : (xs ys zs : List Pair) → SameBag xs ys → IsWithinBag ys zs → IsWithinBag xs zs
-within_too xs ys zs same within = record { sums = λ f. let one = same.sums f in let two = within.sums f in omega (arith, one, two) }
+within_too xs ys zs same within = record {
+  sums = λ f. let one = same.sums f in let two = within.sums f in
+      omega (arith, one, two);
+}
 
 -- the pairs `taken` were written, and `fresh` are those that come then; with them they are `taken'`
-module _ (taken since taken' fresh : List Pair) (moved : IsPermutation since fresh) (all : SameBag (taken ++ since) taken') (old middle : Option (List ℕ)) (before : HasWritten taken old middle) where
+module _ (taken since taken' fresh : List Pair) (moved : IsPermutation since fresh)
+    (all : SameBag (taken ++ since) taken') (old middle : Option (List ℕ)) (before : HasWritten taken old middle) where
   with_fresh : SameBag (before.pairs ++ fresh) taken'
   with_fresh = SameBag-trans (SameBag-append before.same (SameBag-sym (SameBag-permutation since fresh moved))) all
 
@@ -47,10 +52,12 @@ module _ (taken since taken' fresh : List Pair) (moved : IsPermutation since fre
     pairs = before.pairs ++ fresh;
     same = with_fresh;
     written = is ∙ (ap (λ known. append_known known (pair_lines fresh)) before.written
-        ∙ (known-append old (pair_lines before.pairs) (pair_lines fresh) ∙ ap (append_known old) (lines_joined before.pairs fresh)));
+        ∙ (known-append old (pair_lines before.pairs) (pair_lines fresh)
+        ∙ ap (append_known old) (lines_joined before.pairs fresh)));
   }
 
-  pub cut_written : (input : Input) (new : Option (List ℕ)) → IsWithinBag taken' (nested_loop input) → AppendsFront middle new (pair_lines fresh) → WroteSome input old new
+  pub cut_written : (input : Input) (new : Option (List ℕ)) → IsWithinBag taken' (nested_loop input)
+      → AppendsFront middle new (pair_lines fresh) → WroteSome input old new
   cut_written input new within front =
       let first = pair_lines before.pairs in
       let n = front.0 in
@@ -61,21 +68,29 @@ module _ (taken since taken' fresh : List Pair) (moved : IsPermutation since fre
           length first + n,
           front.1 ∙ (ap (λ known. append_known known (take n (pair_lines fresh))) before.written
               ∙ (known-append old first (take n (pair_lines fresh))
-              ∙ ap (append_known old) (sym (take-append-add first (pair_lines fresh) n) ∙ ap (take (length first + n)) (lines_joined before.pairs fresh)))),
+              ∙ ap (append_known old) (sym (take-append-add first (pair_lines fresh) n)
+              ∙ ap (take (length first + n)) (lines_joined before.pairs fresh)))),
         );
       }
 
-pub some_written : (input : Input) (taken : List Pair) (old new : Option (List ℕ)) → IsWithinBag taken (nested_loop input) → HasWritten taken old new → WroteSome input old new
+pub some_written : (input : Input) (taken : List Pair) (old new : Option (List ℕ))
+    → IsWithinBag taken (nested_loop input) → HasWritten taken old new → WroteSome input old new
 some_written input taken old new within has = record {
   pairs = has.pairs;
   right = within_too has.pairs taken (nested_loop input) has.same within;
-  front = (length (pair_lines has.pairs), has.written ∙ ap (append_known old) (sym (take-length (pair_lines has.pairs))));
+  front = (
+    length (pair_lines has.pairs),
+    has.written ∙ ap (append_known old)
+        (sym (take-length (pair_lines has.pairs))),
+  );
 }
 
-pub each_written : (input : Input) (taken pairs : List Pair) (old new : Option (List ℕ)) → SameBag taken (nested_loop input) → pairs ≡ nested_loop input → HasWritten taken old new → WroteEach pairs old new
+pub each_written : (input : Input) (taken pairs : List Pair) (old new : Option (List ℕ))
+    → SameBag taken (nested_loop input) → pairs ≡ nested_loop input → HasWritten taken old new → WroteEach pairs old new
 each_written input taken pairs old new all are has = record {
   order = has.pairs;
-  each = subst (λ ps. IsPermutation ps has.pairs) (sym are) (rearranged (nested_loop input) has.pairs (SameBag-sym (SameBag-trans has.same all)));
+  each = subst (λ ps. IsPermutation ps has.pairs) (sym are)
+      (rearranged (nested_loop input) has.pairs (SameBag-sym (SameBag-trans has.same all)));
   written = has.written;
 }
 
@@ -88,10 +103,12 @@ pub same_long : (xs ys : List Pair) → SameBag xs ys → length (pair_lines xs)
 same_long xs ys same = long xs ∙ (same.sums (λ pair. length (pair_line pair)) ∙ sym (long ys))
 
 within_long : (xs ys : List Pair) → IsWithinBag xs ys → length (pair_lines xs) ≤ length (pair_lines ys)
-within_long xs ys within = let one = long xs in let two = long ys in let less = within.sums (λ pair. length (pair_line pair)) in omega (arith, one, two, less)
+within_long xs ys within = let one = long xs in let two = long ys in
+    let less = within.sums (λ pair. length (pair_line pair)) in omega (arith, one, two, less)
 
 -- what has room for the lines of `taken'` has room for those of `taken`, and then for those of `fresh`
-module _ (taken since taken' fresh : List Pair) (moved : IsPermutation since fresh) (all : SameBag (taken ++ since) taken') (room : ℕ → Type 0) where
+module _ (taken since taken' fresh : List Pair) (moved : IsPermutation since fresh)
+    (all : SameBag (taken ++ since) taken') (room : ℕ → Type 0) where
   fresh_long : length (pair_lines taken') ≡ length (pair_lines taken) + length (pair_lines fresh)
   fresh_long =
       let one = same_long (taken ++ since) taken' all in
@@ -100,16 +117,21 @@ module _ (taken since taken' fresh : List Pair) (moved : IsPermutation since fre
       let four = same_long since fresh (SameBag-permutation since fresh moved) in
       omega (arith, one, two, three, four)
 
-  pub room_behind : (more : ℕ) → room (length (pair_lines taken') + more) → room (length (pair_lines taken) + (length (pair_lines fresh) + more))
+  pub room_behind : (more : ℕ) → room (length (pair_lines taken') + more)
+      → room (length (pair_lines taken) + (length (pair_lines fresh) + more))
   room_behind more =
       let whole = fresh_long in
-      let is : length (pair_lines taken') + more ≡ length (pair_lines taken) + (length (pair_lines fresh) + more) = omega (arith, whole) in
+      let is : length (pair_lines taken') + more ≡ length (pair_lines taken) + (length (pair_lines fresh) + more) =
+      omega (arith, whole) in
       subst room is
 
   pub room_within : (ends : List Pair) (more : ℕ) → IsWithinBag taken' ends → room (length (pair_lines ends) + more)
-      → room (length (pair_lines taken) + (length (pair_lines fresh) + (length (pair_lines ends) - length (pair_lines taken') + more)))
+      → room (length (pair_lines taken) + (length (pair_lines fresh)
+      + (length (pair_lines ends) - length (pair_lines taken') + more)))
   room_within ends more within =
       let whole = fresh_long in
       let less = within_long taken' ends within in
-      let is : length (pair_lines ends) + more ≡ length (pair_lines taken) + (length (pair_lines fresh) + (length (pair_lines ends) - length (pair_lines taken') + more)) = omega (arith, whole, less) in
+      let is : length (pair_lines ends) + more ≡ length (pair_lines taken)
+      + (length (pair_lines fresh) + (length (pair_lines ends) - length (pair_lines taken') + more)) =
+      omega (arith, whole, less) in
       subst room is

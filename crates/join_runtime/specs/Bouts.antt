@@ -1,5 +1,6 @@
 -- All seats of a run, their lists, and what a bout does.
-use Rattle.std.specs.Prelude.{◌≡◌, ◌<◌, ◌⊎◌, ℕ, Bool, false, Option, Some, None, List, length, map, slice_get, slice_index_or}
+use Rattle.std.specs.Prelude.{◌≡◌, ◌<◌, ◌⊎◌, ℕ, Bool, false, Option, Some, None, List, length, map, slice_get}
+use Rattle.std.specs.Prelude.{slice_index_or}
 use Rattle.epoch_tags.specs.declared.actor.Actor.{Actor}
 use Rattle.ruled_links.specs.Ends.{Sending}
 use Rattle.ruled_links.specs.Inboxes.{all_known}
@@ -52,11 +53,13 @@ pub record IsStill (v : SeatsView) : Type 0 where
 
 -- each seat made some events, and none only where it rested
 abbrev pub AllAdvance : List SeatView → List SeatView → Type 0
-AllAdvance old new = (n : ℕ) (d : SeatView) → n < length old → Advances (slice_index_or old n d) (slice_index_or new n d)
+AllAdvance old new = (n : ℕ) (d : SeatView) → n < length old
+    → Advances (slice_index_or old n d) (slice_index_or new n d)
 
 -- nothing is known to be left for any seat, and no machine would begin
 abbrev pub AllRest : List SeatView → Type 0
-AllRest seats = (n : ℕ) (d : SeatView) → n < length seats → Rests (slice_index_or seats n d).core (slice_index_or seats n d).inbox
+AllRest seats = (n : ℕ) (d : SeatView) → n < length seats → Rests (slice_index_or seats n d).core
+    (slice_index_or seats n d).inbox
 
 -- a message is known to be left for the seat, or its machine would begin
 abbrev pub IsReady : SeatView → Type 0

@@ -49,12 +49,14 @@ given_in v = given_at (core_in v.joiners v.feeders (cores_in v) Collector)
 
 -- of each joiner as many as these lists have
 abbrev pub AreGiven : ℕ → CollectorLists → List ℕ → Type 0
-AreGiven joiners lists given = (j : ℕ) → j < joiners → slice_index given j ≡ length (found_before_fin (lists.from_joiner j))
+AreGiven joiners lists given = (j : ℕ) → j < joiners → slice_index given j
+    ≡ length (found_before_fin (lists.from_joiner j))
 
 -- a collector's machine gave the pairs that it had taken and not yet given; what it stands for is the same
 pub record Gives (old new : Core) (pairs : List Pair) : Type 0 where
   pub gives : (joiners : ℕ) (earlier : CollectorLists) (ls : ActorLists) → Stands (OfCollector joiners) ls old
       → AreGiven joiners earlier (given_by old) → IsPermutation (pairs_since joiners earlier (collector_lists ls)) pairs
-  pub given : (joiners : ℕ) (ls : ActorLists) → Stands (OfCollector joiners) ls old → AreGiven joiners (collector_lists ls) (given_by new)
+  pub given : (joiners : ℕ) (ls : ActorLists) → Stands (OfCollector joiners) ls old
+      → AreGiven joiners (collector_lists ls) (given_by new)
   pub stands : (start : Start) (ls : ActorLists) → Stands start ls old → Stands start ls new
   pub live : IsLive old → IsLive new

@@ -1,5 +1,6 @@
 -- How the seats of a run are joined, and what is known of each link once its two ends were held together.
-use Rattle.std.specs.Prelude.{◌≡◌, ◌≢◌, ◌<◌, ◌+◌, ⊤, ℕ, true, false, Option, Some, None, IsSome, List, [], ◌∷◌, map, length, slice_index_or}
+use Rattle.std.specs.Prelude.{◌≡◌, ◌≢◌, ◌<◌, ◌+◌, ⊤, ℕ, true, false, Option, Some, None, IsSome, List, [], ◌∷◌, map}
+use Rattle.std.specs.Prelude.{length, slice_index_or}
 use Rattle.epoch_tags.specs.declared.actor.Actor.{Actor}
 use Rattle.ruled_links.specs.Ends.{Sending, AreLeft}
 use Rattle.ruled_links.specs.Delivery.{number_of}
@@ -29,11 +30,13 @@ Leads (Some mouth) one other = IsMouthBetween mouth one other
 -- each mouth leads to the inbox of its receiver
 abbrev pub AllLead : List Frame → Type 0
 AllLead frames = (n r : ℕ) (d : Frame) → n < length frames → r < length frames
-    → Leads (slice_index_or (slice_index_or frames n d).addresses r None) (slice_index_or frames n d) (slice_index_or frames r d)
+    → Leads (slice_index_or (slice_index_or frames n d).addresses r None) (slice_index_or frames n d)
+    (slice_index_or frames r d)
 
 -- no two seats are of one actor
 abbrev pub ActorsDiffer : List Frame → Type 0
-ActorsDiffer frames = (k n : ℕ) (d : Frame) → k < n → n < length frames → (slice_index_or frames k d).actor ≢ (slice_index_or frames n d).actor
+ActorsDiffer frames = (k n : ℕ) (d : Frame) → k < n → n < length frames
+    → (slice_index_or frames k d).actor ≢ (slice_index_or frames n d).actor
 
 -- an actor of the run with a mouth to the actor at this number
 pub record HasMouthTo (joiners feeders : ℕ) (frames : List Frame) (receiver : ℕ) (a : Actor) : Type 0 where
@@ -42,12 +45,14 @@ pub record HasMouthTo (joiners feeders : ℕ) (frames : List Frame) (receiver : 
   pub there : sender < length frames
   pub mouth : (d : Frame) → IsSome (slice_index_or (slice_index_or frames sender d).addresses receiver None)
 
--- there is a seat for each actor, each mouth leads to the inbox of its receiver, and each sender of an inbox has a mouth
+-- there is a seat for each actor, each mouth leads to the inbox of its receiver, and each sender of an inbox has a
+-- mouth
 pub record AreJoined (joiners feeders : ℕ) (frames : List Frame) : Type 0 where
   pub all : length frames ≡ feeders + joiners + 2
   pub placed : (n : ℕ) (d : Frame) → n < length frames → IsPlaced joiners feeders n (slice_index_or frames n d)
   pub leads : AllLead frames
-  pub heard : (r : ℕ) (a : Actor) (d : Frame) → r < length frames → is_sender a (map fresh (slice_index_or frames r d).senders) ≡ true → HasMouthTo joiners feeders frames r a
+  pub heard : (r : ℕ) (a : Actor) (d : Frame) → r < length frames
+      → is_sender a (map fresh (slice_index_or frames r d).senders) ≡ true → HasMouthTo joiners feeders frames r a
 
 -- nothing was received of an actor that is no sender
 abbrev pub HearsSenders : SeatView → Type 0
@@ -93,7 +98,8 @@ slot_of seats d n r = slice_index_or (slice_index_or seats n d).mouths r None
 
 -- of the seats below n, so is each mouth
 abbrev pub AreGatheredBelow : ℕ → List SeatView → Type 0
-AreGatheredBelow below seats = (n r : ℕ) (d : SeatView) → n < below → r < length seats → IsGathered (slot_of seats d n r) (slice_index_or seats r d).inbox
+AreGatheredBelow below seats = (n r : ℕ) (d : SeatView) → n < below → r < length seats
+    → IsGathered (slot_of seats d n r) (slice_index_or seats r d).inbox
 
 -- of all seats, so is each mouth
 abbrev pub AreGathered : List SeatView → Type 0

@@ -10,7 +10,8 @@ use Rattle.actor_core.specs.Players.{AgreesOnLinks, IsFinishedFamily}
 use Rattle.join_runtime.specs.declared.ends.Told.{Told}
 use Rattle.join_runtime.specs.Endings.{lists_left}
 
--- the lists that are left are a finished family of this input and setting with the run's journal, and went over the run's
+-- the lists that are left are a finished family of this input and setting with the run's journal, and went over the
+-- run's
 -- links; the run is its result, and had no more bouts than there can be events
 pub record HasRun (input : Input) (setting : Setting) (told : Told) : Type 0 where
   pub family : IsFinishedFamily input setting told.run.journal (lists_left told.ends)

@@ -1,5 +1,6 @@
 -- The seats of a run at its beginning, and how mouths come to their senders.
-use Rattle.std.specs.Prelude.{◌≡◌, ◌≢◌, ◌<◌, ◌+◌, ◌^◌, ◌⊎◌, ℕ, Some, None, IsSome, Contains, List, [], map, length, slice_set, slice_index_or}
+use Rattle.std.specs.Prelude.{◌≡◌, ◌≢◌, ◌<◌, ◌+◌, ◌^◌, ◌⊎◌, ℕ, Some, None, IsSome, Contains, List, [], map, length}
+use Rattle.std.specs.Prelude.{slice_set, slice_index_or}
 use Rattle.epoch_tags.specs.declared.actor.Actor.{Actor}
 use Rattle.epoch_tags.specs.Links.{HasLink}
 use Rattle.ruled_links.specs.Ends.{Sending}
@@ -15,16 +16,19 @@ use Rattle.join_runtime.specs.Joins.{slot_of}
 
 -- different actors, each with a number below this one
 pub record AreBelow (joiners feeders below : ℕ) (actors : List Actor) : Type 0 where
-  pub each : (k : ℕ) (d : Actor) → k < length actors → (n : ℕ) × (number joiners feeders (slice_index_or actors k d) ≡ Some n) × (n < below)
+  pub each : (k : ℕ) (d : Actor) → k < length actors → (n : ℕ)
+      × (number joiners feeders (slice_index_or actors k d) ≡ Some n) × (n < below)
   pub differ : Differ actors
 
 -- those with a number below this one that have a link to `to`
 pub record AreLinked (joiners feeders below : ℕ) (to : Actor) (actors : List Actor) : Type 0 where
   pub sound : (k : ℕ) → joiners ≡ 2 ^ k → (a : Actor) → Contains actors a → HasLink k feeders a to
-  pub whole : (k : ℕ) → joiners ≡ 2 ^ k → (a : Actor) (n : ℕ) → number joiners feeders a ≡ Some n → n < below → HasLink k feeders a to → Contains actors a
+  pub whole : (k : ℕ) → joiners ≡ 2 ^ k → (a : Actor) (n : ℕ) → number joiners feeders a ≡ Some n → n < below
+      → HasLink k feeders a to → Contains actors a
 
 -- the seat of the actor with this number as it was made, and the mouths of its inbox
-pub record IsNewSeat (input : Input) (setting : Setting) (n : ℕ) (seat : SeatView) (mouths : List Sending) : Type 0 where
+pub record IsNewSeat (input : Input) (setting : Setting) (n : ℕ) (seat : SeatView)
+    (mouths : List Sending) : Type 0 where
   pub joiners_are : seat.joiners ≡ 2 ^ setting.k
   pub feeders_are : seat.feeders ≡ setting.feeders
   pub actor : seat.actor ≡ actor_at (2 ^ setting.k) setting.feeders n
@@ -33,7 +37,8 @@ pub record IsNewSeat (input : Input) (setting : Setting) (n : ℕ) (seat : SeatV
   pub names : List Actor
   pub below : ℕ
   pub numbers : AreBelow (2 ^ setting.k) setting.feeders below names
-  pub links : AreLinked (2 ^ setting.k) setting.feeders (setting.feeders + 2 ^ setting.k + 2) (actor_at (2 ^ setting.k) setting.feeders n) names
+  pub links : AreLinked (2 ^ setting.k) setting.feeders (setting.feeders + 2 ^ setting.k + 2)
+      (actor_at (2 ^ setting.k) setting.feeders n) names
   pub senders : seat.inbox.senders ≡ map fresh names
   pub mouths_are : mouths ≡ map (opened seat.inbox.link seat.inbox.to) names
   pub no_mouth : (r : ℕ) → slice_index_or seat.mouths r None ≡ None
@@ -42,10 +47,12 @@ pub record IsNewSeat (input : Input) (setting : Setting) (n : ℕ) (seat : SeatV
   pub given : HasGivenNone (2 ^ setting.k) seat.core
 
 -- so many seats, with the mouths of their inboxes
-pub record AreNew (input : Input) (setting : Setting) (count : ℕ) (seats : List SeatView) (mouths : List (List Sending)) : Type 0 where
+pub record AreNew (input : Input) (setting : Setting) (count : ℕ) (seats : List SeatView)
+    (mouths : List (List Sending)) : Type 0 where
   pub all : length seats ≡ count
   pub each : length mouths ≡ count
-  pub new : (n : ℕ) (d : SeatView) → n < count → IsNewSeat input setting n (slice_index_or seats n d) (slice_index_or mouths n [])
+  pub new : (n : ℕ) (d : SeatView) → n < count → IsNewSeat input setting n (slice_index_or seats n d)
+      (slice_index_or mouths n [])
 
 -- the mouth came to its sender, as that one's to the actor with the number `receiver`
 pub record Puts (joiners feeders receiver : ℕ) (mouth : Sending) (old new : List SeatView) : Type 0 where
@@ -64,17 +71,21 @@ pub record IsOneOf (joiners feeders n : ℕ) (mouths : List Sending) (mouth : Se
 -- these mouths came to their senders, and nothing else changed
 pub record Places (joiners feeders receiver : ℕ) (mouths : List Sending) (old new : List SeatView) : Type 0 where
   pub all : length new ≡ length old
-  pub same : (n : ℕ) (d : SeatView) → n < length old → slice_index_or new n d ≡ record (slice_index_or old n d) { mouths = (slice_index_or new n d).mouths }
+  pub same : (n : ℕ) (d : SeatView) → n < length old → slice_index_or new n d
+      ≡ record (slice_index_or old n d) { mouths = (slice_index_or new n d).mouths }
   pub others : (n r : ℕ) (d : SeatView) → n < length old → r ≢ receiver → slot_of new d n r ≡ slot_of old d n r
   pub own : (n : ℕ) (d : SeatView) (mouth : Sending) → n < length old → slot_of new d n receiver ≡ Some mouth
       → (slot_of old d n receiver ≡ Some mouth) ⊎ IsOneOf joiners feeders n mouths mouth
-  pub has : (n : ℕ) (d : SeatView) (mouth : Sending) → IsOneOf joiners feeders n mouths mouth → (n < length old) × IsSome (slot_of new d n receiver)
+  pub has : (n : ℕ) (d : SeatView) (mouth : Sending) → IsOneOf joiners feeders n mouths mouth → (n < length old)
+      × IsSome (slot_of new d n receiver)
 
 -- of the receivers below this number, each mouth came to its sender
 pub record AreFilled (joiners feeders below : ℕ) (mouths : List (List Sending)) (old new : List SeatView) : Type 0 where
   pub all : length new ≡ length old
-  pub same : (n : ℕ) (d : SeatView) → n < length old → slice_index_or new n d ≡ record (slice_index_or old n d) { mouths = (slice_index_or new n d).mouths }
+  pub same : (n : ℕ) (d : SeatView) → n < length old → slice_index_or new n d
+      ≡ record (slice_index_or old n d) { mouths = (slice_index_or new n d).mouths }
   pub own : (n r : ℕ) (d : SeatView) (mouth : Sending) → n < length old → slot_of new d n r ≡ Some mouth
       → (r < below) × IsOneOf joiners feeders n (slice_index_or mouths r []) mouth
-  pub has : (n r : ℕ) (d : SeatView) (mouth : Sending) → r < below → IsOneOf joiners feeders n (slice_index_or mouths r []) mouth
+  pub has : (n r : ℕ) (d : SeatView) (mouth : Sending) → r < below
+      → IsOneOf joiners feeders n (slice_index_or mouths r []) mouth
       → (n < length old) × IsSome (slot_of new d n r)

@@ -18,7 +18,8 @@ abbrev pub IsHeard : Cause → List OfSender → Type 0
 IsHeard (Took from m) senders = is_sender from senders ≡ true
 IsHeard Began senders = ⊤
 
--- one event of the seat's actor: a message that it took came out of the inbox, and what it sent went into the mouths, in
+-- one event of the seat's actor: a message that it took came out of the inbox, and what it sent went into the mouths,
+-- in
 -- order
 pub record MakesTurn (old new : SeatView) : Type 0 where
   pub event : MakesEvent (player old) (player new)

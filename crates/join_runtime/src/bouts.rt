@@ -132,11 +132,7 @@ fn gather_all<R: Wait>(rt: &R, seats: &mut [Seat])
 }
 
 // What stands before the turns of all seats: turns ahead of the others. `Ok(false)`: all rest.
-fn begin_bout<R: Wait, G: Gate>(
-    rt: &R,
-    seats: &mut [Seat],
-    gate: &G,
-) -> Result<bool, AllocError>
+fn begin_bout<R: Wait, G: Gate>(rt: &R, seats: &mut [Seat], gate: &G) -> Result<bool, AllocError>
     requires { AllLive seats.old }
     ensures frames { map frame_of seats.new ≡ map frame_of seats.old }
     ensures stepped { result ≡ Ok true → AllStep seats.old seats.new }

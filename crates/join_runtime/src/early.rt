@@ -118,7 +118,12 @@ fn run_early_by<'a, R: Wait, G: Gate, K: Sink>(
             break;
         }
         let threads = &mut *pool;
-        bout_by(rt, &mut seats, gate, move |standing| work_by(rt, standing, threads))?;
+        bout_by(
+            rt,
+            &mut seats,
+            gate,
+            move |standing| work_by(rt, standing, threads),
+        )?;
         bouts = bouts.saturating_add(1);
         let fresh = seats.fresh()?;
         put_lines(alloc, fresh.as_slice(), sink)?;
@@ -172,15 +177,7 @@ pub fn run_early<R: Threads + Wait + Sync, G: Gate + Sync, K: Sink>(
             requires { (IsValidInput input.now × IsValidSetting setting.now) × (K.faults sink.now < last_fault) }
         {
             let mut pool = pool_of(rt, alloc, scope, signals, turns);
-            let told = run_early_by(
-                rt,
-                alloc,
-                input,
-                setting,
-                gate,
-                sink,
-                &mut pool,
-            );
+            let told = run_early_by(rt, alloc, input, setting, gate, sink, &mut pool);
             pool.end();
             (told, sink)
         },

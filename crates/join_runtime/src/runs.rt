@@ -53,7 +53,12 @@ fn run_by<'a, R: Wait, G: Gate>(
             break;
         }
         let threads = &mut *pool;
-        bout_by(rt, &mut seats, gate, move |standing| work_by(rt, standing, threads))?;
+        bout_by(
+            rt,
+            &mut seats,
+            gate,
+            move |standing| work_by(rt, standing, threads),
+        )?;
         bouts = bouts.saturating_add(1);
         gate.fed(batches.saturating_sub(seats.batches_left()), batches);
     }
@@ -92,14 +97,7 @@ pub fn run<R: Threads + Wait + Sync, G: Gate + Sync>(
             ensures { IfOk result (HasRun input.entry.now setting.entry.now) }
         {
             let mut pool = pool_of(rt, alloc, scope, signals, turns);
-            let told = run_by(
-                rt,
-                alloc,
-                input,
-                setting,
-                gate,
-                &mut pool,
-            );
+            let told = run_by(rt, alloc, input, setting, gate, &mut pool);
             pool.end();
             told
         },

@@ -13,8 +13,10 @@ invariant_of-seats-2 g c =
     let new = c.bout_of.new.seats.items in
     let long = c.bout_of.ensures.long in
     let said = c.in_ok-went.ensures in
-    let joined = subst (AreJoined c.seats.inside.joiners c.seats.inside.feeders) (sym c.bout_of.ensures.frames) c.seats.invariant.0 in
-    let settled = settled_after c.in_ok-went.went seats.items new long (λ is. said.went (ap Ok is)) (λ is. said.gathered (ap Ok is)) (λ is. said.same (ap Ok is)) (c.seats.invariant.1 c.if-seats.false) in
+    let joined = subst (AreJoined c.seats.inside.joiners c.seats.inside.feeders) (sym c.bout_of.ensures.frames)
+    c.seats.invariant.0 in
+    let settled = settled_after c.in_ok-went.went seats.items new long (λ is. said.went (ap Ok is))
+    (λ is. said.gathered (ap Ok is)) (λ is. said.same (ap Ok is)) (c.seats.invariant.1 c.if-seats.false) in
     (joined, λ z. settled)
 
 pub returns-clause-agrees : goal.returns-clause-agrees
@@ -23,31 +25,52 @@ returns-clause-agrees g c =
     let new = c.bout_of.new.seats.items in
     let long = c.bout_of.ensures.long in
     let said = c.in_ok-went.ensures in
-    let joined = subst (AreJoined c.seats.inside.joiners c.seats.inside.feeders) (sym c.bout_of.ensures.frames) c.seats.invariant.0 in
-    let settled = settled_after c.in_ok-went.went seats.items new long (λ is. said.went (ap Ok is)) (λ is. said.gathered (ap Ok is)) (λ is. said.same (ap Ok is)) (c.seats.invariant.1 c.if-seats.false) in
-    (fronts (record { joiners = c.seats.inside.joiners; feeders = c.seats.inside.feeders; seats = new; spent = false }) joined settled)
+    let joined = subst (AreJoined c.seats.inside.joiners c.seats.inside.feeders) (sym c.bout_of.ensures.frames)
+    c.seats.invariant.0 in
+    let settled = settled_after c.in_ok-went.went seats.items new long (λ is. said.went (ap Ok is))
+    (λ is. said.gathered (ap Ok is)) (λ is. said.same (ap Ok is)) (c.seats.invariant.1 c.if-seats.false) in
+    (fronts (record { joiners = c.seats.inside.joiners; feeders = c.seats.inside.feeders; seats = new; spent = false })
+    joined settled)
 
 pub returns-clause-still : goal.returns-clause-still
 returns-clause-still g c =
     let said = c.in_ok-went.ensures in
     λ is.
     rw (← c.seats.view_is)
-    (still (record { joiners = c.seats.inside.joiners; feeders = c.seats.inside.feeders; seats = c.seats.inside.seats.items; spent = c.seats.inside.spent }) c.seats.invariant.0 (c.seats.invariant.1 c.if-seats.false) (said.rest is))
+    (still (record {
+      joiners = c.seats.inside.joiners;
+      feeders = c.seats.inside.feeders;
+      seats = c.seats.inside.seats.items;
+      spent = c.seats.inside.spent;
+    }) c.seats.invariant.0
+    (c.seats.invariant.1 c.if-seats.false) (said.rest is))
 
 pub returns-clause-busy : goal.returns-clause-busy
 returns-clause-busy g c =
     let said = c.in_ok-went.ensures in
     λ is.
     rw (← c.seats.view_is)
-    (busy (record { joiners = c.seats.inside.joiners; feeders = c.seats.inside.feeders; seats = c.seats.inside.seats.items; spent = c.seats.inside.spent }) c.seats.invariant.0 (c.seats.invariant.1 c.if-seats.false) (said.ready is))
+    (busy (record {
+      joiners = c.seats.inside.joiners;
+      feeders = c.seats.inside.feeders;
+      seats = c.seats.inside.seats.items;
+      spent = c.seats.inside.spent;
+    }) c.seats.invariant.0
+    (c.seats.invariant.1 c.if-seats.false) (said.ready is))
 
 pub returns-clause-collected : goal.returns-clause-collected
 returns-clause-collected g c =
     let said = c.in_ok-went.ensures in
-    let v : SeatsView = record { joiners = c.seats.inside.joiners; feeders = c.seats.inside.feeders; seats = c.seats.inside.seats.items; spent = c.seats.inside.spent } in
+    let v : SeatsView = record {
+      joiners = c.seats.inside.joiners;
+      feeders = c.seats.inside.feeders;
+      seats = c.seats.inside.seats.items;
+      spent = c.seats.inside.spent;
+    } in
     λ is.
     rw (← c.seats.view_is)
-    (λ input setting valid stands. rest_collected v c.seats.invariant.0 (c.seats.invariant.1 c.if-seats.false) (said.rest is) c.quiet_is_finished.ensures input setting valid stands)
+    (λ input setting valid stands. rest_collected v c.seats.invariant.0 (c.seats.invariant.1 c.if-seats.false)
+    (said.rest is) c.quiet_is_finished.ensures input setting valid stands)
 
 pub returns-clause-extends : goal.returns-clause-extends
 returns-clause-extends g c =
@@ -57,7 +80,8 @@ returns-clause-extends g c =
     let said = c.in_ok-went.ensures in
     let all = sym (length-map seats.items frame_of) ∙ c.seats.invariant.0.all in
     rw (← c.seats.view_is)
-    (extends_after c.in_ok-went.went c.seats.inside.joiners c.seats.inside.feeders seats.items new long all (λ is. said.went (ap Ok is)) (λ is. said.same (ap Ok is)))
+    (extends_after c.in_ok-went.went c.seats.inside.joiners c.seats.inside.feeders seats.items new long all
+    (λ is. said.went (ap Ok is)) (λ is. said.same (ap Ok is)))
 
 pub returns-clause-journal : goal.returns-clause-journal
 returns-clause-journal g c =
@@ -67,7 +91,8 @@ returns-clause-journal g c =
     let said = c.in_ok-went.ensures in
     let all = sym (length-map seats.items frame_of) ∙ c.seats.invariant.0.all in
     rw (← c.seats.view_is)
-    (journal_after c.in_ok-went.went c.seats.inside.joiners c.seats.inside.feeders seats.items new long all (λ is. said.went (ap Ok is)) (λ is. said.same (ap Ok is)))
+    (journal_after c.in_ok-went.went c.seats.inside.joiners c.seats.inside.feeders seats.items new long all
+    (λ is. said.went (ap Ok is)) (λ is. said.same (ap Ok is)))
 
 pub returns-clause-stands : goal.returns-clause-stands
 returns-clause-stands g c =
@@ -77,7 +102,8 @@ returns-clause-stands g c =
     let said = c.in_ok-went.ensures in
     let all = sym (length-map seats.items frame_of) ∙ c.seats.invariant.0.all in
     rw (← c.seats.view_is)
-    (stands_after c.in_ok-went.went c.seats.inside.joiners c.seats.inside.feeders seats.items new long all (λ is. said.went (ap Ok is)) (λ is. said.same (ap Ok is)))
+    (stands_after c.in_ok-went.went c.seats.inside.joiners c.seats.inside.feeders seats.items new long all
+    (λ is. said.went (ap Ok is)) (λ is. said.same (ap Ok is)))
 
 pub returns-clause-linked : goal.returns-clause-linked
 returns-clause-linked g c =
@@ -86,10 +112,18 @@ returns-clause-linked g c =
     let long = c.bout_of.ensures.long in
     let said = c.in_ok-went.ensures in
     let all = sym (length-map seats.items frame_of) ∙ c.seats.invariant.0.all in
-    let joined = subst (AreJoined c.seats.inside.joiners c.seats.inside.feeders) (sym c.bout_of.ensures.frames) c.seats.invariant.0 in
-    let settled = settled_after c.in_ok-went.went seats.items new long (λ is. said.went (ap Ok is)) (λ is. said.gathered (ap Ok is)) (λ is. said.same (ap Ok is)) (c.seats.invariant.1 c.if-seats.false) in
+    let joined = subst (AreJoined c.seats.inside.joiners c.seats.inside.feeders) (sym c.bout_of.ensures.frames)
+    c.seats.invariant.0 in
+    let settled = settled_after c.in_ok-went.went seats.items new long (λ is. said.went (ap Ok is))
+    (λ is. said.gathered (ap Ok is)) (λ is. said.same (ap Ok is)) (c.seats.invariant.1 c.if-seats.false) in
     rw (← c.seats.view_is)
     (λ input setting stands before. record {
-      fronts = fronts (record { joiners = c.seats.inside.joiners; feeders = c.seats.inside.feeders; seats = new; spent = false }) joined settled;
-      linked = linked_after c.in_ok-went.went c.seats.inside.joiners c.seats.inside.feeders seats.items new long all (λ is. said.went (ap Ok is)) (λ is. said.same (ap Ok is)) input setting stands before.linked;
+      fronts = fronts (record {
+        joiners = c.seats.inside.joiners;
+        feeders = c.seats.inside.feeders;
+        seats = new;
+        spent = false;
+      }) joined settled;
+      linked = linked_after c.in_ok-went.went c.seats.inside.joiners c.seats.inside.feeders seats.items new long all
+          (λ is. said.went (ap Ok is)) (λ is. said.same (ap Ok is)) input setting stands before.linked;
     })

@@ -11,9 +11,11 @@ end_bout-requires-clause-leads g c =
     let begun = c.begin_bout.new.seats in
     let value = c.as_mut_slice.ensures.value in
     let long : length begun ≡ length old.items = c.begin_bout.auto.seats ∙ ap length value in
-    let standing : c.replace-standing.result.items ≡ begun = rw c.replace-standing.ensures.value (with_items_is old begun (long ∙ sym old.ok.0)) in
+    let standing : c.replace-standing.result.items ≡ begun =
+    rw c.replace-standing.ensures.value (with_items_is old begun (long ∙ sym old.ok.0)) in
     let works = c.requires.works _ _ c.work.ensures in
-    let frames = frames_so_far old.items begun c.replace-standing.result.items c.work.result.items standing (c.begin_bout.ensures.frames ∙ ap (map frame_of) value) works in
+    let frames = frames_so_far old.items begun c.replace-standing.result.items c.work.result.items standing
+    (c.begin_bout.ensures.frames ∙ ap (map frame_of) value) works in
     subst AllLead (sym (ap (map frame_of) c.as_mut_slice-2.ensures.value ∙ frames)) c.requires.leads
 
 pub end_bout-requires-clause-differ : goal.end_bout-requires-clause-differ
@@ -22,9 +24,11 @@ end_bout-requires-clause-differ g c =
     let begun = c.begin_bout.new.seats in
     let value = c.as_mut_slice.ensures.value in
     let long : length begun ≡ length old.items = c.begin_bout.auto.seats ∙ ap length value in
-    let standing : c.replace-standing.result.items ≡ begun = rw c.replace-standing.ensures.value (with_items_is old begun (long ∙ sym old.ok.0)) in
+    let standing : c.replace-standing.result.items ≡ begun =
+    rw c.replace-standing.ensures.value (with_items_is old begun (long ∙ sym old.ok.0)) in
     let works = c.requires.works _ _ c.work.ensures in
-    let frames = frames_so_far old.items begun c.replace-standing.result.items c.work.result.items standing (c.begin_bout.ensures.frames ∙ ap (map frame_of) value) works in
+    let frames = frames_so_far old.items begun c.replace-standing.result.items c.work.result.items standing
+    (c.begin_bout.ensures.frames ∙ ap (map frame_of) value) works in
     subst ActorsDiffer (sym (ap (map frame_of) c.as_mut_slice-2.ensures.value ∙ frames)) c.requires.differ
 
 pub returns-in_err-end_bout-clause-frames : goal.returns-in_err-end_bout-clause-frames
@@ -33,9 +37,11 @@ returns-in_err-end_bout-clause-frames g c =
     let begun = c.begin_bout.new.seats in
     let value = c.as_mut_slice.ensures.value in
     let long : length begun ≡ length old.items = c.begin_bout.auto.seats ∙ ap length value in
-    let standing : c.replace-standing.result.items ≡ begun = rw c.replace-standing.ensures.value (with_items_is old begun (long ∙ sym old.ok.0)) in
+    let standing : c.replace-standing.result.items ≡ begun =
+    rw c.replace-standing.ensures.value (with_items_is old begun (long ∙ sym old.ok.0)) in
     let works = c.requires.works _ _ c.work.ensures in
-    let frames = frames_so_far old.items begun c.replace-standing.result.items c.work.result.items standing (c.begin_bout.ensures.frames ∙ ap (map frame_of) value) works in
+    let frames = frames_so_far old.items begun c.replace-standing.result.items c.work.result.items standing
+    (c.begin_bout.ensures.frames ∙ ap (map frame_of) value) works in
     let ended = c.end_bout.new.seats in
     let value' = c.as_mut_slice-2.ensures.value in
     let long' : length ended ≡ length c.work.result.items = c.end_bout.auto.seats ∙ ap length value' in
@@ -48,9 +54,11 @@ returns-clause-frames g c =
     let begun = c.begin_bout.new.seats in
     let value = c.as_mut_slice.ensures.value in
     let long : length begun ≡ length old.items = c.begin_bout.auto.seats ∙ ap length value in
-    let standing : c.replace-standing.result.items ≡ begun = rw c.replace-standing.ensures.value (with_items_is old begun (long ∙ sym old.ok.0)) in
+    let standing : c.replace-standing.result.items ≡ begun =
+    rw c.replace-standing.ensures.value (with_items_is old begun (long ∙ sym old.ok.0)) in
     let works = c.requires.works _ _ c.work.ensures in
-    let frames = frames_so_far old.items begun c.replace-standing.result.items c.work.result.items standing (c.begin_bout.ensures.frames ∙ ap (map frame_of) value) works in
+    let frames = frames_so_far old.items begun c.replace-standing.result.items c.work.result.items standing
+    (c.begin_bout.ensures.frames ∙ ap (map frame_of) value) works in
     let ended = c.end_bout.new.seats in
     let value' = c.as_mut_slice-2.ensures.value in
     let long' : length ended ≡ length c.work.result.items = c.end_bout.auto.seats ∙ ap length value' in
@@ -63,7 +71,8 @@ returns-clause-went g c =
     let begun = c.begin_bout.new.seats in
     let value = c.as_mut_slice.ensures.value in
     let long : length begun ≡ length old.items = c.begin_bout.auto.seats ∙ ap length value in
-    let standing : c.replace-standing.result.items ≡ begun = rw c.replace-standing.ensures.value (with_items_is old begun (long ∙ sym old.ok.0)) in
+    let standing : c.replace-standing.result.items ≡ begun =
+    rw c.replace-standing.ensures.value (with_items_is old begun (long ∙ sym old.ok.0)) in
     let works = c.requires.works _ _ c.work.ensures in
     let ended = c.end_bout.new.seats in
     let value' = c.as_mut_slice-2.ensures.value in
@@ -72,4 +81,5 @@ returns-clause-went g c =
     let ahead = rw value at c.in_ok-begin_bout.ensures in
     let behind = rw value' at c.in_ok-end_bout.ensures in
     λ ok.
-    rw items (all_went old.items begun c.replace-standing.result.items c.work.result.items ended standing long (ahead.stepped (ap Ok c.if-not-branch.false)) works behind.none_spent behind.alike)
+    rw items (all_went old.items begun c.replace-standing.result.items c.work.result.items ended standing long
+    (ahead.stepped (ap Ok c.if-not-branch.false)) works behind.none_spent behind.alike)

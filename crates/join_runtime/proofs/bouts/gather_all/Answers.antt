@@ -6,7 +6,8 @@ use Rattle.join_runtime.proofs.bouts.gather_all.Goals as goal
 pub gather_from-requires-clause-joined : goal.gather_from-requires-clause-joined
 gather_from-requires-clause-joined g c =
     let same = sym c.loop-sender.invariant.frames in
-    λ r d low. slots_lead c.loop-sender.seats (subst AllLead same c.requires.leads) (subst ActorsDiffer same c.requires.differ) d c.loop-sender.sender r (omega arith) low
+    λ r d low. slots_lead c.loop-sender.seats (subst AllLead same c.requires.leads)
+    (subst ActorsDiffer same c.requires.differ) d c.loop-sender.sender r (omega arith) low
 
 pub loop-sender-preserved : goal.loop-sender-preserved
 loop-sender-preserved g c =
@@ -20,6 +21,8 @@ loop-sender-preserved g c =
     let long : length new ≡ length seats = c.gather_from.auto.seats in
     record {
       frames = tells_frames seats leads differ n new long told ∙ c.loop-sender.invariant.frames;
-      alike = λ r d low. alike_more (slice_index_or c.args.seats.now r d) (slice_index_or seats r d) (slice_index_or new r d) (slot_of seats d n r) (c.loop-sender.invariant.alike r d low) (told r d (omega arith));
+      alike = λ r d low. alike_more (slice_index_or c.args.seats.now r d) (slice_index_or seats r d)
+          (slice_index_or new r d) (slot_of seats d n r) (c.loop-sender.invariant.alike r d low)
+          (told r d (omega arith));
       gathered = gathered_more seats leads differ n new (omega arith) long told c.loop-sender.invariant.gathered;
     }

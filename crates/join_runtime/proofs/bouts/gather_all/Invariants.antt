@@ -7,6 +7,7 @@ use Rattle.join_runtime.proofs.bouts.gather_all.Given as goal
 abbrev pub invariant-loop-sender : goal.invariant-loop-sender
 invariant-loop-sender g l = record {
   frames : map frame_of l.seats ≡ map frame_of l.initial.seats;
-  alike : (n : ℕ) (d : SeatView) → n < length l.initial.seats → IsAlike (slice_index_or l.initial.seats n d) (slice_index_or l.seats n d);
+  alike : (n : ℕ) (d : SeatView) → n < length l.initial.seats
+      → IsAlike (slice_index_or l.initial.seats n d) (slice_index_or l.seats n d);
   gathered : AreGatheredBelow l.sender l.seats;
 }

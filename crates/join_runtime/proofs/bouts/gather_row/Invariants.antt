@@ -6,6 +6,7 @@ use Rattle.join_runtime.proofs.bouts.gather_row.Given as goal
 abbrev pub invariant-loop-place : goal.invariant-loop-place
 invariant-loop-place g l = record {
   mouths : l.mouths.items ≡ l.initial.mouths.items;
-  told : (r : ℕ) (d : SeatView) → r < l.place → Tells (slice_index_or l.initial.mouths.items r None) (slice_index_or l.initial.seats r d) (slice_index_or l.seats r d);
+  told : (r : ℕ) (d : SeatView) → r < l.place → Tells (slice_index_or l.initial.mouths.items r None)
+      (slice_index_or l.initial.seats r d) (slice_index_or l.seats r d);
   rest : (r : ℕ) (d : SeatView) → l.place ≤ r → slice_index_or l.seats r d ≡ slice_index_or l.initial.seats r d;
 }

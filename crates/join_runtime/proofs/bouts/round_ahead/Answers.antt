@@ -4,7 +4,8 @@ use Rattle.join_runtime.proofs.bouts.round_ahead.Goals as goal
 
 pub returns-in_err-turns_ahead-clause-frames : goal.returns-in_err-turns_ahead-clause-frames
 returns-in_err-turns_ahead-clause-frames g c =
-    frames_at c.loop-place.seats c.loop-place.place (omega (arith, c.loop-place-test.true, c.loop-place.auto.seats)) c.index-seats-place.result c.turns_ahead.new.self c.in_err-turns_ahead.ensures.frame
+    frames_at c.loop-place.seats c.loop-place.place (omega (arith, c.loop-place-test.true, c.loop-place.auto.seats))
+    c.index-seats-place.result c.turns_ahead.new.self c.in_err-turns_ahead.ensures.frame
     ∙ c.loop-place.invariant.frames
 
 pub loop-place-preserved : goal.loop-place-preserved

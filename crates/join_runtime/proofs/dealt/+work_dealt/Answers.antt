@@ -12,6 +12,8 @@ returns-then-from-count g t c =
     let worked = c.work_dealt-worked.ensures in
     record {
       len = c.swap-then-from-count.ensures.len ∙ worked.len ∙ c.swap.ensures.len;
-      each = swapped_work c.args.seats.items c.swap.new.seats.items c.work_dealt-worked.result.items c.swap-then-from-count.new.seats.items _ c.standing_at-from.result
-          c.swap.ensures.len (omega (arith, some, few, all, counted)) (omega (arith, within, all, counted)) c.swap.ensures.swapped worked.each c.swap-then-from-count.ensures.swapped;
+      each = swapped_work c.args.seats.items c.swap.new.seats.items c.work_dealt-worked.result.items
+          c.swap-then-from-count.new.seats.items _ c.standing_at-from.result
+          c.swap.ensures.len (omega (arith, some, few, all, counted)) (omega (arith, within, all, counted))
+          c.swap.ensures.swapped worked.each c.swap-then-from-count.ensures.swapped;
     }

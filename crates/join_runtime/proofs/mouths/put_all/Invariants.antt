@@ -7,5 +7,6 @@ use Rattle.join_runtime.proofs.mouths.put_all.Given as goal
 abbrev pub invariant-loop-post : goal.invariant-loop-post
 invariant-loop-post g l = record {
   same : map address_of l.mouths.items ≡ map address_of l.initial.mouths.items;
-  sent : (a : Actor) → sent_through l.joiners l.feeders l.mouths.items a ≡ sent_through l.joiners l.feeders l.initial.mouths.items a ++ posted_to a l.yielded;
+  sent : (a : Actor) → sent_through l.joiners l.feeders l.mouths.items a
+      ≡ sent_through l.joiners l.feeders l.initial.mouths.items a ++ posted_to a l.yielded;
 }

@@ -7,7 +7,8 @@ use Rattle.join_runtime.proofs.UnderWay.{begun, few_bouts, from_three, goes_on, 
 use Rattle.join_runtime.proofs.runs.run_by.Goals as goal
 
 pub loop-init : goal.loop-init
-loop-init g c = begun c.args.input.now c.args.setting.now c.in_ok-seats.seats c.in_ok-seats.ensures.stands c.in_ok-seats.ensures.empty
+loop-init g c = begun c.args.input.now c.args.setting.now c.in_ok-seats.seats c.in_ok-seats.ensures.stands
+    c.in_ok-seats.ensures.empty
 
 pub loop-preserved : goal.loop-preserved
 loop-preserved g c =
@@ -15,8 +16,10 @@ loop-preserved g c =
     let setting = c.args.setting.now in
     let said = c.in_ok-bout_by.ensures in
     let valid = c.limits_suffice.ensures input setting c.requires.input c.requires.setting in
-    let went = goes_on c.in_ok-bout_by.field-0 _ (λ rested. said.collected rested input setting valid c.loop.invariant.stands) (sym c.complete.ensures ∙ c.if-complete.false) in
-    one_bout_more input setting c.loop.seats c.bout_by.new.seats c.loop.bouts c.saturating_add-bouts.result (said.went went) (said.ready went) said.agrees (said.stands input setting)
+    let went = goes_on c.in_ok-bout_by.field-0 _ (λ rested. said.collected rested input setting valid
+    c.loop.invariant.stands) (sym c.complete.ensures ∙ c.if-complete.false) in
+    one_bout_more input setting c.loop.seats c.bout_by.new.seats c.loop.bouts c.saturating_add-bouts.result
+    (said.went went) (said.ready went) said.agrees (said.stands input setting)
     (let sum = c.saturating_add-bouts.ensures in omega (arith, sum)) c.loop.invariant
 
 pub returns-clause-family : goal.returns-clause-family
@@ -24,14 +27,16 @@ returns-clause-family g c =
     let input = c.args.input.now in
     let setting = c.args.setting.now in
     let valid = c.limits_suffice.ensures input setting c.requires.input c.requires.setting in
-    IfOk-weaker c.finish.result _ _ (λ told is. is input setting valid c.loop.invariant.stands c.loop.invariant.fronts) c.finish.ensures.family
+    IfOk-weaker c.finish.result _ _ (λ told is. is input setting valid c.loop.invariant.stands c.loop.invariant.fronts)
+    c.finish.ensures.family
 
 pub returns-clause-run : goal.returns-clause-run
 returns-clause-run g c =
     let input = c.args.input.now in
     let setting = c.args.setting.now in
     let valid = c.limits_suffice.ensures input setting c.requires.input c.requires.setting in
-    IfOk-weaker c.finish.result _ _ (λ told is. is input setting valid c.loop.invariant.stands c.loop.invariant.fronts) c.finish.ensures.run
+    IfOk-weaker c.finish.result _ _ (λ told is. is input setting valid c.loop.invariant.stands c.loop.invariant.fronts)
+    c.finish.ensures.run
 
 pub returns-clause-bound : goal.returns-clause-bound
 returns-clause-bound g c =
@@ -41,8 +46,10 @@ returns-clause-bound g c =
     from_three c.finish.result _ _ _ _ c.finish.ensures.family c.finish.ensures.ends c.finish.ensures.bouts
     (λ told family same bouts.
     let counted = subst (IsCounted setting (lists_in c.loop.seats)) (sym bouts) c.loop.invariant.counted in
-    few_bouts c.events_are_few.ensures input setting valid c.loop.seats told.run.bouts counted told.run.journal (lists_left told.ends) same (family input setting valid c.loop.invariant.stands c.loop.invariant.fronts))
+    few_bouts c.events_are_few.ensures input setting valid c.loop.seats told.run.bouts counted told.run.journal
+    (lists_left told.ends) same (family input setting valid c.loop.invariant.stands c.loop.invariant.fronts))
 
 pub returns-clause-linked : goal.returns-clause-linked
 returns-clause-linked g c =
-    IfOk-weaker c.finish.result _ _ (λ told same. left_linked c.args.input.now c.args.setting.now c.loop.seats c.loop.bouts c.loop.invariant (lists_left told.ends) same) c.finish.ensures.ends
+    IfOk-weaker c.finish.result _ _ (λ told same. left_linked c.args.input.now c.args.setting.now c.loop.seats
+    c.loop.bouts c.loop.invariant (lists_left told.ends) same) c.finish.ensures.ends

@@ -19,15 +19,20 @@ loop-receiver-preserved c =
     let there = c.index_mut.result.now in
     let inv = c.loop-receiver.invariant in
     let low : i < length mouths = omega arith in
-    let own = c.replace-own.ensures.value ∙ (c.index_mut.ensures.value ∙ (get_or_default mouths i there [] low ∙ inv.rest i (omega arith))) in
+    let own = c.replace-own.ensures.value ∙ (c.index_mut.ensures.value
+    ∙ (get_or_default mouths i there [] low ∙ inv.rest i (omega arith))) in
     record {
-      filled = filled_more c.args.joiners c.args.feeders i all c.args.seats.now.items c.loop-receiver.seats.items c.place_all.new.seats.items inv.filled
-          (subst (λ ms. Places c.args.joiners c.args.feeders i ms c.loop-receiver.seats.items c.place_all.new.seats.items) own c.in_ok-place_all.ensures);
+      filled = filled_more c.args.joiners c.args.feeders i all c.args.seats.now.items c.loop-receiver.seats.items
+          c.place_all.new.seats.items inv.filled
+          (subst (λ ms. Places c.args.joiners c.args.feeders i ms c.loop-receiver.seats.items
+          c.place_all.new.seats.items) own c.in_ok-place_all.ensures);
       long = length-set mouths i c.replace-own.new.dest ∙ inv.long;
-      rest = λ r more. get_or-set_other mouths i r c.replace-own.new.dest [] (λ same. absurd (omega arith)) ∙ inv.rest r (omega arith);
+      rest = λ r more. get_or-set_other mouths i r c.replace-own.new.dest [] (λ same. absurd (omega arith))
+          ∙ inv.rest r (omega arith);
     }
 
 pub returns : goal.returns
 returns c =
     let end : c.loop-receiver.receiver ≡ length c.args.mouths.items = omega arith in
-    subst (λ n. AreFilled c.args.joiners c.args.feeders n c.args.mouths.items c.args.seats.now.items c.loop-receiver.seats.items) end c.loop-receiver.invariant.filled
+    subst (λ n. AreFilled c.args.joiners c.args.feeders n c.args.mouths.items c.args.seats.now.items
+    c.loop-receiver.seats.items) end c.loop-receiver.invariant.filled

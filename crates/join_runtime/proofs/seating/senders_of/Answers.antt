@@ -8,7 +8,10 @@ use Rattle.actor_core.proofs.OwnNumbers.{number_there}
 pub loop-n-init : goal.loop-n-init
 loop-n-init c =
     rw c.new-senders.ensures
-    (record { numbers = below_none c.args.joiners c.args.feeders; links = linked_none c.args.joiners c.args.feeders c.args.to })
+    (record {
+      numbers = below_none c.args.joiners c.args.feeders;
+      links = linked_none c.args.joiners c.args.feeders c.args.to;
+    })
 
 pub loop-n-preserved : goal.loop-n-preserved
 loop-n-preserved c =
@@ -17,19 +20,23 @@ loop-n-preserved c =
     let n = c.loop-n.n in
     let from = c.actor_of-from.result in
     let low : n < feeders + joiners + 2 = omega arith in
-    let is : number joiners feeders from ≡ Some n = ap (number joiners feeders) c.actor_of-from.ensures ∙ number_there joiners feeders n low in
+    let is : number joiners feeders from ≡ Some n = ap (number joiners feeders) c.actor_of-from.ensures
+    ∙ number_there joiners feeders n low in
     let before = c.loop-n.invariant in
     elim c.if-has_link.branch [
       | then-has_link+in_ok-push w ↦
           rw (w.senders-is, w.in_ok-push.ensures.ok)
           (record {
             numbers = below_push joiners feeders n c.loop-n.senders from is before.numbers;
-            links = linked_push joiners feeders n c.args.to from c.loop-n.senders is (λ k grid. (c.has_link.ensures k grid).0 w.if-has_link.true) before.links;
+            links = linked_push joiners feeders n c.args.to from c.loop-n.senders is
+                (λ k grid. (c.has_link.ensures k grid).0 w.if-has_link.true) before.links;
           })
       | else-has_link w ↦
           rw w.senders-is
           (record {
             numbers = below_more joiners feeders n c.loop-n.senders before.numbers;
-            links = linked_more joiners feeders n c.args.to from c.loop-n.senders is (λ k grid link. true≢false (sym ((c.has_link.ensures k grid).1 link) ∙ w.if-has_link.false)) before.links;
+            links = linked_more joiners feeders n c.args.to from c.loop-n.senders is
+                (λ k grid link. true≢false (sym ((c.has_link.ensures k grid).1 link) ∙ w.if-has_link.false))
+                before.links;
           })
     ]

@@ -6,6 +6,11 @@ use Rattle.join_runtime.proofs.bouts.Seats.complete.Goals as goal
 pub returns-in-Some : goal.returns-in-Some
 returns-in-Some c =
     let own = c.self.inside in
-    let v : SeatsView = record { joiners = own.joiners; feeders = own.feeders; seats = own.seats.items; spent = own.spent } in
+    let v : SeatsView = record {
+      joiners = own.joiners;
+      feeders = own.feeders;
+      seats = own.seats.items;
+      spent = own.spent;
+    } in
     let last = rw c.as_slice.ensures.value at c.in-Some.ensures.value in
     rw (← c.self.view_is) (c.is_complete.ensures ∙ last_complete v c.self.invariant.0 c.in-Some.seat.now (sym last))

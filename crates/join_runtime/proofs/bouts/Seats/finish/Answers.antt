@@ -8,7 +8,12 @@ use Rattle.join_runtime.proofs.bouts.Seats.finish.Goals as goal
 pub answer-requires : goal.answer-requires
 answer-requires c =
     let own = c.self.inside in
-    let v : SeatsView = record { joiners = own.joiners; feeders = own.feeders; seats = own.seats.items; spent = own.spent } in
+    let v : SeatsView = record {
+      joiners = own.joiners;
+      feeders = own.feeders;
+      seats = own.seats.items;
+      spent = own.spent;
+    } in
     let two = c.in_ok-controller in
     let last = subst (λ cores. AreLast cores two.controller two.collector) c.in_ok-cores.ensures.cores two.ensures in
     let done : is_collected v ≡ true = rw (← c.self.view_is) at c.requires in
@@ -17,31 +22,49 @@ answer-requires c =
 pub returns-clause-family : goal.returns-clause-family
 returns-clause-family c =
     let own = c.self.inside in
-    let v : SeatsView = record { joiners = own.joiners; feeders = own.feeders; seats = own.seats.items; spent = own.spent } in
+    let v : SeatsView = record {
+      joiners = own.joiners;
+      feeders = own.feeders;
+      seats = own.seats.items;
+      spent = own.spent;
+    } in
     let two = c.in_ok-controller in
     let last = subst (λ cores. AreLast cores two.controller two.collector) c.in_ok-cores.ensures.cores two.ensures in
     let done : is_collected v ≡ true = rw (← c.self.view_is) at c.requires in
     let e : EndsView = record { joiners = own.joiners; feeders = own.feeders; ends = c.in_ok-cores.ends.items } in
     rw (← c.self.view_is)
     (λ input setting valid stands fronts.
-    told_family v c.self.invariant.0 two.controller two.collector last c.complete_is_finished.ensures done input setting valid stands fronts c.in_ok-run.run' c.in_ok-run.ensures.journal e
-    (λ a. subst (λ es. lists_left (record { joiners = own.joiners; feeders = own.feeders; ends = es }) a ≡ lists_in v a) (sym c.in_ok-cores.ensures.ends) (ends_keep v a)))
+    told_family v c.self.invariant.0 two.controller two.collector last c.complete_is_finished.ensures done input setting
+    valid stands fronts c.in_ok-run.run' c.in_ok-run.ensures.journal e
+    (λ a. subst (λ es. lists_left (record { joiners = own.joiners; feeders = own.feeders; ends = es }) a ≡ lists_in v a)
+    (sym c.in_ok-cores.ensures.ends) (ends_keep v a)))
 
 pub returns-clause-run : goal.returns-clause-run
 returns-clause-run c =
     let own = c.self.inside in
-    let v : SeatsView = record { joiners = own.joiners; feeders = own.feeders; seats = own.seats.items; spent = own.spent } in
+    let v : SeatsView = record {
+      joiners = own.joiners;
+      feeders = own.feeders;
+      seats = own.seats.items;
+      spent = own.spent;
+    } in
     let two = c.in_ok-controller in
     let last = subst (λ cores. AreLast cores two.controller two.collector) c.in_ok-cores.ensures.cores two.ensures in
     let done : is_collected v ≡ true = rw (← c.self.view_is) at c.requires in
     rw (← c.self.view_is)
     (λ input setting valid stands fronts.
-    told_run v c.self.invariant.0 two.controller two.collector last c.complete_is_finished.ensures done input setting valid stands fronts c.in_ok-run.run' c.finished_answers.ensures c.args.bouts c.in_ok-run.ensures.run)
+    told_run v c.self.invariant.0 two.controller two.collector last c.complete_is_finished.ensures done input setting
+    valid stands fronts c.in_ok-run.run' c.finished_answers.ensures c.args.bouts c.in_ok-run.ensures.run)
 
 pub returns-clause-journal : goal.returns-clause-journal
 returns-clause-journal c =
     let own = c.self.inside in
-    let v : SeatsView = record { joiners = own.joiners; feeders = own.feeders; seats = own.seats.items; spent = own.spent } in
+    let v : SeatsView = record {
+      joiners = own.joiners;
+      feeders = own.feeders;
+      seats = own.seats.items;
+      spent = own.spent;
+    } in
     let two = c.in_ok-controller in
     let last = subst (λ cores. AreLast cores two.controller two.collector) c.in_ok-cores.ensures.cores two.ensures in
     rw (← c.self.view_is)
@@ -50,6 +73,12 @@ returns-clause-journal c =
 pub returns-clause-ends : goal.returns-clause-ends
 returns-clause-ends c =
     let own = c.self.inside in
-    let v : SeatsView = record { joiners = own.joiners; feeders = own.feeders; seats = own.seats.items; spent = own.spent } in
+    let v : SeatsView = record {
+      joiners = own.joiners;
+      feeders = own.feeders;
+      seats = own.seats.items;
+      spent = own.spent;
+    } in
     rw (← c.self.view_is)
-    (λ a. subst (λ es. lists_left (record { joiners = own.joiners; feeders = own.feeders; ends = es }) a ≡ lists_in v a) (sym c.in_ok-cores.ensures.ends) (ends_keep v a))
+    (λ a. subst (λ es. lists_left (record { joiners = own.joiners; feeders = own.feeders; ends = es }) a ≡ lists_in v a)
+    (sym c.in_ok-cores.ensures.ends) (ends_keep v a))

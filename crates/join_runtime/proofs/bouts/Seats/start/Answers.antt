@@ -9,22 +9,32 @@ invariant_of-result c =
     let first = c.in_ok-seats.seats.items in
     let seats = c.give_all.new.seats.items in
     let mouths = c.in_ok-seats.mouths.items in (
-      start_joined input setting c.joiners_of-joiners.result first seats mouths c.joiners_of-joiners.ensures.value c.in_ok-seats.ensures c.in_ok-give_all.ensures,
-      λ z. start_settled input setting c.joiners_of-joiners.result first seats mouths c.joiners_of-joiners.ensures.value c.in_ok-seats.ensures c.in_ok-give_all.ensures,
+      start_joined input setting c.joiners_of-joiners.result first seats mouths c.joiners_of-joiners.ensures.value
+          c.in_ok-seats.ensures c.in_ok-give_all.ensures,
+      λ z. start_settled input setting c.joiners_of-joiners.result first seats mouths c.joiners_of-joiners.ensures.value
+          c.in_ok-seats.ensures c.in_ok-give_all.ensures,
     )
 
 pub returns-clause-stands : goal.returns-clause-stands
 returns-clause-stands c =
-    start_stands c.args.input.now c.args.setting.now c.joiners_of-joiners.result c.in_ok-seats.seats.items c.give_all.new.seats.items c.in_ok-seats.mouths.items c.joiners_of-joiners.ensures.value c.in_ok-seats.ensures c.in_ok-give_all.ensures false
+    start_stands c.args.input.now c.args.setting.now c.joiners_of-joiners.result c.in_ok-seats.seats.items
+    c.give_all.new.seats.items c.in_ok-seats.mouths.items c.joiners_of-joiners.ensures.value c.in_ok-seats.ensures
+    c.in_ok-give_all.ensures false
 
 pub returns-clause-empty : goal.returns-clause-empty
 returns-clause-empty c =
-    start_empty c.args.input.now c.args.setting.now c.joiners_of-joiners.result c.in_ok-seats.seats.items c.give_all.new.seats.items c.in_ok-seats.mouths.items c.joiners_of-joiners.ensures.value c.in_ok-seats.ensures c.in_ok-give_all.ensures false
+    start_empty c.args.input.now c.args.setting.now c.joiners_of-joiners.result c.in_ok-seats.seats.items
+    c.give_all.new.seats.items c.in_ok-seats.mouths.items c.joiners_of-joiners.ensures.value c.in_ok-seats.ensures
+    c.in_ok-give_all.ensures false
 
 pub returns-clause-links : goal.returns-clause-links
 returns-clause-links c =
-    start_linked c.args.input.now c.args.setting.now c.joiners_of-joiners.result c.in_ok-seats.seats.items c.give_all.new.seats.items c.in_ok-seats.mouths.items c.joiners_of-joiners.ensures.value c.in_ok-seats.ensures c.in_ok-give_all.ensures false
+    start_linked c.args.input.now c.args.setting.now c.joiners_of-joiners.result c.in_ok-seats.seats.items
+    c.give_all.new.seats.items c.in_ok-seats.mouths.items c.joiners_of-joiners.ensures.value c.in_ok-seats.ensures
+    c.in_ok-give_all.ensures false
 
 pub returns-clause-given : goal.returns-clause-given
 returns-clause-given c =
-    start_given c.args.input.now c.args.setting.now c.joiners_of-joiners.result c.in_ok-seats.seats.items c.give_all.new.seats.items c.in_ok-seats.mouths.items c.joiners_of-joiners.ensures.value c.in_ok-seats.ensures c.in_ok-give_all.ensures false
+    start_given c.args.input.now c.args.setting.now c.joiners_of-joiners.result c.in_ok-seats.seats.items
+    c.give_all.new.seats.items c.in_ok-seats.mouths.items c.joiners_of-joiners.ensures.value c.in_ok-seats.ensures
+    c.in_ok-give_all.ensures false

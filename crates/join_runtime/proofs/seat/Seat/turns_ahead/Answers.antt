@@ -6,6 +6,7 @@ pub loop-round-preserved : goal.loop-round-preserved
 loop-round-preserved g c =
     let is = ap Ok c.in-Ok-Took.field-0-is in
     record {
-      steps = steps_more c.args.self.now c.loop-round.self c.turn.new.self c.loop-round.invariant.steps (c.in-Ok-Took.ensures.took is);
+      steps = steps_more c.args.self.now c.loop-round.self c.turn.new.self c.loop-round.invariant.steps
+          (c.in-Ok-Took.ensures.took is);
       frame = c.in-Ok-Took.ensures.frame ∙ c.loop-round.invariant.frame;
     }

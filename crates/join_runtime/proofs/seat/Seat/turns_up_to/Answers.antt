@@ -25,11 +25,13 @@ pub returns-in-Ok-Idle : goal.returns-in-Ok-Idle
 returns-in-Ok-Idle g c =
     let is = ap Ok c.in-Ok-Idle.field-0-is in
     let said = c.in-Ok-Idle.ensures in
-    works_rested c.loop-round.round c.args.self.now c.loop-round.self c.turn.new.self c.loop-round.invariant.runs c.loop-round.invariant.ends c.loop-round.invariant.none (said.idle is)
+    works_rested c.loop-round.round c.args.self.now c.loop-round.self c.turn.new.self c.loop-round.invariant.runs
+    c.loop-round.invariant.ends c.loop-round.invariant.none (said.idle is)
     (record { none_known = said.none_known is; waits = said.waits is })
 
 pub returns-in-Err : goal.returns-in-Err
-returns-in-Err g c = works_spent c.args.self.now c.turn.new.self (c.in-Err.ensures.frame ∙ c.loop-round.invariant.ends.frame) c.in-Err.ensures.fails
+returns-in-Err g c = works_spent c.args.self.now c.turn.new.self
+    (c.in-Err.ensures.frame ∙ c.loop-round.invariant.ends.frame) c.in-Err.ensures.fails
 
 pub returns : goal.returns
 returns g c =
