@@ -7,8 +7,7 @@ use Rattle.join_runtime.proofs.UnderWay.{begun, few_bouts, from_three, goes_on, 
 use Rattle.join_runtime.proofs.runs.run_by.Goals as goal
 
 pub loop-init : goal.loop-init
-loop-init g c = begun c.args.input.now c.args.setting.now c.in_ok-seats.seats c.in_ok-seats.ensures.stands
-    c.in_ok-seats.ensures.empty
+loop-init g c = begun c.args.input.now c.args.setting.now c.args.seats c.requires.stands c.requires.empty
 
 pub loop-preserved : goal.loop-preserved
 loop-preserved g c =
