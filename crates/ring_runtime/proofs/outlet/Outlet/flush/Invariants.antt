@@ -1,9 +1,0 @@
-use Rattle.std.proofs.Common.{length}
-use Rattle.ring_runtime.proofs.Flushing.{Flushes}
-use Rattle.ring_runtime.proofs.outlet.Outlet.flush.Given as goal
-
-abbrev pub invariant-loop-moved : goal.invariant-loop-moved
-invariant-loop-moved l = Flushes l.moved l.initial.self l.self
-
-abbrev pub decreases-loop-moved : goal.decreases-loop-moved
-decreases-loop-moved l = length l.self.waiting

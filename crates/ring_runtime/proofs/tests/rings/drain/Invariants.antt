@@ -1,5 +1,0 @@
-use Rattle.ring_runtime.specs.Rings.{IsSameIn}
-use Rattle.ring_runtime.proofs.tests.rings.drain.Given as goal
-
-abbrev pub invariant-loop-number : goal.invariant-loop-number
-invariant-loop-number l = IsSameIn l.initial.inn l.inn

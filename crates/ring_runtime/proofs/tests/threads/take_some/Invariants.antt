@@ -1,5 +1,0 @@
-use Rattle.ring_runtime.specs.Rings.{IsSameIn}
-use Rattle.ring_runtime.proofs.tests.threads.take_some.Given as goal
-
-abbrev pub invariant-loop : goal.invariant-loop
-invariant-loop l = IsSameIn l.fn.inn l.inn
