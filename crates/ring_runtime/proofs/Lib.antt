@@ -1,0 +1,12 @@
+mod AddressRows
+mod FlushedRows
+mod RowPosts
+mod SeatTurns
+mod NewRings
+mod HeldRows
+mod Dealing
+mod Sent
+mod AlikeSeats
+mod RingLists
+mod RingBouts
+mod Built

@@ -1,0 +1,5 @@
+pub mod Seats
+pub mod Turns
+pub mod Wiring
+pub mod Joins
+pub mod Bouts
