@@ -14,3 +14,6 @@ mod wiring;
 pub use bouts::{RingSeats, ring_bout};
 pub use ring_links::{Outlet, RingIn, RingOut, beside, ring};
 pub use seat::{RingSeat, RingStep};
+
+#[cfg(test)]
+mod tests;
