@@ -1,5 +1,6 @@
 -- What a flush keeps, put by put.
-use Rattle.std.proofs.Common.{◌≡◌, ◌<◌, ◌≤◌, Bool, true, false, ap, sym, ◌∙◌, ◌∷◌, [], ◌++◌, length, append_assoc, arith}
+use Rattle.std.proofs.Common.{◌≡◌, ◌<◌, ◌≤◌, Bool, true, false, ap, sym, ◌∙◌, ◌∷◌, [], ◌++◌, length, append_assoc}
+use Rattle.std.proofs.Common.{arith}
 use Rattle.std.proofs.lemmas.List.{map-append}
 use Rattle.epoch_tags.specs.declared.message.Envelope.{Envelope}
 use Rattle.ring_links.specs.Rings.{IsSameOut}

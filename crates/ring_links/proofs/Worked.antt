@@ -42,7 +42,8 @@ all_in_order ring = refl
 
 -- the first of two that wait is put, which takes a place
 first_is_put : (ring : RingId)
-    → PutsFirst (outlet ring (sealed 1 ∷ []) 1 (ask 2 ∷ ask 3 ∷ [])) (outlet ring (sealed 1 ∷ sealed 2 ∷ []) 0 (ask 3 ∷ []))
+    → PutsFirst (outlet ring (sealed 1 ∷ []) 1 (ask 2 ∷ ask 3 ∷ []))
+    (outlet ring (sealed 1 ∷ sealed 2 ∷ []) 0 (ask 3 ∷ []))
 first_is_put ring = record { msg = ask 2; waited = refl; sent = refl }
 
 -- then the other is stuck

@@ -18,7 +18,8 @@ pub record RingId : Type 0 where
 abbrev pub ring_of : {P : Type 0} → End Envelope Global P → RingId
 ring_of end = record { words = end.words; slots = end.slots; names = end.names; heap = end.heap }
 
--- the sender's end: its ring, who sends to whom, how many messages the ring has room for, what was sent, how many places
+-- the sender's end: its ring, who sends to whom, how many messages the ring has room for, what was sent, how many
+-- places
 -- are known to be free, and whether the last put or `beside` on this end was a put that was refused
 pub record Sending : Type 0 where
   pub ring : RingId
@@ -29,7 +30,8 @@ pub record Sending : Type 0 where
   pub places : ℕ
   pub refused : Bool
 
--- the receiver's end: its ring, who sends to whom, how many messages the ring has room for, what was received, and how many
+-- the receiver's end: its ring, who sends to whom, how many messages the ring has room for, what was received, and how
+-- many
 -- messages are known to be left
 pub record Receiving : Type 0 where
   pub ring : RingId

@@ -1,12 +1,14 @@
 -- Seats whose rings were held together are what they were, but for what they know.
-use Rattle.std.proofs.Common.{◌≡◌, ℕ, ◌+◌, ◌<◌, ◌≤◌, inl, inr, refl, sym, ap, subst, ◌∙◌, Option, Some, None, List, [], ◌∷◌, get_or, map, length, sum_by, suc, arith}
+use Rattle.std.proofs.Common.{◌≡◌, ℕ, ◌+◌, ◌<◌, ◌≤◌, inl, inr, refl, sym, ap, subst, ◌∙◌, Option, Some, None, List, []}
+use Rattle.std.proofs.Common.{◌∷◌, get_or, map, length, sum_by, suc, arith}
 use Rattle.std.proofs.lemmas.Bool.{cases_lt}
 use Rattle.std.proofs.lemmas.List.{get_or_past}
 use Rattle.std.proofs.lemmas.List.Sums.{sum_by-cons}
 use Rattle.ring_links.specs.Rings.{Receiving}
 use Rattle.ring_links.specs.Outlets.{OutletView}
 use Rattle.actor_core.specs.Numbers.{at_number, number}
-use Rattle.ring_runtime.specs.Seats.{RingSeatView, frame_of, in_address, out_address, player_of, received_at, received_from, sent_at, sent_to, waiting_at}
+use Rattle.ring_runtime.specs.Seats.{RingSeatView, frame_of, in_address, out_address, player_of, received_at}
+use Rattle.ring_runtime.specs.Seats.{received_from, sent_at, sent_to, waiting_at}
 use Rattle.ring_runtime.specs.Wiring.{HasSamePlaces, in_of, out_of}
 use Rattle.ring_runtime.specs.Joins.{AllHeld, AreHeld, HoldsBelow, IsAlike, IsHeldAt}
 

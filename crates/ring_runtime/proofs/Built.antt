@@ -1,5 +1,6 @@
 -- New seats with the rings of all links are wired, settled, and have empty lists.
-use Rattle.std.proofs.Common.{◌≡◌, ℕ, ◌+◌, ◌<◌, ◌^◌, ◌↔◌, inl, inr, refl, sym, ap, subst, ◌∙◌, Bool, true≢false, Option, Some, None, List, [], ◌∷◌, ◌++◌, get_or, map, length, arith}
+use Rattle.std.proofs.Common.{◌≡◌, ℕ, ◌+◌, ◌<◌, ◌^◌, ◌↔◌, inl, inr, refl, sym, ap, subst, ◌∙◌, Bool, true≢false, Option}
+use Rattle.std.proofs.Common.{Some, None, List, [], ◌∷◌, ◌++◌, get_or, map, length, arith}
 use Rattle.std.specs.Prelude.{IsSome, slice_get}
 use Rattle.std.proofs.Math.Pow.{pow-lt}
 use Rattle.std.proofs.Math.Seq.{get_or-append_seam}
@@ -8,7 +9,8 @@ use Rattle.std.proofs.lemmas.Nat.{xor_lt}
 use Rattle.std.proofs.lemmas.List.{get_or-map, get_or_append_left, length-append, length-map}
 use Rattle.std.proofs.lemmas.Option.{slice_get-get_or}
 use Rattle.epoch_tags.specs.declared.actor.Actor.{Actor}
-use Rattle.epoch_tags.specs.Links.{HasLink, feeder_joiner, joiner_joiner, controller_feeder, feeder_controller, joiner_controller, joiner_collector}
+use Rattle.epoch_tags.specs.Links.{HasLink, feeder_joiner, joiner_joiner, controller_feeder, feeder_controller}
+use Rattle.epoch_tags.specs.Links.{joiner_controller, joiner_collector}
 use Rattle.ring_links.specs.Rings.{Receiving}
 use Rattle.ring_links.specs.Outlets.{OutletView, contents}
 use Rattle.trace_law.specs.declared.input.Input.{Input}
@@ -21,7 +23,8 @@ use Rattle.actor_core.specs.Players.{lists_among, lists_at}
 use Rattle.actor_core.proofs.Beginnings.{has_number, there}
 use Rattle.actor_core.proofs.OwnNumbers.{number_actor}
 use Rattle.actor_core.proofs.Seated.{core_there, lists_there, number_low}
-use Rattle.ring_runtime.specs.Seats.{RingSeatView, Frame, frame_of, in_address, lists_of, out_address, received_at, received_from, sent_at, sent_to}
+use Rattle.ring_runtime.specs.Seats.{RingSeatView, Frame, frame_of, in_address, lists_of, out_address, received_at}
+use Rattle.ring_runtime.specs.Seats.{received_from, sent_at, sent_to}
 use Rattle.ring_runtime.specs.Wiring.{AreNewSeats, AreWiredBelow, IsNewBetween, IsNewSeat, in_of, out_of}
 use Rattle.ring_runtime.specs.Joins.{AreSettled, AreWired, IsHeldAt, IsPlaced, Meet}
 use Rattle.ring_runtime.specs.Bouts.{RingSeatsView, StandsFor, lists_in, outlet_at, outlet_of, seat_of}

@@ -1,5 +1,6 @@
 -- Outlets that are flushed one after another.
-use Rattle.std.proofs.Common.{◌≡◌, ℕ, ◌+◌, ◌≤◌, ◌<◌, inl, inr, ap, sym, subst, refl, ◌∙◌, Bool, true, false, true≢false, Option, None, List, get_or, set, map, length, arith}
+use Rattle.std.proofs.Common.{◌≡◌, ℕ, ◌+◌, ◌≤◌, ◌<◌, inl, inr, ap, sym, subst, refl, ◌∙◌, Bool, true, false, true≢false}
+use Rattle.std.proofs.Common.{Option, None, List, get_or, set, map, length, arith}
 use Rattle.std.proofs.lemmas.Bool.{cases_eq}
 use Rattle.std.proofs.lemmas.List.{get_or-set_other, get_or-set_same, get_or_default, length-set}
 use Rattle.std.proofs.lemmas.List.Sums.{sum_by-set}

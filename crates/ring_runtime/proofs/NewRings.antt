@@ -1,5 +1,6 @@
 -- Rings as they come to the seats of their actors, one after another.
-use Rattle.std.proofs.Common.{◌≡◌, ◌≢◌, ℕ, ◌+◌, ◌<◌, ◌^◌, inl, inr, refl, sym, ap, subst, ◌∙◌, Option, None, Some, List, get_or, set, length, arith}
+use Rattle.std.proofs.Common.{◌≡◌, ◌≢◌, ℕ, ◌+◌, ◌<◌, ◌^◌, inl, inr, refl, sym, ap, subst, ◌∙◌, Option, None, Some, List}
+use Rattle.std.proofs.Common.{get_or, set, length, arith}
 use Rattle.std.proofs.lemmas.Bool.{cases_eq}
 use Rattle.std.proofs.lemmas.List.{get_or-set_other, get_or-set_same, length-set}
 use Rattle.epoch_tags.specs.declared.actor.Actor.{Actor}
@@ -9,7 +10,8 @@ use Rattle.ring_links.specs.Outlets.{OutletView}
 use Rattle.actor_core.specs.Numbers.{actor_at}
 use Rattle.actor_core.proofs.Beginnings.{there}
 use Rattle.ring_runtime.specs.Seats.{RingSeatView}
-use Rattle.ring_runtime.specs.Wiring.{AreWiredBelow, GivesIn, GivesOut, HasSamePlaces, IsNewBetween, Wires, WiresRow, in_of, out_of}
+use Rattle.ring_runtime.specs.Wiring.{AreWiredBelow, GivesIn, GivesOut, HasSamePlaces, IsNewBetween, Wires, WiresRow}
+use Rattle.ring_runtime.specs.Wiring.{in_of, out_of}
 
 -- a seat has the places that it has
 pub same_places : (s : RingSeatView) → HasSamePlaces s s

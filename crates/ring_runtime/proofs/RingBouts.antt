@@ -1,5 +1,6 @@
 -- What a bout does to the seats of a run.
-use Rattle.std.proofs.Common.{◌≡◌, ℕ, zero, suc, ◌+◌, ◌<◌, ◌⊎◌, inl, inr, refl, sym, ap, subst, ◌∙◌, Bool, true, false, true≢false, Option, Some, None, List, [], ◌∷◌, get_or, map, length, sum_by, arith}
+use Rattle.std.proofs.Common.{◌≡◌, ℕ, zero, suc, ◌+◌, ◌<◌, ◌⊎◌, inl, inr, refl, sym, ap, subst, ◌∙◌, Bool, true, false}
+use Rattle.std.proofs.Common.{true≢false, Option, Some, None, List, [], ◌∷◌, get_or, map, length, sum_by, arith}
 use Rattle.std.proofs.lemmas.Bool.{cases_lt}
 use Rattle.std.proofs.lemmas.List.{get_or_default}
 use Rattle.std.proofs.lemmas.List.Sums.{sum_by-cons}
@@ -16,7 +17,8 @@ use Rattle.actor_core.proofs.EventsCounted.{still_linked}
 use Rattle.actor_core.proofs.OwnNumbers.{number_there}
 use Rattle.actor_core.proofs.Runs.{runs_live}
 use Rattle.actor_core.proofs.Seated.{AllRelate, HasRun, all_relate, extends, journal_grows, stand_after}
-use Rattle.ring_runtime.specs.Seats.{RingSeatView, AllStuck, IsStuckAt, frame_of, known_at, lists_of, player_of, received_at, sent_at, waiting_at, waiting_in}
+use Rattle.ring_runtime.specs.Seats.{RingSeatView, AllStuck, IsStuckAt, frame_of, known_at, lists_of, player_of}
+use Rattle.ring_runtime.specs.Seats.{received_at, sent_at, waiting_at, waiting_in}
 use Rattle.ring_runtime.specs.Turns.{Advances, Rests, Works}
 use Rattle.ring_runtime.specs.Wiring.{in_of, out_of}
 use Rattle.ring_runtime.specs.Joins.{AreHeld, AreSettled, AreWired, IsAlike, IsHeldAt}
@@ -100,7 +102,8 @@ module _ (went : Bool) (joiners feeders : ℕ) (old new : List RingSeatView) (lo
   extends_after = extends joiners feeders _ _ _ _ ran
 
   -- the controller's journal grows
-  pub journal_after : IsPrefix (journal_among joiners feeders (cores_of old)) (journal_among joiners feeders (cores_of new))
+  pub journal_after : IsPrefix (journal_among joiners feeders (cores_of old))
+      (journal_among joiners feeders (cores_of new))
   journal_after = journal_grows joiners feeders _ _ _ _ ran
 
   -- what was sent goes over links still

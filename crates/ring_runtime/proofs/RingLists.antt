@@ -1,5 +1,6 @@
 -- What was received and sent between two actors of a run, once the two ends of each ring were held together.
-use Rattle.std.proofs.Common.{◌≡◌, ℕ, zero, suc, ◌+◌, ◌<◌, ◌≤◌, inl, inr, refl, sym, ap, subst, ◌∙◌, true, Option, Some, None, List, [], ◌∷◌, ◌++◌, get_or, map, length, append-nil, append_assoc, arith}
+use Rattle.std.proofs.Common.{◌≡◌, ℕ, zero, suc, ◌+◌, ◌<◌, ◌≤◌, inl, inr, refl, sym, ap, subst, ◌∙◌, true, Option, Some}
+use Rattle.std.proofs.Common.{None, List, [], ◌∷◌, ◌++◌, get_or, map, length, append-nil, append_assoc, arith}
 use Rattle.std.specs.Prelude.{slice_get}
 use Rattle.std.proofs.lemmas.Bool.{cases_lt}
 use Rattle.std.proofs.lemmas.List.{get_or-map, get_or_past, length-append, length-map, map-append}
@@ -24,10 +25,13 @@ use Rattle.actor_core.proofs.Beginnings.{there}
 use Rattle.actor_core.proofs.OwnNumbers.{none_some, number_there, some_is}
 use Rattle.actor_core.proofs.Seated.{core_there, lists_there, number_low}
 use Rattle.actor_core.proofs.Stilled.{still_complete}
-use Rattle.ring_runtime.specs.Seats.{RingSeatView, Address, Frame, frame_of, in_address, known_at, lists_of, out_address, received_at, received_from, received_through, sent_at, sent_through, sent_to, waiting_at}
+use Rattle.ring_runtime.specs.Seats.{RingSeatView, Address, Frame, frame_of, in_address, known_at, lists_of}
+use Rattle.ring_runtime.specs.Seats.{out_address, received_at, received_from, received_through, sent_at, sent_through}
+use Rattle.ring_runtime.specs.Seats.{sent_to, waiting_at}
 use Rattle.ring_runtime.specs.Wiring.{in_of, out_of}
 use Rattle.ring_runtime.specs.Joins.{AreEndsOf, AreHeld, AreWired, IsHeldAt, IsPlaced, Meet}
-use Rattle.ring_runtime.specs.Bouts.{EachSeat, IsAtRest, IsBusy, IsStill, RingSeatsView, SomeSeat, StandsFor, cores_in, is_collected, lists_in}
+use Rattle.ring_runtime.specs.Bouts.{EachSeat, IsAtRest, IsBusy, IsStill, RingSeatsView, SomeSeat, StandsFor, cores_in}
+use Rattle.ring_runtime.specs.Bouts.{is_collected, lists_in}
 
 -- ---- one ring
 

@@ -1,5 +1,6 @@
 -- All seats of a run over rings, their lists, and what a bout does.
-use Rattle.std.specs.Prelude.{◌≡◌, ◌<◌, ◌⊎◌, ℕ, suc, Bool, false, Option, Some, None, List, length, map, slice_get, slice_index_or}
+use Rattle.std.specs.Prelude.{◌≡◌, ◌<◌, ◌⊎◌, ℕ, suc, Bool, false, Option, Some, None, List, length, map, slice_get}
+use Rattle.std.specs.Prelude.{slice_index_or}
 use Rattle.epoch_tags.specs.declared.actor.Actor.{Actor}
 use Rattle.load_controller.specs.declared.line.TurnLine.{TurnLine}
 use Rattle.ring_links.specs.Rings.{Receiving}

@@ -10,7 +10,8 @@ use Rattle.actor_core.specs.Standing.{Occurs, Waits, IsLive, given_by}
 use Rattle.actor_core.specs.Families.{journal_of}
 use Rattle.actor_core.specs.Players.{MayBegin, Runs}
 use Rattle.actor_core.specs.declared.machines.Core.{Core}
-use Rattle.ring_runtime.specs.Seats.{RingSeatView, AllStuck, NoneKnown, frame_of, player_of, received_through, waiting_in}
+use Rattle.ring_runtime.specs.Seats.{RingSeatView, AllStuck, NoneKnown, frame_of, player_of, received_through}
+use Rattle.ring_runtime.specs.Seats.{waiting_in}
 
 -- ---- one turn
 

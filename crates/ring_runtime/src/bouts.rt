@@ -45,7 +45,7 @@ fn any_spent(seats: &[RingSeat]) -> bool
 }
 
 // A bout of these seats. `Ok(false)`: all rest.
-fn bout_of<R: Threads + Sync, G: Gate>(
+fn bout_of<R: Threads + Sync, G: Gate + Sync>(
     rt: &R,
     seats: &mut [RingSeat],
     workers: u32,
@@ -112,7 +112,7 @@ impl<'a> Model for RingSeats<'a> {
 /// then the two ends of each ring are held together. No seat waits for another. `Ok(false)`: nothing was left on any
 /// link, and no feeder would begin; then nothing changed, and of a valid input the collector is complete. After an
 /// error the seats are spent.
-pub fn ring_bout<R: Threads + Sync, G: Gate>(
+pub fn ring_bout<R: Threads + Sync, G: Gate + Sync>(
     rt: &R,
     seats: &mut RingSeats,
     workers: u32,

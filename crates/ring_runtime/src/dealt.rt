@@ -10,7 +10,7 @@ use std::thread::Threads;
 use worker_gate::{Gate, standing_at};
 
 // The turns of all seats as they stand, which are cut into as many chunks as there are workers.
-fn work_as_they_stand<R: Threads + Sync, G: Gate>(
+fn work_as_they_stand<R: Threads + Sync, G: Gate + Sync>(
     rt: &R,
     seats: &mut [RingSeat],
     workers: u32,
@@ -25,7 +25,7 @@ fn work_as_they_stand<R: Threads + Sync, G: Gate>(
 
 // The turns of all seats, of which those at so many last places are still to be dealt; each stands in its place again
 // behind them.
-fn work_dealt<R: Threads + Sync, G: Gate>(
+fn work_dealt<R: Threads + Sync, G: Gate + Sync>(
     rt: &R,
     seats: &mut [RingSeat],
     workers: u32,
@@ -55,7 +55,7 @@ fn work_dealt<R: Threads + Sync, G: Gate>(
 
 // The turns of all seats, which are dealt to as many chunks as there are workers: so each has as many joiners as the
 // others, or one more or less.
-pub(crate) fn work<R: Threads + Sync, G: Gate>(
+pub(crate) fn work<R: Threads + Sync, G: Gate + Sync>(
     rt: &R,
     seats: &mut [RingSeat],
     workers: u32,

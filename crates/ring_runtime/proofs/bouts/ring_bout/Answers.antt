@@ -3,7 +3,8 @@ use Rattle.std.proofs.lemmas.List.{length-map, with_items_is}
 use Rattle.ring_runtime.specs.Seats.{frame_of}
 use Rattle.ring_runtime.specs.Joins.{AreWired}
 use Rattle.ring_runtime.specs.Bouts.{RingSeatsView}
-use Rattle.ring_runtime.proofs.RingBouts.{event_made, extends_after, journal_after, linked_after, moves_on, settled_after, stands_after}
+use Rattle.ring_runtime.proofs.RingBouts.{event_made, extends_after, journal_after, linked_after, moves_on}
+use Rattle.ring_runtime.proofs.RingBouts.{settled_after, stands_after}
 use Rattle.ring_runtime.proofs.RingLists.{busy, fronts, rest_collected, still}
 use Rattle.ring_runtime.proofs.bouts.ring_bout.Goals as goal
 
