@@ -155,7 +155,7 @@ fn cmp<T: Ord + ?Sized>(op: Op, a: &T, b: &T) -> bool {
     }
 }
 
-/// The grammar of 04, 1.2, over bytes; names are resolved on the way.
+/// The grammar of a predicate (docs/USAGE.md), over bytes; names are resolved on the way.
 struct Parser<'a> {
     t: &'a [u8],
     p: usize,
@@ -425,7 +425,7 @@ impl Join {
     }
 }
 
-/// The key atom of 04, 1.6: R's part, S's part negated, and the bounds of their difference.
+/// The key atom of a predicate (docs/GLOSSARY.md): R's part, S's part negated, and the bounds of their difference.
 struct Key {
     rank: u8,
     r: Sum,
