@@ -6,7 +6,8 @@
 A row of the table for each workload and each number of joiners and workers in SETTINGS: the least wall time of RUNS runs (5,
 unless said), with its processor time and the greatest memory, and both times over those of `base` (bench/base.rs, one
 thread, nothing proved), which is compiled first. SQLite has the tables in memory and an index. All pairs are compared. JM
-names another program than the repository's own, which is built first where it isn't. The load of the machine is printed:
+names another program than the repository's own, which is built first where it isn't. No memory below some 18 MB is told:
+so much the script itself has. The load of the machine is printed:
 wall times say something where it is below 1 before the first run.
 """
 import hashlib
