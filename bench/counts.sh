@@ -1,7 +1,8 @@
 #!/bin/sh
 # Counts the instructions and the heap's calls of the whole program with one worker: 20,000 rows a side, equal numbers, one
 # match a row. Other than times they are nearly the same on any machine, so a change shows by them what it costs. Fails where
-# either is more than a hundredth above what stands here, which was measured when this script came, with kept threads. JM names another program than the repository's own. It wants valgrind.
+# either is more than a hundredth above what stands here, which was measured when this script came, with kept threads. JM names another
+# program than the repository's own. It wants valgrind.
 set -eu
 instructions=379500000
 calls=129300
