@@ -1,10 +1,12 @@
 -- Counts over two lists end to end.
-use Rattle.std.proofs.Common.{◌≡◌, ◌+◌, refl, ap, arith, List, [], ◌∷◌, ◌++◌, ◌<◌, ℕ, ◌≤◌, length, Bool, cond, ◌==◌, true, false}
+use Rattle.std.proofs.Common.{◌≡◌, ◌+◌, refl, ap, arith, List, [], ◌∷◌, ◌++◌, ◌<◌, ℕ, ◌≤◌, length, Bool, cond, ◌==◌}
+use Rattle.std.proofs.Common.{true, false}
 use Rattle.epoch_tags.specs.declared.message.ToController.{ToController}
 use Rattle.epoch_tags.specs.declared.message.ToController.TheVariants.{Ask, Drained, Settled}
 use Rattle.epoch_tags.specs.declared.message.ToFeeder.{ToFeeder}
 use Rattle.epoch_tags.specs.declared.message.ToFeeder.TheVariants.{Order, Grant, Stop}
-use Rattle.epoch_tags.specs.Messages.{order_epochs, grants, stops, asks, draineds, asked_r, asked_s, settled_epochs, turns, ends, tups, moved_ends}
+use Rattle.epoch_tags.specs.Messages.{order_epochs, grants, stops, asks, draineds, asked_r, asked_s, settled_epochs}
+use Rattle.epoch_tags.specs.Messages.{turns, ends, tups, moved_ends}
 use Rattle.epoch_tags.specs.Orders.{StopsLast, DrainsLast, NeverFalls}
 use Rattle.epoch_tags.specs.declared.message.ToJoiner.{ToJoiner}
 use Rattle.epoch_tags.specs.declared.message.ToJoiner.TheVariants.{Tup, Turn, End, Moved, MovedEnd}
@@ -51,7 +53,8 @@ asked_s-append (Ask dr ds ∷ xs) ys = let rest = asked_s-append xs ys in omega 
 asked_s-append (Drained ∷ xs) ys = asked_s-append xs ys
 asked_s-append (Settled epoch ∷ xs) ys = asked_s-append xs ys
 
-pub settled_epochs-append : (xs ys : List ToController) → settled_epochs (xs ++ ys) ≡ settled_epochs xs ++ settled_epochs ys
+pub settled_epochs-append : (xs ys : List ToController) → settled_epochs (xs ++ ys) ≡ settled_epochs xs
+    ++ settled_epochs ys
 settled_epochs-append [] ys = refl
 settled_epochs-append (Ask dr ds ∷ xs) ys = settled_epochs-append xs ys
 settled_epochs-append (Drained ∷ xs) ys = settled_epochs-append xs ys
@@ -66,7 +69,8 @@ none_stopped (Stop ∷ []) ys m last = absurd (cc)
 none_stopped (Stop ∷ (x ∷ xs)) ys m last = absurd (cc)
 
 -- before a further message no `Drained` stands
-pub none_drained : (earlier rest : List ToController) (m : ToController) → DrainsLast (earlier ++ m ∷ rest) → draineds earlier ≡ 0
+pub none_drained : (earlier rest : List ToController) (m : ToController) → DrainsLast (earlier ++ m ∷ rest)
+    → draineds earlier ≡ 0
 none_drained [] rest m last = refl
 none_drained (Ask dr ds ∷ earlier) rest m last = none_drained earlier rest m last
 none_drained (Drained ∷ []) rest m last = absurd (cc)
@@ -123,7 +127,9 @@ moved_ends-append e (End ∷ xs) ys = moved_ends-append e xs ys
 moved_ends-append e (Moved epoch x ∷ xs) ys = moved_ends-append e xs ys
 moved_ends-append e (MovedEnd epoch ∷ xs) ys = by_test (epoch == e) (moved_ends-append e xs ys)
   where
-    by_test : (t : Bool) → moved_ends e (xs ++ ys) ≡ moved_ends e xs + moved_ends e ys → cond t (moved_ends e (xs ++ ys) + 1) (moved_ends e (xs ++ ys)) ≡ cond t (moved_ends e xs + 1) (moved_ends e xs) + moved_ends e ys
+    by_test : (t : Bool) → moved_ends e (xs ++ ys) ≡ moved_ends e xs + moved_ends e ys
+        → cond t (moved_ends e (xs ++ ys) + 1) (moved_ends e (xs ++ ys))
+        ≡ cond t (moved_ends e xs + 1) (moved_ends e xs) + moved_ends e ys
     by_test true rest = omega arith
     by_test false rest = rest
 

@@ -18,7 +18,8 @@ goes-front b (Order epoch shift ∷ xs) ys (is, go) = (is, goes-front b xs ys go
 goes-front b (Grant ∷ xs) ys go = goes-front b xs ys go
 goes-front b (Stop ∷ xs) ys go = goes-front b xs ys go
 
-pub goes_at : (b : ℕ → ℕ) (xs ys : List ToFeeder) (epoch shift : ℕ) → GoesBy b (xs ++ Order epoch shift ∷ ys) → shift ≡ b epoch
+pub goes_at : (b : ℕ → ℕ) (xs ys : List ToFeeder) (epoch shift : ℕ) → GoesBy b (xs ++ Order epoch shift ∷ ys)
+    → shift ≡ b epoch
 goes_at b [] ys epoch shift go = go.0
 goes_at b (Order e c ∷ xs) ys epoch shift go = goes_at b xs ys epoch shift go.1
 goes_at b (Grant ∷ xs) ys epoch shift go = goes_at b xs ys epoch shift go
@@ -32,7 +33,8 @@ front_goes b (End ∷ xs) ys go = front_goes b xs ys go
 front_goes b (Moved epoch x ∷ xs) ys go = front_goes b xs ys go
 front_goes b (MovedEnd epoch ∷ xs) ys go = front_goes b xs ys go
 
-pub turns_at : (b : ℕ → ℕ) (xs ys : List ToJoiner) (epoch shift : ℕ) → TurnsGoBy b (xs ++ Turn epoch shift ∷ ys) → shift ≡ b epoch
+pub turns_at : (b : ℕ → ℕ) (xs ys : List ToJoiner) (epoch shift : ℕ) → TurnsGoBy b (xs ++ Turn epoch shift ∷ ys)
+    → shift ≡ b epoch
 turns_at b [] ys epoch shift go = go.0
 turns_at b (Tup x ∷ xs) ys epoch shift go = turns_at b xs ys epoch shift go
 turns_at b (Turn e c ∷ xs) ys epoch shift go = turns_at b xs ys epoch shift go.1

@@ -10,7 +10,9 @@ pub tups_of-append : (e : ℕ) (xs ys : List ToJoiner) → tups_of e (xs ++ ys) 
 tups_of-append e [] ys = refl
 tups_of-append e (Tup x ∷ xs) ys = either (x.stamp == e) (tups_of-append e xs ys)
   where
-    either : (t : Bool) → tups_of e (xs ++ ys) ≡ tups_of e xs ++ tups_of e ys → cond t (x ∷ tups_of e (xs ++ ys)) (tups_of e (xs ++ ys)) ≡ cond t (x ∷ tups_of e xs) (tups_of e xs) ++ tups_of e ys
+    either : (t : Bool) → tups_of e (xs ++ ys) ≡ tups_of e xs ++ tups_of e ys
+        → cond t (x ∷ tups_of e (xs ++ ys)) (tups_of e (xs ++ ys)) ≡ cond t (x ∷ tups_of e xs) (tups_of e xs)
+        ++ tups_of e ys
     either true rest = ap (λ ts. x ∷ ts) rest
     either false rest = rest
 tups_of-append e (Turn epoch shift ∷ xs) ys = tups_of-append e xs ys

@@ -1,7 +1,8 @@
 -- Of what a machine answers, what goes to whom.
 use Rattle.std.specs.Prelude.{◌==◌, ℕ, ⊤, Option, Some, None, List, All, filter_map, if◌then◌else◌}
 use Rattle.epoch_tags.specs.declared.actor.Actor.{Actor}
-use Rattle.epoch_tags.specs.declared.actor.Actor.TheVariants.{Feeder as Feeder', Joiner as Joiner', Controller as Controller', Collector as Collector'}
+use Rattle.epoch_tags.specs.declared.actor.Actor.TheVariants.{Feeder as Feeder', Joiner as Joiner'}
+use Rattle.epoch_tags.specs.declared.actor.Actor.TheVariants.{Controller as Controller', Collector as Collector'}
 use Rattle.epoch_tags.specs.declared.message.Msg.{Msg}
 use Rattle.epoch_tags.specs.declared.message.Msg.TheVariants.{Joiner, Feeder, Controller, Collector}
 use Rattle.epoch_tags.specs.declared.message.Post.{Post}

@@ -8,17 +8,20 @@ pub smallest_within : (k top x y : ℕ) → smallest_best k top x y ≤ top
 smallest_within k zero x y = omega arith
 smallest_within k (suc top) x y =
     let here = smallest_within k top x y in
-    cond_both (nat_lt (copies k (suc top) x y) (copies k (smallest_best k top x y) x y)) (suc top) (smallest_best k top x y) (λ b. b ≤ suc top) (λ e. omega arith) (λ e. omega arith)
+    cond_both (nat_lt (copies k (suc top) x y) (copies k (smallest_best k top x y) x y)) (suc top)
+    (smallest_best k top x y) (λ b. b ≤ suc top) (λ e. omega arith) (λ e. omega arith)
 
 pub best_within : (k b x y : ℕ) → b ≤ k → best_shift k b x y ≤ k
 best_within k b x y within =
-    cond_both (nat_le (copies k b x y) (copies k (smallest_best k k x y) x y)) b (smallest_best k k x y) (λ c. c ≤ k) (λ e. within) (λ e. smallest_within k k x y)
+    cond_both (nat_le (copies k b x y) (copies k (smallest_best k k x y) x y)) b (smallest_best k k x y) (λ c. c ≤ k)
+    (λ e. within) (λ e. smallest_within k k x y)
 
 pub smallest_fewest : (k top x y c : ℕ) → c ≤ top → copies k (smallest_best k top x y) x y ≤ copies k c x y
 smallest_fewest k zero x y c low = let is : c ≡ 0 = omega arith in rw is (omega arith)
 smallest_fewest k (suc top) x y c low =
     let small = smallest_best k top x y in
-    cond_both (nat_lt (copies k (suc top) x y) (copies k small x y)) (suc top) small (λ b. copies k b x y ≤ copies k c x y)
+    cond_both (nat_lt (copies k (suc top) x y) (copies k small x y)) (suc top) small
+    (λ b. copies k b x y ≤ copies k c x y)
     (λ e. let less = ltb-true (copies k (suc top) x y) (copies k small x y) e in
     elim (cases_eq c (suc top)) [
       | inl is ↦ rw is (omega arith)
@@ -30,11 +33,13 @@ smallest_fewest k (suc top) x y c low =
       | inr differ ↦ smallest_fewest k top x y c (omega arith)
     ])
 
-pub smallest_is_smallest : (k top x y c : ℕ) → c < smallest_best k top x y → copies k (smallest_best k top x y) x y < copies k c x y
+pub smallest_is_smallest : (k top x y c : ℕ) → c < smallest_best k top x y
+    → copies k (smallest_best k top x y) x y < copies k c x y
 smallest_is_smallest k zero x y c low = omega arith
 smallest_is_smallest k (suc top) x y c below =
     let small = smallest_best k top x y in
-    cond_both (nat_lt (copies k (suc top) x y) (copies k small x y)) (suc top) small (λ b. c < b → copies k b x y < copies k c x y)
+    cond_both (nat_lt (copies k (suc top) x y) (copies k small x y)) (suc top) small (λ b. c < b
+    → copies k b x y < copies k c x y)
     (λ e low. let less = ltb-true (copies k (suc top) x y) (copies k small x y) e in
     let fewest = smallest_fewest k top x y c (omega arith) in omega arith)
     (λ e low. smallest_is_smallest k top x y c low) below
@@ -44,7 +49,8 @@ best_fewest k b x y within = record {
   within = best_within k b x y within;
   fewest = λ c low.
       let least = smallest_fewest k k x y c low in
-      cond_both (nat_le (copies k b x y) (copies k (smallest_best k k x y) x y)) b (smallest_best k k x y) (λ d. copies k d x y ≤ copies k c x y)
+      cond_both (nat_le (copies k b x y) (copies k (smallest_best k k x y) x y)) b (smallest_best k k x y)
+      (λ d. copies k d x y ≤ copies k c x y)
       (λ e. let here = leb-true (copies k b x y) (copies k (smallest_best k k x y) x y) e in omega arith)
       (λ e. least);
 }
@@ -63,7 +69,9 @@ as_few k b c x y within less fewest = record {
 }
 
 pub is_fewest : (k below b x y : ℕ) → below ≡ k → b ≡ smallest_best k below x y → HasFewest k b x y
-is_fewest k below b x y all is = let is' : b ≡ smallest_best k k x y = rw all at is in rw is' (smallest_has_fewest k x y)
+is_fewest k below b x y all is = let is' : b ≡ smallest_best k k x y = rw all at is in
+    rw is' (smallest_has_fewest k x y)
 
 pub is_smallest : (k below b x y : ℕ) → below ≡ k → b ≡ smallest_best k below x y → IsSmallest k b x y
-is_smallest k below b x y all is = let is' : b ≡ smallest_best k k x y = rw all at is in rw is' (smallest_is_smallest k k x y)
+is_smallest k below b x y all is = let is' : b ≡ smallest_best k k x y = rw all at is in
+    rw is' (smallest_is_smallest k k x y)

@@ -1,5 +1,6 @@
 -- The lines of numbered things, one after the other.
-use Rattle.std.proofs.Common.{◌≡◌, ◌≤◌, ◌+◌, ℕ, zero, suc, min, sym, ◌∙◌, ap, refl, arith, List, [], ◌∷◌, ◌++◌, length, take, append_assoc, Some}
+use Rattle.std.proofs.Common.{◌≡◌, ◌≤◌, ◌+◌, ℕ, zero, suc, min, sym, ◌∙◌, ap, refl, arith, List, [], ◌∷◌, ◌++◌, length}
+use Rattle.std.proofs.Common.{take, append_assoc, Some}
 use Rattle.std.specs.Prelude.{zip, flat_map, slice_get}
 use Rattle.std.specs.List.{enumerate_from}
 use Rattle.std.proofs.lemmas.List.{append-nil}
@@ -22,7 +23,8 @@ one_more line n (suc id) (y ∷ xs) x at =
     ∙ ap (λ m. (line n y ++ lines_from line (n + 1) (take id xs)) ++ line m x) there
 
 -- one line more behind a text
-pub lines_more : {X : Type 0} (line : ℕ → X → List ℕ) (before text text' : List ℕ) (id : ℕ) (xs : List X) (x : X) → slice_get xs id ≡ Some x
+pub lines_more : {X : Type 0} (line : ℕ → X → List ℕ) (before text text' : List ℕ) (id : ℕ) (xs : List X) (x : X)
+    → slice_get xs id ≡ Some x
     → text ≡ before ++ lines_from line 0 (take id xs) → text' ≡ text ++ line id x
     → text' ≡ before ++ lines_from line 0 (take (id + 1) xs)
 lines_more line before text text' id xs x at so_far more =
@@ -36,7 +38,8 @@ lines_more line before text text' id xs x at so_far more =
     ∙ ap (λ m. before ++ lines_from line 0 (take m xs)) (sym next)
 
 -- two things of one number
-pub both_at : {X Y : Type 0} (xs : List X) (ys : List Y) (id : ℕ) (x : X) (y : Y) → slice_get xs id ≡ Some x → slice_get ys id ≡ Some y
+pub both_at : {X Y : Type 0} (xs : List X) (ys : List Y) (id : ℕ) (x : X) (y : Y) → slice_get xs id ≡ Some x
+    → slice_get ys id ≡ Some y
     → slice_get (zip xs ys) id ≡ Some (x, y)
 both_at [] ys id x y at at' = absurd (cc)
 both_at (a ∷ xs) [] id x y at at' = absurd (cc)
@@ -47,10 +50,12 @@ both_at (a ∷ xs) (b ∷ ys) zero x y at at' =
 both_at (a ∷ xs) (b ∷ ys) (suc id) x y at at' = both_at xs ys id x y at at'
 
 -- as many of them as there are
-pub zip_whole : {X Y : Type 0} (xs : List X) (ys : List Y) (n : ℕ) → min (length xs) (length ys) ≤ n → take n (zip xs ys) ≡ zip xs ys
+pub zip_whole : {X Y : Type 0} (xs : List X) (ys : List Y) (n : ℕ) → min (length xs) (length ys) ≤ n
+    → take n (zip xs ys) ≡ zip xs ys
 zip_whole [] ys zero low = refl
 zip_whole [] ys (suc n) low = refl
 zip_whole (x ∷ xs) [] zero low = refl
 zip_whole (x ∷ xs) [] (suc n) low = refl
 zip_whole (x ∷ xs) (y ∷ ys) zero low = absurd (omega arith)
-zip_whole (x ∷ xs) (y ∷ ys) (suc n) low = let low' : min (length xs) (length ys) ≤ n = omega arith in ap (λ pairs. (x, y) ∷ pairs) (zip_whole xs ys n low')
+zip_whole (x ∷ xs) (y ∷ ys) (suc n) low = let low' : min (length xs) (length ys) ≤ n = omega arith in
+    ap (λ pairs. (x, y) ∷ pairs) (zip_whole xs ys n low')

@@ -6,8 +6,10 @@ use Rattle.epoch_tags.specs.declared.tuple.Pair.{Pair}
 use Rattle.join_rows.specs.declared.table.Cell.{Cell}
 use Rattle.join_report.specs.RowLines.{row_line, row_lines}
 
-pub row_lines-more : (rows_r rows_s : List (List Cell)) (pairs : List Pair) (place : ℕ) (pair : Pair) → place < length pairs
-    → row_lines rows_r rows_s (take (place + 1) pairs) ≡ row_lines rows_r rows_s (take place pairs) ++ row_line rows_r rows_s (get_or pairs place pair)
+pub row_lines-more : (rows_r rows_s : List (List Cell)) (pairs : List Pair) (place : ℕ) (pair : Pair)
+    → place < length pairs
+    → row_lines rows_r rows_s (take (place + 1) pairs) ≡ row_lines rows_r rows_s (take place pairs)
+    ++ row_line rows_r rows_s (get_or pairs place pair)
 row_lines-more rows_r rows_s pairs place pair within =
     let last = get_or pairs place pair in
     ap (row_lines rows_r rows_s) (take_more pairs place pair within)

@@ -20,10 +20,28 @@ two_lines = refl
 
 -- eight rows a side in a grid of four that goes to shift 0 and back
 abbrev four_joiners : Setting
-four_joiners = record { k = 2; feeders = 1; workers = 4; batch = 4; feed = RFirst; fixed = None; weights = record { r = 1; s = 1 } }
+four_joiners = record {
+  k = 2;
+  feeders = 1;
+  workers = 4;
+  batch = 4;
+  feed = RFirst;
+  fixed = None;
+  weights = record { r = 1; s = 1 };
+}
 
 abbrev line : ℕ → ℕ → TurnLine
-line epoch shift = record { cause = Start; rows_r = 0; rows_s = 0; base_r = 0; base_s = 0; epoch = epoch; shift = shift; goal = shift; moving = false }
+line epoch shift = record {
+  cause = Start;
+  rows_r = 0;
+  rows_s = 0;
+  base_r = 0;
+  base_s = 0;
+  epoch = epoch;
+  shift = shift;
+  goal = shift;
+  moving = false;
+}
 
 abbrev held : Held
 held = record { rows_r = 4; rows_s = 4 }
@@ -46,7 +64,15 @@ report_of_two_steps = refl
 -- three rows a side in a grid of four that stays at shift 0
 abbrev fixed_at_0 : ℕ → Setting
 fixed_at_0 weight_r =
-    record { k = 2; feeders = 2; workers = 4; batch = 64; feed = Alternate; fixed = Some 0; weights = record { r = weight_r; s = 1 } }
+    record {
+      k = 2;
+      feeders = 2;
+      workers = 4;
+      batch = 64;
+      feed = Alternate;
+      fixed = Some 0;
+      weights = record { r = weight_r; s = 1 };
+    }
 
 abbrev load : ℕ → Held
 load x = record { rows_r = x; rows_s = 3 }
@@ -76,7 +102,15 @@ report_of_heavy_rows = refl
 -- rows of R that weigh twice those of S, in a grid that goes to shift 0 and stays there
 abbrev twice_as_heavy : Setting
 twice_as_heavy =
-    record { k = 2; feeders = 1; workers = 4; batch = 4; feed = RFirst; fixed = None; weights = record { r = 2; s = 1 } }
+    record {
+      k = 2;
+      feeders = 1;
+      workers = 4;
+      batch = 4;
+      feed = RFirst;
+      fixed = None;
+      weights = record { r = 2; s = 1 };
+    }
 
 abbrev held_by_each : Held
 held_by_each = record { rows_r = 2; rows_s = 8 }

@@ -18,5 +18,6 @@ made-shape side count few =
       named = omega arith;
       wide = All-map (λ (cells : List Cell). length cells ≡ length made_names) row places (λ k d within. refl);
       few = omega (arith, few, length-map-range_with_len row 0 count);
-      numbers = All-map (λ (cells : List Cell). All HasItsNumber cells) row places (λ k d within. cells_numbers (made_fields side _));
+      numbers = All-map (λ (cells : List Cell). All HasItsNumber cells) row places
+          (λ k d within. cells_numbers (made_fields side _));
     }

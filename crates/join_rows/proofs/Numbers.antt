@@ -1,5 +1,7 @@
 -- Which texts write a number.
-use Rattle.std.proofs.Common.{◌≡◌, ◌≢◌, ◌<◌, ◌+◌, ◌-◌, ◌^◌, ◌∙◌, ◌&&◌, ◌==◌, ℕ, ℤ, zero, suc, pos, negsuc, Bool, true, false, List, [], ◌∷◌, ◌++◌, length, take, drop, refl, sym, ap, arith, Option, None, Some, Result, Ok, Err, nat_lt, subst}
+use Rattle.std.proofs.Common.{◌≡◌, ◌≢◌, ◌<◌, ◌+◌, ◌-◌, ◌^◌, ◌∙◌, ◌&&◌, ◌==◌, ℕ, ℤ, zero, suc, pos, negsuc, Bool, true}
+use Rattle.std.proofs.Common.{false, List, [], ◌∷◌, ◌++◌, length, take, drop, refl, sym, ap, arith, Option, None, Some}
+use Rattle.std.proofs.Common.{Result, Ok, Err, nat_lt, subst}
 use Rattle.std.specs.Char.{digit_value}
 use Rattle.std.specs.Int.{w64}
 use Rattle.std.specs.List.{AllByRecursion, list_all}
@@ -24,11 +26,13 @@ plain_digits : (ds : List ℕ) → AllDigits 10 ds → AllByRecursion Plain ds
 plain_digits [] h = tt
 plain_digits (c ∷ ds) h = (plain_digit c h.0, plain_digits ds h.1)
 
-plain_numeral : (numeral : List ℕ) → IsNumeral 10 (without_leading_sign numeral) → (0 < length numeral) × AllByRecursion Plain numeral
+plain_numeral : (numeral : List ℕ) → IsNumeral 10 (without_leading_sign numeral) → (0 < length numeral)
+    × AllByRecursion Plain numeral
 plain_numeral [] h = absurd (omega (arith, h.0))
 plain_numeral (c ∷ cs) h = (omega arith, by (c == 45) (c == 43) refl refl h)
   where
-    by : (minus plus : Bool) → (c == 45) ≡ minus → (c == 43) ≡ plus → IsNumeral 10 (without_leading_sign (c ∷ cs)) → AllByRecursion Plain (c ∷ cs)
+    by : (minus plus : Bool) → (c == 45) ≡ minus → (c == 43) ≡ plus → IsNumeral 10 (without_leading_sign (c ∷ cs))
+        → AllByRecursion Plain (c ∷ cs)
     by true plus m p h = let d = rw m at h in ((grind (arith, m), grind (arith, m)), plain_digits cs d.1)
     by false true m p h = let d = rw (m, p) at h in ((grind (arith, p), grind (arith, p)), plain_digits cs d.1)
     by false false m p h = let d = rw (m, p) at h in plain_digits (c ∷ cs) d.1
@@ -82,7 +86,8 @@ spaces_whole xs h = subst IsSpaces (ap (λ n. take n xs) h ∙ take_all (length 
 
 spaces_counted : (xs ys : List ℕ) → IsSpaces xs → spaces_at (xs ++ ys) ≡ length xs + spaces_at ys
 spaces_counted [] ys h = omega arith
-spaces_counted (x ∷ xs) ys h = let t : is_space x ≡ true = grind (arith, h.0) in rw t (omega (arith, spaces_counted xs ys h.1))
+spaces_counted (x ∷ xs) ys h = let t : is_space x ≡ true = grind (arith, h.0) in
+    rw t (omega (arith, spaces_counted xs ys h.1))
 
 spaces_none : (xs ys : List ℕ) → 0 < length xs → AllByRecursion Plain xs → spaces_at (xs ++ ys) ≡ 0
 spaces_none [] ys n h = absurd (omega (arith, n))
@@ -98,28 +103,33 @@ others_none (x ∷ xs) h = let t : is_space x ≡ true = grind (arith, h.0) in r
 
 -- whether the three parts are a number
 abbrev reads : List ℕ → List ℕ → Bool
-reads numeral after = (spaces_at after == length after) && is_numeral (without_leading_sign numeral) && fits_i64 (signed_digits_value 10 numeral)
+reads numeral after = (spaces_at after == length after) && is_numeral (without_leading_sign numeral)
+    && fits_i64 (signed_digits_value 10 numeral)
 
 abbrev number_if : Bool → List ℕ → Option ℤ
 number_if b numeral = if b then Some (signed_digits_value 10 numeral) else None
 
-number_of-parts : (text : List ℕ) → number_of text ≡ (let rest = drop (spaces_at text) text in number_if (reads (take (others_at rest) rest) (drop (others_at rest) rest)) (take (others_at rest) rest))
+number_of-parts : (text : List ℕ) → number_of text ≡ (let rest = drop (spaces_at text) text in
+    number_if (reads (take (others_at rest) rest) (drop (others_at rest) rest)) (take (others_at rest) rest))
 unfolding number_of
 number_of-parts text = refl
 
-parts_are : (text rest numeral after : List ℕ) → rest ≡ drop (spaces_at text) text → numeral ≡ take (others_at rest) rest → after ≡ drop (others_at rest) rest
+parts_are : (text rest numeral after : List ℕ) → rest ≡ drop (spaces_at text) text
+    → numeral ≡ take (others_at rest) rest → after ≡ drop (others_at rest) rest
     → number_of text ≡ number_if (reads numeral after) numeral
 parts_are text rest numeral after er en ea = rw (en, ea, er) (number_of-parts text)
 
 reads_test : (numeral after : List ℕ) → reads numeral after ≡ true
-    → (spaces_at after ≡ length after) × IsNumeral 10 (without_leading_sign numeral) × FitsSigned w64 (signed_digits_value 10 numeral)
+    → (spaces_at after ≡ length after) × IsNumeral 10 (without_leading_sign numeral)
+    × FitsSigned w64 (signed_digits_value 10 numeral)
 reads_test numeral after h =
     let spaces : Bool = spaces_at after == length after in
     let digits : Bool = is_numeral (without_leading_sign numeral) in
     let front : (spaces && digits) ≡ true = cut_left (spaces && digits) (fits_i64 (signed_digits_value 10 numeral)) h in (
       grind (arith, cut_left spaces digits front),
       numeral_test (without_leading_sign numeral) (cut_right spaces digits front),
-      fits_test (signed_digits_value 10 numeral) (cut_right (spaces && digits) (fits_i64 (signed_digits_value 10 numeral)) h),
+      fits_test (signed_digits_value 10 numeral) (cut_right (spaces && digits)
+          (fits_i64 (signed_digits_value 10 numeral)) h),
     )
   where
     cut_left : (a b : Bool) → (a && b) ≡ true → a ≡ true
@@ -130,7 +140,8 @@ reads_test numeral after h =
     cut_right true b h = h
     cut_right false b h = cc h
 
-reads_tested : (numeral after : List ℕ) → spaces_at after ≡ length after → IsNumeral 10 (without_leading_sign numeral) → FitsSigned w64 (signed_digits_value 10 numeral)
+reads_tested : (numeral after : List ℕ) → spaces_at after ≡ length after → IsNumeral 10 (without_leading_sign numeral)
+    → FitsSigned w64 (signed_digits_value 10 numeral)
     → reads numeral after ≡ true
 reads_tested numeral after s d f =
     let spaces : (spaces_at after == length after) ≡ true = grind (arith, s) in
@@ -144,19 +155,22 @@ not_read numeral after never = by (reads numeral after) refl
     by false e = e
 
 -- the three ways in which a text is refused or read
-pub number-unspaced : (text rest numeral after : List ℕ) → rest ≡ drop (spaces_at text) text → numeral ≡ take (others_at rest) rest → after ≡ drop (others_at rest) rest
+pub number-unspaced : (text rest numeral after : List ℕ) → rest ≡ drop (spaces_at text) text
+    → numeral ≡ take (others_at rest) rest → after ≡ drop (others_at rest) rest
     → spaces_at after ≢ length after → None ≡ number_of text
 number-unspaced text rest numeral after er en ea other =
     let no = not_read numeral after (λ yes. other (reads_test numeral after yes).0) in
     sym (parts_are text rest numeral after er en ea ∙ ap (λ (b : Bool). number_if b numeral) no)
 
-pub number-strange : (text rest numeral after : List ℕ) → rest ≡ drop (spaces_at text) text → numeral ≡ take (others_at rest) rest → after ≡ drop (others_at rest) rest
+pub number-strange : (text rest numeral after : List ℕ) → rest ≡ drop (spaces_at text) text
+    → numeral ≡ take (others_at rest) rest → after ≡ drop (others_at rest) rest
     → ¬ (IsUtf8 numeral) → None ≡ number_of text
 number-strange text rest numeral after er en ea strange =
     let no = not_read numeral after (λ yes. strange (numeral-utf8 numeral (reads_test numeral after yes).1)) in
     sym (parts_are text rest numeral after er en ea ∙ ap (λ (b : Bool). number_if b numeral) no)
 
-pub number-parsed : {E : Type 0} (text rest numeral after : List ℕ) (r : Result ℤ E) → rest ≡ drop (spaces_at text) text → numeral ≡ take (others_at rest) rest → after ≡ drop (others_at rest) rest
+pub number-parsed : {E : Type 0} (text rest numeral after : List ℕ) (r : Result ℤ E) → rest ≡ drop (spaces_at text) text
+    → numeral ≡ take (others_at rest) rest → after ≡ drop (others_at rest) rest
     → spaces_at after ≡ length after → ParsesSigned w64 10 numeral r → result_ok r ≡ number_of text
 number-parsed text rest numeral after (Ok x) er en ea spaces h =
     let yes = reads_tested numeral after spaces h.0.0 h.0.1 in
@@ -167,7 +181,8 @@ number-parsed text rest numeral after (Err e) er en ea spaces h =
     sym (parts_are text rest numeral after er en ea ∙ ap (λ (b : Bool). number_if b numeral) no)
 
 -- the number of a text is the one that it writes
-number_if-some : (b : Bool) (numeral : List ℕ) (number : ℤ) → number_if b numeral ≡ Some number → (b ≡ true) × (number ≡ signed_digits_value 10 numeral)
+number_if-some : (b : Bool) (numeral : List ℕ) (number : ℤ) → number_if b numeral ≡ Some number → (b ≡ true)
+    × (number ≡ signed_digits_value 10 numeral)
 number_if-some true numeral number h = (refl, cc h)
 number_if-some false numeral number h = cc h
 
@@ -182,7 +197,9 @@ number_of-writes text number h =
       before = take (spaces_at text) text;
       numeral = numeral;
       after = after;
-      joined = sym (append_assoc (take (spaces_at text) text) numeral after ∙ ap (λ (xs : List ℕ). take (spaces_at text) text ++ xs) (take-append-drop (others_at rest) rest) ∙ take-append-drop (spaces_at text) text);
+      joined = sym (append_assoc (take (spaces_at text) text) numeral after
+          ∙ ap (λ (xs : List ℕ). take (spaces_at text) text ++ xs) (take-append-drop (others_at rest) rest)
+          ∙ take-append-drop (spaces_at text) text);
       spaces_before = spaces_front text;
       spaces_after = spaces_whole after t.0;
       digits = t.1;
@@ -194,14 +211,25 @@ pub number_of-written : (text : List ℕ) (number : ℤ) → IsNumber text numbe
 number_of-written text number is =
     let plain = plain_numeral is.numeral is.digits in
     let joined = is.joined ∙ append_assoc is.before is.numeral is.after in
-    let spaces : spaces_at text ≡ length is.before = ap spaces_at joined ∙ spaces_counted is.before (is.numeral ++ is.after) is.spaces_before ∙ omega (arith, spaces_none is.numeral is.after plain.0 plain.1) in
-    let rest : is.numeral ++ is.after ≡ drop (spaces_at text) text = sym (ap (λ (n : ℕ). drop n text) spaces ∙ ap (drop (length is.before)) joined ∙ drop-append_seam is.before (is.numeral ++ is.after)) in
-    let others : others_at (is.numeral ++ is.after) ≡ length is.numeral = others_counted is.numeral is.after plain.1 ∙ omega (arith, others_none is.after is.spaces_after) in
-    let numeral : is.numeral ≡ take (others_at (is.numeral ++ is.after)) (is.numeral ++ is.after) = rw others (sym (take-append_seam is.numeral is.after)) in
-    let after : is.after ≡ drop (others_at (is.numeral ++ is.after)) (is.numeral ++ is.after) = rw others (sym (drop-append_seam is.numeral is.after)) in
-    let counted : spaces_at is.after ≡ length is.after = sym (ap spaces_at (append-nil is.after)) ∙ spaces_counted is.after [] is.spaces_after ∙ omega arith in
+    let spaces : spaces_at text ≡ length is.before = ap spaces_at joined
+    ∙ spaces_counted is.before (is.numeral ++ is.after) is.spaces_before ∙ omega (
+      arith,
+      spaces_none is.numeral is.after plain.0 plain.1,
+    ) in
+    let rest : is.numeral ++ is.after ≡ drop (spaces_at text) text =
+    sym (ap (λ (n : ℕ). drop n text) spaces ∙ ap (drop (length is.before)) joined
+    ∙ drop-append_seam is.before (is.numeral ++ is.after)) in
+    let others : others_at (is.numeral ++ is.after) ≡ length is.numeral =
+    others_counted is.numeral is.after plain.1 ∙ omega (arith, others_none is.after is.spaces_after) in
+    let numeral : is.numeral ≡ take (others_at (is.numeral ++ is.after)) (is.numeral ++ is.after) =
+    rw others (sym (take-append_seam is.numeral is.after)) in
+    let after : is.after ≡ drop (others_at (is.numeral ++ is.after)) (is.numeral ++ is.after) =
+    rw others (sym (drop-append_seam is.numeral is.after)) in
+    let counted : spaces_at is.after ≡ length is.after = sym (ap spaces_at (append-nil is.after))
+    ∙ spaces_counted is.after [] is.spaces_after ∙ omega arith in
     let yes = reads_tested is.numeral is.after counted is.digits (rw is.value at is.fits) in
-    parts_are text (is.numeral ++ is.after) is.numeral is.after rest numeral after ∙ ap (λ (b : Bool). number_if b is.numeral) yes ∙ ap (λ (z : ℤ). Some z) (sym is.value)
+    parts_are text (is.numeral ++ is.after) is.numeral is.after rest numeral after
+    ∙ ap (λ (b : Bool). number_if b is.numeral) yes ∙ ap (λ (z : ℤ). Some z) (sym is.value)
 
 -- the parts of a text, as they are cut out
 pub cut-drop : (n : ℕ) (xs : List ℕ) → take (length xs - n) (drop n xs) ≡ drop n xs
@@ -219,14 +247,20 @@ after_is rest size e = rw e (cut-drop (others_at rest) rest)
 pub unspaced-cut : (text : List ℕ) (p size : ℕ) → p ≡ spaces_at text → size ≡ others_at (cut_from p text)
     → spaces_at (cut_from size (cut_from p text)) ≢ length (cut_from size (cut_from p text)) → None ≡ number_of text
 unspaced-cut text p size ep es other =
-    number-unspaced text (cut_from p text) (take size (cut_from p text)) (cut_from size (cut_from p text)) (rest_is text p ep) (ap (λ (n : ℕ). take n (cut_from p text)) es) (after_is (cut_from p text) size es) other
+    number-unspaced text (cut_from p text) (take size (cut_from p text)) (cut_from size (cut_from p text))
+    (rest_is text p ep) (ap (λ (n : ℕ). take n (cut_from p text)) es) (after_is (cut_from p text) size es) other
 
 pub strange-cut : (text : List ℕ) (p size : ℕ) → p ≡ spaces_at text → size ≡ others_at (cut_from p text)
     → ¬ (IsUtf8 (take size (cut_from p text))) → None ≡ number_of text
 strange-cut text p size ep es strange =
-    number-strange text (cut_from p text) (take size (cut_from p text)) (cut_from size (cut_from p text)) (rest_is text p ep) (ap (λ (n : ℕ). take n (cut_from p text)) es) (after_is (cut_from p text) size es) strange
+    number-strange text (cut_from p text) (take size (cut_from p text)) (cut_from size (cut_from p text))
+    (rest_is text p ep) (ap (λ (n : ℕ). take n (cut_from p text)) es) (after_is (cut_from p text) size es) strange
 
-pub parsed-cut : {E : Type 0} (text : List ℕ) (p size : ℕ) (r : Result ℤ E) → p ≡ spaces_at text → size ≡ others_at (cut_from p text)
-    → spaces_at (cut_from size (cut_from p text)) ≡ length (cut_from size (cut_from p text)) → ParsesSigned w64 10 (take size (cut_from p text)) r → result_ok r ≡ number_of text
+pub parsed-cut : {E : Type 0} (text : List ℕ) (p size : ℕ) (r : Result ℤ E) → p ≡ spaces_at text
+    → size ≡ others_at (cut_from p text)
+    → spaces_at (cut_from size (cut_from p text)) ≡ length (cut_from size (cut_from p text))
+    → ParsesSigned w64 10 (take size (cut_from p text)) r → result_ok r ≡ number_of text
 parsed-cut text p size r ep es spaces parses =
-    number-parsed text (cut_from p text) (take size (cut_from p text)) (cut_from size (cut_from p text)) r (rest_is text p ep) (ap (λ (n : ℕ). take n (cut_from p text)) es) (after_is (cut_from p text) size es) spaces parses
+    number-parsed text (cut_from p text) (take size (cut_from p text)) (cut_from size (cut_from p text)) r
+    (rest_is text p ep) (ap (λ (n : ℕ). take n (cut_from p text)) es) (after_is (cut_from p text) size es)
+    spaces parses

@@ -1,5 +1,6 @@
 -- The answer is that of the bytes that were read.
-use Rattle.std.proofs.Common.{◌≡◌, ◌≤◌, ◌+◌, ◌^◌, ◌∙◌, ℕ, List, length, arith, Result, Err, refl, sym, ap, subst, inl, inr}
+use Rattle.std.proofs.Common.{◌≡◌, ◌≤◌, ◌+◌, ◌^◌, ◌∙◌, ℕ, List, length, arith, Result, Err, refl, sym, ap, subst, inl}
+use Rattle.std.proofs.Common.{inr}
 use Rattle.std.proofs.lemmas.List.{take_all}
 use Rattle.join_rows.specs.Reads.{IsOfBytes, WholeErr, WholeOk}
 use Rattle.join_rows.specs.Records.{AnswerSays}
@@ -10,8 +11,10 @@ use Rattle.join_rows.specs.declared.fault.TableFault.TheVariants as fault
 use Rattle.join_rows.proofs.Answered.{TableIn, long-table, refused, short-table}
 use Rattle.join_rows.proofs.Says.{says-table, table-says}
 
-pub bytes-refused : (told : Told) (name : List ℕ) (old new : ℕ) (spot : Spot) (e : TableFault) → WholeErr told name old new spot e
-    → (refused e ≡ refused fault.Read → ⊥) → (refused e ≡ refused fault.Memory → ⊥) → IsOfBytes told name spot (refused e)
+pub bytes-refused : (told : Told) (name : List ℕ) (old new : ℕ) (spot : Spot) (e : TableFault)
+    → WholeErr told name old new spot e
+    → (refused e ≡ refused fault.Read → ⊥) → (refused e ≡ refused fault.Memory → ⊥)
+    → IsOfBytes told name spot (refused e)
 bytes-refused told name old new spot fault.Read w read memory = absurd (read refl)
 bytes-refused told name old new spot fault.TooLong w read memory =
     let past = w.2 in
@@ -28,7 +31,8 @@ bytes-refused told name old new spot (fault.Width number found) w read memory = 
 bytes-refused told name old new spot fault.TooMany w read memory = absurd w
 bytes-refused told name old new spot fault.Memory w read memory = absurd (memory refl)
 
-pub bytes-read_whole : (told : Told) (name : List ℕ) (old new : ℕ) (spot : Spot) (bytes : List ℕ) (r : Result Table TableFault) → WholeOk told name old new spot bytes → TableIn bytes r
+pub bytes-read_whole : (told : Told) (name : List ℕ) (old new : ℕ) (spot : Spot) (bytes : List ℕ)
+    (r : Result Table TableFault) → WholeOk told name old new spot bytes → TableIn bytes r
     → (r ≡ Err fault.Memory → ⊥) → IsOfBytes told name spot r
 bytes-read_whole told name old new spot bytes r w t memory = elim t [
   | inl m ↦ absurd (memory m)

@@ -1,7 +1,9 @@
 -- What an answer says of the bytes that it is of.
-use Rattle.std.proofs.Common.{◌≡◌, ◌≢◌, ◌≤◌, ◌<◌, ◌+◌, ◌-◌, ◌∙◌, ℕ, suc, Bool, true, false, List, [], ◌∷◌, ◌++◌, length, take, arith, refl, ap, subst, Option, Err, None, Some, add-zero}
+use Rattle.std.proofs.Common.{◌≡◌, ◌≢◌, ◌≤◌, ◌<◌, ◌+◌, ◌-◌, ◌∙◌, ℕ, suc, Bool, true, false, List, [], ◌∷◌, ◌++◌, length}
+use Rattle.std.proofs.Common.{take, arith, refl, ap, subst, Option, Err, None, Some, add-zero}
 use Rattle.std.specs.Prelude.{◌==◌, nat_lt}
-use Rattle.join_rows.specs.Records.{AnswerSays, AreWide, SaysOf, SaysOfRecords, fault_of_rows, most_bytes, most_rows, records_of, table_of, table_of_records}
+use Rattle.join_rows.specs.Records.{AnswerSays, AreWide, SaysOf, SaysOfRecords, fault_of_rows, most_bytes, most_rows}
+use Rattle.join_rows.specs.Records.{records_of, table_of, table_of_records}
 use Rattle.join_rows.proofs.Answered.{long-table, short-table}
 use Rattle.join_rows.proofs.Shapes.{none_wide}
 use Rattle.join_rows.specs.declared.fault.TableFault.{TableFault}
@@ -30,7 +32,8 @@ SaysFrom fault.TooMany width first rows = ManyFrom width first rows
 SaysFrom why width first rows = ⊥
 
 -- one row more in front
-says_more : (why : TableFault) (width first : ℕ) (row : List (List ℕ)) (rows : List (List (List ℕ))) → first ≤ 262144 → length row ≡ width
+says_more : (why : TableFault) (width first : ℕ) (row : List (List ℕ)) (rows : List (List (List ℕ))) → first ≤ 262144
+    → length row ≡ width
     → SaysFrom why width (first + 1) rows → SaysFrom why width first (row ∷ rows)
 says_more (fault.Width number found) width first row rows few same is = record {
   before = row ∷ is.before;
@@ -51,10 +54,12 @@ says_more fault.TooLong width first row rows few same is = absurd is
 says_more fault.NoHeader width first row rows few same is = absurd is
 says_more fault.Memory width first row rows few same is = absurd is
 
-says_from : (width first : ℕ) (rows : List (List (List ℕ))) (why : TableFault) → first ≤ 262145 → fault_of_rows width first rows ≡ Some why → SaysFrom why width first rows
+says_from : (width first : ℕ) (rows : List (List (List ℕ))) (why : TableFault) → first ≤ 262145
+    → fault_of_rows width first rows ≡ Some why → SaysFrom why width first rows
 unfolding fault_of_rows
 says_from width first [] why few h = cc h
-says_from width first (row ∷ rows) why few h = by (nat_lt most_rows first) (length row == width) refl refl (says_from width (first + 1) rows why)
+says_from width first (row ∷ rows) why few h = by (nat_lt most_rows first) (length row == width) refl refl
+    (says_from width (first + 1) rows why)
   where
     by : (past same : Bool) → nat_lt most_rows first ≡ past → (length row == width) ≡ same
         → (first + 1 ≤ 262145 → fault_of_rows width (first + 1) rows ≡ Some why → SaysFrom why width (first + 1) rows)
@@ -81,7 +86,8 @@ says_from width first (row ∷ rows) why few h = by (nat_lt most_rows first) (le
         })
 
 -- all the rows of a header
-says_rows : (why : TableFault) (names : List (List ℕ)) (rows : List (List (List ℕ))) → SaysFrom why (length names) 1 rows → SaysOfRecords why (names ∷ rows)
+says_rows : (why : TableFault) (names : List (List ℕ)) (rows : List (List (List ℕ)))
+    → SaysFrom why (length names) 1 rows → SaysOfRecords why (names ∷ rows)
 says_rows (fault.Width number found) names rows is = record {
   before = is.before;
   row = is.row;
@@ -99,24 +105,35 @@ says_rows fault.TooLong names rows is = absurd is
 says_rows fault.NoHeader names rows is = absurd is
 says_rows fault.Memory names rows is = absurd is
 
-says_of : (why : TableFault) (bytes : List ℕ) (names : List (List ℕ)) (rows : List (List (List ℕ))) → length bytes ≤ most_bytes → records_of bytes ≡ names ∷ rows
+says_of : (why : TableFault) (bytes : List ℕ) (names : List (List ℕ)) (rows : List (List (List ℕ)))
+    → length bytes ≤ most_bytes → records_of bytes ≡ names ∷ rows
     → SaysFrom why (length names) 1 rows → SaysOf why bytes
-says_of (fault.Width number found) bytes names rows few is says = (few, rw is (says_rows (fault.Width number found) names rows says))
+says_of (fault.Width number found) bytes names rows few is says =
+    (few, rw is (says_rows (fault.Width number found) names rows says))
 says_of fault.TooMany bytes names rows few is says = (few, rw is (says_rows fault.TooMany names rows says))
 says_of fault.Read bytes names rows few is says = absurd says
 says_of fault.TooLong bytes names rows few is says = absurd says
 says_of fault.NoHeader bytes names rows few is says = absurd says
 says_of fault.Memory bytes names rows few is says = absurd says
 
-records_say : (bytes : List ℕ) (all : List (List (List ℕ))) → length bytes ≤ most_bytes → records_of bytes ≡ all → AnswerSays (table_of_records all) bytes
+records_say : (bytes : List ℕ) (all : List (List (List ℕ))) → length bytes ≤ most_bytes → records_of bytes ≡ all
+    → AnswerSays (table_of_records all) bytes
 unfolding table_of_records
 records_say bytes [] few is = (few, is)
 records_say bytes (names ∷ rows) few is = by (fault_of_rows (length names) 1 rows) refl
   where
-    by : (found : Option TableFault) → fault_of_rows (length names) 1 rows ≡ found → AnswerSays (table_of_records (names ∷ rows)) bytes
+    by : (found : Option TableFault) → fault_of_rows (length names) 1 rows ≡ found
+        → AnswerSays (table_of_records (names ∷ rows)) bytes
     by None q =
         let wide = none_wide (length names) 1 rows (omega arith) q in
-        rw q (record { records = rows; read = is; rows = refl; wide = wide.0; few = omega (arith, wide.1); short = few })
+        rw q (record {
+          records = rows;
+          read = is;
+          rows = refl;
+          wide = wide.0;
+          few = omega (arith, wide.1);
+          short = few;
+        })
     by (Some why) q = rw q (says_of why bytes names rows few is (says_from (length names) 1 rows why (omega arith) q))
 
 -- the definition's answer says of the bytes what the relations say
@@ -130,7 +147,8 @@ table-says bytes = by (nat_lt most_bytes (length bytes)) refl
 
 -- ---- and the other way round
 
-width_back : (width first : ℕ) (before : List (List (List ℕ))) (row : List (List ℕ)) (after : List (List (List ℕ))) → first + length before ≤ 262144 → AreWide width before → length row ≢ width
+width_back : (width first : ℕ) (before : List (List (List ℕ))) (row : List (List ℕ)) (after : List (List (List ℕ)))
+    → first + length before ≤ 262144 → AreWide width before → length row ≢ width
     → fault_of_rows width first (before ++ row ∷ after) ≡ Some (fault.Width (first + length before) (length row))
 unfolding fault_of_rows
 width_back width first [] row after few wide other =
@@ -144,14 +162,16 @@ width_back width first (one ∷ before) row after few wide other =
     let number : first + 1 + length before ≡ first + length (one ∷ before) = omega arith in
     rw (p, s) (rw number at more)
 
-many_back : (width first : ℕ) (rows : List (List (List ℕ))) → first ≤ 262145 → 262145 < first + length rows → AreWide width (take (262145 - first) rows)
+many_back : (width first : ℕ) (rows : List (List (List ℕ))) → first ≤ 262145 → 262145 < first + length rows
+    → AreWide width (take (262145 - first) rows)
     → fault_of_rows width first rows ≡ Some fault.TooMany
 unfolding fault_of_rows
 many_back width first [] few many wide = absurd (omega (arith, few, many))
 many_back width first (row ∷ rows) few many wide = by (nat_lt most_rows first) refl (many_back width (first + 1) rows)
   where
     by : (past : Bool) → nat_lt most_rows first ≡ past
-        → (first + 1 ≤ 262145 → 262145 < first + 1 + length rows → AreWide width (take (262145 - (first + 1)) rows) → fault_of_rows width (first + 1) rows ≡ Some fault.TooMany)
+        → (first + 1 ≤ 262145 → 262145 < first + 1 + length rows → AreWide width (take (262145 - (first + 1)) rows)
+        → fault_of_rows width (first + 1) rows ≡ Some fault.TooMany)
         → fault_of_rows width first (row ∷ rows) ≡ Some fault.TooMany
     by true p more = rw p refl
     by false p more =
@@ -161,10 +181,15 @@ many_back width first (row ∷ rows) few many wide = by (nat_lt most_rows first)
         let s : (length row == width) ≡ true = grind (arith, is.0) in
         rw (p, s) (more (omega (arith, within)) (omega (arith, many)) is.1)
 
-rows_back : (why : TableFault) (names : List (List ℕ)) (rows : List (List (List ℕ))) → SaysOfRecords why (names ∷ rows) → fault_of_rows (length names) 1 rows ≡ Some why
+rows_back : (why : TableFault) (names : List (List ℕ)) (rows : List (List (List ℕ))) → SaysOfRecords why (names ∷ rows)
+    → fault_of_rows (length names) 1 rows ≡ Some why
 rows_back (fault.Width number found) names rows is =
     let counted : 1 + length is.before ≡ number = omega (arith, is.counted) in
-    rw (is.joined, is.fields, ← counted) (width_back (length names) 1 is.before is.row is.after (omega (arith, is.counted, is.few)) is.wide is.other)
+    rw (is.joined, is.fields, ← counted) (width_back (length names) 1 is.before is.row is.after (omega (
+      arith,
+      is.counted,
+      is.few,
+    )) is.wide is.other)
 rows_back fault.TooMany names rows is = many_back (length names) 1 rows (omega arith) (omega (arith, is.many)) is.wide
 rows_back fault.Read names rows is = absurd is
 rows_back fault.TooLong names rows is = absurd is
@@ -181,7 +206,8 @@ records_back fault.Read [] is = absurd is
 records_back fault.TooLong [] is = absurd is
 records_back fault.Memory [] is = absurd is
 
-short_back : (why : TableFault) (bytes : List ℕ) → length bytes ≤ most_bytes → SaysOfRecords why (records_of bytes) → table_of bytes ≡ Err why
+short_back : (why : TableFault) (bytes : List ℕ) → length bytes ≤ most_bytes → SaysOfRecords why (records_of bytes)
+    → table_of bytes ≡ Err why
 short_back why bytes few is = short-table bytes few ∙ records_back why (records_of bytes) is
 
 -- bytes with a fault have that answer

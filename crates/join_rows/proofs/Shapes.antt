@@ -1,5 +1,7 @@
 -- What a table of records has, and what each fault says of them.
-use Rattle.std.proofs.Common.{◌≡◌, ◌≤◌, ◌<◌, ◌+◌, ◌∙◌, ◌⊎◌, inl, inr, ℕ, zero, suc, Bool, true, false, List, [], ◌∷◌, ◌++◌, length, map, arith, refl, sym, subst, Option, Result, IfOk, Ok, Err, None, Some, length-append, add-one}
+use Rattle.std.proofs.Common.{◌≡◌, ◌≤◌, ◌<◌, ◌+◌, ◌∙◌, ◌⊎◌, inl, inr, ℕ, zero, suc, Bool, true, false, List, [], ◌∷◌}
+use Rattle.std.proofs.Common.{◌++◌, length, map, arith, refl, sym, subst, Option, Result, IfOk, Ok, Err, None, Some}
+use Rattle.std.proofs.Common.{length-append, add-one}
 use Rattle.std.specs.Prelude.{◌==◌, nat_lt, All}
 use Rattle.std.proofs.lemmas.List.{length-map}
 use Rattle.csv.specs.Machine.{Read, ends_at_end, field_after, fields_after, is_end, next_record, step}
@@ -9,7 +11,8 @@ use Rattle.csv.specs.declared.parser.Action.TheVariants as act
 use Rattle.csv.specs.declared.parser.State.{State}
 use Rattle.csv.specs.declared.parser.State.TheVariants as st
 use Rattle.join_rows.specs.declared.table.Table.{Table}
-use Rattle.join_rows.specs.Records.{AreWide, HasItsNumber, IsTable, cell_of, cells_of, fault_of_rows, most_rows, records_of, table_of_records}
+use Rattle.join_rows.specs.Records.{AreWide, HasItsNumber, IsTable, cell_of, cells_of, fault_of_rows, most_rows}
+use Rattle.join_rows.specs.Records.{records_of, table_of_records}
 use Rattle.join_rows.proofs.Numbers.{number_of-writes, number_of-written}
 use Rattle.join_rows.specs.declared.fault.TableFault.{TableFault}
 use Rattle.join_rows.specs.declared.fault.TableFault.TheVariants as fault
@@ -18,43 +21,60 @@ use Rattle.join_rows.specs.declared.fault.TableFault.TheVariants as fault
 some_field : (fields : List (List ℕ)) (field : List ℕ) → 0 < length (fields ++ (field ∷ []))
 some_field fields field = omega (arith, length-append fields (field ∷ []))
 
-ended_field : (a : Action) (fields : List (List ℕ)) (field : List ℕ) → is_end a ≡ true → 0 < length (fields_after a fields field)
+ended_field : (a : Action) (fields : List (List ℕ)) (field : List ℕ) → is_end a ≡ true
+    → 0 < length (fields_after a fields field)
 ended_field act.EndRecord fields field h = some_field fields field
 ended_field act.Skip fields field h = cc h
 ended_field act.Copy fields field h = cc h
 ended_field act.EndField fields field h = cc h
 
-record_named : (s : State) (fields : List (List ℕ)) (field xs : List ℕ) (p : Read) → next_record default_config s fields field xs ≡ Some p → 0 < length p.0
+record_named : (s : State) (fields : List (List ℕ)) (field xs : List ℕ) (p : Read)
+    → next_record default_config s fields field xs ≡ Some p → 0 < length p.0
 unfolding next_record
 record_named s fields field [] p h = by (ends_at_end s) refl
   where
     by : (x : Bool) → ends_at_end s ≡ x → 0 < length p.0
-    by true e = let q : (fields ++ (field ∷ []), st.StartRecord, []) ≡ p = cc (rw e at h) in rw (← q) (some_field fields field)
+    by true e = let q : (fields ++ (field ∷ []), st.StartRecord, []) ≡ p = cc (rw e at h) in
+        rw (← q) (some_field fields field)
     by false e = cc (rw e at h)
-record_named s fields field (c ∷ rest) p h = by (is_end (step default_config s c).1) refl h (record_named (step default_config s c).0 (fields_after (step default_config s c).1 fields field) (field_after (step default_config s c).1 c field) rest p)
+record_named s fields field (c ∷ rest) p h = by (is_end (step default_config s c).1) refl h
+    (record_named (step default_config s c).0 (fields_after (step default_config s c).1 fields field)
+    (field_after (step default_config s c).1 c field) rest p)
   where
-    by : (x : Bool) → is_end (step default_config s c).1 ≡ x → next_record default_config s fields field (c ∷ rest) ≡ Some p
-        → (next_record default_config (step default_config s c).0 (fields_after (step default_config s c).1 fields field) (field_after (step default_config s c).1 c field) rest ≡ Some p → 0 < length p.0)
+    by : (x : Bool) → is_end (step default_config s c).1 ≡ x
+        → next_record default_config s fields field (c ∷ rest) ≡ Some p
+        → (next_record default_config (step default_config s c).0
+        (fields_after (step default_config s c).1 fields field) (field_after (step default_config s c).1 c field)
+        rest ≡ Some p → 0 < length p.0)
         → 0 < length p.0
-    by true e k more = let q : (fields_after (step default_config s c).1 fields field, (step default_config s c).0, rest) ≡ p = cc (rw e at k) in rw (← q) (ended_field (step default_config s c).1 fields field e)
+    by true e k more = let q : (
+      fields_after (step default_config s c).1 fields field,
+      (step default_config s c).0,
+      rest,
+    ) ≡ p = cc (rw e at k) in rw (← q) (ended_field (step default_config s c).1 fields field e)
     by false e k more = more (rw e at k)
 
-records_named : (xs : List ℕ) (names : List (List ℕ)) (rows : List (List (List ℕ))) → records default_config xs ≡ names ∷ rows → 0 < length names
+records_named : (xs : List ℕ) (names : List (List ℕ)) (rows : List (List (List ℕ)))
+    → records default_config xs ≡ names ∷ rows → 0 < length names
 unfolding records_from
 records_named xs names rows h = by (next_record default_config st.StartRecord [] [] xs) refl
   where
     by : (x : Option Read) → next_record default_config st.StartRecord [] [] xs ≡ x → 0 < length names
     by None e = cc (rw (add-one, e) at h)
-    by (Some p) e = let q : p.0 ≡ names = cc (rw (add-one, e) at h) in rw (← q) (record_named st.StartRecord [] [] xs p e)
+    by (Some p) e = let q : p.0 ≡ names = cc (rw (add-one, e) at h) in
+        rw (← q) (record_named st.StartRecord [] [] xs p e)
 
 -- rows without a fault have the width, and are not too many
-pub none_wide : (width number : ℕ) (rows : List (List (List ℕ))) → number ≤ 262145 → fault_of_rows width number rows ≡ None → AreWide width rows × (number + length rows ≤ 262145)
+pub none_wide : (width number : ℕ) (rows : List (List (List ℕ))) → number ≤ 262145
+    → fault_of_rows width number rows ≡ None → AreWide width rows × (number + length rows ≤ 262145)
 unfolding fault_of_rows
 none_wide width number [] few h = (tt, omega (arith, few))
-none_wide width number (row ∷ rows) few h = by (nat_lt most_rows number) (length row == width) refl refl (none_wide width (number + 1) rows)
+none_wide width number (row ∷ rows) few h = by (nat_lt most_rows number) (length row == width) refl refl
+    (none_wide width (number + 1) rows)
   where
     by : (past same : Bool) → nat_lt most_rows number ≡ past → (length row == width) ≡ same
-        → (number + 1 ≤ 262145 → fault_of_rows width (number + 1) rows ≡ None → AreWide width rows × (number + 1 + length rows ≤ 262145))
+        → (number + 1 ≤ 262145 → fault_of_rows width (number + 1) rows ≡ None → AreWide width rows
+        × (number + 1 + length rows ≤ 262145))
         → AreWide width (row ∷ rows) × (number + length (row ∷ rows) ≤ 262145)
     by true same p s more = cc (rw p at h)
     by false true p s more =
@@ -63,7 +83,8 @@ none_wide width number (row ∷ rows) few h = by (nat_lt most_rows number) (leng
         ((grind (arith, s), left.0), omega (arith, left.1))
     by false false p s more = cc (rw (p, s) at h)
 
-all_wide : (width : ℕ) (rows : List (List (List ℕ))) → AreWide width rows → All (λ row. length row ≡ width) (map cells_of rows)
+all_wide : (width : ℕ) (rows : List (List (List ℕ))) → AreWide width rows
+    → All (λ row. length row ≡ width) (map cells_of rows)
 all_wide width [] h k d e = absurd (omega (arith, e))
 all_wide width (row ∷ rows) h zero d e = length-map row _ ∙ h.0
 all_wide width (row ∷ rows) h (suc k) d e = all_wide width rows h.1 k d (omega (arith, e))
@@ -102,7 +123,8 @@ table-shape bytes table h = go (records_of bytes) refl h
             })
         by (Some why) q = cc (rw q at h)
 
-pub table-in-shape : (bytes : List ℕ) (r : Result Table TableFault) → (r ≡ Err fault.Memory) ⊎ (r ≡ table_of_records (records_of bytes)) → IfOk r IsTable
+pub table-in-shape : (bytes : List ℕ) (r : Result Table TableFault) → (r ≡ Err fault.Memory)
+    ⊎ (r ≡ table_of_records (records_of bytes)) → IfOk r IsTable
 table-in-shape bytes (Err why) h = tt
 table-in-shape bytes (Ok table) (inl m) = cc m
 table-in-shape bytes (Ok table) (inr f) = table-shape bytes table (sym f)

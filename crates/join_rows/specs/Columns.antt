@@ -21,5 +21,6 @@ pub record IsFirstBad (column : ℕ) (rows : List (List Cell)) (number : ℕ) : 
   pub row : List Cell
   pub there : slice_get rows place ≡ Some row
   pub bad : IsBad column row
-  pub before : (earlier : ℕ) (other : List Cell) → earlier < place → slice_get rows earlier ≡ Some other → ¬ (IsBad column other)
+  pub before : (earlier : ℕ) (other : List Cell) → earlier < place → slice_get rows earlier ≡ Some other
+      → ¬ (IsBad column other)
   pub counted : number ≡ place + 1

@@ -1,5 +1,6 @@
 -- What a shelf and a sink in memory hold.
-use Rattle.std.specs.Prelude.{◌≡◌, ℕ, List, [], ◌∷◌, Option, None, Some, if◌then◌else◌, option_map, length, take, drop, min, ◌-◌, IfSome, Bool, ◌==◌}
+use Rattle.std.specs.Prelude.{◌≡◌, ℕ, List, [], ◌∷◌, Option, None, Some, if◌then◌else◌, option_map, length, take, drop}
+use Rattle.std.specs.Prelude.{min, ◌-◌, IfSome, Bool, ◌==◌}
 use Rattle.std.specs.List.{list_any, slice_get}
 use Rattle.std.specs.Str.{bytes_eq}
 use Rattle.join_rows.specs.Shelves.{Spot, raised}
@@ -24,7 +25,8 @@ named_spot files (Some p) = option_map (spot_in p.at) (slice_get files p.file)
 abbrev pub Adds : List NamedFile → List NamedFile → List ℕ → List ℕ → Type 0
 Adds old new name bytes = (n : List ℕ) → file_under new n ≡ (if bytes_eq name n then Some bytes else file_under old n)
 
--- a shelf: its files, what is picked, how many calls were made, the numbers of those that are to fail, and how many failed
+-- a shelf: its files, what is picked, how many calls were made, the numbers of those that are to fail, and how many
+-- failed
 pub record MapState : Type 0 where
   pub files : List NamedFile
   pub picked : Spot
@@ -34,7 +36,8 @@ pub record MapState : Type 0 where
   pub failing_reads : List ℕ
   pub faults : ℕ
 
--- a sink: its bytes, how many it may hold, how many puts were made, the numbers of those that are to fail, and how many failed
+-- a sink: its bytes, how many it may hold, how many puts were made, the numbers of those that are to fail, and how many
+-- failed
 pub record ListState : Type 0 where
   pub bytes : List ℕ
   pub room : ℕ

@@ -1,5 +1,6 @@
 -- The number that a cell's text writes.
-use Rattle.std.specs.Prelude.{◌≡◌, ◌^◌, ◌&&◌, ◌==◌, ℕ, ℤ, pos, negsuc, Bool, List, ◌++◌, Option, None, Some, drop, take, length, nat_lt, if◌then◌else◌, FitsSigned, not}
+use Rattle.std.specs.Prelude.{◌≡◌, ◌^◌, ◌&&◌, ◌==◌, ℕ, ℤ, pos, negsuc, Bool, List, ◌++◌, Option, None, Some, drop, take}
+use Rattle.std.specs.Prelude.{length, nat_lt, if◌then◌else◌, FitsSigned, not}
 use Rattle.std.specs.Char.{digit_value}
 use Rattle.std.specs.Int.{w64}
 use Rattle.std.specs.List.{AllByRecursion, list_all, prefix_len}
@@ -21,7 +22,8 @@ others_at text = prefix_len (λ byte. not (is_space byte)) text
 abbrev pub IsSpaces : List ℕ → Type 0
 IsSpaces text = AllByRecursion (λ byte. byte ≡ 32) text
 
--- the text is spaces, an optional sign, one digit or more, and spaces, and the value of sign and digits is a number that fits an i64
+-- the text is spaces, an optional sign, one digit or more, and spaces, and the value of sign and digits is a number
+-- that fits an i64
 pub record IsNumber (text : List ℕ) (number : ℤ) : Type 0 where
   pub before : List ℕ
   pub numeral : List ℕ
@@ -42,11 +44,13 @@ abbrev pub fits_i64 : ℤ → Bool
 fits_i64 (pos n) = nat_lt n (2 ^ 63)
 fits_i64 (negsuc n) = nat_lt n (2 ^ 63)
 
--- the number of a text, where it is one: the bytes behind its first spaces, up to the next space, write it, and behind them are spaces alone
+-- the number of a text, where it is one: the bytes behind its first spaces, up to the next space, write it, and behind
+-- them are spaces alone
 unfoldable pub number_of : List ℕ → Option ℤ
 number_of text =
     let rest = drop (spaces_at text) text in
     let numeral = take (others_at rest) rest in
     let after = drop (others_at rest) rest in
     let number = signed_digits_value 10 numeral in
-    if (spaces_at after == length after) && is_numeral (without_leading_sign numeral) && fits_i64 number then Some number else None
+    if (spaces_at after == length after) && is_numeral (without_leading_sign numeral) && fits_i64 number
+    then Some number else None

@@ -1,5 +1,6 @@
 -- The table that the bytes of a file are, and what is wrong where they are none.
-use Rattle.std.specs.Prelude.{◌≡◌, ◌≢◌, ◌≤◌, ◌<◌, ◌+◌, ◌^◌, ◌==◌, ◌++◌, ◌↔◌, Bool, false, ℕ, ℤ, List, [], ◌∷◌, if◌then◌else◌, length, map, take, nat_lt, Option, None, Some, Result, Ok, Err, All}
+use Rattle.std.specs.Prelude.{◌≡◌, ◌≢◌, ◌≤◌, ◌<◌, ◌+◌, ◌^◌, ◌==◌, ◌++◌, ◌↔◌, Bool, false, ℕ, ℤ, List, [], ◌∷◌}
+use Rattle.std.specs.Prelude.{if◌then◌else◌, length, map, take, nat_lt, Option, None, Some, Result, Ok, Err, All}
 use Rattle.std.specs.List.{AllByRecursion}
 use Rattle.csv.specs.Reading.{default_config, is_bom, records}
 use Rattle.join_rows.specs.Numbers.{IsNumber, number_of}
@@ -50,7 +51,8 @@ most_rows = 2 ^ 18
 abbrev pub AreWide : ℕ → List (List (List ℕ)) → Type 0
 AreWide width rows = AllByRecursion (λ row. length row ≡ width) rows
 
--- what is wrong with the rows from this number on, if anything: the first row of another width, or the first past the limit, whichever comes first
+-- what is wrong with the rows from this number on, if anything: the first row of another width, or the first past the
+-- limit, whichever comes first
 unfoldable pub fault_of_rows : ℕ → ℕ → List (List (List ℕ)) → Option TableFault
 fault_of_rows width number [] = None
 fault_of_rows width number (row ∷ rows) =
@@ -100,7 +102,8 @@ abbrev pub SaysOf : TableFault → List ℕ → Type 0
 SaysOf fault.TooLong bytes = most_bytes < length bytes
 SaysOf fault bytes = (length bytes ≤ most_bytes) × SaysOfRecords fault (records_of bytes)
 
--- the table is that of these bytes: the first of their records is its header, the cells of the others are its rows, and these are as wide as the header and no more than the limit
+-- the table is that of these bytes: the first of their records is its header, the cells of the others are its rows, and
+-- these are as wide as the header and no more than the limit
 pub record IsTableOf (bytes : List ℕ) (table : Table) : Type 0 where
   pub records : List (List (List ℕ))
   pub read : records_of bytes ≡ table.names ∷ records
@@ -114,7 +117,8 @@ abbrev pub AnswerSays : Result Table TableFault → List ℕ → Type 0
 AnswerSays (Ok table) bytes = IsTableOf bytes table
 AnswerSays (Err fault) bytes = SaysOf fault bytes
 
--- a table has a header of a name or more, no row of another width, no more rows than the limit, and in each cell the number of its text
+-- a table has a header of a name or more, no row of another width, no more rows than the limit, and in each cell the
+-- number of its text
 pub record IsTable (table : Table) : Type 0 where
   pub named : 0 < length table.names
   pub wide : All (λ row. length row ≡ length table.names) table.rows

@@ -1,5 +1,6 @@
 -- What a shelf of files tells, and what its calls do.
-use Rattle.std.specs.Prelude.{◌≡◌, ◌⊎◌, ◌≤◌, ◌<◌, ◌+◌, ◌-◌, ◌^◌, ℕ, List, length, take, drop, Option, None, Some, ⊤, nat_lt, if◌then◌else◌}
+use Rattle.std.specs.Prelude.{◌≡◌, ◌⊎◌, ◌≤◌, ◌<◌, ◌+◌, ◌-◌, ◌^◌, ℕ, List, length, take, drop, Option, None, Some, ⊤}
+use Rattle.std.specs.Prelude.{nat_lt, if◌then◌else◌}
 
 -- the bytes under each name, where a shelf tells its files
 abbrev pub Told : Type 0
@@ -39,7 +40,8 @@ Faulted old new = (old < new) ⊎ (last_fault ≤ old)
 -- the n bytes at the front of a buffer are the next ones of the picked file
 abbrev pub Nexts : Told → Spot → ℕ → List ℕ → Type 0
 Nexts told None n buffer = n ≡ 0
-Nexts told (Some p) n buffer = (bytes : List ℕ) → Tells told p.0 bytes → (n ≤ length bytes - p.1) × (take n buffer ≡ take n (drop p.1 bytes))
+Nexts told (Some p) n buffer = (bytes : List ℕ) → Tells told p.0 bytes → (n ≤ length bytes - p.1)
+    × (take n buffer ≡ take n (drop p.1 bytes))
 
 -- the picked file has no more bytes
 abbrev pub AtEnd : Told → Spot → Type 0

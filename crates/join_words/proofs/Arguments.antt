@@ -10,6 +10,7 @@ pub record IsApp (command : Command) (app : App) : Type 0 where
   pub is : app_of command ≡ app
 
 -- one more argument
-pub added : (app : App) (old new : Command) (arg : Arg) (rule : Rule) → IsApp old app → arg.global ≡ false → rule_of arg ≡ rule → AddsArg old arg new
+pub added : (app : App) (old new : Command) (arg : Arg) (rule : Rule) → IsApp old app → arg.global ≡ false
+    → rule_of arg ≡ rule → AddsArg old arg new
     → IsApp new (with_rule app rule)
 added app old new arg rule is local are adds = record { is = adds.shape local ∙ ap₂ with_rule is.is are }

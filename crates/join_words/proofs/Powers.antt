@@ -23,4 +23,5 @@ set_below n i few set = let no = above in omega (arith, no)
 
 pub small_exponent : (joiners : ℕ) → joiners ≤ 64 → is_power_of_two joiners ≡ true → trailing_zeros w64 joiners ≤ 6
 small_exponent joiners few power =
-    set_below joiners (trailing_zeros w64 joiners) few (bit_at-trailing_zeros w64 joiners (is_positive joiners power) (omega arith)).1
+    set_below joiners (trailing_zeros w64 joiners) few (bit_at-trailing_zeros w64 joiners (is_positive joiners power)
+    (omega arith)).1

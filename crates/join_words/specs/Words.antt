@@ -1,5 +1,7 @@
 -- What the words of the command line ask for.
-use Rattle.std.specs.Prelude.{◌≡◌, ◌≤◌, ℕ, Bool, true, false, List, [], ◌∷◌, length, Option, Some, None, IfSome, is_some, Result, Ok, Err, codes, unwrap_or, option_and_then, option_map, nat_le, nat_lt, if◌then◌else◌}
+use Rattle.std.specs.Prelude.{◌≡◌, ◌≤◌, ℕ, Bool, true, false, List, [], ◌∷◌, length, Option, Some, None, IfSome}
+use Rattle.std.specs.Prelude.{is_some, Result, Ok, Err, codes, unwrap_or, option_and_then, option_map, nat_le, nat_lt}
+use Rattle.std.specs.Prelude.{if◌then◌else◌}
 use Rattle.std.specs.Int.{is_power_of_two, trailing_zeros, w64}
 use Rattle.std.specs.Str.{bytes_eq}
 use Rattle.std.specs.Str.Parse.{digits_value, without_leading_plus}
@@ -30,11 +32,16 @@ pub record AskedChain : Type 0 where
 abbrev pub asked_chain : Chain → AskedChain
 asked_chain chain = record { on = chain.on.now; name = chain.name.now }
 
--- what the words ask for: the predicate's text; 2^k joiners, or how many there are where they form groups; the feeders; the workers, which are the threads of a run that
--- isn't a replay; how many rows each feeder asks for at once and in which order; the shift at which the grid stays, where one
--- is given; what a row of each side weighs in a grid's load; the seed of the tickets; the seed of the order of a replay, where
--- one is given; how many rows a side has, where tables are to be made; whether the pairs of each bout are wanted early; whether a
--- report is wanted; whether joined rows are; the names of the two files, empty where there are none; and the second join,
+-- what the words ask for: the predicate's text; 2^k joiners, or how many there are where they form groups; the feeders;
+-- the workers, which are the threads of a run that
+-- isn't a replay; how many rows each feeder asks for at once and in which order; the shift at which the grid stays,
+-- where one
+-- is given; what a row of each side weighs in a grid's load; the seed of the tickets; the seed of the order of a
+-- replay, where
+-- one is given; how many rows a side has, where tables are to be made; whether the pairs of each bout are wanted early;
+-- whether a
+-- report is wanted; whether joined rows are; the names of the two files, empty where there are none; and the second
+-- join,
 -- where one is asked for
 pub record Asked : Type 0 where
   pub on : List ℕ
@@ -83,7 +90,8 @@ asked options = record {
 
 -- a whole number of 64 bits
 abbrev pub number_of : Text → Option ℕ
-number_of text = if is_unsigned_in 0 18446744073709551615 text then Some (digits_value 10 (without_leading_plus text)) else None
+number_of text = if is_unsigned_in 0 18446744073709551615 text then Some (digits_value 10 (without_leading_plus text))
+    else None
 
 -- the number of an argument's first value, where it is one
 abbrev pub number_at : Text → List Row → Option ℕ
@@ -115,7 +123,10 @@ batch_at rows = unwrap_or (number_at (codes "batch") rows) 64
 
 -- what a row of each side weighs
 abbrev pub weights_at : List Row → Weights
-weights_at rows = record { r = unwrap_or (number_at (codes "weight-r") rows) 1; s = unwrap_or (number_at (codes "weight-s") rows) 1 }
+weights_at rows = record {
+  r = unwrap_or (number_at (codes "weight-r") rows) 1;
+  s = unwrap_or (number_at (codes "weight-s") rows) 1;
+}
 
 -- how many rows a side has, where tables are to be made
 abbrev pub make_at : List Row → Option ℕ

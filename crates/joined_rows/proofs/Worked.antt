@@ -13,6 +13,7 @@ abbrev cell : List ℕ → Cell
 cell text = record { text = text; num = None }
 
 -- the second row of R, and then the first of S
-pub a_row : joined_row ([] ∷ (cell (codes "a") ∷ []) ∷ []) ((cell (codes "b") ∷ cell (codes "c") ∷ []) ∷ []) (record { i = 1; j = 0 })
+pub a_row : joined_row ([] ∷ (cell (codes "a") ∷ []) ∷ []) ((cell (codes "b") ∷ cell (codes "c") ∷ []) ∷ [])
+    (record { i = 1; j = 0 })
     ≡ cell (codes "a") ∷ cell (codes "b") ∷ cell (codes "c") ∷ []
 a_row = refl

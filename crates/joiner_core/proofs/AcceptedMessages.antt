@@ -1,5 +1,6 @@
 -- A message is taken or held.
-use Rattle.std.proofs.Common.{◌≡◌, ℕ, ◌^◌, ◌<◌, inl, inr, refl, sym, ◌∙◌, ap, subst, arith, Bool, true, Option, Some, None, List, [], ◌∷◌, ◌++◌, length, append_assoc, get_or-set_same, get_or-set_other}
+use Rattle.std.proofs.Common.{◌≡◌, ℕ, ◌^◌, ◌<◌, inl, inr, refl, sym, ◌∙◌, ap, subst, arith, Bool, true, Option, Some}
+use Rattle.std.proofs.Common.{None, List, [], ◌∷◌, ◌++◌, length, append_assoc, get_or-set_same, get_or-set_other}
 use Rattle.std.specs.Prelude.{slice_set, flat_map}
 use Rattle.std.proofs.Math.ListN.{length-set}
 use Rattle.std.proofs.lemmas.Bool.{cases_eq, false≢true}
@@ -29,15 +30,24 @@ with_other lists f g zs = record lists { from_feeder = f; from_joiner = g; to_co
 
 -- the pairs that were sent and that wait are as good as others
 abbrev pub PairsMove : JoinerStart → JoinerLists → List Pair → List ToCollector → List Pair → Type 0
-PairsMove s lists w zs w' = (steps : List Step) → ArePairs s (pairs_sent lists) w steps → ArePairs s (flat_map pairs_found zs) w' steps
+PairsMove s lists w zs w' = (steps : List Step) → ArePairs s (pairs_sent lists) w steps
+    → ArePairs s (flat_map pairs_found zs) w' steps
 
-sent-other : (s : JoinerStart) (lists : JoinerLists) (f g : ℕ → List ToJoiner) (zs : List ToCollector) (ended : Bool) (steps : List Step) → AreSent s lists ended steps → AreSent s (with_other lists f g zs) ended steps
+sent-other : (s : JoinerStart) (lists : JoinerLists) (f g : ℕ
+    → List ToJoiner) (zs : List ToCollector) (ended : Bool) (steps : List Step) → AreSent s lists ended steps
+    → AreSent s (with_other lists f g zs) ended steps
 sent-other s lists f g zs ended [] is = tt
 sent-other s lists f g zs ended (step ∷ []) is = tt
-sent-other s lists f g zs ended (step ∷ (before ∷ past)) is = (record { tuples = is.0.tuples; ends = is.0.ends }, sent-other s lists f g zs true (before ∷ past) is.1)
+sent-other s lists f g zs ended (step ∷ (before ∷ past)) is = (
+  record { tuples = is.0.tuples; ends = is.0.ends },
+  sent-other s lists f g zs true (before ∷ past) is.1,
+)
 
-steps-other : (s : JoinerStart) (t : Taken) (lists : JoinerLists) (f g : ℕ → List ToJoiner) (zs : List ToCollector) (w w' : List Pair) (done : ℕ) (turned ended : ℕ → Bool) (all_turned part_ended : Bool) (steps : List Step) → PairsMove s lists w zs w'
-    → AreSteps s t lists w done turned ended all_turned part_ended steps → AreSteps s t (with_other lists f g zs) w' done turned ended all_turned part_ended steps
+steps-other : (s : JoinerStart) (t : Taken) (lists : JoinerLists) (f g : ℕ
+    → List ToJoiner) (zs : List ToCollector) (w w' : List Pair) (done : ℕ) (turned ended : ℕ
+    → Bool) (all_turned part_ended : Bool) (steps : List Step) → PairsMove s lists w zs w'
+    → AreSteps s t lists w done turned ended all_turned part_ended steps
+    → AreSteps s t (with_other lists f g zs) w' done turned ended all_turned part_ended steps
 steps-other s t lists f g zs w w' done turned ended all_turned part_ended steps moves is = record {
   feeders = is.feeders;
   history = is.history;
@@ -52,12 +62,18 @@ steps-other s t lists f g zs w w' done turned ended all_turned part_ended steps 
   to_partner = is.to_partner;
 }
 
-by-other : (s : JoinerStart) (t : Taken) (lists : JoinerLists) (f g : ℕ → List ToJoiner) (zs : List ToCollector) (w w' : List Pair) (m : EpochState) → PairsMove s lists w zs w'
+by-other : (s : JoinerStart) (t : Taken) (lists : JoinerLists) (f g : ℕ
+    → List ToJoiner) (zs : List ToCollector) (w w' : List Pair) (m : EpochState) → PairsMove s lists w zs w'
     → (step : Option OpenStep) → StandsBy s t lists w m step → StandsBy s t (with_other lists f g zs) w' m step
 by-other s t lists f g zs w w' m moves None is = record {
   cur = is.cur;
   past = is.past;
-  stands = let st = is.stands in record { steps = steps-other s t lists f g zs w w' _ _ _ _ _ _ moves st.steps; store = st.store; links = st.links; taken_up_to = st.taken_up_to };
+  stands = let st = is.stands in record {
+    steps = steps-other s t lists f g zs w w' _ _ _ _ _ _ moves st.steps;
+    store = st.store;
+    links = st.links;
+    taken_up_to = st.taken_up_to;
+  };
   epoch = is.epoch;
   shift = is.shift;
   ended_count = is.ended_count;
@@ -68,7 +84,13 @@ by-other s t lists f g zs w w' m moves (Some o) is = record {
   cur = is.cur;
   past = is.past;
   all_turned = is.all_turned;
-  stands = let st = is.stands in record { steps = steps-other s t lists f g zs w w' _ _ _ _ _ _ moves st.steps; store = st.store; opened = st.opened; links = st.links; taken_up_to = st.taken_up_to };
+  stands = let st = is.stands in record {
+    steps = steps-other s t lists f g zs w w' _ _ _ _ _ _ moves st.steps;
+    store = st.store;
+    opened = st.opened;
+    links = st.links;
+    taken_up_to = st.taken_up_to;
+  };
   epoch = is.epoch;
   shift = is.shift;
   step_epoch = is.step_epoch;
@@ -80,17 +102,25 @@ by-other s t lists f g zs w w' m moves (Some o) is = record {
   all = is.all;
 }
 
-pub stands-other : (s : JoinerStart) (t : Taken) (lists : JoinerLists) (f g : ℕ → List ToJoiner) (zs : List ToCollector) (w w' : List Pair) (m : EpochState) → PairsMove s lists w zs w'
+pub stands-other : (s : JoinerStart) (t : Taken) (lists : JoinerLists) (f g : ℕ
+    → List ToJoiner) (zs : List ToCollector) (w w' : List Pair) (m : EpochState) → PairsMove s lists w zs w'
     → Stands s t lists w m → Stands s t (with_other lists f g zs) w' m
-stands-other s t lists f g zs w w' m moves is = record { fixed = is.fixed; now = by-other s t lists f g zs w w' m moves m.step is.now }
+stands-other s t lists f g zs w w' m moves is = record {
+  fixed = is.fixed;
+  now = by-other s t lists f g zs w w' m moves m.step is.now;
+}
 
-stands-received : (s : JoinerStart) (t : Taken) (lists : JoinerLists) (f g : ℕ → List ToJoiner) (w : List Pair) (m : EpochState) → Stands s t lists w m → Stands s t (with_other lists f g lists.to_collector) w m
+stands-received : (s : JoinerStart) (t : Taken) (lists : JoinerLists) (f g : ℕ
+    → List ToJoiner) (w : List Pair) (m : EpochState) → Stands s t lists w m
+    → Stands s t (with_other lists f g lists.to_collector) w m
 stands-received s t lists f g w m is = stands-other s t lists f g lists.to_collector w w m (λ steps pairs. pairs) is
 
 -- ---- a message of a feeder
 
-pub accepts-taken-feeder : (old new : MachineState) (p : ℕ) (m : ToJoiner) (w w' : List Pair) (before after : List Post) → IsSound old → p < old.epochs.feeders → held_at old.of_feeders p ≡ [] → TakesOfFeeder old.epochs p m
-    → new ≡ record old { epochs = new.epochs } → TookOfFeeder p m old.epochs new.epochs w w' before after → Accepts (Feeder p) m old new w w' before after
+pub accepts-taken-feeder : (old new : MachineState) (p : ℕ) (m : ToJoiner) (w w' : List Pair) (before after : List Post)
+    → IsSound old → p < old.epochs.feeders → held_at old.of_feeders p ≡ [] → TakesOfFeeder old.epochs p m
+    → new ≡ record old { epochs = new.epochs } → TookOfFeeder p m old.epochs new.epochs w w' before after
+    → Accepts (Feeder p) m old new w w' before after
 accepts-taken-feeder old new p m w w' before after sound low clear can state took =
     let own : new.of_feeders ≡ old.of_feeders = ap (λ (z : MachineState). z.of_feeders) state in
     let other : new.of_joiners ≡ old.of_joiners = ap (λ (z : MachineState). z.of_joiners) state in
@@ -112,28 +142,44 @@ accepts-taken-feeder old new p m w w' before after sound low clear can state too
       rests = λ at. let n = sound.within.ended in absurd (false≢true (sym took.going ∙ at.ended p (omega arith)));
       stands = λ s lists is.
           let many = is.stands.fixed.feeders in
-          let after = took.stands s is.taken (with_other lists (grown p m lists.from_feeder) lists.from_joiner lists.to_collector) (omega arith) (stands-received s is.taken lists (grown p m lists.from_feeder) lists.from_joiner w old.epochs is.stands) in
+          let after = took.stands s is.taken (with_other lists (grown p m lists.from_feeder)
+          lists.from_joiner lists.to_collector) (omega arith)
+          (stands-received s is.taken lists (grown p m lists.from_feeder)
+          lists.from_joiner w old.epochs is.stands) in
           let t' = after.0 in
           record {
             taken = t';
             stands = after.2;
             feeders = λ j less. elim (cases_eq j p) [
               | inl here ↦
-                  let grows : t'.from_feeder p ≡ is.taken.from_feeder p ++ m ∷ [] = ap (λ (f : ℕ → List ToJoiner). f p) after.1.from_feeder ∙ grown-same p m is.taken.from_feeder in
-                  let was : is.taken.from_feeder p ++ held_at old.of_feeders p ≡ lists.from_feeder p = subst (λ (i : ℕ). is.taken.from_feeder i ++ held_at old.of_feeders i ≡ lists.from_feeder i) here (is.feeders j less) in
-                  let same : is.taken.from_feeder p ≡ lists.from_feeder p = sym (append-nil (is.taken.from_feeder p)) ∙ ap (λ zs. is.taken.from_feeder p ++ zs) (sym clear) ∙ was in
+                  let grows : t'.from_feeder p ≡ is.taken.from_feeder p ++ m ∷ [] =
+                  ap (λ (f : ℕ → List ToJoiner). f p) after.1.from_feeder ∙ grown-same p m is.taken.from_feeder in
+                  let was : is.taken.from_feeder p ++ held_at old.of_feeders p ≡ lists.from_feeder p =
+                  subst (λ (i : ℕ). is.taken.from_feeder i ++ held_at old.of_feeders i ≡ lists.from_feeder i) here
+                  (is.feeders j less) in
+                  let same : is.taken.from_feeder p ≡ lists.from_feeder p =
+                  sym (append-nil (is.taken.from_feeder p)) ∙ ap (λ zs. is.taken.from_feeder p ++ zs) (sym clear)
+                  ∙ was in
                   let now : held_at new.of_feeders p ≡ [] = ap (λ qs. held_at qs p) own ∙ clear in
-                  rw here (ap (λ zs. t'.from_feeder p ++ zs) now ∙ append-nil (t'.from_feeder p) ∙ grows ∙ ap (λ zs. zs ++ m ∷ []) same ∙ sym (grown-same p m lists.from_feeder))
+                  rw here (ap (λ zs. t'.from_feeder p ++ zs) now ∙ append-nil (t'.from_feeder p) ∙ grows
+                  ∙ ap (λ zs. zs ++ m ∷ []) same ∙ sym (grown-same p m lists.from_feeder))
               | inr differ ↦
-                  let keeps : t'.from_feeder j ≡ is.taken.from_feeder j = ap (λ (f : ℕ → List ToJoiner). f j) after.1.from_feeder ∙ grown-other p m is.taken.from_feeder j differ in
-                  ap (λ zs. zs ++ held_at new.of_feeders j) keeps ∙ ap (λ qs. is.taken.from_feeder j ++ held_at qs j) own ∙ is.feeders j less ∙ sym (grown-other p m lists.from_feeder j differ)
+                  let keeps : t'.from_feeder j ≡ is.taken.from_feeder j =
+                  ap (λ (f : ℕ → List ToJoiner). f j) after.1.from_feeder
+                  ∙ grown-other p m is.taken.from_feeder j differ in
+                  ap (λ zs. zs ++ held_at new.of_feeders j) keeps
+                  ∙ ap (λ qs. is.taken.from_feeder j ++ held_at qs j) own ∙ is.feeders j less
+                  ∙ sym (grown-other p m lists.from_feeder j differ)
             ];
-            joiners = λ j less. ap (λ (f : ℕ → List ToJoiner). f j ++ held_at new.of_joiners j) after.1.from_joiner ∙ ap (λ qs. is.taken.from_joiner j ++ held_at qs j) other ∙ is.joiners j less;
+            joiners = λ j less. ap (λ (f : ℕ → List ToJoiner). f j ++ held_at new.of_joiners j) after.1.from_joiner
+                ∙ ap (λ qs. is.taken.from_joiner j ++ held_at qs j) other ∙ is.joiners j less;
           };
     }
 
-pub accepts-held-feeder : (old : MachineState) (queues : List (List ToJoiner)) (p : ℕ) (m : ToJoiner) (w : List Pair) (before : List Post) → IsSound old → p < old.epochs.feeders → HasRow old.epochs.theta m
-    → queues ≡ slice_set old.of_feeders p (held_at old.of_feeders p ++ m ∷ []) → Accepts (Feeder p) m old (record old { of_feeders = queues }) w w before before
+pub accepts-held-feeder : (old : MachineState) (queues : List (List ToJoiner)) (p : ℕ) (m : ToJoiner) (w : List Pair)
+    (before : List Post) → IsSound old → p < old.epochs.feeders → HasRow old.epochs.theta m
+    → queues ≡ slice_set old.of_feeders p (held_at old.of_feeders p ++ m ∷ [])
+    → Accepts (Feeder p) m old (record old { of_feeders = queues }) w w before before
 accepts-held-feeder old queues p m w before sound low row put =
     let count = sound.feeders in
     let within : p < length old.of_feeders = omega arith in
@@ -156,15 +202,27 @@ accepts-held-feeder old queues p m w before sound low row put =
       stands = λ s lists is.
           record {
             taken = is.taken;
-            stands = subst (λ (ls : JoinerLists). Stands s is.taken ls w old.epochs) (sym (with_sent-none (with_other lists (grown p m lists.from_feeder) lists.from_joiner lists.to_collector))) (stands-received s is.taken lists (grown p m lists.from_feeder) lists.from_joiner w old.epochs is.stands);
+            stands = subst (λ (ls : JoinerLists). Stands s is.taken ls w old.epochs)
+                (sym (with_sent-none (with_other lists (grown p m lists.from_feeder)
+                lists.from_joiner lists.to_collector))) (stands-received s is.taken lists (grown p m lists.from_feeder)
+                lists.from_joiner w old.epochs is.stands);
             feeders = λ j less. elim (cases_eq j p) [
               | inl here ↦
-                  let was : is.taken.from_feeder p ++ held_at old.of_feeders p ≡ lists.from_feeder p = subst (λ (i : ℕ). is.taken.from_feeder i ++ held_at old.of_feeders i ≡ lists.from_feeder i) here (is.feeders j less) in
-                  let now : held_at queues p ≡ held_at old.of_feeders p ++ m ∷ [] = ap (λ qs. held_at qs p) put ∙ get_or-set_same old.of_feeders p (held_at old.of_feeders p ++ m ∷ []) [] within in
-                  rw here (ap (λ zs. is.taken.from_feeder p ++ zs) now ∙ sym (append_assoc (is.taken.from_feeder p) (held_at old.of_feeders p) (m ∷ [])) ∙ ap (λ zs. zs ++ m ∷ []) was ∙ sym (grown-same p m lists.from_feeder))
+                  let was : is.taken.from_feeder p ++ held_at old.of_feeders p ≡ lists.from_feeder p =
+                  subst (λ (i : ℕ). is.taken.from_feeder i ++ held_at old.of_feeders i ≡ lists.from_feeder i) here
+                  (is.feeders j less) in
+                  let now : held_at queues p ≡ held_at old.of_feeders p ++ m ∷ [] =
+                  ap (λ qs. held_at qs p) put ∙ get_or-set_same old.of_feeders p
+                  (held_at old.of_feeders p ++ m ∷ []) [] within in
+                  rw here (ap (λ zs. is.taken.from_feeder p ++ zs) now
+                  ∙ sym (append_assoc (is.taken.from_feeder p) (held_at old.of_feeders p) (m ∷ []))
+                  ∙ ap (λ zs. zs ++ m ∷ []) was ∙ sym (grown-same p m lists.from_feeder))
               | inr differ ↦
-                  let keeps : held_at queues j ≡ held_at old.of_feeders j = ap (λ qs. held_at qs j) put ∙ get_or-set_other old.of_feeders p j (held_at old.of_feeders p ++ m ∷ []) [] differ in
-                  ap (λ zs. is.taken.from_feeder j ++ zs) keeps ∙ is.feeders j less ∙ sym (grown-other p m lists.from_feeder j differ)
+                  let keeps : held_at queues j ≡ held_at old.of_feeders j =
+                  ap (λ qs. held_at qs j) put ∙ get_or-set_other old.of_feeders p j
+                  (held_at old.of_feeders p ++ m ∷ []) [] differ in
+                  ap (λ zs. is.taken.from_feeder j ++ zs) keeps ∙ is.feeders j less
+                  ∙ sym (grown-other p m lists.from_feeder j differ)
             ];
             joiners = is.joiners;
           };
@@ -172,8 +230,10 @@ accepts-held-feeder old queues p m w before sound low row put =
 
 -- ---- a message of a joiner
 
-pub accepts-taken-joiner : (old new : MachineState) (q : ℕ) (m : ToJoiner) (w w' : List Pair) (before after : List Post) → IsSound old → held_at old.of_joiners q ≡ [] → TakesOfJoiner old.epochs q m
-    → new ≡ record old { epochs = new.epochs } → ((j : ℕ) → TakesOfJoiner old.epochs j m → TookOfJoiner j m old.epochs new.epochs w w' before after) → Accepts (Joiner' q) m old new w w' before after
+pub accepts-taken-joiner : (old new : MachineState) (q : ℕ) (m : ToJoiner) (w w' : List Pair) (before after : List Post)
+    → IsSound old → held_at old.of_joiners q ≡ [] → TakesOfJoiner old.epochs q m
+    → new ≡ record old { epochs = new.epochs } → ((j : ℕ) → TakesOfJoiner old.epochs j m
+    → TookOfJoiner j m old.epochs new.epochs w w' before after) → Accepts (Joiner' q) m old new w w' before after
 accepts-taken-joiner old new q m w w' before after sound clear can state takes =
     let took = takes q can in
     let own : new.of_joiners ≡ old.of_joiners = ap (λ (z : MachineState). z.of_joiners) state in
@@ -195,28 +255,43 @@ accepts-taken-joiner old new q m w w' before after sound clear can state takes =
       fixed = record { k = took.k; id = took.id; feeders = took.feeders; theta = took.theta };
       rests = λ at. absurd (took.opened at.closed);
       stands = λ s lists is.
-          let after = took.stands s is.taken (with_other lists lists.from_feeder (grown q m lists.from_joiner) lists.to_collector) (stands-received s is.taken lists lists.from_feeder (grown q m lists.from_joiner) w old.epochs is.stands) in
+          let after = took.stands s is.taken (with_other lists lists.from_feeder (grown q m lists.from_joiner)
+          lists.to_collector) (stands-received s is.taken lists lists.from_feeder (grown q m lists.from_joiner)
+          w old.epochs is.stands) in
           let t' = after.0 in
           record {
             taken = t';
             stands = after.2;
-            feeders = λ j less. ap (λ (f : ℕ → List ToJoiner). f j ++ held_at new.of_feeders j) after.1.from_feeder ∙ ap (λ qs. is.taken.from_feeder j ++ held_at qs j) other ∙ is.feeders j less;
+            feeders = λ j less. ap (λ (f : ℕ → List ToJoiner). f j ++ held_at new.of_feeders j) after.1.from_feeder
+                ∙ ap (λ qs. is.taken.from_feeder j ++ held_at qs j) other ∙ is.feeders j less;
             joiners = λ j less. elim (cases_eq j q) [
               | inl here ↦
-                  let grows : t'.from_joiner q ≡ is.taken.from_joiner q ++ m ∷ [] = ap (λ (f : ℕ → List ToJoiner). f q) after.1.from_joiner ∙ grown-same q m is.taken.from_joiner in
-                  let was : is.taken.from_joiner q ++ held_at old.of_joiners q ≡ lists.from_joiner q = subst (λ (i : ℕ). is.taken.from_joiner i ++ held_at old.of_joiners i ≡ lists.from_joiner i) here (is.joiners j less) in
-                  let same : is.taken.from_joiner q ≡ lists.from_joiner q = sym (append-nil (is.taken.from_joiner q)) ∙ ap (λ zs. is.taken.from_joiner q ++ zs) (sym clear) ∙ was in
+                  let grows : t'.from_joiner q ≡ is.taken.from_joiner q ++ m ∷ [] =
+                  ap (λ (f : ℕ → List ToJoiner). f q) after.1.from_joiner ∙ grown-same q m is.taken.from_joiner in
+                  let was : is.taken.from_joiner q ++ held_at old.of_joiners q ≡ lists.from_joiner q =
+                  subst (λ (i : ℕ). is.taken.from_joiner i ++ held_at old.of_joiners i ≡ lists.from_joiner i) here
+                  (is.joiners j less) in
+                  let same : is.taken.from_joiner q ≡ lists.from_joiner q =
+                  sym (append-nil (is.taken.from_joiner q)) ∙ ap (λ zs. is.taken.from_joiner q ++ zs) (sym clear)
+                  ∙ was in
                   let now : held_at new.of_joiners q ≡ [] = ap (λ qs. held_at qs q) own ∙ clear in
-                  rw here (ap (λ zs. t'.from_joiner q ++ zs) now ∙ append-nil (t'.from_joiner q) ∙ grows ∙ ap (λ zs. zs ++ m ∷ []) same ∙ sym (grown-same q m lists.from_joiner))
+                  rw here (ap (λ zs. t'.from_joiner q ++ zs) now ∙ append-nil (t'.from_joiner q) ∙ grows
+                  ∙ ap (λ zs. zs ++ m ∷ []) same ∙ sym (grown-same q m lists.from_joiner))
               | inr differ ↦
-                  let keeps : t'.from_joiner j ≡ is.taken.from_joiner j = ap (λ (f : ℕ → List ToJoiner). f j) after.1.from_joiner ∙ grown-other q m is.taken.from_joiner j differ in
-                  ap (λ zs. zs ++ held_at new.of_joiners j) keeps ∙ ap (λ qs. is.taken.from_joiner j ++ held_at qs j) own ∙ is.joiners j less ∙ sym (grown-other q m lists.from_joiner j differ)
+                  let keeps : t'.from_joiner j ≡ is.taken.from_joiner j =
+                  ap (λ (f : ℕ → List ToJoiner). f j) after.1.from_joiner
+                  ∙ grown-other q m is.taken.from_joiner j differ in
+                  ap (λ zs. zs ++ held_at new.of_joiners j) keeps
+                  ∙ ap (λ qs. is.taken.from_joiner j ++ held_at qs j) own ∙ is.joiners j less
+                  ∙ sym (grown-other q m lists.from_joiner j differ)
             ];
           };
     }
 
-pub accepts-held-joiner : (old : MachineState) (queues : List (List ToJoiner)) (q : ℕ) (m : ToJoiner) (w : List Pair) (before : List Post) → IsSound old → q < 2 ^ old.epochs.k → HasRow old.epochs.theta m
-    → queues ≡ slice_set old.of_joiners q (held_at old.of_joiners q ++ m ∷ []) → Accepts (Joiner' q) m old (record old { of_joiners = queues }) w w before before
+pub accepts-held-joiner : (old : MachineState) (queues : List (List ToJoiner)) (q : ℕ) (m : ToJoiner) (w : List Pair)
+    (before : List Post) → IsSound old → q < 2 ^ old.epochs.k → HasRow old.epochs.theta m
+    → queues ≡ slice_set old.of_joiners q (held_at old.of_joiners q ++ m ∷ [])
+    → Accepts (Joiner' q) m old (record old { of_joiners = queues }) w w before before
 accepts-held-joiner old queues q m w before sound low row put =
     let count = sound.joiners in
     let within : q < length old.of_joiners = omega arith in
@@ -239,16 +314,28 @@ accepts-held-joiner old queues q m w before sound low row put =
       stands = λ s lists is.
           record {
             taken = is.taken;
-            stands = subst (λ (ls : JoinerLists). Stands s is.taken ls w old.epochs) (sym (with_sent-none (with_other lists lists.from_feeder (grown q m lists.from_joiner) lists.to_collector))) (stands-received s is.taken lists lists.from_feeder (grown q m lists.from_joiner) w old.epochs is.stands);
+            stands = subst (λ (ls : JoinerLists). Stands s is.taken ls w old.epochs)
+                (sym (with_sent-none (with_other lists lists.from_feeder (grown q m lists.from_joiner)
+                lists.to_collector))) (stands-received s is.taken lists lists.from_feeder (grown q m lists.from_joiner)
+                w old.epochs is.stands);
             feeders = is.feeders;
             joiners = λ j less. elim (cases_eq j q) [
               | inl here ↦
-                  let was : is.taken.from_joiner q ++ held_at old.of_joiners q ≡ lists.from_joiner q = subst (λ (i : ℕ). is.taken.from_joiner i ++ held_at old.of_joiners i ≡ lists.from_joiner i) here (is.joiners j less) in
-                  let now : held_at queues q ≡ held_at old.of_joiners q ++ m ∷ [] = ap (λ qs. held_at qs q) put ∙ get_or-set_same old.of_joiners q (held_at old.of_joiners q ++ m ∷ []) [] within in
-                  rw here (ap (λ zs. is.taken.from_joiner q ++ zs) now ∙ sym (append_assoc (is.taken.from_joiner q) (held_at old.of_joiners q) (m ∷ [])) ∙ ap (λ zs. zs ++ m ∷ []) was ∙ sym (grown-same q m lists.from_joiner))
+                  let was : is.taken.from_joiner q ++ held_at old.of_joiners q ≡ lists.from_joiner q =
+                  subst (λ (i : ℕ). is.taken.from_joiner i ++ held_at old.of_joiners i ≡ lists.from_joiner i) here
+                  (is.joiners j less) in
+                  let now : held_at queues q ≡ held_at old.of_joiners q ++ m ∷ [] =
+                  ap (λ qs. held_at qs q) put ∙ get_or-set_same old.of_joiners q
+                  (held_at old.of_joiners q ++ m ∷ []) [] within in
+                  rw here (ap (λ zs. is.taken.from_joiner q ++ zs) now
+                  ∙ sym (append_assoc (is.taken.from_joiner q) (held_at old.of_joiners q) (m ∷ []))
+                  ∙ ap (λ zs. zs ++ m ∷ []) was ∙ sym (grown-same q m lists.from_joiner))
               | inr differ ↦
-                  let keeps : held_at queues j ≡ held_at old.of_joiners j = ap (λ qs. held_at qs j) put ∙ get_or-set_other old.of_joiners q j (held_at old.of_joiners q ++ m ∷ []) [] differ in
-                  ap (λ zs. is.taken.from_joiner j ++ zs) keeps ∙ is.joiners j less ∙ sym (grown-other q m lists.from_joiner j differ)
+                  let keeps : held_at queues j ≡ held_at old.of_joiners j =
+                  ap (λ qs. held_at qs j) put ∙ get_or-set_other old.of_joiners q j
+                  (held_at old.of_joiners q ++ m ∷ []) [] differ in
+                  ap (λ zs. is.taken.from_joiner j ++ zs) keeps ∙ is.joiners j less
+                  ∙ sym (grown-other q m lists.from_joiner j differ)
             ];
           };
     }

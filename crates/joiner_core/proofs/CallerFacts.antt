@@ -1,5 +1,6 @@
 -- What callers do with a joiner.
-use Rattle.std.proofs.Common.{IsTrue, ◌↔◌, ◌≡◌, ℕ, ◌+◌, ◌-◌, ◌^◌, ◌<◌, ◌≤◌, refl, sym, ◌∙◌, ap, subst, arith, inl, inr, Bool, true, false, List, ◌++◌, length}
+use Rattle.std.proofs.Common.{IsTrue, ◌↔◌, ◌≡◌, ℕ, ◌+◌, ◌-◌, ◌^◌, ◌<◌, ◌≤◌, refl, sym, ◌∙◌, ap, subst, arith, inl, inr}
+use Rattle.std.proofs.Common.{Bool, true, false, List, ◌++◌, length}
 use Rattle.std.specs.Prelude.{min, ⊤}
 use Rattle.std.proofs.lemmas.List.{length-append}
 use Rattle.std.proofs.lemmas.Bool.{false≢true, cases_Bool}
@@ -10,7 +11,8 @@ use Rattle.epoch_tags.specs.declared.actor.Actor.{Actor}
 use Rattle.epoch_tags.specs.declared.actor.Actor.TheVariants.{Feeder, Joiner as Joiner', Controller, Collector}
 use Rattle.epoch_tags.specs.declared.message.Post.{Post}
 use Rattle.epoch_tags.specs.declared.message.ToJoiner.{ToJoiner}
-use Rattle.epoch_tags.specs.Links.{HasLink, feeder_joiner, joiner_joiner, controller_feeder, feeder_controller, joiner_controller, joiner_collector}
+use Rattle.epoch_tags.specs.Links.{HasLink, feeder_joiner, joiner_joiner, controller_feeder, feeder_controller}
+use Rattle.epoch_tags.specs.Links.{joiner_controller, joiner_collector}
 use Rattle.epoch_tags.specs.Held.{held_at}
 use Rattle.joiner_law.specs.Law.{JoinerStart, JoinerLists}
 use Rattle.joiner_core.specs.State.{DifferInOneBit, MachineState}
@@ -21,12 +23,22 @@ use Rattle.joiner_core.proofs.OwnPosts.{all-over, all-rows}
 use Rattle.joiner_core.proofs.WholeLaw.{keeps-law, law-done, machine-done}
 
 -- what the machine stands for keeps the law
-pub with-law : (s : JoinerStart) (lists : JoinerLists) (joiner : JoinerState) → StandsBetween s lists joiner.machine → StandsFor s lists joiner
+pub with-law : (s : JoinerStart) (lists : JoinerLists) (joiner : JoinerState) → StandsBetween s lists joiner.machine
+    → StandsFor s lists joiner
 with-law s lists joiner is =
     let law = keeps-law s lists joiner.machine is in
-    record { taken = is.within.taken; law = law; machine = record { between = is; taken = refl; done = sym (machine-done s lists joiner.machine is) ∙ law-done s lists is.within.taken law } }
+    record {
+      taken = is.within.taken;
+      law = law;
+      machine = record {
+        between = is;
+        taken = refl;
+        done = sym (machine-done s lists joiner.machine is) ∙ law-done s lists is.within.taken law;
+      };
+    }
 
-pub takes : (from : Actor) (m : ToJoiner) (old new : JoinerState) (before after : List Post) → Receives from m old.machine new.machine before after → TakesMessage from m old new before after
+pub takes : (from : Actor) (m : ToJoiner) (old new : JoinerState) (before after : List Post)
+    → Receives from m old.machine new.machine before after → TakesMessage from m old new before after
 takes from m old new before after is = record {
   added = is.added;
   sends = is.sends;
@@ -35,7 +47,8 @@ takes from m old new before after is = record {
   order = is.order;
   tried = is.tried;
   same = record { of_k = is.fixed.k; of_id = is.fixed.id; of_feeders = is.fixed.feeders; of_theta = is.fixed.theta };
-  stands = λ s lists stands. with-law s (with_sent (with_message from m lists) is.added) new (is.stands s lists stands.machine.between);
+  stands = λ s lists stands. with-law s (with_sent (with_message from m lists) is.added) new
+      (is.stands s lists stands.machine.between);
 }
 
 -- a test that is true where the fact holds and false where it doesn't
@@ -44,7 +57,8 @@ told-by true up down = (λ yes. up refl, λ fact. refl)
 told-by false up down = (λ yes. absurd (false≢true yes), λ fact. absurd (down refl fact))
 
 -- a joiner that isn't spent is sound
-pub sound-at-work : (joiner : JoinerState) → (joiner.spent ≡ false → IsSound joiner.machine) → ¬ (IsSpent joiner) → IsSound joiner.machine
+pub sound-at-work : (joiner : JoinerState) → (joiner.spent ≡ false → IsSound joiner.machine) → ¬ (IsSpent joiner)
+    → IsSound joiner.machine
 sound-at-work joiner sound going = elim (cases_Bool joiner.spent) [
   | inl up ↦ absurd (going up)
   | inr down ↦ sound down
@@ -74,14 +88,16 @@ IsLinked k feeders from Collector = ⊤
 
 linked : (k feeders : ℕ) (from to : Actor) → HasLink k feeders from to → IsLinked k feeders from to
 linked k feeders _ _ (feeder_joiner low below) = (low, below)
-linked k feeders _ _ (joiner_joiner {low = low} below within) = (below, record { low = low; below = within; other = refl })
+linked k feeders _ _ (joiner_joiner {low = low} below within) =
+    (below, record { low = low; below = within; other = refl })
 linked k feeders _ _ (controller_feeder low) = tt
 linked k feeders _ _ (feeder_controller low) = tt
 linked k feeders _ _ (joiner_controller low) = tt
 linked k feeders _ _ (joiner_collector low) = tt
 
 pub joiner-link : (k feeders q id : ℕ) → q < 2 ^ k → DifferInOneBit k q id → HasLink k feeders (Joiner' q) (Joiner' id)
-joiner-link k feeders q id low is = subst (λ (j : ℕ). HasLink k feeders (Joiner' q) (Joiner' j)) (sym is.other) (joiner_joiner low is.below)
+joiner-link k feeders q id low is = subst (λ (j : ℕ). HasLink k feeders (Joiner' q) (Joiner' j)) (sym is.other)
+    (joiner_joiner low is.below)
 
 pub feeder-link : (k feeders p id : ℕ) → p < feeders → id < 2 ^ k → HasLink k feeders (Feeder p) (Joiner' id)
 feeder-link k feeders p id low below = feeder_joiner low below
@@ -110,33 +126,44 @@ no-id k feeders id Collector small high link = no-collector k feeders id link
 
 -- ---- what is held
 
-rest-length : (taken held received : List ToJoiner) → taken ++ held ≡ received → length held ≡ length received - length taken
-rest-length taken held received is = let a = length-append taken held in let b : length (taken ++ held) ≡ length received = ap length is in omega arith
+rest-length : (taken held received : List ToJoiner) → taken ++ held ≡ received
+    → length held ≡ length received - length taken
+rest-length taken held received is = let a = length-append taken held in
+    let b : length (taken ++ held) ≡ length received = ap length is in omega arith
 
 sat : (a b top : ℕ) → min (min a top + min b top) top ≡ min (a + b) top
 sat a b top = omega arith
 
 pub held-law : (s : JoinerStart) (lists : JoinerLists) (m : MachineState) (is : StandsBetween s lists m)
-    → total (length m.of_feeders) (λ p. length (held_at m.of_feeders p)) + total (length m.of_joiners) (λ q. length (held_at m.of_joiners q)) ≡ held_number s lists is.within.taken
+    → total (length m.of_feeders) (λ p. length (held_at m.of_feeders p))
+    + total (length m.of_joiners) (λ q. length (held_at m.of_joiners q)) ≡ held_number s lists is.within.taken
 held-law s lists m is =
     let w = is.within in
     let fixed = w.stands.fixed in
     let n : length m.of_feeders ≡ s.feeders = is.sound.feeders ∙ fixed.feeders in
     let k : length m.of_joiners ≡ 2 ^ s.k = is.sound.joiners ∙ ap (λ i. 2 ^ i) fixed.k in
-    let one : total s.feeders (λ p. length (held_at m.of_feeders p)) ≡ total s.feeders (λ p. length (lists.from_feeder p) - length (w.taken.from_feeder p)) =
+    let one : total s.feeders (λ p. length (held_at m.of_feeders p))
+    ≡ total s.feeders (λ p. length (lists.from_feeder p) - length (w.taken.from_feeder p)) =
     total_same s.feeders _ _ (λ p low. rest-length _ _ _ (w.feeders p low)) in
-    let two : total (2 ^ s.k) (λ q. length (held_at m.of_joiners q)) ≡ total (2 ^ s.k) (λ q. length (lists.from_joiner q) - length (w.taken.from_joiner q)) =
+    let two : total (2 ^ s.k) (λ q. length (held_at m.of_joiners q))
+    ≡ total (2 ^ s.k) (λ q. length (lists.from_joiner q) - length (w.taken.from_joiner q)) =
     total_same (2 ^ s.k) _ _ (λ q low. rest-length _ _ _ (w.joiners q low)) in
-    ap (λ i. total i (λ p. length (held_at m.of_feeders p)) + total (length m.of_joiners) (λ q. length (held_at m.of_joiners q))) n
-    ∙ ap (λ i. total s.feeders (λ p. length (held_at m.of_feeders p)) + total i (λ q. length (held_at m.of_joiners q))) k
+    ap (λ i. total i (λ p. length (held_at m.of_feeders p))
+    + total (length m.of_joiners) (λ q. length (held_at m.of_joiners q))) n
+    ∙ ap (λ i. total s.feeders (λ p. length (held_at m.of_feeders p)) + total i (λ q. length (held_at m.of_joiners q)))
+    k
     ∙ ap (λ a. a + total (2 ^ s.k) (λ q. length (held_at m.of_joiners q))) one
     ∙ ap (λ b. total s.feeders (λ p. length (lists.from_feeder p) - length (w.taken.from_feeder p)) + b) two
 
-pub held-count : (s : JoinerStart) (lists : JoinerLists) (m : MachineState) (is : StandsBetween s lists m) (a b n : ℕ) → a ≡ min (total (length m.of_feeders) (λ p. length (held_at m.of_feeders p))) (2 ^ 64 - 1)
-    → b ≡ min (total (length m.of_joiners) (λ q. length (held_at m.of_joiners q))) (2 ^ 64 - 1) → n ≡ min (a + b) (2 ^ 64 - 1) → n ≡ min (held_number s lists is.within.taken) (2 ^ 64 - 1)
+pub held-count : (s : JoinerStart) (lists : JoinerLists) (m : MachineState) (is : StandsBetween s lists m) (a b n : ℕ)
+    → a ≡ min (total (length m.of_feeders) (λ p. length (held_at m.of_feeders p))) (2 ^ 64 - 1)
+    → b ≡ min (total (length m.of_joiners) (λ q. length (held_at m.of_joiners q))) (2 ^ 64 - 1)
+    → n ≡ min (a + b) (2 ^ 64 - 1) → n ≡ min (held_number s lists is.within.taken) (2 ^ 64 - 1)
 held-count s lists m is a b n one two all =
     all
     ∙ ap (λ i. min (i + b) (2 ^ 64 - 1)) one
-    ∙ ap (λ i. min (min (total (length m.of_feeders) (λ p. length (held_at m.of_feeders p))) (2 ^ 64 - 1) + i) (2 ^ 64 - 1)) two
-    ∙ sat (total (length m.of_feeders) (λ p. length (held_at m.of_feeders p))) (total (length m.of_joiners) (λ q. length (held_at m.of_joiners q))) (2 ^ 64 - 1)
+    ∙ ap (λ i. min (min (total (length m.of_feeders) (λ p. length (held_at m.of_feeders p))) (2 ^ 64 - 1) + i)
+    (2 ^ 64 - 1)) two
+    ∙ sat (total (length m.of_feeders) (λ p. length (held_at m.of_feeders p)))
+    (total (length m.of_joiners) (λ q. length (held_at m.of_joiners q))) (2 ^ 64 - 1)
     ∙ ap (λ i. min i (2 ^ 64 - 1)) (held-law s lists m is)

@@ -1,5 +1,6 @@
 -- A feeder's end and a partner's messages, as whole calls.
-use Rattle.std.proofs.Common.{◌≡◌, ℕ, ◌^◌, ◌<◌, refl, sym, ◌∙◌, ap, subst, arith, Bool, true, false, Option, Some, None, List, [], ◌++◌, length}
+use Rattle.std.proofs.Common.{◌≡◌, ℕ, ◌^◌, ◌<◌, refl, sym, ◌∙◌, ap, subst, arith, Bool, true, false, Option, Some, None}
+use Rattle.std.proofs.Common.{List, [], ◌++◌, length}
 use Rattle.std.specs.Prelude.{slice_set}
 use Rattle.std.proofs.Math.ListN.{length-set}
 use Rattle.epoch_tags.specs.declared.tuple.Tuple.{Tuple}
@@ -12,27 +13,34 @@ use Rattle.joiner_law.specs.History.{Step}
 use Rattle.joiner_law.specs.Standing.{took_of_feeder, took_of_joiner, with_sent, IsOfFeeder, StandsOpen}
 use Rattle.migration_plan.specs.Steps.{partner_in_step}
 use Rattle.joiner_law.proofs.TakenTurns.{open-end}
-use Rattle.joiner_core.specs.Changes.{after_moved, found_moved, moved_found, step_new, with_new, part_by, after_part, IsReady, posts_settled, after_settle}
+use Rattle.joiner_core.specs.Changes.{after_moved, found_moved, moved_found, step_new, with_new, part_by, after_part}
+use Rattle.joiner_core.specs.Changes.{IsReady, posts_settled, after_settle}
 use Rattle.joiner_core.specs.State.{OpenStep, EpochState, IsRow}
-use Rattle.joiner_core.specs.Taking.{IsMachineOf, IsOpen, StandsBy, Stands, IsWithin, IsFixed, IsStepWithin, IsCounted, HasSomeTurn, TookOfFeeder, TookOfJoiner, PartFits}
+use Rattle.joiner_core.specs.Taking.{IsMachineOf, IsOpen, StandsBy, Stands, IsWithin, IsFixed, IsStepWithin, IsCounted}
+use Rattle.joiner_core.specs.Taking.{HasSomeTurn, TookOfFeeder, TookOfJoiner, PartFits}
 use Rattle.joiner_core.proofs.RowWidths.{stock-part}
 use Rattle.joiner_core.proofs.OwnPosts.{own-none, own-settled, own-before}
 use Rattle.std.proofs.lemmas.List.{append-nil}
 use Rattle.joiner_core.proofs.SentPosts.{quiet-settled, with_sent-none}
 use Rattle.joiner_core.proofs.FlagChanges.{closed-end, flag-set}
 use Rattle.joiner_core.proofs.PartnerParts.{open-part, open-part_end}
-use Rattle.joiner_core.proofs.SettledSteps.{stands-settled, settled-within, settled-k, settled-id, settled-feeders, settled-theta}
+use Rattle.joiner_core.proofs.SettledSteps.{stands-settled, settled-within, settled-k, settled-id, settled-feeders}
+use Rattle.joiner_core.proofs.SettledSteps.{settled-theta}
 use Rattle.joiner_core.proofs.TakenTuples.{new-within}
 
 -- ---- a feeder's end
 
-same-ends-open : (s : JoinerStart) (t : Taken) (lists : JoinerLists) (waiting : List Pair) (turned ended ended' : ℕ → Bool) (all_turned part_ended : Bool) (a b : List Tuple) (new cur : Step) (past : List Step) → ((p : ℕ) → ended p ≡ ended' p)
-    → StandsOpen s t lists waiting turned ended all_turned part_ended a b new cur past → StandsOpen s t lists waiting turned ended' all_turned part_ended a b new cur past
+same-ends-open : (s : JoinerStart) (t : Taken) (lists : JoinerLists) (waiting : List Pair) (turned ended ended' : ℕ
+    → Bool) (all_turned part_ended : Bool) (a b : List Tuple) (new cur : Step) (past : List Step)
+    → ((p : ℕ) → ended p ≡ ended' p)
+    → StandsOpen s t lists waiting turned ended all_turned part_ended a b new cur past
+    → StandsOpen s t lists waiting turned ended' all_turned part_ended a b new cur past
 same-ends-open s t lists waiting turned ended ended' all_turned part_ended a b new cur past same is =
     let steps = is.steps in
     record {
       steps = record {
-        feeders = λ p low. subst (λ (b : Bool). IsOfFeeder s.epoch t.shift_at (length past) (turned p) b (t.from_feeder p)) (same p) (steps.feeders p low);
+        feeders = λ p low. subst (λ (b : Bool). IsOfFeeder s.epoch t.shift_at (length past) (turned p) b
+            (t.from_feeder p)) (same p) (steps.feeders p low);
         history = steps.history;
         by_one = steps.by_one;
         in_time = steps.in_time;
@@ -50,17 +58,21 @@ same-ends-open s t lists waiting turned ended ended' all_turned part_ended a b n
       taken_up_to = is.taken_up_to;
     }
 
-open-ended : (s : JoinerStart) (t : Taken) (lists : JoinerLists) (waiting : List Pair) (m m' : EpochState) (o : OpenStep) (p : ℕ) → p < s.feeders → flag_at m.ended p ≡ false → m'.ended ≡ slice_set m.ended p true
+open-ended : (s : JoinerStart) (t : Taken) (lists : JoinerLists) (waiting : List Pair) (m m' : EpochState)
+    (o : OpenStep) (p : ℕ) → p < s.feeders → flag_at m.ended p ≡ false → m'.ended ≡ slice_set m.ended p true
     → IsOpen s t lists waiting m o → IsOpen s (took_of_feeder p End t) lists waiting (record m { ended = m'.ended }) o
 open-ended s t lists waiting m m' o p low going flags is =
     let within : p < length m.ended = let n = is.ended_count in omega arith in
-    let after = open-end s t lists waiting (flag_at o.turned) (flag_at m.ended) is.all_turned o.partner_ended m.store.tuples o.store.tuples is.new is.cur is.past p low going is.stands in
+    let after = open-end s t lists waiting (flag_at o.turned) (flag_at m.ended)
+    is.all_turned o.partner_ended m.store.tuples o.store.tuples is.new is.cur is.past p low going is.stands in
     record {
       new = is.new;
       cur = is.cur;
       past = is.past;
       all_turned = is.all_turned;
-      stands = same-ends-open s (took_of_feeder p End t) lists waiting (flag_at o.turned) _ (flag_at m'.ended) is.all_turned o.partner_ended m.store.tuples o.store.tuples is.new is.cur is.past (λ q. flag-set m.ended p q within ∙ ap (λ fs. flag_at fs q) (sym flags)) after;
+      stands = same-ends-open s (took_of_feeder p End t) lists waiting (flag_at o.turned) _ (flag_at m'.ended)
+          is.all_turned o.partner_ended m.store.tuples o.store.tuples is.new is.cur is.past
+          (λ q. flag-set m.ended p q within ∙ ap (λ fs. flag_at fs q) (sym flags)) after;
       epoch = is.epoch;
       shift = is.shift;
       step_epoch = is.step_epoch;
@@ -72,19 +84,33 @@ open-ended s t lists waiting m m' o p low going flags is =
       all = is.all;
     }
 
-end-by : (s : JoinerStart) (t : Taken) (lists : JoinerLists) (waiting : List Pair) (m m' : EpochState) (p : ℕ) → p < s.feeders → flag_at m.ended p ≡ false → m'.ended ≡ slice_set m.ended p true
-    → (step : Option OpenStep) → StandsBy s t lists waiting m step → StandsBy s (took_of_feeder p End t) lists waiting (record m { ended = m'.ended }) step
+end-by : (s : JoinerStart) (t : Taken) (lists : JoinerLists) (waiting : List Pair) (m m' : EpochState) (p : ℕ)
+    → p < s.feeders → flag_at m.ended p ≡ false → m'.ended ≡ slice_set m.ended p true
+    → (step : Option OpenStep) → StandsBy s t lists waiting m step
+    → StandsBy s (took_of_feeder p End t) lists waiting (record m { ended = m'.ended }) step
 end-by s t lists waiting m m' p low going flags None is = closed-end s t lists waiting m m' p low going flags is
 end-by s t lists waiting m m' p low going flags (Some o) is = open-ended s t lists waiting m m' o p low going flags is
 
-pub took-end : (m m' : EpochState) (p : ℕ) (waiting : List Pair) (before : List Post) → IsWithin m → flag_at m.ended p ≡ false → m' ≡ record m { ended = m'.ended } → m'.ended ≡ slice_set m.ended p true
+pub took-end : (m m' : EpochState) (p : ℕ) (waiting : List Pair) (before : List Post) → IsWithin m
+    → flag_at m.ended p ≡ false → m' ≡ record m { ended = m'.ended } → m'.ended ≡ slice_set m.ended p true
     → TookOfFeeder p End m m' waiting waiting before before
 took-end m m' p waiting before within going state flags = record {
   added = [];
   sends = sym (append-nil before);
   quiet = refl;
   own = own-none m;
-  within = subst (λ (z : EpochState). IsWithin z) (sym state) (record { small = within.small; shift = within.shift; step = within.step; ended = ap length flags ∙ length-set m.ended p true ∙ within.ended; count = within.count; begun = within.begun; rests = within.rests; id = within.id; stock = within.stock; step_stock = within.step_stock });
+  within = subst (λ (z : EpochState). IsWithin z) (sym state) (record {
+    small = within.small;
+    shift = within.shift;
+    step = within.step;
+    ended = ap length flags ∙ length-set m.ended p true ∙ within.ended;
+    count = within.count;
+    begun = within.begun;
+    rests = within.rests;
+    id = within.id;
+    stock = within.stock;
+    step_stock = within.step_stock;
+  });
   k = ap (λ (z : EpochState). z.k) state;
   id = ap (λ (z : EpochState). z.id) state;
   feeders = ap (λ (z : EpochState). z.feeders) state;
@@ -94,30 +120,45 @@ took-end m m' p waiting before within going state flags = record {
       let fixed = is.fixed in
       let now = end-by s t lists waiting m m' p low going flags m.step is.now in
       let whole : Stands s (took_of_feeder p End t) lists waiting (record m { ended = m'.ended }) =
-      record { fixed = record { k = fixed.k; id = fixed.id; feeders = fixed.feeders; matches = fixed.matches; small = fixed.small }; now = now } in (
+      record {
+        fixed = record {
+          k = fixed.k;
+          id = fixed.id;
+          feeders = fixed.feeders;
+          matches = fixed.matches;
+          small = fixed.small;
+        };
+        now = now;
+      } in (
         took_of_feeder p End t,
         record { from_feeder = refl; from_joiner = refl },
         subst (λ (z : EpochState). Stands s (took_of_feeder p End t) (with_sent lists []) waiting z) (sym state)
-            (subst (λ (ls : JoinerLists). Stands s (took_of_feeder p End t) ls waiting (record m { ended = m'.ended })) (sym (with_sent-none lists)) whole),
+            (subst (λ (ls : JoinerLists). Stands s (took_of_feeder p End t) ls waiting (record m { ended = m'.ended }))
+            (sym (with_sent-none lists)) whole),
       );
 }
 
 -- ---- a tuple that the partner moved here
 
-moved-by : (s : JoinerStart) (t : Taken) (lists : JoinerLists) (waiting : List Pair) (m : EpochState) (q epoch : ℕ) (x : Tuple) → IsMachineOf s m
+moved-by : (s : JoinerStart) (t : Taken) (lists : JoinerLists) (waiting : List Pair) (m : EpochState) (q epoch : ℕ)
+    (x : Tuple) → IsMachineOf s m
     → (step : Option OpenStep) → PartFits m q epoch step → StandsBy s t lists waiting m step
-    → StandsBy s (took_of_joiner q (Moved epoch x) t) lists (waiting ++ moved_found m x step) (record m { step = step_new x step }) (step_new x step)
+    → StandsBy s (took_of_joiner q (Moved epoch x) t) lists (waiting ++ moved_found m x step)
+    (record m { step = step_new x step }) (step_new x step)
 moved-by s t lists waiting m q epoch x fixed None fits is = absurd fits
 moved-by s t lists waiting m q epoch x fixed (Some o) fits is =
-    subst (λ (j : ℕ). IsOpen s (took_of_joiner j (Moved epoch x) t) lists (waiting ++ moved_found m x (Some o)) (record m { step = Some (with_new o x) }) (with_new o x)) (sym fits.2)
-    (subst (λ (e : ℕ). IsOpen s (took_of_joiner (partner_in_step m.shift o.shift m.id) (Moved e x) t) lists (waiting ++ moved_found m x (Some o)) (record m { step = Some (with_new o x) }) (with_new o x)) (sym fits.0)
+    subst (λ (j : ℕ). IsOpen s (took_of_joiner j (Moved epoch x) t) lists (waiting ++ moved_found m x (Some o))
+    (record m { step = Some (with_new o x) }) (with_new o x)) (sym fits.2)
+    (subst (λ (e : ℕ). IsOpen s (took_of_joiner (partner_in_step m.shift o.shift m.id) (Moved e x) t) lists
+    (waiting ++ moved_found m x (Some o)) (record m { step = Some (with_new o x) }) (with_new o x)) (sym fits.0)
     (open-part s t lists waiting m o x fixed is))
 
 fits-open : (m : EpochState) (q epoch : ℕ) (step : Option OpenStep) → PartFits m q epoch step → step ≡ None → ⊥
 fits-open m q epoch None fits is = fits
 fits-open m q epoch (Some o) fits is = absurd (cc)
 
-pub took-moved : (m m' : EpochState) (q epoch : ℕ) (x : Tuple) (w w' : List Pair) (before : List Post) → IsWithin m → IsRow m.theta x → m' ≡ after_moved m x → w' ≡ w ++ found_moved m x → PartFits m q epoch m.step
+pub took-moved : (m m' : EpochState) (q epoch : ℕ) (x : Tuple) (w w' : List Pair) (before : List Post) → IsWithin m
+    → IsRow m.theta x → m' ≡ after_moved m x → w' ≡ w ++ found_moved m x → PartFits m q epoch m.step
     → TookOfJoiner q (Moved epoch x) m m' w w' before before
 took-moved m m' q epoch x w w' before within row state more fits = rw (state, more) (record {
   added = [];
@@ -133,22 +174,35 @@ took-moved m m' q epoch x w w' before within row state more fits = rw (state, mo
   stands = λ s t lists is.
       let fixed = is.fixed in
       let whole : Stands s (took_of_joiner q (Moved epoch x) t) lists (w ++ found_moved m x) (after_moved m x) =
-      record { fixed = record { k = fixed.k; id = fixed.id; feeders = fixed.feeders; matches = fixed.matches; small = fixed.small }; now = moved-by s t lists w m q epoch x fixed m.step fits is.now } in (
+      record {
+        fixed = record {
+          k = fixed.k;
+          id = fixed.id;
+          feeders = fixed.feeders;
+          matches = fixed.matches;
+          small = fixed.small;
+        };
+        now = moved-by s t lists w m q epoch x fixed m.step fits is.now;
+      } in (
         took_of_joiner q (Moved epoch x) t,
         record { from_feeder = refl; from_joiner = refl },
-        subst (λ (ls : JoinerLists). Stands s (took_of_joiner q (Moved epoch x) t) ls (w ++ found_moved m x) (after_moved m x)) (sym (with_sent-none lists)) whole,
+        subst (λ (ls : JoinerLists). Stands s (took_of_joiner q (Moved epoch x) t) ls (w ++ found_moved m x)
+            (after_moved m x)) (sym (with_sent-none lists)) whole,
       );
 })
 
 -- ---- the end of the partner's part
 
-part-end-by : (s : JoinerStart) (t : Taken) (lists : JoinerLists) (waiting : List Pair) (m : EpochState) (q epoch : ℕ) → IsMachineOf s m
+part-end-by : (s : JoinerStart) (t : Taken) (lists : JoinerLists) (waiting : List Pair) (m : EpochState) (q epoch : ℕ)
+    → IsMachineOf s m
     → (step : Option OpenStep) → PartFits m q epoch step → StandsBy s t lists waiting m step
     → StandsBy s (took_of_joiner q (MovedEnd epoch) t) lists waiting (record m { step = part_by step }) (part_by step)
 part-end-by s t lists waiting m q epoch fixed None fits is = absurd fits
 part-end-by s t lists waiting m q epoch fixed (Some o) fits is =
-    subst (λ (j : ℕ). IsOpen s (took_of_joiner j (MovedEnd epoch) t) lists waiting (record m { step = part_by (Some o) }) (record o { partner_ended = true })) (sym fits.2)
-    (subst (λ (e : ℕ). IsOpen s (took_of_joiner (partner_in_step m.shift o.shift m.id) (MovedEnd e) t) lists waiting (record m { step = part_by (Some o) }) (record o { partner_ended = true })) (sym fits.0)
+    subst (λ (j : ℕ). IsOpen s (took_of_joiner j (MovedEnd epoch) t) lists waiting
+    (record m { step = part_by (Some o) }) (record o { partner_ended = true })) (sym fits.2)
+    (subst (λ (e : ℕ). IsOpen s (took_of_joiner (partner_in_step m.shift o.shift m.id) (MovedEnd e) t) lists waiting
+    (record m { step = part_by (Some o) }) (record o { partner_ended = true })) (sym fits.0)
     (open-part_end s t lists waiting m o fixed fits.1 is))
 
 part-within : (k shift : ℕ) (step : Option OpenStep) → IsStepWithin k shift step → IsStepWithin k shift (part_by step)
@@ -163,37 +217,62 @@ part-begun : (n : ℕ) (step : Option OpenStep) → HasSomeTurn n step → HasSo
 part-begun n None is = tt
 part-begun n (Some o) is = is
 
-ended-within : (m m1 : EpochState) (ready : Bool) → IsWithin m → m1 ≡ after_part m → (ready ≡ true → IsReady m1.step) → (ready ≡ false → IsReady m1.step → ⊥) → IsWithin (after_settle ready m1)
-ended-within m m1 ready within part = subst (λ (z : EpochState). (ready ≡ true → IsReady z.step) → (ready ≡ false → IsReady z.step → ⊥) → IsWithin (after_settle ready z)) (sym part)
-    (λ settles not_yet. settled-within (after_part m) ready settles not_yet within.small within.shift (part-within m.k m.shift m.step within.step) within.ended (part-count m.feeders m.step within.count) (part-begun m.feeders m.step within.begun) within.id within.stock (stock-part m.theta m.step within.step_stock))
+ended-within : (m m1 : EpochState) (ready : Bool) → IsWithin m → m1 ≡ after_part m → (ready ≡ true → IsReady m1.step)
+    → (ready ≡ false → IsReady m1.step → ⊥) → IsWithin (after_settle ready m1)
+ended-within m m1 ready within part = subst (λ (z : EpochState). (ready ≡ true → IsReady z.step)
+    → (ready ≡ false → IsReady z.step → ⊥) → IsWithin (after_settle ready z)) (sym part)
+    (λ settles not_yet. settled-within (after_part m) ready settles not_yet within.small within.shift
+    (part-within m.k m.shift m.step within.step) within.ended (part-count m.feeders m.step within.count)
+    (part-begun m.feeders m.step within.begun) within.id within.stock (stock-part m.theta m.step within.step_stock))
 
-pub part-step : (m m1 : EpochState) → m1 ≡ after_part m → IsStepWithin m.k m.shift m.step → IsStepWithin m1.k m1.shift m1.step
-part-step m m1 part within = subst (λ (z : EpochState). IsStepWithin z.k z.shift z.step) (sym part) (part-within m.k m.shift m.step within)
+pub part-step : (m m1 : EpochState) → m1 ≡ after_part m → IsStepWithin m.k m.shift m.step
+    → IsStepWithin m1.k m1.shift m1.step
+part-step m m1 part within = subst (λ (z : EpochState). IsStepWithin z.k z.shift z.step) (sym part)
+    (part-within m.k m.shift m.step within)
 
 part-fixed : (m m1 : EpochState) → m1 ≡ after_part m → IsFixed m m1
-part-fixed m m1 part = subst (λ (z : EpochState). IsFixed m z) (sym part) (record { k = refl; id = refl; feeders = refl; theta = refl })
+part-fixed m m1 part = subst (λ (z : EpochState). IsFixed m z) (sym part) (record {
+  k = refl;
+  id = refl;
+  feeders = refl;
+  theta = refl;
+})
 
-pub took-moved_end : (m m1 m2 : EpochState) (q epoch : ℕ) (ready : Bool) (w : List Pair) (before after : List Post) → IsWithin m → m1 ≡ after_part m → (ready ≡ true → IsReady m1.step) → (ready ≡ false → IsReady m1.step → ⊥)
-    → m2 ≡ after_settle ready m1 → after ≡ before ++ posts_settled ready m1 → PartFits m q epoch m.step → TookOfJoiner q (MovedEnd epoch) m m2 w w before after
+pub took-moved_end : (m m1 m2 : EpochState) (q epoch : ℕ) (ready : Bool) (w : List Pair) (before after : List Post)
+    → IsWithin m → m1 ≡ after_part m → (ready ≡ true → IsReady m1.step) → (ready ≡ false → IsReady m1.step → ⊥)
+    → m2 ≡ after_settle ready m1 → after ≡ before ++ posts_settled ready m1 → PartFits m q epoch m.step
+    → TookOfJoiner q (MovedEnd epoch) m m2 w w before after
 took-moved_end m m1 m2 q epoch ready w before after within part settles not_yet state posts fits = record {
   added = posts_settled ready m1;
   sends = posts;
   quiet = quiet-settled ready m1;
-  own = own-before m m1 (posts_settled ready m1) (part-fixed m m1 part) (own-settled m1 ready (subst (λ (z : EpochState). z.id < 2 ^ z.k) (sym part) within.id));
+  own = own-before m m1 (posts_settled ready m1) (part-fixed m m1 part)
+      (own-settled m1 ready (subst (λ (z : EpochState). z.id < 2 ^ z.k) (sym part) within.id));
   within = subst (λ (z : EpochState). IsWithin z) (sym state) (ended-within m m1 ready within part settles not_yet);
   k = ap (λ (z : EpochState). z.k) state ∙ settled-k m1 ready ∙ ap (λ (z : EpochState). z.k) part;
   id = ap (λ (z : EpochState). z.id) state ∙ settled-id m1 ready ∙ ap (λ (z : EpochState). z.id) part;
-  feeders = ap (λ (z : EpochState). z.feeders) state ∙ settled-feeders m1 ready ∙ ap (λ (z : EpochState). z.feeders) part;
+  feeders = ap (λ (z : EpochState). z.feeders) state ∙ settled-feeders m1 ready
+      ∙ ap (λ (z : EpochState). z.feeders) part;
   theta = ap (λ (z : EpochState). z.theta) state ∙ settled-theta m1 ready ∙ ap (λ (z : EpochState). z.theta) part;
   opened = fits-open m q epoch m.step fits;
   stands = λ s t lists is.
       let fixed = is.fixed in
       let t' = took_of_joiner q (MovedEnd epoch) t in
       let first : Stands s t' lists w (after_part m) =
-      record { fixed = record { k = fixed.k; id = fixed.id; feeders = fixed.feeders; matches = fixed.matches; small = fixed.small }; now = part-end-by s t lists w m q epoch fixed m.step fits is.now } in
+      record {
+        fixed = record {
+          k = fixed.k;
+          id = fixed.id;
+          feeders = fixed.feeders;
+          matches = fixed.matches;
+          small = fixed.small;
+        };
+        now = part-end-by s t lists w m q epoch fixed m.step fits is.now;
+      } in
       let first' : Stands s t' lists w m1 = subst (λ (z : EpochState). Stands s t' lists w z) (sym part) first in (
         t',
         record { from_feeder = refl; from_joiner = refl },
-        subst (λ (z : EpochState). Stands s t' (with_sent lists (posts_settled ready m1)) w z) (sym state) (stands-settled s t' lists w m1 ready settles first'),
+        subst (λ (z : EpochState). Stands s t' (with_sent lists (posts_settled ready m1)) w z) (sym state)
+            (stands-settled s t' lists w m1 ready settles first'),
       );
 }

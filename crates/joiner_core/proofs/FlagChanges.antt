@@ -1,5 +1,6 @@
 -- Flags that are the same at each number, and a feeder's end.
-use Rattle.std.proofs.Common.{◌≡◌, ℕ, ◌<◌, refl, sym, ◌∙◌, ap, subst, arith, Bool, true, false, List, length, inl, inr, eq-eqb, get_or-set_same, get_or-set_other}
+use Rattle.std.proofs.Common.{◌≡◌, ℕ, ◌<◌, refl, sym, ◌∙◌, ap, subst, arith, Bool, true, false, List, length, inl, inr}
+use Rattle.std.proofs.Common.{eq-eqb, get_or-set_same, get_or-set_other}
 use Rattle.std.proofs.lemmas.Bool.{cases_eq, ne_eqb}
 use Rattle.std.specs.Prelude.{slice_set}
 use Rattle.std.proofs.Math.ListN.{length-set}
@@ -15,12 +16,18 @@ use Rattle.joiner_core.specs.Taking.{IsClosed}
 use Rattle.epoch_tags.specs.Flags.{flag_at}
 
 -- flags that are the same at each number
-feeders-same : (s : JoinerStart) (t : Taken) (done : ℕ) (turned turned' ended : ℕ → Bool) → ((p : ℕ) → turned p ≡ turned' p)
-    → ((p : ℕ) → p < s.feeders → IsOfFeeder s.epoch t.shift_at done (turned p) (ended p) (t.from_feeder p)) → (p : ℕ) → p < s.feeders → IsOfFeeder s.epoch t.shift_at done (turned' p) (ended p) (t.from_feeder p)
-feeders-same s t done turned turned' ended same all p low = subst (λ (b : Bool). IsOfFeeder s.epoch t.shift_at done b (ended p) (t.from_feeder p)) (same p) (all p low)
+feeders-same : (s : JoinerStart) (t : Taken) (done : ℕ) (turned turned' ended : ℕ → Bool)
+    → ((p : ℕ) → turned p ≡ turned' p)
+    → ((p : ℕ) → p < s.feeders → IsOfFeeder s.epoch t.shift_at done (turned p) (ended p) (t.from_feeder p)) → (p : ℕ)
+    → p < s.feeders → IsOfFeeder s.epoch t.shift_at done (turned' p) (ended p) (t.from_feeder p)
+feeders-same s t done turned turned' ended same all p low =
+    subst (λ (b : Bool). IsOfFeeder s.epoch t.shift_at done b (ended p) (t.from_feeder p)) (same p) (all p low)
 
-pub same-flags : (s : JoinerStart) (t : Taken) (lists : JoinerLists) (waiting : List Pair) (turned turned' ended : ℕ → Bool) (all_turned part_ended : Bool) (a b : List Tuple) (new cur : Step) (past : List Step) → ((p : ℕ) → turned p ≡ turned' p)
-    → StandsOpen s t lists waiting turned ended all_turned part_ended a b new cur past → StandsOpen s t lists waiting turned' ended all_turned part_ended a b new cur past
+pub same-flags : (s : JoinerStart) (t : Taken) (lists : JoinerLists) (waiting : List Pair) (turned turned' ended : ℕ
+    → Bool) (all_turned part_ended : Bool) (a b : List Tuple) (new cur : Step) (past : List Step)
+    → ((p : ℕ) → turned p ≡ turned' p)
+    → StandsOpen s t lists waiting turned ended all_turned part_ended a b new cur past
+    → StandsOpen s t lists waiting turned' ended all_turned part_ended a b new cur past
 same-flags s t lists waiting turned turned' ended all_turned part_ended a b new cur past same is =
     let steps = is.steps in
     record {
@@ -43,13 +50,15 @@ same-flags s t lists waiting turned turned' ended all_turned part_ended a b new 
       taken_up_to = is.taken_up_to;
     }
 
-pub same-ends : (s : JoinerStart) (t : Taken) (lists : JoinerLists) (waiting : List Pair) (ended ended' : ℕ → Bool) (a : List Tuple) (cur : Step) (past : List Step) → ((p : ℕ) → ended p ≡ ended' p)
+pub same-ends : (s : JoinerStart) (t : Taken) (lists : JoinerLists) (waiting : List Pair) (ended ended' : ℕ
+    → Bool) (a : List Tuple) (cur : Step) (past : List Step) → ((p : ℕ) → ended p ≡ ended' p)
     → StandsSettled s t lists waiting ended a cur past → StandsSettled s t lists waiting ended' a cur past
 same-ends s t lists waiting ended ended' a cur past same is =
     let steps = is.steps in
     record {
       steps = record {
-        feeders = λ p low. subst (λ (b : Bool). IsOfFeeder s.epoch t.shift_at (length past) false b (t.from_feeder p)) (same p) (steps.feeders p low);
+        feeders = λ p low. subst (λ (b : Bool). IsOfFeeder s.epoch t.shift_at (length past) false b (t.from_feeder p))
+            (same p) (steps.feeders p low);
         history = steps.history;
         by_one = steps.by_one;
         in_time = steps.in_time;
@@ -66,13 +75,15 @@ same-ends s t lists waiting ended ended' a cur past same is =
       taken_up_to = is.taken_up_to;
     }
 
-pub flag-set : (flags : List Bool) (p q : ℕ) → p < length flags → with_flag p (flag_at flags) q ≡ flag_at (slice_set flags p true) q
+pub flag-set : (flags : List Bool) (p q : ℕ) → p < length flags
+    → with_flag p (flag_at flags) q ≡ flag_at (slice_set flags p true) q
 flag-set flags p q low = elim (cases_eq q p) [
   | inl is ↦ rw (is, eq-eqb p p refl) (sym (get_or-set_same flags p true false low))
   | inr differ ↦ rw (ne_eqb q p differ) (sym (get_or-set_other flags p q true false differ))
 ]
 
-pub closed-end : (s : JoinerStart) (t : Taken) (lists : JoinerLists) (waiting : List Pair) (m m' : EpochState) (p : ℕ) → p < s.feeders → flag_at m.ended p ≡ false → m'.ended ≡ slice_set m.ended p true
+pub closed-end : (s : JoinerStart) (t : Taken) (lists : JoinerLists) (waiting : List Pair) (m m' : EpochState) (p : ℕ)
+    → p < s.feeders → flag_at m.ended p ≡ false → m'.ended ≡ slice_set m.ended p true
     → IsClosed s t lists waiting m → IsClosed s (took_of_feeder p End t) lists waiting (record m { ended = m'.ended })
 closed-end s t lists waiting m m' p low going flags is =
     let within : p < length m.ended = let n = is.ended_count in omega arith in
@@ -80,7 +91,8 @@ closed-end s t lists waiting m m' p low going flags is =
     record {
       cur = is.cur;
       past = is.past;
-      stands = same-ends s (took_of_feeder p End t) lists waiting _ (flag_at m'.ended) m.store.tuples is.cur is.past (λ q. flag-set m.ended p q within ∙ ap (λ fs. flag_at fs q) (sym flags)) after;
+      stands = same-ends s (took_of_feeder p End t) lists waiting _ (flag_at m'.ended) m.store.tuples is.cur is.past
+          (λ q. flag-set m.ended p q within ∙ ap (λ fs. flag_at fs q) (sym flags)) after;
       epoch = is.epoch;
       shift = is.shift;
       ended_count = ap length flags ∙ length-set m.ended p true ∙ is.ended_count;

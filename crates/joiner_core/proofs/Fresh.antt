@@ -1,5 +1,6 @@
 -- A joiner that has just begun.
-use Rattle.std.proofs.Common.{◌≡◌, ℕ, zero, suc, ◌^◌, ◌<◌, ◌≤◌, refl, sym, ◌∙◌, ap, subst, arith, false, Option, List, [], ◌∷◌, ◌++◌, length}
+use Rattle.std.proofs.Common.{◌≡◌, ℕ, zero, suc, ◌^◌, ◌<◌, ◌≤◌, refl, sym, ◌∙◌, ap, subst, arith, false, Option, List}
+use Rattle.std.proofs.Common.{[], ◌∷◌, ◌++◌, length}
 use Rattle.std.proofs.lemmas.Bool.{false≢true}
 use Rattle.std.specs.List.{AllByRecursion}
 use Rattle.join_rows.specs.Lists.{SameBag, gather}
@@ -37,7 +38,8 @@ pub same-bag : (xs ys : List Tuple) → xs ≡ ys → SameBag xs ys
 same-bag xs ys is = subst (λ (zs : List Tuple). SameBag xs zs) is (SameBag-refl xs)
 
 settled-start : (k id shift epoch feeders : ℕ) (theta : Meaning) (base : List Tuple) → shift ≤ k
-    → StandsSettled (start_of k id shift epoch feeders theta base) (nothing_taken shift) nothing_yet [] (λ p. false) base (first_step shift base) []
+    → StandsSettled (start_of k id shift epoch feeders theta base) (nothing_taken shift) nothing_yet [] (λ p. false)
+    base (first_step shift base) []
 settled-start k id shift epoch feeders theta base low = record {
   steps = record {
     feeders = λ p less. record { counts_up = tt; by_shifts = tt; turns = refl; ends = refl };
@@ -53,7 +55,9 @@ settled-start k id shift epoch feeders theta base low = record {
     by_one = tt;
     in_time = (tt, tt);
     pairs = record {
-      pairs = λ older. subst (λ (xs : List Tuple). SameBag (pairs_by (does_hold theta) base base) (pairs_by (does_hold theta) xs xs)) (sym (append-nil base)) (SameBag-refl (pairs_by (does_hold theta) base base));
+      pairs = λ older. subst (λ (xs : List Tuple). SameBag (pairs_by (does_hold theta) base base)
+          (pairs_by (does_hold theta) xs xs)) (sym (append-nil base))
+          (SameBag-refl (pairs_by (does_hold theta) base base));
     };
     sent = tt;
     parts = tt;
@@ -67,13 +71,18 @@ settled-start k id shift epoch feeders theta base low = record {
   taken_up_to = λ q. tt;
 }
 
-closed-start : (k id shift epoch feeders : ℕ) (theta : Meaning) (base : Stocked) (m : MachineState) → shift ≤ k → IsMade k id shift epoch feeders theta base m
+closed-start : (k id shift epoch feeders : ℕ) (theta : Meaning) (base : Stocked) (m : MachineState) → shift ≤ k
+    → IsMade k id shift epoch feeders theta base m
     → IsClosed (start_of k id shift epoch feeders theta base.tuples) (nothing_taken shift) nothing_yet [] m.epochs
 closed-start k id shift epoch feeders theta base m low made = record {
   cur = first_step shift base.tuples;
   past = [];
-  stands = subst (λ (a : List Tuple). StandsSettled (start_of k id shift epoch feeders theta base.tuples) (nothing_taken shift) nothing_yet [] (flag_at m.epochs.ended) a (first_step shift base.tuples) []) (ap (λ (stock : Stocked). stock.tuples) (sym made.store))
-      (same-ends (start_of k id shift epoch feeders theta base.tuples) (nothing_taken shift) nothing_yet [] (λ p. false) (flag_at m.epochs.ended) base.tuples (first_step shift base.tuples) [] (λ p. sym (made.down p)) (settled-start k id shift epoch feeders theta base.tuples low));
+  stands = subst (λ (a : List Tuple). StandsSettled (start_of k id shift epoch feeders theta base.tuples)
+      (nothing_taken shift) nothing_yet [] (flag_at m.epochs.ended) a (first_step shift base.tuples) [])
+      (ap (λ (stock : Stocked). stock.tuples) (sym made.store))
+      (same-ends (start_of k id shift epoch feeders theta base.tuples) (nothing_taken shift) nothing_yet [] (λ p. false)
+      (flag_at m.epochs.ended) base.tuples (first_step shift base.tuples) [] (λ p. sym (made.down p))
+      (settled-start k id shift epoch feeders theta base.tuples low));
   epoch = let e = made.at_epoch in omega arith;
   shift = made.at_shift;
   ended_count = made.ended;
@@ -81,9 +90,11 @@ closed-start k id shift epoch feeders theta base m low made = record {
 }
 
 none-stuck : (queue : List ToJoiner) (x : ToJoiner) (rest : List ToJoiner) → queue ≡ [] → queue ≡ x ∷ rest → ⊥
-none-stuck queue x rest none is = let a = ap length none in let b : length queue ≡ length (x ∷ rest) = ap length is in absurd (omega arith)
+none-stuck queue x rest none is = let a = ap length none in let b : length queue ≡ length (x ∷ rest) = ap length is in
+    absurd (omega arith)
 
-pub made-sound : (k id shift epoch feeders : ℕ) (theta : Meaning) (base : Stocked) (m : MachineState) → k ≤ 8 → shift ≤ k → id < 2 ^ k → IsStock theta base → IsMade k id shift epoch feeders theta base m → IsSound m
+pub made-sound : (k id shift epoch feeders : ℕ) (theta : Meaning) (base : Stocked) (m : MachineState) → k ≤ 8
+    → shift ≤ k → id < 2 ^ k → IsStock theta base → IsMade k id shift epoch feeders theta base m → IsSound m
 made-sound k id shift epoch feeders theta base m small low few stock made =
     let same_k = made.at_k in
     let same_shift = made.at_shift in
@@ -97,7 +108,8 @@ made-sound k id shift epoch feeders theta base m small low few stock made =
         begun = subst (λ (z : Option OpenStep). HasSomeTurn m.epochs.feeders z) (sym made.step) tt;
         rests = subst (λ (z : Option OpenStep). IsReady z → ⊥) (sym made.step) (λ never. never);
         id = subst (λ (n : ℕ). m.epochs.id < 2 ^ n) (sym made.at_k) (subst (λ (n : ℕ). n < 2 ^ k) (sym made.at_id) few);
-        stock = subst (λ (th : Meaning). IsStock th m.epochs.store) (sym made.at_theta) (subst (IsStock theta) (sym made.store) stock);
+        stock = subst (λ (th : Meaning). IsStock th m.epochs.store) (sym made.at_theta)
+            (subst (IsStock theta) (sym made.store) stock);
         step_stock = subst (λ (z : Option OpenStep). IsStepStock m.epochs.theta z) (sym made.step) tt;
       };
       feeders = made.of_feeders ∙ sym made.at_feeders;
@@ -106,8 +118,11 @@ made-sound k id shift epoch feeders theta base m small low few stock made =
       joiner_rows = rows-none m.epochs.theta m.of_joiners made.no_joiners;
     }
 
-pub made-stands : (k id shift epoch feeders : ℕ) (theta : Meaning) (base : Stocked) (m : MachineState) → k ≤ 8 → shift ≤ k → id < 2 ^ k → 0 < feeders → AllByRecursion (λ (x : Tuple). x.stamp ≤ epoch) base.tuples → IsStock theta base
-    → IsMade k id shift epoch feeders theta base m → StandsBetween (start_of k id shift epoch feeders theta base.tuples) nothing_yet m
+pub made-stands : (k id shift epoch feeders : ℕ) (theta : Meaning) (base : Stocked) (m : MachineState) → k ≤ 8
+    → shift ≤ k → id < 2 ^ k → 0 < feeders → AllByRecursion (λ (x : Tuple). x.stamp ≤ epoch) base.tuples
+    → IsStock theta base
+    → IsMade k id shift epoch feeders theta base m → StandsBetween (start_of k id shift epoch feeders theta base.tuples)
+    nothing_yet m
 made-stands k id shift epoch feeders theta base m small low few some older stock made =
     let sound = made-sound k id shift epoch feeders theta base m small low few stock made in
     let stuck : IsStuck m = record {
@@ -130,8 +145,16 @@ made-stands k id shift epoch feeders theta base m small low few some older stock
     (record {
       taken = nothing_taken shift;
       stands = record {
-        fixed = record { k = made.at_k; id = made.at_id; feeders = made.at_feeders; matches = ap (λ (th : Meaning). does_hold th) made.at_theta; small = small };
-        now = subst (λ (z : Option OpenStep). StandsBy (start_of k id shift epoch feeders theta base.tuples) (nothing_taken shift) nothing_yet [] m.epochs z) (sym made.step) (closed-start k id shift epoch feeders theta base m low made);
+        fixed = record {
+          k = made.at_k;
+          id = made.at_id;
+          feeders = made.at_feeders;
+          matches = ap (λ (th : Meaning). does_hold th) made.at_theta;
+          small = small;
+        };
+        now = subst (λ (z : Option OpenStep). StandsBy (start_of k id shift epoch feeders theta base.tuples)
+            (nothing_taken shift) nothing_yet [] m.epochs z) (sym made.step)
+            (closed-start k id shift epoch feeders theta base m low made);
       };
       feeders = λ p less. made.no_feeders p;
       joiners = λ q less. made.no_joiners q;

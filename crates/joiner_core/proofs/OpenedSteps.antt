@@ -1,5 +1,6 @@
 -- A step is opened.
-use Rattle.std.proofs.Common.{◌≡◌, ℕ, ◌+◌, ◌<◌, ◌≤◌, refl, sym, ◌∙◌, subst, arith, false, Option, Some, None, List, [], length}
+use Rattle.std.proofs.Common.{◌≡◌, ℕ, ◌+◌, ◌<◌, ◌≤◌, refl, sym, ◌∙◌, subst, arith, false, Option, Some, None, List, []}
+use Rattle.std.proofs.Common.{length}
 use Rattle.std.proofs.lemmas.Bool.{false≢true}
 use Rattle.epoch_tags.specs.declared.tuple.Pair.{Pair}
 use Rattle.migration_plan.specs.Steps.{AreNeighbours}
@@ -9,7 +10,8 @@ use Rattle.joiner_law.specs.Standing.{with_sent, with_shift}
 use Rattle.joiner_law.proofs.TakenTurns.{opened-step}
 use Rattle.joiner_core.specs.State.{OpenStep, EpochState}
 use Rattle.joiner_core.specs.Changes.{IsOpened, posts_opened, HasBegun, begun_posts}
-use Rattle.joiner_core.specs.Taking.{IsMachineOf, IsClosed, IsOpen, StandsBy, IsWithin, IsStepWithin, IsCounted, TurnFits, CanTakeTurn}
+use Rattle.joiner_core.specs.Taking.{IsMachineOf, IsClosed, IsOpen, StandsBy, IsWithin, IsStepWithin, IsCounted}
+use Rattle.joiner_core.specs.Taking.{TurnFits, CanTakeTurn}
 use Rattle.epoch_tags.specs.Flags.{flag_at}
 use Rattle.joiner_core.proofs.SentPosts.{with_sent-none}
 use Rattle.joiner_core.proofs.FlagChanges.{same-flags}
@@ -19,21 +21,33 @@ abbrev pub IsSomeTurn : ℕ → ℕ → ℕ → Option OpenStep → Type 0
 IsSomeTurn p epoch shift None = ⊥
 IsSomeTurn p epoch shift (Some o) = (flag_at o.turned p ≡ false) × (epoch ≡ o.epoch) × (shift ≡ o.shift)
 
-closed-opened : (s : JoinerStart) (t : Taken) (lists : JoinerLists) (waiting : List Pair) (m : EpochState) (o : OpenStep) (epoch shift : ℕ) → IsMachineOf s m → epoch ≡ m.epoch + 1 → shift ≤ m.k → AreNeighbours m.shift shift → 0 < s.feeders
+closed-opened : (s : JoinerStart) (t : Taken) (lists : JoinerLists) (waiting : List Pair) (m : EpochState)
+    (o : OpenStep) (epoch shift : ℕ) → IsMachineOf s m → epoch ≡ m.epoch + 1 → shift ≤ m.k → AreNeighbours m.shift shift
+    → 0 < s.feeders
     → IsOpened m epoch shift o → IsClosed s t lists waiting m
-    → IsOpen s (with_shift epoch shift t) (with_sent lists (posts_opened m epoch shift)) waiting (record m { step = Some o }) o
+    → IsOpen s (with_shift epoch shift t) (with_sent lists (posts_opened m epoch shift)) waiting
+    (record m { step = Some o }) o
 closed-opened s t lists waiting m o epoch shift fixed next within near some opened is =
     let at = is.epoch in
     let now : epoch ≡ s.epoch + length is.past + 1 = omega arith in
     let near' : AreNeighbours is.cur.shift shift = subst (λ (b : ℕ). AreNeighbours b shift) is.shift near in
     let within' : shift ≤ s.k = let k = fixed.k in omega arith in
-    let after = opened-step s t lists waiting (flag_at m.ended) m.store.tuples is.cur is.past shift within' near' is.stands in
+    let after = opened-step s t lists waiting (flag_at m.ended)
+    m.store.tuples is.cur is.past shift within' near' is.stands in
     record {
       new = new_step shift;
       cur = is.cur;
       past = is.past;
       all_turned = false;
-      stands = rw (opened.store, opened.partner_ended, fixed.k, fixed.id, is.shift, now) (same-flags s _ _ waiting (λ p. false) (flag_at o.turned) _ false false m.store.tuples _ _ is.cur is.past (λ p. sym (opened.turned p)) after);
+      stands = rw (
+        opened.store,
+        opened.partner_ended,
+        fixed.k,
+        fixed.id,
+        is.shift,
+        now,
+      ) (same-flags s _ _ waiting (λ p. false) (flag_at o.turned) _ false false m.store.tuples _ _ is.cur is.past
+          (λ p. sym (opened.turned p)) after);
       epoch = is.epoch;
       shift = is.shift;
       step_epoch = opened.epoch ∙ now;
@@ -46,7 +60,8 @@ closed-opened s t lists waiting m o epoch shift fixed next within near some open
     }
 
 -- what is said of the open step doesn't depend on the place where the machine keeps it
-same-open : (s : JoinerStart) (t : Taken) (lists : JoinerLists) (waiting : List Pair) (m : EpochState) (o : OpenStep) (step : Option OpenStep) → IsOpen s t lists waiting m o → IsOpen s t lists waiting (record m { step = step }) o
+same-open : (s : JoinerStart) (t : Taken) (lists : JoinerLists) (waiting : List Pair) (m : EpochState) (o : OpenStep)
+    (step : Option OpenStep) → IsOpen s t lists waiting m o → IsOpen s t lists waiting (record m { step = step }) o
 same-open s t lists waiting m o step is = record {
   new = is.new;
   cur = is.cur;
@@ -64,36 +79,52 @@ same-open s t lists waiting m o step is = record {
   all = is.all;
 }
 
-pub begun-by : (s : JoinerStart) (t : Taken) (lists : JoinerLists) (waiting : List Pair) (m : EpochState) (p epoch shift : ℕ) → IsMachineOf s m → p < s.feeders
-    → (step step' : Option OpenStep) → TurnFits m p epoch shift step → HasBegun m epoch shift step step' → StandsBy s t lists waiting m step
-    → (t' : Taken) × ((t'.from_feeder ≡ t.from_feeder) × (t'.from_joiner ≡ t.from_joiner)) × IsSomeTurn p epoch shift step' × StandsBy s t' (with_sent lists (begun_posts m epoch shift step)) waiting (record m { step = step' }) step'
+pub begun-by : (s : JoinerStart) (t : Taken) (lists : JoinerLists) (waiting : List Pair) (m : EpochState)
+    (p epoch shift : ℕ) → IsMachineOf s m → p < s.feeders
+    → (step step' : Option OpenStep) → TurnFits m p epoch shift step → HasBegun m epoch shift step step'
+    → StandsBy s t lists waiting m step
+    → (t' : Taken) × ((t'.from_feeder ≡ t.from_feeder) × (t'.from_joiner ≡ t.from_joiner))
+    × IsSomeTurn p epoch shift step' × StandsBy s t' (with_sent lists (begun_posts m epoch shift step)) waiting
+    (record m { step = step' }) step'
 begun-by s t lists waiting m p epoch shift fixed low None None fits has is = absurd has
-begun-by s t lists waiting m p epoch shift fixed low None (Some o) fits has is =
-    (with_shift epoch shift t, (refl, refl), (has.turned p, sym has.epoch, sym has.shift), closed-opened s t lists waiting m o epoch shift fixed fits.0 fits.1 fits.2 (omega arith) has is)
+begun-by s t lists waiting m p epoch shift fixed low None (Some o) fits has is = (
+  with_shift epoch shift t,
+  (refl, refl),
+  (has.turned p, sym has.epoch, sym has.shift),
+  closed-opened s t lists waiting m o epoch shift fixed fits.0 fits.1 fits.2 (omega arith) has is,
+)
 begun-by s t lists waiting m p epoch shift fixed low (Some o) step' fits has is = (
   t,
   (refl, refl),
   subst (λ (z : Option OpenStep). IsSomeTurn p epoch shift z) (sym has) fits,
-  subst (λ (z : Option OpenStep). StandsBy s t (with_sent lists []) waiting (record m { step = z }) z) (sym has) (subst (λ (ls : JoinerLists). IsOpen s t ls waiting (record m { step = Some o }) o) (sym (with_sent-none lists)) (same-open s t lists waiting m o (Some o) is)),
+  subst (λ (z : Option OpenStep). StandsBy s t (with_sent lists []) waiting (record m { step = z }) z) (sym has)
+      (subst (λ (ls : JoinerLists). IsOpen s t ls waiting (record m { step = Some o }) o) (sym (with_sent-none lists))
+      (same-open s t lists waiting m o (Some o) is)),
 )
 
 -- the shifts stay within the grid
-pub begun-within : (m : EpochState) (p epoch shift : ℕ) (step step' : Option OpenStep) → TurnFits m p epoch shift step → IsStepWithin m.k m.shift step → HasBegun m epoch shift step step' → IsStepWithin m.k m.shift step'
+pub begun-within : (m : EpochState) (p epoch shift : ℕ) (step step' : Option OpenStep) → TurnFits m p epoch shift step
+    → IsStepWithin m.k m.shift step → HasBegun m epoch shift step step' → IsStepWithin m.k m.shift step'
 begun-within m p epoch shift None None fits within has = tt
 begun-within m p epoch shift None (Some o) fits within has =
     subst (λ (b : ℕ). (b ≤ m.k) × AreNeighbours m.shift b) (sym has.shift) (fits.1, fits.2)
-begun-within m p epoch shift (Some o) step' fits within has = subst (λ (z : Option OpenStep). IsStepWithin m.k m.shift z) (sym has) within
+begun-within m p epoch shift (Some o) step' fits within has =
+    subst (λ (z : Option OpenStep). IsStepWithin m.k m.shift z) (sym has) within
 
 -- a turn that opens the step leads to a neighbouring shift
-pub turn-next : (m : EpochState) (p epoch shift : ℕ) (step : Option OpenStep) → TurnFits m p epoch shift step → step ≡ None → AreNeighbours m.shift shift
+pub turn-next : (m : EpochState) (p epoch shift : ℕ) (step : Option OpenStep) → TurnFits m p epoch shift step
+    → step ≡ None → AreNeighbours m.shift shift
 turn-next m p epoch shift None fits none = fits.2
 turn-next m p epoch shift (Some o) fits none = absurd (cc)
 
-pub begun-step : (m m1 : EpochState) (p epoch shift : ℕ) → IsWithin m → CanTakeTurn m p epoch shift → m1 ≡ record m { step = m1.step } → HasBegun m epoch shift m.step m1.step → IsStepWithin m1.k m1.shift m1.step
+pub begun-step : (m m1 : EpochState) (p epoch shift : ℕ) → IsWithin m → CanTakeTurn m p epoch shift
+    → m1 ≡ record m { step = m1.step } → HasBegun m epoch shift m.step m1.step → IsStepWithin m1.k m1.shift m1.step
 begun-step m m1 p epoch shift within can rest begun =
-    subst (λ (z : EpochState). IsStepWithin z.k z.shift m1.step) (sym rest) (begun-within m p epoch shift m.step m1.step can.fits within.step begun)
+    subst (λ (z : EpochState). IsStepWithin z.k z.shift m1.step) (sym rest)
+    (begun-within m p epoch shift m.step m1.step can.fits within.step begun)
 
-pub begun-count : (m : EpochState) (epoch shift : ℕ) (step step' : Option OpenStep) → IsCounted m.feeders step → HasBegun m epoch shift step step' → IsCounted m.feeders step'
+pub begun-count : (m : EpochState) (epoch shift : ℕ) (step step' : Option OpenStep) → IsCounted m.feeders step
+    → HasBegun m epoch shift step step' → IsCounted m.feeders step'
 begun-count m epoch shift None None is has = tt
 begun-count m epoch shift None (Some o) is has = has.count
 begun-count m epoch shift (Some o) step' is has = subst (λ (z : Option OpenStep). IsCounted m.feeders z) (sym has) is

@@ -1,5 +1,6 @@
 -- Whither a joiner's posts go.
-use Rattle.std.proofs.Common.{◌≡◌, ℕ, ◌<◌, ◌≤◌, ◌^◌, inl, inr, subst, arith, Bool, true, false, cond, Option, Some, None, List, [], ◌∷◌, ◌++◌, map, All}
+use Rattle.std.proofs.Common.{◌≡◌, ℕ, ◌<◌, ◌≤◌, ◌^◌, inl, inr, subst, arith, Bool, true, false, cond, Option, Some}
+use Rattle.std.proofs.Common.{None, List, [], ◌∷◌, ◌++◌, map, All}
 use Rattle.std.specs.Prelude.{min}
 use Rattle.std.proofs.lemmas.List.Elements.{All-nil, All-cons, All-append, All-filter, All-map}
 use Rattle.epoch_tags.specs.Links.{joiner_joiner, joiner_controller, joiner_collector}
@@ -27,7 +28,8 @@ own-moved : (m : EpochState) (shift epoch : ℕ) (x : Tuple) → m.id < 2 ^ m.k 
     → IsOwnPost m.k m.feeders m.id m.theta (moved_post (partner_in_step m.shift shift m.id) epoch x)
 own-moved m shift epoch x id low row = record { over = record { link = joiner_joiner id low; kind = tt }; row = row }
 
-own-moves : (m : EpochState) (shift epoch : ℕ) (xs : List Tuple) → m.id < 2 ^ m.k → min m.shift shift < m.k → AreRows m.theta xs
+own-moves : (m : EpochState) (shift epoch : ℕ) (xs : List Tuple) → m.id < 2 ^ m.k → min m.shift shift < m.k
+    → AreRows m.theta xs
     → AreOwnPosts m (map (moved_post (partner_in_step m.shift shift m.id) epoch) xs)
 own-moves m shift epoch xs id low rows =
     All-map (IsOwnPost m.k m.feeders m.id m.theta) (moved_post (partner_in_step m.shift shift m.id) epoch) xs
@@ -37,22 +39,32 @@ rows-if : (theta : Meaning) (yes : Bool) (x : Tuple) → IsRow theta x → AreRo
 rows-if theta true x row = All-cons (IsRow theta) x [] row (All-nil (IsRow theta))
 rows-if theta false x row = All-nil (IsRow theta)
 
-pub own-late : (m : EpochState) (x : Tuple) (step : Option OpenStep) → m.id < 2 ^ m.k → m.shift ≤ m.k → IsStepWithin m.k m.shift step → IsRow m.theta x → AreOwnPosts m (late_posts m x step)
+pub own-late : (m : EpochState) (x : Tuple) (step : Option OpenStep) → m.id < 2 ^ m.k → m.shift ≤ m.k
+    → IsStepWithin m.k m.shift step → IsRow m.theta x → AreOwnPosts m (late_posts m x step)
 own-late m x None id low within row = All-nil (IsOwnPost m.k m.feeders m.id m.theta)
-own-late m x (Some o) id low within row = own-moves m o.shift o.epoch _ id (beside m.k m.shift o.shift low within.0 within.1) (rows-if m.theta (is_of (exchanged_side m.shift o.shift) x) x row)
+own-late m x (Some o) id low within row = own-moves m o.shift o.epoch _ id
+    (beside m.k m.shift o.shift low within.0 within.1) (rows-if m.theta (is_of (exchanged_side m.shift o.shift) x)
+    x row)
 
-pub own-begun : (m : EpochState) (p epoch shift : ℕ) (step : Option OpenStep) → IsWithin m → TurnFits m p epoch shift step → AreOwnPosts m (begun_posts m epoch shift step)
+pub own-begun : (m : EpochState) (p epoch shift : ℕ) (step : Option OpenStep) → IsWithin m
+    → TurnFits m p epoch shift step → AreOwnPosts m (begun_posts m epoch shift step)
 own-begun m p epoch shift None within fits =
-    own-moves m shift epoch _ within.id (beside m.k m.shift shift within.shift fits.1 fits.2) (All-filter (is_of (exchanged_side m.shift shift)) (IsRow m.theta) m.store.tuples within.stock.rows)
+    own-moves m shift epoch _ within.id (beside m.k m.shift shift within.shift fits.1 fits.2)
+    (All-filter (is_of (exchanged_side m.shift shift)) (IsRow m.theta) m.store.tuples within.stock.rows)
 own-begun m p epoch shift (Some o) within fits = All-nil (IsOwnPost m.k m.feeders m.id m.theta)
 
-own-ends : (m : EpochState) (step : Option OpenStep) → m.id < 2 ^ m.k → m.shift ≤ m.k → IsStepWithin m.k m.shift step → AreOwnPosts m (end_posts m step)
+own-ends : (m : EpochState) (step : Option OpenStep) → m.id < 2 ^ m.k → m.shift ≤ m.k → IsStepWithin m.k m.shift step
+    → AreOwnPosts m (end_posts m step)
 own-ends m None id low within = All-nil (IsOwnPost m.k m.feeders m.id m.theta)
 own-ends m (Some o) id low within =
     All-cons (IsOwnPost m.k m.feeders m.id m.theta) (moved_end_post (partner_in_step m.shift o.shift m.id) o.epoch) []
-    (record { over = record { link = joiner_joiner id (beside m.k m.shift o.shift low within.0 within.1); kind = tt }; row = tt }) (All-nil (IsOwnPost m.k m.feeders m.id m.theta))
+    (record {
+      over = record { link = joiner_joiner id (beside m.k m.shift o.shift low within.0 within.1); kind = tt };
+      row = tt;
+    }) (All-nil (IsOwnPost m.k m.feeders m.id m.theta))
 
-pub own-turned : (m : EpochState) (last : Bool) → m.id < 2 ^ m.k → m.shift ≤ m.k → IsStepWithin m.k m.shift m.step → AreOwnPosts m (posts_turned m last)
+pub own-turned : (m : EpochState) (last : Bool) → m.id < 2 ^ m.k → m.shift ≤ m.k → IsStepWithin m.k m.shift m.step
+    → AreOwnPosts m (posts_turned m last)
 own-turned m true id low within = own-ends m m.step id low within
 own-turned m false id low within = All-nil (IsOwnPost m.k m.feeders m.id m.theta)
 
@@ -60,7 +72,8 @@ own-settle : (m : EpochState) (step : Option OpenStep) → m.id < 2 ^ m.k → Ar
 own-settle m None id = All-nil (IsOwnPost m.k m.feeders m.id m.theta)
 own-settle m (Some o) id =
     All-cons (IsOwnPost m.k m.feeders m.id m.theta) (settled_post o.epoch) []
-    (record { over = record { link = joiner_controller id; kind = tt }; row = tt }) (All-nil (IsOwnPost m.k m.feeders m.id m.theta))
+    (record { over = record { link = joiner_controller id; kind = tt }; row = tt })
+    (All-nil (IsOwnPost m.k m.feeders m.id m.theta))
 
 pub own-settled : (m : EpochState) (ready : Bool) → m.id < 2 ^ m.k → AreOwnPosts m (posts_settled ready m)
 own-settled m true id = own-settle m m.step id
@@ -70,12 +83,14 @@ pub own-found : (m : EpochState) (pairs : List Pair) → m.id < 2 ^ m.k → AreO
 own-found m [] id = All-nil (IsOwnPost m.k m.feeders m.id m.theta)
 own-found m (p ∷ ps) id =
     All-cons (IsOwnPost m.k m.feeders m.id m.theta) _ []
-    (record { over = record { link = joiner_collector id; kind = tt }; row = tt }) (All-nil (IsOwnPost m.k m.feeders m.id m.theta))
+    (record { over = record { link = joiner_collector id; kind = tt }; row = tt })
+    (All-nil (IsOwnPost m.k m.feeders m.id m.theta))
 
 pub own-fin : (m : MachineState) (now : Bool) → m.epochs.id < 2 ^ m.epochs.k → AreOwnPosts m.epochs (fin_posts now m)
 own-fin m true id =
     All-cons (IsOwnPost m.epochs.k m.epochs.feeders m.epochs.id m.epochs.theta) _ []
-    (record { over = record { link = joiner_collector id; kind = tt }; row = tt }) (All-nil (IsOwnPost m.epochs.k m.epochs.feeders m.epochs.id m.epochs.theta))
+    (record { over = record { link = joiner_collector id; kind = tt }; row = tt })
+    (All-nil (IsOwnPost m.epochs.k m.epochs.feeders m.epochs.id m.epochs.theta))
 own-fin m false id = All-nil (IsOwnPost m.epochs.k m.epochs.feeders m.epochs.id m.epochs.theta)
 
 pub own-none : (m : EpochState) → AreOwnPosts m []
@@ -93,8 +108,10 @@ own-by k k' n n' id id' th th' posts one two three four own =
     (subst (λ (z : Meaning). All (IsOwnPost k' n' id' z) posts) four own)))
 
 -- a call doesn't change whose posts they are
-pub own-before : (old new : EpochState) (posts : List Post) → IsFixed old new → AreOwnPosts new posts → AreOwnPosts old posts
-own-before old new posts fixed own = own-by old.k new.k old.feeders new.feeders old.id new.id old.theta new.theta posts fixed.k fixed.feeders fixed.id fixed.theta own
+pub own-before : (old new : EpochState) (posts : List Post) → IsFixed old new → AreOwnPosts new posts
+    → AreOwnPosts old posts
+own-before old new posts fixed own = own-by old.k new.k old.feeders new.feeders old.id new.id old.theta new.theta posts
+    fixed.k fixed.feeders fixed.id fixed.theta own
 
 pub all-over : (m : EpochState) (posts : List Post) → AreOwnPosts m posts → AllGoOver m.k m.feeders (Joiner' m.id) posts
 all-over m posts own = λ n d less. (own n d less).over

@@ -15,29 +15,43 @@ use Rattle.joiner_core.specs.Taking.{IsMachineOf, IsOpen}
 use Rattle.joiner_core.proofs.StoreBags.{open-placed}
 use Rattle.epoch_tags.specs.Flags.{flag_at}
 
-pub partner-is : (s : JoinerStart) (t : Taken) (lists : JoinerLists) (waiting : List Pair) (m : EpochState) (o : OpenStep) → IsMachineOf s m → (is : IsOpen s t lists waiting m o) → partner_of s t (length is.past) ≡ partner_in_step m.shift o.shift m.id
+pub partner-is : (s : JoinerStart) (t : Taken) (lists : JoinerLists) (waiting : List Pair) (m : EpochState)
+    (o : OpenStep) → IsMachineOf s m → (is : IsOpen s t lists waiting m o)
+    → partner_of s t (length is.past) ≡ partner_in_step m.shift o.shift m.id
 partner-is s t lists waiting m o fixed is =
     let one : shift_after s t (length is.past) ≡ is.cur.shift = is.stands.steps.history.1.0.shift in
     let next : s.epoch + (length is.past + 1) ≡ s.epoch + length (is.cur ∷ is.past) = omega arith in
-    let two : shift_after s t (length is.past + 1) ≡ is.new.shift = ap t.shift_at next ∙ is.stands.steps.history.0.shift in
+    let two : shift_after s t (length is.past + 1) ≡ is.new.shift =
+    ap t.shift_at next ∙ is.stands.steps.history.0.shift in
     ap (λ a. partner_in_step a (shift_after s t (length is.past + 1)) s.id) (one ∙ sym is.shift)
     ∙ ap (λ b. partner_in_step m.shift b s.id) (two ∙ sym is.step_shift)
     ∙ ap (λ i. partner_in_step m.shift o.shift i) (sym fixed.id)
 
-pub open-part : (s : JoinerStart) (t : Taken) (lists : JoinerLists) (waiting : List Pair) (m : EpochState) (o : OpenStep) (x : Tuple) → IsMachineOf s m → (is : IsOpen s t lists waiting m o)
-    → IsOpen s (took_of_joiner (partner_in_step m.shift o.shift m.id) (Moved o.epoch x) t) lists (waiting ++ probed (does_hold m.theta) (only_stamp o.epoch) x o.store.tuples) (record m { step = Some (with_new o x) }) (with_new o x)
+pub open-part : (s : JoinerStart) (t : Taken) (lists : JoinerLists) (waiting : List Pair) (m : EpochState)
+    (o : OpenStep) (x : Tuple) → IsMachineOf s m → (is : IsOpen s t lists waiting m o)
+    → IsOpen s (took_of_joiner (partner_in_step m.shift o.shift m.id) (Moved o.epoch x) t) lists
+    (waiting ++ probed (does_hold m.theta) (only_stamp o.epoch) x o.store.tuples)
+    (record m { step = Some (with_new o x) }) (with_new o x)
 open-part s t lists waiting m o x fixed is =
     let at = is.step_epoch in
     let next : o.epoch ≡ s.epoch + length (is.cur ∷ is.past) = omega arith in
-    let after = open-moved s t lists waiting (flag_at o.turned) (flag_at m.ended) is.all_turned o.partner_ended m.store.tuples o.store.tuples is.new is.cur is.past o.epoch x is.step_epoch is.stands in
+    let after = open-moved s t lists waiting (flag_at o.turned) (flag_at m.ended)
+    is.all_turned o.partner_ended m.store.tuples o.store.tuples is.new is.cur is.past o.epoch x is.step_epoch
+    is.stands in
     record {
       new = with_came x is.new;
       cur = is.cur;
       past = is.past;
       all_turned = is.all_turned;
       stands = rw fixed.matches (open-placed s _ _ _ _ _ _ _ m.store.tuples o.store.tuples x _ is.cur is.past
-          (subst (λ (q : ℕ). StandsOpen s (took_of_joiner q (Moved o.epoch x) t) lists (waiting ++ probed s.matches (only_stamp o.epoch) x o.store.tuples) (flag_at o.turned) (flag_at m.ended) is.all_turned o.partner_ended m.store.tuples (o.store.tuples ++ x ∷ []) (with_came x is.new) is.cur is.past) (partner-is s t lists waiting m o fixed is)
-          (subst (λ (e : ℕ). StandsOpen s (took_of_joiner (partner_of s t (length is.past)) (Moved o.epoch x) t) lists (waiting ++ probed s.matches (only_stamp e) x o.store.tuples) (flag_at o.turned) (flag_at m.ended) is.all_turned o.partner_ended m.store.tuples (o.store.tuples ++ x ∷ []) (with_came x is.new) is.cur is.past) (sym next) after)));
+          (subst (λ (q : ℕ). StandsOpen s (took_of_joiner q (Moved o.epoch x) t) lists
+          (waiting ++ probed s.matches (only_stamp o.epoch) x o.store.tuples) (flag_at o.turned) (flag_at m.ended)
+          is.all_turned o.partner_ended m.store.tuples (o.store.tuples ++ x ∷ []) (with_came x is.new)
+          is.cur is.past) (partner-is s t lists waiting m o fixed is)
+          (subst (λ (e : ℕ). StandsOpen s (took_of_joiner (partner_of s t (length is.past)) (Moved o.epoch x) t) lists
+          (waiting ++ probed s.matches (only_stamp e) x o.store.tuples) (flag_at o.turned) (flag_at m.ended)
+          is.all_turned o.partner_ended m.store.tuples (o.store.tuples ++ x ∷ []) (with_came x is.new)
+          is.cur is.past) (sym next) after)));
       epoch = is.epoch;
       shift = is.shift;
       step_epoch = is.step_epoch;
@@ -49,17 +63,23 @@ open-part s t lists waiting m o x fixed is =
       all = is.all;
     }
 
-pub open-part_end : (s : JoinerStart) (t : Taken) (lists : JoinerLists) (waiting : List Pair) (m : EpochState) (o : OpenStep) → IsMachineOf s m → o.partner_ended ≡ false → (is : IsOpen s t lists waiting m o)
-    → IsOpen s (took_of_joiner (partner_in_step m.shift o.shift m.id) (MovedEnd o.epoch) t) lists waiting (record m { step = Some (record o { partner_ended = true }) }) (record o { partner_ended = true })
+pub open-part_end : (s : JoinerStart) (t : Taken) (lists : JoinerLists) (waiting : List Pair) (m : EpochState)
+    (o : OpenStep) → IsMachineOf s m → o.partner_ended ≡ false → (is : IsOpen s t lists waiting m o)
+    → IsOpen s (took_of_joiner (partner_in_step m.shift o.shift m.id) (MovedEnd o.epoch) t) lists waiting
+    (record m { step = Some (record o { partner_ended = true }) }) (record o { partner_ended = true })
 open-part_end s t lists waiting m o fixed going is =
-    let before : StandsOpen s t lists waiting (flag_at o.turned) (flag_at m.ended) is.all_turned false m.store.tuples o.store.tuples is.new is.cur is.past = rw going at is.stands in
-    let after = open-moved_end s t lists waiting (flag_at o.turned) (flag_at m.ended) is.all_turned m.store.tuples o.store.tuples is.new is.cur is.past o.epoch is.step_epoch before in
+    let before : StandsOpen s t lists waiting (flag_at o.turned) (flag_at m.ended)
+    is.all_turned false m.store.tuples o.store.tuples is.new is.cur is.past = rw going at is.stands in
+    let after = open-moved_end s t lists waiting (flag_at o.turned) (flag_at m.ended)
+    is.all_turned m.store.tuples o.store.tuples is.new is.cur is.past o.epoch is.step_epoch before in
     record {
       new = is.new;
       cur = is.cur;
       past = is.past;
       all_turned = is.all_turned;
-      stands = subst (λ (q : ℕ). StandsOpen s (took_of_joiner q (MovedEnd o.epoch) t) lists waiting (flag_at o.turned) (flag_at m.ended) is.all_turned true m.store.tuples o.store.tuples is.new is.cur is.past) (partner-is s t lists waiting m o fixed is) after;
+      stands = subst (λ (q : ℕ). StandsOpen s (took_of_joiner q (MovedEnd o.epoch) t) lists waiting (flag_at o.turned)
+          (flag_at m.ended) is.all_turned true m.store.tuples o.store.tuples is.new is.cur is.past)
+          (partner-is s t lists waiting m o fixed is) after;
       epoch = is.epoch;
       shift = is.shift;
       step_epoch = is.step_epoch;

@@ -1,5 +1,6 @@
 -- The open step is settled.
-use Rattle.std.proofs.Common.{◌≡◌, ℕ, ◌<◌, ◌≤◌, ◌^◌, refl, sym, ◌∙◌, ap, subst, arith, Bool, true, false, Option, Some, None, List, [], ◌∷◌, ◌++◌, length}
+use Rattle.std.proofs.Common.{◌≡◌, ℕ, ◌<◌, ◌≤◌, ◌^◌, refl, sym, ◌∙◌, ap, subst, arith, Bool, true, false, Option, Some}
+use Rattle.std.proofs.Common.{None, List, [], ◌∷◌, ◌++◌, length}
 use Rattle.std.specs.Prelude.{count_by}
 use Rattle.epoch_tags.specs.declared.tuple.Pair.{Pair}
 use Rattle.migration_plan.specs.Steps.{is_of, exchanged_side}
@@ -11,41 +12,58 @@ use Rattle.joiner_law.proofs.MovedBySteps.{count-bag}
 use Rattle.joiner_law.proofs.TakenTurns.{settled-step}
 use Rattle.joiner_core.specs.State.{IsStock, OpenStep, EpochState}
 use Rattle.joiner_core.specs.Changes.{settled_by, IsReady, settle_posts, posts_settled, after_settle}
-use Rattle.joiner_core.specs.Taking.{IsMachineOf, IsClosed, IsOpen, StandsBy, Stands, IsStepStock, IsWithin, IsStepWithin, IsCounted, HasSomeTurn}
+use Rattle.joiner_core.specs.Taking.{IsMachineOf, IsClosed, IsOpen, StandsBy, Stands, IsStepStock, IsWithin}
+use Rattle.joiner_core.specs.Taking.{IsStepWithin, IsCounted, HasSomeTurn}
 use Rattle.epoch_tags.specs.Flags.{flag_at}
 use Rattle.joiner_core.proofs.SentPosts.{with_sent-none}
 
-open-settled : (s : JoinerStart) (t : Taken) (lists : JoinerLists) (waiting : List Pair) (m : EpochState) (o : OpenStep) → IsMachineOf s m → o.partner_ended ≡ true → (is : IsOpen s t lists waiting m o) → is.all_turned ≡ true
+open-settled : (s : JoinerStart) (t : Taken) (lists : JoinerLists) (waiting : List Pair) (m : EpochState) (o : OpenStep)
+    → IsMachineOf s m → o.partner_ended ≡ true → (is : IsOpen s t lists waiting m o) → is.all_turned ≡ true
     → IsClosed s t (with_sent lists (settled_post o.epoch ∷ [])) waiting (settled_by m (Some o))
 open-settled s t lists waiting m o fixed part is turned =
-    let before : StandsOpen s t lists waiting (flag_at o.turned) (flag_at m.ended) true o.partner_ended m.store.tuples o.store.tuples is.new is.cur is.past = rw turned at is.stands in
-    let before' : StandsOpen s t lists waiting (flag_at o.turned) (flag_at m.ended) true true m.store.tuples o.store.tuples is.new is.cur is.past = rw part at before in
-    let after = settled-step s t lists waiting (flag_at o.turned) (flag_at m.ended) m.store.tuples o.store.tuples is.new is.cur is.past (is.all turned) before' in
+    let before : StandsOpen s t lists waiting (flag_at o.turned) (flag_at m.ended)
+    true o.partner_ended m.store.tuples o.store.tuples is.new is.cur is.past = rw turned at is.stands in
+    let before' : StandsOpen s t lists waiting (flag_at o.turned) (flag_at m.ended)
+    true true m.store.tuples o.store.tuples is.new is.cur is.past = rw part at before in
+    let after = settled-step s t lists waiting (flag_at o.turned) (flag_at m.ended)
+    m.store.tuples o.store.tuples is.new is.cur is.past (is.all turned) before' in
     let at = is.step_epoch in
     let here = stored s.k s.id (is.cur ∷ is.past) in
-    let same : count_by (is_of (exchanged_side m.shift o.shift)) m.store.tuples ≡ count_by (is_of (exchanged_side is.cur.shift is.new.shift)) here =
+    let same : count_by (is_of (exchanged_side m.shift o.shift)) m.store.tuples
+    ≡ count_by (is_of (exchanged_side is.cur.shift is.new.shift)) here =
     ap (λ b. count_by (is_of (exchanged_side b o.shift)) m.store.tuples) is.shift
     ∙ ap (λ b. count_by (is_of (exchanged_side is.cur.shift b)) m.store.tuples) is.step_shift
     ∙ count-bag (is_of (exchanged_side is.cur.shift is.new.shift)) m.store.tuples here is.stands.store in
-    let counted : m.moved ++ count_by (is_of (exchanged_side m.shift o.shift)) m.store.tuples ∷ [] ≡ moved_counts s.k s.id (is.new ∷ (is.cur ∷ is.past)) =
+    let counted : m.moved ++ count_by (is_of (exchanged_side m.shift o.shift)) m.store.tuples ∷ []
+    ≡ moved_counts s.k s.id (is.new ∷ (is.cur ∷ is.past)) =
     ap (λ zs. zs ++ count_by (is_of (exchanged_side m.shift o.shift)) m.store.tuples ∷ []) is.moved
     ∙ ap (λ n. moved_counts s.k s.id (is.cur ∷ is.past) ++ n ∷ []) same in
     record {
       cur = is.new;
       past = is.cur ∷ is.past;
-      stands = subst (λ (e : ℕ). StandsSettled s t (with_sent lists (settled_post e ∷ [])) waiting (flag_at m.ended) o.store.tuples is.new (is.cur ∷ is.past)) (sym is.step_epoch) after;
+      stands = subst (λ (e : ℕ). StandsSettled s t (with_sent lists (settled_post e ∷ [])) waiting (flag_at m.ended)
+          o.store.tuples is.new (is.cur ∷ is.past)) (sym is.step_epoch) after;
       epoch = omega arith;
       shift = is.step_shift;
       ended_count = is.ended_count;
       moved = counted;
     }
 
-settled-by-step : (s : JoinerStart) (t : Taken) (lists : JoinerLists) (waiting : List Pair) (m : EpochState) → IsMachineOf s m → (step : Option OpenStep) → IsReady step → StandsBy s t lists waiting m step → Stands s t (with_sent lists (settle_posts step)) waiting (settled_by m step)
+settled-by-step : (s : JoinerStart) (t : Taken) (lists : JoinerLists) (waiting : List Pair) (m : EpochState)
+    → IsMachineOf s m → (step : Option OpenStep) → IsReady step → StandsBy s t lists waiting m step
+    → Stands s t (with_sent lists (settle_posts step)) waiting (settled_by m step)
 settled-by-step s t lists waiting m fixed None ready is = absurd ready
 settled-by-step s t lists waiting m fixed (Some o) ready is =
-    let turned : is.all_turned ≡ true = not_false is.all_turned (λ same. is.missing same (λ q low. ready.1 q (let n = is.count in omega arith))) in
+    let turned : is.all_turned ≡ true = not_false is.all_turned
+    (λ same. is.missing same (λ q low. ready.1 q (let n = is.count in omega arith))) in
     record {
-      fixed = record { k = fixed.k; id = fixed.id; feeders = fixed.feeders; matches = fixed.matches; small = fixed.small };
+      fixed = record {
+        k = fixed.k;
+        id = fixed.id;
+        feeders = fixed.feeders;
+        matches = fixed.matches;
+        small = fixed.small;
+      };
       now = open-settled s t lists waiting m o fixed ready.0 is turned;
     }
   where
@@ -53,19 +71,49 @@ settled-by-step s t lists waiting m fixed (Some o) ready is =
     not_false true never = refl
     not_false false never = absurd (never refl)
 
-pub stands-settled : (s : JoinerStart) (t : Taken) (lists : JoinerLists) (waiting : List Pair) (m : EpochState) (ready : Bool) → (ready ≡ true → IsReady m.step) → Stands s t lists waiting m → Stands s t (with_sent lists (posts_settled ready m)) waiting (after_settle ready m)
+pub stands-settled : (s : JoinerStart) (t : Taken) (lists : JoinerLists) (waiting : List Pair) (m : EpochState)
+    (ready : Bool) → (ready ≡ true → IsReady m.step) → Stands s t lists waiting m
+    → Stands s t (with_sent lists (posts_settled ready m)) waiting (after_settle ready m)
 stands-settled s t lists waiting m true up is = settled-by-step s t lists waiting m is.fixed m.step (up refl) is.now
-stands-settled s t lists waiting m false up is = subst (λ (ls : JoinerLists). Stands s t ls waiting m) (sym (with_sent-none lists)) is
+stands-settled s t lists waiting m false up is = subst (λ (ls : JoinerLists). Stands s t ls waiting m)
+    (sym (with_sent-none lists)) is
 
-settled-within-step : (m : EpochState) (step : Option OpenStep) → IsReady step → m.k ≤ 8 → IsStepWithin m.k m.shift step → length m.ended ≡ m.feeders → m.id < 2 ^ m.k → IsStepStock m.theta step → IsWithin (settled_by m step)
+settled-within-step : (m : EpochState) (step : Option OpenStep) → IsReady step → m.k ≤ 8 → IsStepWithin m.k m.shift step
+    → length m.ended ≡ m.feeders → m.id < 2 ^ m.k → IsStepStock m.theta step → IsWithin (settled_by m step)
 settled-within-step m None ready small step ended id stock = absurd ready
-settled-within-step m (Some o) ready small step ended id stock = record { small = small; shift = step.0; step = tt; ended = ended; count = tt; begun = tt; rests = λ never. never; id = id; stock = stock; step_stock = tt }
+settled-within-step m (Some o) ready small step ended id stock = record {
+  small = small;
+  shift = step.0;
+  step = tt;
+  ended = ended;
+  count = tt;
+  begun = tt;
+  rests = λ never. never;
+  id = id;
+  stock = stock;
+  step_stock = tt;
+}
 
-pub settled-within : (m : EpochState) (ready : Bool) → (ready ≡ true → IsReady m.step) → (ready ≡ false → IsReady m.step → ⊥)
-    → m.k ≤ 8 → m.shift ≤ m.k → IsStepWithin m.k m.shift m.step → length m.ended ≡ m.feeders → IsCounted m.feeders m.step → HasSomeTurn m.feeders m.step
+pub settled-within : (m : EpochState) (ready : Bool) → (ready ≡ true → IsReady m.step)
+    → (ready ≡ false → IsReady m.step → ⊥)
+    → m.k ≤ 8 → m.shift ≤ m.k → IsStepWithin m.k m.shift m.step → length m.ended ≡ m.feeders
+    → IsCounted m.feeders m.step → HasSomeTurn m.feeders m.step
     → m.id < 2 ^ m.k → IsStock m.theta m.store → IsStepStock m.theta m.step → IsWithin (after_settle ready m)
-settled-within m true settles not_yet small low step ended count begun id stock step_stock = settled-within-step m m.step (settles refl) small step ended id step_stock
-settled-within m false settles not_yet small low step ended count begun id stock step_stock = record { small = small; shift = low; step = step; ended = ended; count = count; begun = begun; rests = not_yet refl; id = id; stock = stock; step_stock = step_stock }
+settled-within m true settles not_yet small low step ended count begun id stock step_stock =
+    settled-within-step m m.step (settles refl) small step ended id step_stock
+settled-within m false settles not_yet small low step ended count begun id stock step_stock =
+    record {
+      small = small;
+      shift = low;
+      step = step;
+      ended = ended;
+      count = count;
+      begun = begun;
+      rests = not_yet refl;
+      id = id;
+      stock = stock;
+      step_stock = step_stock;
+    }
 
 pub settled-k : (m : EpochState) (ready : Bool) → (after_settle ready m).k ≡ m.k
 settled-k m true = by m.step

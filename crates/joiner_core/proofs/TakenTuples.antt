@@ -1,5 +1,6 @@
 -- The machine stands for its lists after a tuple of a feeder, as the whole call.
-use Rattle.std.proofs.Common.{◌≡◌, ℕ, ◌+◌, ◌<◌, refl, sym, ◌∙◌, subst, arith, Bool, true, false, cond, Option, Some, None, List, [], ◌∷◌, ◌++◌, length}
+use Rattle.std.proofs.Common.{◌≡◌, ℕ, ◌+◌, ◌<◌, refl, sym, ◌∙◌, subst, arith, Bool, true, false, cond, Option, Some}
+use Rattle.std.proofs.Common.{None, List, [], ◌∷◌, ◌++◌, length}
 use Rattle.std.proofs.lemmas.List.{append-nil}
 use Rattle.std.proofs.lemmas.Bool.{false≢true, false_from_ne_true}
 use Rattle.join_rows.specs.declared.table.Side.{Side}
@@ -13,8 +14,11 @@ use Rattle.joiner_law.specs.Standing.{took_of_feeder, with_sent, StandsOpen}
 use Rattle.joiner_law.proofs.Partners.{counts-arrived}
 use Rattle.joiner_law.proofs.TakenTuples.{settled-tup, open-late, open-tup}
 use Rattle.joiner_core.specs.State.{does_hold, with_placed, IsRow, OpenStep, EpochState}
-use Rattle.joiner_core.specs.Changes.{after_old, found_old, posts_old, late_found, late_posts, open_old, opened_late, found_late, posts_late, with_new, after_new, found_new, step_new, new_found, IsReady, turned_in}
-use Rattle.joiner_core.specs.Taking.{IsMachineOf, IsClosed, IsOpen, StandsBy, Stands, IsWithin, IsStepWithin, IsCounted, HasSomeTurn, TupFits, CanTakeTup, TookOfFeeder}
+use Rattle.joiner_core.specs.Changes.{after_old, found_old, posts_old, late_found, late_posts, open_old, opened_late}
+use Rattle.joiner_core.specs.Changes.{found_late, posts_late, with_new, after_new, found_new, step_new, new_found}
+use Rattle.joiner_core.specs.Changes.{IsReady, turned_in}
+use Rattle.joiner_core.specs.Taking.{IsMachineOf, IsClosed, IsOpen, StandsBy, Stands, IsWithin, IsStepWithin, IsCounted}
+use Rattle.joiner_core.specs.Taking.{HasSomeTurn, TupFits, CanTakeTup, TookOfFeeder}
 use Rattle.joiner_core.proofs.RowWidths.{stock-placed, stock-old, stock-new}
 use Rattle.joiner_core.proofs.OwnPosts.{own-none, own-late}
 use Rattle.joiner_core.proofs.StoreBags.{settled-placed, open-placed, both-placed}
@@ -23,15 +27,25 @@ use Rattle.epoch_tags.specs.Flags.{flag_at}
 use Rattle.joiner_core.proofs.SentPosts.{with_sent-none, quiet-late}
 
 -- with no step open
-closed-old : (s : JoinerStart) (t : Taken) (lists : JoinerLists) (waiting : List Pair) (m : EpochState) (x : Tuple) (p : ℕ) → IsMachineOf s m → p < s.feeders → flag_at m.ended p ≡ false → x.stamp ≡ m.epoch
+closed-old : (s : JoinerStart) (t : Taken) (lists : JoinerLists) (waiting : List Pair) (m : EpochState) (x : Tuple)
+    (p : ℕ) → IsMachineOf s m → p < s.feeders → flag_at m.ended p ≡ false → x.stamp ≡ m.epoch
     → IsClosed s t lists waiting m
-    → IsClosed s (took_of_feeder p (Tup x) t) lists (waiting ++ (probed (does_hold m.theta) all_tuples x m.store.tuples ++ [])) (record m { store = with_placed x m.store; step = None })
+    → IsClosed s (took_of_feeder p (Tup x) t) lists (waiting
+    ++ (probed (does_hold m.theta) all_tuples x m.store.tuples ++ [])) (record m {
+      store = with_placed x m.store;
+      step = None;
+    })
 closed-old s t lists waiting m x p fixed low going stamp is =
     let at = is.epoch in
     record {
       cur = with_arrived x is.cur;
       past = is.past;
-      stands = rw (append-nil (probed (does_hold m.theta) all_tuples x m.store.tuples), fixed.matches) (settled-placed s _ lists _ _ m.store.tuples x _ is.past (settled-tup s t lists waiting (flag_at m.ended) m.store.tuples is.cur is.past p x low going (omega arith) is.stands));
+      stands = rw (
+        append-nil (probed (does_hold m.theta) all_tuples x m.store.tuples),
+        fixed.matches,
+      ) (settled-placed s _ lists _ _ m.store.tuples x _ is.past
+          (settled-tup s t lists waiting (flag_at m.ended) m.store.tuples is.cur is.past p x low going (omega arith)
+          is.stands));
       epoch = is.epoch;
       shift = is.shift;
       ended_count = is.ended_count;
@@ -39,15 +53,27 @@ closed-old s t lists waiting m x p fixed low going stamp is =
     }
 
 -- the open step's epoch, as the machine keeps it
-at_epoch : (s : JoinerStart) (t : Taken) (lists : JoinerLists) (waiting : List Pair) (turned ended : ℕ → Bool) (part_ended : Bool) (a a' b b' : List Tuple) (new cur cur' : Step) (past : List Step) (side : Side) (who : ℕ) (x : Tuple) (kept : Bool) (e f oe : ℕ) → oe ≡ e → oe ≡ f
-    → StandsOpen s t (with_sent lists (posts_late side who e x)) (waiting ++ (probed s.matches all_tuples x a ++ cond kept (probed s.matches (only_stamp f) x b) [])) turned ended false part_ended a' b' new cur' past
-    → StandsOpen s t (with_sent lists (posts_late side who oe x)) (waiting ++ (probed s.matches all_tuples x a ++ cond kept (probed s.matches (only_stamp oe) x b) [])) turned ended false part_ended a' b' new cur' past
+at_epoch : (s : JoinerStart) (t : Taken) (lists : JoinerLists) (waiting : List Pair) (turned ended : ℕ
+    → Bool) (part_ended : Bool) (a a' b b' : List Tuple) (new cur cur' : Step) (past : List Step) (side : Side)
+    (who : ℕ) (x : Tuple) (kept : Bool) (e f oe : ℕ) → oe ≡ e → oe ≡ f
+    → StandsOpen s t (with_sent lists (posts_late side who e x))
+    (waiting ++ (probed s.matches all_tuples x a ++ cond kept (probed s.matches (only_stamp f) x b) []))
+    turned ended false part_ended a' b' new cur' past
+    → StandsOpen s t (with_sent lists (posts_late side who oe x))
+    (waiting ++ (probed s.matches all_tuples x a ++ cond kept (probed s.matches (only_stamp oe) x b) []))
+    turned ended false part_ended a' b' new cur' past
 at_epoch s t lists waiting turned ended part_ended a a' b b' new cur cur' past side who x kept e f oe one two stands =
-    subst (λ (i : ℕ). StandsOpen s t (with_sent lists (posts_late side who i x)) (waiting ++ (probed s.matches all_tuples x a ++ cond kept (probed s.matches (only_stamp oe) x b) [])) turned ended false part_ended a' b' new cur' past) (sym one)
-    (subst (λ (j : ℕ). StandsOpen s t (with_sent lists (posts_late side who e x)) (waiting ++ (probed s.matches all_tuples x a ++ cond kept (probed s.matches (only_stamp j) x b) [])) turned ended false part_ended a' b' new cur' past) (sym two) stands)
+    subst (λ (i : ℕ). StandsOpen s t (with_sent lists (posts_late side who i x))
+    (waiting ++ (probed s.matches all_tuples x a ++ cond kept (probed s.matches (only_stamp oe) x b) []))
+    turned ended false part_ended a' b' new cur' past) (sym one)
+    (subst (λ (j : ℕ). StandsOpen s t (with_sent lists (posts_late side who e x))
+    (waiting ++ (probed s.matches all_tuples x a ++ cond kept (probed s.matches (only_stamp j) x b) []))
+    turned ended false part_ended a' b' new cur' past) (sym two) stands)
 
 -- under an open step
-open-old : (s : JoinerStart) (t : Taken) (lists : JoinerLists) (waiting : List Pair) (m : EpochState) (o : OpenStep) (x : Tuple) (p : ℕ) → IsMachineOf s m → p < s.feeders → flag_at m.ended p ≡ false → flag_at o.turned p ≡ false → x.stamp ≡ m.epoch
+open-old : (s : JoinerStart) (t : Taken) (lists : JoinerLists) (waiting : List Pair) (m : EpochState) (o : OpenStep)
+    (x : Tuple) (p : ℕ) → IsMachineOf s m → p < s.feeders → flag_at m.ended p ≡ false → flag_at o.turned p ≡ false
+    → x.stamp ≡ m.epoch
     → IsOpen s t lists waiting m o
     → IsOpen s (took_of_feeder p (Tup x) t)
     (with_sent lists (posts_late (exchanged_side m.shift o.shift) (partner_in_step m.shift o.shift m.id) o.epoch x))
@@ -55,18 +81,32 @@ open-old : (s : JoinerStart) (t : Taken) (lists : JoinerLists) (waiting : List P
     (record m { store = with_placed x m.store; step = Some (opened_late m.k m.id o x) }) (opened_late m.k m.id o x)
 open-old s t lists waiting m o x p fixed low going still stamp is =
     let at = is.epoch in
-    let not_all : is.all_turned ≡ false = false_from_ne_true is.all_turned (λ yes. false≢true (sym still ∙ is.all yes p low)) in
-    let before : StandsOpen s t lists waiting (flag_at o.turned) (flag_at m.ended) false o.partner_ended m.store.tuples o.store.tuples is.new is.cur is.past = rw not_all at is.stands in
+    let not_all : is.all_turned ≡ false = false_from_ne_true is.all_turned
+    (λ yes. false≢true (sym still ∙ is.all yes p low)) in
+    let before : StandsOpen s t lists waiting (flag_at o.turned) (flag_at m.ended)
+    false o.partner_ended m.store.tuples o.store.tuples is.new is.cur is.past = rw not_all at is.stands in
     let next : s.epoch + length is.past + 1 ≡ s.epoch + length (is.cur ∷ is.past) = omega arith in
     let epoch : o.epoch ≡ s.epoch + length (is.cur ∷ is.past) = is.step_epoch ∙ next in
     let posts_epoch = is.step_epoch in
-    let after = open-late s t lists waiting (flag_at o.turned) (flag_at m.ended) o.partner_ended m.store.tuples o.store.tuples is.new is.cur is.past p x low going still (omega arith) before in
+    let after = open-late s t lists waiting (flag_at o.turned) (flag_at m.ended)
+    o.partner_ended m.store.tuples o.store.tuples is.new is.cur is.past p x low going still (omega arith) before in
     record {
       new = is.new;
       cur = with_arrived x is.cur;
       past = is.past;
       all_turned = false;
-      stands = rw (fixed.matches, fixed.k, fixed.id, is.shift, is.step_shift) (both-placed s _ _ _ _ _ _ _ m.store.tuples o.store.tuples x (holds s.k is.new.shift s.id x) is.new _ is.past (at_epoch s (took_of_feeder p (Tup x) t) lists waiting _ _ _ m.store.tuples _ o.store.tuples _ is.new is.cur _ is.past (exchanged_side is.cur.shift is.new.shift) (partner_in_step is.cur.shift is.new.shift s.id) x (holds s.k is.new.shift s.id x) (s.epoch + length is.past + 1) (s.epoch + length (is.cur ∷ is.past)) o.epoch is.step_epoch epoch after));
+      stands = rw (
+        fixed.matches,
+        fixed.k,
+        fixed.id,
+        is.shift,
+        is.step_shift,
+      ) (both-placed s _ _ _ _ _ _ _ m.store.tuples o.store.tuples x (holds s.k is.new.shift s.id x)
+          is.new _ is.past (at_epoch s (took_of_feeder p (Tup x) t)
+          lists waiting _ _ _ m.store.tuples _ o.store.tuples _ is.new is.cur _ is.past
+          (exchanged_side is.cur.shift is.new.shift) (partner_in_step is.cur.shift is.new.shift s.id) x
+          (holds s.k is.new.shift s.id x) (s.epoch + length is.past + 1) (s.epoch + length (is.cur ∷ is.past))
+          o.epoch is.step_epoch epoch after));
       epoch = is.epoch;
       shift = is.shift;
       step_epoch = is.step_epoch;
@@ -78,26 +118,44 @@ open-old s t lists waiting m o x p fixed low going still stamp is =
       all = λ never. absurd (false≢true never);
     }
 
-old-by : (s : JoinerStart) (t : Taken) (lists : JoinerLists) (waiting : List Pair) (m : EpochState) (x : Tuple) (p : ℕ) → IsMachineOf s m → p < s.feeders → flag_at m.ended p ≡ false → x.stamp ≡ m.epoch
+old-by : (s : JoinerStart) (t : Taken) (lists : JoinerLists) (waiting : List Pair) (m : EpochState) (x : Tuple) (p : ℕ)
+    → IsMachineOf s m → p < s.feeders → flag_at m.ended p ≡ false → x.stamp ≡ m.epoch
     → (step : Option OpenStep) → turned_in step p ≡ false → StandsBy s t lists waiting m step
-    → StandsBy s (took_of_feeder p (Tup x) t) (with_sent lists (late_posts m x step)) (waiting ++ (probed (does_hold m.theta) all_tuples x m.store.tuples ++ late_found m x step)) (record m { store = with_placed x m.store; step = open_old m x step }) (open_old m x step)
+    → StandsBy s (took_of_feeder p (Tup x) t) (with_sent lists (late_posts m x step))
+    (waiting ++ (probed (does_hold m.theta) all_tuples x m.store.tuples ++ late_found m x step))
+    (record m { store = with_placed x m.store; step = open_old m x step }) (open_old m x step)
 old-by s t lists waiting m x p fixed low going stamp None still is =
-    subst (λ (ls : JoinerLists). IsClosed s (took_of_feeder p (Tup x) t) ls (waiting ++ (probed (does_hold m.theta) all_tuples x m.store.tuples ++ [])) (record m { store = with_placed x m.store; step = None })) (sym (with_sent-none lists)) (closed-old s t lists waiting m x p fixed low going stamp is)
-old-by s t lists waiting m x p fixed low going stamp (Some o) still is = open-old s t lists waiting m o x p fixed low going still stamp is
+    subst (λ (ls : JoinerLists). IsClosed s (took_of_feeder p (Tup x) t) ls
+    (waiting ++ (probed (does_hold m.theta) all_tuples x m.store.tuples ++ []))
+    (record m { store = with_placed x m.store; step = None })) (sym (with_sent-none lists))
+    (closed-old s t lists waiting m x p fixed low going stamp is)
+old-by s t lists waiting m x p fixed low going stamp (Some o) still is =
+    open-old s t lists waiting m o x p fixed low going still stamp is
 
 -- a tuple of the settled epoch
-pub stands-old : (s : JoinerStart) (t : Taken) (lists : JoinerLists) (waiting : List Pair) (m : EpochState) (x : Tuple) (p : ℕ) → p < s.feeders → flag_at m.ended p ≡ false → turned_in m.step p ≡ false → x.stamp ≡ m.epoch
-    → Stands s t lists waiting m → Stands s (took_of_feeder p (Tup x) t) (with_sent lists (posts_old m x)) (waiting ++ found_old m x) (after_old m x)
+pub stands-old : (s : JoinerStart) (t : Taken) (lists : JoinerLists) (waiting : List Pair) (m : EpochState) (x : Tuple)
+    (p : ℕ) → p < s.feeders → flag_at m.ended p ≡ false → turned_in m.step p ≡ false → x.stamp ≡ m.epoch
+    → Stands s t lists waiting m → Stands s (took_of_feeder p (Tup x) t) (with_sent lists (posts_old m x))
+    (waiting ++ found_old m x) (after_old m x)
 stands-old s t lists waiting m x p low going still stamp is =
     let fixed = is.fixed in
     record {
-      fixed = record { k = fixed.k; id = fixed.id; feeders = fixed.feeders; matches = fixed.matches; small = fixed.small };
+      fixed = record {
+        k = fixed.k;
+        id = fixed.id;
+        feeders = fixed.feeders;
+        matches = fixed.matches;
+        small = fixed.small;
+      };
       now = old-by s t lists waiting m x p fixed low going stamp m.step still is.now;
     }
 
-open-new : (s : JoinerStart) (t : Taken) (lists : JoinerLists) (waiting : List Pair) (m : EpochState) (o : OpenStep) (x : Tuple) (p : ℕ) → IsMachineOf s m → p < s.feeders → flag_at m.ended p ≡ false → flag_at o.turned p ≡ true → x.stamp ≡ o.epoch
+open-new : (s : JoinerStart) (t : Taken) (lists : JoinerLists) (waiting : List Pair) (m : EpochState) (o : OpenStep)
+    (x : Tuple) (p : ℕ) → IsMachineOf s m → p < s.feeders → flag_at m.ended p ≡ false → flag_at o.turned p ≡ true
+    → x.stamp ≡ o.epoch
     → IsOpen s t lists waiting m o
-    → IsOpen s (took_of_feeder p (Tup x) t) lists (waiting ++ probed (does_hold m.theta) all_tuples x o.store.tuples) (record m { step = Some (with_new o x) }) (with_new o x)
+    → IsOpen s (took_of_feeder p (Tup x) t) lists (waiting ++ probed (does_hold m.theta) all_tuples x o.store.tuples)
+    (record m { step = Some (with_new o x) }) (with_new o x)
 open-new s t lists waiting m o x p fixed low going has stamp is =
     let at = is.step_epoch in
     record {
@@ -105,7 +163,10 @@ open-new s t lists waiting m o x p fixed low going has stamp is =
       cur = is.cur;
       past = is.past;
       all_turned = is.all_turned;
-      stands = rw fixed.matches (open-placed s _ _ _ _ _ _ _ m.store.tuples o.store.tuples x _ is.cur is.past (open-tup s t lists waiting (flag_at o.turned) (flag_at m.ended) is.all_turned o.partner_ended m.store.tuples o.store.tuples is.new is.cur is.past p x low going has (omega arith) is.stands));
+      stands = rw fixed.matches (open-placed s _ _ _ _ _ _ _ m.store.tuples o.store.tuples x _ is.cur is.past
+          (open-tup s t lists waiting (flag_at o.turned) (flag_at m.ended)
+          is.all_turned o.partner_ended m.store.tuples o.store.tuples is.new is.cur is.past p x low going has
+          (omega arith) is.stands));
       epoch = is.epoch;
       shift = is.shift;
       step_epoch = is.step_epoch;
@@ -117,34 +178,49 @@ open-new s t lists waiting m o x p fixed low going has stamp is =
       all = is.all;
     }
 
-new-by : (s : JoinerStart) (t : Taken) (lists : JoinerLists) (waiting : List Pair) (m : EpochState) (x : Tuple) (p : ℕ) → IsMachineOf s m → p < s.feeders → flag_at m.ended p ≡ false
+new-by : (s : JoinerStart) (t : Taken) (lists : JoinerLists) (waiting : List Pair) (m : EpochState) (x : Tuple) (p : ℕ)
+    → IsMachineOf s m → p < s.feeders → flag_at m.ended p ≡ false
     → (step : Option OpenStep) → turned_in step p ≡ true → TupFits m p x.stamp step → StandsBy s t lists waiting m step
-    → StandsBy s (took_of_feeder p (Tup x) t) lists (waiting ++ new_found m x step) (record m { step = step_new x step }) (step_new x step)
+    → StandsBy s (took_of_feeder p (Tup x) t) lists (waiting ++ new_found m x step)
+    (record m { step = step_new x step }) (step_new x step)
 new-by s t lists waiting m x p fixed low going None has fits is = absurd (false≢true has)
-new-by s t lists waiting m x p fixed low going (Some o) has fits is = open-new s t lists waiting m o x p fixed low going has (fits.1 has) is
+new-by s t lists waiting m x p fixed low going (Some o) has fits is =
+    open-new s t lists waiting m o x p fixed low going has (fits.1 has) is
 
-pub stands-new : (s : JoinerStart) (t : Taken) (lists : JoinerLists) (waiting : List Pair) (m : EpochState) (x : Tuple) (p : ℕ) → p < s.feeders → CanTakeTup m p x.stamp → turned_in m.step p ≡ true
-    → Stands s t lists waiting m → Stands s (took_of_feeder p (Tup x) t) lists (waiting ++ found_new m x) (after_new m x)
+pub stands-new : (s : JoinerStart) (t : Taken) (lists : JoinerLists) (waiting : List Pair) (m : EpochState) (x : Tuple)
+    (p : ℕ) → p < s.feeders → CanTakeTup m p x.stamp → turned_in m.step p ≡ true
+    → Stands s t lists waiting m → Stands s (took_of_feeder p (Tup x) t) lists (waiting ++ found_new m x)
+    (after_new m x)
 stands-new s t lists waiting m x p low can has is =
     let fixed = is.fixed in
     record {
-      fixed = record { k = fixed.k; id = fixed.id; feeders = fixed.feeders; matches = fixed.matches; small = fixed.small };
+      fixed = record {
+        k = fixed.k;
+        id = fixed.id;
+        feeders = fixed.feeders;
+        matches = fixed.matches;
+        small = fixed.small;
+      };
       now = new-by s t lists waiting m x p fixed low can.going m.step has can.fits is.now;
     }
 
-fits-old : (m : EpochState) (p stamp : ℕ) (step : Option OpenStep) → turned_in step p ≡ false → TupFits m p stamp step → stamp ≡ m.epoch
+fits-old : (m : EpochState) (p stamp : ℕ) (step : Option OpenStep) → turned_in step p ≡ false → TupFits m p stamp step
+    → stamp ≡ m.epoch
 fits-old m p stamp None still fits = fits
 fits-old m p stamp (Some o) still fits = fits.0 still
 
-within-old : (k shift : ℕ) (m : EpochState) (x : Tuple) (step : Option OpenStep) → IsStepWithin k shift step → IsStepWithin k shift (open_old m x step)
+within-old : (k shift : ℕ) (m : EpochState) (x : Tuple) (step : Option OpenStep) → IsStepWithin k shift step
+    → IsStepWithin k shift (open_old m x step)
 within-old k shift m x None is = tt
 within-old k shift m x (Some o) is = is
 
-within-new : (k shift : ℕ) (x : Tuple) (step : Option OpenStep) → IsStepWithin k shift step → IsStepWithin k shift (step_new x step)
+within-new : (k shift : ℕ) (x : Tuple) (step : Option OpenStep) → IsStepWithin k shift step
+    → IsStepWithin k shift (step_new x step)
 within-new k shift x None is = tt
 within-new k shift x (Some o) is = is
 
-count-old : (n : ℕ) (m : EpochState) (x : Tuple) (step : Option OpenStep) → IsCounted n step → IsCounted n (open_old m x step)
+count-old : (n : ℕ) (m : EpochState) (x : Tuple) (step : Option OpenStep) → IsCounted n step
+    → IsCounted n (open_old m x step)
 count-old n m x None is = tt
 count-old n m x (Some o) is = is
 
@@ -152,7 +228,8 @@ count-new : (n : ℕ) (x : Tuple) (step : Option OpenStep) → IsCounted n step 
 count-new n x None is = tt
 count-new n x (Some o) is = is
 
-begun-old : (n : ℕ) (m : EpochState) (x : Tuple) (step : Option OpenStep) → HasSomeTurn n step → HasSomeTurn n (open_old m x step)
+begun-old : (n : ℕ) (m : EpochState) (x : Tuple) (step : Option OpenStep) → HasSomeTurn n step
+    → HasSomeTurn n (open_old m x step)
 begun-old n m x None is = tt
 begun-old n m x (Some o) is = is
 
@@ -169,26 +246,54 @@ rests-new x None rests ready = ready
 rests-new x (Some o) rests ready = rests ready
 
 pub new-within : (m : EpochState) (x : Tuple) → IsWithin m → IsRow m.theta x → IsWithin (after_new m x)
-new-within m x within row = record { small = within.small; shift = within.shift; step = within-new m.k m.shift x m.step within.step; ended = within.ended; count = count-new m.feeders x m.step within.count; begun = begun-new m.feeders x m.step within.begun; rests = rests-new x m.step within.rests; id = within.id; stock = within.stock; step_stock = stock-new m.theta x m.step within.step_stock row }
+new-within m x within row = record {
+  small = within.small;
+  shift = within.shift;
+  step = within-new m.k m.shift x m.step within.step;
+  ended = within.ended;
+  count = count-new m.feeders x m.step within.count;
+  begun = begun-new m.feeders x m.step within.begun;
+  rests = rests-new x m.step within.rests;
+  id = within.id;
+  stock = within.stock;
+  step_stock = stock-new m.theta x m.step within.step_stock row;
+}
 
-pub took-old : (m m' : EpochState) (x : Tuple) (p : ℕ) (found found' : List Pair) (before after : List Post) → IsWithin m → CanTakeTup m p x.stamp → IsRow m.theta x → turned_in m.step p ≡ false
-    → m' ≡ after_old m x → found' ≡ found ++ found_old m x → after ≡ before ++ posts_old m x → TookOfFeeder p (Tup x) m m' found found' before after
+pub took-old : (m m' : EpochState) (x : Tuple) (p : ℕ) (found found' : List Pair) (before after : List Post)
+    → IsWithin m → CanTakeTup m p x.stamp → IsRow m.theta x → turned_in m.step p ≡ false
+    → m' ≡ after_old m x → found' ≡ found ++ found_old m x → after ≡ before ++ posts_old m x
+    → TookOfFeeder p (Tup x) m m' found found' before after
 took-old m m' x p found found' before after within can row still state more posts = rw (state, more, posts) (record {
   added = posts_old m x;
   sends = refl;
   quiet = quiet-late m x m.step;
   own = own-late m x m.step within.id within.shift within.step row;
-  within = record { small = within.small; shift = within.shift; step = within-old m.k m.shift m x m.step within.step; ended = within.ended; count = count-old m.feeders m x m.step within.count; begun = begun-old m.feeders m x m.step within.begun; rests = rests-old m x m.step within.rests; id = within.id; stock = stock-placed m.theta x m.store within.stock row; step_stock = stock-old m.theta m x m.step within.step_stock row };
+  within = record {
+    small = within.small;
+    shift = within.shift;
+    step = within-old m.k m.shift m x m.step within.step;
+    ended = within.ended;
+    count = count-old m.feeders m x m.step within.count;
+    begun = begun-old m.feeders m x m.step within.begun;
+    rests = rests-old m x m.step within.rests;
+    id = within.id;
+    stock = stock-placed m.theta x m.store within.stock row;
+    step_stock = stock-old m.theta m x m.step within.step_stock row;
+  };
   k = refl;
   id = refl;
   feeders = refl;
   theta = refl;
   going = can.going;
-  stands = λ s t lists low is.
-      (took_of_feeder p (Tup x) t, record { from_feeder = refl; from_joiner = refl }, stands-old s t lists found m x p low can.going still (fits-old m p x.stamp m.step still can.fits) is);
+  stands = λ s t lists low is. (
+    took_of_feeder p (Tup x) t,
+    record { from_feeder = refl; from_joiner = refl },
+    stands-old s t lists found m x p low can.going still (fits-old m p x.stamp m.step still can.fits) is,
+  );
 })
 
-pub took-new : (m m' : EpochState) (x : Tuple) (p : ℕ) (found found' : List Pair) (before : List Post) → IsWithin m → CanTakeTup m p x.stamp → IsRow m.theta x → turned_in m.step p ≡ true
+pub took-new : (m m' : EpochState) (x : Tuple) (p : ℕ) (found found' : List Pair) (before : List Post) → IsWithin m
+    → CanTakeTup m p x.stamp → IsRow m.theta x → turned_in m.step p ≡ true
     → m' ≡ after_new m x → found' ≡ found ++ found_new m x → TookOfFeeder p (Tup x) m m' found found' before before
 took-new m m' x p found found' before within can row has state more = rw (state, more) (record {
   added = [];
@@ -201,6 +306,10 @@ took-new m m' x p found found' before within can row has state more = rw (state,
   feeders = refl;
   theta = refl;
   going = can.going;
-  stands = λ s t lists low is.
-      (took_of_feeder p (Tup x) t, record { from_feeder = refl; from_joiner = refl }, subst (λ (ls : JoinerLists). Stands s (took_of_feeder p (Tup x) t) ls (found ++ found_new m x) (after_new m x)) (sym (with_sent-none lists)) (stands-new s t lists found m x p low can has is));
+  stands = λ s t lists low is. (
+    took_of_feeder p (Tup x) t,
+    record { from_feeder = refl; from_joiner = refl },
+    subst (λ (ls : JoinerLists). Stands s (took_of_feeder p (Tup x) t) ls (found ++ found_new m x)
+        (after_new m x)) (sym (with_sent-none lists)) (stands-new s t lists found m x p low can has is),
+  );
 })

@@ -1,5 +1,6 @@
 -- What each call does to the machine, as functions of its state.
-use Rattle.std.specs.Prelude.{◌≡◌, ℕ, Bool, true, false, List, length, cond, slice_set, count_by, Option, Some, None, [], ◌∷◌, ◌++◌, map, filter}
+use Rattle.std.specs.Prelude.{◌≡◌, ℕ, Bool, true, false, List, length, cond, slice_set, count_by, Option, Some, None}
+use Rattle.std.specs.Prelude.{[], ◌∷◌, ◌++◌, map, filter}
 use Rattle.join_rows.specs.declared.table.Side.{Side}
 use Rattle.epoch_tags.specs.declared.tuple.Tuple.{Tuple}
 use Rattle.epoch_tags.specs.declared.tuple.Pair.{Pair}
@@ -18,7 +19,8 @@ kept_at_end kept x b = cond kept (placed x b) b
 
 -- the open step with the tuple, if the joiner keeps it there
 abbrev pub opened_late : ℕ → ℕ → OpenStep → Tuple → OpenStep
-opened_late k id o x = record o { store = record o.store { tuples = kept_at_end (holds k o.shift id x) x o.store.tuples } }
+opened_late k id o x =
+    record o { store = record o.store { tuples = kept_at_end (holds k o.shift id x) x o.store.tuples } }
 
 -- the pairs that it makes in the new epoch
 abbrev pub found_late : (Tuple → Tuple → Bool) → ℕ → ℕ → OpenStep → Tuple → List Pair
@@ -100,7 +102,8 @@ found_moved m x = moved_found m x m.step
 
 -- the rows of the exchanged side go to the partner
 abbrev pub posts_opened : EpochState → ℕ → ℕ → List Post
-posts_opened m epoch shift = map (moved_post (partner_in_step m.shift shift m.id) epoch) (filter (is_of (exchanged_side m.shift shift)) m.store.tuples)
+posts_opened m epoch shift = map (moved_post (partner_in_step m.shift shift m.id) epoch)
+    (filter (is_of (exchanged_side m.shift shift)) m.store.tuples)
 
 -- the step that was opened, to this epoch and shift
 pub record IsOpened (m : EpochState) (e b : ℕ) (o : OpenStep) : Type 0 where

@@ -1,5 +1,6 @@
 -- The lists for which a joiner's machine stands, with the messages that it holds.
-use Rattle.std.specs.Prelude.{◌≡◌, ℕ, ◌+◌, ◌^◌, ◌<◌, ◌≤◌, map, slice_set, ◌⊎◌, Bool, true, false, None, ⊤, List, [], ◌∷◌, ◌++◌, length, sum_by, count_by}
+use Rattle.std.specs.Prelude.{◌≡◌, ℕ, ◌+◌, ◌^◌, ◌<◌, ◌≤◌, map, slice_set, ◌⊎◌, Bool, true, false, None, ⊤, List, []}
+use Rattle.std.specs.Prelude.{◌∷◌, ◌++◌, length, sum_by, count_by}
 use Rattle.std.specs.List.{AllByRecursion}
 use Rattle.epoch_tags.specs.declared.tuple.Pair.{Pair}
 use Rattle.epoch_tags.specs.declared.message.ToCollector.{ToCollector}
@@ -13,7 +14,8 @@ use Rattle.migration_plan.specs.Steps.{is_of}
 use Rattle.joiner_core.specs.State.{does_hold, HoldsRows, Stocked, EpochState, MachineState}
 use Rattle.theta_pred.specs.Formula.{Meaning}
 use Rattle.epoch_tags.specs.declared.tuple.Tuple.{Tuple}
-use Rattle.joiner_law.specs.Law.{JoinerStart, JoinerLists, Taken, CanTakeOfFeeder, CanTakeOfJoiner, IsTakenOf, received_count}
+use Rattle.joiner_law.specs.Law.{JoinerStart, JoinerLists, Taken, CanTakeOfFeeder, CanTakeOfJoiner, IsTakenOf}
+use Rattle.joiner_law.specs.Law.{received_count}
 use Rattle.joiner_law.specs.Standing.{grown, with_sent}
 use Rattle.joiner_core.specs.Taking.{IsWithin, IsFixed, AreOwnPosts, TakesOfFeeder, TakesOfJoiner, Stands}
 use Rattle.epoch_tags.specs.declared.actor.Actor.{Actor}
@@ -38,7 +40,8 @@ pub record IsResting (m : EpochState) : Type 0 where
   pub closed : m.step ≡ None
   pub ended : IsEachUp m.ended
 
--- a part of a call, which turned the machine, the pairs that wait and the posts: for whatever lists the machine stood, it stands for them with the new posts
+-- a part of a call, which turned the machine, the pairs that wait and the posts: for whatever lists the machine stood,
+-- it stands for them with the new posts
 pub record Advances (old new : MachineState) (waiting waiting' : List Pair) (before after : List Post) : Type 0 where
   pub added : List Post
   pub sends : after ≡ before ++ added
@@ -47,7 +50,8 @@ pub record Advances (old new : MachineState) (waiting waiting' : List Pair) (bef
   pub told : new.told ≡ old.told
   pub fixed : IsFixed old.epochs new.epochs
   pub rests : IsResting old.epochs → (new.epochs ≡ old.epochs) × (waiting' ≡ waiting)
-  pub stands : (s : JoinerStart) (lists : JoinerLists) → StandsWithin s lists waiting old → StandsWithin s (with_sent lists added) waiting' new
+  pub stands : (s : JoinerStart) (lists : JoinerLists) → StandsWithin s lists waiting old
+      → StandsWithin s (with_sent lists added) waiting' new
 
 -- how many messages it holds
 abbrev pub held_in_all : MachineState → ℕ
@@ -77,11 +81,13 @@ pub record IsReadyOfJoiner (m : MachineState) (q : ℕ) : Type 0 where
 
 -- no first message held of these senders can be taken
 abbrev pub AreStuckOfFeeders : ℕ → MachineState → Type 0
-AreStuckOfFeeders count m = (p : ℕ) → p < count → (x : ToJoiner) (rest : List ToJoiner) → held_at m.of_feeders p ≡ x ∷ rest → TakesOfFeeder m.epochs p x → ⊥
+AreStuckOfFeeders count m = (p : ℕ) → p < count → (x : ToJoiner) (rest : List ToJoiner)
+    → held_at m.of_feeders p ≡ x ∷ rest → TakesOfFeeder m.epochs p x → ⊥
 
 -- nor of the first joiners
 abbrev pub AreStuckOfJoiners : ℕ → MachineState → Type 0
-AreStuckOfJoiners count m = (q : ℕ) → q < count → (x : ToJoiner) (rest : List ToJoiner) → held_at m.of_joiners q ≡ x ∷ rest → TakesOfJoiner m.epochs q x → ⊥
+AreStuckOfJoiners count m = (q : ℕ) → q < count → (x : ToJoiner) (rest : List ToJoiner)
+    → held_at m.of_joiners q ≡ x ∷ rest → TakesOfJoiner m.epochs q x → ⊥
 
 -- no message held can be taken
 pub record IsStuck (m : MachineState) : Type 0 where
@@ -146,7 +152,8 @@ pub record TakesInOrder (from : Actor) (m : ToJoiner) (old new : MachineState) :
   pub tried : AreTried accepted (record new { told = accepted.told })
 
 -- one held message of this link was taken
-pub record TookHeld (from : Actor) (old new : MachineState) (waiting waiting' : List Pair) (before after : List Post) : Type 0 where
+pub record TookHeld (from : Actor) (old new : MachineState) (waiting waiting' : List Pair)
+    (before after : List Post) : Type 0 where
   pub sound : IsSound new
   pub advances : Advances old new waiting waiting' before after
   pub given : HasGiven from old new
@@ -181,7 +188,8 @@ pub record Collects (s : JoinerStart) (lists : JoinerLists) (m : MachineState) :
   pub told : m.told ≡ true → (last ≡ fin_of m.epochs ∷ []) × IsResting m.epochs
   pub finishes : HasFinished m → m.told ≡ true
 
--- between calls: no pair waits, no step is ready, and the first message held of each sender can't be taken; `done` steps are settled
+-- between calls: no pair waits, no step is ready, and the first message held of each sender can't be taken; `done`
+-- steps are settled
 pub record StandsBetween (s : JoinerStart) (lists : JoinerLists) (m : MachineState) : Type 0 where
   pub start : IsStart s
   pub sound : IsSound m
@@ -189,8 +197,10 @@ pub record StandsBetween (s : JoinerStart) (lists : JoinerLists) (m : MachineSta
   pub done : ℕ
   pub settled : m.epochs.epoch ≡ s.epoch + done
   pub collects : Collects s lists m
-  pub of_feeders : (p : ℕ) → p < s.feeders → IsTakenOf (CanTakeOfFeeder s within.taken done p) (within.taken.from_feeder p) (lists.from_feeder p)
-  pub of_joiners : (q : ℕ) → q < 2 ^ s.k → IsTakenOf (CanTakeOfJoiner s within.taken done q) (within.taken.from_joiner q) (lists.from_joiner q)
+  pub of_feeders : (p : ℕ) → p < s.feeders → IsTakenOf (CanTakeOfFeeder s within.taken done p)
+      (within.taken.from_feeder p) (lists.from_feeder p)
+  pub of_joiners : (q : ℕ) → q < 2 ^ s.k → IsTakenOf (CanTakeOfJoiner s within.taken done q)
+      (within.taken.from_joiner q) (lists.from_joiner q)
 
 -- the same, with these messages taken and so many steps settled
 pub record StandsAt (s : JoinerStart) (lists : JoinerLists) (t : Taken) (n : ℕ) (m : MachineState) : Type 0 where
@@ -213,7 +223,8 @@ IsOfGrid Controller m = ⊥
 IsOfGrid Collector m = ⊥
 
 -- a message was taken or held
-pub record Accepts (from : Actor) (m : ToJoiner) (old new : MachineState) (waiting waiting' : List Pair) (before after : List Post) : Type 0 where
+pub record Accepts (from : Actor) (m : ToJoiner) (old new : MachineState) (waiting waiting' : List Pair)
+    (before after : List Post) : Type 0 where
   pub sound : IsSound new
   pub taken : IsTakenOrHeld from m old new
   pub added : List Post
@@ -223,7 +234,8 @@ pub record Accepts (from : Actor) (m : ToJoiner) (old new : MachineState) (waiti
   pub told : new.told ≡ old.told
   pub fixed : IsFixed old.epochs new.epochs
   pub rests : IsResting old.epochs → (new.epochs ≡ old.epochs) × (waiting' ≡ waiting)
-  pub stands : (s : JoinerStart) (lists : JoinerLists) → StandsWithin s lists waiting old → StandsWithin s (with_sent (with_message from m lists) added) waiting' new
+  pub stands : (s : JoinerStart) (lists : JoinerLists) → StandsWithin s lists waiting old
+      → StandsWithin s (with_sent (with_message from m lists) added) waiting' new
 
 -- ---- what is sent at the end of a call
 
@@ -263,7 +275,8 @@ pub record TellsFin (m : MachineState) (told : Bool) (before after : List Post) 
   pub first : now ≡ true → (m.told ≡ false) × HasFinished m × (told ≡ true)
   pub other : now ≡ false → (told ≡ m.told) × (m.told ≡ false → HasFinished m → ⊥)
 
--- a call that took or held a message: for whatever lists the machine stood, it stands for them with the message and the new posts
+-- a call that took or held a message: for whatever lists the machine stood, it stands for them with the message and the
+-- new posts
 pub record Receives (from : Actor) (m : ToJoiner) (old new : MachineState) (before after : List Post) : Type 0 where
   pub sound : IsSound new
   pub fixed : IsFixed old.epochs new.epochs
@@ -272,13 +285,20 @@ pub record Receives (from : Actor) (m : ToJoiner) (old new : MachineState) (befo
   pub own : AreOwnPosts old.epochs added
   pub order : StandInOrder added
   pub tried : TakesInOrder from m old new
-  pub stands : (s : JoinerStart) (lists : JoinerLists) → StandsBetween s lists old → StandsBetween s (with_sent (with_message from m lists) added) new
+  pub stands : (s : JoinerStart) (lists : JoinerLists) → StandsBetween s lists old
+      → StandsBetween s (with_sent (with_message from m lists) added) new
 
 -- ---- the beginning
 
 -- a new joiner stands for empty lists
 abbrev pub nothing_yet : JoinerLists
-nothing_yet = record { from_feeder = λ p. []; from_joiner = λ q. []; to_joiner = λ j. []; to_controller = []; to_collector = [] }
+nothing_yet = record {
+  from_feeder = λ p. [];
+  from_joiner = λ q. [];
+  to_joiner = λ j. [];
+  to_controller = [];
+  to_collector = [];
+}
 
 -- how a joiner starts
 abbrev pub start_of : ℕ → ℕ → ℕ → ℕ → ℕ → Meaning → List Tuple → JoinerStart

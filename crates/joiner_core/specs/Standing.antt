@@ -56,7 +56,8 @@ held_number s lists t =
     total s.feeders (λ p. length (lists.from_feeder p) - length (t.from_feeder p))
     + total (2 ^ s.k) (λ q. length (lists.from_joiner q) - length (t.from_joiner q))
 
--- a call that took or held message m: its posts go over links of this joiner, and for whatever lists it stood, it stands
+-- a call that took or held message m: its posts go over links of this joiner, and for whatever lists it stood, it
+-- stands
 -- for them with the message and the new posts at their ends
 pub record TakesMessage (from : Actor) (m : ToJoiner) (old new : JoinerState) (before after : List Post) : Type 0 where
   pub added : List Post

@@ -84,7 +84,8 @@ IsAccessOf theta access = option_map agreements access ≡ access_of theta.formu
 
 -- ---- the epochs
 
--- an open step: its epoch and shift, which feeders have turned, what the joiner has of its epoch, and whether the partner's part is over
+-- an open step: its epoch and shift, which feeders have turned, what the joiner has of its epoch, and whether the
+-- partner's part is over
 pub record OpenStep : Type 0 where
   pub epoch : ℕ
   pub shift : ℕ
@@ -92,7 +93,8 @@ pub record OpenStep : Type 0 where
   pub store : Stocked
   pub partner_ended : Bool
 
--- what a joiner has of its epochs: what never changes; the settled epoch, its shift and store; which feeders have ended; the open step;
+-- what a joiner has of its epochs: what never changes; the settled epoch, its shift and store; which feeders have
+-- ended; the open step;
 -- and how many tuples were moved in each settled step
 pub record EpochState : Type 0 where
   pub k : ℕ

@@ -1,5 +1,7 @@
--- The lists for which what a joiner has of its epochs stands; which messages can be taken, and what taking one does to the lists.
-use Rattle.std.specs.Prelude.{◌≡◌, ℕ, ◌+◌, ◌<◌, Bool, true, false, Option, Some, None, List, ◌∷◌, length, ◌≤◌, ◌^◌, ⊤, [], ◌++◌, All}
+-- The lists for which what a joiner has of its epochs stands; which messages can be taken, and what taking one does to
+-- the lists.
+use Rattle.std.specs.Prelude.{◌≡◌, ℕ, ◌+◌, ◌<◌, Bool, true, false, Option, Some, None, List, ◌∷◌, length, ◌≤◌, ◌^◌, ⊤}
+use Rattle.std.specs.Prelude.{[], ◌++◌, All}
 use Rattle.epoch_tags.specs.declared.tuple.Pair.{Pair}
 use Rattle.joiner_law.specs.Law.{JoinerStart, JoinerLists, Taken}
 use Rattle.joiner_law.specs.History.{Step}
@@ -23,7 +25,8 @@ pub record IsMachineOf (s : JoinerStart) (m : EpochState) : Type 0 where
   pub small : s.k ≤ 8
 
 -- with no step open
-pub record IsClosed (s : JoinerStart) (t : Taken) (lists : JoinerLists) (waiting : List Pair) (m : EpochState) : Type 0 where
+pub record IsClosed (s : JoinerStart) (t : Taken) (lists : JoinerLists) (waiting : List Pair)
+    (m : EpochState) : Type 0 where
   pub cur : Step
   pub past : List Step
   pub stands : StandsSettled s t lists waiting (flag_at m.ended) m.store.tuples cur past
@@ -33,12 +36,14 @@ pub record IsClosed (s : JoinerStart) (t : Taken) (lists : JoinerLists) (waiting
   pub moved : m.moved ≡ moved_counts s.k s.id (cur ∷ past)
 
 -- with a step open
-pub record IsOpen (s : JoinerStart) (t : Taken) (lists : JoinerLists) (waiting : List Pair) (m : EpochState) (o : OpenStep) : Type 0 where
+pub record IsOpen (s : JoinerStart) (t : Taken) (lists : JoinerLists) (waiting : List Pair) (m : EpochState)
+    (o : OpenStep) : Type 0 where
   pub new : Step
   pub cur : Step
   pub past : List Step
   pub all_turned : Bool
-  pub stands : StandsOpen s t lists waiting (flag_at o.turned) (flag_at m.ended) all_turned o.partner_ended m.store.tuples o.store.tuples new cur past
+  pub stands : StandsOpen s t lists waiting (flag_at o.turned) (flag_at m.ended)
+      all_turned o.partner_ended m.store.tuples o.store.tuples new cur past
   pub epoch : m.epoch ≡ s.epoch + length past
   pub shift : m.shift ≡ cur.shift
   pub step_epoch : o.epoch ≡ s.epoch + length past + 1
@@ -55,7 +60,8 @@ StandsBy s t lists waiting m None = IsClosed s t lists waiting m
 StandsBy s t lists waiting m (Some o) = IsOpen s t lists waiting m o
 
 -- of a joiner that began by s, took t, sent these lists and has these pairs waiting
-pub record Stands (s : JoinerStart) (t : Taken) (lists : JoinerLists) (waiting : List Pair) (m : EpochState) : Type 0 where
+pub record Stands (s : JoinerStart) (t : Taken) (lists : JoinerLists) (waiting : List Pair)
+    (m : EpochState) : Type 0 where
   pub fixed : IsMachineOf s m
   pub now : StandsBy s t lists waiting m m.step
 
@@ -97,7 +103,8 @@ pub record IsWithin (m : EpochState) : Type 0 where
 -- the tuple's stamp is one that its feeder may still use
 abbrev pub TupFits : EpochState → ℕ → ℕ → Option OpenStep → Type 0
 TupFits m p stamp None = stamp ≡ m.epoch
-TupFits m p stamp (Some o) = (flag_at o.turned p ≡ false → stamp ≡ m.epoch) × (flag_at o.turned p ≡ true → stamp ≡ o.epoch)
+TupFits m p stamp (Some o) = (flag_at o.turned p ≡ false → stamp ≡ m.epoch)
+    × (flag_at o.turned p ≡ true → stamp ≡ o.epoch)
 
 -- a tuple of feeder p with this stamp
 pub record CanTakeTup (m : EpochState) (p stamp : ℕ) : Type 0 where
@@ -131,7 +138,8 @@ abbrev pub AreOwnPosts : EpochState → List Post → Type 0
 AreOwnPosts m posts = All (IsOwnPost m.k m.feeders m.id m.theta) posts
 
 -- a call that took message m of feeder p
-pub record TookOfFeeder (p : ℕ) (m : ToJoiner) (old new : EpochState) (waiting waiting' : List Pair) (before after : List Post) : Type 0 where
+pub record TookOfFeeder (p : ℕ) (m : ToJoiner) (old new : EpochState) (waiting waiting' : List Pair)
+    (before after : List Post) : Type 0 where
   pub added : List Post
   pub sends : after ≡ before ++ added
   pub quiet : posted_to_collector added ≡ []
@@ -151,7 +159,8 @@ pub record IsAfterJoiner (q : ℕ) (m : ToJoiner) (t t' : Taken) : Type 0 where
   pub from_joiner : t'.from_joiner ≡ grown q m t.from_joiner
 
 -- a call that took message m of joiner q
-pub record TookOfJoiner (q : ℕ) (m : ToJoiner) (old new : EpochState) (waiting waiting' : List Pair) (before after : List Post) : Type 0 where
+pub record TookOfJoiner (q : ℕ) (m : ToJoiner) (old new : EpochState) (waiting waiting' : List Pair)
+    (before after : List Post) : Type 0 where
   pub added : List Post
   pub sends : after ≡ before ++ added
   pub quiet : posted_to_collector added ≡ []

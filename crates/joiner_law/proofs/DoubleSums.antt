@@ -28,23 +28,29 @@ sum_zero (x ∷ xs) =
     let rest = sum_zero xs in
     omega arith
 
-only_if-sum : {X : Type 0} (b : Bool) (g : X → ℕ) (ys : List X) → only_if b (sum_by g ys) ≡ sum_by (λ y. only_if b (g y)) ys
+only_if-sum : {X : Type 0} (b : Bool) (g : X → ℕ) (ys : List X)
+    → only_if b (sum_by g ys) ≡ sum_by (λ y. only_if b (g y)) ys
 only_if-sum true g ys = refl
 only_if-sum false g ys = sym (sum_zero ys)
 
-pub sum-pairs : (f : Pair → ℕ) (test : Tuple → Tuple → Bool) (xs ys : List Tuple) → sum_by f (pairs_by test xs ys) ≡ double (weight f test) xs ys
+pub sum-pairs : (f : Pair → ℕ) (test : Tuple → Tuple → Bool) (xs ys : List Tuple)
+    → sum_by f (pairs_by test xs ys) ≡ double (weight f test) xs ys
 sum-pairs f test xs ys =
     sum-flat_map f (λ r. map (pair_of r) (filter (λ q. is_of S q && test r q) ys)) (filter (is_of R) xs)
     ∙ sum-filter (λ r. sum_by f (map (pair_of r) (filter (λ q. is_of S q && test r q) ys))) (is_of R) xs
     ∙ sum-same _ _ each xs
   where
-    each : (r : Tuple) → only_if (is_of R r) (sum_by f (map (pair_of r) (filter (λ q. is_of S q && test r q) ys))) ≡ sum_by (weight f test r) ys
+    each : (r : Tuple) → only_if (is_of R r) (sum_by f (map (pair_of r) (filter (λ q. is_of S q && test r q) ys)))
+        ≡ sum_by (weight f test r) ys
     each r =
-        ap (λ n. only_if (is_of R r) n) (sum_of_map f (pair_of r) (filter (λ q. is_of S q && test r q) ys) ∙ sum-filter (λ q. f (pair_of r q)) (λ q. is_of S q && test r q) ys)
+        ap (λ n. only_if (is_of R r) n) (sum_of_map f (pair_of r) (filter (λ q. is_of S q && test r q) ys)
+        ∙ sum-filter (λ q. f (pair_of r q)) (λ q. is_of S q && test r q) ys)
         ∙ only_if-sum (is_of R r) (λ q. only_if (is_of S q && test r q) (f (pair_of r q))) ys
 
-pub double-bag : (w : Tuple → Tuple → ℕ) (xs xs' ys ys' : List Tuple) → SameBag xs xs' → SameBag ys ys' → double w xs ys ≡ double w xs' ys'
-double-bag w xs xs' ys ys' left right = left.sums (λ r. sum_by (w r) ys) ∙ sum-same (λ r. sum_by (w r) ys) (λ r. sum_by (w r) ys') (λ r. right.sums (w r)) xs'
+pub double-bag : (w : Tuple → Tuple → ℕ) (xs xs' ys ys' : List Tuple) → SameBag xs xs' → SameBag ys ys'
+    → double w xs ys ≡ double w xs' ys'
+double-bag w xs xs' ys ys' left right = left.sums (λ r. sum_by (w r) ys)
+    ∙ sum-same (λ r. sum_by (w r) ys) (λ r. sum_by (w r) ys') (λ r. right.sums (w r)) xs'
 
 pub sum_two : {X : Type 0} (a b : X → ℕ) (xs : List X) → sum_by (λ x. a x + b x) xs ≡ sum_by a xs + sum_by b xs
 sum_two a b [] = refl
@@ -56,15 +62,20 @@ sum_two a b (x ∷ xs) =
 pub double-add : (w : Tuple → Tuple → ℕ) (x : Tuple) (xs : List Tuple) → w x x ≡ 0
     → double w (x ∷ xs) (x ∷ xs) ≡ double w xs xs + (sum_by (w x) xs + sum_by (λ r. w r x) xs)
 double-add w x xs none =
-    let outer : double w (x ∷ xs) (x ∷ xs) ≡ sum_by (w x) (x ∷ xs) + sum_by (λ r. sum_by (w r) (x ∷ xs)) xs = sum_by-cons (λ r. sum_by (w r) (x ∷ xs)) x xs in
+    let outer : double w (x ∷ xs) (x ∷ xs) ≡ sum_by (w x) (x ∷ xs) + sum_by (λ r. sum_by (w r) (x ∷ xs)) xs =
+    sum_by-cons (λ r. sum_by (w r) (x ∷ xs)) x xs in
     let own : sum_by (w x) (x ∷ xs) ≡ w x x + sum_by (w x) xs = sum_by-cons (w x) x xs in
-    let inner : sum_by (λ r. sum_by (w r) (x ∷ xs)) xs ≡ sum_by (λ r. w r x + sum_by (w r) xs) xs = sum-same (λ r. sum_by (w r) (x ∷ xs)) (λ r. w r x + sum_by (w r) xs) (λ r. sum_by-cons (w r) x xs) xs in
-    let two : sum_by (λ r. w r x + sum_by (w r) xs) xs ≡ sum_by (λ r. w r x) xs + sum_by (λ r. sum_by (w r) xs) xs = sum_two (λ r. w r x) (λ r. sum_by (w r) xs) xs in
+    let inner : sum_by (λ r. sum_by (w r) (x ∷ xs)) xs ≡ sum_by (λ r. w r x + sum_by (w r) xs) xs =
+    sum-same (λ r. sum_by (w r) (x ∷ xs)) (λ r. w r x + sum_by (w r) xs) (λ r. sum_by-cons (w r) x xs) xs in
+    let two : sum_by (λ r. w r x + sum_by (w r) xs) xs ≡ sum_by (λ r. w r x) xs + sum_by (λ r. sum_by (w r) xs) xs =
+    sum_two (λ r. w r x) (λ r. sum_by (w r) xs) xs in
     omega arith
 
-pub double-none : (P : Tuple → Type 0) (w : Tuple → Tuple → ℕ) (xs : List Tuple) → AllByRecursion P xs → ((r q : Tuple) → P r → P q → w r q ≡ 0) → double w xs xs ≡ 0
+pub double-none : (P : Tuple → Type 0) (w : Tuple → Tuple → ℕ) (xs : List Tuple) → AllByRecursion P xs
+    → ((r q : Tuple) → P r → P q → w r q ≡ 0) → double w xs xs ≡ 0
 double-none P w xs all none =
-    sum_same_on P (λ r. sum_by (w r) xs) (λ r. 0) (λ r p. sum_same_on P (w r) (λ q. 0) (λ q. none r q p) xs all ∙ sum_zero xs) xs all
+    sum_same_on P (λ r. sum_by (w r) xs) (λ r. 0) (λ r p. sum_same_on P (w r) (λ q. 0) (λ q. none r q p) xs all
+    ∙ sum_zero xs) xs all
     ∙ sum_zero xs
 
 -- no tuple is of both sides

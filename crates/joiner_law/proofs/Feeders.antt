@@ -10,7 +10,8 @@ use Rattle.joiner_law.specs.Standing.{IsOfFeeder, one_if}
 use Rattle.joiner_law.proofs.LongerLists.{TurnsGoBy-append, CountsUp-append}
 use Rattle.epoch_tags.proofs.Appends.{turns-append, ends-append}
 
-pub feeder-tup : (e : ℕ) (b : ℕ → ℕ) (done : ℕ) (turned : Bool) (ms : List ToJoiner) (x : Tuple) → x.stamp ≡ e + (done + one_if turned)
+pub feeder-tup : (e : ℕ) (b : ℕ → ℕ) (done : ℕ) (turned : Bool) (ms : List ToJoiner) (x : Tuple)
+    → x.stamp ≡ e + (done + one_if turned)
     → IsOfFeeder e b done turned false ms → IsOfFeeder e b done turned false (ms ++ Tup x ∷ [])
 feeder-tup e b done turned ms x stamp is =
     let many = is.turns in
@@ -22,7 +23,8 @@ feeder-tup e b done turned ms x stamp is =
       ends = omega (arith, ends-append ms (Tup x ∷ []));
     }
 
-pub feeder-turn : (e : ℕ) (b : ℕ → ℕ) (done : ℕ) (ms : List ToJoiner) (epoch shift : ℕ) → epoch ≡ e + done + 1 → shift ≡ b epoch
+pub feeder-turn : (e : ℕ) (b : ℕ → ℕ) (done : ℕ) (ms : List ToJoiner) (epoch shift : ℕ) → epoch ≡ e + done + 1
+    → shift ≡ b epoch
     → IsOfFeeder e b done false false ms → IsOfFeeder e b done true false (ms ++ Turn epoch shift ∷ [])
 feeder-turn e b done ms epoch shift next of is =
     let many = is.turns in
@@ -34,7 +36,8 @@ feeder-turn e b done ms epoch shift next of is =
       ends = omega (arith, ends-append ms (Turn epoch shift ∷ []));
     }
 
-pub feeder-end : (e : ℕ) (b : ℕ → ℕ) (done : ℕ) (turned : Bool) (ms : List ToJoiner) → IsOfFeeder e b done turned false ms → IsOfFeeder e b done turned true (ms ++ End ∷ [])
+pub feeder-end : (e : ℕ) (b : ℕ → ℕ) (done : ℕ) (turned : Bool) (ms : List ToJoiner)
+    → IsOfFeeder e b done turned false ms → IsOfFeeder e b done turned true (ms ++ End ∷ [])
 feeder-end e b done turned ms is =
     let many = is.turns in
     let none = is.ends in
@@ -46,13 +49,15 @@ feeder-end e b done turned ms is =
     }
 
 -- the step is settled
-pub feeder-settled : (e : ℕ) (b : ℕ → ℕ) (done : ℕ) (ended : Bool) (ms : List ToJoiner) → IsOfFeeder e b done true ended ms → IsOfFeeder e b (done + 1) false ended ms
+pub feeder-settled : (e : ℕ) (b : ℕ → ℕ) (done : ℕ) (ended : Bool) (ms : List ToJoiner)
+    → IsOfFeeder e b done true ended ms → IsOfFeeder e b (done + 1) false ended ms
 feeder-settled e b done ended ms is =
     let many = is.turns in
     record { counts_up = is.counts_up; by_shifts = is.by_shifts; turns = omega arith; ends = is.ends }
 
 -- the shifts of the epochs so far are the same
-TurnsGoBy-same : (b c : ℕ → ℕ) (e : ℕ) (ms : List ToJoiner) → CountsUp e ms → ((i : ℕ) → i ≤ e + turns ms → b i ≡ c i) → TurnsGoBy b ms → TurnsGoBy c ms
+TurnsGoBy-same : (b c : ℕ → ℕ) (e : ℕ) (ms : List ToJoiner) → CountsUp e ms → ((i : ℕ) → i ≤ e + turns ms → b i ≡ c i)
+    → TurnsGoBy b ms → TurnsGoBy c ms
 TurnsGoBy-same b c e [] up same by = tt
 TurnsGoBy-same b c e (Tup x ∷ ms) up same by = TurnsGoBy-same b c e ms up.1 same by
 TurnsGoBy-same b c e (Turn epoch shift ∷ ms) up same by =
@@ -62,19 +67,28 @@ TurnsGoBy-same b c e (End ∷ ms) up same by = rw up tt
 TurnsGoBy-same b c e (Moved epoch x ∷ ms) up same by = absurd up
 TurnsGoBy-same b c e (MovedEnd epoch ∷ ms) up same by = absurd up
 
-pub feeder-shifts : (e : ℕ) (b c : ℕ → ℕ) (done : ℕ) (ended : Bool) (ms : List ToJoiner) → ((i : ℕ) → i ≤ e + done → b i ≡ c i) → IsOfFeeder e b done false ended ms → IsOfFeeder e c done false ended ms
+pub feeder-shifts : (e : ℕ) (b c : ℕ → ℕ) (done : ℕ) (ended : Bool) (ms : List ToJoiner)
+    → ((i : ℕ) → i ≤ e + done → b i ≡ c i) → IsOfFeeder e b done false ended ms → IsOfFeeder e c done false ended ms
 feeder-shifts e b c done ended ms same is =
     let many = is.turns in
-    record { counts_up = is.counts_up; by_shifts = TurnsGoBy-same b c e ms is.counts_up (λ i low. same i (omega arith)) is.by_shifts; turns = is.turns; ends = is.ends }
+    record {
+      counts_up = is.counts_up;
+      by_shifts = TurnsGoBy-same b c e ms is.counts_up (λ i low. same i (omega arith))
+          is.by_shifts;
+      turns = is.turns;
+      ends = is.ends;
+    }
 
 -- nothing of a later epoch came
 tups-later : (e f : ℕ) (ms : List ToJoiner) → CountsUp e ms → e + turns ms < f → tups_of f ms ≡ []
 tups-later e f [] up low = refl
-tups-later e f (Tup x ∷ ms) up low = let is : x.stamp ≡ e = up.0 in rw (ne_eqb x.stamp f (λ same. absurd (omega arith))) (tups-later e f ms up.1 low)
+tups-later e f (Tup x ∷ ms) up low = let is : x.stamp ≡ e = up.0 in
+    rw (ne_eqb x.stamp f (λ same. absurd (omega arith))) (tups-later e f ms up.1 low)
 tups-later e f (Turn epoch shift ∷ ms) up low = tups-later (e + 1) f ms up.1 (omega arith)
 tups-later e f (End ∷ ms) up low = rw up refl
 tups-later e f (Moved epoch x ∷ ms) up low = absurd up
 tups-later e f (MovedEnd epoch ∷ ms) up low = absurd up
 
-pub feeder-none : (e : ℕ) (b : ℕ → ℕ) (done : ℕ) (ended : Bool) (f : ℕ) (ms : List ToJoiner) → e + done < f → IsOfFeeder e b done false ended ms → tups_of f ms ≡ []
+pub feeder-none : (e : ℕ) (b : ℕ → ℕ) (done : ℕ) (ended : Bool) (f : ℕ) (ms : List ToJoiner) → e + done < f
+    → IsOfFeeder e b done false ended ms → tups_of f ms ≡ []
 feeder-none e b done ended f ms low is = let many = is.turns in tups-later e f ms is.counts_up (omega arith)

@@ -5,7 +5,13 @@ use Rattle.epoch_tags.specs.declared.message.ToJoiner.{ToJoiner}
 use Rattle.joiner_law.specs.Law.{JoinerStart, JoinerLists, JoinerLaw, Taken, IsTakenOf, opened, arrived, found}
 
 abbrev pub no_lists : JoinerLists
-no_lists = record { from_feeder = λ p. []; from_joiner = λ q. []; to_joiner = λ q. []; to_controller = []; to_collector = [] }
+no_lists = record {
+  from_feeder = λ p. [];
+  from_joiner = λ q. [];
+  to_joiner = λ q. [];
+  to_controller = [];
+  to_collector = [];
+}
 
 abbrev pub none_taken : JoinerStart → Taken
 none_taken s = record { from_feeder = λ p. []; from_joiner = λ q. []; shift_at = λ e. s.shift }

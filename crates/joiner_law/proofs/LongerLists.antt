@@ -1,5 +1,6 @@
 -- Lists of messages with one more at the end.
-use Rattle.std.proofs.Common.{◌≡◌, ℕ, zero, suc, ◌+◌, ◌<◌, ◌≢◌, inl, inr, refl, sym, ◌∙◌, ap, subst, arith, Bool, true, false, cond, List, [], ◌∷◌, ◌++◌, append_assoc, eq-eqb}
+use Rattle.std.proofs.Common.{◌≡◌, ℕ, zero, suc, ◌+◌, ◌<◌, ◌≢◌, inl, inr, refl, sym, ◌∙◌, ap, subst, arith, Bool, true}
+use Rattle.std.proofs.Common.{false, cond, List, [], ◌∷◌, ◌++◌, append_assoc, eq-eqb}
 use Rattle.std.specs.Prelude.{◌==◌, sum_by}
 use Rattle.std.proofs.lemmas.Bool.{cases_eq, ne_eqb}
 use Rattle.join_rows.specs.Lists.{SameBag, gather}
@@ -17,7 +18,9 @@ moved_of-append e (Turn epoch shift ∷ xs) ys = moved_of-append e xs ys
 moved_of-append e (End ∷ xs) ys = moved_of-append e xs ys
 moved_of-append e (Moved epoch x ∷ xs) ys = either (epoch == e) (moved_of-append e xs ys)
   where
-    either : (t : Bool) → moved_of e (xs ++ ys) ≡ moved_of e xs ++ moved_of e ys → cond t (x ∷ moved_of e (xs ++ ys)) (moved_of e (xs ++ ys)) ≡ cond t (x ∷ moved_of e xs) (moved_of e xs) ++ moved_of e ys
+    either : (t : Bool) → moved_of e (xs ++ ys) ≡ moved_of e xs ++ moved_of e ys
+        → cond t (x ∷ moved_of e (xs ++ ys)) (moved_of e (xs ++ ys)) ≡ cond t (x ∷ moved_of e xs) (moved_of e xs)
+        ++ moved_of e ys
     either true rest = ap (λ ts. x ∷ ts) rest
     either false rest = rest
 moved_of-append e (MovedEnd epoch ∷ xs) ys = moved_of-append e xs ys
@@ -31,7 +34,8 @@ TurnsGoBy-append b (Moved epoch x ∷ xs) ys left right = TurnsGoBy-append b xs 
 TurnsGoBy-append b (MovedEnd epoch ∷ xs) ys left right = TurnsGoBy-append b xs ys left right
 
 -- where no end stands in the front, what counts up from there may follow
-pub CountsUp-append : (e : ℕ) (xs ys : List ToJoiner) → CountsUp e xs → ends xs ≡ 0 → CountsUp (e + turns xs) ys → CountsUp e (xs ++ ys)
+pub CountsUp-append : (e : ℕ) (xs ys : List ToJoiner) → CountsUp e xs → ends xs ≡ 0 → CountsUp (e + turns xs) ys
+    → CountsUp e (xs ++ ys)
 CountsUp-append e [] ys left none right = let is : e + 0 ≡ e = omega arith in subst (λ n. CountsUp n ys) is right
 CountsUp-append e (Tup x ∷ xs) ys left none right = (left.0, CountsUp-append e xs ys left.1 none right)
 CountsUp-append e (Turn epoch shift ∷ xs) ys left none right =
@@ -60,19 +64,29 @@ swap : {X : Type 0} (us vs ws ps : List X) → SameBag us (vs ++ ps) → SameBag
 swap us vs ws ps same = record {
   sums = λ g.
       let is = same.sums g in
-      rw (sum_by-append g us ws, sum_by-append g (vs ++ ws) ps, sum_by-append g vs ws) (omega (arith, is, sum_by-append g vs ps));
+      rw (
+        sum_by-append g us ws,
+        sum_by-append g (vs ++ ws) ps,
+        sum_by-append g vs ws,
+      ) (omega (arith, is, sum_by-append g vs ps));
 }
 
 -- what is gathered grows, as a bag, by what the message gives
-pub gather-grown : {X : Type 0} (of : List ToJoiner → List X) → ((xs ys : List ToJoiner) → of (xs ++ ys) ≡ of xs ++ of ys)
+pub gather-grown : {X : Type 0} (of : List ToJoiner → List X)
+    → ((xs ys : List ToJoiner) → of (xs ++ ys) ≡ of xs ++ of ys)
     → (p : ℕ) (m : ToJoiner) (f : ℕ → List ToJoiner) (n : ℕ) → p < n
     → SameBag (gather n (λ i. of (grown p m f i))) (gather n (λ i. of (f i)) ++ of (m ∷ []))
 gather-grown of appends p m f zero low = absurd (omega arith)
 gather-grown {X = X} of appends p m f (suc n) low = elim (cases_eq n p) [
   | inl is ↦
-      let here : of (grown p m f n) ≡ of (f n) ++ of (m ∷ []) = rw is (ap of (grown-same p m f) ∙ appends (f p) (m ∷ [])) in
-      let rest : gather n (λ i. of (grown p m f i)) ≡ gather n (λ i. of (f i)) = gather-same _ _ n (λ i less. ap of (grown-other p m f i (λ same. absurd (omega arith)))) in
-      rw (here, rest) (record { sums = λ g. ap (λ zs. sum_by g zs) (sym (append_assoc (gather n (λ i. of (f i))) (of (f n)) (of (m ∷ [])))) })
+      let here : of (grown p m f n) ≡ of (f n) ++ of (m ∷ []) =
+      rw is (ap of (grown-same p m f) ∙ appends (f p) (m ∷ [])) in
+      let rest : gather n (λ i. of (grown p m f i)) ≡ gather n (λ i. of (f i)) =
+      gather-same _ _ n (λ i less. ap of (grown-other p m f i (λ same. absurd (omega arith)))) in
+      rw (here, rest) (record {
+        sums = λ g. ap (λ zs. sum_by g zs)
+            (sym (append_assoc (gather n (λ i. of (f i))) (of (f n)) (of (m ∷ []))));
+      })
   | inr differ ↦
       let here : of (grown p m f n) ≡ of (f n) = ap of (grown-other p m f n differ) in
       let rest = gather-grown of appends p m f n (omega arith) in

@@ -18,7 +18,8 @@ none_below e f (Moved' epoch x ∷ ms) below (low, falls) =
 none_below e f (MovedEnd epoch ∷ ms) below (low, falls) = none_below e (epoch + 1) ms (omega arith) falls
 
 -- where the front has the end of epoch e, it has all of that epoch
-pub whole_part : (e f : ℕ) (front rest : List ToJoiner) → NeverFalls f (front ++ rest) → 0 < moved_ends e front → moved_of e front ≡ moved_of e (front ++ rest)
+pub whole_part : (e f : ℕ) (front rest : List ToJoiner) → NeverFalls f (front ++ rest) → 0 < moved_ends e front
+    → moved_of e front ≡ moved_of e (front ++ rest)
 whole_part e f [] rest falls has = absurd (omega arith)
 whole_part e f (Tup x ∷ ms) rest falls has = absurd falls
 whole_part e f (Turn epoch shift ∷ ms) rest falls has = absurd falls
@@ -30,7 +31,8 @@ whole_part e f (MovedEnd epoch ∷ ms) rest (low, falls) has =
     elim (cases_Bool (epoch == e)) [
       | inl is ↦
           let same = eqb-true epoch e is in
-          none_front e (epoch + 1) ms rest (omega arith) falls ∙ sym (none_below e (epoch + 1) (ms ++ rest) (omega arith) falls)
+          none_front e (epoch + 1) ms rest (omega arith) falls
+          ∙ sym (none_below e (epoch + 1) (ms ++ rest) (omega arith) falls)
       | inr differ ↦
           let has' : 0 < moved_ends e ms = rw differ at has in
           whole_part e (epoch + 1) ms rest falls has'
@@ -41,7 +43,8 @@ whole_part e f (MovedEnd epoch ∷ ms) rest (low, falls) has =
     none_front e f (Tup x ∷ ms) rest below falls = absurd falls
     none_front e f (Turn epoch shift ∷ ms) rest below falls = absurd falls
     none_front e f (End ∷ ms) rest below falls = absurd falls
-    none_front e f (Moved' epoch x ∷ ms) rest below (low, falls) = rw (ne_eqb epoch e (omega arith)) (none_front e epoch ms rest (omega arith) falls)
+    none_front e f (Moved' epoch x ∷ ms) rest below (low, falls) =
+        rw (ne_eqb epoch e (omega arith)) (none_front e epoch ms rest (omega arith) falls)
     none_front e f (MovedEnd epoch ∷ ms) rest below (low, falls) = none_front e (epoch + 1) ms rest (omega arith) falls
 
 -- stamps from e on are not older
@@ -58,10 +61,12 @@ front_empty [] ys is = refl
 front_empty (x ∷ xs) ys is = cc
 
 -- where the front goes past epoch n, or has the end, it has all tuples of that epoch
-pub whole_epoch : (n e : ℕ) (front rest : List ToJoiner) → CountsUp e (front ++ rest) → (n < e + turns front) ⊎ (0 < ends front) → tups_of n front ≡ tups_of n (front ++ rest)
+pub whole_epoch : (n e : ℕ) (front rest : List ToJoiner) → CountsUp e (front ++ rest) → (n < e + turns front)
+    ⊎ (0 < ends front) → tups_of n front ≡ tups_of n (front ++ rest)
 whole_epoch n e [] rest up (inl past) = sym (none_older n e rest (omega arith) up)
 whole_epoch n e [] rest up (inr over) = absurd (omega arith)
-whole_epoch n e (Tup x ∷ ms) rest (is, up) over = ap (λ ts. cond (x.stamp == n) (x ∷ ts) ts) (whole_epoch n e ms rest up over)
+whole_epoch n e (Tup x ∷ ms) rest (is, up) over = ap (λ ts. cond (x.stamp == n) (x ∷ ts) ts)
+    (whole_epoch n e ms rest up over)
 whole_epoch n e (Turn epoch shift ∷ ms) rest (is, up) (inl past) = whole_epoch n (e + 1) ms rest up (inl (omega arith))
 whole_epoch n e (Turn epoch shift ∷ ms) rest (is, up) (inr over) = whole_epoch n (e + 1) ms rest up (inr over)
 whole_epoch n e (End ∷ ms) rest up over = rw (up, front_empty ms rest up) refl

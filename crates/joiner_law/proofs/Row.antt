@@ -1,5 +1,6 @@
 -- The worked row of joiner 0 keeps the whole law.
-use Rattle.std.proofs.Common.{◌≡◌, ℕ, zero, suc, ◌+◌, ◌<◌, ◌≤◌, inl, inr, refl, sym, arith, Bool, true, false, cond, List, [], ◌∷◌, length}
+use Rattle.std.proofs.Common.{◌≡◌, ℕ, zero, suc, ◌+◌, ◌<◌, ◌≤◌, inl, inr, refl, sym, arith, Bool, true, false, cond}
+use Rattle.std.proofs.Common.{List, [], ◌∷◌, length}
 use Rattle.std.specs.Prelude.{◌==◌, filter}
 use Rattle.epoch_tags.specs.Orders.{CountsUp, NeverFalls}
 use Rattle.std.specs.List.{AllByRecursion}
@@ -12,7 +13,8 @@ use Rattle.epoch_tags.specs.declared.message.ToController.TheVariants.{Settled}
 use Rattle.epoch_tags.specs.declared.message.ToCollector.TheVariants.{Found, Fin}
 use Rattle.epoch_tags.specs.Messages.{moved_of, moved_ends, turns, ends, turn_shifts}
 use Rattle.migration_plan.specs.Steps.{AreNeighbours, is_of}
-use Rattle.joiner_law.specs.Law.{JoinerLists, JoinerLaw, IsTakenOf, IsSettled, AllTurned, shift_after, partner_of, exchanged, store}
+use Rattle.joiner_law.specs.Law.{JoinerLists, JoinerLaw, IsTakenOf, IsSettled, AllTurned, shift_after, partner_of}
+use Rattle.joiner_law.specs.Law.{exchanged, store}
 use Rattle.joiner_law.specs.Rows.{of_feeder, of_joiner, joiner_0, all_taken, r_row}
 use Rattle.std.proofs.lemmas.List.{append-nil}
 
@@ -33,7 +35,8 @@ row_lists = record {
   from_joiner = of_joiner;
   to_joiner = to_joiner;
   to_controller = Settled 1 ∷ [];
-  to_collector = Found (record { i = 0; j = 0 } ∷ []) ∷ Found (record { i = 0; j = 1 } ∷ []) ∷ Found (record { i = 1; j = 1 } ∷ []) ∷ Fin 2 1 (1 ∷ []) ∷ [];
+  to_collector = Found (record { i = 0; j = 0 } ∷ []) ∷ Found (record { i = 0; j = 1 } ∷ [])
+      ∷ Found (record { i = 1; j = 1 } ∷ []) ∷ Fin 2 1 (1 ∷ []) ∷ [];
 }
 
 all_turned : (p : ℕ) → 0 < turns (of_feeder p)
@@ -52,7 +55,8 @@ shift_one : (t : Bool) → AllByRecursion {X = ℕ} (λ shift. shift ≡ cond t 
 shift_one true = (refl, tt)
 shift_one false = tt
 
-only_step : (n : ℕ) (x : Tuple) → 0 < length (moved_of (0 + n + 1) (Moved 1 x ∷ MovedEnd 1 ∷ [])) + moved_ends (0 + n + 1) (Moved 1 x ∷ MovedEnd 1 ∷ []) → n ≡ 0
+only_step : (n : ℕ) (x : Tuple) → 0 < length (moved_of (0 + n + 1) (Moved 1 x ∷ MovedEnd 1 ∷ []))
+    + moved_ends (0 + n + 1) (Moved 1 x ∷ MovedEnd 1 ∷ []) → n ≡ 0
 only_step zero x has = refl
 only_step (suc n) x has =
     let differ : (1 == 0 + suc n + 1) ≡ false = ne_eqb 1 (0 + suc n + 1) (λ is. absurd (omega arith)) in
@@ -68,7 +72,8 @@ row_within zero low = omega arith
 row_within (suc zero) low = omega arith
 row_within (suc (suc n)) low = absurd (omega arith)
 
-row_of_partner : (q n : ℕ) → q < 2 → 0 < length (moved_of (0 + n + 1) (of_joiner q)) + moved_ends (0 + n + 1) (of_joiner q) → (n < 1) × (q ≡ partner_of joiner_0 all_taken n)
+row_of_partner : (q n : ℕ) → q < 2 → 0 < length (moved_of (0 + n + 1) (of_joiner q))
+    + moved_ends (0 + n + 1) (of_joiner q) → (n < 1) × (q ≡ partner_of joiner_0 all_taken n)
 row_of_partner zero n low has = absurd (omega arith)
 row_of_partner (suc q) n low has =
     let is : n ≡ 0 = only_step n (r_row 1 255 0) has in
@@ -87,12 +92,14 @@ end_is_one e has = elim (cases_eq 1 e) [
   | inr differ ↦ let none : 0 < 0 = rw (ne_eqb 1 e differ) at has in absurd (omega arith)
 ]
 
-row_moved_only : (q e : ℕ) → 0 < length (moved_of e (to_joiner q)) → (n : ℕ) × (e ≡ 0 + n + 1) × (n < 1) × (q ≡ partner_of joiner_0 all_taken n)
+row_moved_only : (q e : ℕ) → 0 < length (moved_of e (to_joiner q)) → (n : ℕ) × (e ≡ 0 + n + 1) × (n < 1)
+    × (q ≡ partner_of joiner_0 all_taken n)
 row_moved_only zero e has = absurd (omega arith)
 row_moved_only (suc zero) e has = (0, e_is_one e (r_row 0 0 0) has, omega arith, refl)
 row_moved_only (suc (suc q)) e has = absurd (omega arith)
 
-row_ended_only : (q e : ℕ) → 0 < moved_ends e (to_joiner q) → (n : ℕ) × (e ≡ 0 + n + 1) × AllTurned joiner_0 all_taken n × (q ≡ partner_of joiner_0 all_taken n)
+row_ended_only : (q e : ℕ) → 0 < moved_ends e (to_joiner q) → (n : ℕ) × (e ≡ 0 + n + 1) × AllTurned joiner_0 all_taken n
+    × (q ≡ partner_of joiner_0 all_taken n)
 row_ended_only zero e has = absurd (omega arith)
 row_ended_only (suc zero) e has = (0, end_is_one e has, λ p within. all_turned p, refl)
 row_ended_only (suc (suc q)) e has = absurd (omega arith)
@@ -101,15 +108,18 @@ row_counts_up : (p : ℕ) → CountsUp 0 (of_feeder p)
 row_counts_up zero = (refl, (refl, (refl, refl)))
 row_counts_up (suc p) = (refl, (refl, refl))
 
-row_shifts : (p n : ℕ) → AllByRecursion (λ shift. shift ≡ shift_after joiner_0 all_taken n) (turn_shifts (0 + n) (of_feeder p))
+row_shifts : (p n : ℕ) → AllByRecursion (λ shift. shift ≡ shift_after joiner_0 all_taken n)
+    (turn_shifts (0 + n) (of_feeder p))
 row_shifts zero n = shift_one (1 == 0 + n)
 row_shifts (suc p) n = shift_one (1 == 0 + n)
 
-row_moved : (n : ℕ) → n < 1 → SameBag (moved_of (0 + n + 1) (to_joiner (partner_of joiner_0 all_taken n))) (filter (is_of (exchanged joiner_0 all_taken n)) (store joiner_0 all_taken n))
+row_moved : (n : ℕ) → n < 1 → SameBag (moved_of (0 + n + 1) (to_joiner (partner_of joiner_0 all_taken n)))
+    (filter (is_of (exchanged joiner_0 all_taken n)) (store joiner_0 all_taken n))
 row_moved zero low = record { sums = λ f. refl }
 row_moved (suc n) low = absurd (omega arith)
 
-row_ended : (n : ℕ) → AllTurned joiner_0 all_taken n → moved_ends (0 + n + 1) (to_joiner (partner_of joiner_0 all_taken n)) ≡ 1
+row_ended : (n : ℕ) → AllTurned joiner_0 all_taken n → moved_ends (0 + n + 1)
+    (to_joiner (partner_of joiner_0 all_taken n)) ≡ 1
 row_ended zero turned = refl
 row_ended (suc n) turned = let first = turned 0 (omega arith) in absurd (omega arith)
 

@@ -1,5 +1,6 @@
 -- The law's stores and pairs, which go by numbers of steps, are those of the steps that were taken.
-use Rattle.std.proofs.Common.{◌≡◌, ℕ, suc, ◌+◌, ◌<◌, ◌≤◌, inl, inr, refl, sym, ◌∙◌, ap, subst, arith, Bool, cond, ◌&&◌, List, [], ◌∷◌, ◌++◌, length, eq-eqb}
+use Rattle.std.proofs.Common.{◌≡◌, ℕ, suc, ◌+◌, ◌<◌, ◌≤◌, inl, inr, refl, sym, ◌∙◌, ap, subst, arith, Bool, cond, ◌&&◌}
+use Rattle.std.proofs.Common.{List, [], ◌∷◌, ◌++◌, length, eq-eqb}
 use Rattle.std.specs.Prelude.{nat_le, filter, sum_by}
 use Rattle.std.specs.List.{AllByRecursion}
 use Rattle.std.proofs.lemmas.Bool.{cases_eq, ne_eqb, le-leb}
@@ -13,7 +14,8 @@ use Rattle.epoch_tags.specs.Orders.{TurnsGoBy}
 use Rattle.epoch_tags.specs.declared.message.ToJoiner.TheVariants.{Tup, Turn, End, Moved, MovedEnd}
 use Rattle.epoch_tags.specs.Messages.{moved_of, turn_shifts}
 use Rattle.migration_plan.specs.Steps.{AreNeighbours, holds}
-use Rattle.joiner_law.specs.Law.{JoinerStart, Taken, shift_after, partner_of, arrived, store, found, pairs_by, is_greater_stamp}
+use Rattle.joiner_law.specs.Law.{JoinerStart, Taken, shift_after, partner_of, arrived, store, found, pairs_by}
+use Rattle.joiner_law.specs.Law.{is_greater_stamp}
 use Rattle.joiner_law.specs.History.{Step, stored, counts_at, all_found, CameOlder}
 use Rattle.joiner_law.specs.Standing.{IsHistory, GoesByOne, ArePairs}
 use Rattle.joiner_law.proofs.DoubleSums.{weight, double, sum-pairs, sum_two}
@@ -21,11 +23,13 @@ use Rattle.joiner_law.proofs.Heart.{pairs-bag}
 
 -- ---- stores
 
-pub store-is : (s : JoinerStart) (t : Taken) (step : Step) (past : List Step) → IsHistory s t (step ∷ past) → SameBag (store s t (length past)) (stored s.k s.id (step ∷ past))
+pub store-is : (s : JoinerStart) (t : Taken) (step : Step) (past : List Step) → IsHistory s t (step ∷ past)
+    → SameBag (store s t (length past)) (stored s.k s.id (step ∷ past))
 store-is s t step [] is =
     let first = is.0 in
     let at : s.epoch + 0 ≡ s.epoch = omega arith in
-    let came : SameBag step.arrived (arrived s t s.epoch) = subst (λ e. SameBag step.arrived (arrived s t e)) at first.arrived in
+    let came : SameBag step.arrived (arrived s t s.epoch) =
+    subst (λ e. SameBag step.arrived (arrived s t e)) at first.arrived in
     SameBag-append (SameBag-sym first.came) (SameBag-sym came)
 store-is s t step (before ∷ past) is =
     let n = length past in
@@ -34,32 +38,45 @@ store-is s t step (before ∷ past) is =
     let one : s.epoch + suc n ≡ s.epoch + (n + 1) = omega arith in
     let shift : shift_after s t (n + 1) ≡ step.shift = ap t.shift_at (sym one) ∙ top.shift in
     let two : s.epoch + suc n ≡ s.epoch + n + 1 = omega arith in
-    let came : SameBag step.arrived (arrived s t (s.epoch + n + 1)) = subst (λ e. SameBag step.arrived (arrived s t e)) two top.arrived in
-    let kept : SameBag (filter (holds s.k (shift_after s t (n + 1)) s.id) (store s t n)) (filter (holds s.k step.shift s.id) (stored s.k s.id (before ∷ past))) = rw shift (SameBag-filter (holds s.k step.shift s.id) below) in
+    let came : SameBag step.arrived (arrived s t (s.epoch + n + 1)) =
+    subst (λ e. SameBag step.arrived (arrived s t e)) two top.arrived in
+    let kept : SameBag (filter (holds s.k (shift_after s t (n + 1)) s.id) (store s t n))
+    (filter (holds s.k step.shift s.id) (stored s.k s.id (before ∷ past))) =
+    rw shift (SameBag-filter (holds s.k step.shift s.id) below) in
     three _ _ _ _ _ _ kept (SameBag-sym top.came) (SameBag-sym came)
   where
-    three : (us bs cs us' bs' cs' : List Tuple) → SameBag us us' → SameBag bs bs' → SameBag cs cs' → SameBag (us ++ bs ++ cs) (us' ++ (bs' ++ cs'))
+    three : (us bs cs us' bs' cs' : List Tuple) → SameBag us us' → SameBag bs bs' → SameBag cs cs'
+        → SameBag (us ++ bs ++ cs) (us' ++ (bs' ++ cs'))
     three us bs cs us' bs' cs' one two last = record {
       sums = λ f.
           let a = one.sums f in
           let b = two.sums f in
           let c = last.sums f in
-          rw (sum_by-append f (us ++ bs) cs, sum_by-append f us bs, sum_by-append f us' (bs' ++ cs'), sum_by-append f bs' cs') (omega arith);
+          rw (
+            sum_by-append f (us ++ bs) cs,
+            sum_by-append f us bs,
+            sum_by-append f us' (bs' ++ cs'),
+            sum_by-append f bs' cs',
+          ) (omega arith);
     }
 
 -- ---- pairs
 
-double-right : (w : Tuple → Tuple → ℕ) (xs ys zs : List Tuple) → double w xs (ys ++ zs) ≡ double w xs ys + double w xs zs
+double-right : (w : Tuple → Tuple → ℕ) (xs ys zs : List Tuple)
+    → double w xs (ys ++ zs) ≡ double w xs ys + double w xs zs
 double-right w xs ys zs =
     sum-same (λ r. sum_by (w r) (ys ++ zs)) (λ r. sum_by (w r) ys + sum_by (w r) zs) (λ r. sum_by-append (w r) ys zs) xs
     ∙ sum_two (λ r. sum_by (w r) ys) (λ r. sum_by (w r) zs) xs
 
 -- the pairs of a base and what arrived: those with something that arrived, and those of the base
-pairs-base : (m : Tuple → Tuple → Bool) (base new : List Tuple) → SameBag ((pairs_by m new (base ++ new) ++ pairs_by m base new) ++ pairs_by m base base) (pairs_by m (base ++ new) (base ++ new))
+pairs-base : (m : Tuple → Tuple → Bool) (base new : List Tuple)
+    → SameBag ((pairs_by m new (base ++ new) ++ pairs_by m base new) ++ pairs_by m base base)
+    (pairs_by m (base ++ new) (base ++ new))
 pairs-base m base new = record {
   sums = λ f.
       let w = weight f m in
-      let whole : double w (base ++ new) (base ++ new) ≡ double w base (base ++ new) + double w new (base ++ new) = sum_by-append (λ r. sum_by (w r) (base ++ new)) base new in
+      let whole : double w (base ++ new) (base ++ new) ≡ double w base (base ++ new) + double w new (base ++ new) =
+      sum_by-append (λ r. sum_by (w r) (base ++ new)) base new in
       let split = double-right w base base new in
       rw (
         sum_by-append f (pairs_by m new (base ++ new) ++ pairs_by m base new) (pairs_by m base base),
@@ -72,18 +89,26 @@ pairs-base m base new = record {
 }
 
 pub found-is : (s : JoinerStart) (t : Taken) (step : Step) (past : List Step) → IsHistory s t (step ∷ past)
-    → SameBag (found s t (length past) ++ pairs_by s.matches s.base s.base) (all_found s.matches s.epoch s.k s.id (step ∷ past))
+    → SameBag (found s t (length past) ++ pairs_by s.matches s.base s.base)
+    (all_found s.matches s.epoch s.k s.id (step ∷ past))
 found-is s t step [] is =
-    SameBag-trans (pairs-base s.matches s.base (arrived s t s.epoch)) (pairs-bag s.matches (store s t 0) (stored s.k s.id (step ∷ [])) (store-is s t step [] is))
+    SameBag-trans (pairs-base s.matches s.base (arrived s t s.epoch))
+    (pairs-bag s.matches (store s t 0) (stored s.k s.id (step ∷ [])) (store-is s t step [] is))
 found-is s t step (before ∷ past) is =
     let n = length past in
     let below = found-is s t before past is.1 in
     let test = counts_at s.matches s.epoch (before ∷ past) in
-    let here : SameBag (pairs_by test (store s t (length (before ∷ past))) (store s t (length (before ∷ past)))) (pairs_by test (stored s.k s.id (step ∷ (before ∷ past))) (stored s.k s.id (step ∷ (before ∷ past)))) =
-    pairs-bag test (store s t (length (before ∷ past))) (stored s.k s.id (step ∷ (before ∷ past))) (store-is s t step (before ∷ past) is) in
+    let here : SameBag (pairs_by test (store s t (length (before ∷ past))) (store s t (length (before ∷ past))))
+    (pairs_by test (stored s.k s.id (step ∷ (before ∷ past))) (stored s.k s.id (step ∷ (before ∷ past)))) =
+    pairs-bag test (store s t (length (before ∷ past))) (stored s.k s.id (step ∷ (before ∷ past)))
+    (store-is s t step (before ∷ past) is) in
     let same : s.epoch + n + 1 ≡ s.epoch + length (before ∷ past) = omega arith in
-    let here' : SameBag (pairs_by (λ r q. s.matches r q && is_greater_stamp (s.epoch + n + 1) r q) (store s t (suc n)) (store s t (suc n))) (pairs_by test (stored s.k s.id (step ∷ (before ∷ past))) (stored s.k s.id (step ∷ (before ∷ past)))) =
-    subst (λ (e : ℕ). SameBag (pairs_by (λ r q. s.matches r q && is_greater_stamp e r q) (store s t (suc n)) (store s t (suc n))) (pairs_by test (stored s.k s.id (step ∷ (before ∷ past))) (stored s.k s.id (step ∷ (before ∷ past))))) (sym same) here in
+    let here' : SameBag (pairs_by (λ r q. s.matches r q && is_greater_stamp (s.epoch + n + 1) r q) (store s t (suc n))
+    (store s t (suc n))) (pairs_by test (stored s.k s.id (step ∷ (before ∷ past)))
+    (stored s.k s.id (step ∷ (before ∷ past)))) =
+    subst (λ (e : ℕ). SameBag (pairs_by (λ r q. s.matches r q && is_greater_stamp e r q) (store s t (suc n))
+    (store s t (suc n))) (pairs_by test (stored s.k s.id (step ∷ (before ∷ past)))
+    (stored s.k s.id (step ∷ (before ∷ past))))) (sym same) here in
     swap _ _ _ _ _ below here'
   where
     swap : (us bs cs ds es : List Pair) → SameBag (us ++ cs) ds → SameBag bs es → SameBag ((us ++ bs) ++ cs) (ds ++ es)
@@ -91,11 +116,16 @@ found-is s t step (before ∷ past) is =
       sums = λ f.
           let a = one.sums f in
           let b = two.sums f in
-          rw (sum_by-append f (us ++ bs) cs, sum_by-append f us bs, sum_by-append f ds es) (omega (arith, a, b, sum_by-append f us cs));
+          rw (
+            sum_by-append f (us ++ bs) cs,
+            sum_by-append f us bs,
+            sum_by-append f ds es,
+          ) (omega (arith, a, b, sum_by-append f us cs));
     }
 
 -- what was sent and what waits are the pairs that the law speaks of
-pub pairs-law : (s : JoinerStart) (t : Taken) (sent waiting : List Pair) (step : Step) (past : List Step) → IsHistory s t (step ∷ past) → CameOlder s.epoch (step ∷ past)
+pub pairs-law : (s : JoinerStart) (t : Taken) (sent waiting : List Pair) (step : Step) (past : List Step)
+    → IsHistory s t (step ∷ past) → CameOlder s.epoch (step ∷ past)
     → ArePairs s sent waiting (step ∷ past) → SameBag (sent ++ waiting) (found s t (length past))
 pairs-law s t sent waiting step past is older pairs = record {
   sums = λ f.
@@ -128,20 +158,26 @@ all_older e (x ∷ xs) none =
     low : (n : ℕ) → cond {A = ℕ} (nat_le n e) 0 1 ≡ 0 → n ≤ e
     low n is = grind arith
 
-pub older-bag : (e : ℕ) (xs ys : List Tuple) → SameBag xs ys → AllByRecursion (λ (x : Tuple). x.stamp ≤ e) ys → AllByRecursion (λ (x : Tuple). x.stamp ≤ e) xs
+pub older-bag : (e : ℕ) (xs ys : List Tuple) → SameBag xs ys → AllByRecursion (λ (x : Tuple). x.stamp ≤ e) ys
+    → AllByRecursion (λ (x : Tuple). x.stamp ≤ e) xs
 older-bag e xs ys same all = all_older e xs (same.sums (newer e) ∙ none_newer e ys all)
 
 -- the law's premise is that of the steps
-pub older-is : (s : JoinerStart) (t : Taken) (steps : List Step) → IsHistory s t steps → AllByRecursion (λ (x : Tuple). x.stamp ≤ s.epoch) s.base
-    → ((n : ℕ) → n + 1 < length steps → AllByRecursion (λ (x : Tuple). x.stamp ≤ s.epoch + n) (moved_of (s.epoch + n + 1) (t.from_joiner (partner_of s t n)))) → CameOlder s.epoch steps
+pub older-is : (s : JoinerStart) (t : Taken) (steps : List Step) → IsHistory s t steps
+    → AllByRecursion (λ (x : Tuple). x.stamp ≤ s.epoch) s.base
+    → ((n : ℕ) → n + 1 < length steps → AllByRecursion (λ (x : Tuple). x.stamp ≤ s.epoch + n)
+    (moved_of (s.epoch + n + 1) (t.from_joiner (partner_of s t n)))) → CameOlder s.epoch steps
 older-is s t [] is base older = tt
 older-is s t (step ∷ []) is base older = older-bag s.epoch step.came s.base is.0.came base
-older-is s t (step ∷ (before ∷ past)) is base older =
-    (older-bag (s.epoch + length past) step.came _ is.0.came (older (length past) (omega arith)), older-is s t (before ∷ past) is.1 base (λ n less. older n (omega arith)))
+older-is s t (step ∷ (before ∷ past)) is base older = (
+  older-bag (s.epoch + length past) step.came _ is.0.came (older (length past) (omega arith)),
+  older-is s t (before ∷ past) is.1 base (λ n less. older n (omega arith)),
+)
 
 -- ---- shifts
 
-pub shifts-are : (b : ℕ → ℕ) (e : ℕ) (ms : List ToJoiner) → TurnsGoBy b ms → AllByRecursion (λ shift. shift ≡ b e) (turn_shifts e ms)
+pub shifts-are : (b : ℕ → ℕ) (e : ℕ) (ms : List ToJoiner) → TurnsGoBy b ms
+    → AllByRecursion (λ shift. shift ≡ b e) (turn_shifts e ms)
 shifts-are b e [] by = tt
 shifts-are b e (Tup x ∷ ms) by = shifts-are b e ms by
 shifts-are b e (Turn epoch shift ∷ ms) by = elim (cases_eq epoch e) [
@@ -152,7 +188,8 @@ shifts-are b e (End ∷ ms) by = shifts-are b e ms by
 shifts-are b e (Moved epoch x ∷ ms) by = shifts-are b e ms by
 shifts-are b e (MovedEnd epoch ∷ ms) by = shifts-are b e ms by
 
-pub by_one-law : (s : JoinerStart) (t : Taken) (step : Step) (past : List Step) (n : ℕ) → IsHistory s t (step ∷ past) → GoesByOne (step ∷ past) → n < length past → AreNeighbours (shift_after s t n) (shift_after s t (n + 1))
+pub by_one-law : (s : JoinerStart) (t : Taken) (step : Step) (past : List Step) (n : ℕ) → IsHistory s t (step ∷ past)
+    → GoesByOne (step ∷ past) → n < length past → AreNeighbours (shift_after s t n) (shift_after s t (n + 1))
 by_one-law s t step [] n is by low = absurd (omega arith)
 by_one-law s t step (before ∷ past) n is by low = elim (cases_eq n (length past)) [
   | inl same ↦

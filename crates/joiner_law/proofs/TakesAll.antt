@@ -1,5 +1,6 @@
 -- Which of the messages that came a joiner can take.
-use Rattle.std.proofs.Common.{◌≡◌, ℕ, ◌+◌, ◌<◌, ◌≤◌, ◌⊎◌, inl, inr, refl, sym, ◌∙◌, subst, arith, Bool, true, false, cond, List, [], ◌∷◌, ◌++◌, length}
+use Rattle.std.proofs.Common.{◌≡◌, ℕ, ◌+◌, ◌<◌, ◌≤◌, ◌⊎◌, inl, inr, refl, sym, ◌∙◌, subst, arith, Bool, true, false}
+use Rattle.std.proofs.Common.{cond, List, [], ◌∷◌, ◌++◌, length}
 use Rattle.std.specs.Prelude.{◌==◌, ⊤}
 use Rattle.std.proofs.lemmas.Bool.{cases_Bool, eqb-true, eq-eqb}
 use Rattle.epoch_tags.specs.declared.message.ToJoiner.{ToJoiner}
@@ -47,9 +48,11 @@ counts_at e (Moved' epoch x ∷ xs) ys m up = absurd up
 counts_at e (MovedEnd epoch ∷ xs) ys m up = absurd up
 
 -- every message of a feeder can be taken but a turn past the open step
-pub can_take_of_feeder : (s : JoinerStart) (t : Taken) (done p : ℕ) (m : ToJoiner) → ends (t.from_feeder p) ≡ 0 → StandsAt (s.epoch + turns (t.from_feeder p)) m
+pub can_take_of_feeder : (s : JoinerStart) (t : Taken) (done p : ℕ) (m : ToJoiner) → ends (t.from_feeder p) ≡ 0
+    → StandsAt (s.epoch + turns (t.from_feeder p)) m
     → turns (t.from_feeder p) ≡ done
-    → ((epoch shift : ℕ) → m ≡ Turn epoch shift → (shift ≤ s.k) × AreNeighbours (shift_after s t done) shift × (done < opened s t → shift ≡ shift_after s t (done + 1)))
+    → ((epoch shift : ℕ) → m ≡ Turn epoch shift → (shift ≤ s.k) × AreNeighbours (shift_after s t done) shift
+    × (done < opened s t → shift ≡ shift_after s t (done + 1)))
     → CanTakeOfFeeder s t done p m
 can_take_of_feeder s t done p (Tup x) none at is turn = (none, at)
 can_take_of_feeder s t done p (Turn epoch shift) none at is turn =
@@ -59,7 +62,8 @@ can_take_of_feeder s t done p (Moved' epoch x) none at is turn = at
 can_take_of_feeder s t done p (MovedEnd epoch) none at is turn = at
 
 -- and of those at an earlier place, all but a turn
-pub can_take_no_turn : (s : JoinerStart) (t : Taken) (done p : ℕ) (m : ToJoiner) → ends (t.from_feeder p) ≡ 0 → StandsAt (s.epoch + turns (t.from_feeder p)) m
+pub can_take_no_turn : (s : JoinerStart) (t : Taken) (done p : ℕ) (m : ToJoiner) → ends (t.from_feeder p) ≡ 0
+    → StandsAt (s.epoch + turns (t.from_feeder p)) m
     → ((epoch shift : ℕ) → m ≡ Turn epoch shift → ⊥) → CanTakeOfFeeder s t done p m
 can_take_no_turn s t done p (Tup x) none at turn = (none, at)
 can_take_no_turn s t done p (Turn epoch shift) none at turn = absurd (turn epoch shift refl)
@@ -78,7 +82,8 @@ IsOfEpoch e (Moved' epoch x) = epoch ≡ e
 IsOfEpoch e (MovedEnd epoch) = epoch ≡ e
 
 -- all that comes is of an epoch, which isn't lower than those before
-pub at_least : (f : ℕ) (xs ys : List ToJoiner) (m : ToJoiner) → NeverFalls f (xs ++ m ∷ ys) → (e : ℕ) × IsOfEpoch e m × (f ≤ e)
+pub at_least : (f : ℕ) (xs ys : List ToJoiner) (m : ToJoiner) → NeverFalls f (xs ++ m ∷ ys) → (e : ℕ) × IsOfEpoch e m
+    × (f ≤ e)
 at_least f [] ys (Tup x) falls = absurd falls
 at_least f [] ys (Turn epoch shift) falls = absurd falls
 at_least f [] ys End falls = absurd falls
@@ -87,8 +92,10 @@ at_least f [] ys (MovedEnd epoch) (low, falls) = (epoch, refl, low)
 at_least f (Tup x ∷ xs) ys m falls = absurd falls
 at_least f (Turn epoch shift ∷ xs) ys m falls = absurd falls
 at_least f (End ∷ xs) ys m falls = absurd falls
-at_least f (Moved' epoch x ∷ xs) ys m (low, falls) = let r = at_least epoch xs ys m falls in (r.0, r.1, omega (arith, r.2))
-at_least f (MovedEnd epoch ∷ xs) ys m (low, falls) = let r = at_least (epoch + 1) xs ys m falls in (r.0, r.1, omega (arith, r.2))
+at_least f (Moved' epoch x ∷ xs) ys m (low, falls) = let r = at_least epoch xs ys m falls in
+    (r.0, r.1, omega (arith, r.2))
+at_least f (MovedEnd epoch ∷ xs) ys m (low, falls) = let r = at_least (epoch + 1) xs ys m falls in
+    (r.0, r.1, omega (arith, r.2))
 
 one_epoch : (e e' : ℕ) (m : ToJoiner) → IsOfEpoch e m → IsOfEpoch e' m → e ≡ e'
 one_epoch e e' (Tup x) a b = absurd a
@@ -98,7 +105,8 @@ one_epoch e e' (Moved' epoch x) a b = sym a ∙ b
 one_epoch e e' (MovedEnd epoch) a b = sym a ∙ b
 
 -- after the end of an epoch only later ones come
-pub later : (f e v : ℕ) (xs ys : List ToJoiner) (m : ToJoiner) → NeverFalls f (xs ++ m ∷ ys) → 0 < moved_ends e xs → IsOfEpoch v m → e < v
+pub later : (f e v : ℕ) (xs ys : List ToJoiner) (m : ToJoiner) → NeverFalls f (xs ++ m ∷ ys) → 0 < moved_ends e xs
+    → IsOfEpoch v m → e < v
 later f e v [] ys m falls has is = absurd (omega arith)
 later f e v (Tup x ∷ xs) ys m falls has is = absurd falls
 later f e v (Turn epoch shift ∷ xs) ys m falls has is = absurd falls
@@ -122,17 +130,20 @@ ends_above f e (End ∷ ms) falls has = absurd falls
 ends_above f e (Moved' epoch x ∷ ms) (low, falls) has = let rest = ends_above epoch e ms falls has in omega arith
 ends_above f e (MovedEnd epoch ∷ ms) (low, falls) has = elim (cases_Bool (epoch == e)) [
   | inl same ↦ let at = eqb-true epoch e same in omega arith
-  | inr differ ↦ let has' : 0 < moved_ends e ms = rw differ at has in let rest = ends_above (epoch + 1) e ms falls has' in omega arith
+  | inr differ ↦ let has' : 0 < moved_ends e ms = rw differ at has in
+      let rest = ends_above (epoch + 1) e ms falls has' in omega arith
 ]
 
-pub sooner : (f e v : ℕ) (m : ToJoiner) (ys : List ToJoiner) → NeverFalls f (m ∷ ys) → 0 < moved_ends e (m ∷ ys) → IsOfEpoch v m → v ≤ e
+pub sooner : (f e v : ℕ) (m : ToJoiner) (ys : List ToJoiner) → NeverFalls f (m ∷ ys) → 0 < moved_ends e (m ∷ ys)
+    → IsOfEpoch v m → v ≤ e
 sooner f e v (Tup x) ys falls has is = absurd falls
 sooner f e v (Turn epoch shift) ys falls has is = absurd falls
 sooner f e v End ys falls has is = absurd falls
 sooner f e v (Moved' epoch x) ys (low, falls) has is = let rest = ends_above epoch e ys falls has in omega arith
 sooner f e v (MovedEnd epoch) ys (low, falls) has is = elim (cases_Bool (epoch == e)) [
   | inl same ↦ let at = eqb-true epoch e same in omega arith
-  | inr differ ↦ let has' : 0 < moved_ends e ys = rw differ at has in let rest = ends_above (epoch + 1) e ys falls has' in omega arith
+  | inr differ ↦ let has' : 0 < moved_ends e ys = rw differ at has in
+      let rest = ends_above (epoch + 1) e ys falls has' in omega arith
 ]
 
 -- a rest of such a list is such a list
@@ -145,7 +156,8 @@ rest_falls f (Moved' epoch x ∷ xs) ys (low, falls) = rest_falls epoch xs ys fa
 rest_falls f (MovedEnd epoch ∷ xs) ys (low, falls) = rest_falls (epoch + 1) xs ys falls
 
 -- a message of an epoch shows in the list
-pub shows : (e : ℕ) (xs ys : List ToJoiner) (m : ToJoiner) → IsOfEpoch e m → (0 < length (moved_of e (xs ++ m ∷ ys))) ⊎ (0 < moved_ends e (xs ++ m ∷ ys))
+pub shows : (e : ℕ) (xs ys : List ToJoiner) (m : ToJoiner) → IsOfEpoch e m → (0 < length (moved_of e (xs ++ m ∷ ys)))
+    ⊎ (0 < moved_ends e (xs ++ m ∷ ys))
 shows e [] ys (Tup x) is = absurd is
 shows e [] ys (Turn epoch shift) is = absurd is
 shows e [] ys End is = absurd is
@@ -156,11 +168,15 @@ shows e (Turn epoch shift ∷ xs) ys m is = shows e xs ys m is
 shows e (End ∷ xs) ys m is = shows e xs ys m is
 shows e (Moved' epoch x ∷ xs) ys m is = by_test (epoch == e) (shows e xs ys m is)
   where
-    by_test : (t : Bool) → (0 < length (moved_of e (xs ++ m ∷ ys))) ⊎ (0 < moved_ends e (xs ++ m ∷ ys)) → (0 < length (cond t (x ∷ moved_of e (xs ++ m ∷ ys)) (moved_of e (xs ++ m ∷ ys)))) ⊎ (0 < moved_ends e (xs ++ m ∷ ys))
+    by_test : (t : Bool) → (0 < length (moved_of e (xs ++ m ∷ ys))) ⊎ (0 < moved_ends e (xs ++ m ∷ ys))
+        → (0 < length (cond t (x ∷ moved_of e (xs ++ m ∷ ys)) (moved_of e (xs ++ m ∷ ys))))
+        ⊎ (0 < moved_ends e (xs ++ m ∷ ys))
     by_test true rest = inl (omega arith)
     by_test false rest = rest
 shows e (MovedEnd epoch ∷ xs) ys m is = by_test (epoch == e) (shows e xs ys m is)
   where
-    by_test : (t : Bool) → (0 < length (moved_of e (xs ++ m ∷ ys))) ⊎ (0 < moved_ends e (xs ++ m ∷ ys)) → (0 < length (moved_of e (xs ++ m ∷ ys))) ⊎ (0 < cond t (moved_ends e (xs ++ m ∷ ys) + 1) (moved_ends e (xs ++ m ∷ ys)))
+    by_test : (t : Bool) → (0 < length (moved_of e (xs ++ m ∷ ys))) ⊎ (0 < moved_ends e (xs ++ m ∷ ys))
+        → (0 < length (moved_of e (xs ++ m ∷ ys)))
+        ⊎ (0 < cond t (moved_ends e (xs ++ m ∷ ys) + 1) (moved_ends e (xs ++ m ∷ ys)))
     by_test true rest = inr (omega arith)
     by_test false rest = rest

@@ -1,11 +1,14 @@
--- The law of a joiner alone does not say what a joiner took: two feeders turn to different shifts, and it can go by either.
-use Rattle.std.proofs.Common.{◌≡◌, ℕ, zero, suc, ◌+◌, ◌<◌, ◌≤◌, inl, inr, refl, subst, arith, Bool, true, false, cond, List, [], ◌∷◌}
+-- The law of a joiner alone does not say what a joiner took: two feeders turn to different shifts, and it can go by
+-- either.
+use Rattle.std.proofs.Common.{◌≡◌, ℕ, zero, suc, ◌+◌, ◌<◌, ◌≤◌, inl, inr, refl, subst, arith, Bool, true, false, cond}
+use Rattle.std.proofs.Common.{List, [], ◌∷◌}
 use Rattle.std.specs.Prelude.{◌==◌, filter}
 use Rattle.std.specs.List.{AllByRecursion}
 use Rattle.join_rows.specs.Lists.{SameBag}
 use Rattle.epoch_tags.specs.declared.message.ToJoiner.{ToJoiner}
 use Rattle.epoch_tags.specs.declared.message.ToJoiner.TheVariants.{Turn}
-use Rattle.joiner_law.specs.Law.{JoinerStart, JoinerLists, JoinerLaw, Taken, IsTakenOf, CanTakeOfFeeder, shift_after, exchanged, store}
+use Rattle.joiner_law.specs.Law.{JoinerStart, JoinerLists, JoinerLaw, Taken, IsTakenOf, CanTakeOfFeeder, shift_after}
+use Rattle.joiner_law.specs.Law.{exchanged, store}
 use Rattle.epoch_tags.specs.Messages.{turn_shifts, moved_of}
 use Rattle.epoch_tags.specs.Orders.{CountsUp}
 use Rattle.migration_plan.specs.Steps.{AreNeighbours, is_of}
@@ -44,17 +47,21 @@ below_two P a b (suc (suc p)) low = absurd (omega arith)
 stuck_one : (m : ToJoiner) (rest : List ToJoiner) → Turn 1 2 ∷ [] ≡ m ∷ rest → ¬ CanTakeOfFeeder start one 0 1 m
 stuck_one m rest is =
     let same : Turn 1 2 ≡ m = cc in
-    subst (λ x. ¬ CanTakeOfFeeder start one 0 1 x) same (λ can. let bad : 2 ≡ 0 = can.5 (omega arith) in absurd (omega arith))
+    subst (λ x. ¬ CanTakeOfFeeder start one 0 1 x) same (λ can. let bad : 2 ≡ 0 = can.5 (omega arith) in
+    absurd (omega arith))
 
 stuck_other : (m : ToJoiner) (rest : List ToJoiner) → Turn 1 0 ∷ [] ≡ m ∷ rest → ¬ CanTakeOfFeeder start other 0 0 m
 stuck_other m rest is =
     let same : Turn 1 0 ≡ m = cc in
-    subst (λ x. ¬ CanTakeOfFeeder start other 0 0 x) same (λ can. let bad : 0 ≡ 2 = can.5 (omega arith) in absurd (omega arith))
+    subst (λ x. ¬ CanTakeOfFeeder start other 0 0 x) same (λ can. let bad : 0 ≡ 2 = can.5 (omega arith) in
+    absurd (omega arith))
 
 -- both keep the law, with the same lists
 
-shifts_one : (n p : ℕ) → p < 2 → AllByRecursion (λ shift. shift ≡ shift_after start one n) (turn_shifts (0 + n) (of_first p))
-shifts_one n = below_two (λ p. AllByRecursion (λ shift. shift ≡ shift_after start one n) (turn_shifts (0 + n) (of_first p))) (by_test (1 == 0 + n)) tt
+shifts_one : (n p : ℕ) → p < 2 → AllByRecursion (λ shift. shift ≡ shift_after start one n)
+    (turn_shifts (0 + n) (of_first p))
+shifts_one n = below_two (λ p. AllByRecursion (λ shift. shift ≡ shift_after start one n)
+    (turn_shifts (0 + n) (of_first p))) (by_test (1 == 0 + n)) tt
   where
     by_test : (t : Bool) → AllByRecursion (λ (shift : ℕ). shift ≡ cond t 0 1) (cond t (0 ∷ []) [])
     by_test true = (refl, tt)
@@ -69,14 +76,23 @@ within_one zero low = omega arith
 within_one (suc zero) low = omega arith
 within_one (suc (suc n)) low = absurd (omega arith)
 
-none_moved_one : (n : ℕ) → n < 1 → SameBag (moved_of (0 + n + 1) []) (filter (is_of (exchanged start one n)) (store start one n))
+none_moved_one : (n : ℕ) → n < 1 → SameBag (moved_of (0 + n + 1) [])
+    (filter (is_of (exchanged start one n)) (store start one n))
 none_moved_one zero low = record { sums = λ f. refl }
 none_moved_one (suc n) low = absurd (omega arith)
 
 pub law_one : JoinerLaw start lists one
 law_one = record {
   done = 0;
-  of_feeders = below_two (λ p. IsTakenOf (CanTakeOfFeeder start one 0 p) (of_first p) (turn p)) (record { held = []; splits = refl; stuck = λ m rest is. absurd (cc) }) (record { held = Turn 1 2 ∷ []; splits = refl; stuck = stuck_one });
+  of_feeders = below_two (λ p. IsTakenOf (CanTakeOfFeeder start one 0 p) (of_first p) (turn p)) (record {
+    held = [];
+    splits = refl;
+    stuck = λ m rest is. absurd (cc);
+  }) (record {
+    held = Turn 1 2 ∷ [];
+    splits = refl;
+    stuck = stuck_one;
+  });
   of_joiners = λ q low. record { held = []; splits = refl; stuck = λ m rest is. absurd (cc) };
   counts_up = below_two (λ p. CountsUp 0 (of_first p)) (refl, tt) tt;
   first_shift = refl;
@@ -103,8 +119,10 @@ law_one = record {
   finished = λ is. let none = is.0.0 0 (omega arith) in absurd (omega arith);
 }
 
-shifts_other : (n p : ℕ) → p < 2 → AllByRecursion (λ shift. shift ≡ shift_after start other n) (turn_shifts (0 + n) (of_second p))
-shifts_other n = below_two (λ p. AllByRecursion (λ shift. shift ≡ shift_after start other n) (turn_shifts (0 + n) (of_second p))) tt (by_test (1 == 0 + n))
+shifts_other : (n p : ℕ) → p < 2 → AllByRecursion (λ shift. shift ≡ shift_after start other n)
+    (turn_shifts (0 + n) (of_second p))
+shifts_other n = below_two (λ p. AllByRecursion (λ shift. shift ≡ shift_after start other n)
+    (turn_shifts (0 + n) (of_second p))) tt (by_test (1 == 0 + n))
   where
     by_test : (t : Bool) → AllByRecursion (λ (shift : ℕ). shift ≡ cond t 2 1) (cond t (2 ∷ []) [])
     by_test true = (refl, tt)
@@ -119,14 +137,20 @@ within_other zero low = omega arith
 within_other (suc zero) low = omega arith
 within_other (suc (suc n)) low = absurd (omega arith)
 
-none_moved_other : (n : ℕ) → n < 1 → SameBag (moved_of (0 + n + 1) []) (filter (is_of (exchanged start other n)) (store start other n))
+none_moved_other : (n : ℕ) → n < 1 → SameBag (moved_of (0 + n + 1) [])
+    (filter (is_of (exchanged start other n)) (store start other n))
 none_moved_other zero low = record { sums = λ f. refl }
 none_moved_other (suc n) low = absurd (omega arith)
 
 pub law_other : JoinerLaw start lists other
 law_other = record {
   done = 0;
-  of_feeders = below_two (λ p. IsTakenOf (CanTakeOfFeeder start other 0 p) (of_second p) (turn p)) (record { held = Turn 1 0 ∷ []; splits = refl; stuck = stuck_other }) (record { held = []; splits = refl; stuck = λ m rest is. absurd (cc) });
+  of_feeders = below_two (λ p. IsTakenOf (CanTakeOfFeeder start other 0 p) (of_second p) (turn p))
+      (record { held = Turn 1 0 ∷ []; splits = refl; stuck = stuck_other }) (record {
+        held = [];
+        splits = refl;
+        stuck = λ m rest is. absurd (cc);
+      });
   of_joiners = λ q low. record { held = []; splits = refl; stuck = λ m rest is. absurd (cc) };
   counts_up = below_two (λ p. CountsUp 0 (of_second p)) tt (refl, tt);
   first_shift = refl;

@@ -20,7 +20,8 @@ abbrev pub stored : ℕ → ℕ → List Step → List Tuple
 stored k id [] = []
 stored k id (step ∷ past) = filter (holds k step.shift id) (stored k id past) ++ (step.came ++ step.arrived)
 
--- which pairs of a store count for its epoch: in the first all that match, later those whose greater stamp is that epoch
+-- which pairs of a store count for its epoch: in the first all that match, later those whose greater stamp is that
+-- epoch
 abbrev pub counts_at : (Tuple → Tuple → Bool) → ℕ → List Step → Tuple → Tuple → Bool
 counts_at matches epoch [] r q = matches r q
 counts_at matches epoch (step ∷ past) r q = matches r q && is_greater_stamp (epoch + length (step ∷ past)) r q
@@ -45,7 +46,8 @@ CameOlder epoch (step ∷ (before ∷ past)) = AllUpTo (epoch + length past) ste
 -- what arrived has its epoch as its stamp
 abbrev pub ArrivedInTime : ℕ → List Step → Type 0
 ArrivedInTime epoch [] = ⊤
-ArrivedInTime epoch (step ∷ past) = AllByRecursion (λ (x : Tuple). x.stamp ≡ epoch + length past) step.arrived × ArrivedInTime epoch past
+ArrivedInTime epoch (step ∷ past) = AllByRecursion (λ (x : Tuple). x.stamp ≡ epoch + length past) step.arrived
+    × ArrivedInTime epoch past
 
 -- the step with one tuple more that arrived
 abbrev pub with_arrived : Tuple → Step → Step

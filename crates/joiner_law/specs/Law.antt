@@ -1,5 +1,6 @@
 -- The law of a joiner. Step n leads from epoch `epoch + n` to the next, `epoch` being the joiner's first.
-use Rattle.std.specs.Prelude.{◌≡◌, ℕ, zero, suc, ◌+◌, ◌^◌, ◌<◌, ◌≤◌, ◌==◌, max, Bool, ◌&&◌, ◌⊎◌, List, [], ◌∷◌, ◌++◌, map, filter, length, flat_map, count_by}
+use Rattle.std.specs.Prelude.{◌≡◌, ℕ, zero, suc, ◌+◌, ◌^◌, ◌<◌, ◌≤◌, ◌==◌, max, Bool, ◌&&◌, ◌⊎◌, List, [], ◌∷◌, ◌++◌}
+use Rattle.std.specs.Prelude.{map, filter, length, flat_map, count_by}
 use Rattle.std.specs.List.{AllByRecursion}
 use Rattle.join_rows.specs.declared.table.Side.{Side}
 use Rattle.join_rows.specs.declared.table.Side.TheVariants.{R, S}
@@ -171,12 +172,15 @@ received_count s lists =
 pub record JoinerLaw (s : JoinerStart) (lists : JoinerLists) (taken : Taken) : Type 0 where
   -- how many steps are settled
   pub done : ℕ
-  pub of_feeders : (p : ℕ) → p < s.feeders → IsTakenOf (CanTakeOfFeeder s taken done p) (taken.from_feeder p) (lists.from_feeder p)
-  pub of_joiners : (q : ℕ) → q < 2 ^ s.k → IsTakenOf (CanTakeOfJoiner s taken done q) (taken.from_joiner q) (lists.from_joiner q)
+  pub of_feeders : (p : ℕ) → p < s.feeders → IsTakenOf (CanTakeOfFeeder s taken done p) (taken.from_feeder p)
+      (lists.from_feeder p)
+  pub of_joiners : (q : ℕ) → q < 2 ^ s.k → IsTakenOf (CanTakeOfJoiner s taken done q) (taken.from_joiner q)
+      (lists.from_joiner q)
   -- turns and stamps
   pub counts_up : (p : ℕ) → p < s.feeders → CountsUp s.epoch (taken.from_feeder p)
   pub first_shift : shift_after s taken 0 ≡ s.shift
-  pub same_shifts : (p n : ℕ) → p < s.feeders → AllByRecursion (λ shift. shift ≡ shift_after s taken n) (turn_shifts (s.epoch + n) (taken.from_feeder p))
+  pub same_shifts : (p n : ℕ) → p < s.feeders → AllByRecursion (λ shift. shift ≡ shift_after s taken n)
+      (turn_shifts (s.epoch + n) (taken.from_feeder p))
   pub by_one : (n : ℕ) → n < opened s taken → AreNeighbours (shift_after s taken n) (shift_after s taken (n + 1))
   pub within : (n : ℕ) → n ≤ opened s taken → shift_after s taken n ≤ s.k
   -- steps: the settled ones come first, and at most one is open
@@ -184,19 +188,26 @@ pub record JoinerLaw (s : JoinerStart) (lists : JoinerLists) (taken : Taken) : T
   pub unsettled : ¬ IsSettled s taken done
   pub one_open : opened s taken ≤ done + 1
   -- what it took of joiners was of its partner
-  pub of_partner : (q n : ℕ) → q < 2 ^ s.k → 0 < length (moved_of (s.epoch + n + 1) (taken.from_joiner q)) + moved_ends (s.epoch + n + 1) (taken.from_joiner q) → (n < opened s taken) × (q ≡ partner_of s taken n)
+  pub of_partner : (q n : ℕ) → q < 2 ^ s.k → 0 < length (moved_of (s.epoch + n + 1) (taken.from_joiner q))
+      + moved_ends (s.epoch + n + 1) (taken.from_joiner q) → (n < opened s taken) × (q ≡ partner_of s taken n)
   -- the pairs that it sent, where what the partners moved here is older than its step
   pub founds : List (List Pair)
   pub fins : List ToCollector
   pub to_collector : lists.to_collector ≡ map Found founds ++ fins
-  pub pairs : ((n : ℕ) → n < opened s taken → AllByRecursion (λ x. x.stamp ≤ s.epoch + n) (moved_of (s.epoch + n + 1) (taken.from_joiner (partner_of s taken n)))) → SameBag (flat_map (λ ps. ps) founds) (found s taken (opened s taken))
+  pub pairs : ((n : ℕ) → n < opened s taken → AllByRecursion (λ x. x.stamp ≤ s.epoch + n)
+      (moved_of (s.epoch + n + 1) (taken.from_joiner (partner_of s taken n))))
+      → SameBag (flat_map (λ ps. ps) founds) (found s taken (opened s taken))
   pub none_empty : AllByRecursion (λ ps. 0 < length ps) founds
   pub few_founds : length founds ≤ received_count s lists
   -- what it moved: in each opened step the exchanged side of the store before, to its partner
-  pub moved : (n : ℕ) → n < opened s taken → SameBag (moved_of (s.epoch + n + 1) (lists.to_joiner (partner_of s taken n))) (filter (is_of (exchanged s taken n)) (store s taken n))
+  pub moved : (n : ℕ) → n < opened s taken
+      → SameBag (moved_of (s.epoch + n + 1) (lists.to_joiner (partner_of s taken n)))
+      (filter (is_of (exchanged s taken n)) (store s taken n))
   pub ended : (n : ℕ) → AllTurned s taken n → moved_ends (s.epoch + n + 1) (lists.to_joiner (partner_of s taken n)) ≡ 1
-  pub moved_only : (q e : ℕ) → 0 < length (moved_of e (lists.to_joiner q)) → (n : ℕ) × (e ≡ s.epoch + n + 1) × (n < opened s taken) × (q ≡ partner_of s taken n)
-  pub ended_only : (q e : ℕ) → 0 < moved_ends e (lists.to_joiner q) → (n : ℕ) × (e ≡ s.epoch + n + 1) × AllTurned s taken n × (q ≡ partner_of s taken n)
+  pub moved_only : (q e : ℕ) → 0 < length (moved_of e (lists.to_joiner q)) → (n : ℕ) × (e ≡ s.epoch + n + 1)
+      × (n < opened s taken) × (q ≡ partner_of s taken n)
+  pub ended_only : (q e : ℕ) → 0 < moved_ends e (lists.to_joiner q) → (n : ℕ) × (e ≡ s.epoch + n + 1)
+      × AllTurned s taken n × (q ≡ partner_of s taken n)
   pub never_falls : (q : ℕ) → NeverFalls s.epoch (lists.to_joiner q)
   -- what it told the controller and the collector
   pub told : lists.to_controller ≡ map Settled (counting_from (s.epoch + 1) done)

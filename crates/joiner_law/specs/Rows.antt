@@ -34,7 +34,8 @@ abbrev pub all_taken : Taken
 all_taken = record { from_feeder = of_feeder; from_joiner = of_joiner; shift_at = λ e. if 1 == e then 1 else 0 }
 
 -- one step to shift 1, with joiner 1
-pub row_step : opened joiner_0 all_taken ∷ shift_after joiner_0 all_taken 1 ∷ partner_of joiner_0 all_taken 0 ∷ [] ≡ 1 ∷ 1 ∷ 1 ∷ []
+pub row_step : opened joiner_0 all_taken ∷ shift_after joiner_0 all_taken 1 ∷ partner_of joiner_0 all_taken 0 ∷ [] ≡ 1
+    ∷ 1 ∷ 1 ∷ []
 row_step = refl
 
 -- it ends with two rows of R and one of S, and found (0, 0), (0, 1) and (1, 1)

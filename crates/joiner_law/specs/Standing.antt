@@ -1,5 +1,6 @@
 -- What a joiner's machine holds, and the lists for which it stands.
-use Rattle.std.specs.Prelude.{◌≡◌, ℕ, zero, suc, ◌+◌, ◌<◌, ◌≤◌, ◌==◌, Bool, true, false, cond, ⊤, List, [], ◌∷◌, ◌++◌, filter, length, flat_map, map, ◌⊎◌, count_by}
+use Rattle.std.specs.Prelude.{◌≡◌, ℕ, zero, suc, ◌+◌, ◌<◌, ◌≤◌, ◌==◌, Bool, true, false, cond, ⊤, List, [], ◌∷◌, ◌++◌}
+use Rattle.std.specs.Prelude.{filter, length, flat_map, map, ◌⊎◌, count_by}
 use Rattle.join_rows.specs.Lists.{SameBag, counting_from}
 use Rattle.epoch_tags.specs.declared.tuple.Tuple.{Tuple}
 use Rattle.epoch_tags.specs.declared.tuple.Pair.{Pair}
@@ -73,17 +74,20 @@ GoesByOne (step ∷ (before ∷ past)) = AreNeighbours before.shift step.shift �
 -- ---- moves
 
 -- what was sent in a step: the exchanged side of the store before, to the partner, and whether its end was
-pub record IsSent (s : JoinerStart) (lists : JoinerLists) (ended : Bool) (step before : Step) (past : List Step) : Type 0 where
+pub record IsSent (s : JoinerStart) (lists : JoinerLists) (ended : Bool) (step before : Step)
+    (past : List Step) : Type 0 where
   pub tuples : SameBag
       (moved_of (s.epoch + length past + 1) (lists.to_joiner (partner_in_step before.shift step.shift s.id)))
       (filter (is_of (exchanged_side before.shift step.shift)) (stored s.k s.id (before ∷ past)))
-  pub ends : moved_ends (s.epoch + length past + 1) (lists.to_joiner (partner_in_step before.shift step.shift s.id)) ≡ one_if ended
+  pub ends : moved_ends (s.epoch + length past + 1) (lists.to_joiner (partner_in_step before.shift step.shift s.id))
+      ≡ one_if ended
 
 -- what was sent in each step, the latest first
 abbrev pub AreSent : JoinerStart → JoinerLists → Bool → List Step → Type 0
 AreSent s lists ended [] = ⊤
 AreSent s lists ended (step ∷ []) = ⊤
-AreSent s lists ended (step ∷ (before ∷ past)) = IsSent s lists ended step before past × AreSent s lists true (before ∷ past)
+AreSent s lists ended (step ∷ (before ∷ past)) = IsSent s lists ended step before past
+    × AreSent s lists true (before ∷ past)
 
 -- the epoch from which messages may follow these
 abbrev pub reached : ℕ → List ToJoiner → ℕ
@@ -117,7 +121,8 @@ pairs_sent lists = flat_map pairs_found lists.to_collector
 
 -- the pairs that were sent and those that wait to be sent are those of all steps
 pub record ArePairs (s : JoinerStart) (sent waiting : List Pair) (steps : List Step) : Type 0 where
-  pub pairs : CameOlder s.epoch steps → SameBag (sent ++ waiting ++ pairs_by s.matches s.base s.base) (all_found s.matches s.epoch s.k s.id steps)
+  pub pairs : CameOlder s.epoch steps → SameBag (sent ++ waiting ++ pairs_by s.matches s.base s.base)
+      (all_found s.matches s.epoch s.k s.id steps)
 
 -- ---- posts
 
@@ -136,21 +141,24 @@ abbrev pub AreParts : JoinerStart → Taken → Bool → List Step → Type 0
 AreParts s t ended [] = ⊤
 AreParts s t ended (step ∷ []) = ⊤
 AreParts s t ended (step ∷ (before ∷ past)) =
-    (moved_ends (s.epoch + length past + 1) (t.from_joiner (partner_of s t (length past))) ≡ one_if ended) × AreParts s t true (before ∷ past)
+    (moved_ends (s.epoch + length past + 1) (t.from_joiner (partner_of s t (length past))) ≡ one_if ended)
+    × AreParts s t true (before ∷ past)
 
 -- epoch e is that of a step whose partner is joiner q
 abbrev pub IsPartOf : JoinerStart → List Step → ℕ → ℕ → Type 0
 IsPartOf s [] q e = ⊥
 IsPartOf s (step ∷ []) q e = ⊥
 IsPartOf s (step ∷ (before ∷ past)) q e =
-    ((e ≡ s.epoch + length past + 1) × (q ≡ partner_in_step before.shift step.shift s.id)) ⊎ IsPartOf s (before ∷ past) q e
+    ((e ≡ s.epoch + length past + 1) × (q ≡ partner_in_step before.shift step.shift s.id))
+    ⊎ IsPartOf s (before ∷ past) q e
 
 -- and this joiner ended its part of that step
 abbrev pub IsEndOf : JoinerStart → Bool → List Step → ℕ → ℕ → Type 0
 IsEndOf s ended [] q e = ⊥
 IsEndOf s ended (step ∷ []) q e = ⊥
 IsEndOf s ended (step ∷ (before ∷ past)) q e =
-    ((e ≡ s.epoch + length past + 1) × (q ≡ partner_in_step before.shift step.shift s.id) × (ended ≡ true)) ⊎ IsEndOf s true (before ∷ past) q e
+    ((e ≡ s.epoch + length past + 1) × (q ≡ partner_in_step before.shift step.shift s.id) × (ended ≡ true))
+    ⊎ IsEndOf s true (before ∷ past) q e
 
 -- the epochs of all `Moved`, and of all `MovedEnd`
 abbrev pub HasParts : (ℕ → Type 0) → (ℕ → Type 0) → List ToJoiner → Type 0
@@ -166,10 +174,12 @@ abbrev pub moved_counts : ℕ → ℕ → List Step → List ℕ
 moved_counts k id [] = []
 moved_counts k id (step ∷ []) = []
 moved_counts k id (step ∷ (before ∷ past)) =
-    moved_counts k id (before ∷ past) ++ count_by (is_of (exchanged_side before.shift step.shift)) (stored k id (before ∷ past)) ∷ []
+    moved_counts k id (before ∷ past) ++ count_by (is_of (exchanged_side before.shift step.shift))
+    (stored k id (before ∷ past)) ∷ []
 
 -- of a joiner that took t, sent these lists and has these pairs waiting: what holds whether a step is open or not
-pub record AreSteps (s : JoinerStart) (t : Taken) (lists : JoinerLists) (waiting : List Pair) (done : ℕ) (turned ended : ℕ → Bool) (all_turned part_ended : Bool) (steps : List Step) : Type 0 where
+pub record AreSteps (s : JoinerStart) (t : Taken) (lists : JoinerLists) (waiting : List Pair) (done : ℕ)
+    (turned ended : ℕ → Bool) (all_turned part_ended : Bool) (steps : List Step) : Type 0 where
   pub feeders : (p : ℕ) → p < s.feeders → IsOfFeeder s.epoch t.shift_at done (turned p) (ended p) (t.from_feeder p)
   pub history : IsHistory s t steps
   pub by_one : GoesByOne steps
@@ -180,21 +190,25 @@ pub record AreSteps (s : JoinerStart) (t : Taken) (lists : JoinerLists) (waiting
   pub told : lists.to_controller ≡ map Settled (counting_from (s.epoch + 1) done)
   pub first_shift : shift_after s t 0 ≡ s.shift
   pub from_partner : (q : ℕ) → HasParts (λ e. IsPartOf s steps q e) (λ e. IsPartOf s steps q e) (t.from_joiner q)
-  pub to_partner : (q : ℕ) → HasParts (λ e. IsPartOf s steps q e) (λ e. IsEndOf s all_turned steps q e) (lists.to_joiner q)
+  pub to_partner : (q : ℕ) → HasParts (λ e. IsPartOf s steps q e) (λ e. IsEndOf s all_turned steps q e)
+      (lists.to_joiner q)
 
 -- with no step open, the store being `a`
-pub record StandsSettled (s : JoinerStart) (t : Taken) (lists : JoinerLists) (waiting : List Pair) (ended : ℕ → Bool) (a : List Tuple) (cur : Step) (past : List Step) : Type 0 where
+pub record StandsSettled (s : JoinerStart) (t : Taken) (lists : JoinerLists) (waiting : List Pair) (ended : ℕ
+    → Bool) (a : List Tuple) (cur : Step) (past : List Step) : Type 0 where
   pub steps : AreSteps s t lists waiting (length past) (λ p. false) ended true true (cur ∷ past)
   pub store : SameBag a (stored s.k s.id (cur ∷ past))
   pub links : (q : ℕ) → IsLink s.epoch (s.epoch + length past) (s.epoch + length past + 1) (lists.to_joiner q)
   pub taken_up_to : (q : ℕ) → SentUpTo (s.epoch + length past) (t.from_joiner q)
 
 -- with a step open, the stores being `a` and `b`
-pub record StandsOpen (s : JoinerStart) (t : Taken) (lists : JoinerLists) (waiting : List Pair) (turned ended : ℕ → Bool) (all_turned part_ended : Bool) (a b : List Tuple) (new cur : Step) (past : List Step) : Type 0 where
+pub record StandsOpen (s : JoinerStart) (t : Taken) (lists : JoinerLists) (waiting : List Pair) (turned ended : ℕ
+    → Bool) (all_turned part_ended : Bool) (a b : List Tuple) (new cur : Step) (past : List Step) : Type 0 where
   pub steps : AreSteps s t lists waiting (length past) turned ended all_turned part_ended (new ∷ (cur ∷ past))
   pub store : SameBag a (stored s.k s.id (cur ∷ past))
   pub opened : SameBag b (stored s.k s.id (new ∷ (cur ∷ past)))
-  pub links : (q : ℕ) → IsLink s.epoch (s.epoch + length past + 1) (s.epoch + length past + 1 + one_if all_turned) (lists.to_joiner q)
+  pub links : (q : ℕ) → IsLink s.epoch (s.epoch + length past + 1) (s.epoch + length past + 1 + one_if all_turned)
+      (lists.to_joiner q)
   pub taken_up_to : (q : ℕ) → SentUpTo (s.epoch + length past + 1) (t.from_joiner q)
 
 -- one flag more

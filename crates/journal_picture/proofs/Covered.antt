@@ -6,7 +6,8 @@ use Rattle.std.proofs.lemmas.List.Elements.{All-nil, All-cons, All-head, All-tai
 use Rattle.journal_picture.specs.declared.point.Point.{Point}
 use Rattle.journal_picture.specs.declared.curve.Stretch.{Stretch}
 use Rattle.journal_picture.specs.Places.{column_of, height_of}
-use Rattle.journal_picture.specs.Curve.{alone, higher, stretches_from, stretches_of, with_point, IsAmong, IsCovered, StandsFor}
+use Rattle.journal_picture.specs.Curve.{alone, higher, stretches_from, stretches_of, with_point, IsAmong, IsCovered}
+use Rattle.journal_picture.specs.Curve.{StandsFor}
 
 -- what is so of the first stretch and of all points behind it is so of each
 among_from : (all : List Point) (total : ℕ) (stretch : Stretch) (points : List Point) → IsAmong all stretch

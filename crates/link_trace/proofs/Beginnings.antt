@@ -56,7 +56,8 @@ module _ (input : Input) (setting : Setting) (n : ℕ) (places : List Place) (ne
         | inl there ↦ new.fresh m core there
         | inr last ↦
             let at_end : n ≡ m = sym new.all ∙ (sym (length-map places (λ (p : Place). p.core)) ∙ sym last.0) in
-            subst (λ z. Stands (start_for input setting (actor_at (2 ^ setting.k) setting.feeders z)) no_lists core) at_end
+            subst (λ z. Stands (start_for input setting (actor_at (2 ^ setting.k) setting.feeders z)) no_lists core)
+            at_end
             (subst (λ z. Stands (start_for input setting (actor_at (2 ^ setting.k) setting.feeders n)) no_lists z)
             last.1 stands)
       ]

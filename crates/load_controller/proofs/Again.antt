@@ -1,5 +1,6 @@
 -- A line that isn't moving is one from which a controller can begin.
-use Rattle.std.proofs.Common.{◌≡◌, ℕ, ◌≤◌, ◌^◌, refl, sym, ◌∙◌, ap, subst, false, not, List, [], ◌∷◌, Option, None, Some}
+use Rattle.std.proofs.Common.{◌≡◌, ℕ, ◌≤◌, ◌^◌, refl, sym, ◌∙◌, ap, subst, false, not, List, [], ◌∷◌, Option, None}
+use Rattle.std.proofs.Common.{Some}
 use Rattle.std.specs.Prelude.{is_none}
 use Rattle.std.proofs.lemmas.Bool.{eq-eqb}
 use Rattle.load_controller.specs.declared.line.Cause.{Cause}

@@ -1,17 +1,20 @@
 -- A journal has at most k migrations for each decision, and a decision doubles a side.
-use Rattle.std.proofs.Common.{◌≡◌, ℕ, ◌+◌, ◌-◌, ◌*◌, ◌^◌, ◌<◌, ◌≤◌, max, inl, inr, refl, sym, ◌∙◌, ap, arith, Bool, true, false, not, ◌||◌, ◌&&◌, cond, List, [], ◌∷◌, ◌++◌, Option, Some, None, subst}
+use Rattle.std.proofs.Common.{◌≡◌, ℕ, ◌+◌, ◌-◌, ◌*◌, ◌^◌, ◌<◌, ◌≤◌, max, inl, inr, refl, sym, ◌∙◌, ap, arith, Bool}
+use Rattle.std.proofs.Common.{true, false, not, ◌||◌, ◌&&◌, cond, List, [], ◌∷◌, ◌++◌, Option, Some, None, subst}
 use Rattle.std.specs.Prelude.{◌==◌, ◌/◌, nat_lt, nat_le, is_none, unwrap_or, reverse}
 use Rattle.std.specs.List.{AllByRecursion}
 use Rattle.std.proofs.Math.Pow.{pow_mono}
 use Rattle.std.proofs.lemmas.List.{reverse-append, reverse-reverse}
 use Rattle.std.proofs.lemmas.Nat.{mul-le, pow_pos, pow-add}
-use Rattle.std.proofs.lemmas.Bool.{cases_lt, and_parts, or_cases, ltb-true, leb-true, eqb-false, lt-ltb, le-ltb, not-true, cond_both}
+use Rattle.std.proofs.lemmas.Bool.{cases_lt, and_parts, or_cases, ltb-true, leb-true, eqb-false, lt-ltb, le-ltb}
+use Rattle.std.proofs.lemmas.Bool.{not-true, cond_both}
 use Rattle.grid_map.specs.Load.{best_shift}
 use Rattle.grid_map.proofs.Best.{best_within}
 use Rattle.migration_plan.specs.Steps.{next_step}
 use Rattle.load_controller.specs.declared.line.Cause.{Cause}
 use Rattle.load_controller.specs.declared.line.TurnLine.{TurnLine}
-use Rattle.load_controller.specs.Journal.{Rules, Fits, Follows, AreLawful, begun, last_line, last_of, due_in, line_after, has_doubled, counted_r, counted_s, is_open, is_due, due_lines}
+use Rattle.load_controller.specs.Journal.{Rules, Fits, Follows, AreLawful, begun, last_line, last_of, due_in}
+use Rattle.load_controller.specs.Journal.{line_after, has_doubled, counted_r, counted_s, is_open, is_due, due_lines}
 
 -- how many steps lie between two shifts
 abbrev pub gap : ℕ → ℕ → ℕ

@@ -1,5 +1,6 @@
 -- Which lines a feeder's messages have: each has one, where they are asks and at most a last word that it has drained.
-use Rattle.std.proofs.Common.{◌≡◌, ℕ, ◌+◌, ◌^◌, ◌≤◌, inl, inr, refl, sym, ◌∙◌, ap, subst, arith, Bool, true, false, cond, ◌||◌, ◌⊎◌, List, [], ◌∷◌, ◌++◌, append_assoc, sum_by, reverse, filter}
+use Rattle.std.proofs.Common.{◌≡◌, ℕ, ◌+◌, ◌^◌, ◌≤◌, inl, inr, refl, sym, ◌∙◌, ap, subst, arith, Bool, true, false}
+use Rattle.std.proofs.Common.{cond, ◌||◌, ◌⊎◌, List, [], ◌∷◌, ◌++◌, append_assoc, sum_by, reverse, filter}
 use Rattle.std.specs.Prelude.{map, not, MatchBool, ◌==◌}
 use Rattle.std.specs.List.{AllByRecursion}
 use Rattle.std.proofs.lemmas.Bool.{cases_Bool, eq-eqb, or_parts}
@@ -10,11 +11,13 @@ use Rattle.epoch_tags.specs.declared.message.ToController.{ToController}
 use Rattle.epoch_tags.specs.declared.message.ToController.TheVariants.{Ask, Drained, Settled}
 use Rattle.epoch_tags.specs.Messages.{asks, draineds, asked_r, asked_s}
 use Rattle.epoch_tags.specs.Orders.{DrainsLast}
-use Rattle.epoch_tags.proofs.Appends.{asks-append, draineds-append, asked_r-append, asked_s-append, none_drained, not_settled}
+use Rattle.epoch_tags.proofs.Appends.{asks-append, draineds-append, asked_r-append, asked_s-append, none_drained}
+use Rattle.epoch_tags.proofs.Appends.{not_settled}
 use Rattle.load_controller.specs.declared.line.Cause.{Cause}
 use Rattle.load_controller.specs.declared.line.Cause.TheVariants.{Start, Wave, Count, Settle, Drain}
 use Rattle.load_controller.specs.declared.line.TurnLine.{TurnLine}
-use Rattle.load_controller.specs.Journal.{Rules, Follows, IsAllowed, counted_r, counted_s, is_count_of, is_drain_of, has_drained, causes_of, all_causes}
+use Rattle.load_controller.specs.Journal.{Rules, Follows, IsAllowed, counted_r, counted_s, is_count_of, is_drain_of}
+use Rattle.load_controller.specs.Journal.{has_drained, causes_of, all_causes}
 use Rattle.load_controller.specs.Law.{AreCounted, CountsOne, CountsMessages, IsInPlace, cause_of}
 use Rattle.std.proofs.lemmas.List.Elements.{filter-append}
 use Rattle.std.proofs.lemmas.List.Sums.{sum_by-append, sum_by-cons}

@@ -1,5 +1,6 @@
 -- A machine that has just begun.
-use Rattle.std.proofs.Common.{◌≡◌, ℕ, ◌^◌, ◌≤◌, inl, inr, refl, sym, ◌∙◌, ap, subst, arith, false, not, ◌&&◌, Option, [], ◌∷◌, length}
+use Rattle.std.proofs.Common.{◌≡◌, ℕ, ◌^◌, ◌≤◌, inl, inr, refl, sym, ◌∙◌, ap, subst, arith, false, not, ◌&&◌, Option}
+use Rattle.std.proofs.Common.{[], ◌∷◌, length}
 use Rattle.std.specs.Prelude.{reverse, ◌==◌, All, unwrap_or, ◌/◌}
 use Rattle.std.specs.Option.{ForSome}
 use Rattle.std.specs.List.{list_all}
@@ -18,7 +19,8 @@ use Rattle.load_controller.specs.Journal.{IsFirst, Rules, Fits, start_line, has_
 use Rattle.load_controller.specs.Law.{is_over}
 use Rattle.grid_map.specs.declared.cost.Weights.{Weights}
 use Rattle.grid_map.specs.Load.{AreWeights}
-use Rattle.load_controller.specs.Standing.{ControllerState, IsFresh, StandsFor, IsNearWhereStill, nothing_yet, rules_with}
+use Rattle.load_controller.specs.Standing.{ControllerState, IsFresh, StandsFor, IsNearWhereStill, nothing_yet}
+use Rattle.load_controller.specs.Standing.{rules_with}
 use Rattle.load_controller.specs.Machine.{Begins, rules_of, state_of}
 use Rattle.load_controller.proofs.Bound.{fixed_within}
 use Rattle.load_controller.proofs.Numbers.{first_bounded, first_guided, near_line}

@@ -1,5 +1,6 @@
 -- What the machine keeps beside its journal stays in step with it.
-use Rattle.std.proofs.Common.{◌≡◌, ℕ, suc, ◌+◌, ◌^◌, ◌<◌, ◌≤◌, refl, sym, ◌∙◌, ap, subst, arith, Bool, true, false, not, ◌||◌, ◌&&◌, cond, None, List, [], ◌∷◌, ◌++◌, length, filter, reverse}
+use Rattle.std.proofs.Common.{◌≡◌, ℕ, suc, ◌+◌, ◌^◌, ◌<◌, ◌≤◌, refl, sym, ◌∙◌, ap, subst, arith, Bool, true, false, not}
+use Rattle.std.proofs.Common.{◌||◌, ◌&&◌, cond, None, List, [], ◌∷◌, ◌++◌, length, filter, reverse}
 use Rattle.std.specs.Prelude.{◌==◌, is_none, All}
 use Rattle.std.specs.List.{list_all, list_any}
 use Rattle.std.proofs.lemmas.Bool.{eq-eqb, ne_eqb, eqb-false, false≢true}
@@ -14,7 +15,8 @@ use Rattle.load_controller.specs.declared.line.Cause.{Cause}
 use Rattle.load_controller.specs.declared.line.Cause.TheVariants.{Start, Wave, Count, Settle, Drain}
 use Rattle.load_controller.specs.declared.line.TurnLine.{TurnLine}
 use Rattle.load_controller.specs.declared.ledger.Ledger.{Ledger}
-use Rattle.load_controller.specs.Journal.{line_after, is_open, counted_r, counted_s, has_drained, since_begun, settled_count, is_settle, is_settle_of, is_drain_of}
+use Rattle.load_controller.specs.Journal.{line_after, is_open, counted_r, counted_s, has_drained, since_begun}
+use Rattle.load_controller.specs.Journal.{settled_count, is_settle, is_settle_of, is_drain_of}
 use Rattle.load_controller.specs.Law.{is_over}
 use Rattle.grid_map.specs.Load.{AreWeights}
 use Rattle.load_controller.specs.Next.{line_by, goal_by}

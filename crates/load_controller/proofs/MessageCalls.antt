@@ -1,5 +1,6 @@
 -- A call with a message: one that is counted, one that was held, and one that is passed over.
-use Rattle.std.proofs.Common.{◌≡◌, ℕ, ◌^◌, ◌<◌, refl, sym, ◌∙◌, ap, subst, arith, Bool, false, not, List, [], ◌∷◌, ◌++◌, length, drop, reverse, get_or-set_same, get_or-set_other}
+use Rattle.std.proofs.Common.{◌≡◌, ℕ, ◌^◌, ◌<◌, refl, sym, ◌∙◌, ap, subst, arith, Bool, false, not, List, [], ◌∷◌, ◌++◌}
+use Rattle.std.proofs.Common.{length, drop, reverse, get_or-set_same, get_or-set_other}
 use Rattle.std.specs.Prelude.{slice_set}
 use Rattle.std.proofs.Math.ListN.{length-set}
 use Rattle.std.proofs.lemmas.Bool.{not-true, lt-ltb}
@@ -17,11 +18,15 @@ use Rattle.load_controller.specs.declared.line.TurnLine.{TurnLine}
 use Rattle.load_controller.specs.declared.ledger.Ledger.{Ledger}
 use Rattle.load_controller.specs.Journal.{has_drained, has_settled}
 use Rattle.load_controller.specs.Law.{IsInPlace, SettlesInPlace, cause_of}
-use Rattle.load_controller.specs.Standing.{ControllerState, TakesMessage, PassesOver, IsPassedOver, with_message, with_sent, posts_for, posts_by, with_all_held}
-use Rattle.load_controller.specs.Machine.{IsSound, IsReady, IsStuck, StandsWithin, Advances, Took, HasPlace, CauseFits, CountsCause, rules_of, state_of}
+use Rattle.load_controller.specs.Standing.{ControllerState, TakesMessage, PassesOver, IsPassedOver, with_message}
+use Rattle.load_controller.specs.Standing.{with_sent, posts_for, posts_by, with_all_held}
+use Rattle.load_controller.specs.Machine.{IsSound, IsReady, IsStuck, StandsWithin, Advances, Took, HasPlace, CauseFits}
+use Rattle.load_controller.specs.Machine.{CountsCause, rules_of, state_of}
 use Rattle.load_controller.proofs.CallResults.{placed_counts, line_state, same_left, stays_stuck, passed_stays}
-use Rattle.load_controller.proofs.Standings.{feeder_counted, held_counted, joiner_held, message_passed, as_own, within_of, stuck_of, stands_of}
-use Rattle.load_controller.proofs.CallParts.{sent_none, prefix_self, sent_within, took_then, adds_line, over_line, stands_with, recast, first_same, rest_same}
+use Rattle.load_controller.proofs.Standings.{feeder_counted, held_counted, joiner_held, message_passed, as_own}
+use Rattle.load_controller.proofs.Standings.{within_of, stuck_of, stands_of}
+use Rattle.load_controller.proofs.CallParts.{sent_none, prefix_self, sent_within, took_then, adds_line, over_line}
+use Rattle.load_controller.proofs.CallParts.{stands_with, recast, first_same, rest_same}
 
 -- ---- a feeder's message
 

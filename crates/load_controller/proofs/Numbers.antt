@@ -1,5 +1,6 @@
 -- The numbers of a line stay in range, and its goal stays the best.
-use Rattle.std.proofs.Common.{◌≡◌, ℕ, ◌+◌, ◌-◌, ◌*◌, ◌^◌, ◌<◌, ◌≤◌, inl, inr, refl, sym, ap, arith, Bool, true, false, not, ◌||◌, ◌&&◌, cond, Option, None}
+use Rattle.std.proofs.Common.{◌≡◌, ℕ, ◌+◌, ◌-◌, ◌*◌, ◌^◌, ◌<◌, ◌≤◌, inl, inr, refl, sym, ap, arith, Bool, true, false}
+use Rattle.std.proofs.Common.{not, ◌||◌, ◌&&◌, cond, Option, None}
 use Rattle.std.specs.Prelude.{◌==◌, nat_lt, nat_le, is_none}
 use Rattle.std.proofs.lemmas.Nat.{pow-add}
 use Rattle.std.proofs.lemmas.Bool.{cases_eq, and_parts, or_parts, or_cases, ltb-true, leb-true, eqb-false, not-true}

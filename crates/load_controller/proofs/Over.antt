@@ -10,19 +10,25 @@ use Rattle.load_controller.proofs.Counted.{drain_lines}
 use Rattle.join_rows.proofs.RisingNumbers.{one_passes, every_passes}
 
 -- where it is over each feeder has drained
-pub over_drained : (feeders p : ℕ) (past : List TurnLine) → p < feeders → is_over feeders past ≡ true → has_drained p past ≡ true
+pub over_drained : (feeders p : ℕ) (past : List TurnLine) → p < feeders → is_over feeders past ≡ true
+    → has_drained p past ≡ true
 over_drained feeders p [] low over = absurd (true≢false (sym over))
 over_drained feeders p (line ∷ past) low over =
-    elim (or_cases (not line.moving && list_all (λ q. has_drained q (line ∷ past)) (counting_from 0 feeders)) (is_over feeders past) over) [
-      | inl here ↦ one_passes (λ q. has_drained q (line ∷ past)) p 0 feeders (omega arith) (omega arith) (and_parts (not line.moving) (list_all (λ q. has_drained q (line ∷ past)) (counting_from 0 feeders)) here).1
+    elim (or_cases (not line.moving && list_all (λ q. has_drained q (line ∷ past)) (counting_from 0 feeders))
+    (is_over feeders past) over) [
+      | inl here ↦ one_passes (λ q. has_drained q (line ∷ past)) p 0 feeders (omega arith) (omega arith)
+          (and_parts (not line.moving) (list_all (λ q. has_drained q (line ∷ past)) (counting_from 0 feeders)) here).1
       | inr before ↦ or_right (is_drain_of p line.cause) (has_drained p past) (over_drained feeders p past low before)
     ]
 
 -- and the other way round
-pub over_where : (feeders : ℕ) (line : TurnLine) (past : List TurnLine) → line.moving ≡ false → ((p : ℕ) → p < feeders → has_drained p (line ∷ past) ≡ true) → is_over feeders (line ∷ past) ≡ true
+pub over_where : (feeders : ℕ) (line : TurnLine) (past : List TurnLine) → line.moving ≡ false
+    → ((p : ℕ) → p < feeders → has_drained p (line ∷ past) ≡ true) → is_over feeders (line ∷ past) ≡ true
 over_where feeders line past still drained =
-    or_left (not line.moving && list_all (λ q. has_drained q (line ∷ past)) (counting_from 0 feeders)) (is_over feeders past)
-    (and_from (not line.moving) (list_all (λ q. has_drained q (line ∷ past)) (counting_from 0 feeders)) (ap not still) (every_passes (λ q. has_drained q (line ∷ past)) 0 feeders (λ q low. drained q (omega arith))))
+    or_left (not line.moving && list_all (λ q. has_drained q (line ∷ past)) (counting_from 0 feeders))
+    (is_over feeders past)
+    (and_from (not line.moving) (list_all (λ q. has_drained q (line ∷ past)) (counting_from 0 feeders)) (ap not still)
+    (every_passes (λ q. has_drained q (line ∷ past)) 0 feeders (λ q low. drained q (omega arith))))
 
 -- a feeder that has not drained has no line that says so
 pub no_drain_lines : (p : ℕ) (past : List TurnLine) → has_drained p past ≡ false → drain_lines p past ≡ 0

@@ -1,8 +1,10 @@
 -- What a journal sends to each feeder: an order for each epoch, a grant for each count, and at the very end a stop.
-use Rattle.std.proofs.Common.{◌≡◌, ℕ, ◌+◌, ◌<◌, inl, inr, refl, sym, ◌∙◌, ap, subst, arith, Bool, true, false, not, cond, ◌||◌, ◌&&◌, ◌⊎◌, List, [], ◌∷◌, ◌++◌}
+use Rattle.std.proofs.Common.{◌≡◌, ℕ, ◌+◌, ◌<◌, inl, inr, refl, sym, ◌∙◌, ap, subst, arith, Bool, true, false, not}
+use Rattle.std.proofs.Common.{cond, ◌||◌, ◌&&◌, ◌⊎◌, List, [], ◌∷◌, ◌++◌}
 use Rattle.std.specs.Prelude.{◌==◌}
 use Rattle.std.specs.List.{list_all, AllByRecursion}
-use Rattle.std.proofs.lemmas.Bool.{eq-eqb, ne_eqb, or_parts, or_left, or_right, or_from, and_left, and_right, not-true, not_from_true, true≢false}
+use Rattle.std.proofs.lemmas.Bool.{eq-eqb, ne_eqb, or_parts, or_left, or_right, or_from, and_left, and_right, not-true}
+use Rattle.std.proofs.lemmas.Bool.{not_from_true, true≢false}
 use Rattle.std.proofs.lemmas.List.{append-nil}
 use Rattle.join_rows.specs.Lists.{counting_from}
 use Rattle.join_rows.proofs.RisingNumbers.{counting-more, one_fails}

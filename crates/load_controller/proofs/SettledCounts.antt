@@ -1,9 +1,11 @@
 -- How many joiners have settled: where a journal isn't moving each has settled every epoch, and else each has settled
 -- every epoch but perhaps the current one.
-use Rattle.std.proofs.Common.{◌≡◌, ℕ, ◌+◌, ◌*◌, ◌^◌, ◌<◌, ◌≤◌, inl, inr, refl, sym, ◌∙◌, ap, subst, arith, Bool, true, false, not, cond, ◌||◌, ◌&&◌, List, [], ◌∷◌, ◌++◌, length, length-append}
+use Rattle.std.proofs.Common.{◌≡◌, ℕ, ◌+◌, ◌*◌, ◌^◌, ◌<◌, ◌≤◌, inl, inr, refl, sym, ◌∙◌, ap, subst, arith, Bool, true}
+use Rattle.std.proofs.Common.{false, not, cond, ◌||◌, ◌&&◌, List, [], ◌∷◌, ◌++◌, length, length-append}
 use Rattle.std.specs.Prelude.{◌==◌, filter}
 use Rattle.std.specs.List.{list_any}
-use Rattle.std.proofs.lemmas.Bool.{cases_Bool, cases_eq, eq-eqb, ne_eqb, eqb-true, eqb-false, true≢false, false≢true, not-true}
+use Rattle.std.proofs.lemmas.Bool.{cases_Bool, cases_eq, eq-eqb, ne_eqb, eqb-true, eqb-false, true≢false, false≢true}
+use Rattle.std.proofs.lemmas.Bool.{not-true}
 use Rattle.std.proofs.lemmas.Nat.{pow_pos}
 use Rattle.join_rows.specs.Lists.{total, counting_from}
 use Rattle.join_rows.proofs.RisingNumbers.{length-counting_from, at_place}
@@ -11,7 +13,8 @@ use Rattle.join_rows.proofs.Totals.{total_one, total_same, total-const, each_ful
 use Rattle.load_controller.specs.declared.line.Cause.{Cause}
 use Rattle.load_controller.specs.declared.line.Cause.TheVariants.{Start, Wave, Count, Settle, Drain}
 use Rattle.load_controller.specs.declared.line.TurnLine.{TurnLine}
-use Rattle.load_controller.specs.Journal.{Rules, Follows, IsAllowed, line_after, is_settle, is_settle_of, since_begun, settled_count, has_settled}
+use Rattle.load_controller.specs.Journal.{Rules, Follows, IsAllowed, line_after, is_settle, is_settle_of, since_begun}
+use Rattle.load_controller.specs.Journal.{settled_count, has_settled}
 use Rattle.load_controller.specs.Law.{AreSettled, SettlesOne, CountsSettled}
 use Rattle.load_controller.proofs.Counted.{match_cases}
 

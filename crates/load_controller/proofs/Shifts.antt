@@ -1,13 +1,16 @@
 -- All lines of an epoch have one shift.
-use Rattle.std.proofs.Common.{◌≡◌, ℕ, ◌+◌, ◌*◌, ◌<◌, ◌≤◌, ◌⊎◌, inl, inr, refl, sym, ◌∙◌, ap, subst, arith, Bool, true, false, cond, List, [], ◌∷◌, ◌++◌}
+use Rattle.std.proofs.Common.{◌≡◌, ℕ, ◌+◌, ◌*◌, ◌<◌, ◌≤◌, ◌⊎◌, inl, inr, refl, sym, ◌∙◌, ap, subst, arith, Bool, true}
+use Rattle.std.proofs.Common.{false, cond, List, [], ◌∷◌, ◌++◌}
 use Rattle.std.specs.Prelude.{◌==◌, not, ◌&&◌, ◌||◌, is_none}
 use Rattle.std.specs.List.{AllByRecursion}
-use Rattle.std.proofs.lemmas.Bool.{cases_eq, cases_lt, eq-eqb, ne_eqb, eqb-false, not-true, and_parts, cond_both, lt-ltb, le-ltb}
+use Rattle.std.proofs.lemmas.Bool.{cases_eq, cases_lt, eq-eqb, ne_eqb, eqb-false, not-true, and_parts, cond_both}
+use Rattle.std.proofs.lemmas.Bool.{lt-ltb, le-ltb}
 use Rattle.grid_map.specs.Load.{best_shift}
 use Rattle.migration_plan.specs.Steps.{next_step, AreNeighbours}
 use Rattle.load_controller.specs.declared.line.Cause.{Cause}
 use Rattle.load_controller.specs.declared.line.TurnLine.{TurnLine}
-use Rattle.load_controller.specs.Journal.{Rules, Follows, line_after, has_doubled, counted_r, counted_s, ends_step, shift_at, last_epoch}
+use Rattle.load_controller.specs.Journal.{Rules, Follows, line_after, has_doubled, counted_r, counted_s, ends_step}
+use Rattle.load_controller.specs.Journal.{shift_at, last_epoch}
 
 -- a line stays in its epoch, with its shift, or begins the next
 pub stays_or_begins : (rules : Rules) (before : TurnLine) (past : List TurnLine) (cause : Cause)

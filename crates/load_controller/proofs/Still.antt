@@ -1,7 +1,9 @@
 -- Where a journal isn't moving and no shift is fixed, its shift is near the best.
-use Rattle.std.proofs.Common.{◌≡◌, ℕ, ◌+◌, ◌*◌, ◌≤◌, inl, inr, refl, sym, ◌∙◌, ap, subst, arith, Bool, true, false, not, ◌||◌, ◌&&◌, cond, List, [], ◌∷◌, None}
+use Rattle.std.proofs.Common.{◌≡◌, ℕ, ◌+◌, ◌*◌, ◌≤◌, inl, inr, refl, sym, ◌∙◌, ap, subst, arith, Bool, true, false, not}
+use Rattle.std.proofs.Common.{◌||◌, ◌&&◌, cond, List, [], ◌∷◌, None}
 use Rattle.std.specs.Prelude.{◌==◌, nat_lt, nat_le, is_none}
-use Rattle.std.proofs.lemmas.Bool.{or_parts, and_cases, ltb-false, leb-false, eqb-true, false≢true, true≢false, not-true}
+use Rattle.std.proofs.lemmas.Bool.{or_parts, and_cases, ltb-false, leb-false, eqb-true, false≢true, true≢false}
+use Rattle.std.proofs.lemmas.Bool.{not-true}
 use Rattle.std.proofs.lemmas.Bool.Decides.{nat_tests}
 use Rattle.grid_map.specs.Load.{best_shift, HasFewest, IsNear}
 use Rattle.grid_map.proofs.Best.{best_fewest}
@@ -9,7 +11,8 @@ use Rattle.grid_map.proofs.Near.{near_weighed}
 use Rattle.migration_plan.specs.Steps.{next_step}
 use Rattle.load_controller.specs.declared.line.Cause.{Cause}
 use Rattle.load_controller.specs.declared.line.TurnLine.{TurnLine}
-use Rattle.load_controller.specs.Journal.{Rules, Follows, line_after, Fits, has_doubled, counted_r, counted_s, ends_step}
+use Rattle.load_controller.specs.Journal.{Rules, Follows, line_after, Fits, has_doubled, counted_r, counted_s}
+use Rattle.load_controller.specs.Journal.{ends_step}
 use Rattle.load_controller.proofs.Bound.{next_within}
 
 -- ---- what holds of each line

@@ -1,5 +1,7 @@
 -- The lawful journal. A past is the lines so far, the latest first.
-use Rattle.std.specs.Prelude.{◌≡◌, ℕ, ◌+◌, ◌*◌, ◌/◌, ◌^◌, ◌<◌, ◌≤◌, ◌==◌, nat_lt, nat_le, Bool, true, false, not, ◌&&◌, ◌||◌, IsTrue, ⊤, Option, Some, None, is_none, unwrap_or, List, [], ◌∷◌, ◌++◌, map, reverse, length, filter, if◌then◌else◌}
+use Rattle.std.specs.Prelude.{◌≡◌, ℕ, ◌+◌, ◌*◌, ◌/◌, ◌^◌, ◌<◌, ◌≤◌, ◌==◌, nat_lt, nat_le, Bool, true, false, not, ◌&&◌}
+use Rattle.std.specs.Prelude.{◌||◌, IsTrue, ⊤, Option, Some, None, is_none, unwrap_or, List, [], ◌∷◌, ◌++◌, map}
+use Rattle.std.specs.Prelude.{reverse, length, filter, if◌then◌else◌}
 use Rattle.std.specs.List.{list_any}
 use Rattle.join_rows.specs.Lists.{IsPrefix}
 use Rattle.grid_map.specs.declared.cost.Weights.{Weights}

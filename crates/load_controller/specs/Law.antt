@@ -1,5 +1,6 @@
 -- The law of the controller: its journal, the messages that its lines are, and what it sends for them.
-use Rattle.std.specs.Prelude.{◌≡◌, ℕ, ◌+◌, ◌^◌, ◌<◌, ◌≤◌, ◌==◌, Bool, false, not, ◌&&◌, ◌||◌, IsTrue, MatchBool, List, [], ◌∷◌, ◌++◌, reverse, if◌then◌else◌}
+use Rattle.std.specs.Prelude.{◌≡◌, ℕ, ◌+◌, ◌^◌, ◌<◌, ◌≤◌, ◌==◌, Bool, false, not, ◌&&◌, ◌||◌, IsTrue, MatchBool, List}
+use Rattle.std.specs.Prelude.{[], ◌∷◌, ◌++◌, reverse, if◌then◌else◌}
 use Rattle.std.specs.List.{AllByRecursion, list_all}
 use Rattle.join_rows.specs.Lists.{counting_from}
 use Rattle.epoch_tags.specs.declared.message.ToController.{ToController}
@@ -10,7 +11,8 @@ use Rattle.epoch_tags.specs.Messages.{settled_epochs}
 use Rattle.load_controller.specs.declared.line.Cause.{Cause}
 use Rattle.load_controller.specs.declared.line.Cause.TheVariants.{Start, Count, Drain}
 use Rattle.load_controller.specs.declared.line.TurnLine.{TurnLine}
-use Rattle.load_controller.specs.Journal.{Rules, Follows, is_count_of, is_drain_of, is_settle_of, has_drained, has_settled}
+use Rattle.load_controller.specs.Journal.{Rules, Follows, is_count_of, is_drain_of, is_settle_of, has_drained}
+use Rattle.load_controller.specs.Journal.{has_settled}
 
 -- what the controller received and sent, and its journal
 pub record ControllerLists : Type 0 where
@@ -23,13 +25,15 @@ pub record ControllerLists : Type 0 where
 
 -- a feeder's message
 abbrev pub IsInPlace : TurnLine → List TurnLine → ℕ → ToController → Type 0
-IsInPlace before past p (Ask dr ds) = IsTrue (not (has_drained p (before ∷ past))) × (before.rows_r + dr ≤ 2 ^ 32) × (before.rows_s + ds ≤ 2 ^ 32)
+IsInPlace before past p (Ask dr ds) = IsTrue (not (has_drained p (before ∷ past))) × (before.rows_r + dr ≤ 2 ^ 32)
+    × (before.rows_s + ds ≤ 2 ^ 32)
 IsInPlace before past p Drained = IsTrue (not (has_drained p (before ∷ past)))
 IsInPlace before past p (Settled epoch) = ⊥
 
 -- joiner j's word that it has settled this epoch
 abbrev pub SettlesInPlace : TurnLine → List TurnLine → ℕ → ℕ → Type 0
-SettlesInPlace before past j epoch = IsTrue before.moving × (epoch ≡ before.epoch) × IsTrue (not (has_settled j (before ∷ past)))
+SettlesInPlace before past j epoch = IsTrue before.moving × (epoch ≡ before.epoch)
+    × IsTrue (not (has_settled j (before ∷ past)))
 
 -- the cause of the line that counts a feeder's message
 abbrev pub cause_of : ℕ → ToController → Cause
@@ -41,7 +45,8 @@ cause_of p (Settled epoch) = Start
 
 -- after the past that begins with the line `before`, a line of this cause counts the last of feeder p's messages,
 -- those between it and the earlier ones being passed over
-pub record CountsOne (p : ℕ) (before : TurnLine) (past : List TurnLine) (cause : Cause) (AreEarlier : List ToController → Type 0) (ms : List ToController) : Type 0 where
+pub record CountsOne (p : ℕ) (before : TurnLine) (past : List TurnLine) (cause : Cause) (AreEarlier : List ToController
+    → Type 0) (ms : List ToController) : Type 0 where
   pub earlier : List ToController
   pub passed : List ToController
   pub m : ToController
@@ -60,8 +65,10 @@ AreCounted p (line ∷ before ∷ past) ms =
     (CountsOne p before past line.cause (λ earlier. AreCounted p (before ∷ past) earlier) ms)
     (AreCounted p (before ∷ past) ms)
 
--- after the past that begins with the line `before`, a line counts the last of the epochs that joiner j said it has settled
-pub record SettlesOne (j : ℕ) (before : TurnLine) (past : List TurnLine) (AreEarlier : List ℕ → Type 0) (epochs : List ℕ) : Type 0 where
+-- after the past that begins with the line `before`, a line counts the last of the epochs that joiner j said it has
+-- settled
+pub record SettlesOne (j : ℕ) (before : TurnLine) (past : List TurnLine) (AreEarlier : List ℕ
+    → Type 0) (epochs : List ℕ) : Type 0 where
   pub earlier : List ℕ
   pub epoch : ℕ
   pub splits : epochs ≡ earlier ++ epoch ∷ []
@@ -98,14 +105,16 @@ pub record CountsSettled (j : ℕ) (line : TurnLine) (past : List TurnLine) (epo
 -- some line of the past isn't moving and comes after all feeders drained
 abbrev pub is_over : ℕ → List TurnLine → Bool
 is_over feeders [] = false
-is_over feeders (line ∷ past) = (not line.moving && list_all (λ p. has_drained p (line ∷ past)) (counting_from 0 feeders)) || is_over feeders past
+is_over feeders (line ∷ past) = (not line.moving && list_all (λ p. has_drained p (line ∷ past))
+    (counting_from 0 feeders)) || is_over feeders past
 
 -- what feeder p is sent for one line: the order of a step that began, the grant of its batch, the stop at the end
 abbrev pub sent_for : Rules → ℕ → TurnLine → TurnLine → List TurnLine → List ToFeeder
 sent_for rules p line before past =
     (if line.epoch == before.epoch then [] else Order line.epoch line.shift ∷ [])
     ++ (if is_count_of p line.cause then Grant ∷ [] else [])
-    ++ (if not (is_over rules.feeders (before ∷ past)) && is_over rules.feeders (line ∷ before ∷ past) then Stop ∷ [] else [])
+    ++ (if not (is_over rules.feeders (before ∷ past)) && is_over rules.feeders (line ∷ before ∷ past) then Stop ∷ []
+    else [])
 
 -- and for all lines of a past
 abbrev pub sent_by : Rules → ℕ → List TurnLine → List ToFeeder

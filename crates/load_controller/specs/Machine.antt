@@ -1,5 +1,6 @@
 -- The machine itself: what it keeps beside its journal, and what its parts do.
-use Rattle.std.specs.Prelude.{◌≡◌, ℕ, ◌+◌, ◌-◌, ◌*◌, ◌^◌, ◌<◌, ◌≤◌, ◌==◌, ⊤, Bool, true, false, not, ◌&&◌, ◌||◌, None, List, [], ◌∷◌, ◌++◌, All, drop, length, reverse, sum_by, if◌then◌else◌}
+use Rattle.std.specs.Prelude.{◌≡◌, ℕ, ◌+◌, ◌-◌, ◌*◌, ◌^◌, ◌<◌, ◌≤◌, ◌==◌, ⊤, Bool, true, false, not, ◌&&◌, ◌||◌, None}
+use Rattle.std.specs.Prelude.{List, [], ◌∷◌, ◌++◌, All, drop, length, reverse, sum_by, if◌then◌else◌}
 use Rattle.std.specs.List.{list_all}
 use Rattle.join_rows.specs.Lists.{IsPrefix}
 use Rattle.grid_map.specs.declared.cost.Weights.{Weights}
@@ -18,10 +19,12 @@ use Rattle.load_controller.specs.declared.line.Cause.{Cause}
 use Rattle.load_controller.specs.declared.line.Cause.TheVariants.{Start, Wave, Count, Settle, Drain}
 use Rattle.load_controller.specs.declared.line.TurnLine.{TurnLine}
 use Rattle.load_controller.specs.declared.ledger.Ledger.{Ledger}
-use Rattle.load_controller.specs.Journal.{Rules, Follows, has_doubled, has_drained, has_settled, settled_count, is_settle, is_settle_of, is_drain_of}
+use Rattle.load_controller.specs.Journal.{Rules, Follows, has_doubled, has_drained, has_settled, settled_count}
+use Rattle.load_controller.specs.Journal.{is_settle, is_settle_of, is_drain_of}
 use Rattle.load_controller.specs.Law.{ControllerLists, CountsMessages, AreSettled, is_over, sent_by}
 use Rattle.load_controller.specs.Next.{line_by}
-use Rattle.load_controller.specs.Standing.{ControllerState, IsNearWhereStill, with_message, with_sent, to_each, grant_for, posts_by, with_all_held, state_after}
+use Rattle.load_controller.specs.Standing.{ControllerState, IsNearWhereStill, with_message, with_sent, to_each}
+use Rattle.load_controller.specs.Standing.{grant_for, posts_by, with_all_held, state_after}
 
 -- the rules that the ledger keeps
 abbrev pub rules_of : Ledger → Rules

@@ -1,5 +1,6 @@
 -- A step halves or doubles each joiner's part of a side.
-use Rattle.std.proofs.Common.{◌≡◌, ◌≢◌, ℕ, ◌+◌, ◌<◌, ◌≤◌, min, inl, inr, refl, sym, ◌∙◌, ap, subst, arith, Bool, true, false, not, ◌||◌, ◌&&◌}
+use Rattle.std.proofs.Common.{◌≡◌, ◌≢◌, ℕ, ◌+◌, ◌<◌, ◌≤◌, min, inl, inr, refl, sym, ◌∙◌, ap, subst, arith, Bool, true}
+use Rattle.std.proofs.Common.{false, not, ◌||◌, ◌&&◌}
 use Rattle.std.proofs.lemmas.Bool.{lt-ltb, le-ltb, or_left}
 use Rattle.std.specs.Prelude.{cond}
 use Rattle.join_rows.specs.declared.table.Side.{Side}
@@ -12,7 +13,8 @@ use Rattle.migration_plan.specs.Laws.{StepKeeps, OneStep}
 
 -- the same of a side and a ticket
 record Parts (k b c id p : ℕ) (side exchanged : Side) (ticket : ℕ) : Type 0 where
-  joins : side ≡ exchanged → holds_ticket k c id side ticket ≡ (holds_ticket k b id side ticket || holds_ticket k b p side ticket)
+  joins : side ≡ exchanged → holds_ticket k c id side ticket
+      ≡ (holds_ticket k b id side ticket || holds_ticket k b p side ticket)
   apart : side ≡ exchanged → (holds_ticket k b id side ticket && holds_ticket k b p side ticket) ≡ false
   lessens : side ≢ exchanged → holds_ticket k c id side ticket ≡ true → holds_ticket k b id side ticket ≡ true
 
@@ -41,7 +43,8 @@ falls k c id R ticket small below = record {
 }
 
 -- of a tuple
-of_tuple : (k b c id : ℕ) (t : Tuple) → Parts k b c id (partner_in_step b c id) t.side (exchanged_side b c) t.ticket → StepKeeps k b c id t
+of_tuple : (k b c id : ℕ) (t : Tuple) → Parts k b c id (partner_in_step b c id) t.side (exchanged_side b c) t.ticket
+    → StepKeeps k b c id t
 of_tuple k b c id t parts = record {
   keeps = λ is held. parts.joins is ∙ or_left (holds k b id t) (holds k b (partner_in_step b c id) t) held;
   joins = parts.joins;
@@ -53,15 +56,19 @@ up : (k b c id : ℕ) (t : Tuple) → k ≤ 8 → c ≤ k → c ≡ b + 1 → St
 up k b c id t small within is =
     let low : min b c ≡ b = omega arith in
     let exchanged : exchanged_side b c ≡ R = ap (λ (x : Bool). cond {A = Side} x R S) (lt-ltb b c (omega arith)) in
-    let parts : Parts k b c id (partner b id) t.side R t.ticket = rw is (rises k b id t.side t.ticket small (omega arith)) in
-    of_tuple k b c id t (subst (λ side. Parts k b c id (partner_in_step b c id) t.side side t.ticket) (sym exchanged) (subst (λ n. Parts k b c id (partner n id) t.side R t.ticket) (sym low) parts))
+    let parts : Parts k b c id (partner b id) t.side R t.ticket =
+    rw is (rises k b id t.side t.ticket small (omega arith)) in
+    of_tuple k b c id t (subst (λ side. Parts k b c id (partner_in_step b c id) t.side side t.ticket) (sym exchanged)
+    (subst (λ n. Parts k b c id (partner n id) t.side R t.ticket) (sym low) parts))
 
 down : (k b c id : ℕ) (t : Tuple) → k ≤ 8 → b ≤ k → b ≡ c + 1 → StepKeeps k b c id t
 down k b c id t small within is =
     let low : min b c ≡ c = omega arith in
     let exchanged : exchanged_side b c ≡ S = ap (λ (x : Bool). cond {A = Side} x R S) (le-ltb b c (omega arith)) in
-    let parts : Parts k b c id (partner c id) t.side S t.ticket = rw is (falls k c id t.side t.ticket small (omega arith)) in
-    of_tuple k b c id t (subst (λ side. Parts k b c id (partner_in_step b c id) t.side side t.ticket) (sym exchanged) (subst (λ n. Parts k b c id (partner n id) t.side S t.ticket) (sym low) parts))
+    let parts : Parts k b c id (partner c id) t.side S t.ticket =
+    rw is (falls k c id t.side t.ticket small (omega arith)) in
+    of_tuple k b c id t (subst (λ side. Parts k b c id (partner_in_step b c id) t.side side t.ticket) (sym exchanged)
+    (subst (λ n. Parts k b c id (partner n id) t.side S t.ticket) (sym low) parts))
 
 pub one_step_lem : OneStep
 one_step_lem = λ k b c id small low high near t.

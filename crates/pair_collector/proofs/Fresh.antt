@@ -1,5 +1,6 @@
 -- The pairs behind those that were given are those that the lists have more.
-use Rattle.std.proofs.Common.{◌≡◌, ◌<◌, ◌+◌, ℕ, refl, sym, ◌∙◌, ap, subst, List, [], ◌∷◌, ◌++◌, length, get_or, append_assoc}
+use Rattle.std.proofs.Common.{◌≡◌, ◌<◌, ◌+◌, ℕ, refl, sym, ◌∙◌, ap, subst, List, [], ◌∷◌, ◌++◌, length, get_or}
+use Rattle.std.proofs.Common.{append_assoc}
 use Rattle.std.specs.Prelude.{map, drop, slice_index, slice_index_or}
 use Rattle.std.specs.List.{sum_by}
 use Rattle.std.proofs.Math.Seq.{drop-append-add}
@@ -19,9 +20,11 @@ use Rattle.pair_collector.specs.Fresh.{kept_behind, pairs_since, HasGiven}
 
 module _ (joiners : ℕ) (lists : CollectorLists) (state : CollectorState) (stands : StandsFor joiners lists state) where
   kept_at : (j : ℕ) → j < joiners → slice_index_or state.joiners j nothing_kept ≡ kept_of (lists.from_joiner j)
-  kept_at j low = stands.each j (get_or state.joiners j nothing_kept) (slice_get-get_or state.joiners j nothing_kept (rw stands.began low))
+  kept_at j low = stands.each j (get_or state.joiners j nothing_kept)
+      (slice_get-get_or state.joiners j nothing_kept (rw stands.began low))
 
-  pub behind_is_since : (earlier : CollectorLists) → HasGiven joiners earlier state → kept_behind state.given state.joiners (length state.joiners) ≡ pairs_since joiners earlier lists
+  pub behind_is_since : (earlier : CollectorLists) → HasGiven joiners earlier state
+      → kept_behind state.given state.joiners (length state.joiners) ≡ pairs_since joiners earlier lists
   behind_is_since earlier gave =
       ap (kept_behind state.given state.joiners) stands.began
       ∙ gather_same joiners (λ j. drop (slice_index state.given j) (slice_index_or state.joiners j nothing_kept).pairs)
@@ -30,7 +33,8 @@ module _ (joiners : ℕ) (lists : CollectorLists) (state : CollectorState) (stan
       ∙ ap (λ n. drop n (found_before_fin (lists.from_joiner j))) (gave j low))
 
   -- with these counts all is given
-  pub all_given : (given : List ℕ) → given ≡ map (λ (kept : Kept). length kept.pairs) state.joiners → (j : ℕ) → j < joiners
+  pub all_given : (given : List ℕ) → given ≡ map (λ (kept : Kept). length kept.pairs) state.joiners → (j : ℕ)
+      → j < joiners
       → slice_index given j ≡ length (found_before_fin (lists.from_joiner j))
   all_given given is j low =
       ap (λ ns. slice_index ns j) is
@@ -39,7 +43,8 @@ module _ (joiners : ℕ) (lists : CollectorLists) (state : CollectorState) (stan
 
 -- ---- where lists go on from earlier ones
 
-found_front : (ms more : List ToCollector) → found_before_fin ms ++ drop (length (found_before_fin ms)) (found_before_fin (ms ++ more)) ≡ found_before_fin (ms ++ more)
+found_front : (ms more : List ToCollector) → found_before_fin ms
+    ++ drop (length (found_before_fin ms)) (found_before_fin (ms ++ more)) ≡ found_before_fin (ms ++ more)
 found_front [] more = refl
 found_front (Found pairs ∷ ms) more =
     let before = found_before_fin ms in
@@ -51,7 +56,8 @@ found_front (Found pairs ∷ ms) more =
 found_front (Fin rows_r rows_s moved ∷ ms) more = refl
 
 -- the pairs of the earlier ones and those since are all pairs
-pub since_joins : (joiners : ℕ) (earlier lists : CollectorLists) → ((j : ℕ) → j < joiners → IsPrefix (earlier.from_joiner j) (lists.from_joiner j))
+pub since_joins : (joiners : ℕ) (earlier lists : CollectorLists)
+    → ((j : ℕ) → j < joiners → IsPrefix (earlier.from_joiner j) (lists.from_joiner j))
     → SameBag (pairs_taken joiners earlier ++ pairs_since joiners earlier lists) (pairs_taken joiners lists)
 since_joins joiners earlier lists on = record {
   sums = λ f.
@@ -67,8 +73,11 @@ since_joins joiners earlier lists on = record {
       ∙ sym (sum-gather f joiners all);
 }
   where
-    goes_on : (j : ℕ) → j < joiners → found_before_fin (earlier.from_joiner j) ++ drop (length (found_before_fin (earlier.from_joiner j))) (found_before_fin (lists.from_joiner j))
+    goes_on : (j : ℕ) → j < joiners → found_before_fin (earlier.from_joiner j)
+        ++ drop (length (found_before_fin (earlier.from_joiner j))) (found_before_fin (lists.from_joiner j))
         ≡ found_before_fin (lists.from_joiner j)
     goes_on j low =
         let front = on j low in
-        subst (λ ms. found_before_fin (earlier.from_joiner j) ++ drop (length (found_before_fin (earlier.from_joiner j))) (found_before_fin ms) ≡ found_before_fin ms) front.joins (found_front (earlier.from_joiner j) front.rest)
+        subst (λ ms. found_before_fin (earlier.from_joiner j)
+        ++ drop (length (found_before_fin (earlier.from_joiner j))) (found_before_fin ms) ≡ found_before_fin ms)
+        front.joins (found_front (earlier.from_joiner j) front.rest)

@@ -1,5 +1,7 @@
 -- What is kept after a message is what is to be kept of the longer list.
-use Rattle.std.proofs.Common.{◌≡◌, ◌<◌, ◌≤◌, ◌↔◌, ◌+◌, ℕ, zero, suc, refl, sym, ◌∙◌, ap, subst, arith, inl, inr, Bool, true, false, cond, IsTrue, List, [], ◌∷◌, ◌++◌, length, append_assoc, Option, Some, None, get_or, set, length-set, get_or-set_other, Result, Ok, Err}
+use Rattle.std.proofs.Common.{◌≡◌, ◌<◌, ◌≤◌, ◌↔◌, ◌+◌, ℕ, zero, suc, refl, sym, ◌∙◌, ap, subst, arith, inl, inr, Bool}
+use Rattle.std.proofs.Common.{true, false, cond, IsTrue, List, [], ◌∷◌, ◌++◌, length, append_assoc, Option, Some, None}
+use Rattle.std.proofs.Common.{get_or, set, length-set, get_or-set_other, Result, Ok, Err}
 use Rattle.std.specs.Prelude.{◌==◌, map, flat_map, is_some, slice_get, replicate, OnOk, is_err}
 use Rattle.std.specs.declared.alloc.AllocError.{AllocError}
 use Rattle.std.specs.List.{range_with_len, list_all}
@@ -18,15 +20,20 @@ use Rattle.epoch_tags.specs.Messages.{found_before_fin, fins}
 use Rattle.pair_collector.specs.declared.part.Last.{Last}
 use Rattle.pair_collector.specs.Kept.{Kept}
 use Rattle.pair_collector.specs.Law.{CollectorLists, pairs_taken, IsComplete}
-use Rattle.pair_collector.specs.Standing.{CollectorState, StandsFor, TakesMessage, IsPassedOver, kept_of, kept_after, last_of, pairs_kept, with_message, is_complete, nothing_yet, nothing_kept}
+use Rattle.pair_collector.specs.Standing.{CollectorState, StandsFor, TakesMessage, IsPassedOver, kept_of, kept_after}
+use Rattle.pair_collector.specs.Standing.{last_of, pairs_kept, with_message, is_complete, nothing_yet, nothing_kept}
 
 -- ---- one joiner
 
-front-after : (found : List Pair) (kept : Kept) (m : ToCollector) → kept_after (record kept { pairs = found ++ kept.pairs }) m ≡ record (kept_after kept m) { pairs = found ++ (kept_after kept m).pairs }
+front-after : (found : List Pair) (kept : Kept) (m : ToCollector)
+    → kept_after (record kept { pairs = found ++ kept.pairs }) m
+    ≡ record (kept_after kept m) { pairs = found ++ (kept_after kept m).pairs }
 front-after found kept (Found pairs) = by_last kept.last
   where
-    by_last : (last : Option Last) → cond (is_some last) (record { pairs = found ++ kept.pairs; last = last }) (record { pairs = (found ++ kept.pairs) ++ pairs; last = last })
-        ≡ (let after : Kept = cond (is_some last) (record { pairs = kept.pairs; last = last }) (record { pairs = kept.pairs ++ pairs; last = last }) in record after { pairs = found ++ after.pairs })
+    by_last : (last : Option Last) → cond (is_some last) (record { pairs = found ++ kept.pairs; last = last })
+        (record { pairs = (found ++ kept.pairs) ++ pairs; last = last })
+        ≡ (let after : Kept = cond (is_some last) (record { pairs = kept.pairs; last = last })
+        (record { pairs = kept.pairs ++ pairs; last = last }) in record after { pairs = found ++ after.pairs })
     by_last None = ap (λ ps. record { pairs = ps; last = None }) (append_assoc found kept.pairs pairs)
     by_last (Some last) = refl
 front-after found kept (Fin rows_r rows_s moved) = by_last kept.last
@@ -34,15 +41,18 @@ front-after found kept (Fin rows_r rows_s moved) = by_last kept.last
     fin : Option Last
     fin = Some (record { held = record { rows_r = rows_r; rows_s = rows_s }; moved = moved })
 
-    by_last : (last : Option Last) → cond (is_some last) (record { pairs = found ++ kept.pairs; last = last }) (record { pairs = found ++ kept.pairs; last = fin })
-        ≡ (let after : Kept = cond (is_some last) (record { pairs = kept.pairs; last = last }) (record { pairs = kept.pairs; last = fin }) in record after { pairs = found ++ after.pairs })
+    by_last : (last : Option Last) → cond (is_some last) (record { pairs = found ++ kept.pairs; last = last })
+        (record { pairs = found ++ kept.pairs; last = fin })
+        ≡ (let after : Kept = cond (is_some last) (record { pairs = kept.pairs; last = last })
+        (record { pairs = kept.pairs; last = fin }) in record after { pairs = found ++ after.pairs })
     by_last None = refl
     by_last (Some last) = refl
 
 pub kept-append : (ms : List ToCollector) (m : ToCollector) → kept_of (ms ++ m ∷ []) ≡ kept_after (kept_of ms) m
 kept-append [] (Found pairs) = ap (λ ps. record { pairs = ps; last = None }) (append-nil pairs)
 kept-append [] (Fin rows_r rows_s moved) = refl
-kept-append (Found pairs ∷ ms) m = ap (λ (kept : Kept). record kept { pairs = pairs ++ kept.pairs }) (kept-append ms m) ∙ sym (front-after pairs (kept_of ms) m)
+kept-append (Found pairs ∷ ms) m = ap (λ (kept : Kept). record kept { pairs = pairs ++ kept.pairs }) (kept-append ms m)
+    ∙ sym (front-after pairs (kept_of ms) m)
 kept-append (Fin rows_r rows_s moved ∷ ms) (Found pairs) = refl
 kept-append (Fin rows_r rows_s moved ∷ ms) (Fin rows_r' rows_s' moved') = refl
 
@@ -59,15 +69,18 @@ has_last (Fin rows_r rows_s moved ∷ ms) some = refl
 
 -- ---- the list of all joiners
 
-pub from_places : {X : Type 0} (f : ℕ → X) (a : ℕ) (xs : List X) → ((j : ℕ) (x : X) → slice_get xs j ≡ Some x → x ≡ f (a + j)) → xs ≡ map f (range_with_len a (length xs))
+pub from_places : {X : Type 0} (f : ℕ → X) (a : ℕ) (xs : List X)
+    → ((j : ℕ) (x : X) → slice_get xs j ≡ Some x → x ≡ f (a + j)) → xs ≡ map f (range_with_len a (length xs))
 from_places f a [] each = refl
 from_places f a (x ∷ xs) each =
     let here : a + 0 ≡ a = omega arith in
     let first : x ≡ f a = rw here at (each 0 x refl) in
-    let rest = from_places f (a + 1) xs (λ j y is. let next : a + suc j ≡ a + 1 + j = omega arith in rw next at (each (suc j) y is)) in
+    let rest = from_places f (a + 1) xs (λ j y is. let next : a + suc j ≡ a + 1 + j = omega arith in
+    rw next at (each (suc j) y is)) in
     ap (λ y. y ∷ xs) first ∙ ap (λ ys. f a ∷ ys) rest
 
-pub flat_map-range : {X : Type 0} (g : ℕ → List X) (n : ℕ) → flat_map (λ xs. xs) (map g (range_with_len 0 n)) ≡ gather n g
+pub flat_map-range : {X : Type 0} (g : ℕ → List X) (n : ℕ) → flat_map (λ xs. xs) (map g (range_with_len 0 n))
+    ≡ gather n g
 flat_map-range g zero = refl
 flat_map-range g (suc n) =
     let next : suc n ≡ n + 1 = omega arith in
@@ -91,7 +104,8 @@ module _ (state : CollectorState) (lists : CollectorLists) where
       ∙ flat_map-of_map (λ j. kept_of (lists.from_joiner j)) (range_with_len 0 (length state.joiners))
       ∙ flat_map-range (λ j. found_before_fin (lists.from_joiner j)) (length state.joiners)
     where
-      flat_map-of_map : (f : ℕ → Kept) (js : List ℕ) → flat_map (λ kept. kept.pairs) (map f js) ≡ flat_map (λ xs. xs) (map (λ j. (f j).pairs) js)
+      flat_map-of_map : (f : ℕ → Kept) (js : List ℕ) → flat_map (λ kept. kept.pairs) (map f js)
+          ≡ flat_map (λ xs. xs) (map (λ j. (f j).pairs) js)
       flat_map-of_map f [] = refl
       flat_map-of_map f (j ∷ js) = ap (λ ps. (f j).pairs ++ ps) (flat_map-of_map f js)
 
@@ -99,36 +113,53 @@ module _ (state : CollectorState) (lists : CollectorLists) where
   stand joiners began each = record {
     began = began;
     each = each;
-    law = record { kept = subst (SameBag (pairs_kept state)) (pairs_are each ∙ ap (λ n. pairs_taken n lists) began) (SameBag-refl (pairs_kept state)) };
+    law = record {
+      kept = subst (SameBag (pairs_kept state)) (pairs_are each ∙ ap (λ n. pairs_taken n lists) began)
+          (SameBag-refl (pairs_kept state));
+    };
   }
 
 -- ---- a message
 
-pub joiner_takes : (old : CollectorState) (given : List ℕ) (spent : Bool) (j : ℕ) (m : ToCollector) (kept : Kept) → j < length old.joiners → kept ≡ get_or old.joiners j kept
-    → TakesMessage (Joiner j) m old (record { joiners = set old.joiners j (kept_after kept m); given = given; spent = spent })
+pub joiner_takes : (old : CollectorState) (given : List ℕ) (spent : Bool) (j : ℕ) (m : ToCollector) (kept : Kept)
+    → j < length old.joiners → kept ≡ get_or old.joiners j kept
+    → TakesMessage (Joiner j) m old (record {
+      joiners = set old.joiners j (kept_after kept m);
+      given = given;
+      spent = spent;
+    })
 joiner_takes old given spent j m kept low is = record {
   start = length-set old.joiners j (kept_after kept m);
   stands = λ joiners lists stands.
-      let new : CollectorState = record { joiners = set old.joiners j (kept_after kept m); given = given; spent = spent } in
-      stand new (with_message (Joiner j) m lists) joiners (length-set old.joiners j (kept_after kept m) ∙ stands.began) (λ i k at.
-      let within : i < length old.joiners = rw (length-set old.joiners j (kept_after kept m)) at (slice_get_within new.joiners i k at) in
+      let new : CollectorState = record {
+        joiners = set old.joiners j (kept_after kept m);
+        given = given;
+        spent = spent;
+      } in
+      stand new (with_message (Joiner j) m lists) joiners (length-set old.joiners j (kept_after kept m) ∙ stands.began)
+      (λ i k at.
+      let within : i < length old.joiners = rw (length-set old.joiners j (kept_after kept m)) at
+      (slice_get_within new.joiners i k at) in
       let value : get_or new.joiners i k ≡ k = get_or_from_slice_get new.joiners i k k at in
       elim (cases_Bool (i == j)) [
         | inl found ↦
             let same : i ≡ j = eqb-true i j found in
-            let here : slice_get old.joiners i ≡ Some kept = ap (slice_get old.joiners) same ∙ slice_get-get_or old.joiners j kept low ∙ ap Some (sym is) in
+            let here : slice_get old.joiners i ≡ Some kept =
+            ap (slice_get old.joiners) same ∙ slice_get-get_or old.joiners j kept low ∙ ap Some (sym is) in
             rw found (sym value ∙ get_or-set_at old.joiners j i (kept_after kept m) k same low
             ∙ ap (λ k'. kept_after k' m) (stands.each i kept here) ∙ sym (kept-append (lists.from_joiner i) m))
         | inr differs ↦
             let other : i ≡ j → ⊥ = λ same. let found : (i == j) ≡ true = eq-eqb i j same in cc in
             let here : slice_get old.joiners i ≡ Some k =
-            slice_get-get_or old.joiners i k within ∙ ap Some (sym (get_or-set_other old.joiners j i (kept_after kept m) k other) ∙ value) in
+            slice_get-get_or old.joiners i k within ∙ ap Some
+            (sym (get_or-set_other old.joiners j i (kept_after kept m) k other) ∙ value) in
             rw differs (stands.each i k here)
       ]);
 }
 
 -- of none of the joiners
-pub stranger_takes : (old : CollectorState) (j : ℕ) (m : ToCollector) → length old.joiners ≤ j → TakesMessage (Joiner j) m old old
+pub stranger_takes : (old : CollectorState) (j : ℕ) (m : ToCollector) → length old.joiners ≤ j
+    → TakesMessage (Joiner j) m old old
 stranger_takes old j m past = record {
   start = refl;
   stands = λ joiners lists stands. stand old (with_message (Joiner j) m lists) joiners stands.began (λ i k at.
@@ -145,18 +176,22 @@ passed_over kept (Fin rows_r rows_s moved) is = rw is refl
 
 -- ---- the end
 
-pub every : {X : Type 0} (test : X → Bool) (xs : List X) → ((j : ℕ) (x : X) → slice_get xs j ≡ Some x → test x ≡ true) → list_all test xs ≡ true
+pub every : {X : Type 0} (test : X → Bool) (xs : List X) → ((j : ℕ) (x : X) → slice_get xs j ≡ Some x → test x ≡ true)
+    → list_all test xs ≡ true
 every test [] each = refl
-every test (x ∷ xs) each = and_from (test x) (list_all test xs) (each 0 x refl) (every test xs (λ j y at. each (suc j) y at))
+every test (x ∷ xs) each = and_from (test x) (list_all test xs) (each 0 x refl)
+    (every test xs (λ j y at. each (suc j) y at))
 
-pub one_of : {X : Type 0} (test : X → Bool) (xs : List X) → list_all test xs ≡ true → (j : ℕ) (x : X) → slice_get xs j ≡ Some x → test x ≡ true
+pub one_of : {X : Type 0} (test : X → Bool) (xs : List X) → list_all test xs ≡ true → (j : ℕ) (x : X)
+    → slice_get xs j ≡ Some x → test x ≡ true
 one_of test [] all j x at = absurd (cc)
 one_of test (y ∷ ys) all zero x at =
     let same : y ≡ x = cc in
     subst (λ z. test z ≡ true) same (and_parts (test y) (list_all test ys) all).0
 one_of test (y ∷ ys) all (suc j) x at = one_of test ys (and_parts (test y) (list_all test ys) all).1 j x at
 
-pub complete_says : (joiners : ℕ) (lists : CollectorLists) (state : CollectorState) → StandsFor joiners lists state → IsTrue (is_complete state) ↔ IsComplete joiners lists
+pub complete_says : (joiners : ℕ) (lists : CollectorLists) (state : CollectorState) → StandsFor joiners lists state
+    → IsTrue (is_complete state) ↔ IsComplete joiners lists
 complete_says joiners lists state stands = (
   λ is j below.
       let low : j < length state.joiners = rw stands.began below in
@@ -166,16 +201,19 @@ complete_says joiners lists state stands = (
       ended (lists.from_joiner j) (subst (λ (k : Kept). is_some k.last ≡ true) (stands.each j kept there) last),
   λ each. every (λ (k : Kept). is_some k.last) state.joiners (λ j kept there.
       let low : j < joiners = rw (← stands.began) (slice_get_within state.joiners j kept there) in
-      subst (λ (k : Kept). is_some k.last ≡ true) (sym (stands.each j kept there)) (has_last (lists.from_joiner j) (each j low))),
+      subst (λ (k : Kept). is_some k.last ≡ true) (sym (stands.each j kept there))
+      (has_last (lists.from_joiner j) (each j low))),
 )
 
 abbrev pub state_of : List Kept → List ℕ → Bool → CollectorState
 state_of xs given spent = record { joiners = xs; given = given; spent = spent }
 
 -- what comes behind a `Fin` changes nothing
-pub passes_over : (r : Result (Unit {0}) AllocError) (xs : List Kept) (given : List ℕ) (j : ℕ) (m : ToCollector) (kept after : Kept) (spent : Bool) → spent ≡ is_err r → OnOk r (after ≡ kept_after kept m)
+pub passes_over : (r : Result (Unit {0}) AllocError) (xs : List Kept) (given : List ℕ) (j : ℕ) (m : ToCollector)
+    (kept after : Kept) (spent : Bool) → spent ≡ is_err r → OnOk r (after ≡ kept_after kept m)
     → j < length xs → kept ≡ get_or xs j kept
-    → OnOk r (IsPassedOver (state_of xs given false) (Joiner j) → state_of (set xs j after) given spent ≡ state_of xs given false)
+    → OnOk r (IsPassedOver (state_of xs given false) (Joiner j)
+    → state_of (set xs j after) given spent ≡ state_of xs given false)
 passes_over (Ok x) xs given j m kept after spent none is low at = λ passed.
     let there : slice_get xs j ≡ Some kept = slice_get-get_or xs j kept low ∙ ap Some (sym at) in
     let same : after ≡ kept = is ∙ passed_over kept m (passed kept there) in
@@ -185,9 +223,11 @@ passes_over (Err e) xs given j m kept after spent none is low at = tt
 
 -- ---- the beginning
 
-pub fresh_stands : (joiners n : ℕ) (xs : List Kept) (given : List ℕ) (spent : Bool) → n ≡ joiners → xs ≡ replicate n nothing_kept → StandsFor joiners nothing_yet (state_of xs given spent)
+pub fresh_stands : (joiners n : ℕ) (xs : List Kept) (given : List ℕ) (spent : Bool) → n ≡ joiners
+    → xs ≡ replicate n nothing_kept → StandsFor joiners nothing_yet (state_of xs given spent)
 fresh_stands joiners n xs given spent all is =
-    stand (state_of xs given spent) nothing_yet joiners (ap length is ∙ length-replicate n nothing_kept ∙ all) (λ j kept at. nothing_at n j kept (rw is at at))
+    stand (state_of xs given spent) nothing_yet joiners (ap length is ∙ length-replicate n nothing_kept ∙ all)
+    (λ j kept at. nothing_at n j kept (rw is at at))
   where
     nothing_at : (n j : ℕ) (kept : Kept) → slice_get (replicate n nothing_kept) j ≡ Some kept → kept ≡ nothing_kept
     nothing_at zero j kept at = absurd (cc)

@@ -23,4 +23,5 @@ pub record Collects (joiners : ℕ) (lists : CollectorLists) (collected : Collec
   pub order : InOrder collected.pairs
   pub made : collected.made ≡ map (λ j. length (found_before_fin (lists.from_joiner j))) (range_with_len 0 joiners)
   pub loads : collected.loads ≡ map (λ j. held_of (last_of (lists.from_joiner j))) (range_with_len 0 joiners)
-  pub moved : collected.moved ≡ map (λ step. min (moved_in joiners lists step) (2 ^ 64 - 1)) (range_with_len 0 (greatest joiners (λ j. length (moves lists j))))
+  pub moved : collected.moved ≡ map (λ step. min (moved_in joiners lists step) (2 ^ 64 - 1))
+      (range_with_len 0 (greatest joiners (λ j. length (moves lists j))))

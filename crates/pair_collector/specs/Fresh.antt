@@ -13,8 +13,10 @@ kept_behind given joiners n = gather n (λ j. drop (slice_index given j) (slice_
 
 -- the pairs behind those of earlier lists
 abbrev pub pairs_since : ℕ → CollectorLists → CollectorLists → List Pair
-pairs_since joiners earlier lists = gather joiners (λ j. drop (length (found_before_fin (earlier.from_joiner j))) (found_before_fin (lists.from_joiner j)))
+pairs_since joiners earlier lists = gather joiners (λ j. drop (length (found_before_fin (earlier.from_joiner j)))
+    (found_before_fin (lists.from_joiner j)))
 
 -- of each joiner as many pairs were given as these lists have
 abbrev pub HasGiven : ℕ → CollectorLists → CollectorState → Type 0
-HasGiven joiners lists state = (j : ℕ) → j < joiners → slice_index state.given j ≡ length (found_before_fin (lists.from_joiner j))
+HasGiven joiners lists state = (j : ℕ) → j < joiners → slice_index state.given j
+    ≡ length (found_before_fin (lists.from_joiner j))

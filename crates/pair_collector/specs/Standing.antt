@@ -1,5 +1,6 @@
 -- What the collector's machine holds, and the lists for which it stands. It stores none of them.
-use Rattle.std.specs.Prelude.{◌≡◌, ℕ, ◌==◌, Bool, true, ◌++◌, ◌∷◌, [], ⊤, List, Option, Some, None, is_some, length, flat_map, slice_get, slice_index, slice_index_or, if◌then◌else◌}
+use Rattle.std.specs.Prelude.{◌≡◌, ℕ, ◌==◌, Bool, true, ◌++◌, ◌∷◌, [], ⊤, List, Option, Some, None, is_some, length}
+use Rattle.std.specs.Prelude.{flat_map, slice_get, slice_index, slice_index_or, if◌then◌else◌}
 use Rattle.std.specs.List.{list_all}
 use Rattle.join_rows.specs.Lists.{greatest, total}
 use Rattle.epoch_tags.specs.declared.actor.Actor.{Actor}
@@ -19,7 +20,10 @@ use Rattle.pair_collector.specs.Law.{CollectorLists, CollectorLaw}
 abbrev pub last_of : List ToCollector → Option Last
 last_of [] = None
 last_of (Found pairs ∷ ms) = last_of ms
-last_of (Fin rows_r rows_s moved ∷ ms) = Some (record { held = record { rows_r = rows_r; rows_s = rows_s }; moved = moved })
+last_of (Fin rows_r rows_s moved ∷ ms) = Some (record {
+  held = record { rows_r = rows_r; rows_s = rows_s };
+  moved = moved;
+})
 
 -- what is to be kept of a joiner's messages
 abbrev pub kept_of : List ToCollector → Kept
@@ -33,7 +37,8 @@ nothing_kept = record { pairs = []; last = None }
 abbrev pub kept_after : Kept → ToCollector → Kept
 kept_after kept (Found pairs) = if is_some kept.last then kept else record kept { pairs = kept.pairs ++ pairs }
 kept_after kept (Fin rows_r rows_s moved) =
-    if is_some kept.last then kept else record kept { last = Some (record { held = record { rows_r = rows_r; rows_s = rows_s }; moved = moved }) }
+    if is_some kept.last then kept
+    else record kept { last = Some (record { held = record { rows_r = rows_r; rows_s = rows_s }; moved = moved }) }
 
 -- the rows that a joiner holds in the end
 abbrev pub held_of : Option Last → Held
@@ -78,14 +83,18 @@ nothing_yet = record { from_joiner = λ j. [] }
 -- the lists with this message at the end of its joiner's
 abbrev pub with_message : Actor → ToCollector → CollectorLists → CollectorLists
 with_message (Feeder p) m lists = lists
-with_message (Joiner j) m lists = record { from_joiner = λ i. if i == j then lists.from_joiner i ++ m ∷ [] else lists.from_joiner i }
+with_message (Joiner j) m lists = record {
+  from_joiner = λ i. if i == j then lists.from_joiner i ++ m ∷ []
+      else lists.from_joiner i;
+}
 with_message Controller m lists = lists
 with_message Collector m lists = lists
 
 -- for whatever lists the machine stood, it stands for them with the message at its end
 pub record TakesMessage (from : Actor) (m : ToCollector) (old new : CollectorState) : Type 0 where
   pub start : length new.joiners ≡ length old.joiners
-  pub stands : (joiners : ℕ) (lists : CollectorLists) → StandsFor joiners lists old → StandsFor joiners (with_message from m lists) new
+  pub stands : (joiners : ℕ) (lists : CollectorLists) → StandsFor joiners lists old
+      → StandsFor joiners (with_message from m lists) new
 
 -- a message that doesn't count: its sender is none of the joiners, or has ended
 abbrev pub IsPassedOver : CollectorState → Actor → Type 0

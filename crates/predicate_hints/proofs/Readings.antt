@@ -1,5 +1,6 @@
 -- What parsing a text shows of what may follow it.
-use Rattle.std.proofs.Common.{◌≡◌, ◌≢◌, ◌↔◌, ◌⊎◌, inl, inr, ℕ, List, [], ◌∷◌, ◌++◌, length, take, Option, Some, Result, Ok, Err, IfOk, MatchResult, Bool, IsTrue, refl, sym, ap, subst}
+use Rattle.std.proofs.Common.{◌≡◌, ◌≢◌, ◌↔◌, ◌⊎◌, inl, inr, ℕ, List, [], ◌∷◌, ◌++◌, length, take, Option, Some, Result}
+use Rattle.std.proofs.Common.{Ok, Err, IfOk, MatchResult, Bool, IsTrue, refl, sym, ap, subst}
 use Rattle.std.specs.Result.{result_err}
 use Rattle.std.specs.Str.{IsCharBoundary}
 use Rattle.std.specs.declared.alloc.AllocError.{AllocError}

@@ -2,7 +2,8 @@
 use Rattle.std.specs.Prelude.{◌≡◌, ◌⊎◌, ℕ, List, [], ◌∷◌, Option, Some, None, MatchOption, codes}
 use Rattle.predicate_hints.specs.declared.kinds.Expected.{Expected}
 use Rattle.predicate_hints.specs.declared.kinds.Expected.TheVariants.{Column, Number, Text, Distance, Quoted, Not, Open}
-use Rattle.predicate_hints.specs.declared.kinds.Expected.TheVariants.{Close, Point, Name, Sign, Comparison, And, Or, End}
+use Rattle.predicate_hints.specs.declared.kinds.Expected.TheVariants.{Close, Point, Name, Sign, Comparison, And, Or}
+use Rattle.predicate_hints.specs.declared.kinds.Expected.TheVariants.{End}
 use Rattle.predicate_hints.specs.Follow.{MayEnd, MayFollow}
 
 -- the kinds in the order in which they are listed

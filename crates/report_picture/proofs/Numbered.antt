@@ -1,5 +1,6 @@
 -- The texts of numbered things, one after the other.
-use Rattle.std.proofs.Common.{◌≡◌, ◌+◌, ℕ, zero, suc, sym, ◌∙◌, ap, arith, List, [], ◌∷◌, ◌++◌, take, append_assoc, Some}
+use Rattle.std.proofs.Common.{◌≡◌, ◌+◌, ℕ, zero, suc, sym, ◌∙◌, ap, arith, List, [], ◌∷◌, ◌++◌, take, append_assoc}
+use Rattle.std.proofs.Common.{Some}
 use Rattle.std.specs.Prelude.{flat_map, slice_get}
 use Rattle.std.specs.List.{enumerate_from}
 use Rattle.std.proofs.lemmas.List.{append-nil}
@@ -22,7 +23,8 @@ one_more line n (suc id) (y ∷ xs) x at =
     ∙ ap (λ m. (line n y ++ lines_from line (n + 1) (take id xs)) ++ line m x) there
 
 -- one line more behind a text
-pub lines_more : {X : Type 0} (line : ℕ → X → List ℕ) (before text text' : List ℕ) (id : ℕ) (xs : List X) (x : X) → slice_get xs id ≡ Some x
+pub lines_more : {X : Type 0} (line : ℕ → X → List ℕ) (before text text' : List ℕ) (id : ℕ) (xs : List X) (x : X)
+    → slice_get xs id ≡ Some x
     → text ≡ before ++ lines_from line 0 (take id xs) → text' ≡ text ++ line id x
     → text' ≡ before ++ lines_from line 0 (take (id + 1) xs)
 lines_more line before text text' id xs x at so_far more =

@@ -13,7 +13,8 @@ unfoldable pub head_of : ℕ → ℕ → List ℕ
 head_of width height =
     codes "<svg xmlns='http://www.w3.org/2000/svg' width='" ++ (decimal width
     ++ (codes "' height='" ++ (decimal height ++ (codes "' viewBox='0 0 " ++ (decimal width
-    ++ (codes " " ++ (decimal height ++ codes "' role='img' font-family='monospace' font-size='11' text-anchor='middle' fill='#1c2733'>\n")))))))
+    ++ (codes " " ++ (decimal height
+    ++ codes "' role='img' font-family='monospace' font-size='11' text-anchor='middle' fill='#1c2733'>\n")))))))
 
 -- the picture's name, for who doesn't see it
 unfoldable pub name_of : ℕ → List ℕ
@@ -22,7 +23,8 @@ name_of joiners = codes "<title>A run of jm, joiners: " ++ (decimal joiners ++ c
 -- what follows in words: the numbers of rows, pairs and changes
 unfoldable pub counts_of : ℕ → ℕ → ℕ → ℕ → List ℕ
 counts_of x y made steps =
-    codes "<desc>Rows of R: " ++ (decimal x ++ (codes ", rows of S: " ++ (decimal y ++ (codes ", pairs: " ++ (decimal made
+    codes "<desc>Rows of R: " ++ (decimal x ++ (codes ", rows of S: "
+    ++ (decimal y ++ (codes ", pairs: " ++ (decimal made
     ++ (codes ". Changes of the grid: " ++ (decimal steps ++ codes ".")))))))
 
 -- the last grid in words
@@ -60,7 +62,9 @@ title_of x y made =
 unfoldable pub pattern_of : ℕ → ℕ → ℕ → List ℕ
 pattern_of id n m =
     codes "<pattern id='grid" ++ (decimal id ++ (codes "' width='" ++ (decimal (128 / m)
-    ++ (codes "' height='" ++ (decimal (128 / n) ++ codes "' patternUnits='userSpaceOnUse'><path d='M0 0H128V128H0Z' fill='#e8f1fb' stroke='#1f5fa8' stroke-width='2'/></pattern>\n")))))
+    ++ (codes "' height='"
+    ++ (decimal (128 / n)
+    ++ codes "' patternUnits='userSpaceOnUse'><path d='M0 0H128V128H0Z' fill='#e8f1fb' stroke='#1f5fa8' stroke-width='2'/></pattern>\n")))))
 
 -- a square that is filled by a pattern
 unfoldable pub filled_of : ℕ → List ℕ
@@ -123,7 +127,8 @@ steps_of steps = flat_map (λ step. step_of (step.0 + 1) step.1) (enumerate_from
 -- the load
 unfoldable pub load_name_of : ℕ → List ℕ
 load_name_of copies =
-    codes "<g transform='translate(24 272)' text-anchor='start'><text font-size='13'>load " ++ (decimal copies ++ codes ": ")
+    codes "<g transform='translate(24 272)' text-anchor='start'><text font-size='13'>load "
+    ++ (decimal copies ++ codes ": ")
 
 -- the best behind the ratio
 unfoldable pub best_name_of : ℕ → List ℕ
@@ -141,7 +146,8 @@ bar_of copies best = if best == 0 then 0 else min ((copies - best) * 1600 / best
 unfoldable pub scale_of : ℕ → List ℕ
 scale_of bar =
     codes " 5/4 of it</text>\n<rect y='12' width='" ++ (decimal bar
-    ++ (codes "' height='12' fill='#4c9be8'/><path d='M0 12H400V24H0Z' fill='none' stroke='#1f5fa8'/><path d='M" ++ (decimal bar
+    ++ (codes "' height='12' fill='#4c9be8'/><path d='M0 12H400V24H0Z' fill='none' stroke='#1f5fa8'/><path d='M"
+    ++ (decimal bar
     ++ codes " 8v20' stroke='#1c2733' stroke-width='3'/><text y='40'>best</text><text x='400' y='40' text-anchor='end'>5/4 of best</text></g>\n")))
 
 -- the load against the best, in words and on a scale
@@ -171,7 +177,8 @@ shade_of most joiner = if most == 0 then 100 else 100 + 800 * held_by joiner / m
 unfoldable pub cell_of : ℕ → ℕ → ℕ → List ℕ
 cell_of x y shade =
     codes "<g transform='translate(" ++ (decimal x ++ (codes " " ++ (decimal y
-    ++ (codes ")'><rect width='120' height='68' fill='#4c9be8' fill-opacity='." ++ (decimal shade ++ codes "' stroke='#1f5fa8'/>")))))
+    ++ (codes ")'><rect width='120' height='68' fill='#4c9be8' fill-opacity='."
+    ++ (decimal shade ++ codes "' stroke='#1f5fa8'/>")))))
 
 -- what stands in the cell of a joiner
 unfoldable pub labels_of : ℕ → Joiner → List ℕ

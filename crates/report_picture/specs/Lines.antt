@@ -40,7 +40,8 @@ joiner_lines joiners = flat_map (λ joiner. joiner_line joiner.0 joiner.1) (enum
 -- the numbers of rows, the steps, the last grid, and the joiners
 abbrev pub report_lines : Report → List ℕ
 report_lines report =
-    input_line report.x report.y ++ grid_lines report.steps.items ++ final_line report.n report.m report.copies report.best
+    input_line report.x report.y ++ grid_lines report.steps.items
+    ++ final_line report.n report.m report.copies report.best
     ++ joiner_lines report.joiners.items
 
 -- a number of rows or columns of a grid

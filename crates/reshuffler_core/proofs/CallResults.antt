@@ -1,5 +1,6 @@
 -- What a call leaves and sends is a function of what the machine held and of the message.
-use Rattle.std.proofs.Common.{◌≡◌, ◌+◌, inl, inr, refl, sym, ◌∙◌, ap, Bool, true, false, cond, not, ◌&&◌, List, [], ◌∷◌, ◌++◌, drop}
+use Rattle.std.proofs.Common.{◌≡◌, ◌+◌, inl, inr, refl, sym, ◌∙◌, ap, Bool, true, false, cond, not, ◌&&◌, List, [], ◌∷◌}
+use Rattle.std.proofs.Common.{◌++◌, drop}
 use Rattle.std.specs.Prelude.{◌==◌, nat_le}
 use Rattle.std.proofs.lemmas.Bool.{cases_Bool, eq-eqb, eqb-true, le-leb, leb-true, and_parts, and_from, not-true}
 use Rattle.std.proofs.lemmas.List.{append-nil}
@@ -33,40 +34,53 @@ module _ (held : List ToFeeder) (spent : Bool) where
   abbrev other : FeederState → FeederState
   other s = record s { held = held; spent = spent }
 
-  pub after_other : (s : FeederState) (ms : List ToFeeder) → after_held (other s) ms ≡ record (after_held s ms) { spent = spent }
+  pub after_other : (s : FeederState) (ms : List ToFeeder) → after_held (other s) ms
+      ≡ record (after_held s ms) { spent = spent }
   after_other s [] = refl
-  after_other s (Order epoch shift ∷ ms) = either (can_take s (Order epoch shift)) (after_other (state_after s (Order epoch shift)) ms)
+  after_other s (Order epoch shift ∷ ms) = either (can_take s (Order epoch shift))
+      (after_other (state_after s (Order epoch shift)) ms)
     where
-      either : (t : Bool) → after_held (other (state_after s (Order epoch shift))) ms ≡ record (after_held (state_after s (Order epoch shift)) ms) { spent = spent }
-          → cond t (after_held (other (state_after s (Order epoch shift))) ms) (record s { held = Order epoch shift ∷ ms; spent = spent })
-          ≡ (let left : FeederState = cond t (after_held (state_after s (Order epoch shift)) ms) (record s { held = Order epoch shift ∷ ms }) in record left { spent = spent })
+      either : (t : Bool) → after_held (other (state_after s (Order epoch shift))) ms
+          ≡ record (after_held (state_after s (Order epoch shift)) ms) { spent = spent }
+          → cond t (after_held (other (state_after s (Order epoch shift))) ms)
+          (record s { held = Order epoch shift ∷ ms; spent = spent })
+          ≡ (let left : FeederState = cond t (after_held (state_after s (Order epoch shift)) ms)
+          (record s { held = Order epoch shift ∷ ms }) in record left { spent = spent })
       either true is = is
       either false is = refl
   after_other s (Grant ∷ ms) = either (can_take s Grant) (after_other (state_after s Grant) ms)
     where
-      either : (t : Bool) → after_held (other (state_after s Grant)) ms ≡ record (after_held (state_after s Grant) ms) { spent = spent }
+      either : (t : Bool) → after_held (other (state_after s Grant)) ms
+          ≡ record (after_held (state_after s Grant) ms) { spent = spent }
           → cond t (after_held (other (state_after s Grant)) ms) (record s { held = Grant ∷ ms; spent = spent })
-          ≡ (let left : FeederState = cond t (after_held (state_after s Grant) ms) (record s { held = Grant ∷ ms }) in record left { spent = spent })
+          ≡ (let left : FeederState = cond t (after_held (state_after s Grant) ms) (record s { held = Grant ∷ ms }) in
+          record left { spent = spent })
       either true is = is
       either false is = refl
   after_other s (Stop ∷ ms) = either (can_take s Stop) (after_other (state_after s Stop) ms)
     where
-      either : (t : Bool) → after_held (other (state_after s Stop)) ms ≡ record (after_held (state_after s Stop) ms) { spent = spent }
+      either : (t : Bool) → after_held (other (state_after s Stop)) ms
+          ≡ record (after_held (state_after s Stop) ms) { spent = spent }
           → cond t (after_held (other (state_after s Stop)) ms) (record s { held = Stop ∷ ms; spent = spent })
-          ≡ (let left : FeederState = cond t (after_held (state_after s Stop) ms) (record s { held = Stop ∷ ms }) in record left { spent = spent })
+          ≡ (let left : FeederState = cond t (after_held (state_after s Stop) ms) (record s { held = Stop ∷ ms }) in
+          record left { spent = spent })
       either true is = is
       either false is = refl
 
   pub posts_other : (s : FeederState) (ms : List ToFeeder) → posts_of_held (other s) ms ≡ posts_of_held s ms
   posts_other s [] = refl
   posts_other s (Order epoch shift ∷ ms) =
-      ap (λ posts. cond (can_take s (Order epoch shift)) (posts_for s (Order epoch shift) ++ posts) []) (posts_other (state_after s (Order epoch shift)) ms)
-  posts_other s (Grant ∷ ms) = ap (λ posts. cond (can_take s Grant) (posts_for s Grant ++ posts) []) (posts_other (state_after s Grant) ms)
-  posts_other s (Stop ∷ ms) = ap (λ posts. cond (can_take s Stop) (posts_for s Stop ++ posts) []) (posts_other (state_after s Stop) ms)
+      ap (λ posts. cond (can_take s (Order epoch shift)) (posts_for s (Order epoch shift) ++ posts) [])
+      (posts_other (state_after s (Order epoch shift)) ms)
+  posts_other s (Grant ∷ ms) = ap (λ posts. cond (can_take s Grant) (posts_for s Grant ++ posts) [])
+      (posts_other (state_after s Grant) ms)
+  posts_other s (Stop ∷ ms) = ap (λ posts. cond (can_take s Stop) (posts_for s Stop ++ posts) [])
+      (posts_other (state_after s Stop) ms)
 
 -- ---- one taken
 
-same_spent : (s : FeederState) (m : ToFeeder) (ms : List ToFeeder) → (state_after (record s { held = ms }) m) ≡ record (state_after s m) { held = ms; spent = s.spent }
+same_spent : (s : FeederState) (m : ToFeeder) (ms : List ToFeeder)
+    → (state_after (record s { held = ms }) m) ≡ record (state_after s m) { held = ms; spent = s.spent }
 same_spent s (Order epoch shift) ms = refl
 same_spent s Grant ms = refl
 same_spent s Stop ms = refl
@@ -95,13 +109,15 @@ module _ (s : FeederState) (m : ToFeeder) (ready : IsReady s m) where
   pub one_state : after_held s s.held ≡ after_held next left
   one_state =
       ap (after_held s) first ∙ ap (λ t. cond t (after_held (state_after s m) left) (record s { held = m ∷ left })) up
-      ∙ sym (keeps_spent (state_after s m) left) ∙ ap (λ b. record (after_held (state_after s m) left) { spent = b }) (own_spent s m)
+      ∙ sym (keeps_spent (state_after s m) left) ∙ ap (λ b. record (after_held (state_after s m) left) { spent = b })
+      (own_spent s m)
       ∙ sym (after_other left s.spent (state_after s m) left) ∙ ap (λ x. after_held x left) (sym (same_spent s m left))
 
   pub one_posts : posts_of_held s s.held ≡ posts_for s m ++ posts_of_held next left
   one_posts =
       ap (posts_of_held s) first ∙ ap (λ t. cond t (posts_for s m ++ posts_of_held (state_after s m) left) []) up
-      ∙ ap (λ posts. posts_for s m ++ posts) (sym (posts_other left s.spent (state_after s m) left) ∙ ap (λ x. posts_of_held x left) (sym (same_spent s m left)))
+      ∙ ap (λ posts. posts_for s m ++ posts) (sym (posts_other left s.spent (state_after s m) left)
+      ∙ ap (λ x. posts_of_held x left) (sym (same_spent s m left)))
 
 -- ---- none taken
 
@@ -114,7 +130,8 @@ module _ (s : FeederState) (stuck : IsStuck s) where
 
   rests : (ms : List ToFeeder) → s.held ≡ ms → after_held s ms ≡ s
   rests [] at = ap (λ held. record s { held = held }) (sym at)
-  rests (m ∷ ms) at = ap (λ t. cond t (after_held (state_after s m) ms) (record s { held = m ∷ ms })) (down m ms at) ∙ ap (λ held. record s { held = held }) (sym at)
+  rests (m ∷ ms) at = ap (λ t. cond t (after_held (state_after s m) ms) (record s { held = m ∷ ms })) (down m ms at)
+      ∙ ap (λ held. record s { held = held }) (sym at)
 
   pub stays_stuck : after_held s s.held ≡ s
   stays_stuck = rests s.held refl
@@ -129,8 +146,12 @@ module _ (s : FeederState) (stuck : IsStuck s) where
 -- ---- a whole call: it begins spent, with these held, and ends well
 
 module _ (s new : FeederState) (held : List ToFeeder) (added : List Post) (stuck : IsStuck new) where
-  pub whole_state : after_held (record s { held = held; spent = true }) held ≡ after_held new new.held → record new { spent = false } ≡ record (after_held s held) { spent = false }
-  whole_state state = ap (λ (x : FeederState). record x { spent = false }) (sym (stays_stuck new stuck) ∙ sym state ∙ after_other held true s held)
+  pub whole_state : after_held (record s { held = held; spent = true }) held ≡ after_held new new.held
+      → record new { spent = false } ≡ record (after_held s held) { spent = false }
+  whole_state state = ap (λ (x : FeederState). record x { spent = false }) (sym (stays_stuck new stuck) ∙ sym state
+      ∙ after_other held true s held)
 
-  pub whole_posts : posts_of_held (record s { held = held; spent = true }) held ≡ added ++ posts_of_held new new.held → added ≡ posts_of_held s held
-  whole_posts posts = sym (append-nil added) ∙ ap (λ ps. added ++ ps) (sym (sends_nothing new stuck)) ∙ sym posts ∙ posts_other held true s held
+  pub whole_posts : posts_of_held (record s { held = held; spent = true }) held ≡ added ++ posts_of_held new new.held
+      → added ≡ posts_of_held s held
+  whole_posts posts = sym (append-nil added) ∙ ap (λ ps. added ++ ps) (sym (sends_nothing new stuck)) ∙ sym posts
+      ∙ posts_other held true s held

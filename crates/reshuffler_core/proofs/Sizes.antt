@@ -19,14 +19,18 @@ asks_for_batches [] = refl
 asks_for_batches (b ∷ bs) = let rest = asks_for_batches bs in omega arith
 
 pub copies_are_few : (k j e b : ℕ) (batch : List Tuple) → length (copies_for k j e b batch) ≤ length batch
-copies_are_few k j e b batch = let a = length-map (filter (holds k b j) batch) (λ t. Tup (stamped e t)) in let c = filter_fewer (holds k b j) batch in omega arith
+copies_are_few k j e b batch = let a = length-map (filter (holds k b j) batch) (λ t. Tup (stamped e t)) in
+    let c = filter_fewer (holds k b j) batch in omega arith
 
-pub sizes_cons : (batch : List Tuple) (batches : List (List Tuple)) → sum_by (λ b. length b) (batch ∷ batches) ≡ length batch + sum_by (λ b. length b) batches
+pub sizes_cons : (batch : List Tuple) (batches : List (List Tuple))
+    → sum_by (λ b. length b) (batch ∷ batches) ≡ length batch + sum_by (λ b. length b) batches
 sizes_cons batch batches = sum_by-cons (λ b. length b) batch batches
 
-pub answers_are_few : (k j e b : ℕ) (batches : List (List Tuple)) (ms : List ToFeeder) → length (answers k j e b batches ms) ≤ length (order_epochs ms) + stops ms + sum_by (λ b. length b) batches
+pub answers_are_few : (k j e b : ℕ) (batches : List (List Tuple)) (ms : List ToFeeder)
+    → length (answers k j e b batches ms) ≤ length (order_epochs ms) + stops ms + sum_by (λ b. length b) batches
 answers_are_few k j e b batches [] = omega arith
-answers_are_few k j e b batches (Order epoch shift ∷ ms) = let rest = answers_are_few k j epoch shift batches ms in omega arith
+answers_are_few k j e b batches (Order epoch shift ∷ ms) = let rest = answers_are_few k j epoch shift batches ms in
+    omega arith
 answers_are_few k j e b [] (Grant ∷ ms) = answers_are_few k j e b [] ms
 answers_are_few k j e b (batch ∷ batches) (Grant ∷ ms) =
     let rest = answers_are_few k j e b batches ms in
@@ -36,7 +40,8 @@ answers_are_few k j e b (batch ∷ batches) (Grant ∷ ms) =
     omega arith
 answers_are_few k j e b batches (Stop ∷ ms) = let rest = answers_are_few k j e b batches ms in omega arith
 
-pub granted_are_few : (e : ℕ) (batches : List (List Tuple)) (ms : List ToFeeder) → length (granted e batches ms) ≤ sum_by (λ b. length b) batches
+pub granted_are_few : (e : ℕ) (batches : List (List Tuple)) (ms : List ToFeeder)
+    → length (granted e batches ms) ≤ sum_by (λ b. length b) batches
 granted_are_few e batches [] = omega arith
 granted_are_few e batches (Order epoch shift ∷ ms) = granted_are_few epoch batches ms
 granted_are_few e [] (Grant ∷ ms) = granted_are_few e [] ms

@@ -1,5 +1,6 @@
 -- A message that can be taken is taken as the law says.
-use Rattle.std.proofs.Common.{◌≡◌, ℕ, zero, suc, ◌+◌, ◌^◌, ◌<◌, ◌↔◌, inl, refl, sym, ◌∙◌, ap, arith, Bool, true, false, List, [], ◌∷◌, ◌++◌, drop, length, length-append, append_assoc, add-one}
+use Rattle.std.proofs.Common.{◌≡◌, ℕ, zero, suc, ◌+◌, ◌^◌, ◌<◌, ◌↔◌, inl, refl, sym, ◌∙◌, ap, arith, Bool, true, false}
+use Rattle.std.proofs.Common.{List, [], ◌∷◌, ◌++◌, drop, length, length-append, append_assoc, add-one}
 use Rattle.std.proofs.lemmas.List.{append-nil, drop-drop}
 use Rattle.std.proofs.Math.Seq.{drop-nil}
 use Rattle.std.proofs.lemmas.Bool.{false≢true}
@@ -26,7 +27,8 @@ epoch_now e (Order epoch shift ∷ ms) = epoch_now epoch ms
 epoch_now e (Grant ∷ ms) = epoch_now e ms
 epoch_now e (Stop ∷ ms) = epoch_now e ms
 
-epoch_now-is : (e : ℕ) (ms : List ToFeeder) → order_epochs ms ≡ counting_from (e + 1) (length (order_epochs ms)) → epoch_now e ms ≡ e + length (order_epochs ms)
+epoch_now-is : (e : ℕ) (ms : List ToFeeder) → order_epochs ms ≡ counting_from (e + 1) (length (order_epochs ms))
+    → epoch_now e ms ≡ e + length (order_epochs ms)
 unfolding epoch_now
 epoch_now-is e [] up = omega arith
 epoch_now-is e (Order epoch shift ∷ ms) up =
@@ -38,13 +40,17 @@ epoch_now-is e (Grant ∷ ms) up = epoch_now-is e ms up
 epoch_now-is e (Stop ∷ ms) up = epoch_now-is e ms up
 
 answers-append : (k j e b : ℕ) (batches : List (List Tuple)) (xs ys : List ToFeeder)
-    → answers k j e b batches (xs ++ ys) ≡ answers k j e b batches xs ++ answers k j (epoch_now e xs) (shift_now b xs) (drop (grants xs) batches) ys
+    → answers k j e b batches (xs ++ ys) ≡ answers k j e b batches xs
+    ++ answers k j (epoch_now e xs) (shift_now b xs) (drop (grants xs) batches) ys
 unfolding epoch_now
 answers-append k j e b batches [] ys = refl
-answers-append k j e b batches (Order epoch shift ∷ xs) ys = ap (λ ms. Turn epoch shift ∷ ms) (answers-append k j epoch shift batches xs ys)
+answers-append k j e b batches (Order epoch shift ∷ xs) ys =
+    ap (λ ms. Turn epoch shift ∷ ms) (answers-append k j epoch shift batches xs ys)
 answers-append k j e b [] (Grant ∷ xs) ys =
-    let none : drop (grants xs) [] ≡ drop (grants xs + 1) [] = drop-nil {A = List Tuple} (grants xs) ∙ sym (drop-nil {A = List Tuple} (grants xs + 1)) in
-    answers-append k j e b [] xs ys ∙ ap (λ bs. answers k j e b [] xs ++ answers k j (epoch_now e xs) (shift_now b xs) bs ys) none
+    let none : drop (grants xs) [] ≡ drop (grants xs + 1) [] =
+    drop-nil {A = List Tuple} (grants xs) ∙ sym (drop-nil {A = List Tuple} (grants xs + 1)) in
+    answers-append k j e b [] xs ys ∙ ap (λ bs. answers k j e b [] xs
+    ++ answers k j (epoch_now e xs) (shift_now b xs) bs ys) none
 answers-append k j e b (batch ∷ batches) (Grant ∷ xs) ys =
     ap (λ ms. copies_for k j e b batch ++ ms) (answers-append k j e b batches xs ys)
     ∙ sym (append_assoc (copies_for k j e b batch) (answers k j e b batches xs) _)
@@ -65,13 +71,16 @@ stops_last (Order epoch shift ∷ xs) m none = stops_last xs m none
 stops_last (Grant ∷ xs) m none = stops_last xs m none
 stops_last (Stop ∷ xs) m none = absurd (omega arith)
 
-answer_one : (s : FeederState) (m : ToFeeder) (j : ℕ) → j < 2 ^ s.start.k → answers s.start.k j s.epoch s.shift s.to_come (m ∷ []) ≡ posted_to_joiner j (posts_for s m)
+answer_one : (s : FeederState) (m : ToFeeder) (j : ℕ) → j < 2 ^ s.start.k
+    → answers s.start.k j s.epoch s.shift s.to_come (m ∷ []) ≡ posted_to_joiner j (posts_for s m)
 answer_one s (Order epoch shift) j below = sym (all-joiner (Turn epoch shift) j (2 ^ s.start.k) below)
 answer_one s Grant j below = by_batches s.to_come
   where
-    by_batches : (bs : List (List Tuple)) → answers s.start.k j s.epoch s.shift bs (Grant ∷ []) ≡ posted_to_joiner j (posts_of_batch s.start.k s.epoch s.shift (first_batch bs))
+    by_batches : (bs : List (List Tuple)) → answers s.start.k j s.epoch s.shift bs (Grant ∷ [])
+        ≡ posted_to_joiner j (posts_of_batch s.start.k s.epoch s.shift (first_batch bs))
     by_batches [] = refl
-    by_batches (batch ∷ batches) = append-nil (copies_for s.start.k j s.epoch s.shift batch) ∙ sym (batch-joiner s.start.k s.epoch s.shift j batch below)
+    by_batches (batch ∷ batches) = append-nil (copies_for s.start.k j s.epoch s.shift batch)
+        ∙ sym (batch-joiner s.start.k s.epoch s.shift j batch below)
 answer_one s Stop j below = sym (all-joiner End j (2 ^ s.start.k) below)
 
 pub nothing_asked : (s : FeederState) (m : ToFeeder) → posted_to_controller (posts_for s m) ≡ []
@@ -85,13 +94,16 @@ pub none_stopped : (b : Bool) (n : ℕ) → b ≡ false → (b ≡ true ↔ (0 <
 none_stopped b zero is both = refl
 none_stopped b (suc n) is both = absurd (false≢true (sym is ∙ both.1 (omega arith)))
 
-module _ (s : FeederState) (rest : List ToFeeder) (lists : FeederLists) (taken : List ToFeeder) (g : Goes s lists taken) where
+module _ (s : FeederState) (rest : List ToFeeder) (lists : FeederLists) (taken : List ToFeeder)
+    (g : Goes s lists taken) where
   answered : (m : ToFeeder) (j : ℕ) → j < 2 ^ s.start.k
-      → lists.to_joiner j ++ posted_to_joiner j (posts_for s m) ≡ answers s.start.k j s.start.epoch s.start.shift s.start.batches (taken ++ m ∷ [])
+      → lists.to_joiner j ++ posted_to_joiner j (posts_for s m)
+      ≡ answers s.start.k j s.start.epoch s.start.shift s.start.batches (taken ++ m ∷ [])
   answered m j below =
       let now : epoch_now s.start.epoch taken ≡ s.epoch = epoch_now-is s.start.epoch taken g.orders ∙ sym g.epoch in
       sym (answers-append s.start.k j s.start.epoch s.start.shift s.start.batches taken (m ∷ [])
-      ∙ ap (λ ms. ms ++ answers s.start.k j (epoch_now s.start.epoch taken) (shift_now s.start.shift taken) (drop (grants taken) s.start.batches) (m ∷ [])) (sym (g.answered j below))
+      ∙ ap (λ ms. ms ++ answers s.start.k j (epoch_now s.start.epoch taken) (shift_now s.start.shift taken)
+      (drop (grants taken) s.start.batches) (m ∷ [])) (sym (g.answered j below))
       ∙ ap (λ ms. lists.to_joiner j ++ ms) (rw (now, ← g.shift, ← g.to_come) (answer_one s m j below)))
 
   splits : (m : ToFeeder) → s.held ≡ m ∷ rest → (taken ++ m ∷ []) ++ rest ≡ lists.received
@@ -100,7 +112,8 @@ module _ (s : FeederState) (rest : List ToFeeder) (lists : FeederLists) (taken :
   whole : (m : ToFeeder) → lists.to_controller ++ posted_to_controller (posts_for s m) ≡ lists.to_controller
   whole m = ap (λ ms. lists.to_controller ++ ms) (nothing_asked s m) ∙ append-nil lists.to_controller
 
-  pub took : (m : ToFeeder) → s.held ≡ m ∷ rest → Takes s m → Goes (state_after (record s { held = rest }) m) (with_sent lists (posts_for s m)) (taken ++ m ∷ [])
+  pub took : (m : ToFeeder) → s.held ≡ m ∷ rest → Takes s m
+      → Goes (state_after (record s { held = rest }) m) (with_sent lists (posts_for s m)) (taken ++ m ∷ [])
   took (Order epoch shift) held can =
       let m = Order epoch shift in
       let stays = whole m in
@@ -110,14 +123,16 @@ module _ (s : FeederState) (rest : List ToFeeder) (lists : FeederLists) (taken :
       let same_grants : grants (taken ++ m ∷ []) ≡ grants taken = omega arith in
       let same_stops : stops (taken ++ m ∷ []) ≡ stops taken = omega arith in
       let n = length (order_epochs taken) in
-      let one_more : length (order_epochs (taken ++ m ∷ [])) ≡ n + 1 = ap length os ∙ length-append (order_epochs taken) (epoch ∷ []) in
+      let one_more : length (order_epochs (taken ++ m ∷ [])) ≡ n + 1 =
+      ap length os ∙ length-append (order_epochs taken) (epoch ∷ []) in
       let next : epoch ≡ s.start.epoch + 1 + n = let at = can.0 in let e = g.epoch in omega arith in
       record {
         splits = splits m held;
         asked = rw stays g.asked;
         granted = rw (stays, same_grants) g.granted;
         drained = rw (stays, same_grants) g.drained;
-        orders = os ∙ ap (λ es. es ++ epoch ∷ []) g.orders ∙ ap (λ e. counting_from (s.start.epoch + 1) n ++ e ∷ []) next ∙ sym (counting-more (s.start.epoch + 1) n) ∙ ap (counting_from (s.start.epoch + 1)) (sym one_more);
+        orders = os ∙ ap (λ es. es ++ epoch ∷ []) g.orders ∙ ap (λ e. counting_from (s.start.epoch + 1) n ++ e ∷ [])
+            next ∙ sym (counting-more (s.start.epoch + 1) n) ∙ ap (counting_from (s.start.epoch + 1)) (sym one_more);
         stops_last = stops_last taken m (none_stopped s.stopped (stops taken) can.2 g.is_stopped);
         stops_drained = rw (stays, same_stops) g.stops_drained;
         answered = answered m;
@@ -132,7 +147,8 @@ module _ (s : FeederState) (rest : List ToFeeder) (lists : FeederLists) (taken :
       let stays = whole Grant in
       let gs = grants-append taken (Grant ∷ []) in
       let ss = stops-append taken (Grant ∷ []) in
-      let os : order_epochs (taken ++ Grant ∷ []) ≡ order_epochs taken = order_epochs-append taken (Grant ∷ []) ∙ append-nil (order_epochs taken) in
+      let os : order_epochs (taken ++ Grant ∷ []) ≡ order_epochs taken =
+      order_epochs-append taken (Grant ∷ []) ∙ append-nil (order_epochs taken) in
       let one_more : grants (taken ++ Grant ∷ []) ≡ grants taken + 1 = omega arith in
       let same_stops : stops (taken ++ Grant ∷ []) ≡ stops taken = omega arith in
       let given : asks lists.to_controller ≡ grants taken + 1 = g.is_asked.0 can in
@@ -148,7 +164,8 @@ module _ (s : FeederState) (rest : List ToFeeder) (lists : FeederLists) (taken :
         answered = answered Grant;
         epoch = rw os g.epoch;
         shift = g.shift ∙ sym (shift_now-append s.start.shift taken (Grant ∷ []));
-        to_come = ap (drop 1) g.to_come ∙ drop-drop 1 (grants taken) s.start.batches ∙ ap (λ n. drop n s.start.batches) (sym one_more);
+        to_come = ap (drop 1) g.to_come ∙ drop-drop 1 (grants taken) s.start.batches
+            ∙ ap (λ n. drop n s.start.batches) (sym one_more);
         is_asked = rw (stays, one_more) (λ no. absurd (false≢true no), λ more. absurd (omega arith));
         is_drained = rw stays g.is_drained;
         is_stopped = rw same_stops g.is_stopped;
@@ -159,12 +176,14 @@ module _ (s : FeederState) (rest : List ToFeeder) (lists : FeederLists) (taken :
         where
           by_count : (n : ℕ) → stops taken ≡ n → n ≡ 0
           by_count zero is = refl
-          by_count (suc n) is = let even = g.drained (g.stops_drained (omega arith)) in let odd = g.is_asked.0 can in absurd (omega arith)
+          by_count (suc n) is = let even = g.drained (g.stops_drained (omega arith)) in let odd = g.is_asked.0 can in
+              absurd (omega arith)
   took Stop held can =
       let stays = whole Stop in
       let gs = grants-append taken (Stop ∷ []) in
       let ss = stops-append taken (Stop ∷ []) in
-      let os : order_epochs (taken ++ Stop ∷ []) ≡ order_epochs taken = order_epochs-append taken (Stop ∷ []) ∙ append-nil (order_epochs taken) in
+      let os : order_epochs (taken ++ Stop ∷ []) ≡ order_epochs taken =
+      order_epochs-append taken (Stop ∷ []) ∙ append-nil (order_epochs taken) in
       let same_grants : grants (taken ++ Stop ∷ []) ≡ grants taken = omega arith in
       let one_more : 0 < stops (taken ++ Stop ∷ []) = omega arith in
       record {

@@ -1,5 +1,6 @@
 -- From one taken message to a whole call.
-use Rattle.std.proofs.Common.{◌≡◌, ℕ, ◌<◌, ◌↔◌, inl, refl, sym, ◌∙◌, ap, subst, arith, Bool, true, false, List, [], ◌∷◌, ◌++◌, drop, append_assoc}
+use Rattle.std.proofs.Common.{◌≡◌, ℕ, ◌<◌, ◌↔◌, inl, refl, sym, ◌∙◌, ap, subst, arith, Bool, true, false, List, [], ◌∷◌}
+use Rattle.std.proofs.Common.{◌++◌, drop, append_assoc}
 use Rattle.std.proofs.lemmas.List.{append-nil}
 use Rattle.std.proofs.lemmas.List.Elements.{filter_map-append, All-append, All-nil}
 use Rattle.std.proofs.lemmas.Bool.{false≢true}
@@ -9,9 +10,11 @@ use Rattle.epoch_tags.specs.declared.message.ToJoiner.TheVariants.{Turn, End}
 use Rattle.epoch_tags.specs.declared.message.ToFeeder.{ToFeeder}
 use Rattle.epoch_tags.specs.declared.message.ToFeeder.TheVariants.{Order, Grant, Stop}
 use Rattle.epoch_tags.specs.Messages.{stops}
-use Rattle.epoch_tags.specs.Posts.{GoesOver, AllGoOver, posted_to_joiner, posted_to_controller, for_joiner, for_controller}
+use Rattle.epoch_tags.specs.Posts.{GoesOver, AllGoOver, posted_to_joiner, posted_to_controller, for_joiner}
+use Rattle.epoch_tags.specs.Posts.{for_controller}
 use Rattle.reshuffler_core.specs.Law.{FeederLists, FeederStart, CanTake, requests}
-use Rattle.reshuffler_core.specs.Standing.{FeederState, StandsFor, TakesMessage, nothing_yet, with_sent, with_message, after_held, posts_of_held, state_after, posts_for, first_batch}
+use Rattle.reshuffler_core.specs.Standing.{FeederState, StandsFor, TakesMessage, nothing_yet, with_sent, with_message}
+use Rattle.reshuffler_core.specs.Standing.{after_held, posts_of_held, state_after, posts_for, first_batch}
 use Rattle.reshuffler_core.specs.Machine.{Takes, IsStuck, IsReady, Goes, Advances, GoesOverLinks}
 use Rattle.reshuffler_core.proofs.FeederPosts.{all-over, batch-over}
 use Rattle.reshuffler_core.proofs.TakenMessages.{took, nothing_asked}
@@ -19,7 +22,8 @@ use Rattle.reshuffler_core.proofs.CallResults.{one_state, one_posts, whole_state
 
 -- ---- lists that are the same, one by one
 
-pub same_lists : (s : FeederState) (xs ys : FeederLists) (taken : List ToFeeder) → Goes s xs taken → ys.received ≡ xs.received → ys.to_controller ≡ xs.to_controller
+pub same_lists : (s : FeederState) (xs ys : FeederLists) (taken : List ToFeeder) → Goes s xs taken
+    → ys.received ≡ xs.received → ys.to_controller ≡ xs.to_controller
     → ((j : ℕ) → ys.to_joiner j ≡ xs.to_joiner j) → Goes s ys taken
 same_lists s xs ys taken g received controller joiner = record {
   splits = g.splits ∙ sym received;
@@ -38,17 +42,23 @@ same_lists s xs ys taken g received controller joiner = record {
   is_stopped = g.is_stopped;
 }
 
-joined-joiner : (j : ℕ) (xs ys : List Post) → posted_to_joiner j (xs ++ ys) ≡ posted_to_joiner j xs ++ posted_to_joiner j ys
+joined-joiner : (j : ℕ) (xs ys : List Post) → posted_to_joiner j (xs ++ ys) ≡ posted_to_joiner j xs
+    ++ posted_to_joiner j ys
 joined-joiner j xs ys = filter_map-append (λ post. for_joiner j post.to post.msg) xs ys
 
-pub joined-controller : (xs ys : List Post) → posted_to_controller (xs ++ ys) ≡ posted_to_controller xs ++ posted_to_controller ys
+pub joined-controller : (xs ys : List Post) → posted_to_controller (xs ++ ys) ≡ posted_to_controller xs
+    ++ posted_to_controller ys
 joined-controller xs ys = filter_map-append (λ post. for_controller post.to post.msg) xs ys
 
 -- two calls' posts
-pub sent_on : (s : FeederState) (lists : FeederLists) (xs ys : List Post) (taken : List ToFeeder) → Goes s (with_sent (with_sent lists xs) ys) taken → Goes s (with_sent lists (xs ++ ys)) taken
-sent_on s lists xs ys taken g = same_lists s (with_sent (with_sent lists xs) ys) (with_sent lists (xs ++ ys)) taken g refl
-    (ap (λ ms. lists.to_controller ++ ms) (joined-controller xs ys) ∙ sym (append_assoc lists.to_controller (posted_to_controller xs) (posted_to_controller ys)))
-    (λ j. ap (λ ms. lists.to_joiner j ++ ms) (joined-joiner j xs ys) ∙ sym (append_assoc (lists.to_joiner j) (posted_to_joiner j xs) (posted_to_joiner j ys)))
+pub sent_on : (s : FeederState) (lists : FeederLists) (xs ys : List Post) (taken : List ToFeeder)
+    → Goes s (with_sent (with_sent lists xs) ys) taken → Goes s (with_sent lists (xs ++ ys)) taken
+sent_on s lists xs ys taken g = same_lists s (with_sent (with_sent lists xs) ys) (with_sent lists (xs ++ ys))
+    taken g refl
+    (ap (λ ms. lists.to_controller ++ ms) (joined-controller xs ys)
+    ∙ sym (append_assoc lists.to_controller (posted_to_controller xs) (posted_to_controller ys)))
+    (λ j. ap (λ ms. lists.to_joiner j ++ ms) (joined-joiner j xs ys)
+    ∙ sym (append_assoc (lists.to_joiner j) (posted_to_joiner j xs) (posted_to_joiner j ys)))
 
 -- ---- some of the held
 
@@ -63,20 +73,24 @@ stays s posts = record {
   posts = refl;
   goes = λ lists taken g. record {
     taken = taken;
-    goes = same_lists s lists (with_sent lists []) taken g refl (append-nil lists.to_controller) (λ j. append-nil (lists.to_joiner j));
+    goes = same_lists s lists (with_sent lists []) taken g refl (append-nil lists.to_controller)
+        (λ j. append-nil (lists.to_joiner j));
   };
 }
 
-pub further : (a b c : FeederState) (xs ys zs : List Post) → Advances a b xs ys → Advances b c ys zs → Advances a c xs zs
+pub further : (a b c : FeederState) (xs ys zs : List Post) → Advances a b xs ys → Advances b c ys zs
+    → Advances a c xs zs
 further a b c xs ys zs p q = record {
   start = q.start ∙ p.start;
   added = p.added ++ q.added;
   sends = q.sends ∙ ap (λ posts. posts ++ q.added) p.sends ∙ append_assoc xs p.added q.added;
-  asks_nothing = joined-controller p.added q.added ∙ ap (λ ms. ms ++ posted_to_controller q.added) p.asks_nothing ∙ q.asks_nothing;
+  asks_nothing = joined-controller p.added q.added ∙ ap (λ ms. ms ++ posted_to_controller q.added) p.asks_nothing
+      ∙ q.asks_nothing;
   over = λ id feeders low. All-append (GoesOver a.start.k feeders (Feeder id)) p.added q.added (p.over id feeders low)
       (subst (λ (start : FeederStart). AllGoOver start.k feeders (Feeder id) q.added) p.start (q.over id feeders low));
   state = p.state ∙ q.state;
-  posts = p.posts ∙ ap (λ posts. p.added ++ posts) q.posts ∙ sym (append_assoc p.added q.added (posts_of_held c c.held));
+  posts = p.posts ∙ ap (λ posts. p.added ++ posts) q.posts ∙ sym
+      (append_assoc p.added q.added (posts_of_held c c.held));
   goes = λ lists taken g.
       let first = p.goes lists taken g in
       let second = q.goes (with_sent lists p.added) first.taken first.goes in
@@ -88,12 +102,14 @@ go_over s (Order epoch shift) = λ p feeders low. all-over s.start.k p feeders l
 go_over s Grant = λ p feeders low. batch-over s.start.k p feeders low s.epoch s.shift (first_batch s.to_come)
 go_over s Stop = λ p feeders low. all-over s.start.k p feeders low End
 
-same_posts : (s : FeederState) (rest : List ToFeeder) (m : ToFeeder) → posts_for (record s { held = rest }) m ≡ posts_for s m
+same_posts : (s : FeederState) (rest : List ToFeeder) (m : ToFeeder)
+    → posts_for (record s { held = rest }) m ≡ posts_for s m
 same_posts s rest (Order epoch shift) = refl
 same_posts s rest Grant = refl
 same_posts s rest Stop = refl
 
-same_start : (s : FeederState) (rest : List ToFeeder) (m : ToFeeder) → (state_after (record s { held = rest }) m).start ≡ s.start
+same_start : (s : FeederState) (rest : List ToFeeder) (m : ToFeeder)
+    → (state_after (record s { held = rest }) m).start ≡ s.start
 same_start s rest (Order epoch shift) = refl
 same_start s rest Grant = refl
 same_start s rest Stop = refl
@@ -104,7 +120,8 @@ same_held s Grant = refl
 same_held s Stop = refl
 
 pub one_taken : (s : FeederState) (m : ToFeeder) (before : List Post) → IsReady s m
-    → Advances s (state_after (record s { held = drop 1 s.held }) m) before (before ++ posts_for (record s { held = drop 1 s.held }) m)
+    → Advances s (state_after (record s { held = drop 1 s.held }) m) before
+    (before ++ posts_for (record s { held = drop 1 s.held }) m)
 one_taken s m before ready =
     let rest : drop 1 s.held ≡ ready.rest = ap (drop 1) ready.first in
     let next = state_after (record s { held = drop 1 s.held }) m in
@@ -115,7 +132,8 @@ one_taken s m before ready =
       asks_nothing = nothing_asked s m;
       over = go_over s m;
       state = one_state s m ready ∙ ap (after_held next) (sym (same_held (record s { held = drop 1 s.held }) m));
-      posts = one_posts s m ready ∙ ap (λ held. posts_for s m ++ posts_of_held next held) (sym (same_held (record s { held = drop 1 s.held }) m));
+      posts = one_posts s m ready ∙ ap (λ held. posts_for s m ++ posts_of_held next held)
+          (sym (same_held (record s { held = drop 1 s.held }) m));
       goes = λ lists taken g. record {
         taken = taken ++ m ∷ [];
         goes = took s (drop 1 s.held) lists taken g m (ready.first ∙ ap (λ ms. m ∷ ms) (sym rest)) ready.takes;
@@ -137,13 +155,19 @@ below_nothing true n none both = let some = both.0 refl in absurd (omega arith)
 below_nothing false n none both = refl
 
 -- what the law lets it take, it can take
-takes_if : (s : FeederState) (lists : FeederLists) (taken : List ToFeeder) → Goes s lists taken → (m : ToFeeder) → CanTake s.start taken lists.to_controller m → Takes s m
-takes_if s lists taken g (Order epoch shift) can = (let at = can.0 in let e = g.epoch in omega arith, can.1, below_nothing s.stopped (stops taken) can.2 g.is_stopped)
+takes_if : (s : FeederState) (lists : FeederLists) (taken : List ToFeeder) → Goes s lists taken → (m : ToFeeder)
+    → CanTake s.start taken lists.to_controller m → Takes s m
+takes_if s lists taken g (Order epoch shift) can = (
+  let at = can.0 in let e = g.epoch in omega arith,
+  can.1,
+  below_nothing s.stopped (stops taken) can.2 g.is_stopped,
+)
 takes_if s lists taken g Grant can = g.is_asked.1 can
 takes_if s lists taken g Stop can = (g.is_drained.1 can.0, below_nothing s.stopped (stops taken) can.1 g.is_stopped)
 
 -- whether it is spent makes no difference here
-pub is_standing : (s : FeederState) (lists : FeederLists) (taken : List ToFeeder) (spent : Bool) → Goes s lists taken → IsStuck s → StandsFor s.start lists (record s { spent = spent })
+pub is_standing : (s : FeederState) (lists : FeederLists) (taken : List ToFeeder) (spent : Bool) → Goes s lists taken
+    → IsStuck s → StandsFor s.start lists (record s { spent = spent })
 is_standing s lists taken spent g stuck = record {
   began = refl;
   taken = taken;
@@ -169,16 +193,19 @@ is_standing s lists taken spent g stuck = record {
 }
 
 -- the start as the machine has it
-pub as_own : (s : FeederState) (start : FeederStart) (lists : FeederLists) → StandsFor start lists s → StandsFor s.start lists s
+pub as_own : (s : FeederState) (start : FeederStart) (lists : FeederLists) → StandsFor start lists s
+    → StandsFor s.start lists s
 as_own s start lists stands = subst (λ (own : FeederStart). StandsFor own lists s) (sym stands.began) stands
 
 -- with one message more behind the held
-pub received : (s : FeederState) (lists : FeederLists) (m : ToFeeder) (spent : Bool) → (stands : StandsFor s.start lists s)
+pub received : (s : FeederState) (lists : FeederLists) (m : ToFeeder) (spent : Bool)
+    → (stands : StandsFor s.start lists s)
     → Goes (record s { held = s.held ++ m ∷ []; spent = spent }) (with_message m lists) stands.taken
 received s lists m spent stands =
     let law = stands.law in
     record {
-      splits = ap (λ ms. stands.taken ++ (ms ++ m ∷ [])) stands.held ∙ sym (append_assoc stands.taken law.held (m ∷ [])) ∙ ap (λ ms. ms ++ m ∷ []) law.splits;
+      splits = ap (λ ms. stands.taken ++ (ms ++ m ∷ [])) stands.held ∙ sym (append_assoc stands.taken law.held (m ∷ []))
+          ∙ ap (λ ms. ms ++ m ∷ []) law.splits;
       asked = law.asked;
       granted = law.granted;
       drained = law.drained;
@@ -195,7 +222,8 @@ received s lists m spent stands =
     }
 
 pub takes_message : (old new : FeederState) (m : ToFeeder) (before after : List Post)
-    → Advances (record old { held = old.held ++ m ∷ []; spent = true }) new before after → IsStuck new → TakesMessage m old (record new { spent = false }) before after
+    → Advances (record old { held = old.held ++ m ∷ []; spent = true }) new before after → IsStuck new
+    → TakesMessage m old (record new { spent = false }) before after
 takes_message old new m before after go stuck = record {
   start = go.start;
   added = go.added;
@@ -207,7 +235,8 @@ takes_message old new m before after go stuck = record {
   stands = λ start lists stands.
       let own = as_own old start lists stands in
       let gone = go.goes (with_message m lists) own.taken (received old lists m true own) in
-      subst (λ (s : FeederStart). StandsFor s (with_sent (with_message m lists) go.added) (record new { spent = false })) (go.start ∙ stands.began)
+      subst (λ (s : FeederStart). StandsFor s (with_sent (with_message m lists) go.added)
+      (record new { spent = false })) (go.start ∙ stands.began)
       (is_standing new (with_sent (with_message m lists) go.added) gone.taken false gone.goes stuck);
 }
 

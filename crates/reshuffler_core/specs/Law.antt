@@ -59,7 +59,8 @@ shift_now b (Stop ∷ ms) = shift_now b ms
 
 -- after these messages were taken and those sent, a feeder can take this one
 abbrev pub CanTake : FeederStart → List ToFeeder → List ToController → ToFeeder → Type 0
-CanTake s taken sent (Order epoch shift) = (epoch ≡ s.epoch + length (order_epochs taken) + 1) × (shift ≤ s.k) × (stops taken ≡ 0)
+CanTake s taken sent (Order epoch shift) = (epoch ≡ s.epoch + length (order_epochs taken) + 1) × (shift ≤ s.k)
+    × (stops taken ≡ 0)
 CanTake s taken sent Grant = asks sent ≡ grants taken + 1
 CanTake s taken sent Stop = (0 < draineds sent) × (stops taken ≡ 0)
 

@@ -1,5 +1,6 @@
 -- How the machine goes on, a message or a batch at a time.
-use Rattle.std.specs.Prelude.{◌≡◌, ℕ, ◌+◌, ◌^◌, ◌<◌, ◌≤◌, ◌⊎◌, ◌↔◌, true, false, IsTrue, List, [], ◌∷◌, ◌++◌, length, drop}
+use Rattle.std.specs.Prelude.{◌≡◌, ℕ, ◌+◌, ◌^◌, ◌<◌, ◌≤◌, ◌⊎◌, ◌↔◌, true, false, IsTrue, List, [], ◌∷◌, ◌++◌, length}
+use Rattle.std.specs.Prelude.{drop}
 use Rattle.epoch_tags.specs.declared.actor.Actor.TheVariants.{Feeder}
 use Rattle.epoch_tags.specs.declared.message.Post.{Post}
 use Rattle.epoch_tags.specs.declared.message.ToFeeder.{ToFeeder}
@@ -44,7 +45,8 @@ pub record Goes (s : FeederState) (lists : FeederLists) (taken : List ToFeeder) 
   pub orders : order_epochs taken ≡ counting_from (s.start.epoch + 1) (length (order_epochs taken))
   pub stops_last : StopsLast taken
   pub stops_drained : 0 < stops taken → 0 < draineds lists.to_controller
-  pub answered : (j : ℕ) → j < 2 ^ s.start.k → lists.to_joiner j ≡ answers s.start.k j s.start.epoch s.start.shift s.start.batches taken
+  pub answered : (j : ℕ) → j < 2 ^ s.start.k → lists.to_joiner j
+      ≡ answers s.start.k j s.start.epoch s.start.shift s.start.batches taken
   pub epoch : s.epoch ≡ s.start.epoch + length (order_epochs taken)
   pub shift : s.shift ≡ shift_now s.start.shift taken
   pub to_come : s.to_come ≡ drop (grants taken) s.start.batches
@@ -67,7 +69,8 @@ pub record Advances (old new : FeederState) (before after : List Post) : Type 0 
   -- and what the held messages lead to is the same
   pub state : after_held old old.held ≡ after_held new new.held
   pub posts : posts_of_held old old.held ≡ added ++ posts_of_held new new.held
-  pub goes : (lists : FeederLists) (taken : List ToFeeder) → Goes old lists taken → StillGoes new (with_sent lists added)
+  pub goes : (lists : FeederLists) (taken : List ToFeeder) → Goes old lists taken
+      → StillGoes new (with_sent lists added)
 
 -- ---- what the fields keep to
 

@@ -1,5 +1,6 @@
 -- What a feeder's machine holds, and the lists for which it stands. It stores none of them.
-use Rattle.std.specs.Prelude.{◌≡◌, ℕ, ◌+◌, ◌^◌, ◌<◌, ◌==◌, nat_le, ◌↔◌, ◌⊎◌, Bool, true, false, not, ◌&&◌, IsTrue, List, [], ◌∷◌, ◌++◌, map, filter, flat_map, drop, length, if◌then◌else◌}
+use Rattle.std.specs.Prelude.{◌≡◌, ℕ, ◌+◌, ◌^◌, ◌<◌, ◌==◌, nat_le, ◌↔◌, ◌⊎◌, Bool, true, false, not, ◌&&◌, IsTrue, List}
+use Rattle.std.specs.Prelude.{[], ◌∷◌, ◌++◌, map, filter, flat_map, drop, length, if◌then◌else◌}
 use Rattle.std.specs.List.{range_with_len}
 use Rattle.epoch_tags.specs.declared.actor.Actor.TheVariants.{Feeder, Joiner as Joiner', Controller as Controller'}
 use Rattle.epoch_tags.specs.declared.message.Msg.TheVariants.{Joiner, Controller}
@@ -143,7 +144,8 @@ pub record TakesMessage (m : ToFeeder) (old new : FeederState) (before after : L
   pub asks_nothing : posted_to_controller added ≡ []
   -- whatever its number below whatever number of feeders, its posts go over its links
   pub over : (p feeders : ℕ) → p < feeders → AllGoOver old.start.k feeders (Feeder p) added
-  pub stands : (start : FeederStart) (lists : FeederLists) → StandsFor start lists old → StandsFor start (with_sent (with_message m lists) added) new
+  pub stands : (start : FeederStart) (lists : FeederLists) → StandsFor start lists old
+      → StandsFor start (with_sent (with_message m lists) added) new
 
 -- a call that began the next batch, or the end: for whatever lists the machine stood, it stands for
 -- them with the new posts at their ends
@@ -158,4 +160,5 @@ pub record Begins (old new : FeederState) (before after : List Post) : Type 0 wh
   pub asks_next : posted_to_controller added ≡ next_request old.to_come ∷ []
   -- whatever its number below whatever number of feeders, its posts go over its links
   pub over : (p feeders : ℕ) → p < feeders → AllGoOver old.start.k feeders (Feeder p) added
-  pub stands : (start : FeederStart) (lists : FeederLists) → StandsFor start lists old → StandsFor start (with_sent lists added) new
+  pub stands : (start : FeederStart) (lists : FeederLists) → StandsFor start lists old
+      → StandsFor start (with_sent lists added) new

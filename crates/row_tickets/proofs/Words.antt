@@ -3,11 +3,13 @@ use Rattle.std.proofs.Common.{◌≡◌, ℕ, zero, suc, ◌+◌, refl, ap, add-
 use Rattle.rand_pcg.specs.Lcg.{Lcg, next_state, state_after, next, advance}
 
 state_after-last : (w m increment n state : ℕ)
-    → next_state w m increment (state_after w m increment n state) ≡ state_after w m increment n (next_state w m increment state)
+    → next_state w m increment (state_after w m increment n state)
+    ≡ state_after w m increment n (next_state w m increment state)
 unfolding state_after
 state_after-last w m increment zero state = refl
 state_after-last w m increment (suc n) state = state_after-last w m increment n (next_state w m increment state)
 
 pub next-advance : (w m n : ℕ) (g : Lcg) → next w m (advance w m n g) ≡ advance w m (n + 1) g
 unfolding state_after
-next-advance w m n g = rw add-one (ap (λ (state : ℕ). record g { state = state }) (state_after-last w m g.increment n g.state))
+next-advance w m n g = rw add-one (ap (λ (state : ℕ). record g { state = state })
+    (state_after-last w m g.increment n g.state))

@@ -1,5 +1,6 @@
 -- Each kind of step keeps the rule of a link.
-use Rattle.std.proofs.Common.{◌≡◌, ◌≢◌, ℕ, ◌+◌, ◌≤◌, true, false, true≢false, List, [], ◌∷◌, ◌++◌, length, set, sym, refl, ap, ◌∙◌, ⊎_elim, append_assoc, append-nil, length-append, arith}
+use Rattle.std.proofs.Common.{◌≡◌, ◌≢◌, ℕ, ◌+◌, ◌≤◌, true, false, true≢false, List, [], ◌∷◌, ◌++◌, length, set, sym}
+use Rattle.std.proofs.Common.{refl, ap, ◌∙◌, ⊎_elim, append_assoc, append-nil, length-append, arith}
 use mathlib.Core.Option.{some, some-ne-none}
 use lib.ListN.{get_elem?}
 use Rattle.crossbeam_queue.specs.Fifo.{Pushes, Pops, Forks, Merges, Learns, Held}
@@ -15,11 +16,18 @@ use Rattle.ruled_links.proofs.Places.{at_here, at_front, at_end, Each, Each-set,
 
 -- what begins a list begins a longer one
 pub longer : {known sent : List Envelope} (more : List Envelope) → IsPrefix known sent → IsPrefix known (sent ++ more)
-longer {known} {sent} more p = record { rest = p.rest ++ more; joins = sym (append_assoc known p.rest more) ∙ ap (λ l. l ++ more) p.joins }
+longer {known} {sent} more p = record {
+  rest = p.rest ++ more;
+  joins = sym (append_assoc known p.rest more) ∙ ap (λ l. l ++ more) p.joins;
+}
 
 -- a spent pass may do nothing
-spent_fits : (sender receiver : ℕ) (sent received : List Envelope) (pass : ℕ) → Fits sender receiver sent received pass (hand false false [] [] [])
-spent_fits sender receiver sent received pass = record { puts = λ p. absurd (true≢false (sym p)); takes = λ p. absurd (true≢false (sym p)) }
+spent_fits : (sender receiver : ℕ) (sent received : List Envelope) (pass : ℕ)
+    → Fits sender receiver sent received pass (hand false false [] [] [])
+spent_fits sender receiver sent received pass = record {
+  puts = λ p. absurd (true≢false (sym p));
+  takes = λ p. absurd (true≢false (sym p));
+}
 
 -- ---- the steps
 
@@ -37,7 +45,8 @@ begins = let first = hand true true [] [] [] in record {
       (λ j u other e. absurd (other (at_end [] first u j (λ x. some-ne-none u (sym x)) e))) j u e;
 }
 
-pub puts : (n pass : ℕ) (v : Hand) (x : Envelope) → v.puts ≡ true → Pushes IsInOrder n pass v x (λ w. w ≡ hand v.puts v.takes (v.sent ++ x ∷ []) v.received v.known)
+pub puts : (n pass : ℕ) (v : Hand) (x : Envelope) → v.puts ≡ true
+    → Pushes IsInOrder n pass v x (λ w. w ≡ hand v.puts v.takes (v.sent ++ x ∷ []) v.received v.known)
 puts n pass v x may items hands _ h at =
     let w : Hand = hand v.puts v.takes (v.sent ++ x ∷ []) v.received v.known in
     let mine = h.fits pass v at in
@@ -64,7 +73,8 @@ puts n pass v x may items hands _ h at =
       refl,
     )
 
-pub takes : (pass : ℕ) (v : Hand) → v.takes ≡ true → Pops IsInOrder pass v (λ x w. w ≡ hand v.puts v.takes v.sent (v.received ++ x ∷ []) v.known)
+pub takes : (pass : ℕ) (v : Hand) → v.takes ≡ true → Pops IsInOrder pass v
+    (λ x w. w ≡ hand v.puts v.takes v.sent (v.received ++ x ∷ []) v.known)
 takes pass v may x items hands h at =
     let w : Hand = hand v.puts v.takes v.sent (v.received ++ x ∷ []) v.known in
     let mine = h.fits pass v at in
@@ -91,13 +101,15 @@ takes pass v may x items hands h at =
       refl,
     )
 
-pub parts : (pass : ℕ) (v : Hand) → v.puts ≡ true → v.takes ≡ true → Forks IsInOrder pass v (hand false true [] v.received v.sent) (hand true false v.sent [] [])
+pub parts : (pass : ℕ) (v : Hand) → v.puts ≡ true → v.takes ≡ true
+    → Forks IsInOrder pass v (hand false true [] v.received v.sent) (hand true false v.sent [] [])
 parts pass v may_put may_take items hands h at =
     let left : Hand = hand false true [] v.received v.sent in
     let right : Hand = hand true false v.sent [] [] in
     let mine = h.fits pass v at in
     let cut : List Hand = set hands pass left in
-    let Cut : ℕ → Hand → Type 0 = λ j u. (u.puts ≢ true) × (u.takes ≡ true → (j ≡ h.receiver) × (u.received ≡ h.received) × IsPrefix u.known h.sent) in
+    let Cut : ℕ → Hand → Type 0 = λ j u. (u.puts ≢ true) × (u.takes ≡ true → (j ≡ h.receiver)
+    × (u.received ≡ h.received) × IsPrefix u.known h.sent) in
     let known : IsPrefix v.sent h.sent = record { rest = []; joins = append-nil v.sent ∙ (mine.puts may_put).1 } in
     let fit : Each Cut cut = Each-set Cut hands pass left
     ((λ p. true≢false (sym p)), λ _. ((mine.takes may_take).0, (mine.takes may_take).1, known))
@@ -114,19 +126,24 @@ parts pass v may_put may_take items hands h at =
       fits = λ j u e. ⊎_elim
           (λ (x : get_elem? cut j ≡ some u). record { puts = λ p. absurd ((fit j u x).0 p); takes = (fit j u x).1 })
           (λ (is : right ≡ u). record {
-            puts = λ p. (at_end cut right u j (λ x. (fit j u x).0 p) e, ap (λ (y : Hand). y.sent) (sym is) ∙ (mine.puts may_put).1);
+            puts = λ p. (
+              at_end cut right u j (λ x. (fit j u x).0 p) e,
+              ap (λ (y : Hand). y.sent) (sym is) ∙ (mine.puts may_put).1,
+            );
             takes = λ p. absurd (true≢false (sym (ap (λ (y : Hand). y.takes) is ∙ p)));
           })
           (at_snoc cut right u j e);
     }
 
-pub meets : (pass : ℕ) (v : Hand) (other : ℕ) (u : Hand) → v.takes ≡ true → u.puts ≡ true → Merges IsInOrder pass v other u (hand true true u.sent v.received v.known) (hand false false [] [] [])
+pub meets : (pass : ℕ) (v : Hand) (other : ℕ) (u : Hand) → v.takes ≡ true → u.puts ≡ true
+    → Merges IsInOrder pass v other u (hand true true u.sent v.received v.known) (hand false false [] [] [])
 meets pass v other u may_take may_put items hands h at two at' =
     let both : Hand = hand true true u.sent v.received v.known in
     let mine = (h.fits pass v at).takes may_take in
     let spent : Hand = hand false false [] [] [] in
     let joined : List Hand = set hands pass both in
-    let was : get_elem? hands other ≡ some u = ⊎_elim (λ (x : (other ≡ pass) × (both ≡ u)). absurd (two x.0)) (λ (x : (other ≢ pass) × (get_elem? hands other ≡ some u)). x.1) (at_set hands pass other both u at') in
+    let was : get_elem? hands other ≡ some u = ⊎_elim (λ (x : (other ≡ pass) × (both ≡ u)). absurd (two x.0))
+    (λ (x : (other ≢ pass) × (get_elem? hands other ≡ some u)). x.1) (at_set hands pass other both u at') in
     let theirs = (h.fits other u was).puts may_put in
     let Fit : ℕ → Hand → Type 0 = Fits pass pass h.sent h.received in
     let fit : Each (λ j y. j ≢ other → Fit j y) joined = Each-set (λ j y. j ≢ other → Fit j y) hands pass both
@@ -135,7 +152,8 @@ meets pass v other u may_take may_put items hands h at two at' =
       puts = λ p. absurd (apart ((fit.puts p).0 ∙ sym theirs.0));
       takes = λ p. ((fit.takes p).0 ∙ sym mine.0, (fit.takes p).1, (fit.takes p).2);
     }) in
-    let stands : get_elem? (set joined other spent) pass ≡ some both = set_else joined other pass spent (λ e. two (sym e)) ∙ at_here hands pass v both at in
+    let stands : get_elem? (set joined other spent) pass ≡ some both =
+    set_else joined other pass spent (λ e. two (sym e)) ∙ at_here hands pass v both at in
     record {
       sender = pass;
       receiver = pass;
@@ -144,23 +162,38 @@ meets pass v other u may_take may_put items hands h at two at' =
       joins = h.joins;
       puts = (both, stands, refl);
       takes = (both, stands, refl);
-      fits = Each-set Fit joined other spent (spent_fits pass pass h.sent h.received other) (λ j y apart e. fit j y e apart);
+      fits = Each-set Fit joined other spent (spent_fits pass pass h.sent h.received other)
+          (λ j y apart e. fit j y e apart);
     }
 
-pub looks : (pass : ℕ) (v : Hand) → v.puts ≡ true → v.takes ≡ true → Learns IsInOrder pass v (λ items. v.received ++ items ≡ v.sent)
+pub looks : (pass : ℕ) (v : Hand) → v.puts ≡ true → v.takes ≡ true
+    → Learns IsInOrder pass v (λ items. v.received ++ items ≡ v.sent)
 looks pass v may_put may_take items hands h at =
     let mine = h.fits pass v at in ap (λ l. l ++ items) (mine.takes may_take).1 ∙ h.joins ∙ sym (mine.puts may_put).1
 
 -- what is known and not received is left
-pub counts : (known rest received items sent : List Envelope) → known ++ rest ≡ sent → received ++ items ≡ sent → length known ≤ length received + length items
-counts known rest received items sent a b = omega (arith, ap length a, ap length b, length-append known rest, length-append received items)
+pub counts : (known rest received items sent : List Envelope) → known ++ rest ≡ sent → received ++ items ≡ sent
+    → length known ≤ length received + length items
+counts known rest received items sent a b = omega (
+  arith,
+  ap length a,
+  ap length b,
+  length-append known rest,
+  length-append received items,
+)
 
-pub leaves : (pass : ℕ) (v : Hand) → v.takes ≡ true → Learns IsInOrder pass v (λ items. length v.known ≤ length v.received + length items)
+pub leaves : (pass : ℕ) (v : Hand) → v.takes ≡ true → Learns IsInOrder pass v
+    (λ items. length v.known ≤ length v.received + length items)
 leaves pass v may items hands h at =
     let mine = (h.fits pass v at).takes may in
     counts v.known mine.2.rest v.received items h.sent mine.2.joins (ap (λ l. l ++ items) mine.1 ∙ h.joins)
 
 -- what a look with both lists shows
-pub left_of : {sent received : List Envelope} {count : ℕ} (v : Hand) → Held count (λ (items : List Envelope). v.received ++ items ≡ v.sent) → v.sent ≡ sent → v.received ≡ received → AreLeft sent received count
+pub left_of : {sent received : List Envelope} {count : ℕ} (v : Hand)
+    → Held count (λ (items : List Envelope). v.received ++ items ≡ v.sent) → v.sent ≡ sent → v.received ≡ received
+    → AreLeft sent received count
 left_of {sent} {received} v held sends receives =
-    record { prefix = record { rest = held.0; joins = ap (λ l. l ++ held.0) (sym receives) ∙ held.2 ∙ sends }; left = held.1 }
+    record {
+      prefix = record { rest = held.0; joins = ap (λ l. l ++ held.0) (sym receives) ∙ held.2 ∙ sends };
+      left = held.1;
+    }

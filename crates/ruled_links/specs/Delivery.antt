@@ -1,5 +1,7 @@
--- The rule of an inbox's queue: of each sender, what it sent is what was received of it, and then what the queue holds of it.
-use Rattle.std.specs.Prelude.{◌≡◌, ℕ, ◌+◌, ◌*◌, ◌^◌, ◌≤◌, Bool, true, false, cond, eqb, List, [], ◌∷◌, ◌++◌, length, filter, Option, Some, None}
+-- The rule of an inbox's queue: of each sender, what it sent is what was received of it, and then what the queue holds
+-- of it.
+use Rattle.std.specs.Prelude.{◌≡◌, ℕ, ◌+◌, ◌*◌, ◌^◌, ◌≤◌, Bool, true, false, cond, eqb, List, [], ◌∷◌, ◌++◌, length}
+use Rattle.std.specs.Prelude.{filter, Option, Some, None}
 use mathlib.Core.Option.{some}
 use lib.ListN.{get_elem?}
 use Rattle.join_rows.specs.Lists.{IsPrefix}
@@ -45,11 +47,14 @@ abbrev pub PutsFor : ℕ → InboxHand → Type 0
 PutsFor n v = (v.puts ≡ true) × (v.sender ≡ n)
 
 -- what one pass may do, and what it then knows
-pub record InboxFits (seat : ℕ → ℕ) (receiver : ℕ) (known : List (ℕ × List Envelope)) (sent received : List Envelope) (pass : ℕ) (v : InboxHand) : Type 0 where
-  pub puts : v.puts ≡ true → (pass ≡ seat v.sender) × (v.sent ≡ of_sender v.sender sent) × (has_sender known v.sender ≡ true)
+pub record InboxFits (seat : ℕ → ℕ) (receiver : ℕ) (known : List (ℕ × List Envelope)) (sent received : List Envelope)
+    (pass : ℕ) (v : InboxHand) : Type 0 where
+  pub puts : v.puts ≡ true → (pass ≡ seat v.sender) × (v.sent ≡ of_sender v.sender sent)
+      × (has_sender known v.sender ≡ true)
   pub takes : v.takes ≡ true → (pass ≡ receiver) × (v.received ≡ received) × (v.known ≡ known)
 
--- of one sender: what is known begins what it sent, an actor that is no sender sent nothing, and 2^62 messages are the most
+-- of one sender: what is known begins what it sent, an actor that is no sender sent nothing, and 2^62 messages are the
+-- most
 pub record IsKept (known : List (ℕ × List Envelope)) (n : ℕ) (sent : List Envelope) : Type 0 where
   pub prefix : IsPrefix (known_of known n) sent
   pub none : has_sender known n ≡ false → sent ≡ []

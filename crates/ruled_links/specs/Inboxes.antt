@@ -1,5 +1,6 @@
 -- An inbox and its mouths, as contracts see them.
-use Rattle.std.specs.Prelude.{◌≡◌, ◌≢◌, ◌<◌, ◌-◌, ℕ, Bool, true, false, cond, eqb, length, slice_index_or, sum_by, List, [], ◌∷◌, map}
+use Rattle.std.specs.Prelude.{◌≡◌, ◌≢◌, ◌<◌, ◌-◌, ℕ, Bool, true, false, cond, eqb, length, slice_index_or, sum_by, List}
+use Rattle.std.specs.Prelude.{[], ◌∷◌, map}
 use Rattle.epoch_tags.specs.declared.actor.Actor.{Actor}
 use Rattle.epoch_tags.specs.declared.message.Envelope.{Envelope}
 use Rattle.ruled_links.specs.Ends.{LinkId, Sending}
@@ -32,12 +33,19 @@ all_known senders = sum_by (λ s. s.known) senders
 -- one less for this sender, unless that is 0
 abbrev pub lowered : Actor → List OfSender → List OfSender
 lowered from senders =
-    map (λ (s : OfSender). record { from = s.from; known = cond (eqb (number_of s.from) (number_of from)) (s.known - 1) s.known }) senders
+    map (λ (s : OfSender). record {
+      from = s.from;
+      known = cond (eqb (number_of s.from) (number_of from)) (s.known - 1)
+          s.known;
+    }) senders
 
 -- this number for this sender
 abbrev pub told : Actor → ℕ → List OfSender → List OfSender
 told from count senders =
-    map (λ (s : OfSender). record { from = s.from; known = cond (eqb (number_of s.from) (number_of from)) count s.known }) senders
+    map (λ (s : OfSender). record {
+      from = s.from;
+      known = cond (eqb (number_of s.from) (number_of from)) count s.known;
+    }) senders
 
 -- it is one of the senders
 abbrev pub is_sender : Actor → List OfSender → Bool
@@ -46,7 +54,8 @@ is_sender from (s ∷ ss) = cond (eqb (number_of s.from) (number_of from)) true 
 
 -- no actor stands there twice
 abbrev pub Differ : List Actor → Type 0
-Differ actors = (i k : ℕ) (d : Actor) → i < k → k < length actors → slice_index_or actors i d ≢ slice_index_or actors k d
+Differ actors = (i k : ℕ) (d : Actor) → i < k → k < length actors
+    → slice_index_or actors i d ≢ slice_index_or actors k d
 
 -- a sender of whom nothing is known to be left
 abbrev pub fresh : Actor → OfSender

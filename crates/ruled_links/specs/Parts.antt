@@ -1,5 +1,6 @@
 -- What an inbox counts of each sender, and where it finds that.
-use Rattle.std.specs.Prelude.{◌≡◌, ℕ, ◌+◌, ◌-◌, ◌^◌, ◌<◌, Bool, true, false, cond, eqb, List, [], ◌∷◌, length, slice_index, slice_index_or, All, sum_by}
+use Rattle.std.specs.Prelude.{◌≡◌, ℕ, ◌+◌, ◌-◌, ◌^◌, ◌<◌, Bool, true, false, cond, eqb, List, [], ◌∷◌, length}
+use Rattle.std.specs.Prelude.{slice_index, slice_index_or, All, sum_by}
 use Rattle.ruled_links.specs.declared.delivery.InboxHand.{InboxHand}
 use Rattle.ruled_links.specs.declared.parts.Part.{Part}
 use Rattle.ruled_links.specs.Delivery.{number_of, of_sender, known_of, has_sender}
@@ -20,7 +21,8 @@ has_part n (p ∷ ps) = cond (eqb (number_of p.from) n) true (has_part n ps)
 
 -- the part has the counts of its sender
 abbrev pub PartFits : InboxHand → Part → Type 0
-PartFits v p = (p.taken ≡ length (of_sender (number_of p.from) v.received)) × (p.known ≡ length (known_of v.known (number_of p.from)) - p.taken)
+PartFits v p = (p.taken ≡ length (of_sender (number_of p.from) v.received))
+    × (p.known ≡ length (known_of v.known (number_of p.from)) - p.taken)
 
 -- the part as contracts see it
 abbrev pub seen : Part → OfSender
@@ -46,4 +48,5 @@ pub record AreCounted (v : InboxHand) (parts : List Part) : Type 0 where
 -- at each sender's number stands the place of its part
 abbrev pub IsIndexed : List ℕ → List Part → Type 0
 IsIndexed places parts =
-    (k : ℕ) (d : Part) → k < length parts → let n = number_of (slice_index_or parts k d).from in (n < length places) × (slice_index places n ≡ k)
+    (k : ℕ) (d : Part) → k < length parts → let n = number_of (slice_index_or parts k d).from in (n < length places)
+    × (slice_index places n ≡ k)

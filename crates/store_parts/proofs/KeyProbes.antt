@@ -1,5 +1,7 @@
 -- A probe by the key finds what a scan finds, and evaluates those with which the key atom is true.
-use Rattle.std.proofs.Common.{◌≡◌, ℕ, ◌+◌, ◌<◌, ◌≤◌, ℤ, Bool, true, false, cond, ◌&&◌, Option, Some, None, List, [], ◌∷◌, ◌++◌, length, take, drop, refl, sym, ap, subst, ◌∙◌, arith, slice_get, Result, Ok, Err}
+use Rattle.std.proofs.Common.{◌≡◌, ℕ, ◌+◌, ◌<◌, ◌≤◌, ℤ, Bool, true, false, cond, ◌&&◌, Option, Some, None, List, []}
+use Rattle.std.proofs.Common.{◌∷◌, ◌++◌, length, take, drop, refl, sym, ap, subst, ◌∙◌, arith, slice_get, Result, Ok}
+use Rattle.std.proofs.Common.{Err}
 use Rattle.std.specs.Prelude.{IfOk}
 use Rattle.smallvec.specs.SmallVec.{SmallVec}
 use Rattle.std.specs.Prelude.{map, filter, count_by}
@@ -20,7 +22,8 @@ use Rattle.theta_pred.specs.Truth.{holds}
 use Rattle.store_parts.specs.declared.which.Which.{Which}
 use Rattle.store_parts.specs.Places.{lies, places_between, IsMapOf}
 use Rattle.store_parts.specs.Keyed.{at_places, is_key_true, is_key_true_at, value_at, values_at, least_at, greatest_at}
-use Rattle.store_parts.specs.Matches.{other_side, evaluated, is_named, is_found, does_match, does_match_at, pair_of, matches, AppendsFront}
+use Rattle.store_parts.specs.Matches.{other_side, evaluated, is_named, is_found, does_match, does_match_at, pair_of}
+use Rattle.store_parts.specs.Matches.{matches, AppendsFront}
 use Rattle.store_parts.proofs.Keys.{band_is_key, no_key, at_places_between}
 use Rattle.store_parts.proofs.OneMoreTuple.{matches-append, take_one, count_by-append}
 use Rattle.join_rows.proofs.Bags.{sum-same}
@@ -28,11 +31,13 @@ use Rattle.theta_pred.proofs.KeyMembers.{and_left}
 
 -- ---- sums over filters
 
-sum_cond : {X : Type 0} (f : X → ℕ) (b : Bool) (x : X) (ys : List X) → sum_by f (cond b (x ∷ ys) ys) ≡ cond b (f x) 0 + sum_by f ys
+sum_cond : {X : Type 0} (f : X → ℕ) (b : Bool) (x : X) (ys : List X)
+    → sum_by f (cond b (x ∷ ys) ys) ≡ cond b (f x) 0 + sum_by f ys
 sum_cond f true x ys = sum_by-cons f x ys
 sum_cond f false x ys = omega arith
 
-sum-filter : {X : Type 0} (f : X → ℕ) (keep : X → Bool) (xs : List X) → sum_by f (filter keep xs) ≡ sum_by (λ x. cond (keep x) (f x) 0) xs
+sum-filter : {X : Type 0} (f : X → ℕ) (keep : X → Bool) (xs : List X)
+    → sum_by f (filter keep xs) ≡ sum_by (λ x. cond (keep x) (f x) 0) xs
 sum-filter f keep [] = refl
 sum-filter f keep (x ∷ xs) =
     sum_cond f (keep x) x (filter keep xs)
@@ -41,15 +46,19 @@ sum-filter f keep (x ∷ xs) =
 
 -- ---- filters
 
-filter_step : {X : Type 0} (p : X → Bool) (a b : Bool) (x : X) (ys zs : List X) → p x ≡ b → (b ≡ true → a ≡ true) → filter p ys ≡ zs → filter p (cond a (x ∷ ys) ys) ≡ cond b (x ∷ zs) zs
-filter_step p true b x ys zs here needs rest = ap (λ c. cond c (x ∷ filter p ys) (filter p ys)) here ∙ ap (λ l. cond b (x ∷ l) l) rest
+filter_step : {X : Type 0} (p : X → Bool) (a b : Bool) (x : X) (ys zs : List X) → p x ≡ b → (b ≡ true → a ≡ true)
+    → filter p ys ≡ zs → filter p (cond a (x ∷ ys) ys) ≡ cond b (x ∷ zs) zs
+filter_step p true b x ys zs here needs rest = ap (λ c. cond c (x ∷ filter p ys) (filter p ys)) here
+    ∙ ap (λ l. cond b (x ∷ l) l) rest
 filter_step p false true x ys zs here needs rest = absurd (false≢true (needs refl))
 filter_step p false false x ys zs here needs rest = rest
 
 -- what passes p passes q
-pub filter_of_filter : {X : Type 0} (p q : X → Bool) → ((x : X) → p x ≡ true → q x ≡ true) → (xs : List X) → filter p (filter q xs) ≡ filter p xs
+pub filter_of_filter : {X : Type 0} (p q : X → Bool) → ((x : X) → p x ≡ true → q x ≡ true) → (xs : List X)
+    → filter p (filter q xs) ≡ filter p xs
 filter_of_filter p q needs [] = refl
-filter_of_filter p q needs (x ∷ xs) = filter_step p (q x) (p x) x (filter q xs) (filter p xs) refl (needs x) (filter_of_filter p q needs xs)
+filter_of_filter p q needs (x ∷ xs) = filter_step p (q x) (p x) x (filter q xs) (filter p xs) refl (needs x)
+    (filter_of_filter p q needs xs)
 
 pub filter_none : {X : Type 0} (p : X → Bool) → ((x : X) → p x ≡ false) → (xs : List X) → filter p xs ≡ []
 filter_none p none [] = refl
@@ -65,10 +74,12 @@ one_if_both true false = refl
 one_if_both false true = refl
 one_if_both false false = refl
 
-pub count_of_filter : {X : Type 0} (p q r : X → Bool) → ((x : X) → q x ≡ r x) → (xs : List X) → count_by p (filter q xs) ≡ count_by (λ x. p x && r x) xs
+pub count_of_filter : {X : Type 0} (p q r : X → Bool) → ((x : X) → q x ≡ r x) → (xs : List X)
+    → count_by p (filter q xs) ≡ count_by (λ x. p x && r x) xs
 count_of_filter p q r same xs =
     sum-filter (λ x. tally (p x)) q xs
-    ∙ sum-same (λ x. cond (q x) (tally (p x)) 0) (λ x. tally (p x && r x)) (λ x. ap (λ b. cond b (tally (p x)) 0) (same x) ∙ one_if_both (p x) (r x)) xs
+    ∙ sum-same (λ x. cond (q x) (tally (p x)) 0) (λ x. tally (p x && r x))
+    (λ x. ap (λ b. cond b (tally (p x)) 0) (same x) ∙ one_if_both (p x) (r x)) xs
 
 -- ---- the law of the key
 
@@ -76,12 +87,16 @@ count_of_filter p q r same xs =
 abbrev pub IsLaw : Meaning → Type 0
 IsLaw theta = (atom : Atom) → key_of theta.formula ≡ Some atom → IsKeyOf theta atom
 
-key_at : (side : Side) (theta : Meaning) (key : KeyAtom) (t other : Tuple) → IsLaw theta → key_of theta.formula ≡ Some (atom_of key) → does_match_at side theta t other ≡ true → is_key_true_at side key t other ≡ true
+key_at : (side : Side) (theta : Meaning) (key : KeyAtom) (t other : Tuple) → IsLaw theta
+    → key_of theta.formula ≡ Some (atom_of key) → does_match_at side theta t other ≡ true
+    → is_key_true_at side key t other ≡ true
 key_at R theta key t other law own holds = (law (atom_of key) own).follows t.cells other.cells holds
 key_at S theta key t other law own holds = (law (atom_of key) own).follows other.cells t.cells holds
 
-found_has_key : (theta : Meaning) (key : KeyAtom) (t : Tuple) (which : Which) (other : Tuple) → IsLaw theta → key_of theta.formula ≡ Some (atom_of key) → is_found theta t which other ≡ true → is_key_true key t other ≡ true
-found_has_key theta key t which other law own found = key_at t.side theta key t other law own (and_left (does_match theta t other) (is_named which other) found)
+found_has_key : (theta : Meaning) (key : KeyAtom) (t : Tuple) (which : Which) (other : Tuple) → IsLaw theta
+    → key_of theta.formula ≡ Some (atom_of key) → is_found theta t which other ≡ true → is_key_true key t other ≡ true
+found_has_key theta key t which other law own found = key_at t.side theta key t other law own
+    (and_left (does_match theta t other) (is_named which other) found)
 
 -- ---- the places of a band
 
@@ -89,13 +104,17 @@ below_take_in : (b : Bool) (n m : ℕ) (ps : List ℕ) → n < m → All (λ p. 
 below_take_in true n m ps here rest = All-cons (λ p. p < m) n ps here rest
 below_take_in false n m ps here rest = rest
 
-pub places_below : (from to : Option ℤ) (n m : ℕ) (values : List (Option ℤ)) → n + length values ≤ m → All (λ p. p < m) (places_between from to n values)
+pub places_below : (from to : Option ℤ) (n m : ℕ) (values : List (Option ℤ)) → n + length values ≤ m
+    → All (λ p. p < m) (places_between from to n values)
 places_below from to n m [] fits = λ k d less. absurd (omega arith)
 places_below from to n m (v ∷ values) fits =
-    below_take_in (lies from to v) n m (places_between from to (n + 1) values) (omega arith) (places_below from to (n + 1) m values (omega arith))
+    below_take_in (lies from to v) n m (places_between from to (n + 1) values) (omega arith)
+    (places_below from to (n + 1) m values (omega arith))
 
-pub places_are_below : (from to : Option ℤ) (key : KeyAtom) (side : Side) (others : List Tuple) → All (λ p. p < length others) (places_between from to 0 (values_at key side others))
-places_are_below from to key side others = places_below from to 0 (length others) (values_at key side others) (omega (arith, length-map others (value_at key side)))
+pub places_are_below : (from to : Option ℤ) (key : KeyAtom) (side : Side) (others : List Tuple)
+    → All (λ p. p < length others) (places_between from to 0 (values_at key side others))
+places_are_below from to key side others = places_below from to 0 (length others) (values_at key side others)
+    (omega (arith, length-map others (value_at key side)))
 
 -- ---- what is found, and how many are evaluated
 
@@ -104,53 +123,71 @@ same_filter : {X : Type 0} (p q : X → Bool) → ((x : X) → p x ≡ q x) → 
 same_filter p q same [] = refl
 same_filter p q same (x ∷ xs) = filter_agree (p x) (q x) x (same x) (same_filter p q same xs)
   where
-    filter_agree : (a b : Bool) {X : Type 0} {xs ys : List X} (x : X) → a ≡ b → xs ≡ ys → cond a (x ∷ xs) xs ≡ cond b (x ∷ ys) ys
+    filter_agree : (a b : Bool) {X : Type 0} {xs ys : List X} (x : X) → a ≡ b → xs ≡ ys
+        → cond a (x ∷ xs) xs ≡ cond b (x ∷ ys) ys
     filter_agree a b x e same = cc
 
 pub band_candidates : (key : KeyAtom) (t : Tuple) (others : List Tuple) (v : ℤ) → value_at key t.side t ≡ Some v
-    → at_places others (places_between (least_at t.side key v) (greatest_at t.side key v) 0 (values_at key (other_side t.side) others)) ≡ filter (is_key_true key t) others
+    → at_places others (places_between (least_at t.side key v) (greatest_at t.side key v) 0
+    (values_at key (other_side t.side) others)) ≡ filter (is_key_true key t) others
 band_candidates key t others v is =
     at_places_between (value_at key (other_side t.side)) (least_at t.side key v) (greatest_at t.side key v) others
-    ∙ same_filter (λ x. lies (least_at t.side key v) (greatest_at t.side key v) (value_at key (other_side t.side) x)) (is_key_true key t) (λ x. band_is_key key t x v is) others
+    ∙ same_filter (λ x. lies (least_at t.side key v) (greatest_at t.side key v) (value_at key (other_side t.side) x))
+    (is_key_true key t) (λ x. band_is_key key t x v is) others
 
-pub no_candidates : (key : KeyAtom) (t : Tuple) (others : List Tuple) → value_at key t.side t ≡ None → filter (is_key_true key t) others ≡ []
+pub no_candidates : (key : KeyAtom) (t : Tuple) (others : List Tuple) → value_at key t.side t ≡ None
+    → filter (is_key_true key t) others ≡ []
 no_candidates key t others none = filter_none (is_key_true key t) (λ x. no_key key t x none) others
 
-pub matches_by_key : (theta : Meaning) (key : KeyAtom) (t : Tuple) (which : Which) (others : List Tuple) → IsLaw theta → key_of theta.formula ≡ Some (atom_of key)
+pub matches_by_key : (theta : Meaning) (key : KeyAtom) (t : Tuple) (which : Which) (others : List Tuple) → IsLaw theta
+    → key_of theta.formula ≡ Some (atom_of key)
     → matches theta t which (filter (is_key_true key t) others) ≡ matches theta t which others
 matches_by_key theta key t which others law own =
-    ap (map (pair_of t)) (filter_of_filter (is_found theta t which) (is_key_true key t) (λ x found. found_has_key theta key t which x law own found) others)
+    ap (map (pair_of t)) (filter_of_filter (is_found theta t which) (is_key_true key t)
+    (λ x found. found_has_key theta key t which x law own found) others)
 
-pub count_by_key : (key : KeyAtom) (t : Tuple) (which : Which) (others : List Tuple) → count_by (is_named which) (filter (is_key_true key t) others) ≡ evaluated (Some key) t which others
-count_by_key key t which others = count_of_filter (is_named which) (is_key_true key t) (is_key_true key t) (λ x. refl) others
+pub count_by_key : (key : KeyAtom) (t : Tuple) (which : Which) (others : List Tuple)
+    → count_by (is_named which) (filter (is_key_true key t) others) ≡ evaluated (Some key) t which others
+count_by_key key t which others = count_of_filter (is_named which) (is_key_true key t) (is_key_true key t) (λ x. refl)
+    others
 
 -- ---- a loop over places
 
 take_at : {X : Type 0} (xs : List X) (i : ℕ) (x : X) → slice_get xs i ≡ Some x → take (i + 1) xs ≡ take i xs ++ x ∷ []
 take_at xs i x here = take_one xs i x (slice_get_within xs i x here) (sym (get_or_from_slice_get xs i x x here))
 
-pub at_places-append : {X : Type 0} (xs : List X) (ps qs : List ℕ) → at_places xs (ps ++ qs) ≡ at_places xs ps ++ at_places xs qs
+pub at_places-append : {X : Type 0} (xs : List X) (ps qs : List ℕ)
+    → at_places xs (ps ++ qs) ≡ at_places xs ps ++ at_places xs qs
 at_places-append xs ps qs = filter_map-append (slice_get xs) ps qs
 
 pub at_place : {X : Type 0} (xs : List X) (p : ℕ) (x : X) → slice_get xs p ≡ Some x → at_places xs (p ∷ []) ≡ x ∷ []
 at_place xs p x here = ap (λ o. cons_option o []) here
 
-pub at_places_more : {X : Type 0} (xs : List X) (places : List ℕ) (i p : ℕ) (x : X) → slice_get places i ≡ Some p → slice_get xs p ≡ Some x
+pub at_places_more : {X : Type 0} (xs : List X) (places : List ℕ) (i p : ℕ) (x : X) → slice_get places i ≡ Some p
+    → slice_get xs p ≡ Some x
     → at_places xs (take (i + 1) places) ≡ at_places xs (take i places) ++ x ∷ []
 at_places_more xs places i p x place here =
-    ap (at_places xs) (take_at places i p place) ∙ at_places-append xs (take i places) (p ∷ []) ∙ ap (λ l. at_places xs (take i places) ++ l) (at_place xs p x here)
+    ap (at_places xs) (take_at places i p place) ∙ at_places-append xs (take i places) (p ∷ [])
+    ∙ ap (λ l. at_places xs (take i places) ++ l) (at_place xs p x here)
 
-pub matches_at_more : (theta : Meaning) (t : Tuple) (which : Which) (xs : List Tuple) (places : List ℕ) (i p : ℕ) (x : Tuple) → slice_get places i ≡ Some p → slice_get xs p ≡ Some x
-    → matches theta t which (at_places xs (take (i + 1) places)) ≡ matches theta t which (at_places xs (take i places)) ++ matches theta t which (x ∷ [])
+pub matches_at_more : (theta : Meaning) (t : Tuple) (which : Which) (xs : List Tuple) (places : List ℕ) (i p : ℕ)
+    (x : Tuple) → slice_get places i ≡ Some p → slice_get xs p ≡ Some x
+    → matches theta t which (at_places xs (take (i + 1) places)) ≡ matches theta t which (at_places xs (take i places))
+    ++ matches theta t which (x ∷ [])
 matches_at_more theta t which xs places i p x place here =
-    ap (matches theta t which) (at_places_more xs places i p x place here) ∙ matches-append theta t which (at_places xs (take i places)) (x ∷ [])
+    ap (matches theta t which) (at_places_more xs places i p x place here)
+    ∙ matches-append theta t which (at_places xs (take i places)) (x ∷ [])
 
-pub count_at_more : (which : Which) (xs : List Tuple) (places : List ℕ) (i p : ℕ) (x : Tuple) → slice_get places i ≡ Some p → slice_get xs p ≡ Some x
-    → count_by (is_named which) (at_places xs (take (i + 1) places)) ≡ count_by (is_named which) (at_places xs (take i places)) + count_by (is_named which) (x ∷ [])
+pub count_at_more : (which : Which) (xs : List Tuple) (places : List ℕ) (i p : ℕ) (x : Tuple)
+    → slice_get places i ≡ Some p → slice_get xs p ≡ Some x
+    → count_by (is_named which) (at_places xs (take (i + 1) places))
+    ≡ count_by (is_named which) (at_places xs (take i places)) + count_by (is_named which) (x ∷ [])
 count_at_more which xs places i p x place here =
-    ap (count_by (is_named which)) (at_places_more xs places i p x place here) ∙ count_by-append (is_named which) (at_places xs (take i places)) (x ∷ [])
+    ap (count_by (is_named which)) (at_places_more xs places i p x place here)
+    ∙ count_by-append (is_named which) (at_places xs (take i places)) (x ∷ [])
 
-pub front_of_places : (theta : Meaning) (t : Tuple) (which : Which) (xs : List Tuple) (places : List ℕ) (i : ℕ) (old new : List Pair) → new ≡ old ++ matches theta t which (at_places xs (take i places))
+pub front_of_places : (theta : Meaning) (t : Tuple) (which : Which) (xs : List Tuple) (places : List ℕ) (i : ℕ)
+    (old new : List Pair) → new ≡ old ++ matches theta t which (at_places xs (take i places))
     → AppendsFront old new (matches theta t which (at_places xs places))
 front_of_places theta t which xs places i old new is = record {
   front = matches theta t which (at_places xs (take i places));
@@ -158,21 +195,27 @@ front_of_places theta t which xs places i old new is = record {
   prefix = record {
     rest = matches theta t which (at_places xs (drop i places));
     joins = sym (matches-append theta t which (at_places xs (take i places)) (at_places xs (drop i places)))
-        ∙ ap (matches theta t which) (sym (at_places-append xs (take i places) (drop i places)) ∙ ap (at_places xs) (take-append-drop i places));
+        ∙ ap (matches theta t which) (sym (at_places-append xs (take i places) (drop i places))
+        ∙ ap (at_places xs) (take-append-drop i places));
   };
 }
 
 -- ---- what the index gave
 
-places_same : (from from' to to' : Option ℤ) (values : List (Option ℤ)) → from ≡ from' → to ≡ to' → places_between from to 0 values ≡ places_between from' to' 0 values
-places_same from from' to to' values p q = ap (λ f. places_between f to 0 values) p ∙ ap (λ t. places_between from' t 0 values) q
+places_same : (from from' to to' : Option ℤ) (values : List (Option ℤ)) → from ≡ from' → to ≡ to'
+    → places_between from to 0 values ≡ places_between from' to' 0 values
+places_same from from' to to' values p q = ap (λ f. places_between f to 0 values) p
+    ∙ ap (λ t. places_between from' t 0 values) q
 
 -- the places of the band
 abbrev pub band_places : KeyAtom → Tuple → List Tuple → ℤ → List ℕ
-band_places key t others v = places_between (least_at t.side key v) (greatest_at t.side key v) 0 (values_at key (other_side t.side) others)
+band_places key t others v = places_between (least_at t.side key v) (greatest_at t.side key v) 0
+    (values_at key (other_side t.side) others)
 
 -- the index's clause, at the values of the stored tuples
-pub band_given : {V E : Type 0} (r : Result V E) (items : V → List ℕ) (key : KeyAtom) (t : Tuple) (others : List Tuple) (entries : List (ℤ × SmallVec ℕ)) (w v : ℤ) (from to : Option ℤ)
+pub band_given : {V E : Type 0} (r : Result V E) (items : V
+    → List ℕ) (key : KeyAtom) (t : Tuple) (others : List Tuple) (entries : List (ℤ × SmallVec ℕ)) (w v : ℤ)
+    (from to : Option ℤ)
     → w ≡ v → from ≡ least_at t.side key w → to ≡ greatest_at t.side key w
     → IsMapOf (values_at key (other_side t.side) others) entries
     → IfOk r (λ x. (values : List (Option ℤ)) → IsMapOf values entries → items x ≡ places_between from to 0 values)
@@ -183,14 +226,18 @@ band_given (Ok x) items key t others entries w v from to same at_least at_most i
     (at_least ∙ ap (λ x. least_at t.side key x) same) (at_most ∙ ap (λ x. greatest_at t.side key x) same)
 band_given (Err e) items key t others entries w v from to same at_least at_most indexed gives = tt
 
-pub keyed_from_band : {V E : Type 0} (r : Result V E) (items : V → List ℕ) (key : KeyAtom) (t : Tuple) (others : List Tuple) (v : ℤ) → value_at key t.side t ≡ Some v
-    → IfOk r (λ x. items x ≡ band_places key t others v) → IfOk r (λ x. at_places others (items x) ≡ filter (is_key_true key t) others)
+pub keyed_from_band : {V E : Type 0} (r : Result V E) (items : V
+    → List ℕ) (key : KeyAtom) (t : Tuple) (others : List Tuple) (v : ℤ) → value_at key t.side t ≡ Some v
+    → IfOk r (λ x. items x ≡ band_places key t others v) → IfOk r
+    (λ x. at_places others (items x) ≡ filter (is_key_true key t) others)
 keyed_from_band (Ok x) items key t others v is given = ap (at_places others) given ∙ band_candidates key t others v is
 keyed_from_band (Err e) items key t others v is given = tt
 
-pub below_from_band : {V E : Type 0} (r : Result V E) (items : V → List ℕ) (key : KeyAtom) (t : Tuple) (others : List Tuple) (v : ℤ)
+pub below_from_band : {V E : Type 0} (r : Result V E) (items : V
+    → List ℕ) (key : KeyAtom) (t : Tuple) (others : List Tuple) (v : ℤ)
     → IfOk r (λ x. items x ≡ band_places key t others v) → IfOk r (λ x. All (λ p. p < length others) (items x))
 below_from_band (Ok x) items key t others v given =
     let P : List ℕ → Type 0 = λ ps. All (λ p. p < length others) ps in
-    subst P (sym given) (places_are_below (least_at t.side key v) (greatest_at t.side key v) key (other_side t.side) others)
+    subst P (sym given) (places_are_below (least_at t.side key v) (greatest_at t.side key v) key (other_side t.side)
+    others)
 below_from_band (Err e) items key t others v given = tt

@@ -1,5 +1,7 @@
 -- A key atom, a band of values and the places in it.
-use Rattle.std.proofs.Common.{◌≡◌, ℕ, ◌+◌, ℤ, ◌+ℤ◌, ◌-ℤ◌, Bool, true, false, cond, ◌&&◌, Option, Some, None, List, [], ◌∷◌, ◌++◌, length, refl, sym, ap, ◌∙◌, arith, append_assoc, length-append, get_or, slice_get}
+use Rattle.std.proofs.Common.{◌≡◌, ℕ, ◌+◌, ℤ, ◌+ℤ◌, ◌-ℤ◌, Bool, true, false, cond, ◌&&◌, Option, Some, None, List, []}
+use Rattle.std.proofs.Common.{◌∷◌, ◌++◌, length, refl, sym, ap, ◌∙◌, arith, append_assoc, length-append, get_or}
+use Rattle.std.proofs.Common.{slice_get}
 use Rattle.std.specs.Prelude.{map, filter, int_le, option_map}
 use Rattle.std.specs.List.{cons_option}
 use Rattle.std.proofs.lemmas.List.{length_push}
@@ -55,11 +57,13 @@ high_of_s : (high : Option ℤ) (x y : ℤ) → is_up_to (option_map (λ h. y +�
 high_of_s None x y = refl
 high_of_s (Some h) x y = plus_high x y h
 
-band_of_r : (low high : Option ℤ) (x : ℤ) (y : Option ℤ) → lies (option_map (λ h. x -ℤ h) high) (option_map (λ l. x -ℤ l) low) y ≡ is_between low high (Some x) y
+band_of_r : (low high : Option ℤ) (x : ℤ) (y : Option ℤ) → lies (option_map (λ h. x -ℤ h) high)
+    (option_map (λ l. x -ℤ l) low) y ≡ is_between low high (Some x) y
 band_of_r low high x None = refl
 band_of_r low high x (Some y) = crossed _ _ _ _ (high_of_r high x y) (low_of_r low x y)
 
-band_of_s : (low high : Option ℤ) (x : Option ℤ) (y : ℤ) → lies (option_map (λ l. y +ℤ l) low) (option_map (λ h. y +ℤ h) high) x ≡ is_between low high x (Some y)
+band_of_s : (low high : Option ℤ) (x : Option ℤ) (y : ℤ) → lies (option_map (λ l. y +ℤ l) low)
+    (option_map (λ h. y +ℤ h) high) x ≡ is_between low high x (Some y)
 band_of_s low high None y = refl
 band_of_s low high (Some x) y = both _ _ _ _ (low_of_s low x y) (high_of_s high x y)
 
@@ -71,16 +75,21 @@ no_value_s low high None y none = refl
 no_value_s low high (Some x) y none = ap (λ z. is_between low high (Some x) z) none
 
 band_at : (side : Side) (key : KeyAtom) (t other : Tuple) (v : ℤ) → value_at key side t ≡ Some v
-    → lies (least_at side key v) (greatest_at side key v) (value_at key (other_side side) other) ≡ is_key_true_at side key t other
-band_at R key t other v is = band_of_r key.low key.high v (value_at key S other) ∙ ap (λ x. is_between key.low key.high x (value_at key S other)) (sym is)
-band_at S key t other v is = band_of_s key.low key.high (value_at key R other) v ∙ ap (λ y. is_between key.low key.high (value_at key R other) y) (sym is)
+    → lies (least_at side key v) (greatest_at side key v) (value_at key (other_side side) other)
+    ≡ is_key_true_at side key t other
+band_at R key t other v is = band_of_r key.low key.high v (value_at key S other)
+    ∙ ap (λ x. is_between key.low key.high x (value_at key S other)) (sym is)
+band_at S key t other v is = band_of_s key.low key.high (value_at key R other) v
+    ∙ ap (λ y. is_between key.low key.high (value_at key R other) y) (sym is)
 
 -- the band holds the values of those with which the key atom is true
 pub band_is_key : (key : KeyAtom) (t other : Tuple) (v : ℤ) → value_at key t.side t ≡ Some v
-    → lies (least_at t.side key v) (greatest_at t.side key v) (value_at key (other_side t.side) other) ≡ is_key_true key t other
+    → lies (least_at t.side key v) (greatest_at t.side key v) (value_at key (other_side t.side) other)
+    ≡ is_key_true key t other
 band_is_key key t other v is = band_at t.side key t other v is
 
-no_key_at : (side : Side) (key : KeyAtom) (t other : Tuple) → value_at key side t ≡ None → is_key_true_at side key t other ≡ false
+no_key_at : (side : Side) (key : KeyAtom) (t other : Tuple) → value_at key side t ≡ None
+    → is_key_true_at side key t other ≡ false
 no_key_at R key t other none = no_value_r key.low key.high _ (value_at key S other) none
 no_key_at S key t other none = no_value_s key.low key.high (value_at key R other) _ none
 
@@ -94,21 +103,31 @@ get_or_mid : {X : Type 0} (before : List X) (x : X) (xs : List X) → get_or (be
 get_or_mid [] x xs = refl
 get_or_mid (y ∷ before) x xs = get_or_mid before x xs
 
-get_middle : {X : Type 0} (before : List X) (x : X) (xs : List X) → slice_get (before ++ x ∷ xs) (length before) ≡ Some x
-get_middle before x xs = slice_get-get_or (before ++ x ∷ xs) (length before) x (omega (arith, length-append before (x ∷ xs))) ∙ ap Some (get_or_mid before x xs)
+get_middle : {X : Type 0} (before : List X) (x : X) (xs : List X)
+    → slice_get (before ++ x ∷ xs) (length before) ≡ Some x
+get_middle before x xs = slice_get-get_or (before ++ x ∷ xs) (length before) x (omega (
+  arith,
+  length-append before (x ∷ xs),
+)) ∙ ap Some (get_or_mid before x xs)
 
-keep_at : {X : Type 0} (b : Bool) (n : ℕ) (all : List X) (x : X) (places : List ℕ) (kept : List X) → slice_get all n ≡ Some x → at_places all places ≡ kept → at_places all (cond b (n ∷ places) places) ≡ cond b (x ∷ kept) kept
-keep_at true n all x places kept here rest = ap (λ o. cons_option o (at_places all places)) here ∙ ap (λ xs. x ∷ xs) rest
+keep_at : {X : Type 0} (b : Bool) (n : ℕ) (all : List X) (x : X) (places : List ℕ) (kept : List X)
+    → slice_get all n ≡ Some x → at_places all places ≡ kept
+    → at_places all (cond b (n ∷ places) places) ≡ cond b (x ∷ kept) kept
+keep_at true n all x places kept here rest = ap (λ o. cons_option o (at_places all places)) here
+    ∙ ap (λ xs. x ∷ xs) rest
 keep_at false n all x places kept here rest = rest
 
-places_after : {X : Type 0} (value : X → Option ℤ) (from to : Option ℤ) (n : ℕ) (before xs all : List X) → all ≡ before ++ xs → n ≡ length before
+places_after : {X : Type 0} (value : X → Option ℤ) (from to : Option ℤ) (n : ℕ) (before xs all : List X)
+    → all ≡ before ++ xs → n ≡ length before
     → at_places all (places_between from to n (map value xs)) ≡ filter (λ x. lies from to (value x)) xs
 places_after value from to n before [] all whole at = refl
 places_after value from to n before (x ∷ xs) all whole at =
     let here : slice_get all n ≡ Some x = rw (whole, at) (get_middle before x xs) in
-    let rest = places_after value from to (n + 1) (before ++ x ∷ []) xs all (whole ∙ sym (append_assoc before (x ∷ []) xs)) (rw at (sym (length_push before x))) in
+    let rest = places_after value from to (n + 1) (before ++ x ∷ []) xs all
+    (whole ∙ sym (append_assoc before (x ∷ []) xs)) (rw at (sym (length_push before x))) in
     keep_at (lies from to (value x)) n all x (places_between from to (n + 1) (map value xs)) _ here rest
 
 -- the tuples at the places between two bounds are those whose values lie there
-pub at_places_between : {X : Type 0} (value : X → Option ℤ) (from to : Option ℤ) (xs : List X) → at_places xs (places_between from to 0 (map value xs)) ≡ filter (λ x. lies from to (value x)) xs
+pub at_places_between : {X : Type 0} (value : X → Option ℤ) (from to : Option ℤ) (xs : List X)
+    → at_places xs (places_between from to 0 (map value xs)) ≡ filter (λ x. lies from to (value x)) xs
 at_places_between value from to xs = places_after value from to 0 [] xs xs refl refl

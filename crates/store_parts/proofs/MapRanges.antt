@@ -1,5 +1,6 @@
 -- What is gathered of a map from values to places, between two bounds.
-use Rattle.std.proofs.Common.{◌≡◌, ℕ, ◌+◌, ◌≤◌, ℤ, pos, negsuc, Bool, true, false, cond, not, ◌&&◌, Option, Some, None, List, [], ◌∷◌, ◌++◌, refl, sym, ap, ◌∙◌, arith, length, drop}
+use Rattle.std.proofs.Common.{◌≡◌, ℕ, ◌+◌, ◌≤◌, ℤ, pos, negsuc, Bool, true, false, cond, not, ◌&&◌, Option, Some, None}
+use Rattle.std.proofs.Common.{List, [], ◌∷◌, ◌++◌, refl, sym, ap, ◌∙◌, arith, length, drop}
 use Rattle.std.specs.Prelude.{filter, flat_map, sum_by, int_lt, int_le}
 use Rattle.smallvec.specs.SmallVec.{SmallVec}
 use Rattle.std.specs.declared.cmp.Ordering.TheVariants.{Less, Equal, Greater}
@@ -72,11 +73,13 @@ each_only true f ps = refl
 each_only false f ps = zeros ps
 
 sum_kept : (f : ℕ → ℕ) (b : Bool) (e : ℤ × SmallVec ℕ) (es : List (ℤ × SmallVec ℕ))
-    → sum_by f (flat_map (λ e. e.1.items) (cond b (e ∷ es) es)) ≡ cond b (sum_by f e.1.items) 0 + sum_by f (flat_map (λ e. e.1.items) es)
+    → sum_by f (flat_map (λ e. e.1.items) (cond b (e ∷ es) es)) ≡ cond b (sum_by f e.1.items) 0
+    + sum_by f (flat_map (λ e. e.1.items) es)
 sum_kept f true e es = sum_by-append f e.1.items (flat_map (λ e. e.1.items) es)
 sum_kept f false e es = omega arith
 
-sum_of_range : (test : ℤ → Bool) (f : ℕ → ℕ) (es : List (ℤ × SmallVec ℕ)) → sum_by f (flat_map (λ e. e.1.items) (filter (λ e. test e.0) es)) ≡ sum_by (at_each (only test f)) es
+sum_of_range : (test : ℤ → Bool) (f : ℕ → ℕ) (es : List (ℤ × SmallVec ℕ))
+    → sum_by f (flat_map (λ e. e.1.items) (filter (λ e. test e.0) es)) ≡ sum_by (at_each (only test f)) es
 sum_of_range test f [] = refl
 sum_of_range test f (e ∷ es) =
     omega (
@@ -105,18 +108,21 @@ sum_of_places from to f n (Some v ∷ values) =
       sum_cond f (lies from to (Some v)) n (places_between from to (n + 1) values),
     )
 
-rises_take_in : (b : Bool) (low n : ℕ) (ps : List ℕ) → low ≤ n → Rises n ps → Rises low ps → Rises low (cond b (n ∷ ps) ps)
+rises_take_in : (b : Bool) (low n : ℕ) (ps : List ℕ) → low ≤ n → Rises n ps → Rises low ps
+    → Rises low (cond b (n ∷ ps) ps)
 rises_take_in true low n ps le here skipped = (le, here)
 rises_take_in false low n ps le here skipped = skipped
 
-pub places_rise : (from to : Option ℤ) (low n : ℕ) (values : List (Option ℤ)) → low ≤ n → Rises low (places_between from to n values)
+pub places_rise : (from to : Option ℤ) (low n : ℕ) (values : List (Option ℤ)) → low ≤ n
+    → Rises low (places_between from to n values)
 places_rise from to low n [] le = tt
 places_rise from to low n (v ∷ values) le =
     rises_take_in (lies from to v) low n (places_between from to (n + 1) values) le
     (places_rise from to n (n + 1) values (omega arith)) (places_rise from to low (n + 1) values (omega arith))
 
 -- what was gathered, in order, is the places between the bounds
-pub sorted_places : (from to : Option ℤ) (values : List (Option ℤ)) (entries : List (ℤ × SmallVec ℕ)) (found sorted : List ℕ)
+pub sorted_places : (from to : Option ℤ) (values : List (Option ℤ)) (entries : List (ℤ × SmallVec ℕ))
+    (found sorted : List ℕ)
     → IsMapOf values entries → found ≡ gathered from to entries
     → IsPermutation found sorted → IsSorted nat_cmp sorted → sorted ≡ places_between from to 0 values
 sorted_places from to values entries found sorted indexed is moved in_order =
@@ -138,11 +144,14 @@ refilled found sorted moved =
 -- ---- what a range of a tree gives
 
 pub gathered-range : (from to : Option ℤ) (entries : List (ℤ × SmallVec ℕ))
-    → flat_map (λ e. e.1.items) (filter (λ e. range_contains int_cmp (start_of from) (end_of to) e.0) entries) ≡ gathered from to entries
+    → flat_map (λ e. e.1.items) (filter (λ e. range_contains int_cmp (start_of from) (end_of to) e.0) entries)
+    ≡ gathered from to entries
 gathered-range from to entries =
-    ap (flat_map (λ e. e.1.items)) (filter_agree (λ e. range_contains int_cmp (start_of from) (end_of to) e.0) (λ e. lies from to (Some e.0)) (λ e. in_range from to e.0) entries)
+    ap (flat_map (λ e. e.1.items)) (filter_agree (λ e. range_contains int_cmp (start_of from) (end_of to) e.0)
+    (λ e. lies from to (Some e.0)) (λ e. in_range from to e.0) entries)
 
-pub all_taken : (left : List (ℤ × SmallVec ℕ)) (taken all : List ℕ) → left ≡ [] → taken ++ flat_map (λ e. e.1.items) left ≡ all → taken ≡ all
+pub all_taken : (left : List (ℤ × SmallVec ℕ)) (taken all : List ℕ) → left ≡ []
+    → taken ++ flat_map (λ e. e.1.items) left ≡ all → taken ≡ all
 all_taken left taken all none is = grind (arith, common_steps)
 
 -- ---- bounds that run backwards
@@ -155,8 +164,10 @@ lies-backward None to v back = absurd (false≢true back)
 lies-backward (Some a) None v back = absurd (false≢true back)
 lies-backward (Some a) (Some b) v back = none_lies a b v back
 
-pub gathered-backward : (from to : Option ℤ) (entries : List (ℤ × SmallVec ℕ)) → is_backward from to ≡ true → gathered from to entries ≡ []
+pub gathered-backward : (from to : Option ℤ) (entries : List (ℤ × SmallVec ℕ)) → is_backward from to ≡ true
+    → gathered from to entries ≡ []
 gathered-backward from to entries back =
-    ap (flat_map (λ e. e.1.items)) (filter_none (λ e. lies from to (Some e.0)) (λ e. lies-backward from to e.0 back) entries)
+    ap (flat_map (λ e. e.1.items)) (filter_none (λ e. lies from to (Some e.0)) (λ e. lies-backward from to e.0 back)
+    entries)
 
 -- ---- a pass over all entries

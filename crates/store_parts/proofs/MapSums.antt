@@ -1,5 +1,6 @@
 -- Sums over a map from values to places.
-use Rattle.std.proofs.Common.{◌≡◌, ℕ, ◌+◌, ℤ, Bool, true, false, cond, Option, Some, None, List, [], ◌∷◌, ◌++◌, length, refl, sym, ap, ◌∙◌, arith, unwrap_or}
+use Rattle.std.proofs.Common.{◌≡◌, ℕ, ◌+◌, ℤ, Bool, true, false, cond, Option, Some, None, List, [], ◌∷◌, ◌++◌, length}
+use Rattle.std.proofs.Common.{refl, sym, ap, ◌∙◌, arith, unwrap_or}
 use Rattle.std.specs.Prelude.{sum_by}
 use Rattle.smallvec.specs.SmallVec.{SmallVec}
 use Rattle.std.specs.declared.cmp.Ordering.{Ordering}
@@ -16,25 +17,38 @@ use Rattle.store_parts.specs.Places.{at_each, IsMapOf}
 use Rattle.store_parts.specs.Places.{entries_from}
 
 -- the entries with one more value
-pub entries_more : (n : ℕ) (values : List (Option ℤ)) (v : Option ℤ) → entries_from n (values ++ v ∷ []) ≡ entries_from n values ++ entries_from (n + length values) (v ∷ [])
+pub entries_more : (n : ℕ) (values : List (Option ℤ)) (v : Option ℤ)
+    → entries_from n (values ++ v ∷ []) ≡ entries_from n values ++ entries_from (n + length values) (v ∷ [])
 entries_more n [] v = ap (λ m. entries_from m (v ∷ [])) (omega arith)
-entries_more n (None ∷ values) v = entries_more (n + 1) values v ∙ ap (λ m. entries_from (n + 1) values ++ entries_from m (v ∷ [])) (omega arith)
-entries_more n (Some w ∷ values) v = ap (λ es. (w, n) ∷ es) (entries_more (n + 1) values v ∙ ap (λ m. entries_from (n + 1) values ++ entries_from m (v ∷ [])) (omega arith))
+entries_more n (None ∷ values) v = entries_more (n + 1) values v
+    ∙ ap (λ m. entries_from (n + 1) values ++ entries_from m (v ∷ [])) (omega arith)
+entries_more n (Some w ∷ values) v = ap (λ es. (w, n) ∷ es)
+    (entries_more (n + 1) values v ∙ ap (λ m. entries_from (n + 1) values ++ entries_from m (v ∷ [])) (omega arith))
 
 -- ---- a new key
 
-insert_at : {K X : Type 0} (cmp : K → K → Ordering) (F : K × X → ℕ) (k : K) (v : X) (e : K × X) (es : List (K × X)) (o : Ordering)
+insert_at : {K X : Type 0} (cmp : K → K → Ordering) (F : K × X → ℕ) (k : K) (v : X) (e : K
+    × X) (es : List (K × X)) (o : Ordering)
     → is_eq o ≡ false → sum_by F (insert_entry cmp es k v) ≡ F (k, v) + sum_by F es
-    → sum_by F (match_ordering o ((k, v) ∷ e ∷ es) ((e.0, v) ∷ es) (e ∷ insert_entry cmp es k v)) ≡ F (k, v) + sum_by F (e ∷ es)
+    → sum_by F (match_ordering o ((k, v) ∷ e ∷ es) ((e.0, v) ∷ es) (e ∷ insert_entry cmp es k v)) ≡ F (
+      k,
+      v,
+    ) + sum_by F (e ∷ es)
 insert_at cmp F k v e es Less apart rest = sum_by-cons F (k, v) (e ∷ es)
 insert_at cmp F k v e es Equal apart rest = absurd (cc)
-insert_at cmp F k v e es Greater apart rest = omega (arith, sum_by-cons F e (insert_entry cmp es k v), sum_by-cons F e es, rest)
+insert_at cmp F k v e es Greater apart rest = omega (
+  arith,
+  sum_by-cons F e (insert_entry cmp es k v),
+  sum_by-cons F e es,
+  rest,
+)
 
 apart_at : {X : Type 0} (b : Bool) (x : X) (o : Option X) → cond b (Some x) o ≡ None → (b ≡ false) × (o ≡ None)
 apart_at true x o none = absurd (cc)
 apart_at false x o none = (refl, none)
 
-pub sum-insert_entry : {K X : Type 0} (cmp : K → K → Ordering) (F : K × X → ℕ) (k : K) (v : X) (es : List (K × X)) → lookup (is_at (cmp k)) es ≡ None
+pub sum-insert_entry : {K X : Type 0} (cmp : K → K → Ordering) (F : K × X → ℕ) (k : K) (v : X) (es : List (K × X))
+    → lookup (is_at (cmp k)) es ≡ None
     → sum_by F (insert_entry cmp es k v) ≡ F (k, v) + sum_by F es
 sum-insert_entry cmp F k v [] none = sum_by-cons F (k, v) []
 sum-insert_entry cmp F k v (e ∷ es) none =
@@ -43,21 +57,30 @@ sum-insert_entry cmp F k v (e ∷ es) none =
 
 -- ---- another value at a key
 
-set_at : {K X : Type 0} (test : K → Bool) (F : K × X → ℕ) (v w : X) (more : ℕ) (b : Bool) (e : K × X) (es : List (K × X))
+set_at : {K X : Type 0} (test : K → Bool) (F : K × X → ℕ) (v w : X) (more : ℕ) (b : Bool) (e : K
+    × X) (es : List (K × X))
     → test e.0 ≡ b → ((q : K) → test q ≡ true → F (q, w) ≡ F (q, v) + more)
-    → cond b (Some e.1) (lookup test es) ≡ Some v → (lookup test es ≡ Some v → sum_by F (set_value test es w) ≡ sum_by F es + more)
+    → cond b (Some e.1) (lookup test es) ≡ Some v → (lookup test es ≡ Some v
+    → sum_by F (set_value test es w) ≡ sum_by F es + more)
     → sum_by F (cond b ((e.0, w) ∷ es) (e ∷ set_value test es w)) ≡ sum_by F (e ∷ es) + more
 set_at test F v w more true e es here grows found rest =
     let was : e.1 ≡ v = cc in
     let old = ap (λ x. F (e.0, x)) was in
     let new = grows e.0 here in
     omega (arith, sum_by-cons F (e.0, w) es, sum_by-cons F e es, old, new)
-set_at test F v w more false e es here grows found rest = omega (arith, sum_by-cons F e (set_value test es w), sum_by-cons F e es, rest found)
+set_at test F v w more false e es here grows found rest = omega (
+  arith,
+  sum_by-cons F e (set_value test es w),
+  sum_by-cons F e es,
+  rest found,
+)
 
 pub sum-set_value : {K X : Type 0} (test : K → Bool) (F : K × X → ℕ) (v w : X) (more : ℕ) (es : List (K × X))
-    → ((q : K) → test q ≡ true → F (q, w) ≡ F (q, v) + more) → lookup test es ≡ Some v → sum_by F (set_value test es w) ≡ sum_by F es + more
+    → ((q : K) → test q ≡ true → F (q, w) ≡ F (q, v) + more) → lookup test es ≡ Some v
+    → sum_by F (set_value test es w) ≡ sum_by F es + more
 sum-set_value test F v w more [] grows found = absurd (cc)
-sum-set_value test F v w more (e ∷ es) grows found = set_at test F v w more (test e.0) e es refl grows found (sum-set_value test F v w more es grows)
+sum-set_value test F v w more (e ∷ es) grows found = set_at test F v w more (test e.0) e es refl grows found
+    (sum-set_value test F v w more es grows)
 
 -- ---- the map after an add
 
@@ -76,7 +99,8 @@ finds_only v q hit = sym (exact_signed v q (equal_from_test (int_cmp v q) hit))
 no_more : (f : ℤ × ℕ → ℕ) (q : ℤ) (p w : SmallVec ℕ) → w.items ≡ p.items → at_each f (q, w) ≡ at_each f (q, p) + 0
 no_more f q p w same = omega (arith, ap (λ xs. sum_by (λ x. f (q, x)) xs) same)
 
-one_more : (f : ℤ × ℕ → ℕ) (q v : ℤ) (n : ℕ) (p w : SmallVec ℕ) → w.items ≡ p.items ++ n ∷ [] → q ≡ v → at_each f (q, w) ≡ at_each f (q, p) + f (v, n)
+one_more : (f : ℤ × ℕ → ℕ) (q v : ℤ) (n : ℕ) (p w : SmallVec ℕ) → w.items ≡ p.items ++ n ∷ [] → q ≡ v
+    → at_each f (q, w) ≡ at_each f (q, p) + f (v, n)
 one_more f q v n p w pushed same =
     let whole = ap (λ xs. sum_by (λ x. f (q, x)) xs) pushed in
     let parts = sum_by-append (λ x. f (q, x)) p.items (n ∷ []) in
@@ -84,7 +108,8 @@ one_more f q v n p w pushed same =
     let at_v = ap (λ z. f (z, n)) same in
     omega (arith, whole, parts, last, at_v)
 
-value_more : (f : ℤ × ℕ → ℕ) (values : List (Option ℤ)) (v : ℤ) (n : ℕ) → length values ≡ n → sum_by f (entries_from 0 (values ++ Some v ∷ [])) ≡ sum_by f (entries_from 0 values) + f (v, n)
+value_more : (f : ℤ × ℕ → ℕ) (values : List (Option ℤ)) (v : ℤ) (n : ℕ) → length values ≡ n
+    → sum_by f (entries_from 0 (values ++ Some v ∷ [])) ≡ sum_by f (entries_from 0 values) + f (v, n)
 value_more f values v n at_end =
     let more = ap (sum_by f) (entries_more 0 values (Some v)) in
     let joined = sum_by-append f (entries_from 0 values) ((v, 0 + length values) ∷ []) in
@@ -93,7 +118,8 @@ value_more f values v n at_end =
     omega (arith, more, joined, last, place)
 
 pub map_kept : (compare : ℤ → Ordering) (values : List (Option ℤ)) (old new : List (ℤ × SmallVec ℕ)) (p w : SmallVec ℕ)
-    → lookup (is_at compare) old ≡ Some p → new ≡ set_value (is_at compare) old w → w.items ≡ p.items → IsMapOf values old → IsMapOf values new
+    → lookup (is_at compare) old ≡ Some p → new ≡ set_value (is_at compare) old w → w.items ≡ p.items
+    → IsMapOf values old → IsMapOf values new
 map_kept compare values old new p w found written same h = record {
   sums = λ f.
       let whole = ap (λ es. sum_by (at_each f) es) written in
@@ -101,13 +127,16 @@ map_kept compare values old new p w found written same h = record {
       omega (arith, whole, set, h.sums f);
 }
 
-pub map_pushed : (compare : ℤ → Ordering) (values : List (Option ℤ)) (v : ℤ) (n : ℕ) (old new : List (ℤ × SmallVec ℕ)) (p w : SmallVec ℕ)
-    → FindsOnly compare v → lookup (is_at compare) old ≡ Some p → new ≡ set_value (is_at compare) old w → w.items ≡ p.items ++ n ∷ []
+pub map_pushed : (compare : ℤ → Ordering) (values : List (Option ℤ)) (v : ℤ) (n : ℕ) (old new : List (ℤ × SmallVec ℕ))
+    (p w : SmallVec ℕ)
+    → FindsOnly compare v → lookup (is_at compare) old ≡ Some p → new ≡ set_value (is_at compare) old w
+    → w.items ≡ p.items ++ n ∷ []
     → length values ≡ n → IsMapOf values old → IsMapOf (values ++ Some v ∷ []) new
 map_pushed compare values v n old new p w exact found written pushed at_end h = record {
   sums = λ f.
       let whole = ap (λ es. sum_by (at_each f) es) written in
-      let set = sum-set_value (is_at compare) (at_each f) p w (f (v, n)) old (λ q hit. one_more f q v n p w pushed (exact q hit)) found in
+      let set = sum-set_value (is_at compare) (at_each f) p w (f (v, n)) old
+      (λ q hit. one_more f q v n p w pushed (exact q hit)) found in
       omega (arith, whole, set, h.sums f, value_more f values v n at_end);
 }
 
@@ -127,9 +156,11 @@ map_inserted values v n old new w none written made at_end h = record {
 
 -- the entries after w was put at v, where found stood there
 abbrev pub IsPut : ℤ → SmallVec ℕ → Option (SmallVec ℕ) → List (ℤ × SmallVec ℕ) → List (ℤ × SmallVec ℕ) → Type 0
-IsPut v w found old new = MatchOption found (IsPermutation ((v, w) ∷ old) new) (λ _. new ≡ set_value (is_at (int_cmp v)) old w)
+IsPut v w found old new = MatchOption found (IsPermutation ((v, w) ∷ old) new)
+    (λ _. new ≡ set_value (is_at (int_cmp v)) old w)
 
-sum-put : (F : ℤ × SmallVec ℕ → ℕ) (v : ℤ) (empty w : SmallVec ℕ) (more : ℕ) (old new : List (ℤ × SmallVec ℕ)) (found : Option (SmallVec ℕ))
+sum-put : (F : ℤ × SmallVec ℕ → ℕ) (v : ℤ) (empty w : SmallVec ℕ) (more : ℕ) (old new : List (ℤ × SmallVec ℕ))
+    (found : Option (SmallVec ℕ))
     → lookup (is_at (int_cmp v)) old ≡ found → IsPut v w found old new → F (v, empty) ≡ 0
     → ((q : ℤ) → q ≡ v → F (q, w) ≡ F (q, unwrap_or found empty) + more) → sum_by F new ≡ sum_by F old + more
 sum-put F v empty w more old new None is put zero grows =
@@ -141,27 +172,34 @@ sum-put F v empty w more old new (Some p) is put zero grows =
 at_empty : (f : ℤ × ℕ → ℕ) (v : ℤ) (empty : SmallVec ℕ) → empty.items ≡ [] → at_each f (v, empty) ≡ 0
 at_empty f v empty none = ap (λ xs. sum_by (λ x. f (v, x)) xs) none
 
-pub map_put_kept : (values : List (Option ℤ)) (v : ℤ) (old new : List (ℤ × SmallVec ℕ)) (empty w : SmallVec ℕ) (found : Option (SmallVec ℕ))
-    → lookup (is_at (int_cmp v)) old ≡ found → IsPut v w found old new → empty.items ≡ [] → w.items ≡ (unwrap_or found empty).items
+pub map_put_kept : (values : List (Option ℤ)) (v : ℤ) (old new : List (ℤ × SmallVec ℕ)) (empty w : SmallVec ℕ)
+    (found : Option (SmallVec ℕ))
+    → lookup (is_at (int_cmp v)) old ≡ found → IsPut v w found old new → empty.items ≡ []
+    → w.items ≡ (unwrap_or found empty).items
     → IsMapOf values old → IsMapOf values new
 map_put_kept values v old new empty w found is put none same h = record {
   sums = λ f.
-      let set = sum-put (at_each f) v empty w 0 old new found is put (at_empty f v empty none) (λ q at. no_more f q (unwrap_or found empty) w same) in
+      let set = sum-put (at_each f) v empty w 0 old new found is put (at_empty f v empty none)
+      (λ q at. no_more f q (unwrap_or found empty) w same) in
       omega (arith, set, h.sums f);
 }
 
-pub map_put_pushed : (values : List (Option ℤ)) (v : ℤ) (n : ℕ) (old new : List (ℤ × SmallVec ℕ)) (empty w : SmallVec ℕ) (found : Option (SmallVec ℕ))
-    → lookup (is_at (int_cmp v)) old ≡ found → IsPut v w found old new → empty.items ≡ [] → w.items ≡ (unwrap_or found empty).items ++ n ∷ []
+pub map_put_pushed : (values : List (Option ℤ)) (v : ℤ) (n : ℕ) (old new : List (ℤ × SmallVec ℕ)) (empty w : SmallVec ℕ)
+    (found : Option (SmallVec ℕ))
+    → lookup (is_at (int_cmp v)) old ≡ found → IsPut v w found old new → empty.items ≡ []
+    → w.items ≡ (unwrap_or found empty).items ++ n ∷ []
     → length values ≡ n → IsMapOf values old → IsMapOf (values ++ Some v ∷ []) new
 map_put_pushed values v n old new empty w found is put none pushed at_end h = record {
   sums = λ f.
-      let set = sum-put (at_each f) v empty w (f (v, n)) old new found is put (at_empty f v empty none) (λ q at. one_more f q v n (unwrap_or found empty) w pushed at) in
+      let set = sum-put (at_each f) v empty w (f (v, n)) old new found is put (at_empty f v empty none)
+      (λ q at. one_more f q v n (unwrap_or found empty) w pushed at) in
       omega (arith, set, h.sums f, value_more f values v n at_end);
 }
 
 -- ---- a tuple with no value
 
-pub map_no_value : (value : Option ℤ) (values : List (Option ℤ)) (entries : List (ℤ × SmallVec ℕ)) → ((v : ℤ) → value ≡ Some v → ⊥) → IsMapOf values entries → IsMapOf (values ++ value ∷ []) entries
+pub map_no_value : (value : Option ℤ) (values : List (Option ℤ)) (entries : List (ℤ × SmallVec ℕ))
+    → ((v : ℤ) → value ≡ Some v → ⊥) → IsMapOf values entries → IsMapOf (values ++ value ∷ []) entries
 map_no_value None values entries never h = record {
   sums = λ f.
       let more = ap (sum_by f) (entries_more 0 values None) in

@@ -1,5 +1,6 @@
 -- The places of one value, in a map that has each value once.
-use Rattle.std.proofs.Common.{◌≡◌, ℕ, ℤ, Bool, true, false, cond, not, ◌&&◌, Option, Some, None, List, [], ◌∷◌, ◌++◌, refl, sym, ap, ◌∙◌, append-nil}
+use Rattle.std.proofs.Common.{◌≡◌, ℕ, ℤ, Bool, true, false, cond, not, ◌&&◌, Option, Some, None, List, [], ◌∷◌, ◌++◌}
+use Rattle.std.proofs.Common.{refl, sym, ap, ◌∙◌, append-nil}
 use Rattle.std.specs.Prelude.{filter, flat_map, int_lt}
 use Rattle.smallvec.specs.SmallVec.{SmallVec}
 use Rattle.std.specs.declared.cmp.Ordering.TheVariants.{Less, Equal, Greater}
@@ -28,9 +29,11 @@ neither false false = refl
 lies_at : (v k : ℤ) → lies (Some v) (Some v) (Some k) ≡ int_eq v k
 lies_at v k = both _ _ _ _ (int_le-not v k) (int_le-not k v) ∙ neither (int_lt v k) (int_lt k v)
 
-one_at : (b : Bool) (v : ℤ) (e : ℤ × SmallVec ℕ) (es : List (ℤ × SmallVec ℕ)) → int_eq v e.0 ≡ b → IsDistinct int_eq (keys_of (e ∷ es))
+one_at : (b : Bool) (v : ℤ) (e : ℤ × SmallVec ℕ) (es : List (ℤ × SmallVec ℕ)) → int_eq v e.0 ≡ b
+    → IsDistinct int_eq (keys_of (e ∷ es))
     → gathered (Some v) (Some v) es ≡ found_places (lookup (int_eq v) es)
-    → flat_map (λ e. e.1.items) (cond b (e ∷ filter (λ e. lies (Some v) (Some v) (Some e.0)) es) (filter (λ e. lies (Some v) (Some v) (Some e.0)) es))
+    → flat_map (λ e. e.1.items) (cond b (e ∷ filter (λ e. lies (Some v) (Some v) (Some e.0)) es)
+    (filter (λ e. lies (Some v) (Some v) (Some e.0)) es))
     ≡ found_places (cond b (Some e.1) (lookup (int_eq v) es))
 one_at true v e es hit distinct rest =
     let none = lookup-none (int_eq v) es (none_past_head int_eq_equiv v e es distinct hit) in
@@ -46,7 +49,8 @@ gathered-one v (e ∷ es) distinct =
     ∙ one_at (int_eq v e.0) v e es refl distinct (gathered-one v es (IsDistinct-tail int_eq e.0 (keys_of es) distinct))
 
 -- what a look-up found is what is gathered there
-pub gathered-found : (v w : ℤ) (entries : List (ℤ × SmallVec ℕ)) (found : Option (SmallVec ℕ)) → IsDistinct int_eq (keys_of entries)
+pub gathered-found : (v w : ℤ) (entries : List (ℤ × SmallVec ℕ)) (found : Option (SmallVec ℕ))
+    → IsDistinct int_eq (keys_of entries)
     → w ≡ v → found ≡ lookup (int_eq w) entries → found_places found ≡ gathered (Some v) (Some v) entries
 gathered-found v w entries found distinct same is =
     ap found_places is ∙ sym (gathered-one w entries distinct) ∙ ap (λ v. gathered (Some v) (Some v) entries) same

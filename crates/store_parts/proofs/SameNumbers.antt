@@ -1,5 +1,7 @@
 -- A probe by an access finds what a scan finds, and evaluates those that agree with the tuple.
-use Rattle.std.proofs.Common.{◌≡◌, ℕ, ◌+◌, ◌<◌, ℤ, pos, ◌-ℤ◌, Bool, true, false, cond, Option, Some, None, List, [], ◌∷◌, ◌++◌, length, take, refl, sym, ap, subst, ◌∙◌, arith, append-nil, slice_get, Result, Ok, Err}
+use Rattle.std.proofs.Common.{◌≡◌, ℕ, ◌+◌, ◌<◌, ℤ, pos, ◌-ℤ◌, Bool, true, false, cond, Option, Some, None, List, []}
+use Rattle.std.proofs.Common.{◌∷◌, ◌++◌, length, take, refl, sym, ap, subst, ◌∙◌, arith, append-nil, slice_get, Result}
+use Rattle.std.proofs.Common.{Ok, Err}
 use Rattle.std.specs.Prelude.{IfOk, map, filter, count_by, int_le, option_map, option_and_then}
 use Rattle.smallvec.specs.SmallVec.{SmallVec}
 use Rattle.std.specs.List.{All}
@@ -25,9 +27,11 @@ use Rattle.store_parts.specs.Accessed.{value_on, mixed, numbered, number_at, num
 use Rattle.store_parts.specs.declared.which.Which.{Which}
 use Rattle.store_parts.specs.Places.{lies, places_between, IsMapOf}
 use Rattle.store_parts.specs.Keyed.{at_places, numbers_at}
-use Rattle.store_parts.specs.Matches.{other_side, admitted, is_named, is_found, does_match, does_match_at, pair_of, matches}
+use Rattle.store_parts.specs.Matches.{other_side, admitted, is_named, is_found, does_match, does_match_at, pair_of}
+use Rattle.store_parts.specs.Matches.{matches}
 use Rattle.store_parts.proofs.Keys.{at_places_between}
-use Rattle.store_parts.proofs.KeyProbes.{filter_of_filter, filter_none, count_of_filter, places_below, at_places-append, at_places_more, at_place}
+use Rattle.store_parts.proofs.KeyProbes.{filter_of_filter, filter_none, count_of_filter, places_below, at_places-append}
+use Rattle.store_parts.proofs.KeyProbes.{at_places_more, at_place}
 use Rattle.theta_pred.proofs.KeyMembers.{and_left, and_right}
 
 -- ---- rows that agree have one number
@@ -45,13 +49,19 @@ AreOne a b = (v : ℤ) × (a ≡ Some v) × (b ≡ Some v)
 squeezed : (gap x y : ℤ) → int_le gap (x -ℤ y) ≡ true → int_le (x -ℤ y) gap ≡ true → x -ℤ gap ≡ y
 squeezed gap x y low high = grind (arith, ints, low, high)
 
-apart_one : (gap : ℤ) (x y : Option ℤ) → is_between (Some gap) (Some gap) x y ≡ true → AreOne (option_map (λ v. v -ℤ gap) x) y
+apart_one : (gap : ℤ) (x y : Option ℤ) → is_between (Some gap) (Some gap) x y ≡ true
+    → AreOne (option_map (λ v. v -ℤ gap) x) y
 apart_one gap None y is = absurd (false≢true is)
 apart_one gap (Some x) None is = absurd (false≢true is)
-apart_one gap (Some x) (Some y) is =
-    (y, ap Some (squeezed gap x y (and_left (int_le gap (x -ℤ y)) (int_le (x -ℤ y) gap) is) (and_right (int_le gap (x -ℤ y)) (int_le (x -ℤ y) gap) is)), refl)
+apart_one gap (Some x) (Some y) is = (
+  y,
+  ap Some (squeezed gap x y (and_left (int_le gap (x -ℤ y)) (int_le (x -ℤ y) gap) is)
+      (and_right (int_le gap (x -ℤ y)) (int_le (x -ℤ y) gap) is)),
+  refl,
+)
 
-same_value : (r s : List Cell) (same : Same) → agrees r s (agreement_of same) ≡ true → AreOne (value_on R same r) (value_on S same s)
+same_value : (r s : List Cell) (same : Same) → agrees r s (agreement_of same) ≡ true
+    → AreOne (value_on R same r) (value_on S same s)
 same_value r s (Texts atom) is =
     let equal = (bytes_eq-Decides (text_at atom.r r) (text_at atom.s s)).0 is in
     (pos (number_of (text_at atom.s s)), ap (λ text. Some (pos (number_of text))) equal, refl)
@@ -95,46 +105,57 @@ not_true false never = refl
 
 -- ---- the places of a number
 
-pub none_admitted : (access : Access) (t : Tuple) (others : List Tuple) → number_at access t.side t ≡ None → filter (is_admitted access t) others ≡ []
+pub none_admitted : (access : Access) (t : Tuple) (others : List Tuple) → number_at access t.side t ≡ None
+    → filter (is_admitted access t) others ≡ []
 none_admitted access t others none =
-    filter_none (is_admitted access t) (λ other. not_true (is_admitted access t other) (λ is. none_one _ _ none (one_at t.side access t other is))) others
+    filter_none (is_admitted access t) (λ other. not_true (is_admitted access t other)
+    (λ is. none_one _ _ none (one_at t.side access t other is))) others
 
 -- the places of the tuple's number
 abbrev pub number_places : Access → Tuple → List Tuple → ℤ → List ℕ
 number_places access t others n = places_between (Some n) (Some n) 0 (numbers_at access (other_side t.side) others)
 
 admitted_at_number : (access : Access) (t : Tuple) (others : List Tuple) (n : ℤ) → number_at access t.side t ≡ Some n
-    → filter (is_admitted access t) (at_places others (number_places access t others n)) ≡ filter (is_admitted access t) others
+    → filter (is_admitted access t) (at_places others (number_places access t others n))
+    ≡ filter (is_admitted access t) others
 admitted_at_number access t others n is =
-    ap (filter (is_admitted access t)) (at_places_between (number_at access (other_side t.side)) (Some n) (Some n) others)
-    ∙ filter_of_filter (is_admitted access t) (λ other. lies (Some n) (Some n) (number_at access (other_side t.side) other))
+    ap (filter (is_admitted access t)) (at_places_between (number_at access (other_side t.side)) (Some n) (Some n)
+    others)
+    ∙ filter_of_filter (is_admitted access t) (λ other. lies (Some n) (Some n)
+    (number_at access (other_side t.side) other))
     (λ other admitted. lies_one n _ _ is (one_at t.side access t other admitted)) others
 
-number_places_below : (access : Access) (t : Tuple) (others : List Tuple) (n : ℤ) → All (λ p. p < length others) (number_places access t others n)
+number_places_below : (access : Access) (t : Tuple) (others : List Tuple) (n : ℤ)
+    → All (λ p. p < length others) (number_places access t others n)
 number_places_below access t others n =
     places_below (Some n) (Some n) 0 (length others) (numbers_at access (other_side t.side) others)
     (omega (arith, length-map others (number_at access (other_side t.side))))
 
 -- the index's clause, at the numbers of the stored tuples
-pub number_given : {V E : Type 0} (r : Result V E) (items : V → List ℕ) (access : Access) (t : Tuple) (others : List Tuple)
+pub number_given : {V E : Type 0} (r : Result V E) (items : V
+    → List ℕ) (access : Access) (t : Tuple) (others : List Tuple)
     (entries : List (ℤ × SmallVec ℕ)) (v n : ℤ) → v ≡ n
     → IsMapOf (numbers_at access (other_side t.side) others) entries
-    → IfOk r (λ x. (values : List (Option ℤ)) → IsMapOf values entries → items x ≡ places_between (Some v) (Some v) 0 values)
+    → IfOk r (λ x. (values : List (Option ℤ)) → IsMapOf values entries
+    → items x ≡ places_between (Some v) (Some v) 0 values)
     → IfOk r (λ x. items x ≡ number_places access t others n)
 number_given (Ok x) items access t others entries v n is indexed gives =
     gives (numbers_at access (other_side t.side) others) indexed
     ∙ ap (λ z. places_between (Some z) (Some z) 0 (numbers_at access (other_side t.side) others)) is
 number_given (Err e) items access t others entries v n is indexed gives = tt
 
-pub admitted_from_number : {V E : Type 0} (r : Result V E) (items : V → List ℕ) (access : Access) (t : Tuple) (others : List Tuple) (n : ℤ)
+pub admitted_from_number : {V E : Type 0} (r : Result V E) (items : V
+    → List ℕ) (access : Access) (t : Tuple) (others : List Tuple) (n : ℤ)
     → number_at access t.side t ≡ Some n
     → IfOk r (λ x. items x ≡ number_places access t others n)
     → IfOk r (λ x. filter (is_admitted access t) (at_places others (items x)) ≡ filter (is_admitted access t) others)
 admitted_from_number (Ok x) items access t others n is given =
-    ap (λ places. filter (is_admitted access t) (at_places others places)) given ∙ admitted_at_number access t others n is
+    ap (λ places. filter (is_admitted access t) (at_places others places)) given
+    ∙ admitted_at_number access t others n is
 admitted_from_number (Err e) items access t others n is given = tt
 
-pub below_from_number : {V E : Type 0} (r : Result V E) (items : V → List ℕ) (access : Access) (t : Tuple) (others : List Tuple) (n : ℤ)
+pub below_from_number : {V E : Type 0} (r : Result V E) (items : V
+    → List ℕ) (access : Access) (t : Tuple) (others : List Tuple) (n : ℤ)
     → IfOk r (λ x. items x ≡ number_places access t others n) → IfOk r (λ x. All (λ p. p < length others) (items x))
 below_from_number (Ok x) items access t others n given =
     let P : List ℕ → Type 0 = λ ps. All (λ p. p < length others) ps in
@@ -145,9 +166,11 @@ below_from_number (Err e) items access t others n given = tt
 
 filter_more : (p : Tuple → Bool) (others : List Tuple) (places : List ℕ) (i place : ℕ) (other : Tuple)
     → slice_get places i ≡ Some place → slice_get others place ≡ Some other
-    → filter p (at_places others (take (i + 1) places)) ≡ filter p (at_places others (take i places)) ++ filter p (other ∷ [])
+    → filter p (at_places others (take (i + 1) places)) ≡ filter p (at_places others (take i places))
+    ++ filter p (other ∷ [])
 filter_more p others places i place other at here =
-    ap (filter p) (at_places_more others places i place other at here) ∙ filter-append p (at_places others (take i places)) (other ∷ [])
+    ap (filter p) (at_places_more others places i place other at here)
+    ∙ filter-append p (at_places others (take i places)) (other ∷ [])
 
 pub kept_one : (p : Tuple → Bool) (others : List Tuple) (places kept : List ℕ) (i place : ℕ) (other : Tuple)
     → slice_get places i ≡ Some place → slice_get others place ≡ Some other
@@ -156,7 +179,8 @@ pub kept_one : (p : Tuple → Bool) (others : List Tuple) (places kept : List �
 kept_one p others places kept i place other at here so_far is =
     at_places-append others kept (place ∷ [])
     ∙ ap (λ xs. xs ++ at_places others (place ∷ [])) so_far
-    ∙ ap (λ xs. filter p (at_places others (take i places)) ++ xs) (at_place others place other here ∙ sym (ap (λ c. cond c (other ∷ []) []) is))
+    ∙ ap (λ xs. filter p (at_places others (take i places)) ++ xs)
+    (at_place others place other here ∙ sym (ap (λ c. cond c (other ∷ []) []) is))
     ∙ sym (filter_more p others places i place other at here)
 
 pub kept_none : (p : Tuple → Bool) (others : List Tuple) (places kept : List ℕ) (i place : ℕ) (other : Tuple)
@@ -176,12 +200,15 @@ admitted_at : (side : Side) (theta : Meaning) (access : Access) (t other : Tuple
 admitted_at R theta access t other law holds = law t.cells other.cells holds
 admitted_at S theta access t other law holds = law other.cells t.cells holds
 
-pub matches_by_access : (theta : Meaning) (access : Access) (t : Tuple) (which : Which) (others : List Tuple) → IsAccessOf theta (agreements access)
+pub matches_by_access : (theta : Meaning) (access : Access) (t : Tuple) (which : Which) (others : List Tuple)
+    → IsAccessOf theta (agreements access)
     → matches theta t which (filter (is_admitted access t) others) ≡ matches theta t which others
 matches_by_access theta access t which others law =
     ap (map (pair_of t)) (filter_of_filter (is_found theta t which) (is_admitted access t)
-    (λ other found. admitted_at t.side theta access t other law (and_left (does_match theta t other) (is_named which other) found)) others)
+    (λ other found. admitted_at t.side theta access t other law
+    (and_left (does_match theta t other) (is_named which other) found)) others)
 
 pub count_by_access : (access : Access) (t : Tuple) (which : Which) (others : List Tuple)
     → count_by (is_named which) (filter (is_admitted access t) others) ≡ admitted access t which others
-count_by_access access t which others = count_of_filter (is_named which) (is_admitted access t) (is_admitted access t) (λ x. refl) others
+count_by_access access t which others = count_of_filter (is_named which) (is_admitted access t) (is_admitted access t)
+    (λ x. refl) others

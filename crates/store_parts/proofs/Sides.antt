@@ -1,5 +1,6 @@
 -- The two lists of a store, and both as one.
-use Rattle.std.proofs.Common.{◌≡◌, Bool, true, false, ◌&&◌, List, [], ◌∷◌, ◌++◌, All, map, filter, sym, refl, ap, ◌∙◌, subst, append-nil, cond}
+use Rattle.std.proofs.Common.{◌≡◌, Bool, true, false, ◌&&◌, List, [], ◌∷◌, ◌++◌, All, map, filter, sym, refl, ap, ◌∙◌}
+use Rattle.std.proofs.Common.{subst, append-nil, cond}
 use Rattle.std.proofs.lemmas.List.Elements.{filter-append, All-filter, All-head, All-tail}
 use Rattle.join_rows.specs.declared.table.Side.{Side}
 use Rattle.join_rows.specs.declared.table.Side.TheVariants.{R, S}
@@ -13,7 +14,8 @@ use Rattle.store_parts.specs.Matches.{other_side, is_named, does_match_at, pair_
 use Rattle.store_parts.specs.Stored.{Stored, side_of, others_of, AreSided}
 
 -- a part of each list is still sided
-pub AreSided-filter : (p : Tuple → Bool) (rs ss ks ls : List Tuple) → AreSided rs ss → ks ≡ filter p rs → ls ≡ filter p ss → AreSided ks ls
+pub AreSided-filter : (p : Tuple → Bool) (rs ss ks ls : List Tuple) → AreSided rs ss → ks ≡ filter p rs
+    → ls ≡ filter p ss → AreSided ks ls
 AreSided-filter p rs ss ks ls are k l = record {
   r = subst (All (λ (t : Tuple). t.side ≡ R)) (sym k) (All-filter p (λ (t : Tuple). t.side ≡ R) rs are.r);
   s = subst (All (λ (t : Tuple). t.side ≡ S)) (sym l) (All-filter p (λ (t : Tuple). t.side ≡ S) ss are.s);
@@ -23,7 +25,8 @@ AreSided-filter p rs ss ks ls are k l = record {
 
 -- of tuples of a side, a test that asks for that side keeps what the test alone keeps, and one that asks for the other
 -- side keeps none
-filter-own : (side : Side) (p : Tuple → Bool) (ts : List Tuple) → same_side side side ≡ true → All (λ t. t.side ≡ side) ts → filter (λ t. is_of side t && p t) ts ≡ filter p ts
+filter-own : (side : Side) (p : Tuple → Bool) (ts : List Tuple) → same_side side side ≡ true
+    → All (λ t. t.side ≡ side) ts → filter (λ t. is_of side t && p t) ts ≡ filter p ts
 filter-own side p [] same all = refl
 filter-own side p (t ∷ ts) same all =
     let own : is_of side t ≡ true = ap (same_side side) (All-head (λ (x : Tuple). x.side ≡ side) t ts all) ∙ same in
@@ -31,7 +34,8 @@ filter-own side p (t ∷ ts) same all =
     ap (λ b. cond (b && p t) (t ∷ filter (λ x. is_of side x && p x) ts) (filter (λ x. is_of side x && p x) ts)) own
     ∙ ap (λ l. cond (p t) (t ∷ l) l) rest
 
-filter-other : (side other : Side) (p : Tuple → Bool) (ts : List Tuple) → same_side side other ≡ false → All (λ t. t.side ≡ other) ts → filter (λ t. is_of side t && p t) ts ≡ []
+filter-other : (side other : Side) (p : Tuple → Bool) (ts : List Tuple) → same_side side other ≡ false
+    → All (λ t. t.side ≡ other) ts → filter (λ t. is_of side t && p t) ts ≡ []
 filter-other side other p [] apart all = refl
 filter-other side other p (t ∷ ts) apart all =
     let own : is_of side t ≡ false = ap (same_side side) (All-head (λ (x : Tuple). x.side ≡ other) t ts all) ∙ apart in
@@ -39,7 +43,8 @@ filter-other side other p (t ∷ ts) apart all =
     ∙ filter-other side other p ts apart (All-tail (λ (x : Tuple). x.side ≡ other) t ts all)
 
 -- of both lists as one, a test that asks for a side keeps what the test keeps of that side's list
-pub filter-both_r : (p : Tuple → Bool) (rs ss : List Tuple) → AreSided rs ss → filter (λ t. is_of R t && p t) (rs ++ ss) ≡ filter p rs
+pub filter-both_r : (p : Tuple → Bool) (rs ss : List Tuple) → AreSided rs ss
+    → filter (λ t. is_of R t && p t) (rs ++ ss) ≡ filter p rs
 filter-both_r p rs ss are =
     let q = λ (t : Tuple). is_of R t && p t in
     filter-append q rs ss
@@ -47,7 +52,8 @@ filter-both_r p rs ss are =
     ∙ append-nil (filter q rs)
     ∙ filter-own R p rs refl are.r
 
-pub filter-both_s : (p : Tuple → Bool) (rs ss : List Tuple) → AreSided rs ss → filter (λ t. is_of S t && p t) (rs ++ ss) ≡ filter p ss
+pub filter-both_s : (p : Tuple → Bool) (rs ss : List Tuple) → AreSided rs ss
+    → filter (λ t. is_of S t && p t) (rs ++ ss) ≡ filter p ss
 filter-both_s p rs ss are =
     let q = λ (t : Tuple). is_of S t && p t in
     filter-append q rs ss
@@ -68,12 +74,17 @@ abbrev test_of : Meaning → Tuple → Tuple → Bool
 test_of theta r s = holds theta r.cells s.cells
 
 abbrev matches_at : Side → Meaning → Tuple → Which → List Tuple → List Pair
-matches_at side theta t which others = map (pair_at side t) (filter (λ other. does_match_at side theta t other && is_named which other) others)
+matches_at side theta t which others = map (pair_at side t)
+    (filter (λ other. does_match_at side theta t other && is_named which other) others)
 
-matches_at-both : (side : Side) (theta : Meaning) (t : Tuple) (which : Which) (store : Stored) → AreSided store.r store.s
-    → matches_at side theta t which (side_of store (other_side side)) ≡ probed_at side (test_of theta) (is_named which) t (store.r ++ store.s)
-matches_at-both R theta t which store are = ap (map (pair_at R t)) (sym (filter-both_s (λ q. test_of theta t q && is_named which q) store.r store.s are))
-matches_at-both S theta t which store are = ap (map (pair_at S t)) (sym (filter-both_r (λ r. test_of theta r t && is_named which r) store.r store.s are))
+matches_at-both : (side : Side) (theta : Meaning) (t : Tuple) (which : Which) (store : Stored)
+    → AreSided store.r store.s
+    → matches_at side theta t which (side_of store (other_side side))
+    ≡ probed_at side (test_of theta) (is_named which) t (store.r ++ store.s)
+matches_at-both R theta t which store are = ap (map (pair_at R t))
+    (sym (filter-both_s (λ q. test_of theta t q && is_named which q) store.r store.s are))
+matches_at-both S theta t which store are = ap (map (pair_at S t))
+    (sym (filter-both_r (λ r. test_of theta r t && is_named which r) store.r store.s are))
 
 -- what a probe finds in a store is what it finds in both lists as one
 pub matches-both : (theta : Meaning) (t : Tuple) (which : Which) (store : Stored) → AreSided store.r store.s

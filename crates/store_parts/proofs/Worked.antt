@@ -57,7 +57,13 @@ scan_evaluates_3 = refl
 -- ---- rows of one text, and an access that names it
 
 abbrev word : Side → List ℕ → Tuple
-word side text = record { side = side; index = 0; ticket = 0; stamp = 0; cells = record { text = text; num = None } ∷ [] }
+word side text = record {
+  side = side;
+  index = 0;
+  ticket = 0;
+  stamp = 0;
+  cells = record { text = text; num = None } ∷ [];
+}
 
 abbrev words : List Tuple
 words = word S (97 ∷ []) ∷ word S (98 ∷ []) ∷ word S (97 ∷ []) ∷ word S [] ∷ []

@@ -1,5 +1,6 @@
 -- The access by which a store looks for tuples: the numbers of tuples, and with which others they agree.
-use Rattle.std.specs.Prelude.{◌≡◌, ℕ, ◌+◌, ◌*◌, ◌%◌, ◌^◌, ℤ, pos, ◌-ℤ◌, Bool, Option, Some, List, [], ◌∷◌, option_map, option_and_then}
+use Rattle.std.specs.Prelude.{◌≡◌, ℕ, ◌+◌, ◌*◌, ◌%◌, ◌^◌, ℤ, pos, ◌-ℤ◌, Bool, Option, Some, List, [], ◌∷◌, option_map}
+use Rattle.std.specs.Prelude.{option_and_then}
 use Rattle.std.specs.Int.{int_wrapping_add, int_wrapping_mul, w128}
 use Rattle.join_rows.specs.declared.table.Cell.{Cell}
 use Rattle.join_rows.specs.declared.table.Side.{Side}

@@ -1,5 +1,6 @@
 -- The key of a store: the values of its tuples, and what a probe by the key is left to evaluate.
-use Rattle.std.specs.Prelude.{◌≡◌, ℕ, ℤ, ◌+ℤ◌, ◌-ℤ◌, Bool, Option, Some, None, List, length, map, filter_map, slice_get, option_map, ⊤, All}
+use Rattle.std.specs.Prelude.{◌≡◌, ℕ, ℤ, ◌+ℤ◌, ◌-ℤ◌, Bool, Option, Some, None, List, length, map, filter_map, slice_get}
+use Rattle.std.specs.Prelude.{option_map, ⊤, All}
 use Rattle.smallvec.specs.SmallVec.{SmallVec}
 use Rattle.join_rows.specs.declared.table.Side.{Side}
 use Rattle.join_rows.specs.declared.table.Side.TheVariants.{R, S}

@@ -1,5 +1,6 @@
 -- Where a predicate is true of two rows, they agree in each of its agreements.
-use Rattle.std.proofs.Common.{◌≡◌, Bool, true, false, cond, ◌&&◌, List, [], ◌∷◌, Option, Some, None, length, map, refl, sym, subst, ◌∙◌}
+use Rattle.std.proofs.Common.{◌≡◌, Bool, true, false, cond, ◌&&◌, List, [], ◌∷◌, Option, Some, None, length, map, refl}
+use Rattle.std.proofs.Common.{sym, subst, ◌∙◌}
 use Rattle.std.specs.Prelude.{option_map, option_to_list}
 use Rattle.std.proofs.lemmas.List.Folds.{list_all-append}
 use Rattle.std.proofs.lemmas.Option.{none-some}
@@ -8,8 +9,10 @@ use Rattle.theta_text.specs.declared.tree.Op.TheVariants.{Eq, Ne, Lt, Le, Gt, Ge
 use Rattle.join_rows.specs.declared.table.Cell.{Cell}
 use Rattle.theta_pred.specs.declared.text_atom.TextAtom.{TextAtom}
 use Rattle.theta_pred.specs.declared.tree.Text.TheVariants as texts'
-use Rattle.theta_pred.specs.Accesses.{Agreement, texts, agrees, do_agree, of_sums, agreements_of, agreements_in, has_band_key, some_of, access_of, IsAccessOf}
-use Rattle.theta_pred.specs.Formula.{Formula, any, every, negation, num, band, txt, Formulas, no_formula, formula, Meaning}
+use Rattle.theta_pred.specs.Accesses.{Agreement, texts, agrees, do_agree, of_sums, agreements_of, agreements_in}
+use Rattle.theta_pred.specs.Accesses.{has_band_key, some_of, access_of, IsAccessOf}
+use Rattle.theta_pred.specs.Formula.{Formula, any, every, negation, num, band, txt, Formulas, no_formula, formula}
+use Rattle.theta_pred.specs.Formula.{Meaning}
 use Rattle.theta_pred.specs.Keys.{splits}
 use Rattle.theta_pred.specs.TextAtoms.{of_columns, text_at}
 use Rattle.theta_pred.specs.Truth.{is_true, each_is_true}

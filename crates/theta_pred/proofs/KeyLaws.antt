@@ -1,5 +1,6 @@
 -- Where a predicate is true its key atom is true, and the atom's columns lie in the rows.
-use Rattle.std.proofs.Common.{◌≡◌, ℕ, Bool, true, false, not, ◌&&◌, List, [], ◌∷◌, ◌++◌, ℤ, pos, ◌+ℤ◌, ◌-ℤ◌, neg_ℤ, Option, Some, None, refl, sym, ap, ◌∙◌, arith}
+use Rattle.std.proofs.Common.{◌≡◌, ℕ, Bool, true, false, not, ◌&&◌, List, [], ◌∷◌, ◌++◌, ℤ, pos, ◌+ℤ◌, ◌-ℤ◌, neg_ℤ}
+use Rattle.std.proofs.Common.{Option, Some, None, refl, sym, ap, ◌∙◌, arith}
 use Rattle.std.specs.Prelude.{option_map, unwrap_or}
 use Rattle.std.proofs.lemmas.Int.{ints}
 use Rattle.std.proofs.lemmas.Option.{none-some}
@@ -10,7 +11,8 @@ use Rattle.theta_pred.specs.declared.atom.Part.{Part}
 use Rattle.theta_pred.specs.declared.tree.SignedTerm.{SignedTerm}
 use Rattle.theta_pred.specs.declared.tree.Number.{Number}
 use Rattle.theta_pred.specs.declared.tree.Number.TheVariants as numbers
-use Rattle.theta_pred.specs.Keys.{is_from, is_up_to, is_between, is_atom_true, number_columns, columns_of, constant_in, constant_of, difference}
+use Rattle.theta_pred.specs.Keys.{is_from, is_up_to, is_between, is_atom_true, number_columns, columns_of, constant_in}
+use Rattle.theta_pred.specs.Keys.{constant_of, difference}
 use Rattle.theta_pred.specs.Linear.{part_of, value_of}
 use Rattle.theta_pred.specs.Sums.{of_side, plus, with_sign, number_of, signed_of, sum_of}
 
@@ -29,17 +31,21 @@ plus_more (Some x) None q = refl
 plus_more (Some x) (Some y) None = refl
 plus_more (Some x) (Some y) (Some z) = ap Some (omega (arith, ints))
 
-value_of-append : (xs ys : List Part) (row : List Cell) → value_of (xs ++ ys) row ≡ plus (value_of xs row) (value_of ys row)
+value_of-append : (xs ys : List Part) (row : List Cell) → value_of (xs ++ ys) row
+    ≡ plus (value_of xs row) (value_of ys row)
 value_of-append [] ys row = sym (plus_nil (value_of ys row))
 value_of-append (x ∷ xs) ys row =
-    ap (plus (part_of x row)) (value_of-append xs ys row) ∙ sym (plus_more (part_of x row) (value_of xs row) (value_of ys row))
+    ap (plus (part_of x row)) (value_of-append xs ys row) ∙ sym
+    (plus_more (part_of x row) (value_of xs row) (value_of ys row))
 
-value_of-both : (xs ys : List Part) (row : List Cell) (x y z : ℤ) → value_of xs row ≡ Some x → value_of ys row ≡ Some y → x +ℤ y ≡ z
+value_of-both : (xs ys : List Part) (row : List Cell) (x y z : ℤ) → value_of xs row ≡ Some x → value_of ys row ≡ Some y
+    → x +ℤ y ≡ z
     → value_of (xs ++ ys) row ≡ Some z
 value_of-both xs ys row x y z is_x is_y sums =
     value_of-append xs ys row ∙ ap (λ o. plus o (value_of ys row)) is_x ∙ ap (plus (Some x)) is_y ∙ ap Some sums
 
-plus_some : (o p : Option ℤ) (z : ℤ) → plus o p ≡ Some z → (x : ℤ) × (y : ℤ) × (o ≡ Some x) × (p ≡ Some y) × (x +ℤ y ≡ z)
+plus_some : (o p : Option ℤ) (z : ℤ) → plus o p ≡ Some z → (x : ℤ) × (y : ℤ) × (o ≡ Some x) × (p ≡ Some y)
+    × (x +ℤ y ≡ z)
 plus_some None p z is = absurd (none-some z is)
 plus_some (Some x) None z is = absurd (none-some z is)
 plus_some (Some x) (Some y) z is = (x, y, refl, refl, some-injective (x +ℤ y) z is)
@@ -72,7 +78,8 @@ turned_sign true (Some n) x is =
     let back : n ≡ neg_ℤ (neg_ℤ n) = omega (arith, ints) in
     ap Some (back ∙ ap neg_ℤ (some-injective (neg_ℤ n) x is))
 
-one_part : (minus : Bool) (place : ℕ) (row : List Cell) (x : ℤ) → part_of (record { minus = minus; column = place }) row ≡ Some x
+one_part : (minus : Bool) (place : ℕ) (row : List Cell) (x : ℤ)
+    → part_of (record { minus = minus; column = place }) row ≡ Some x
     → value_of (record { minus = minus; column = place } ∷ []) row ≡ Some x
 one_part minus place row x is =
     let sums : x +ℤ pos 0 ≡ x = omega (arith, ints) in
@@ -106,14 +113,25 @@ at_side r s S minus place x is =
       },
     )
 
-one_parted : (r s : List Cell) (minus : Bool) (number : Number) (x : ℤ) → option_map (with_sign minus) (number_of r s number) ≡ Some x
+one_parted : (r s : List Cell) (minus : Bool) (number : Number) (x : ℤ)
+    → option_map (with_sign minus) (number_of r s number) ≡ Some x
     → (a : ℤ) × (b : ℤ) × IsOneParted r s minus number x a b
 one_parted r s minus (numbers.Given v) x is =
-    let same = some-injective (with_sign minus v) x is in
-    (pos 0, pos 0, record { r_plain = refl; r_turned = refl; s_plain = refl; s_turned = refl; whole = omega (arith, ints, same) })
+    let same = some-injective (with_sign minus v) x is in (
+      pos 0,
+      pos 0,
+      record {
+        r_plain = refl;
+        r_turned = refl;
+        s_plain = refl;
+        s_turned = refl;
+        whole = omega (arith, ints, same);
+      },
+    )
 one_parted r s minus (numbers.Cell column) x is = at_side r s column.side minus column.place x is
 
-more_parted : (r s : List Cell) (minus : Bool) (number : Number) (rest : List SignedTerm) (x y z a b c d : ℤ) → IsOneParted r s minus number y a b
+more_parted : (r s : List Cell) (minus : Bool) (number : Number) (rest : List SignedTerm) (x y z a b c d : ℤ)
+    → IsOneParted r s minus number y a b
     → IsParted r s rest z c d → y +ℤ z ≡ x
     → (a : ℤ) × (b : ℤ) × IsParted r s (record { minus = minus; number = number } ∷ rest) x a b
 more_parted r s minus number rest x y z a b c d first others sums =
@@ -130,10 +148,20 @@ more_parted r s minus number rest x y z a b c d first others sums =
       },
     )
 
-parted : (r s : List Cell) (xs : List SignedTerm) (x : ℤ) → sum_of r s xs ≡ Some x → (a : ℤ) × (b : ℤ) × IsParted r s xs x a b
+parted : (r s : List Cell) (xs : List SignedTerm) (x : ℤ) → sum_of r s xs ≡ Some x → (a : ℤ) × (b : ℤ)
+    × IsParted r s xs x a b
 parted r s [] x is =
-    let same = some-injective (pos 0) x is in
-    (pos 0, pos 0, record { r_plain = refl; r_turned = refl; s_plain = refl; s_turned = refl; whole = omega (arith, ints, same) })
+    let same = some-injective (pos 0) x is in (
+      pos 0,
+      pos 0,
+      record {
+        r_plain = refl;
+        r_turned = refl;
+        s_plain = refl;
+        s_turned = refl;
+        whole = omega (arith, ints, same);
+      },
+    )
 parted r s (term ∷ rest) x is =
     let parts = plus_some (signed_of r s term) (sum_of r s rest) x is in
     let y = parts.0 in
@@ -144,22 +172,28 @@ parted r s (term ∷ rest) x is =
 
 -- ---- the atom of a difference
 
-between_is : (low high o p : Option ℤ) (x y : ℤ) → o ≡ Some x → p ≡ Some y → is_between low high o p ≡ (is_from low (x -ℤ y) && is_up_to high (x -ℤ y))
+between_is : (low high o p : Option ℤ) (x y : ℤ) → o ≡ Some x → p ≡ Some y
+    → is_between low high o p ≡ (is_from low (x -ℤ y) && is_up_to high (x -ℤ y))
 between_is low high o p x y is_x is_y = ap (λ q. is_between low high q p) is_x ∙ ap (is_between low high (Some x)) is_y
 
-pub difference_true : (r s : List Cell) (left right : List SignedTerm) (low high : Option ℤ) (x y : ℤ) → sum_of r s left ≡ Some x → sum_of r s right ≡ Some y
-    → ((gap : ℤ) → x -ℤ y ≡ gap +ℤ (constant_of left -ℤ constant_of right) → (is_from low gap && is_up_to high gap) ≡ true)
+pub difference_true : (r s : List Cell) (left right : List SignedTerm) (low high : Option ℤ) (x y : ℤ)
+    → sum_of r s left ≡ Some x → sum_of r s right ≡ Some y
+    → ((gap : ℤ) → x -ℤ y ≡ gap +ℤ (constant_of left -ℤ constant_of right)
+    → (is_from low gap && is_up_to high gap) ≡ true)
     → is_atom_true (difference left right low high) r s ≡ true
 difference_true r s left right low high x y is_x is_y bounds =
     let l = parted r s left x is_x in
     let m = parted r s right y is_y in
     by_parts l.0 l.1 m.0 m.1 l.2 m.2
   where
-    by_parts : (a b c d : ℤ) → IsParted r s left x a b → IsParted r s right y c d → is_atom_true (difference left right low high) r s ≡ true
+    by_parts : (a b c d : ℤ) → IsParted r s left x a b → IsParted r s right y c d
+        → is_atom_true (difference left right low high) r s ≡ true
     by_parts a b c d l m =
         let whole_l = l.whole in
         let whole_m = m.whole in
-        let of_r = value_of-both (columns_of R false left) (columns_of R true right) r a (neg_ℤ c) _ l.r_plain m.r_turned refl in
-        let of_s = value_of-both (columns_of S true left) (columns_of S false right) s (neg_ℤ b) d _ l.s_turned m.s_plain refl in
+        let of_r = value_of-both (columns_of R false left) (columns_of R true right) r a (neg_ℤ c)
+        _ l.r_plain m.r_turned refl in
+        let of_s = value_of-both (columns_of S true left) (columns_of S false right) s (neg_ℤ b)
+        d _ l.s_turned m.s_plain refl in
         between_is low high _ _ (a +ℤ neg_ℤ c) (neg_ℤ b +ℤ d) of_r of_s
         ∙ bounds ((a +ℤ neg_ℤ c) -ℤ (neg_ℤ b +ℤ d)) (omega (arith, ints, whole_l, whole_m))

@@ -19,13 +19,16 @@ use Rattle.theta_pred.proofs.NumericPlaces.{number_places-within}
 abbrev IsBelow : ℕ → Part → Type 0
 IsBelow width part = part.column < width
 
-number_columns-below : (width_r width_s : ℕ) (side : Side) (minus : Bool) (number : Number) → IsNumberWithin width_r width_s number
+number_columns-below : (width_r width_s : ℕ) (side : Side) (minus : Bool) (number : Number)
+    → IsNumberWithin width_r width_s number
     → AreBelow (of_side width_r width_s side) (number_columns side minus number)
 number_columns-below width_r width_s side minus number within =
-    All-map (IsBelow (of_side width_r width_s side)) (λ place. record { minus = minus; column = place }) (number_places side number)
+    All-map (IsBelow (of_side width_r width_s side)) (λ place. record { minus = minus; column = place })
+    (number_places side number)
     (number_places-within width_r width_s side number within)
 
-pub columns_of-below : (width_r width_s : ℕ) (side : Side) (turned : Bool) (terms : List SignedTerm) → AreWithin width_r width_s terms
+pub columns_of-below : (width_r width_s : ℕ) (side : Side) (turned : Bool) (terms : List SignedTerm)
+    → AreWithin width_r width_s terms
     → AreBelow (of_side width_r width_s side) (columns_of side turned terms)
 columns_of-below width_r width_s side turned [] within = All-nil (IsBelow (of_side width_r width_s side))
 columns_of-below width_r width_s side turned (term ∷ terms) within =
@@ -54,7 +57,8 @@ number_places-few side (numbers.Cell column) = place_if_on-few side column.side 
     place_if_on-few R S place = omega arith
     place_if_on-few S R place = omega arith
 
-columns_of-few : (side : Side) (turned : Bool) (terms : List SignedTerm) → length (columns_of side turned terms) ≤ length terms
+columns_of-few : (side : Side) (turned : Bool) (terms : List SignedTerm)
+    → length (columns_of side turned terms) ≤ length terms
 columns_of-few side turned [] = omega arith
 columns_of-few side turned (term ∷ terms) =
     let part : ℕ → Part = λ place. record { minus = flipped turned term.minus; column = place } in
@@ -66,7 +70,8 @@ columns_of-few side turned (term ∷ terms) =
     omega (arith, one, few, both, rest)
 
 -- two sums of 16 terms have 32 columns at most
-pub difference-few : (side : Side) (turned : Bool) (left right : List SignedTerm) (parts : List Part) → length left ≤ 16 → length right ≤ 16
+pub difference-few : (side : Side) (turned : Bool) (left right : List SignedTerm) (parts : List Part) → length left ≤ 16
+    → length right ≤ 16
     → parts ≡ columns_of side turned left ++ columns_of side (not turned) right → length parts ≤ 32
 difference-few side turned left right parts short_left short_right is =
     let all = ap length is in

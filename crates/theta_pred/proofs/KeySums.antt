@@ -1,5 +1,6 @@
 -- One more term of a sum of constants, and one more part of a sum of columns.
-use Rattle.std.proofs.Common.{◌≡◌, ℕ, suc, ◌+◌, ◌<◌, List, length, drop, get_or, ℤ, ◌+ℤ◌, Some, Option, sym, ◌∙◌, ap, subst, arith, add-one}
+use Rattle.std.proofs.Common.{◌≡◌, ℕ, suc, ◌+◌, ◌<◌, List, length, drop, get_or, ℤ, ◌+ℤ◌, Some, Option, sym, ◌∙◌, ap}
+use Rattle.std.proofs.Common.{subst, arith, add-one}
 use Rattle.std.proofs.Math.Seq.{drop-cons}
 use Rattle.std.proofs.lemmas.Int.{ints}
 use Rattle.std.proofs.lemmas.List.Elements.{All-tail}
@@ -21,7 +22,8 @@ constant_step items i d v x whole below is before =
     let sums : (v +ℤ x) +ℤ rest ≡ v +ℤ (x +ℤ rest) = omega (arith, ints) in
     rw add-one (sums ∙ ap (λ y. v +ℤ y) (sym here) ∙ before)
 
-pub value_step : (row : List Cell) (items : List Part) (i : ℕ) (d : Part) (v x : ℤ) (whole : Option ℤ) → i < length items
+pub value_step : (row : List Cell) (items : List Part) (i : ℕ) (d : Part) (v x : ℤ) (whole : Option ℤ)
+    → i < length items
     → Some x ≡ part_of (get_or items i d) row → plus (Some v) (value_of (drop i items) row) ≡ whole
     → plus (Some (v +ℤ x)) (value_of (drop (i + 1) items) row) ≡ whole
 value_step row items i d v x whole below is before =

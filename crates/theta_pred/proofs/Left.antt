@@ -1,5 +1,6 @@
 -- One more item of a list that is gone over: what is left of it.
-use Rattle.std.proofs.Common.{◌≡◌, ℕ, suc, ◌+◌, ◌<◌, List, [], ◌∷◌, ◌++◌, map, length, drop, get_or, refl, sym, ◌∙◌, ap, append_assoc, add-one}
+use Rattle.std.proofs.Common.{◌≡◌, ℕ, suc, ◌+◌, ◌<◌, List, [], ◌∷◌, ◌++◌, map, length, drop, get_or, refl, sym, ◌∙◌, ap}
+use Rattle.std.proofs.Common.{append_assoc, add-one}
 use Rattle.std.proofs.Math.Seq.{drop-cons}
 use Rattle.theta_text.specs.declared.tree.Signed.{Signed}
 use Rattle.theta_text.specs.declared.tree.Pred.{Pred}
@@ -13,8 +14,10 @@ pub drop-next : {X : Type 0} (items : List X) (i : ℕ) (x : X) → i < length i
     → drop i items ≡ x ∷ drop (i + 1) items
 drop-next items i x below is = rw add-one (drop-cons items i x below ∙ ap (λ y. y ∷ drop (suc i) items) (sym is))
 
-pub resolved_sum-next : (names_r names_s : List (List ℕ)) (before after : List SignedTerm) (signed : Signed) (number : Number)
-    (left rest : List Signed) (whole : List SignedTerm) → left ≡ signed ∷ rest → number ≡ resolved_term names_r names_s signed.term
+pub resolved_sum-next : (names_r names_s : List (List ℕ)) (before after : List SignedTerm) (signed : Signed)
+    (number : Number)
+    (left rest : List Signed) (whole : List SignedTerm) → left ≡ signed ∷ rest
+    → number ≡ resolved_term names_r names_s signed.term
     → after ≡ before ++ record { minus = signed.minus; number = number } ∷ []
     → before ++ resolved_sum names_r names_s left ≡ whole → after ++ resolved_sum names_r names_s rest ≡ whole
 resolved_sum-next names_r names_s before after signed number left rest whole left_is number_is after_is done =
@@ -28,7 +31,8 @@ map-push f [] x = refl
 map-push f (y ∷ ys) x = ap (λ zs. f y ∷ zs) (map-push f ys x)
 
 pub resolved-next : (names_r names_s : List (List ℕ)) (before after : List Tree) (pred : Pred) (tree : Tree)
-    (left rest : List Pred) (whole : List Formula) → left ≡ pred ∷ rest → formula_of tree ≡ resolved names_r names_s pred
+    (left rest : List Pred) (whole : List Formula) → left ≡ pred ∷ rest
+    → formula_of tree ≡ resolved names_r names_s pred
     → after ≡ before ++ tree ∷ [] → map formula_of before ++ map (resolved names_r names_s) left ≡ whole
     → map formula_of after ++ map (resolved names_r names_s) rest ≡ whole
 resolved-next names_r names_s before after pred tree left rest whole left_is tree_is after_is done =

@@ -24,8 +24,10 @@ Under width_r width_s side place = place < of_side width_r width_s side
 
 place_if_on-within : (width_r width_s : ℕ) (side on : Side) (place : ℕ) → place < of_side width_r width_s on
     → All (Under width_r width_s side) (place_if_on side on place)
-place_if_on-within width_r width_s R R place h = All-cons (Under width_r width_s R) place [] h (All-nil (Under width_r width_s R))
-place_if_on-within width_r width_s S S place h = All-cons (Under width_r width_s S) place [] h (All-nil (Under width_r width_s S))
+place_if_on-within width_r width_s R R place h = All-cons (Under width_r width_s R) place [] h
+    (All-nil (Under width_r width_s R))
+place_if_on-within width_r width_s S S place h = All-cons (Under width_r width_s S) place [] h
+    (All-nil (Under width_r width_s S))
 place_if_on-within width_r width_s R S place h = All-nil (Under width_r width_s R)
 place_if_on-within width_r width_s S R place h = All-nil (Under width_r width_s S)
 
@@ -39,7 +41,8 @@ term_places-within : (width_r width_s : ℕ) (side : Side) (terms : List SignedT
     → All (Under width_r width_s side) (term_places side terms)
 term_places-within width_r width_s side [] h = All-nil (Under width_r width_s side)
 term_places-within width_r width_s side (term ∷ terms) h =
-    All-append (Under width_r width_s side) (number_places side term.number) _ (number_places-within width_r width_s side term.number h.0)
+    All-append (Under width_r width_s side) (number_places side term.number) _
+    (number_places-within width_r width_s side term.number h.0)
     (term_places-within width_r width_s side terms h.1)
 
 mutual
@@ -49,7 +52,8 @@ mutual
   sum_places-within width_r width_s side (every fs) h = all_sum_places-within width_r width_s side fs h
   sum_places-within width_r width_s side (negation f) h = sum_places-within width_r width_s side f h
   sum_places-within width_r width_s side (num left op right) h =
-      All-append (Under width_r width_s side) (term_places side left) _ (term_places-within width_r width_s side left h.0.within)
+      All-append (Under width_r width_s side) (term_places side left) _
+      (term_places-within width_r width_s side left h.0.within)
       (term_places-within width_r width_s side right h.1.within)
   sum_places-within width_r width_s side (band sum op bound) h = term_places-within width_r width_s side sum h.within
   sum_places-within width_r width_s side (txt left op right) h = All-nil (Under width_r width_s side)
@@ -77,6 +81,7 @@ AreNumeric-sorted width_r width_s side f added sorted kept sound is permuted in_
     record {
       rising = rw kept_is (IsStrictlyIncreasing-dedup sorted in_order);
       standing = λ place. (from place, into place);
-      within = λ k d below. All-contains (Under width_r width_s side) (sum_places side f) _ (sum_places-within width_r width_s side f sound)
+      within = λ k d below. All-contains (Under width_r width_s side) (sum_places side f) _
+          (sum_places-within width_r width_s side f sound)
           (from _ (Contains-get_or kept k d below));
     }

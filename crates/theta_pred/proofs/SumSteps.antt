@@ -1,5 +1,6 @@
 -- One more term of a sum.
-use Rattle.std.proofs.Common.{◌≡◌, ℕ, suc, ◌+◌, ◌<◌, ◌*◌, List, length, drop, get_or, ℤ, ◌+ℤ◌, Option, Some, None, refl, sym, ◌∙◌, ap, subst, arith, add-one}
+use Rattle.std.proofs.Common.{◌≡◌, ℕ, suc, ◌+◌, ◌<◌, ◌*◌, List, length, drop, get_or, ℤ, ◌+ℤ◌, Option, Some, None, refl}
+use Rattle.std.proofs.Common.{sym, ◌∙◌, ap, subst, arith, add-one}
 use Rattle.std.proofs.Math.Seq.{drop-cons}
 use Rattle.std.proofs.lemmas.Int.{ints}
 use Rattle.join_rows.specs.declared.table.Cell.{Cell}
@@ -12,7 +13,8 @@ pub plus_assoc : (v x : ℤ) (rest : Option ℤ) → plus (Some (v +ℤ x)) rest
 plus_assoc v x None = refl
 plus_assoc v x (Some y) = let e : (v +ℤ x) +ℤ y ≡ v +ℤ (x +ℤ y) = omega (arith, ints) in ap Some e
 
-pub sum_step : (r s : List Cell) (items : List SignedTerm) (i : ℕ) (d : SignedTerm) (v x : ℤ) (whole : Option ℤ) → i < length items
+pub sum_step : (r s : List Cell) (items : List SignedTerm) (i : ℕ) (d : SignedTerm) (v x : ℤ) (whole : Option ℤ)
+    → i < length items
     → Some x ≡ signed_of r s (get_or items i d) → plus (Some v) (sum_of r s (drop i items)) ≡ whole
     → plus (Some (v +ℤ x)) (sum_of r s (drop (i + 1) items)) ≡ whole
 sum_step r s items i d v x whole below is before =
@@ -27,5 +29,6 @@ pub within_step : (width_r width_s : ℕ) (items : List SignedTerm) (i : ℕ) (d
 within_step width_r width_s items i d below within =
     rw add-one (subst (AreWithin width_r width_s) (drop-cons items i d below) within)
 
-pub IsAtMost-next : (limit i : ℕ) (v x : ℤ) → IsAtMost (limit * i) v → IsAtMost limit x → IsAtMost (limit * (i + 1)) (v +ℤ x)
+pub IsAtMost-next : (limit i : ℕ) (v x : ℤ) → IsAtMost (limit * i) v → IsAtMost limit x
+    → IsAtMost (limit * (i + 1)) (v +ℤ x)
 IsAtMost-next limit i v x v_small x_small = record { above = omega (arith, ints); below = omega (arith, ints) }

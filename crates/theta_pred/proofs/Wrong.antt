@@ -1,5 +1,6 @@
 -- The first wrong name of two lists, one behind the other.
-use Rattle.std.proofs.Common.{◌≡◌, ℕ, suc, ◌+◌, ◌<◌, List, [], ◌∷◌, ◌++◌, length, Bool, true, false, cond, refl, sym, ◌∙◌, ap, subst, append_assoc, zero-add, arith}
+use Rattle.std.proofs.Common.{◌≡◌, ℕ, suc, ◌+◌, ◌<◌, List, [], ◌∷◌, ◌++◌, length, Bool, true, false, cond, refl, sym}
+use Rattle.std.proofs.Common.{◌∙◌, ap, subst, append_assoc, zero-add, arith}
 use Rattle.std.specs.Prelude.{All}
 use Rattle.std.specs.Str.{bytes_eq}
 use Rattle.std.proofs.lemmas.List.Elements.{All-nil, All-append, All-cons, All-head, All-weaker}
@@ -64,14 +65,16 @@ only_place-within names_r names_s side word place is =
     let names = of_side names_r names_s side in
     rw of_side-length (All-head (Under (length names)) place []
     (subst (All (Under (length names))) is
-    (subst (λ limit. All (Under limit) (places_from 0 word names)) (zero-add (length names)) (places_from-within 0 word names))))
+    (subst (λ limit. All (Under limit) (places_from 0 word names)) (zero-add (length names))
+    (places_from-within 0 word names))))
 
 -- what is left of the names leads to all of them: those before stand once
 pub record Leads (names_r names_s : List (List ℕ)) (left whole : List Name) : Type 0 where
   pub once : All (StandsOnce names_r names_s) left → All (StandsOnce names_r names_s) whole
   pub told : (fault : ResolveFault) → Tells names_r names_s left fault → Tells names_r names_s whole fault
 
-pub Leads-next : (names_r names_s : List (List ℕ)) (xs rest whole : List Name) → Leads names_r names_s (xs ++ rest) whole
+pub Leads-next : (names_r names_s : List (List ℕ)) (xs rest whole : List Name)
+    → Leads names_r names_s (xs ++ rest) whole
     → All (StandsOnce names_r names_s) xs → Leads names_r names_s rest whole
 Leads-next names_r names_s xs rest whole leads once = record {
   once = λ h. leads.once (All-append (StandsOnce names_r names_s) xs rest once h);

@@ -1,5 +1,6 @@
 -- The access of a predicate: the equalities of its conjunctions by which rows of the two sides agree.
-use Rattle.std.specs.Prelude.{Bool, true, false, List, [], ◌∷◌, ◌++◌, map, ℤ, ◌-ℤ◌, neg_ℤ, Option, Some, None, option_map, option_to_list, IsTrue, if◌then◌else◌}
+use Rattle.std.specs.Prelude.{Bool, true, false, List, [], ◌∷◌, ◌++◌, map, ℤ, ◌-ℤ◌, neg_ℤ, Option, Some, None}
+use Rattle.std.specs.Prelude.{option_map, option_to_list, IsTrue, if◌then◌else◌}
 use Rattle.std.specs.List.{list_all}
 use Rattle.std.specs.Str.{bytes_eq}
 use Rattle.theta_text.specs.declared.tree.Op.TheVariants.{Eq}

@@ -35,7 +35,10 @@ resolved_term names_r names_s (terms.Col name) = numbers.Cell (column_of names_r
 
 -- and with its sign
 abbrev pub resolved_signed : List (List ℕ) → List (List ℕ) → Signed → SignedTerm
-resolved_signed names_r names_s signed = record { minus = signed.minus; number = resolved_term names_r names_s signed.term }
+resolved_signed names_r names_s signed = record {
+  minus = signed.minus;
+  number = resolved_term names_r names_s signed.term;
+}
 
 -- each term of a sum
 abbrev pub resolved_sum : List (List ℕ) → List (List ℕ) → List Signed → List SignedTerm

@@ -1,5 +1,6 @@
 -- When a predicate is true of a row of R and a row of S.
-use Rattle.std.specs.Prelude.{◌≡◌, ℕ, Bool, true, false, not, ◌&&◌, ◌||◌, List, length, ℤ, pos, Option, Some, option_map, unsigned_abs}
+use Rattle.std.specs.Prelude.{◌≡◌, ℕ, Bool, true, false, not, ◌&&◌, ◌||◌, List, length, ℤ, pos, Option, Some}
+use Rattle.std.specs.Prelude.{option_map, unsigned_abs}
 use Rattle.std.specs.Ordering.{is_eq, is_lt, is_gt, is_le, is_ge, int_cmp, nat_cmp}
 use Rattle.std.specs.declared.cmp.Ordering.{Ordering}
 use Rattle.std.specs.Cmp.Lexicographic.{slice_cmp}
@@ -7,7 +8,8 @@ use Rattle.join_rows.specs.declared.table.Cell.{Cell}
 use Rattle.join_rows.specs.declared.table.Side.{Side}
 use Rattle.theta_text.specs.declared.tree.Op.{Op}
 use Rattle.theta_text.specs.declared.tree.Op.TheVariants.{Eq, Ne, Lt, Le, Gt, Ge}
-use Rattle.theta_pred.specs.Formula.{Formula, any, every, negation, num, band, txt, Formulas, no_formula, formula, Meaning}
+use Rattle.theta_pred.specs.Formula.{Formula, any, every, negation, num, band, txt, Formulas, no_formula, formula}
+use Rattle.theta_pred.specs.Formula.{Meaning}
 use Rattle.theta_pred.specs.Sums.{of_side, sum_of, text_of}
 
 -- whether a comparison lets its two sides stand in this order

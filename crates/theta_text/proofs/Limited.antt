@@ -1,13 +1,18 @@
 -- The machine under wider limits, and what each of its faults says.
-use Rattle.std.proofs.Common.{◌≡◌, ℕ, zero, suc, ◌+◌, ◌≤◌, List, [], ◌∷◌, ◌++◌, map, Bool, true, false, cond, nat_le, Ok, Err, refl, sym, ap, subst, ◌∙◌, arith}
+use Rattle.std.proofs.Common.{◌≡◌, ℕ, zero, suc, ◌+◌, ◌≤◌, List, [], ◌∷◌, ◌++◌, map, Bool, true, false, cond, nat_le}
+use Rattle.std.proofs.Common.{Ok, Err, refl, sym, ap, subst, ◌∙◌, arith}
 use Rattle.theta_text.specs.declared.token.Token.{Token}
-use Rattle.theta_text.specs.declared.token.Token.TheVariants.{Word, Number, Literal, Quoted, Open, Close, Dot, Sign, Compare}
+use Rattle.theta_text.specs.declared.token.Token.TheVariants.{Word, Number, Literal, Quoted, Open, Close, Dot, Sign}
+use Rattle.theta_text.specs.declared.token.Token.TheVariants.{Compare}
 use Rattle.theta_text.specs.declared.token.Keyword.TheVariants.{And, Or, Not, Abs, Text, R, S}
 use Rattle.theta_text.specs.declared.token.Placed.{Placed}
 use Rattle.theta_text.specs.Grammar.{Limits, IsOpen}
 use Rattle.theta_text.specs.Tokens.{number_of}
-use Rattle.theta_text.specs.Machine.{Kind, syntax, deep, wide, literal, Symbol, unit, tail, close, open', dot, field, name, term, sum, more, op, bound, side, Step, small, at_field, at_name, at_term, at_sum, at_side, at_unit, step, is_done, start, fine, wrong, go_on, verdict}
-use Rattle.theta_text.specs.Faults.{words, place_of, IsStuck, IsSyntaxFault, Passes, IsNesting, IsSign, IsNumber, IsDeepFault, IsWideFault, IsLiteralFault}
+use Rattle.theta_text.specs.Machine.{Kind, syntax, deep, wide, literal, Symbol, unit, tail, close, open', dot, field}
+use Rattle.theta_text.specs.Machine.{name, term, sum, more, op, bound, side, Step, small, at_field, at_name, at_term}
+use Rattle.theta_text.specs.Machine.{at_sum, at_side, at_unit, step, is_done, start, fine, wrong, go_on, verdict}
+use Rattle.theta_text.specs.Faults.{words, place_of, IsStuck, IsSyntaxFault, Passes, IsNesting, IsSign, IsNumber}
+use Rattle.theta_text.specs.Faults.{IsDeepFault, IsWideFault, IsLiteralFault}
 use Rattle.theta_text.proofs.MachineLaws.{GivesAll, Goes, IfGoes, if_goes_map, Fits, pull}
 use Rattle.theta_text.proofs.Runs.{fits, spells_done, then_run, run, open_goes, goes_open}
 use Rattle.theta_text.proofs.Stops.{stuck_at, stuck_end, goes_ok, if_goes_at}
@@ -46,14 +51,19 @@ Lifts b c g t (Err literal) r = value_of t ≤ g → IsOk r
 abbrev pub LiftsAt : Limits → Bool → Bool → ℕ → List Symbol → Token → Type 0
 LiftsAt L b c g s t = Lifts b c g t (step L s t) (step (Wide L b c g) (ups b c s) t)
 
-lifts_small : (L : Limits) (b c : Bool) (g : ℕ) (v : List ℕ) (s : List Symbol) → L.greatest ≤ g → Lifts b c g (Number v) (small L (number_of v) s) (small (Wide L b c g) (number_of v) (ups b c s))
+lifts_small : (L : Limits) (b c : Bool) (g : ℕ) (v : List ℕ) (s : List Symbol) → L.greatest ≤ g
+    → Lifts b c g (Number v) (small L (number_of v) s) (small (Wide L b c g) (number_of v) (ups b c s))
 lifts_small L b c g v s le = go (nat_le (number_of v) L.greatest) refl
   where
-    go : (x : Bool) → nat_le (number_of v) L.greatest ≡ x → Lifts b c g (Number v) (cond x (Ok s) (Err literal)) (small (Wide L b c g) (number_of v) (ups b c s))
-    go true e = let h : nat_le (number_of v) g ≡ true = grind (arith, e) in ap (λ x. cond x (Ok (ups b c s)) (Err literal)) h
-    go false e = λ h. let h' : nat_le (number_of v) g ≡ true = grind (arith, h) in (ups b c s, ap (λ x. cond x (Ok (ups b c s)) (Err literal)) h')
+    go : (x : Bool) → nat_le (number_of v) L.greatest ≡ x → Lifts b c g (Number v) (cond x (Ok s) (Err literal))
+        (small (Wide L b c g) (number_of v) (ups b c s))
+    go true e = let h : nat_le (number_of v) g ≡ true = grind (arith, e) in
+        ap (λ x. cond x (Ok (ups b c s)) (Err literal)) h
+    go false e = λ h. let h' : nat_le (number_of v) g ≡ true = grind (arith, h) in
+        (ups b c s, ap (λ x. cond x (Ok (ups b c s)) (Err literal)) h')
 
-lifts_name : (L : Limits) (b c : Bool) (g : ℕ) (s : List Symbol) (t : Token) → Lifts b c g t (at_name s t) (at_name (ups b c s) t)
+lifts_name : (L : Limits) (b c : Bool) (g : ℕ) (s : List Symbol) (t : Token)
+    → Lifts b c g t (at_name s t) (at_name (ups b c s) t)
 lifts_name L b c g s (Word R w) = refl
 lifts_name L b c g s (Word S w) = refl
 lifts_name L b c g s _ = tt
@@ -68,19 +78,22 @@ lifts_field b c g s (Word k w) = refl
 lifts_field b c g s (Quoted w) = refl
 lifts_field b c g s _ = tt
 
-lifts_term : (L : Limits) (b c : Bool) (g : ℕ) → L.greatest ≤ g → (s : List Symbol) (t : Token) → Lifts b c g t (at_term L s t) (at_term (Wide L b c g) (ups b c s) t)
+lifts_term : (L : Limits) (b c : Bool) (g : ℕ) → L.greatest ≤ g → (s : List Symbol) (t : Token)
+    → Lifts b c g t (at_term L s t) (at_term (Wide L b c g) (ups b c s) t)
 lifts_term L b c g le s (Number v) = lifts_small L b c g v s le
 lifts_term L b c g le s (Word k w) = lifts_name L b c g s (Word k w)
 lifts_term L b c g le s _ = tt
 
-lifts_sum : (L : Limits) (b c : Bool) (g : ℕ) → L.greatest ≤ g → (s : List Symbol) (t : Token) → Lifts b c g t (at_sum L s t) (at_sum (Wide L b c g) (ups b c s) t)
+lifts_sum : (L : Limits) (b c : Bool) (g : ℕ) → L.greatest ≤ g → (s : List Symbol) (t : Token)
+    → Lifts b c g t (at_sum L s t) (at_sum (Wide L b c g) (ups b c s) t)
 lifts_sum L b c g le s (Sign m) = refl
 lifts_sum L b c g le s t = lifts_term L b c g le (more L.more ∷ s) t
 
 not_set : (r : Step) → false ≡ true → IsOk r
 not_set r e = let bad : ⊥ = cc in absurd bad
 
-lifts_unit : (L : Limits) (b c : Bool) (g : ℕ) → L.greatest ≤ g → (d : ℕ) (s : List Symbol) (t : Token) → Lifts b c g t (at_unit L d s t) (at_unit (Wide L b c g) (raised b d) (ups b c s) t)
+lifts_unit : (L : Limits) (b c : Bool) (g : ℕ) → L.greatest ≤ g → (d : ℕ) (s : List Symbol) (t : Token)
+    → Lifts b c g t (at_unit L d s t) (at_unit (Wide L b c g) (raised b d) (ups b c s) t)
 lifts_unit L true c g le zero s (Word Not w) = λ e. (_, refl)
 lifts_unit L true c g le zero s Open = λ e. (_, refl)
 lifts_unit L true c g le zero s (Word Abs w) = refl
@@ -138,39 +151,49 @@ lifts L b c g le (side ∷ s) t = lifts_side b c g s t
 pub lifted_run : (L : Limits) (b c : Bool) (g : ℕ) → L.greatest ≤ g → (front : List Token) (s : List Symbol)
     → IfGoes (run L s front) (λ s'. run (Wide L b c g) (ups b c s) front ≡ Ok (ups b c s'))
 lifted_run L b c g le [] s = refl
-lifted_run L b c g le (t ∷ ts) s = go (λ s'. lifted_run L b c g le ts s') (step L s t) (step (Wide L b c g) (ups b c s) t) (lifts L b c g le s t)
+lifted_run L b c g le (t ∷ ts) s = go (λ s'. lifted_run L b c g le ts s') (step L s t)
+    (step (Wide L b c g) (ups b c s) t) (lifts L b c g le s t)
   where
     go : ((s' : List Symbol) → IfGoes (run L s' ts) (λ s''. run (Wide L b c g) (ups b c s') ts ≡ Ok (ups b c s'')))
-        → (r f : Step) → Lifts b c g t r f → IfGoes (then_run r (λ s'. run L s' ts)) (λ s''. then_run f (λ s'. run (Wide L b c g) s' ts) ≡ Ok (ups b c s''))
-    go ih (Ok s1) f e = if_goes_map (run L s1 ts) _ _ (λ s' h. ap (λ x. then_run x (λ s'. run (Wide L b c g) s' ts)) e ∙ h) (ih s1)
+        → (r f : Step) → Lifts b c g t r f → IfGoes (then_run r (λ s'. run L s' ts))
+        (λ s''. then_run f (λ s'. run (Wide L b c g) s' ts) ≡ Ok (ups b c s''))
+    go ih (Ok s1) f e = if_goes_map (run L s1 ts) _ _ (λ s' h. ap (λ x. then_run x (λ s'. run (Wide L b c g) s' ts)) e
+        ∙ h) (ih s1)
     go ih (Err k) f e = tt
 
-pub run-append : (L : Limits) (front : List Token) (t : Token) (s s' : List Symbol) → run L s front ≡ Ok s' → run L s (front ++ t ∷ []) ≡ then_run (step L s' t) (λ s. Ok s)
+pub run-append : (L : Limits) (front : List Token) (t : Token) (s s' : List Symbol) → run L s front ≡ Ok s'
+    → run L s (front ++ t ∷ []) ≡ then_run (step L s' t) (λ s. Ok s)
 run-append L [] t s s' e =
     let same : s ≡ s' = cc in
     ap (λ x. then_run (step L x t) (λ s. Ok s)) same
 run-append L (t' ∷ ts) t s s' e = go (λ s1 e'. run-append L ts t s1 s' e') (step L s t') e
   where
     go : ((s1 : List Symbol) → run L s1 ts ≡ Ok s' → run L s1 (ts ++ t ∷ []) ≡ then_run (step L s' t) (λ s. Ok s))
-        → (r : Step) → then_run r (λ s1. run L s1 ts) ≡ Ok s' → then_run r (λ s1. run L s1 (ts ++ t ∷ [])) ≡ then_run (step L s' t) (λ s. Ok s)
+        → (r : Step) → then_run r (λ s1. run L s1 ts) ≡ Ok s'
+        → then_run r (λ s1. run L s1 (ts ++ t ∷ [])) ≡ then_run (step L s' t) (λ s. Ok s)
     go ih (Ok s1) e' = ih s1 e'
     go ih (Err k) e' = let no : ⊥ = cc in absurd no
 
 -- no rule within the limits: not open within them
-pub not_open_at : (L : Limits) (front : List Token) (s : List Symbol) (t : Token) (k : Kind) → run L (start L) front ≡ Ok s → step L s t ≡ Err k
+pub not_open_at : (L : Limits) (front : List Token) (s : List Symbol) (t : Token) (k : Kind)
+    → run L (start L) front ≡ Ok s → step L s t ≡ Err k
     → IsOpen L (front ++ t ∷ []) → ⊥
 not_open_at L front s t k ran stop o =
     let (s2, ran2, f2) = goes_ok _ _ (open_goes L (front ++ t ∷ []) o) in
-    let clash : Err k ≡ Ok s2 = sym (ap (λ x. then_run x (λ s. Ok s)) stop) ∙ sym (run-append L front t (start L) s ran) ∙ ran2 in
+    let clash : Err k ≡ Ok s2 = sym (ap (λ x. then_run x (λ s. Ok s)) stop) ∙ sym (run-append L front t (start L) s ran)
+    ∙ ran2 in
     let no : ⊥ = cc in
     absurd no
 
 -- open within the wider limits, if the step goes there
-pub open_wide : (L : Limits) (b c : Bool) (g : ℕ) → L.greatest ≤ g → (front : List Token) (s : List Symbol) (t : Token) → run L (start L) front ≡ Ok s
+pub open_wide : (L : Limits) (b c : Bool) (g : ℕ) → L.greatest ≤ g → (front : List Token) (s : List Symbol) (t : Token)
+    → run L (start L) front ≡ Ok s
     → IsOk (step (Wide L b c g) (ups b c s) t) → IsOpen (Wide L b c g) (front ++ t ∷ [])
 open_wide L b c g le front s t ran (s2, went) =
-    let lifted : run (Wide L b c g) (start (Wide L b c g)) front ≡ Ok (ups b c s) = if_goes_at (run L (start L) front) _ s ran (lifted_run L b c g le front (start L)) in
-    goes_open (Wide L b c g) (front ++ t ∷ []) s2 (run-append (Wide L b c g) front t (start (Wide L b c g)) (ups b c s) lifted ∙ ap (λ x. then_run x (λ s. Ok s)) went)
+    let lifted : run (Wide L b c g) (start (Wide L b c g)) front ≡ Ok (ups b c s) =
+    if_goes_at (run L (start L) front) _ s ran (lifted_run L b c g le front (start L)) in
+    goes_open (Wide L b c g) (front ++ t ∷ []) s2 (run-append (Wide L b c g) front t (start (Wide L b c g)) (ups b c s)
+    lifted ∙ ap (λ x. then_run x (λ s. Ok s)) went)
 
 -- which token makes which fault
 abbrev pub Blames : Token → Step → Type 0
@@ -256,7 +279,8 @@ Halts L s k [] = (k ≡ syntax) × (is_done s ≡ false)
 Halts L s k (p ∷ ps) = step L s p.token ≡ Err k
 
 -- the machine stops in the tokens: after front, with s still to come
-pub record Stops (L : Limits) (end : ℕ) (from : List Symbol) (tokens : List Placed) (k : Kind) (place : ℕ) : Type 0 where
+pub record Stops (L : Limits) (end : ℕ) (from : List Symbol) (tokens : List Placed) (k : Kind)
+    (place : ℕ) : Type 0 where
   pub front : List Placed
   pub rest : List Placed
   pub s : List Symbol
@@ -265,7 +289,8 @@ pub record Stops (L : Limits) (end : ℕ) (from : List Symbol) (tokens : List Pl
   pub ran : run L from (words front) ≡ Ok s
   pub halted : Halts L s k rest
 
-pub stops : (L : Limits) (end : ℕ) (tokens : List Placed) (s : List Symbol) (k : Kind) (place : ℕ) → verdict L end s tokens ≡ wrong k place → Stops L end s tokens k place
+pub stops : (L : Limits) (end : ℕ) (tokens : List Placed) (s : List Symbol) (k : Kind) (place : ℕ)
+    → verdict L end s tokens ≡ wrong k place → Stops L end s tokens k place
 stops L end [] s k place e = go (is_done s) refl e
   where
     go : (b : Bool) → is_done s ≡ b → cond b fine (wrong syntax end) ≡ wrong k place → Stops L end s [] k place
@@ -277,7 +302,8 @@ stops L end [] s k place e = go (is_done s) refl e
 stops L end (p ∷ ps) s k place e = go (λ s' e'. stops L end ps s' k place e') (step L s p.token) refl e
   where
     go : ((s' : List Symbol) → verdict L end s' ps ≡ wrong k place → Stops L end s' ps k place)
-        → (r : Step) → step L s p.token ≡ r → go_on p.place (λ s'. verdict L end s' ps) r ≡ wrong k place → Stops L end s (p ∷ ps) k place
+        → (r : Step) → step L s p.token ≡ r → go_on p.place (λ s'. verdict L end s' ps) r ≡ wrong k place
+        → Stops L end s (p ∷ ps) k place
     go ih (Ok s1) h e' =
         let st = ih s1 e' in
         record {
@@ -292,10 +318,19 @@ stops L end (p ∷ ps) s k place e = go (λ s' e'. stops L end ps s' k place e')
     go ih (Err k') h e' =
         let ek : k' ≡ k = cc in
         let ep : place ≡ p.place = cc in
-        record { front = []; rest = p ∷ ps; s = s; whole = refl; there = ep; ran = refl; halted = h ∙ ap (λ x. Err x) ek }
+        record {
+          front = [];
+          rest = p ∷ ps;
+          s = s;
+          whole = refl;
+          there = ep;
+          ran = refl;
+          halted = h ∙ ap (λ x. Err x) ek;
+        }
 
 -- the four faults
-pub syntax_fault : (L : Limits) (end : ℕ) (tokens : List Placed) (place : ℕ) → verdict L end (start L) tokens ≡ wrong syntax place → IsSyntaxFault L end tokens place
+pub syntax_fault : (L : Limits) (end : ℕ) (tokens : List Placed) (place : ℕ)
+    → verdict L end (start L) tokens ≡ wrong syntax place → IsSyntaxFault L end tokens place
 syntax_fault L end tokens place e =
     let st = stops L end tokens (start L) syntax place e in
     record {
@@ -307,25 +342,31 @@ syntax_fault L end tokens place e =
       stuck = go st.front st.s st.ran st.rest st.halted;
     }
   where
-    go : (front : List Placed) (s : List Symbol) → run L (start L) (words front) ≡ Ok s → (rest : List Placed) → Halts L s syntax rest → IsStuck (words front) (words rest)
+    go : (front : List Placed) (s : List Symbol) → run L (start L) (words front) ≡ Ok s → (rest : List Placed)
+        → Halts L s syntax rest → IsStuck (words front) (words rest)
     go front s ran [] h = stuck_end L (words front) s ran h.1
     go front s ran (p ∷ ps) h = stuck_at L (words front) s p.token ran h
 
-pub passes : (L : Limits) (b c : Bool) (g : Token → ℕ) (end : ℕ) (tokens : List Placed) (place : ℕ) (k : Kind) (IsOf : Token → Type 0)
+pub passes : (L : Limits) (b c : Bool) (g : Token → ℕ) (end : ℕ) (tokens : List Placed) (place : ℕ) (k : Kind)
+    (IsOf : Token → Type 0)
     → ((t : Token) → L.greatest ≤ g t) → (k ≡ syntax → ⊥)
     → verdict L end (start L) tokens ≡ wrong k place
     → ((t : Token) → Blames t (Err k) → IsOf t)
     → ((t : Token) (r : Step) → Lifts b c (g t) t (Err k) r → IsOk r)
     → (t : Token) × Passes L (Wide L b c (g t)) tokens place IsOf
-passes L b c g end tokens place k IsOf le other e kind lifting = let st = stops L end tokens (start L) k place e in go st st.rest refl
+passes L b c g end tokens place k IsOf le other e kind lifting = let st = stops L end tokens (start L) k place e in
+    go st st.rest refl
   where
-    go : (st : Stops L end (start L) tokens k place) (rest : List Placed) → st.rest ≡ rest → (t : Token) × Passes L (Wide L b c (g t)) tokens place IsOf
+    go : (st : Stops L end (start L) tokens k place) (rest : List Placed) → st.rest ≡ rest → (t : Token)
+        × Passes L (Wide L b c (g t)) tokens place IsOf
     go st [] same = absurd (other (subst (λ x. Halts L st.s k x) same st.halted).0)
     go st (p ∷ ps) same =
         let t = p.token in
         let h : step L st.s t ≡ Err k = subst (λ x. Halts L st.s k x) same st.halted in
         let blame : Blames t (Err k) = subst (λ x. Blames t x) h (blames L st.s t) in
-        let lift : Lifts b c (g t) t (Err k) (step (Wide L b c (g t)) (ups b c st.s) t) = subst (λ x. Lifts b c (g t) t x (step (Wide L b c (g t)) (ups b c st.s) t)) h (lifts L b c (g t) (le t) st.s t) in (
+        let lift : Lifts b c (g t) t (Err k) (step (Wide L b c (g t)) (ups b c st.s) t) =
+        subst (λ x. Lifts b c (g t) t x (step (Wide L b c (g t)) (ups b c st.s) t)) h
+        (lifts L b c (g t) (le t) st.s t) in (
           t,
           record {
             front = st.front;
@@ -340,24 +381,33 @@ passes L b c g end tokens place k IsOf le other e kind lifting = let st = stops 
           },
         )
 
-pub deep_fault : (L : Limits) (end : ℕ) (tokens : List Placed) (place : ℕ) → verdict L end (start L) tokens ≡ wrong deep place → IsDeepFault L tokens place
+pub deep_fault : (L : Limits) (end : ℕ) (tokens : List Placed) (place : ℕ)
+    → verdict L end (start L) tokens ≡ wrong deep place → IsDeepFault L tokens place
 deep_fault L end tokens place e =
-    (passes L true false (λ t. L.greatest) end tokens place deep IsNesting (λ t. omega arith) (λ h. cc) e (λ t b. b) (λ t r f. f refl)).1
+    (passes L true false (λ t. L.greatest) end tokens place deep IsNesting (λ t. omega arith) (λ h. cc) e (λ t b. b)
+    (λ t r f. f refl)).1
 
-pub wide_fault : (L : Limits) (end : ℕ) (tokens : List Placed) (place : ℕ) → verdict L end (start L) tokens ≡ wrong wide place → IsWideFault L tokens place
+pub wide_fault : (L : Limits) (end : ℕ) (tokens : List Placed) (place : ℕ)
+    → verdict L end (start L) tokens ≡ wrong wide place → IsWideFault L tokens place
 wide_fault L end tokens place e =
-    (passes L false true (λ t. L.greatest) end tokens place wide IsSign (λ t. omega arith) (λ h. cc) e (λ t b. b) (λ t r f. f refl)).1
+    (passes L false true (λ t. L.greatest) end tokens place wide IsSign (λ t. omega arith) (λ h. cc) e (λ t b. b)
+    (λ t r f. f refl)).1
 
-pub literal_fault : (L : Limits) (end : ℕ) (tokens : List Placed) (place : ℕ) → verdict L end (start L) tokens ≡ wrong literal place → IsLiteralFault L tokens place
+pub literal_fault : (L : Limits) (end : ℕ) (tokens : List Placed) (place : ℕ)
+    → verdict L end (start L) tokens ≡ wrong literal place → IsLiteralFault L tokens place
 literal_fault L end tokens place e =
-    let (t, p) = passes L false false (λ t. L.greatest + value_of t) end tokens place literal IsNumber (λ t. omega arith) (λ h. cc) e (λ t b. b) (λ t r f. f (omega arith)) in
+    let (t, p) = passes L false false (λ t. L.greatest + value_of t) end tokens place literal IsNumber
+    (λ t. omega arith) (λ h. cc) e (λ t b. b) (λ t r f. f (omega arith)) in
     (L.greatest + value_of t, p)
 
-pub reads_fine : (L : Limits) (end : ℕ) (tokens : List Placed) (s : List Symbol) → Fits s → GivesAll L s (words tokens) → verdict L end s tokens ≡ fine
+pub reads_fine : (L : Limits) (end : ℕ) (tokens : List Placed) (s : List Symbol) → Fits s → GivesAll L s (words tokens)
+    → verdict L end s tokens ≡ fine
 reads_fine L end [] s f r = ap (λ b. cond b fine (wrong syntax end)) (spells_done L s r)
-reads_fine L end (p ∷ ps) s f r = go (λ s' f' r'. reads_fine L end ps s' f' r') (step L s p.token) (pull L s p.token (words ps) f r) (fits L s p.token f)
+reads_fine L end (p ∷ ps) s f r = go (λ s' f' r'. reads_fine L end ps s' f' r') (step L s p.token)
+    (pull L s p.token (words ps) f r) (fits L s p.token f)
   where
     go : ((s' : List Symbol) → Fits s' → GivesAll L s' (words ps) → verdict L end s' ps ≡ fine)
-        → (r : Step) → Goes r (λ s'. GivesAll L s' (words ps)) → IfGoes r Fits → go_on p.place (λ s'. verdict L end s' ps) r ≡ fine
+        → (r : Step) → Goes r (λ s'. GivesAll L s' (words ps)) → IfGoes r Fits
+        → go_on p.place (λ s'. verdict L end s' ps) r ≡ fine
     go ih (Ok s1) p f' = ih s1 f' p
     go ih (Err k) p f' = absurd p

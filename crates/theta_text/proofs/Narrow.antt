@@ -14,8 +14,10 @@ longest-append (m ∷ ms) n limit h h' =
     let tail : longest ms ≤ limit = grind arith in
     max-le m (longest (ms ++ n ∷ [])) limit head (longest-append ms n limit tail h')
 
-pub longest-push : (all members : List Pred) (member : Pred) → all ≡ members ++ member ∷ [] → longest (map longest_sum members) ≤ 16 → longest_sum member ≤ 16
+pub longest-push : (all members : List Pred) (member : Pred) → all ≡ members ++ member ∷ []
+    → longest (map longest_sum members) ≤ 16 → longest_sum member ≤ 16
     → longest (map longest_sum all) ≤ 16
 longest-push all members member e h h' =
-    let seen : map longest_sum all ≡ map longest_sum members ++ longest_sum member ∷ [] = ap (map longest_sum) e ∙ map-append longest_sum members (member ∷ []) in
+    let seen : map longest_sum all ≡ map longest_sum members ++ longest_sum member ∷ [] =
+    ap (map longest_sum) e ∙ map-append longest_sum members (member ∷ []) in
     subst (λ ns. longest ns ≤ 16) (sym seen) (longest-append (map longest_sum members) (longest_sum member) 16 h h')

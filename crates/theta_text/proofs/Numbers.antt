@@ -1,5 +1,6 @@
 -- The number of some digits.
-use Rattle.std.proofs.Common.{◌≡◌, ℕ, suc, ◌+◌, ◌-◌, ◌*◌, ◌<◌, ◌≤◌, List, [], ◌∷◌, length, drop, get_or, ap, ◌∙◌, arith, ℤ, pos, w64, to_z, of_z}
+use Rattle.std.proofs.Common.{◌≡◌, ℕ, suc, ◌+◌, ◌-◌, ◌*◌, ◌<◌, ◌≤◌, List, [], ◌∷◌, length, drop, get_or, ap, ◌∙◌, arith}
+use Rattle.std.proofs.Common.{ℤ, pos, w64, to_z, of_z}
 use Rattle.std.proofs.lemmas.Int.{to_z_pos}
 use Rattle.std.proofs.Math.Seq.{drop-cons}
 use Rattle.theta_text.specs.Tokens.{number_from}

@@ -1,5 +1,6 @@
 -- The length of what is quoted.
-use Rattle.std.proofs.Common.{◌≡◌, ℕ, zero, suc, ◌<◌, ◌≤◌, List, [], ◌∷◌, ◌++◌, length, take, Bool, true, false, cond, ◌==◌, Option, Some, None, option_map, MatchOption, refl, sym, ap, subst, ◌∙◌, arith}
+use Rattle.std.proofs.Common.{◌≡◌, ℕ, zero, suc, ◌<◌, ◌≤◌, List, [], ◌∷◌, ◌++◌, length, take, Bool, true, false, cond}
+use Rattle.std.proofs.Common.{◌==◌, Option, Some, None, option_map, MatchOption, refl, sym, ap, subst, ◌∙◌, arith}
 use Rattle.std.proofs.lemmas.Bool.{eqb-true, eq-eqb}
 use Rattle.theta_text.specs.Tokens.{doubled}
 use Rattle.theta_text.specs.Front.{later, quoted_len}
@@ -18,16 +19,20 @@ Closes q bs = MatchOption (quoted_len q bs) (Unit {0}) (Ends q bs)
 
 pub other : (q b : ℕ) (bs : List ℕ) → (b == q) ≡ false → quoted_len q (b ∷ bs) ≡ option_map suc (quoted_len q bs)
 other q b [] e = ap (λ t. cond t (Some 1) None) e
-other q b (c ∷ bs) e = ap (λ t. cond t (cond (c == q) (Some (later (quoted_len q bs))) (Some 1)) (option_map suc (quoted_len q (c ∷ bs)))) e
+other q b (c ∷ bs) e = ap (λ t. cond t (cond (c == q) (Some (later (quoted_len q bs))) (Some 1))
+    (option_map suc (quoted_len q (c ∷ bs)))) e
 
-pub twice : (q b c : ℕ) (bs : List ℕ) → (b == q) ≡ true → (c == q) ≡ true → quoted_len q (b ∷ c ∷ bs) ≡ Some (later (quoted_len q bs))
+pub twice : (q b c : ℕ) (bs : List ℕ) → (b == q) ≡ true → (c == q) ≡ true
+    → quoted_len q (b ∷ c ∷ bs) ≡ Some (later (quoted_len q bs))
 twice q b c bs e e' =
-    ap (λ t. cond t (cond (c == q) (Some (later (quoted_len q bs))) (Some 1)) (option_map suc (quoted_len q (c ∷ bs)))) e
+    ap (λ t. cond t (cond (c == q) (Some (later (quoted_len q bs))) (Some 1)) (option_map suc (quoted_len q (c ∷ bs))))
+    e
     ∙ ap (λ t. cond t (Some (later (quoted_len q bs))) (Some 1)) e'
 
 pub once : (q b c : ℕ) (bs : List ℕ) → (b == q) ≡ true → (c == q) ≡ false → quoted_len q (b ∷ c ∷ bs) ≡ Some 1
 once q b c bs e e' =
-    ap (λ t. cond t (cond (c == q) (Some (later (quoted_len q bs))) (Some 1)) (option_map suc (quoted_len q (c ∷ bs)))) e
+    ap (λ t. cond t (cond (c == q) (Some (later (quoted_len q bs))) (Some 1)) (option_map suc (quoted_len q (c ∷ bs))))
+    e
     ∙ ap (λ t. cond t (Some (later (quoted_len q bs))) (Some 1)) e'
 
 pub last_one : (q b : ℕ) → (b == q) ≡ true → quoted_len q (b ∷ []) ≡ Some 1
@@ -43,10 +48,12 @@ pub doubled-other : (q c : ℕ) (cs : List ℕ) → (c == q) ≡ false → doubl
 doubled-other q c cs e = ap (λ t. cond t (q ∷ q ∷ doubled q cs) (c ∷ doubled q cs)) e
 
 -- a front that is not empty
-pub front_cons : (m : ℕ) (bs : List ℕ) (x : ℕ) (xs : List ℕ) → take m bs ≡ x ∷ xs → (m' : ℕ) × (bs' : List ℕ) × (m ≡ suc m') × (bs ≡ x ∷ bs') × (take m' bs' ≡ xs)
+pub front_cons : (m : ℕ) (bs : List ℕ) (x : ℕ) (xs : List ℕ) → take m bs ≡ x ∷ xs → (m' : ℕ) × (bs' : List ℕ)
+    × (m ≡ suc m') × (bs ≡ x ∷ bs') × (take m' bs' ≡ xs)
 front_cons zero bs x xs e = let none : [] ≡ x ∷ xs = e in let bad : ⊥ = cc in absurd bad
 front_cons (suc m) [] x xs e = let none : [] ≡ x ∷ xs = e in let bad : ⊥ = cc in absurd bad
-front_cons (suc m) (b ∷ bs) x xs e = let e' : b ∷ take m bs ≡ x ∷ xs = e in let eb : b ≡ x = cc in let et : take m bs ≡ xs = cc in (m, bs, refl, ap (λ z. z ∷ bs) eb, et)
+front_cons (suc m) (b ∷ bs) x xs e = let e' : b ∷ take m bs ≡ x ∷ xs = e in let eb : b ≡ x = cc in
+    let et : take m bs ≡ xs = cc in (m, bs, refl, ap (λ z. z ∷ bs) eb, et)
 
 some_least : (m : ℕ) (o : Option ℕ) → Reaches m o → (n : ℕ) × (o ≡ Some n) × (m ≤ n)
 some_least m None r = absurd r
@@ -64,13 +71,15 @@ starts_one q (c ∷ bs) = go (c == q) refl
     go true e = subst (λ o. Reaches 1 o) (sym (twice q q c bs (same_self q) e)) (at_least (quoted_len q bs))
     go false e = subst (λ o. Reaches 1 o) (sym (once q q c bs (same_self q) e)) (omega arith)
 
-pub reach : (q : ℕ) (content : List ℕ) (m : ℕ) (bs : List ℕ) → take m bs ≡ doubled q content ++ q ∷ [] → m ≤ length bs → Reaches m (quoted_len q bs)
+pub reach : (q : ℕ) (content : List ℕ) (m : ℕ) (bs : List ℕ) → take m bs ≡ doubled q content ++ q ∷ [] → m ≤ length bs
+    → Reaches m (quoted_len q bs)
 reach q [] m bs e le =
     let (m', bs', em, eb, et) = front_cons m bs q [] e in
     let le' : suc m' ≤ length (q ∷ bs') = subst (λ z. suc m' ≤ length z) eb (subst (λ z. z ≤ length bs) em le) in
     let none : m' ≡ 0 = front_nil m' bs' et (omega (arith, le')) in
     let one : m ≡ 1 = omega arith in
-    subst (λ z. Reaches z (quoted_len q bs)) (sym one) (subst (λ z. Reaches 1 (quoted_len q z)) (sym eb) (starts_one q bs'))
+    subst (λ z. Reaches z (quoted_len q bs)) (sym one) (subst (λ z. Reaches 1 (quoted_len q z)) (sym eb)
+    (starts_one q bs'))
   where
     front_nil : (m : ℕ) (bs : List ℕ) → take m bs ≡ [] → m ≤ length bs → m ≡ 0
     front_nil zero bs e le = refl
@@ -78,27 +87,32 @@ reach q [] m bs e le =
     front_nil (suc m) (b ∷ bs) e le = let bad : ⊥ = cc in absurd bad
 reach q (c ∷ cs) m bs e le = go (λ m' bs' e' le'. reach q cs m' bs' e' le') (c == q) refl
   where
-    go : ((m' : ℕ) (bs' : List ℕ) → take m' bs' ≡ doubled q cs ++ q ∷ [] → m' ≤ length bs' → Reaches m' (quoted_len q bs'))
+    go : ((m' : ℕ) (bs' : List ℕ) → take m' bs' ≡ doubled q cs ++ q ∷ [] → m' ≤ length bs'
+        → Reaches m' (quoted_len q bs'))
         → (t : Bool) → (c == q) ≡ t → Reaches m (quoted_len q bs)
     go ih true ec =
         let e1 : take m bs ≡ q ∷ (q ∷ (doubled q cs ++ q ∷ [])) = e ∙ ap (λ z. z ++ q ∷ []) (doubled-same q c cs ec) in
         let (m1, bs1, em1, eb1, et1) = front_cons m bs q (q ∷ (doubled q cs ++ q ∷ [])) e1 in
         let (m2, bs2, em2, eb2, et2) = front_cons m1 bs1 q (doubled q cs ++ q ∷ []) et1 in
         let whole : bs ≡ q ∷ q ∷ bs2 = eb1 ∙ ap (λ z. q ∷ z) eb2 in
-        let le2 : suc (suc m2) ≤ length (q ∷ q ∷ bs2) = subst (λ z. suc (suc m2) ≤ length z) whole (subst (λ z. z ≤ length bs) (em1 ∙ ap suc em2) le) in
+        let le2 : suc (suc m2) ≤ length (q ∷ q ∷ bs2) = subst (λ z. suc (suc m2) ≤ length z) whole
+        (subst (λ z. z ≤ length bs) (em1 ∙ ap suc em2) le) in
         let (n, en, ln) = some_least m2 (quoted_len q bs2) (ih m2 bs2 et2 (omega (arith, le2))) in
-        let all : quoted_len q bs ≡ Some (suc (suc n)) = ap (quoted_len q) whole ∙ twice q q q bs2 (same_self q) (same_self q) ∙ ap (λ o. Some (later o)) en in
+        let all : quoted_len q bs ≡ Some (suc (suc n)) = ap (quoted_len q) whole
+        ∙ twice q q q bs2 (same_self q) (same_self q) ∙ ap (λ o. Some (later o)) en in
         subst (λ o. Reaches m o) (sym all) (omega (arith, em1, em2, ln))
     go ih false ec =
         let e1 : take m bs ≡ c ∷ (doubled q cs ++ q ∷ []) = e ∙ ap (λ z. z ++ q ∷ []) (doubled-other q c cs ec) in
         let (m1, bs1, em1, eb1, et1) = front_cons m bs c (doubled q cs ++ q ∷ []) e1 in
         let le1 : suc m1 ≤ length (c ∷ bs1) = subst (λ z. suc m1 ≤ length z) eb1 (subst (λ z. z ≤ length bs) em1 le) in
         let (n, en, ln) = some_least m1 (quoted_len q bs1) (ih m1 bs1 et1 (omega (arith, le1))) in
-        let all : quoted_len q bs ≡ Some (suc n) = ap (quoted_len q) eb1 ∙ other q c bs1 ec ∙ ap (λ o. option_map suc o) en in
+        let all : quoted_len q bs ≡ Some (suc n) = ap (quoted_len q) eb1 ∙ other q c bs1 ec
+        ∙ ap (λ o. option_map suc o) en in
         subst (λ o. Reaches m o) (sym all) (omega (arith, em1, ln))
 
 -- what is found is what is quoted
-ends_at : (q : ℕ) (bs : List ℕ) (o : Option ℕ) → quoted_len q bs ≡ o → MatchOption o (Unit {0}) (Ends q bs) → Closes q bs
+ends_at : (q : ℕ) (bs : List ℕ) (o : Option ℕ) → quoted_len q bs ≡ o → MatchOption o (Unit {0}) (Ends q bs)
+    → Closes q bs
 ends_at q bs o e h = subst (λ o. MatchOption o (Unit {0}) (Ends q bs)) (sym e) h
 
 one_end : (q b : ℕ) (bs : List ℕ) → (b == q) ≡ true → Ends q (b ∷ bs) 1
@@ -113,17 +127,31 @@ closes q (b ∷ []) = go (b == q) refl
     go false e = ends_at q (b ∷ []) None (other q b [] e) tt
 closes q (b ∷ c ∷ bs) = go (closes q bs) (closes q (c ∷ bs)) (b == q) refl (c == q) refl
   where
-    after : (o : Option ℕ) → quoted_len q bs ≡ o → MatchOption o (Unit {0}) (Ends q bs) → (b == q) ≡ true → (c == q) ≡ true → Ends q (b ∷ c ∷ bs) (later o)
+    after : (o : Option ℕ) → quoted_len q bs ≡ o → MatchOption o (Unit {0}) (Ends q bs) → (b == q) ≡ true
+        → (c == q) ≡ true → Ends q (b ∷ c ∷ bs) (later o)
     after None eo h e e' = one_end q b (c ∷ bs) e
-    after (Some n) eo (content, et, le, pos) e e' =
-        (q ∷ content, ap (λ z. b ∷ c ∷ z) et ∙ ap (λ z. z ∷ c ∷ (doubled q content ++ q ∷ [])) (eqb-true b q e) ∙ ap (λ z. q ∷ z ∷ (doubled q content ++ q ∷ [])) (eqb-true c q e') ∙ ap (λ z. z ++ q ∷ []) (sym (doubled-same q q content (same_self q))), omega arith, omega arith)
+    after (Some n) eo (content, et, le, pos) e e' = (
+      q ∷ content,
+      ap (λ z. b ∷ c ∷ z) et ∙ ap (λ z. z ∷ c ∷ (doubled q content ++ q ∷ [])) (eqb-true b q e)
+          ∙ ap (λ z. q ∷ z ∷ (doubled q content ++ q ∷ [])) (eqb-true c q e')
+          ∙ ap (λ z. z ++ q ∷ []) (sym (doubled-same q q content (same_self q))),
+      omega arith,
+      omega arith,
+    )
 
-    shifted : (o : Option ℕ) → MatchOption o (Unit {0}) (Ends q (c ∷ bs)) → (b == q) ≡ false → MatchOption (option_map suc o) (Unit {0}) (Ends q (b ∷ c ∷ bs))
+    shifted : (o : Option ℕ) → MatchOption o (Unit {0}) (Ends q (c ∷ bs)) → (b == q) ≡ false
+        → MatchOption (option_map suc o) (Unit {0}) (Ends q (b ∷ c ∷ bs))
     shifted None h e = tt
-    shifted (Some n) (content, et, le, pos) e =
-        (b ∷ content, ap (λ z. b ∷ z) et ∙ ap (λ z. z ++ q ∷ []) (sym (doubled-other q b content e)), omega arith, omega arith)
+    shifted (Some n) (content, et, le, pos) e = (
+      b ∷ content,
+      ap (λ z. b ∷ z) et ∙ ap (λ z. z ++ q ∷ []) (sym (doubled-other q b content e)),
+      omega arith,
+      omega arith,
+    )
 
     go : Closes q bs → Closes q (c ∷ bs) → (t : Bool) → (b == q) ≡ t → (u : Bool) → (c == q) ≡ u → Closes q (b ∷ c ∷ bs)
-    go h h' true e true e' = ends_at q (b ∷ c ∷ bs) (Some (later (quoted_len q bs))) (twice q b c bs e e') (after (quoted_len q bs) refl h e e')
+    go h h' true e true e' = ends_at q (b ∷ c ∷ bs) (Some (later (quoted_len q bs))) (twice q b c bs e e')
+        (after (quoted_len q bs) refl h e e')
     go h h' true e false e' = ends_at q (b ∷ c ∷ bs) (Some 1) (once q b c bs e e') (one_end q b (c ∷ bs) e)
-    go h h' false e u e' = ends_at q (b ∷ c ∷ bs) (option_map suc (quoted_len q (c ∷ bs))) (other q b (c ∷ bs) e) (shifted (quoted_len q (c ∷ bs)) h' e)
+    go h h' false e u e' = ends_at q (b ∷ c ∷ bs) (option_map suc (quoted_len q (c ∷ bs))) (other q b (c ∷ bs) e)
+        (shifted (quoted_len q (c ∷ bs)) h' e)

@@ -1,16 +1,21 @@
 -- Whole runs of the machine.
-use Rattle.std.proofs.Common.{◌≡◌, ℕ, zero, suc, List, [], ◌∷◌, ◌++◌, Bool, true, false, cond, nat_le, Ok, Err, refl, sym, subst, ◌∙◌, arith, pos}
+use Rattle.std.proofs.Common.{◌≡◌, ℕ, zero, suc, List, [], ◌∷◌, ◌++◌, Bool, true, false, cond, nat_le, Ok, Err, refl}
+use Rattle.std.proofs.Common.{sym, subst, ◌∙◌, arith, pos}
 use Rattle.theta_text.specs.declared.token.Token.{Token}
-use Rattle.theta_text.specs.declared.token.Token.TheVariants.{Word, Number, Literal, Quoted, Open, Close, Dot, Sign, Compare}
+use Rattle.theta_text.specs.declared.token.Token.TheVariants.{Word, Number, Literal, Quoted, Open, Close, Dot, Sign}
+use Rattle.theta_text.specs.declared.token.Token.TheVariants.{Compare}
 use Rattle.theta_text.specs.declared.token.Keyword.TheVariants.{And, Or, Not, Abs, Text, R, S}
 use Rattle.theta_text.specs.declared.tree.Op.TheVariants.{Eq}
 use Rattle.theta_text.specs.declared.tree.Signed.{Signed}
 use Rattle.theta_text.specs.declared.tree.Term.TheVariants.{Const}
 use Rattle.theta_text.specs.declared.tree.TextSide.TheVariants.{Lit}
 use Rattle.join_rows.specs.declared.table.Side.TheVariants as sides
-use Rattle.theta_text.specs.Grammar.{Tree, any, every, num, Limits, Further, joined, IsOr, Conj, SumText, NumTest, Unit', Reads, AreSpelled, IsOpen}
+use Rattle.theta_text.specs.Grammar.{Tree, any, every, num, Limits, Further, joined, IsOr, Conj, SumText, NumTest}
+use Rattle.theta_text.specs.Grammar.{Unit', Reads, AreSpelled, IsOpen}
 use Rattle.theta_text.specs.Tokens.{number_of, Spells}
-use Rattle.theta_text.specs.Machine.{literal, Symbol, unit, tail, close, open', dot, field, name, term, sum, more, op, bound, side, Step, small, at_field, at_name, at_term, at_sum, at_side, at_unit, step, is_done, start}
+use Rattle.theta_text.specs.Machine.{literal, Symbol, unit, tail, close, open', dot, field, name, term, sum, more, op}
+use Rattle.theta_text.specs.Machine.{bound, side, Step, small, at_field, at_name, at_term, at_sum, at_side, at_unit}
+use Rattle.theta_text.specs.Machine.{step, is_done, start}
 use Rattle.theta_text.proofs.MachineLaws.{GivesAll, Goes, IfGoes, if_goes_map, BelowMore, Fits, push, pull}
 
 fits_small : (L : Limits) (v : ℕ) (s : List Symbol) → Fits s → IfGoes (small L v s) Fits
@@ -94,8 +99,19 @@ nought_sum : (L : Limits) (ts : List Token) → SumText L (nil ∷ ts) (nought �
 unfolding nought
 nought_sum L ts = (ts, (refl, (refl, omega arith, refl)), refl)
 
-nought_test : (L : Limits) (ts : List Token) → NumTest L (nil ∷ Compare Eq ∷ nil ∷ ts) (num (nought ∷ []) Eq (nought ∷ [])) ts
-nought_test L ts = (nought ∷ [], Eq, nought ∷ [], Compare Eq ∷ nil ∷ ts, nil ∷ ts, refl, nought_sum L (Compare Eq ∷ nil ∷ ts), (refl, refl), nought_sum L ts)
+nought_test : (L : Limits) (ts : List Token) → NumTest L (nil ∷ Compare Eq ∷ nil ∷ ts)
+    (num (nought ∷ []) Eq (nought ∷ [])) ts
+nought_test L ts = (
+  nought ∷ [],
+  Eq,
+  nought ∷ [],
+  Compare Eq ∷ nil ∷ ts,
+  nil ∷ ts,
+  refl,
+  nought_sum L (Compare Eq ∷ nil ∷ ts),
+  (refl, refl),
+  nought_sum L ts,
+)
 
 abbrev pub IsSpelled : Token → Type 0
 IsSpelled t = (bytes : List ℕ) × Spells t bytes
@@ -115,8 +131,14 @@ side_spelled = (114 ∷ [], (refl, (refl, tt), refl))
 abbrev pub Finish : Limits → List Symbol → Type 0
 Finish L s = (ts : List Token) × AreSpelled ts × GivesAll L s ts
 
-finish_unit : (L : Limits) (d : ℕ) (s : List Symbol) → ((ts : List Token) → Unit' L d (nil ∷ Compare Eq ∷ nil ∷ ts) (num (nought ∷ []) Eq (nought ∷ [])) ts) → Finish L s → Finish L (unit d ∷ s)
-finish_unit L d s u (ts, sp, r) = (nil ∷ Compare Eq ∷ nil ∷ ts, (nil_spelled, (sign_spelled, (nil_spelled, sp))), (ts, (num (nought ∷ []) Eq (nought ∷ []), u ts), r))
+finish_unit : (L : Limits) (d : ℕ) (s : List Symbol) → ((ts : List Token)
+    → Unit' L d (nil ∷ Compare Eq ∷ nil ∷ ts) (num (nought ∷ []) Eq (nought ∷ [])) ts) → Finish L s
+    → Finish L (unit d ∷ s)
+finish_unit L d s u (ts, sp, r) = (
+  nil ∷ Compare Eq ∷ nil ∷ ts,
+  (nil_spelled, (sign_spelled, (nil_spelled, sp))),
+  (ts, (num (nought ∷ []) Eq (nought ∷ []), u ts), r),
+)
 
 pub finish : (L : Limits) (s : List Symbol) → Finish L s
 finish L [] = ([], tt, refl)
@@ -126,15 +148,38 @@ finish L (tail d ∷ s) = let (ts, sp, r) = finish L s in (ts, sp, (ts, ([], [],
 finish L (close ∷ s) = let (ts, sp, r) = finish L s in (Close ∷ ts, ((41 ∷ [], refl), sp), (ts, refl, r))
 finish L (open' ∷ s) = let (ts, sp, r) = finish L s in (Open ∷ ts, ((40 ∷ [], refl), sp), (ts, refl, r))
 finish L (dot ∷ s) = let (ts, sp, r) = finish L s in (Dot ∷ ts, ((46 ∷ [], refl), sp), (ts, refl, r))
-finish L (field ∷ s) = let (ts, sp, r) = finish L s in (Quoted [] ∷ ts, (field_spelled, sp), (ts, ([], (refl, refl)), r))
-finish L (name ∷ s) = let (ts, sp, r) = finish L s in
-    (Word R (114 ∷ []) ∷ Dot ∷ Quoted [] ∷ ts, (side_spelled, ((46 ∷ [], refl), (field_spelled, sp))), (ts, (record { side = sides.R; word = [] }, ([], refl, (refl, refl))), r))
-finish L (term ∷ s) = let (ts, sp, r) = finish L s in (nil ∷ ts, (nil_spelled, sp), (ts, (Const (pos 0), (refl, omega arith, refl)), r))
-finish L (sum ∷ s) = let (ts, sp, r) = finish L s in (nil ∷ ts, (nil_spelled, sp), (ts, (nought ∷ [], nought_sum L ts), r))
+finish L (field ∷ s) = let (ts, sp, r) = finish L s in (
+  Quoted [] ∷ ts,
+  (field_spelled, sp),
+  (ts, ([], (refl, refl)), r),
+)
+finish L (name ∷ s) = let (ts, sp, r) = finish L s in (
+  Word R (114 ∷ []) ∷ Dot ∷ Quoted [] ∷ ts,
+  (side_spelled, ((46 ∷ [], refl), (field_spelled, sp))),
+  (ts, (record { side = sides.R; word = [] }, ([], refl, (refl, refl))), r),
+)
+finish L (term ∷ s) = let (ts, sp, r) = finish L s in (
+  nil ∷ ts,
+  (nil_spelled, sp),
+  (ts, (Const (pos 0), (refl, omega arith, refl)), r),
+)
+finish L (sum ∷ s) = let (ts, sp, r) = finish L s in (
+  nil ∷ ts,
+  (nil_spelled, sp),
+  (ts, (nought ∷ [], nought_sum L ts), r),
+)
 finish L (more n ∷ s) = let (ts, sp, r) = finish L s in (ts, sp, (ts, ([], refl), r))
 finish L (op ∷ s) = let (ts, sp, r) = finish L s in (Compare Eq ∷ ts, (sign_spelled, sp), (ts, (Eq, (refl, refl)), r))
-finish L (bound ∷ s) = let (ts, sp, r) = finish L s in (nil ∷ ts, (nil_spelled, sp), (ts, (pos 0, (48 ∷ [], refl, refl, omega arith)), r))
-finish L (side ∷ s) = let (ts, sp, r) = finish L s in (Literal [] ∷ ts, ((39 ∷ 39 ∷ [], refl), sp), (ts, (Lit [], (refl, refl)), r))
+finish L (bound ∷ s) = let (ts, sp, r) = finish L s in (
+  nil ∷ ts,
+  (nil_spelled, sp),
+  (ts, (pos 0, (48 ∷ [], refl, refl, omega arith)), r),
+)
+finish L (side ∷ s) = let (ts, sp, r) = finish L s in (
+  Literal [] ∷ ts,
+  ((39 ∷ 39 ∷ [], refl), sp),
+  (ts, (Lit [], (refl, refl)), r),
+)
 
 no_sum : (L : Limits) (xs : List Signed) (mid : List Token) → SumText L [] xs mid → ⊥
 no_sum L [] mid h = h
@@ -147,9 +192,12 @@ pub spells_done : (L : Limits) (s : List Symbol) → GivesAll L s [] → is_done
 spells_done L [] r = refl
 spells_done L (unit zero ∷ s) (mid, (t, u), r) = absurd (no_num L t mid u)
 spells_done L (unit (suc d) ∷ s) (mid, (t, u), r) = absurd (no_num L t mid u)
-spells_done L (tail d ∷ s) (mid, (u ∷ us, cs, m, (sep, from, to, es, e, item, fu), fo), r) = let bad : ⊥ = cc in absurd bad
-spells_done L (tail d ∷ s) (mid, ([], c ∷ cs, m, fu, (sep, from, to, es, e, item, fo)), r) = let clash : [] ≡ sep ∷ from = fu ∙ e in let bad : ⊥ = cc in absurd bad
-spells_done L (tail d ∷ s) (mid, ([], [], m, fu, fo), r) = spells_done L s (subst (λ x. GivesAll L s x) (sym (fu ∙ fo)) r)
+spells_done L (tail d ∷ s) (mid, (u ∷ us, cs, m, (sep, from, to, es, e, item, fu), fo), r) = let bad : ⊥ = cc in
+    absurd bad
+spells_done L (tail d ∷ s) (mid, ([], c ∷ cs, m, fu, (sep, from, to, es, e, item, fo)), r) =
+    let clash : [] ≡ sep ∷ from = fu ∙ e in let bad : ⊥ = cc in absurd bad
+spells_done L (tail d ∷ s) (mid, ([], [], m, fu, fo), r) = spells_done L s
+    (subst (λ x. GivesAll L s x) (sym (fu ∙ fo)) r)
 spells_done L (close ∷ s) (mid, e, r) = let bad : ⊥ = cc in absurd bad
 spells_done L (open' ∷ s) (mid, e, r) = let bad : ⊥ = cc in absurd bad
 spells_done L (dot ∷ s) (mid, e, r) = let bad : ⊥ = cc in absurd bad
@@ -173,34 +221,54 @@ abbrev pub run : Limits → List Symbol → List Token → Step
 run L s [] = Ok s
 run L s (t ∷ ts) = then_run (step L s t) (λ s'. run L s' ts)
 
-pub run_push : (L : Limits) (front rest : List Token) (s : List Symbol) → IfGoes (run L s front) (λ s'. GivesAll L s' rest → GivesAll L s (front ++ rest))
+pub run_push : (L : Limits) (front rest : List Token) (s : List Symbol)
+    → IfGoes (run L s front) (λ s'. GivesAll L s' rest → GivesAll L s (front ++ rest))
 run_push L [] rest s = λ r. r
 run_push L (t ∷ ts) rest s = go (λ s'. run_push L ts rest s') (step L s t) (push L s t (ts ++ rest))
   where
-    go : ((s' : List Symbol) → IfGoes (run L s' ts) (λ s''. GivesAll L s'' rest → GivesAll L s' (ts ++ rest))) → (r : Step) → IfGoes r (λ s'. GivesAll L s' (ts ++ rest) → GivesAll L s (t ∷ (ts ++ rest)))
+    go : ((s' : List Symbol) → IfGoes (run L s' ts) (λ s''. GivesAll L s'' rest → GivesAll L s' (ts ++ rest)))
+        → (r : Step) → IfGoes r (λ s'. GivesAll L s' (ts ++ rest) → GivesAll L s (t ∷ (ts ++ rest)))
         → IfGoes (then_run r (λ s'. run L s' ts)) (λ s'. GivesAll L s' rest → GivesAll L s (t ∷ (ts ++ rest)))
     go ih (Ok s1) f = if_goes_map (run L s1 ts) _ _ (λ s' g r. f (g r)) (ih s1)
     go ih (Err k) f = tt
 
-pub run_pull : (L : Limits) (front rest : List Token) (s : List Symbol) → Fits s → GivesAll L s (front ++ rest) → Goes (run L s front) (λ s'. GivesAll L s' rest × Fits s')
+pub run_pull : (L : Limits) (front rest : List Token) (s : List Symbol) → Fits s → GivesAll L s (front ++ rest)
+    → Goes (run L s front) (λ s'. GivesAll L s' rest × Fits s')
 run_pull L [] rest s f r = (r, f)
-run_pull L (t ∷ ts) rest s f r = go (λ s' f' r'. run_pull L ts rest s' f' r') (step L s t) (pull L s t (ts ++ rest) f r) (fits L s t f)
+run_pull L (t ∷ ts) rest s f r = go (λ s' f' r'. run_pull L ts rest s' f' r') (step L s t) (pull L s t (ts ++ rest) f r)
+    (fits L s t f)
   where
-    go : ((s' : List Symbol) → Fits s' → GivesAll L s' (ts ++ rest) → Goes (run L s' ts) (λ s''. GivesAll L s'' rest × Fits s'')) → (r : Step) → Goes r (λ s'. GivesAll L s' (ts ++ rest)) → IfGoes r Fits → Goes (then_run r (λ s'. run L s' ts)) (λ s'. GivesAll L s' rest × Fits s')
+    go : ((s' : List Symbol) → Fits s' → GivesAll L s' (ts ++ rest)
+        → Goes (run L s' ts) (λ s''. GivesAll L s'' rest × Fits s'')) → (r : Step)
+        → Goes r (λ s'. GivesAll L s' (ts ++ rest)) → IfGoes r Fits
+        → Goes (then_run r (λ s'. run L s' ts)) (λ s'. GivesAll L s' rest × Fits s')
     go ih (Ok s1) p f1 = ih s1 f1 p
     go ih (Err k) p f1 = absurd p
 
 -- a predicate is what the start spells
 pub reads_start : (L : Limits) (tokens : List Token) (t : Tree) → Reads L tokens t → GivesAll L (start L) tokens
-reads_start L tokens t (first, others, to, e, (first', us, to', e', u, fu), fo) = (to', (first', u), ([], (us, others, to, fu, fo), refl))
+reads_start L tokens t (first, others, to, e, (first', us, to', e', u, fu), fo) =
+    (to', (first', u), ([], (us, others, to, fu, fo), refl))
 
 pub start_reads : (L : Limits) (tokens : List Token) → GivesAll L (start L) tokens → (t : Tree) × Reads L tokens t
-start_reads L tokens (m1, (t, u), (m2, (us, ts', m, fu, ft), e)) =
-    (joined any (joined every t us) ts', (joined every t us, ts', m, refl, (t, us, m1, refl, u, fu), subst (λ x. Further IsOr (Conj (Unit' L L.nesting)) m ts' x) e ft))
+start_reads L tokens (m1, (t, u), (m2, (us, ts', m, fu, ft), e)) = (
+  joined any (joined every t us) ts',
+  (
+    joined every t us,
+    ts',
+    m,
+    refl,
+    (t, us, m1, refl, u, fu),
+    subst (λ x. Further IsOr (Conj (Unit' L L.nesting)) m ts' x) e ft,
+  ),
+)
 
 -- a front is open exactly where the machine goes over it
 pub open_goes : (L : Limits) (front : List Token) → IsOpen L front → Goes (run L (start L) front) (λ s. Fits s)
-open_goes L front (rest, t, sp, r) = go (run L (start L) front) (run_pull L front rest (start L) (tt, (tt, tt)) (reads_start L (front ++ rest) t r))
+open_goes L front (rest, t, sp, r) = go (run L (start L) front) (run_pull L front rest (start L) (
+  tt,
+  (tt, tt),
+) (reads_start L (front ++ rest) t r))
   where
     go : (r : Step) → Goes r (λ s'. GivesAll L s' rest × Fits s') → Goes r (λ s. Fits s)
     go (Ok s) p = p.1
@@ -209,6 +277,7 @@ open_goes L front (rest, t, sp, r) = go (run L (start L) front) (run_pull L fron
 pub goes_open : (L : Limits) (front : List Token) (s : List Symbol) → run L (start L) front ≡ Ok s → IsOpen L front
 goes_open L front s e =
     let (rest, sp, r) = finish L s in
-    let p : GivesAll L (start L) (front ++ rest) = subst (λ x. IfGoes x (λ s'. GivesAll L s' rest → GivesAll L (start L) (front ++ rest))) e (run_push L front rest (start L)) r in
+    let p : GivesAll L (start L) (front ++ rest) = subst (λ x. IfGoes x (λ s'. GivesAll L s' rest
+    → GivesAll L (start L) (front ++ rest))) e (run_push L front rest (start L)) r in
     let (t, q) = start_reads L (front ++ rest) p in
     (rest, t, sp, q)

@@ -1,10 +1,12 @@
 -- A token and its kind say the same of the bytes.
-use Rattle.std.proofs.Common.{◌≡◌, ℕ, List, [], ◌∷◌, ◌++◌, take, Bool, true, false, cond, ◌&&◌, ◌==◌, refl, sym, ap, ap₂, subst, ◌∙◌}
+use Rattle.std.proofs.Common.{◌≡◌, ℕ, List, [], ◌∷◌, ◌++◌, take, Bool, true, false, cond, ◌&&◌, ◌==◌, refl, sym, ap}
+use Rattle.std.proofs.Common.{ap₂, subst, ◌∙◌}
 use Rattle.std.proofs.lemmas.Bool.{eqb-true}
 use Rattle.theta_text.specs.declared.lexer.kind.Kind.{Kind}
 use Rattle.theta_text.specs.declared.lexer.kind.Kind.TheVariants as kinds
 use Rattle.theta_text.specs.declared.token.Token.{Token}
-use Rattle.theta_text.specs.declared.token.Token.TheVariants.{Word, Number, Literal, Quoted, Open, Close, Dot, Sign, Compare, Stray}
+use Rattle.theta_text.specs.declared.token.Token.TheVariants.{Word, Number, Literal, Quoted, Open, Close, Dot, Sign}
+use Rattle.theta_text.specs.declared.token.Token.TheVariants.{Compare, Stray}
 use Rattle.theta_text.specs.declared.tree.Op.TheVariants.{Eq, Ne, Lt, Le, Gt, Ge}
 use Rattle.theta_text.specs.Tokens.{IsWord, IsNumber, doubled, in_quotes, keyword_of, Spells, IsLongest, IsNext}
 use Rattle.theta_text.specs.Kinds.{SpellsKind, IsLongestKind, IsNextKind, undoubled, unquoted, token_at}
@@ -25,7 +27,8 @@ undoubled-doubled : (q : ℕ) (content : List ℕ) → undoubled q false (double
 undoubled-doubled q [] = first_quote q q [] (same_self q)
 undoubled-doubled q (b ∷ bs) = go (undoubled-doubled q bs) (b == q) refl
   where
-    go : undoubled q false (doubled q bs ++ q ∷ []) ≡ bs → (t : Bool) → (b == q) ≡ t → undoubled q false (doubled q (b ∷ bs) ++ q ∷ []) ≡ b ∷ bs
+    go : undoubled q false (doubled q bs ++ q ∷ []) ≡ bs → (t : Bool) → (b == q) ≡ t
+        → undoubled q false (doubled q (b ∷ bs) ++ q ∷ []) ≡ b ∷ bs
     go ih true e =
         ap (λ z. undoubled q false (z ++ q ∷ [])) (doubled-same q b bs e)
         ∙ first_quote q q (q ∷ (doubled q bs ++ q ∷ [])) (same_self q)
@@ -112,7 +115,8 @@ token_is (Compare Gt) bytes e = refl
 token_is (Compare Ge) bytes e = refl
 token_is Stray bytes e = refl
 
-longest_token : (text : List ℕ) (k : Kind) (n : ℕ) → IsLongestKind text k n → IsLongest text (token_at k (take n text)) n
+longest_token : (text : List ℕ) (k : Kind) (n : ℕ) → IsLongestKind text k n
+    → IsLongest text (token_at k (take n text)) n
 longest_token text k n h = record {
   spelled = kind_spells k (take n text) h.spelled;
   within = h.within;
@@ -137,7 +141,8 @@ longest_kind text t n h = record {
 abbrev SaysKind : List ℕ → Token → ℕ → Type 0
 SaysKind text t n = IsNextKind text (kind_of t) n × (t ≡ token_at (kind_of t) (take n text))
 
-says_longest : (text : List ℕ) (t : Token) (n : ℕ) → IsLongest text t n → IsLongestKind text (kind_of t) n × (t ≡ token_at (kind_of t) (take n text))
+says_longest : (text : List ℕ) (t : Token) (n : ℕ) → IsLongest text t n → IsLongestKind text (kind_of t) n
+    × (t ≡ token_at (kind_of t) (take n text))
 says_longest text t n h = (longest_kind text t n h, token_is t (take n text) h.spelled)
 
 says_kind : (text : List ℕ) (t : Token) (n : ℕ) → IsNext text t n → SaysKind text t n

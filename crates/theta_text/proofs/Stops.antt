@@ -1,11 +1,15 @@
 -- Where the machine stops, and what that says of the grammar.
-use Rattle.std.proofs.Common.{◌≡◌, ℕ, zero, suc, List, [], ◌∷◌, ◌++◌, map, Bool, true, false, cond, nat_le, Ok, Err, refl, sym, ap, subst, ◌∙◌}
+use Rattle.std.proofs.Common.{◌≡◌, ℕ, zero, suc, List, [], ◌∷◌, ◌++◌, map, Bool, true, false, cond, nat_le, Ok, Err}
+use Rattle.std.proofs.Common.{refl, sym, ap, subst, ◌∙◌}
 use Rattle.theta_text.specs.declared.token.Token.{Token}
-use Rattle.theta_text.specs.declared.token.Token.TheVariants.{Word, Number, Literal, Quoted, Open, Close, Dot, Sign, Compare}
+use Rattle.theta_text.specs.declared.token.Token.TheVariants.{Word, Number, Literal, Quoted, Open, Close, Dot, Sign}
+use Rattle.theta_text.specs.declared.token.Token.TheVariants.{Compare}
 use Rattle.theta_text.specs.declared.token.Keyword.TheVariants.{And, Or, Not, Abs, Text, R, S}
 use Rattle.theta_text.specs.Grammar.{Tree, Limits, Reads, IsOpen}
 use Rattle.theta_text.specs.Tokens.{number_of}
-use Rattle.theta_text.specs.Machine.{syntax, literal, Symbol, unit, tail, close, open', dot, field, name, term, sum, more, op, bound, side, Step, small, at_field, at_name, at_term, at_sum, at_side, at_unit, at_tail, at_close, at_open, at_dot, at_op, step, is_done, start}
+use Rattle.theta_text.specs.Machine.{syntax, literal, Symbol, unit, tail, close, open', dot, field, name, term, sum}
+use Rattle.theta_text.specs.Machine.{more, op, bound, side, Step, small, at_field, at_name, at_term, at_sum, at_side}
+use Rattle.theta_text.specs.Machine.{at_unit, at_tail, at_close, at_open, at_dot, at_op, step, is_done, start}
 use Rattle.theta_text.proofs.MachineLaws.{GivesAll, Goes, IfGoes, if_goes_map}
 use Rattle.theta_text.proofs.Runs.{spells_done, then_run, run, run_pull, reads_start, open_goes}
 
@@ -141,23 +145,28 @@ abbrev pub free_run : List Symbol → List Token → Step
 free_run s [] = Ok s
 free_run s (t ∷ ts) = then_run (free s t) (λ s'. free_run s' ts)
 
-pub free_runs : (L : Limits) (front : List Token) (s : List Symbol) → IfGoes (run L s front) (λ s'. free_run (shapes s) front ≡ Ok (shapes s'))
+pub free_runs : (L : Limits) (front : List Token) (s : List Symbol)
+    → IfGoes (run L s front) (λ s'. free_run (shapes s) front ≡ Ok (shapes s'))
 free_runs L [] s = refl
 free_runs L (t ∷ ts) s = go (λ s'. free_runs L ts s') (step L s t) (free (shapes s) t) (frees L s t)
   where
     go : ((s' : List Symbol) → IfGoes (run L s' ts) (λ s''. free_run (shapes s') ts ≡ Ok (shapes s'')))
-        → (r f : Step) → Frees r f → IfGoes (then_run r (λ s'. run L s' ts)) (λ s''. then_run f (λ s'. free_run s' ts) ≡ Ok (shapes s''))
-    go ih (Ok s1) f e = if_goes_map (run L s1 ts) _ _ (λ s' g. ap (λ x. then_run x (λ s'. free_run s' ts)) e ∙ g) (ih s1)
+        → (r f : Step) → Frees r f → IfGoes (then_run r (λ s'. run L s' ts)) (λ s''. then_run f (λ s'. free_run s' ts)
+        ≡ Ok (shapes s''))
+    go ih (Ok s1) f e = if_goes_map (run L s1 ts) _ _ (λ s' g. ap (λ x. then_run x (λ s'. free_run s' ts)) e ∙ g)
+        (ih s1)
     go ih (Err k) f e = tt
 
-pub free_run-append : (front : List Token) (t : Token) (s s' : List Symbol) → free_run s front ≡ Ok s' → free_run s (front ++ t ∷ []) ≡ then_run (free s' t) (λ s. Ok s)
+pub free_run-append : (front : List Token) (t : Token) (s s' : List Symbol) → free_run s front ≡ Ok s'
+    → free_run s (front ++ t ∷ []) ≡ then_run (free s' t) (λ s. Ok s)
 free_run-append [] t s s' e =
     let same : s ≡ s' = cc in
     ap (λ x. then_run (free x t) (λ s. Ok s)) same
 free_run-append (t' ∷ ts) t s s' e = go (λ s1 e'. free_run-append ts t s1 s' e') (free s t') e
   where
     go : ((s1 : List Symbol) → free_run s1 ts ≡ Ok s' → free_run s1 (ts ++ t ∷ []) ≡ then_run (free s' t) (λ s. Ok s))
-        → (r : Step) → then_run r (λ s1. free_run s1 ts) ≡ Ok s' → then_run r (λ s1. free_run s1 (ts ++ t ∷ [])) ≡ then_run (free s' t) (λ s. Ok s)
+        → (r : Step) → then_run r (λ s1. free_run s1 ts) ≡ Ok s'
+        → then_run r (λ s1. free_run s1 (ts ++ t ∷ [])) ≡ then_run (free s' t) (λ s. Ok s)
     go ih (Ok s1) e' = ih s1 e'
     go ih (Err k) e' = let no : ⊥ = cc in absurd no
 
@@ -169,15 +178,18 @@ goes_ok (Err k) P p = absurd p
 pub if_goes_at : (r : Step) (P : List Symbol → Type 0) (s : List Symbol) → r ≡ Ok s → IfGoes r P → P s
 if_goes_at r P s e p = subst (λ x. IfGoes x P) e p
 
-pub free_of : (L : Limits) (front : List Token) (s s' : List Symbol) → run L s front ≡ Ok s' → free_run (shapes s) front ≡ Ok (shapes s')
+pub free_of : (L : Limits) (front : List Token) (s s' : List Symbol) → run L s front ≡ Ok s'
+    → free_run (shapes s) front ≡ Ok (shapes s')
 free_of L front s s' e = if_goes_at (run L s front) _ s' e (free_runs L front s)
 
 -- a token at which the machine finds no rule can follow in no predicate of any size
-pub stuck_at : (L : Limits) (front : List Token) (s : List Symbol) (t : Token) → run L (start L) front ≡ Ok s → step L s t ≡ Err syntax
+pub stuck_at : (L : Limits) (front : List Token) (s : List Symbol) (t : Token) → run L (start L) front ≡ Ok s
+    → step L s t ≡ Err syntax
     → (L' : Limits) → IsOpen L' (front ++ t ∷ []) → ⊥
 stuck_at L front s t ran stop L' o =
     let (s2, ran2, f2) = goes_ok _ _ (open_goes L' (front ++ t ∷ []) o) in
-    let all : free_run (shapes (start L)) (front ++ t ∷ []) ≡ Ok (shapes s2) = free_of L' (front ++ t ∷ []) (start L') s2 ran2 in
+    let all : free_run (shapes (start L)) (front ++ t ∷ []) ≡ Ok (shapes s2) =
+    free_of L' (front ++ t ∷ []) (start L') s2 ran2 in
     let here : free_run (shapes (start L)) front ≡ Ok (shapes s) = free_of L front (start L) s ran in
     let no_rule : free (shapes s) t ≡ Err syntax = subst (λ x. Frees x (free (shapes s) t)) stop (frees L s t) in
     let last = free_run-append front t (shapes (start L)) (shapes s) here in
@@ -202,10 +214,12 @@ run_append_nil (t ∷ ts) = ap (λ x. t ∷ x) (run_append_nil ts)
 pub stuck_end : (L : Limits) (front : List Token) (s : List Symbol) → run L (start L) front ≡ Ok s → is_done s ≡ false
     → (L' : Limits) (t : Tree) → Reads L' front t → ⊥
 stuck_end L front s ran wants L' t r =
-    let spelled : GivesAll L' (start L') (front ++ []) = subst (λ x. GivesAll L' (start L') x) (sym (run_append_nil front)) (reads_start L' front t r) in
+    let spelled : GivesAll L' (start L') (front ++ []) = subst (λ x. GivesAll L' (start L') x)
+    (sym (run_append_nil front)) (reads_start L' front t r) in
     let (s2, ran2, p2) = goes_ok _ _ (run_pull L' front [] (start L') (tt, (tt, tt)) spelled) in
     let ended : is_done s2 ≡ true = spells_done L' s2 p2.0 in
-    let same : shapes s2 ≡ shapes s = ok_inj _ _ _ (free_of L' front (start L') s2 ran2) (free_of L front (start L) s ran) in
+    let same : shapes s2 ≡ shapes s = ok_inj _ _ _ (free_of L' front (start L') s2 ran2)
+    (free_of L front (start L) s ran) in
     let clash : true ≡ false = sym ended ∙ sym (done_shapes s2) ∙ ap is_done same ∙ done_shapes s ∙ wants in
     let no : ⊥ = cc in
     absurd no

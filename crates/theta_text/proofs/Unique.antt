@@ -1,7 +1,8 @@
 -- A text has at most one tree.
 use Rattle.std.proofs.Common.{◌≡◌, ℕ, zero, suc, List, [], ◌∷◌, Bool, false, refl, sym, ap, ap₂, subst, ◌∙◌, pos}
 use Rattle.theta_text.specs.declared.token.Token.{Token}
-use Rattle.theta_text.specs.declared.token.Token.TheVariants.{Word, Number, Literal, Quoted, Open, Close, Dot, Sign, Compare}
+use Rattle.theta_text.specs.declared.token.Token.TheVariants.{Word, Number, Literal, Quoted, Open, Close, Dot, Sign}
+use Rattle.theta_text.specs.declared.token.Token.TheVariants.{Compare}
 use Rattle.theta_text.specs.declared.token.Keyword.TheVariants.{And, Or, Not, Abs, Text, R, S}
 use Rattle.theta_text.specs.declared.tree.Op.{Op}
 use Rattle.theta_text.specs.declared.tree.Signed.{Signed}
@@ -10,7 +11,10 @@ use Rattle.theta_text.specs.declared.tree.Term.TheVariants.{Col}
 use Rattle.theta_text.specs.declared.tree.TextSide.TheVariants.{Lit}
 use Rattle.theta_text.specs.declared.tree.TextSide.TheVariants as texts
 use Rattle.join_rows.specs.declared.table.Side.TheVariants as sides
-use Rattle.theta_text.specs.Grammar.{Tree, Trees, any, every, negation, num, band, txt, Limits, Part, Further, joined, Chain, IsAnd, IsOr, Conj, Predicate, FieldText, DotText, NameText, TermText, FurtherTerms, FirstText, SumText, OpText, NumTest, BandRest, ColumnText, SideText, TxtTest, UnitOver, Unit', Reads}
+use Rattle.theta_text.specs.Grammar.{Tree, Trees, any, every, negation, num, band, txt, Limits, Part, Further, joined}
+use Rattle.theta_text.specs.Grammar.{Chain, IsAnd, IsOr, Conj, Predicate, FieldText, DotText, NameText, TermText}
+use Rattle.theta_text.specs.Grammar.{FurtherTerms, FirstText, SumText, OpText, NumTest, BandRest, ColumnText, SideText}
+use Rattle.theta_text.specs.Grammar.{TxtTest, UnitOver, Unit', Reads}
 use Rattle.theta_text.specs.Tokens.{number_of}
 
 -- tokens that don't begin with one of this kind
@@ -22,35 +26,45 @@ IsSignToken t = (m : Bool) × (t ≡ Sign m)
 
 -- one text from one place has one value and one end, if what follows the texts is of this kind
 abbrev pub IsSharp : {A : Type 0} → (List Token → Type 0) → Part A → Type 0
-IsSharp {A} Stop Item = (before : List Token) (x y : A) (a b : List Token) → Item before x a → Item before y b → Stop a → Stop b → (x ≡ y) × (a ≡ b)
+IsSharp {A} Stop Item = (before : List Token) (x y : A) (a b : List Token) → Item before x a → Item before y b → Stop a
+    → Stop b → (x ≡ y) × (a ≡ b)
 
 abbrev pub Always : List Token → Type 0
 Always ts = Unit {0}
 
-further_stop : {A : Type 0} (IsSep : Token → Type 0) (Stop : List Token → Type 0) (Item : Part A) → ((t : Token) (rest : List Token) → IsSep t → Stop (t ∷ rest))
+further_stop : {A : Type 0} (IsSep : Token → Type 0) (Stop : List Token → Type 0) (Item : Part A)
+    → ((t : Token) (rest : List Token) → IsSep t → Stop (t ∷ rest))
     → (before : List Token) (xs : List A) (a : List Token) → Further IsSep Item before xs a → Stop a → Stop before
 further_stop IsSep Stop Item at_sep before [] a f s = subst Stop (sym f) s
-further_stop IsSep Stop Item at_sep before (x ∷ xs) a (sep, from, to, is, e, item, f) s = subst Stop (sym e) (at_sep sep from is)
+further_stop IsSep Stop Item at_sep before (x ∷ xs) a (sep, from, to, is, e, item, f) s =
+    subst Stop (sym e) (at_sep sep from is)
 
-pub further_sharp : {A : Type 0} (IsSep : Token → Type 0) (Stop : List Token → Type 0) (Item : Part A) → ((t : Token) (rest : List Token) → IsSep t → Stop (t ∷ rest)) → IsSharp Stop Item
-    → (before : List Token) (xs ys : List A) (a b : List Token) → Further IsSep Item before xs a → Further IsSep Item before ys b
+pub further_sharp : {A : Type 0} (IsSep : Token → Type 0) (Stop : List Token → Type 0) (Item : Part A)
+    → ((t : Token) (rest : List Token) → IsSep t → Stop (t ∷ rest)) → IsSharp Stop Item
+    → (before : List Token) (xs ys : List A) (a b : List Token) → Further IsSep Item before xs a
+    → Further IsSep Item before ys b
     → Stop a → Stop b → StartsOff IsSep a → StartsOff IsSep b → (xs ≡ ys) × (a ≡ b)
 further_sharp IsSep Stop Item at_sep sharp before [] [] a b f g s s' o o' = (refl, sym f ∙ g)
-further_sharp IsSep Stop Item at_sep sharp before [] (y ∷ ys) a b f (sep, from, to, is, e, item, g) s s' o o' = absurd (o sep from is (sym f ∙ e))
-further_sharp IsSep Stop Item at_sep sharp before (x ∷ xs) [] a b (sep, from, to, is, e, item, f) g s s' o o' = absurd (o' sep from is (sym g ∙ e))
+further_sharp IsSep Stop Item at_sep sharp before [] (y ∷ ys) a b f (sep, from, to, is, e, item, g) s s' o o' =
+    absurd (o sep from is (sym f ∙ e))
+further_sharp IsSep Stop Item at_sep sharp before (x ∷ xs) [] a b (sep, from, to, is, e, item, f) g s s' o o' =
+    absurd (o' sep from is (sym g ∙ e))
 further_sharp IsSep Stop Item at_sep sharp before (x ∷ xs) (y ∷ ys) a b (sep, from, to, is, e, item, f) (sep', from', to', is', e', item', g) s s' o o' =
     let both : sep' ∷ from' ≡ sep ∷ from = sym e' ∙ e in
     let ef : from' ≡ from = cc in
     let at_from : Item from y to' = subst (λ z. Item z y to') ef item' in
-    let one = sharp from x y to to' item at_from (further_stop IsSep Stop Item at_sep to xs a f s) (further_stop IsSep Stop Item at_sep to' ys b g s') in
+    let one = sharp from x y to to' item at_from (further_stop IsSep Stop Item at_sep to xs a f s)
+    (further_stop IsSep Stop Item at_sep to' ys b g s') in
     let g' : Further IsSep Item to ys b = subst (λ z. Further IsSep Item z ys b) (sym one.1) g in
     let others = further_sharp IsSep Stop Item at_sep sharp to xs ys a b f g' s s' o o' in
     (ap₂ (λ z zs. z ∷ zs) one.0 others.0, others.1)
 
-pub chain_sharp : (IsSep : Token → Type 0) (make : Trees → Tree) (Stop : List Token → Type 0) (Item : Part Tree) → ((t : Token) (rest : List Token) → IsSep t → Stop (t ∷ rest)) → IsSharp Stop Item
+pub chain_sharp : (IsSep : Token → Type 0) (make : Trees → Tree) (Stop : List Token → Type 0) (Item : Part Tree)
+    → ((t : Token) (rest : List Token) → IsSep t → Stop (t ∷ rest)) → IsSharp Stop Item
     → IsSharp (λ ts. Stop ts × StartsOff IsSep ts) (Chain IsSep make Item)
 chain_sharp IsSep make Stop Item at_sep sharp before x y a b (first, others, to, e, item, f) (first', others', to', e', item', f') s s' =
-    let one = sharp before first first' to to' item item' (further_stop IsSep Stop Item at_sep to others a f s.0) (further_stop IsSep Stop Item at_sep to' others' b f' s'.0) in
+    let one = sharp before first first' to to' item item' (further_stop IsSep Stop Item at_sep to others a f s.0)
+    (further_stop IsSep Stop Item at_sep to' others' b f' s'.0) in
     let g : Further IsSep Item to others' b = subst (λ z. Further IsSep Item z others' b) (sym one.1) f' in
     let rest = further_sharp IsSep Stop Item at_sep sharp to others others' a b f g s.0 s'.0 s.1 s'.1 in
     (e ∙ ap₂ (joined make) one.0 rest.0 ∙ sym e', rest.1)
@@ -68,38 +82,46 @@ dot_sharp (_ ∷ ts) x y a b p q s s' = absurd p
 
 pub name_sharp : IsSharp Always NameText
 name_sharp [] x y a b p q s s' = absurd p
-name_sharp (Word R w ∷ ts) x y a b (f, e, h) (f', e', h') s s' = let r = dot_sharp ts f f' a b h h' s s' in (e ∙ ap (λ z. record { side = sides.R; word = z }) r.0 ∙ sym e', r.1)
-name_sharp (Word S w ∷ ts) x y a b (f, e, h) (f', e', h') s s' = let r = dot_sharp ts f f' a b h h' s s' in (e ∙ ap (λ z. record { side = sides.S; word = z }) r.0 ∙ sym e', r.1)
+name_sharp (Word R w ∷ ts) x y a b (f, e, h) (f', e', h') s s' = let r = dot_sharp ts f f' a b h h' s s' in
+    (e ∙ ap (λ z. record { side = sides.R; word = z }) r.0 ∙ sym e', r.1)
+name_sharp (Word S w ∷ ts) x y a b (f, e, h) (f', e', h') s s' = let r = dot_sharp ts f f' a b h h' s s' in
+    (e ∙ ap (λ z. record { side = sides.S; word = z }) r.0 ∙ sym e', r.1)
 name_sharp (_ ∷ ts) x y a b p q s s' = absurd p
 
 pub term_sharp : (g : ℕ) → IsSharp Always (TermText g)
 term_sharp g [] x y a b p q s s' = absurd p
 term_sharp g (Number v ∷ ts) x y a b (e, le, e') (f, le', f') s s' = (e ∙ sym f, sym e' ∙ f')
-term_sharp g (Word k w ∷ ts) x y a b (n, e, h) (n', e', h') s s' = let r = name_sharp (Word k w ∷ ts) n n' a b h h' s s' in (e ∙ ap Col r.0 ∙ sym e', r.1)
+term_sharp g (Word k w ∷ ts) x y a b (n, e, h) (n', e', h') s s' =
+    let r = name_sharp (Word k w ∷ ts) n n' a b h h' s s' in (e ∙ ap Col r.0 ∙ sym e', r.1)
 term_sharp g (_ ∷ ts) x y a b p q s s' = absurd p
 
 same_signed : (x y : Signed) → x.minus ≡ y.minus → x.term ≡ y.term → x ≡ y
 same_signed x y e e' = ap₂ {A = Bool} {B = Term} (λ m t. record { minus = m; term = t }) e e'
 
-first_plain : (g : ℕ) (before : List Token) (x y : Signed) (a b : List Token) → (x.minus ≡ false) × TermText g before x.term a → (y.minus ≡ false) × TermText g before y.term b → (x ≡ y) × (a ≡ b)
-first_plain g before x y a b (e, h) (e', h') = let r = term_sharp g before x.term y.term a b h h' tt tt in (same_signed x y (e ∙ sym e') r.0, r.1)
+first_plain : (g : ℕ) (before : List Token) (x y : Signed) (a b : List Token) → (x.minus ≡ false)
+    × TermText g before x.term a → (y.minus ≡ false) × TermText g before y.term b → (x ≡ y) × (a ≡ b)
+first_plain g before x y a b (e, h) (e', h') = let r = term_sharp g before x.term y.term a b h h' tt tt in
+    (same_signed x y (e ∙ sym e') r.0, r.1)
 
 pub first_sharp : (g : ℕ) → IsSharp Always (FirstText g)
 first_sharp g [] x y a b p q s s' = first_plain g [] x y a b p q
-first_sharp g (Sign m ∷ ts) x y a b (e, h) (e', h') s s' = let r = term_sharp g ts x.term y.term a b h h' tt tt in (same_signed x y (e ∙ sym e') r.0, r.1)
+first_sharp g (Sign m ∷ ts) x y a b (e, h) (e', h') s s' = let r = term_sharp g ts x.term y.term a b h h' tt tt in
+    (same_signed x y (e ∙ sym e') r.0, r.1)
 first_sharp g (t ∷ ts) x y a b p q s s' = first_plain g (t ∷ ts) x y a b p q
 
 -- what may follow a sum
 abbrev pub AfterSum : List Token → Type 0
 AfterSum = StartsOff IsSignToken
 
-pub terms_sharp : (g n : ℕ) (before : List Token) (vs ws : List Signed) (a b : List Token) → FurtherTerms g n before vs a → FurtherTerms g n before ws b
+pub terms_sharp : (g n : ℕ) (before : List Token) (vs ws : List Signed) (a b : List Token)
+    → FurtherTerms g n before vs a → FurtherTerms g n before ws b
     → AfterSum a → AfterSum b → (vs ≡ ws) × (a ≡ b)
 terms_sharp g n before [] [] a b f f' o o' = (refl, sym f ∙ f')
 terms_sharp g zero before [] (w ∷ ws) a b f f' o o' = absurd f'
 terms_sharp g (suc n) before [] (w ∷ ws) a b f (from, to, e, h, f') o o' = absurd (o _ from (w.minus, refl) (sym f ∙ e))
 terms_sharp g zero before (v ∷ vs) ws a b f f' o o' = absurd f
-terms_sharp g (suc n) before (v ∷ vs) [] a b (from, to, e, h, f) f' o o' = absurd (o' _ from (v.minus, refl) (sym f' ∙ e))
+terms_sharp g (suc n) before (v ∷ vs) [] a b (from, to, e, h, f) f' o o' =
+    absurd (o' _ from (v.minus, refl) (sym f' ∙ e))
 terms_sharp g (suc n) before (v ∷ vs) (w ∷ ws) a b (from, to, e, h, f) (from', to', e', h', f') o o' =
     let both : Sign w.minus ∷ from' ≡ Sign v.minus ∷ from = sym e' ∙ e in
     let ef : from' ≡ from = cc in
@@ -113,7 +135,8 @@ sum_sharp L before [] y a b p q s s' = absurd p
 sum_sharp L before (x ∷ xs) [] a b p q s s' = absurd q
 sum_sharp L before (x ∷ xs) (y ∷ ys) a b (to, h, f) (to', h', f') s s' =
     let one = first_sharp L.greatest before x y to to' h h' tt tt in
-    let r = terms_sharp L.greatest L.more to xs ys a b f (subst (λ z. FurtherTerms L.greatest L.more z ys b) (sym one.1) f') s s' in
+    let r = terms_sharp L.greatest L.more to xs ys a b f (subst (λ z. FurtherTerms L.greatest L.more z ys b) (sym one.1)
+    f') s s' in
     (ap₂ (λ z zs. z ∷ zs) one.0 r.0, r.1)
 
 pub op_sharp : IsSharp Always OpText
@@ -143,7 +166,8 @@ pub band_sharp : (L : Limits) → IsSharp AfterSum (BandRest L)
 band_sharp L before x y a b (xs, o, v, m1, m2, m3, m4, e, e1, hs, e3, ho, (ds, ev, is, le)) (xs', o', v', m1', m2', m3', m4', e', e1', hs', e3', ho', (ds', ev', is', le')) s s' =
     let c1 : Open ∷ m1' ≡ Open ∷ m1 = sym e1' ∙ e1 in
     let t1 : m1' ≡ m1 = cc in
-    let es = sum_sharp L m1 xs xs' m2 m2' hs (subst (λ z. SumText L z xs' m2') t1 hs') (close_stop m2 m3 e3) (close_stop m2' m3' e3') in
+    let es = sum_sharp L m1 xs xs' m2 m2' hs (subst (λ z. SumText L z xs' m2') t1 hs') (close_stop m2 m3 e3)
+    (close_stop m2' m3' e3') in
     let c3 : Close ∷ m3' ≡ Close ∷ m3 = sym e3' ∙ sym es.1 ∙ e3 in
     let t3 : m3' ≡ m3 = cc in
     let eo = op_sharp m3 o o' m4 m4' ho (subst (λ z. OpText z o' m4') t3 ho') tt tt in
@@ -193,7 +217,11 @@ or_stop t rest (w, e) = (
 
 close_end : (rest : List Token) → AfterPredicate (Close ∷ rest)
 close_end rest = (
-  (off_sign Close rest (λ (m, e). cc), λ t' rest' (w', e') et. let same : Close ≡ t' = cc in let clash : Close ≡ Word And w' = same ∙ e' in cc),
+  (
+    off_sign Close rest (λ (m, e). cc),
+    λ t' rest' (w', e') et. let same : Close ≡ t' = cc in
+        let clash : Close ≡ Word And w' = same ∙ e' in cc,
+  ),
   λ t' rest' (w', e') et. let same : Close ≡ t' = cc in let clash : Close ≡ Word Or w' = same ∙ e' in cc,
 )
 
@@ -223,4 +251,5 @@ unit_sharp L zero = over_sharp L _ (λ before x y a b p q s s'. absurd p)
 unit_sharp L (suc d) = over_sharp L (Unit' L d) (unit_sharp L d)
 
 pub reads_unique : (L : Limits) (tokens : List Token) (t u : Tree) → Reads L tokens t → Reads L tokens u → t ≡ u
-reads_unique L tokens t u p q = (predicate_sharp (Unit' L L.nesting) (unit_sharp L L.nesting) tokens t u [] [] p q nothing_end nothing_end).0
+reads_unique L tokens t u p q = (predicate_sharp (Unit' L L.nesting) (unit_sharp L L.nesting) tokens t u [] []
+    p q nothing_end nothing_end).0

@@ -76,4 +76,5 @@ IsWideFault limits tokens place = Passes limits (wider limits) tokens place IsSi
 -- the number at the place is greater than the limit
 abbrev pub IsLiteralFault : Limits → List Placed → ℕ → Type 0
 IsLiteralFault limits tokens place =
-    (greatest : ℕ) × Passes limits (record { nesting = limits.nesting; more = limits.more; greatest = greatest }) tokens place IsNumber
+    (greatest : ℕ) × Passes limits (record { nesting = limits.nesting; more = limits.more; greatest = greatest })
+    tokens place IsNumber

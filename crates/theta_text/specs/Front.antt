@@ -2,7 +2,8 @@
 use Rattle.std.specs.Prelude.{ℕ, suc, List, [], ◌∷◌, cond, ◌==◌, Option, Some, None, option_map}
 use Rattle.std.specs.List.{prefix_len}
 use Rattle.theta_text.specs.declared.lexer.kind.Kind.{Kind}
-use Rattle.theta_text.specs.declared.lexer.kind.Kind.TheVariants.{Word, Number, Literal, Name, Open, Close, Dot, Plus, Minus, Eq, Ne, Lt, Le, Gt, Ge}
+use Rattle.theta_text.specs.declared.lexer.kind.Kind.TheVariants.{Word, Number, Literal, Name, Open, Close, Dot, Plus}
+use Rattle.theta_text.specs.declared.lexer.kind.Kind.TheVariants.{Minus, Eq, Ne, Lt, Le, Gt, Ge}
 use Rattle.theta_text.specs.Tokens.{is_letter, is_digit, is_word}
 
 -- a kind of token and how many bytes it has, where a token begins here

@@ -2,7 +2,8 @@
 use Rattle.std.specs.Prelude.{◌≡◌, ℕ, zero, suc, ◌≤◌, List, [], ◌∷◌, ◌++◌, false, ℤ, pos}
 use Rattle.std.specs.List.{AllByRecursion}
 use Rattle.theta_text.specs.declared.token.Token.{Token}
-use Rattle.theta_text.specs.declared.token.Token.TheVariants.{Word, Number, Literal, Quoted, Open, Close, Dot, Sign, Compare}
+use Rattle.theta_text.specs.declared.token.Token.TheVariants.{Word, Number, Literal, Quoted, Open, Close, Dot, Sign}
+use Rattle.theta_text.specs.declared.token.Token.TheVariants.{Compare}
 use Rattle.theta_text.specs.declared.token.Keyword.TheVariants.{And, Or, Not, Abs, Text, R, S}
 use Rattle.theta_text.specs.declared.tree.Op.{Op}
 use Rattle.theta_text.specs.declared.tree.Signed.{Signed}
@@ -141,8 +142,10 @@ BoundText greatest before v after =
 -- "(" sum ")" op number, behind "abs"
 abbrev pub BandRest : Limits → Part Tree
 BandRest limits before t after =
-    (sum : List Signed) × (op : Op) × (v : ℤ) × (m1 : List Token) × (m2 : List Token) × (m3 : List Token) × (m4 : List Token)
-    × (t ≡ band sum op v) × (before ≡ Open ∷ m1) × SumText limits m1 sum m2 × (m2 ≡ Close ∷ m3) × OpText m3 op m4 × BoundText limits.greatest m4 v after
+    (sum : List Signed) × (op : Op) × (v : ℤ) × (m1 : List Token) × (m2 : List Token) × (m3 : List Token)
+    × (m4 : List Token)
+    × (t ≡ band sum op v) × (before ≡ Open ∷ m1) × SumText limits m1 sum m2 × (m2 ≡ Close ∷ m3) × OpText m3 op m4
+    × BoundText limits.greatest m4 v after
 
 -- "(" name ")", behind "text"
 abbrev pub ColumnText : Part TextSide

@@ -1,7 +1,8 @@
 -- What kind of token some bytes are, and what token they are.
 use Rattle.std.specs.Prelude.{◌≡◌, ℕ, ◌≤◌, List, [], ◌∷◌, length, take, drop, Bool, true, false, cond, not, ◌&&◌, ◌==◌}
 use Rattle.theta_text.specs.declared.lexer.kind.Kind.{Kind}
-use Rattle.theta_text.specs.declared.lexer.kind.Kind.TheVariants.{Word, Number, Literal, Name, Open, Close, Dot, Plus, Minus, Eq, Ne, Lt, Le, Gt, Ge, Stray}
+use Rattle.theta_text.specs.declared.lexer.kind.Kind.TheVariants.{Word, Number, Literal, Name, Open, Close, Dot, Plus}
+use Rattle.theta_text.specs.declared.lexer.kind.Kind.TheVariants.{Minus, Eq, Ne, Lt, Le, Gt, Ge, Stray}
 use Rattle.theta_text.specs.declared.token.Token.{Token}
 use Rattle.theta_text.specs.declared.token.Token.TheVariants as tokens
 use Rattle.theta_text.specs.declared.tree.Op.TheVariants as ops

@@ -13,7 +13,8 @@ use Rattle.trace_law.specs.Join.{is_before, nested_loop, wave_pairs}
 use Rattle.trace_law.specs.Family.{Rest, IsRestFor, old_rows, own_rows, aged, joiner_start, stamp_at}
 use Rattle.trace_law.specs.Runs.{made_over}
 use Rattle.trace_law.specs.Stored.{counted_rows, rows_held}
-use Rattle.trace_law.proofs.Later.{input, setting, row_r, row_s, earlier, stores, rest, journal, new_pair, taken, family}
+use Rattle.trace_law.proofs.Later.{input, setting, row_r, row_s, earlier, stores, rest, journal, new_pair, taken}
+use Rattle.trace_law.proofs.Later.{family}
 
 -- ---- pairs
 

@@ -1,5 +1,6 @@
 -- In the end: what joiners store are all rows that they hold, as a rest has them.
-use Rattle.std.proofs.Common.{◌≡◌, ℕ, ◌+◌, ◌<◌, ◌≤◌, ◌^◌, max, inr, refl, sym, ◌∙◌, ap, subst, arith, Bool, true, false, cond, ◌&&◌, List, [], ◌∷◌, ◌++◌, length, append-nil}
+use Rattle.std.proofs.Common.{◌≡◌, ℕ, ◌+◌, ◌<◌, ◌≤◌, ◌^◌, max, inr, refl, sym, ◌∙◌, ap, subst, arith, Bool, true, false}
+use Rattle.std.proofs.Common.{cond, ◌&&◌, List, [], ◌∷◌, ◌++◌, length, append-nil}
 use Rattle.std.specs.Prelude.{map, filter, sum_by, not}
 use Rattle.std.specs.List.{AllByRecursion}
 use Rattle.std.proofs.lemmas.Bool.{lt-ltb, ltb-true, le-leb}
@@ -31,7 +32,8 @@ use Rattle.trace_law.specs.declared.input.Input.{Input}
 use Rattle.trace_law.specs.declared.setting.Setting.{Setting}
 use Rattle.trace_law.specs.Join.{row_count}
 use Rattle.trace_law.specs.Validity.{IsValid}
-use Rattle.trace_law.specs.Family.{Rest, IsRestFor, Family, IsAgreeing, IsFinished, joiner_start, feeder_start, is_old, old_rows, aged, tuple_of}
+use Rattle.trace_law.specs.Family.{Rest, IsRestFor, Family, IsAgreeing, IsFinished, joiner_start, feeder_start, is_old}
+use Rattle.trace_law.specs.Family.{old_rows, aged, tuple_of}
 use Rattle.trace_law.specs.Join.{is_before}
 use Rattle.trace_law.specs.Stored.{is_stored}
 use Rattle.trace_law.proofs.Aged.{old_stamps}

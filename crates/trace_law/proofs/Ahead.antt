@@ -18,7 +18,8 @@ use Rattle.trace_law.specs.Laws.{SendsNothingWrong}
 use Rattle.trace_law.proofs.AcrossWaves.{old_pair, ahead}
 use Rattle.trace_law.proofs.Later.{input, setting, orders, fed, passed, founds, last_words, taken, family}
 use Rattle.trace_law.proofs.LaterController.{controller_law}
-use Rattle.trace_law.proofs.LaterLaws.{feeder_law, counts_up, shifts_of, by_one, settled, at_rest, turned_in, never_falls, ended, moved_only, ended_only, took_of_partner, joiner_law, valid}
+use Rattle.trace_law.proofs.LaterLaws.{feeder_law, counts_up, shifts_of, by_one, settled, at_rest, turned_in}
+use Rattle.trace_law.proofs.LaterLaws.{never_falls, ended, moved_only, ended_only, took_of_partner, joiner_law, valid}
 
 -- ---- the lists
 

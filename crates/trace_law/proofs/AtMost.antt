@@ -1,5 +1,6 @@
 -- At every moment a joiner has stored at most what it holds, and nothing is found twice.
-use Rattle.std.proofs.Common.{◌≡◌, ℕ, zero, suc, ◌+◌, ◌<◌, ◌≤◌, ◌^◌, min, inl, inr, refl, sym, ◌∙◌, ap, subst, arith, Bool, true, false, cond, ◌&&◌, List, [], ◌∷◌, ◌++◌, length, append_assoc}
+use Rattle.std.proofs.Common.{◌≡◌, ℕ, zero, suc, ◌+◌, ◌<◌, ◌≤◌, ◌^◌, min, inl, inr, refl, sym, ◌∙◌, ap, subst, arith}
+use Rattle.std.proofs.Common.{Bool, true, false, cond, ◌&&◌, List, [], ◌∷◌, ◌++◌, length, append_assoc}
 use Rattle.std.specs.Prelude.{map, filter, ◌==◌}
 use Rattle.std.proofs.lemmas.Bool.{cases_eq, lt-ltb, le-ltb}
 use Rattle.std.proofs.lemmas.List.Sums.{sum_by-append}
@@ -24,7 +25,8 @@ use Rattle.trace_law.proofs.Arrivals.{front_of, goes_by, all_granted, granted_si
 use Rattle.trace_law.proofs.Aged.{filter-map, within-map, aged_in, old_stamps, later_alone, first_within}
 use Rattle.std.proofs.lemmas.List.{map-append, length-map}
 use Rattle.trace_law.proofs.Journals.{shift_in, feeders_go, begins, rows_known}
-use Rattle.join_rows.proofs.Within.{IsWithinBag-trans, within_same, within-filter, within-gather, within-more, nothing_within}
+use Rattle.join_rows.proofs.Within.{IsWithinBag-trans, within_same, within-filter, within-gather, within-more}
+use Rattle.join_rows.proofs.Within.{nothing_within}
 use Rattle.join_rows.proofs.Totals.{gather-filter}
 use Rattle.grid_map.proofs.Halves.{partner_below}
 

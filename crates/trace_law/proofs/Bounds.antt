@@ -1,5 +1,6 @@
 -- A lawful journal has few migrations and few decisions.
-use Rattle.std.proofs.Common.{◌≡◌, ℕ, ◌+◌, ◌-◌, ◌*◌, ◌^◌, ◌<◌, ◌≤◌, refl, sym, ◌∙◌, ap, subst, arith, List, [], ◌∷◌, ◌++◌}
+use Rattle.std.proofs.Common.{◌≡◌, ℕ, ◌+◌, ◌-◌, ◌*◌, ◌^◌, ◌<◌, ◌≤◌, refl, sym, ◌∙◌, ap, subst, arith, List, [], ◌∷◌}
+use Rattle.std.proofs.Common.{◌++◌}
 use Rattle.std.specs.Prelude.{map, sum_by, reverse}
 use Rattle.std.proofs.lemmas.List.{reverse-append, reverse-reverse}
 use Rattle.join_rows.specs.declared.table.Side.TheVariants.{R, S}
@@ -7,8 +8,10 @@ use Rattle.join_rows.specs.Lists.{IsPrefix, total}
 use Rattle.join_rows.proofs.Bags.{sum_of_map, IsWithinBag-prefix}
 use Rattle.join_rows.proofs.Totals.{total_le}
 use Rattle.load_controller.specs.declared.line.TurnLine.{TurnLine}
-use Rattle.load_controller.specs.Journal.{begun, Follows, counted_r, counted_s, causes_of, all_causes, IsLawfulSoFar, last_epoch, due_lines}
-use Rattle.load_controller.proofs.Counted.{lines_r, lines_s, rows_r_counted, rows_s_counted, forwards, lines_r_are, lines_s_are, all_r_are, all_s_are}
+use Rattle.load_controller.specs.Journal.{begun, Follows, counted_r, counted_s, causes_of, all_causes, IsLawfulSoFar}
+use Rattle.load_controller.specs.Journal.{last_epoch, due_lines}
+use Rattle.load_controller.proofs.Counted.{lines_r, lines_s, rows_r_counted, rows_s_counted, forwards, lines_r_are}
+use Rattle.load_controller.proofs.Counted.{lines_s_are, all_r_are, all_s_are}
 use Rattle.load_controller.proofs.Bound.{migrations, decisions}
 use Rattle.trace_law.specs.declared.input.Input.{Input}
 use Rattle.trace_law.specs.Join.{row_count}

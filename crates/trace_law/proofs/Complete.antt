@@ -1,5 +1,6 @@
 -- An agreeing family whose collector is complete is finished.
-use Rattle.std.proofs.Common.{◌≡◌, ℕ, ◌+◌, ◌^◌, ◌<◌, ◌≤◌, min, inl, inr, refl, sym, ◌∙◌, ap, subst, arith, List, [], ◌∷◌, ◌++◌, append_assoc, length, append-nil, length-append}
+use Rattle.std.proofs.Common.{◌≡◌, ℕ, ◌+◌, ◌^◌, ◌<◌, ◌≤◌, min, inl, inr, refl, sym, ◌∙◌, ap, subst, arith, List, []}
+use Rattle.std.proofs.Common.{◌∷◌, ◌++◌, append_assoc, length, append-nil, length-append}
 use Rattle.std.proofs.lemmas.List.{length-map}
 use Rattle.std.specs.Prelude.{map}
 use Rattle.std.proofs.lemmas.Bool.{cases_lt}
@@ -23,13 +24,15 @@ use Rattle.load_controller.specs.Journal.{begun}
 use Rattle.trace_law.proofs.Steps.{steps, epoch_is, orders_sent}
 use Rattle.reshuffler_core.proofs.Arrivals.{answers_count_up}
 use Rattle.reshuffler_core.proofs.TakesAll.{answers_turns, answers_ends}
-use Rattle.joiner_law.specs.Law.{JoinerStart, Taken, opened, shift_after, partner_of, AllTurned, IsAtRest, IsFinished as IsFinishedJoiner}
+use Rattle.joiner_law.specs.Law.{JoinerStart, Taken, opened, shift_after, partner_of, AllTurned, IsAtRest}
+use Rattle.joiner_law.specs.Law.{IsFinished as IsFinishedJoiner}
 use Rattle.joiner_law.proofs.TakesAll.{IsOfEpoch, at_least, later, shows}
 use Rattle.pair_collector.specs.Law.{IsComplete}
 use Rattle.trace_law.specs.declared.input.Input.{Input}
 use Rattle.trace_law.specs.declared.setting.Setting.{Setting}
 use Rattle.trace_law.specs.Validity.{IsValid}
-use Rattle.trace_law.specs.Family.{Rest, IsRestFor, Family, IsAgreeing, IsFinished, IsAllReceived, rules_of, feeder_start, joiner_start}
+use Rattle.trace_law.specs.Family.{Rest, IsRestFor, Family, IsAgreeing, IsFinished, IsAllReceived, rules_of}
+use Rattle.trace_law.specs.Family.{feeder_start, joiner_start}
 use Rattle.trace_law.proofs.Arrivals.{goes_by}
 use Rattle.trace_law.proofs.Again.{ends_whole}
 use Rattle.trace_law.proofs.Ends.{took_sent, is_over_now, all_came}

@@ -1,5 +1,6 @@
 -- An agreeing family has few events: one bound for each kind of link, and their sum.
-use Rattle.std.proofs.Common.{◌≡◌, ℕ, zero, suc, ◌+◌, ◌-◌, ◌*◌, ◌^◌, ◌<◌, ◌≤◌, ◌⊎◌, inl, inr, refl, sym, ◌∙◌, ap, subst, arith, List, [], ◌∷◌, ◌++◌, length, length-append, append_assoc}
+use Rattle.std.proofs.Common.{◌≡◌, ℕ, zero, suc, ◌+◌, ◌-◌, ◌*◌, ◌^◌, ◌<◌, ◌≤◌, ◌⊎◌, inl, inr, refl, sym, ◌∙◌, ap, subst}
+use Rattle.std.proofs.Common.{arith, List, [], ◌∷◌, ◌++◌, length, length-append, append_assoc}
 use Rattle.std.specs.Prelude.{map, filter, sum_by, reverse, ◌/◌}
 use Rattle.std.proofs.lemmas.Bool.{cases_eq}
 use Rattle.std.proofs.lemmas.Nat.{pow_pos}
@@ -7,7 +8,9 @@ use Rattle.std.proofs.lemmas.List.{length-map, reverse-append, reverse-reverse}
 use Rattle.std.proofs.lemmas.List.FromFn.{length-map-range_with_len}
 use Rattle.join_rows.specs.declared.table.Side.TheVariants.{R, S}
 use Rattle.join_rows.specs.Lists.{total, counting_from}
-use Rattle.join_rows.proofs.Totals.{total_le, total_same, total-add, total-const, length-gather, greatest_above, length_sum, front_length, filter_fewer, total_swap, only_one, total_most, greatest_most}
+use Rattle.join_rows.proofs.Totals.{total_le, total_same, total-add, total-const, length-gather, greatest_above}
+use Rattle.join_rows.proofs.Totals.{length_sum, front_length, filter_fewer, total_swap, only_one, total_most}
+use Rattle.join_rows.proofs.Totals.{greatest_most}
 use Rattle.join_rows.proofs.RisingNumbers.{length-counting_from}
 use Rattle.epoch_tags.specs.declared.message.ToController.{ToController}
 use Rattle.epoch_tags.specs.declared.message.ToController.TheVariants.{Settled}
@@ -27,7 +30,8 @@ use Rattle.trace_law.specs.declared.input.Input.{Input}
 use Rattle.trace_law.specs.Join.{row_count}
 use Rattle.trace_law.specs.declared.setting.Setting.{Setting}
 use Rattle.trace_law.specs.Validity.{IsValid}
-use Rattle.trace_law.specs.Family.{Rest, IsRestFor, Family, IsAgreeing, migrations, aged, own_rows, events, feeder_start, joiner_start, rules_of, batches}
+use Rattle.trace_law.specs.Family.{Rest, IsRestFor, Family, IsAgreeing, migrations, aged, own_rows, events}
+use Rattle.trace_law.specs.Family.{feeder_start, joiner_start, rules_of, batches}
 use Rattle.trace_law.proofs.Arrivals.{front_of}
 use Rattle.trace_law.proofs.Lines.{came}
 use Rattle.trace_law.proofs.Shares.{of_batches, own_total, new_count}

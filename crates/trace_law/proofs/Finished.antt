@@ -1,12 +1,14 @@
 -- In a finished family the joiners have found each pair with a row of the wave once, and so the collector has taken it.
-use Rattle.std.proofs.Common.{◌≡◌, ℕ, zero, suc, ◌+◌, ◌<◌, ◌≤◌, ◌^◌, inl, inr, refl, sym, ◌∙◌, ap, subst, arith, Bool, false, ◌&&◌, List, [], ◌∷◌, ◌++◌, length}
+use Rattle.std.proofs.Common.{◌≡◌, ℕ, zero, suc, ◌+◌, ◌<◌, ◌≤◌, ◌^◌, inl, inr, refl, sym, ◌∙◌, ap, subst, arith, Bool}
+use Rattle.std.proofs.Common.{false, ◌&&◌, List, [], ◌∷◌, ◌++◌, length}
 use Rattle.std.specs.Prelude.{map, filter, sum_by, not, nat_le}
 use Rattle.std.specs.List.{AllByRecursion}
 use Rattle.std.proofs.lemmas.Bool.{cases_lt, leb-true, false_from_ne_true}
 use Rattle.std.proofs.lemmas.Nat.{pow_pos}
 use Rattle.std.proofs.lemmas.List.Sums.{sum_by-append}
 use Rattle.join_rows.specs.Lists.{SameBag, gather}
-use Rattle.join_rows.proofs.Bags.{only_if, sum-same, sum-filter, SameBag-trans, SameBag-sym, SameBag-refl, SameBag-append}
+use Rattle.join_rows.proofs.Bags.{only_if, sum-same, sum-filter, SameBag-trans, SameBag-sym, SameBag-refl}
+use Rattle.join_rows.proofs.Bags.{SameBag-append}
 use Rattle.join_rows.proofs.Within.{same-gather}
 use Rattle.join_rows.proofs.Everywhere.{weaken, all-append, all-gather, both_hold}
 use Rattle.join_rows.proofs.Totals.{sum_plus, greatest_above}
@@ -23,7 +25,8 @@ use Rattle.trace_law.specs.declared.input.Input.{Input}
 use Rattle.trace_law.specs.declared.setting.Setting.{Setting}
 use Rattle.trace_law.specs.Join.{nested_loop}
 use Rattle.trace_law.specs.Validity.{IsValid}
-use Rattle.trace_law.specs.Family.{Rest, IsRestFor, Family, IsAgreeing, IsFinished, joiner_start, feeder_start, old_rows, aged}
+use Rattle.trace_law.specs.Family.{Rest, IsRestFor, Family, IsAgreeing, IsFinished, joiner_start, feeder_start}
+use Rattle.trace_law.specs.Family.{old_rows, aged}
 use Rattle.trace_law.specs.Stored.{is_stored}
 use Rattle.trace_law.specs.Join.{has_new, wave_pairs}
 use Rattle.trace_law.proofs.Aged.{old_stamps}

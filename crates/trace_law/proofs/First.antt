@@ -1,5 +1,6 @@
 -- A run begins with a rest that stands for its input, and its wave has all rows.
-use Rattle.std.proofs.Common.{◌≡◌, ℕ, refl, sym, ap, subst, arith, Bool, true, false, cond, not, ◌&&◌, List, [], ◌∷◌, ◌∙◌}
+use Rattle.std.proofs.Common.{◌≡◌, ℕ, refl, sym, ap, subst, arith, Bool, true, false, cond, not, ◌&&◌, List, [], ◌∷◌}
+use Rattle.std.proofs.Common.{◌∙◌}
 use Rattle.std.specs.Prelude.{map, filter, nat_lt}
 use Rattle.std.proofs.lemmas.Bool.Decides.{nat_tests}
 use Rattle.join_rows.specs.declared.table.Side.{Side}

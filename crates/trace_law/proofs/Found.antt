@@ -1,6 +1,7 @@
 -- At every moment: what all joiners found, with the pairs of the older rows, are pairs of the rows that came, each
 -- once.
-use Rattle.std.proofs.Common.{◌≡◌, ℕ, zero, suc, ◌+◌, ◌<◌, ◌≤◌, ◌^◌, refl, sym, ap, subst, arith, Bool, ◌&&◌, List, [], ◌∷◌, ◌++◌}
+use Rattle.std.proofs.Common.{◌≡◌, ℕ, zero, suc, ◌+◌, ◌<◌, ◌≤◌, ◌^◌, refl, sym, ap, subst, arith, Bool, ◌&&◌, List, []}
+use Rattle.std.proofs.Common.{◌∷◌, ◌++◌}
 use Rattle.std.specs.Prelude.{map, filter, sum_by}
 use Rattle.std.specs.List.{AllByRecursion}
 use Rattle.std.proofs.lemmas.List.Sums.{sum_by-append}
@@ -8,7 +9,8 @@ use Rattle.std.proofs.lemmas.List.Elements.{recursion_from_All}
 use Rattle.join_rows.specs.declared.table.Side.{Side}
 use Rattle.join_rows.specs.Lists.{SameBag, IsWithinBag, gather, total}
 use Rattle.join_rows.proofs.Bags.{SameBag-trans, SameBag-sym, SameBag-refl, SameBag-append}
-use Rattle.join_rows.proofs.Within.{IsWithinBag-trans, within_same, within-gather, within-append, gather_more, same-gather}
+use Rattle.join_rows.proofs.Within.{IsWithinBag-trans, within_same, within-gather, within-append, gather_more}
+use Rattle.join_rows.proofs.Within.{same-gather}
 use Rattle.join_rows.proofs.Everywhere.{weaken, all-append, all-gather, all-map, both_hold, all_at}
 use Rattle.join_rows.proofs.Totals.{sum-gather, total-add, total_same, total_part, each_below, sum_by-le}
 use Rattle.epoch_tags.specs.declared.tuple.Tuple.{Tuple}
@@ -27,12 +29,14 @@ use Rattle.trace_law.specs.declared.setting.Setting.{Setting}
 use Rattle.trace_law.specs.Join.{ticket_of, tickets_of, matches_of}
 use Rattle.trace_law.specs.Validity.{IsValid}
 use Rattle.row_tickets.specs.declared.place.Place.{Place}
-use Rattle.trace_law.specs.Family.{rules_of, Rest, IsRestFor, Family, IsAgreeing, feeder_start, batches, tuple_of, is_old, all_places, old_rows, aged}
+use Rattle.trace_law.specs.Family.{rules_of, Rest, IsRestFor, Family, IsAgreeing, feeder_start, batches, tuple_of}
+use Rattle.trace_law.specs.Family.{is_old, all_places, old_rows, aged}
 use Rattle.trace_law.specs.Stored.{is_stored}
 use Rattle.trace_law.proofs.Begun.{fits_begun}
 use Rattle.trace_law.proofs.Aged.{everywhere, old_stamps}
 use Rattle.trace_law.proofs.PairSums.{finds, found_once, sum-pairs}
-use Rattle.trace_law.proofs.NewPairs.{pairs-parts, pairs-aged, later_stamp, first_finds, same_pairs, held_once, weight_of}
+use Rattle.trace_law.proofs.NewPairs.{pairs-parts, pairs-aged, later_stamp, first_finds, same_pairs, held_once}
+use Rattle.trace_law.proofs.NewPairs.{weight_of}
 use Rattle.trace_law.proofs.Arrivals.{granted_since}
 use Rattle.trace_law.proofs.Journals.{feeders_go, begins}
 use Rattle.trace_law.proofs.AtMost.{b, all, start_of, took, new_rows, stores_at_most}

@@ -1,6 +1,7 @@
 -- A moment of the family with an old row that is moved: at joiner 1 the first feeder has turned and the second has not,
 -- so its rows of the old epoch come late; one of them was moved on, and joiner 0 holds it, before any turn of its own.
-use Rattle.std.proofs.Common.{◌≡◌, ℕ, zero, suc, ◌+◌, ◌<◌, ◌==◌, inl, inr, refl, sym, subst, arith, true, false, List, [], ◌∷◌, ◌++◌, length}
+use Rattle.std.proofs.Common.{◌≡◌, ℕ, zero, suc, ◌+◌, ◌<◌, ◌==◌, inl, inr, refl, sym, subst, arith, true, false, List}
+use Rattle.std.proofs.Common.{[], ◌∷◌, ◌++◌, length}
 use Rattle.std.specs.Prelude.{map, filter, reverse, drop}
 use Rattle.std.specs.List.{AllByRecursion}
 use Rattle.std.proofs.lemmas.Bool.{cases_eq, ne_eqb}
@@ -17,7 +18,8 @@ use Rattle.epoch_tags.specs.Messages.{moved_of, moved_ends, turn_shifts}
 use Rattle.epoch_tags.specs.Orders.{CountsUp, NeverFalls}
 use Rattle.migration_plan.specs.Steps.{AreNeighbours, is_of}
 use Rattle.reshuffler_core.specs.Law.{FeederLaw, answers}
-use Rattle.joiner_law.specs.Law.{JoinerLaw, JoinerStart, Taken, IsTakenOf, CanTakeOfJoiner, shift_after, partner_of, exchanged, store}
+use Rattle.joiner_law.specs.Law.{JoinerLaw, JoinerStart, Taken, IsTakenOf, CanTakeOfJoiner, shift_after, partner_of}
+use Rattle.joiner_law.specs.Law.{exchanged, store}
 use Rattle.load_controller.specs.declared.line.Cause.TheVariants.{Count}
 use Rattle.load_controller.specs.declared.line.TurnLine.{TurnLine}
 use Rattle.load_controller.specs.Journal.{begun, Follows, start_line}

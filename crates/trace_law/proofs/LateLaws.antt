@@ -1,5 +1,6 @@
 -- The actors of the finished family with an old row that is moved keep their laws, and agree.
-use Rattle.std.proofs.Common.{◌≡◌, ℕ, zero, suc, ◌+◌, ◌<◌, ◌^◌, ◌==◌, inl, inr, refl, sym, subst, arith, false, [], ◌∷◌, length}
+use Rattle.std.proofs.Common.{◌≡◌, ℕ, zero, suc, ◌+◌, ◌<◌, ◌^◌, ◌==◌, inl, inr, refl, sym, subst, arith, false, [], ◌∷◌}
+use Rattle.std.proofs.Common.{length}
 use Rattle.std.specs.Prelude.{All, filter}
 use Rattle.std.specs.List.{AllByRecursion}
 use Rattle.std.proofs.lemmas.Bool.{cases_eq, ne_eqb}
@@ -11,13 +12,16 @@ use Rattle.epoch_tags.specs.Messages.{turns, ends, moved_of, moved_ends, turn_sh
 use Rattle.epoch_tags.specs.Orders.{CountsUp, NeverFalls}
 use Rattle.migration_plan.specs.Steps.{AreNeighbours, is_of}
 use Rattle.reshuffler_core.specs.Law.{FeederLaw, answers}
-use Rattle.joiner_law.specs.Law.{JoinerLaw, JoinerStart, IsSettled, AllTurned, IsAtRest, shift_after, partner_of, exchanged, store}
+use Rattle.joiner_law.specs.Law.{JoinerLaw, JoinerStart, IsSettled, AllTurned, IsAtRest, shift_after, partner_of}
+use Rattle.joiner_law.specs.Law.{exchanged, store}
 use Rattle.theta_pred.specs.Truth.{width_of}
 use Rattle.trace_law.specs.Join.{table_of, tickets_of}
 use Rattle.trace_law.specs.Validity.{IsFor, IsValid}
-use Rattle.trace_law.specs.Family.{IsAgreeing, IsQuiet, IsFinished as IsFinishedFamily, feeder_start, joiner_start, first_rest}
+use Rattle.trace_law.specs.Family.{IsAgreeing, IsQuiet, IsFinished as IsFinishedFamily, feeder_start, joiner_start}
+use Rattle.trace_law.specs.Family.{first_rest}
 use Rattle.trace_law.specs.Laws.{FinishedWithAnOldRowMoved}
-use Rattle.trace_law.proofs.Late.{input, setting, orders, requests, fed, passed, founds, last_words, collected, taken, family}
+use Rattle.trace_law.proofs.Late.{input, setting, orders, requests, fed, passed, founds, last_words, collected, taken}
+use Rattle.trace_law.proofs.Late.{family}
 use Rattle.trace_law.proofs.LateController.{controller_law}
 use Rattle.std.proofs.lemmas.List.{append-nil}
 use Rattle.joiner_law.proofs.Row.{all_of}

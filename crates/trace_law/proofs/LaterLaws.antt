@@ -1,6 +1,7 @@
 -- The actors of the finished family of a later wave keep their laws, and agree; what it begins with stands for its
 -- input.
-use Rattle.std.proofs.Common.{◌≡◌, ℕ, zero, suc, ◌+◌, ◌<◌, ◌≤◌, ◌^◌, ◌==◌, inl, inr, refl, sym, subst, arith, false, [], ◌∷◌, length}
+use Rattle.std.proofs.Common.{◌≡◌, ℕ, zero, suc, ◌+◌, ◌<◌, ◌≤◌, ◌^◌, ◌==◌, inl, inr, refl, sym, subst, arith, false, []}
+use Rattle.std.proofs.Common.{◌∷◌, length}
 use Rattle.std.specs.Prelude.{All, filter, map}
 use Rattle.std.specs.List.{AllByRecursion}
 use Rattle.std.proofs.lemmas.Bool.{cases_eq, ne_eqb}
@@ -14,14 +15,17 @@ use Rattle.epoch_tags.specs.Messages.{moved_of, moved_ends, turn_shifts, fins}
 use Rattle.epoch_tags.specs.Orders.{CountsUp, NeverFalls}
 use Rattle.migration_plan.specs.Steps.{AreNeighbours, holds, is_of}
 use Rattle.reshuffler_core.specs.Law.{FeederLaw, answers}
-use Rattle.joiner_law.specs.Law.{JoinerLaw, JoinerStart, IsSettled, AllTurned, IsAtRest, shift_after, partner_of, exchanged, store}
+use Rattle.joiner_law.specs.Law.{JoinerLaw, JoinerStart, IsSettled, AllTurned, IsAtRest, shift_after, partner_of}
+use Rattle.joiner_law.specs.Law.{exchanged, store}
 use Rattle.joiner_law.proofs.Row.{all_of}
 use Rattle.theta_pred.specs.Truth.{width_of}
 use Rattle.trace_law.specs.Join.{table_of, tickets_of}
 use Rattle.trace_law.specs.Validity.{IsFor, IsValid}
-use Rattle.trace_law.specs.Family.{IsLineFor, IsRestFor, aged, old_rows, IsAgreeing, IsQuiet, IsFinished as IsFinishedFamily, feeder_start, joiner_start}
+use Rattle.trace_law.specs.Family.{IsLineFor, IsRestFor, aged, old_rows, IsAgreeing, IsQuiet}
+use Rattle.trace_law.specs.Family.{IsFinished as IsFinishedFamily, feeder_start, joiner_start}
 use Rattle.trace_law.specs.Laws.{FinishedLaterWave}
-use Rattle.trace_law.proofs.Later.{input, setting, row_r, earlier, rest, orders, fed, passed, founds, last_words, collected, taken, family}
+use Rattle.trace_law.proofs.Later.{input, setting, row_r, earlier, rest, orders, fed, passed, founds, last_words}
+use Rattle.trace_law.proofs.Later.{collected, taken, family}
 use Rattle.trace_law.proofs.LaterController.{controller_law}
 
 -- ---- what the wave begins with

@@ -6,7 +6,8 @@ use Rattle.epoch_tags.specs.Messages.{asked_r, asked_s}
 use Rattle.epoch_tags.proofs.Appends.{asked_r-append, asked_s-append}
 use Rattle.reshuffler_core.specs.Law.{requests}
 use Rattle.reshuffler_core.proofs.TakesAll.{drains_last, fewer_r, fewer_s}
-use Rattle.load_controller.proofs.Counted.{HaveLines, lines_r, lines_s, lines_r_within, lines_s_within, rows_r_counted, rows_s_counted, counts_all}
+use Rattle.load_controller.proofs.Counted.{HaveLines, lines_r, lines_s, lines_r_within, lines_s_within, rows_r_counted}
+use Rattle.load_controller.proofs.Counted.{rows_s_counted, counts_all}
 use Rattle.trace_law.specs.declared.input.Input.{Input}
 use Rattle.trace_law.specs.declared.setting.Setting.{Setting}
 use Rattle.load_controller.specs.Journal.{begun}

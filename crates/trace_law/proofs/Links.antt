@@ -1,5 +1,6 @@
 -- A joiner sends messages to none but those that differ from it in one digit of their numbers.
-use Rattle.std.proofs.Common.{◌≡◌, ℕ, ◌+◌, ◌<◌, ◌^◌, inl, inr, refl, sym, ◌∙◌, subst, arith, length, List, [], ◌∷◌, ◌++◌}
+use Rattle.std.proofs.Common.{◌≡◌, ℕ, ◌+◌, ◌<◌, ◌^◌, inl, inr, refl, sym, ◌∙◌, subst, arith, length, List, [], ◌∷◌}
+use Rattle.std.proofs.Common.{◌++◌}
 use Rattle.epoch_tags.specs.declared.actor.Actor.TheVariants.{Joiner}
 use Rattle.epoch_tags.specs.declared.message.ToJoiner.{ToJoiner}
 use Rattle.epoch_tags.specs.Messages.{turns, moved_of, moved_ends}

@@ -1,5 +1,6 @@
 -- The nested loop as a sum over rows, and the pairs of the rows granted against it.
-use Rattle.std.proofs.Common.{◌≡◌, ℕ, ◌+◌, ◌<◌, ◌≤◌, refl, sym, ◌∙◌, ap, arith, Bool, true, false, cond, ◌&&◌, List, [], ◌∷◌, ◌++◌, length, Some, None}
+use Rattle.std.proofs.Common.{◌≡◌, ℕ, ◌+◌, ◌<◌, ◌≤◌, refl, sym, ◌∙◌, ap, arith, Bool, true, false, cond, ◌&&◌, List, []}
+use Rattle.std.proofs.Common.{◌∷◌, ◌++◌, length, Some, None}
 use Rattle.std.specs.Prelude.{map, filter, not, filter_map, flat_map, sum_by}
 use Rattle.std.specs.List.{enumerate_from, cons_option, range_with_len}
 use Rattle.std.proofs.lemmas.List.Sums.{sum_by-cons, sum_by-append}
@@ -28,7 +29,8 @@ use Rattle.trace_law.proofs.Cuts.{joined_again}
 use Rattle.trace_law.proofs.PairSums.{sum-pairs}
 use Rattle.trace_law.proofs.RowSums.{shares_sum}
 use Rattle.trace_law.proofs.Stamps.{grant_epochs, granted_is, IsBlind, some_of_batches}
-use Rattle.join_rows.proofs.Totals.{total_same, total_le, total-add, sum-gather, sum_by-le, sum_plus, zeros, enumerate_sum, range_sum}
+use Rattle.join_rows.proofs.Totals.{total_same, total_le, total-add, sum-gather, sum_by-le, sum_plus, zeros}
+use Rattle.join_rows.proofs.Totals.{enumerate_sum, range_sum}
 
 -- the sum over all rows of the input
 abbrev pub row_sum : Input → (Tuple → ℕ) → ℕ

@@ -1,5 +1,6 @@
 -- How many pairs each joiner makes.
-use Rattle.std.proofs.Common.{◌≡◌, ℕ, suc, subst, ◌+◌, ◌<◌, ◌≤◌, ◌^◌, max, refl, sym, ◌∙◌, ap, arith, Bool, true, false, cond, ◌&&◌, ◌||◌, List, [], ◌∷◌, ◌++◌, length, reverse}
+use Rattle.std.proofs.Common.{◌≡◌, ℕ, suc, subst, ◌+◌, ◌<◌, ◌≤◌, ◌^◌, max, refl, sym, ◌∙◌, ap, arith, Bool, true, false}
+use Rattle.std.proofs.Common.{cond, ◌&&◌, ◌||◌, List, [], ◌∷◌, ◌++◌, length, reverse}
 use Rattle.std.specs.Prelude.{filter, not, sum_by, unwrap_or, ◌==◌, nat_le}
 use Rattle.std.specs.List.{AllByRecursion, list_any}
 use Rattle.std.proofs.lemmas.Bool.{eqb-true}
@@ -25,7 +26,8 @@ use Rattle.trace_law.specs.declared.input.Input.{Input}
 use Rattle.trace_law.specs.Join.{is_before, has_new, nested_loop, row_count, ticket_of, meets_in, made, matches_of}
 use Rattle.trace_law.specs.declared.setting.Setting.{Setting}
 use Rattle.trace_law.specs.Validity.{IsValid}
-use Rattle.trace_law.specs.Family.{Rest, IsRestFor, Family, IsAgreeing, IsFinished, tuple_of, cells_of, rules_of, HasItsStamp, shift_of, stamp_in, is_old, all_places, old_rows}
+use Rattle.trace_law.specs.Family.{Rest, IsRestFor, Family, IsAgreeing, IsFinished, tuple_of, cells_of, rules_of}
+use Rattle.trace_law.specs.Family.{HasItsStamp, shift_of, stamp_in, is_old, all_places, old_rows}
 use Rattle.trace_law.proofs.Stores.{is_stored}
 use Rattle.trace_law.proofs.PairSums.{sum-pairs, sum-pairs_by, finds, IsStamped, at_epoch, never, turn_round}
 use Rattle.trace_law.proofs.Loop.{joins_of, loop_pair, loop_sum, old_pairs, either}

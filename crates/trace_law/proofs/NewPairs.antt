@@ -1,5 +1,6 @@
 -- Pairs of what a store began with, beside those that are found.
-use Rattle.std.proofs.Common.{◌≡◌, ℕ, ◌+◌, ◌<◌, ◌≤◌, ◌^◌, max, inl, inr, refl, sym, ◌∙◌, ap, arith, Bool, true, false, cond, ◌&&◌, List, ◌++◌}
+use Rattle.std.proofs.Common.{◌≡◌, ℕ, ◌+◌, ◌<◌, ◌≤◌, ◌^◌, max, inl, inr, refl, sym, ◌∙◌, ap, arith, Bool, true, false}
+use Rattle.std.proofs.Common.{cond, ◌&&◌, List, ◌++◌}
 use Rattle.std.specs.Prelude.{map, filter, sum_by, ◌==◌, nat_le}
 use Rattle.std.specs.List.{AllByRecursion}
 use Rattle.std.proofs.lemmas.Bool.{cases_Bool, eq-eqb, leb-true}

@@ -1,5 +1,6 @@
 -- What joiners hold in the end, and how much they moved.
-use Rattle.std.proofs.Common.{◌≡◌, ℕ, ◌+◌, ◌-◌, ◌*◌, ◌<◌, ◌≤◌, ◌^◌, min, inl, inr, refl, sym, ◌∙◌, ap, subst, arith, Bool, true, false, cond, ◌&&◌, List, [], ◌∷◌, ◌++◌, length}
+use Rattle.std.proofs.Common.{◌≡◌, ℕ, ◌+◌, ◌-◌, ◌*◌, ◌<◌, ◌≤◌, ◌^◌, min, inl, inr, refl, sym, ◌∙◌, ap, subst, arith}
+use Rattle.std.proofs.Common.{Bool, true, false, cond, ◌&&◌, List, [], ◌∷◌, ◌++◌, length}
 use Rattle.std.specs.Prelude.{map, filter, sum_by, sum, count_by, ◌==◌, nat_le, nat_lt, slice_index}
 use Rattle.std.specs.List.{AllByRecursion, range_with_len}
 use Rattle.std.proofs.lemmas.Bool.{cases_eq, le-leb, eq-eqb, ne_eqb}
@@ -29,7 +30,8 @@ use Rattle.trace_law.specs.declared.input.Input.{Input}
 use Rattle.trace_law.specs.Join.{row_count, ticket_of, tickets_of, held, holders, moved}
 use Rattle.trace_law.specs.declared.setting.Setting.{Setting}
 use Rattle.trace_law.specs.Validity.{IsValid}
-use Rattle.trace_law.specs.Family.{Rest, IsRestFor, Family, IsAgreeing, IsFinished, AnswersTheJoin, HasItsStamp, moved_by, feeder_start, shift_of, stamp_in, aged, migrations}
+use Rattle.trace_law.specs.Family.{Rest, IsRestFor, Family, IsAgreeing, IsFinished, AnswersTheJoin, HasItsStamp}
+use Rattle.trace_law.specs.Family.{moved_by, feeder_start, shift_of, stamp_in, aged, migrations}
 use Rattle.trace_law.proofs.Stores.{is_stored}
 use Rattle.trace_law.proofs.Membership.{low_within}
 use Rattle.trace_law.proofs.PairSums.{IsStamped, never, turn_round}
@@ -46,7 +48,8 @@ use Rattle.trace_law.proofs.Ends.{lawful, last_orders, last_line}
 use Rattle.trace_law.proofs.StampOf.{granted_stamps}
 use Rattle.trace_law.proofs.Made.{shift_same, σ, stamped_sum, stamped_rows, none_of, length_is, makes}
 use Rattle.join_rows.proofs.Everywhere.{weaken, all-front, all-back, all-append}
-use Rattle.join_rows.proofs.Totals.{total_same, total-zero, sum-gather, exchange, one_index, sum_same_on, total_front, range_sum, total_grid, pulled, total-const}
+use Rattle.join_rows.proofs.Totals.{total_same, total-zero, sum-gather, exchange, one_index, sum_same_on, total_front}
+use Rattle.join_rows.proofs.Totals.{range_sum, total_grid, pulled, total-const}
 use Rattle.epoch_tags.proofs.Appends.{tups-append}
 
 -- ---- small facts

@@ -1,5 +1,6 @@
 -- What the actors of an agreeing family took is determined by its lists.
-use Rattle.std.proofs.Common.{◌≡◌, ℕ, zero, suc, ◌+◌, ◌^◌, ◌<◌, ◌≤◌, inl, inr, sym, ◌∙◌, ap, subst, arith, List, [], ◌∷◌, ◌++◌, append_assoc, length}
+use Rattle.std.proofs.Common.{◌≡◌, ℕ, zero, suc, ◌+◌, ◌^◌, ◌<◌, ◌≤◌, inl, inr, sym, ◌∙◌, ap, subst, arith, List, []}
+use Rattle.std.proofs.Common.{◌∷◌, ◌++◌, append_assoc, length}
 use Rattle.std.proofs.lemmas.Bool.{cases_eq, cases_lt}
 use Rattle.std.proofs.lemmas.List.{append-nil, length-map}
 use Rattle.join_rows.specs.Lists.{counting_from}
@@ -13,7 +14,8 @@ use Rattle.migration_plan.specs.Steps.{AreNeighbours, partner_in_step}
 use Rattle.reshuffler_core.proofs.TakesAll.{front_of_other, taken_is_one}
 use Rattle.load_controller.specs.Journal.{shift_at}
 use Rattle.joiner_law.specs.Law.{JoinerStart, Taken, opened, shift_after, partner_of, CanTakeOfFeeder, CanTakeOfJoiner}
-use Rattle.joiner_law.proofs.TakesAll.{counts_ends, counts_at, StandsAt, can_take_of_feeder, can_take_no_turn, IsOfEpoch, at_least, later, shows}
+use Rattle.joiner_law.proofs.TakesAll.{counts_ends, counts_at, StandsAt, can_take_of_feeder, can_take_no_turn}
+use Rattle.joiner_law.proofs.TakesAll.{IsOfEpoch, at_least, later, shows}
 use Rattle.trace_law.specs.declared.input.Input.{Input}
 use Rattle.trace_law.specs.declared.setting.Setting.{Setting}
 use Rattle.trace_law.specs.Family.{Rest, Family, IsAgreeing, feeder_start, joiner_start}

@@ -1,5 +1,6 @@
 -- A quiet agreeing family is finished.
-use Rattle.std.proofs.Common.{◌≡◌, ℕ, zero, suc, ◌+◌, ◌^◌, ◌<◌, ◌≤◌, min, inl, inr, refl, sym, ◌∙◌, ap, subst, arith, true, false, List, [], ◌∷◌, ◌++◌, length}
+use Rattle.std.proofs.Common.{◌≡◌, ℕ, zero, suc, ◌+◌, ◌^◌, ◌<◌, ◌≤◌, min, inl, inr, refl, sym, ◌∙◌, ap, subst, arith}
+use Rattle.std.proofs.Common.{true, false, List, [], ◌∷◌, ◌++◌, length}
 use Rattle.std.specs.Prelude.{map}
 use Rattle.std.proofs.lemmas.Bool.{cases_eq, cases_lt, cases_Bool, true≢false, true_from_ne_false}
 use Rattle.std.proofs.lemmas.List.{append-nil}
@@ -9,7 +10,8 @@ use Rattle.epoch_tags.specs.declared.message.ToController.{ToController}
 use Rattle.epoch_tags.specs.declared.message.ToJoiner.{ToJoiner}
 use Rattle.epoch_tags.specs.declared.message.ToJoiner.TheVariants.{Turn}
 use Rattle.epoch_tags.specs.declared.message.ToCollector.TheVariants.{Found}
-use Rattle.epoch_tags.specs.Messages.{order_epochs, grants, stops, asks, draineds, turns, ends, moved_ends, settled_epochs, fins}
+use Rattle.epoch_tags.specs.Messages.{order_epochs, grants, stops, asks, draineds, turns, ends, moved_ends}
+use Rattle.epoch_tags.specs.Messages.{settled_epochs, fins}
 use Rattle.epoch_tags.specs.Orders.{CountsUp, NeverFalls, StopsLast, GoesBy, TurnsGoBy}
 use Rattle.grid_map.specs.Grid.{partner}
 use Rattle.migration_plan.specs.Steps.{AreNeighbours, partner_in_step}
@@ -24,12 +26,15 @@ use Rattle.load_controller.proofs.Counted.{HaveLines, undrained}
 use Rattle.load_controller.proofs.SettledCounts.{ends_still}
 use Rattle.load_controller.proofs.Sends.{sends_grants, no_stops, stops_last, stop_sent, going, all_sent_goes}
 use Rattle.load_controller.proofs.Over.{over_drained, over_where, no_drain_lines}
-use Rattle.joiner_law.specs.Law.{JoinerStart, Taken, opened, shift_after, partner_of, AllTurned, IsSettled, CanTakeOfFeeder, CanTakeOfJoiner, IsFinished as IsFinishedJoiner}
-use Rattle.joiner_law.proofs.TakesAll.{counts_ends, counts_at, StandsAt, can_take_of_feeder, can_take_no_turn, IsOfEpoch, at_least, later, sooner, rest_falls, shows}
+use Rattle.joiner_law.specs.Law.{JoinerStart, Taken, opened, shift_after, partner_of, AllTurned, IsSettled}
+use Rattle.joiner_law.specs.Law.{CanTakeOfFeeder, CanTakeOfJoiner, IsFinished as IsFinishedJoiner}
+use Rattle.joiner_law.proofs.TakesAll.{counts_ends, counts_at, StandsAt, can_take_of_feeder, can_take_no_turn}
+use Rattle.joiner_law.proofs.TakesAll.{IsOfEpoch, at_least, later, sooner, rest_falls, shows}
 use Rattle.trace_law.specs.declared.input.Input.{Input}
 use Rattle.trace_law.specs.declared.setting.Setting.{Setting}
 use Rattle.trace_law.specs.Validity.{IsValid}
-use Rattle.trace_law.specs.Family.{Rest, IsRestFor, Family, IsAgreeing, IsQuiet, IsFinished, feeder_start, joiner_start, rules_of}
+use Rattle.trace_law.specs.Family.{Rest, IsRestFor, Family, IsAgreeing, IsQuiet, IsFinished, feeder_start, joiner_start}
+use Rattle.trace_law.specs.Family.{rules_of}
 use Rattle.trace_law.proofs.Membership.{low_within}
 use Rattle.trace_law.proofs.Arrivals.{goes_by}
 use Rattle.trace_law.proofs.Journals.{shift_in, feeders_go, begins}

@@ -10,16 +10,19 @@ use Rattle.joiner_law.specs.Law.{opened}
 use Rattle.load_controller.specs.declared.line.Cause.{Cause}
 use Rattle.load_controller.specs.declared.line.Cause.TheVariants.{Start, Wave, Count, Settle, Drain}
 use Rattle.load_controller.specs.declared.line.TurnLine.{TurnLine}
-use Rattle.load_controller.specs.Journal.{Rules, begun, begun_by, goes_on, Follows, IsAllowed, counted_r, counted_s, causes_of, is_drain_of, has_drained}
+use Rattle.load_controller.specs.Journal.{Rules, begun, begun_by, goes_on, Follows, IsAllowed, counted_r, counted_s}
+use Rattle.load_controller.specs.Journal.{causes_of, is_drain_of, has_drained}
 use Rattle.load_controller.proofs.Again.{fits_again}
-use Rattle.load_controller.proofs.Counted.{lines_r, lines_s, rows_r_counted, rows_s_counted, forwards, lines_r_are, lines_s_are, all_r_are, all_s_are}
+use Rattle.load_controller.proofs.Counted.{lines_r, lines_s, rows_r_counted, rows_s_counted, forwards, lines_r_are}
+use Rattle.load_controller.proofs.Counted.{lines_s_are, all_r_are, all_s_are}
 use Rattle.load_controller.proofs.Shifts.{each_shift}
 use Rattle.trace_law.specs.declared.input.Input.{Input}
 use Rattle.trace_law.specs.declared.setting.Setting.{Setting}
 use Rattle.trace_law.specs.Join.{row_count}
 use Rattle.trace_law.specs.Batches.{size_of}
 use Rattle.trace_law.specs.Validity.{IsValid}
-use Rattle.trace_law.specs.Family.{Rest, IsLineFor, IsRestFor, Family, IsAgreeing, IsFinished, rest_after, rules_of, batches, joiner_start}
+use Rattle.trace_law.specs.Family.{Rest, IsLineFor, IsRestFor, Family, IsAgreeing, IsFinished, rest_after, rules_of}
+use Rattle.trace_law.specs.Family.{batches, joiner_start}
 use Rattle.trace_law.proofs.Begun.{fits_begun, no_request}
 use Rattle.trace_law.proofs.Shares.{in_all_r, in_all_s}
 use Rattle.trace_law.proofs.Journals.{shift_in}

@@ -1,5 +1,6 @@
 -- A finished family's answer is the run of its input, setting and journal.
-use Rattle.std.proofs.Common.{◌≡◌, ℕ, zero, suc, ◌+◌, ◌*◌, ◌-◌, ◌<◌, ◌≤◌, ◌^◌, min, refl, sym, ◌∙◌, ap, subst, arith, false, None, List, [], ◌∷◌, length}
+use Rattle.std.proofs.Common.{◌≡◌, ℕ, zero, suc, ◌+◌, ◌*◌, ◌-◌, ◌<◌, ◌≤◌, ◌^◌, min, refl, sym, ◌∙◌, ap, subst, arith}
+use Rattle.std.proofs.Common.{false, None, List, [], ◌∷◌, length}
 use Rattle.std.specs.Prelude.{map, count_by, nat_lt, slice_index, Some}
 use Rattle.std.specs.List.{AllByRecursion, range_with_len}
 use Rattle.std.proofs.lemmas.Nat.{mul-le, pow_pos}
@@ -30,7 +31,8 @@ use Rattle.trace_law.specs.declared.input.Input.{Input}
 use Rattle.trace_law.specs.declared.setting.Setting.{Setting}
 use Rattle.trace_law.specs.Join.{wave_pairs, row_count, held, holders, made, moved}
 use Rattle.trace_law.specs.Validity.{IsValid}
-use Rattle.trace_law.specs.Family.{Rest, IsRestFor, Family, IsAgreeing, IsFinished, AnswersTheJoin, rules_of, moved_by, shift_of, stamp_in, migrations}
+use Rattle.trace_law.specs.Family.{Rest, IsRestFor, Family, IsAgreeing, IsFinished, AnswersTheJoin, rules_of, moved_by}
+use Rattle.trace_law.specs.Family.{shift_of, stamp_in, migrations}
 use Rattle.trace_law.specs.Runs.{AreNear, IsRunOf, run_of}
 use Rattle.trace_law.proofs.Lawful.{journal_is}
 use Rattle.trace_law.proofs.Made.{shift_same}

@@ -1,5 +1,7 @@
 -- The rows that feeders were granted bear the stamps that the journal gives them.
-use Rattle.std.proofs.Common.{◌≡◌, ℕ, zero, suc, ◌+◌, ◌-◌, ◌*◌, ◌/◌, ◌%◌, ◌<◌, ◌≤◌, inl, inr, refl, sym, ◌∙◌, ap, subst, arith, Bool, true, false, cond, List, [], ◌∷◌, ◌++◌, length, length-append, append_assoc, take, drop, get_or-drop, length-take, take-append-drop, drop-drop, length-drop, get_or}
+use Rattle.std.proofs.Common.{◌≡◌, ℕ, zero, suc, ◌+◌, ◌-◌, ◌*◌, ◌/◌, ◌%◌, ◌<◌, ◌≤◌, inl, inr, refl, sym, ◌∙◌, ap, subst}
+use Rattle.std.proofs.Common.{arith, Bool, true, false, cond, List, [], ◌∷◌, ◌++◌, length, length-append, append_assoc}
+use Rattle.std.proofs.Common.{take, drop, get_or-drop, length-take, take-append-drop, drop-drop, length-drop, get_or}
 use Rattle.std.specs.Prelude.{map, filter, not, sum_by, ◌==◌, nat_lt, flat_map, slice_get, max, Option, Some, None}
 use Rattle.std.specs.List.{AllByRecursion, range_with_len, position_or_len}
 use Rattle.std.proofs.lemmas.Bool.{cases_lt, cases_Bool, not-true, eqb-true, eq-eqb, ne_eqb}
@@ -24,7 +26,8 @@ use Rattle.trace_law.specs.Batches.{same_place, stamp_of}
 use Rattle.row_tickets.specs.declared.place.Feed.TheVariants.{Alternate, RFirst, SFirst}
 use Rattle.trace_law.specs.declared.setting.Setting.{Setting}
 use Rattle.trace_law.specs.Validity.{IsValid}
-use Rattle.trace_law.specs.Family.{Rest, IsRestFor, Family, IsAgreeing, HasItsStamp, tuple_of, is_old, all_places, old_rows, own_rows, feeder_start, stamp_at}
+use Rattle.trace_law.specs.Family.{Rest, IsRestFor, Family, IsAgreeing, HasItsStamp, tuple_of, is_old, all_places}
+use Rattle.trace_law.specs.Family.{old_rows, own_rows, feeder_start, stamp_at}
 use Rattle.trace_law.proofs.Cuts.{joined_again}
 use Rattle.trace_law.proofs.RowSums.{shares_sum}
 use Rattle.trace_law.proofs.Stamps.{grant_epochs, with_stamps, granted_is, epochs_taken}

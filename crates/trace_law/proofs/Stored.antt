@@ -1,5 +1,6 @@
 -- A joiner stores what it holds of the rows that were counted.
-use Rattle.std.proofs.Common.{◌≡◌, ℕ, ◌+◌, ◌<◌, ◌≤◌, ◌^◌, ◌⊎◌, inl, inr, refl, sym, ◌∙◌, ap, subst, arith, Bool, true, false, cond, not, ◌&&◌, List, [], ◌∷◌, ◌++◌, length, append_assoc, drop}
+use Rattle.std.proofs.Common.{◌≡◌, ℕ, ◌+◌, ◌<◌, ◌≤◌, ◌^◌, ◌⊎◌, inl, inr, refl, sym, ◌∙◌, ap, subst, arith, Bool, true}
+use Rattle.std.proofs.Common.{false, cond, not, ◌&&◌, List, [], ◌∷◌, ◌++◌, length, append_assoc, drop}
 use Rattle.std.specs.Prelude.{map, filter, not, filter_map, option_map, sum_by, ◌==◌, Option, Some, None}
 use Rattle.std.specs.List.{AllByRecursion, cons_option}
 use Rattle.std.proofs.lemmas.Bool.{lt-leb}
@@ -26,7 +27,8 @@ use Rattle.row_tickets.specs.declared.place.Place.{Place}
 use Rattle.row_tickets.specs.Share.{place_at}
 use Rattle.trace_law.specs.declared.setting.Setting.{Setting}
 use Rattle.trace_law.specs.Validity.{IsValid}
-use Rattle.trace_law.specs.Family.{Rest, IsRestFor, Family, IsAgreeing, all_places, old_rows, is_old, own_rows, aged, tuple_of, feeder_start, joiner_start, rules_of, shift_of, stamp_at}
+use Rattle.trace_law.specs.Family.{Rest, IsRestFor, Family, IsAgreeing, all_places, old_rows, is_old, own_rows, aged}
+use Rattle.trace_law.specs.Family.{tuple_of, feeder_start, joiner_start, rules_of, shift_of, stamp_at}
 use Rattle.trace_law.specs.Stored.{counted_rows, is_stored, HasAllOf, rows_held, StoresItsRows}
 use Rattle.trace_law.proofs.Arrivals.{front_of}
 use Rattle.trace_law.proofs.Journals.{stores_what_it_holds, feeders_go, begins}
@@ -40,7 +42,8 @@ use Rattle.trace_law.proofs.Lawful.{journal_is}
 use Rattle.trace_law.proofs.Ends.{sent_last}
 use Rattle.trace_law.proofs.StampOf.{weigh, counted_weigh, old_stamp}
 use Rattle.trace_law.proofs.Made.{shift_same}
-use Rattle.join_rows.proofs.Within.{IsWithinBag-trans, within-filter, within-gather, within-more, within_same, within-append, within-refl}
+use Rattle.join_rows.proofs.Within.{IsWithinBag-trans, within-filter, within-gather, within-more, within_same}
+use Rattle.join_rows.proofs.Within.{within-append, within-refl}
 use Rattle.join_rows.proofs.Everywhere.{all-append}
 use Rattle.join_rows.proofs.Totals.{total_same, total-add, sum-gather}
 use Rattle.epoch_tags.proofs.Appends.{nothing_left, turns-append, ends-append}

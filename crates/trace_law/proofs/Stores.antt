@@ -17,7 +17,8 @@ pub use Rattle.trace_law.specs.Stored.{is_stored}
 -- ---- at one tuple: h is what the joiner held, p what its partner held
 
 exchanged_adds : (n : ℕ) (old new h p : Bool) → (h && p) ≡ false → (old && new) ≡ false
-    → only_if (old && h) (only_if (h || p) n) + only_if (old && p) (only_if true n) + only_if (new && (h || p)) n ≡ only_if ((old || new) && (h || p)) n
+    → only_if (old && h) (only_if (h || p) n) + only_if (old && p) (only_if true n) + only_if (new && (h || p)) n
+    ≡ only_if ((old || new) && (h || p)) n
 exchanged_adds n true true h p one_holder one_age = absurd (false≢true (sym one_age))
 exchanged_adds n old new true true one_holder one_age = absurd (false≢true (sym one_holder))
 exchanged_adds n true false true false one_holder one_age = omega arith
@@ -31,7 +32,8 @@ exchanged_adds n false false false true one_holder one_age = refl
 exchanged_adds n false false false false one_holder one_age = refl
 
 kept_adds : (n : ℕ) (old new h h' any : Bool) → (h' ≡ true → h ≡ true) → (old && new) ≡ false
-    → only_if (old && h) (only_if h' n) + only_if any (only_if false n) + only_if (new && h') n ≡ only_if ((old || new) && h') n
+    → only_if (old && h) (only_if h' n) + only_if any (only_if false n) + only_if (new && h') n
+    ≡ only_if ((old || new) && h') n
 kept_adds n old new true h' any shrinks one_age = grind arith
 kept_adds n old new false true any shrinks one_age = absurd (false≢true (shrinks refl))
 kept_adds n old new false false any shrinks one_age = grind arith
@@ -49,10 +51,12 @@ pub at_rising : (k b e j : ℕ) → b < k → k ≤ 8 → (side : Side) (ticket 
     ≡ only_if (nat_le stamp (e + 1) && holds_ticket k (b + 1) j side ticket) n
 at_rising k b e j below small R ticket stamp n =
     rw (rising_r k b j ticket below small, next_age stamp e)
-    (exchanged_adds n (nat_le stamp e) (stamp == e + 1) (holds_r k b j ticket) (holds_r k b (partner b j) ticket) (rising_r_apart k b j ticket) (one_age stamp e))
+    (exchanged_adds n (nat_le stamp e) (stamp == e + 1) (holds_r k b j ticket) (holds_r k b (partner b j) ticket)
+    (rising_r_apart k b j ticket) (one_age stamp e))
 at_rising k b e j below small S ticket stamp n =
     rw (next_age stamp e)
-    (kept_adds n (nat_le stamp e) (stamp == e + 1) (holds_s b j ticket) (holds_s (b + 1) j ticket) (nat_le stamp e && holds_s b (partner b j) ticket) (rising_s b j ticket) (one_age stamp e))
+    (kept_adds n (nat_le stamp e) (stamp == e + 1) (holds_s b j ticket) (holds_s (b + 1) j ticket)
+    (nat_le stamp e && holds_s b (partner b j) ticket) (rising_s b j ticket) (one_age stamp e))
 
 pub at_falling : (k b e j : ℕ) → b < k → k ≤ 8 → (side : Side) (ticket stamp n : ℕ)
     → only_if (nat_le stamp e && holds_ticket k (b + 1) j side ticket) (only_if (holds_ticket k b j side ticket) n)
@@ -61,10 +65,13 @@ pub at_falling : (k b e j : ℕ) → b < k → k ≤ 8 → (side : Side) (ticket
     ≡ only_if (nat_le stamp (e + 1) && holds_ticket k b j side ticket) n
 at_falling k b e j below small S ticket stamp n =
     rw (falling_s b j ticket, next_age stamp e)
-    (exchanged_adds n (nat_le stamp e) (stamp == e + 1) (holds_s (b + 1) j ticket) (holds_s (b + 1) (partner b j) ticket) (falling_s_apart b j ticket) (one_age stamp e))
+    (exchanged_adds n (nat_le stamp e) (stamp == e + 1) (holds_s (b + 1) j ticket)
+    (holds_s (b + 1) (partner b j) ticket) (falling_s_apart b j ticket) (one_age stamp e))
 at_falling k b e j below small R ticket stamp n =
     rw (next_age stamp e)
-    (kept_adds n (nat_le stamp e) (stamp == e + 1) (holds_r k (b + 1) j ticket) (holds_r k b j ticket) (nat_le stamp e && holds_r k (b + 1) (partner b j) ticket) (falling_r k b j ticket below small) (one_age stamp e))
+    (kept_adds n (nat_le stamp e) (stamp == e + 1) (holds_r k (b + 1) j ticket) (holds_r k b j ticket)
+    (nat_le stamp e && holds_r k (b + 1) (partner b j) ticket) (falling_r k b j ticket below small)
+    (one_age stamp e))
 
 -- ---- the step, from shift b to b' with the exchanged side x
 
@@ -73,14 +80,21 @@ module _ (all A B M N : List Tuple) (k b b' e j q : ℕ) (x : Side)
     (its : SameBag B (filter (is_stored k b e q) all))
     (moved : SameBag M (filter (is_of x) B))
     (arrived : SameBag N (filter (λ t. (t.stamp == e + 1) && holds k b' j t) all)) where
-  step_sums : ((t : Tuple) (n : ℕ) → only_if (is_stored k b e j t) (only_if (holds k b' j t) n) + only_if (is_stored k b e q t) (only_if (is_of x t) n) + only_if ((t.stamp == e + 1) && holds k b' j t) n ≡ only_if (is_stored k b' (e + 1) j t) n)
+  step_sums : ((t : Tuple) (n : ℕ) → only_if (is_stored k b e j t) (only_if (holds k b' j t) n)
+      + only_if (is_stored k b e q t) (only_if (is_of x t) n) + only_if ((t.stamp == e + 1) && holds k b' j t) n
+      ≡ only_if (is_stored k b' (e + 1) j t) n)
       → SameBag (filter (holds k b' j) A ++ M ++ N) (filter (is_stored k b' (e + 1) j) all)
   step_sums each = record {
     sums = λ f.
-        let kept = sum-filter f (holds k b' j) A ∙ mine.sums (λ t. only_if (holds k b' j t) (f t)) ∙ sum-filter (λ t. only_if (holds k b' j t) (f t)) (is_stored k b e j) all in
-        let came = moved.sums f ∙ sum-filter f (is_of x) B ∙ its.sums (λ t. only_if (is_of x t) (f t)) ∙ sum-filter (λ t. only_if (is_of x t) (f t)) (is_stored k b e q) all in
+        let kept = sum-filter f (holds k b' j) A ∙ mine.sums (λ t. only_if (holds k b' j t) (f t))
+        ∙ sum-filter (λ t. only_if (holds k b' j t) (f t)) (is_stored k b e j) all in
+        let came = moved.sums f ∙ sum-filter f (is_of x) B ∙ its.sums (λ t. only_if (is_of x t) (f t))
+        ∙ sum-filter (λ t. only_if (is_of x t) (f t)) (is_stored k b e q) all in
         let new = arrived.sums f ∙ sum-filter f (λ t. (t.stamp == e + 1) && holds k b' j t) all in
-        let three = sum_three (λ t. only_if (is_stored k b e j t) (only_if (holds k b' j t) (f t))) (λ t. only_if (is_stored k b e q t) (only_if (is_of x t) (f t))) (λ t. only_if ((t.stamp == e + 1) && holds k b' j t) (f t)) (λ t. only_if (is_stored k b' (e + 1) j t) (f t)) (λ t. each t (f t)) all in
+        let three = sum_three (λ t. only_if (is_stored k b e j t) (only_if (holds k b' j t) (f t)))
+        (λ t. only_if (is_stored k b e q t) (only_if (is_of x t) (f t)))
+        (λ t. only_if ((t.stamp == e + 1) && holds k b' j t) (f t))
+        (λ t. only_if (is_stored k b' (e + 1) j t) (f t)) (λ t. each t (f t)) all in
         let parts = sum_by-append f (filter (holds k b' j) A ++ M) N in
         let parts' = sum_by-append f (filter (holds k b' j) A) M in
         let whole = sum-filter f (is_stored k b' (e + 1) j) all in
@@ -94,11 +108,13 @@ pub rising_step : (all A B M N : List Tuple) (k b e j : ℕ) → b < k → k ≤
     → SameBag M (filter (is_of R) B) → SameBag N (filter (λ t. (t.stamp == e + 1) && holds k (b + 1) j t) all)
     → SameBag (filter (holds k (b + 1) j) A ++ M ++ N) (filter (is_stored k (b + 1) (e + 1) j) all)
 rising_step all A B M N k b e j below small mine its moved arrived =
-    step_sums all A B M N k b (b + 1) e j (partner b j) R mine its moved arrived (λ t n. at_rising k b e j below small t.side t.ticket t.stamp n)
+    step_sums all A B M N k b (b + 1) e j (partner b j) R mine its moved arrived
+    (λ t n. at_rising k b e j below small t.side t.ticket t.stamp n)
 
 pub falling_step : (all A B M N : List Tuple) (k b e j : ℕ) → b < k → k ≤ 8
     → SameBag A (filter (is_stored k (b + 1) e j) all) → SameBag B (filter (is_stored k (b + 1) e (partner b j)) all)
     → SameBag M (filter (is_of S) B) → SameBag N (filter (λ t. (t.stamp == e + 1) && holds k b j t) all)
     → SameBag (filter (holds k b j) A ++ M ++ N) (filter (is_stored k b (e + 1) j) all)
 falling_step all A B M N k b e j below small mine its moved arrived =
-    step_sums all A B M N k (b + 1) b e j (partner b j) S mine its moved arrived (λ t n. at_falling k b e j below small t.side t.ticket t.stamp n)
+    step_sums all A B M N k (b + 1) b e j (partner b j) S mine its moved arrived
+    (λ t n. at_falling k b e j below small t.side t.ticket t.stamp n)

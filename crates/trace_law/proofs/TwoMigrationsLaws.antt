@@ -1,5 +1,6 @@
 -- The actors of the finished family with two migrations keep their laws, and agree.
-use Rattle.std.proofs.Common.{◌≡◌, ap, List, ℕ, zero, suc, ◌+◌, ◌<◌, ◌≤◌, ◌^◌, ◌==◌, ◌⊎◌, inl, inr, refl, sym, ◌∙◌, subst, arith, Bool, true, false, [], ◌∷◌, ◌++◌, length, cond}
+use Rattle.std.proofs.Common.{◌≡◌, ap, List, ℕ, zero, suc, ◌+◌, ◌<◌, ◌≤◌, ◌^◌, ◌==◌, ◌⊎◌, inl, inr, refl, sym, ◌∙◌}
+use Rattle.std.proofs.Common.{subst, arith, Bool, true, false, [], ◌∷◌, ◌++◌, length, cond}
 use Rattle.std.specs.Prelude.{All, filter}
 use Rattle.std.specs.List.{AllByRecursion}
 use Rattle.std.proofs.lemmas.Bool.{cases_eq, ne_eqb, eq-eqb}
@@ -11,16 +12,19 @@ use Rattle.epoch_tags.specs.Orders.{CountsUp, NeverFalls}
 use Rattle.epoch_tags.specs.declared.message.ToCollector.TheVariants.{Fin}
 use Rattle.migration_plan.specs.Steps.{AreNeighbours, is_of}
 use Rattle.reshuffler_core.specs.Law.{FeederLaw, answers}
-use Rattle.joiner_law.specs.Law.{JoinerLaw, JoinerStart, IsSettled, AllTurned, IsAtRest, shift_after, partner_of, exchanged, store, found, fin}
+use Rattle.joiner_law.specs.Law.{JoinerLaw, JoinerStart, IsSettled, AllTurned, IsAtRest, shift_after, partner_of}
+use Rattle.joiner_law.specs.Law.{exchanged, store, found, fin}
 use Rattle.std.proofs.lemmas.List.Elements.{All-replicate, All-from_recursion}
 use Rattle.theta_pred.specs.Truth.{width_of}
 use Rattle.trace_law.specs.Join.{table_of, tickets_of}
 use Rattle.trace_law.specs.Validity.{IsFor, IsValid}
-use Rattle.trace_law.specs.Family.{IsAgreeing, IsQuiet, IsFinished as IsFinishedFamily, feeder_start, joiner_start, first_rest, rest_after}
+use Rattle.trace_law.specs.Family.{IsAgreeing, IsQuiet, IsFinished as IsFinishedFamily, feeder_start, joiner_start}
+use Rattle.trace_law.specs.Family.{first_rest, rest_after}
 use Rattle.trace_law.specs.Laws.{FinishedAfterTwoMigrations, LeavesARest}
 use Rattle.trace_law.specs.Rows.{input}
 use Rattle.grid_map.proofs.Halves.{back_again}
-use Rattle.trace_law.proofs.TwoMigrations.{setting, orders, fed, other, part, passed, found_first, found_then, taken, family}
+use Rattle.trace_law.proofs.TwoMigrations.{setting, orders, fed, other, part, passed, found_first, found_then, taken}
+use Rattle.trace_law.proofs.TwoMigrations.{family}
 use Rattle.load_controller.specs.declared.line.TurnLine.{TurnLine}
 use Rattle.trace_law.proofs.First.{stands}
 use Rattle.trace_law.proofs.Numbers.{answers_the_join}

@@ -4,7 +4,8 @@ use Rattle.std.proofs.Common.{◌≡◌, ℕ, zero, suc, ◌<◌, refl, sym, ◌
 use Rattle.std.specs.Prelude.{map, reverse, drop}
 use Rattle.std.proofs.lemmas.List.{append-nil}
 use Rattle.load_controller.specs.declared.line.TurnLine.{TurnLine}
-use Rattle.load_controller.specs.Journal.{IsLawful, Follows, begun, start_line, last_line, last_epoch, causes_of, all_causes}
+use Rattle.load_controller.specs.Journal.{IsLawful, Follows, begun, start_line, last_line, last_epoch, causes_of}
+use Rattle.load_controller.specs.Journal.{all_causes}
 use Rattle.load_controller.specs.Rows.{later_past}
 use Rattle.trace_law.specs.declared.input.Input.{Input}
 use Rattle.trace_law.specs.Batches.{size_of}

@@ -8,7 +8,8 @@ use Rattle.std.proofs.lemmas.Nat.{pow_pos}
 use Rattle.join_rows.specs.declared.table.Side.TheVariants.{R, S}
 use Rattle.join_rows.specs.Lists.{IsPrefix}
 use Rattle.load_controller.specs.declared.line.TurnLine.{TurnLine}
-use Rattle.load_controller.specs.Journal.{begun, start_line, Follows, causes_of, all_causes, IsLawful, last_epoch, last_line, last_of, due_lines, due_in, AreLawful as AreLawfulJournals}
+use Rattle.load_controller.specs.Journal.{begun, start_line, Follows, causes_of, all_causes, IsLawful, last_epoch}
+use Rattle.load_controller.specs.Journal.{last_line, last_of, due_lines, due_in, AreLawful as AreLawfulJournals}
 use Rattle.load_controller.proofs.Bound.{last_line_is, waves_migrate_seldom}
 use Rattle.load_controller.proofs.Fresh.{start_fits}
 use Rattle.trace_law.specs.declared.input.Input.{Input}

@@ -1,5 +1,6 @@
 -- No message of an agreeing family carries a row of a foreign width.
-use Rattle.std.proofs.Common.{◌≡◌, ℕ, ◌+◌, ◌<◌, ◌^◌, inl, inr, refl, sym, ◌∙◌, ap, subst, arith, Bool, true, false, cond, not, List, [], ◌∷◌, length}
+use Rattle.std.proofs.Common.{◌≡◌, ℕ, ◌+◌, ◌<◌, ◌^◌, inl, inr, refl, sym, ◌∙◌, ap, subst, arith, Bool, true, false}
+use Rattle.std.proofs.Common.{cond, not, List, [], ◌∷◌, length}
 use Rattle.std.specs.Prelude.{filter, map, sum_by, ◌==◌}
 use Rattle.std.specs.List.{AllByRecursion}
 use Rattle.std.proofs.lemmas.Bool.{cases_lt, eqb-true, eq-eqb}
@@ -28,7 +29,8 @@ use Rattle.trace_law.specs.declared.input.Input.{Input}
 use Rattle.trace_law.specs.declared.setting.Setting.{Setting}
 use Rattle.trace_law.specs.Join.{row_count}
 use Rattle.trace_law.specs.Validity.{IsValid}
-use Rattle.trace_law.specs.Family.{aged, old_rows, Rest, IsRestFor, Family, IsAgreeing, tuple_of, cells_of, feeder_start}
+use Rattle.trace_law.specs.Family.{aged, old_rows, Rest, IsRestFor, Family, IsAgreeing, tuple_of, cells_of}
+use Rattle.trace_law.specs.Family.{feeder_start}
 use Rattle.trace_law.specs.Widths.{IsRow, HasRow}
 use Rattle.trace_law.proofs.Stores.{is_stored}
 use Rattle.trace_law.proofs.Loop.{known_within}

@@ -1,5 +1,6 @@
 -- Families of lists of one wave, and what is said of them.
-use Rattle.std.specs.Prelude.{Option, Some, unwrap_or, ◌≡◌, ℕ, ◌+◌, ◌-◌, ◌^◌, ◌<◌, ◌≤◌, max, not, filter, if◌then◌else◌, ◌==◌, ◌⊎◌, Bool, ◌&&◌, slice_index_or, List, [], ◌∷◌, ◌++◌, map, length}
+use Rattle.std.specs.Prelude.{Option, Some, unwrap_or, ◌≡◌, ℕ, ◌+◌, ◌-◌, ◌^◌, ◌<◌, ◌≤◌, max, not, filter, if◌then◌else◌}
+use Rattle.std.specs.Prelude.{◌==◌, ◌⊎◌, Bool, ◌&&◌, slice_index_or, List, [], ◌∷◌, ◌++◌, map, length}
 use Rattle.std.specs.List.{range_with_len, sum, AllByRecursion}
 use Rattle.join_rows.specs.declared.table.Side.{Side}
 use Rattle.join_rows.specs.declared.table.Side.TheVariants.{R, S}
@@ -14,7 +15,8 @@ use Rattle.epoch_tags.specs.declared.message.ToCollector.TheVariants.{Fin}
 use Rattle.migration_plan.specs.Steps.{holds}
 use Rattle.reshuffler_core.specs.Law.{FeederLists, FeederStart, FeederLaw}
 use Rattle.epoch_tags.specs.declared.message.ToFeeder.{ToFeeder}
-use Rattle.joiner_law.specs.Law.{JoinerLists, JoinerStart, JoinerLaw, Taken, IsFinished as IsFinishedJoiner, opened, store}
+use Rattle.joiner_law.specs.Law.{JoinerLists, JoinerStart, JoinerLaw, Taken, IsFinished as IsFinishedJoiner, opened}
+use Rattle.joiner_law.specs.Law.{store}
 use Rattle.load_controller.specs.declared.line.Cause.TheVariants.{Start}
 use Rattle.load_controller.specs.declared.line.TurnLine.{TurnLine}
 use Rattle.load_controller.specs.Journal.{Rules, start_line, begun, goes_on, Fits, IsLawful, shift_at, last_epoch}

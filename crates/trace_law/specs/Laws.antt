@@ -1,5 +1,6 @@
 -- What every agreeing family keeps to.
-use Rattle.std.specs.Prelude.{◌∷◌, length, true, IsSome, ℕ, ◌≡◌, ◌+◌, ◌*◌, ◌^◌, ◌<◌, ◌≤◌, All, Some, List, [], map, reverse}
+use Rattle.std.specs.Prelude.{◌∷◌, length, true, IsSome, ℕ, ◌≡◌, ◌+◌, ◌*◌, ◌^◌, ◌<◌, ◌≤◌, All, Some, List, [], map}
+use Rattle.std.specs.Prelude.{reverse}
 use Rattle.std.specs.List.{AllByRecursion}
 use Rattle.join_rows.specs.declared.table.Side.TheVariants.{R, S}
 use Rattle.join_rows.specs.Lists.{SameBag, IsWithinBag}
@@ -28,7 +29,9 @@ use Rattle.epoch_tags.specs.Links.{HasLink}
 use Rattle.trace_law.specs.Stored.{StoresItsRows}
 use Rattle.trace_law.specs.declared.setting.Setting.{Setting}
 use Rattle.trace_law.specs.Validity.{IsValidInput, IsValidSetting, IsValid}
-use Rattle.trace_law.specs.Family.{Rest, IsLineFor, IsRestFor, first_rest, own_rows, migrations, Family, IsAgreeing, joiner_start, IsQuiet, IsFinished, IsAllReceived, NothingWrongIsSent, AnswersTheJoin, batches, rest_after, rules_of, stamp_at, events}
+use Rattle.trace_law.specs.Family.{Rest, IsLineFor, IsRestFor, first_rest, own_rows, migrations, Family, IsAgreeing}
+use Rattle.trace_law.specs.Family.{joiner_start, IsQuiet, IsFinished, IsAllReceived, NothingWrongIsSent, AnswersTheJoin}
+use Rattle.trace_law.specs.Family.{batches, rest_after, rules_of, stamp_at, events}
 
 -- ---- for which inputs
 

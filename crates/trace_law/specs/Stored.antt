@@ -8,7 +8,8 @@ use Rattle.joiner_law.specs.Law.{Taken, IsSettled, opened, store}
 use Rattle.load_controller.specs.declared.line.TurnLine.{TurnLine}
 use Rattle.trace_law.specs.declared.input.Input.{Input}
 use Rattle.trace_law.specs.declared.setting.Setting.{Setting}
-use Rattle.trace_law.specs.Family.{Rest, Family, IsAgreeing, all_places, aged, tuple_of, joiner_start, shift_of, stamp_at}
+use Rattle.trace_law.specs.Family.{Rest, Family, IsAgreeing, all_places, aged, tuple_of, joiner_start, shift_of}
+use Rattle.trace_law.specs.Family.{stamp_at}
 
 -- of epoch e or older, and held by joiner j at shift b
 abbrev pub is_stored : ℕ → ℕ → ℕ → ℕ → Tuple → Bool

@@ -4,7 +4,8 @@ use Rattle.join_report.proofs.put.put_all.Goals as goal
 
 pub returns-in_err-put-clause-front : goal.returns-in_err-put-clause-front
 returns-in_err-put-clause-front g c =
-    let front = piece_cut (g.K.Sink.written c.args.sink.now) (g.K.Sink.written c.loop-place.sink) (g.K.Sink.written c.put.new.self) c.args.bytes.now c.loop-place.place c.min-end.result
+    let front = piece_cut (g.K.Sink.written c.args.sink.now) (g.K.Sink.written c.loop-place.sink)
+    (g.K.Sink.written c.put.new.self) c.args.bytes.now c.loop-place.place c.min-end.result
     c.loop-place.invariant.written c.in_err-put.ensures.front in
     search (rules, front)
 
@@ -13,28 +14,35 @@ loop-place-preserved g c =
     let before : c.loop-place.place ≤ c.min-end.result = omega arith in
     record {
       within = omega arith;
-      written = piece_put (g.K.Sink.written c.args.sink.now) (g.K.Sink.written c.loop-place.sink) (g.K.Sink.written c.put.new.self) c.args.bytes.now c.loop-place.place c.min-end.result
+      written = piece_put (g.K.Sink.written c.args.sink.now) (g.K.Sink.written c.loop-place.sink)
+          (g.K.Sink.written c.put.new.self) c.args.bytes.now c.loop-place.place c.min-end.result
           before c.loop-place.invariant.written c.in_ok-put.ensures.puts;
       counts = c.in_ok-put.ensures.counts ∙ c.loop-place.invariant.counts;
       left = λ more h.
           let room = piece_room c.args.bytes.now c.loop-place.place c.min-end.result more before (omega arith) in
           (c.in_ok-put.ensures.takes more
-          (c.loop-place.invariant.left (length (take (c.min-end.result - c.loop-place.place) (drop c.loop-place.place c.args.bytes.now)) + more) (subst (g.K.Sink.takes c.args.sink.now) (sym room) h))).1;
+          (c.loop-place.invariant.left (length (take (c.min-end.result - c.loop-place.place)
+          (drop c.loop-place.place c.args.bytes.now)) + more)
+          (subst (g.K.Sink.takes c.args.sink.now) (sym room) h))).1;
     }
 
 pub returns-in_err-put-clause-takes : goal.returns-in_err-put-clause-takes
 returns-in_err-put-clause-takes g c more h =
     let before : c.loop-place.place ≤ c.min-end.result = omega arith in
     let rest = length c.args.bytes.now - c.min-end.result + more in
-    let room : c.loop-place.place + (length (take (c.min-end.result - c.loop-place.place) (drop c.loop-place.place c.args.bytes.now)) + rest) ≡ length c.args.bytes.now + more =
+    let room : c.loop-place.place
+    + (length (take (c.min-end.result - c.loop-place.place) (drop c.loop-place.place c.args.bytes.now)) + rest) ≡ length c.args.bytes.now + more =
     piece_room c.args.bytes.now c.loop-place.place c.min-end.result rest before (omega arith) ∙ omega arith in
     absurd (cc (c.in_err-put.ensures.takes rest
-    (c.loop-place.invariant.left (length (take (c.min-end.result - c.loop-place.place) (drop c.loop-place.place c.args.bytes.now)) + rest) (subst (g.K.Sink.takes c.args.sink.now) (sym room) h))).0)
+    (c.loop-place.invariant.left (length (take (c.min-end.result - c.loop-place.place)
+    (drop c.loop-place.place c.args.bytes.now)) + rest) (subst (g.K.Sink.takes c.args.sink.now) (sym room) h))).0)
 
 pub returns-in_err-put-clause-left : goal.returns-in_err-put-clause-left
 returns-in_err-put-clause-left g c =
-    let failed = piece_failed (g.K.Sink.written c.args.sink.now) (g.K.Sink.written c.loop-place.sink) (g.K.Sink.written c.put.new.self)
-    (g.K.Sink.takes c.args.sink.now) (g.K.Sink.takes c.loop-place.sink) (g.K.Sink.takes c.put.new.self) c.args.bytes.now c.loop-place.place c.min-end.result
+    let failed = piece_failed (g.K.Sink.written c.args.sink.now) (g.K.Sink.written c.loop-place.sink)
+    (g.K.Sink.written c.put.new.self)
+    (g.K.Sink.takes c.args.sink.now) (g.K.Sink.takes c.loop-place.sink) (g.K.Sink.takes c.put.new.self)
+    c.args.bytes.now c.loop-place.place c.min-end.result
     (omega arith) (omega arith) c.loop-place.invariant.written c.loop-place.invariant.left c.in_err-put.ensures.left in
     search (rules, failed)
 

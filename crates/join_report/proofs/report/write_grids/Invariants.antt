@@ -10,5 +10,7 @@ invariant-loop-step l =
     record {
       first : l.first ≡ (first_rest l.setting).line.shift;
       within : l.first ≤ l.setting.k;
-      text : string_bytes l.text ≡ string_bytes l.initial.text ++ lines_from (λ step moved. grid_line l.setting.k (step + 1) (epoch_shift l.setting l.journal (step + 1)) moved) 0 (take l.step l.moved);
+      text : string_bytes l.text ≡ string_bytes l.initial.text
+          ++ lines_from (λ step moved. grid_line l.setting.k (step + 1) (epoch_shift l.setting l.journal (step + 1))
+          moved) 0 (take l.step l.moved);
     }

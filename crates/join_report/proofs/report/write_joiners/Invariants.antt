@@ -8,5 +8,6 @@ abbrev pub invariant-loop-id : goal.invariant-loop-id
 invariant-loop-id l =
     record {
       last : l.joiners ≡ min (length l.loads) (length l.made);
-      text : string_bytes l.text ≡ string_bytes l.initial.text ++ lines_from (λ id joiner. joiner_line id joiner.0 joiner.1) 0 (take l.id (zip l.loads l.made));
+      text : string_bytes l.text ≡ string_bytes l.initial.text
+          ++ lines_from (λ id joiner. joiner_line id joiner.0 joiner.1) 0 (take l.id (zip l.loads l.made));
     }

@@ -9,7 +9,8 @@ pub loop-place-preserved : goal.loop-place-preserved
 loop-place-preserved c =
     let at : 0 + c.loop-place.place ≡ c.loop-place.place = omega arith in
     rw (c.in_ok-push.ensures.ok, c.loop-place.invariant, c.in_ok-made_row.ensures)
-    (sym (map-range_with_len_more (λ i. cells_of (made_fields c.args.side i)) 0 c.loop-place.place c.loop-place.place at))
+    (sym (map-range_with_len_more (λ i. cells_of (made_fields c.args.side i))
+    0 c.loop-place.place c.loop-place.place at))
 
 pub returns-clause-table : goal.returns-clause-table
 returns-clause-table c =

@@ -10,7 +10,8 @@ invariant-pieces g l = record {
   known : Lacks (g.H.Shelf.told l.fn.shelf) l.fn.name → ⊥;
   spot : g.H.Shelf.picked l.shelf ≡ Some (l.fn.name, length l.bytes.items);
   few : length l.bytes.items ≤ 2 ^ 24 + 1;
-  so_far : (file : List ℕ) → Tells (g.H.Shelf.told l.fn.shelf) l.fn.name file → (length l.bytes.items ≤ length file) × (l.bytes.items ≡ take (length l.bytes.items) file);
+  so_far : (file : List ℕ) → Tells (g.H.Shelf.told l.fn.shelf) l.fn.name file → (length l.bytes.items ≤ length file)
+      × (l.bytes.items ≡ take (length l.bytes.items) file);
 }
 
 abbrev pub decreases-pieces : goal.decreases-pieces

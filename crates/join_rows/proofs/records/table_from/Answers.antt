@@ -1,4 +1,5 @@
-use Rattle.std.proofs.Common.{◌≡◌, ◌∙◌, ◌++◌, ◌∷◌, ◌+◌, length-append, [], ℕ, List, Bor, Some, ap, length, inl, inr, sym, arith, ◌<◌}
+use Rattle.std.proofs.Common.{◌≡◌, ◌∙◌, ◌++◌, ◌∷◌, ◌+◌, length-append, [], ℕ, List, Bor, Some, ap, length, inl, inr}
+use Rattle.std.proofs.Common.{sym, arith, ◌<◌}
 use Rattle.std.proofs.lemmas.List.{map-append}
 use Rattle.csv.specs.Reading.{strip_bom}
 use Rattle.csv.specs.Records.{fields_of}
@@ -17,47 +18,77 @@ returns-in-Ok-false c =
     let rd = c.reader_over-reader.ensures in
     let from = rd.source ∙ ap Some (rest c.args.text.now _ c.without_marks.ensures) in
     let read = rw c.in-Ok-false.field-0-test at (c.in-Ok-false.ensures.reads rd.trim rd.ready) in
-    inr (answers-none (records_of c.args.text.now) (no_read (λ (s : Bor (List ℕ)). Some s.now) c.reader_over-reader.result c.read_byte_record.new.self (fields_of c.read_byte_record.new.row) (after_marks c.args.text.now) rd.config from rd.state read))
+    inr (answers-none (records_of c.args.text.now) (no_read (λ (s : Bor (List ℕ)). Some s.now)
+    c.reader_over-reader.result c.read_byte_record.new.self (fields_of c.read_byte_record.new.row)
+    (after_marks c.args.text.now) rd.config from rd.state read))
 
 pub rows-init : goal.rows-init
 rows-init c =
     let rd = c.reader_over-reader.ensures in
     let from = rd.source ∙ ap Some (rest c.args.text.now _ c.without_marks.ensures) in
     let read = rw c.in-Ok-true.field-0-test at (c.in-Ok-true.ensures.reads rd.trim rd.ready) in
-    let (z, at_z, reached) = first_read (λ (s : Bor (List ℕ)). Some s.now) c.reader_over-reader.result c.read_byte_record.new.self (fields_of c.read_byte_record.new.row) (after_marks c.args.text.now) rd.config from rd.state read in
-    (read.3 ∙ rd.trim, inl (c.in-Ok-true.ensures.ready rd.trim), read.2 ∙ rd.config, c.len-width.ensures ∙ ap length (sym c.in_ok-names.ensures), z, at_z, [], rw c.in_ok-names.ensures reached, c.new-rows.ensures, tt, ap length c.new-rows.ensures, omega arith)
+    let (z, at_z, reached) = first_read (λ (s : Bor (List ℕ)). Some s.now)
+    c.reader_over-reader.result c.read_byte_record.new.self (fields_of c.read_byte_record.new.row)
+    (after_marks c.args.text.now) rd.config from rd.state read in (
+      read.3 ∙ rd.trim,
+      inl (c.in-Ok-true.ensures.ready rd.trim),
+      read.2 ∙ rd.config,
+      c.len-width.ensures ∙ ap length (sym c.in_ok-names.ensures),
+      z,
+      at_z,
+      [],
+      rw c.in_ok-names.ensures reached,
+      c.new-rows.ensures,
+      tt,
+      ap length c.new-rows.ensures,
+      omega arith,
+    )
 
 pub returns-in-Ok-false-read_byte_record : goal.returns-in-Ok-false-read_byte_record
 returns-in-Ok-false-read_byte_record c =
     let (t, ready, config, width, y, source, done, reached, rows, wide, size, few) = c.rows.invariant in
-    let read = rw c.in-Ok-false-read_byte_record.field-0-test at (c.in-Ok-false-read_byte_record.ensures.reads t ready) in
-    let all = last_read (λ (s : Bor (List ℕ)). Some s.now) c.rows.reader c.read_byte_record-in-rows.new.self (fields_of c.read_byte_record-in-rows.new.row) (after_marks c.args.text.now) y (c.in_ok-names.names ∷ done) config source reached read in
+    let read = rw c.in-Ok-false-read_byte_record.field-0-test at
+    (c.in-Ok-false-read_byte_record.ensures.reads t ready) in
+    let all = last_read (λ (s : Bor (List ℕ)). Some s.now) c.rows.reader c.read_byte_record-in-rows.new.self
+    (fields_of c.read_byte_record-in-rows.new.row) (after_marks c.args.text.now) y (c.in_ok-names.names ∷ done)
+    config source reached read in
     inr (answers-good (records_of c.args.text.now) c.in_ok-names.names done c.rows.rows all rows wide few)
 
 pub returns-then-len-width : goal.returns-then-len-width
 returns-then-len-width c =
     let (t, ready, config, width, y, source, done, reached, rows, wide, size, few) = c.rows.invariant in
     let read = rw c.in-Ok-true-read_byte_record.field-0-test at (c.in-Ok-true-read_byte_record.ensures.reads t ready) in
-    let (z, at_z, more) = more_read (λ (s : Bor (List ℕ)). Some s.now) c.rows.reader c.read_byte_record-in-rows.new.self (fields_of c.read_byte_record-in-rows.new.row) (after_marks c.args.text.now) y (c.in_ok-names.names ∷ done) config source reached read in
-    let (n, front) = records-begin (after_marks c.args.text.now) z c.read_byte_record-in-rows.new.self.state (c.in_ok-names.names ∷ (done ++ (fields_of c.read_byte_record-in-rows.new.row ∷ []))) more in
+    let (z, at_z, more) = more_read (λ (s : Bor (List ℕ)). Some s.now) c.rows.reader c.read_byte_record-in-rows.new.self
+    (fields_of c.read_byte_record-in-rows.new.row) (after_marks c.args.text.now) y (c.in_ok-names.names ∷ done)
+    config source reached read in
+    let (n, front) = records-begin (after_marks c.args.text.now) z c.read_byte_record-in-rows.new.self.state
+    (c.in_ok-names.names ∷ (done ++ (fields_of c.read_byte_record-in-rows.new.row ∷ []))) more in
     let fits : length done < 262144 = omega (arith, few, size, c.len.ensures, c.if-len-eq-MOST_ROWS.false) in
     let number : length done + 1 ≡ length c.rows.rows + 1 = omega (arith, size) in
-    inr (rw (c.len-then-len-width.ensures, size, c.len-then-len-width-2.ensures) (answers-narrow (records_of c.args.text.now) c.in_ok-names.names (fields_of c.read_byte_record-in-rows.new.row) done _ front wide fits (λ e. c.if-len-width.true (c.len-in-rows.ensures ∙ e ∙ sym width))))
+    inr (rw (c.len-then-len-width.ensures, size, c.len-then-len-width-2.ensures)
+    (answers-narrow (records_of c.args.text.now) c.in_ok-names.names (fields_of c.read_byte_record-in-rows.new.row)
+    done _ front wide fits (λ e. c.if-len-width.true (c.len-in-rows.ensures ∙ e ∙ sym width))))
 
 pub returns-then-len-eq-MOST_ROWS : goal.returns-then-len-eq-MOST_ROWS
 returns-then-len-eq-MOST_ROWS c =
     let (t, ready, config, width, y, source, done, reached, rows, wide, size, few) = c.rows.invariant in
     let read = rw c.in-Ok-true-read_byte_record.field-0-test at (c.in-Ok-true-read_byte_record.ensures.reads t ready) in
-    let (z, at_z, more) = more_read (λ (s : Bor (List ℕ)). Some s.now) c.rows.reader c.read_byte_record-in-rows.new.self (fields_of c.read_byte_record-in-rows.new.row) (after_marks c.args.text.now) y (c.in_ok-names.names ∷ done) config source reached read in
-    let (n, front) = records-begin (after_marks c.args.text.now) z c.read_byte_record-in-rows.new.self.state (c.in_ok-names.names ∷ (done ++ (fields_of c.read_byte_record-in-rows.new.row ∷ []))) more in
+    let (z, at_z, more) = more_read (λ (s : Bor (List ℕ)). Some s.now) c.rows.reader c.read_byte_record-in-rows.new.self
+    (fields_of c.read_byte_record-in-rows.new.row) (after_marks c.args.text.now) y (c.in_ok-names.names ∷ done)
+    config source reached read in
+    let (n, front) = records-begin (after_marks c.args.text.now) z c.read_byte_record-in-rows.new.self.state
+    (c.in_ok-names.names ∷ (done ++ (fields_of c.read_byte_record-in-rows.new.row ∷ []))) more in
     let many : length done ≡ 262144 = omega (arith, size, c.len.ensures, c.if-len-eq-MOST_ROWS.true) in
-    inr (answers-long (records_of c.args.text.now) c.in_ok-names.names (fields_of c.read_byte_record-in-rows.new.row) done _ front wide many)
+    inr (answers-long (records_of c.args.text.now) c.in_ok-names.names (fields_of c.read_byte_record-in-rows.new.row)
+    done _ front wide many)
 
 pub rows-preserved : goal.rows-preserved
 rows-preserved c =
     let (t, ready, config, width, y, source, done, reached, rows, wide, size, few) = c.rows.invariant in
     let read = rw c.in-Ok-true-read_byte_record.field-0-test at (c.in-Ok-true-read_byte_record.ensures.reads t ready) in
-    let (z, at_z, more) = more_read (λ (s : Bor (List ℕ)). Some s.now) c.rows.reader c.read_byte_record-in-rows.new.self (fields_of c.read_byte_record-in-rows.new.row) (after_marks c.args.text.now) y (c.in_ok-names.names ∷ done) config source reached read in (
+    let (z, at_z, more) = more_read (λ (s : Bor (List ℕ)). Some s.now) c.rows.reader c.read_byte_record-in-rows.new.self
+    (fields_of c.read_byte_record-in-rows.new.row) (after_marks c.args.text.now) y (c.in_ok-names.names ∷ done)
+    config source reached read in (
       read.3 ∙ t,
       inl (c.in-Ok-true-read_byte_record.ensures.ready t),
       read.2 ∙ config,
@@ -66,8 +97,23 @@ rows-preserved c =
       at_z,
       done ++ (fields_of c.read_byte_record-in-rows.new.row ∷ []),
       more,
-      rw (c.in_ok-push.ensures.ok, rows, c.in_ok-cells_from.ensures) (sym (map-append cells_of done (fields_of c.read_byte_record-in-rows.new.row ∷ []))),
-      wide-more (length c.in_ok-names.names) done (fields_of c.read_byte_record-in-rows.new.row) wide (sym c.len-in-rows.ensures ∙ c.if-len-width.false ∙ width),
-      omega (arith, ap length c.in_ok-push.ensures.ok, length-append c.rows.rows (c.in_ok-cells_from.field-0 ∷ []), length-append done (fields_of c.read_byte_record-in-rows.new.row ∷ []), size),
-      omega (arith, length-append done (fields_of c.read_byte_record-in-rows.new.row ∷ []), few, size, c.len.ensures, c.if-len-eq-MOST_ROWS.false),
+      rw (c.in_ok-push.ensures.ok, rows, c.in_ok-cells_from.ensures)
+          (sym (map-append cells_of done (fields_of c.read_byte_record-in-rows.new.row ∷ []))),
+      wide-more (length c.in_ok-names.names) done (fields_of c.read_byte_record-in-rows.new.row) wide
+          (sym c.len-in-rows.ensures ∙ c.if-len-width.false ∙ width),
+      omega (
+        arith,
+        ap length c.in_ok-push.ensures.ok,
+        length-append c.rows.rows (c.in_ok-cells_from.field-0 ∷ []),
+        length-append done (fields_of c.read_byte_record-in-rows.new.row ∷ []),
+        size,
+      ),
+      omega (
+        arith,
+        length-append done (fields_of c.read_byte_record-in-rows.new.row ∷ []),
+        few,
+        size,
+        c.len.ensures,
+        c.if-len-eq-MOST_ROWS.false,
+      ),
     )

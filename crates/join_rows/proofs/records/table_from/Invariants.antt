@@ -9,8 +9,10 @@ abbrev pub invariant-rows : goal.invariant-rows
 invariant-rows l =
     (l.reader.trim ≡ trim.None) × Ready l.reader × (l.reader.config ≡ default_config) × (l.width ≡ length l.names)
     × (y : List ℕ) × (source_of (λ s. Some s.now) l.reader ≡ Some y)
-    × (done : List (List (List ℕ))) × Reached default_config st.StartRecord (after_marks l.fn.text) (l.names ∷ done) l.reader.state y
-    × (l.rows ≡ map cells_of done) × AreWide (length l.names) done × (length l.rows ≡ length done) × (length done ≤ 262144)
+    × (done : List (List (List ℕ))) × Reached default_config st.StartRecord (after_marks l.fn.text) (l.names ∷ done)
+    l.reader.state y
+    × (l.rows ≡ map cells_of done) × AreWide (length l.names) done × (length l.rows ≡ length done)
+    × (length done ≤ 262144)
 
 abbrev pub decreases-rows : goal.decreases-rows
 decreases-rows l = 262144 - length l.rows

@@ -11,7 +11,8 @@ pub returns-in-Some : goal.returns-in-Some
 returns-in-Some c =
     ap (nat_lt 2) (sym (length-map c.in-Some.names.now (λ (s : Bor Text). s.now)))
     ∙ ap (λ (all : Option (List Text)). nat_lt 2 (length (unwrap_or all [])))
-    (all_is (found_of c.args.matches.now) (codes "files") c.get_strs.result (Some c.in-Some.names) c.get_strs.ensures c.in-Some.is)
+    (all_is (found_of c.args.matches.now) (codes "files") c.get_strs.result (Some c.in-Some.names)
+    c.get_strs.ensures c.in-Some.is)
 
 pub returns-in-None : goal.returns-in-None
 returns-in-None c =

@@ -9,18 +9,23 @@ use Rattle.join_words.proofs.names.read_names.Goals as goal
 
 pub returns-in-Some-clause-exact : goal.returns-in-Some-clause-exact
 returns-in-Some-clause-exact c =
-    subst (λ (on : Option Text). GivesFiles (names_by c.args.make on (names_given (rows_of (found_of c.args.matches.now)))) c.checked.result)
+    subst (λ (on : Option Text). GivesFiles (names_by c.args.make on
+    (names_given (rows_of (found_of c.args.matches.now)))) c.checked.result)
     c.given-on.ensures
     (subst (λ (all : Option (List Text)).
-    GivesFiles (names_by c.args.make (option_map (λ (s : Bor Text). s.now) c.given-on.result) (unwrap_or all [])) c.checked.result)
-    (all_is (found_of c.args.matches.now) (codes "files") c.get_strs.result (Some c.in-Some.names) c.get_strs.ensures c.in-Some.is)
+    GivesFiles (names_by c.args.make (option_map (λ (s : Bor Text). s.now) c.given-on.result) (unwrap_or all []))
+    c.checked.result)
+    (all_is (found_of c.args.matches.now) (codes "files") c.get_strs.result (Some c.in-Some.names)
+    c.get_strs.ensures c.in-Some.is)
     c.checked.ensures.exact)
 
 pub returns-in-None-clause-exact : goal.returns-in-None-clause-exact
 returns-in-None-clause-exact c =
-    subst (λ (on : Option Text). GivesFiles (names_by c.args.make on (names_given (rows_of (found_of c.args.matches.now)))) c.checked-in-None.result)
+    subst (λ (on : Option Text). GivesFiles (names_by c.args.make on
+    (names_given (rows_of (found_of c.args.matches.now)))) c.checked-in-None.result)
     c.given-on.ensures
     (subst (λ (all : Option (List Text)).
-    GivesFiles (names_by c.args.make (option_map (λ (s : Bor Text). s.now) c.given-on.result) (unwrap_or all [])) c.checked-in-None.result)
+    GivesFiles (names_by c.args.make (option_map (λ (s : Bor Text). s.now) c.given-on.result) (unwrap_or all []))
+    c.checked-in-None.result)
     (all_is (found_of c.args.matches.now) (codes "files") c.get_strs.result None c.get_strs.ensures c.in-None.is)
     c.checked-in-None.ensures.exact)

@@ -19,11 +19,13 @@ returns-in-Feeder-clause-up c up =
     let count = c.joiners-count.ensures in
     let low = c.if-id-count.false in
     let below = ltb-true c.in-Feeder.p c.args.feeders up in
-    subst (λ (from : Actor). HasLink c.args.k c.args.feeders from (Joiner' c.args.id)) (sym c.in-Feeder.is) (feeder-link c.args.k c.args.feeders c.in-Feeder.p c.args.id (omega arith) (omega arith))
+    subst (λ (from : Actor). HasLink c.args.k c.args.feeders from (Joiner' c.args.id)) (sym c.in-Feeder.is)
+    (feeder-link c.args.k c.args.feeders c.in-Feeder.p c.args.id (omega arith) (omega arith))
 
 pub returns-then-q-count-clause-up : goal.returns-then-q-count-clause-up
 returns-then-q-count-clause-up c up =
     let small = c.requires in
     let count = c.joiners-count.ensures in
     let low = c.if-q-count.true in
-    subst (λ (from : Actor). HasLink c.args.k c.args.feeders from (Joiner' c.args.id)) (sym c.in-Joiner.is) (joiner-link c.args.k c.args.feeders c.in-Joiner.q c.args.id (omega arith) (c.differ_in_one_bit.ensures.up up))
+    subst (λ (from : Actor). HasLink c.args.k c.args.feeders from (Joiner' c.args.id)) (sym c.in-Joiner.is)
+    (joiner-link c.args.k c.args.feeders c.in-Joiner.q c.args.id (omega arith) (c.differ_in_one_bit.ensures.up up))

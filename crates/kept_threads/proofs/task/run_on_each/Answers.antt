@@ -13,8 +13,10 @@ loop-place-preserved g c =
     let l : k < length ys = omega arith in (
       λ j d h. get_or-set_other ys k j y d (λ e. omega arith) ∙ c.loop-place.invariant.0 j d (omega arith),
       λ j d h. below_more (λ i. R (slice_index_or xs i d) (slice_index_or (set ys k y) i d)) k
-          (λ i u. subst (R (slice_index_or xs i d)) (sym (get_or-set_other ys k i y d (λ e. omega arith))) (c.loop-place.invariant.1 i d u))
+          (λ i u. subst (R (slice_index_or xs i d)) (sym (get_or-set_other ys k i y d (λ e. omega arith)))
+          (c.loop-place.invariant.1 i d u))
           (subst (R (slice_index_or xs k d)) (sym (get_or-set_same ys k y d l))
-          (subst (λ x. R x y) (get_or_default ys k _ d l ∙ c.loop-place.invariant.0 k d (omega arith)) c.run_on.ensures))
+          (subst (λ x. R x y) (get_or_default ys k _ d l ∙ c.loop-place.invariant.0 k d (omega arith))
+          c.run_on.ensures))
           j h,
     )

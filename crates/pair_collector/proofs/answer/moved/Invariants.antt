@@ -5,4 +5,5 @@ use Rattle.pair_collector.specs.Standing.{moved_by}
 use Rattle.pair_collector.proofs.answer.moved.Given as goal
 
 abbrev pub invariant-loop-step : goal.invariant-loop-step
-invariant-loop-step l = l.moved ≡ map (λ step. min (moved_by l.parts step (length l.parts)) (2 ^ 64 - 1)) (range_with_len 0 l.step)
+invariant-loop-step l = l.moved ≡ map (λ step. min (moved_by l.parts step (length l.parts)) (2 ^ 64 - 1))
+    (range_with_len 0 l.step)

@@ -9,7 +9,8 @@ loop-kind-preserved c = elim c.if-branch.branch [
   | then-branch+in_ok-push w ↦
       rw (w.found-is, w.in_ok-push.ensures.items)
       (one_more (CanStand c.args.text.now c.args.place) c.args.kinds.now c.loop-kind.found.items
-      c.loop-kind.kind-index Column c.loop-kind-test.true c.loop-kind.invariant (c.in_ok-can_stand.ensures.0 w.if-branch.true))
+      c.loop-kind.kind-index Column c.loop-kind-test.true c.loop-kind.invariant
+      (c.in_ok-can_stand.ensures.0 w.if-branch.true))
   | else-branch w ↦
       rw w.found-is
       (none_more (CanStand c.args.text.now c.args.place) c.args.kinds.now c.loop-kind.found.items

@@ -6,5 +6,7 @@ use Rattle.report_picture.proofs.life.write_steps.Goals as goal
 
 pub loop-index-preserved : goal.loop-index-preserved
 loop-index-preserved c =
-    lines_more (λ index step. step_of (index + 1) step) (string_bytes c.args.text.now) (string_bytes c.loop-index.text) (string_bytes c.write_step.new.text) c.loop-index.index
-    c.args.steps.now _ (slice_get-get_or c.args.steps.now c.loop-index.index _ (omega arith)) c.loop-index.invariant c.in_ok-write_step.ensures
+    lines_more (λ index step. step_of (index + 1) step) (string_bytes c.args.text.now) (string_bytes c.loop-index.text)
+    (string_bytes c.write_step.new.text) c.loop-index.index
+    c.args.steps.now _ (slice_get-get_or c.args.steps.now c.loop-index.index _ (omega arith))
+    c.loop-index.invariant c.in_ok-write_step.ensures

@@ -6,5 +6,7 @@ use Rattle.report_picture.proofs.lines.write_joiners.Goals as goal
 
 pub loop-id-preserved : goal.loop-id-preserved
 loop-id-preserved c =
-    lines_more (joiner_line) (string_bytes c.args.text.now) (string_bytes c.loop-id.text) (string_bytes c.write_joiner.new.text) c.loop-id.id
-    c.args.joiners.now _ (slice_get-get_or c.args.joiners.now c.loop-id.id _ (omega arith)) c.loop-id.invariant c.in_ok-write_joiner.ensures
+    lines_more (joiner_line) (string_bytes c.args.text.now) (string_bytes c.loop-id.text)
+    (string_bytes c.write_joiner.new.text) c.loop-id.id
+    c.args.joiners.now _ (slice_get-get_or c.args.joiners.now c.loop-id.id _ (omega arith))
+    c.loop-id.invariant c.in_ok-write_joiner.ensures

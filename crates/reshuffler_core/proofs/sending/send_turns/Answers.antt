@@ -9,4 +9,5 @@ loop-id-preserved c =
     let m = Turn c.args.epoch c.args.shift in
     let id = c.loop-id.id in
     c.in_ok-push.ensures.ok ∙ ap (λ posts. posts ++ post_to m id ∷ []) c.loop-id.invariant
-    ∙ append_assoc c.args.sends.now (posts_to_all id m) (post_to m id ∷ []) ∙ ap (λ posts. c.args.sends.now ++ posts) (sym (all-more m id))
+    ∙ append_assoc c.args.sends.now (posts_to_all id m) (post_to m id ∷ [])
+    ∙ ap (λ posts. c.args.sends.now ++ posts) (sym (all-more m id))

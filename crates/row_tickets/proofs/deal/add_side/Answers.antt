@@ -10,7 +10,8 @@ rows-init c =
     let at : c.from-i.result ≡ a.p = cc in
     record {
       of_p = rw at (mod-eq_of_lt c.requires.feeder);
-      to_come = rw at (ap (λ is. a.places.now ++ map (place_at a.side) is) (sym (indices_begin a.feeders a.p a.rows c.requires.feeder)));
+      to_come = rw at (ap (λ is. a.places.now ++ map (place_at a.side) is)
+          (sym (indices_begin a.feeders a.p a.rows c.requires.feeder)));
     }
 
 pub rows-preserved : goal.rows-preserved
@@ -22,6 +23,7 @@ rows-preserved c =
     let later = map (place_at a.side) (indices_from a.feeders a.p (i + a.feeders) a.rows) in
     record {
       of_p = rw by (stays_of_p a.feeders i ∙ c.rows.invariant.of_p);
-      to_come = rw by (ap (λ is. is ++ later) c.in_ok-push.ensures.ok ∙ append_assoc c.rows.places (place_at a.side i ∷ []) later
+      to_come = rw by (ap (λ is. is ++ later) c.in_ok-push.ensures.ok
+          ∙ append_assoc c.rows.places (place_at a.side i ∷ []) later
           ∙ ap (λ is. c.rows.places ++ map (place_at a.side) is) (sym next) ∙ c.rows.invariant.to_come);
     }

@@ -13,17 +13,21 @@ pub returns-in_err-push-clause-err : goal.returns-in_err-push-clause-err
 returns-in_err-push-clause-err c = λ values h.
     let p = err_from_is_err_and c.from_residual-in_err-push.result c.from_residual-in_err-push.ensures.1 in
     let had = c.or_insert-places.ensures.value ∙ ap (λ o. unwrap_or o c.new.result) c.in_ok-map.ensures.value in
-    let kept = map_put_kept values (to_z w128 (of_z w128 c.args.value)) c.args.map.now.entries (map_with_value c.in_ok-map.field-0 c.push.new.self).entries c.new.result c.push.new.self _ refl
-    (c.in_ok-map.ensures.update.1 c.push.new.self) c.new.ensures.items (ap (λ (v : SmallVec ℕ). v.items) (c.in_err-push.ensures.err ∙ had)) h in
+    let kept = map_put_kept values (to_z w128 (of_z w128 c.args.value)) c.args.map.now.entries
+    (map_with_value c.in_ok-map.field-0 c.push.new.self).entries c.new.result c.push.new.self _ refl
+    (c.in_ok-map.ensures.update.1 c.push.new.self) c.new.ensures.items
+    (ap (λ (v : SmallVec ℕ). v.items) (c.in_err-push.ensures.err ∙ had)) h in
     rw (p.1) (search (rules, kept))
 
 pub returns-clause-ok : goal.returns-clause-ok
 returns-clause-ok c = λ values at_end h.
     let fits : SFits w128 c.args.value = search rules in
     let had = c.or_insert-places.ensures.value ∙ ap (λ o. unwrap_or o c.new.result) c.in_ok-map.ensures.value in
-    let added = map_put_pushed values (to_z w128 (of_z w128 c.args.value)) c.args.place c.args.map.now.entries (map_with_value c.in_ok-map.field-0 c.push.new.self).entries c.new.result c.push.new.self _ refl
+    let added = map_put_pushed values (to_z w128 (of_z w128 c.args.value)) c.args.place c.args.map.now.entries
+    (map_with_value c.in_ok-map.field-0 c.push.new.self).entries c.new.result c.push.new.self _ refl
     (c.in_ok-map.ensures.update.1 c.push.new.self) c.new.ensures.items
     (c.in_ok-push.ensures.ok ∙ ap (λ (v : SmallVec ℕ). v.items ++ c.args.place ∷ []) had) at_end h in
-    let P : ℤ → Type 0 = λ v. IsMapOf (values ++ Some v ∷ []) (map_with_value c.in_ok-map.field-0 c.push.new.self).entries in
+    let P : ℤ → Type 0 = λ v. IsMapOf (values ++ Some v ∷ [])
+    (map_with_value c.in_ok-map.field-0 c.push.new.self).entries in
     let whole = subst P (to_z-of_z w128 c.args.value fits) added in
     search (rules, whole)

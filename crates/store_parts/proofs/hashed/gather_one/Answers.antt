@@ -11,7 +11,8 @@ pub returns-in-Some : goal.returns-in-Some
 returns-in-Some c =
     let fits : SFits w128 c.args.value = search rules in
     let found = ap option_copied (sym c.in-Some.is) ∙ c.get.ensures.value in
-    let all = gathered-found c.args.value _ c.args.map.now.entries _ c.len.ensures.unique (to_z-of_z w128 c.args.value fits) found in
+    let all = gathered-found c.args.value _ c.args.map.now.entries _ c.len.ensures.unique
+    (to_z-of_z w128 c.args.value fits) found in
     let P : List ℕ → Type 0 = λ ps. IfOk c.from_slice.result (λ found. found.items ≡ ps) in
     subst P (c.as_slice.ensures ∙ all) c.from_slice.ensures.ok
 
@@ -19,4 +20,5 @@ pub returns-in-None : goal.returns-in-None
 returns-in-None c =
     let fits : SFits w128 c.args.value = search rules in
     let found = ap option_copied (sym c.in-None.is) ∙ c.get.ensures.value in
-    c.new.ensures.items ∙ gathered-found c.args.value _ c.args.map.now.entries _ c.len.ensures.unique (to_z-of_z w128 c.args.value fits) found
+    c.new.ensures.items ∙ gathered-found c.args.value _ c.args.map.now.entries _ c.len.ensures.unique
+    (to_z-of_z w128 c.args.value fits) found

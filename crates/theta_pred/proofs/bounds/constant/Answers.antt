@@ -23,6 +23,7 @@ loop-term-preserved c =
     let is : before +ℤ x ≡ after = omega (arith, ints) in
     record {
       value = subst (λ v. v +ℤ constant_of (drop (i + 1) items) ≡ constant_of items) is
-          (constant_step items i default before x _ c.loop-term-test.true c.constant_in-value.ensures.value c.loop-term.invariant.value);
+          (constant_step items i default before x _ c.loop-term-test.true c.constant_in-value.ensures.value
+          c.loop-term.invariant.value);
       small = subst (IsAtMost (2 ^ 63 * (i + 1))) is (IsAtMost-next (2 ^ 63) i before x v_small x_small);
     }

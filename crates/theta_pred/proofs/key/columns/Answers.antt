@@ -8,7 +8,8 @@ invariant_of-result c =
     let first = columns_of c.args.side c.args.turned c.args.left.now in
     let second = columns_of c.args.side (not c.args.turned) c.args.right.now in
     record {
-      short = difference-few c.args.side c.args.turned c.args.left.now c.args.right.now _ c.requires.left c.requires.right
+      short = difference-few c.args.side c.args.turned c.args.left.now c.args.right.now _ c.requires.left
+          c.requires.right
           (c.from_vec.ensures ∙ c.in_ok-add_columns-2.ensures
           ∙ ap (λ xs. xs ++ second) (c.in_ok-add_columns.ensures ∙ ap (λ xs. xs ++ first) c.new-parts.ensures.items));
     }

@@ -24,10 +24,12 @@ resolved_members-loop-member-preserved t c =
     record {
       all = before.all;
       short = omega (arith, short);
-      done = resolved-next names_r names_s c.loop-member.trees.items c.push.new.self.items member c.in_ok-resolved_tree.field-0
+      done = resolved-next names_r names_s c.loop-member.trees.items c.push.new.self.items member
+          c.in_ok-resolved_tree.field-0
           left rest _ left_is c.in_ok-resolved_tree.ensures.ok c.in_ok-push.ensures.items before.done;
       sound = λ h. before.sound
-          (subst (λ l. AreSound (length names_r) (length names_s) (formulas (map (resolved names_r names_s) l))) (sym left_is)
+          (subst (λ l. AreSound (length names_r) (length names_s) (formulas (map (resolved names_r names_s) l)))
+          (sym left_is)
           (c.in_ok-resolved_tree.ensures.sound, h));
       leads = Leads-next names_r names_s (names_in member) (joined (map names_in rest)) whole
           (subst (λ l. Leads names_r names_s (joined (map names_in l)) whole) left_is before.leads)

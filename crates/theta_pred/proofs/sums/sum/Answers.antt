@@ -1,4 +1,5 @@
-use Rattle.std.proofs.Common.{◌≡◌, ◌+◌, ◌*◌, ◌^◌, ◌<◌, false, length, drop, Some, pos, ◌+ℤ◌, to_z, of_z, arith, subst, ap}
+use Rattle.std.proofs.Common.{◌≡◌, ◌+◌, ◌*◌, ◌^◌, ◌<◌, false, length, drop, Some, pos, ◌+ℤ◌, to_z, of_z, arith, subst}
+use Rattle.std.proofs.Common.{ap}
 use Rattle.std.specs.Int.{w128}
 use Rattle.std.proofs.lemmas.Int.{ints}
 use Rattle.theta_pred.specs.declared.tree.SignedTerm.{SignedTerm}
@@ -25,7 +26,8 @@ loop-term-preserved c =
     let is : before +ℤ x ≡ after = omega (arith, ints) in
     record {
       value = subst (λ v. plus (Some v) (sum_of r s (drop (i + 1) items)) ≡ sum_of r s c.args.terms.now) is
-          (sum_step r s items i default before x _ c.loop-term-test.true c.in_ok-value.ensures.value c.loop-term.invariant.value);
+          (sum_step r s items i default before x _ c.loop-term-test.true c.in_ok-value.ensures.value
+          c.loop-term.invariant.value);
       within = (within_step _ _ items i default c.loop-term-test.true c.loop-term.invariant.within).1;
       small = subst (IsAtMost (2 ^ 63 * (i + 1))) is (IsAtMost-next (2 ^ 63) i before x v_small x_small);
       all = c.loop-term.invariant.all;

@@ -19,7 +19,8 @@ loop-signed-preserved c =
     let left_is : left ≡ signed ∷ rest = drop-next items i signed c.loop-signed-test.true c.signed-item.is in
     record {
       all = before.all;
-      done = resolved_sum-next names_r names_s c.loop-signed.terms c.push.new.self signed c.in_ok-number.number left rest _
+      done = resolved_sum-next names_r names_s c.loop-signed.terms c.push.new.self signed c.in_ok-number.number left
+          rest _
           left_is c.in_ok-number.ensures.ok c.in_ok-push.ensures.ok before.done;
       within = λ h. before.within
           (subst (λ l. AreWithin (length names_r) (length names_s) (resolved_sum names_r names_s l)) (sym left_is)

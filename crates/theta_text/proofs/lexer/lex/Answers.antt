@@ -1,4 +1,5 @@
-use Rattle.std.proofs.Common.{◌≡◌, ℕ, ◌+◌, ◌-◌, ◌≤◌, take, List, [], ◌∷◌, ◌++◌, length, drop, sym, ap, subst, ◌∙◌, arith, rules}
+use Rattle.std.proofs.Common.{◌≡◌, ℕ, ◌+◌, ◌-◌, ◌≤◌, take, List, [], ◌∷◌, ◌++◌, length, drop, sym, ap, subst, ◌∙◌}
+use Rattle.std.proofs.Common.{arith, rules}
 use Rattle.std.proofs.lemmas.List.{length-drop, take_all}
 use Rattle.std.specs.List.{prefix_len}
 use Rattle.theta_text.specs.Tokens.{is_blank, Stand, IsNext}
@@ -23,18 +24,28 @@ loop-at-preserved c =
     let placed : Placed = record { token = c.in_ok-token.token; place = l.at } in
     let pushed : c.push.new.self.items ≡ l.found.items ++ placed ∷ [] = search rules in
     let end = l.at + n in
-    let kind_next : IsNextKind here kind n = subst (λ xs. IsNextKind xs kind n) (slice_rest text l.at) c.next_kind-kind.ensures.next in
+    let kind_next : IsNextKind here kind n = subst (λ xs. IsNextKind xs kind n) (slice_rest text l.at)
+    c.next_kind-kind.ensures.next in
     let width : l.at + n - l.at ≡ n = omega arith in
-    let spelled : c.in_ok-token.token ≡ token_at kind (take n here) = c.in_ok-token.ensures ∙ ap (λ m. token_at kind (take m here)) width in
-    let next : IsNext here c.in_ok-token.token n = subst (λ t. IsNext here t n) (sym spelled) (next_token here kind n kind_next) in
-    let ran : c.blanks.result ≡ prefix_len is_blank (drop end text) = c.blanks.ensures.run ∙ ap (prefix_len is_blank) (slice_rest text end) in
+    let spelled : c.in_ok-token.token ≡ token_at kind (take n here) =
+    c.in_ok-token.ensures ∙ ap (λ m. token_at kind (take m here)) width in
+    let next : IsNext here c.in_ok-token.token n = subst (λ t. IsNext here t n) (sym spelled)
+    (next_token here kind n kind_next) in
+    let ran : c.blanks.result ≡ prefix_len is_blank (drop end text) =
+    c.blanks.ensures.run ∙ ap (prefix_len is_blank) (slice_rest text end) in
     let fits : n ≤ length here = subst (λ xs. n ≤ length xs) (slice_rest text l.at) c.next_kind-kind.ensures.within in
     let left = length-drop l.at text in
     let short : length (drop end text) ≡ _ = length-drop end text in
     let few : prefix_len is_blank (drop end text) ≤ length (drop end text) = run_le is_blank (drop end text) in
     let inside : end ≤ length text = omega (arith, fits, left, c.loop-at-test.true) in
     record {
-      stands = (end, inside, subst (λ ps. Stand text 0 ps end) (sym pushed) (stand_push text 0 l.found.items to placed n stood e c.loop-at-test.true next), ap (λ n. end + n) ran);
+      stands = (
+        end,
+        inside,
+        subst (λ ps. Stand text 0 ps end) (sym pushed)
+            (stand_push text 0 l.found.items to placed n stood e c.loop-at-test.true next),
+        ap (λ n. end + n) ran,
+      );
       within = omega (arith, ran, few, short, inside);
     }
 

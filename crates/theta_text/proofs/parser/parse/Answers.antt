@@ -11,8 +11,10 @@ use Rattle.theta_text.proofs.parser.parse.Goals as goal
 pub returns-clause-only : goal.returns-clause-only
 returns-clause-only c tree (tokens, are, reads) =
     let found = c.in_ok-tokens.tokens.items in
-    let are' : AreTokens c.args.text.now found = subst (λ bytes. AreTokens bytes found) c.as_bytes.ensures.value c.in_ok-tokens.ensures in
-    let same : tokens ≡ c.deref.result.now = tokens_unique c.args.text.now tokens found are are' ∙ sym c.deref.ensures.value in
+    let are' : AreTokens c.args.text.now found = subst (λ bytes. AreTokens bytes found)
+    c.as_bytes.ensures.value c.in_ok-tokens.ensures in
+    let same : tokens ≡ c.deref.result.now = tokens_unique c.args.text.now tokens found are are'
+    ∙ sym c.deref.ensures.value in
     c.whole.ensures.only tree (subst (λ z. Reads limits (words z) tree) same reads)
 
 pub returns-clause-exact : goal.returns-clause-exact
@@ -20,7 +22,8 @@ returns-clause-exact c fault h =
     let text = c.args.text.now in
     let found = c.in_ok-tokens.tokens.items in
     let tokens = c.deref.result.now in
-    let are' : AreTokens text found = subst (λ bytes. AreTokens bytes found) c.as_bytes.ensures.value c.in_ok-tokens.ensures in
+    let are' : AreTokens text found = subst (λ bytes. AreTokens bytes found)
+    c.as_bytes.ensures.value c.in_ok-tokens.ensures in
     let are : AreTokens text tokens = subst (λ z. AreTokens text z) (sym c.deref.ensures.value) are' in
     exact_answer limits text c.whole.result
     (if_ok_map c.whole.result _ _ (λ pred r. (tokens, are, r)) c.whole.ensures.ok)

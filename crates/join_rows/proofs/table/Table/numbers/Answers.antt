@@ -5,8 +5,14 @@ use Rattle.join_rows.proofs.table.Table.numbers.Goals as goal
 pub loop-place-preserved : goal.loop-place-preserved
 loop-place-preserved c =
     good-more c.args.column c.args.self.now.rows c.loop-place.place c.at-row.result.now c.at-row.ensures
-    (good-row c.args.column c.at-row.result.now c.at.result.now c.at.ensures (sym c.bad.ensures ∙ c.if-bad.false)) c.loop-place.invariant
+    (good-row c.args.column c.at-row.result.now c.at.result.now c.at.ensures (sym c.bad.ensures ∙ c.if-bad.false))
+    c.loop-place.invariant
 
 pub returns-clause-ok : goal.returns-clause-ok
 returns-clause-ok c place row there =
-    c.loop-place.invariant place row (omega (arith, row-within c.args.self.now.rows place row there, c.loop-place-test.false, c.len.ensures)) there
+    c.loop-place.invariant place row (omega (
+      arith,
+      row-within c.args.self.now.rows place row there,
+      c.loop-place-test.false,
+      c.len.ensures,
+    )) there

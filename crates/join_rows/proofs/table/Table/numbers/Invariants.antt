@@ -5,7 +5,8 @@ use Rattle.join_rows.specs.declared.table.Cell.{Cell}
 use Rattle.join_rows.proofs.table.Table.numbers.Given as goal
 
 abbrev pub invariant-loop-place : goal.invariant-loop-place
-invariant-loop-place l = (earlier : ℕ) (other : List Cell) → earlier < l.place → slice_get l.self.rows earlier ≡ Some other → ¬ (IsBad l.column other)
+invariant-loop-place l = (earlier : ℕ) (other : List Cell) → earlier < l.place
+    → slice_get l.self.rows earlier ≡ Some other → ¬ (IsBad l.column other)
 
 abbrev pub decreases-loop-place : goal.decreases-loop-place
 decreases-loop-place l = length l.self.rows - l.place

@@ -7,4 +7,5 @@ use Rattle.joiner_core.proofs.joiner.Joiner.hears.Goals as goal
 pub hears-requires : goal.hears-requires
 hears-requires c =
     let going = subst (λ (z : JoinerState). ¬ (IsSpent z)) (sym c.self.view_is) c.requires in
-    (sound-at-work (record { machine = (state_of c.self.inside.machine); spent = c.self.inside.spent }) c.self.invariant going).within.small
+    (sound-at-work (record { machine = (state_of c.self.inside.machine); spent = c.self.inside.spent })
+    c.self.invariant going).within.small

@@ -12,9 +12,12 @@ use Rattle.joiner_core.proofs.joiner.Joiner.store.Goals as goal
 pub returns-clause-tuples : goal.returns-clause-tuples
 returns-clause-tuples c = rw (← c.self.view_is) (λ s lists stands.
     let is = stands.machine.between in
-    let bag = SameBag-trans (same-bag _ _ (ap (λ (z : Stocked). z.tuples) c.settled_store.ensures)) (store-law s lists (state_of c.self.inside.machine) is) in
-    subst (λ (t : Taken). SameBag (tuples_of c.settled_store.result.now) (store s t stands.law.done)) stands.machine.taken
-    (subst (λ (n : ℕ). SameBag (tuples_of c.settled_store.result.now) (store s is.within.taken n)) stands.machine.done bag))
+    let bag = SameBag-trans (same-bag _ _ (ap (λ (z : Stocked). z.tuples) c.settled_store.ensures))
+    (store-law s lists (state_of c.self.inside.machine) is) in
+    subst (λ (t : Taken). SameBag (tuples_of c.settled_store.result.now) (store s t stands.law.done))
+    stands.machine.taken
+    (subst (λ (n : ℕ). SameBag (tuples_of c.settled_store.result.now) (store s is.within.taken n))
+    stands.machine.done bag))
 
 pub returns-clause-key : goal.returns-clause-key
 returns-clause-key c = rw (← c.self.view_is) (λ going.

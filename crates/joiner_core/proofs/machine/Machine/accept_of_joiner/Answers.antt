@@ -4,8 +4,13 @@ use Rattle.joiner_core.proofs.machine.Machine.accept_of_joiner.Goals as goal
 
 pub returns-in_ok-take_of_joiner : goal.returns-in_ok-take_of_joiner
 returns-in_ok-take_of_joiner c =
-    accepts-taken-joiner (state_of c.args.self.now) (state_of c.take_of_joiner.new.self) c.args.q c.args.m c.args.found.now c.take_of_joiner.new.found c.args.sends.now c.take_of_joiner.new.sends
-    c.requires.sound (c.is_clear.ensures.up c.if-is_clear.true) (c.can_take_of_joiner.ensures.up c.if-can_take_of_joiner.true) c.in_ok-take_of_joiner.ensures.rest c.in_ok-take_of_joiner.ensures.took
+    accepts-taken-joiner (state_of c.args.self.now) (state_of c.take_of_joiner.new.self)
+    c.args.q c.args.m c.args.found.now c.take_of_joiner.new.found c.args.sends.now c.take_of_joiner.new.sends
+    c.requires.sound (c.is_clear.ensures.up c.if-is_clear.true)
+    (c.can_take_of_joiner.ensures.up c.if-can_take_of_joiner.true)
+    c.in_ok-take_of_joiner.ensures.rest c.in_ok-take_of_joiner.ensures.took
 
 pub returns-in_ok-hold : goal.returns-in_ok-hold
-returns-in_ok-hold c = accepts-held-joiner (state_of c.args.self.now) c.hold.new.self c.args.q c.args.m c.args.found.now c.args.sends.now c.requires.sound c.requires.few c.requires.row c.in_ok-hold.ensures.ok
+returns-in_ok-hold c = accepts-held-joiner (state_of c.args.self.now)
+    c.hold.new.self c.args.q c.args.m c.args.found.now c.args.sends.now c.requires.sound c.requires.few c.requires.row
+    c.in_ok-hold.ensures.ok

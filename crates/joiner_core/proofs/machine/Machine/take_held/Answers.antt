@@ -19,4 +19,6 @@ returns-clause-took c = advances-then _ _ _ _ _ _ _ _ _ c.trial.invariant.took c
 
 pub returns-clause-tried : goal.returns-clause-tried
 returns-clause-tried c =
-    c.trial.invariant.tried _ (subst (λ (z : MachineState). AreTried z (state_of c.take_one_held.new.self)) (c.in_ok-take_one_held.ensures.none c.if-branch.false) (none_ready (c.in_ok-take_one_held.ensures.stuck c.if-branch.false)))
+    c.trial.invariant.tried _ (subst (λ (z : MachineState). AreTried z (state_of c.take_one_held.new.self))
+    (c.in_ok-take_one_held.ensures.none c.if-branch.false)
+    (none_ready (c.in_ok-take_one_held.ensures.stuck c.if-branch.false)))

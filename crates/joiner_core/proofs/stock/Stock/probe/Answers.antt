@@ -24,4 +24,5 @@ returns c =
     c.in_ok-find_uncounted.ensures.ok
     ∙ ap (λ ps. c.args.found.now ++ ps)
     (probe-is c.args.theta.now c.args.tuple.now c.args.which c.self.inside.store c.self.invariant
-    ∙ ap (λ (z : Stocked). probed (does_hold c.args.theta.now) (named_by c.args.which) c.args.tuple.now z.tuples) c.self.view_is)
+    ∙ ap (λ (z : Stocked). probed (does_hold c.args.theta.now) (named_by c.args.which) c.args.tuple.now z.tuples)
+    c.self.view_is)

@@ -9,4 +9,5 @@ pub returns : goal.returns
 returns c =
     c.in_ok-send_all.ensures
     ∙ ap (λ xs. c.args.sends.now ++ map (moved_post c.args.to c.args.epoch) xs)
-    (c.as_slice.ensures ∙ c.side.ensures.tuples ∙ sym (own-side c.args.side c.self.inside.store c.self.invariant) ∙ ap (λ (z : Stocked). filter (is_of c.args.side) z.tuples) c.self.view_is)
+    (c.as_slice.ensures ∙ c.side.ensures.tuples ∙ sym (own-side c.args.side c.self.inside.store c.self.invariant)
+    ∙ ap (λ (z : Stocked). filter (is_of c.args.side) z.tuples) c.self.view_is)

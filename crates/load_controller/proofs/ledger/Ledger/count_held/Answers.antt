@@ -5,7 +5,10 @@ pub trial-init : goal.trial-init
 trial-init c = (c.requires, advances_none _ _)
 
 pub trial-preserved : goal.trial-preserved
-trial-preserved c = (c.in_ok-count_one_held.ensures.sound, advances_then _ _ _ _ _ _ c.trial.invariant.1 c.in_ok-count_one_held.ensures.took)
+trial-preserved c = (
+  c.in_ok-count_one_held.ensures.sound,
+  advances_then _ _ _ _ _ _ c.trial.invariant.1 c.in_ok-count_one_held.ensures.took,
+)
 
 pub returns-clause-took : goal.returns-clause-took
 returns-clause-took c = advances_then _ _ _ _ _ _ c.trial.invariant.1 c.in_ok-count_one_held.ensures.took

@@ -12,11 +12,14 @@ returns-then-not-has_place-clause-takes c =
 
 pub returns-clause-takes : goal.returns-clause-takes
 returns-clause-takes c =
-    feeder_takes c.args.feeder c.args.m c.args.self.now c.count.new.self c.count_held.new.self c.args.sends.now c.count.new.sends c.count_held.new.sends
+    feeder_takes c.args.feeder c.args.m c.args.self.now c.count.new.self c.count_held.new.self c.args.sends.now
+    c.count.new.sends c.count_held.new.sends
     c.requires c.in_ok-count.ensures.sound c.in_ok-count_held.ensures.sound (c.if-not-has_place.ensures.0 refl)
-    (subst (λ cause. CountsCause cause c.args.self.now c.count.new.self c.args.sends.now c.count.new.sends) c.cause_of.ensures c.in_ok-count.ensures.took)
+    (subst (λ cause. CountsCause cause c.args.self.now c.count.new.self c.args.sends.now c.count.new.sends)
+    c.cause_of.ensures c.in_ok-count.ensures.took)
     c.in_ok-count_held.ensures.took c.in_ok-count_held.ensures.stuck
 
 pub returns-clause-passes : goal.returns-clause-passes
 returns-clause-passes c = λ line past newest over.
-    absurd (placed_not_passed c.args.self.now c.args.feeder c.args.m c.requires (c.if-not-has_place.ensures.0 refl) line past newest over)
+    absurd (placed_not_passed c.args.self.now c.args.feeder c.args.m c.requires (c.if-not-has_place.ensures.0 refl)
+    line past newest over)

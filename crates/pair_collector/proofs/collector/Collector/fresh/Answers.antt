@@ -10,7 +10,8 @@ use Rattle.pair_collector.proofs.collector.Collector.fresh.Goals as goal
 pub returns-clause-gives : goal.returns-clause-gives
 returns-clause-gives c = λ joiners earlier lists stands gave.
     let old = c.args.self.now in
-    let kept : c.deref-2.result.now ≡ old.joiners = c.deref-2.ensures.value ∙ ap (λ (state : CollectorState). state.joiners) c.self.view_is in
+    let kept : c.deref-2.result.now ≡ old.joiners = c.deref-2.ensures.value
+    ∙ ap (λ (state : CollectorState). state.joiners) c.self.view_is in
     let given : c.self.inside.given ≡ old.given = ap (λ (state : CollectorState). state.given) c.self.view_is in
     subst (λ (ps : List Pair). IsPermutation ps c.in_order.result)
     (c.in_ok-pairs.ensures

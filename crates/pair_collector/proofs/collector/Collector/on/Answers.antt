@@ -10,10 +10,14 @@ returns-then-joiner-len-clause-takes c =
 pub returns-clause-takes : goal.returns-clause-takes
 returns-clause-takes c =
     rw (c.in-Joiner.is, ← c.self.view_is)
-    (on_ok_weaker c.take-taken.result (λ is. rw is (joiner_takes _ _ _ c.in-Joiner.joiner c.args.m c.index_mut.result.now (omega arith) c.index_mut.ensures.value)) c.take-taken.ensures.ok)
+    (on_ok_weaker c.take-taken.result
+    (λ is. rw is (joiner_takes _ _ _ c.in-Joiner.joiner c.args.m c.index_mut.result.now (omega arith)
+    c.index_mut.ensures.value)) c.take-taken.ensures.ok)
 
 pub returns-clause-passes : goal.returns-clause-passes
 returns-clause-passes c =
     rw (c.in-Joiner.is, ← c.self.view_is, c.if-self.false)
-    (passes_over c.take-taken.result c.self.inside.parts.items _ c.in-Joiner.joiner c.args.m c.index_mut.result.now c.take-taken.new.self
-    c.is_err-self-inside.result c.is_err-self-inside.ensures.value c.take-taken.ensures.ok (omega arith) c.index_mut.ensures.value)
+    (passes_over c.take-taken.result c.self.inside.parts.items _ c.in-Joiner.joiner c.args.m c.index_mut.result.now
+    c.take-taken.new.self
+    c.is_err-self-inside.result c.is_err-self-inside.ensures.value c.take-taken.ensures.ok (omega arith)
+    c.index_mut.ensures.value)

@@ -12,5 +12,7 @@ returns-then-left-eq0 c =
 pub returns-else-left-eq0 : goal.returns-else-left-eq0
 returns-else-left-eq0 c =
     let f = c.self.inside in
-    let more : 0 < length f.load - f.sent = let is = c.len.ensures in let some = c.if-left-eq0.false in grind (arith, is, some) in
-    ap (λ n. (n - f.sent - 1) / f.batch + 1) c.len.ensures ∙ some_left f.batch f.sent f.load c.self.invariant.some more ∙ ap (λ (s : FeederState). length s.to_come) c.self.view_is
+    let more : 0 < length f.load - f.sent = let is = c.len.ensures in let some = c.if-left-eq0.false in
+    grind (arith, is, some) in
+    ap (λ n. (n - f.sent - 1) / f.batch + 1) c.len.ensures ∙ some_left f.batch f.sent f.load c.self.invariant.some more
+    ∙ ap (λ (s : FeederState). length s.to_come) c.self.view_is

@@ -8,7 +8,8 @@ pub prove-unreachable-requires : goal.prove-unreachable-requires
 prove-unreachable-requires c =
     let f = c.self.inside in
     let is = c.next_batch-batch.ensures.value ∙ ap (λ (s : FeederState). first_batch s.to_come) (sym c.self.view_is) in
-    let within = stays_within f.batch f.sent f.load c.next_batch-batch.result.now c.self.invariant.some c.self.invariant.front is in
+    let within = stays_within f.batch f.sent f.load c.next_batch-batch.result.now c.self.invariant.some
+    c.self.invariant.front is in
     let rows = ap length c.as_slice.ensures in
     omega arith
 
@@ -21,12 +22,15 @@ invariant_of-self c =
       shape = c.self.invariant.shape;
       some = c.self.invariant.some;
       few = c.self.invariant.few;
-      front = stays_within f.batch f.sent f.load c.next_batch-batch.result.now c.self.invariant.some c.self.invariant.front is;
+      front = stays_within f.batch f.sent f.load c.next_batch-batch.result.now c.self.invariant.some
+          c.self.invariant.front is;
     }
 
 pub returns-clause-state : goal.returns-clause-state
 returns-clause-state c =
     let f = c.self.inside in
     let is = c.next_batch-batch.ensures.value ∙ ap (λ (s : FeederState). first_batch s.to_come) (sym c.self.view_is) in
-    ap (λ bs. record (the_view f) { to_come = bs; asked = false }) (rest_of_load f.batch f.sent f.load c.next_batch-batch.result.now c.self.invariant.some c.self.invariant.front is)
+    ap (λ bs. record (the_view f) { to_come = bs; asked = false })
+    (rest_of_load f.batch f.sent f.load c.next_batch-batch.result.now c.self.invariant.some c.self.invariant.front
+    is)
     ∙ ap (λ (s : FeederState). record s { to_come = drop 1 s.to_come; asked = false }) c.self.view_is

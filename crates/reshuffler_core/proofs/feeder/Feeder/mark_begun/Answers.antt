@@ -11,4 +11,5 @@ returns-else-self-as_slice c =
     let left = length-drop f.sent f.load in
     let rows = ap length c.as_slice.ensures in
     let none : length (drop f.sent f.load) ≡ 0 = omega arith in
-    ap (state_begun (the_view f)) (sym (cut_none f.batch (drop f.sent f.load) c.self.invariant.some none)) ∙ ap (λ (s : FeederState). state_begun s s.to_come) c.self.view_is
+    ap (state_begun (the_view f)) (sym (cut_none f.batch (drop f.sent f.load) c.self.invariant.some none))
+    ∙ ap (λ (s : FeederState). state_begun s s.to_come) c.self.view_is

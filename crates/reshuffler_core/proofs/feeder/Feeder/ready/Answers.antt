@@ -10,6 +10,7 @@ returns-then-can_take c =
     let some : 0 < length held = c.in_ok-first.ensures.item.3.0 in
     record {
       rest = drop 1 held;
-      first = sym (ap (λ (s : FeederState). s.held) c.self.view_is) ∙ drop-cons held 0 m some ∙ ap (λ x. x ∷ drop 1 held) (sym c.in_ok-first.ensures.lookup);
+      first = sym (ap (λ (s : FeederState). s.held) c.self.view_is) ∙ drop-cons held 0 m some
+          ∙ ap (λ x. x ∷ drop 1 held) (sym c.in_ok-first.ensures.lookup);
       takes = c.can_take.ensures.0 c.if-can_take.true;
     }

@@ -8,6 +8,7 @@ held-init c = record { spent = refl; advances = stays c.args.self.now c.args.sen
 pub held-preserved : goal.held-preserved
 held-preserved c = record {
   spent = c.take_first.ensures.spent ∙ c.held.invariant.spent;
-  advances = further c.args.self.now c.held.self c.take_first.new.self c.args.sends.now c.held.sends c.take_first.new.sends
+  advances = further c.args.self.now c.held.self c.take_first.new.self c.args.sends.now c.held.sends
+      c.take_first.new.sends
       c.held.invariant.advances c.in_ok-take_first.ensures.advances;
 }

@@ -9,11 +9,14 @@ use Rattle.ruled_links.proofs.parts.Parts.note.Goals as goal
 one : (c : goal.After-note_at) → c.note_at.new.parts.items ≡ map (noted c.args.sender) c.self.inside.parts.items
 one c = let ps = c.self.inside.parts.items in let k = c.in-Some.place in
     let found : (k < length ps) × ((d : Part) → number_of (get_or ps k d).from ≡ c.args.sender) =
-    subst (λ (l : List Part). (k < length l) × ((d : Part) → number_of (get_or l k d).from ≡ c.args.sender)) (sym c.self.view_is) (c.in-Some.ensures {u = tt}) in
-    c.note_at.ensures any_part ∙ note_found c.self.inside.places.items ps c.args.sender k any_part c.self.invariant found.0 (found.1 any_part)
+    subst (λ (l : List Part). (k < length l) × ((d : Part) → number_of (get_or l k d).from ≡ c.args.sender))
+    (sym c.self.view_is) (c.in-Some.ensures {u = tt}) in
+    c.note_at.ensures any_part ∙ note_found c.self.inside.places.items ps c.args.sender k any_part c.self.invariant
+    found.0 (found.1 any_part)
 
 pub invariant_of-self : goal.invariant_of-self
-invariant_of-self c = subst (λ (l : List Part). IsIndexed c.self.inside.places.items l) (sym (one c)) (index_notes c.args.sender c.self.inside.places.items c.self.inside.parts.items c.self.invariant)
+invariant_of-self c = subst (λ (l : List Part). IsIndexed c.self.inside.places.items l) (sym (one c))
+    (index_notes c.args.sender c.self.inside.places.items c.self.inside.parts.items c.self.invariant)
 
 pub returns-in-Some : goal.returns-in-Some
 returns-in-Some c = one c ∙ ap (λ (l : List Part). map (noted c.args.sender) l) c.self.view_is

@@ -1,4 +1,5 @@
-use Rattle.std.proofs.Common.{◌≡◌, ◌<◌, ◌≤◌, ◌+◌, ◌*◌, ◌^◌, false, length, drop, Some, ◌+ℤ◌, to_z, of_z, arith, subst, ap}
+use Rattle.std.proofs.Common.{◌≡◌, ◌<◌, ◌≤◌, ◌+◌, ◌*◌, ◌^◌, false, length, drop, Some, ◌+ℤ◌, to_z, of_z, arith, subst}
+use Rattle.std.proofs.Common.{ap}
 use Rattle.std.specs.Int.{w128}
 use Rattle.std.proofs.lemmas.Int.{ints}
 use Rattle.theta_pred.specs.declared.atom.Part.{Part}
@@ -26,7 +27,8 @@ loop-part-preserved c =
     let is : before +ℤ x ≡ after = omega (arith, ints) in
     record {
       value = subst (λ v. plus (Some v) (value_of (drop (i + 1) items) row) ≡ value_of c.args.self.now.parts row) is
-          (value_step row items i default before x _ c.loop-part-test.true c.in_ok-value.ensures.value c.loop-part.invariant.value);
+          (value_step row items i default before x _ c.loop-part-test.true c.in_ok-value.ensures.value
+          c.loop-part.invariant.value);
       small = subst (IsAtMost (2 ^ 63 * (i + 1))) is (IsAtMost-next (2 ^ 63) i before x v_small x_small);
       all = c.loop-part.invariant.all;
     }

@@ -1,4 +1,5 @@
-use Rattle.std.proofs.Common.{◌≡◌, ℕ, ◌+◌, ◌<◌, ◌≤◌, suc, List, ◌∷◌, length, drop, get_or, false, ◌==◌, Option, Some, None, MatchOption, IfSome, ap, subst, ◌∙◌, arith}
+use Rattle.std.proofs.Common.{◌≡◌, ℕ, ◌+◌, ◌<◌, ◌≤◌, suc, List, ◌∷◌, length, drop, get_or, false, ◌==◌, Option, Some}
+use Rattle.std.proofs.Common.{None, MatchOption, IfSome, ap, subst, ◌∙◌, arith}
 use Rattle.std.proofs.Math.Seq.{drop-cons}
 use Rattle.std.proofs.lemmas.List.{drop_all}
 use Rattle.std.proofs.lemmas.Bool.{eq-eqb, ne_eqb}
@@ -7,7 +8,8 @@ use Rattle.theta_text.proofs.Fronts.{found_by, quoted_within, turn_other, turn_t
 use Rattle.theta_text.proofs.lexer.front.quoted.Goals as goal
 
 at_drop : (text : List ℕ) (at : ℕ) → at < length text → drop at text ≡ get_or text at 0 ∷ drop (at + 1) text
-at_drop text at lt = let one : suc at ≡ at + 1 = omega arith in drop-cons text at 0 lt ∙ ap (λ n. get_or text at 0 ∷ drop n text) one
+at_drop text at lt = let one : suc at ≡ at + 1 = omega arith in
+    drop-cons text at 0 lt ∙ ap (λ n. get_or text at 0 ∷ drop n text) one
 
 ne_lt : (a b : ℕ) → (a ≡ b → ⊥) → a ≤ b → a < b
 ne_lt a b isnt le = omega arith
@@ -25,7 +27,8 @@ loop-at-preserved-then-text-at c =
     let test = c.if-text-at.true in
     let off : (get_or c.args.text.now l.at 0 == c.args.quote) ≡ false = ne_eqb _ _ test in
     record {
-      found = l.invariant.found ∙ ap (λ xs. found_by l.at l.best (quoted_len c.args.quote xs)) (at_drop c.args.text.now l.at c.loop-at-test.true)
+      found = l.invariant.found ∙ ap (λ xs. found_by l.at l.best (quoted_len c.args.quote xs))
+          (at_drop c.args.text.now l.at c.loop-at-test.true)
           ∙ turn_other c.args.quote l.at (get_or c.args.text.now l.at 0) l.best (drop (l.at + 1) c.args.text.now) off;
       within = omega arith;
     }
@@ -41,10 +44,12 @@ loop-at-preserved c =
     let lt1 : l.at + 1 < length text = ne_lt _ _ room (omega arith) in
     let two : l.at + 1 + 1 ≡ l.at + 2 = omega arith in
     let here : drop l.at text ≡ get_or text l.at 0 ∷ get_or text (l.at + 1) 0 ∷ drop (l.at + 2) text =
-    at_drop text l.at c.loop-at-test.true ∙ ap (λ xs. get_or text l.at 0 ∷ xs) (at_drop text (l.at + 1) lt1 ∙ ap (λ n. get_or text (l.at + 1) 0 ∷ drop n text) two) in
+    at_drop text l.at c.loop-at-test.true ∙ ap (λ xs. get_or text l.at 0 ∷ xs)
+    (at_drop text (l.at + 1) lt1 ∙ ap (λ n. get_or text (l.at + 1) 0 ∷ drop n text) two) in
     record {
       found = l.invariant.found ∙ ap (λ xs. found_by l.at l.best (quoted_len q xs)) here
-          ∙ turn_twice q l.at (get_or text l.at 0) (get_or text (l.at + 1) 0) l.best (drop (l.at + 2) text) (eq-eqb _ _ test) (eq-eqb _ _ test2);
+          ∙ turn_twice q l.at (get_or text l.at 0) (get_or text (l.at + 1) 0) l.best (drop (l.at + 2) text)
+          (eq-eqb _ _ test) (eq-eqb _ _ test2);
       within = omega (arith, lt1);
     }
 
@@ -53,5 +58,6 @@ returns-clause-within c =
     let l = c.loop-at in
     let text = c.args.text.now in
     let q = c.args.quote in
-    let whole : quoted_len q text ≡ l.best = l.invariant.found ∙ ap (λ xs. found_by l.at l.best (quoted_len q xs)) (drop_all l.at text c.loop-at-test.false) in
+    let whole : quoted_len q text ≡ l.best = l.invariant.found
+    ∙ ap (λ xs. found_by l.at l.best (quoted_len q xs)) (drop_all l.at text c.loop-at-test.false) in
     within_best (quoted_len q text) l.best (length text) whole (quoted_within q text)

@@ -21,6 +21,7 @@ returns-then-value-gt-GREATEST c =
     let whole : number_from next (drop (l.b-index + 1) digits) ≡ number_of digits =
     ap (λ digit. number_from (l.value * 10 + digit) (drop (l.b-index + 1) digits)) c.saturating_sub.ensures
     ∙ sym (number_from-drop l.value l.b-index digits c.loop-b-test.true) ∙ l.invariant.value in
-    let le : next ≤ number_from next (drop (l.b-index + 1) digits) = number_from-le next (drop (l.b-index + 1) digits) in
+    let le : next ≤ number_from next (drop (l.b-index + 1) digits) =
+    number_from-le next (drop (l.b-index + 1) digits) in
     let big = c.if-value-gt-GREATEST.true in
     omega (arith, whole, le, big)

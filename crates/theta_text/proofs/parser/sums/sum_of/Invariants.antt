@@ -9,7 +9,8 @@ use Rattle.theta_text.proofs.parser.sums.sum_of.Given as goal
 abbrev pub invariant-loop-minus : goal.invariant-loop-minus
 invariant-loop-minus l = record {
   read : (x : Signed) × (xs : List Signed) × (l.terms ≡ x ∷ xs) × (l.room + length xs ≡ limits.more)
-      × FirstText limits.greatest (words l.tokens) x (words l.initial.rest) × FurtherTerms limits.greatest limits.more (words l.initial.rest) xs (words l.rest);
+      × FirstText limits.greatest (words l.tokens) x (words l.initial.rest)
+      × FurtherTerms limits.greatest limits.more (words l.initial.rest) xs (words l.rest);
   run : (s : List Symbol) → verdict limits l.end (sum ∷ s) l.tokens ≡ verdict limits l.end (more l.room ∷ s) l.rest;
   shorter : length l.rest < length l.tokens;
 }

@@ -20,7 +20,8 @@ abbrev pub invariant-conj-loop-after : goal.invariant-conj-loop-after
 invariant-conj-loop-after l = record {
   first : Unit' limits l.depth (words l.tokens) (tree_of l.first) (words l.initial.rest);
   read : Further IsAnd (Unit' limits l.depth) (words l.initial.rest) (map tree_of l.others.items) (words l.rest);
-  run : (s : List Symbol) → verdict limits l.end (unit l.depth ∷ tail l.depth ∷ s) l.tokens ≡ verdict limits l.end (tail l.depth ∷ s) l.rest;
+  run : (s : List Symbol) → verdict limits l.end (unit l.depth ∷ tail l.depth ∷ s) l.tokens
+      ≡ verdict limits l.end (tail l.depth ∷ s) l.rest;
   shorter : length l.rest < length l.tokens;
   narrow_first : longest_sum l.first ≤ 16;
   narrow : longest (map longest_sum l.others.items) ≤ 16;
@@ -33,7 +34,8 @@ abbrev pub invariant-predicate-loop-after : goal.invariant-predicate-loop-after
 invariant-predicate-loop-after l = record {
   first : Conj (Unit' limits l.depth) (words l.tokens) (tree_of l.first) (words l.initial.rest);
   read : Further IsOr (Conj (Unit' limits l.depth)) (words l.initial.rest) (map tree_of l.others.items) (words l.rest);
-  run : (s : List Symbol) → verdict limits l.end (unit l.depth ∷ tail l.depth ∷ s) l.tokens ≡ verdict limits l.end (tail l.depth ∷ s) l.rest;
+  run : (s : List Symbol) → verdict limits l.end (unit l.depth ∷ tail l.depth ∷ s) l.tokens
+      ≡ verdict limits l.end (tail l.depth ∷ s) l.rest;
   ends : BeginsOff IsAnd l.rest;
   shorter : length l.rest < length l.tokens;
   narrow_first : longest_sum l.first ≤ 16;

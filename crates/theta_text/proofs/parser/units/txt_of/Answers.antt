@@ -12,9 +12,11 @@ returns-in_err-left-clause-run c s =
 pub returns-in_err-op-clause-run : goal.returns-in_err-op-clause-run
 returns-in_err-op-clause-run c s =
     let p = err_from_is_err_and c.from_residual-in_err-op.result c.from_residual-in_err-op.ensures.1 in
-    rw (p.1, p.2) (same_fault _ _ c.in_err-op.field-0.0 (c.in_ok-left.ensures.run (op ∷ side ∷ s)) (c.in_err-op.ensures.run (side ∷ s)))
+    rw (p.1, p.2) (same_fault _ _ c.in_err-op.field-0.0 (c.in_ok-left.ensures.run (op ∷ side ∷ s))
+    (c.in_err-op.ensures.run (side ∷ s)))
 
 pub returns-in_err-right-clause-run : goal.returns-in_err-right-clause-run
 returns-in_err-right-clause-run c s =
     let p = err_from_is_err_and c.from_residual-in_err-right.result c.from_residual-in_err-right.ensures.1 in
-    rw (p.1, p.2) (same_fault _ _ c.in_err-right.field-0.0 (c.in_ok-left.ensures.run (op ∷ side ∷ s) ∙ c.in_ok-op.ensures.run (side ∷ s)) (c.in_err-right.ensures.run s))
+    rw (p.1, p.2) (same_fault _ _ c.in_err-right.field-0.0 (c.in_ok-left.ensures.run (op ∷ side ∷ s)
+    ∙ c.in_ok-op.ensures.run (side ∷ s)) (c.in_err-right.ensures.run s))
