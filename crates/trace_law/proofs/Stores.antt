@@ -44,6 +44,8 @@ one_age stamp e = grind (arith, nat_tests)
 next_age : (stamp e : ℕ) → nat_le stamp (e + 1) ≡ (nat_le stamp e || (stamp == e + 1))
 next_age stamp e = grind (arith, nat_tests)
 
+-- from shift b to b + 1, at one tuple: counted where the joiner had it and keeps it, where its partner had it and it is
+-- of R, and where it is of epoch e + 1 and held at b + 1, it is counted once if it is of the next store, else never
 pub at_rising : (k b e j : ℕ) → b < k → k ≤ 8 → (side : Side) (ticket stamp n : ℕ)
     → only_if (nat_le stamp e && holds_ticket k b j side ticket) (only_if (holds_ticket k (b + 1) j side ticket) n)
     + only_if (nat_le stamp e && holds_ticket k b (partner b j) side ticket) (only_if (same_side R side) n)
@@ -58,6 +60,7 @@ at_rising k b e j below small S ticket stamp n =
     (kept_adds n (nat_le stamp e) (stamp == e + 1) (holds_s b j ticket) (holds_s (b + 1) j ticket)
     (nat_le stamp e && holds_s b (partner b j) ticket) (rising_s b j ticket) (one_age stamp e))
 
+-- from shift b + 1 to b, at one tuple: the same, with S as the exchanged side
 pub at_falling : (k b e j : ℕ) → b < k → k ≤ 8 → (side : Side) (ticket stamp n : ℕ)
     → only_if (nat_le stamp e && holds_ticket k (b + 1) j side ticket) (only_if (holds_ticket k b j side ticket) n)
     + only_if (nat_le stamp e && holds_ticket k (b + 1) (partner b j) side ticket) (only_if (same_side S side) n)
@@ -111,6 +114,7 @@ rising_step all A B M N k b e j below small mine its moved arrived =
     step_sums all A B M N k b (b + 1) e j (partner b j) R mine its moved arrived
     (λ t n. at_rising k b e j below small t.side t.ticket t.stamp n)
 
+-- so it is from shift b + 1 to b, where the partner had moved its tuples of S
 pub falling_step : (all A B M N : List Tuple) (k b e j : ℕ) → b < k → k ≤ 8
     → SameBag A (filter (is_stored k (b + 1) e j) all) → SameBag B (filter (is_stored k (b + 1) e (partner b j)) all)
     → SameBag M (filter (is_of S) B) → SameBag N (filter (λ t. (t.stamp == e + 1) && holds k b j t) all)
