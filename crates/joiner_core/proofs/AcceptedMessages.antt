@@ -25,6 +25,7 @@ use Rattle.joiner_core.proofs.SentPosts.{with_sent-none}
 
 -- ---- what was received, and what was sent to the collector, stand apart
 
+-- the lists with other messages received, and others sent to the collector
 abbrev pub with_other : JoinerLists → (ℕ → List ToJoiner) → (ℕ → List ToJoiner) → List ToCollector → JoinerLists
 with_other lists f g zs = record lists { from_feeder = f; from_joiner = g; to_collector = zs }
 
@@ -102,6 +103,8 @@ by-other s t lists f g zs w w' m moves (Some o) is = record {
   all = is.all;
 }
 
+-- where the pairs sent and waiting may be exchanged for others, what stands for the lists stands for them with any
+-- messages received, with those others sent or waiting, and with the same messages taken
 pub stands-other : (s : JoinerStart) (t : Taken) (lists : JoinerLists) (f g : ℕ
     → List ToJoiner) (zs : List ToCollector) (w w' : List Pair) (m : EpochState) → PairsMove s lists w zs w'
     → Stands s t lists w m → Stands s t (with_other lists f g zs) w' m
@@ -117,6 +120,7 @@ stands-received s t lists f g w m is = stands-other s t lists f g lists.to_colle
 
 -- ---- a message of a feeder
 
+-- of a sound machine that holds nothing of feeder p: a message of it that can be taken, and was, is accepted
 pub accepts-taken-feeder : (old new : MachineState) (p : ℕ) (m : ToJoiner) (w w' : List Pair) (before after : List Post)
     → IsSound old → p < old.epochs.feeders → held_at old.of_feeders p ≡ [] → TakesOfFeeder old.epochs p m
     → new ≡ record old { epochs = new.epochs } → TookOfFeeder p m old.epochs new.epochs w w' before after
@@ -176,6 +180,8 @@ accepts-taken-feeder old new p m w w' before after sound low clear can state too
           };
     }
 
+-- a message of feeder p, with a row of the widths if it carries one, that a sound machine puts behind those it holds of
+-- p, and which changes nothing else, is accepted
 pub accepts-held-feeder : (old : MachineState) (queues : List (List ToJoiner)) (p : ℕ) (m : ToJoiner) (w : List Pair)
     (before : List Post) → IsSound old → p < old.epochs.feeders → HasRow old.epochs.theta m
     → queues ≡ slice_set old.of_feeders p (held_at old.of_feeders p ++ m ∷ [])
@@ -230,6 +236,7 @@ accepts-held-feeder old queues p m w before sound low row put =
 
 -- ---- a message of a joiner
 
+-- of a sound machine that holds nothing of joiner q: a message of it that can be taken, and was, is accepted
 pub accepts-taken-joiner : (old new : MachineState) (q : ℕ) (m : ToJoiner) (w w' : List Pair) (before after : List Post)
     → IsSound old → held_at old.of_joiners q ≡ [] → TakesOfJoiner old.epochs q m
     → new ≡ record old { epochs = new.epochs } → ((j : ℕ) → TakesOfJoiner old.epochs j m
@@ -288,6 +295,8 @@ accepts-taken-joiner old new q m w w' before after sound clear can state takes =
           };
     }
 
+-- a message of joiner q of the grid, with a row of the widths if it carries one, that a sound machine puts behind those
+-- it holds of q, and which changes nothing else, is accepted
 pub accepts-held-joiner : (old : MachineState) (queues : List (List ToJoiner)) (q : ℕ) (m : ToJoiner) (w : List Pair)
     (before : List Post) → IsSound old → q < 2 ^ old.epochs.k → HasRow old.epochs.theta m
     → queues ≡ slice_set old.of_joiners q (held_at old.of_joiners q ++ m ∷ [])

@@ -21,6 +21,7 @@ use Rattle.joiner_core.specs.Machine.{StandsWithin, IsResting, Advances, IsSound
 use Rattle.joiner_core.proofs.OwnPosts.{own-none, own-append, own-before}
 use Rattle.joiner_core.proofs.SentPosts.{quiet-append, with_sent-none, with_sent-append}
 
+-- where nothing is done, the machine stands for the lists for which it stood
 pub advances-none : (m : MachineState) (waiting : List Pair) (posts : List Post)
     → Advances m m waiting waiting posts posts
 advances-none m waiting posts = record {
@@ -34,6 +35,7 @@ advances-none m waiting posts = record {
   stands = λ s lists is. subst (λ (ls : JoinerLists). StandsWithin s ls waiting m) (sym (with_sent-none lists)) is;
 }
 
+-- where two changes one after the other each leave what no call changes, so do they together
 pub fixed-then : (a b c : EpochState) → IsFixed a b → IsFixed b c → IsFixed a c
 fixed-then a b c one two = record {
   k = two.k ∙ one.k;
@@ -42,6 +44,7 @@ fixed-then a b c one two = record {
   theta = two.theta ∙ one.theta;
 }
 
+-- two parts of a call one after the other are one, with the posts of both
 pub advances-then : (a b c : MachineState) (wa wb wc : List Pair) (pa pb pc : List Post) → Advances a b wa wb pa pb
     → Advances b c wb wc pb pc → Advances a c wa wc pa pc
 advances-then a b c wa wb wc pa pb pc first second = record {
@@ -172,6 +175,8 @@ fewer-of old new i m low first rest = let n = sum-fewer old i m (held_at new i) 
     let e : sum_by length new ≡ sum_by length (slice_set old i (held_at new i)) = ap (λ qs. sum_by length qs) rest in
     omega arith
 
+-- where a sound machine takes the first message held of feeder p as a call would, and holds the others as before, it
+-- took a held message
 pub took-held-feeder : (old new : MachineState) (queues : List (List ToJoiner)) (p : ℕ) (m : ToJoiner)
     (w w' : List Pair) (before after : List Post) → IsSound old → p < old.epochs.feeders
     → held_at old.of_feeders p ≡ m ∷ held_at queues p → queues ≡ slice_set old.of_feeders p (held_at queues p)
@@ -207,6 +212,7 @@ took-held-feeder old new queues p m w w' before after sound low first rest state
 same-first : (x y : ToJoiner) (xs ys zs : List ToJoiner) → zs ≡ x ∷ xs → zs ≡ y ∷ ys → x ≡ y
 same-first x y xs ys zs one two = ap (λ ms. slice_index_or ms 0 x) (sym one ∙ two)
 
+-- so it is of the first message held of joiner q, if it can be taken
 pub took-held-joiner : (old new : MachineState) (queues : List (List ToJoiner)) (q : ℕ) (m : ToJoiner)
     (w w' : List Pair) (before after : List Post) → IsSound old → IsReadyOfJoiner old q
     → held_at old.of_joiners q ≡ m ∷ held_at queues q → queues ≡ slice_set old.of_joiners q (held_at queues q)

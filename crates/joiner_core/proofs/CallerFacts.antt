@@ -37,6 +37,8 @@ with-law s lists joiner is =
       };
     }
 
+-- what a call that receives a message does to the machine, it does to the joiner: its posts go over its links, and it
+-- stands for the lists with the message and the posts
 pub takes : (from : Actor) (m : ToJoiner) (old new : JoinerState) (before after : List Post)
     → Receives from m old.machine new.machine before after → TakesMessage from m old new before after
 takes from m old new before after is = record {
@@ -95,22 +97,28 @@ linked k feeders _ _ (feeder_controller low) = tt
 linked k feeders _ _ (joiner_controller low) = tt
 linked k feeders _ _ (joiner_collector low) = tt
 
+-- there is a link between two joiners whose ids differ in one bit, if the sender is of the grid
 pub joiner-link : (k feeders q id : ℕ) → q < 2 ^ k → DifferInOneBit k q id → HasLink k feeders (Joiner' q) (Joiner' id)
 joiner-link k feeders q id low is = subst (λ (j : ℕ). HasLink k feeders (Joiner' q) (Joiner' j)) (sym is.other)
     (joiner_joiner low is.below)
 
+-- there is a link from each feeder to each joiner of the grid
 pub feeder-link : (k feeders p id : ℕ) → p < feeders → id < 2 ^ k → HasLink k feeders (Feeder p) (Joiner' id)
 feeder-link k feeders p id low below = feeder_joiner low below
 
+-- a link from a feeder to a joiner is there only if both are of the run
 pub no-feeder : (k feeders p id : ℕ) → HasLink k feeders (Feeder p) (Joiner' id) → (p < feeders) × (id < 2 ^ k)
 no-feeder k feeders p id link = linked k feeders (Feeder p) (Joiner' id) link
 
+-- a link between joiners is there only if the sender is of the grid and their ids differ in one bit
 pub no-joiner : (k feeders q id : ℕ) → HasLink k feeders (Joiner' q) (Joiner' id) → (q < 2 ^ k) × DifferInOneBit k q id
 no-joiner k feeders q id link = linked k feeders (Joiner' q) (Joiner' id) link
 
+-- no link leads from the controller to a joiner
 pub no-controller : (k feeders id : ℕ) → HasLink k feeders Controller (Joiner' id) → ⊥
 no-controller k feeders id link = linked k feeders Controller (Joiner' id) link
 
+-- no link leads from the collector to a joiner
 pub no-collector : (k feeders id : ℕ) → HasLink k feeders Collector (Joiner' id) → ⊥
 no-collector k feeders id link = linked k feeders Collector (Joiner' id) link
 
@@ -134,6 +142,7 @@ rest-length taken held received is = let a = length-append taken held in
 sat : (a b top : ℕ) → min (min a top + min b top) top ≡ min (a + b) top
 sat a b top = omega arith
 
+-- a machine between calls holds as many messages as it received and didn't take
 pub held-law : (s : JoinerStart) (lists : JoinerLists) (m : MachineState) (is : StandsBetween s lists m)
     → total (length m.of_feeders) (λ p. length (held_at m.of_feeders p))
     + total (length m.of_joiners) (λ q. length (held_at m.of_joiners q)) ≡ held_number s lists is.within.taken
@@ -155,6 +164,8 @@ held-law s lists m is =
     ∙ ap (λ a. a + total (2 ^ s.k) (λ q. length (held_at m.of_joiners q))) one
     ∙ ap (λ b. total s.feeders (λ p. length (lists.from_feeder p) - length (w.taken.from_feeder p)) + b) two
 
+-- and the sum of what it holds of feeders and of joiners, each number cut at the greatest of 64 bits, is that number
+-- cut there
 pub held-count : (s : JoinerStart) (lists : JoinerLists) (m : MachineState) (is : StandsBetween s lists m) (a b n : ℕ)
     → a ≡ min (total (length m.of_feeders) (λ p. length (held_at m.of_feeders p))) (2 ^ 64 - 1)
     → b ≡ min (total (length m.of_joiners) (λ q. length (held_at m.of_joiners q))) (2 ^ 64 - 1)

@@ -91,6 +91,7 @@ end-by : (s : JoinerStart) (t : Taken) (lists : JoinerLists) (waiting : List Pai
 end-by s t lists waiting m m' p low going flags None is = closed-end s t lists waiting m m' p low going flags is
 end-by s t lists waiting m m' p low going flags (Some o) is = open-ended s t lists waiting m m' o p low going flags is
 
+-- where a feeder that hadn't ended is marked as ended, and nothing else changes, its `End` was taken, and nothing sent
 pub took-end : (m m' : EpochState) (p : ℕ) (waiting : List Pair) (before : List Post) → IsWithin m
     → flag_at m.ended p ≡ false → m' ≡ record m { ended = m'.ended } → m'.ended ≡ slice_set m.ended p true
     → TookOfFeeder p End m m' waiting waiting before before
@@ -157,6 +158,8 @@ fits-open : (m : EpochState) (q epoch : ℕ) (step : Option OpenStep) → PartFi
 fits-open m q epoch None fits is = fits
 fits-open m q epoch (Some o) fits is = absurd (cc)
 
+-- where a tuple that fits the open step's part is stored in that step, and the pairs that it makes wait, a `Moved` of
+-- the partner was taken, and nothing sent
 pub took-moved : (m m' : EpochState) (q epoch : ℕ) (x : Tuple) (w w' : List Pair) (before : List Post) → IsWithin m
     → IsRow m.theta x → m' ≡ after_moved m x → w' ≡ w ++ found_moved m x → PartFits m q epoch m.step
     → TookOfJoiner q (Moved epoch x) m m' w w' before before
@@ -225,6 +228,7 @@ ended-within m m1 ready within part = subst (λ (z : EpochState). (ready ≡ tru
     (part-within m.k m.shift m.step within.step) within.ended (part-count m.feeders m.step within.count)
     (part-begun m.feeders m.step within.begun) within.id within.stock (stock-part m.theta m.step within.step_stock))
 
+-- the open step leads to a neighbouring shift within the grid still, once its partner's part is over
 pub part-step : (m m1 : EpochState) → m1 ≡ after_part m → IsStepWithin m.k m.shift m.step
     → IsStepWithin m1.k m1.shift m1.step
 part-step m m1 part within = subst (λ (z : EpochState). IsStepWithin z.k z.shift z.step) (sym part)
@@ -238,6 +242,8 @@ part-fixed m m1 part = subst (λ (z : EpochState). IsFixed m z) (sym part) (reco
   theta = refl;
 })
 
+-- where a `MovedEnd` fits the open step, its partner's part is marked as over, and the step is settled if and only if
+-- it is ready then, that message was taken
 pub took-moved_end : (m m1 m2 : EpochState) (q epoch : ℕ) (ready : Bool) (w : List Pair) (before after : List Post)
     → IsWithin m → m1 ≡ after_part m → (ready ≡ true → IsReady m1.step) → (ready ≡ false → IsReady m1.step → ⊥)
     → m2 ≡ after_settle ready m1 → after ≡ before ++ posts_settled ready m1 → PartFits m q epoch m.step

@@ -21,10 +21,12 @@ up-some : (n : ℕ) (b : Bool) → n ≡ one_if b → b ≡ true → 0 < n
 up-some n true is up = omega arith
 up-some n false is up = absurd (false≢true up)
 
+-- a flag that counts more than 0 is up
 pub some-up : (n : ℕ) (b : Bool) → n ≡ one_if b → 0 < n → b ≡ true
 some-up n true is some = refl
 some-up n false is some = absurd (omega arith)
 
+-- a number above `done` that is `done` and what a flag counts has the flag up
 pub more-up : (n done : ℕ) (b : Bool) → n ≡ done + one_if b → done < n → b ≡ true
 more-up n done true is more = refl
 more-up n done false is more = absurd (omega arith)
@@ -55,6 +57,7 @@ rests-by : (s : JoinerStart) (t : Taken) (lists : JoinerLists) (w : List Pair) (
 rests-by s t lists w m step none up is = closed-rests s t lists w m up
     (subst (λ (z : Option OpenStep). StandsBy s t lists w m z) none is)
 
+-- where a machine has no step open and all feeders have ended, what it took is at rest by the law
 pub rests-law : (s : JoinerStart) (t : Taken) (lists : JoinerLists) (w : List Pair) (m : EpochState) → IsResting m
     → Stands s t lists w m → IsAtRest s t
 rests-law s t lists w m at is = rests-by s t lists w m m.step at.closed at.ended is.now
@@ -70,6 +73,7 @@ same-clear taken (x ∷ held) received is same =
     let c = length-append taken (x ∷ held) in
     absurd (omega arith)
 
+-- where a machine between calls has finished, its lists and what it took are finished by the law
 pub finished-law : (s : JoinerStart) (lists : JoinerLists) (m : MachineState) → (is : StandsBetween s lists m)
     → HasFinished m → IsFinished s lists is.within.taken
 finished-law s lists m is has = (
@@ -107,6 +111,7 @@ clear-at [] n count low i = refl
 clear-at (q ∷ queues) n count low zero = low 0 (omega arith)
 clear-at (q ∷ queues) n count low (suc i) = clear-at queues (length queues) refl (λ j less. low (suc j) (omega arith)) i
 
+-- and where these are finished by the law, the machine has finished
 pub law-finished : (s : JoinerStart) (lists : JoinerLists) (m : MachineState) → (is : StandsBetween s lists m)
     → IsFinished s lists is.within.taken → HasFinished m
 law-finished s lists m is fin =

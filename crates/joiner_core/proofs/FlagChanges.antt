@@ -23,6 +23,7 @@ feeders-same : (s : JoinerStart) (t : Taken) (done : ℕ) (turned turned' ended 
 feeders-same s t done turned turned' ended same all p low =
     subst (λ (b : Bool). IsOfFeeder s.epoch t.shift_at done b (ended p) (t.from_feeder p)) (same p) (all p low)
 
+-- what stands with a step open stands with any other flags of turns that are the same at each number
 pub same-flags : (s : JoinerStart) (t : Taken) (lists : JoinerLists) (waiting : List Pair) (turned turned' ended : ℕ
     → Bool) (all_turned part_ended : Bool) (a b : List Tuple) (new cur : Step) (past : List Step)
     → ((p : ℕ) → turned p ≡ turned' p)
@@ -50,6 +51,7 @@ same-flags s t lists waiting turned turned' ended all_turned part_ended a b new 
       taken_up_to = is.taken_up_to;
     }
 
+-- what stands with no step open stands with any other flags of ends that are the same at each number
 pub same-ends : (s : JoinerStart) (t : Taken) (lists : JoinerLists) (waiting : List Pair) (ended ended' : ℕ
     → Bool) (a : List Tuple) (cur : Step) (past : List Step) → ((p : ℕ) → ended p ≡ ended' p)
     → StandsSettled s t lists waiting ended a cur past → StandsSettled s t lists waiting ended' a cur past
@@ -75,6 +77,7 @@ same-ends s t lists waiting ended ended' a cur past same is =
       taken_up_to = is.taken_up_to;
     }
 
+-- the flags with number p up, which is one of theirs, are at each number those of the list with place p set
 pub flag-set : (flags : List Bool) (p q : ℕ) → p < length flags
     → with_flag p (flag_at flags) q ≡ flag_at (slice_set flags p true) q
 flag-set flags p q low = elim (cases_eq q p) [
@@ -82,6 +85,7 @@ flag-set flags p q low = elim (cases_eq q p) [
   | inr differ ↦ rw (ne_eqb q p differ) (sym (get_or-set_other flags p q true false differ))
 ]
 
+-- with no step open, where the flag of a feeder that hadn't ended is set, the machine stands with its `End` taken
 pub closed-end : (s : JoinerStart) (t : Taken) (lists : JoinerLists) (waiting : List Pair) (m m' : EpochState) (p : ℕ)
     → p < s.feeders → flag_at m.ended p ≡ false → m'.ended ≡ slice_set m.ended p true
     → IsClosed s t lists waiting m → IsClosed s (took_of_feeder p End t) lists waiting (record m { ended = m'.ended })

@@ -28,12 +28,15 @@ gather-nothing : (n : ℕ) → gather n none_at ≡ []
 gather-nothing zero = refl
 gather-nothing (suc n) = append-nil (gather n none_at) ∙ gather-nothing n
 
+-- nothing taken, with one shift for all epochs
 abbrev pub nothing_taken : ℕ → Taken
 nothing_taken shift = record { from_feeder = λ p. []; from_joiner = λ q. []; shift_at = λ e. shift }
 
+-- the first epoch, which began with these tuples
 abbrev pub first_step : ℕ → List Tuple → Step
 first_step shift base = record { shift = shift; came = base; arrived = [] }
 
+-- equal lists are the same as bags
 pub same-bag : (xs ys : List Tuple) → xs ≡ ys → SameBag xs ys
 same-bag xs ys is = subst (λ (zs : List Tuple). SameBag xs zs) is (SameBag-refl xs)
 
@@ -93,6 +96,8 @@ none-stuck : (queue : List ToJoiner) (x : ToJoiner) (rest : List ToJoiner) → q
 none-stuck queue x rest none is = let a = ap length none in let b : length queue ≡ length (x ∷ rest) = ap length is in
     absurd (omega arith)
 
+-- a machine as the code makes it is sound, if k is at most 8, shift and id are of the grid, and the base is a store of
+-- the predicate
 pub made-sound : (k id shift epoch feeders : ℕ) (theta : Meaning) (base : Stocked) (m : MachineState) → k ≤ 8
     → shift ≤ k → id < 2 ^ k → IsStock theta base → IsMade k id shift epoch feeders theta base m → IsSound m
 made-sound k id shift epoch feeders theta base m small low few stock made =
@@ -118,6 +123,7 @@ made-sound k id shift epoch feeders theta base m small low few stock made =
       joiner_rows = rows-none m.epochs.theta m.of_joiners made.no_joiners;
     }
 
+-- and with some feeder, and no stamp in the base above the first epoch, it stands for empty lists
 pub made-stands : (k id shift epoch feeders : ℕ) (theta : Meaning) (base : Stocked) (m : MachineState) → k ≤ 8
     → shift ≤ k → id < 2 ^ k → 0 < feeders → AllByRecursion (λ (x : Tuple). x.stamp ≤ epoch) base.tuples
     → IsStock theta base

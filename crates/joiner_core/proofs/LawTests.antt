@@ -45,6 +45,7 @@ flag-cases false stamp n e f is fits next = let at = fits.0 refl in omega arith
 
 -- ---- with no step open
 
+-- with no step open, no more steps were opened than are past
 pub closed-few : (s : JoinerStart) (t : Taken) (lists : JoinerLists) (waiting : List Pair) (m : EpochState)
     → (is : IsClosed s t lists waiting m) → opened s t ≤ length is.past
 closed-few s t lists waiting m is = greatest_most s.feeders (length is.past) (λ p. turns (t.from_feeder p))
@@ -108,6 +109,7 @@ closed-feeder s t lists waiting m done p (MovedEnd epoch') fixed low epoch none 
 
 -- ---- with a step open
 
+-- with a step open in which some feeder has turned, more steps were opened than are past
 pub open-begun : (s : JoinerStart) (t : Taken) (lists : JoinerLists) (waiting : List Pair) (m : EpochState)
     (o : OpenStep) → HasSomeTurn s.feeders (Some o) → (is : IsOpen s t lists waiting m o) → length is.past < opened s t
 open-begun s t lists waiting m o some is =
@@ -244,6 +246,8 @@ pub tests-feeder : (s : JoinerStart) (t : Taken) (lists : JoinerLists) (waiting 
 tests-feeder s t lists waiting m done p x low epoch some is =
     feeder-by s t lists waiting m done p x is.fixed low epoch m.step refl some is.now
 
+-- a machine that stands takes a message of a joiner exactly where the law says so, with the steps that led to its epoch
+-- settled
 pub tests-joiner : (s : JoinerStart) (t : Taken) (lists : JoinerLists) (waiting : List Pair) (m : EpochState)
     (done q : ℕ) (x : ToJoiner) → m.epoch ≡ s.epoch + done → HasSomeTurn s.feeders m.step
     → Stands s t lists waiting m → (TakesOfJoiner m q x → CanTakeOfJoiner s t done q x)

@@ -79,6 +79,8 @@ same-open s t lists waiting m o step is = record {
   all = is.all;
 }
 
+-- where feeder p may turn and the step was opened for it or was open, the machine stands with the posts of the opening
+-- sent and nothing more taken, though the epoch may have got its shift, and p may turn in that step
 pub begun-by : (s : JoinerStart) (t : Taken) (lists : JoinerLists) (waiting : List Pair) (m : EpochState)
     (p epoch shift : ℕ) → IsMachineOf s m → p < s.feeders
     → (step step' : Option OpenStep) → TurnFits m p epoch shift step → HasBegun m epoch shift step step'
@@ -117,12 +119,14 @@ pub turn-next : (m : EpochState) (p epoch shift : ℕ) (step : Option OpenStep) 
 turn-next m p epoch shift None fits none = fits.2
 turn-next m p epoch shift (Some o) fits none = absurd (cc)
 
+-- a turn that can be taken begins a step to a neighbouring shift within the grid
 pub begun-step : (m m1 : EpochState) (p epoch shift : ℕ) → IsWithin m → CanTakeTurn m p epoch shift
     → m1 ≡ record m { step = m1.step } → HasBegun m epoch shift m.step m1.step → IsStepWithin m1.k m1.shift m1.step
 begun-step m m1 p epoch shift within can rest begun =
     subst (λ (z : EpochState). IsStepWithin z.k z.shift m1.step) (sym rest)
     (begun-within m p epoch shift m.step m1.step can.fits within.step begun)
 
+-- the step that was opened or was open has a flag for each feeder
 pub begun-count : (m : EpochState) (epoch shift : ℕ) (step step' : Option OpenStep) → IsCounted m.feeders step
     → HasBegun m epoch shift step step' → IsCounted m.feeders step'
 begun-count m epoch shift None None is has = tt

@@ -39,6 +39,7 @@ rows-if : (theta : Meaning) (yes : Bool) (x : Tuple) → IsRow theta x → AreRo
 rows-if theta true x row = All-cons (IsRow theta) x [] row (All-nil (IsRow theta))
 rows-if theta false x row = All-nil (IsRow theta)
 
+-- in a step of the grid, what a row of the settled epoch sends goes over the joiner's links, with rows of the widths
 pub own-late : (m : EpochState) (x : Tuple) (step : Option OpenStep) → m.id < 2 ^ m.k → m.shift ≤ m.k
     → IsStepWithin m.k m.shift step → IsRow m.theta x → AreOwnPosts m (late_posts m x step)
 own-late m x None id low within row = All-nil (IsOwnPost m.k m.feeders m.id m.theta)
@@ -46,6 +47,7 @@ own-late m x (Some o) id low within row = own-moves m o.shift o.epoch _ id
     (beside m.k m.shift o.shift low within.0 within.1) (rows-if m.theta (is_of (exchanged_side m.shift o.shift) x)
     x row)
 
+-- so do the rows that are sent to the partner where a turn that fits opens a step
 pub own-begun : (m : EpochState) (p epoch shift : ℕ) (step : Option OpenStep) → IsWithin m
     → TurnFits m p epoch shift step → AreOwnPosts m (begun_posts m epoch shift step)
 own-begun m p epoch shift None within fits =
@@ -63,6 +65,7 @@ own-ends m (Some o) id low within =
       row = tt;
     }) (All-nil (IsOwnPost m.k m.feeders m.id m.theta))
 
+-- so does the end of what is moved, whether it is sent or not
 pub own-turned : (m : EpochState) (last : Bool) → m.id < 2 ^ m.k → m.shift ≤ m.k → IsStepWithin m.k m.shift m.step
     → AreOwnPosts m (posts_turned m last)
 own-turned m true id low within = own-ends m m.step id low within
@@ -75,10 +78,12 @@ own-settle m (Some o) id =
     (record { over = record { link = joiner_controller id; kind = tt }; row = tt })
     (All-nil (IsOwnPost m.k m.feeders m.id m.theta))
 
+-- so does the message that a step is settled, whether it is sent or not
 pub own-settled : (m : EpochState) (ready : Bool) → m.id < 2 ^ m.k → AreOwnPosts m (posts_settled ready m)
 own-settled m true id = own-settle m m.step id
 own-settled m false id = All-nil (IsOwnPost m.k m.feeders m.id m.theta)
 
+-- so do the pairs found, if there are any
 pub own-found : (m : EpochState) (pairs : List Pair) → m.id < 2 ^ m.k → AreOwnPosts m (found_posts pairs)
 own-found m [] id = All-nil (IsOwnPost m.k m.feeders m.id m.theta)
 own-found m (p ∷ ps) id =
@@ -86,6 +91,7 @@ own-found m (p ∷ ps) id =
     (record { over = record { link = joiner_collector id; kind = tt }; row = tt })
     (All-nil (IsOwnPost m.k m.feeders m.id m.theta))
 
+-- so does the last message, whether it is sent or not
 pub own-fin : (m : MachineState) (now : Bool) → m.epochs.id < 2 ^ m.epochs.k → AreOwnPosts m.epochs (fin_posts now m)
 own-fin m true id =
     All-cons (IsOwnPost m.epochs.k m.epochs.feeders m.epochs.id m.epochs.theta) _ []
@@ -93,9 +99,11 @@ own-fin m true id =
     (All-nil (IsOwnPost m.epochs.k m.epochs.feeders m.epochs.id m.epochs.theta))
 own-fin m false id = All-nil (IsOwnPost m.epochs.k m.epochs.feeders m.epochs.id m.epochs.theta)
 
+-- the empty list of posts is one of which this holds
 pub own-none : (m : EpochState) → AreOwnPosts m []
 own-none m = All-nil (IsOwnPost m.k m.feeders m.id m.theta)
 
+-- posts of which this holds may be put one after the other
 pub own-append : (m : EpochState) (xs ys : List Post) → AreOwnPosts m xs → AreOwnPosts m ys → AreOwnPosts m (xs ++ ys)
 own-append m xs ys one two = All-append (IsOwnPost m.k m.feeders m.id m.theta) xs ys one two
 
@@ -113,8 +121,10 @@ pub own-before : (old new : EpochState) (posts : List Post) → IsFixed old new 
 own-before old new posts fixed own = own-by old.k new.k old.feeders new.feeders old.id new.id old.theta new.theta posts
     fixed.k fixed.feeders fixed.id fixed.theta own
 
+-- the joiner's own posts all go over its links
 pub all-over : (m : EpochState) (posts : List Post) → AreOwnPosts m posts → AllGoOver m.k m.feeders (Joiner' m.id) posts
 all-over m posts own = λ n d less. (own n d less).over
 
+-- each row that the joiner's own posts carry to a joiner has the predicate's widths
 pub all-rows : (m : EpochState) (posts : List Post) → AreOwnPosts m posts → AllSendRows m.theta posts
 all-rows m posts own = λ n d less. (own n d less).row

@@ -15,6 +15,7 @@ use Rattle.joiner_core.specs.Taking.{IsMachineOf, IsOpen}
 use Rattle.joiner_core.proofs.StoreBags.{open-placed}
 use Rattle.epoch_tags.specs.Flags.{flag_at}
 
+-- with a step open, the law's partner in it is that of the machine's two shifts
 pub partner-is : (s : JoinerStart) (t : Taken) (lists : JoinerLists) (waiting : List Pair) (m : EpochState)
     (o : OpenStep) → IsMachineOf s m → (is : IsOpen s t lists waiting m o)
     → partner_of s t (length is.past) ≡ partner_in_step m.shift o.shift m.id
@@ -27,6 +28,8 @@ partner-is s t lists waiting m o fixed is =
     ∙ ap (λ b. partner_in_step m.shift b s.id) (two ∙ sym is.step_shift)
     ∙ ap (λ i. partner_in_step m.shift o.shift i) (sym fixed.id)
 
+-- where the partner moves a tuple here, it is taken and stored in the open step, and its pairs with the tuples of the
+-- step's epoch wait
 pub open-part : (s : JoinerStart) (t : Taken) (lists : JoinerLists) (waiting : List Pair) (m : EpochState)
     (o : OpenStep) (x : Tuple) → IsMachineOf s m → (is : IsOpen s t lists waiting m o)
     → IsOpen s (took_of_joiner (partner_in_step m.shift o.shift m.id) (Moved o.epoch x) t) lists
@@ -63,6 +66,7 @@ open-part s t lists waiting m o x fixed is =
       all = is.all;
     }
 
+-- where the partner's part isn't over and ends, its `MovedEnd` is taken
 pub open-part_end : (s : JoinerStart) (t : Taken) (lists : JoinerLists) (waiting : List Pair) (m : EpochState)
     (o : OpenStep) → IsMachineOf s m → o.partner_ended ≡ false → (is : IsOpen s t lists waiting m o)
     → IsOpen s (took_of_joiner (partner_in_step m.shift o.shift m.id) (MovedEnd o.epoch) t) lists waiting

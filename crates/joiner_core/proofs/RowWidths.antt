@@ -29,6 +29,7 @@ rows-kept : (theta : Meaning) (kept : Bool) (x : Tuple) (b : List Tuple) → Are
 rows-kept theta true x b rows row = rows-placed theta b x rows row
 rows-kept theta false x b rows row = rows
 
+-- a store of rows of the widths, with the predicate's key and access, is one still with one such row more
 pub stock-placed : (theta : Meaning) (x : Tuple) (stock : Stocked) → IsStock theta stock → IsRow theta x
     → IsStock theta (with_placed x stock)
 stock-placed theta x stock is row = record {
@@ -37,6 +38,7 @@ stock-placed theta x stock is row = record {
   access = is.access;
 }
 
+-- so is the open step's store, after a row of the settled epoch that the joiner may keep there
 pub stock-old : (theta : Meaning) (m : EpochState) (x : Tuple) (step : Option OpenStep) → IsStepStock theta step
     → IsRow theta x → IsStepStock theta (open_old m x step)
 stock-old theta m x None is row = tt
@@ -47,11 +49,13 @@ stock-old theta m x (Some o) is row = record {
   access = is.access;
 }
 
+-- so is the open step's store, after a row of its own epoch
 pub stock-new : (theta : Meaning) (x : Tuple) (step : Option OpenStep) → IsStepStock theta step → IsRow theta x
     → IsStepStock theta (step_new x step)
 stock-new theta x None is row = tt
 stock-new theta x (Some o) is row = stock-placed theta x o.store is row
 
+-- so is the open step's store, after the partner's part is over
 pub stock-part : (theta : Meaning) (step : Option OpenStep) → IsStepStock theta step → IsStepStock theta (part_by step)
 stock-part theta None is = tt
 stock-part theta (Some o) is = is
@@ -64,6 +68,7 @@ stock-kept theta k shift id stock is = record {
   access = is.access;
 }
 
+-- so is the store of a step that was opened or was open
 pub stock-begun : (theta : Meaning) (m : EpochState) (epoch shift : ℕ) (step step' : Option OpenStep)
     → IsStock theta m.store → IsStepStock theta step → HasBegun m epoch shift step step' → IsStepStock theta step'
 stock-begun theta m epoch shift None None stock is has = tt
@@ -71,6 +76,7 @@ stock-begun theta m epoch shift None (Some o) stock is has =
     subst (IsStock theta) (sym has.store) (stock-kept theta m.k shift m.id m.store stock)
 stock-begun theta m epoch shift (Some o) step' stock is has = subst (IsStepStock theta) (sym has) is
 
+-- so is the open step's store, after a feeder turned
 pub stock-turned : (theta : Meaning) (p : ℕ) (step step' : Option OpenStep) → HasTurned p step step'
     → IsStepStock theta step → IsStepStock theta step'
 stock-turned theta p None step' has is = subst (IsStepStock theta) (sym has) tt
@@ -79,6 +85,7 @@ stock-turned theta p (Some o) (Some o') has is = subst (IsStock theta) (sym (ap 
 
 -- ---- held messages
 
+-- rows of held messages have the widths still where neither the predicate nor what is held changed
 pub same-rows : (theta theta' : Meaning) (qs qs' : List (List ToJoiner)) → theta' ≡ theta → qs' ≡ qs
     → HoldsRows theta qs → HoldsRows theta' qs'
 same-rows theta theta' qs qs' one two rows = subst (λ (th : Meaning). HoldsRows th qs') (sym one)
@@ -96,20 +103,24 @@ put-rows theta qs queues i queue low put new rows = λ j. elim (cases_eq j i) [
       subst (All (HasRow theta)) (sym keeps) (rows j)
 ]
 
+-- and where a message with such a row, or with none, is put behind those held of its sender
 pub rows-held : (theta : Meaning) (qs queues : List (List ToJoiner)) (i : ℕ) (m : ToJoiner) → i < length qs
     → queues ≡ slice_set qs i (held_at qs i ++ m ∷ []) → HasRow theta m → HoldsRows theta qs → HoldsRows theta queues
 rows-held theta qs queues i m low put row rows = put-rows theta qs queues i (held_at qs i ++ m ∷ []) low put
     (All-push (HasRow theta) (held_at qs i) m (rows i) row) rows
 
+-- and where the first message held of a sender is gone
 pub rows-taken : (theta : Meaning) (qs queues : List (List ToJoiner)) (i : ℕ) (m : ToJoiner) → i < length qs
     → held_at qs i ≡ m ∷ held_at queues i → queues ≡ slice_set qs i (held_at queues i) → HoldsRows theta qs
     → HoldsRows theta queues
 rows-taken theta qs queues i m low first put rows = put-rows theta qs queues i (held_at queues i) low put
     (All-tail (HasRow theta) m (held_at queues i) (subst (All (HasRow theta)) first (rows i))) rows
 
+-- the first message held of a sender carries a row of the widths, if it carries one
 pub row-first : (theta : Meaning) (qs : List (List ToJoiner)) (i : ℕ) (m : ToJoiner) (rest : List ToJoiner)
     → held_at qs i ≡ m ∷ rest → HoldsRows theta qs → HasRow theta m
 row-first theta qs i m rest first rows = All-head (HasRow theta) m rest (subst (All (HasRow theta)) first (rows i))
 
+-- where nothing is held of any sender, the rows of held messages have the widths
 pub rows-none : (theta : Meaning) (qs : List (List ToJoiner)) → ((i : ℕ) → held_at qs i ≡ []) → HoldsRows theta qs
 rows-none theta qs none = λ i. subst (All (HasRow theta)) (sym (none i)) (All-nil (HasRow theta))

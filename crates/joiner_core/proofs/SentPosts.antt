@@ -25,6 +25,7 @@ with_sent-none lists = λ i. record {
   to_collector = append-nil lists.to_collector i;
 }
 
+-- posts sent in two goes change the lists as if they were sent in one
 pub with_sent-append : (lists : JoinerLists) (xs ys : List Post)
     → with_sent (with_sent lists xs) ys ≡ with_sent lists (xs ++ ys)
 with_sent-append lists xs ys = λ i. record {
@@ -41,16 +42,19 @@ with_sent-append lists xs ys = λ i. record {
     joined : {X : Type 0} (as' bs cs ds : List X) → ds ≡ bs ++ cs → (as' ++ bs) ++ cs ≡ as' ++ ds
     joined as' bs cs ds is = append_assoc as' bs cs ∙ ap (λ zs. as' ++ zs) (sym is)
 
+-- where neither posts have one to the collector, they have none together
 pub quiet-append : (xs ys : List Post) → posted_to_collector xs ≡ [] → posted_to_collector ys ≡ []
     → posted_to_collector (xs ++ ys) ≡ []
 quiet-append xs ys a b = filter_map-append (λ post. for_collector post.to post.msg) xs ys
     ∙ ap (λ zs. zs ++ posted_to_collector ys) a ∙ b
 
+-- a row of the settled epoch sends the collector nothing in an open step
 pub quiet-late : (m : EpochState) (x : Tuple) (step : Option OpenStep) → posted_to_collector (late_posts m x step) ≡ []
 quiet-late m x None = refl
 quiet-late m x (Some o) = no_pairs (partner_in_step m.shift o.shift m.id) o.epoch
     (cond (is_of (exchanged_side m.shift o.shift) x) (x ∷ []) [])
 
+-- nor does the opening of a step
 pub quiet-begun : (m : EpochState) (epoch shift : ℕ) (step : Option OpenStep)
     → posted_to_collector (begun_posts m epoch shift step) ≡ []
 quiet-begun m epoch shift None = no_pairs (partner_in_step m.shift shift m.id) epoch
@@ -61,6 +65,7 @@ quiet-ends : (m : EpochState) (step : Option OpenStep) → posted_to_collector (
 quiet-ends m None = refl
 quiet-ends m (Some o) = refl
 
+-- nor does a turn, whether it is the last or not
 pub quiet-turned : (m : EpochState) (last : Bool) → posted_to_collector (posts_turned m last) ≡ []
 quiet-turned m true = quiet-ends m m.step
 quiet-turned m false = refl
@@ -69,6 +74,7 @@ quiet-settle : (step : Option OpenStep) → posted_to_collector (settle_posts st
 quiet-settle None = refl
 quiet-settle (Some o) = refl
 
+-- nor does settling a step, whether it is ready or not
 pub quiet-settled : (ready : Bool) (m : EpochState) → posted_to_collector (posts_settled ready m) ≡ []
 quiet-settled true m = quiet-settle m.step
 quiet-settled false m = refl

@@ -71,6 +71,7 @@ settled-by-step s t lists waiting m fixed (Some o) ready is =
     not_false true never = refl
     not_false false never = absurd (never refl)
 
+-- a machine that stands does so after its step, if that is ready, was settled, with the controller told
 pub stands-settled : (s : JoinerStart) (t : Taken) (lists : JoinerLists) (waiting : List Pair) (m : EpochState)
     (ready : Bool) → (ready ≡ true → IsReady m.step) → Stands s t lists waiting m
     → Stands s t (with_sent lists (posts_settled ready m)) waiting (after_settle ready m)
@@ -94,6 +95,8 @@ settled-within-step m (Some o) ready small step ended id stock = record {
   step_stock = tt;
 }
 
+-- of a machine of which all holds that holds between two messages, but that its step may be ready: all holds once a
+-- ready step is settled, and no other
 pub settled-within : (m : EpochState) (ready : Bool) → (ready ≡ true → IsReady m.step)
     → (ready ≡ false → IsReady m.step → ⊥)
     → m.k ≤ 8 → m.shift ≤ m.k → IsStepWithin m.k m.shift m.step → length m.ended ≡ m.feeders
@@ -115,6 +118,7 @@ settled-within m false settles not_yet small low step ended count begun id stock
       step_stock = step_stock;
     }
 
+-- settling a step doesn't change the grid's k
 pub settled-k : (m : EpochState) (ready : Bool) → (after_settle ready m).k ≡ m.k
 settled-k m true = by m.step
   where
@@ -123,6 +127,7 @@ settled-k m true = by m.step
     by (Some o) = refl
 settled-k m false = refl
 
+-- nor the number of feeders
 pub settled-feeders : (m : EpochState) (ready : Bool) → (after_settle ready m).feeders ≡ m.feeders
 settled-feeders m true = by m.step
   where
@@ -131,6 +136,7 @@ settled-feeders m true = by m.step
     by (Some o) = refl
 settled-feeders m false = refl
 
+-- nor the joiner's id
 pub settled-id : (m : EpochState) (ready : Bool) → (after_settle ready m).id ≡ m.id
 settled-id m true = by m.step
   where
@@ -139,6 +145,7 @@ settled-id m true = by m.step
     by (Some o) = refl
 settled-id m false = refl
 
+-- nor the predicate
 pub settled-theta : (m : EpochState) (ready : Bool) → (after_settle ready m).theta ≡ m.theta
 settled-theta m true = by m.step
   where

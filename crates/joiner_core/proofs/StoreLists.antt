@@ -42,6 +42,7 @@ sum-sides f [] = refl
 sum-sides f (x ∷ xs) = sum-one x.side f x (filter (is_of R) xs) (filter (is_of S) xs)
     ∙ ap (λ n. f x + n) (sum-sides f xs) ∙ sym (sum_by-cons f x xs)
 
+-- the tuples sorted by side are the same as a bag
 pub by_side-bag : (xs : List Tuple) → SameBag (by_side xs) xs
 by_side-bag xs = record { sums = λ f. sum_by-append f (filter (is_of R) xs) (filter (is_of S) xs) ∙ sum-sides f xs }
 
@@ -82,6 +83,7 @@ pub own-side : (side : Side) (store : Stored) → AreSided store.r store.s
 own-side R store are = own_r store.r store.s are
 own-side S store are = own_s store.r store.s are
 
+-- where each tuple stands in its side's list, that list has as many tuples as the whole store has of the side
 pub count-side : (side : Side) (store : Stored) → AreSided store.r store.s
     → length (side_of store side) ≡ count_by (is_of side) (tuples_of store)
 count-side side store are = ap length (sym (own-side side store are)) ∙ length-filter (is_of side) (tuples_of store)
@@ -107,6 +109,7 @@ placed-at S store x own are =
     let two = one-more S (tuples_of store) store.s x true (own_s store.r store.s are) (ap (same_side S) own) in
     ap (λ l. l ++ filter (is_of S) (tuples_of store ++ x ∷ [])) (one ∙ append-nil store.r) ∙ ap (λ l. store.r ++ l) two
 
+-- such a store with one tuple more has the tuples of the store with that one behind those of its side
 pub placed-is : (store : Stored) (x : Tuple) → AreSided store.r store.s
     → tuples_of (with_tuple store x) ≡ placed x (tuples_of store)
 placed-is store x are = sym (placed-at x.side store x refl are)
@@ -134,6 +137,7 @@ stocked-with store x are = stocked-at x.side store x (placed x (tuples_of store)
 pub own-key : (theta : Meaning) (key : Option KeyAtom) → IsKeyOf theta key → IsOwn theta key
 own-key theta key is = λ (atom : Atom) has. sym is ∙ has
 
+-- where a store has the predicate's access, and none if it has none, an access that it has is the predicate's own
 pub own-access : (theta : Meaning) (access : Option Access) → IsAccessOf theta access → IsOwnAccess theta access
 own-access theta access is = λ (own : Access) has. sym is ∙ ap (option_map agreements) has
 
@@ -153,6 +157,7 @@ same-probe R theta (OnlyStamp stamp) x ys = refl
 same-probe S theta All' x ys = refl
 same-probe S theta (OnlyStamp stamp) x ys = refl
 
+-- a probe of the list of the other side in such a store finds the pairs, in their order, of a probe of all its tuples
 pub probe-is : (theta : Meaning) (x : Tuple) (which : Which) (store : Stored) → AreSided store.r store.s
     → matches theta x which (others_of store x) ≡ probed (does_hold theta) (named_by which) x (tuples_of store)
 probe-is theta x which store are = matches-both theta x which store are

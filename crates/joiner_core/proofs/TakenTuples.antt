@@ -187,6 +187,8 @@ new-by s t lists waiting m x p fixed low going None has fits is = absurd (false�
 new-by s t lists waiting m x p fixed low going (Some o) has fits is =
     open-new s t lists waiting m o x p fixed low going has (fits.1 has) is
 
+-- where a tuple comes of a feeder that has turned in the open step, the machine stands with it taken and stored there,
+-- and with the pairs that it makes waiting
 pub stands-new : (s : JoinerStart) (t : Taken) (lists : JoinerLists) (waiting : List Pair) (m : EpochState) (x : Tuple)
     (p : ℕ) → p < s.feeders → CanTakeTup m p x.stamp → turned_in m.step p ≡ true
     → Stands s t lists waiting m → Stands s (took_of_feeder p (Tup x) t) lists (waiting ++ found_new m x)
@@ -245,6 +247,7 @@ rests-new : (x : Tuple) (step : Option OpenStep) → (IsReady step → ⊥) → 
 rests-new x None rests ready = ready
 rests-new x (Some o) rests ready = rests ready
 
+-- what holds of a machine between two messages holds after a row is stored in the open step
 pub new-within : (m : EpochState) (x : Tuple) → IsWithin m → IsRow m.theta x → IsWithin (after_new m x)
 new-within m x within row = record {
   small = within.small;
@@ -259,6 +262,8 @@ new-within m x within row = record {
   step_stock = stock-new m.theta x m.step within.step_stock row;
 }
 
+-- a row that can be taken, of a feeder that hasn't turned in an open step, was taken where it is stored, perhaps kept
+-- in the open step too and sent to the partner, and its pairs wait
 pub took-old : (m m' : EpochState) (x : Tuple) (p : ℕ) (found found' : List Pair) (before after : List Post)
     → IsWithin m → CanTakeTup m p x.stamp → IsRow m.theta x → turned_in m.step p ≡ false
     → m' ≡ after_old m x → found' ≡ found ++ found_old m x → after ≡ before ++ posts_old m x
@@ -292,6 +297,8 @@ took-old m m' x p found found' before after within can row still state more post
   );
 })
 
+-- a row that can be taken, of a feeder that has turned in the open step, was taken where it is stored there and its
+-- pairs wait, and nothing is sent
 pub took-new : (m m' : EpochState) (x : Tuple) (p : ℕ) (found found' : List Pair) (before : List Post) → IsWithin m
     → CanTakeTup m p x.stamp → IsRow m.theta x → turned_in m.step p ≡ true
     → m' ≡ after_new m x → found' ≡ found ++ found_new m x → TookOfFeeder p (Tup x) m m' found found' before before

@@ -107,6 +107,7 @@ turned-within k shift p (Some o) (Some o') has within =
     let same : o'.shift ≡ o.shift = ap (λ (z : OpenStep). z.shift) has.0 in
     subst (λ (b : ℕ). (b ≤ k) × AreNeighbours shift b) (sym same) within
 
+-- the open step leads to a neighbouring shift within the grid still, once a feeder has turned in it
 pub turned-step : (m m1 : EpochState) (p : ℕ) → m1 ≡ record m { step = m1.step } → HasTurned p m.step m1.step
     → IsStepWithin m.k m.shift m.step → IsStepWithin m1.k m1.shift m1.step
 turned-step m m1 p rest turned within =
@@ -129,6 +130,8 @@ turned-some n p (Some o) (Some o') low has is = (
       ∙ get_or-set_same o.turned p true false (omega arith),
 )
 
+-- a turn that can be taken was taken where the step is opened if none is, the feeder's flag set, the end of what is
+-- moved sent if all have turned, and the step settled if it is ready
 pub took-turn : (m m1 m2 m3 : EpochState) (p epoch shift : ℕ) (last ready : Bool) (waiting : List Pair)
     (before s1 s2 after : List Post) → p < m.feeders → IsWithin m → CanTakeTurn m p epoch shift
     → m1 ≡ record m { step = m1.step } → HasBegun m epoch shift m.step m1.step

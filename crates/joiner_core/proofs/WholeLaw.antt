@@ -152,6 +152,7 @@ cases-true : (b : Bool) → (b ≡ false → ⊥) → b ≡ true
 cases-true true never = refl
 cases-true false never = absurd (never refl)
 
+-- with no step open, and some feeder, as many steps were opened as are past
 pub closed-count : (s : JoinerStart) (t : Taken) (lists : JoinerLists) (w : List Pair) (m : EpochState) → 0 < s.feeders
     → (is : IsClosed s t lists w m) → opened s t ≡ length is.past
 closed-count s t lists w m some is =
@@ -287,6 +288,7 @@ told-law s lists m is true high =
       finished = λ over. last_is;
     }
 
+-- what a machine between calls took, and the lists for which it stands, keep the law
 pub keeps-law : (s : JoinerStart) (lists : JoinerLists) (m : MachineState) (is : StandsBetween s lists m)
     → JoinerLaw s lists is.within.taken
 keeps-law s lists m is =
@@ -301,6 +303,7 @@ count-told : (first n : ℕ) → length (map Settled (counting_from first n)) �
 count-told first zero = refl
 count-told first (suc n) = ap suc (count-told (first + 1) n)
 
+-- by the law as many messages went to the controller as steps are settled
 pub law-done : (s : JoinerStart) (lists : JoinerLists) (t : Taken) (law : JoinerLaw s lists t)
     → length lists.to_controller ≡ law.done
 law-done s lists t law = ap length law.told ∙ count-told (s.epoch + 1) law.done
@@ -314,6 +317,7 @@ done-by s t lists m done epoch (Some o) is =
     let at = is.epoch in let n = ap length is.stands.steps.told ∙ count-told (s.epoch + 1) (length is.past) in
     omega arith
 
+-- and as many as the machine has settled
 pub machine-done : (s : JoinerStart) (lists : JoinerLists) (m : MachineState) (is : StandsBetween s lists m)
     → length lists.to_controller ≡ is.done
 machine-done s lists m is = done-by s is.within.taken lists m.epochs is.done is.settled m.epochs.step
@@ -334,6 +338,7 @@ store-by s t lists m done epoch (Some o) is =
     subst (λ (n : ℕ). SameBag m.store.tuples (store s t n)) same
     (SameBag-trans is.stands.store (SameBag-sym (store-is s t is.cur is.past is.stands.steps.history.1)))
 
+-- the machine's store is, as a bag, the law's after the steps that are settled
 pub store-law : (s : JoinerStart) (lists : JoinerLists) (m : MachineState) (is : StandsBetween s lists m)
     → SameBag m.epochs.store.tuples (store s is.within.taken is.done)
 store-law s lists m is = store-by s is.within.taken lists m.epochs is.done is.settled m.epochs.step is.within.stands.now
