@@ -55,9 +55,12 @@ module _ (joiners feeders : ℕ) (cores : List Core) (all : length cores ≡ fee
   place_is : last.before ≡ feeders + joiners
   place_is = let whole = sym last.many ∙ all in omega arith
 
+  -- where the last two of as many machines as the run has actors are a controller's and a collector's, the controller's
+  -- stands under the number of the run's controller
   pub controller_named : core_in joiners feeders cores Controller ≡ Some (TheController controller)
   controller_named = subst (λ n. slice_get cores n ≡ Some (TheController controller)) place_is last.controller_is
 
+  -- and the collector's under that of the run's collector
   pub collector_named : core_in joiners feeders cores Collector ≡ Some (TheCollector collector)
   collector_named = subst (λ n. slice_get cores (n + 1) ≡ Some (TheCollector collector)) place_is last.collector_is
 
@@ -73,12 +76,14 @@ module _ (joiners feeders : ℕ) (cores : List Core) (all : length cores ≡ fee
 
 module _ (input : Input) (setting : Setting) (joiners feeders : ℕ) (cores : List Core) (f : Actor → ActorLists)
     (all : AllStand input setting joiners feeders cores f) (fronts : AreFronts f) where
+  -- each actor of the run has a machine that stands for the actor's lists
   abbrev pub machines : (a : Actor) → IsActor setting a → (core : Core) × Stands (start_for input setting a) (f a) core
   machines a is = ((all.stands a is).0, (all.stands a is).2)
 
   abbrev journal : List TurnLine
   journal = journal_among joiners feeders cores
 
+  -- the journal among the machines is that of the machine found for the controller
   pub journal_is : journal ≡ journal_of (all.stands Controller tt).0
   journal_is = ap journal_at (all.stands Controller tt).1
 
@@ -149,5 +154,7 @@ module _ (law : FinishedAnswers) (input : Input) (setting : Setting) (joiners fe
       answer.run_is ∙ ap (λ js. run_of collected js bouts) (sym journal_is) in
       subst (IsRunOf input setting rest.line told) (sym run_is) is_run
 
+  -- where the family is finished and the run is what its collector answers, the run is one of the input and setting,
+  -- with its own journal
   pub run_ends : IsRunOf input setting (first_rest setting).line run.journal run
   run_ends = subst (λ js. IsRunOf input setting (first_rest setting).line js run) (sym run_among.keeps) run_among

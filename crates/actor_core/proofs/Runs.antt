@@ -12,6 +12,7 @@ use Rattle.actor_core.specs.Players.{Player, Runs}
 
 -- ---- one after another
 
+-- m events and then n others are n + m events
 pub runs_joined : (m n : ℕ) (s t u : Player) → Runs m s t → Runs n t u → (k : ℕ) × (k ≡ n + m) × Runs k s u
 runs_joined m zero s t u first then = (m, omega arith, subst (Runs m s) (sym then) first)
 runs_joined m (suc n) s t u first then =
