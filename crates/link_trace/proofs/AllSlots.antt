@@ -135,6 +135,7 @@ module _ (setting : Setting) (w : WorldState) (all : IsAllAt (IsIdle w) (slots_o
       (all_mapped (IsIdle w) (λ i. Link (Joiner i) Collector) (range_with_len 0 (2 ^ setting.k))
       (all_rest (IsIdle w) (begins ++ dealt ++ exchanged ++ ordered ++ asked ++ settled) found all))
 
+  -- where no slot of a run has an event, nothing is left on any of its links, and no feeder would begin
   pub idle_is_still : IsStill setting w
   idle_is_still = record { links = nothing_left; waits = waiting }
 
@@ -164,18 +165,22 @@ goes_round word count n low = elim (cases_lt n (word % count)) [
       )
 ]
 
+-- where, from the place that a word names on, as many slots as there are have no event, none of them has one
 pub idle_round : (slots : List Slot) (word : ℕ) (w : WorldState) → AreIdleFrom slots word (length slots) w
     → IsAllAt (IsIdle w) slots
 idle_round slots word w idle n slot there =
     let at = goes_round word (length slots) n (slice_get_within slots n slot there) in
     idle at.0 slot at.1 (subst (λ z. slice_get slots z ≡ Some slot) (sym at.2) there)
 
+-- where each slot may be served, and none below their number has an event, none has one
 pub idle_below : (slots : List Slot) (starved : Actor) (w : WorldState)
     → AreIdleBelow true starved slots (length slots) w → IsAllAt (IsIdle w) slots
 idle_below slots starved w idle n slot there = idle n slot (slice_get_within slots n slot there) there refl
 
 -- ---- what isn't done has a slot with an event
 
+-- a world that stands for lists of a valid input and setting, and isn't done though it would be if it were still, has a
+-- slot with an event
 pub some_has_one : (input : Input) (setting : Setting) (w : WorldState) (lists : Actor → ActorLists)
     → IsValid input setting → StandsFor input setting w lists
     → (slots : List Slot) → slots ≡ slots_of setting → (done : Bool)

@@ -62,6 +62,8 @@ module _ (input : Input) (setting : Setting) (n : ℕ) (places : List Place) (ne
             last.1 stands)
       ]
 
+  -- where so many actors are at the beginning, the next number's machine stands for empty lists and nothing waits at
+  -- it, one actor more is
   pub one_new : AreNew input setting (n + 1) (places ++ place ∷ [])
   one_new = record {
     all = length-append places (place ∷ []) ∙ ap (λ z. z + 1) new.all;
@@ -79,6 +81,7 @@ nothing_left ws empty None k = refl
 nothing_left ws empty (Some r) None = refl
 nothing_left ws empty (Some r) (Some s) = empty r s
 
+-- where as many actors as the run has are at the beginning, their world stands for empty lists
 pub all_new : (input : Input) (setting : Setting) (joiners count : ℕ) (places : List Place) → joiners ≡ 2 ^ setting.k
     → count ≡ setting.feeders + joiners + 2 → AreNew input setting count places
     → StandsFor input setting (record {

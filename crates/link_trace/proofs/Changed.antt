@@ -16,9 +16,11 @@ use Rattle.link_trace.specs.declared.places.Place.{Place}
 
 -- g of an element is that element of g of all
 module _ {X Y : Type 0} (g : X → Y) (xs : List X) (i : ℕ) (x : X) (is : x ≡ get_or xs i x) (low : i < length xs) where
+  -- in the list of what g gives of each, what g gives of x stands at the place of x
   pub map_at : (d : Y) → get_or (map g xs) i d ≡ g x
   map_at d = get_or-map g xs i x d low ∙ ap g (sym is)
 
+  -- where g gives of another element what it gives of x, putting that one in the place of x changes nothing of it
   pub set_same : (new : X) → g new ≡ g x → map g (set xs i new) ≡ map g xs
   set_same new same = map-set_same g xs i new x (same ∙ ap g is)
 
@@ -26,6 +28,8 @@ module _ {X Y : Type 0} (g : X → Y) (xs : List X) (i : ℕ) (x : X) (is : x �
 
 module _ {Q : Type 0} (items : Q → List Msg) (queues : List Q) (i : ℕ) (queue new : Q)
     (is : queue ≡ get_or queues i queue) (low : i < length queues) where
+  -- where a message was popped off one queue, it was the first there, and is gone in the list of what the queues hold;
+  -- where none was, that queue is empty and nothing changed
   pub popped : (o : Option Msg) → MatchOption o ((items new ≡ items queue)
       × (items queue ≡ [])) (λ m. items queue ≡ m ∷ items new)
       → MatchOption o ((map items (set queues i new) ≡ map items queues) × (get_or (map items queues) i [] ≡ []))
@@ -39,6 +43,7 @@ module _ {Q : Type 0} (items : Q → List Msg) (queues : List Q) (i : ℕ) (queu
     map-set items queues i new,
   )
 
+  -- where a message was pushed to one queue, the list of what the queues hold has it as the last one there
   pub pushed : (m : Msg) → items new ≡ items queue ++ m ∷ [] → (i < length (map items queues))
       × (map items (set queues i new) ≡ set (map items queues) i (get_or (map items queues) i [] ++ m ∷ []))
   pushed m e = (
@@ -65,6 +70,8 @@ module _ (places : List Place) (at : ℕ) (place new : Place) (is : place ≡ ge
   with_row sender ms e = map-set waiting_at places at new ∙ ap (set (waiting_of places) at)
       (e ∙ ap (λ r. set r sender ms) (sym row))
 
+  -- where a message of a sender was popped at one place, it was taken off what waits there of that sender; where none
+  -- was, nothing waits there of it and nothing changed
   pub takes_off : (sender : ℕ) (o : Option Msg)
       → MatchOption o ((waiting_at new ≡ waiting_at place) × (get_or (waiting_at place) sender [] ≡ []))
       (λ m. (rest : List Msg) × (sender < length (waiting_at place)) × (get_or (waiting_at place) sender [] ≡ m ∷ rest)
@@ -80,6 +87,7 @@ module _ (places : List Place) (at : ℕ) (place new : Place) (is : place ≡ ge
     left = with_row sender e.0 e.3;
   }
 
+  -- where a message of a sender was put behind what waits at one place, one message more waits there of that sender
   pub puts_on : (sender : ℕ) (m : Msg) → (sender < length (waiting_at place))
       × (waiting_at new ≡ set (waiting_at place) sender (get_or (waiting_at place) sender [] ++ m ∷ []))
       → PutsOn at sender m (waiting_of places) (waiting_of (set places at new))
@@ -89,12 +97,15 @@ module _ (places : List Place) (at : ℕ) (place new : Place) (is : place ≡ ge
         (sym row);
   }
 
+  -- where what waits at one place is as it was, what waits at all places is
   pub same_waiting : waiting_at new ≡ waiting_at place → waiting_of (set places at new) ≡ waiting_of places
   same_waiting e = set_same waiting_at places at place is low new e
 
+  -- where the machine of one place is as it was, the machines of all places are
   pub same_cores : new.core ≡ place.core → cores_of (set places at new) ≡ cores_of places
   same_cores e = set_same (λ (p : Place). p.core) places at place is low new e
 
+  -- where an event occurred in the machine of one place, it occurred in that machine among those of all places
   pub occurs_at : (cause : Cause) (before after : List Post) → Occurs cause place.core new.core before after
       → OccursAt at cause (cores_of places) (cores_of (set places at new)) before after
   occurs_at cause before after occurs = record {
@@ -108,6 +119,7 @@ module _ (places : List Place) (at : ℕ) (place new : Place) (is : place ≡ ge
     occurs = occurs;
   }
 
+  -- where the flag is up, a beginning occurred so; where it isn't, no machine changed
   pub begins_at : (cause : Cause) (b : Bool) (before after : List Post)
       → MatchBool b (Occurs cause place.core new.core before after) (new.core ≡ place.core)
       → MatchBool b (OccursAt at cause (cores_of places) (cores_of (set places at new)) before after)

@@ -5,6 +5,7 @@ use Rattle.std.specs.Prelude.{flat_map}
 use Rattle.std.specs.List.{range_with_len}
 use Rattle.std.proofs.lemmas.List.FromFn.{map-range_with_len_more}
 
+-- where f of the numbers below n was added to a list, and then f of n, f of the numbers below n + 1 was added
 pub one_more : {X : Type 0} (f : ℕ → X) (before now after : List X) (n : ℕ) → now ≡ before ++ map f (range_with_len 0 n)
     → after ≡ now ++ f n ∷ []
     → after ≡ before ++ map f (range_with_len 0 (n + 1))
@@ -18,6 +19,7 @@ flat_more f a zero j e = let same : a ≡ j = omega arith in append-nil (f a) �
 flat_more f a (suc n) j e = ap (λ xs. f a ++ xs) (flat_more f (a + 1) n j (omega arith))
     ∙ sym (append_assoc (f a) (flat_map f (range_with_len (a + 1) n)) (f j))
 
+-- so it is where f of a number is a list, all of which is added
 pub more : {X : Type 0} (f : ℕ → List X) (before now after : List X) (n : ℕ)
     → now ≡ before ++ flat_map f (range_with_len 0 n) → after ≡ now ++ f n
     → after ≡ before ++ flat_map f (range_with_len 0 (n + 1))

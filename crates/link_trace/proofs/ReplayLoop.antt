@@ -36,6 +36,7 @@ pub record IsUnderWay (input : Input) (setting : Setting) (seed : ℕ) (marks : 
   pub marked : AreMarked (slots_of setting) marks w
   pub reached : IsReached input setting w events
 
+-- a world that stands for empty lists, with every slot marked and no word drawn, is under way with no events made
 pub begins : (input : Input) (setting : Setting) (seed : ℕ) (marks : List Bool) (draws : Lcg) (slots : List Slot)
     (w : WorldState) → StandsFor input setting w (λ actor. no_lists)
     → draws ≡ started 64 multiplier_64 seed (increment_of 64 56) → slots ≡ slots_of setting
@@ -59,6 +60,8 @@ module _ (input : Input) (setting : Setting) (seed : ℕ) (marks marks' : List B
       is ∙ ap (λ g. next 64 multiplier_64 g) under.draws_are
       ∙ next-advance 64 multiplier_64 events (started 64 multiplier_64 seed (increment_of 64 56))
 
+  -- where the work of some goes on, and the first slot with an event from the place on that the next word names made
+  -- it, the run is under way with one event more
   pub goes_on : (slots : List Slot) → slots ≡ slots_of setting → IsSomeAt GoesOn w.cores → AreMarked slots marks' w'
       → MakesFirst slots (pcg32 draws).0 w w' → draws' ≡ (pcg32 draws).1
       → events' ≡ events + 1 → IsUnderWay input setting seed marks' draws' events' w'
@@ -75,6 +78,7 @@ module _ (input : Input) (setting : Setting) (seed : ℕ) (marks marks' : List B
         reached = slot_reached input setting made.slot events w w' made.happens under.reached;
       })
 
+-- where the work of all is over, a run with the events counted and the controller's journal is a replay
 pub replayed : (input : Input) (setting : Setting) (seed : ℕ) (marks : List Bool) (draws : Lcg) (events : ℕ)
     (w : WorldState) → IsUnderWay input setting seed marks draws events w
     → (result : Result Run AllocError) → IsAllAt IsOver w.cores

@@ -19,6 +19,8 @@ others : (slot : Slot) (old new : WorldState) → Happens slot old new → Keeps
 others (Begin p) old new happens = happens.1.others
 others (Link from to) old new happens = happens.event.others
 
+-- marks that are sound are so after a slot's event, where a mark is taken away only of slots to which its actor's
+-- events give none
 pub marked_after : (slots : List Slot) (marks marks' : List Bool) (slot : Slot) (old new : WorldState)
     → AreMarked slots marks old → Happens slot old new → IsMarkedFor (maker_of slot) slots marks marks'
     → AreMarked slots marks' new

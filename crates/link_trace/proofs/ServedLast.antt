@@ -35,6 +35,8 @@ pub record IsServedSo (input : Input) (setting : Setting) (starved : Actor) (mar
   pub marked : AreMarked (slots_of setting) marks w
   pub reached : IsReached input setting w events
 
+-- a world that stands for empty lists, with every slot marked, is at the beginning of a run in which one actor is
+-- served last
 pub begins : (input : Input) (setting : Setting) (starved : Actor) (marks : List Bool) (slots : List Slot)
     (w : WorldState) → StandsFor input setting w (λ actor. no_lists)
     → slots ≡ slots_of setting → length marks ≡ length slots → ((n : ℕ) → ¬ (slice_get marks n ≡ Some false))
@@ -47,6 +49,8 @@ begins input setting starved marks slots w fresh is long all = record {
   reached = none_reached input setting w fresh;
 }
 
+-- where the work of some goes on, and the event made is that of the least slot of another actor, or where no other has
+-- one of the least slot, the run goes on so with one event more
 pub goes_on : (input : Input) (setting : Setting) (starved : Actor) (marks marks' : List Bool) (events : ℕ)
     (w w' : WorldState) → IsServedSo input setting starved marks events w
     → (slots : List Slot) → slots ≡ slots_of setting → IsSomeAt GoesOn w.cores → AreMarked slots marks' w'
@@ -62,6 +66,8 @@ goes_on input setting starved marks marks' events w w' so slots is goes marked m
       reached = slot_reached input setting one.0 events w w' one.1 so.reached;
     }
 
+-- where the work of all is over, a run with the events counted and the controller's journal is one in which that actor
+-- was served last
 pub starved_order : (input : Input) (setting : Setting) (starved : Actor) (marks : List Bool) (events : ℕ)
     (w : WorldState) → IsServedSo input setting starved marks events w
     → (result : Result Run AllocError) → IsAllAt IsOver w.cores

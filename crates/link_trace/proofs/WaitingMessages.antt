@@ -72,6 +72,8 @@ module _ (joiners feeders : ℕ) (ws : List (List (List Msg))) (from to : Actor)
         ∙ ap₂ (λ a b. a && b) (sym (same_number joiners feeders from x s i from_is x_is))
         (sym (same_number joiners feeders to y r k to_is y_is)))
 
+  -- where another list waits at a receiver of a sender, it is what is left on the link between the two, and the other
+  -- links are as they were
   pub left-with : (l : List Msg) → left_in joiners feeders (with_waiting ws r s l)
       ≡ taken_off from to l (left_in joiners feeders ws)
   left-with l = fun_ext (λ x. fun_ext (λ y. both l x y (number joiners feeders x) (number joiners feeders y) refl refl))
@@ -90,6 +92,7 @@ module _ (joiners feeders : ℕ) (ws : List (List (List Msg))) (from to : Actor)
       (subst (λ z. waits ws r s ≡ left_in joiners feeders ws from z) is_to (sym left_between)))
   put_there m x y false e = refl
 
+  -- where one message more waits there, one more is left on that link
   pub left-put : (m : Msg) → left_in joiners feeders (with_waiting ws r s (waits ws r s ++ m ∷ []))
       ≡ put_one from to m (left_in joiners feeders ws)
   left-put m = left-with (waits ws r s ++ m ∷ []) ∙ fun_ext
@@ -104,6 +107,7 @@ more_posts left posts m true true = append_assoc left posts (m ∷ [])
 more_posts left posts m true false = ap (λ l. left ++ l) (sym (append-nil posts))
 more_posts left posts m false b = refl
 
+-- posts put on their links, and one more then, are put on as if at once
 pub put_more : (from : Actor) (left : Actor → Actor → List Msg) (posts : List Post) (post : Post)
     → put_one from post.to post.msg (put_on from posts left) ≡ put_on from (posts ++ post ∷ []) left
 put_more from left posts post = fun_ext (λ x. fun_ext (λ y.
@@ -115,9 +119,12 @@ none_put : (left : List Msg) (a : Bool) → left ≡ cond a (left ++ []) left
 none_put left true = sym (append-nil left)
 none_put left false = refl
 
+-- no posts put on change nothing
 pub put_none : (from : Actor) (left : Actor → Actor → List Msg) → left ≡ put_on from [] left
 put_none from left = fun_ext (λ x. fun_ext (λ y. none_put (left x y) (same_actor from x)))
 
+-- where a message was put on what waits at the receiver of the sender, what is left on the link between the two ends
+-- with it
 pub put_left : (joiners feeders : ℕ) (from to : Actor) (sender receiver : ℕ) → number joiners feeders from ≡ Some sender
     → number joiners feeders to ≡ Some receiver
     → (m : Msg) (ws ws' : List (List (List Msg))) → PutsOn receiver sender m ws ws'

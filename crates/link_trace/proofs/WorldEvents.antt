@@ -57,6 +57,7 @@ module _ (joiners feeders : ℕ) (cores : List Core) (self : Actor) (n : ℕ) (n
   set_at a (Some k) is = slice_get-set cores n k next low ∙ ap (λ b. cond b (Some next) (slice_get cores k))
       (sym (same_number joiners feeders self a n k at is))
 
+  -- the machines of the actors, where one was set at the number of an actor, are those of before but for that actor's
   pub core-set : core_in joiners feeders (set cores n next) ≡ changed self (Some next) (core_in joiners feeders cores)
   core-set = fun_ext (λ a. set_at a (number joiners feeders a) refl)
 
@@ -122,6 +123,8 @@ module _ (joiners feeders : ℕ) (self : Actor) (n : ℕ) (at : number joiners f
         ∙ empties from to none;
   }
 
+  -- where the event keeps, for whatever lists, the balance of what was sent with what was received and is left, the
+  -- actor made it
   pub makes_event : ((f : Actor → ActorLists) → ((x y : Actor)
       → (f y).received x ++ left_in joiners feeders ws x y ≡ (f x).sent y)
       → (x y : Actor) → (after_event self cause occurs.occurs.added f y).received x
@@ -177,6 +180,7 @@ emptied from to m rest left first x y none = go (same_actor from x) (same_actor 
     go true false e d = none
     go false c e d = none
 
+-- where a machine's beginning occurred and its posts were put on the links, the actor at its number made that event
 pub begins : (joiners feeders : ℕ) (self : Actor) (n : ℕ) → number joiners feeders self ≡ Some n
     → (cores cores' : List Core) (ws ws' : List (List (List Msg))) (sends : List Post)
     → OccursAt n Began cores cores' [] sends → left_in joiners feeders ws'
@@ -187,6 +191,8 @@ begins joiners feeders self n at cores cores' ws ws' sends occurs put =
     makes_event joiners feeders self n at Began cores cores' ws ws ws' sends occurs put (λ x y none. none)
     (λ f balanced. beginning_balances self occurs.occurs.added f (left_in joiners feeders ws) balanced)
 
+-- where a message was taken off a link, its receiver's event occurred and its posts were put on the links, the message
+-- was delivered
 pub delivers : (joiners feeders : ℕ) (from to : Actor) (sender receiver : ℕ) → number joiners feeders from ≡ Some sender
     → number joiners feeders to ≡ Some receiver
     → (m : Msg) (cores cores' : List Core) (ws middle ws' : List (List (List Msg))) (sends : List Post)
@@ -211,6 +217,7 @@ delivers joiners feeders from to sender receiver from_is to_is m cores cores' ws
           (delivery_balances from to m took.rest occurs.occurs.added f (left_in joiners feeders ws) balanced first));
     }
 
+-- where the flag is up, what is said of that case holds
 pub when_begun : (P Q : Type 0) (b : Bool) → b ≡ true → MatchBool b P Q → P
 when_begun P Q true is p = p
 when_begun P Q false is q = absurd (true≢false (sym is))
@@ -223,6 +230,8 @@ recast at cause cores cores' one other before sends e d none occurs =
     subst (λ cs. OccursAt at cause cs cores' [] sends) e (subst (λ cs. OccursAt at cause one cs [] sends) (sym d)
     (subst (λ ps. OccursAt at cause one other ps sends) none occurs))
 
+-- so it is from what each call of a turn says: nothing was taken off, the beginning occurred with no post before it,
+-- and posting changed no machine
 pub begun : (joiners feeders : ℕ) (self : Actor) (n : ℕ) → number joiners feeders self ≡ Some n
     → (cores one cores' : List Core) (ws middle ws' : List (List (List Msg))) (before sends : List Post)
     → middle ≡ ws → OccursAt n Began cores one before sends → before ≡ [] → cores' ≡ one
@@ -234,6 +243,8 @@ begun joiners feeders self n at cores one cores' ws middle ws' before sends same
     (recast n Began cores cores' cores one before sends refl d none occurs)
     (put ∙ ap (λ w. put_on self sends (left_in joiners feeders w)) same)
 
+-- so it is from what each call of a turn says: taking the message off changed no machine, the event occurred with no
+-- post before it and took nothing else off, and posting changed no machine
 pub delivered : (joiners feeders : ℕ) (from to : Actor) (sender receiver : ℕ)
     → number joiners feeders from ≡ Some sender → number joiners feeders to ≡ Some receiver
     → (m : Msg) (cores one other cores' : List Core) (ws middle later ws' : List (List (List Msg)))
