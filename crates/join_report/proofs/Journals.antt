@@ -35,6 +35,7 @@ last_of zero (x ∷ journal) line at = let same : x ≡ line = cc in ap (λ (l :
 last_of (suc n) (x ∷ []) line at = absurd (cc)
 last_of (suc n) (x ∷ y ∷ journal) line at = last_of n (y ∷ journal) line at
 
+-- the epoch of the line at place n is the last one of the journal's first n + 1 lines
 pub last_at : (n : ℕ) (journal : List TurnLine) (line : TurnLine) → slice_get journal n ≡ Some line
     → line.epoch ≡ last_epoch (take (n + 1) journal)
 last_at n journal line at =

@@ -5,11 +5,13 @@ use Rattle.std.specs.Io.KnownBytes.{append_known}
 use Rattle.std.proofs.lemmas.List.{append-nil}
 use Rattle.join_rows.specs.Sinks.{AppendsFront, PutsFront}
 
+-- two pieces appended one after the other, where the bytes are told or not, are their concatenation appended
 pub known-append : (known : Option (List ℕ)) (xs ys : List ℕ)
     → append_known (append_known known xs) ys ≡ append_known known (xs ++ ys)
 known-append None xs ys = refl
 known-append (Some bytes) xs ys = ap Some (append_assoc bytes xs ys)
 
+-- nothing appended changes nothing, whether the bytes are told or not
 pub known-none : (known : Option (List ℕ)) → append_known known [] ≡ known
 known-none None = refl
 known-none (Some bytes) = ap Some (append-nil bytes)
@@ -29,6 +31,7 @@ twice (suc m) (suc n) [] = let less : min (suc m) (suc n) ≡ suc (min m n) = om
 twice (suc m) (suc n) (x ∷ xs) = let less : min (suc m) (suc n) ≡ suc (min m n) = omega arith in
     rw less (ap (λ ys. x ∷ ys) (twice m n xs))
 
+-- where the first p bytes of a text were appended and then those from p up to e, the first e were
 pub piece_put : (known before after : Option (List ℕ)) (xs : List ℕ) (p e : ℕ) → p ≤ e
     → before ≡ append_known known (take p xs)
     → after ≡ append_known before (take (e - p) (drop p xs)) → after ≡ append_known known (take e xs)
@@ -38,6 +41,8 @@ piece_put known before after xs p e below front is =
     ∙ known-append known (take p xs) (take (e - p) (drop p xs))
     ∙ ap (append_known known) (joined p (e - p) xs) ∙ ap (λ n. append_known known (take n xs)) whole
 
+-- where the first p bytes of a text were appended, and then a front of those from p up to e, a front of the whole text
+-- was
 pub piece_cut : (known before after : Option (List ℕ)) (xs : List ℕ) (p e : ℕ) → before ≡ append_known known (take p xs)
     → AppendsFront before after (take (e - p) (drop p xs)) → AppendsFront known after xs
 piece_cut known before after xs p e front (n, is) = (

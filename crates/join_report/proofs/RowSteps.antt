@@ -6,6 +6,7 @@ use Rattle.epoch_tags.specs.declared.tuple.Pair.{Pair}
 use Rattle.join_rows.specs.declared.table.Cell.{Cell}
 use Rattle.join_report.specs.RowLines.{row_line, row_lines}
 
+-- the records of one pair more are those of the pairs before it and then its own
 pub row_lines-more : (rows_r rows_s : List (List Cell)) (pairs : List Pair) (place : ℕ) (pair : Pair)
     → place < length pairs
     → row_lines rows_r rows_s (take (place + 1) pairs) ≡ row_lines rows_r rows_s (take place pairs)

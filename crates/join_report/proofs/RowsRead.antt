@@ -51,6 +51,7 @@ module _ (rows_r rows_s : List (List Cell)) where
       rw (read-write (joined_fields rows_r rows_s pair) (row_lines rows_r rows_s pairs))
       (ap (λ rows. read_fields pair ∷ rows) (reads fuel pairs (omega (arith, few))))
 
+  -- a reader of csv finds in the lines of pairs one record each, of its fields as they read back
   pub records-row_lines : (pairs : List Pair) → records default_config (row_lines rows_r rows_s pairs)
       ≡ map read_fields pairs
   records-row_lines pairs =

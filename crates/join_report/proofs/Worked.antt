@@ -14,6 +14,7 @@ use Rattle.join_report.specs.Report.{report_of}
 abbrev two_pairs : List Pair
 two_pairs = record { i = 0; j = 0 } ∷ record { i = 0; j = 2 } ∷ []
 
+-- the lines of two pairs, counted from 0 inside and from 1 in the text
 pub two_lines : pair_lines two_pairs ≡ codes "1,1\n1,3\n"
 unfolding digits
 two_lines = refl
@@ -56,6 +57,7 @@ two_steps = record {
   bouts = 0;
 }
 
+-- the report of a run of two steps, from shift 1 to 0 and back, of 8 rows a side
 pub report_of_two_steps : report_of four_joiners 8 8 two_steps
     ≡ codes "input 8 8\ngrid 1 4 1 moved 0\ngrid 2 2 2 moved 8\nfinal 2 2 copies 32 best 32\njoiner 0 held 4 4 made 16\njoiner 1 held 4 4 made 16\njoiner 2 held 4 4 made 16\njoiner 3 held 4 4 made 16\n"
 unfolding digits
