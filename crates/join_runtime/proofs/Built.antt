@@ -223,6 +223,8 @@ module _ (input : Input) (setting : Setting) (count : ℕ) (first seats : List S
             (some_address (slot_of seats d num.0 r) given.1));
       }
 
+  -- where each mouth of new seats came to its sender, there is a seat for each actor, each mouth leads to its
+  -- receiver's inbox, and each sender of an inbox has a mouth
   pub all_joined : AreJoined (2 ^ setting.k) setting.feeders (map frame_of seats)
   all_joined = record {
     all = length-map seats frame_of ∙ (long ∙ many);
@@ -266,6 +268,7 @@ module _ (input : Input) (setting : Setting) (count : ℕ) (first seats : List S
                 (own.2 one.names one.senders);
           }
 
+  -- these seats heard senders alone, none of their machines is spent, and what is left on each link is known
   pub all_settled : AreSettled seats
   all_settled = record {
     hear = λ n d low from none. ap (λ xs. contents (messages_of from xs)) (nothing_received n d (low_of n low));
@@ -288,6 +291,7 @@ module _ (input : Input) (setting : Setting) (count : ℕ) (first seats : List S
           go None = refl
           go (Some r) = nothing_sent n r d low
 
+  -- there is a machine for each actor, which began as input and setting say and stands for the lists of its seat
   pub all_stand : (spent : Bool) → StandsFor input setting (record {
     joiners = 2 ^ setting.k;
     feeders = setting.feeders;
@@ -328,6 +332,7 @@ module _ (input : Input) (setting : Setting) (count : ℕ) (first seats : List S
       setting.feeders seats Collector place d refl low')
       ∙ ap (λ (s : SeatView). given_by s.core) (still place d low)) ∙ (made place d low).given j below
 
+  -- no actor of these seats has received or sent anything
   pub all_empty : (spent : Bool) (a : Actor) → lists_in (record {
     joiners = 2 ^ setting.k;
     feeders = setting.feeders;
@@ -444,13 +449,16 @@ module _ (input : Input) (setting : Setting) (joiners : ℕ) (first seats : List
   all_filled = subst (λ j. AreFilled j setting.feeders (setting.feeders + joiners + 2) mouths first seats) is
       (subst (λ n. AreFilled joiners setting.feeders n mouths first seats) new.each filled)
 
+  -- as many new seats as the run has actors are joined once each mouth came to its sender
   pub start_joined : AreJoined joiners setting.feeders (map frame_of seats)
   start_joined = subst (λ j. AreJoined j setting.feeders (map frame_of seats)) (sym is)
       (all_joined input setting (setting.feeders + joiners + 2) first seats mouths new all_filled count_is)
 
+  -- they heard senders alone, none of their machines is spent, and what is left on each link is known
   pub start_settled : AreSettled seats
   start_settled = all_settled input setting (setting.feeders + joiners + 2) first seats mouths new all_filled count_is
 
+  -- each machine began as input and setting say and stands for the lists of its seat
   pub start_stands : (spent : Bool) → StandsFor input setting (record {
     joiners = joiners;
     feeders = setting.feeders;
@@ -465,6 +473,7 @@ module _ (input : Input) (setting : Setting) (joiners : ℕ) (first seats : List
   })) (sym is) (all_stand input setting (setting.feeders + joiners + 2)
       first seats mouths new all_filled count_is spent)
 
+  -- no actor of them has received or sent anything
   pub start_empty : (spent : Bool) (a : Actor) → lists_in (record {
     joiners = joiners;
     feeders = setting.feeders;
@@ -479,6 +488,7 @@ module _ (input : Input) (setting : Setting) (joiners : ℕ) (first seats : List
   }) a ≡ no_lists) (sym is) (all_empty input setting (setting.feeders + joiners + 2)
       first seats mouths new all_filled count_is spent a)
 
+  -- their collector has given no pair of any joiner
   pub start_given : (spent : Bool) → AreGiven (2 ^ setting.k) nothing_yet
       (given_in (record { joiners = joiners; feeders = setting.feeders; seats = seats; spent = spent }))
   start_given spent =
@@ -490,6 +500,7 @@ module _ (input : Input) (setting : Setting) (joiners : ℕ) (first seats : List
       }))) (sym is)
       (none_given input setting (setting.feeders + joiners + 2) first seats mouths new all_filled count_is spent)
 
+  -- an actor of them has a mouth to another exactly where there is a link between the two
   pub start_linked : (spent : Bool) (from to : Actor)
       → (IsSome (mouth_of (record { joiners = joiners; feeders = setting.feeders; seats = seats; spent = spent })
       from to) ↔ HasLink setting.k setting.feeders from to)

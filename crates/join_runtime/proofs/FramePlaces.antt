@@ -16,16 +16,19 @@ actors_differ joiners feeders i k low low' e =
 
 -- ---- frames
 
+-- at a place of the seats, the list of their frames has that seat's frame
 pub frame_at : (seats : List SeatView) (n : ℕ) (d : SeatView) → n < length seats
     → get_or (map frame_of seats) n (frame_of d) ≡ frame_of (get_or seats n d)
 frame_at seats n d low = get_or-map frame_of seats n d (frame_of d) low
 
+-- at each place, the list of addresses of mouths has the address of the mouth there, and none where there is none
 pub address_at : (mouths : List (Option Sending)) (r : ℕ) → get_or (map address_of mouths) r None
     ≡ address_of (get_or mouths r None)
 address_at [] r = refl
 address_at (m ∷ mouths) zero = refl
 address_at (m ∷ mouths) (suc r) = address_at mouths r
 
+-- as many seats as before, each with the frame that it had, have the same frames together
 pub frames_same : (old new : List SeatView) → length new ≡ length old
     → ((n : ℕ) (d : SeatView) → n < length old → frame_of (get_or new n d) ≡ frame_of (get_or old n d))
     → map frame_of new ≡ map frame_of old

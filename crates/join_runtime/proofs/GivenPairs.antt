@@ -64,11 +64,15 @@ pub record IsKin (s t : SeatView) : Type 0 where
 kin_self : (s : SeatView) → IsKin s s
 kin_self s = record { rest = refl; stands = λ start ls st. st; live = λ live. live }
 
+-- where only the machine changed, by a call that gave pairs if it succeeded and changed nothing if it failed, the seat
+-- is the same and its machine stands for what it stood for
 pub kin_by : (result : Result (List Pair) AllocError) (s t : SeatView) → t ≡ record s { core = t.core }
     → IfOk result (λ pairs. Gives s.core t.core pairs) → OnErr result (t ≡ s) → IsKin s t
 kin_by (Ok pairs) s t rest gives fails = record { rest = rest; stands = gives.stands; live = gives.live }
 kin_by (Err e) s t rest gives fails = subst (IsKin s) (sym fails) (kin_self s)
 
+-- where a clause holds of a result's value, and something follows from it of each value, that holds where the result is
+-- a value
 pub on_ok_by : {X E : Type 0} (result : Result X E) (P : X → Type 0) (Q : Type 0) → IfOk result P → ((x : X) → P x → Q)
     → OnOk result Q
 on_ok_by (Ok x) P Q is follows = follows x is
@@ -109,9 +113,12 @@ module _ (v : SeatsView) (joined : AreJoined v.joiners v.feeders (map frame_of v
         (kin_self (get_or v.seats n d))
   ]
 
+  -- where of the last seat only the machine changed, and stands for what it stood for, all seats have the frames that
+  -- they had
   pub frames_kept : map frame_of changed ≡ map frame_of v.seats
   frames_kept = frames_same v.seats changed long (λ n d low'. ap frame_of (all_kin n d low').rest)
 
+  -- so they are joined still
   pub joined_still : AreJoined v.joiners v.feeders (map frame_of changed)
   joined_still = subst (AreJoined v.joiners v.feeders) (sym frames_kept) joined
 
@@ -121,11 +128,13 @@ module _ (v : SeatsView) (joined : AreJoined v.joiners v.feeders (map frame_of v
       (many_seats v joined)
       (λ n d low'. let same = all_kin n d low' in record { lists = ap lists_of same.rest; stands = same.stands })
 
+  -- each actor has received and sent what it had
   pub lists_kept : (a : Actor) → lists_in after a ≡ lists_in v a
   lists_kept =
       of_lists StandsAs v.joiners v.feeders (cores_in v) (cores_in after) (lists_in v) (lists_in after) all_as
       (λ ls ls'. ls' ≡ ls) (λ ls ls' is. is) (λ x y same. same.lists)
 
+  -- seats that stood for a run of some input and setting stand for it still
   pub stands_kept : (input : Input) (setting : Setting) → StandsFor input setting v → StandsFor input setting after
   stands_kept =
       still_stand StandsAs v.joiners v.feeders (cores_in v) (cores_in after) (lists_in v) (lists_in after) all_as
@@ -142,6 +151,7 @@ module _ (v : SeatsView) (joined : AreJoined v.joiners v.feeders (map frame_of v
       (subst (IsGathered (slot_of v.seats d n r)) (sym inbox)
       (gathered n r d (omega (arith, low', long)) (omega (arith, low'', long))))
 
+  -- seats that were settled are settled still
   pub settled_kept : AreSettled v.seats → AreSettled changed
   settled_kept settled = record {
     hear = λ n d low'. let same = all_kin n d (omega (arith, low', long)) in

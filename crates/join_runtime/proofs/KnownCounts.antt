@@ -7,6 +7,7 @@ use Rattle.ruled_links.specs.Delivery.{number_of}
 use Rattle.ruled_links.specs.Inboxes.{OfSender, all_known, is_sender, told, senders_of, fresh}
 use Rattle.join_runtime.specs.Joins.{Knows}
 
+-- where a number was told of a sender, each entry of that sender has it
 pub knows_told : (from : Actor) (n : ℕ) (senders : List OfSender) → Knows from n (told from n senders)
 knows_told from n [] = tt
 knows_told from n (s ∷ senders) = (
@@ -14,6 +15,7 @@ knows_told from n (s ∷ senders) = (
   knows_told from n senders,
 )
 
+-- and what was known of another sender is known still
 pub knows_other : (from other : Actor) (n k : ℕ) (senders : List OfSender) → number_of other ≢ number_of from
     → Knows other k senders → Knows other k (told from n senders)
 knows_other from other n k [] apart known = tt
@@ -67,12 +69,14 @@ knows_some (s ∷ senders) some =
       λ n known. let is = known.0 refl in omega (arith, is, e),
     )
 
+-- an actor is a sender among fresh entries of the senders' names exactly where it is one among the senders
 pub is_sender-named : (a : Actor) (senders : List OfSender)
     → is_sender a (map fresh (senders_of senders)) ≡ is_sender a senders
 is_sender-named a [] = refl
 is_sender-named a (s ∷ senders) = ap (λ b. cond (eqb (number_of s.from) (number_of a)) true b)
     (is_sender-named a senders)
 
+-- where a number was told, the senders are those of before
 pub sender_told : (a from : Actor) (n : ℕ) (senders : List OfSender)
     → is_sender a (told from n senders) ≡ is_sender a senders
 sender_told a from n [] = refl

@@ -55,6 +55,7 @@ gather_none : {X : Type 0} (n : ℕ) (xs : ℕ → List X) → ((j : ℕ) → xs
 gather_none zero xs none = refl
 gather_none (suc n) xs none = ap (λ ys. ys ++ xs n) (gather_none n xs none) ∙ none n
 
+-- before the first bout, seats that stand for empty lists and gave nothing have put no line, and the room is the same
 pub nothing_put : (input : Input) (setting : Setting) (v : SeatsView) (old : Option (List ℕ)) (room : ℕ → Type 0)
     → StandsFor input setting v → ((a : Actor) → lists_in v a ≡ no_lists)
     → AreGiven (2 ^ setting.k) nothing_yet (given_in v) → HasPut input setting v 0 old old room room
@@ -81,6 +82,8 @@ right law input setting valid v stands fronts =
     (law input setting (first_rest setting) (family_in v) valid (first_stands input setting valid)
     (agrees input setting v.joiners v.feeders (cores_in v) (lists_in v) stands fronts))
 
+-- where a run of a valid input and setting has put the lines of the pairs taken so far, these are lines of the nested
+-- loop's pairs, none of them more often than it has it
 pub some_put : TakesNothingWrong → (input : Input) (setting : Setting) → IsValid input setting
     → (v : SeatsView) (bouts : ℕ) (old new : Option (List ℕ)) (room room' : ℕ → Type 0)
     → HasPut input setting v bouts old new room room' → WroteSome input old new
@@ -88,6 +91,7 @@ some_put law input setting valid v bouts old new room room' put =
     some_written input (taken_in setting v) old new (right law input setting valid v put.way.stands put.way.fronts)
     put.written
 
+-- where nothing was put, a front of the lines of no pairs was
 pub none_put : (input : Input) (old new : Option (List ℕ)) → new ≡ old → WroteSome input old new
 none_put input old new is = some_written input [] old new (record { sums = λ f. omega arith })
     (nothing_written [] old new refl is)
@@ -119,6 +123,8 @@ module _ (input : Input) (setting : Setting) (v middle : SeatsView) (bouts bouts
       (λ j low. typed_front collector_msg ((lists_in v Collector).received (Joiner j))
       ((lists_in middle Collector).received (Joiner j)) (extends.received (Joiner j) Collector))
 
+  -- where of the lines of the pairs given in a bout a front was put, what was put in all is a front of the lines of
+  -- pairs of the nested loop
   pub fresh_cut : TakesNothingWrong → IsValid input setting → (new : Option (List ℕ))
       → AppendsFront now new (pair_lines fresh) → WroteSome input old new
   fresh_cut law valid new front =
@@ -126,6 +132,8 @@ module _ (input : Input) (setting : Setting) (v middle : SeatsView) (bouts bouts
       (taken_in setting middle) fresh moved all old now before.written input new
       (right law input setting valid middle way.stands way.fronts) front
 
+  -- what had room for the lines of the nested loop and more still has room, after the lines of earlier bouts, for those
+  -- of this one, for those of the nested loop's pairs still to come, and for the same more
   pub fresh_room : TakesNothingWrong → IsValid input setting → (more : ℕ)
       → room (length (pair_lines (nested_loop input)) + more)
       → room' (length (pair_lines fresh) + (length (pair_lines (nested_loop input))
@@ -137,6 +145,8 @@ module _ (input : Input) (setting : Setting) (v middle : SeatsView) (bouts bouts
       (taken_in setting middle) fresh moved all room (nested_loop input) more
       (right law input setting valid middle way.stands way.fronts) has)
 
+  -- where all lines of the pairs given in a bout were put, and the seats have the same lists after the giving, the run
+  -- has put the line of each pair taken so far
   pub fresh_put : (after : SeatsView) → ((a : Actor) → lists_in after a ≡ lists_in middle a)
       → (StandsFor input setting middle → StandsFor input setting after)
       → (StandsFor input setting middle → AreGiven (2 ^ setting.k) (collected_in middle) (given_in after))
@@ -178,10 +188,12 @@ module _ (law : AnswersInTheEnd) (input : Input) (setting : Setting) (valid : Is
       (subst (SameBag (pairs_taken (2 ^ setting.k) (collector_lists (lists Collector)))) (all_pairs input setting)
       answer.pairs)
 
+  -- at the end, the lines of all pairs of the run were put, each whole, in some order
   pub each_put : (pairs : List Pair) → pairs ≡ wave_pairs input (first_rest setting).line → WroteEach pairs old new
   each_put pairs are = each_written input (taken_in setting v) pairs old new all_taken (are ∙ all_pairs input setting)
       put.written
 
+  -- at the end, what had room for the lines of the nested loop and more has room for the same more
   pub room_left : (more : ℕ) → room (length (pair_lines (nested_loop input)) + more) → room' more
   room_left more has = put.takes more (subst (λ n. room (n + more))
       (same_long (nested_loop input) (taken_in setting v) (SameBag-sym all_taken)) has)

@@ -15,6 +15,7 @@ use Rattle.join_runtime.proofs.FramePlaces.{frames_same, frame_at, address_at}
 
 -- ---- one mouth
 
+-- where a seat was told what is left of a mouth, or there is no mouth, the seat is alike
 pub tells_alike : (slot : Option Sending) (old new : SeatView) → Tells slot old new → IsAlike old new
 tells_alike None old new is = record {
   core = ap (λ (s : SeatView). s.core) is;
@@ -28,6 +29,7 @@ tells_alike (Some mouth) old new is = record {
       (senders_told mouth.from is.count old.inbox.senders);
 }
 
+-- and has the same mouths
 pub tells_mouths : (slot : Option Sending) (old new : SeatView) → Tells slot old new → new.mouths ≡ old.mouths
 tells_mouths None old new is = ap (λ (s : SeatView). s.mouths) is
 tells_mouths (Some mouth) old new is = ap (λ (s : SeatView). s.mouths) is.now
@@ -72,11 +74,14 @@ leads_from : (slot : Option Sending) (mouth : Sending) (s t : SeatView)
 leads_from slot mouth s t leads is = (subst (λ (o : Option Sending). Leads (address_of o) (frame_of s) (frame_of t))
     is leads).from
 
+-- a place of the seats is a place of their frames
 pub within : (seats : List SeatView) (n : ℕ) → n < length seats → n < length (map frame_of seats)
 within seats n low = subst (λ k. n < k) (sym (length-map seats frame_of)) low
 
 module _ (seats : List SeatView) (leads : AllLead (map frame_of seats))
     (differ : ActorsDiffer (map frame_of seats)) where
+  -- where the frames say that mouths lead to their receivers' inboxes, the mouth of one seat to another, if it has one,
+  -- leads to that one's inbox
   pub leads_at : (d : SeatView) (n r : ℕ) → n < length seats → r < length seats
       → Leads (address_of (slot_of seats d n r)) (frame_of (get_or seats n d)) (frame_of (get_or seats r d))
   leads_at d n r low low' =
@@ -90,6 +95,7 @@ module _ (seats : List SeatView) (leads : AllLead (map frame_of seats))
       (subst (λ (f : Frame). Leads (get_or f.addresses r None) f (get_or (map frame_of seats) r (frame_of d)))
       one given))
 
+  -- and is a mouth of that inbox
   pub slots_lead : (d : SeatView) (n r : ℕ) → n < length seats → r < length seats
       → IsSlotOf (slot_of seats d n r) (get_or seats r d).inbox
   slots_lead d n r low low' = leads_slot (slot_of seats d n r) (get_or seats n d) (get_or seats r d)
@@ -132,12 +138,14 @@ module _ (seats : List SeatView) (leads : AllLead (map frame_of seats))
             (gathers (slot_of seats d n r) (get_or seats r d) (get_or new r d) (told r d low'))
       ])
 
+  -- where each seat was told what is left of one seat's mouth to it, the frames are as they were
   pub tells_frames : (n : ℕ) (new : List SeatView) → length new ≡ length seats
       → ((r : ℕ) (d : SeatView) → r < length seats → Tells (slot_of seats d n r) (get_or seats r d) (get_or new r d))
       → map frame_of new ≡ map frame_of seats
   tells_frames n new long told = frames_same seats new long
       (λ r d low. (tells_alike (slot_of seats d n r) (get_or seats r d) (get_or new r d) (told r d low)).frame)
 
+-- a seat that is alike and then told what is left is alike still
 pub alike_more : (one other last : SeatView) (slot : Option Sending) → IsAlike one other → Tells slot other last
     → IsAlike one last
 alike_more one other last slot before told =

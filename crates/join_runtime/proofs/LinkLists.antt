@@ -68,10 +68,12 @@ module _ (v : SeatsView) (joined : AreJoined v.joiners v.feeders (map frame_of v
   low_of : (a : Actor) (n : ℕ) → number v.joiners v.feeders a ≡ Some n → n < length v.seats
   low_of a n is = subst (λ z. n < z) (sym many) (number_low v.joiners v.feeders a n is)
 
+  -- of seats that are joined and settled, the lists of an actor are those of the seat at its number
   pub lists_there : (a : Actor) (n : ℕ) (d : SeatView) → number v.joiners v.feeders a ≡ Some n
       → lists_in v a ≡ lists_of (get_or v.seats n d)
   lists_there a n d is = seat_lists lists_of v.joiners v.feeders v.seats a n d is (low_of a n is)
 
+  -- an actor that isn't of the run has received and sent nothing
   pub lists_none : (a : Actor) → number v.joiners v.feeders a ≡ None → lists_in v a ≡ no_lists
   lists_none a is = ap (λ (o : Option ℕ). lists_at lists_of (at_number None o (λ k. slice_get v.seats k))) is
 
@@ -172,6 +174,7 @@ module _ (v : SeatsView) (joined : AreJoined v.joiners v.feeders (map frame_of v
 
 -- ---- fronts
 
+-- where envelopes are a front of others, so are their messages of the others'
 pub contents_front : (xs ys : List Envelope) → IsPrefix xs ys → IsPrefix (contents xs) (contents ys)
 contents_front xs ys front = record {
   rest = contents front.rest;
@@ -206,6 +209,7 @@ quiet_between s t from to rest (inr has) =
 
 module _ (v : SeatsView) (joined : AreJoined v.joiners v.feeders (map frame_of v.seats))
     (settled : AreSettled v.seats) where
+  -- of seats that are joined and settled, what each actor received of another is a front of what that one sent to it
   pub fronts : AreFronts (lists_in v)
   fronts from to = go (number v.joiners v.feeders from) (number v.joiners v.feeders to) refl refl
     where
@@ -226,6 +230,7 @@ module _ (v : SeatsView) (joined : AreJoined v.joiners v.feeders (map frame_of v
           (subst (λ (ls : ActorLists). IsPrefix ((lists_of (get_or v.seats r d)).received from) (ls.sent to))
           (sym (lists_there v joined settled from n d from_is)) front)
 
+  -- and where all rest, it is all that was sent
   pub all_received : AllRest v.seats → (from to : Actor) → (lists_in v to).received from ≡ (lists_in v from).sent to
   all_received rest from to = go (number v.joiners v.feeders from) (number v.joiners v.feeders to) refl refl
     where
@@ -295,6 +300,7 @@ module _ (v : SeatsView) (joined : AreJoined v.joiners v.feeders (map frame_of v
       (λ from to link. all_received v joined settled rest from to)
       (λ p low core is. waits_there rest (Feeder p) core is) law valid
 
+  -- where all rest, nothing is left on any link, and no machine would begin
   pub still : AllRest v.seats → IsStill v
   still rest = record { received = all_received v joined settled rest; waits = λ n d low. (rest n d low).waits }
 
@@ -312,5 +318,6 @@ module _ (v : SeatsView) (joined : AreJoined v.joiners v.feeders (map frame_of v
       left_between (get_or v.seats has.sender d) (get_or v.seats r d) from to found.1 found.2
       (between v joined settled d has.sender r from to has.is to_is) same
 
+  -- where some seat is ready, it isn't so that nothing is left on any link and no machine would begin
   pub busy : SomeReady v.seats → ¬ IsStill v
   busy some = let d = (there v.seats some.place some.there).0 in ready_moves some.place d some.there (some.ready d)

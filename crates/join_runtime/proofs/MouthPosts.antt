@@ -11,6 +11,7 @@ use Rattle.ruled_links.specs.Ends.{Sending}
 use Rattle.actor_core.specs.Lists.{same_actor, posted_to}
 use Rattle.join_runtime.specs.Views.{address_of, sent_through}
 
+-- where a mouth gives place to one of the same address, all addresses are as they were
 pub addresses-set : (mouths : List (Option Sending)) (place : ℕ) (slot new : Option Sending)
     → slot ≡ get_or mouths place slot → address_of new ≡ address_of slot
     → map address_of (set mouths place new) ≡ map address_of mouths

@@ -84,6 +84,7 @@ one_more joiners feeders n mouths last mouth is = record {
 some_still : (o : Option Sending) (mouth : Sending) → o ≡ Some mouth → IsSome o
 some_still o mouth e = subst IsSome (sym e) refl
 
+-- where no mouth comes to its sender, nothing changes
 pub places_none : (joiners feeders receiver : ℕ) (seats : List SeatView)
     → Places joiners feeders receiver [] seats seats
 places_none joiners feeders receiver seats = record {
@@ -94,6 +95,7 @@ places_none joiners feeders receiver seats = record {
   has = λ n d mouth is. let one = is.one in absurd (omega (arith, one.1));
 }
 
+-- where some mouths came to their senders and then one more, those and that one did
 pub places_more : (joiners feeders receiver : ℕ) (mouths : List Sending) (mouth : Sending)
     (first old new : List SeatView) → Places joiners feeders receiver mouths first old
     → Puts joiners feeders receiver mouth old new
@@ -163,6 +165,7 @@ places_more joiners feeders receiver mouths mouth first old new before puts = re
 
 -- ---- all receivers
 
+-- where no seat has a mouth, the mouths of the receivers below 0 have come to their senders, and no other
 pub filled_none : (joiners feeders : ℕ) (mouths : List (List Sending)) (seats : List SeatView)
     → ((n r : ℕ) (d : SeatView) → n < length seats → slot_of seats d n r ≡ None)
     → AreFilled joiners feeders 0 mouths seats seats
@@ -173,6 +176,8 @@ filled_none joiners feeders mouths seats none = record {
   has = λ n r d mouth low is. absurd (omega arith);
 }
 
+-- where the mouths of the receivers below a number had come to their senders, and now those of that number, those of
+-- the receivers below the next have
 pub filled_more : (joiners feeders below : ℕ) (mouths : List (List Sending)) (first old new : List SeatView)
     → AreFilled joiners feeders below mouths first old
     → Places joiners feeders below (get_or mouths below []) old new
@@ -219,12 +224,14 @@ filled_more joiners feeders below mouths first old new before places = record {
 
 -- ---- the senders of an inbox
 
+-- of no actors each has a number below 0, and no two are one
 pub below_none : (joiners feeders : ℕ) → AreBelow joiners feeders 0 []
 below_none joiners feeders = record {
   each = λ k d low. absurd (omega arith);
   differ = λ i k d before low. absurd (omega arith);
 }
 
+-- different actors with numbers below n have numbers below n + 1
 pub below_more : (joiners feeders n : ℕ) (actors : List Actor) → AreBelow joiners feeders n actors
     → AreBelow joiners feeders (n + 1) actors
 below_more joiners feeders n actors below = record {
@@ -276,6 +283,7 @@ below_push joiners feeders n actors last is below = record { each = each; differ
           omega (arith, equal, low')
     ]
 
+-- the empty list is that of the actors with a number below 0 that have a link to this one
 pub linked_none : (joiners feeders : ℕ) (to : Actor) → AreLinked joiners feeders 0 to []
 linked_none joiners feeders to = record {
   sound = λ k grid a has. absurd (omega (arith, has.1));
@@ -327,6 +335,8 @@ linked_push joiners feeders n to last actors is has linked = record { sound = so
 
 -- ---- seats as they are made
 
+-- seats as they were made, and one more of the next number, are seats as they were made, with the mouths of their
+-- inboxes
 pub new_more : (input : Input) (setting : Setting) (count : ℕ) (seats : List SeatView) (mouths : List (List Sending))
     (seat : SeatView) (own : List Sending) → AreNew input setting count seats mouths
     → IsNewSeat input setting count seat own → AreNew input setting (count + 1) (seats ++ seat ∷ [])

@@ -65,6 +65,7 @@ none_left (q ∷ qs) same =
     let some = sum_by-cons (λ (r : Pair). 1) q qs in
     absurd (omega (arith, none, some))
 
+-- lists of pairs that are the same as bags are rearrangements of each other
 pub rearranged : (ps qs : List Pair) → SameBag ps qs → IsPermutation ps qs
 rearranged [] qs same = subst (IsPermutation []) (sym (none_left qs same)) (IsPermutation-refl [])
 rearranged (p ∷ ps) qs same =

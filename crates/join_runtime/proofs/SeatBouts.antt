@@ -31,6 +31,8 @@ advanced s t works none = elim works.advances [
 
 -- ---- all seats
 
+-- where each seat worked, none is spent then, and each afterwards is alike, each seat made some events, and none only
+-- where it rested
 pub all_advance : (old middle new : List SeatView) → length middle ≡ length old → AllWork old middle → NoneSpent middle
     → ((n : ℕ) (d : SeatView) → n < length middle → IsAlike (get_or middle n d) (get_or new n d)) → AllAdvance old new
 all_advance old middle new long works none alike n d low =
@@ -52,19 +54,24 @@ module _ (seats : List SeatView) (place : ℕ) (there : place < length seats) (e
         (self (get_or seats n d))
   ]
 
+  -- where the seat that changed has the frame that it had, so have all seats
   pub frames_at : frame_of t ≡ frame_of (get_or seats place e) → map frame_of (set seats place t) ≡ map frame_of seats
   frames_at here = frames_same seats (set seats place t) (length-set seats place t)
       (λ n d low. at_each (λ u v. frame_of v ≡ frame_of u) (λ u. refl) here n d)
 
+  -- where that seat made some events, or none and nothing changed, each seat did
   pub steps_at : Steps (get_or seats place e) t → AllStep seats (set seats place t)
   steps_at here n d low = at_each Steps (λ u. steps_none u u refl) here n d
 
+-- where each seat made some events, or none and nothing changed, in two stretches one after the other, it did so in
+-- both together
 pub all_stepped : (old middle new : List SeatView) → length middle ≡ length old → AllStep old middle
     → AllStep middle new → AllStep old new
 all_stepped old middle new long first then n d low =
     steps_joined (get_or old n d) (get_or middle n d) (get_or new n d) (first n d low)
     (then n d (omega (arith, long, low)))
 
+-- where each seat made some events, or none and nothing changed, and then advanced, each has advanced
 pub all_advance_after : (old middle new : List SeatView) → length middle ≡ length old → AllStep old middle
     → AllAdvance middle new → AllAdvance old new
 all_advance_after old middle new long first then n d low =
@@ -90,6 +97,7 @@ swapped_work old swapped worked new i j long low_i low_j there works back n d lo
       ]
     ]
 
+-- the turns of all seats leave their frames as they were
 pub frames_worked : (old new : List SeatView) → length new ≡ length old → AllWork old new
     → map frame_of new ≡ map frame_of old
 frames_worked old new long works = frames_same old new long (λ n d low. (works n d low).frame)
@@ -123,6 +131,8 @@ all_ran joiners feeders old new long all advance =
 
 -- ---- a bout by its answer
 
+-- whether a bout's answer says that each seat advanced and the links are gathered, or that nothing changed, seats that
+-- were settled are settled still
 pub settled_after : (went : Bool) (old new : List SeatView) → length new ≡ length old
     → (went ≡ true → AllAdvance old new) → (went ≡ true → AreGathered new) → (went ≡ false → new ≡ old) → AreSettled old
     → AreSettled new
@@ -154,17 +164,22 @@ module _ (went : Bool) (joiners feeders : ℕ) (old new : List SeatView) (long :
             runs = ap (λ (seats : List SeatView). player (get_or seats n d)) (same e);
           })
 
+  -- whether each seat advanced in a bout or nothing changed, as it answers, the lists of each actor before are fronts
+  -- of those after
   pub extends_after : Extends before after
   extends_after = extends joiners feeders (cores_of old) (cores_of new) before after ran
 
+  -- so is the controller's journal
   pub journal_after : IsPrefix (journal_among joiners feeders (cores_of old))
       (journal_among joiners feeders (cores_of new))
   journal_after = journal_grows joiners feeders (cores_of old) (cores_of new) before after ran
 
+  -- the machines of all actors stand for the later lists, if they stood for the earlier
   pub stands_after : (input : Input) (setting : Setting) → AllStand input setting joiners feeders (cores_of old) before
       → AllStand input setting joiners feeders (cores_of new) after
   stands_after = stand_after joiners feeders (cores_of old) (cores_of new) before after ran
 
+  -- and what was sent goes over links of the run still
   pub linked_after : (input : Input) (setting : Setting) → AllStand input setting joiners feeders (cores_of old) before
       → AreLinked setting before → AreLinked setting after
   linked_after input setting stands =

@@ -110,9 +110,11 @@ alike_player s t alike = λ i. record { core = alike.core i; lists = alike.lists
 
 -- ---- events ahead of others
 
+-- a seat that didn't change made no events
 pub steps_none : (s t : SeatView) → t ≡ s → Steps s t
 steps_none s t same = record { count = 0; runs = ap player same; ends = ends_self s t same; same = λ z. same }
 
+-- some events, or none and nothing changed, one stretch after the other, are so together
 pub steps_joined : (s t u : SeatView) → Steps s t → Steps t u → Steps s u
 steps_joined s t u first then =
     let both = runs_joined first.count then.count (player s) (player t) (player u) first.runs then.runs in
@@ -123,6 +125,7 @@ steps_joined s t u first then =
       same = λ z. then.same (omega (arith, z, both.1)) ∙ first.same (omega (arith, z, both.1));
     }
 
+-- and so is a turn after them
 pub steps_more : (s t u : SeatView) → Steps s t → MakesTurn t u → Steps s u
 steps_more s t u first turn = record {
   count = suc first.count;
@@ -131,6 +134,7 @@ steps_more s t u first turn = record {
   same = λ z. absurd (omega (arith, z));
 }
 
+-- where a seat made some events, or none and nothing changed, and then advanced, it has advanced
 pub advances_after : (s t u : SeatView) → Steps s t → Advances t u → Advances s u
 advances_after s t u first then =
     let both = runs_joined first.count then.count (player s) (player t) (player u) first.runs then.runs in
@@ -169,5 +173,6 @@ works_rested n s t u runs ends none same rests =
       });
     }
 
+-- a seat that is spent, with the frame that it had, has had its turns of a bout
 pub works_spent : (s t : SeatView) → frame_of t ≡ frame_of s → t.spent ≡ true → Works s t
 works_spent s t frame is = record { frame = frame; advances = inl is }

@@ -50,15 +50,19 @@ begun input setting v stands empty =
 -- the seats of one run, before a bout and after it, are of as many actors
 module _ (input : Input) (setting : Setting) (old new : SeatsView) (stands : StandsFor input setting old)
     (stands' : StandsFor input setting new) where
+  -- the seats of a run, before a bout and after it, are of as many joiners
   pub same_joiners : new.joiners ≡ old.joiners
   same_joiners = stands'.joiners_are ∙ sym stands.joiners_are
 
+  -- and of as many feeders
   pub same_feeders : new.feeders ≡ old.feeders
   same_feeders = stands'.feeders_are ∙ sym stands.feeders_are
 
+  -- there is a seat for each feeder, each joiner, the controller and the collector
   pub many : length old.seats ≡ old.feeders + old.joiners + 2
   many = sym (length-map old.seats (λ (s : SeatView). s.core)) ∙ stands.all
 
+  -- the seats after a bout are as many as before it
   pub same_long : length new.seats ≡ length old.seats
   same_long =
       let one = many in
@@ -110,6 +114,8 @@ module _ (input : Input) (setting : Setting) (old new : SeatsView) (bouts bouts'
       counted_more input setting joiners feeders (cores_in old) (cores_in new) (lists_in old) after stands ran a place
       is one (subst AreFronts (sym same) fronts) bouts bouts' few counted
 
+  -- where a bout of a run under way had some seat ready and each seat made events unless it rested, the run is under
+  -- way with one bout more
   pub one_bout_more : IsUnderWay input setting old bouts → IsUnderWay input setting new bouts'
   one_bout_more before =
       let same = same_lists_in input setting old new before.stands (keeps before.stands) in
@@ -137,6 +143,7 @@ pub left_linked : (input : Input) (setting : Setting) (v : SeatsView) (bouts : �
 left_linked input setting v bouts way lists same =
     subst (AgreesOnLinks setting) (sym (fun_ext same)) (record { fronts = way.fronts; linked = way.counted.linked })
 
+-- what a bout answers where it succeeds
 abbrev pub answer : Bool → Result Bool AllocError
 answer went = Ok went
 
@@ -150,6 +157,7 @@ goes_on false done ends open_yet = absurd (true≢false (sym (ends refl) ∙ ope
 -- once the lists are a finished family
 module _ (few : EventsAreFew) (input : Input) (setting : Setting) (valid : IsValid input setting) (v : SeatsView)
     (bouts : ℕ) (counted : IsCounted setting (lists_in v) bouts) where
+  -- once the lists are a finished family, there were no more bouts than that run's journal allows events
   pub few_bouts : (journal : List TurnLine) (lists : Actor → ActorLists) → ((a : Actor) → lists a ≡ lists_in v a)
       → IsFinishedFamily input setting journal lists → bouts ≤ most_events input setting (last_epoch journal)
   few_bouts journal lists same family =

@@ -24,6 +24,7 @@ pub record HasWritten (taken : List Pair) (old new : Option (List ℕ)) : Type 0
   pub same : SameBag pairs taken
   pub written : new ≡ append_known old (pair_lines pairs)
 
+-- where no pairs were taken and nothing changed, the lines of the pairs taken were written
 pub nothing_written : (taken : List Pair) (old new : Option (List ℕ)) → taken ≡ [] → new ≡ old
     → HasWritten taken old new
 nothing_written taken old new none is = record {
@@ -47,6 +48,8 @@ module _ (taken since taken' fresh : List Pair) (moved : IsPermutation since fre
   with_fresh : SameBag (before.pairs ++ fresh) taken'
   with_fresh = SameBag-trans (SameBag-append before.same (SameBag-sym (SameBag-permutation since fresh moved))) all
 
+  -- where the lines of the pairs that came then were written after those of the earlier ones, the lines of all taken
+  -- were written
   pub written_more : (new : Option (List ℕ)) → new ≡ append_known middle (pair_lines fresh) → HasWritten taken' old new
   written_more new is = record {
     pairs = before.pairs ++ fresh;
@@ -56,6 +59,8 @@ module _ (taken since taken' fresh : List Pair) (moved : IsPermutation since fre
         ∙ ap (append_known old) (lines_joined before.pairs fresh)));
   }
 
+  -- where of them only a front was, and what was taken is within the nested loop, what was written is a front of the
+  -- lines of pairs of it
   pub cut_written : (input : Input) (new : Option (List ℕ)) → IsWithinBag taken' (nested_loop input)
       → AppendsFront middle new (pair_lines fresh) → WroteSome input old new
   cut_written input new within front =
@@ -73,6 +78,7 @@ module _ (taken since taken' fresh : List Pair) (moved : IsPermutation since fre
         );
       }
 
+-- the lines of pairs taken within the nested loop are such a front, the whole of their lines
 pub some_written : (input : Input) (taken : List Pair) (old new : Option (List ℕ))
     → IsWithinBag taken (nested_loop input) → HasWritten taken old new → WroteSome input old new
 some_written input taken old new within has = record {
@@ -85,6 +91,7 @@ some_written input taken old new within has = record {
   );
 }
 
+-- where the pairs taken are those of the nested loop in some order, the lines of each of its pairs were written, whole
 pub each_written : (input : Input) (taken pairs : List Pair) (old new : Option (List ℕ))
     → SameBag taken (nested_loop input) → pairs ≡ nested_loop input → HasWritten taken old new → WroteEach pairs old new
 each_written input taken pairs old new all are has = record {
@@ -99,6 +106,7 @@ each_written input taken pairs old new all are has = record {
 long : (xs : List Pair) → length (pair_lines xs) ≡ sum_by (λ pair. length (pair_line pair)) xs
 long xs = length-flat_map pair_line xs
 
+-- lists that are the same as bags have lines that are as long together
 pub same_long : (xs ys : List Pair) → SameBag xs ys → length (pair_lines xs) ≡ length (pair_lines ys)
 same_long xs ys same = long xs ∙ (same.sums (λ pair. length (pair_line pair)) ∙ sym (long ys))
 
@@ -117,6 +125,8 @@ module _ (taken since taken' fresh : List Pair) (moved : IsPermutation since fre
       let four = same_long since fresh (SameBag-permutation since fresh moved) in
       omega (arith, one, two, three, four)
 
+  -- what has room for the lines of all pairs taken and more has room for those of before, then for the fresh ones, and
+  -- for the same more
   pub room_behind : (more : ℕ) → room (length (pair_lines taken') + more)
       → room (length (pair_lines taken) + (length (pair_lines fresh) + more))
   room_behind more =
@@ -125,6 +135,8 @@ module _ (taken since taken' fresh : List Pair) (moved : IsPermutation since fre
       omega (arith, whole) in
       subst room is
 
+  -- what has room for the lines of a list that has all pairs taken, and more, has room for those of before, those of
+  -- the fresh ones, those of the rest of that list, and the same more
   pub room_within : (ends : List Pair) (more : ℕ) → IsWithinBag taken' ends → room (length (pair_lines ends) + more)
       → room (length (pair_lines taken) + (length (pair_lines fresh)
       + (length (pair_lines ends) - length (pair_lines taken') + more)))
