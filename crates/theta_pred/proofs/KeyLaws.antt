@@ -21,11 +21,11 @@ some-injective x y is = ap (λ o. unwrap_or o x) is
 
 -- ---- sums of columns
 
-plus_nil : (o : Option ℤ) → plus (Some (pos 0)) o ≡ o
+pub plus_nil : (o : Option ℤ) → plus (Some (pos 0)) o ≡ o
 plus_nil None = refl
 plus_nil (Some x) = ap Some (omega (arith, ints))
 
-plus_more : (o p q : Option ℤ) → plus (plus o p) q ≡ plus o (plus p q)
+pub plus_more : (o p q : Option ℤ) → plus (plus o p) q ≡ plus o (plus p q)
 plus_more None p q = refl
 plus_more (Some x) None q = refl
 plus_more (Some x) (Some y) None = refl

@@ -170,7 +170,8 @@ band-true r s sum op bound kind is =
     difference_true r s sum [] (Some (neg_ℤ (reach op bound) -ℤ c)) (Some (reach op bound -ℤ c)) x (pos 0) one.1 refl
     (λ gap apart. band_bounds op x bound gap c small (alone_apart x gap c apart))
 
-atom-true : (kind : Kind) (f : Formula) (atom : Atom) (r s : List Cell) → is_of_kind kind f ≡ true
+-- a member's atom is true where the member is
+pub atom-true : (kind : Kind) (f : Formula) (atom : Atom) (r s : List Cell) → is_of_kind kind f ≡ true
     → is_true r s f ≡ true → atom_in f ≡ Some atom
     → is_atom_true atom r s ≡ true
 atom-true kind (any fs) atom r s test holds is = absurd (none-some atom is)

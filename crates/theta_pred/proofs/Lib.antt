@@ -6,6 +6,8 @@ pub mod KeyPlaces
 pub mod KeySums
 pub mod Left
 pub mod NumericPlaces
+pub mod SpanLaws
 pub mod SumSteps
+pub mod SumTests
 pub mod TextEqualities
 pub mod Wrong

@@ -1,21 +1,29 @@
--- The access of a predicate: the equalities of its conjunctions by which rows of the two sides agree.
+-- The access of a predicate: the equalities of its conjunctions by which rows of the two sides agree, and the range of
+-- a sum beside them.
 use Rattle.std.specs.Prelude.{Bool, true, false, List, [], ◌∷◌, ◌++◌, map, ℤ, ◌-ℤ◌, neg_ℤ, Option, Some, None}
-use Rattle.std.specs.Prelude.{option_map, option_to_list, IsTrue, if◌then◌else◌}
+use Rattle.std.specs.Prelude.{option_map, option_to_list, not, ◌&&◌, ◌||◌, IsTrue, if◌then◌else◌}
 use Rattle.std.specs.List.{list_all}
 use Rattle.std.specs.Str.{bytes_eq}
 use Rattle.theta_text.specs.declared.tree.Op.TheVariants.{Eq}
 use Rattle.join_rows.specs.declared.table.Cell.{Cell}
+use Rattle.join_rows.specs.declared.table.Side.{Side}
 use Rattle.join_rows.specs.declared.table.Side.TheVariants.{R, S}
 use Rattle.theta_pred.specs.declared.agree.Access.{Access}
+use Rattle.theta_pred.specs.declared.agree.Range.{Range}
+use Rattle.theta_pred.specs.declared.agree.Range.TheVariants.{Span, Interval}
 use Rattle.theta_pred.specs.declared.agree.Same.{Same}
 use Rattle.theta_pred.specs.declared.agree.Same.TheVariants.{Texts, Sums}
 use Rattle.theta_pred.specs.declared.atom.Part.{Part}
+use Rattle.theta_pred.specs.declared.kind.Kind.{Kind}
+use Rattle.theta_pred.specs.declared.kind.Kind.TheVariants.{Band, Inequality}
 use Rattle.theta_pred.specs.declared.text_atom.TextAtom.{TextAtom}
 use Rattle.theta_pred.specs.declared.tree.SignedTerm.{SignedTerm}
 use Rattle.theta_pred.specs.declared.tree.Text.TheVariants as texts'
-use Rattle.theta_pred.specs.Formula.{Formula, every, num, band, txt, Formulas, no_formula, formula, Meaning}
-use Rattle.theta_pred.specs.Keys.{columns_of, conjuncts, constant_of, is_between, key_member, splits}
+use Rattle.theta_pred.specs.Formula.{Formula, every, num, txt, Formulas, no_formula, formula, Meaning}
+use Rattle.theta_pred.specs.Keys.{Atom, atom_in, atom_of, columns_of, constant_of, is_atom_true, is_between, is_of_kind}
+use Rattle.theta_pred.specs.Keys.{key_of, splits}
 use Rattle.theta_pred.specs.Linear.{value_of}
+use Rattle.theta_pred.specs.Spans.{do_enclose, first_met, is_one_sided, same_test, upright}
 use Rattle.theta_pred.specs.TextAtoms.{of_columns, text_at}
 use Rattle.theta_pred.specs.Truth.{holds}
 
@@ -38,9 +46,46 @@ abbrev pub agrees : List Cell → List Cell → Agreement → Bool
 agrees r s (texts atom) = bytes_eq (text_at atom.r r) (text_at atom.s s)
 agrees r s (sums a b gap) = is_between (Some gap) (Some gap) (value_of a r) (value_of b s)
 
+-- ---- a range, and the terms of an access
+
+-- where sums lie: so far from a sum of the other side, or a sum of this side between two sums of the other
+pub data Reach : Type 0 where
+  span : Atom → Reach
+  interval : Side → Atom → Atom → Reach
+
+-- what a range that was made says
+abbrev pub reach_of : Range → Reach
+reach_of (Span atom) = span (atom_of atom)
+reach_of (Interval it) = interval it.points (atom_of it.lower) (atom_of it.upper)
+
+-- whether the sums of a row of R and one of S lie so
+abbrev pub is_reached : Reach → List Cell → List Cell → Bool
+is_reached (span atom) r s = is_atom_true atom r s
+is_reached (interval points lower upper) r s = is_atom_true lower r s && is_atom_true upper r s
+
+-- the same, where there is a range; a range that is absent is no bound
+abbrev pub is_in_range : Option Reach → List Cell → List Cell → Bool
+is_in_range None r s = true
+is_in_range (Some reach) r s = is_reached reach r s
+
+-- what an access says: the equalities, and the range beside them
+pub record Terms : Type 0 where
+  pub sames : List Agreement
+  pub range : Option Reach
+
+-- the terms of an access that was made
+abbrev pub terms_of : Access → Terms
+terms_of access = record { sames = agreements access; range = option_map reach_of access.range }
+
 -- whether a row of R and one of S agree in each of these
-abbrev pub do_agree : List Agreement → List Cell → List Cell → Bool
-do_agree all r s = list_all (agrees r s) all
+abbrev pub agree_in_all : List Agreement → List Cell → List Cell → Bool
+agree_in_all all r s = list_all (agrees r s) all
+
+-- whether they agree in all of an access
+abbrev pub do_agree : Terms → List Cell → List Cell → Bool
+do_agree terms r s = agree_in_all terms.sames r s && is_in_range terms.range r s
+
+-- ---- the equalities of a predicate
 
 -- what an equality of two sums says: of each side the parts that name its columns, and the gap between the constants
 abbrev pub of_sums : List SignedTerm → List SignedTerm → Agreement
@@ -64,25 +109,85 @@ abbrev mutual
   agreements_in no_formula = []
   agreements_in (formula f fs) = agreements_of f ++ agreements_in fs
 
--- a list, where it isn't empty
-abbrev pub some_of : List Agreement → Option (List Agreement)
-some_of [] = None
-some_of (a ∷ rest) = Some (a ∷ rest)
+-- ---- the range of a predicate
 
--- whether a member, where it is there, is a band
-abbrev pub is_band : Option Formula → Bool
-is_band (Some (band sum op bound)) = true
-is_band _ = false
+-- what a member says of two sums, where it is a test of this kind; written so that R's sum doesn't begin with a minus
+abbrev pub span_in : Kind → Formula → Option Atom
+span_in kind f = if is_of_kind kind f then option_map (upright R) (atom_in f) else None
 
--- whether a predicate's key atom is that of a band
-abbrev pub has_band_key : Formula → Bool
-has_band_key f = is_band (key_member (conjuncts f))
+abbrev mutual
+  -- the tests of this kind in a predicate's conjunctions, in the order of writing
+  pub spans_of : Kind → Formula → List Atom
+  spans_of kind (every fs) = spans_in kind fs
+  spans_of kind f = option_to_list (span_in kind f)
 
--- the access of a predicate, where it has one: all its agreements, but none where the key atom is that of a band, since
--- rows that agree in few distinct values are many, and a band's rows are few
-abbrev pub access_of : Formula → Option (List Agreement)
-access_of f = if has_band_key f then None else some_of (agreements_of f)
+  -- those of a conjunction's members, one member after another
+  pub spans_in : Kind → Formulas → List Atom
+  spans_in kind no_formula = []
+  spans_in kind (formula f fs) = spans_of kind f ++ spans_in kind fs
+
+-- all that can give a range: the bands, and then the inequalities
+abbrev pub spans : Formula → List Atom
+spans f = spans_of Band f ++ spans_of Inequality f
+
+-- the first of two ranges that is there
+abbrev pub first_reach : Option Reach → Option Reach → Option Reach
+first_reach (Some reach) other = Some reach
+first_reach None other = other
+
+-- the interval of this side's sum that two tests make, in either order
+abbrev pub interval_of_two : Side → Atom → Atom → Option Reach
+interval_of_two points a b =
+    if do_enclose points a b then Some (interval points a b)
+    else (if do_enclose points b a then Some (interval points b a) else None)
+
+-- the first interval of this side's sum that a test makes with one of these
+abbrev pub first_interval : Side → Atom → List Atom → Option Reach
+first_interval points atom [] = None
+first_interval points atom (other ∷ others) =
+    first_reach (interval_of_two points atom (upright points other)) (first_interval points atom others)
+
+-- the first interval of R's sum that a test makes with one of these; where there is none, the first of S's
+abbrev pub interval_among : Atom → List Atom → Option Reach
+interval_among atom others =
+    first_reach (first_interval R (upright R atom) others) (first_interval S (upright S atom) others)
+
+-- a range, or the span of this test where there is none
+abbrev pub reach_or_span : Option Reach → Atom → Reach
+reach_or_span (Some reach) atom = reach
+reach_or_span None atom = span atom
+
+-- the range of a test beside these: the span, but an interval where the test has one bound only, and there is one
+abbrev pub range_with : Atom → List Atom → Reach
+range_with atom others = if is_one_sided atom then reach_or_span (interval_among atom others) atom else span atom
+
+-- the range of some tests: that of the first, which is met with all that are of the same sums
+abbrev pub range_of : List Atom → Option Reach
+range_of atoms = option_map (λ atom. range_with atom atoms) (first_met atoms)
+
+-- ---- the access
+
+-- the equalities and the range of a predicate
+abbrev pub all_terms : Formula → Terms
+all_terms f = record { sames = agreements_of f; range = range_of (spans f) }
+
+-- whether there is an equality
+abbrev pub has_same : List Agreement → Bool
+has_same [] = false
+has_same (a ∷ rest) = true
+
+-- whether a range says more than this key atom
+abbrev pub tells_more : Option Atom → Option Reach → Bool
+tells_more key None = false
+tells_more (Some key) (Some (span atom)) = not (same_test (upright R key) atom)
+tells_more key (Some reach) = true
+
+-- the access of a predicate, where it has one: all its equalities and its range. None where it has no equality, and the
+-- range is none or only the key atom: the index of the key atom serves then.
+abbrev pub access_of : Formula → Option Terms
+access_of f = if has_same (agreements_of f) || tells_more (key_of f) (range_of (spans f)) then Some (all_terms f)
+    else None
 
 -- rows agree in all of an access where the predicate is true of them
-abbrev pub IsAccessOf : Meaning → List Agreement → Type 0
-IsAccessOf theta all = (r s : List Cell) → IsTrue (holds theta r s) → IsTrue (do_agree all r s)
+abbrev pub IsAccessOf : Meaning → Terms → Type 0
+IsAccessOf theta terms = (r s : List Cell) → IsTrue (holds theta r s) → IsTrue (do_agree terms r s)

@@ -32,6 +32,11 @@ pub record Atom : Type 0 where
 abbrev pub atom_of : KeyAtom → Atom
 atom_of key = record { r_sum = key.r_sum.parts; s_sum = key.s_sum.parts; low = key.low; high = key.high }
 
+-- the parts of an atom's sum of this side
+abbrev pub parts_on : Side → Atom → List Part
+parts_on R atom = atom.r_sum
+parts_on S atom = atom.s_sum
+
 -- a number lies at a lower bound or above; a bound that is absent is no bound
 abbrev pub is_from : Option ℤ → ℤ → Bool
 is_from None gap = true

@@ -6,6 +6,7 @@ pub mod Linear
 pub mod Names
 pub mod Numeric
 pub mod Resolved
+pub mod Spans
 pub mod Standing
 pub mod Sizes
 pub mod Sound

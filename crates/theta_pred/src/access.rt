@@ -1,23 +1,32 @@
-// The equalities of a tree's conjunctions by which rows of the two sides agree.
+// The equalities of a tree's conjunctions by which rows of the two sides agree, and the range beside them.
 
-ghost use Rattle.std.specs.Prelude.{◌≡◌, ◌≤◌, ◌++◌, length, map, option_map, List, IfOk, OnOk, Some};
+ghost use Rattle.std.specs.Prelude.{◌≡◌, ◌≤◌, ◌++◌, ◌||◌, length, map, option_map, option_to_list, IfOk, OnOk, Some};
 ghost use Rattle.theta_pred.specs.Accesses.{
   access_of,
   agreement_of,
-  agreements,
   agreements_of,
-  has_band_key,
+  all_terms,
+  has_same,
   of_sums,
-  some_of,
-  Agreement,
+  span_in,
+  spans,
+  spans_of,
+  tells_more,
+  terms_of,
   IsAccessOf,
+  Terms,
 };
 ghost use Rattle.theta_pred.specs.Formula.{formula_of};
+ghost use Rattle.theta_pred.specs.Keys.{atom_of, key_of};
 ghost use Rattle.theta_pred.specs.Sound.{IsSound};
 
 use crate::agree::{Access, Same, Sames, SumPair};
+use crate::atom::KeyAtom;
 use crate::bounds::constant_apart;
-use crate::key::{columns, do_split, key_member};
+use crate::key::{atom_in, columns, do_split, is_of_kind, key_of};
+use crate::kind::Kind;
+use crate::range::{range_of, tells_more};
+use crate::spans::upright;
 use crate::text_atom::of_columns;
 use crate::tree::{SignedTerm, Text, Tree};
 use join_rows::Side;
@@ -80,41 +89,112 @@ fn add_sames(
     }
 }
 
-// All agreements of a tree.
-fn all_of(alloc: Global, tree: &Tree, width_r: u64, width_s: u64) -> Result<Access, AllocError>
+// Appends what a tree says of two sums, where it is a test of this kind.
+fn add_span(
+    alloc: Global,
+    kind: Kind,
+    tree: &Tree,
+    width_r: u64,
+    width_s: u64,
+    spans: &mut Vec<KeyAtom>,
+) -> Result<(), AllocError>
     requires { IsSound width_r width_s (formula_of tree.now) }
-    ensures { IfOk result (λ access. agreements access ≡ agreements_of (formula_of tree.now)) }
+    ensures { OnOk result (map atom_of spans.new.items
+        ≡ map atom_of spans.old.items ++ option_to_list (span_in kind (formula_of tree.now))) }
+{
+    if is_of_kind(kind, tree) {
+        if let Some(span) = atom_in(alloc, tree, width_r, width_s)? {
+            spans.push(upright(alloc, Side::R, &span)?)?;
+        }
+    }
+    Ok(())
+}
+
+// Appends the tests of this kind in a tree's conjunctions.
+fn add_spans(
+    alloc: Global,
+    kind: Kind,
+    tree: &Tree,
+    width_r: u64,
+    width_s: u64,
+    spans: &mut Vec<KeyAtom>,
+) -> Result<(), AllocError>
+    requires { IsSound width_r width_s (formula_of tree.now) }
+    ensures { OnOk result (map atom_of spans.new.items
+        ≡ map atom_of spans.old.items ++ spans_of kind (formula_of tree.now)) }
+{
+    match tree {
+        Tree::And(all) => {
+            for member in all {
+                add_spans(alloc, kind, member, width_r, width_s, spans)?;
+            }
+            Ok(())
+        }
+        _ => add_span(alloc, kind, tree, width_r, width_s, spans),
+    }
+}
+
+// All equalities of a tree.
+fn sames_of(alloc: Global, tree: &Tree, width_r: u64, width_s: u64) -> Result<Sames, AllocError>
+    requires { IsSound width_r width_s (formula_of tree.now) }
+    ensures { IfOk result (λ sames. map agreement_of sames ≡ agreements_of (formula_of tree.now)) }
 {
     let mut sames = Vec::new(alloc);
     add_sames(alloc, tree, width_r, width_s, &mut sames)?;
-    Ok(Access {
-        sames: Sames::from_vec(sames),
-    })
+    Ok(Sames::from_vec(sames))
 }
 
-// The same, where there is one.
-fn any_of(
+// All tests that can give a range.
+fn spans_of(
     alloc: Global,
     tree: &Tree,
     width_r: u64,
     width_s: u64,
-) -> Result<Option<Access>, AllocError>
+) -> Result<Vec<KeyAtom>, AllocError>
     requires { IsSound width_r width_s (formula_of tree.now) }
-    ensures { IfOk result (λ access.
-        option_map agreements access ≡ some_of (agreements_of (formula_of tree.now))) }
+    ensures { IfOk result (λ all. map atom_of all.items ≡ spans (formula_of tree.now)) }
 {
-    let access = all_of(alloc, tree, width_r, width_s)?;
-    if access.sames.len() == 0 {
-        return Ok(None);
-    }
-    Ok(Some(access))
+    let mut all = Vec::new(alloc);
+    add_spans(alloc, Kind::Band, tree, width_r, width_s, &mut all)?;
+    add_spans(alloc, Kind::Inequality, tree, width_r, width_s, &mut all)?;
+    Ok(all)
 }
 
-// Whether the key atom is that of a band.
-fn has_band_key(tree: &Tree) -> bool
-    ensures { result ≡ has_band_key (formula_of tree.now) }
+// All that a tree says by equalities and a range.
+fn all_of(alloc: Global, tree: &Tree, width_r: u64, width_s: u64) -> Result<Access, AllocError>
+    requires { IsSound width_r width_s (formula_of tree.now) }
+    ensures { IfOk result (λ access. terms_of access ≡ all_terms (formula_of tree.now)) }
 {
-    matches!(key_member(tree), Some(Tree::Abs { .. }))
+    let sames = sames_of(alloc, tree, width_r, width_s)?;
+    let spans = spans_of(alloc, tree, width_r, width_s)?;
+    let range = range_of(alloc, spans.as_slice())?;
+    Ok(Access { sames, range })
+}
+
+// Whether there is an equality.
+fn has_same(sames: &[Same]) -> bool
+    ensures { result ≡ has_same (map agreement_of sames.now) }
+{
+    sames.len() != 0
+}
+
+// Whether an access says more than the key atom of its tree.
+fn tells_more_of(
+    alloc: Global,
+    tree: &Tree,
+    width_r: u64,
+    width_s: u64,
+    access: &Access,
+) -> Result<bool, AllocError>
+    requires { IsSound width_r width_s (formula_of tree.now) }
+    ensures { IfOk result (λ more. more ≡ (has_same (terms_of access.now).sames
+        || tells_more (key_of (formula_of tree.now)) (terms_of access.now).range)) }
+{
+    if has_same(access.sames.as_slice()) {
+        return Ok(true);
+    }
+    let key = key_of(alloc, tree, width_r, width_s)?;
+    tells_more(alloc, &key, &access.range)
 }
 
 // The access of a tree, where it has one.
@@ -126,17 +206,19 @@ pub(crate) fn access_of(
 ) -> Result<Option<Access>, AllocError>
     requires { IsSound width_r width_s (formula_of tree.now) }
     ensures { IfOk result (λ access.
-        option_map agreements access ≡ access_of (formula_of tree.now)) }
+        option_map terms_of access ≡ access_of (formula_of tree.now)) }
 {
-    if has_band_key(tree) {
-        return Ok(None);
+    let access = all_of(alloc, tree, width_r, width_s)?;
+    if tells_more_of(alloc, tree, width_r, width_s, &access)? {
+        Ok(Some(access))
+    } else {
+        Ok(None)
     }
-    any_of(alloc, tree, width_r, width_s)
 }
 
 // What a tree's access says of it. It has no code.
 pub(crate) fn access_law(tree: &Tree, width_r: u64, width_s: u64)
-    ensures { (all : List Agreement) → access_of (formula_of tree.now) ≡ Some all
+    ensures { (terms : Terms) → access_of (formula_of tree.now) ≡ Some terms
         → IsAccessOf
-        (record { formula = formula_of tree.now; width_r = width_r; width_s = width_s }) all }
+        (record { formula = formula_of tree.now; width_r = width_r; width_s = width_s }) terms }
 {}

@@ -1,11 +1,12 @@
 // What rows of the two sides agree in.
 
 ghost use Rattle.std.specs.Prelude.{◌≡◌, ◌^◌, IfOk};
+ghost use Rattle.theta_pred.specs.Keys.{atom_of, parts_on};
 ghost use Rattle.theta_pred.specs.Sizes.{IsAtMost};
 
-use crate::atom::Linear;
+use crate::atom::{KeyAtom, Linear};
 use crate::text_atom::TextAtom;
-use join_rows::Items;
+use join_rows::{Items, Side};
 use std::alloc::{AllocError, Global};
 
 /// A sum of R and a sum of S that agree where the first is so much above the second.
@@ -26,10 +27,28 @@ pub enum Same {
 
 pub type Sames = Items<Same>;
 
-/// All in which rows agree of which a predicate is true.
+/// The tests that a sum of one side, that of `points`, lies between two sums of the other: `lower`
+/// bounds it from below, `upper` from above.
+#[derive(Debug, Drop)]
+pub struct Interval {
+    pub points: Side,
+    pub lower: KeyAtom,
+    pub upper: KeyAtom,
+    pub ghost same: { parts_on points (atom_of lower) ≡ parts_on points (atom_of upper) },
+}
+
+/// Where the sums of one side lie: so far from one sum of the other, or between two.
+#[derive(Debug, Drop)]
+pub enum Range {
+    Span(KeyAtom),
+    Interval(Interval),
+}
+
+/// All in which rows agree of which a predicate is true, and the range in which their sums lie.
 #[derive(Debug, Drop)]
 pub struct Access {
     pub sames: Sames,
+    pub range: Option<Range>,
 }
 
 impl SumPair {
@@ -55,17 +74,58 @@ impl Same {
     }
 }
 
+impl Interval {
+    fn copy(&self, alloc: Global) -> Result<Interval, AllocError>
+        ensures { IfOk result (λ interval. interval ≡ self.now) }
+    {
+        Ok(Interval {
+            points: self.points,
+            lower: self.lower.copy(alloc)?,
+            upper: self.upper.copy(alloc)?,
+        })
+    }
+}
+
+impl Range {
+    fn copy(&self, alloc: Global) -> Result<Range, AllocError>
+        ensures { IfOk result (λ range. range ≡ self.now) }
+    {
+        Ok(match self {
+            Range::Span(atom) => Range::Span(atom.copy(alloc)?),
+            Range::Interval(interval) => Range::Interval(interval.copy(alloc)?),
+        })
+    }
+}
+
+// Equal agreements.
+fn copy_of(alloc: Global, sames: &[Same]) -> Result<Sames, AllocError>
+    ensures { IfOk result (λ copies. copies ≡ sames.now) }
+{
+    let mut copies = Vec::new(alloc);
+    for same in sames {
+        copies.push(same.copy(alloc)?)?;
+    }
+    Ok(Sames::from_vec(copies))
+}
+
+// An equal range, where there is one.
+fn range_copy(alloc: Global, range: &Option<Range>) -> Result<Option<Range>, AllocError>
+    ensures { IfOk result (λ copy. copy ≡ range.now) }
+{
+    Ok(match range {
+        Some(range) => Some(range.copy(alloc)?),
+        None => None,
+    })
+}
+
 impl Access {
     /// An equal access.
     pub fn copy(&self, alloc: Global) -> Result<Access, AllocError>
         ensures { IfOk result (λ access. access ≡ self.now) }
     {
-        let mut sames = Vec::new(alloc);
-        for same in self.sames.as_slice() {
-            sames.push(same.copy(alloc)?)?;
-        }
         Ok(Access {
-            sames: Sames::from_vec(sames),
+            sames: copy_of(alloc, self.sames.as_slice())?,
+            range: range_copy(alloc, &self.range)?,
         })
     }
 }

@@ -51,7 +51,7 @@ pub(crate) fn do_split(left: &[SignedTerm], right: &[SignedTerm]) -> bool
 }
 
 // Whether a member splits, and is of this kind.
-fn is_of_kind(kind: Kind, tree: &Tree) -> bool
+pub(crate) fn is_of_kind(kind: Kind, tree: &Tree) -> bool
     ensures { result ≡ is_of_kind kind (formula_of tree.now) }
 {
     match tree {
@@ -208,7 +208,7 @@ pub(crate) fn atom_in(
 }
 
 // The first equality; where there is none, the first band; where there is none, the first inequality.
-pub(crate) fn key_member(tree: &Tree) -> Option<&Tree>
+fn key_member(tree: &Tree) -> Option<&Tree>
     ensures { option_map (λ tree. formula_of tree.now) result
         ≡ key_member (conjuncts (formula_of tree.now)) }
 {
@@ -219,6 +219,22 @@ pub(crate) fn key_member(tree: &Tree) -> Option<&Tree>
         return Some(member);
     }
     first_of(Kind::Inequality, tree)
+}
+
+// The key atom of a tree, where it has one.
+pub(crate) fn key_of(
+    alloc: Global,
+    tree: &Tree,
+    width_r: u64,
+    width_s: u64,
+) -> Result<Option<KeyAtom>, AllocError>
+    requires { IsSound width_r width_s (formula_of tree.now) }
+    ensures { IfOk result (λ key. option_map atom_of key ≡ key_of (formula_of tree.now)) }
+{
+    match key_member(tree) {
+        Some(member) => atom_in(alloc, member, width_r, width_s),
+        None => Ok(None),
+    }
 }
 
 // What a tree's key atom says of it. It has no code.

@@ -1,7 +1,7 @@
 // A predicate over the places of columns.
 
-ghost use Rattle.std.specs.Prelude.{◌≡◌, IfOk, option_map, List, Some};
-ghost use Rattle.theta_pred.specs.Accesses.{access_of, agreements, Agreement, IsAccessOf};
+ghost use Rattle.std.specs.Prelude.{◌≡◌, IfOk, option_map, Some};
+ghost use Rattle.theta_pred.specs.Accesses.{access_of, terms_of, IsAccessOf, Terms};
 ghost use Rattle.theta_pred.specs.Formula.{formula_of};
 ghost use Rattle.theta_pred.specs.Keys.{atom_of, key_of, Atom, IsKeyOf};
 ghost use Rattle.theta_pred.specs.Numeric.{AreNumeric};
@@ -12,7 +12,7 @@ use crate::access::{access_law, access_of};
 use crate::agree::Access;
 use crate::atom::KeyAtom;
 use crate::copies::copy_of;
-use crate::key::{atom_in, key_law, key_member};
+use crate::key::{key_law, key_of};
 use crate::numeric::numeric_places;
 use crate::tree::{Columns, Tree};
 use crate::truth::is_true;
@@ -115,10 +115,7 @@ impl Theta {
     pub fn key_atom(&self) -> Result<Option<KeyAtom>, AllocError>
         ensures { IfOk result (λ key. option_map atom_of key ≡ key_of self.now.formula) }
     {
-        match key_member(&self.tree) {
-            Some(member) => atom_in(self.alloc, member, self.width_r, self.width_s),
-            None => Ok(None),
-        }
+        key_of(self.alloc, &self.tree, self.width_r, self.width_s)
     }
 
     /// What the key atom says of the predicate. It has no code.
@@ -130,19 +127,22 @@ impl Theta {
 
     /// All equalities of the top conjunction, and of the conjunctions within it however deep, by which
     /// rows of the two sides agree: each of two sums that names a column of both sides, and each of
-    /// a text of R and one of S. None where there is none, and none where the key atom is that of a
-    /// band, whose own index serves better where the equalities have few distinct values.
+    /// a text of R and one of S. Beside them the range of a sum: the first band of these conjunctions
+    /// that names a column of both sides, or the first inequality where there is none, met with every
+    /// other that has the same two sums. Where that has one bound only, and another test bounds the
+    /// same sum of one side from the other side, the range is the interval between the two. None where
+    /// there is no equality and the range says no more than the key atom, whose index serves then.
     pub fn access(&self) -> Result<Option<Access>, AllocError>
         ensures { IfOk result (λ access.
-            option_map agreements access ≡ access_of self.now.formula) }
+            option_map terms_of access ≡ access_of self.now.formula) }
     {
         access_of(self.alloc, &self.tree, self.width_r, self.width_s)
     }
 
     /// What the access says of the predicate. It has no code.
     pub fn access_law(&self)
-        ensures { (all : List Agreement) → access_of self.now.formula ≡ Some all
-            → IsAccessOf self.now all }
+        ensures { (terms : Terms) → access_of self.now.formula ≡ Some terms
+            → IsAccessOf self.now terms }
     {
         access_law(&self.tree, self.width_r, self.width_s);
     }
