@@ -3,12 +3,13 @@
 ghost use Rattle.std.specs.Prelude.{◌≡◌, ◌≤◌, length, IfOk};
 ghost use Rattle.theta_text.specs.Sizes.{longest_sum};
 
-use join_rows::{Bytes, Cell, Cells, Names};
+use join_rows::{Bytes, Cell, Cells, Names, Side};
 use std::alloc::{AllocError, Global};
 use std::process::Abort;
 use std::test::Fail;
 use theta_pred::{
-    Access, KeyAtom, Linear, Part, Parts, Pred, Same, TextAtom, Theta, parse, resolve,
+    Access, Interval, KeyAtom, Linear, Part, Parts, Pred, Range, Same, TextAtom, Theta, parse,
+    resolve,
 };
 
 fn resolved(alloc: Global, pred: &Pred, names: &Names) -> Result<Theta, AllocError>
@@ -177,6 +178,32 @@ fn write_same(text: &mut String, same: &Same) -> Result<(), AllocError> {
     }
 }
 
+// The side of the sum that lies between two, and the tests that bound it from below and from above.
+fn write_interval(text: &mut String, interval: &Interval) -> Result<(), AllocError> {
+    let side = match interval.points {
+        Side::R => 'r',
+        Side::S => 's',
+    };
+    write!(text, "({side}: ")?;
+    write_atom(text, &interval.lower)?;
+    write!(text, "; ")?;
+    write_atom(text, &interval.upper)?;
+    write!(text, ")")
+}
+
+// The range of an access, if it has one.
+fn write_range(text: &mut String, range: &Option<Range>) -> Result<(), AllocError> {
+    match range {
+        Some(Range::Span(atom)) => {
+            write!(text, "(")?;
+            write_atom(text, atom)?;
+            write!(text, ")")
+        }
+        Some(Range::Interval(interval)) => write_interval(text, interval),
+        None => Ok(()),
+    }
+}
+
 fn told_access(alloc: Global, access: &Option<Access>) -> Result<String, AllocError> {
     let mut text = String::new(alloc);
     match access {
@@ -184,6 +211,7 @@ fn told_access(alloc: Global, access: &Option<Access>) -> Result<String, AllocEr
             for same in access.sames.as_slice() {
                 write_same(&mut text, same)?;
             }
+            write_range(&mut text, &access.range)?;
         }
         None => write!(text, "none")?,
     }
@@ -223,12 +251,60 @@ fn predicates_with_their_accesses(rt: HostRuntime) -> Result<(), Fail> {
         "r.x + 5 = s.a | [+0 +1 -5]",
         "s.a - r.x = 3 | [-0 -1 3]",
         "r.x + r.a = s.x - s.a + s.a | [+0+1 +0-1+1 0]",
-        "r.x < s.x and text(r.a) = text(s.x) and r.x = s.a | [1 0][+0 +1 0]",
         "1 = 1 and (text(r.x) = text(s.a) and (r.a = s.x and 2 = 2)) | [0 1][+1 +0 0]",
         "(text(r.x) = text(s.a) or 1 = 1) and r.x = s.x | [+0 +0 0]",
         "abs(r.a - r.x) <= 2 and text(r.x) = text(s.x) | [0 0]",
         "abs(r.a - s.a) > 2 and text(r.x) = text(s.x) | [0 0]",
-        "abs(r.a - s.a) <= 2 and text(r.x) = text(s.x) and r.x = s.x | [0 0][+0 +0 0]",
+    ];
+    tells_accesses(&rt, rt.alloc(), &lines)?;
+    Ok(())
+}
+
+#[test]
+fn equalities_with_a_range_beside_them(rt: HostRuntime) -> Result<(), Fail> {
+    let lines = [
+        "r.x < s.x and text(r.a) = text(s.x) and r.x = s.a | [1 0][+0 +1 0](+0 +0 none -1)",
+        "abs(r.a - s.a) <= 2 and text(r.x) = text(s.x) and r.x = s.x | [0 0][+0 +0 0](+1 +1 -2 2)",
+        "abs(r.a - s.a) <= 2 and text(r.x) = text(s.x) | [0 0](+1 +1 -2 2)",
+        "text(r.x) = text(s.x) and r.x <= s.x and abs(r.a - s.a) < 1 | [0 0](+1 +1 0 0)",
+        "text(r.x) = text(s.x) and (1 = 1 and s.x <= r.x) | [0 0](+0 +0 0 none)",
+        "r.x = s.x and s.a - r.a < 3 and r.a - s.a < 3 | [+0 +0 0](+1 +1 -2 2)",
+    ];
+    tells_accesses(&rt, rt.alloc(), &lines)?;
+    Ok(())
+}
+
+#[test]
+fn tests_of_the_same_sums_are_met(rt: HostRuntime) -> Result<(), Fail> {
+    let lines = [
+        "r.x <= s.x and r.x >= s.x - 4 | (+0 +0 -4 0)",
+        "s.x - 4 <= r.x and s.x >= r.x | (+0 +0 -4 0)",
+        "abs(s.x - r.x) <= 5 and r.x < s.x and s.x < r.x + 9 | (+0 +0 -5 -1)",
+        "(r.x <= s.x and r.a <= s.a) and (r.x >= s.x - 4 or 1 = 1) and r.x > s.x - 2 | (+0 +0 -1 0)",
+        "r.x + r.a <= s.x and s.x - 2 <= r.x + r.a | (+0+1 +0 -2 0)",
+        "0 - r.x - r.a <= s.x - s.a and s.x - s.a <= 8 - r.x - r.a | (+0+1 -0+1 0 8)",
+        "r.a + r.x <= s.x and s.x - 2 <= r.x + r.a | (+0+1 +0 -2 0)",
+        "r.x - r.a <= s.x and s.x + r.a <= r.x + 7 | (+0-1 +0 -7 0)",
+        "s.x + s.a - r.a - r.x >= 0 and 9 + r.x >= s.a - r.a + s.x | (+0+1 +0+1 -9 0)",
+        "r.x < s.x and r.x > s.x | (+0 +0 1 -1)",
+        "abs(r.x - s.x) <= 2 and abs(r.a - s.a) <= 9 and abs(s.x - r.x - 1) <= 2 | (+0 +0 -2 1)",
+    ];
+    tells_accesses(&rt, rt.alloc(), &lines)?;
+    Ok(())
+}
+
+#[test]
+fn a_sum_between_two_sums_of_the_other_side(rt: HostRuntime) -> Result<(), Fail> {
+    let lines = [
+        "s.x <= r.x and r.x <= s.a | (r: +0 +0 0 none; +0 +1 none 0)",
+        "r.x <= s.a and s.x <= r.x | (r: +0 +0 0 none; +0 +1 none 0)",
+        "r.x <= s.x and s.x < r.a | (s: +0 +0 none 0; +1 +0 1 none)",
+        "s.x >= r.x and s.x <= r.a + 3 | (s: +0 +0 none 0; +1 +0 -3 none)",
+        "0 - r.x <= s.x and s.x <= r.a | (s: -0 +0 none 0; +1 +0 0 none)",
+        "s.x <= 0 - r.x and 0 - r.x <= s.a | (r: +0 -1 0 none; +0 -0 none 0)",
+        "text(r.x) = text(s.x) and s.x + 1 <= r.x + r.a and r.x + r.a < s.a \
+            | [0 0](r: +0+1 +0 1 none; +0+1 +1 none -1)",
+        "r.x <= s.x and r.a <= s.x and s.x <= r.a | (s: +0 +0 none 0; +1 +0 0 none)",
     ];
     tells_accesses(&rt, rt.alloc(), &lines)?;
     Ok(())
@@ -238,14 +314,18 @@ fn predicates_with_their_accesses(rt: HostRuntime) -> Result<(), Fail> {
 fn predicates_without_an_access(rt: HostRuntime) -> Result<(), Fail> {
     let lines = [
         "r.x <= s.x | none",
+        "s.x >= r.x | none",
+        "abs(r.a - s.a) <= 2 | none",
+        "r.x <= s.x and r.a <= s.a | none",
+        "abs(s.a - r.a) <= 2 and s.x <= r.x and r.x <= s.a | none",
+        "s.x <= r.x and s.a <= r.x | none",
+        "r.x <= s.x and r.x < s.x + 3 | none",
         "r.x != s.x | none",
         "r.x = 3 and r.x = r.a | none",
         "text(r.x) = text(r.a) and text(s.x) = 'u' | none",
         "text(r.x) < text(s.a) | none",
         "text(r.x) = text(s.a) or 1 = 1 | none",
         "not text(r.x) = text(s.a) | none",
-        "abs(r.a - s.a) <= 2 and text(r.x) = text(s.x) | none",
-        "text(r.x) = text(s.x) and r.x <= s.x and abs(r.a - s.a) < 1 | none",
     ];
     tells_accesses(&rt, rt.alloc(), &lines)?;
     Ok(())
