@@ -7,12 +7,12 @@ use Rattle.join_rows.specs.declared.table.Side.{Side}
 use Rattle.join_rows.specs.declared.table.Side.TheVariants.{R, S}
 use Rattle.theta_pred.specs.declared.kind.Kind.{Kind}
 use Rattle.theta_pred.specs.declared.kind.Kind.TheVariants.{Band, Inequality}
-use Rattle.theta_pred.specs.Accesses.{first_interval, first_reach, interval, interval_among, interval_of_two}
-use Rattle.theta_pred.specs.Accesses.{is_in_range, is_reached, range_of, range_with, reach_or_span, span, span_in}
-use Rattle.theta_pred.specs.Accesses.{spans, spans_in, spans_of, Reach}
+use Rattle.theta_pred.specs.Accesses.{first_interval, first_narrow, first_reach, interval, interval_among}
+use Rattle.theta_pred.specs.Accesses.{interval_of_two, is_in_range, narrow_of, range_of, span, span_in, spans}
+use Rattle.theta_pred.specs.Accesses.{spans_in, spans_of, Reach}
 use Rattle.theta_pred.specs.Formula.{Formula, any, every, negation, num, band, txt, Formulas, no_formula, formula}
 use Rattle.theta_pred.specs.Keys.{Atom, atom_in, is_atom_true, is_of_kind}
-use Rattle.theta_pred.specs.Spans.{do_enclose, is_one_sided, met_with, upright}
+use Rattle.theta_pred.specs.Spans.{do_enclose, first_met, is_one_sided, met_with, upright}
 use Rattle.theta_pred.specs.Truth.{is_true, each_is_true}
 use Rattle.theta_pred.proofs.KeyMembers.{and_left, and_right, atom-true}
 use Rattle.theta_pred.proofs.SumTests.{are_true, both, met_with-true, upright-true}
@@ -96,25 +96,33 @@ among_in r s atom others one all =
     (interval_in r s R (upright R atom) others (upright-true R atom r s one) all)
     (interval_in r s S (upright S atom) others (upright-true S atom r s one) all)
 
-or_span_in : (r s : List Cell) (o : Option Reach) (atom : Atom) → is_atom_true atom r s ≡ true
-    → is_in_range o r s ≡ true → is_reached (reach_or_span o atom) r s ≡ true
-or_span_in r s None atom one all = one
-or_span_in r s (Some reach) atom one all = all
-
-with_in : (r s : List Cell) (atom : Atom) (others : List Atom) → is_atom_true atom r s ≡ true
-    → are_true r s others ≡ true → is_reached (range_with atom others) r s ≡ true
-with_in r s atom others one all = by_test (is_one_sided atom)
+narrow_in : (r s : List Cell) (atom : Atom) (others : List Atom) → is_atom_true atom r s ≡ true
+    → are_true r s others ≡ true → is_in_range (narrow_of atom others) r s ≡ true
+narrow_in r s atom others one all = by_test (is_one_sided atom)
   where
-    by_test : (t : Bool)
-        → is_reached (cond t (reach_or_span (interval_among atom others) atom) (span atom)) r s ≡ true
-    by_test true = or_span_in r s (interval_among atom others) atom one (among_in r s atom others one all)
+    by_test : (t : Bool) → is_in_range (cond t (interval_among atom others) (Some (span atom))) r s ≡ true
+    by_test true = among_in r s atom others one all
     by_test false = one
+
+first_narrow_in : (r s : List Cell) (all atoms : List Atom) → are_true r s all ≡ true → are_true r s atoms ≡ true
+    → is_in_range (first_narrow all atoms) r s ≡ true
+first_narrow_in r s all [] each some = refl
+first_narrow_in r s all (atom ∷ rest) each some =
+    first_in r s (narrow_of (met_with atom all) all) (first_narrow all rest)
+    (narrow_in r s (met_with atom all) all
+    (met_with-true r s atom all (and_left (is_atom_true atom r s) (are_true r s rest) some) each) each)
+    (first_narrow_in r s all rest each (and_right (is_atom_true atom r s) (are_true r s rest) some))
+
+first_met_in : (r s : List Cell) (atoms : List Atom) → are_true r s atoms ≡ true
+    → is_in_range (option_map span (first_met atoms)) r s ≡ true
+first_met_in r s [] all = refl
+first_met_in r s (atom ∷ rest) all =
+    met_with-true r s atom (atom ∷ rest) (and_left (is_atom_true atom r s) (are_true r s rest) all) all
 
 -- rows of which all tests are true lie in their range
 pub range_of-law : (r s : List Cell) (atoms : List Atom) → are_true r s atoms ≡ true
     → is_in_range (range_of atoms) r s ≡ true
-range_of-law r s [] all = refl
-range_of-law r s (atom ∷ rest) all =
-    with_in r s (met_with atom (atom ∷ rest)) (atom ∷ rest)
-    (met_with-true r s atom (atom ∷ rest) (and_left (is_atom_true atom r s) (are_true r s rest) all) all)
-    all
+range_of-law r s atoms all =
+    first_in r s (first_narrow atoms atoms) (option_map span (first_met atoms))
+        (first_narrow_in r s atoms atoms all all)
+    (first_met_in r s atoms all)

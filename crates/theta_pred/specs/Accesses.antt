@@ -23,7 +23,7 @@ use Rattle.theta_pred.specs.Formula.{Formula, every, num, txt, Formulas, no_form
 use Rattle.theta_pred.specs.Keys.{Atom, atom_in, atom_of, columns_of, constant_of, is_atom_true, is_between, is_of_kind}
 use Rattle.theta_pred.specs.Keys.{key_of, splits}
 use Rattle.theta_pred.specs.Linear.{value_of}
-use Rattle.theta_pred.specs.Spans.{do_enclose, first_met, is_one_sided, same_test, upright}
+use Rattle.theta_pred.specs.Spans.{do_enclose, first_met, is_one_sided, met_with, same_test, upright}
 use Rattle.theta_pred.specs.TextAtoms.{of_columns, text_at}
 use Rattle.theta_pred.specs.Truth.{holds}
 
@@ -152,18 +152,18 @@ abbrev pub interval_among : Atom → List Atom → Option Reach
 interval_among atom others =
     first_reach (first_interval R (upright R atom) others) (first_interval S (upright S atom) others)
 
--- a range, or the span of this test where there is none
-abbrev pub reach_or_span : Option Reach → Atom → Reach
-reach_or_span (Some reach) atom = reach
-reach_or_span None atom = span atom
+-- what a test says that has two bounds, or makes an interval with one of these
+abbrev pub narrow_of : Atom → List Atom → Option Reach
+narrow_of atom others = if is_one_sided atom then interval_among atom others else Some (span atom)
 
--- the range of a test beside these: the span, but an interval where the test has one bound only, and there is one
-abbrev pub range_with : Atom → List Atom → Reach
-range_with atom others = if is_one_sided atom then reach_or_span (interval_among atom others) atom else span atom
+-- the first of some tests that does, each met with all these that are of the same sums
+abbrev pub first_narrow : List Atom → List Atom → Option Reach
+first_narrow all [] = None
+first_narrow all (atom ∷ rest) = first_reach (narrow_of (met_with atom all) all) (first_narrow all rest)
 
--- the range of some tests: that of the first, which is met with all that are of the same sums
+-- the range of some tests: the first that is bounded on both sides; where there is none, the span of the first test
 abbrev pub range_of : List Atom → Option Reach
-range_of atoms = option_map (λ atom. range_with atom atoms) (first_met atoms)
+range_of atoms = first_reach (first_narrow atoms atoms) (option_map span (first_met atoms))
 
 -- ---- the access
 

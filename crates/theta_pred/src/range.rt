@@ -3,20 +3,22 @@
 ghost use Rattle.std.specs.Prelude.{◌≡◌, map, not, option_map, true, IfOk};
 ghost use Rattle.theta_pred.specs.Accesses.{
   first_interval,
+  first_narrow,
   interval,
   interval_among,
   interval_of_two,
+  narrow_of,
   range_of,
-  range_with,
   reach_of,
+  span,
   tells_more,
 };
 ghost use Rattle.theta_pred.specs.Keys.{atom_of, parts_on};
-ghost use Rattle.theta_pred.specs.Spans.{bound_above, bound_below, do_enclose, is_one_sided, upright};
+ghost use Rattle.theta_pred.specs.Spans.{bound_above, bound_below, do_enclose, first_met, is_one_sided, upright};
 
 use crate::agree::{Interval, Range};
 use crate::atom::KeyAtom;
-use crate::spans::{first_met, parts_on, same_parts, same_test, upright};
+use crate::spans::{first_met, met_with, parts_on, same_parts, same_test, upright};
 use join_rows::Side;
 use std::alloc::{AllocError, Global};
 
@@ -145,26 +147,55 @@ fn interval_among(
     interval_on(alloc, Side::S, atom, others)
 }
 
-// The range of a test beside these.
-fn range_with(alloc: Global, atom: KeyAtom, others: &[KeyAtom]) -> Result<Range, AllocError>
-    ensures { IfOk result (λ range. reach_of range ≡ range_with (atom_of atom) (map atom_of others.now)) }
+// What a test says that has two bounds, or makes an interval with one of these.
+fn narrow_of(alloc: Global, atom: KeyAtom, others: &[KeyAtom]) -> Result<Option<Range>, AllocError>
+    ensures { IfOk result (λ range. option_map reach_of range
+        ≡ narrow_of (atom_of atom) (map atom_of others.now)) }
 {
     if is_one_sided(&atom) {
-        if let Some(range) = interval_among(alloc, &atom, others)? {
-            return Ok(range);
+        interval_among(alloc, &atom, others)
+    } else {
+        Ok(Some(Range::Span(atom)))
+    }
+}
+
+// The first of these tests that does, each met with all.
+fn first_narrow(
+    alloc: Global,
+    all: &[KeyAtom],
+    atoms: &[KeyAtom],
+) -> Result<Option<Range>, AllocError>
+    ensures { IfOk result (λ range. option_map reach_of range
+        ≡ first_narrow (map atom_of all.now) (map atom_of atoms.now)) }
+{
+    for atom in atoms {
+        let met = met_with(atom.copy(alloc)?, all);
+        if let Some(range) = narrow_of(alloc, met, all)? {
+            return Ok(Some(range));
         }
     }
-    Ok(Range::Span(atom))
+    Ok(None)
+}
+
+// The span of the first of some tests.
+fn first_span(alloc: Global, spans: &[KeyAtom]) -> Result<Option<Range>, AllocError>
+    ensures { IfOk result (λ range. option_map reach_of range
+        ≡ option_map span (first_met (map atom_of spans.now))) }
+{
+    match first_met(alloc, spans)? {
+        Some(atom) => Ok(Some(Range::Span(atom))),
+        None => Ok(None),
+    }
 }
 
 // The range of some tests, where there is one.
 pub(crate) fn range_of(alloc: Global, spans: &[KeyAtom]) -> Result<Option<Range>, AllocError>
     ensures { IfOk result (λ range. option_map reach_of range ≡ range_of (map atom_of spans.now)) }
 {
-    match first_met(alloc, spans)? {
-        Some(atom) => Ok(Some(range_with(alloc, atom, spans)?)),
-        None => Ok(None),
+    if let Some(range) = first_narrow(alloc, spans, spans)? {
+        return Ok(Some(range));
     }
+    first_span(alloc, spans)
 }
 
 // Whether a range says more than this key atom.
