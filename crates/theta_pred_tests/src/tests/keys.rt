@@ -311,6 +311,19 @@ fn a_sum_between_two_sums_of_the_other_side(rt: HostRuntime) -> Result<(), Fail>
 }
 
 #[test]
+fn a_range_with_two_bounds_goes_before_one_with_one(rt: HostRuntime) -> Result<(), Fail> {
+    let lines = [
+        "r.a <= s.a and s.x <= r.x and r.x <= s.x + 4 | (+0 +0 0 4)",
+        "r.a <= s.a and s.x <= r.x and r.x < s.a | (r: +0 +0 0 none; +0 +1 none -1)",
+        "text(r.x) = text(s.x) and r.a > s.x and s.a >= r.x and s.a < r.a \
+            | [0 0](s: +0 +1 none 0; +1 +1 1 none)",
+        "r.a <= s.a and s.x <= r.x and r.x > s.a | (s: +1 +1 none 0; +0 +1 1 none)",
+    ];
+    tells_accesses(&rt, rt.alloc(), &lines)?;
+    Ok(())
+}
+
+#[test]
 fn predicates_without_an_access(rt: HostRuntime) -> Result<(), Fail> {
     let lines = [
         "r.x <= s.x | none",
