@@ -1,7 +1,7 @@
 -- New seats with the rings of all links are wired, settled, and have empty lists.
 use Rattle.std.proofs.Common.{◌≡◌, ℕ, ◌+◌, ◌<◌, ◌^◌, ◌↔◌, inl, inr, refl, sym, ap, subst, ◌∙◌, Bool, true≢false, Option}
 use Rattle.std.proofs.Common.{Some, None, List, [], ◌∷◌, ◌++◌, get_or, map, length, arith}
-use Rattle.std.specs.Prelude.{IsSome, slice_get}
+use Rattle.std.specs.Prelude.{IsSome, slice_get, slice_index}
 use Rattle.std.proofs.Math.Pow.{pow-lt}
 use Rattle.std.proofs.Math.Seq.{get_or-append_seam}
 use Rattle.std.proofs.lemmas.Bool.{cases_lt}
@@ -9,6 +9,7 @@ use Rattle.std.proofs.lemmas.Nat.{xor_lt}
 use Rattle.std.proofs.lemmas.List.{get_or-map, get_or_append_left, length-append, length-map}
 use Rattle.std.proofs.lemmas.Option.{slice_get-get_or}
 use Rattle.epoch_tags.specs.declared.actor.Actor.{Actor}
+use Rattle.epoch_tags.specs.declared.actor.Actor.TheVariants.{Collector}
 use Rattle.epoch_tags.specs.Links.{HasLink, feeder_joiner, joiner_joiner, controller_feeder, feeder_controller}
 use Rattle.epoch_tags.specs.Links.{joiner_controller, joiner_collector}
 use Rattle.ring_links.specs.Rings.{Receiving}
@@ -16,7 +17,7 @@ use Rattle.ring_links.specs.Outlets.{OutletView, contents}
 use Rattle.trace_law.specs.declared.input.Input.{Input}
 use Rattle.trace_law.specs.declared.setting.Setting.{Setting}
 use Rattle.actor_core.specs.Lists.{no_lists}
-use Rattle.actor_core.specs.Standing.{Stands, IsLive}
+use Rattle.actor_core.specs.Standing.{Stands, IsLive, given_by}
 use Rattle.actor_core.specs.Families.{IsActor, start_for}
 use Rattle.actor_core.specs.Numbers.{actor_at, at_number, number}
 use Rattle.actor_core.specs.Players.{lists_among, lists_at}
@@ -27,7 +28,8 @@ use Rattle.ring_runtime.specs.Seats.{RingSeatView, Frame, frame_of, in_address, 
 use Rattle.ring_runtime.specs.Seats.{received_from, sent_at, sent_to}
 use Rattle.ring_runtime.specs.Wiring.{AreNewSeats, AreWiredBelow, IsNewBetween, IsNewSeat, in_of, out_of}
 use Rattle.ring_runtime.specs.Joins.{AreSettled, AreWired, IsHeldAt, IsPlaced, Meet}
-use Rattle.ring_runtime.specs.Bouts.{RingSeatsView, StandsFor, lists_in, outlet_at, outlet_of, seat_of}
+use Rattle.ring_runtime.specs.Bouts.{RingSeatsView, StandsFor, given_at, given_in, lists_in, outlet_at, outlet_of}
+use Rattle.ring_runtime.specs.Bouts.{seat_of}
 use Rattle.ring_runtime.proofs.RingLists.{slot_at}
 
 -- ---- between two actors
@@ -282,6 +284,18 @@ module _ (input : Input) (setting : Setting) (joiners : ℕ) (first seats : List
                 (number_actor (2 ^ setting.k) feeders a num.0 num.1) one.stands)),
           );
     }
+
+    -- its collector gave no pair
+    pub start_given : (j : ℕ) → j < 2 ^ setting.k → slice_index (given_in v) j ≡ 0
+    start_given j below =
+        let place = feeders + joiners + 1 in
+        let low : place < count = omega arith in
+        let low' = low_number Collector place refl in
+        let d = (there seats place low').0 in
+        ap (λ given. slice_index given j)
+        (ap given_at (core_there (λ (s : RingSeatView). s.core) joiners feeders seats Collector place d refl low')
+        ∙ ap (λ (s : RingSeatView). given_by s.core) (still place d low))
+        ∙ (new.new place d low).given j below
 
     -- ---- one actor has an outlet to another exactly where there is a link
 

@@ -10,3 +10,7 @@ mod AlikeSeats
 mod RingLists
 mod RingBouts
 mod Built
+mod Ended
+mod BoutsFit
+mod OrdersSent
+mod UnderWay

@@ -1,9 +1,11 @@
 -- What a bout does to the seats of a run.
-use Rattle.std.proofs.Common.{◌≡◌, ℕ, zero, suc, ◌+◌, ◌<◌, ◌⊎◌, inl, inr, refl, sym, ap, subst, ◌∙◌, Bool, true, false}
-use Rattle.std.proofs.Common.{true≢false, Option, Some, None, List, [], ◌∷◌, get_or, map, length, sum_by, arith}
+use Rattle.std.proofs.Common.{◌≡◌, ℕ, zero, suc, ◌+◌, ◌<◌, ◌≤◌, ◌⊎◌, inl, inr, refl, sym, ap, subst, ◌∙◌, Bool, true}
+use Rattle.std.proofs.Common.{false, true≢false, Option, Some, None, List, [], ◌∷◌, get_or, map, length, sum_by}
+use Rattle.std.proofs.Common.{arith}
 use Rattle.std.proofs.lemmas.Bool.{cases_lt}
 use Rattle.std.proofs.lemmas.List.{get_or_default}
 use Rattle.std.proofs.lemmas.List.Sums.{sum_by-cons}
+use mathlib.Core.Path.{fun_ext}
 use Rattle.join_rows.specs.Lists.{IsPrefix}
 use Rattle.ring_links.specs.Rings.{Receiving}
 use Rattle.ring_links.specs.Outlets.{OutletView}
@@ -16,7 +18,7 @@ use Rattle.actor_core.proofs.Beginnings.{there}
 use Rattle.actor_core.proofs.EventsCounted.{still_linked}
 use Rattle.actor_core.proofs.OwnNumbers.{number_there}
 use Rattle.actor_core.proofs.Runs.{runs_live}
-use Rattle.actor_core.proofs.Seated.{AllRelate, HasRun, all_relate, extends, journal_grows, stand_after}
+use Rattle.actor_core.proofs.Seated.{AllRelate, HasRun, all_relate, extends, journal_grows, of_lists, stand_after}
 use Rattle.ring_runtime.specs.Seats.{RingSeatView, AllStuck, IsStuckAt, frame_of, known_at, lists_of, player_of}
 use Rattle.ring_runtime.specs.Seats.{received_at, sent_at, waiting_at, waiting_in}
 use Rattle.ring_runtime.specs.Turns.{Advances, Rests, Works}
@@ -79,7 +81,8 @@ cores_of seats = map (λ s. s.core) seats
 module _ (went : Bool) (joiners feeders : ℕ) (old new : List RingSeatView) (long : length new ≡ length old)
     (all : length old ≡ feeders + joiners + 2) (advance : went ≡ true → AllAdvance old new)
     (same : went ≡ false → new ≡ old) where
-  ran : AllRelate HasRun joiners feeders (cores_of old) (cores_of new)
+  -- each actor has made some events or none
+  pub ran : AllRelate HasRun joiners feeders (cores_of old) (cores_of new)
       (lists_among lists_of joiners feeders old) (lists_among lists_of joiners feeders new)
   ran = go went refl
     where
@@ -153,6 +156,13 @@ record MadeNone (s t : RingSeatView) : Type 0 where
   rests : Rests s.core s.ins
   moves : MovesOn s t
 
+-- so many seats have the players that they had
+abbrev pub StaySame : List RingSeatView → List RingSeatView → ℕ → Type 0
+StaySame old new k = (n : ℕ) (d : RingSeatView) → n < k → player_of (get_or new n d) ≡ player_of (get_or old n d)
+
+abbrev IsSame : Player → Player → Type 0
+IsSame one other = other ≡ one
+
 -- a message that waits in a held ring whose end is stuck has others before it
 stuck_known : (out : Option OutletView) (inn : Option Receiving) → IsHeldAt out inn → IsStuckAt out
     → 0 < waiting_at out → 0 < known_at inn
@@ -186,6 +196,43 @@ module _ (joiners feeders : ℕ) (old new : List RingSeatView) (long : length ne
             (subst (λ s. Runs (suc n) (player_of (get_or old m d)) (player_of s))
             (get_or_default new m d d' (subst (λ z. m < z) (sym long) low)) runs);
       })
+
+  same_at : (m : ℕ) (d d' : RingSeatView) → m < length old
+      → player_of (get_or new m d) ≡ player_of (get_or old m d)
+      → player_of (get_or new m d') ≡ player_of (get_or old m d')
+  same_at m d d' low same =
+      sym (ap player_of (get_or_default new m d d' (subst (λ z. m < z) (sym long) low)))
+      ∙ (same ∙ ap player_of (get_or_default old m d d' low))
+
+  -- some seat made an event, or the players of so many seats are as they were
+  pub some_or_same : (k : ℕ) → k ≤ length old → SomeEvent old new ⊎ StaySame old new k
+  some_or_same zero low = inr (λ n d none. absurd (omega (arith, none)))
+  some_or_same (suc k) low =
+      let low' : k < length old = omega (arith, low) in
+      let d = (there old k low').0 in
+      elim (some_or_same k (omega (arith, low))) [
+        | inl event ↦ inl event
+        | inr same ↦ elim (made k d low') [
+          | inl event ↦ inl event
+          | inr none ↦ inr (λ n d' below. elim (cases_lt n k) [
+            | inl under ↦ same n d' under
+            | inr over ↦
+                let last : n ≡ k = omega (arith, over, below) in
+                subst (λ z. player_of (get_or new z d') ≡ player_of (get_or old z d')) (sym last)
+                (same_at k d d' low' none.same)
+          ])
+        ]
+      ]
+
+  -- and where no player changed, no list did
+  pub lists_same : length old ≡ feeders + joiners + 2 → StaySame old new (length old)
+      → lists_among lists_of joiners feeders new ≡ lists_among lists_of joiners feeders old
+  lists_same all same =
+      fun_ext
+      (of_lists IsSame joiners feeders (cores_of old) (cores_of new) (lists_among lists_of joiners feeders old)
+      (lists_among lists_of joiners feeders new)
+      (all_relate (λ (s : RingSeatView). s.core) lists_of IsSame joiners feeders old new long all same)
+      (λ ls ls'. ls' ≡ ls) (λ ls ls' e. e) (λ s t e. ap (λ (p : Player). p.lists) e))
 
   -- where a seat was ready, an event was made
   pub event_made : SomeSeat IsReady old → SomeEvent old new

@@ -1,14 +1,16 @@
 -- All seats of a run over rings, their lists, and what a bout does.
-use Rattle.std.specs.Prelude.{◌≡◌, ◌<◌, ◌⊎◌, ℕ, suc, Bool, false, Option, Some, None, List, length, map, slice_get}
+use Rattle.std.specs.Prelude.{◌≡◌, ◌<◌, ◌⊎◌, ℕ, suc, Bool, false, Option, Some, None, List, [], length, map, slice_get}
 use Rattle.std.specs.Prelude.{slice_index_or}
 use Rattle.epoch_tags.specs.declared.actor.Actor.{Actor}
+use Rattle.epoch_tags.specs.declared.actor.Actor.TheVariants.{Collector}
 use Rattle.load_controller.specs.declared.line.TurnLine.{TurnLine}
 use Rattle.ring_links.specs.Rings.{Receiving}
 use Rattle.ring_links.specs.Outlets.{OutletView}
 use Rattle.trace_law.specs.declared.input.Input.{Input}
 use Rattle.trace_law.specs.declared.setting.Setting.{Setting}
 use Rattle.actor_core.specs.Lists.{ActorLists}
-use Rattle.actor_core.specs.Standing.{Waits, IsLive}
+use Rattle.actor_core.specs.Standing.{Waits, IsLive, given_by}
+use Rattle.actor_core.specs.Families.{core_in}
 use Rattle.actor_core.specs.Numbers.{number, at_number}
 use Rattle.actor_core.specs.Players.{AllReceived, AllStand, Runs, is_complete_among, journal_among, lists_among}
 use Rattle.actor_core.specs.declared.machines.Core.{Core}
@@ -52,6 +54,15 @@ journal_in v = journal_among v.joiners v.feeders (cores_in v)
 -- the collector of these seats is complete
 abbrev pub is_collected : RingSeatsView → Bool
 is_collected v = is_complete_among v.joiners v.feeders (cores_in v)
+
+-- how many pairs of each joiner a machine gave, where there is one
+abbrev pub given_at : Option Core → List ℕ
+given_at None = []
+given_at (Some core) = given_by core
+
+-- how many pairs of each joiner the collector of these seats gave
+abbrev pub given_in : RingSeatsView → List ℕ
+given_in v = given_at (core_in v.joiners v.feeders (cores_in v) Collector)
 
 -- there is a seat for each actor; its machine began as this input and setting say, and stands for the lists of the seat
 abbrev pub StandsFor : Input → Setting → RingSeatsView → Type 0

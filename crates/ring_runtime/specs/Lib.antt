@@ -3,3 +3,5 @@ pub mod Turns
 pub mod Wiring
 pub mod Joins
 pub mod Bouts
+pub mod Endings
+pub mod Runs

@@ -8,7 +8,7 @@ use Rattle.ring_links.specs.Outlets.{OutletView}
 use Rattle.trace_law.specs.declared.input.Input.{Input}
 use Rattle.trace_law.specs.declared.setting.Setting.{Setting}
 use Rattle.actor_core.specs.Lists.{no_lists}
-use Rattle.actor_core.specs.Standing.{Stands, IsLive}
+use Rattle.actor_core.specs.Standing.{Stands, HasGivenNone, IsLive}
 use Rattle.actor_core.specs.Families.{start_for}
 use Rattle.actor_core.specs.Numbers.{actor_at}
 use Rattle.ring_runtime.specs.Seats.{RingSeatView}
@@ -106,6 +106,7 @@ pub record IsNewSeat (input : Input) (setting : Setting) (n : ℕ) (seat : RingS
   pub outs : length seat.outs ≡ setting.feeders + 2 ^ setting.k + 2
   pub stands : Stands (start_for input setting (actor_at (2 ^ setting.k) setting.feeders n)) no_lists seat.core
   pub live : IsLive seat.core
+  pub given : HasGivenNone (2 ^ setting.k) seat.core
 
 -- so many seats
 pub record AreNewSeats (input : Input) (setting : Setting) (count : ℕ) (seats : List RingSeatView) : Type 0 where

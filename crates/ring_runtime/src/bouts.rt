@@ -77,6 +77,7 @@ fn bout_of<R: Threads + Sync, G: Gate + Sync>(
 /// The seats of all actors of a run, joined by rings.
 #[derive(Drop)]
 pub struct RingSeats<'a> {
+    pub(crate) alloc: Global,
     pub(crate) joiners: u32,
     pub(crate) feeders: u32,
     // By the numbers of actors.

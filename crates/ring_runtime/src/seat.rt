@@ -6,13 +6,15 @@ ghost use Rattle.std.specs.Prelude.{◌≡◌, ◌<◌, Ok, Some, true, false, O
 ghost use Rattle.actor_core.specs.Lists.{Took};
 ghost use Rattle.actor_core.specs.Numbers as numbers;
 ghost use Rattle.actor_core.specs.Standing.{IsLive, Waits};
-ghost use Rattle.actor_core.specs.Players.{MakesEvent};
+ghost use Rattle.actor_core.specs.Players.{MakesEvent, is_complete_core};
 ghost use Rattle.ring_runtime.specs.declared.seat.RingStep.TheVariants.{Took as Took', Moved as Moved', Idle as Idle'};
 ghost use Rattle.ring_runtime.specs.Seats.{AllStuck, NoneKnown, frame_of, in_address, player_of};
 ghost use Rattle.ring_runtime.specs.Bouts.{IsAtRest, IsBusy};
 ghost use Rattle.ring_runtime.specs.Joins.{AreEndsOf, HoldsIn};
+ghost use Rattle.ring_runtime.specs.Endings.{end_of};
 ghost use Rattle.ring_runtime.specs.Turns.{IsIdle, Moves, Opens, Receives};
 
+use crate::ends::RingEnd;
 use crate::inlets::Inlets;
 use crate::outlets::Outlets;
 use actor_core::{Core, number};
@@ -202,6 +204,48 @@ impl<'a> RingSeat<'a> {
         ensures { result ≡ self.now.spent }
     {
         self.spent
+    }
+
+    // Whether it is a collector that is complete.
+    pub(crate) fn is_complete(&self) -> bool
+        ensures { result ≡ is_complete_core self.now.core }
+    {
+        match &self.core {
+            Core::Collector(collector) => collector.complete(),
+            _ => false,
+        }
+    }
+
+    // How many batches its feeder hasn't sent, if it is one.
+    pub(crate) fn batches_left(&self) -> u64 {
+        match &self.core {
+            Core::Feeder(feeder) => feeder.batches_left(),
+            _ => 0,
+        }
+    }
+
+    // Its machine, and what else it leaves.
+    pub(crate) fn into_parts(self) -> (Core<'a>, RingEnd)
+        ensures core { result.0 ≡ self.entry.core }
+        ensures end { result.1 ≡ end_of self.entry }
+    {
+        let RingSeat {
+            joiners,
+            feeders,
+            core,
+            ins,
+            outs,
+            ..
+        } = self;
+        (
+            core,
+            RingEnd {
+                joiners,
+                feeders,
+                ins,
+                outs,
+            },
+        )
     }
 
     // One event, if there is one to make: its posts wait behind the others.

@@ -1,12 +1,12 @@
 // The seats of a run at its beginning.
 
-ghost use Rattle.std.specs.Prelude.{◌≡◌, ◌<◌, ◌+◌, ◌^◌, ◌↔◌, false, IsSome, IfOk};
+ghost use Rattle.std.specs.Prelude.{◌≡◌, ◌<◌, ◌+◌, ◌^◌, ◌↔◌, ℕ, false, IsSome, IfOk, slice_index};
 ghost use Rattle.epoch_tags.specs.declared.actor.Actor.{Actor as Actor'};
 ghost use Rattle.epoch_tags.specs.Links.{HasLink};
 ghost use Rattle.trace_law.specs.Validity.{IsValidInput, IsValidSetting};
 ghost use Rattle.actor_core.specs.Lists.{no_lists};
 ghost use Rattle.ring_runtime.specs.Wiring.{AreNewSeats, IsNewSeat};
-ghost use Rattle.ring_runtime.specs.Bouts.{StandsFor, lists_in, outlet_of};
+ghost use Rattle.ring_runtime.specs.Bouts.{StandsFor, given_in, lists_in, outlet_of};
 
 use crate::bouts::RingSeats;
 use crate::inlets::Inlets;
@@ -71,6 +71,8 @@ impl<'a> RingSeats<'a> {
         ensures empty { IfOk result (λ seats. (a : Actor') → lists_in seats a ≡ no_lists) }
         ensures links { IfOk result (λ seats. (from to : Actor') → (IsSome (outlet_of seats from to)
             ↔ HasLink setting.now.k setting.now.feeders from to)) }
+        ensures given { IfOk result (λ seats. (j : ℕ) → j < 2 ^ setting.now.k
+            → slice_index (given_in seats) j ≡ 0) }
         ensures at_work { IfOk result (λ seats. seats.spent ≡ false) }
     {
         let joiners = joiners_of(setting);
@@ -78,6 +80,7 @@ impl<'a> RingSeats<'a> {
         let mut seats = new_seats(alloc, input, setting, feeders + joiners + 2)?;
         wire_all(alloc, &mut seats, joiners, feeders)?;
         Ok(RingSeats {
+            alloc,
             joiners,
             feeders,
             seats,

@@ -1,3 +1,5 @@
+mod runs;
+
 use grid_map::Weights;
 use join_rows::{Bytes, Cell, Cells, Names, Rows, Table};
 use ring_runtime::{RingSeats, ring_bout};
@@ -19,12 +21,12 @@ fn row(alloc: Global, number: i64) -> Result<Cells, AllocError> {
 }
 
 // A table with one column.
-fn table(alloc: Global, name: &[u8], numbers: [i64; 3]) -> Result<Table, AllocError> {
+fn table(alloc: Global, name: &[u8], numbers: &[i64]) -> Result<Table, AllocError> {
     let mut names = Names::new(alloc);
     names.push(Bytes::from_slice(alloc, name)?)?;
     let mut rows = Rows::new(alloc);
     for number in numbers {
-        rows.push(row(alloc, number)?)?;
+        rows.push(row(alloc, *number)?)?;
     }
     Ok(Table { names, rows })
 }
@@ -42,8 +44,8 @@ fn equality(alloc: Global, table_r: &Table, table_s: &Table) -> Result<Theta, Al
 fn three_rows_a_side(alloc: Global) -> Result<Input, AllocError> {
     let tickets_r = Bytes::from_slice(alloc, &[161, 123, 186])?;
     let tickets_s = Bytes::from_slice(alloc, &[161, 123, 186])?;
-    let table_r = table(alloc, b"x", [10, 20, 30])?;
-    let table_s = table(alloc, b"y", [20, 30, 20])?;
+    let table_r = table(alloc, b"x", &[10, 20, 30])?;
+    let table_s = table(alloc, b"y", &[20, 30, 20])?;
     let theta = equality(alloc, &table_r, &table_s)?;
     Ok(Input {
         table_r,
@@ -54,11 +56,11 @@ fn three_rows_a_side(alloc: Global) -> Result<Input, AllocError> {
     })
 }
 
-// Four joiners and two feeders.
-fn setting(workers: u32) -> Setting {
+// 2^k joiners.
+fn setting(k: u32, feeders: u32, workers: u32) -> Setting {
     Setting {
-        k: 2,
-        feeders: 2,
+        k,
+        feeders,
         workers,
         batch: 1,
         feed: Feed::Alternate,
@@ -100,7 +102,7 @@ fn bouts_of_three_rows<R: Threads + Sync>(
     workers: u32,
 ) -> Result<(u32, bool), AllocError> {
     let input = three_rows_a_side(alloc)?;
-    let mut seats = seats(alloc, &input, &setting(workers))?;
+    let mut seats = seats(alloc, &input, &setting(2, 2, workers))?;
     let count = bouts(rt, &mut seats, workers)?;
     let more = ring_bout(rt, &mut seats, workers.max(1), &NoGate)?;
     Ok((count, more))

@@ -1,5 +1,5 @@
 use Rattle.std.proofs.Common.{false}
-use Rattle.ring_runtime.proofs.Built.{start_empty, start_linked, start_settled, start_stands, start_wired}
+use Rattle.ring_runtime.proofs.Built.{start_empty, start_given, start_linked, start_settled, start_stands, start_wired}
 use Rattle.ring_runtime.proofs.bouts.RingSeats.start.Goals as goal
 
 pub invariant_of-result : goal.invariant_of-result
@@ -30,5 +30,11 @@ returns-clause-empty c =
 pub returns-clause-links : goal.returns-clause-links
 returns-clause-links c =
     start_linked c.args.input.now c.args.setting.now c.joiners_of-joiners.result c.in_ok-seats.seats.items
+    c.wire_all.new.seats.items c.joiners_of-joiners.ensures.value c.in_ok-seats.ensures c.in_ok-wire_all.ensures
+    false
+
+pub returns-clause-given : goal.returns-clause-given
+returns-clause-given c =
+    start_given c.args.input.now c.args.setting.now c.joiners_of-joiners.result c.in_ok-seats.seats.items
     c.wire_all.new.seats.items c.joiners_of-joiners.ensures.value c.in_ok-seats.ensures c.in_ok-wire_all.ensures
     false

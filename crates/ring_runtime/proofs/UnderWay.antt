@@ -1,0 +1,295 @@
+-- A run over rings between two bouts: two bouts have made an event at least, so bouts are few.
+use Rattle.std.proofs.Common.{◌≡◌, ℕ, ◌+◌, ◌-◌, ◌*◌, ◌^◌, ◌<◌, ◌≤◌, ◌⊎◌, inl, inr, refl, sym, ap, subst, ◌∙◌}
+use Rattle.std.proofs.Common.{Bool, true, false, true≢false, Some, List, [], get_or, length, Result, Ok}
+use Rattle.std.proofs.Common.{Err, arith}
+use Rattle.std.specs.Prelude.{IfOk}
+use Rattle.std.specs.declared.alloc.AllocError.{AllocError}
+use Rattle.std.proofs.Math.Nat.{mul_assoc}
+use Rattle.std.proofs.lemmas.Bool.{lt-ltb}
+use Rattle.std.proofs.lemmas.List.{length-map}
+use mathlib.Core.Path.{fun_ext}
+use Rattle.join_rows.specs.Lists.{IsPrefix}
+use Rattle.join_rows.specs.declared.table.Side.TheVariants.{R, S}
+use Rattle.epoch_tags.specs.Messages.{grants}
+use Rattle.epoch_tags.specs.declared.actor.Actor.{Actor}
+use Rattle.epoch_tags.specs.declared.actor.Actor.TheVariants.{Feeder}
+use Rattle.reshuffler_core.specs.Law.{FeederStart}
+use Rattle.load_controller.specs.Journal.{last_epoch}
+use Rattle.load_controller.specs.declared.line.TurnLine.{TurnLine}
+use Rattle.trace_law.specs.declared.input.Input.{Input}
+use Rattle.trace_law.specs.declared.setting.Setting.{Setting}
+use Rattle.trace_law.specs.Family.{IsAgreeing, feeder_start, first_rest}
+use Rattle.trace_law.specs.Join.{row_count}
+use Rattle.trace_law.specs.Laws.{EventsAreFew, KeepsALawfulJournal, LawfulIsBounded}
+use Rattle.trace_law.specs.Validity.{IsValid, IsValidInput, IsValidSetting}
+use Rattle.actor_core.specs.Counts.{most_events}
+use Rattle.actor_core.specs.Families.{AreFronts, family_of, start_for}
+use Rattle.actor_core.specs.Lists.{ActorLists, no_lists}
+use Rattle.actor_core.specs.Numbers.{actor_at, number}
+use Rattle.actor_core.specs.Players.{AgreesOnLinks, IsFinishedFamily, lists_among}
+use Rattle.actor_core.specs.Standing.{OfFeeder, Stands, Waits}
+use Rattle.actor_core.specs.declared.machines.Core.{Core}
+use Rattle.actor_core.specs.declared.machines.Core.TheVariants.{Feeder as TheFeeder, Joiner as TheJoiner}
+use Rattle.actor_core.specs.declared.machines.Core.TheVariants.{Controller as TheController, Collector as TheCollector}
+use Rattle.actor_core.proofs.Beginnings.{there}
+use Rattle.actor_core.proofs.CompleteAnswer.{agrees as agreeing}
+use Rattle.actor_core.proofs.EventLimit.{under}
+use Rattle.actor_core.proofs.EventsCounted.{HasMadeSome, IsCounted, counted_more, few_events, none_counted}
+use Rattle.actor_core.proofs.OwnNumbers.{number_there, some_is}
+use Rattle.actor_core.proofs.Seated.{core_there, relate}
+use Rattle.ring_runtime.specs.Seats.{RingSeatView, lists_of, player_of}
+use Rattle.ring_runtime.specs.Bouts.{AllAdvance, IsReady, RingSeatsView, SomeEvent, SomeSeat, StandsFor, cores_in}
+use Rattle.ring_runtime.specs.Bouts.{journal_in, lists_in}
+use Rattle.ring_runtime.specs.Runs.{most_bouts, orders_in}
+use Rattle.ring_runtime.proofs.BoutsFit.{bouts_fit}
+use Rattle.ring_runtime.proofs.OrdersSent.{orders_are}
+use Rattle.ring_runtime.proofs.RingBouts.{StaySame, lists_same, ran, some_or_same}
+
+-- ---- before the first bout
+
+-- a feeder that has sent nothing would begin
+first_begins : (p feeders : ℕ) (s : FeederStart) (core : Core) → Stands (OfFeeder p feeders s) no_lists core
+    → ¬ Waits core
+first_begins p feeders s (TheFeeder f) st (inl asked) =
+    let more : 0 ≡ grants st.taken + 1 = st.asked.0 asked in absurd (omega (arith, more))
+first_begins p feeders s (TheFeeder f) st (inr drained) =
+    let some : 0 < 0 = st.drained.0 drained in absurd (omega (arith, some))
+first_begins p feeders s (TheJoiner c) st waits = absurd st
+first_begins p feeders s (TheController c) st waits = absurd st
+first_begins p feeders s (TheCollector c) st waits = absurd st
+
+first_number : (joiners feeders : ℕ) → 0 < feeders → number joiners feeders (Feeder 0) ≡ Some 0
+first_number joiners feeders some = rw (lt-ltb 0 feeders some) refl
+
+module _ (input : Input) (setting : Setting) (some : 0 < setting.feeders) (v : RingSeatsView)
+    (stands : StandsFor input setting v) (empty : (a : Actor) → lists_in v a ≡ no_lists) where
+  -- so the first seat is ready
+  begins_ready : SomeSeat IsReady v.seats
+  begins_ready =
+      let own = stands.stands (Feeder 0) some in
+      let all = sym (length-map v.seats (λ (s : RingSeatView). s.core)) ∙ stands.all in
+      let low : 0 < length v.seats = omega (arith, all) in
+      let numbered =
+      first_number v.joiners v.feeders (subst (λ n. 0 < n) (sym stands.feeders_are) some) in
+      let st = subst (λ ls. Stands (start_for input setting (Feeder 0)) ls own.0) (empty (Feeder 0)) own.2 in
+      let free =
+      first_begins 0 setting.feeders (feeder_start input setting (first_rest setting) 0) own.0 st in
+      record {
+        place = 0;
+        there = low;
+        holds = λ d.
+            let here =
+            core_there (λ (s : RingSeatView). s.core) v.joiners v.feeders v.seats (Feeder 0) 0 d numbered low in
+            let same = some_is own.0 (get_or v.seats 0 d).core (sym own.1 ∙ here) in
+            inr (subst (λ core. ¬ Waits core) same free);
+      }
+
+fronts_none : (f : Actor → ActorLists) → ((a : Actor) → f a ≡ no_lists) → AreFronts f
+fronts_none f empty from to =
+    subst (λ ls. IsPrefix ls ((f from).sent to)) (sym (ap (λ (x : ActorLists). x.received from) (empty to)))
+    (subst (IsPrefix []) (sym (ap (λ (x : ActorLists). x.sent to) (empty from))) (record { rest = []; joins = refl }))
+
+-- ---- between two bouts
+
+-- these bouts are fewer than two for each of these events; or as many, and some seat is ready, so the next makes one
+abbrev IsPaced : List RingSeatView → ℕ → ℕ → Type 0
+IsPaced seats bouts events = (bouts + 1 ≤ 2 * events) ⊎ (SomeSeat IsReady seats × (bouts ≤ 2 * events))
+
+paced_few : (seats : List RingSeatView) (bouts events : ℕ) → IsPaced seats bouts events → bouts ≤ 2 * events
+paced_few seats bouts events (inl few) = omega (arith, few)
+paced_few seats bouts events (inr both) = both.1
+
+-- the seats stand for a run of this input and setting, and so many bouts were made
+pub record IsUnderWay (input : Input) (setting : Setting) (v : RingSeatsView) (bouts : ℕ) : Type 0 where
+  pub stands : StandsFor input setting v
+  pub fronts : AreFronts (lists_in v)
+  pub events : ℕ
+  pub counted : IsCounted setting (lists_in v) events
+  pub paced : IsPaced v.seats bouts events
+
+pub begun : (input : Input) (setting : Setting) (v : RingSeatsView) → 0 < setting.feeders → StandsFor input setting v
+    → ((a : Actor) → lists_in v a ≡ no_lists) → IsUnderWay input setting v 0
+begun input setting v some stands empty = record {
+  stands = stands;
+  fronts = fronts_none (lists_in v) empty;
+  events = 0;
+  counted = none_counted setting (lists_in v) empty;
+  paced = inr (begins_ready input setting some v stands empty, omega arith);
+}
+
+-- ---- one bout more
+
+module _ (input : Input) (setting : Setting) (old new : RingSeatsView) (stands : StandsFor input setting old)
+    (stands' : StandsFor input setting new) where
+  same_joiners : new.joiners ≡ old.joiners
+  same_joiners = stands'.joiners_are ∙ sym stands.joiners_are
+
+  same_feeders : new.feeders ≡ old.feeders
+  same_feeders = stands'.feeders_are ∙ sym stands.feeders_are
+
+  many : length old.seats ≡ old.feeders + old.joiners + 2
+  many = sym (length-map old.seats (λ (s : RingSeatView). s.core)) ∙ stands.all
+
+  same_long : length new.seats ≡ length old.seats
+  same_long =
+      let one = many in
+      let two = sym (length-map new.seats (λ (s : RingSeatView). s.core)) ∙ stands'.all in
+      omega (arith, one, two, same_joiners, same_feeders)
+
+  -- the lists of after, found with the numbers of before
+  same_lists_in : lists_among lists_of old.joiners old.feeders new.seats ≡ lists_in new
+  same_lists_in =
+      ap (λ j. lists_among lists_of j old.feeders new.seats) (sym same_joiners)
+      ∙ ap (λ p. lists_among lists_of new.joiners p new.seats) (sym same_feeders)
+
+module _ (input : Input) (setting : Setting) (old new : RingSeatsView) (bouts : ℕ)
+    (advance : AllAdvance old.seats new.seats) (fronts : AreFronts (lists_in new))
+    (keeps : StandsFor input setting old → StandsFor input setting new)
+    (before : IsUnderWay input setting old bouts) where
+  abbrev stands' : StandsFor input setting new
+  stands' = keeps before.stands
+
+  abbrev after : Actor → ActorLists
+  after = lists_among lists_of old.joiners old.feeders new.seats
+
+  long : length new.seats ≡ length old.seats
+  long = same_long input setting old new before.stands stands'
+
+  all : length old.seats ≡ old.feeders + old.joiners + 2
+  all = many input setting old new before.stands stands'
+
+  same : after ≡ lists_in new
+  same = same_lists_in input setting old new before.stands stands'
+
+  -- where a seat made an event, the lists count one more
+  counted_event : SomeEvent old.seats new.seats → IsCounted setting after (before.events + 1)
+  counted_event some =
+      let joiners = old.joiners in
+      let feeders = old.feeders in
+      let place = some.place in
+      let d = (there old.seats place some.there).0 in
+      let a = actor_at joiners feeders place in
+      let is = number_there joiners feeders place (subst (λ z. place < z) all some.there) in
+      let made : HasMadeSome (player_of (get_or old.seats place d)) (player_of (get_or new.seats place d)) =
+      record { before = some.before; runs = some.runs d } in
+      let one =
+      relate (λ (s : RingSeatView). s.core) lists_of HasMadeSome joiners feeders old.seats new.seats long a place d is
+      some.there made in
+      let moved = ran true joiners feeders old.seats new.seats long all (λ e. advance)
+      (λ e. absurd (true≢false e)) in
+      counted_more input setting joiners feeders (cores_in old) (cores_in new) (lists_in old) after before.stands moved
+      a place is one (subst AreFronts (sym same) fronts) before.events (before.events + 1) (omega arith) before.counted
+
+  with_event : SomeEvent old.seats new.seats → IsUnderWay input setting new (bouts + 1)
+  with_event some =
+      let few = paced_few old.seats bouts before.events before.paced in
+      record {
+        stands = stands';
+        fronts = fronts;
+        events = before.events + 1;
+        counted = subst (λ f. IsCounted setting f (before.events + 1)) same (counted_event some);
+        paced = inl (omega (arith, few));
+      }
+
+  -- where none did, the lists are as they were
+  without_event : StaySame old.seats new.seats (length old.seats) → SomeSeat IsReady new.seats
+      → bouts + 1 ≤ 2 * before.events → IsUnderWay input setting new (bouts + 1)
+  without_event stay ready few =
+      let kept = sym same ∙ lists_same old.joiners old.feeders old.seats new.seats long advance all stay in
+      record {
+        stands = stands';
+        fronts = fronts;
+        events = before.events;
+        counted = subst (λ f. IsCounted setting f before.events) (sym kept) before.counted;
+        paced = inr (ready, few);
+      }
+
+  pub one_bout_more : (SomeSeat IsReady old.seats → SomeEvent old.seats new.seats)
+      → SomeEvent old.seats new.seats ⊎ SomeSeat IsReady new.seats → IsUnderWay input setting new (bouts + 1)
+  one_bout_more event moves = elim before.paced [
+    | inl few ↦ elim moves [
+      | inl some ↦ with_event some
+      | inr ready ↦
+          let none = some_or_same old.joiners old.feeders old.seats new.seats long advance (length old.seats)
+          (omega arith) in
+          elim none [
+            | inl some ↦ with_event some
+            | inr stay ↦ without_event stay ready few
+          ]
+    ]
+    | inr both ↦ with_event (event both.0)
+  ]
+
+abbrev pub answer : Bool → Result Bool AllocError
+answer went = Ok went
+
+-- where `false` would mean that all is done, and it isn't, the answer is `true`
+pub goes_on : (went done : Bool) → (answer went ≡ answer false → done ≡ true) → done ≡ false → answer went ≡ answer true
+goes_on true done ends open_yet = refl
+goes_on false done ends open_yet = absurd (true≢false (sym (ends refl) ∙ open_yet))
+
+-- ---- so bouts are few
+
+within : (bouts events most : ℕ) → bouts ≤ 2 * events → events ≤ most → bouts ≤ 2 * most
+within bouts events most few low = omega arith
+
+doubled : (a b c : ℕ) → 16 * a * b * c ≡ 2 * (8 * a * b * c)
+doubled a b c =
+    let first : 16 * a ≡ 2 * (8 * a) = omega arith in
+    ap (λ x. x * b * c) first ∙ (ap (λ x. x * c) (mul_assoc 2 (8 * a) b) ∙ mul_assoc 2 (8 * a * b) c)
+
+most_twice : (input : Input) (setting : Setting) (n : ℕ) → most_bouts input setting n ≡ 2 * most_events input setting n
+most_twice input setting n =
+    doubled (row_count input R + row_count input S + setting.feeders + 2) (2 ^ setting.k) (n + 2)
+
+module _ (input : Input) (setting : Setting) (v : RingSeatsView) (bouts : ℕ) (way : IsUnderWay input setting v bouts)
+    (law : EventsAreFew) (valid : IsValid input setting) where
+  few_by : (journal : List TurnLine) → IsAgreeing input setting (first_rest setting) (family_of journal (lists_in v))
+      → bouts ≤ 2 * most_events input setting (last_epoch journal)
+  few_by journal agrees =
+      let few = few_events law input setting valid journal (lists_in v) agrees way.events way.counted in
+      within bouts way.events (most_events input setting (last_epoch journal))
+      (paced_few v.seats bouts way.events way.paced) few
+
+  -- a number of 64 bits counts them
+  pub counts_on : KeepsALawfulJournal → LawfulIsBounded → IsValidInput input → IsValidSetting setting
+      → bouts < 2 ^ 64 - 1
+  counts_on keeps bounded of_input of_setting =
+      let journal = journal_in v in
+      let agrees =
+      agreeing input setting v.joiners v.feeders (cores_in v) (lists_in v) way.stands way.fronts in
+      let fit = bouts_fit keeps bounded input setting journal (lists_in v) of_input of_setting agrees in
+      under bouts (2 * most_events input setting (last_epoch journal)) (2 ^ 64 - 1) (few_by journal agrees) fit
+
+  -- ---- once the lists are a finished family
+
+  module _ (journal : List TurnLine) (lists : Actor → ActorLists) (same : (a : Actor) → lists a ≡ lists_in v a)
+      (family : IsFinishedFamily input setting journal lists) where
+    pub left_orders : orders_in lists ≡ last_epoch journal
+    left_orders = orders_are input setting valid.some journal lists family.agrees
+
+    pub few_bouts : bouts ≤ most_bouts input setting (orders_in lists)
+    few_bouts =
+        let agrees =
+        subst (λ f. IsAgreeing input setting (first_rest setting) (family_of journal f)) (fun_ext same) family.agrees in
+        subst (λ n. bouts ≤ most_bouts input setting n) (sym left_orders)
+        (subst (λ n. bouts ≤ n) (sym (most_twice input setting (last_epoch journal))) (few_by journal agrees))
+
+-- what is left of the seats agrees on the links of the run
+pub left_linked : (input : Input) (setting : Setting) (v : RingSeatsView) (bouts : ℕ)
+    → IsUnderWay input setting v bouts → (lists : Actor → ActorLists) → ((a : Actor) → lists a ≡ lists_in v a)
+    → AgreesOnLinks setting lists
+left_linked input setting v bouts way lists same =
+    subst (AgreesOnLinks setting) (sym (fun_ext same)) (record { fronts = way.fronts; linked = way.counted.linked })
+
+-- what follows from two clauses of one result
+pub from_two : {X E : Type 0} (result : Result X E) (P Q T : X → Type 0) → IfOk result P → IfOk result Q
+    → ((x : X) → P x → Q x → T x) → IfOk result T
+from_two (Ok x) P Q T p q follows = follows x p q
+from_two (Err e) P Q T p q follows = tt
+
+-- and from three
+pub from_three : {X E : Type 0} (result : Result X E) (P Q U T : X → Type 0) → IfOk result P → IfOk result Q
+    → IfOk result U → ((x : X) → P x → Q x → U x → T x) → IfOk result T
+from_three (Ok x) P Q U T p q u follows = follows x p q u
+from_three (Err e) P Q U T p q u follows = tt

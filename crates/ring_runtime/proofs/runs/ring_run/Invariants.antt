@@ -1,0 +1,5 @@
+use Rattle.ring_runtime.proofs.UnderWay.{IsUnderWay}
+use Rattle.ring_runtime.proofs.runs.ring_run.Given as goal
+
+abbrev pub invariant-loop-bouts : goal.invariant-loop-bouts
+invariant-loop-bouts g l = IsUnderWay l.input l.setting l.seats l.bouts

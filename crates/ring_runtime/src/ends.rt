@@ -1,0 +1,158 @@
+// What finished seats leave.
+
+ghost use Rattle.std.specs.Prelude.{◌≡◌, true, false, IfOk, map};
+ghost use Rattle.epoch_tags.specs.declared.actor.Actor.{Actor as Actor'};
+ghost use Rattle.trace_law.specs.declared.input.Input.{Input as Input'};
+ghost use Rattle.trace_law.specs.declared.setting.Setting.{Setting as Setting'};
+ghost use Rattle.trace_law.specs.Validity.{IsValid};
+ghost use Rattle.trace_law.specs.Family.{first_rest};
+ghost use Rattle.trace_law.specs.Runs.{IsRunOf};
+ghost use Rattle.actor_core.specs.Endings.{AreLast};
+ghost use Rattle.actor_core.specs.Families.{AreFronts};
+ghost use Rattle.actor_core.specs.Players.{IsFinishedFamily};
+ghost use Rattle.ring_runtime.specs.Bouts.{StandsFor, is_collected, journal_in, lists_in};
+ghost use Rattle.ring_runtime.specs.Endings.{end_of, lists_left};
+
+use crate::bouts::RingSeats;
+use crate::inlets::Inlets;
+use crate::outlets::Outlets;
+use crate::seat::RingSeat;
+use actor_core::{Core, answer, last_machines};
+use load_controller::Controller;
+use pair_collector::Collector;
+use std::alloc::{AllocError, Global};
+use std::marker::Model;
+use trace_law::{Run, complete_is_finished, finished_answers};
+
+/// What an actor's finished seat leaves: its ends of rings and its outlets.
+#[derive(Drop)]
+pub struct RingEnd {
+    pub(crate) joiners: u32,
+    pub(crate) feeders: u32,
+    pub(crate) ins: Inlets,
+    pub(crate) outs: Outlets,
+}
+
+impl Model for RingEnd {
+    ghost use Rattle.ring_runtime.specs.Endings.{RingEndView};
+
+    ghost Value = { RingEndView };
+
+    ghost view = { λ end. record {
+      joiners = end.joiners;
+      feeders = end.feeders;
+      ins = end.ins;
+      outs = end.outs;
+    } };
+}
+
+/// What the finished seats of a run leave, by the numbers of actors: all ends of rings, and all outlets with what waits
+/// in them.
+#[derive(Drop)]
+pub struct RingEnds {
+    joiners: u32,
+    feeders: u32,
+    ends: Vec<RingEnd>,
+}
+
+impl Model for RingEnds {
+    ghost use Rattle.ring_runtime.specs.Endings.{RingEndsView};
+
+    ghost Value = { RingEndsView };
+
+    ghost view = { λ ends. record {
+      joiners = ends.joiners;
+      feeders = ends.feeders;
+      ends = ends.ends.items;
+    } };
+}
+
+/// The answer of a run over rings, and what its seats leave.
+#[derive(Drop)]
+pub struct RingRun {
+    pub run: Run,
+    pub ends: RingEnds,
+    /// Whether the input was finished in another way, since no message could move. It never is.
+    pub fallen: bool,
+}
+
+// The machines of seats, and what else they leave.
+fn parts<'a>(
+    alloc: Global,
+    seats: Vec<RingSeat<'a>>,
+) -> Result<(Vec<Core<'a>>, Vec<RingEnd>), AllocError>
+    ensures cores { IfOk result (λ parts. parts.0.items ≡ map (λ s. s.core) seats.entry.items) }
+    ensures ends { IfOk result (λ parts. parts.1.items ≡ map end_of seats.entry.items) }
+{
+    let mut cores = Vec::new(alloc);
+    let mut ends = Vec::new(alloc);
+    for seat in seats {
+        let (core, end) = seat.into_parts();
+        cores.push(core)?;
+        ends.push(end)?;
+    }
+    Ok((cores, ends))
+}
+
+// The controller's machine and the collector's, or an error where they aren't the last two.
+fn last_two<'a>(cores: Vec<Core<'a>>) -> Result<(Controller, Collector), AllocError>
+    ensures { IfOk result (λ last. AreLast cores.entry.items last.0 last.1) }
+{
+    match last_machines(cores) {
+        Some(last) => Ok(last),
+        None => Err(AllocError),
+    }
+}
+
+impl<'a> RingSeats<'a> {
+    /// Whether the collector is complete. It takes no memory.
+    pub fn complete(&self) -> bool
+        ensures { result ≡ is_collected self.now }
+    {
+        match self.seats.as_slice().last() {
+            Some(seat) => seat.is_complete(),
+            None => false,
+        }
+    }
+
+    /// The answer of seats whose collector is complete, with so many bouts, and what they leave. After `AllocError` the
+    /// seats are gone.
+    pub fn finish(self, bouts: u64) -> Result<RingRun, AllocError>
+        requires { is_collected self ≡ true }
+        ensures family { IfOk result (λ told.
+            (input : Input') (setting : Setting') → IsValid input setting
+            → StandsFor input setting self.entry → AreFronts (lists_in self.entry)
+            → IsFinishedFamily input setting told.run.journal (lists_left told.ends)) }
+        ensures run { IfOk result (λ told.
+            (input : Input') (setting : Setting') → IsValid input setting
+            → StandsFor input setting self.entry → AreFronts (lists_in self.entry)
+            → IsRunOf input setting (first_rest setting).line told.run.journal told.run) }
+        ensures ends { IfOk result (λ told.
+            (a : Actor') → lists_left told.ends a ≡ lists_in self.entry a) }
+        ensures journal { IfOk result (λ told. told.run.journal ≡ journal_in self.entry) }
+        ensures bouts { IfOk result (λ told. told.run.bouts ≡ bouts) }
+        ensures fallen { IfOk result (λ told. told.fallen ≡ false) }
+    {
+        complete_is_finished();
+        finished_answers();
+        let RingSeats {
+            alloc,
+            joiners,
+            feeders,
+            seats,
+            ..
+        } = self;
+        let (cores, ends) = parts(alloc, seats)?;
+        let (controller, collector) = last_two(cores)?;
+        let run = answer(alloc, &controller, collector, bouts)?;
+        Ok(RingRun {
+            run,
+            ends: RingEnds {
+                joiners,
+                feeders,
+                ends,
+            },
+            fallen: false,
+        })
+    }
+}
