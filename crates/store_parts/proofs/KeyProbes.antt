@@ -1,16 +1,16 @@
 -- A probe by the key finds what a scan finds, and evaluates those with which the key atom is true.
 use Rattle.std.proofs.Common.{◌≡◌, ℕ, ◌+◌, ◌<◌, ◌≤◌, ℤ, Bool, true, false, cond, ◌&&◌, Option, Some, None, List, []}
 use Rattle.std.proofs.Common.{◌∷◌, ◌++◌, length, take, drop, refl, sym, ap, subst, ◌∙◌, arith, slice_get, Result, Ok}
-use Rattle.std.proofs.Common.{Err}
+use Rattle.std.proofs.Common.{Err, inl, inr, suc}
 use Rattle.std.specs.Prelude.{IfOk}
 use Rattle.smallvec.specs.SmallVec.{SmallVec}
 use Rattle.std.specs.Prelude.{map, filter, count_by}
 use Rattle.std.specs.List.{sum_by, All, cons_option}
 use Rattle.std.proofs.lemmas.Bool.{false≢true}
 use Rattle.std.proofs.lemmas.List.{take-append-drop, length-map}
-use Rattle.std.proofs.lemmas.List.Sums.{sum_by-cons}
-use Rattle.std.proofs.lemmas.List.Elements.{All-cons, filter_map-append}
-use Rattle.std.proofs.lemmas.Option.{slice_get_within, get_or_from_slice_get}
+use Rattle.std.proofs.lemmas.List.Sums.{length-filter, sum_by-cons}
+use Rattle.std.proofs.lemmas.List.Elements.{All-cons, All-tail, filter_map-append}
+use Rattle.std.proofs.lemmas.Option.{slice_get_cases, slice_get_within, get_or_from_slice_get}
 use Rattle.join_rows.specs.declared.table.Side.{Side}
 use Rattle.join_rows.specs.declared.table.Side.TheVariants.{R, S}
 use Rattle.epoch_tags.specs.declared.tuple.Tuple.{Tuple}
@@ -20,11 +20,11 @@ use Rattle.theta_pred.specs.Formula.{Meaning}
 use Rattle.theta_pred.specs.Keys.{Atom, atom_of, key_of, IsKeyOf}
 use Rattle.theta_pred.specs.Truth.{holds}
 use Rattle.store_parts.specs.declared.which.Which.{Which}
-use Rattle.store_parts.specs.Places.{lies, places_between, IsMapOf}
+use Rattle.store_parts.specs.Places.{lies, places_between, places_by, IsMapOf}
 use Rattle.store_parts.specs.Keyed.{at_places, is_key_true, is_key_true_at, value_at, values_at, least_at, greatest_at}
 use Rattle.store_parts.specs.Matches.{other_side, evaluated, is_named, is_found, does_match, does_match_at, pair_of}
-use Rattle.store_parts.specs.Matches.{matches, AppendsFront}
-use Rattle.store_parts.proofs.Keys.{band_is_key, no_key, at_places_between}
+use Rattle.store_parts.specs.Matches.{matches, stands_by, AppendsFront}
+use Rattle.store_parts.proofs.Keys.{band_is_key, no_key, at_places_by}
 use Rattle.store_parts.proofs.OneMoreTuple.{matches-append, take_one, count_by-append}
 use Rattle.join_rows.proofs.Bags.{sum-same}
 use Rattle.theta_pred.proofs.KeyMembers.{and_left}
@@ -104,16 +104,16 @@ below_take_in : (b : Bool) (n m : ℕ) (ps : List ℕ) → n < m → All (λ p. 
 below_take_in true n m ps here rest = All-cons (λ p. p < m) n ps here rest
 below_take_in false n m ps here rest = rest
 
-pub places_below : (from to : Option ℤ) (n m : ℕ) (values : List (Option ℤ)) → n + length values ≤ m
-    → All (λ p. p < m) (places_between from to n values)
-places_below from to n m [] fits = λ k d less. absurd (omega arith)
-places_below from to n m (v ∷ values) fits =
-    below_take_in (lies from to v) n m (places_between from to (n + 1) values) (omega arith)
-    (places_below from to (n + 1) m values (omega arith))
+pub places_below : (test : Option ℤ → Bool) (n m : ℕ) (values : List (Option ℤ)) → n + length values ≤ m
+    → All (λ p. p < m) (places_by test n values)
+places_below test n m [] fits = λ k d less. absurd (omega arith)
+places_below test n m (v ∷ values) fits =
+    below_take_in (test v) n m (places_by test (n + 1) values) (omega arith)
+    (places_below test (n + 1) m values (omega arith))
 
 pub places_are_below : (from to : Option ℤ) (key : KeyAtom) (side : Side) (others : List Tuple)
     → All (λ p. p < length others) (places_between from to 0 (values_at key side others))
-places_are_below from to key side others = places_below from to 0 (length others) (values_at key side others)
+places_are_below from to key side others = places_below (lies from to) 0 (length others) (values_at key side others)
     (omega (arith, length-map others (value_at key side)))
 
 -- ---- what is found, and how many are evaluated
@@ -131,7 +131,7 @@ pub band_candidates : (key : KeyAtom) (t : Tuple) (others : List Tuple) (v : ℤ
     → at_places others (places_between (least_at t.side key v) (greatest_at t.side key v) 0
     (values_at key (other_side t.side) others)) ≡ filter (is_key_true key t) others
 band_candidates key t others v is =
-    at_places_between (value_at key (other_side t.side)) (least_at t.side key v) (greatest_at t.side key v) others
+    at_places_by (value_at key (other_side t.side)) (lies (least_at t.side key v) (greatest_at t.side key v)) others
     ∙ same_filter (λ x. lies (least_at t.side key v) (greatest_at t.side key v) (value_at key (other_side t.side) x))
     (is_key_true key t) (λ x. band_is_key key t x v is) others
 
@@ -241,3 +241,28 @@ below_from_band (Ok x) items key t others v given =
     subst P (sym given) (places_are_below (least_at t.side key v) (greatest_at t.side key v) key (other_side t.side)
     others)
 below_from_band (Err e) items key t others v given = tt
+
+-- ---- how many stored tuples are looked at
+
+there : {X : Type 0} (xs : List X) (p : ℕ) → p < length xs → (x : X) × (slice_get xs p ≡ Some x)
+there xs p less = elim (slice_get_cases xs p).1 [
+  | inl within ↦ (within.0, within.2)
+  | inr beyond ↦ absurd (omega (arith, less, beyond.0))
+]
+
+placed : {X : Type 0} (xs : List X) (ps : List ℕ) → All (λ p. p < length xs) ps → length (at_places xs ps) ≡ length ps
+placed xs [] below = refl
+placed xs (p ∷ ps) below =
+    let here = there xs p (below 0 0 (omega arith)) in
+    ap (λ o. length (cons_option o (at_places xs ps))) here.1
+    ∙ ap suc (placed xs ps (All-tail (λ p. p < length xs) p ps below))
+
+-- there are as many places as stored tuples that pass the test
+pub seen : {X : Type 0} (test : X → Bool) (xs : List X) (places : List ℕ) → at_places xs places ≡ filter test xs
+    → All (λ p. p < length xs) places → length places ≡ count_by test xs
+seen test xs places at below = sym (placed xs places below) ∙ ap length at ∙ length-filter test xs
+
+-- without a key and an access each stored tuple is looked at
+pub all_seen : (t : Tuple) (others : List Tuple) → length others ≡ count_by (stands_by None None t) others
+all_seen t [] = refl
+all_seen t (x ∷ xs) = omega (arith, all_seen t xs, sum_by-cons (λ (_ : Tuple). 1) x xs)

@@ -13,7 +13,7 @@ use Rattle.join_rows.specs.declared.table.Side.TheVariants.{R, S}
 use Rattle.epoch_tags.specs.declared.tuple.Tuple.{Tuple}
 use Rattle.theta_pred.specs.declared.atom.KeyAtom.{KeyAtom}
 use Rattle.theta_pred.specs.Keys.{is_from, is_up_to, is_between}
-use Rattle.store_parts.specs.Places.{lies, places_between}
+use Rattle.store_parts.specs.Places.{lies, places_by}
 use Rattle.store_parts.specs.Keyed.{at_places, is_key_true, is_key_true_at, value_at, least_at, greatest_at}
 use Rattle.store_parts.specs.Matches.{other_side}
 
@@ -74,7 +74,8 @@ no_value_s : (low high x y : Option ℤ) → y ≡ None → is_between low high 
 no_value_s low high None y none = refl
 no_value_s low high (Some x) y none = ap (λ z. is_between low high (Some x) z) none
 
-band_at : (side : Side) (key : KeyAtom) (t other : Tuple) (v : ℤ) → value_at key side t ≡ Some v
+-- the same, over the side
+pub band_at : (side : Side) (key : KeyAtom) (t other : Tuple) (v : ℤ) → value_at key side t ≡ Some v
     → lies (least_at side key v) (greatest_at side key v) (value_at key (other_side side) other)
     ≡ is_key_true_at side key t other
 band_at R key t other v is = band_of_r key.low key.high v (value_at key S other)
@@ -88,7 +89,8 @@ pub band_is_key : (key : KeyAtom) (t other : Tuple) (v : ℤ) → value_at key t
     ≡ is_key_true key t other
 band_is_key key t other v is = band_at t.side key t other v is
 
-no_key_at : (side : Side) (key : KeyAtom) (t other : Tuple) → value_at key side t ≡ None
+-- the same, over the side
+pub no_key_at : (side : Side) (key : KeyAtom) (t other : Tuple) → value_at key side t ≡ None
     → is_key_true_at side key t other ≡ false
 no_key_at R key t other none = no_value_r key.low key.high _ (value_at key S other) none
 no_key_at S key t other none = no_value_s key.low key.high (value_at key R other) _ none
@@ -117,17 +119,17 @@ keep_at true n all x places kept here rest = ap (λ o. cons_option o (at_places 
     ∙ ap (λ xs. x ∷ xs) rest
 keep_at false n all x places kept here rest = rest
 
-places_after : {X : Type 0} (value : X → Option ℤ) (from to : Option ℤ) (n : ℕ) (before xs all : List X)
+places_after : {X : Type 0} (value : X → Option ℤ) (test : Option ℤ → Bool) (n : ℕ) (before xs all : List X)
     → all ≡ before ++ xs → n ≡ length before
-    → at_places all (places_between from to n (map value xs)) ≡ filter (λ x. lies from to (value x)) xs
-places_after value from to n before [] all whole at = refl
-places_after value from to n before (x ∷ xs) all whole at =
+    → at_places all (places_by test n (map value xs)) ≡ filter (λ x. test (value x)) xs
+places_after value test n before [] all whole at = refl
+places_after value test n before (x ∷ xs) all whole at =
     let here : slice_get all n ≡ Some x = rw (whole, at) (get_middle before x xs) in
-    let rest = places_after value from to (n + 1) (before ++ x ∷ []) xs all
+    let rest = places_after value test (n + 1) (before ++ x ∷ []) xs all
     (whole ∙ sym (append_assoc before (x ∷ []) xs)) (rw at (sym (length_push before x))) in
-    keep_at (lies from to (value x)) n all x (places_between from to (n + 1) (map value xs)) _ here rest
+    keep_at (test (value x)) n all x (places_by test (n + 1) (map value xs)) _ here rest
 
--- the tuples at the places between two bounds are those whose values lie there
-pub at_places_between : {X : Type 0} (value : X → Option ℤ) (from to : Option ℤ) (xs : List X)
-    → at_places xs (places_between from to 0 (map value xs)) ≡ filter (λ x. lies from to (value x)) xs
-at_places_between value from to xs = places_after value from to 0 [] xs xs refl refl
+-- the tuples at the places of the values that pass a test are those whose values do
+pub at_places_by : {X : Type 0} (value : X → Option ℤ) (test : Option ℤ → Bool) (xs : List X)
+    → at_places xs (places_by test 0 (map value xs)) ≡ filter (λ x. test (value x)) xs
+at_places_by value test xs = places_after value test 0 [] xs xs refl refl

@@ -1,3 +1,5 @@
+pub mod AccessLaw
+pub mod AccessProbes
 pub mod Columns
 pub mod Keys
 pub mod MapRanges
@@ -8,4 +10,5 @@ pub mod SameNumbers
 pub mod OneMoreTuple
 pub mod KeyProbes
 pub mod Sides
+pub mod Windows
 pub mod Worked

@@ -1,6 +1,10 @@
 -- What is gathered of a map from values to places, between two bounds.
-use Rattle.std.proofs.Common.{◌≡◌, ℕ, ◌+◌, ◌≤◌, ℤ, pos, negsuc, Bool, true, false, cond, not, ◌&&◌, Option, Some, None}
-use Rattle.std.proofs.Common.{List, [], ◌∷◌, ◌++◌, refl, sym, ap, ◌∙◌, arith, length, drop}
+use Rattle.std.proofs.Common.{◌≡◌, ℕ, ◌+◌, ◌≤◌, ℤ, pos, negsuc, Bool, true, false, cond, not, ◌&&◌, ◌||◌, Option, Some}
+use Rattle.std.proofs.Common.{None}
+use Rattle.std.proofs.Common.{List, [], ◌∷◌, ◌++◌, refl, sym, ap, ◌∙◌, arith, length, drop, get_or, append_assoc}
+use Rattle.std.proofs.Common.{add-one}
+use Rattle.std.proofs.Common.{◌<◌}
+use Rattle.std.proofs.Math.Seq.{drop-cons}
 use Rattle.std.specs.Prelude.{filter, flat_map, sum_by, int_lt, int_le}
 use Rattle.smallvec.specs.SmallVec.{SmallVec}
 use Rattle.std.specs.declared.cmp.Ordering.TheVariants.{Less, Equal, Greater}
@@ -18,7 +22,10 @@ use Rattle.std.proofs.lemmas.Bool.Decides.{nat_tests}
 use Rattle.std.proofs.lemmas.Int.{ints}
 use Rattle.store_parts.specs.Places.{entries_from, gathered, is_backward, lies, places_between}
 use Rattle.store_parts.proofs.SortedLists.{Rises, same_rising, rises_from_sorted}
-use Rattle.store_parts.specs.Places.{at_each, IsMapOf, start_of, end_of}
+use Rattle.store_parts.specs.Places.{at_each, IsMapOf, start_of, end_of, places_by, lies_at, lies_in}
+use Rattle.store_parts.specs.Places.{gathered_at, gathered_in}
+use Rattle.store_parts.specs.Places.{AreApart}
+use Rattle.store_parts.specs.declared.places.Window.{Window}
 use Rattle.store_parts.proofs.Keys.{both}
 use Rattle.store_parts.proofs.KeyProbes.{filter_none}
 
@@ -94,18 +101,20 @@ sum_cond : (f : ℕ → ℕ) (b : Bool) (n : ℕ) (ps : List ℕ) → sum_by f (
 sum_cond f true n ps = sum_by-cons f n ps
 sum_cond f false n ps = omega arith
 
-sum_of_places : (from to : Option ℤ) (f : ℕ → ℕ) (n : ℕ) (values : List (Option ℤ))
-    → sum_by (only (λ v. lies from to (Some v)) f) (entries_from n values) ≡ sum_by f (places_between from to n values)
-sum_of_places from to f n [] = refl
-sum_of_places from to f n (None ∷ values) = sum_of_places from to f (n + 1) values
-sum_of_places from to f n (Some v ∷ values) =
-    let here : only (λ v. lies from to (Some v)) f (v, n) ≡ cond (lies from to (Some v)) (f n) 0 = refl in
+sum_of_places : (test : Option ℤ → Bool) → test None ≡ false → (f : ℕ → ℕ) (n : ℕ) (values : List (Option ℤ))
+    → sum_by (only (λ v. test (Some v)) f) (entries_from n values) ≡ sum_by f (places_by test n values)
+sum_of_places test none f n [] = refl
+sum_of_places test none f n (None ∷ values) =
+    let rest = places_by test (n + 1) values in
+    sum_of_places test none f (n + 1) values ∙ sym (ap (λ b. sum_by f (cond b (n ∷ rest) rest)) none)
+sum_of_places test none f n (Some v ∷ values) =
+    let here : only (λ v. test (Some v)) f (v, n) ≡ cond (test (Some v)) (f n) 0 = refl in
     omega (
       arith,
       here,
-      sum_by-cons (only (λ v. lies from to (Some v)) f) (v, n) (entries_from (n + 1) values),
-      sum_of_places from to f (n + 1) values,
-      sum_cond f (lies from to (Some v)) n (places_between from to (n + 1) values),
+      sum_by-cons (only (λ v. test (Some v)) f) (v, n) (entries_from (n + 1) values),
+      sum_of_places test none f (n + 1) values,
+      sum_cond f (test (Some v)) n (places_by test (n + 1) values),
     )
 
 rises_take_in : (b : Bool) (low n : ℕ) (ps : List ℕ) → low ≤ n → Rises n ps → Rises low ps
@@ -113,12 +122,25 @@ rises_take_in : (b : Bool) (low n : ℕ) (ps : List ℕ) → low ≤ n → Rises
 rises_take_in true low n ps le here skipped = (le, here)
 rises_take_in false low n ps le here skipped = skipped
 
-pub places_rise : (from to : Option ℤ) (low n : ℕ) (values : List (Option ℤ)) → low ≤ n
-    → Rises low (places_between from to n values)
-places_rise from to low n [] le = tt
-places_rise from to low n (v ∷ values) le =
-    rises_take_in (lies from to v) low n (places_between from to (n + 1) values) le
-    (places_rise from to n (n + 1) values (omega arith)) (places_rise from to low (n + 1) values (omega arith))
+pub places_rise : (test : Option ℤ → Bool) (low n : ℕ) (values : List (Option ℤ)) → low ≤ n
+    → Rises low (places_by test n values)
+places_rise test low n [] le = tt
+places_rise test low n (v ∷ values) le =
+    rises_take_in (test v) low n (places_by test (n + 1) values) le
+    (places_rise test n (n + 1) values (omega arith)) (places_rise test low (n + 1) values (omega arith))
+
+-- what was gathered with these sums, in order, is the places of what passes the test
+sorted_by : (test : Option ℤ → Bool) → test None ≡ false → (values : List (Option ℤ)) (entries : List (ℤ × SmallVec ℕ))
+    (found sorted : List ℕ) → IsMapOf values entries
+    → ((f : ℕ → ℕ) → sum_by f found ≡ sum_by (at_each (only (λ v. test (Some v)) f)) entries)
+    → IsPermutation found sorted → IsSorted nat_cmp sorted → sorted ≡ places_by test 0 values
+sorted_by test none values entries found sorted indexed sums moved in_order =
+    same_rising 0 0 sorted (places_by test 0 values)
+    (rises_from_sorted sorted (IsNonDecreasingBy-from_sort (λ x. x) sorted in_order))
+    (places_rise test 0 0 values (omega arith))
+    (λ f. sum_by-IsPermutation f found sorted moved ∙ sums f
+    ∙ indexed.sums (only (λ v. test (Some v)) f)
+    ∙ sum_of_places test none f 0 values)
 
 -- what was gathered, in order, is the places between the bounds
 pub sorted_places : (from to : Option ℤ) (values : List (Option ℤ)) (entries : List (ℤ × SmallVec ℕ))
@@ -126,13 +148,63 @@ pub sorted_places : (from to : Option ℤ) (values : List (Option ℤ)) (entries
     → IsMapOf values entries → found ≡ gathered from to entries
     → IsPermutation found sorted → IsSorted nat_cmp sorted → sorted ≡ places_between from to 0 values
 sorted_places from to values entries found sorted indexed is moved in_order =
-    same_rising 0 0 sorted (places_between from to 0 values)
-    (rises_from_sorted sorted (IsNonDecreasingBy-from_sort (λ x. x) sorted in_order))
-    (places_rise from to 0 0 values (omega arith))
-    (λ f. sum_by-IsPermutation f found sorted moved ∙ ap (sum_by f) is
-    ∙ sum_of_range (λ v. lies from to (Some v)) f entries
-    ∙ indexed.sums (only (λ v. lies from to (Some v)) f)
-    ∙ sum_of_places from to f 0 values)
+    sorted_by (lies from to) refl values entries found sorted indexed
+    (λ f. ap (sum_by f) is ∙ sum_of_range (λ v. lies from to (Some v)) f entries) moved in_order
+
+-- ---- several windows
+
+sum_of_none : (f : ℕ → ℕ) (es : List (ℤ × SmallVec ℕ)) → sum_by (at_each (only (λ _. false) f)) es ≡ 0
+sum_of_none f [] = refl
+sum_of_none f (e ∷ es) = omega (
+  arith,
+  sum_by-cons (at_each (only (λ _. false) f)) e es,
+  each_only false f e.1.items,
+  sum_of_none f es,
+)
+
+either : (a b : Bool) (n : ℕ) → (a ≡ true → b ≡ false) → cond a n 0 + cond b n 0 ≡ cond (a || b) n 0
+either true b n apart = ap (λ c. n + cond c n 0) (apart refl) ∙ omega arith
+either false b n apart = omega arith
+
+sum_of_either : (p q : ℤ → Bool) → ((v : ℤ) → p v ≡ true → q v ≡ false) → (f : ℕ → ℕ) (es : List (ℤ × SmallVec ℕ))
+    → sum_by (at_each (only p f)) es + sum_by (at_each (only q f)) es ≡ sum_by (at_each (only (λ v. p v || q v) f)) es
+sum_of_either p q apart f [] = refl
+sum_of_either p q apart f (e ∷ es) =
+    omega (
+      arith,
+      sum_of_either p q apart f es,
+      sum_by-cons (at_each (only p f)) e es,
+      sum_by-cons (at_each (only q f)) e es,
+      sum_by-cons (at_each (only (λ v. p v || q v) f)) e es,
+      each_only (p e.0) f e.1.items,
+      each_only (q e.0) f e.1.items,
+      each_only (p e.0 || q e.0) f e.1.items,
+      either (p e.0) (q e.0) (sum_by f e.1.items) (apart e.0),
+    )
+
+sum_of_windows : (windows : List Window) → AreApart windows → (f : ℕ → ℕ) (entries : List (ℤ × SmallVec ℕ))
+    → sum_by f (gathered_in windows entries) ≡ sum_by (at_each (only (λ v. lies_in windows (Some v)) f)) entries
+sum_of_windows [] apart f entries = sym (sum_of_none f entries)
+sum_of_windows (window ∷ windows) apart f entries =
+    let first = sum_of_range (λ v. lies_at (Some v) window) f entries in
+    sum_by-append f (gathered (Some window.from) (Some window.to) entries) (gathered_in windows entries)
+    ∙ ap (λ n. n + sum_by f (gathered_in windows entries)) first
+    ∙ ap (λ n. sum_by (at_each (only (λ v. lies_at (Some v) window) f)) entries + n)
+    (sum_of_windows windows apart.1 f entries)
+    ∙ sum_of_either (λ v. lies_at (Some v) window) (λ v. lies_in windows (Some v)) (λ v. apart.0 (Some v)) f entries
+
+none_lies_in : (windows : List Window) → lies_in windows None ≡ false
+none_lies_in [] = refl
+none_lies_in (window ∷ windows) = none_lies_in windows
+
+-- what was gathered of windows that are apart, in order, is the places of what lies in them
+pub sorted_windows : (windows : List Window) → AreApart windows → (values : List (Option ℤ))
+    (entries : List (ℤ × SmallVec ℕ)) (found sorted : List ℕ)
+    → IsMapOf values entries → found ≡ gathered_in windows entries
+    → IsPermutation found sorted → IsSorted nat_cmp sorted → sorted ≡ places_by (lies_in windows) 0 values
+sorted_windows windows apart values entries found sorted indexed is moved in_order =
+    sorted_by (lies_in windows) (none_lies_in windows) values entries found sorted indexed
+    (λ f. ap (sum_by f) is ∙ sum_of_windows windows apart f entries) moved in_order
 
 -- a vector that was sorted in its own memory has the sorted elements
 pub refilled : (found sorted : List ℕ) → IsPermutation found sorted → refill (length found) found sorted ≡ sorted
@@ -170,4 +242,16 @@ gathered-backward from to entries back =
     ap (flat_map (λ e. e.1.items)) (filter_none (λ e. lies from to (Some e.0)) (λ e. lies-backward from to e.0 back)
     entries)
 
--- ---- a pass over all entries
+-- one window more was gathered
+pub one_window_more : (windows : List Window) (i : ℕ) (d : Window) (entries : List (ℤ × SmallVec ℕ))
+    (found more new whole : List ℕ) → i < length windows
+    → found ++ gathered_in (drop i windows) entries ≡ whole
+    → more ≡ gathered_at (get_or windows i d) entries → new ≡ found ++ more
+    → new ++ gathered_in (drop (i + 1) windows) entries ≡ whole
+one_window_more windows i d entries found more new whole less so_far is pushed =
+    let rest = gathered_in (drop (i + 1) windows) entries in
+    ap (λ xs. xs ++ rest) (pushed ∙ ap (λ xs. found ++ xs) is)
+    ∙ append_assoc found (gathered_at (get_or windows i d) entries) rest
+    ∙ ap (λ ws. found ++ gathered_in ws entries) (sym (drop-cons windows i d less
+    ∙ ap (λ n. get_or windows i d ∷ drop n windows) (sym (add-one i))))
+    ∙ so_far

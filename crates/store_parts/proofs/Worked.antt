@@ -69,7 +69,7 @@ abbrev words : List Tuple
 words = word S (97 ∷ []) ∷ word S (98 ∷ []) ∷ word S (97 ∷ []) ∷ word S [] ∷ []
 
 abbrev by_words : Access
-by_words = record { sames = Texts (record { r = 0; s = 0 }) ∷ [] }
+by_words = record { sames = Texts (record { r = 0; s = 0 }) ∷ []; range = None }
 
 pub text_evaluates_2 : (key : Option KeyAtom) → looked_at key (Some by_words) (word R (97 ∷ [])) All words ≡ 2
 text_evaluates_2 key = refl

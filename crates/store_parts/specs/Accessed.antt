@@ -1,18 +1,26 @@
 -- The access by which a store looks for tuples: the numbers of tuples, and with which others they agree.
-use Rattle.std.specs.Prelude.{◌≡◌, ℕ, ◌+◌, ◌*◌, ◌%◌, ◌^◌, ℤ, pos, ◌-ℤ◌, Bool, Option, Some, List, [], ◌∷◌, option_map}
-use Rattle.std.specs.Prelude.{option_and_then}
+use Rattle.std.specs.Prelude.{◌≡◌, ℕ, ◌+◌, ◌*◌, ◌%◌, ◌^◌, ℤ, pos, ◌-ℤ◌, Bool, true, false, Option, Some, None, List, []}
+use Rattle.std.specs.Prelude.{◌∷◌, option_map}
+use Rattle.std.specs.Prelude.{option_and_then, if◌then◌else◌}
 use Rattle.std.specs.Int.{int_wrapping_add, int_wrapping_mul, w128}
 use Rattle.join_rows.specs.declared.table.Cell.{Cell}
 use Rattle.join_rows.specs.declared.table.Side.{Side}
 use Rattle.join_rows.specs.declared.table.Side.TheVariants.{R, S}
 use Rattle.epoch_tags.specs.declared.tuple.Tuple.{Tuple}
 use Rattle.theta_pred.specs.declared.agree.Access.{Access}
+use Rattle.theta_pred.specs.declared.agree.Interval.{Interval}
+use Rattle.theta_pred.specs.declared.agree.Range.{Range}
+use Rattle.theta_pred.specs.declared.agree.Range.TheVariants as ranges
 use Rattle.theta_pred.specs.declared.agree.Same.{Same}
 use Rattle.theta_pred.specs.declared.agree.Same.TheVariants.{Texts, Sums}
-use Rattle.theta_pred.specs.Accesses.{access_of, agreements, do_agree}
+use Rattle.theta_pred.specs.Accesses.{access_of, terms_of, do_agree}
 use Rattle.theta_pred.specs.Formula.{Meaning}
+use Rattle.theta_pred.specs.declared.atom.KeyAtom.{KeyAtom}
 use Rattle.theta_pred.specs.Linear.{value_of}
 use Rattle.theta_pred.specs.TextAtoms.{text_at}
+use Rattle.store_parts.specs.declared.places.Window.{Window}
+use Rattle.store_parts.specs.Keyed.{value_at, least_at, greatest_at}
+use Rattle.store_parts.specs.Stands.{clamped, hash_of, high_of, low_of, stand, stand_of, window, windows_of}
 
 -- the number of a text that is begun with this number
 abbrev pub number_from : ℕ → List ℕ → ℕ
@@ -40,14 +48,91 @@ numbered side number [] row = Some number
 numbered side number (same ∷ sames) row =
     option_and_then (λ value. numbered side (mixed number value) sames row) (value_on side same row)
 
--- by what number a tuple of this side stands in the index
+-- ---- by what numbers tuples stand in the index, and between which a tuple asks for others
+
+-- whether two sides are one
+abbrev pub is_at : Side → Side → Bool
+is_at R R = true
+is_at S S = true
+is_at _ _ = false
+
+-- where the interval of a tuple of this side begins, beside the value of the lower bound's sum
+abbrev pub first_at : Interval → Side → ℤ → ℤ
+first_at interval side v = clamped (low_of (least_at side interval.lower v))
+
+-- and where it ends, beside the value of the upper bound's
+abbrev pub last_at : Interval → Side → ℤ → ℤ
+last_at interval side w = clamped (high_of (greatest_at side interval.upper w))
+
+-- where a value that may be none stands
+abbrev pub value_stand : ℤ → Option ℤ → Option ℤ
+value_stand hash value = option_map (stand hash (pos 0)) value
+
+-- where the interval stands that two sums of a tuple of this side bound
+abbrev pub interval_stand : ℤ → Interval → Side → Option ℤ → Option ℤ → Option ℤ
+interval_stand hash interval side (Some v) (Some w) =
+    stand_of hash (first_at interval side v) (last_at interval side w)
+interval_stand hash interval side _ _ = None
+
+-- where a tuple of this side stands, by its number of equalities: without a range, there
+abbrev pub stand_at : Option Range → Side → ℤ → Tuple → Option ℤ
+stand_at None side number t = Some number
+stand_at (Some (ranges.Span atom)) side number t = value_stand (hash_of number) (value_at atom side t)
+stand_at (Some (ranges.Interval interval)) side number t =
+    if is_at side interval.points then value_stand (hash_of number) (value_at interval.lower side t)
+    else interval_stand (hash_of number) interval side (value_at interval.lower side t)
+    (value_at interval.upper side t)
+
+-- by what number a tuple of this side stands in the index; none where it stands nowhere
 abbrev pub number_at : Access → Side → Tuple → Option ℤ
-number_at access side t = numbered side (pos 0) access.sames t.cells
+number_at access side t =
+    option_and_then (λ number. stand_at access.range side number t) (numbered side (pos 0) access.sames t.cells)
+
+-- from the least to the greatest value with which an atom is true, beside a value of this side
+abbrev pub span_windows : ℤ → KeyAtom → Side → Option ℤ → List Window
+span_windows hash atom side None = []
+span_windows hash atom side (Some v) =
+    window hash (pos 0) (low_of (least_at side atom v)) (high_of (greatest_at side atom v)) ∷ []
+
+-- where the intervals stand that hold this point
+abbrev pub point_windows : ℤ → Option ℤ → List Window
+point_windows hash None = []
+point_windows hash (Some x) = windows_of hash (clamped x)
+
+-- from where an interval begins to where it ends
+abbrev pub interval_windows : ℤ → Interval → Side → Option ℤ → Option ℤ → List Window
+interval_windows hash interval side (Some v) (Some w) =
+    window hash (pos 0) (low_of (least_at side interval.lower v)) (high_of (greatest_at side interval.upper w)) ∷ []
+interval_windows hash interval side _ _ = []
+
+-- between which numbers a tuple of this side asks for those of the other, by its number of equalities
+abbrev pub windows_at : Option Range → Side → ℤ → Tuple → List Window
+windows_at None side number t = record { from = number; to = number } ∷ []
+windows_at (Some (ranges.Span atom)) side number t = span_windows (hash_of number) atom side (value_at atom side t)
+windows_at (Some (ranges.Interval interval)) side number t =
+    if is_at side interval.points then point_windows (hash_of number) (value_at interval.lower side t)
+    else interval_windows (hash_of number) interval side (value_at interval.lower side t)
+    (value_at interval.upper side t)
+
+-- the same, where it has one
+abbrev pub windows_with : Option Range → Side → Option ℤ → Tuple → List Window
+windows_with range side None t = []
+windows_with range side (Some number) t = windows_at range side number t
+
+-- between which numbers a tuple of this side asks for those of the other
+abbrev pub windows_on : Access → Side → Tuple → List Window
+windows_on access side t = windows_with access.range side (numbered side (pos 0) access.sames t.cells) t
+
+-- between which numbers a tuple that probes asks for others
+abbrev pub asked : Access → Tuple → List Window
+asked access t = windows_on access t.side t
+
+-- ---- which tuples agree
 
 -- whether a tuple of this side and one of the other agree in all
 abbrev pub is_admitted_at : Side → Access → Tuple → Tuple → Bool
-is_admitted_at R access t other = do_agree (agreements access) t.cells other.cells
-is_admitted_at S access t other = do_agree (agreements access) other.cells t.cells
+is_admitted_at R access t other = do_agree (terms_of access) t.cells other.cells
+is_admitted_at S access t other = do_agree (terms_of access) other.cells t.cells
 
 -- whether a tuple that probes and a stored one do
 abbrev pub is_admitted : Access → Tuple → Tuple → Bool
@@ -55,4 +140,4 @@ is_admitted access t other = is_admitted_at t.side access t other
 
 -- an access that a store has is the predicate's own
 abbrev pub IsOwnAccess : Meaning → Option Access → Type 0
-IsOwnAccess theta access = (own : Access) → access ≡ Some own → access_of theta.formula ≡ Some (agreements own)
+IsOwnAccess theta access = (own : Access) → access ≡ Some own → access_of theta.formula ≡ Some (terms_of own)

@@ -1,18 +1,14 @@
 -- The key of a store: the values of its tuples, and what a probe by the key is left to evaluate.
 use Rattle.std.specs.Prelude.{◌≡◌, ℕ, ℤ, ◌+ℤ◌, ◌-ℤ◌, Bool, Option, Some, None, List, length, map, filter_map, slice_get}
-use Rattle.std.specs.Prelude.{option_map, ⊤, All}
-use Rattle.smallvec.specs.SmallVec.{SmallVec}
+use Rattle.std.specs.Prelude.{option_map, ⊤}
 use Rattle.join_rows.specs.declared.table.Side.{Side}
 use Rattle.join_rows.specs.declared.table.Side.TheVariants.{R, S}
 use Rattle.epoch_tags.specs.declared.tuple.Tuple.{Tuple}
 use Rattle.theta_pred.specs.declared.atom.KeyAtom.{KeyAtom}
 use Rattle.theta_pred.specs.declared.atom.Part.{Part}
-use Rattle.theta_pred.specs.declared.agree.Access.{Access}
 use Rattle.theta_pred.specs.Formula.{Meaning}
 use Rattle.theta_pred.specs.Keys.{Atom, atom_of, is_atom_true, key_of}
 use Rattle.theta_pred.specs.Linear.{value_of, AreBelow}
-use Rattle.store_parts.specs.Places.{IsMapOf}
-use Rattle.store_parts.specs.Accessed.{number_at}
 
 -- the columns of the key's sum of a side
 abbrev pub sum_at : Side → KeyAtom → List Part
@@ -52,22 +48,6 @@ FitsKey key t = FitsKeyAt key t.side t
 -- a key that a store has is the predicate's own
 abbrev pub IsOwn : Meaning → Option KeyAtom → Type 0
 IsOwn theta key = (atom : Atom) → option_map atom_of key ≡ Some atom → key_of theta.formula ≡ Some atom
-
--- by what number a tuple of this side stands in the index: that of the access; where there is none, the key's value
-abbrev pub indexed_at : Option KeyAtom → Option Access → Side → Tuple → Option ℤ
-indexed_at key (Some access) side t = number_at access side t
-indexed_at (Some key) None side t = value_at key side t
-indexed_at None None side t = None
-
--- the numbers of tuples of this side
-abbrev pub numbers_at : Access → Side → List Tuple → List (Option ℤ)
-numbers_at access side ts = map (number_at access side) ts
-
--- the index of a side's tuples, which have the key's columns
-pub record IsIndexed (key : Option KeyAtom) (access : Option Access) (side : Side) (ts : List Tuple)
-    (entries : List (ℤ × SmallVec ℕ)) : Type 0 where
-  pub index : IsMapOf (map (indexed_at key access side) ts) entries
-  pub columns : All (FitsKeyAt key side) ts
 
 -- the tuples at these places
 abbrev pub at_places : {X : Type 0} → List X → List ℕ → List X

@@ -1,5 +1,7 @@
 pub mod Accessed
+pub mod Indexed
 pub mod Keyed
 pub mod Matches
 pub mod Places
+pub mod Stands
 pub mod Stored

@@ -10,7 +10,8 @@ use Rattle.theta_pred.specs.Truth.{holds, IsRowOf}
 use Rattle.theta_pred.specs.declared.atom.KeyAtom.{KeyAtom}
 use Rattle.theta_pred.specs.declared.agree.Access.{Access}
 use Rattle.store_parts.specs.Keyed.{is_key_true}
-use Rattle.store_parts.specs.Accessed.{is_admitted}
+use Rattle.store_parts.specs.Accessed.{asked, is_admitted, number_at}
+use Rattle.store_parts.specs.Places.{lies_in}
 use Rattle.store_parts.specs.declared.which.Which.{Which}
 use Rattle.store_parts.specs.declared.which.Which.TheVariants.{All, OnlyStamp}
 
@@ -77,6 +78,17 @@ is_looked_at key None t which other = is_evaluated key t which other
 -- how many of the others it evaluates
 abbrev pub looked_at : Option KeyAtom → Option Access → Tuple → Which → List Tuple → ℕ
 looked_at key access t which others = count_by (is_looked_at key access t which) others
+
+-- whether a stored tuple stands where a tuple that probes asks for others, by an access
+abbrev pub does_stand : Access → Tuple → Tuple → Bool
+does_stand access t other = lies_in (asked access t) (number_at access (other_side t.side) other)
+
+-- whether a joiner's probe looks at a stored tuple: where its number lies between those that the access asks for; in a
+-- store without one, where its value lies between those of the key; in a store with neither, in any case
+abbrev pub stands_by : Option KeyAtom → Option Access → Tuple → Tuple → Bool
+stands_by key (Some access) t other = does_stand access t other
+stands_by (Some key) None t other = is_key_true key t other
+stands_by None None t other = true
 
 -- a front of the whole was appended
 pub record AppendsFront {X : Type 0} (old new whole : List X) : Type 0 where

@@ -1,12 +1,15 @@
 -- An index of values: from each value to the places at which it stands.
-use Rattle.std.specs.Prelude.{◌≡◌, ℕ, ◌+◌, ℤ, int_lt, Bool, false, ◌&&◌, Option, Some, None, List, [], ◌∷◌, sum_by}
-use Rattle.std.specs.Prelude.{filter, flat_map, if◌then◌else◌}
+use Rattle.std.specs.Prelude.{◌≡◌, ℕ, ◌+◌, ℤ, int_lt, Bool, true, false, ◌&&◌, Option, Some, None, List, [], ◌∷◌}
+use Rattle.std.specs.Prelude.{sum_by}
+use Rattle.std.specs.Prelude.{filter, flat_map, if◌then◌else◌, ⊤}
+use Rattle.std.specs.List.{list_any}
 use Rattle.smallvec.specs.SmallVec.{SmallVec}
 use Rattle.std.specs.declared.ops.Bound.{Bound}
 use Rattle.std.specs.declared.ops.Bound.TheVariants.{Included, Unbounded}
 use Rattle.theta_pred.specs.Keys.{is_from, is_up_to}
 use Rattle.store_parts.specs.declared.index.Map.{Map}
 use Rattle.store_parts.specs.declared.index.Map.TheVariants.{Ordered, Hashed}
+use Rattle.store_parts.specs.declared.places.Window.{Window}
 
 -- each value with its place, counted from n; what has no value is left out
 abbrev pub entries_from : ℕ → List (Option ℤ) → List (ℤ × ℕ)
@@ -27,15 +30,45 @@ abbrev pub lies : Option ℤ → Option ℤ → Option ℤ → Bool
 lies from to None = false
 lies from to (Some v) = is_from from v && is_up_to to v
 
+-- the places, counted from n, of the values that pass a test, rising
+abbrev pub places_by : (Option ℤ → Bool) → ℕ → List (Option ℤ) → List ℕ
+places_by test n [] = []
+places_by test n (v ∷ values) =
+    if test v then n ∷ places_by test (n + 1) values else places_by test (n + 1) values
+
+-- the places of the entries whose values pass a test, entry by entry
+abbrev pub gathered_by : (Option ℤ → Bool) → List (ℤ × SmallVec ℕ) → List ℕ
+gathered_by test entries = flat_map (λ e. e.1.items) (filter (λ e. test (Some e.0)) entries)
+
 -- the places, counted from n, of the values between two bounds, rising
 abbrev pub places_between : Option ℤ → Option ℤ → ℕ → List (Option ℤ) → List ℕ
-places_between from to n [] = []
-places_between from to n (v ∷ values) =
-    if lies from to v then n ∷ places_between from to (n + 1) values else places_between from to (n + 1) values
+places_between from to n values = places_by (lies from to) n values
 
 -- the places of the entries whose values lie between two bounds, entry by entry
 abbrev pub gathered : Option ℤ → Option ℤ → List (ℤ × SmallVec ℕ) → List ℕ
-gathered from to entries = flat_map (λ e. e.1.items) (filter (λ e. lies from to (Some e.0)) entries)
+gathered from to entries = gathered_by (lies from to) entries
+
+-- whether there is a value, and it lies in the window
+abbrev pub lies_at : Option ℤ → Window → Bool
+lies_at v window = lies (Some window.from) (Some window.to) v
+
+-- whether it lies in one of these windows
+abbrev pub lies_in : List Window → Option ℤ → Bool
+lies_in windows v = list_any (lies_at v) windows
+
+-- no value lies in two of these windows
+abbrev pub AreApart : List Window → Type 0
+AreApart [] = ⊤
+AreApart (window ∷ windows) =
+    ((v : Option ℤ) → lies_at v window ≡ true → lies_in windows v ≡ false) × AreApart windows
+
+-- the places of the entries whose values lie in the window, entry by entry
+abbrev pub gathered_at : Window → List (ℤ × SmallVec ℕ) → List ℕ
+gathered_at window entries = gathered (Some window.from) (Some window.to) entries
+
+-- the places of the entries whose values lie in these windows, window by window
+abbrev pub gathered_in : List Window → List (ℤ × SmallVec ℕ) → List ℕ
+gathered_in windows entries = flat_map (λ window. gathered_at window entries) windows
 
 -- the entries of a map of either kind
 abbrev pub entries_of : Map → List (ℤ × SmallVec ℕ)

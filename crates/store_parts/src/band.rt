@@ -2,7 +2,7 @@
 
 ghost use Rattle.std.specs.Prelude.{◌≡◌, ◌^◌, ◌+ℤ◌, ◌-ℤ◌, ◌&&◌, option_map, IfSome};
 ghost use Rattle.std.specs.Option.{ForSome};
-ghost use Rattle.store_parts.specs.Keyed.{greatest_at, least_at, value_at, HasColumns};
+ghost use Rattle.store_parts.specs.Keyed.{greatest_at, least_at, value_at};
 ghost use Rattle.theta_pred.specs.Keys.{atom_of, is_atom_true, is_from, is_up_to};
 ghost use Rattle.theta_pred.specs.Sizes.{IsAtMost};
 
@@ -105,9 +105,8 @@ pub(crate) fn is_equality(key: &KeyAtom) -> bool {
     }
 }
 
-// The value of a tuple that stands for a row of this side.
+// The value of a tuple of this side.
 pub(crate) fn value_of(key: &KeyAtom, side: Side, tuple: &Tuple) -> Option<i128>
-    requires { HasColumns key.now side tuple.now }
     ensures value { result ≡ value_at key.now side tuple.now }
     ensures small { IfSome result (IsAtMost (2 ^ 68)) }
 {

@@ -1,12 +1,23 @@
 // An index of values: at which places one stands that lies between two bounds.
 
 ghost use Rattle.std.specs.Prelude.{◌≡◌, ℤ, Option, Some, List, [], ◌∷◌, ◌++◌, length, IfOk, OnOk, OnErr};
-ghost use Rattle.store_parts.specs.Places.{entries_of, gathered, places_between, IsMapOf};
+ghost use Rattle.store_parts.specs.Places.{
+  entries_of,
+  gathered,
+  gathered_at,
+  gathered_in,
+  lies_in,
+  places_between,
+  places_by,
+  AreApart,
+  IsMapOf,
+};
 
 use crate::band::is_equality;
 use crate::hashed::{HashedMap, add_hashed, gather_hashed};
 use crate::ordered::{OrderedMap, add_ordered, gather_ordered};
-use crate::places::Found;
+use crate::places::{Found, Window};
+use smallvec::SmallVec;
 use std::alloc::{AllocError, Global};
 use std::collections::{BTreeMap, HashMap};
 use std::marker::Model;
@@ -46,6 +57,24 @@ impl Map {
             Map::Hashed(map) => gather_hashed(alloc, map, from, to),
         }
     }
+
+    fn gather_at(&self, alloc: Global, window: Window) -> Result<Found, AllocError>
+        ensures { IfOk result (λ found. found.items ≡ gathered_at window (entries_of self.now)) }
+    {
+        self.gather(alloc, Some(window.from), Some(window.to))
+    }
+}
+
+// The places of the values in these windows, window by window.
+fn gather_in(alloc: Global, map: &Map, windows: &[Window]) -> Result<Found, AllocError>
+    ensures { IfOk result (λ found. found.items ≡ gathered_in windows.now (entries_of map.now)) }
+{
+    let mut found = SmallVec::new(alloc);
+    for window in windows {
+        let more = map.gather_at(alloc, *window)?;
+        found.extend_from_slice(more.as_slice())?;
+    }
+    Ok(found)
 }
 
 // An index, seen as its values with their places, in no order that counts.
@@ -127,6 +156,18 @@ impl Index {
         found.sort_unstable();
         Ok(found)
     }
+
+    // The places of the values in these windows, rising.
+    pub(crate) fn within(&self, alloc: Global, windows: &[Window]) -> Result<Found, AllocError>
+        requires { AreApart windows.now }
+        ensures { IfOk result (λ found.
+            (values : List (Option ℤ)) → IsMapOf values self.now
+            → found.items ≡ places_by (lies_in windows.now) 0 values) }
+    {
+        let mut found = gather_in(alloc, &self.map, windows)?;
+        found.sort_unstable();
+        Ok(found)
+    }
 }
 
 // An index for the probes of a store with this key and access.
@@ -134,7 +175,11 @@ pub(crate) fn index_by(alloc: Global, key: &Option<KeyAtom>, access: &Option<Acc
     ensures { IsMapOf [] result }
 {
     match (key, access) {
-        (_, Some(_)) => Index::hashed(alloc),
+        (_, Some(access)) => if access.range.is_some() {
+            Index::ordered(alloc)
+        } else {
+            Index::hashed(alloc)
+        },
         (Some(key), None) => if is_equality(key) {
             Index::hashed(alloc)
         } else {

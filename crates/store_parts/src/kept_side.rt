@@ -3,10 +3,11 @@
 ghost use Rattle.std.specs.Prelude.{◌≡◌, ◌<◌, ◌≤◌, ◌^◌, List, [], ◌∷◌, ◌++◌, All, filter, IfOk, OnOk, OnErr};
 ghost use Rattle.epoch_tags.specs.declared.tuple.Tuple.{Tuple};
 ghost use Rattle.migration_plan.specs.Steps.{holds};
-ghost use Rattle.store_parts.specs.Keyed.{FitsKeyAt, IsIndexed};
+ghost use Rattle.store_parts.specs.Indexed.{IsIndexed};
+ghost use Rattle.store_parts.specs.Keyed.{FitsKeyAt};
 
 use crate::index::{Index, index_by};
-use crate::numbers::indexed_at;
+use crate::stands::indexed_at;
 use epoch_tags::{Tuple, Tuples};
 use grid_map::Shape;
 use join_rows::Side;

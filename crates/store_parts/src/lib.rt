@@ -6,14 +6,17 @@ mod copies;
 mod hashed;
 mod index;
 mod kept_side;
+mod looks;
 mod numbers;
 mod ordered;
 mod places;
 mod probe;
+mod stands;
 mod steps;
 mod store;
 mod which;
 
+pub use looks::Looks;
 pub use steps::Steps;
 pub use store::Store;
 pub use theta_pred::{Access, KeyAtom};

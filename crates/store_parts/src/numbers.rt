@@ -1,17 +1,25 @@
 // The numbers by which tuples are looked up, and whether two tuples agree.
 
-ghost use Rattle.std.specs.Prelude.{◌≡◌, ◌+◌, ◌*◌, ◌%◌, ◌^◌, pos, IfSome, Some};
+ghost use Rattle.std.specs.Prelude.{◌≡◌, ◌+◌, ◌*◌, ◌%◌, ◌^◌, option_map, pos, IfSome, Some};
 ghost use Rattle.theta_pred.specs.Keys.{is_between};
 ghost use Rattle.theta_pred.specs.Sizes.{IsAtMost};
-ghost use Rattle.store_parts.specs.Accessed.{is_admitted, number_at, number_from, number_of, value_on};
-ghost use Rattle.store_parts.specs.Keyed.{indexed_at, FitsKeyAt};
-ghost use Rattle.theta_pred.specs.Accesses.{agreement_of, agreements, agrees, do_agree};
+ghost use Rattle.store_parts.specs.Accessed.{is_admitted, numbered, number_from, number_of, value_on};
+ghost use Rattle.theta_pred.specs.Accesses.{
+  agree_in_all,
+  agreement_of,
+  agreements,
+  agrees,
+  do_agree,
+  is_in_range,
+  reach_of,
+  terms_of,
+};
 ghost use Rattle.theta_pred.specs.TextAtoms.{text_at};
 
-use crate::band::{difference, value_of};
+use crate::band::{difference, is_true_of};
 use epoch_tags::Tuple;
 use join_rows::{Cells, Side};
-use theta_pred::{Access, KeyAtom, Same};
+use theta_pred::{Access, Range, Same};
 
 // The text of a row in a column, empty where it has no such column.
 fn text_at(row: &Cells, column: u64) -> &[u8]
@@ -63,9 +71,9 @@ fn value_on(same: &Same, side: Side, row: &Cells) -> Option<i128>
     }
 }
 
-// The number of a tuple of this side, of all its values.
+// The number of a tuple of this side, of all its values in which rows are equal.
 pub(crate) fn number(access: &Access, side: Side, tuple: &Tuple) -> Option<i128>
-    ensures { result ≡ number_at access.now side tuple.now }
+    ensures { result ≡ numbered side (pos 0) access.now.sames tuple.now.cells }
 {
     let mut number = 0i128;
     for same in access.sames.as_slice() {
@@ -99,9 +107,9 @@ fn agrees(same: &Same, r: &Cells, s: &Cells) -> bool
     }
 }
 
-// Whether they agree in all.
-fn do_agree(access: &Access, r: &Cells, s: &Cells) -> bool
-    ensures { result ≡ do_agree (agreements access.now) r.now s.now }
+// Whether they agree in all equalities.
+fn agree_in_all(access: &Access, r: &Cells, s: &Cells) -> bool
+    ensures { result ≡ agree_in_all (agreements access.now) r.now s.now }
 {
     for same in access.sames.as_slice() {
         if !agrees(same, r, s) {
@@ -111,6 +119,25 @@ fn do_agree(access: &Access, r: &Cells, s: &Cells) -> bool
     true
 }
 
+// Whether the sums of two rows lie as the range says, where there is one.
+fn is_in_range(range: &Option<Range>, r: &Cells, s: &Cells) -> bool
+    ensures { result ≡ is_in_range (option_map reach_of range.now) r.now s.now }
+{
+    match range {
+        None => true,
+        Some(Range::Span(atom)) => is_true_of(atom, r, s),
+        Some(Range::Interval(interval)) => is_true_of(&interval.lower, r, s)
+            && is_true_of(&interval.upper, r, s),
+    }
+}
+
+// Whether two rows agree in all.
+fn do_agree(access: &Access, r: &Cells, s: &Cells) -> bool
+    ensures { result ≡ do_agree (terms_of access.now) r.now s.now }
+{
+    agree_in_all(access, r, s) && is_in_range(&access.range, r, s)
+}
+
 // Whether a tuple that probes and a stored one agree in all.
 pub(crate) fn is_admitted(access: &Access, tuple: &Tuple, other: &Tuple) -> bool
     ensures { result ≡ is_admitted access.now tuple.now other.now }
@@ -118,22 +145,5 @@ pub(crate) fn is_admitted(access: &Access, tuple: &Tuple, other: &Tuple) -> bool
     match tuple.side {
         Side::R => do_agree(access, &tuple.cells, &other.cells),
         Side::S => do_agree(access, &other.cells, &tuple.cells),
-    }
-}
-
-// By what number a tuple of this side stands in the index.
-pub(crate) fn indexed_at(
-    key: &Option<KeyAtom>,
-    access: &Option<Access>,
-    side: Side,
-    tuple: &Tuple,
-) -> Option<i128>
-    requires { FitsKeyAt key.now side tuple.now }
-    ensures { result ≡ indexed_at key.now access.now side tuple.now }
-{
-    match (key, access) {
-        (_, Some(access)) => number(access, side, tuple),
-        (Some(key), None) => value_of(key, side, tuple),
-        (None, None) => None,
     }
 }

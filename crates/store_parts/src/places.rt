@@ -1,4 +1,4 @@
-// The places of one value, and those that a probe looks at.
+// The places of one value, those that a probe looks at, and where it asks for them.
 
 use smallvec::SmallVec;
 
@@ -11,3 +11,12 @@ pub(crate) type Places = SmallVec<u64, FEW>;
 const SOME: usize = 4;
 
 pub(crate) type Found = SmallVec<u64, SOME>;
+
+// Two bounds between which an index is read.
+#[derive(Clone, Copy, Default)]
+pub struct Window {
+    pub from: i128,
+    pub to: i128,
+}
+
+pub(crate) type Windows = SmallVec<Window, 1>;

@@ -1,27 +1,33 @@
 // The pairs of a tuple with stored ones.
 
-ghost use Rattle.std.specs.Prelude.{◌≡◌, ◌+◌, ◌<◌, [], ◌∷◌, ◌++◌, length, All, count_by, filter, slice_get, Some, IfOk, OnOk, OnErr};
+ghost use Rattle.std.specs.Prelude.{◌≡◌, ◌+◌, ◌<◌, [], ◌∷◌, ◌++◌, length, All, count_by, filter, slice_get, Some, None};
+ghost use Rattle.std.specs.Prelude.{IfOk, OnOk, OnErr};
 ghost use Rattle.store_parts.specs.Accessed.{is_admitted};
-ghost use Rattle.store_parts.specs.Keyed.{at_places, is_key_true, numbers_at, values_at, HasColumns};
+ghost use Rattle.store_parts.specs.Indexed.{numbers_at};
+ghost use Rattle.store_parts.specs.Keyed.{at_places, is_key_true, values_at};
 ghost use Rattle.store_parts.specs.Matches.{
   admitted,
   does_match,
+  does_stand,
   evaluated,
   is_named,
   matches,
   other_side,
   pair_of,
+  stands_by,
   AppendsFront,
   HasWidth,
 };
 ghost use Rattle.store_parts.specs.Places.{IsMapOf};
 ghost use Rattle.theta_pred.specs.Keys.{atom_of, key_of};
-ghost use Rattle.theta_pred.specs.Accesses.{access_of, agreements};
+ghost use Rattle.theta_pred.specs.Accesses.{access_of, terms_of};
 
 use crate::band::{greatest, is_true_of, least, value_of};
 use crate::index::Index;
-use crate::numbers::{is_admitted, number};
+use crate::looks::Looks;
+use crate::numbers::is_admitted;
 use crate::places::Found;
+use crate::stands::asked;
 use crate::steps::Steps;
 use crate::which::Which;
 use epoch_tags::{Pair, Pairs, Tuple};
@@ -150,8 +156,7 @@ fn candidates(
     index: &Index,
     key: &KeyAtom,
 ) -> Result<Found, AllocError>
-    requires columns { HasColumns key.now tuple.now.side tuple.now }
-    requires index { IsMapOf
+    requires { IsMapOf
         (values_at key.now (other_side tuple.now.side) others.now) index.now }
     ensures keyed { IfOk result (λ places.
         at_places others.now places.items ≡ filter (is_key_true key.now tuple.now) others.now) }
@@ -165,6 +170,34 @@ fn candidates(
         least(key, tuple.side, value),
         greatest(key, tuple.side, value),
     )
+}
+
+// The stored tuples at these places, with which the key atom is true.
+fn try_keyed<L: Ledger>(
+    tuple: &Tuple,
+    others: &[Tuple],
+    places: &[u64],
+    key: &KeyAtom,
+    theta: &Theta,
+    which: Which,
+    found: &mut Pairs,
+    steps: &mut Steps<L>,
+) -> Result<(), AllocError>
+    requires width { HasWidth theta.now tuple.now.side tuple.now }
+    requires other_widths { All (HasWidth theta.now (other_side tuple.now.side)) others.now }
+    requires own { key_of theta.now.formula ≡ Some (atom_of key.now) }
+    requires keyed { at_places others.now places.now
+        ≡ filter (is_key_true key.now tuple.now) others.now }
+    requires below { All (λ place. place < length others.now) places.now }
+    ensures ok { OnOk result
+        (found.new ≡ found.old ++ matches theta.now tuple.now which others.now) }
+    ensures err { OnErr result
+        (AppendsFront found.old found.new (matches theta.now tuple.now which others.now)) }
+    ensures steps { OnOk result
+        (steps.new ≡ steps.old + evaluated (Some key.now) tuple.now which others.now) }
+{
+    theta.key_law();
+    try_places(tuple, others, places, theta, which, found, steps)
 }
 
 // The tuples of the other side with which the key atom is true.
@@ -191,9 +224,82 @@ pub(crate) fn seek<L: Ledger>(
     ensures steps { OnOk result
         (steps.new ≡ steps.old + evaluated (Some key.now) tuple.now which others.now) }
 {
-    theta.key_law();
     let places = candidates(alloc, tuple, others, index, key)?;
-    try_places(tuple, others, places.as_slice(), theta, which, found, steps)
+    try_keyed(
+        tuple,
+        others,
+        places.as_slice(),
+        key,
+        theta,
+        which,
+        found,
+        steps,
+    )
+}
+
+// The same, where looks are counted.
+pub(crate) fn find_keyed<L: Ledger, M: Ledger>(
+    alloc: Global,
+    tuple: &Tuple,
+    others: &[Tuple],
+    index: &Index,
+    key: &KeyAtom,
+    theta: &Theta,
+    which: Which,
+    found: &mut Pairs,
+    steps: &mut Steps<L>,
+    looks: &mut Looks<M>,
+) -> Result<(), AllocError>
+    requires width { HasWidth theta.now tuple.now.side tuple.now }
+    requires other_widths { All (HasWidth theta.now (other_side tuple.now.side)) others.now }
+    requires own { key_of theta.now.formula ≡ Some (atom_of key.now) }
+    requires index { IsMapOf
+        (values_at key.now (other_side tuple.now.side) others.now) index.now }
+    ensures ok { OnOk result
+        (found.new ≡ found.old ++ matches theta.now tuple.now which others.now) }
+    ensures err { OnErr result
+        (AppendsFront found.old found.new (matches theta.now tuple.now which others.now)) }
+    ensures steps { OnOk result
+        (steps.new ≡ steps.old + evaluated (Some key.now) tuple.now which others.now) }
+    ensures looks { OnOk result
+        (looks.new ≡ looks.old + count_by (is_key_true key.now tuple.now) others.now) }
+{
+    let places = candidates(alloc, tuple, others, index, key)?;
+    looks.note(places.as_slice());
+    try_keyed(
+        tuple,
+        others,
+        places.as_slice(),
+        key,
+        theta,
+        which,
+        found,
+        steps,
+    )
+}
+
+// All tuples of the other side, where looks are counted.
+pub(crate) fn find_each<L: Ledger, M: Ledger>(
+    tuple: &Tuple,
+    others: &[Tuple],
+    theta: &Theta,
+    which: Which,
+    found: &mut Pairs,
+    steps: &mut Steps<L>,
+    looks: &mut Looks<M>,
+) -> Result<(), AllocError>
+    requires width { HasWidth theta.now tuple.now.side tuple.now }
+    requires other_widths { All (HasWidth theta.now (other_side tuple.now.side)) others.now }
+    ensures ok { OnOk result
+        (found.new ≡ found.old ++ matches theta.now tuple.now which others.now) }
+    ensures err { OnErr result
+        (AppendsFront found.old found.new (matches theta.now tuple.now which others.now)) }
+    ensures steps { OnOk result (steps.new ≡ steps.old + count_by (is_named which) others.now) }
+    ensures looks { OnOk result
+        (looks.new ≡ looks.old + count_by (stands_by None None tuple.now) others.now) }
+{
+    looks.note_all(others.len() as u64);
+    scan(tuple, others, theta, which, found, steps)
 }
 
 // Of these places those of the stored tuples that agree with the tuple.
@@ -218,8 +324,8 @@ fn places_of_admitted(
     Ok(kept)
 }
 
-// The places, rising, of the stored tuples with the tuple's number.
-fn places_of_number(
+// The places, rising, of the stored tuples that stand where the tuple asks.
+fn places_asked(
     alloc: Global,
     tuple: &Tuple,
     others: &[Tuple],
@@ -228,19 +334,16 @@ fn places_of_number(
 ) -> Result<Found, AllocError>
     requires { IsMapOf
         (numbers_at access.now (other_side tuple.now.side) others.now) index.now }
-    ensures admitted { IfOk result (λ places.
-        filter (is_admitted access.now tuple.now) (at_places others.now places.items)
-        ≡ filter (is_admitted access.now tuple.now) others.now) }
+    ensures stands { IfOk result (λ places.
+        at_places others.now places.items ≡ filter (does_stand access.now tuple.now) others.now) }
     ensures below { IfOk result (λ places. All (λ place. place < length others.now) places.items) }
 {
-    let Some(number) = number(access, tuple.side, tuple) else {
-        return Ok(SmallVec::new(alloc));
-    };
-    index.between(alloc, Some(number), Some(number))
+    let windows = asked(alloc, access, tuple)?;
+    index.within(alloc, windows.as_slice())
 }
 
 // The tuples of the other side that agree with the tuple.
-pub(crate) fn seek_by<L: Ledger>(
+pub(crate) fn seek_by<L: Ledger, M: Ledger>(
     alloc: Global,
     tuple: &Tuple,
     others: &[Tuple],
@@ -250,10 +353,11 @@ pub(crate) fn seek_by<L: Ledger>(
     which: Which,
     found: &mut Pairs,
     steps: &mut Steps<L>,
+    looks: &mut Looks<M>,
 ) -> Result<(), AllocError>
     requires width { HasWidth theta.now tuple.now.side tuple.now }
     requires other_widths { All (HasWidth theta.now (other_side tuple.now.side)) others.now }
-    requires own { access_of theta.now.formula ≡ Some (agreements access.now) }
+    requires own { access_of theta.now.formula ≡ Some (terms_of access.now) }
     requires index { IsMapOf
         (numbers_at access.now (other_side tuple.now.side) others.now) index.now }
     ensures ok { OnOk result
@@ -262,9 +366,12 @@ pub(crate) fn seek_by<L: Ledger>(
         (AppendsFront found.old found.new (matches theta.now tuple.now which others.now)) }
     ensures steps { OnOk result
         (steps.new ≡ steps.old + admitted access.now tuple.now which others.now) }
+    ensures looks { OnOk result
+        (looks.new ≡ looks.old + count_by (does_stand access.now tuple.now) others.now) }
 {
     theta.access_law();
-    let places = places_of_number(alloc, tuple, others, index, access)?;
+    let places = places_asked(alloc, tuple, others, index, access)?;
+    looks.note(places.as_slice());
     let kept = places_of_admitted(alloc, tuple, others, access, places.as_slice())?;
     try_places(tuple, others, kept.as_slice(), theta, which, found, steps)
 }

@@ -1,13 +1,15 @@
 // The store.
 
-ghost use Rattle.std.specs.Prelude.{◌≡◌, ◌+◌, ◌<◌, ◌≤◌, ◌^◌, [], ◌++◌, Some, None, All, IfOk, OnOk, OnErr};
+ghost use Rattle.std.specs.Prelude.{◌≡◌, ◌+◌, ◌<◌, ◌≤◌, ◌^◌, [], ◌++◌, count_by, Some, None, All, IfOk, OnOk, OnErr};
 ghost use Rattle.store_parts.specs.Accessed.{IsOwnAccess};
-ghost use Rattle.store_parts.specs.Keyed.{FitsKey, IsIndexed, IsOwn};
+ghost use Rattle.store_parts.specs.Indexed.{IsIndexed};
+ghost use Rattle.store_parts.specs.Keyed.{FitsKey, IsOwn};
 ghost use Rattle.store_parts.specs.Matches.{
   evaluated,
   looked_at,
   matches,
   other_side,
+  stands_by,
   AppendsFront,
   HasWidth,
 };
@@ -16,7 +18,8 @@ ghost use Rattle.store_parts.specs.Stored.{kept_of, others_of, side_of, with_tup
 use crate::copies::{access_copy, key_copy};
 use crate::index::{Index, index_by};
 use crate::kept_side::{add_to, index_of, kept_side};
-use crate::probe::{scan, seek, seek_by, sift};
+use crate::looks::Looks;
+use crate::probe::{find_each, find_keyed, scan, seek, seek_by, sift};
 use crate::steps::Steps;
 use crate::which::Which;
 use epoch_tags::{Pairs, Tuple, Tuples};
@@ -41,7 +44,7 @@ pub struct Store {
 
 impl Model for Store {
     ghost use Rattle.join_rows.specs.declared.table.Side.TheVariants.{R, S};
-    ghost use Rattle.store_parts.specs.Keyed.{IsIndexed};
+    ghost use Rattle.store_parts.specs.Indexed.{IsIndexed};
     ghost use Rattle.store_parts.specs.Stored.{Stored, AreSided};
 
     ghost Value = { Stored };
@@ -53,7 +56,33 @@ impl Model for Store {
         × IsIndexed store.key store.access S store.s store.s_index };
 }
 
-// A joiner's probe that counts from this blank on.
+// A joiner's probe whose looks are counted from this blank on.
+fn look_from<L: Ledger, M: Ledger>(
+    store: &Store,
+    tuple: &Tuple,
+    theta: &Theta,
+    which: Which,
+    found: &mut Pairs,
+    steps: &mut Steps<L>,
+    blank: Blank,
+) -> Result<(), AllocError>
+    requires width { HasWidth theta.now tuple.now.side tuple.now }
+    requires widths { HaveWidths theta.now store.now }
+    requires own { IsOwn theta.now store.now.key }
+    requires access { IsOwnAccess theta.now store.now.access }
+    requires name { blank.name ≡ M.name }
+    requires parts { blank.parts ≡ M.parts }
+    requires some { 0 < blank.parts }
+    ensures ok { let others = others_of store.now tuple.now in
+        OnOk result (found.new ≡ found.old ++ matches theta.now tuple.now which others) }
+    ensures err { let others = others_of store.now tuple.now in
+        OnErr result (AppendsFront found.old found.new (matches theta.now tuple.now which others)) }
+{
+    let mut looks = Looks::<M>::new(blank);
+    store.find(tuple, theta, which, found, steps, &mut looks)
+}
+
+// A joiner's probe whose steps are counted from this blank on.
 fn find_from<L: Ledger>(
     store: &Store,
     tuple: &Tuple,
@@ -75,7 +104,7 @@ fn find_from<L: Ledger>(
         OnErr result (AppendsFront found.old found.new (matches theta.now tuple.now which others)) }
 {
     let mut steps = Steps::<L>::new(blank);
-    store.find(tuple, theta, which, found, &mut steps)
+    look_from::<L, Brand>(store, tuple, theta, which, found, &mut steps, Blank::new(1))
 }
 
 impl Store {
@@ -218,14 +247,17 @@ impl Store {
     }
 
     /// Appends the same pairs, found by the store's access where it has one. It evaluates the predicate for just the
-    /// stored tuples that `which` names and that agree with this one in all of the access.
-    pub fn find<L: Ledger>(
+    /// stored tuples that `which` names and that agree with this one in all of the access, and looks at just those
+    /// whose number lies between those that this one asks for; others that agree in nothing may have such a number.
+    /// A look is one stored tuple whose place the index gave. Nothing is said of either number after want of memory.
+    pub fn find<L: Ledger, M: Ledger>(
         &self,
         tuple: &Tuple,
         theta: &Theta,
         which: Which,
         found: &mut Pairs,
         steps: &mut Steps<L>,
+        looks: &mut Looks<M>,
     ) -> Result<(), AllocError>
         requires width { HasWidth theta.now tuple.now.side tuple.now }
         requires widths { HaveWidths theta.now self.now }
@@ -239,17 +271,20 @@ impl Store {
         ensures steps { let others = others_of self.now tuple.now in
             OnOk result
             (steps.new ≡ steps.old + looked_at self.now.key self.now.access tuple.now which others) }
+        ensures looks { let others = others_of self.now tuple.now in
+            OnOk result (looks.new ≡ looks.old
+            + count_by (stands_by self.now.key self.now.access tuple.now) others) }
     {
         let others = self.others(tuple.side);
         let index = self.others_index(tuple.side);
         match (&self.access, &self.key) {
             (Some(access), _) => seek_by(
-                self.alloc, tuple, others, index, access, theta, which, found, steps,
+                self.alloc, tuple, others, index, access, theta, which, found, steps, looks,
             ),
-            (None, Some(key)) => seek(
-                self.alloc, tuple, others, index, key, theta, which, found, steps,
+            (None, Some(key)) => find_keyed(
+                self.alloc, tuple, others, index, key, theta, which, found, steps, looks,
             ),
-            (None, None) => scan(tuple, others, theta, which, found, steps),
+            (None, None) => find_each(tuple, others, theta, which, found, steps, looks),
         }
     }
 

@@ -1,5 +1,5 @@
 use Rattle.std.proofs.Common.{◌≡◌, take}
-use Rattle.store_parts.specs.Keyed.{IsIndexed}
+use Rattle.store_parts.specs.Indexed.{IsIndexed}
 use Rattle.store_parts.proofs.kept_side.index_of.Given as goal
 
 abbrev pub invariant-loop-tuple : goal.invariant-loop-tuple

@@ -1,6 +1,6 @@
 use Rattle.std.proofs.Common.{◌≡◌, take, filter}
 use Rattle.migration_plan.specs.Steps.{holds}
-use Rattle.store_parts.specs.Keyed.{IsIndexed}
+use Rattle.store_parts.specs.Indexed.{IsIndexed}
 use Rattle.store_parts.proofs.kept_side.kept_side.Given as goal
 
 abbrev pub invariant-loop-tuple : goal.invariant-loop-tuple

@@ -17,7 +17,7 @@ returns-clause-keyed c =
     let fits : SFits w128 c.in-Some.value = search rules in
     let given = band_given c.between.result (λ x. x.items) c.args.key.now c.args.tuple.now c.args.others.now
     c.args.index.now _ c.in-Some.value c.least.result c.greatest.result
-    (to_z-of_z w128 c.in-Some.value fits) c.least.ensures c.greatest.ensures c.requires.index c.between.ensures in
+    (to_z-of_z w128 c.in-Some.value fits) c.least.ensures c.greatest.ensures c.requires c.between.ensures in
     keyed_from_band c.between.result (λ x. x.items) c.args.key.now c.args.tuple.now c.args.others.now c.in-Some.value
     (sym c.value_of.ensures.value ∙ c.in-Some.is) given
 
@@ -26,6 +26,6 @@ returns-clause-below c =
     let fits : SFits w128 c.in-Some.value = search rules in
     let given = band_given c.between.result (λ x. x.items) c.args.key.now c.args.tuple.now c.args.others.now
     c.args.index.now _ c.in-Some.value c.least.result c.greatest.result
-    (to_z-of_z w128 c.in-Some.value fits) c.least.ensures c.greatest.ensures c.requires.index c.between.ensures in
+    (to_z-of_z w128 c.in-Some.value fits) c.least.ensures c.greatest.ensures c.requires c.between.ensures in
     below_from_band c.between.result (λ x. x.items) c.args.key.now c.args.tuple.now c.args.others.now c.in-Some.value
     given

@@ -3,7 +3,7 @@ use Rattle.std.proofs.lemmas.Option.{slice_get-get_or}
 use Rattle.std.proofs.lemmas.List.Elements.{All-push}
 use Rattle.store_parts.specs.Accessed.{is_admitted}
 use Rattle.store_parts.specs.Keyed.{at_places}
-use Rattle.store_parts.proofs.SameNumbers.{kept_one, kept_none}
+use Rattle.store_parts.proofs.AccessProbes.{kept_one, kept_none}
 use Rattle.store_parts.proofs.probe.places_of_admitted.Goals as goal
 use Rattle.store_parts.proofs.probe.places_of_admitted.Goals.{then-is_admitted+in_ok-push, else-is_admitted}
 
