@@ -124,5 +124,5 @@ pub range_of-law : (r s : List Cell) (atoms : List Atom) → are_true r s atoms 
     → is_in_range (range_of atoms) r s ≡ true
 range_of-law r s atoms all =
     first_in r s (first_narrow atoms atoms) (option_map span (first_met atoms))
-        (first_narrow_in r s atoms atoms all all)
+    (first_narrow_in r s atoms atoms all all)
     (first_met_in r s atoms all)
