@@ -23,7 +23,7 @@ use Rattle.store_parts.specs.Stored.{HaveWidths}
 use Rattle.store_parts.proofs.Sides.{matches-both, probed_at as probed_at'}
 use Rattle.joiner_law.specs.History.{probed_at, probed}
 use Rattle.theta_pred.specs.declared.agree.Access.{Access}
-use Rattle.theta_pred.specs.Accesses.{agreements}
+use Rattle.theta_pred.specs.Accesses.{terms_of}
 use Rattle.store_parts.specs.Accessed.{IsOwnAccess}
 use Rattle.joiner_core.specs.State.{does_hold, named_by, tuples_of, by_side, placed, stocked_of, with_placed, IsKeyOf}
 use Rattle.joiner_core.specs.State.{IsAccessOf, IsRow, AreRows}
@@ -139,7 +139,7 @@ own-key theta key is = λ (atom : Atom) has. sym is ∙ has
 
 -- where a store has the predicate's access, and none if it has none, an access that it has is the predicate's own
 pub own-access : (theta : Meaning) (access : Option Access) → IsAccessOf theta access → IsOwnAccess theta access
-own-access theta access is = λ (own : Access) has. sym is ∙ ap (option_map agreements) has
+own-access theta access is = λ (own : Access) has. sym is ∙ ap (option_map terms_of) has
 
 -- ---- what is kept
 

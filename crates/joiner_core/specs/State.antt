@@ -12,7 +12,7 @@ use Rattle.migration_plan.specs.Steps.{holds, is_of}
 use Rattle.theta_pred.specs.declared.atom.KeyAtom.{KeyAtom}
 use Rattle.theta_pred.specs.Keys.{atom_of, key_of}
 use Rattle.theta_pred.specs.declared.agree.Access.{Access}
-use Rattle.theta_pred.specs.Accesses.{agreements, access_of}
+use Rattle.theta_pred.specs.Accesses.{access_of, terms_of}
 use Rattle.store_parts.specs.Stored.{Stored}
 use Rattle.epoch_tags.specs.declared.actor.Actor.TheVariants.{Joiner as Joiner'}
 use Rattle.epoch_tags.specs.declared.message.Msg.{Msg}
@@ -80,7 +80,7 @@ IsKeyOf theta key = option_map atom_of key ≡ key_of theta.formula
 
 -- the access is the predicate's, and there is none where the predicate has none
 abbrev pub IsAccessOf : Meaning → Option Access → Type 0
-IsAccessOf theta access = option_map agreements access ≡ access_of theta.formula
+IsAccessOf theta access = option_map terms_of access ≡ access_of theta.formula
 
 -- ---- the epochs
 
