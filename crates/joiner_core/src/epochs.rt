@@ -104,6 +104,14 @@ impl<'a> Epochs<'a> {
         self.store.store()
     }
 
+    // The store of that epoch, for good.
+    pub(crate) fn into_store(self) -> Store
+        ensures { stocked_of result ≡ self.entry.store }
+    {
+        let Epochs { store, .. } = self;
+        store.into_store()
+    }
+
     pub(crate) fn feeders(&self) -> u32
         ensures { result ≡ self.now.feeders }
     {

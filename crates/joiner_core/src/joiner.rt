@@ -62,6 +62,17 @@ fn accessed(theta: &Theta, base: Store) -> Result<Store, AllocError>
     base.with_access(theta.access()?)
 }
 
+/// A store with no tuples, the predicate's key atom and its access, as a joiner of that predicate has at the beginning
+/// of a run.
+pub fn first_store(alloc: Global, theta: &Theta) -> Result<Store, AllocError>
+    ensures empty { IfOk result (λ store. tuples_of store ≡ []) }
+    ensures key { IfOk result (λ store. IsKeyOf theta.now store.key) }
+    ensures access { IfOk result (λ store. IsAccessOf theta.now store.access) }
+{
+    let store = empty_store(alloc, theta)?;
+    accessed(theta, store)
+}
+
 // Whether two joiners of 2 ^ k differ in one bit of their ids.
 fn differ_in_one_bit(k: u32, from: u32, to: u32) -> bool
     requires { k ≤ 8 }
@@ -217,6 +228,18 @@ impl<'a> Joiner<'a> {
             → SameBag (tuples_of result.now) (store start stands.taken stands.law.done) }
     {
         self.machine.epochs.settled_store()
+    }
+
+    /// The rows that it holds in its settled epoch, for good: once it is finished, those of its last store.
+    pub fn into_store(self) -> Store
+        ensures key { ¬ IsSpent self.entry → IsKeyOf (theta_of self.entry) result.key }
+        ensures access { ¬ IsSpent self.entry → IsAccessOf (theta_of self.entry) result.access }
+        ensures tuples { (start : JoinerStart) (lists : JoinerLists)
+            (stands : StandsFor start lists self.entry)
+            → SameBag (tuples_of result) (store start stands.taken stands.law.done) }
+    {
+        let Joiner { machine, .. } = self;
+        machine.epochs.into_store()
     }
 
     /// Whether want of memory has stopped it.

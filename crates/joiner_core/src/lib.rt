@@ -13,4 +13,4 @@ mod trial;
 mod tup;
 mod turn;
 
-pub use joiner::Joiner;
+pub use joiner::{Joiner, first_store};

@@ -57,6 +57,12 @@ impl Stock {
         &self.store
     }
 
+    pub(crate) fn into_store(self) -> Store
+        ensures { stocked_of result ≡ self }
+    {
+        self.store
+    }
+
     pub(crate) fn add(&mut self, theta: &Theta, tuple: Tuple) -> Result<(), AllocError>
         requires row { IsRow theta.now tuple }
         requires key { IsKeyOf theta.now self.old.key }
