@@ -14,15 +14,16 @@ use Rattle.trace_law.specs.declared.run.Run.{Run}
 use Rattle.trace_law.specs.Validity.{IsValid}
 use Rattle.trace_law.specs.Runs.{IsRunOf, run_of}
 use Rattle.trace_law.specs.Laws.{CompleteIsFinished, FinishedAnswers}
-use Rattle.trace_law.specs.Family.{IsAgreeing, first_rest}
+use Rattle.trace_law.specs.Family.{Rest, IsAgreeing, IsRestFor, first_rest}
 use Rattle.trace_law.proofs.First.{stands as first_stands}
 use Rattle.actor_core.specs.Lists.{ActorLists, collector_lists}
 use Rattle.actor_core.specs.Standing.{Stands, OfCollector, IsOver}
-use Rattle.actor_core.specs.Families.{AreFronts, IsActor, core_in, family_of, journal_of, start_for}
+use Rattle.actor_core.specs.Families.{AreFronts, IsActor, core_in, family_of, journal_of, start_in_wave}
 use Rattle.actor_core.specs.Numbers.{number, at_number}
 use Rattle.actor_core.specs.Elements.{IsAllAt}
 use Rattle.actor_core.specs.Endings.{AreLast, IsAnswerOf}
-use Rattle.actor_core.specs.Players.{AllStand, IsFinishedFamily, is_complete_among, is_complete_at, is_complete_core}
+use Rattle.actor_core.specs.Players.{AllStand, AllStandInWave, IsFinishedFamily, IsFinishedWave, is_complete_among}
+use Rattle.actor_core.specs.Players.{is_complete_at, is_complete_core}
 use Rattle.actor_core.specs.Players.{journal_among, journal_at}
 use Rattle.actor_core.specs.declared.machines.Core.{Core}
 use Rattle.actor_core.specs.declared.machines.Core.TheVariants.{Feeder as TheFeeder, Joiner as TheJoiner}
@@ -72,13 +73,14 @@ module _ (joiners feeders : ℕ) (cores : List Core) (all : length cores ≡ fee
   pub collector_complete : is_complete_among joiners feeders cores ≡ true → is_complete collector ≡ true
   collector_complete done = sym (ap is_complete_at collector_named) ∙ done
 
--- ---- the family
+-- ---- the family of a wave
 
-module _ (input : Input) (setting : Setting) (joiners feeders : ℕ) (cores : List Core) (f : Actor → ActorLists)
-    (all : AllStand input setting joiners feeders cores f) (fronts : AreFronts f) where
-  -- each actor of the run has a machine that stands for the actor's lists
-  abbrev pub machines : (a : Actor) → IsActor setting a → (core : Core) × Stands (start_for input setting a) (f a) core
-  machines a is = ((all.stands a is).0, (all.stands a is).2)
+module _ (input : Input) (setting : Setting) (rest : Rest) (joiners feeders : ℕ) (cores : List Core)
+    (f : Actor → ActorLists) (all : AllStandInWave input setting rest joiners feeders cores f)
+    (fronts : AreFronts f) where
+  abbrev pub machines_in_wave : (a : Actor) → IsActor setting a
+      → (core : Core) × Stands (start_in_wave input setting rest a) (f a) core
+  machines_in_wave a is = ((all.stands a is).0, (all.stands a is).2)
 
   abbrev journal : List TurnLine
   journal = journal_among joiners feeders cores
@@ -88,45 +90,43 @@ module _ (input : Input) (setting : Setting) (joiners feeders : ℕ) (cores : Li
   journal_is = ap journal_at (all.stands Controller tt).1
 
   -- the lists agree
-  pub agrees : IsAgreeing input setting (first_rest setting) (family_of journal f)
-  agrees =
-      subst (λ js. IsAgreeing input setting (first_rest setting) (family_of js f)) (sym journal_is)
-      (agreeing input setting f machines fronts ⊥ (λ w. absurd w))
+  pub agrees_in_wave : IsAgreeing input setting rest (family_of journal f)
+  agrees_in_wave =
+      subst (λ js. IsAgreeing input setting rest (family_of js f)) (sym journal_is)
+      (agreeing input setting rest f machines_in_wave fronts ⊥ (λ w. absurd w))
 
   -- where the collector is complete, they are finished
-  pub complete_finished : CompleteIsFinished → IsValid input setting → is_complete_among joiners feeders cores ≡ true
-      → IsFinishedFamily input setting journal f
-  complete_finished law valid done =
+  pub complete_in_wave : CompleteIsFinished → IsValid input setting → IsRestFor input setting rest
+      → is_complete_among joiners feeders cores ≡ true → IsFinishedWave input setting rest journal f
+  complete_in_wave law valid begins done =
       let own = all.stands Collector tt in
-      let begins = first_stands input setting valid in
       let collected = core_says (2 ^ setting.k) (f Collector) own.0 own.2 (sym (ap is_complete_at own.1) ∙ done) in
       record {
-        agrees = agrees;
-        finished = law input setting (first_rest setting) (family_of journal f) valid begins agrees collected;
+        agrees = agrees_in_wave;
+        finished = law input setting rest (family_of journal f) valid begins agrees_in_wave collected;
       }
 
   -- and so they are where the work of all is over
-  pub over_finished : IsAllAt IsOver cores → IsFinishedFamily input setting journal f
-  over_finished over =
-      subst (λ js. IsFinishedFamily input setting js f) (sym journal_is)
+  pub over_in_wave : IsAllAt IsOver cores → IsFinishedWave input setting rest journal f
+  over_in_wave over =
+      subst (λ js. IsFinishedWave input setting rest js f) (sym journal_is)
       (record {
-        agrees = agreeing input setting f machines fronts ⊤ all_over;
-        finished = is_finished input setting f machines fronts ⊤ all_over tt;
+        agrees = agreeing input setting rest f machines_in_wave fronts ⊤ all_over;
+        finished = is_finished input setting rest f machines_in_wave fronts ⊤ all_over tt;
       })
     where
       found : (n : Option ℕ) (core : Core) → at_number None n (λ k. slice_get cores k) ≡ Some core → IsOver core
       found None core is = absurd (none_some core is)
       found (Some n) core is = over n core is
 
-      all_over : ⊤ → (a : Actor) (is : IsActor setting a) → IsOver (machines a is).0
+      all_over : ⊤ → (a : Actor) (is : IsActor setting a) → IsOver (machines_in_wave a is).0
       all_over u a is = found (number joiners feeders a) (all.stands a is).0 (all.stands a is).1
 
--- ---- the answer
-
--- the last two machines of a finished family answer its run
-module _ (law : FinishedAnswers) (input : Input) (setting : Setting) (joiners feeders : ℕ) (cores : List Core)
-    (f : Actor → ActorLists) (valid : IsValid input setting) (all : AllStand input setting joiners feeders cores f)
-    (family : IsFinishedFamily input setting (journal_among joiners feeders cores) f)
+-- the last two machines of a finished family of a wave answer its run
+module _ (law : FinishedAnswers) (input : Input) (setting : Setting) (rest : Rest) (joiners feeders : ℕ)
+    (cores : List Core) (f : Actor → ActorLists) (valid : IsValid input setting)
+    (begins : IsRestFor input setting rest) (all : AllStandInWave input setting rest joiners feeders cores f)
+    (family : IsFinishedWave input setting rest (journal_among joiners feeders cores) f)
     (controller : ControllerState) (collector : CollectorState) (last : AreLast cores controller collector)
     (bouts : ℕ) (run : Run) (answers : (joiners' : ℕ) (ls : CollectorLists) → CollectorStands joiners' ls collector
     → IsAnswerOf joiners' ls controller.journal bouts run) where
@@ -141,10 +141,8 @@ module _ (law : FinishedAnswers) (input : Input) (setting : Setting) (joiners fe
       let its = subst (λ core. Stands (OfCollector (2 ^ setting.k)) (f Collector) core) is own.2 in
       answers (2 ^ setting.k) (collector_lists (f Collector)) its
 
-  run_among : IsRunOf input setting (first_rest setting).line told run
+  run_among : IsRunOf input setting rest.line told run
   run_among =
-      let rest = first_rest setting in
-      let begins = first_stands input setting valid in
       let collected = answer.collected in
       let agreed = family.agrees in
       let is_run =
@@ -154,7 +152,38 @@ module _ (law : FinishedAnswers) (input : Input) (setting : Setting) (joiners fe
       answer.run_is ∙ ap (λ js. run_of collected js bouts) (sym journal_is) in
       subst (IsRunOf input setting rest.line told) (sym run_is) is_run
 
-  -- where the family is finished and the run is what its collector answers, the run is one of the input and setting,
-  -- with its own journal
-  pub run_ends : IsRunOf input setting (first_rest setting).line run.journal run
-  run_ends = subst (λ js. IsRunOf input setting (first_rest setting).line js run) (sym run_among.keeps) run_among
+  pub run_ends_in_wave : IsRunOf input setting rest.line run.journal run
+  run_ends_in_wave = subst (λ js. IsRunOf input setting rest.line js run) (sym run_among.keeps) run_among
+
+-- ---- the family of a run, that is of the wave that begins with no rows
+
+module _ (input : Input) (setting : Setting) (joiners feeders : ℕ) (cores : List Core) (f : Actor → ActorLists)
+    (all : AllStand input setting joiners feeders cores f) (fronts : AreFronts f) where
+  -- its lists agree
+  pub agrees : IsAgreeing input setting (first_rest setting) (family_of (journal_among joiners feeders cores) f)
+  agrees = agrees_in_wave input setting (first_rest setting) joiners feeders cores f all fronts
+
+  -- where the collector is complete, they are finished
+  pub complete_finished : CompleteIsFinished → IsValid input setting → is_complete_among joiners feeders cores ≡ true
+      → IsFinishedFamily input setting (journal_among joiners feeders cores) f
+  complete_finished law valid done =
+      complete_in_wave input setting (first_rest setting) joiners feeders cores f all fronts law valid
+      (first_stands input setting valid) done
+
+  -- and so they are where the work of all is over
+  pub over_finished : IsAllAt IsOver cores
+      → IsFinishedFamily input setting (journal_among joiners feeders cores) f
+  over_finished over = over_in_wave input setting (first_rest setting) joiners feeders cores f all fronts over
+
+-- the last two machines of a finished family answer its run
+pub run_ends : (law : FinishedAnswers) (input : Input) (setting : Setting) (joiners feeders : ℕ) (cores : List Core)
+    (f : Actor → ActorLists) → IsValid input setting → AllStand input setting joiners feeders cores f
+    → IsFinishedFamily input setting (journal_among joiners feeders cores) f
+    → (controller : ControllerState) (collector : CollectorState) → AreLast cores controller collector
+    → (bouts : ℕ) (run : Run)
+    → ((joiners' : ℕ) (ls : CollectorLists) → CollectorStands joiners' ls collector
+    → IsAnswerOf joiners' ls controller.journal bouts run)
+    → IsRunOf input setting (first_rest setting).line run.journal run
+run_ends law input setting joiners feeders cores f valid all family controller collector last bouts run answers =
+    run_ends_in_wave law input setting (first_rest setting) joiners feeders cores f valid
+    (first_stands input setting valid) all family controller collector last bouts run answers

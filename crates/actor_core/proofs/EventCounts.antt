@@ -24,10 +24,11 @@ use Rattle.epoch_tags.specs.Posts.{IsOfKind, GoesOver, joiner_msg, feeder_msg, c
 use Rattle.epoch_tags.specs.Posts.{posted_to_controller}
 use Rattle.trace_law.specs.declared.input.Input.{Input}
 use Rattle.trace_law.specs.declared.setting.Setting.{Setting}
+use Rattle.trace_law.specs.Family.{Rest}
 use Rattle.actor_core.specs.Lists.{ActorLists, Cause, Took, Began, same_actor, posted_to, with_event}
 use Rattle.actor_core.specs.Standing.{GoOut}
 use Rattle.actor_core.specs.Players.{AreLinked, IsLinked}
-use Rattle.actor_core.specs.Families.{start_for, IsActor, after_event}
+use Rattle.actor_core.specs.Families.{start_for, start_in_wave, IsActor, after_event}
 use Rattle.actor_core.proofs.Balances.{same_is}
 use Rattle.actor_core.proofs.OwnNumbers.{same_self}
 use Rattle.actor_core.proofs.Runs.{Grows, grows_same, prefix_self, with_event_grows}
@@ -310,6 +311,14 @@ linked_after input setting self cause posts f linked is out from to = go (same_a
         (all-append (IsLinked setting self to) ((f self).sent to) (posted_to to posts) (linked self to)
         (posted_linked setting self to posts (all_over input setting self posts is out)))
     go false e = linked from to
+
+-- over which links an actor's posts go doesn't depend on the rest from which it began
+pub goes_out_in_run : (input : Input) (setting : Setting) (rest : Rest) (a : Actor) (posts : List Post)
+    → GoOut (start_in_wave input setting rest a) posts → GoOut (start_for input setting a) posts
+goes_out_in_run input setting rest (Feeder p) posts out = out
+goes_out_in_run input setting rest (Joiner j) posts out = out
+goes_out_in_run input setting rest Controller posts out = out
+goes_out_in_run input setting rest Collector posts out = out
 
 -- a message that is left on a link goes over it too
 pub left_linked : (setting : Setting) (from to : Actor) (received rest sent : List Msg) (m : Msg)

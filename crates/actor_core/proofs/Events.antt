@@ -68,7 +68,16 @@ pub feeder_takes : (old new : FeederState) (m : ToFeeder) (before after : List P
     → FeederTakes m old new before after
     → Occurs (Took Controller (Feeder' m)) (TheFeeder old) (TheFeeder new) before after
 feeder_takes old new m before after t =
-    record { added = t.added; sends = t.sends; event = record { stands = stands; over = over; asks = tt } }
+    record {
+      added = t.added;
+      sends = t.sends;
+      event = record {
+        stands = stands;
+        over = over;
+        asks = tt;
+        joins = λ theta is. tt;
+      };
+    }
   where
     stands : (s : Start) (ls : ActorLists) → Stands s ls (TheFeeder old)
         → Stands s (with_event (Took Controller (Feeder' m)) t.added ls) (TheFeeder new)
@@ -103,7 +112,16 @@ pub collector_takes : (old new : CollectorState) (from : Actor) (m : ToCollector
     → CollectorTakes from m old new
     → Occurs (Took from (Collector' m)) (TheCollector old) (TheCollector new) before before
 collector_takes old new from m before t =
-    record { added = []; sends = sym (append-nil before); event = record { stands = stands; over = over; asks = tt } }
+    record {
+      added = [];
+      sends = sym (append-nil before);
+      event = record {
+        stands = stands;
+        over = over;
+        asks = tt;
+        joins = λ theta is. tt;
+      };
+    }
   where
     stands : (s : Start) (ls : ActorLists) → Stands s ls (TheCollector old)
         → Stands s (with_event (Took from (Collector' m)) [] ls) (TheCollector new)
@@ -138,7 +156,7 @@ pub feeder_begins : (old new : FeederState) (before after : List Post) → Begin
 feeder_begins old new before after t = record {
   added = t.added;
   sends = t.sends;
-  event = record { stands = stands; over = over; asks = ap length t.asks_next };
+  event = record { stands = stands; over = over; asks = ap length t.asks_next; joins = λ theta is. tt };
 }
   where
     stands : (s : Start) (ls : ActorLists) → Stands s ls (TheFeeder old)
@@ -201,7 +219,16 @@ pub controller_takes : (old new : ControllerState) (from : Actor) (m : ToControl
     → ControllerTakes from m old new before after
     → Occurs (Took from (Controller' m)) (TheController old) (TheController new) before after
 controller_takes old new from m before after t =
-    record { added = t.added; sends = t.sends; event = record { stands = stands; over = over; asks = tt } }
+    record {
+      added = t.added;
+      sends = t.sends;
+      event = record {
+        stands = stands;
+        over = over;
+        asks = tt;
+        joins = λ theta is. tt;
+      };
+    }
   where
     stands : (s : Start) (ls : ActorLists) → Stands s ls (TheController old)
         → Stands s (with_event (Took from (Controller' m)) t.added ls) (TheController new)
@@ -280,7 +307,16 @@ pub joiner_takes : (old new : JoinerState) (from : Actor) (m : ToJoiner) (before
     → JoinerTakes from m old new before after
     → Occurs (Took from (Joiner' m)) (TheJoiner old) (TheJoiner new) before after
 joiner_takes old new from m before after t =
-    record { added = t.added; sends = t.sends; event = record { stands = stands; over = over; asks = tt } }
+    record {
+      added = t.added;
+      sends = t.sends;
+      event = record {
+        stands = stands;
+        over = over;
+        asks = tt;
+        joins = λ theta is. t.same.of_theta ∙ is;
+      };
+    }
   where
     stands : (s : Start) (ls : ActorLists) → Stands s ls (TheJoiner old)
         → Stands s (with_event (Took from (Joiner' m)) t.added ls) (TheJoiner new)

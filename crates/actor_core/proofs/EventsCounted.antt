@@ -15,7 +15,7 @@ use Rattle.trace_law.specs.declared.input.Input.{Input}
 use Rattle.trace_law.specs.declared.setting.Setting.{Setting}
 use Rattle.trace_law.specs.Validity.{IsValid}
 use Rattle.trace_law.specs.Laws.{EventsAreFew}
-use Rattle.trace_law.specs.Family.{IsAgreeing, first_rest}
+use Rattle.trace_law.specs.Family.{IsAgreeing, IsRestFor, Rest, first_rest, migrations}
 use Rattle.trace_law.proofs.First.{stands as first_stands}
 use Rattle.actor_core.specs.Lists.{ActorLists, Cause, Took, Began, no_lists, posted_to, with_event}
 use Rattle.actor_core.specs.Standing.{Event, GoOut, Stands, Waits}
@@ -190,6 +190,17 @@ module _ (input : Input) (setting : Setting) (joiners feeders : ℕ) (old new : 
       record { linked = linked; enough = omega (arith, few, more, enough) }
 
 -- ---- so they are few
+
+-- the lists of an agreeing family of a wave count no more events than its journal allows
+pub few_in_wave : EventsAreFew → (input : Input) (setting : Setting) (rest : Rest) → IsValid input setting
+    → IsRestFor input setting rest → (journal : List TurnLine) (f : Actor → ActorLists)
+    → IsAgreeing input setting rest (family_of journal f)
+    → (n : ℕ) → IsCounted setting f n → n ≤ most_events input setting (migrations rest.line journal)
+few_in_wave few input setting rest valid begins journal f agrees n counted =
+    let most : count setting f ≤ most_events input setting (migrations rest.line journal) =
+    few input setting rest (family_of journal f) valid begins agrees in
+    let enough = counted.enough in
+    omega (arith, most, enough)
 
 -- an agreeing family's lists count no more events than its journal allows
 pub few_events : EventsAreFew → (input : Input) (setting : Setting) → IsValid input setting → (journal : List TurnLine)

@@ -18,10 +18,10 @@ use Rattle.pair_collector.specs.Law.{IsComplete}
 use Rattle.pair_collector.proofs.KeptMessages.{complete_says}
 use Rattle.trace_law.specs.declared.input.Input.{Input}
 use Rattle.trace_law.specs.declared.setting.Setting.{Setting}
-use Rattle.trace_law.specs.Family.{IsAgreeing, IsFinished, feeder_start, joiner_start, rules_of, first_rest}
+use Rattle.trace_law.specs.Family.{IsAgreeing, IsFinished, Rest, feeder_start, joiner_start, rules_of}
 use Rattle.actor_core.specs.Lists.{ActorLists, feeder_lists, joiner_lists, controller_lists, collector_lists}
 use Rattle.actor_core.specs.Standing.{OfFeeder, OfJoiner, OfController, OfCollector, Stands, IsOver, GoesOn}
-use Rattle.actor_core.specs.Families.{AreFronts, IsActor, start_for, family_of, journal_of}
+use Rattle.actor_core.specs.Families.{AreFronts, IsActor, start_in_wave, family_of, journal_of}
 use Rattle.actor_core.specs.declared.machines.Core.{Core}
 use Rattle.actor_core.specs.declared.machines.Core.TheVariants.{Feeder as TheFeeder, Joiner as TheJoiner}
 use Rattle.actor_core.specs.declared.machines.Core.TheVariants.{Controller as TheController, Collector as TheCollector}
@@ -109,20 +109,20 @@ read_front kind front whole prefix =
 
 -- ---- the family
 
--- the machines of a run, each standing for its actor's lists; where W holds, their work is over
-module _ (input : Input) (setting : Setting) (f : Actor → ActorLists)
-    (cores : (a : Actor) → IsActor setting a → (core : Core) × Stands (start_for input setting a) (f a) core)
+-- the machines of a wave, each standing for its actor's lists; where W holds, their work is over
+module _ (input : Input) (setting : Setting) (rest : Rest) (f : Actor → ActorLists)
+    (cores : (a : Actor) → IsActor setting a → (core : Core) × Stands (start_in_wave input setting rest a) (f a) core)
     (fronts : AreFronts f)
     (W : Type 0) (over : W → (a : Actor) (is : IsActor setting a) → IsOver (cores a is).0) where
   abbrev feeder_took : ℕ → List ToFeeder → Type 0
   feeder_took p taken =
-      FeederLaw (feeder_start input setting (first_rest setting) p) (feeder_lists (f (Feeder p))) taken
+      FeederLaw (feeder_start input setting rest p) (feeder_lists (f (Feeder p))) taken
       × (W → 0 < stops taken)
       × ((is : p < setting.feeders) → 0 < stops taken → ¬ GoesOn (cores (Feeder p) is).0)
 
   feeders : (taken : ℕ → List ToFeeder) × ((p : ℕ) → p < setting.feeders → feeder_took p (taken p))
   feeders = choice feeder_took setting.feeders [] (λ p low.
-      let law = feeder_law p setting.feeders (feeder_start input setting (first_rest setting) p) (f (Feeder p))
+      let law = feeder_law p setting.feeders (feeder_start input setting rest p) (f (Feeder p))
       (cores (Feeder p) low).0 (cores (Feeder p) low).1 in (
         law.0,
         (
@@ -135,10 +135,10 @@ module _ (input : Input) (setting : Setting) (f : Actor → ActorLists)
 
   abbrev joiner_took : ℕ → Taken → Type 0
   joiner_took j taken =
-      JoinerLaw (joiner_start input setting (first_rest setting) j) (joiner_lists (f (Joiner j))) taken
-      × (W → IsFinishedJoiner (joiner_start input setting (first_rest setting) j) (joiner_lists (f (Joiner j)))
+      JoinerLaw (joiner_start input setting rest j) (joiner_lists (f (Joiner j))) taken
+      × (W → IsFinishedJoiner (joiner_start input setting rest j) (joiner_lists (f (Joiner j)))
       taken)
-      × ((is : j < 2 ^ setting.k) → IsFinishedJoiner (joiner_start input setting (first_rest setting) j)
+      × ((is : j < 2 ^ setting.k) → IsFinishedJoiner (joiner_start input setting rest j)
       (joiner_lists (f (Joiner j))) taken → ¬ GoesOn (cores (Joiner j) is).0)
 
   joiners : (taken : ℕ → Taken) × ((j : ℕ) → j < 2 ^ setting.k → joiner_took j (taken j))
@@ -147,7 +147,7 @@ module _ (input : Input) (setting : Setting) (f : Actor → ActorLists)
     from_joiner = λ q. [];
     shift_at = λ e. 0;
   }) (λ j low.
-      let law = joiner_law (joiner_start input setting (first_rest setting) j) (f (Joiner j)) (cores (Joiner j) low).0
+      let law = joiner_law (joiner_start input setting rest j) (f (Joiner j)) (cores (Joiner j) low).0
       (cores (Joiner j) low).1 in (
         law.0,
         (
@@ -159,13 +159,13 @@ module _ (input : Input) (setting : Setting) (f : Actor → ActorLists)
       ))
 
   -- the family agrees
-  pub agrees : IsAgreeing input setting (first_rest setting) (family_of (journal_of (cores Controller tt).0) f)
+  pub agrees : IsAgreeing input setting rest (family_of (journal_of (cores Controller tt).0) f)
   agrees = record {
     taken_by_feeder = feeders.0;
     taken_by_joiner = joiners.0;
     feeders = λ p low. (feeders.1 p low).0;
     joiners = λ j low. (joiners.1 j low).0;
-    controller = controller_law (record { rules = rules_of setting; first = begun (first_rest setting).line })
+    controller = controller_law (record { rules = rules_of setting; first = begun rest.line })
         (f Controller) (cores Controller tt).0 (cores Controller tt).1;
     feeder_joiner = λ p j low low'. read_front joiner_msg _ _ (fronts (Feeder p) (Joiner j));
     joiner_joiner = λ i j low low'. read_front joiner_msg _ _ (fronts (Joiner i) (Joiner j));
@@ -177,7 +177,7 @@ module _ (input : Input) (setting : Setting) (f : Actor → ActorLists)
 
   -- it is finished where W holds
   pub is_finished : W
-      → IsFinished input setting (first_rest setting) (family_of (journal_of (cores Controller tt).0) f) agrees
+      → IsFinished input setting rest (family_of (journal_of (cores Controller tt).0) f) agrees
   unfolding agrees
   is_finished w = record {
     feeders = λ p low. (feeders.1 p low).1 w;
@@ -187,7 +187,7 @@ module _ (input : Input) (setting : Setting) (f : Actor → ActorLists)
   }
 
   -- where the family is finished, the work of none goes on
-  pub none_goes : IsFinished input setting (first_rest setting) (family_of (journal_of (cores Controller tt).0) f)
+  pub none_goes : IsFinished input setting rest (family_of (journal_of (cores Controller tt).0) f)
       agrees
       → (a : Actor) (is : IsActor setting a) → ¬ GoesOn (cores a is).0
   unfolding agrees
@@ -195,7 +195,7 @@ module _ (input : Input) (setting : Setting) (f : Actor → ActorLists)
   none_goes finished (Joiner j) is = (joiners.1 j is).2 is (finished.joiners j is)
   none_goes finished Controller is = controller_goes (record {
     rules = rules_of setting;
-    first = begun (first_rest setting).line;
+    first = begun rest.line;
   }) (f Controller) (cores Controller is).0 (cores Controller is).1
   none_goes finished Collector is =
       collector_goes (2 ^ setting.k) (f Collector) (cores Collector is).0 (cores Collector is).1 finished.collector

@@ -17,3 +17,7 @@ pub mod Seated
 pub mod CompleteAnswer
 pub mod Stilled
 pub mod EventsCounted
+pub mod UptoEnd
+pub mod EmptyRest
+pub mod Bases
+pub mod WaveBeginnings

@@ -14,22 +14,23 @@ use Rattle.trace_law.specs.declared.input.Input.{Input}
 use Rattle.trace_law.specs.declared.setting.Setting.{Setting}
 use Rattle.trace_law.specs.Validity.{IsValid}
 use Rattle.trace_law.specs.Laws.{QuietIsFinished}
-use Rattle.trace_law.specs.Family.{IsAgreeing, IsFinished, IsQuiet, feeder_start, first_rest}
+use Rattle.trace_law.specs.Family.{IsAgreeing, IsFinished, IsQuiet, IsRestFor, Rest, feeder_start, first_rest}
 use Rattle.trace_law.proofs.First.{stands as first_stands}
 use Rattle.actor_core.specs.Lists.{ActorLists, feeder_lists}
 use Rattle.actor_core.specs.Standing.{GoesOn, Stands, Waits}
-use Rattle.actor_core.specs.Families.{AreFronts, IsActor, core_in, family_of, journal_of, start_for}
+use Rattle.actor_core.specs.Families.{AreFronts, IsActor, core_in, family_of, journal_of, start_in_wave}
 use Rattle.actor_core.specs.Numbers.{actor_at, at_number}
 use Rattle.actor_core.specs.Elements.{IsSomeAt}
-use Rattle.actor_core.specs.Players.{AllStand, is_complete_among, is_complete_at}
+use Rattle.actor_core.specs.Players.{AllStand, AllStandInWave, is_complete_among, is_complete_at}
 use Rattle.actor_core.specs.declared.machines.Core.{Core}
-use Rattle.actor_core.proofs.CompleteAnswer.{complete_core, machines}
+use Rattle.actor_core.proofs.CompleteAnswer.{complete_core, machines_in_wave}
 use Rattle.actor_core.proofs.Families.{agrees as agreeing, none_goes}
 use Rattle.actor_core.proofs.OwnNumbers.{is_actor, number_there, some_is}
 use Rattle.actor_core.proofs.Waiting.{waits_says}
 
-module _ (input : Input) (setting : Setting) (joiners feeders : ℕ) (cores : List Core) (f : Actor → ActorLists)
-    (all : AllStand input setting joiners feeders cores f) (fronts : AreFronts f)
+module _ (input : Input) (setting : Setting) (rest : Rest) (joiners feeders : ℕ) (cores : List Core) (f : Actor
+    → ActorLists)
+    (all : AllStandInWave input setting rest joiners feeders cores f) (fronts : AreFronts f)
     (received : (from to : Actor) → HasLink setting.k setting.feeders from to → (f to).received from ≡ (f from).sent to)
     (waits : (p : ℕ) → p < setting.feeders → (core : Core) → core_in joiners feeders cores (Feeder p) ≡ Some core
     → Waits core) where
@@ -37,23 +38,23 @@ module _ (input : Input) (setting : Setting) (joiners feeders : ℕ) (cores : Li
   journal = journal_of (all.stands Controller tt).0
 
   abbrev cores_by_actor : (a : Actor) → IsActor setting a
-      → (core : Core) × Stands (start_for input setting a) (f a) core
-  cores_by_actor = machines input setting joiners feeders cores f all fronts
+      → (core : Core) × Stands (start_in_wave input setting rest a) (f a) core
+  cores_by_actor = machines_in_wave input setting rest joiners feeders cores f all fronts
 
-  abbrev agrees : IsAgreeing input setting (first_rest setting) (family_of journal f)
-  agrees = agreeing input setting f cores_by_actor fronts ⊥ (λ w. absurd w)
+  abbrev agrees : IsAgreeing input setting rest (family_of journal f)
+  agrees = agreeing input setting rest f cores_by_actor fronts ⊥ (λ w. absurd w)
 
   none_begins : (p : ℕ) → p < setting.feeders
       → (0 < draineds (feeder_lists (f (Feeder p))).to_controller)
       ⊎ (grants (agrees.taken_by_feeder p) < asks (feeder_lists (f (Feeder p))).to_controller)
   none_begins p low =
       let own = all.stands (Feeder p) low in
-      let start = feeder_start input setting (first_rest setting) p in
+      let start = feeder_start input setting rest p in
       let law = agrees.feeders p low in
       waits_says p setting.feeders start (f (Feeder p)) own.0 (agrees.taken_by_feeder p) own.2 law
       (waits p low own.0 own.1)
 
-  quiet : IsQuiet input setting (first_rest setting) (family_of journal f) agrees
+  quiet : IsQuiet input setting rest (family_of journal f) agrees
   quiet = record {
     feeder_joiner = λ p j low low'.
         ap (filter_map joiner_msg) (received (Feeder p) (Joiner j) (feeder_joiner low low'));
@@ -69,15 +70,13 @@ module _ (input : Input) (setting : Setting) (joiners feeders : ℕ) (cores : Li
     none_begins = none_begins;
   }
 
-  module _ (law : QuietIsFinished) (valid : IsValid input setting) where
-    finished : IsFinished input setting (first_rest setting) (family_of journal f) agrees
-    finished =
-        let begins = first_stands input setting valid in
-        law input setting (first_rest setting) (family_of journal f) valid begins agrees quiet
+  module _ (law : QuietIsFinished) (valid : IsValid input setting) (begins : IsRestFor input setting rest) where
+    finished : IsFinished input setting rest (family_of journal f) agrees
+    finished = law input setting rest (family_of journal f) valid begins agrees quiet
 
     -- the collector is complete
-    pub still_complete : is_complete_among joiners feeders cores ≡ true
-    still_complete =
+    pub still_complete_in_wave : is_complete_among joiners feeders cores ≡ true
+    still_complete_in_wave =
         let own = all.stands Collector tt in
         ap is_complete_at own.1 ∙ complete_core (2 ^ setting.k) (f Collector) own.0 own.2 finished.collector
 
@@ -91,9 +90,28 @@ module _ (input : Input) (setting : Setting) (joiners feeders : ℕ) (cores : Li
         let there : core_in joiners feeders cores a ≡ Some some.there =
         ap (λ (i : Option ℕ). at_number None i (λ n. slice_get cores n)) numbered ∙ some.is in
         let same = some_is some.there own.0 (sym there ∙ own.1) in
-        none_goes input setting f cores_by_actor fronts ⊥ (λ w. absurd w) finished a is (subst GoesOn same some.holds)
+        none_goes input setting rest f cores_by_actor fronts ⊥ (λ w. absurd w) finished a is
+        (subst GoesOn same some.holds)
 
     -- so who finds that some work goes on, or that none does, finds that none does
-    pub still_is_done : (done : Bool) → (done ≡ false → IsSomeAt GoesOn cores) → done ≡ true
-    still_is_done true goes = refl
-    still_is_done false goes = absurd (none_at_work (goes refl))
+    pub still_is_done_in_wave : (done : Bool) → (done ≡ false → IsSomeAt GoesOn cores) → done ≡ true
+    still_is_done_in_wave true goes = refl
+    still_is_done_in_wave false goes = absurd (none_at_work (goes refl))
+
+-- the same of a run, that is of the wave that begins with no rows
+module _ (input : Input) (setting : Setting) (joiners feeders : ℕ) (cores : List Core) (f : Actor → ActorLists)
+    (all : AllStand input setting joiners feeders cores f) (fronts : AreFronts f)
+    (received : (from to : Actor) → HasLink setting.k setting.feeders from to → (f to).received from ≡ (f from).sent to)
+    (waits : (p : ℕ) → p < setting.feeders → (core : Core) → core_in joiners feeders cores (Feeder p) ≡ Some core
+    → Waits core) (law : QuietIsFinished) (valid : IsValid input setting) where
+  -- the collector is complete
+  pub still_complete : is_complete_among joiners feeders cores ≡ true
+  still_complete =
+      still_complete_in_wave input setting (first_rest setting) joiners feeders cores f all fronts received waits law
+      valid (first_stands input setting valid)
+
+  -- so who finds that some work goes on, or that none does, finds that none does
+  pub still_is_done : (done : Bool) → (done ≡ false → IsSomeAt GoesOn cores) → done ≡ true
+  still_is_done done goes =
+      still_is_done_in_wave input setting (first_rest setting) joiners feeders cores f all fronts received waits law
+      valid (first_stands input setting valid) done goes

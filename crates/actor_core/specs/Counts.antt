@@ -4,7 +4,7 @@ use Rattle.epoch_tags.specs.declared.actor.Actor.{Actor}
 use Rattle.join_rows.specs.declared.table.Side.TheVariants.{R, S}
 use Rattle.load_controller.specs.Journal.{last_epoch}
 use Rattle.load_controller.specs.declared.line.TurnLine.{TurnLine}
-use Rattle.trace_law.specs.Family.{IsAgreeing, first_rest}
+use Rattle.trace_law.specs.Family.{IsAgreeing, IsRestFor, Rest, first_rest, migrations}
 use Rattle.trace_law.specs.Join.{row_count}
 use Rattle.trace_law.specs.Validity.{IsValidInput, IsValidSetting}
 use Rattle.trace_law.specs.declared.input.Input.{Input}
@@ -23,3 +23,11 @@ EventsFit = (input : Input) (setting : Setting) (journal : List TurnLine) (lists
     → IsValidInput input → IsValidSetting setting
     → IsAgreeing input setting (first_rest setting) (family_of journal lists)
     → most_events input setting (last_epoch journal) < 2 ^ 64 - 1
+
+-- nor has a family of a wave, whose migrations are counted from its first epoch on
+abbrev pub EventsFitInWave : Type 0
+EventsFitInWave = (input : Input) (setting : Setting) (rest : Rest) (journal : List TurnLine)
+    (lists : Actor → ActorLists)
+    → IsValidInput input → IsValidSetting setting → IsRestFor input setting rest
+    → IsAgreeing input setting rest (family_of journal lists)
+    → most_events input setting (migrations rest.line journal) < 2 ^ 64 - 1

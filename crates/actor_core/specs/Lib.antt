@@ -6,3 +6,4 @@ pub mod Elements
 pub mod Endings
 pub mod Counts
 pub mod Players
+pub mod Rests

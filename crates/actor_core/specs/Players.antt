@@ -13,10 +13,10 @@ use Rattle.load_controller.specs.declared.line.TurnLine.{TurnLine}
 use Rattle.pair_collector.specs.Standing.{is_complete}
 use Rattle.trace_law.specs.declared.input.Input.{Input}
 use Rattle.trace_law.specs.declared.setting.Setting.{Setting}
-use Rattle.trace_law.specs.Family.{IsAgreeing, IsFinished, first_rest}
+use Rattle.trace_law.specs.Family.{Rest, IsAgreeing, IsFinished, first_rest}
 use Rattle.actor_core.specs.Lists.{ActorLists, Cause, Took, Began, no_lists, with_event}
 use Rattle.actor_core.specs.Standing.{Event, Stands, Waits, IsLive, given_by}
-use Rattle.actor_core.specs.Families.{AreFronts, IsActor, core_in, family_of, journal_of, start_for}
+use Rattle.actor_core.specs.Families.{AreFronts, IsActor, core_in, family_of, journal_of, start_in_wave}
 use Rattle.actor_core.specs.Numbers.{number, at_number}
 use Rattle.actor_core.specs.declared.machines.Core.{Core}
 use Rattle.actor_core.specs.declared.machines.Core.TheVariants.{Feeder as TheFeeder, Joiner as TheJoiner}
@@ -53,14 +53,20 @@ Runs (suc n) old new = (middle : Player) × Runs n old middle × MakesEvent midd
 
 -- ---- all actors of a run: their machines by numbers, and their lists
 
--- there is a machine for each actor; it began as this input and setting say, and stands for the actor's lists
-pub record AllStand (input : Input) (setting : Setting) (joiners feeders : ℕ) (cores : List Core)
+-- there is a machine for each actor; it began as this input, this setting and this rest say, and stands for the
+-- actor's lists
+pub record AllStandInWave (input : Input) (setting : Setting) (rest : Rest) (joiners feeders : ℕ) (cores : List Core)
     (f : Actor → ActorLists) : Type 0 where
   pub joiners_are : joiners ≡ 2 ^ setting.k
   pub feeders_are : feeders ≡ setting.feeders
   pub all : length cores ≡ feeders + joiners + 2
-  pub stands : (a : Actor) → IsActor setting a
-      → (core : Core) × (core_in joiners feeders cores a ≡ Some core) × Stands (start_for input setting a) (f a) core
+  pub stands : (a : Actor) → IsActor setting a → (core : Core) × (core_in joiners feeders cores a ≡ Some core)
+      × Stands (start_in_wave input setting rest a) (f a) core
+
+-- the same of a run, that is of the wave that begins with no rows
+abbrev pub AllStand : Input → Setting → ℕ → ℕ → List Core → (Actor → ActorLists) → Type 0
+AllStand input setting joiners feeders cores f =
+    AllStandInWave input setting (first_rest setting) joiners feeders cores f
 
 -- each list is a front of the later one
 pub record Extends (old new : Actor → ActorLists) : Type 0 where
@@ -123,9 +129,12 @@ is_complete_at (Some core) = is_complete_core core
 abbrev pub is_complete_among : ℕ → ℕ → List Core → Bool
 is_complete_among joiners feeders cores = is_complete_at (core_in joiners feeders cores Collector)
 
--- these lists and this journal are a family of the input and the setting that begins with no rows, agrees and is
--- finished
-pub record IsFinishedFamily (input : Input) (setting : Setting) (journal : List TurnLine)
+-- these lists and this journal are a family of the input, the setting and the rest that agrees and is finished
+pub record IsFinishedWave (input : Input) (setting : Setting) (rest : Rest) (journal : List TurnLine)
     (lists : Actor → ActorLists) : Type 0 where
-  pub agrees : IsAgreeing input setting (first_rest setting) (family_of journal lists)
-  pub finished : IsFinished input setting (first_rest setting) (family_of journal lists) agrees
+  pub agrees : IsAgreeing input setting rest (family_of journal lists)
+  pub finished : IsFinished input setting rest (family_of journal lists) agrees
+
+-- the same of a run, that is of the wave that begins with no rows
+abbrev pub IsFinishedFamily : Input → Setting → List TurnLine → (Actor → ActorLists) → Type 0
+IsFinishedFamily input setting journal lists = IsFinishedWave input setting (first_rest setting) journal lists

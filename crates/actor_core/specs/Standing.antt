@@ -6,7 +6,8 @@ use Rattle.epoch_tags.specs.Posts.{AllGoOver, posted_to_controller}
 use Rattle.reshuffler_core.specs.Law.{FeederStart}
 use Rattle.reshuffler_core.specs.Standing.{StandsFor as FeederStands, IsWaiting}
 use Rattle.joiner_law.specs.Law.{JoinerStart, JoinerLists, IsFinished}
-use Rattle.joiner_core.specs.Standing.{StandsFor as JoinerStands}
+use Rattle.joiner_core.specs.Standing.{StandsFor as JoinerStands, theta_of}
+use Rattle.theta_pred.specs.Formula.{Meaning}
 use Rattle.load_controller.specs.Standing.{ControllerStart, StandsFor as ControllerStands}
 use Rattle.pair_collector.specs.Standing.{StandsFor as CollectorStands, is_complete}
 use Rattle.actor_core.specs.Lists.{ActorLists, Cause, Took, Began, feeder_lists, joiner_lists, controller_lists}
@@ -53,12 +54,20 @@ abbrev pub Asks : Cause → List Post → Type 0
 Asks (Took from m) posts = ⊤
 Asks Began posts = length (posted_to_controller posts) ≡ 1
 
+-- a joiner's machine joins by this predicate
+abbrev pub JoinsBy : Meaning → Core → Type 0
+JoinsBy theta (TheFeeder f) = ⊤
+JoinsBy theta (TheJoiner j) = theta_of j ≡ theta
+JoinsBy theta (TheController c) = ⊤
+JoinsBy theta (TheCollector c) = ⊤
+
 -- one event: for whatever lists the machine stood, it stands for them with the cause received and the posts sent,
--- and the posts go over its links
+-- and the posts go over its links; a joiner keeps its predicate
 pub record Event (cause : Cause) (old new : Core) (posts : List Post) : Type 0 where
   pub stands : (s : Start) (ls : ActorLists) → Stands s ls old → Stands s (with_event cause posts ls) new
   pub over : (s : Start) (ls : ActorLists) → Stands s ls old → GoOut s posts
   pub asks : Asks cause posts
+  pub joins : (theta : Meaning) → JoinsBy theta old → JoinsBy theta new
 
 -- an event that turned the posts `before` into `after`
 pub record Occurs (cause : Cause) (old new : Core) (before after : List Post) : Type 0 where

@@ -31,7 +31,7 @@ fn first_shift(setting: &Setting) -> u32
 }
 
 // Two to this power.
-fn power(exponent: u32) -> u32
+pub(crate) fn power(exponent: u32) -> u32
     requires { exponent < 32 }
     ensures { result ≡ 2 ^ exponent }
 {
@@ -48,7 +48,7 @@ pub fn joiners_of(setting: &Setting) -> u32
 }
 
 // The tuple of a row, not yet stamped.
-fn tuple(alloc: Global, input: &Input, place: Place) -> Result<Tuple, AllocError>
+pub(crate) fn tuple(alloc: Global, input: &Input, place: Place) -> Result<Tuple, AllocError>
     ensures { IfOk result (λ tuple. tuple ≡ tuple_of input.now 0 place) }
 {
     let (table, tickets) = match place.side {
@@ -145,7 +145,7 @@ fn controller<'a>(alloc: Global, setting: &Setting) -> Result<Core<'a>, AllocErr
     )?))
 }
 
-fn collector<'a>(alloc: Global, setting: &Setting) -> Result<Core<'a>, AllocError>
+pub(crate) fn collector<'a>(alloc: Global, setting: &Setting) -> Result<Core<'a>, AllocError>
     requires setting { IsValidSetting setting.now }
     ensures stands { IfOk result (λ core. Stands (OfCollector (2 ^ setting.now.k)) no_lists core) }
     ensures live { IfOk result IsLive }

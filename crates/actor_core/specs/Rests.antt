@@ -1,0 +1,84 @@
+-- What a wave leaves for the next, where a wave ends, and the machines of a wave before its first event.
+use Rattle.std.specs.Prelude.{◌≡◌, ◌≤◌, ◌^◌, ◌+◌, ℕ, All, List, [], Some, length, map, take, slice_get, slice_index_or}
+use Rattle.join_rows.specs.declared.table.Side.TheVariants.{R, S}
+use Rattle.epoch_tags.specs.declared.tuple.Tuple.{Tuple}
+use Rattle.theta_pred.specs.Formula.{Meaning}
+use Rattle.store_parts.specs.Stored.{Stored}
+use Rattle.joiner_core.specs.State.{tuples_of, IsKeyOf, IsAccessOf}
+use Rattle.load_controller.specs.declared.line.TurnLine.{TurnLine}
+use Rattle.trace_law.specs.declared.input.Input.{Input}
+use Rattle.trace_law.specs.declared.setting.Setting.{Setting}
+use Rattle.trace_law.specs.Join.{row_count}
+use Rattle.trace_law.specs.Family.{IsRestFor}
+use Rattle.trace_law.specs.Family.{Rest as WaveRest}
+use Rattle.actor_core.specs.declared.machines.Core.{Core}
+use Rattle.actor_core.specs.declared.rests.Rest.{Rest}
+use Rattle.actor_core.specs.declared.rests.Upto.{Upto}
+use Rattle.actor_core.specs.Families.{start_in_wave}
+use Rattle.actor_core.specs.Lists.{no_lists}
+use Rattle.actor_core.specs.Numbers.{actor_at}
+use Rattle.actor_core.specs.Standing.{Stands, HasGivenNone, IsLive, JoinsBy}
+
+-- ---- where a wave ends
+
+-- the input up to a wave's end: the first rows of each side, with their tickets
+abbrev pub upto : Upto → Input → Input
+upto end input =
+    record {
+      table_r = record { names = input.table_r.names; rows = take end.rows_r input.table_r.rows };
+      table_s = record { names = input.table_s.names; rows = take end.rows_s input.table_s.rows };
+      theta = input.theta;
+      tickets_r = take end.rows_r input.tickets_r;
+      tickets_s = take end.rows_s input.tickets_s;
+    }
+
+-- the input has all rows up to there
+pub record IsWithin (end : Upto) (input : Input) : Type 0 where
+  pub rows_r : end.rows_r ≤ row_count input R
+  pub rows_s : end.rows_s ≤ row_count input S
+
+-- ---- rests
+
+-- the store has no tuples, and the key and the access of the predicate
+pub record IsFirstStore (theta : Meaning) (store : Stored) : Type 0 where
+  pub empty : tuples_of store ≡ []
+  pub key : IsKeyOf theta store.key
+  pub access : IsAccessOf theta store.access
+
+-- the tuples of the store at this place
+abbrev pub tuples_at : List Stored → ℕ → List Tuple
+tuples_at stores j = slice_index_or (map tuples_of stores) j []
+
+-- the line and what each joiner has stored, as the laws of a wave have them
+abbrev pub rest_of : Rest → WaveRest
+rest_of rest = record { line = rest.line; stores = tuples_at rest.stores }
+
+-- the rest stands for the input: it has a store for each joiner, with the key of the input's predicate, and its line
+-- and what they store are a rest of the input
+pub record IsRestOf (input : Input) (setting : Setting) (rest : Rest) : Type 0 where
+  pub grid : rest.k ≡ setting.k
+  pub many : length rest.stores ≡ 2 ^ setting.k
+  pub keys : All (λ store. IsKeyOf input.theta store.key) rest.stores
+  pub stands : IsRestFor input setting (rest_of rest)
+
+-- ---- the machines of a wave
+
+-- a rest with this line, for what looks at no store
+abbrev pub at_line : TurnLine → WaveRest
+at_line line = record { line = line; stores = λ j. [] }
+
+-- a rest with this line and these tuples, for what looks at one store
+abbrev pub with_base : TurnLine → List Tuple → WaveRest
+with_base line tuples = record { line = line; stores = λ j. tuples }
+
+-- the machine of the actor with this number, before the first event of a wave
+pub record IsMade (input : Input) (setting : Setting) (rest : WaveRest) (n : ℕ) (core : Core) : Type 0 where
+  pub stands : Stands (start_in_wave input setting rest (actor_at (2 ^ setting.k) setting.feeders n)) no_lists core
+  pub live : IsLive core
+  pub given : HasGivenNone (2 ^ setting.k) core
+  pub joins : JoinsBy input.theta core
+
+-- the machines of the first so many actors, in the order of their numbers
+pub record AreMade (input : Input) (setting : Setting) (rest : WaveRest) (count : ℕ) (cores : List Core) : Type 0 where
+  pub all : length cores ≡ count
+  pub each : (n : ℕ) (core : Core) → slice_get cores n ≡ Some core → IsMade input setting rest n core
