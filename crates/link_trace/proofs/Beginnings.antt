@@ -11,12 +11,15 @@ use Rattle.epoch_tags.specs.declared.actor.Actor.{Actor}
 use Rattle.epoch_tags.specs.declared.message.Msg.{Msg}
 use Rattle.trace_law.specs.declared.input.Input.{Input}
 use Rattle.trace_law.specs.declared.setting.Setting.{Setting}
+use Rattle.trace_law.specs.Family.{Rest}
+use Rattle.actor_core.specs.Players.{AllStandInWave}
 use Rattle.actor_core.specs.Lists.{no_lists}
 use Rattle.actor_core.specs.Standing.{Stands}
 use Rattle.actor_core.specs.Families.{start_for, IsActor, core_in}
 use Rattle.actor_core.specs.Numbers.{number, actor_at, at_number}
 use Rattle.actor_core.specs.declared.machines.Core.{Core}
-use Rattle.link_trace.specs.Worlds.{StandsFor, AreNew, cores_of, waiting_at, waiting_of, waits}
+use Rattle.link_trace.specs.Worlds.{StandsFor, StandsInWave, AreNew, HaveNothing, cores_of, waiting_at}
+use Rattle.link_trace.specs.Worlds.{waiting_of, waits}
 use Rattle.link_trace.specs.declared.places.Place.{Place}
 use Rattle.actor_core.proofs.Beginnings.{has_number, there}
 use Rattle.actor_core.proofs.OwnNumbers.{number_actor, some_is}
@@ -116,3 +119,32 @@ all_new input setting joiners count places grid many new = subst
           subst (λ z. Stands (start_for input setting z) no_lists core.0)
               (number_actor (2 ^ setting.k) setting.feeders a at.0 at.1) (new.fresh at.0 core.0 core.1),
         )
+
+-- ---- machines that are there already
+
+-- one place more, at which nothing waits
+pub none_more : (places : List Place) (place : Place) → HaveNothing places
+    → All (λ queue. queue.items ≡ []) place.waiting.items → HaveNothing (places ++ place ∷ [])
+none_more places place old empty r s =
+    ap (λ ws. waits ws r s) (map-append waiting_at places (place ∷ []))
+    ∙ rows_more (waiting_of places) (waiting_at place) (empty_row place.waiting.items
+    (recursion_from_All (λ queue. queue.items ≡ []) place.waiting.items empty)) old r s
+
+-- a world of machines that stand for empty lists, where nothing waits
+pub wave_new : (input : Input) (setting : Setting) (rest : Rest) (joiners : ℕ) (places : List Place) (cores : List Core)
+    → joiners ≡ 2 ^ setting.k → cores_of places ≡ cores → HaveNothing places
+    → AllStandInWave input setting rest (2 ^ setting.k) setting.feeders cores (λ actor. no_lists)
+    → StandsInWave input setting rest (record {
+      joiners = joiners;
+      feeders = setting.feeders;
+      cores = cores_of places;
+      waiting = waiting_of places;
+    }) (λ actor. no_lists)
+wave_new input setting rest joiners places cores grid same empty stand = record {
+  machines =
+      subst (λ n. AllStandInWave input setting rest n setting.feeders (cores_of places) (λ actor. no_lists)) (sym grid)
+      (subst (λ cs. AllStandInWave input setting rest (2 ^ setting.k) setting.feeders cs (λ actor. no_lists)) (sym same)
+      stand);
+  balanced = λ from to. nothing_left (waiting_of places) empty (number joiners setting.feeders to)
+      (number joiners setting.feeders from);
+}

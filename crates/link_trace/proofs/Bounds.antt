@@ -10,60 +10,62 @@ use Rattle.trace_law.specs.declared.input.Input.{Input}
 use Rattle.trace_law.specs.declared.setting.Setting.{Setting}
 use Rattle.trace_law.specs.declared.run.Run.{Run}
 use Rattle.trace_law.specs.Validity.{IsValidInput, IsValidSetting, IsValid}
-use Rattle.trace_law.specs.Family.{first_rest}
+use Rattle.trace_law.specs.Family.{IsRestFor, Rest, first_rest, migrations}
 use Rattle.trace_law.specs.Runs.{IsRunOf}
 use Rattle.trace_law.specs.Laws.{EventsAreFew}
 use Rattle.trace_law.proofs.Validity.{within_limits}
 use Rattle.actor_core.specs.Lists.{ActorLists, Cause, Took, Began, no_lists}
 use Rattle.actor_core.specs.Families.{journal_of, after_event}
-use Rattle.actor_core.specs.Counts.{most_events, EventsFit}
+use Rattle.actor_core.specs.Counts.{most_events, EventsFit, EventsFitInWave}
 use Rattle.actor_core.specs.Players.{journal_at}
 use Rattle.actor_core.specs.declared.machines.Core.{Core}
 use Rattle.link_trace.specs.declared.slots.Slot.{Slot}
 use Rattle.link_trace.specs.declared.slots.Slot.TheVariants.{Begin, Link}
-use Rattle.link_trace.specs.Worlds.{WorldState, StandsFor, MakesEvent, core_of, journal_in}
+use Rattle.link_trace.specs.Worlds.{WorldState, StandsFor, MakesEvent, core_of, journal_in, StandsInWave}
 use Rattle.link_trace.specs.Order.{Happens}
-use Rattle.actor_core.proofs.EventCounts.{count, took_counts, began_counts, linked_after, left_linked}
+use Rattle.actor_core.proofs.EventCounts.{count, took_counts, began_counts, linked_after, left_linked, goes_out_in_run}
 use Rattle.actor_core.proofs.EventLimit.{under}
-use Rattle.actor_core.proofs.EventsCounted.{IsCounted, few_events, none_counted}
-use Rattle.link_trace.proofs.WorldAnswer.{agree}
+use Rattle.actor_core.proofs.EventsCounted.{IsCounted, few_events, few_in_wave, none_counted}
+use Rattle.link_trace.proofs.WorldAnswer.{agree, agree_in_wave}
 
--- it stands for lists of this input and setting that count so many events
-pub record IsReached (input : Input) (setting : Setting) (w : WorldState) (n : ℕ) : Type 0 where
+-- it stands for lists of this input, setting and rest that count so many events
+pub record IsReached (input : Input) (setting : Setting) (rest : Rest) (w : WorldState) (n : ℕ) : Type 0 where
   pub lists : Actor → ActorLists
-  pub stands : StandsFor input setting w lists
+  pub stands : StandsInWave input setting rest w lists
   pub counted : IsCounted setting lists n
 
-module _ (input : Input) (setting : Setting) where
+module _ (input : Input) (setting : Setting) (rest : Rest) where
   -- an event that the lists count is one more
   event_reached : (self : Actor) (cause : Cause) (n : ℕ) (old new : WorldState) (made : MakesEvent self cause old new)
-      (before : IsReached input setting old n)
+      (before : IsReached input setting rest old n)
       → count setting before.lists + 1 ≤ count setting (after_event self cause made.posts before.lists)
-      → IsReached input setting new (n + 1)
+      → IsReached input setting rest new (n + 1)
   event_reached self cause n old new made before more =
-      let out = made.over input setting before.lists before.stands in
+      let out = made.over input setting rest before.lists before.stands in
       let enough = before.counted.enough in
       record {
         lists = after_event self cause made.posts before.lists;
-        stands = made.stands input setting before.lists before.stands;
+        stands = made.stands input setting rest before.lists before.stands;
         counted = record {
-          linked = linked_after input setting self cause made.posts before.lists before.counted.linked out.0 out.1;
+          linked = linked_after input setting self cause made.posts before.lists before.counted.linked out.0
+              (goes_out_in_run input setting rest self made.posts out.1);
           enough = omega arith;
         };
       }
 
   -- each event of a world is one more
-  pub slot_reached : (slot : Slot) (n : ℕ) (old new : WorldState) → Happens slot old new → IsReached input setting old n
-      → IsReached input setting new (n + 1)
+  pub slot_reached : (slot : Slot) (n : ℕ) (old new : WorldState) → Happens slot old new
+      → IsReached input setting rest old n
+      → IsReached input setting rest new (n + 1)
   slot_reached (Begin p) n old new happens before =
       let made = happens.1 in
-      let out = made.over input setting before.lists before.stands in
+      let out = made.over input setting rest before.lists before.stands in
       event_reached (Feeder p) Began n old new made before
       (began_counts setting p made.posts before.lists out.0 made.asks)
   slot_reached (Link from to) n old new delivers before =
       let made = delivers.event in
       let lists = before.lists in
-      let out = made.over input setting lists before.stands in
+      let out = made.over input setting rest lists before.stands in
       let received = (lists to).received from in
       let sent = (lists from).sent to in
       let whole : received ++ delivers.m ∷ delivers.rest ≡ sent =
@@ -74,32 +76,54 @@ module _ (input : Input) (setting : Setting) where
       (took_counts setting from to delivers.m made.posts lists link.0 out.0 link.1)
 
   -- a new world has made none
-  pub none_reached : (w : WorldState) → StandsFor input setting w (λ actor. no_lists) → IsReached input setting w 0
+  pub none_reached : (w : WorldState) → StandsInWave input setting rest w (λ actor. no_lists)
+      → IsReached input setting rest w 0
   none_reached w stands = record {
     lists = λ actor. no_lists;
     stands = stands;
     counted = none_counted setting (λ actor. no_lists) (λ a. refl);
   }
 
-  module _ (few : EventsAreFew) (w : WorldState) (n : ℕ) (reached : IsReached input setting w n) where
+  module _ (few : EventsAreFew) (w : WorldState) (n : ℕ) (reached : IsReached input setting rest w n)
+      (begins : IsRestFor input setting rest) where
     -- they are no more than its journal allows
-    pub few_reached : IsValid input setting → n ≤ most_events input setting (last_epoch (journal_in w))
-    few_reached valid =
-        few_events few input setting valid (journal_in w) reached.lists
-        (agree input setting w reached.lists reached.stands) n reached.counted
+    pub few_reached_in_wave : IsValid input setting
+        → n ≤ most_events input setting (migrations rest.line (journal_in w))
+    few_reached_in_wave valid =
+        few_in_wave few input setting rest valid begins (journal_in w) reached.lists
+        (agree_in_wave input setting rest w reached.lists reached.stands) n reached.counted
 
     -- so a number of 64 bits counts them
-    pub counts_on : EventsFit → IsValidInput input → IsValidSetting setting → n < 2 ^ 64 - 1
-    counts_on fits of_input of_setting =
-        under n (most_events input setting (last_epoch (journal_in w))) (2 ^ 64 - 1)
-        (few_reached (within_limits input setting of_input of_setting))
-        (fits input setting (journal_in w) reached.lists of_input of_setting
-        (agree input setting w reached.lists reached.stands))
+    pub counts_on_in_wave : EventsFitInWave → IsValidInput input → IsValidSetting setting → n < 2 ^ 64 - 1
+    counts_on_in_wave fits of_input of_setting =
+        under n (most_events input setting (migrations rest.line (journal_in w))) (2 ^ 64 - 1)
+        (few_reached_in_wave (within_limits input setting of_input of_setting))
+        (fits input setting rest (journal_in w) reached.lists of_input of_setting begins
+        (agree_in_wave input setting rest w reached.lists reached.stands))
+
+-- the same of a run
+module _ (input : Input) (setting : Setting) where
+  module _ (few : EventsAreFew) (w : WorldState) (n : ℕ) (reached : IsReached input setting (first_rest setting) w n)
+    where
+      -- they are no more than its journal allows
+      pub few_reached : IsValid input setting → n ≤ most_events input setting (last_epoch (journal_in w))
+      few_reached valid =
+          few_events few input setting valid (journal_in w) reached.lists
+          (agree input setting w reached.lists reached.stands) n reached.counted
+
+      -- so a number of 64 bits counts them
+      pub counts_on : EventsFit → IsValidInput input → IsValidSetting setting → n < 2 ^ 64 - 1
+      counts_on fits of_input of_setting =
+          under n (most_events input setting (last_epoch (journal_in w))) (2 ^ 64 - 1)
+          (few_reached (within_limits input setting of_input of_setting))
+          (fits input setting (journal_in w) reached.lists of_input of_setting
+          (agree input setting w reached.lists reached.stands))
 
 -- ---- of a run of a world
 
 -- what a world that made so many events answers
-module _ (input : Input) (setting : Setting) (w : WorldState) (events : ℕ) (reached : IsReached input setting w events)
+module _ (input : Input) (setting : Setting) (w : WorldState) (events : ℕ)
+    (reached : IsReached input setting (first_rest setting) w events)
     (of_input : IsValidInput input) (of_setting : IsValidSetting setting) where
   -- it is the run of its input
   pub run_answers : (result : Result Run AllocError)

@@ -10,13 +10,14 @@ use Rattle.epoch_tags.specs.declared.actor.Actor.TheVariants.{Controller}
 use Rattle.trace_law.specs.declared.input.Input.{Input}
 use Rattle.trace_law.specs.declared.setting.Setting.{Setting}
 use Rattle.trace_law.specs.declared.run.Run.{Run}
+use Rattle.trace_law.specs.Family.{Rest, first_rest}
 use Rattle.actor_core.specs.declared.machines.Core.{Core}
 use Rattle.actor_core.specs.Lists.{ActorLists, no_lists}
 use Rattle.actor_core.specs.Standing.{GoesOn, IsOver}
 use Rattle.actor_core.specs.Families.{journal_of}
 use Rattle.actor_core.specs.Elements.{IsSomeAt, IsAllAt}
 use Rattle.link_trace.specs.declared.slots.Slot.{Slot}
-use Rattle.link_trace.specs.Worlds.{WorldState, StandsFor, core_of}
+use Rattle.link_trace.specs.Worlds.{WorldState, StandsFor, StandsInWave, core_of}
 use Rattle.link_trace.specs.Order.{MakesFirst, Replays, IsReplay, start, event, slots_of}
 use Rattle.link_trace.specs.Marks.{AreMarked}
 use Rattle.link_trace.proofs.Bounds.{IsReached, none_reached, slot_reached}
@@ -27,33 +28,34 @@ pub all_unsure : (slots : List Slot) (marks : List Bool) (w : WorldState) → le
 all_unsure slots marks w long all = record { each = long; idle = λ n slot there none. absurd (all n none) }
 
 -- so far: the events made, a word drawn for each, marks that are sound, and lists that count the events
-pub record IsUnderWay (input : Input) (setting : Setting) (seed : ℕ) (marks : List Bool) (draws : Lcg) (events : ℕ)
+pub record IsUnderWay (input : Input) (setting : Setting) (rest : Rest) (seed : ℕ) (marks : List Bool) (draws : Lcg)
+    (events : ℕ)
     (w : WorldState) : Type 0 where
   pub first : WorldState
-  pub fresh : StandsFor input setting first (λ actor. no_lists)
+  pub fresh : StandsInWave input setting rest first (λ actor. no_lists)
   pub replays : Replays (slots_of setting) seed first events w
   pub draws_are : draws ≡ advance 64 multiplier_64 events (started 64 multiplier_64 seed (increment_of 64 56))
   pub marked : AreMarked (slots_of setting) marks w
-  pub reached : IsReached input setting w events
+  pub reached : IsReached input setting rest w events
 
--- a world that stands for empty lists, with every slot marked and no word drawn, is under way with no events made
-pub begins : (input : Input) (setting : Setting) (seed : ℕ) (marks : List Bool) (draws : Lcg) (slots : List Slot)
-    (w : WorldState) → StandsFor input setting w (λ actor. no_lists)
+pub begins : (input : Input) (setting : Setting) (rest : Rest) (seed : ℕ) (marks : List Bool) (draws : Lcg)
+    (slots : List Slot)
+    (w : WorldState) → StandsInWave input setting rest w (λ actor. no_lists)
     → draws ≡ started 64 multiplier_64 seed (increment_of 64 56) → slots ≡ slots_of setting
     → length marks ≡ length slots → ((n : ℕ) → ¬ (slice_get marks n ≡ Some false))
-    → IsUnderWay input setting seed marks draws 0 w
+    → IsUnderWay input setting rest seed marks draws 0 w
 unfolding state_after
-begins input setting seed marks draws slots w fresh new is long all = record {
+begins input setting rest seed marks draws slots w fresh new is long all = record {
   first = w;
   fresh = fresh;
   replays = start;
   draws_are = new;
   marked = all_unsure (slots_of setting) marks w (long ∙ ap length is) all;
-  reached = none_reached input setting w fresh;
+  reached = none_reached input setting rest w fresh;
 }
 
-module _ (input : Input) (setting : Setting) (seed : ℕ) (marks marks' : List Bool) (draws draws' : Lcg)
-    (events events' : ℕ) (w w' : WorldState) (under : IsUnderWay input setting seed marks draws events w) where
+module _ (input : Input) (setting : Setting) (rest : Rest) (seed : ℕ) (marks marks' : List Bool) (draws draws' : Lcg)
+    (events events' : ℕ) (w w' : WorldState) (under : IsUnderWay input setting rest seed marks draws events w) where
   drawn_more : draws' ≡ (pcg32 draws).1 → draws' ≡ advance 64 multiplier_64 (events + 1)
       (started 64 multiplier_64 seed (increment_of 64 56))
   drawn_more is =
@@ -64,23 +66,23 @@ module _ (input : Input) (setting : Setting) (seed : ℕ) (marks marks' : List B
   -- it, the run is under way with one event more
   pub goes_on : (slots : List Slot) → slots ≡ slots_of setting → IsSomeAt GoesOn w.cores → AreMarked slots marks' w'
       → MakesFirst slots (pcg32 draws).0 w w' → draws' ≡ (pcg32 draws).1
-      → events' ≡ events + 1 → IsUnderWay input setting seed marks' draws' events' w'
+      → events' ≡ events + 1 → IsUnderWay input setting rest seed marks' draws' events' w'
   goes_on slots is goes marked made drawn counted =
       let makes : MakesFirst (slots_of setting) (pcg32 draws).0 w w' =
       subst (λ s. MakesFirst s (pcg32 draws).0 w w') is made in
-      subst (λ n. IsUnderWay input setting seed marks' draws' n w') (sym counted) (record {
+      subst (λ n. IsUnderWay input setting rest seed marks' draws' n w') (sym counted) (record {
         first = under.first;
         fresh = under.fresh;
         replays = event under.replays goes (subst (λ g. MakesFirst (slots_of setting) (pcg32 g).0 w w')
             under.draws_are makes);
         draws_are = drawn_more drawn;
         marked = subst (λ s. AreMarked s marks' w') is marked;
-        reached = slot_reached input setting made.slot events w w' made.happens under.reached;
+        reached = slot_reached input setting rest made.slot events w w' made.happens under.reached;
       })
 
 -- where the work of all is over, a run with the events counted and the controller's journal is a replay
 pub replayed : (input : Input) (setting : Setting) (seed : ℕ) (marks : List Bool) (draws : Lcg) (events : ℕ)
-    (w : WorldState) → IsUnderWay input setting seed marks draws events w
+    (w : WorldState) → IsUnderWay input setting (first_rest setting) seed marks draws events w
     → (result : Result Run AllocError) → IsAllAt IsOver w.cores
     → IfOk result (λ run. (input' : Input) (setting' : Setting) (lists : Actor → ActorLists)
     → StandsFor input' setting' w lists

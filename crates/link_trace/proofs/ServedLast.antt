@@ -7,6 +7,7 @@ use Rattle.epoch_tags.specs.declared.actor.Actor.{Actor}
 use Rattle.epoch_tags.specs.declared.actor.Actor.TheVariants.{Controller}
 use Rattle.trace_law.specs.declared.input.Input.{Input}
 use Rattle.trace_law.specs.declared.setting.Setting.{Setting}
+use Rattle.trace_law.specs.Family.{first_rest}
 use Rattle.trace_law.specs.declared.run.Run.{Run}
 use Rattle.actor_core.specs.declared.machines.Core.{Core}
 use Rattle.actor_core.specs.Lists.{ActorLists, no_lists}
@@ -33,7 +34,7 @@ pub record IsServedSo (input : Input) (setting : Setting) (starved : Actor) (mar
   pub fresh : StandsFor input setting first (λ actor. no_lists)
   pub starves : Starves (slots_of setting) starved first events w
   pub marked : AreMarked (slots_of setting) marks w
-  pub reached : IsReached input setting w events
+  pub reached : IsReached input setting (first_rest setting) w events
 
 -- a world that stands for empty lists, with every slot marked, is at the beginning of a run in which one actor is
 -- served last
@@ -46,7 +47,7 @@ begins input setting starved marks slots w fresh is long all = record {
   fresh = fresh;
   starves = start;
   marked = all_unsure (slots_of setting) marks w (long ∙ ap length is) all;
-  reached = none_reached input setting w fresh;
+  reached = none_reached input setting (first_rest setting) w fresh;
 }
 
 -- where the work of some goes on, and the event made is that of the least slot of another actor, or where no other has
@@ -63,7 +64,7 @@ goes_on input setting starved marks marks' events w w' so slots is goes marked m
       fresh = so.fresh;
       starves = event so.starves goes (subst (λ s. MakesStarving starved s w w') is made);
       marked = subst (λ s. AreMarked s marks' w') is marked;
-      reached = slot_reached input setting one.0 events w w' one.1 so.reached;
+      reached = slot_reached input setting (first_rest setting) one.0 events w w' one.1 so.reached;
     }
 
 -- where the work of all is over, a run with the events counted and the controller's journal is one in which that actor

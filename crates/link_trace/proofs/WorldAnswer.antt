@@ -9,7 +9,7 @@ use Rattle.trace_law.specs.declared.input.Input.{Input}
 use Rattle.trace_law.specs.declared.setting.Setting.{Setting}
 use Rattle.trace_law.specs.declared.run.Run.{Run}
 use Rattle.trace_law.specs.Validity.{IsValid}
-use Rattle.trace_law.specs.Family.{first_rest}
+use Rattle.trace_law.specs.Family.{IsRestFor, Rest, first_rest}
 use Rattle.trace_law.specs.Runs.{IsRunOf}
 use Rattle.trace_law.specs.Laws.{FinishedAnswers, QuietIsFinished}
 use Rattle.actor_core.specs.Lists.{ActorLists}
@@ -19,40 +19,45 @@ use Rattle.actor_core.specs.Elements.{IsAllAt, IsSomeAt}
 use Rattle.actor_core.specs.Endings.{AreLast, IsAnswerOf}
 use Rattle.actor_core.specs.Players.{journal_at}
 use Rattle.actor_core.specs.declared.machines.Core.{Core}
-use Rattle.link_trace.specs.Worlds.{WorldState, StandsFor, IsStill, WorldAgrees, core_of, journal_in, left_of}
+use Rattle.link_trace.specs.Worlds.{WorldState, StandsInWave, IsStill, WorldAgrees, WorldAgreesInWave}
+use Rattle.link_trace.specs.Worlds.{core_of, journal_in, left_of}
 use Rattle.actor_core.proofs.Balances.{balanced_fronts, none_left}
-use Rattle.actor_core.proofs.CompleteAnswer.{agrees, journal_named, over_finished, run_ends}
+use Rattle.actor_core.proofs.CompleteAnswer.{agrees_in_wave, journal_named, over_in_wave, run_ends_in_wave}
 use Rattle.actor_core.proofs.Stilled as stilled
 
 -- its lists agree
-pub agree : WorldAgrees
-agree input setting w lists stands =
-    agrees input setting w.joiners w.feeders w.cores lists stands.machines
+pub agree_in_wave : WorldAgreesInWave
+agree_in_wave input setting rest w lists stands =
+    agrees_in_wave input setting rest w.joiners w.feeders w.cores lists stands.machines
     (balanced_fronts lists (left_of w) stands.balanced)
 
-module _ (input : Input) (setting : Setting) (w : WorldState) (lists : Actor → ActorLists)
-    (stands : StandsFor input setting w lists) where
+pub agree : WorldAgrees
+agree input setting w lists stands = agree_in_wave input setting (first_rest setting) w lists stands
+
+module _ (input : Input) (setting : Setting) (rest : Rest) (w : WorldState) (lists : Actor → ActorLists)
+    (stands : StandsInWave input setting rest w lists) where
   fronts : AreFronts lists
   fronts = balanced_fronts lists (left_of w) stands.balanced
 
   -- where nothing is left, and no feeder would begin, who finds that some work goes on, or that none does, finds none
-  pub still_is_done : IsStill setting w → QuietIsFinished → IsValid input setting → (done : Bool)
-      → (done ≡ false → IsSomeAt GoesOn w.cores) → done ≡ true
-  still_is_done still law valid =
-      stilled.still_is_done input setting w.joiners w.feeders w.cores lists stands.machines fronts
+  pub still_is_done : IsStill setting w → QuietIsFinished → IsValid input setting → IsRestFor input setting rest
+      → (done : Bool) → (done ≡ false → IsSomeAt GoesOn w.cores) → done ≡ true
+  still_is_done still law valid begins =
+      stilled.still_is_done_in_wave input setting rest w.joiners w.feeders w.cores lists stands.machines fronts
       (λ from to link. none_left lists (left_of w) stands.balanced from to (still.links from to link))
-      still.waits law valid
+      still.waits law valid begins
 
   module _ (controller : ControllerState) (collector : CollectorState)
       (last : AreLast w.cores controller collector) where
     -- the last two machines answer its run, where the work of all is over
-    pub ends : FinishedAnswers → IsValid input setting → IsAllAt IsOver w.cores → (bouts : ℕ) (run : Run)
+    pub ends : FinishedAnswers → IsValid input setting → IsRestFor input setting rest → IsAllAt IsOver w.cores
+        → (bouts : ℕ) (run : Run)
         → ((joiners : ℕ) (ls : CollectorLists) → CollectorStands joiners ls collector
         → IsAnswerOf joiners ls controller.journal bouts run)
-        → IsRunOf input setting (first_rest setting).line run.journal run
-    ends law valid over =
-        run_ends law input setting w.joiners w.feeders w.cores lists valid stands.machines
-        (over_finished input setting w.joiners w.feeders w.cores lists stands.machines fronts over)
+        → IsRunOf input setting rest.line run.journal run
+    ends law valid begins over =
+        run_ends_in_wave law input setting rest w.joiners w.feeders w.cores lists valid begins stands.machines
+        (over_in_wave input setting rest w.joiners w.feeders w.cores lists stands.machines fronts over)
         controller collector last
 
     -- the controller's journal is that of the machine found under its name

@@ -12,9 +12,12 @@ use Rattle.epoch_tags.specs.declared.message.Msg.{Msg}
 use Rattle.epoch_tags.specs.declared.message.Post.{Post}
 use Rattle.trace_law.specs.declared.input.Input.{Input}
 use Rattle.trace_law.specs.declared.setting.Setting.{Setting}
+use Rattle.trace_law.specs.Family.{Rest}
+use Rattle.theta_pred.specs.Formula.{Meaning}
 use Rattle.actor_core.specs.Lists.{ActorLists, Cause, Took, Began, same_actor, posted_to, with_event}
-use Rattle.actor_core.specs.Standing.{Stands, Event, GoOut}
-use Rattle.actor_core.specs.Families.{start_for, IsActor, changed, put_on, taken_off, after_event, core_in}
+use Rattle.actor_core.specs.Standing.{Stands, Event, GoOut, JoinsBy}
+use Rattle.actor_core.specs.Elements.{IsAllAt}
+use Rattle.actor_core.specs.Families.{start_in_wave, IsActor, changed, put_on, taken_off, after_event, core_in}
 use Rattle.actor_core.specs.Numbers.{number, at_number}
 use Rattle.actor_core.specs.declared.machines.Core.{Core}
 use Rattle.link_trace.specs.Worlds.{MakesEvent, Delivers, OccursAt, TakesOff, KeepsOthers, left_in}
@@ -65,38 +68,56 @@ module _ (joiners feeders : ℕ) (cores : List Core) (self : Actor) (n : ℕ) (n
 
 stands_after : (self : Actor) (cause : Cause) (core next : Core) (old new : Actor → Option Core) (posts : List Post)
     → old self ≡ Some core → new ≡ changed self (Some next) old → Event cause core next posts
-    → (input : Input) (setting : Setting) (f : Actor → ActorLists)
-    → ((a : Actor) → IsActor setting a → (c : Core) × (old a ≡ Some c) × Stands (start_for input setting a) (f a) c)
+    → (input : Input) (setting : Setting) (rest : Rest) (f : Actor → ActorLists)
+    → ((a : Actor) → IsActor setting a → (c : Core) × (old a ≡ Some c)
+    × Stands (start_in_wave input setting rest a) (f a) c)
     → (a : Actor) → IsActor setting a → (c : Core) × (new a ≡ Some c)
-    × Stands (start_for input setting a) (after_event self cause posts f a) c
-stands_after self cause core next old new posts was now event input setting f stands a is =
-    subst (λ z. (c : Core) × (z a ≡ Some c) × Stands (start_for input setting a) (after_event self cause posts f a) c)
+    × Stands (start_in_wave input setting rest a) (after_event self cause posts f a) c
+stands_after self cause core next old new posts was now event input setting rest f stands a is =
+    subst (λ z. (c : Core) × (z a ≡ Some c) × Stands (start_in_wave input setting rest a)
+    (after_event self cause posts f a) c)
     (sym now) (go (same_actor self a) refl)
   where
     go : (b : Bool) → same_actor self a ≡ b → (c : Core) × (cond b (Some next) (old a) ≡ Some c)
-        × Stands (start_for input setting a) (cond b (with_event cause posts (f self)) (f a)) c
+        × Stands (start_in_wave input setting rest a) (cond b (with_event cause posts (f self)) (f a)) c
     go true e =
         let old_one = stands a is in
         let here = same_is self a e in
         let core_is = some_is old_one.0 core (sym old_one.1 ∙ subst (λ z. old z ≡ Some core) here was) in
-        let stood = subst (λ c. Stands (start_for input setting a) (f a) c) core_is old_one.2 in (
+        let stood = subst (λ c. Stands (start_in_wave input setting rest a) (f a) c) core_is old_one.2 in (
           next,
           refl,
-          event.stands (start_for input setting a) (f self)
-              (subst (λ z. Stands (start_for input setting a) (f z) core) (sym here) stood),
+          event.stands (start_in_wave input setting rest a) (f self)
+              (subst (λ z. Stands (start_in_wave input setting rest a) (f z) core) (sym here) stood),
         )
     go false e = stands a is
 
 goes_out : (self : Actor) (cause : Cause) (core next : Core) (old : Actor → Option Core) (posts : List Post)
     → old self ≡ Some core → Event cause core next posts
-    → (input : Input) (setting : Setting) (f : Actor → ActorLists) → IsActor setting self
-    → ((a : Actor) → IsActor setting a → (c : Core) × (old a ≡ Some c) × Stands (start_for input setting a) (f a) c)
-    → GoOut (start_for input setting self) posts
-goes_out self cause core next old posts was event input setting f is stands =
+    → (input : Input) (setting : Setting) (rest : Rest) (f : Actor → ActorLists) → IsActor setting self
+    → ((a : Actor) → IsActor setting a → (c : Core) × (old a ≡ Some c)
+    × Stands (start_in_wave input setting rest a) (f a) c)
+    → GoOut (start_in_wave input setting rest self) posts
+goes_out self cause core next old posts was event input setting rest f is stands =
     let own = stands self is in
     let core_is = some_is own.0 core (sym own.1 ∙ was) in
-    event.over (start_for input setting self) (f self) (subst (λ c. Stands (start_for input setting self) (f self) c)
+    event.over (start_in_wave input setting rest self) (f self)
+    (subst (λ c. Stands (start_in_wave input setting rest self) (f self) c)
     core_is own.2)
+
+joins_after : (theta : Meaning) (n : ℕ) (cores : List Core) (core next : Core) → slice_get cores n ≡ Some core
+    → (JoinsBy theta core → JoinsBy theta next) → IsAllAt (JoinsBy theta) cores
+    → IsAllAt (JoinsBy theta) (set cores n next)
+joins_after theta n cores core next was keeps all k other there = go (n == k) refl
+  where
+    there' : cond (n == k) (Some next) (slice_get cores k) ≡ Some other
+    there' = sym (slice_get-set cores n k next (slice_get_within cores n core was)) ∙ there
+
+    go : (b : Bool) → (n == k) ≡ b → JoinsBy theta other
+    go true e =
+        let same = some_is next other (sym (ap (λ c. cond c (Some next) (slice_get cores k)) e) ∙ there') in
+        subst (JoinsBy theta) same (keeps (all n core was))
+    go false e = all k other (sym (ap (λ c. cond c (Some next) (slice_get cores k)) e) ∙ there')
 
 -- a machine made an event, and its posts were put on their links
 module _ (joiners feeders : ℕ) (self : Actor) (n : ℕ) (at : number joiners feeders self ≡ Some n) (cause : Cause)
@@ -134,13 +155,13 @@ module _ (joiners feeders : ℕ) (self : Actor) (n : ℕ) (at : number joiners f
       (record { joiners = joiners; feeders = feeders; cores = cores'; waiting = ws' })
   makes_event balances = record {
     posts = occurs.occurs.added;
-    stands = λ input setting f w. record {
+    stands = λ input setting rest f w. record {
       machines = record {
         joiners_are = w.machines.joiners_are;
         feeders_are = w.machines.feeders_are;
         all = ap length occurs.now ∙ length-set cores n occurs.next ∙ w.machines.all;
         stands = stands_after self cause occurs.core occurs.next (core_in joiners feeders cores)
-            (core_in joiners feeders cores') occurs.occurs.added was now occurs.occurs.event input setting f
+            (core_in joiners feeders cores') occurs.occurs.added was now occurs.occurs.event input setting rest f
             w.machines.stands;
       };
       balanced =
@@ -149,13 +170,16 @@ module _ (joiners feeders : ℕ) (self : Actor) (n : ℕ) (at : number joiners f
           (ap (λ ps. put_on self ps (left_in joiners feeders middle)) (sym occurs.occurs.sends) ∙ sym put)
           (balances f w.balanced);
     };
-    over = λ input setting f w.
+    over = λ input setting rest f w.
         let is = is_actor setting joiners feeders self n w.machines.joiners_are w.machines.feeders_are at in (
           is,
           goes_out self cause occurs.core occurs.next (core_in joiners feeders cores)
-              occurs.occurs.added was occurs.occurs.event input setting f is w.machines.stands,
+              occurs.occurs.added was occurs.occurs.event input setting rest f is w.machines.stands,
         );
     asks = occurs.occurs.event.asks;
+    joins = λ theta all.
+        subst (IsAllAt (JoinsBy theta)) (sym occurs.now)
+        (joins_after theta n cores occurs.core occurs.next occurs.was (occurs.occurs.event.joins theta) all);
     others = others;
   }
 

@@ -7,13 +7,15 @@ use Rattle.epoch_tags.specs.Links.{HasLink}
 use Rattle.load_controller.specs.declared.line.TurnLine.{TurnLine}
 use Rattle.epoch_tags.specs.declared.message.Msg.{Msg}
 use Rattle.epoch_tags.specs.declared.message.Post.{Post}
-use Rattle.trace_law.specs.Family.{IsAgreeing, first_rest}
+use Rattle.trace_law.specs.Family.{IsAgreeing, Rest, first_rest}
+use Rattle.theta_pred.specs.Formula.{Meaning}
 use Rattle.trace_law.specs.declared.input.Input.{Input}
 use Rattle.trace_law.specs.declared.setting.Setting.{Setting}
 use Rattle.actor_core.specs.Lists.{ActorLists, Cause, Took, same_actor, no_lists}
-use Rattle.actor_core.specs.Players.{AllStand, journal_among}
-use Rattle.actor_core.specs.Standing.{Stands, Occurs, GoOut, Asks, Waits}
-use Rattle.actor_core.specs.Families.{start_for, IsActor, IsBalanced, after_event, core_in, family_of}
+use Rattle.actor_core.specs.Players.{AllStandInWave, journal_among}
+use Rattle.actor_core.specs.Elements.{IsAllAt}
+use Rattle.actor_core.specs.Standing.{Stands, Occurs, GoOut, Asks, JoinsBy, Waits}
+use Rattle.actor_core.specs.Families.{start_for, start_in_wave, IsActor, IsBalanced, after_event, core_in, family_of}
 use Rattle.actor_core.specs.Numbers.{number, actor_at, at_number}
 use Rattle.actor_core.specs.declared.machines.Core.{Core}
 use Rattle.link_trace.specs.declared.places.Place.{Place}
@@ -103,11 +105,21 @@ state_of w = record {
 abbrev pub put_one : Actor → Actor → Msg → (Actor → Actor → List Msg) → Actor → Actor → List Msg
 put_one from to m left x y = if same_actor from x && same_actor to y then left x y ++ m ∷ [] else left x y
 
--- these lists are what its actors have received and sent: each machine stands for those of its actor, and on each link
--- what was received, and then what is left, is what was sent
-pub record StandsFor (input : Input) (setting : Setting) (w : WorldState) (f : Actor → ActorLists) : Type 0 where
-  pub machines : AllStand input setting w.joiners w.feeders w.cores f
+-- of a wave of this input and setting that goes on from this rest: these lists are what its actors have received and
+-- sent, each machine stands for those of its actor, and on each link what was received, and then what is left, is what
+-- was sent
+pub record StandsInWave (input : Input) (setting : Setting) (rest : Rest) (w : WorldState)
+    (f : Actor → ActorLists) : Type 0 where
+  pub machines : AllStandInWave input setting rest w.joiners w.feeders w.cores f
   pub balanced : IsBalanced f (left_of w)
+
+-- the same of a run, that is of the wave that begins with no rows
+abbrev pub StandsFor : Input → Setting → WorldState → (Actor → ActorLists) → Type 0
+StandsFor input setting w f = StandsInWave input setting (first_rest setting) w f
+
+-- each joiner's machine joins by this predicate
+abbrev pub AllJoinBy : Meaning → WorldState → Type 0
+AllJoinBy theta w = IsAllAt (JoinsBy theta) w.cores
 
 -- so many actors at the beginning of a run: each machine stands for empty lists, and nothing waits
 pub record AreNew (input : Input) (setting : Setting) (count : ℕ) (places : List Place) : Type 0 where
@@ -116,19 +128,25 @@ pub record AreNew (input : Input) (setting : Setting) (count : ℕ) (places : Li
       → Stands (start_for input setting (actor_at (2 ^ setting.k) setting.feeders n)) no_lists core
   pub empty : (receiver sender : ℕ) → waits (waiting_of places) receiver sender ≡ []
 
+-- nothing waits at any of these places
+abbrev pub HaveNothing : List Place → Type 0
+HaveNothing places = (receiver sender : ℕ) → waits (waiting_of places) receiver sender ≡ []
+
 -- every other actor has the machine that it had, and where nothing was left of what it sends, nothing is
 pub record KeepsOthers (self : Actor) (old new : WorldState) : Type 0 where
   pub machines : (a : Actor) → same_actor self a ≡ false → core_of new a ≡ core_of old a
   pub links : (from to : Actor) → same_actor self from ≡ false → left_of old from to ≡ [] → left_of new from to ≡ []
 
 -- one event of the actor `self`: whatever the lists were, they are the same with the event at their ends; it is one of
--- the run's actors, and its posts go over its links
+-- the run's actors, and its posts go over its links; joiners keep their predicate
 pub record MakesEvent (self : Actor) (cause : Cause) (old new : WorldState) : Type 0 where
   pub posts : List Post
-  pub stands : (input : Input) (setting : Setting) (f : Actor → ActorLists) → StandsFor input setting old f
-      → StandsFor input setting new (after_event self cause posts f)
-  pub over : (input : Input) (setting : Setting) (f : Actor → ActorLists) → StandsFor input setting old f
-      → IsActor setting self × GoOut (start_for input setting self) posts
+  pub stands : (input : Input) (setting : Setting) (rest : Rest) (f : Actor → ActorLists)
+      → StandsInWave input setting rest old f → StandsInWave input setting rest new (after_event self cause posts f)
+  pub over : (input : Input) (setting : Setting) (rest : Rest) (f : Actor → ActorLists)
+      → StandsInWave input setting rest old f
+      → IsActor setting self × GoOut (start_in_wave input setting rest self) posts
+  pub joins : (theta : Meaning) → AllJoinBy theta old → AllJoinBy theta new
   pub asks : Asks cause posts
   pub others : KeepsOthers self old new
 
@@ -153,3 +171,9 @@ abbrev pub WorldAgrees : Type 0
 WorldAgrees = (input : Input) (setting : Setting) (w : WorldState) (lists : Actor → ActorLists)
     → StandsFor input setting w lists
     → IsAgreeing input setting (first_rest setting) (family_of (journal_in w) lists)
+
+-- and so are those of a wave
+abbrev pub WorldAgreesInWave : Type 0
+WorldAgreesInWave = (input : Input) (setting : Setting) (rest : Rest) (w : WorldState) (lists : Actor → ActorLists)
+    → StandsInWave input setting rest w lists
+    → IsAgreeing input setting rest (family_of (journal_in w) lists)

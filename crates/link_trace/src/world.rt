@@ -1,13 +1,13 @@
 // All machines of a run on one thread, and what is under way between them.
 
-ghost use Rattle.std.specs.Prelude.{◌≡◌, [], All, Ok, Some, None, IfOk, IfSome, OnOk, OnErr, IsTrue, ◌↔◌, true, false};
+ghost use Rattle.std.specs.Prelude.{◌≡◌, ◌≤◌, ◌^◌, [], All, Ok, Some, None, IfOk, IfSome, OnOk, OnErr, IsTrue, ◌↔◌, true, false};
 ghost use Rattle.epoch_tags.specs.Links.{HasLink};
 ghost use Rattle.epoch_tags.specs.declared.actor.Actor.TheVariants.{Feeder as Feeder', Controller as Controller'};
 ghost use Rattle.epoch_tags.specs.declared.actor.Actor.{Actor as Actor'};
 ghost use Rattle.trace_law.specs.declared.input.Input.{Input as Input'};
 ghost use Rattle.trace_law.specs.declared.setting.Setting.{Setting as Setting'};
 ghost use Rattle.trace_law.specs.Validity.{IsValidInput, IsValidSetting, IsValid};
-ghost use Rattle.trace_law.specs.Family.{first_rest};
+ghost use Rattle.trace_law.specs.Family.{first_rest, IsRestFor, Rest as Rest'};
 ghost use Rattle.trace_law.specs.Runs.{IsRunOf};
 ghost use Rattle.actor_core.specs.declared.step.Step.TheVariants.{Took as Took', Idle as Idle'};
 ghost use Rattle.actor_core.specs.Lists.{Began, ActorLists, no_lists};
@@ -15,12 +15,16 @@ ghost use Rattle.actor_core.specs.Families.{journal_of};
 ghost use Rattle.actor_core.specs.Standing.{IsOver, GoesOn, Waits};
 ghost use Rattle.actor_core.specs.declared.machines.Core.{Core as Core'};
 ghost use Rattle.actor_core.specs.Numbers.{number as number'};
+ghost use Rattle.actor_core.specs.Rests.{upto, rest_of, IsRestOf, IsWithin};
 ghost use Rattle.actor_core.specs.Elements.{IsAllAt, IsSomeAt};
-ghost use Rattle.link_trace.specs.Worlds.{state_of, left_of, core_of, cores_of, StandsFor, AreNew, IsStill, Delivers, MakesEvent};
+ghost use Rattle.link_trace.specs.Worlds.{state_of, left_of, core_of, cores_of, StandsFor, StandsInWave, AllJoinBy, AreNew, HaveNothing, IsStill, Delivers, MakesEvent};
 
 use crate::places::{Place, begin, hand, take};
 use crate::sending::send_all;
-use actor_core::{Core, Step, answer, core_at, has_link, joiners_of, last_machines, number};
+use actor_core::{
+    Core, Rest, Step, Upto, answer, core_at, cores_in_wave, has_link, joiners_of, last_machines,
+    number,
+};
 use epoch_tags::{Actor, Msg, Sends};
 use std::alloc::{AllocError, Global};
 use std::collections::VecDeque;
@@ -61,6 +65,23 @@ fn new_places<'a>(
     let mut places = Vec::new(alloc);
     for n in 0..count {
         let core = core_at(alloc, input, setting, n)?;
+        let waiting = no_messages(alloc, count)?;
+        places.push(Place { core, waiting })?;
+    }
+    Ok(places)
+}
+
+// Places for these machines, in their order, with nothing that waits there.
+fn places_of<'a>(
+    alloc: Global,
+    cores: Vec<Core<'a>>,
+    count: u32,
+) -> Result<Vec<Place<'a>>, AllocError>
+    ensures cores { IfOk result (λ places. cores_of places.items ≡ cores.entry.items) }
+    ensures empty { IfOk result (λ places. HaveNothing places.items) }
+{
+    let mut places = Vec::new(alloc);
+    for core in cores {
         let waiting = no_messages(alloc, count)?;
         places.push(Place { core, waiting })?;
     }
@@ -116,6 +137,38 @@ impl<'a> World<'a> {
         })
     }
 
+    /// All actors of a wave before its first event, which goes on from this rest and ends there. The world borrows the
+    /// input.
+    pub fn start_at(
+        alloc: Global,
+        rest: Rest,
+        input: &'a Input,
+        setting: &Setting,
+        end: Upto,
+    ) -> Result<World<'a>, AllocError>
+        requires input { IsValidInput input.now }
+        requires setting { IsValidSetting setting.now }
+        requires end { IsWithin end input.now }
+        requires rest { IsRestOf (upto end input.now) setting.now rest }
+        requires epoch { rest.line.epoch ≤ 2 ^ 31 }
+        ensures fresh { IfOk result (λ world. StandsInWave (upto end input.now) setting.now
+            (rest_of rest) (state_of world) (λ actor. no_lists)) }
+        ensures joins { IfOk result (λ world. AllJoinBy input.now.theta (state_of world)) }
+        ensures at_work { IfOk result (λ world. world.spent ≡ false) }
+    {
+        let joiners = joiners_of(setting);
+        let count = setting.feeders + joiners + 2;
+        let cores = cores_in_wave(alloc, rest, input, setting, end)?;
+        let places = places_of(alloc, cores, count)?;
+        Ok(World {
+            alloc,
+            joiners,
+            feeders: setting.feeders,
+            places,
+            spent: false,
+        })
+    }
+
     /// Whether the run has a link from one actor to the other. It takes no memory.
     pub fn has(&self, from: Actor, to: Actor) -> bool
         ensures { (input : Input') (setting : Setting') (lists : Actor' → ActorLists)
@@ -142,6 +195,10 @@ impl<'a> World<'a> {
         ensures goes_on { result ≡ false → IsSomeAt GoesOn (state_of self.now).cores }
         ensures still { (input : Input') (setting : Setting') (lists : Actor' → ActorLists)
             → IsValid input setting → StandsFor input setting (state_of self.now) lists
+            → IsStill setting (state_of self.now) → result ≡ true }
+        ensures still_in_wave { (input : Input') (setting : Setting') (rest : Rest') (lists : Actor' → ActorLists)
+            → IsValid input setting → IsRestFor input setting rest
+            → StandsInWave input setting rest (state_of self.now) lists
             → IsStill setting (state_of self.now) → result ≡ true }
     {
         quiet_is_finished();

@@ -1,5 +1,7 @@
 use Rattle.std.proofs.Common.{◌∙◌, ◌+◌, subst}
 use Rattle.std.proofs.lemmas.Result.{IfOk-weaker}
+use Rattle.trace_law.specs.Family.{first_rest}
+use Rattle.trace_law.proofs.First.{stands as first_stands}
 use Rattle.actor_core.specs.Endings.{AreLast}
 use Rattle.actor_core.specs.declared.machines.Core.TheVariants.{Collector as TheCollector}
 use Rattle.link_trace.specs.Worlds.{state_of}
@@ -20,8 +22,8 @@ returns-clause-run c =
     let last = subst (λ cs. AreLast cs controller collector) c.in_ok-cores.ensures c.in-Some.ensures in
     IfOk-weaker c.answer.result _ _
     (λ run answers input setting lists valid stands.
-    ends input setting (state_of c.args.self) lists stands controller collector last c.finished_answers.ensures valid
-    c.requires c.args.bouts run answers)
+    ends input setting (first_rest setting) (state_of c.args.self) lists stands controller collector last
+    c.finished_answers.ensures valid (first_stands input setting valid) c.requires c.args.bouts run answers)
     c.answer.ensures.run
 
 pub returns-clause-journal : goal.returns-clause-journal
@@ -31,5 +33,6 @@ returns-clause-journal c =
     let last = subst (λ cs. AreLast cs controller collector) c.in_ok-cores.ensures c.in-Some.ensures in
     IfOk-weaker c.answer.result _ _
     (λ run same input setting lists stands core there.
-    same ∙ journal_there input setting (state_of c.args.self) lists stands controller collector last core there)
+    same ∙ journal_there input setting (first_rest setting) (state_of c.args.self)
+    lists stands controller collector last core there)
     c.answer.ensures.journal
