@@ -1,8 +1,11 @@
 -- The lists of all actors are an agreeing family, and once the collector is complete they answer the run.
-use Rattle.std.proofs.Common.{◌≡◌, ℕ, ◌+◌, ◌^◌, sym, ap, subst, ◌∙◌, true, Option, Some, None, List, length, arith}
+use Rattle.std.proofs.Common.{◌≡◌, ℕ, ◌+◌, ◌<◌, ◌^◌, sym, ap, subst, ◌∙◌, true, Option, Some, None, List, length, arith}
 use Rattle.std.specs.Prelude.{slice_get, ⊤}
 use Rattle.epoch_tags.specs.declared.actor.Actor.{Actor}
-use Rattle.epoch_tags.specs.declared.actor.Actor.TheVariants.{Controller, Collector}
+use Rattle.epoch_tags.specs.declared.actor.Actor.TheVariants.{Joiner, Controller, Collector}
+use Rattle.join_rows.specs.Lists.{SameBag}
+use Rattle.store_parts.specs.Stored.{Stored}
+use Rattle.joiner_core.specs.State.{tuples_of}
 use Rattle.load_controller.specs.declared.line.TurnLine.{TurnLine}
 use Rattle.load_controller.specs.Standing.{ControllerState}
 use Rattle.pair_collector.specs.Law.{CollectorLists, IsComplete}
@@ -14,7 +17,7 @@ use Rattle.trace_law.specs.declared.run.Run.{Run}
 use Rattle.trace_law.specs.Validity.{IsValid}
 use Rattle.trace_law.specs.Runs.{IsRunOf, run_of}
 use Rattle.trace_law.specs.Laws.{CompleteIsFinished, FinishedAnswers}
-use Rattle.trace_law.specs.Family.{Rest, IsAgreeing, IsRestFor, first_rest}
+use Rattle.trace_law.specs.Family.{Rest, IsAgreeing, IsRestFor, first_rest, rest_after}
 use Rattle.trace_law.proofs.First.{stands as first_stands}
 use Rattle.actor_core.specs.Lists.{ActorLists, collector_lists}
 use Rattle.actor_core.specs.Standing.{Stands, OfCollector, IsOver}
@@ -22,13 +25,14 @@ use Rattle.actor_core.specs.Families.{AreFronts, IsActor, core_in, family_of, jo
 use Rattle.actor_core.specs.Numbers.{number, at_number}
 use Rattle.actor_core.specs.Elements.{IsAllAt}
 use Rattle.actor_core.specs.Endings.{AreLast, IsAnswerOf}
+use Rattle.actor_core.specs.Leavings.{Gives}
 use Rattle.actor_core.specs.Players.{AllStand, AllStandInWave, IsFinishedFamily, IsFinishedWave, is_complete_among}
 use Rattle.actor_core.specs.Players.{is_complete_at, is_complete_core}
 use Rattle.actor_core.specs.Players.{journal_among, journal_at}
 use Rattle.actor_core.specs.declared.machines.Core.{Core}
 use Rattle.actor_core.specs.declared.machines.Core.TheVariants.{Feeder as TheFeeder, Joiner as TheJoiner}
 use Rattle.actor_core.specs.declared.machines.Core.TheVariants.{Controller as TheController, Collector as TheCollector}
-use Rattle.actor_core.proofs.Families.{agrees as agreeing, is_finished}
+use Rattle.actor_core.proofs.Families.{agrees as agreeing, is_finished, left_stores}
 use Rattle.actor_core.proofs.OwnNumbers.{none_some, some_is}
 
 -- ---- what a collector's machine says
@@ -75,6 +79,14 @@ module _ (joiners feeders : ℕ) (cores : List Core) (all : length cores ≡ fee
 
 -- ---- the family of a wave
 
+-- the family of a wave that is over, to which the stores belong that its joiners' machines give back
+pub record LeavesItsStores (input : Input) (setting : Setting) (rest : Rest) (joiners feeders : ℕ) (cores : List Core)
+    (f : Actor → ActorLists) (journal : List TurnLine) : Type 0 where
+  pub family : IsFinishedWave input setting rest journal f
+  pub stored : (j : ℕ) → j < 2 ^ setting.k → (core : Core) (given : Stored)
+      → core_in joiners feeders cores (Joiner j) ≡ Some core → Gives core given
+      → SameBag (tuples_of given) ((rest_after input setting rest (family_of journal f) family.agrees).stores j)
+
 module _ (input : Input) (setting : Setting) (rest : Rest) (joiners feeders : ℕ) (cores : List Core)
     (f : Actor → ActorLists) (all : AllStandInWave input setting rest joiners feeders cores f)
     (fronts : AreFronts f) where
@@ -106,21 +118,40 @@ module _ (input : Input) (setting : Setting) (rest : Rest) (joiners feeders : �
         finished = law input setting rest (family_of journal f) valid begins agrees_in_wave collected;
       }
 
+  found : IsAllAt IsOver cores → (n : Option ℕ) (core : Core)
+      → at_number None n (λ k. slice_get cores k) ≡ Some core → IsOver core
+  found over None core is = absurd (none_some core is)
+  found over (Some n) core is = over n core is
+
+  all_over : IsAllAt IsOver cores → ⊤ → (a : Actor) (is : IsActor setting a) → IsOver (machines_in_wave a is).0
+  all_over over u a is = found over (number joiners feeders a) (all.stands a is).0 (all.stands a is).1
+
   -- and so they are where the work of all is over
   pub over_in_wave : IsAllAt IsOver cores → IsFinishedWave input setting rest journal f
   over_in_wave over =
       subst (λ js. IsFinishedWave input setting rest js f) (sym journal_is)
       (record {
-        agrees = agreeing input setting rest f machines_in_wave fronts ⊤ all_over;
-        finished = is_finished input setting rest f machines_in_wave fronts ⊤ all_over tt;
+        agrees = agreeing input setting rest f machines_in_wave fronts ⊤ (all_over over);
+        finished = is_finished input setting rest f machines_in_wave fronts ⊤ (all_over over) tt;
       })
-    where
-      found : (n : Option ℕ) (core : Core) → at_number None n (λ k. slice_get cores k) ≡ Some core → IsOver core
-      found None core is = absurd (none_some core is)
-      found (Some n) core is = over n core is
 
-      all_over : ⊤ → (a : Actor) (is : IsActor setting a) → IsOver (machines_in_wave a is).0
-      all_over u a is = found (number joiners feeders a) (all.stands a is).0 (all.stands a is).1
+  -- then the stores that the joiners' machines give back are what the family leaves
+  pub over_leaves : IsAllAt IsOver cores → 0 < setting.feeders
+      → LeavesItsStores input setting rest joiners feeders cores f journal
+  over_leaves over some =
+      let ended = is_finished input setting rest f machines_in_wave fronts ⊤ (all_over over) tt in
+      subst (LeavesItsStores input setting rest joiners feeders cores f) (sym journal_is)
+      (record {
+        family = record {
+          agrees = agreeing input setting rest f machines_in_wave fronts ⊤ (all_over over);
+          finished = ended;
+        };
+        stored = λ j low core given there gives.
+            let own = all.stands (Joiner j) low in
+            let same = some_is own.0 core (sym own.1 ∙ there) in
+            left_stores input setting rest f machines_in_wave fronts ⊤ (all_over over) ended some j low given
+            (subst (λ c. Gives c given) (sym same) gives);
+      })
 
 -- the last two machines of a finished family of a wave answer its run
 module _ (law : FinishedAnswers) (input : Input) (setting : Setting) (rest : Rest) (joiners feeders : ℕ)

@@ -1,16 +1,22 @@
 -- The typed family of machines that stand for their lists agrees, and is finished where their work is over.
+use Rattle.std.proofs.Common.{◌⊎◌, inl, inr, ◌≤◌, arith}
+use Rattle.std.proofs.lemmas.Bool.{cases_lt}
 use Rattle.std.proofs.Common.{◌≡◌, ℕ, ◌<◌, ◌^◌, ltb, ltb-true, lt-ltb, true≢false, refl, sym, ap, subst, ◌∙◌, Bool}
 use Rattle.std.proofs.Common.{true, false, Option, List, [], filter_map}
 use Rattle.std.proofs.Math.Bridge.{le_prop}
 use Rattle.std.proofs.lemmas.List.Elements.{filter_map-append}
-use Rattle.join_rows.specs.Lists.{IsPrefix}
+use Rattle.join_rows.specs.Lists.{IsPrefix, SameBag}
+use Rattle.join_rows.proofs.Totals.{greatest_above}
 use Rattle.epoch_tags.specs.declared.actor.Actor.{Actor}
 use Rattle.epoch_tags.specs.declared.actor.Actor.TheVariants.{Feeder, Joiner, Controller, Collector}
 use Rattle.epoch_tags.specs.declared.message.ToFeeder.{ToFeeder}
-use Rattle.epoch_tags.specs.Messages.{stops}
+use Rattle.epoch_tags.specs.Messages.{stops, turns}
 use Rattle.epoch_tags.specs.Posts.{joiner_msg, feeder_msg, controller_msg, collector_msg}
 use Rattle.reshuffler_core.specs.Law.{FeederStart, FeederLaw}
-use Rattle.joiner_law.specs.Law.{JoinerStart, JoinerLaw, Taken, IsFinished as IsFinishedJoiner}
+use Rattle.joiner_law.specs.Law.{JoinerStart, JoinerLists, JoinerLaw, Taken, IsFinished as IsFinishedJoiner}
+use Rattle.joiner_law.specs.Law.{opened, store}
+use Rattle.joiner_core.specs.State.{tuples_of}
+use Rattle.store_parts.specs.Stored.{Stored}
 use Rattle.load_controller.specs.Journal.{begun}
 use Rattle.load_controller.specs.Standing.{ControllerStart}
 use Rattle.load_controller.specs.Law.{ControllerLaw}
@@ -18,9 +24,11 @@ use Rattle.pair_collector.specs.Law.{IsComplete}
 use Rattle.pair_collector.proofs.KeptMessages.{complete_says}
 use Rattle.trace_law.specs.declared.input.Input.{Input}
 use Rattle.trace_law.specs.declared.setting.Setting.{Setting}
-use Rattle.trace_law.specs.Family.{IsAgreeing, IsFinished, Rest, feeder_start, joiner_start, rules_of}
+use Rattle.trace_law.specs.Family.{IsAgreeing, IsFinished, Rest, feeder_start, joiner_start, rest_after}
+use Rattle.trace_law.specs.Family.{rules_of}
 use Rattle.actor_core.specs.Lists.{ActorLists, feeder_lists, joiner_lists, controller_lists, collector_lists}
 use Rattle.actor_core.specs.Standing.{OfFeeder, OfJoiner, OfController, OfCollector, Stands, IsOver, GoesOn}
+use Rattle.actor_core.specs.Leavings.{Gives}
 use Rattle.actor_core.specs.Families.{AreFronts, IsActor, start_in_wave, family_of, journal_of}
 use Rattle.actor_core.specs.declared.machines.Core.{Core}
 use Rattle.actor_core.specs.declared.machines.Core.TheVariants.{Feeder as TheFeeder, Joiner as TheJoiner}
@@ -39,13 +47,38 @@ feeder_law p feeders s ls (TheJoiner j) st = absurd st
 feeder_law p feeders s ls (TheController c) st = absurd st
 feeder_law p feeders s ls (TheCollector c) st = absurd st
 
--- a joiner's machine keeps the joiner's law, by what it took, which tells whether its work is over
+-- a joiner that has finished has settled each step that it opened
+settled_all : (s : JoinerStart) (lists : JoinerLists) (taken : Taken) (law : JoinerLaw s lists taken) → 0 < s.feeders
+    → IsFinishedJoiner s lists taken → law.done ≡ opened s taken
+settled_all s lists taken law some finished = go (cases_lt law.done (opened s taken))
+    (cases_lt (opened s taken) law.done)
+  where
+    go : (law.done < opened s taken) ⊎ (opened s taken ≤ law.done)
+        → (opened s taken < law.done) ⊎ (law.done ≤ opened s taken) → law.done ≡ opened s taken
+    go (inl less) other = absurd (law.unsettled (finished.0.1 law.done less))
+    go (inr more) (inl less) =
+        let turned = (law.settled (opened s taken) less).0 0 some in
+        let most = greatest_above s.feeders (λ p. turns (taken.from_feeder p)) 0 some in
+        absurd (omega (arith, turned, most))
+    go (inr more) (inr less) = omega (arith, more, less)
+
+-- a joiner's machine keeps the joiner's law, by what it took, which tells whether its work is over; then the store that
+-- the machine gives back is its last
 pub joiner_law : (s : JoinerStart) (ls : ActorLists) (core : Core) → Stands (OfJoiner s) ls core
     → (taken : Taken) × JoinerLaw s (joiner_lists ls) taken × (IsOver core → IsFinishedJoiner s (joiner_lists ls) taken)
     × (IsFinishedJoiner s (joiner_lists ls) taken → ¬ GoesOn core)
+    × (0 < s.feeders → IsFinishedJoiner s (joiner_lists ls) taken → (given : Stored) → Gives core given
+    → SameBag (tuples_of given) (store s taken (opened s taken)))
 joiner_law s ls (TheFeeder f) st = absurd st
-joiner_law s ls (TheJoiner j) st =
-    (st.taken, st.law, (λ over. over s (joiner_lists ls) st), (λ finished goes. goes s (joiner_lists ls) st finished))
+joiner_law s ls (TheJoiner j) st = (
+  st.taken,
+  st.law,
+  (λ over. over s (joiner_lists ls) st),
+  (λ finished goes. goes s (joiner_lists ls) st finished),
+  (λ some finished given gives.
+      subst (λ n. SameBag (tuples_of given) (store s st.taken n))
+      (settled_all s (joiner_lists ls) st.taken st.law some finished) (gives.tuples s (joiner_lists ls) st)),
+)
 joiner_law s ls (TheController c) st = absurd st
 joiner_law s ls (TheCollector c) st = absurd st
 
@@ -140,6 +173,11 @@ module _ (input : Input) (setting : Setting) (rest : Rest) (f : Actor → ActorL
       taken)
       × ((is : j < 2 ^ setting.k) → IsFinishedJoiner (joiner_start input setting rest j)
       (joiner_lists (f (Joiner j))) taken → ¬ GoesOn (cores (Joiner j) is).0)
+      × ((is : j < 2 ^ setting.k) → 0 < setting.feeders
+      → IsFinishedJoiner (joiner_start input setting rest j) (joiner_lists (f (Joiner j))) taken
+      → (given : Stored) → Gives (cores (Joiner j) is).0 given
+      → SameBag (tuples_of given) (store (joiner_start input setting rest j) taken
+      (opened (joiner_start input setting rest j) taken)))
 
   joiners : (taken : ℕ → Taken) × ((j : ℕ) → j < 2 ^ setting.k → joiner_took j (taken j))
   joiners = choice joiner_took (2 ^ setting.k) (record {
@@ -155,6 +193,9 @@ module _ (input : Input) (setting : Setting) (rest : Rest) (f : Actor → ActorL
           (λ w. law.2 (over w (Joiner j) low)),
           (λ is finished. subst (λ (l : j < 2 ^ setting.k). ¬ GoesOn (cores (Joiner j) l).0) (le_prop low is)
               (law.3 finished)),
+          (λ is some finished given gives.
+              law.4 some finished given
+              (subst (λ (l : j < 2 ^ setting.k). Gives (cores (Joiner j) l).0 given) (le_prop is low) gives)),
         ),
       ))
 
@@ -199,3 +240,11 @@ module _ (input : Input) (setting : Setting) (rest : Rest) (f : Actor → ActorL
   }) (f Controller) (cores Controller is).0 (cores Controller is).1
   none_goes finished Collector is =
       collector_goes (2 ^ setting.k) (f Collector) (cores Collector is).0 (cores Collector is).1 finished.collector
+
+  -- the store that a joiner's machine gives back then is what the family leaves it
+  pub left_stores : IsFinished input setting rest (family_of (journal_of (cores Controller tt).0) f) agrees
+      → 0 < setting.feeders → (j : ℕ) (is : j < 2 ^ setting.k) (given : Stored) → Gives (cores (Joiner j) is).0 given
+      → SameBag (tuples_of given)
+      ((rest_after input setting rest (family_of (journal_of (cores Controller tt).0) f) agrees).stores j)
+  unfolding agrees
+  left_stores finished some j is given gives = (joiners.1 j is).3 is some (finished.joiners j is) given gives

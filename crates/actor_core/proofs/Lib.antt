@@ -21,3 +21,5 @@ pub mod UptoEnd
 pub mod EmptyRest
 pub mod Bases
 pub mod WaveBeginnings
+pub mod LeftStores
+pub mod NextRest

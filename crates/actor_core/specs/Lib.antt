@@ -7,3 +7,4 @@ pub mod Endings
 pub mod Counts
 pub mod Players
 pub mod Rests
+pub mod Leavings
