@@ -15,11 +15,12 @@ use Rattle.epoch_tags.specs.declared.actor.Actor.TheVariants.{Feeder, Joiner, Co
 use Rattle.trace_law.specs.declared.input.Input.{Input}
 use Rattle.trace_law.specs.declared.setting.Setting.{Setting}
 use Rattle.trace_law.specs.Validity.{IsValid}
+use Rattle.trace_law.specs.Family.{IsRestFor, Rest}
 use Rattle.actor_core.specs.Lists.{ActorLists}
 use Rattle.actor_core.specs.Elements.{IsAllAt}
 use Rattle.link_trace.specs.declared.slots.Slot.{Slot}
 use Rattle.link_trace.specs.declared.slots.Slot.TheVariants.{Begin, Link}
-use Rattle.link_trace.specs.Worlds.{WorldState, StandsFor, IsStill, left_of}
+use Rattle.link_trace.specs.Worlds.{WorldState, StandsFor, StandsInWave, IsStill, left_of}
 use Rattle.link_trace.specs.Order.{AreIdleFrom, IsIdle, from_joiners, slots_of, to_joiners, to_partners}
 use Rattle.link_trace.specs.Starving.{AreIdleBelow}
 use Rattle.actor_core.proofs.OwnNumbers.{none_some, some_is}
@@ -189,4 +190,17 @@ pub some_has_one : (input : Input) (setting : Setting) (w : WorldState) (lists :
     → done ≡ false → ¬ IsAllAt (IsIdle w) slots
 some_has_one input setting w lists valid stands slots is done still goes idle =
     true≢false (sym (still input setting lists valid stands
+    (idle_is_still setting w (subst (λ s. IsAllAt (IsIdle w) s) is idle))) ∙ goes)
+
+-- the same of a wave
+pub some_has_one_in_wave : (input : Input) (setting : Setting) (rest : Rest) (w : WorldState)
+    (lists : Actor → ActorLists)
+    → IsValid input setting → IsRestFor input setting rest → StandsInWave input setting rest w lists
+    → (slots : List Slot) → slots ≡ slots_of setting → (done : Bool)
+    → ((input' : Input) (setting' : Setting) (rest' : Rest) (lists' : Actor → ActorLists) → IsValid input' setting'
+    → IsRestFor input' setting' rest' → StandsInWave input' setting' rest' w lists' → IsStill setting' w
+    → done ≡ true)
+    → done ≡ false → ¬ IsAllAt (IsIdle w) slots
+some_has_one_in_wave input setting rest w lists valid begins stands slots is done still goes idle =
+    true≢false (sym (still input setting rest lists valid begins stands
     (idle_is_still setting w (subst (λ s. IsAllAt (IsIdle w) s) is idle))) ∙ goes)

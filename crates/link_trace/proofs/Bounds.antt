@@ -9,6 +9,8 @@ use Rattle.load_controller.specs.Journal.{last_epoch}
 use Rattle.trace_law.specs.declared.input.Input.{Input}
 use Rattle.trace_law.specs.declared.setting.Setting.{Setting}
 use Rattle.trace_law.specs.declared.run.Run.{Run}
+use Rattle.theta_pred.specs.Formula.{Meaning}
+use Rattle.link_trace.specs.declared.waves.WaveRun.{WaveRun}
 use Rattle.trace_law.specs.Validity.{IsValidInput, IsValidSetting, IsValid}
 use Rattle.trace_law.specs.Family.{IsRestFor, Rest, first_rest, migrations}
 use Rattle.trace_law.specs.Runs.{IsRunOf}
@@ -21,7 +23,7 @@ use Rattle.actor_core.specs.Players.{journal_at}
 use Rattle.actor_core.specs.declared.machines.Core.{Core}
 use Rattle.link_trace.specs.declared.slots.Slot.{Slot}
 use Rattle.link_trace.specs.declared.slots.Slot.TheVariants.{Begin, Link}
-use Rattle.link_trace.specs.Worlds.{WorldState, StandsFor, MakesEvent, core_of, journal_in, StandsInWave}
+use Rattle.link_trace.specs.Worlds.{WorldState, StandsFor, MakesEvent, core_of, journal_in, StandsInWave, AllJoinBy}
 use Rattle.link_trace.specs.Order.{Happens}
 use Rattle.actor_core.proofs.EventCounts.{count, took_counts, began_counts, linked_after, left_linked, goes_out_in_run}
 use Rattle.actor_core.proofs.EventLimit.{under}
@@ -150,3 +152,28 @@ module _ (input : Input) (setting : Setting) (w : WorldState) (events : ℕ)
       (subst (λ js. events ≤ most_events input setting (last_epoch js)) (sym told)
       (few_reached input setting few w events reached (within_limits input setting of_input of_setting)))
   run_bounded few (Err e) journal bouts = tt
+
+-- what a world of a wave that made so many events answers is within the bound
+pub wave_bounded : (input : Input) (setting : Setting) (rest : Rest) (w : WorldState) (events : ℕ)
+    → (reached : IsReached input setting rest w events) → IsRestFor input setting rest → IsValid input setting
+    → EventsAreFew → (result : Result WaveRun AllocError)
+    → IfOk result (λ wave. (input' : Input) (setting' : Setting) (rest' : Rest) (lists : Actor → ActorLists)
+    → StandsInWave input' setting' rest' w lists
+    → (core : Core) → core_of w Controller ≡ Some core → wave.run.journal ≡ journal_of core)
+    → IfOk result (λ wave. wave.run.bouts ≡ events)
+    → IfOk result (λ wave.
+    wave.run.bouts ≤ most_events input setting (migrations rest.line wave.run.journal))
+wave_bounded input setting rest w events reached begins valid few (Ok wave) journal bouts =
+    let own = reached.stands.machines.stands Controller tt in
+    let told : wave.run.journal ≡ journal_in w =
+    journal input setting rest reached.lists reached.stands own.0 own.1 ∙ sym (ap journal_at own.1) in
+    subst (λ n. n ≤ most_events input setting (migrations rest.line wave.run.journal)) (sym bouts)
+    (subst (λ js. events ≤ most_events input setting (migrations rest.line js)) (sym told)
+    (few_reached_in_wave input setting rest few w events reached begins valid))
+wave_bounded input setting rest w events reached begins valid few (Err e) journal bouts = tt
+
+-- an event keeps the joiners' predicate
+pub slot_joins : (slot : Slot) (old new : WorldState) → Happens slot old new → (theta : Meaning)
+    → AllJoinBy theta old → AllJoinBy theta new
+slot_joins (Begin p) old new happens = happens.1.joins
+slot_joins (Link from to) old new delivers = delivers.event.joins

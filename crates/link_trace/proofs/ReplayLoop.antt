@@ -10,6 +10,7 @@ use Rattle.epoch_tags.specs.declared.actor.Actor.TheVariants.{Controller}
 use Rattle.trace_law.specs.declared.input.Input.{Input}
 use Rattle.trace_law.specs.declared.setting.Setting.{Setting}
 use Rattle.trace_law.specs.declared.run.Run.{Run}
+use Rattle.link_trace.specs.declared.waves.WaveRun.{WaveRun}
 use Rattle.trace_law.specs.Family.{Rest, first_rest}
 use Rattle.actor_core.specs.declared.machines.Core.{Core}
 use Rattle.actor_core.specs.Lists.{ActorLists, no_lists}
@@ -18,7 +19,7 @@ use Rattle.actor_core.specs.Families.{journal_of}
 use Rattle.actor_core.specs.Elements.{IsSomeAt, IsAllAt}
 use Rattle.link_trace.specs.declared.slots.Slot.{Slot}
 use Rattle.link_trace.specs.Worlds.{WorldState, StandsFor, StandsInWave, core_of}
-use Rattle.link_trace.specs.Order.{MakesFirst, Replays, IsReplay, start, event, slots_of}
+use Rattle.link_trace.specs.Order.{MakesFirst, Replays, IsReplay, IsWaveReplay, start, event, slots_of}
 use Rattle.link_trace.specs.Marks.{AreMarked}
 use Rattle.link_trace.proofs.Bounds.{IsReached, none_reached, slot_reached}
 
@@ -97,3 +98,22 @@ replayed input setting seed marks draws events w under (Ok run) over journal bou
   journal = journal input setting under.reached.lists under.reached.stands;
 }
 replayed input setting seed marks draws events w under (Err e) over journal bouts = tt
+
+-- the same of a wave
+pub wave_replayed : (input : Input) (setting : Setting) (rest : Rest) (seed : ℕ) (marks : List Bool) (draws : Lcg)
+    (events : ℕ) (w : WorldState) → IsUnderWay input setting rest seed marks draws events w
+    → (result : Result WaveRun AllocError) → IsAllAt IsOver w.cores
+    → IfOk result (λ wave. (input' : Input) (setting' : Setting) (rest' : Rest) (lists : Actor → ActorLists)
+    → StandsInWave input' setting' rest' w lists
+    → (core : Core) → core_of w Controller ≡ Some core → wave.run.journal ≡ journal_of core)
+    → IfOk result (λ wave. wave.run.bouts ≡ events)
+    → IfOk result (λ wave. IsWaveReplay input setting rest seed wave.run)
+wave_replayed input setting rest seed marks draws events w under (Ok wave) over journal bouts = record {
+  first = under.first;
+  last = w;
+  fresh = under.fresh;
+  replays = subst (λ n. Replays (slots_of setting) seed under.first n w) (sym bouts) under.replays;
+  over = over;
+  journal = journal input setting rest under.reached.lists under.reached.stands;
+}
+wave_replayed input setting rest seed marks draws events w under (Err e) over journal bouts = tt

@@ -9,6 +9,7 @@ use Rattle.rand_pcg.specs.Pcg.{multiplier_64, pcg32}
 use Rattle.trace_law.specs.declared.input.Input.{Input}
 use Rattle.trace_law.specs.declared.setting.Setting.{Setting}
 use Rattle.trace_law.specs.declared.run.Run.{Run}
+use Rattle.trace_law.specs.Family.{Rest}
 use Rattle.actor_core.specs.declared.machines.Core.{Core}
 use Rattle.actor_core.specs.Lists.{Began, no_lists}
 use Rattle.actor_core.specs.Standing.{IsOver, GoesOn, Waits}
@@ -16,7 +17,7 @@ use Rattle.actor_core.specs.Families.{journal_of}
 use Rattle.actor_core.specs.Elements.{IsAllAt, IsSomeAt}
 use Rattle.link_trace.specs.declared.slots.Slot.{Slot}
 use Rattle.link_trace.specs.declared.slots.Slot.TheVariants.{Begin, Link}
-use Rattle.link_trace.specs.Worlds.{WorldState, StandsFor, MakesEvent, Delivers, core_of, left_of}
+use Rattle.link_trace.specs.Worlds.{WorldState, StandsFor, StandsInWave, MakesEvent, Delivers, core_of, left_of}
 
 -- ---- slots
 
@@ -92,6 +93,15 @@ pub record IsReplay (input : Input) (setting : Setting) (seed : ℕ) (run : Run)
   pub first : WorldState
   pub last : WorldState
   pub fresh : StandsFor input setting first (λ actor. no_lists)
+  pub replays : Replays (slots_of setting) seed first run.bouts last
+  pub over : IsAllAt IsOver last.cores
+  pub journal : (core : Core) → core_of last Controller ≡ Some core → run.journal ≡ journal_of core
+
+-- the same of a wave that goes on from this rest
+pub record IsWaveReplay (input : Input) (setting : Setting) (rest : Rest) (seed : ℕ) (run : Run) : Type 0 where
+  pub first : WorldState
+  pub last : WorldState
+  pub fresh : StandsInWave input setting rest first (λ actor. no_lists)
   pub replays : Replays (slots_of setting) seed first run.bouts last
   pub over : IsAllAt IsOver last.cores
   pub journal : (core : Core) → core_of last Controller ≡ Some core → run.journal ≡ journal_of core

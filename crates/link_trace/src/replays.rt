@@ -23,7 +23,7 @@ use std::sync::Wait;
 use trace_law::{Input, Run, Setting, events_are_few};
 
 // The stream of the generator that orders a replay.
-const STREAM: u64 = 56;
+pub(crate) const STREAM: u64 = 56;
 
 // A mark for each of so many slots.
 pub(crate) fn all_marked(alloc: Global, count: usize) -> Result<Vec<bool>, AllocError>
@@ -35,7 +35,7 @@ pub(crate) fn all_marked(alloc: Global, count: usize) -> Result<Vec<bool>, Alloc
 
 // Draws a word, makes the event of the first slot that has one, going round from the place that the word names, and
 // counts it.
-fn make_next(
+pub(crate) fn make_next(
     world: &mut World,
     slots: &[Slot],
     marks: &mut Vec<bool>,

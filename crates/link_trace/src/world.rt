@@ -102,7 +102,10 @@ fn all_are_over(places: &[Place]) -> bool
 }
 
 // The machines of all places.
-fn machines<'a>(alloc: Global, places: Vec<Place<'a>>) -> Result<Vec<Core<'a>>, AllocError>
+pub(crate) fn machines<'a>(
+    alloc: Global,
+    places: Vec<Place<'a>>,
+) -> Result<Vec<Core<'a>>, AllocError>
     ensures { IfOk result (λ cores. cores.items ≡ cores_of places.entry.items) }
 {
     let mut cores = Vec::new(alloc);
