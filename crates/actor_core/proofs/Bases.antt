@@ -1,8 +1,8 @@
 -- What a joiner has stored before a wave: rows of the widths, none with a stamp of the wave.
-use Rattle.std.proofs.Common.{◌≡◌, ℕ, ◌==◌, ◌<◌, ◌≤◌, ◌^◌, max, refl, sym, ap, subst, ◌∙◌, arith, Bool, true, cond}
+use Rattle.std.proofs.Common.{◌≡◌, ℕ, ◌==◌, ◌<◌, ◌≤◌, ◌^◌, max, ap, arith, Bool, true, cond}
 use Rattle.std.proofs.Common.{false}
-use Rattle.std.proofs.Common.{List, [], length, ltb-true}
-use Rattle.std.specs.Prelude.{not, filter, map, sum_by, All}
+use Rattle.std.proofs.Common.{[], length, ltb-true}
+use Rattle.std.specs.Prelude.{not, filter, map}
 use Rattle.std.specs.List.{AllByRecursion}
 use Rattle.std.proofs.lemmas.Bool.{eqb-true, eq-eqb}
 use Rattle.std.proofs.lemmas.List.Elements.{All-from_recursion}

@@ -15,7 +15,6 @@ use Rattle.trace_law.specs.declared.input.Input.{Input}
 use Rattle.trace_law.specs.declared.setting.Setting.{Setting}
 use Rattle.trace_law.specs.Validity.{IsValid}
 use Rattle.trace_law.specs.Family.{IsRestFor, first_rest}
-use Rattle.trace_law.specs.Family.{Rest as WaveRest}
 use Rattle.trace_law.proofs.First.{stands as first_stands}
 use Rattle.actor_core.specs.declared.rests.Rest.{Rest}
 use Rattle.actor_core.specs.Rests.{IsFirstStore, IsRestOf, rest_of, tuples_at}

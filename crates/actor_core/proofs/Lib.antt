@@ -23,3 +23,4 @@ pub mod Bases
 pub mod WaveBeginnings
 pub mod LeftStores
 pub mod NextRest
+pub mod LaterEnds

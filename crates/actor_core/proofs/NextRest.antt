@@ -1,10 +1,10 @@
 -- What a wave leaves is a rest that stands for its input.
-use Rattle.std.proofs.Common.{◌≡◌, ℕ, ◌+◌, ◌-◌, ◌<◌, ◌^◌, lt-ltb, refl, sym, ap, subst, ◌∙◌, arith, cond, Option, Some}
+use Rattle.std.proofs.Common.{◌≡◌, ℕ, ◌+◌, ◌<◌, ◌^◌, lt-ltb, sym, ap, subst, ◌∙◌, arith, cond, Option, Some}
 use Rattle.std.proofs.Common.{None}
-use Rattle.std.proofs.Common.{List, [], ◌∷◌, ◌++◌, length, get_or, map}
+use Rattle.std.proofs.Common.{List, [], ◌∷◌, ◌++◌, length, get_or}
 use Rattle.std.specs.Prelude.{slice_get, reverse, All}
 use Rattle.std.proofs.lemmas.List.{length-append, get_or-map}
-use Rattle.std.proofs.lemmas.Option.{get_or_from_slice_get, slice_get-get_or, slice_get_within}
+use Rattle.std.proofs.lemmas.Option.{get_or_from_slice_get, slice_get-get_or}
 use Rattle.join_rows.specs.Lists.{SameBag}
 use Rattle.join_rows.proofs.Bags.{SameBag-map, SameBag-trans}
 use Rattle.epoch_tags.specs.declared.actor.Actor.{Actor}
@@ -30,7 +30,7 @@ use Rattle.actor_core.specs.Leavings.{AreLeft, Gives}
 use Rattle.actor_core.specs.Lists.{ActorLists}
 use Rattle.actor_core.specs.Numbers.{at_number}
 use Rattle.actor_core.specs.Players.{AllStandInWave, journal_among}
-use Rattle.actor_core.specs.Rests.{IsRestOf, rest_of, tuples_at}
+use Rattle.actor_core.specs.Rests.{IsRestOf, tuples_at}
 use Rattle.actor_core.specs.Standing.{IsOver, JoinsBy}
 use Rattle.actor_core.proofs.Beginnings.{there}
 use Rattle.actor_core.proofs.CompleteAnswer.{LeavesItsStores, over_leaves}

@@ -1,7 +1,7 @@
 -- The input up to a wave's end.
-use Rattle.std.proofs.Common.{◌≡◌, ℕ, zero, suc, ◌+◌, ◌<◌, ◌≤◌, ◌^◌, refl, sym, ap, ap₂, subst, ◌∙◌, arith, Bool, true}
+use Rattle.std.proofs.Common.{◌≡◌, ℕ, zero, suc, ◌<◌, ◌^◌, refl, sym, ap, ap₂, ◌∙◌, arith, Bool, true}
 use Rattle.std.proofs.Common.{false}
-use Rattle.std.proofs.Common.{cond, List, [], ◌∷◌, ◌++◌, take, length, map, lt-ltb, ltb, ltb-true, get_or}
+use Rattle.std.proofs.Common.{cond, List, [], ◌∷◌, ◌++◌, take, length, map, lt-ltb, ltb-true}
 use Rattle.std.specs.Prelude.{not, filter, sum_by, nat_lt, All, slice_get, Some}
 use Rattle.std.specs.List.{AllByRecursion}
 use Rattle.std.proofs.Math.Seq.{take-suc}
@@ -10,11 +10,9 @@ use Rattle.std.proofs.lemmas.List.Elements.{filter-append, All-from_recursion, r
 use Rattle.std.proofs.lemmas.Option.{get_or_from_slice_get, slice_get_within}
 use Rattle.join_rows.specs.declared.table.Side.{Side}
 use Rattle.join_rows.specs.declared.table.Side.TheVariants.{R, S}
-use Rattle.join_rows.specs.Lists.{total}
 use Rattle.join_rows.proofs.Bags.{only_if}
 use Rattle.join_rows.proofs.Totals.{total_same, total-zero, total_part}
 use Rattle.join_rows.proofs.Within.{none_fails}
-use Rattle.epoch_tags.specs.declared.tuple.Tuple.{Tuple}
 use Rattle.reshuffler_core.specs.Batches.{cut}
 use Rattle.row_tickets.specs.declared.place.Feed.{Feed}
 use Rattle.row_tickets.specs.declared.place.Place.{Place}
@@ -23,7 +21,7 @@ use Rattle.load_controller.specs.declared.line.TurnLine.{TurnLine}
 use Rattle.trace_law.specs.declared.input.Input.{Input}
 use Rattle.trace_law.specs.declared.setting.Setting.{Setting}
 use Rattle.trace_law.specs.Join.{row_count}
-use Rattle.trace_law.specs.Validity.{IsFor, IsValidInput}
+use Rattle.trace_law.specs.Validity.{IsValidInput}
 use Rattle.trace_law.specs.Family.{is_old, own_rows, tuple_of, feeder_start}
 use Rattle.trace_law.proofs.RowSums.{shares_sum}
 use Rattle.trace_law.proofs.StampOf.{filtered}
@@ -74,7 +72,8 @@ share_within feed feeders p rows_r rows_s low =
     let part = total_part feeders p (λ q. sum_by bad (dealt q)) low in
     none_fails test (dealt p) (omega (arith, all, of_r, of_s, part))
 
-same_map : {X Y : Type 0} (f g : X → Y) (P : X → Type 0) → ((x : X) → P x → f x ≡ g x) → (xs : List X)
+-- maps that agree on the elements give the same list
+pub same_map : {X Y : Type 0} (f g : X → Y) (P : X → Type 0) → ((x : X) → P x → f x ≡ g x) → (xs : List X)
     → AllByRecursion P xs → map f xs ≡ map g xs
 same_map f g P same [] each = refl
 same_map f g P same (x ∷ xs) (here, more) = ap₂ (λ y ys. y ∷ ys) (same x here) (same_map f g P same xs more)

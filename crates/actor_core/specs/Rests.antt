@@ -1,5 +1,5 @@
 -- What a wave leaves for the next, where a wave ends, and the machines of a wave before its first event.
-use Rattle.std.specs.Prelude.{◌≡◌, ◌≤◌, ◌^◌, ◌+◌, ℕ, All, List, [], Some, length, map, take, slice_get, slice_index_or}
+use Rattle.std.specs.Prelude.{◌≡◌, ◌≤◌, ◌^◌, ℕ, All, List, [], Some, length, map, take, slice_get, slice_index_or}
 use Rattle.join_rows.specs.declared.table.Side.TheVariants.{R, S}
 use Rattle.epoch_tags.specs.declared.tuple.Tuple.{Tuple}
 use Rattle.theta_pred.specs.Formula.{Meaning}
@@ -60,6 +60,22 @@ pub record IsRestOf (input : Input) (setting : Setting) (rest : Rest) : Type 0 w
   pub many : length rest.stores ≡ 2 ^ setting.k
   pub keys : All (λ store. IsKeyOf input.theta store.key) rest.stores
   pub stands : IsRestFor input setting (rest_of rest)
+
+-- a wave that goes on from this line can end there: no counted row is left out, and the input has the rows
+pub record IsUpto (line : TurnLine) (end : Upto) (input : Input) : Type 0 where
+  pub counted_r : line.rows_r ≤ end.rows_r
+  pub counted_s : line.rows_s ≤ end.rows_s
+  pub within : IsWithin end input
+
+-- a rest that stands for an input stands for it up to where a wave can end
+abbrev pub StandsUpto : Type 0
+StandsUpto = (end : Upto) (input : Input) (setting : Setting) (rest : Rest) → IsUpto rest.line end input
+    → IsRestOf input setting rest → IsRestOf (upto end input) setting rest
+
+-- and a rest that stands for an input up to an end stands for all of it
+abbrev pub StandsBeyond : Type 0
+StandsBeyond = (end : Upto) (input : Input) (setting : Setting) (rest : Rest) → IsWithin end input
+    → IsRestOf (upto end input) setting rest → IsRestOf input setting rest
 
 -- ---- the machines of a wave
 

@@ -1,6 +1,7 @@
 // Laws of a run's lists. Each is the contract of a function that does nothing, so that calls above can cite it.
 
 ghost use Rattle.actor_core.specs.Counts.{EventsFit, EventsFitInWave};
+ghost use Rattle.actor_core.specs.Rests.{StandsBeyond, StandsUpto};
 
 use trace_law::{keeps_a_lawful_journal, lawful_is_bounded};
 
@@ -19,3 +20,13 @@ pub fn wave_events_fit()
     keeps_a_lawful_journal();
     lawful_is_bounded();
 }
+
+/// A rest that stands for an input stands for it up to where a wave can end.
+pub fn stands_upto()
+    ensures { StandsUpto }
+{}
+
+/// A rest that stands for an input up to an end stands for all of it.
+pub fn stands_beyond()
+    ensures { StandsBeyond }
+{}

@@ -58,6 +58,7 @@ impl Rest {
         requires fixed { ForSome fixed (λ shift. shift ≤ k) }
         ensures first { IfOk result (λ rest. (setting : Setting') → setting.k ≡ k → setting.fixed ≡ fixed
             → rest_of rest ≡ first_rest setting) }
+        ensures epoch { IfOk result (λ rest. rest.line.epoch ≡ 0) }
         ensures stands { IfOk result (λ rest. (input : Input') (setting : Setting') → IsValid input setting
             → setting.k ≡ k → setting.fixed ≡ fixed → input.theta ≡ theta.now
             → IsRestOf input setting rest) }

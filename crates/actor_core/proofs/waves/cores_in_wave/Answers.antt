@@ -1,4 +1,4 @@
-use Rattle.std.proofs.Common.{◌≡◌, ◌+◌, ◌^◌, ◌++◌, ◌∷◌, [], ap, sym, subst, ◌∙◌}
+use Rattle.std.proofs.Common.{◌+◌, ◌^◌, ◌++◌, ◌∷◌, [], ap, sym, subst, ◌∙◌}
 use Rattle.actor_core.specs.Rests.{AreMade, upto, rest_of}
 use Rattle.actor_core.proofs.WaveBeginnings.{made_stand, whole_made}
 use Rattle.actor_core.proofs.waves.cores_in_wave.Goals as goal

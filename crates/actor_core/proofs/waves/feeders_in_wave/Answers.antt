@@ -1,7 +1,7 @@
 use Rattle.std.proofs.Common.{◌+◌, cond, lt-ltb, Some, None, ap, sym, subst}
 use Rattle.epoch_tags.specs.declared.actor.Actor.TheVariants.{Feeder}
 use Rattle.actor_core.specs.Rests.{AreMade, upto, rest_of}
-use Rattle.actor_core.proofs.WaveBeginnings.{made_at, none_made, one_made}
+use Rattle.actor_core.proofs.WaveBeginnings.{made_at, one_made}
 use Rattle.actor_core.proofs.waves.feeders_in_wave.Goals as goal
 
 pub loop-p-preserved : goal.loop-p-preserved

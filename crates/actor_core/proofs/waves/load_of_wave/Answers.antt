@@ -1,8 +1,5 @@
-use Rattle.std.proofs.Common.{◌∙◌, ap, sym, ◌++◌, arith}
-use Rattle.std.specs.Prelude.{not}
+use Rattle.std.proofs.Common.{arith}
 use Rattle.join_rows.specs.declared.table.Side.TheVariants.{R, S}
-use Rattle.trace_law.specs.Family.{is_old, tuple_of}
-use Rattle.actor_core.proofs.UptoEnd.{front_grows}
 use Rattle.actor_core.proofs.waves.load_of_wave.Goals as goal
 
 pub share-requires-clause-rows_r : goal.share-requires-clause-rows_r
