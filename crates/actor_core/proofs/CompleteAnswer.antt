@@ -90,6 +90,7 @@ pub record LeavesItsStores (input : Input) (setting : Setting) (rest : Rest) (jo
 module _ (input : Input) (setting : Setting) (rest : Rest) (joiners feeders : ℕ) (cores : List Core)
     (f : Actor → ActorLists) (all : AllStandInWave input setting rest joiners feeders cores f)
     (fronts : AreFronts f) where
+  -- each actor of the run has a machine that stands for the actor's lists
   abbrev pub machines_in_wave : (a : Actor) → IsActor setting a
       → (core : Core) × Stands (start_in_wave input setting rest a) (f a) core
   machines_in_wave a is = ((all.stands a is).0, (all.stands a is).2)
@@ -183,6 +184,8 @@ module _ (law : FinishedAnswers) (input : Input) (setting : Setting) (rest : Res
       answer.run_is ∙ ap (λ js. run_of collected js bouts) (sym journal_is) in
       subst (IsRunOf input setting rest.line told) (sym run_is) is_run
 
+  -- where the family is finished and the run is what its collector answers, the run is one of the input and setting,
+  -- with its own journal
   pub run_ends_in_wave : IsRunOf input setting rest.line run.journal run
   run_ends_in_wave = subst (λ js. IsRunOf input setting rest.line js run) (sym run_among.keeps) run_among
 

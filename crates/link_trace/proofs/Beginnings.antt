@@ -1,6 +1,6 @@
 -- All actors at the beginning of a run.
 use Rattle.std.proofs.Common.{◌≡◌, ℕ, zero, suc, ◌+◌, ◌<◌, ◌^◌, refl, sym, ap, subst, ◌∙◌, Option, Some, None, List, []}
-use Rattle.std.proofs.Common.{◌∷◌, ◌++◌, get_or, map, ◌-◌, length, All, inl, inr, ◌⊎◌}
+use Rattle.std.proofs.Common.{◌∷◌, ◌++◌, get_or, map, length, All, inl, inr, ◌⊎◌}
 use Rattle.std.specs.List.{AllByRecursion}
 use Rattle.std.specs.declared.alloc.Global.{Global}
 use Rattle.std.specs.declared.collections.VecDeque.{VecDeque}

@@ -39,6 +39,7 @@ pub record IsUnderWay (input : Input) (setting : Setting) (rest : Rest) (seed : 
   pub marked : AreMarked (slots_of setting) marks w
   pub reached : IsReached input setting rest w events
 
+-- a world that stands for empty lists, with every slot marked and no word drawn, is under way with no events made
 pub begins : (input : Input) (setting : Setting) (rest : Rest) (seed : ℕ) (marks : List Bool) (draws : Lcg)
     (slots : List Slot)
     (w : WorldState) → StandsInWave input setting rest w (λ actor. no_lists)

@@ -27,7 +27,7 @@ use Rattle.actor_core.specs.Rests.{IsRestOf}
 use Rattle.actor_core.proofs.NextRest.{next_rest}
 use Rattle.actor_core.specs.declared.machines.Core.{Core}
 use Rattle.link_trace.specs.Worlds.{WorldState, AllJoinBy, StandsInWave, IsStill, WorldAgrees, WorldAgreesInWave}
-use Rattle.link_trace.specs.Worlds.{core_of, journal_in, left_of}
+use Rattle.link_trace.specs.Worlds.{core_of, left_of}
 use Rattle.actor_core.proofs.Balances.{balanced_fronts, none_left}
 use Rattle.actor_core.proofs.CompleteAnswer.{agrees_in_wave, journal_named, over_in_wave, run_ends_in_wave}
 use Rattle.actor_core.proofs.Stilled as stilled

@@ -14,7 +14,7 @@ ghost use Rattle.actor_core.specs.declared.machines.Core.{Core as Core'};
 ghost use Rattle.actor_core.specs.Elements.{IsAllAt};
 ghost use Rattle.actor_core.specs.Families.{journal_of};
 ghost use Rattle.actor_core.specs.Lists.{ActorLists};
-ghost use Rattle.actor_core.specs.Rests.{IsRestOf, IsWithin, rest_of, upto};
+ghost use Rattle.actor_core.specs.Rests.{IsRestOf, IsUpto, rest_of, upto};
 ghost use Rattle.actor_core.specs.Standing.{IsOver};
 ghost use Rattle.link_trace.specs.Order.{IsWaveReplay};
 ghost use Rattle.link_trace.specs.Worlds.{state_of, core_of, AllJoinBy, StandsInWave};
@@ -130,12 +130,12 @@ pub fn replay_wave<R: Wait>(
 ) -> Result<WaveRun, AllocError>
     requires input { IsValidInput input.now }
     requires setting { IsValidSetting setting.now }
-    requires end { IsWithin end input.now }
-    requires rest { IsRestOf (upto end input.now) setting.now rest }
+    requires end { IsUpto rest.line end input.now }
+    requires rest { IsRestOf input.now setting.now rest }
     requires epoch { rest.line.epoch ≤ 2 ^ 31 }
     ensures run { IfOk result (λ wave. IsRunOf (upto end input.now) setting.now
         rest.line wave.run.journal wave.run) }
-    ensures rest { IfOk result (λ wave. IsRestOf (upto end input.now) setting.now wave.rest) }
+    ensures rest { IfOk result (λ wave. IsRestOf input.now setting.now wave.rest) }
     ensures order { IfOk result (λ wave.
         IsWaveReplay (upto end input.now) setting.now (rest_of rest) seed wave.run) }
     ensures bound { IfOk result (λ wave. wave.run.bouts ≤ most_events (upto end input.now) setting.now

@@ -15,7 +15,7 @@ ghost use Rattle.actor_core.specs.Families.{journal_of};
 ghost use Rattle.actor_core.specs.Standing.{IsOver, GoesOn, Waits};
 ghost use Rattle.actor_core.specs.declared.machines.Core.{Core as Core'};
 ghost use Rattle.actor_core.specs.Numbers.{number as number'};
-ghost use Rattle.actor_core.specs.Rests.{upto, rest_of, IsRestOf, IsWithin};
+ghost use Rattle.actor_core.specs.Rests.{upto, rest_of, IsRestOf, IsUpto};
 ghost use Rattle.actor_core.specs.Elements.{IsAllAt, IsSomeAt};
 ghost use Rattle.link_trace.specs.Worlds.{state_of, left_of, core_of, cores_of, StandsFor, StandsInWave, AllJoinBy, AreNew, HaveNothing, IsStill, Delivers, MakesEvent};
 
@@ -151,8 +151,8 @@ impl<'a> World<'a> {
     ) -> Result<World<'a>, AllocError>
         requires input { IsValidInput input.now }
         requires setting { IsValidSetting setting.now }
-        requires end { IsWithin end input.now }
-        requires rest { IsRestOf (upto end input.now) setting.now rest }
+        requires end { IsUpto rest.line end input.now }
+        requires rest { IsRestOf input.now setting.now rest }
         requires epoch { rest.line.epoch ≤ 2 ^ 31 }
         ensures fresh { IfOk result (λ world. StandsInWave (upto end input.now) setting.now
             (rest_of rest) (state_of world) (λ actor. no_lists)) }

@@ -2,6 +2,7 @@ use Rattle.std.proofs.Common.{◌≡◌, ◌∙◌, true, false}
 use Rattle.std.proofs.lemmas.Result.{IfOk-weaker}
 use Rattle.trace_law.proofs.Validity.{within_limits}
 use Rattle.actor_core.specs.Rests.{rest_of, upto}
+use Rattle.actor_core.proofs.LaterEnds.{stands_beyond, stands_upto}
 use Rattle.actor_core.proofs.UptoEnd.{valid_upto}
 use Rattle.link_trace.specs.Worlds.{state_of}
 use Rattle.link_trace.proofs.AllSlots.{some_has_one_in_wave}
@@ -29,8 +30,9 @@ make_next-requires-clause-ready g c =
     let reached = c.loop.invariant.under.reached in
     some_has_one_in_wave input c.args.setting.now (rest_of c.args.rest) (state_of c.loop.world) reached.lists
     (within_limits input c.args.setting.now
-    (valid_upto c.args.end c.args.input.now c.requires.end c.requires.input) c.requires.setting)
-    c.requires.rest.stands reached.stands
+    (valid_upto c.args.end c.args.input.now c.requires.end.within c.requires.input) c.requires.setting)
+    (stands_upto c.args.end c.args.input.now c.args.setting.now c.args.rest c.requires.end c.requires.rest).stands
+    reached.stands
     c.deref.result.now (c.deref.ensures.value ∙ c.in_ok-slots.ensures)
     c.done.result c.done.ensures.still_in_wave c.if-done.false
 
@@ -38,8 +40,9 @@ pub make_next-requires-clause-few : goal.make_next-requires-clause-few
 make_next-requires-clause-few g c =
     counts_on_in_wave (upto c.args.end c.args.input.now) c.args.setting.now (rest_of c.args.rest)
     c.events_are_few.ensures (state_of c.loop.world) c.loop.events c.loop.invariant.under.reached
-    c.requires.rest.stands c.wave_events_fit.ensures
-    (valid_upto c.args.end c.args.input.now c.requires.end c.requires.input) c.requires.setting
+    (stands_upto c.args.end c.args.input.now c.args.setting.now c.args.rest c.requires.end c.requires.rest).stands
+    c.wave_events_fit.ensures
+    (valid_upto c.args.end c.args.input.now c.requires.end.within c.requires.input) c.requires.setting
 
 pub loop-preserved : goal.loop-preserved
 loop-preserved g c = record {
@@ -64,8 +67,9 @@ returns-clause-run g c =
     IfOk-weaker c.finish_wave.result _ _
     (λ wave is. is input c.args.setting.now (rest_of c.args.rest) reached.lists
     (within_limits input c.args.setting.now
-    (valid_upto c.args.end c.args.input.now c.requires.end c.requires.input) c.requires.setting)
-    c.requires.rest.stands reached.stands)
+    (valid_upto c.args.end c.args.input.now c.requires.end.within c.requires.input) c.requires.setting)
+    (stands_upto c.args.end c.args.input.now c.args.setting.now c.args.rest c.requires.end c.requires.rest).stands
+    reached.stands)
     c.finish_wave.ensures.run
 
 pub returns-clause-rest : goal.returns-clause-rest
@@ -73,10 +77,12 @@ returns-clause-rest g c =
     let input = upto c.args.end c.args.input.now in
     let reached = c.loop.invariant.under.reached in
     IfOk-weaker c.finish_wave.result _ _
-    (λ wave is. is input c.args.setting.now (rest_of c.args.rest) reached.lists
+    (λ wave is. stands_beyond c.args.end c.args.input.now c.args.setting.now wave.rest c.requires.end.within
+    (is input c.args.setting.now (rest_of c.args.rest) reached.lists
     (within_limits input c.args.setting.now
-    (valid_upto c.args.end c.args.input.now c.requires.end c.requires.input) c.requires.setting)
-    c.requires.rest.stands reached.stands c.loop.invariant.joins)
+    (valid_upto c.args.end c.args.input.now c.requires.end.within c.requires.input) c.requires.setting)
+    (stands_upto c.args.end c.args.input.now c.args.setting.now c.args.rest c.requires.end c.requires.rest).stands
+    reached.stands c.loop.invariant.joins))
     c.finish_wave.ensures.rest
 
 pub returns-clause-order : goal.returns-clause-order
@@ -92,7 +98,8 @@ pub returns-clause-bound : goal.returns-clause-bound
 returns-clause-bound g c =
     let input = upto c.args.end c.args.input.now in
     wave_bounded input c.args.setting.now (rest_of c.args.rest) (state_of c.loop.world) c.loop.events
-    c.loop.invariant.under.reached c.requires.rest.stands
+    c.loop.invariant.under.reached (stands_upto c.args.end c.args.input.now c.args.setting.now c.args.rest
+    c.requires.end c.requires.rest).stands
     (within_limits input c.args.setting.now
-    (valid_upto c.args.end c.args.input.now c.requires.end c.requires.input) c.requires.setting)
+    (valid_upto c.args.end c.args.input.now c.requires.end.within c.requires.input) c.requires.setting)
     c.events_are_few.ensures c.finish_wave.result c.finish_wave.ensures.journal c.finish_wave.ensures.bouts

@@ -1,6 +1,5 @@
 use Rattle.std.specs.Prelude.{reverse}
 use Rattle.std.proofs.Common.{◌∙◌, ◌+◌, ap, subst}
-use Rattle.actor_core.specs.Endings.{AreLast}
 use Rattle.actor_core.specs.Leavings.{AreLeft}
 use Rattle.actor_core.specs.declared.machines.Core.TheVariants.{Collector as TheCollector}
 use Rattle.actor_core.proofs.LastTwo.{last_two}

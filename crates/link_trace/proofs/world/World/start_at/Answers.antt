@@ -2,8 +2,16 @@ use Rattle.std.proofs.Common.{sym, subst}
 use Rattle.actor_core.specs.Elements.{IsAllAt}
 use Rattle.actor_core.specs.Rests.{upto, rest_of}
 use Rattle.actor_core.specs.Standing.{JoinsBy}
+use Rattle.actor_core.proofs.LaterEnds.{stands_upto}
 use Rattle.link_trace.proofs.Beginnings.{wave_new}
 use Rattle.link_trace.proofs.world.World.start_at.Goals as goal
+
+pub cores_in_wave-requires-clause-end : goal.cores_in_wave-requires-clause-end
+cores_in_wave-requires-clause-end c = c.requires.end.within
+
+pub cores_in_wave-requires-clause-rest : goal.cores_in_wave-requires-clause-rest
+cores_in_wave-requires-clause-rest c =
+    stands_upto c.args.end c.args.input.now c.args.setting.now c.args.rest c.requires.end c.requires.rest
 
 pub returns-clause-fresh : goal.returns-clause-fresh
 returns-clause-fresh c =
