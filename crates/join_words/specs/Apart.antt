@@ -3,7 +3,8 @@ use Rattle.std.specs.Prelude.{◌&&◌, Bool, List, [], ◌∷◌}
 use Rattle.std.specs.List.{list_any}
 use Rattle.join_words.specs.declared.apart.Given.{Given}
 use Rattle.join_words.specs.declared.apart.Word.{Word}
-use Rattle.join_words.specs.declared.apart.Word.TheVariants.{Fixed, Replay, Make, Early, Rows, Groups, Then, ManyFiles}
+use Rattle.join_words.specs.declared.apart.Word.TheVariants.{Fixed, Replay, Make, Early, Rows, Groups, Then, Rings}
+use Rattle.join_words.specs.declared.apart.Word.TheVariants.{ManyFiles}
 
 -- whether a word is given
 abbrev pub has_word : Given → Word → Bool
@@ -14,6 +15,7 @@ has_word given Early = given.early
 has_word given Rows = given.rows
 has_word given Groups = given.groups
 has_word given Then = given.chain
+has_word given Rings = given.rings
 has_word given ManyFiles = given.many_files
 
 -- whether both words of a pair are
@@ -29,4 +31,5 @@ abbrev pub apart : List (Word × Word)
 apart =
     (Early, Replay) ∷ (Early, Make) ∷ (Early, Rows) ∷ (Make, Rows)
     ∷ (Groups, Fixed) ∷ (Groups, Early) ∷ (Groups, Replay) ∷ (Groups, ManyFiles) ∷ (Groups, Then)
-    ∷ (Then, Early) ∷ (Then, Rows) ∷ (Then, Make) ∷ (Then, Replay) ∷ []
+    ∷ (Then, Early) ∷ (Then, Rows) ∷ (Then, Make) ∷ (Then, Replay)
+    ∷ (Rings, Groups) ∷ (Rings, Then) ∷ (Rings, Early) ∷ (Rings, Replay) ∷ (Rings, ManyFiles) ∷ []

@@ -53,6 +53,7 @@ rules = text_rule (codes "on")
     ∷ flag_rule (codes "rows")
     ∷ flag_rule (codes "groups")
     ∷ option_rule (codes "then")
+    ∷ flag_rule (codes "rings")
     ∷ files_rule (codes "files") ∷ []
 
 -- a command with these arguments too

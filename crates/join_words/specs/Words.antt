@@ -32,21 +32,18 @@ pub record AskedChain : Type 0 where
 abbrev pub asked_chain : Chain → AskedChain
 asked_chain chain = record { on = chain.on.now; name = chain.name.now }
 
--- what the words ask for: the predicate's text; 2^k joiners, or how many there are where they form groups; the feeders;
--- the workers, which are the threads of a run that
--- isn't a replay; how many rows each feeder asks for at once and in which order; the shift at which the grid stays,
--- where one
--- is given; what a row of each side weighs in a grid's load; the seed of the tickets; the seed of the order of a
--- replay, where
--- one is given; how many rows a side has, where tables are to be made; whether the pairs of each bout are wanted early;
--- whether a
--- report is wanted; whether joined rows are; the names of the two files, empty where there are none; and the second
--- join,
+-- what the words ask for: the predicate's text; 2^k joiners, or how many there are where they form groups; whether
+-- messages go over rings; the feeders; the workers, which are the threads of a run that isn't a replay; how many rows
+-- each feeder asks for at once and in which order; the shift at which the grid stays, where one is given; what a row of
+-- each side weighs in a grid's load; the seed of the tickets; the seed of the order of a replay, where one is given; how
+-- many rows a side has, where tables are to be made; whether the pairs of each bout are wanted early; whether a report
+-- is wanted; whether joined rows are; the names of the two files, empty where there are none; and the second join,
 -- where one is asked for
 pub record Asked : Type 0 where
   pub on : List ℕ
   pub k : ℕ
   pub groups : Option ℕ
+  pub rings : Bool
   pub feeders : ℕ
   pub workers : ℕ
   pub batch : ℕ
@@ -69,6 +66,7 @@ asked options = record {
   on = options.on.now;
   k = options.k;
   groups = options.groups;
+  rings = options.rings;
   feeders = options.feeders;
   workers = options.workers;
   batch = options.batch;
@@ -140,6 +138,10 @@ groups_at rows = flag_at (codes "groups") rows
 abbrev pub then_at : List Row → Option Text
 then_at rows = first_of (codes "then") rows
 
+-- whether messages are to go over rings
+abbrev pub rings_at : List Row → Bool
+rings_at rows = flag_at (codes "rings") rows
+
 -- the names of files
 abbrev pub names_given : List Row → List Text
 names_given rows = unwrap_or (all_of (codes "files") rows) []
@@ -154,6 +156,7 @@ given_by rows = record {
   rows = flag_at (codes "rows") rows;
   groups = groups_at rows;
   chain = is_some (then_at rows);
+  rings = rings_at rows;
   many_files = nat_lt 2 (length (names_given rows));
 }
 
@@ -239,6 +242,7 @@ asked_by rows =
       on = text_at (codes "on") rows;
       k = k;
       groups = members_of (groups_at rows) (joiners_at rows);
+      rings = rings_at rows;
       feeders = feeders_at rows;
       workers = workers_at rows;
       batch = batch_at rows;

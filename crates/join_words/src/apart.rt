@@ -14,6 +14,7 @@ pub enum Word {
     Rows,
     Groups,
     Then,
+    Rings,
     ManyFiles,
 }
 
@@ -27,11 +28,12 @@ pub(crate) struct Given {
     pub(crate) rows: bool,
     pub(crate) groups: bool,
     pub(crate) chain: bool,
+    pub(crate) rings: bool,
     pub(crate) many_files: bool,
 }
 
 /// The pairs of words that don't stand together.
-const APART: [(Word, Word); 13] = [
+const APART: [(Word, Word); 18] = [
     (Word::Early, Word::Replay),
     (Word::Early, Word::Make),
     (Word::Early, Word::Rows),
@@ -45,6 +47,11 @@ const APART: [(Word, Word); 13] = [
     (Word::Then, Word::Rows),
     (Word::Then, Word::Make),
     (Word::Then, Word::Replay),
+    (Word::Rings, Word::Groups),
+    (Word::Rings, Word::Then),
+    (Word::Rings, Word::Early),
+    (Word::Rings, Word::Replay),
+    (Word::Rings, Word::ManyFiles),
 ];
 
 impl Given {
@@ -60,6 +67,7 @@ impl Given {
             Word::Rows => self.rows,
             Word::Groups => self.groups,
             Word::Then => self.chain,
+            Word::Rings => self.rings,
             Word::ManyFiles => self.many_files,
         }
     }

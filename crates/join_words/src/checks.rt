@@ -110,6 +110,7 @@ fn given(matches: &ArgMatches<'_>) -> Given
         rows: flag(matches, "rows"),
         groups: flag(matches, "groups"),
         chain: is_given(matches, "then"),
+        rings: flag(matches, "rings"),
         many_files: are_many(matches),
     }
 }
@@ -145,6 +146,9 @@ pub(crate) fn checked<'a>(matches: &ArgMatches<'a>) -> Result<Options<'a>, Words
     ensures chained { IfOk result (λ options. IfSome options.chain (λ _.
         (options.groups ≡ None) × (options.early ≡ false) × (options.replay ≡ None)
         × (options.make ≡ None) × (options.rows ≡ false))) }
+    ensures ringed { IfOk result (λ options. options.rings ≡ true
+        → (options.groups ≡ None) × (options.chain ≡ None) × (options.early ≡ false)
+        × (options.replay ≡ None)) }
 {
     let feed = feed(text(matches, "feed"))?;
     let groups = flag(matches, "groups");
@@ -164,6 +168,7 @@ pub(crate) fn checked<'a>(matches: &ArgMatches<'a>) -> Result<Options<'a>, Words
         on: text(matches, "on"),
         k,
         groups: members(groups, joiners),
+        rings: flag(matches, "rings"),
         feeders: small_number(matches, "feeders", 2),
         workers: small_number(matches, "workers", 4),
         batch: small_number(matches, "batch", 64),

@@ -22,6 +22,9 @@ pub struct Options<'a> {
     /// How many joiners there are, 1 to 64, where they are to form groups: one for each binary digit of the number,
     /// of as many joiners as the digit is worth. No shift is fixed then, there is no replay, and pairs aren't wanted early.
     pub groups: Option<u32>,
+    /// Messages go over rings, in whose run no thread waits for another's step. There is no replay then, pairs aren't wanted
+    /// early, joiners form no groups, and there is no second join.
+    pub rings: bool,
     /// How many feeders share the rows, 1 to 8.
     pub feeders: u32,
     /// How many threads work the run, 1 to 16. A replay has one thread, whatever stands here.
@@ -68,8 +71,9 @@ pub enum WordsFault {
     /// `--fixed` is given without `--groups`, and is greater than k.
     Fixed,
     /// `--early` stands with `--replay`, `--make` or `--rows`; `--make` stands with `--rows`; `--groups` stands with
-    /// `--fixed`, `--early`, `--replay`, `--then` or more than two names of files; or `--then` stands with `--early`,
-    /// `--rows`, `--make` or `--replay`.
+    /// `--fixed`, `--early`, `--replay`, `--then` or more than two names of files; `--then` stands with `--early`,
+    /// `--rows`, `--make` or `--replay`; or `--rings` stands with `--groups`, `--then`, `--early`, `--replay` or more than two
+    /// names of files.
     Together,
     /// There aren't just two names of files, or with `--then` three, or with `--make` there is one.
     Files,

@@ -71,6 +71,9 @@ pub fn read_words<'a>(alloc: Global, words: &'a [String]) -> Result<Options<'a>,
     ensures chained { IfOk result (λ options. IfSome options.chain (λ _.
         (options.groups ≡ None) × (options.early ≡ false) × (options.replay ≡ None)
         × (options.make ≡ None) × (options.rows ≡ false))) }
+    ensures ringed { IfOk result (λ options. options.rings ≡ true
+        → (options.groups ≡ None) × (options.chain ≡ None) × (options.early ≡ false)
+        × (options.replay ≡ None)) }
 {
     let matches = matched(alloc, words)?;
     match checked(&matches) {

@@ -89,5 +89,6 @@ pub fn command<'a>(alloc: Global) -> Result<Command<'a>, AllocError>
         .arg(flag(alloc, "rows"))?
         .arg(flag(alloc, "groups"))?
         .arg(option(alloc, "then"))?
+        .arg(flag(alloc, "rings"))?
         .arg(files(alloc, "files"))
 }

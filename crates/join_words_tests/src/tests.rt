@@ -21,6 +21,7 @@ const PLAIN: Options<'static> = Options {
     on: "p",
     k: 2,
     groups: None,
+    rings: false,
     feeders: 2,
     workers: 4,
     batch: 64,

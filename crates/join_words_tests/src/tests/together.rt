@@ -94,15 +94,43 @@ fn a_second_join_has_a_third_file(rt: HostRuntime) -> Result<(), Fail> {
 }
 
 #[test]
+fn messages_go_over_rings(rt: HostRuntime) -> Result<(), Fail> {
+    let plain = Options {
+        rings: true,
+        ..PLAIN
+    };
+    let made = Options {
+        rings: true,
+        fixed: Some(0),
+        report: true,
+        ..made(7)
+    };
+    let rows = Options {
+        rows: true,
+        ..plain
+    };
+    let cases = [
+        ("jm|--on|p|--rings|r|s", plain),
+        ("jm|--rings|r|--on|p|--rows|s", rows),
+        ("jm|--on|p|--make|7|--rings|--report|--fixed|0", made),
+    ];
+    for (line, wanted) in cases {
+        let words = words(rt.alloc(), line)?;
+        assert_eq!(rt; read_words(rt.alloc(), &words), Ok(wanted), "{line}");
+    }
+    Ok(())
+}
+
+#[test]
 fn faults_of_words_that_do_not_go_together(rt: HostRuntime) -> Result<(), Fail> {
     let cases = [
         (
             WordsFault::NoMatch,
-            "jm|--on|p|--make|0\njm|--on|p|--make|65537\njm|--on|p|--make\njm|--on|p|--rows=true|r|s\njm|--on|p|--make|3|--rows|--feed|both\njm|--on|p|--early=true|r|s\njm|--on|p|--groups=true|r|s\njm|--on|p|--groups|--joiners|65|r|s\njm|--on|p|--groups|--groups|r|s",
+            "jm|--on|p|--make|0\njm|--on|p|--make|65537\njm|--on|p|--make\njm|--on|p|--rows=true|r|s\njm|--on|p|--make|3|--rows|--feed|both\njm|--on|p|--early=true|r|s\njm|--on|p|--groups=true|r|s\njm|--on|p|--groups|--joiners|65|r|s\njm|--on|p|--groups|--groups|r|s\njm|--on|p|--rings=true|r|s\njm|--on|p|--rings|--rings|r|s",
         ),
         (
             WordsFault::Fixed,
-            "jm|--on|p|--make|3|--rows|--fixed|3\njm|--on|p|--early|--replay|7|--fixed|3|r",
+            "jm|--on|p|--make|3|--rows|--fixed|3\njm|--on|p|--early|--replay|7|--fixed|3|r\njm|--on|p|--rings|--replay|7|--fixed|3|r",
         ),
         (
             WordsFault::Together,
@@ -117,6 +145,10 @@ fn faults_of_words_that_do_not_go_together(rt: HostRuntime) -> Result<(), Fail> 
             "jm|--on|p|--then|p|--groups|r|s|q\njm|--on|p|--then|p|--early|r|s|q\njm|--on|p|--then|p|--rows|r|s|q\njm|--on|p|--then|p|--make|3\njm|--on|p|--then|p|--replay|7|r|s|q\njm|--on|p|--then|p|--early|r|s",
         ),
         (
+            WordsFault::Together,
+            "jm|--on|p|--rings|--replay|7|r|s\njm|--on|p|--early|--rings|r|s\njm|--on|p|--rings|--groups|r|s\njm|--on|p|--rings|--then|p|r|s|q\njm|--on|p|--rings|r|s|t\njm|--on|p|--rings|--make|3|r|s|t",
+        ),
+        (
             WordsFault::Files,
             "jm|--on|p|--then|p|r|s\njm|--on|p|--then|p\njm|--on|p|--then|p|r|s|q|t\njm|--on|p|r|s|q",
         ),
@@ -126,7 +158,7 @@ fn faults_of_words_that_do_not_go_together(rt: HostRuntime) -> Result<(), Fail> 
         ),
         (
             WordsFault::Files,
-            "jm|--on|p|--make|3|r|s\njm|--on|p|--make|3|r\njm|--on|p|--rows|r\njm|--on|p|--rows\njm|--on|p|--early|r\njm|--on|p|--groups|r\njm|--on|p|--groups|--make|3|r|s\njm|--on|p|--early|r|s|t",
+            "jm|--on|p|--make|3|r|s\njm|--on|p|--make|3|r\njm|--on|p|--rows|r\njm|--on|p|--rows\njm|--on|p|--early|r\njm|--on|p|--groups|r\njm|--on|p|--groups|--make|3|r|s\njm|--on|p|--early|r|s|t\njm|--on|p|--rings|r",
         ),
     ];
     for (fault, lines) in cases {

@@ -81,9 +81,13 @@ returns c =
     let a17 : App = with_rule a16 r17 in
     let e17 : IsApp c.in_ok-arg-17.field-0 a17 = added a16 c.in_ok-arg-16.field-0 c.in_ok-arg-17.field-0 c.option.result
     r17 e16 c.option.ensures.local c.option.ensures.rule c.in_ok-arg-17.ensures in
-    IfOk-weaker c.arg-18.result (λ r. AddsArg c.in_ok-arg-17.field-0 c.files.result r) (λ r. IsCommand (app_of r))
+    let r18 : Rule = flag_rule (codes "rings") in
+    let a18 : App = with_rule a17 r18 in
+    let e18 : IsApp c.in_ok-arg-18.field-0 a18 = added a17 c.in_ok-arg-17.field-0 c.in_ok-arg-18.field-0 c.flag-5.result
+    r18 e17 c.flag-5.ensures.local c.flag-5.ensures.rule c.in_ok-arg-18.ensures in
+    IfOk-weaker c.arg-19.result (λ r. AddsArg c.in_ok-arg-18.field-0 c.files.result r) (λ r. IsCommand (app_of r))
     (λ r adds.
-    let e18 : IsApp r (with_rule a17 (files_rule (codes "files"))) =
-    added a17 c.in_ok-arg-17.field-0 r c.files.result (files_rule (codes "files"))
-    e17 c.files.ensures.local c.files.ensures.rule adds in
-    record { is = e18.is }) c.arg-18.ensures
+    let e19 : IsApp r (with_rule a18 (files_rule (codes "files"))) =
+    added a18 c.in_ok-arg-18.field-0 r c.files.result (files_rule (codes "files"))
+    e18 c.files.ensures.local c.files.ensures.rule adds in
+    record { is = e19.is }) c.arg-19.ensures
