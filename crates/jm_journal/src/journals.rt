@@ -105,7 +105,7 @@ pub(crate) fn picture(
 {
     let mut drawing = Drawing::new(alloc);
     match outcome {
-        Outcome::Done { journal, .. } => {
+        Outcome::Done { journal, .. } | Outcome::DoneRings { journal, .. } => {
             add(alloc, &mut drawing, options, "", options.k, journal)?;
         }
         Outcome::DoneGroups { journals, .. } => {

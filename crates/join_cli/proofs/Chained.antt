@@ -148,6 +148,7 @@ chain_halted asked planned input third (outcomes.Limit (TooMany side wave)) inpu
 chain_halted asked planned input third (outcomes.Done _ _) input_is third_is stopped = elim stopped [ ]
 chain_halted asked planned input third (outcomes.DoneGroups _ _) input_is third_is stopped = elim stopped [ ]
 chain_halted asked planned input third (outcomes.DoneChain _ _ _) input_is third_is stopped = elim stopped [ ]
+chain_halted asked planned input third (outcomes.DoneRings _ _ _) input_is third_is stopped = elim stopped [ ]
 chain_halted asked planned input third (outcomes.Words _) input_is third_is stopped = elim stopped [ ]
 chain_halted asked planned input third (outcomes.Predicate _) input_is third_is stopped = elim stopped [ ]
 chain_halted asked planned input third (outcomes.Then _) input_is third_is stopped = elim stopped [ ]

@@ -20,7 +20,7 @@ use Rattle.join_runtime.specs.Early.{WroteEach, WroteSome}
 use Rattle.join_words.specs.Words.{Asked}
 use Rattle.join_words.specs.declared.options.Chain.{Chain}
 use Rattle.join_words.specs.declared.options.Options.{Options}
-use Rattle.join_cli.specs.Requests.{IsChained}
+use Rattle.join_cli.specs.Requests.{IsChained, IsRinged}
 use Rattle.join_plan.specs.declared.fitting.Planned.{Planned}
 use Rattle.join_cli.specs.Early.{CutFound, IsFoundText, IsOutput, PutFound, PutPart, StoppedAt, TakesFound, WroteLines}
 use Rattle.join_cli.specs.Early.{WroteOutput}
@@ -119,9 +119,10 @@ early_written asked planned input setting journal trail old new input_is setting
 -- early output that stopped, of what is asked for
 pub early_stopped : (asked : Asked) (planned : Planned) (input : Input) (setting : Setting) (old new : Option (List ℕ))
     → input ≡ input_of asked.seed planned → setting ≡ setting_of asked → IsValidInput input → IsValidSetting setting
-    → asked.early ≡ true → asked.replay ≡ None → asked.groups ≡ None → asked.chain ≡ None
+    → asked.early ≡ true → asked.replay ≡ None → asked.groups ≡ None → asked.chain ≡ None → asked.rings ≡ false
     → PutPart asked.report input setting old new → StoppedAt asked.early asked planned old new
-early_stopped asked planned input setting old new input_is setting_is of_input of_setting early threads single alone put =
+early_stopped asked planned input setting old new input_is setting_is of_input of_setting early threads single alone
+    queued put =
     subst (λ e. StoppedAt e asked planned old new) (sym early) (elim put [
       | inl some ↦ inl (subst (λ i. WroteSome i old new) input_is some)
       | inr cut ↦ inr (record {
@@ -129,7 +130,7 @@ early_stopped asked planned input setting old new input_is setting_is of_input o
         course =
             course_in_threads asked planned input setting cut.run cut.trail input_is setting_is of_input of_setting
             threads
-            single alone cut.is_run cut.went;
+            single alone queued cut.is_run cut.went;
         text = cut.text;
         output = same_output asked planned input setting cut.run.journal cut.trail cut.text input_is setting_is early
             cut.is;
@@ -215,3 +216,9 @@ pub two_tables : (options : Options) (chain : Option Chain) → IfSome chain (Is
     → chain ≡ None
 two_tables options None alone is = refl
 two_tables options (Some chain) alone is = absurd (cc (sym is ∙ alone.1))
+
+-- and doesn't go over rings
+pub no_rings : (options : Options) (rings : Bool) → (rings ≡ true → IsRinged options) → options.early ≡ true
+    → rings ≡ false
+no_rings options false alone is = refl
+no_rings options true alone is = absurd (cc (sym is ∙ (alone refl).2))

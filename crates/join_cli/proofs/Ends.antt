@@ -15,7 +15,7 @@ use Rattle.join_plan.proofs.Readings.{one_plan}
 use Rattle.join_cli.specs.declared.outcome.Outcome.{Outcome}
 use Rattle.join_cli.specs.declared.outcome.Outcome.TheVariants as outcomes
 use Rattle.join_cli.specs.Chain.{IsFewBetween}
-use Rattle.join_cli.specs.Courses.{Course, WentSo, by_chain, by_groups, by_run, output_over}
+use Rattle.join_cli.specs.Courses.{Course, WentSo, by_chain, by_groups, by_rings, by_run, output_over}
 use Rattle.join_cli.specs.Ends.{Concludes, ConcludesBy, EndsAs, IsDone, IsEndOf, IsHalted, IsMade, IsSomeCourse}
 use Rattle.join_cli.specs.Ends.{TakesEach, Wrote, WroteFront, WroteSoFar, course_of}
 use Rattle.join_cli.specs.Outcomes.{outcome_of}
@@ -29,6 +29,7 @@ end_of : (asked : Asked) (planned : Planned) (old new : Option (List ℕ)) (outc
 end_of asked planned old new (outcomes.Done journal trail) (course, written) put = inr course
 end_of asked planned old new (outcomes.DoneGroups journals trail) (course, written) put = inr course
 end_of asked planned old new (outcomes.DoneChain first second trail) (course, written) put = inr course
+end_of asked planned old new (outcomes.DoneRings journal ends back) (course, written) put = inr course
 end_of asked planned old new outcomes.Memory concludes put = inl refl
 end_of asked planned old new outcomes.Write concludes put = absurd (put refl)
 end_of asked planned old new (outcomes.Limit (Between pairs)) (between, same) put = inr between
@@ -88,6 +89,7 @@ pub concludes_well : (asked : Asked) (planned : Planned) (old new : Option (List
 concludes_well asked planned old new (outcomes.Done journal trail) concludes = inl tt
 concludes_well asked planned old new (outcomes.DoneGroups journals trail) concludes = inl tt
 concludes_well asked planned old new (outcomes.DoneChain first second trail) concludes = inl tt
+concludes_well asked planned old new (outcomes.DoneRings journal ends back) concludes = inl tt
 concludes_well asked planned old new outcomes.Write concludes = inr (inl refl)
 concludes_well asked planned old new outcomes.Memory concludes = inr (inr (inl refl))
 concludes_well asked planned old new (outcomes.Limit (Between pairs)) concludes = inr (inr (inr (pairs, refl)))
@@ -136,6 +138,8 @@ takes_over takes asked planned (by_run journal trail) course each =
     each.each course.single course.whole journal course.lawful
 takes_over takes asked planned (by_groups journals trail) course each = each.groups journals trail course
 takes_over takes asked planned (by_chain first second trail) course each = each.chain first second trail course
+takes_over takes asked planned (by_rings journal ends back) course each =
+    each.each course.single course.whole journal course.lawful
 
 -- and so the bytes that were made
 pub takes_made : (takes : ℕ → Type 0) (asked : Asked) (planned : Planned) (bytes : List ℕ) (way : Option Course)
@@ -164,6 +168,7 @@ halted_concludes asked planned written (outcomes.Limit (TooMany side wave)) whol
 halted_concludes asked planned written (outcomes.Done _ _) whole halted = elim halted [ ]
 halted_concludes asked planned written (outcomes.DoneGroups _ _) whole halted = elim halted [ ]
 halted_concludes asked planned written (outcomes.DoneChain _ _ _) whole halted = elim halted [ ]
+halted_concludes asked planned written (outcomes.DoneRings _ _ _) whole halted = elim halted [ ]
 halted_concludes asked planned written (outcomes.Words _) whole halted = elim halted [ ]
 halted_concludes asked planned written (outcomes.Predicate _) whole halted = elim halted [ ]
 halted_concludes asked planned written (outcomes.Then _) whole halted = elim halted [ ]
@@ -194,6 +199,7 @@ halted_few asked planned (outcomes.Limit (TooMany side wave)) halted few = elim 
 halted_few asked planned (outcomes.Done _ _) halted few = elim halted [ ]
 halted_few asked planned (outcomes.DoneGroups _ _) halted few = elim halted [ ]
 halted_few asked planned (outcomes.DoneChain _ _ _) halted few = elim halted [ ]
+halted_few asked planned (outcomes.DoneRings _ _ _) halted few = elim halted [ ]
 halted_few asked planned (outcomes.Words _) halted few = elim halted [ ]
 halted_few asked planned (outcomes.Predicate _) halted few = elim halted [ ]
 halted_few asked planned (outcomes.Then _) halted few = elim halted [ ]

@@ -1,5 +1,5 @@
 -- What is joined is a valid input, and the journal of its run one of a lawful controller.
-use Rattle.std.proofs.Common.{◌≡◌, ◌<◌, ◌^◌, ℕ, None, List, All, length, sym, ◌∙◌, ap, subst}
+use Rattle.std.proofs.Common.{◌≡◌, ◌<◌, ◌^◌, ℕ, Bool, true, false, None, List, All, length, sym, ◌∙◌, ap, subst}
 use Rattle.std.proofs.lemmas.List.FromFn.{length-map-range_with_len}
 use Rattle.join_rows.specs.Records.{IsTable}
 use Rattle.join_rows.specs.declared.table.Side.{Side}
@@ -21,8 +21,11 @@ use Rattle.trace_law.proofs.Validity.{both_sides, within_limits}
 use Rattle.join_words.specs.Words.{Asked}
 use Rattle.join_plan.specs.declared.fitting.Planned.{Planned}
 use Rattle.join_runtime.specs.Endings.{EndsView}
-use Rattle.join_cli.specs.Courses.{IsCourseOf, IsRunInThreads, WentAs}
-use Rattle.join_cli.specs.Plan.{IsJournalOf, IsJournalOver, input_of, setting_of}
+use Rattle.ring_runtime.specs.Endings.{RingEndsView, lists_left}
+use Rattle.actor_core.specs.Players.{IsFinishedFamily}
+use Rattle.join_cli.specs.Courses.{IsCourseOf, IsOverRings, IsRunInThreads, WentAs}
+use Rattle.join_cli.specs.Plan.{IsJournalOf, IsJournalOver, input_of, output_of, setting_of, text_of}
+use Rattle.load_controller.specs.declared.line.TurnLine.{TurnLine}
 
 fits : (seed : ℕ) (side : Side) (table : Table) (tickets : List ℕ) (width : ℕ) → IsTable table
     → tickets ≡ tickets_of seed side table.rows
@@ -85,12 +88,14 @@ journal_of_run asked planned input setting run input_is setting_is of_input of_s
 pub course_of_run : (asked : Asked) (planned : Planned) (input : Input) (setting : Setting) (run : Run)
     (trail : List EndsView)
     → input ≡ input_of asked.seed planned → setting ≡ setting_of asked → IsValidInput input → IsValidSetting setting
-    → asked.groups ≡ None → asked.chain ≡ None → IsRunOf input setting (first_rest setting).line run.journal run
+    → asked.groups ≡ None → asked.chain ≡ None → asked.rings ≡ false
+    → IsRunOf input setting (first_rest setting).line run.journal run
     → WentAs asked.replay input setting run.journal trail → IsCourseOf asked planned run.journal trail
-course_of_run asked planned input setting run trail input_is setting_is of_input of_setting single whole is went =
+course_of_run asked planned input setting run trail input_is setting_is of_input of_setting single whole queued is went =
     record {
       single = single;
       whole = whole;
+      queued = queued;
       lawful = journal_of_run asked planned input setting run input_is setting_is of_input of_setting is;
       went = subst (λ i. WentAs asked.replay i (setting_of asked) run.journal trail) input_is
           (subst (λ s. WentAs asked.replay input s run.journal trail) setting_is went);
@@ -101,8 +106,38 @@ pub course_in_threads : (asked : Asked) (planned : Planned) (input : Input) (set
     (trail : List EndsView)
     → input ≡ input_of asked.seed planned → setting ≡ setting_of asked → IsValidInput input → IsValidSetting setting
     → asked.replay ≡ None
-    → asked.groups ≡ None → asked.chain ≡ None → IsRunOf input setting (first_rest setting).line run.journal run
+    → asked.groups ≡ None → asked.chain ≡ None → asked.rings ≡ false
+    → IsRunOf input setting (first_rest setting).line run.journal run
     → IsRunInThreads input setting run.journal trail → IsCourseOf asked planned run.journal trail
-course_in_threads asked planned input setting run trail input_is setting_is of_input of_setting threads single whole is went =
-    course_of_run asked planned input setting run trail input_is setting_is of_input of_setting single whole is
+course_in_threads asked planned input setting run trail input_is setting_is of_input of_setting threads single whole
+    queued is went =
+    course_of_run asked planned input setting run trail input_is setting_is of_input of_setting single whole queued is
     (rw threads went)
+
+-- and of one over rings
+pub course_over_rings : (asked : Asked) (planned : Planned) (input : Input) (setting : Setting) (run : Run)
+    (ends : RingEndsView) (back : Bool)
+    → input ≡ input_of asked.seed planned → setting ≡ setting_of asked → IsValidInput input → IsValidSetting setting
+    → asked.rings ≡ true → asked.groups ≡ None → asked.chain ≡ None
+    → IsRunOf input setting (first_rest setting).line run.journal run → back ≡ false
+    → IsFinishedFamily input setting run.journal (lists_left ends)
+    → IsOverRings asked planned run.journal ends back
+course_over_rings asked planned input setting run ends back input_is setting_is of_input of_setting ringed single
+    whole is kept family =
+    record {
+      ringed = ringed;
+      single = single;
+      whole = whole;
+      lawful = journal_of_run asked planned input setting run input_is setting_is of_input of_setting is;
+      kept = kept;
+      family = subst (λ i. IsFinishedFamily i (setting_of asked) run.journal (lists_left ends)) input_is
+          (subst (λ s. IsFinishedFamily input s run.journal (lists_left ends)) setting_is family);
+    }
+
+-- the text over an input is the output over a plan that it is of
+pub output_is : (asked : Asked) (planned : Planned) (input : Input) (setting : Setting) (journal : List TurnLine)
+    (text : List ℕ) → input ≡ input_of asked.seed planned → setting ≡ setting_of asked
+    → text ≡ text_of asked input setting journal → text ≡ output_of asked planned journal
+output_is asked planned input setting journal text input_is setting_is is =
+    is ∙ ap (λ i. text_of asked i setting journal) input_is
+    ∙ ap (λ s. text_of asked (input_of asked.seed planned) s journal) setting_is

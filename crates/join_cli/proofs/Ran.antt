@@ -6,7 +6,7 @@ use Rattle.join_cli.specs.declared.outcome.Outcome.{Outcome}
 use Rattle.join_cli.specs.declared.outcome.Outcome.TheVariants as outcomes
 use Rattle.join_cli.specs.Outcomes.{status_of}
 use Rattle.join_cli.specs.Programs.{WroteBy, WroteOver}
-use Rattle.join_cli.specs.Courses.{Course, by_chain, by_groups, by_run}
+use Rattle.join_cli.specs.Courses.{Course, by_chain, by_groups, by_rings, by_run}
 use Rattle.join_cli.specs.Ends.{IsDone, course_of}
 use Rattle.join_cli.specs.Promises.{RanAs}
 
@@ -28,6 +28,8 @@ ran_by h k words old new before after IsTold status ran = λ zero.
         record { way = by_groups journals trail; over = done (by_groups journals trail) refl }
     by (outcomes.DoneChain first second trail) e done =
         record { way = by_chain first second trail; over = done (by_chain first second trail) refl }
+    by (outcomes.DoneRings journal ends back) e done =
+        record { way = by_rings journal ends back; over = done (by_rings journal ends back) refl }
     by (outcomes.Words fault) e done = absurd (omega (arith, e))
     by (outcomes.Predicate fault) e done = absurd (omega (arith, e))
     by (outcomes.Then fault) e done = absurd (omega (arith, e))
@@ -42,6 +44,7 @@ done_status : (outcome : Outcome) → IsDone outcome → status_of outcome ≡ 0
 done_status (outcomes.Done journal trail) done = refl
 done_status (outcomes.DoneGroups journals trail) done = refl
 done_status (outcomes.DoneChain first second trail) done = refl
+done_status (outcomes.DoneRings journal ends back) done = refl
 done_status (outcomes.Words fault) done = absurd done
 done_status (outcomes.Predicate fault) done = absurd done
 done_status (outcomes.Then fault) done = absurd done

@@ -22,6 +22,7 @@ end_status : (asked : Asked) (planned : Planned) (outcome : Outcome) → IsEndOf
 end_status asked planned (outcomes.Done journal trail) ends = inl refl
 end_status asked planned (outcomes.DoneGroups journals trail) ends = inl refl
 end_status asked planned (outcomes.DoneChain first second trail) ends = inl refl
+end_status asked planned (outcomes.DoneRings journal left back) ends = inl refl
 end_status asked planned (outcomes.Limit (Between pairs)) ends = inr (refl, (pairs, ends))
 end_status asked planned (outcomes.Limit (TooLong side wave)) ends = absurd ends
 end_status asked planned (outcomes.Limit (TooMany side wave)) ends = absurd ends
@@ -83,6 +84,7 @@ read_status outcomes.Read six = refl
 read_status (outcomes.Done journal trail) six = absurd (omega (arith, six))
 read_status (outcomes.DoneGroups journals trail) six = absurd (omega (arith, six))
 read_status (outcomes.DoneChain first second trail) six = absurd (omega (arith, six))
+read_status (outcomes.DoneRings journal ends back) six = absurd (omega (arith, six))
 read_status (outcomes.Words fault) six = absurd (omega (arith, six))
 read_status (outcomes.Predicate fault) six = absurd (omega (arith, six))
 read_status (outcomes.Then fault) six = absurd (omega (arith, six))

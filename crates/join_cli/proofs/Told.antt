@@ -22,6 +22,7 @@ abbrev refusal_in : Outcome → Option Refusal
 refusal_in (outcomes.Done journal trail) = None
 refusal_in (outcomes.DoneGroups journals trail) = None
 refusal_in (outcomes.DoneChain first second trail) = None
+refusal_in (outcomes.DoneRings journal ends back) = None
 refusal_in (outcomes.Words fault) = None
 refusal_in (outcomes.Predicate fault) = Some (refusals.Predicate fault)
 refusal_in (outcomes.Then fault) = Some (refusals.Then fault)

@@ -36,6 +36,7 @@ four = record {
   on = [];
   k = 2;
   groups = None;
+  rings = false;
   feeders = 2;
   workers = 4;
   batch = 64;

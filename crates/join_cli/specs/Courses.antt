@@ -1,6 +1,6 @@
 -- How a run went, and the output over it.
-use Rattle.std.specs.Prelude.{◌≡◌, ◌++◌, ◌+◌, ◌^◌, ⊤, ℕ, List, [], ◌∷◌, map, length, Option, None, Some, unwrap_or}
-use Rattle.std.specs.Prelude.{if◌then◌else◌, codes}
+use Rattle.std.specs.Prelude.{◌≡◌, ◌++◌, ◌+◌, ◌^◌, ⊤, ℕ, Bool, true, false, List, [], ◌∷◌, map, length, Option, None}
+use Rattle.std.specs.Prelude.{Some, if◌then◌else◌, codes, unwrap_or}
 use Rattle.std.specs.Fmt.{decimal}
 use Rattle.trace_law.specs.declared.input.Input.{Input}
 use Rattle.trace_law.specs.declared.run.Run.{Run}
@@ -9,6 +9,7 @@ use Rattle.load_controller.specs.declared.line.TurnLine.{TurnLine}
 use Rattle.link_trace.specs.Order.{IsReplay}
 use Rattle.actor_core.specs.Players.{IsFinishedFamily}
 use Rattle.join_runtime.specs.Endings.{EndsView, lists_left}
+use Rattle.ring_runtime.specs.Endings.{RingEndsView, lists_left as lists_over_rings}
 use Rattle.group_split.specs.Groups.{AreGroups}
 use Rattle.group_split.specs.Parts.{input_of_part, part, setting_of_group}
 use Rattle.group_split.specs.Sizes.{digits, numbers_of}
@@ -40,13 +41,13 @@ abbrev pub WentAs : Option ℕ → Input → Setting → List TurnLine → List 
 WentAs (Some seed) input setting journal trail = IsReplayed input setting seed journal trail
 WentAs None input setting journal trail = IsRunInThreads input setting journal trail
 
--- what is answered of a run that was asked for, of two tables and joiners in one grid: the journal of a lawful
--- controller, and what shows how
--- the run went
+-- what is answered of a run that was asked for, of two tables and joiners in one grid, and not over rings: the journal
+-- of a lawful controller, and what shows how the run went
 pub record IsCourseOf (asked : Asked) (planned : Planned) (journal : List TurnLine)
     (trail : List EndsView) : Type 0 where
   pub single : asked.groups ≡ None
   pub whole : asked.chain ≡ None
+  pub queued : asked.rings ≡ false
   pub lawful : IsJournalOf asked planned journal
   pub went : WentAs asked.replay (input_of asked.seed planned) (setting_of asked) journal trail
 
@@ -73,17 +74,31 @@ AreRunsFrom input joiners numbers setting g (k ∷ digits) (run ∷ runs) =
     × AreRunsFrom input joiners numbers setting (g + 1) digits runs
 AreRunsFrom input joiners numbers setting g _ _ = ⊥
 
+-- what is answered of a run over rings, of two tables and joiners in one grid: the journal of a lawful controller; it
+-- didn't fall back; and the lists of what its seats left are a finished, agreeing family, whose controller has this
+-- journal
+pub record IsOverRings (asked : Asked) (planned : Planned) (journal : List TurnLine) (ends : RingEndsView)
+    (fallen : Bool) : Type 0 where
+  pub ringed : asked.rings ≡ true
+  pub single : asked.groups ≡ None
+  pub whole : asked.chain ≡ None
+  pub lawful : IsJournalOf asked planned journal
+  pub kept : fallen ≡ false
+  pub family : IsFinishedFamily (input_of asked.seed planned) (setting_of asked) journal (lists_over_rings ends)
+
 -- how a run went
 pub data Course : Type 0 where
   by_run : List TurnLine → List EndsView → Course
   by_groups : List (List TurnLine) → List EndsView → Course
   by_chain : List TurnLine → List TurnLine → List EndsView → Course
+  by_rings : List TurnLine → RingEndsView → Bool → Course
 
 -- it went so as was asked for
 abbrev pub WentSo : Asked → Planned → Course → Type 0
 WentSo asked planned (by_run journal trail) = IsCourseOf asked planned journal trail
 WentSo asked planned (by_groups journals trail) = AreGroupsOf asked planned journals trail
 WentSo asked planned (by_chain first second trail) = IsChainOf asked planned first second trail
+WentSo asked planned (by_rings journal ends back) = IsOverRings asked planned journal ends back
 
 -- ---- the output
 
@@ -119,3 +134,4 @@ output_over asked planned (by_groups journals trail) =
     groups_text asked (input_of asked.seed planned) (setting_of asked) joiners (groups_drawn asked planned joiners)
     journals
 output_over asked planned (by_chain first second trail) = chain_output asked planned planned.third first second
+output_over asked planned (by_rings journal ends back) = output_of asked planned journal

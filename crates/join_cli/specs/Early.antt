@@ -15,7 +15,7 @@ use Rattle.join_runtime.specs.Early.{WroteSome}
 use Rattle.join_words.specs.Words.{Asked}
 use Rattle.join_plan.specs.declared.fitting.Planned.{Planned}
 use Rattle.join_runtime.specs.Endings.{EndsView}
-use Rattle.join_cli.specs.Courses.{Course, IsRunInThreads, WentSo, by_chain, by_groups, by_run, output_over}
+use Rattle.join_cli.specs.Courses.{Course, IsRunInThreads, WentSo, by_chain, by_groups, by_rings, by_run, output_over}
 use Rattle.join_cli.specs.Plan.{input_of, report_asked, setting_of}
 
 -- the lines of the nested loop's pairs, each once in the order in which they were found, and then the report where one
@@ -54,14 +54,15 @@ pub record TakesFound (takes : ℕ → Type 0) (report : Bool) (input : Input) (
   pub each : (run : Run) → IsRunOf input setting (first_rest setting).line run.journal run
       → takes (length (pair_lines (nested_loop input)) + (length (report_asked report input setting run.journal) + 0))
 
--- the text of an output over how a run went: early, of what was found, and else the one that is asked for; groups and
--- chains aren't early
+-- the text of an output over how a run went: early, of what was found, and else the one that is asked for; groups,
+-- chains and runs over rings aren't early
 abbrev pub IsOutput : Bool → Asked → Planned → Course → List ℕ → Type 0
 IsOutput false asked planned way text = text ≡ output_over asked planned way
 IsOutput true asked planned (by_run journal trail) text =
     IsFoundText asked.report (input_of asked.seed planned) (setting_of asked) journal text
 IsOutput true asked planned (by_groups journals trail) text = ⊥
 IsOutput true asked planned (by_chain first second trail) text = ⊥
+IsOutput true asked planned (by_rings journal ends back) text = ⊥
 
 -- the output over a run that went this way was written
 pub record WroteOutput (asked : Asked) (planned : Planned) (way : Course) (old new : Option (List ℕ)) : Type 0 where

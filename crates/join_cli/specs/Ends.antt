@@ -14,10 +14,11 @@ use Rattle.join_plan.specs.declared.refusal.Which.{Which}
 use Rattle.join_plan.specs.Plan.{IsAsked, IsPlanOf}
 use Rattle.join_plan.specs.Refusals.{text_refusal}
 use Rattle.join_cli.specs.declared.outcome.Outcome.{Outcome}
-use Rattle.join_cli.specs.declared.outcome.Outcome.TheVariants.{Done, DoneGroups, DoneChain, Input, Limit, Memory}
-use Rattle.join_cli.specs.declared.outcome.Outcome.TheVariants.{Predicate, Read, Then, Words, Write}
+use Rattle.join_cli.specs.declared.outcome.Outcome.TheVariants.{Done, DoneGroups, DoneChain, DoneRings, Input}
+use Rattle.join_cli.specs.declared.outcome.Outcome.TheVariants.{Limit, Memory, Predicate, Read, Then, Words, Write}
 use Rattle.join_cli.specs.Chain.{IsBetween, IsChainOf, IsFewBetween}
-use Rattle.join_cli.specs.Courses.{AreGroupsOf, Course, WentSo, by_chain, by_groups, by_run, output_over}
+use Rattle.join_cli.specs.Courses.{AreGroupsOf, Course, WentSo, by_chain, by_groups, by_rings, by_run}
+use Rattle.join_cli.specs.Courses.{output_over}
 use Rattle.join_cli.specs.Early.{StoppedAt, WroteLines, WroteOutput}
 use Rattle.join_cli.specs.Outcomes.{outcome_of}
 use Rattle.join_cli.specs.Plan.{IsJournalOf, input_of, output_of}
@@ -27,6 +28,7 @@ abbrev pub course_of : Outcome → Option Course
 course_of (Done journal trail) = Some (by_run journal trail)
 course_of (DoneGroups journals trail) = Some (by_groups journals trail)
 course_of (DoneChain first second trail) = Some (by_chain first second trail)
+course_of (DoneRings journal ends back) = Some (by_rings journal ends back)
 course_of (Words fault) = None
 course_of (Predicate fault) = None
 course_of (Then fault) = None

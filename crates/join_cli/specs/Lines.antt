@@ -6,7 +6,7 @@ use Rattle.join_rows.specs.Sinks.{AppendsFront}
 use Rattle.join_rows.specs.declared.sink.Sink.{Ghosts as SinkGhosts}
 use Rattle.join_plan.specs.Lines.{input_line, limit_line, text_line}
 use Rattle.join_cli.specs.declared.outcome.Outcome.{Outcome}
-use Rattle.join_cli.specs.declared.outcome.Outcome.TheVariants.{Done, DoneGroups, DoneChain, Words}
+use Rattle.join_cli.specs.declared.outcome.Outcome.TheVariants.{Done, DoneGroups, DoneChain, DoneRings, Words}
 use Rattle.join_cli.specs.declared.outcome.Outcome.TheVariants.{Predicate, Then, Input, Limit, Read, Write, Memory}
 use Rattle.join_cli.specs.Courses.{Course}
 use Rattle.join_cli.specs.Ends.{course_of}
@@ -16,6 +16,7 @@ abbrev pub said_of : Outcome → List ℕ
 said_of (Done journal trail) = []
 said_of (DoneGroups journals trail) = []
 said_of (DoneChain first second trail) = []
+said_of (DoneRings journal ends back) = []
 said_of (Words fault) = codes "usage: jm --on TEXT [options] R.csv S.csv"
 said_of (Predicate fault) = codes "predicate: " ++ text_line fault
 said_of (Then fault) = codes "then: " ++ text_line fault

@@ -3,14 +3,15 @@ use Rattle.std.specs.Prelude.{ℕ}
 use Rattle.join_plan.specs.declared.fault.Refusal.{Refusal}
 use Rattle.join_plan.specs.declared.fault.Refusal.TheVariants as refusals
 use Rattle.join_cli.specs.declared.outcome.Outcome.{Outcome}
-use Rattle.join_cli.specs.declared.outcome.Outcome.TheVariants.{Done, DoneGroups, DoneChain, Words, Predicate, Then}
-use Rattle.join_cli.specs.declared.outcome.Outcome.TheVariants.{Input, Limit, Read, Write, Memory}
+use Rattle.join_cli.specs.declared.outcome.Outcome.TheVariants.{Done, DoneGroups, DoneChain, DoneRings, Words}
+use Rattle.join_cli.specs.declared.outcome.Outcome.TheVariants.{Predicate, Then, Input, Limit, Read, Write, Memory}
 
 -- the exit status
 abbrev pub status_of : Outcome → ℕ
 status_of (Done journal trail) = 0
 status_of (DoneGroups journals trail) = 0
 status_of (DoneChain first second trail) = 0
+status_of (DoneRings journal ends back) = 0
 status_of (Words fault) = 2
 status_of (Predicate fault) = 3
 status_of (Then fault) = 3

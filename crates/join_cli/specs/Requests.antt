@@ -7,3 +7,8 @@ use Rattle.join_words.specs.declared.options.Options.{Options}
 abbrev pub IsChained : Options → Chain → Type 0
 IsChained options chain = (options.groups ≡ None) × (options.early ≡ false) × (options.replay ≡ None)
     × (options.make ≡ None) × (options.rows ≡ false)
+
+-- a run over rings stands without groups, a second join, early pairs and a replay
+abbrev pub IsRinged : Options → Type 0
+IsRinged options = (options.groups ≡ None) × (options.chain ≡ None) × (options.early ≡ false)
+    × (options.replay ≡ None)

@@ -11,7 +11,7 @@ ghost use Rattle.join_plan.specs.declared.fitting.Planned.{Planned as Planned'};
 ghost use Rattle.join_cli.specs.Plan.{input_of, setting_of};
 ghost use Rattle.join_cli.specs.Ends.{Concludes, IsDone, TakesEach};
 ghost use Rattle.join_cli.specs.Chain.{IsFewBetween};
-ghost use Rattle.join_cli.specs.Requests.{IsChained};
+ghost use Rattle.join_cli.specs.Requests.{IsChained, IsRinged};
 
 use crate::early::put_found;
 use crate::input::{input, setting};
@@ -87,6 +87,7 @@ fn end_early<R: Threads + Wait + Sync, K: Sink, G: Gate + Sync>(
         × (options.now.rows ≡ false) }
     requires single { options.now.groups ≡ None }
     requires whole { options.now.chain ≡ None }
+    requires queued { options.now.rings ≡ false }
     ensures ends { (planned : Planned') → input.now ≡ input_of options.now.seed planned
         → Concludes (asked options.now) planned (K.written sink.old) (K.written sink.new) result }
     ensures counts { result ≢ Outcome.Write → K.faults sink.new ≡ K.faults sink.old }
@@ -125,6 +126,7 @@ fn conclude_early<R: Threads + Wait + Sync, K: Sink, G: Gate + Sync>(
         × (options.now.rows ≡ false) }
     requires single { options.now.groups ≡ None }
     requires whole { options.now.chain ≡ None }
+    requires queued { options.now.rings ≡ false }
     ensures ends { Concludes (asked options.now) planned
         (K.written sink.old) (K.written sink.new) result }
     ensures counts { result ≢ Outcome.Write → K.faults sink.new ≡ K.faults sink.old }
@@ -162,6 +164,7 @@ pub(crate) fn conclude<R: Threads + Wait + Sync, K: Sink, G: Gate + Sync>(
     requires grouped { IfSome options.now.groups (λ _. (options.now.fixed ≡ None)
         × (options.now.early ≡ false) × (options.now.replay ≡ None)) }
     requires chained { IfSome options.now.chain (IsChained options.now) }
+    requires ringed { options.now.rings ≡ true → IsRinged options.now }
     requires there { is_some planned.third ≡ is_some options.now.chain }
     ensures ends { Concludes (asked options.now) planned
         (K.written sink.old) (K.written sink.new) result }

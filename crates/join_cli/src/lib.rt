@@ -11,6 +11,7 @@ mod laws;
 mod outcome;
 mod output;
 mod program;
+mod rings;
 mod run;
 mod text;
 mod top;

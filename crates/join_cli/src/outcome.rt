@@ -8,6 +8,7 @@ use join_rows::Items;
 use join_runtime::Trail;
 use join_words::WordsFault;
 use load_controller::Journal;
+use ring_runtime::RingEnds;
 
 /// The journals of several runs.
 pub type Journals = Items<Journal>;
@@ -34,6 +35,13 @@ pub enum Outcome {
         second: Journal,
         trail: Trail,
     },
+    /// The output was written whole, over rings: the journal of the run's controller, and what its seats left. `fallen`
+    /// says whether the input was finished in another way since no message could move; it never is.
+    DoneRings {
+        journal: Journal,
+        ends: RingEnds,
+        fallen: bool,
+    },
     Words(WordsFault),
     Predicate(TextFault),
     /// Of the predicate of a second join.
@@ -54,7 +62,10 @@ impl Outcome {
         ensures { result ≡ status_of self.now }
     {
         match self {
-            Outcome::Done { .. } | Outcome::DoneGroups { .. } | Outcome::DoneChain { .. } => 0,
+            Outcome::Done { .. }
+            | Outcome::DoneGroups { .. }
+            | Outcome::DoneChain { .. }
+            | Outcome::DoneRings { .. } => 0,
             Outcome::Words(_) => 2,
             Outcome::Predicate(_) | Outcome::Then(_) => 3,
             Outcome::Input(_) => 4,

@@ -19,6 +19,7 @@ use crate::chain::chain_output;
 use crate::groups::groups_output;
 use crate::input::{input, setting};
 use crate::outcome::Outcome;
+use crate::rings::rings_output;
 use crate::run::{Course, carry_out};
 use epoch_tags::Pair;
 use join_plan::{Planned, Third};
@@ -110,7 +111,7 @@ pub(crate) fn report(
 }
 
 /// The text of the pairs, and then the report where one is asked for.
-fn text(
+pub(crate) fn text(
     alloc: Global,
     options: &Options<'_>,
     input: &Input,
@@ -130,7 +131,7 @@ fn text(
     Ok(text)
 }
 
-/// The output that the options ask for of an input, with this setting, of joiners in one grid.
+/// The output that the options ask for of an input, with this setting, of joiners in one grid and not over rings.
 fn grid_output<R: Threads + Wait + Sync, G: Gate + Sync>(
     rt: &R,
     alloc: Global,
@@ -144,6 +145,7 @@ fn grid_output<R: Threads + Wait + Sync, G: Gate + Sync>(
     requires is { setting.now ≡ setting_of (asked options.now) }
     requires single { options.now.groups ≡ None }
     requires whole { options.now.chain ≡ None }
+    requires queued { options.now.rings ≡ false }
     ensures { IfOk result
         (λ joined. (planned : Planned') → input.now ≡ input_of options.now.seed planned
         → IsMade (asked options.now) planned joined.text (course_of joined.done)) }
@@ -181,6 +183,7 @@ fn output_over<R: Threads + Wait + Sync, G: Gate + Sync>(
 {
     match options.groups {
         Some(joiners) => groups_output(rt, alloc, options, joiners, input, setting, gate),
+        None if options.rings => rings_output(rt, alloc, options, input, setting, gate),
         None => grid_output(rt, alloc, options, input, setting, gate),
     }
 }

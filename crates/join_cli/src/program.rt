@@ -41,7 +41,11 @@ pub fn tell<E: Sink>(alloc: Global, outcome: &Outcome, errors: &mut E)
     ensures quiet { IsDone outcome.now → errors.new ≡ errors.old }
     ensures line { TellsLine E.Sink errors.old errors.new outcome.now }
 {
-    if let Outcome::Done { .. } | Outcome::DoneGroups { .. } | Outcome::DoneChain { .. } = outcome {
+    if let Outcome::Done { .. }
+    | Outcome::DoneGroups { .. }
+    | Outcome::DoneChain { .. }
+    | Outcome::DoneRings { .. } = outcome
+    {
         return;
     }
     put_line(alloc, outcome, errors);

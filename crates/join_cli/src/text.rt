@@ -12,7 +12,10 @@ impl fmt::Display for Outcome {
 
     fn fmt<W: fmt::Write>(&self, f: &mut fmt::Formatter<W>) -> fmt::Result {
         match self {
-            Outcome::Done { .. } | Outcome::DoneGroups { .. } | Outcome::DoneChain { .. } => Ok(()),
+            Outcome::Done { .. }
+            | Outcome::DoneGroups { .. }
+            | Outcome::DoneChain { .. }
+            | Outcome::DoneRings { .. } => Ok(()),
             Outcome::Words(_) => write!(f, "usage: jm --on TEXT [options] R.csv S.csv"),
             Outcome::Predicate(fault) => write!(f, "predicate: {fault}"),
             Outcome::Then(fault) => write!(f, "then: {fault}"),

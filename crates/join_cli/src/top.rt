@@ -7,7 +7,7 @@ ghost use Rattle.trace_law.specs.Validity.{IsValidSetting};
 ghost use Rattle.join_words.specs.Words.{asked};
 ghost use Rattle.join_words.specs.declared.options.WordsFault.{WordsFault};
 ghost use Rattle.join_cli.specs.Plan.{setting_of};
-ghost use Rattle.join_cli.specs.Requests.{IsChained};
+ghost use Rattle.join_cli.specs.Requests.{IsChained, IsRinged};
 ghost use Rattle.join_cli.specs.Courses.{Course};
 ghost use Rattle.join_cli.specs.Ends.{Wrote, WroteFront, course_of};
 ghost use Rattle.join_cli.specs.Programs.{WroteOver};
@@ -42,6 +42,7 @@ fn join_files<R: Threads + Wait + Sync, H: Shelf, K: Sink, G: Gate + Sync>(
     requires grouped { IfSome options.now.groups (λ _. (options.now.fixed ≡ None)
         × (options.now.early ≡ false) × (options.now.replay ≡ None)) }
     requires chained { IfSome options.now.chain (IsChained options.now) }
+    requires ringed { options.now.rings ≡ true → IsRinged options.now }
     ensures words { (fault : WordsFault) → result ≢ Outcome.Words fault }
     ensures answers { Answers H.Shelf K.Sink (asked options.now)
         shelf.old shelf.new sink.old sink.new result }
@@ -67,7 +68,8 @@ fn join_files<R: Threads + Wait + Sync, H: Shelf, K: Sink, G: Gate + Sync>(
 /// then the join is run, and the second behind it, and the output made whole, and then it is
 /// written. Early output is written while the join is run. Memory may run out at each of them. The
 /// run is one in as many threads as there are workers, whose seats pass the gate at each turn, or a
-/// replay in one thread; where joiners form groups there is such a run for each. What it promises holds if it returns.
+/// replay in one thread; where joiners form groups there is such a run for each; with `--rings` it is one over rings.
+/// What it promises holds if it returns.
 pub fn join_main<R: Threads + Wait + Sync, H: Shelf, K: Sink, G: Gate + Sync>(
     rt: &R,
     alloc: Global,

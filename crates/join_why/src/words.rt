@@ -15,6 +15,7 @@ fn word_text(word: Word) -> &'static str {
         Word::Rows => "--rows",
         Word::Groups => "--groups",
         Word::Then => "--then",
+        Word::Rings => "--rings",
         Word::ManyFiles => "more than two files",
     }
 }

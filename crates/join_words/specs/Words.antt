@@ -35,7 +35,8 @@ asked_chain chain = record { on = chain.on.now; name = chain.name.now }
 -- what the words ask for: the predicate's text; 2^k joiners, or how many there are where they form groups; whether
 -- messages go over rings; the feeders; the workers, which are the threads of a run that isn't a replay; how many rows
 -- each feeder asks for at once and in which order; the shift at which the grid stays, where one is given; what a row of
--- each side weighs in a grid's load; the seed of the tickets; the seed of the order of a replay, where one is given; how
+-- each side weighs in a grid's load; the seed of the tickets; the seed of the order of a replay, where one is given;
+-- how
 -- many rows a side has, where tables are to be made; whether the pairs of each bout are wanted early; whether a report
 -- is wanted; whether joined rows are; the names of the two files, empty where there are none; and the second join,
 -- where one is asked for

@@ -22,6 +22,7 @@ ended : (asked : Asked) (planned : Planned) (outcome : Outcome) → IsEndOf aske
 ended asked planned (outcomes.Done journal trail) ends = inl tt
 ended asked planned (outcomes.DoneGroups journals trail) ends = inl tt
 ended asked planned (outcomes.DoneChain first second trail) ends = inl tt
+ended asked planned (outcomes.DoneRings journal left back) ends = inl tt
 ended asked planned (outcomes.Words fault) ends = absurd ends
 ended asked planned (outcomes.Predicate fault) ends = absurd ends
 ended asked planned (outcomes.Then fault) ends = absurd ends

@@ -10,7 +10,8 @@ returns-in-Ok-clause-ends g c planned is = (
   course_in_threads (asked c.args.options.now) planned c.args.input.now c.args.setting.now c.in-Ok.field-0.run
       c.in-Ok.field-0.trail
       is c.requires.is c.requires.input c.requires.setting c.requires.alone.0 c.requires.single
-      (not_chained c.args.options.now.chain c.requires.whole) c.in-Ok.ensures.run c.in-Ok.ensures.went,
+      (not_chained c.args.options.now.chain c.requires.whole) c.requires.queued c.in-Ok.ensures.run
+      c.in-Ok.ensures.went,
   early_written (asked c.args.options.now) planned c.args.input.now c.args.setting.now c.in-Ok.field-0.run.journal
       c.in-Ok.field-0.trail
       (g.K.Sink.written c.args.sink.now) (g.K.Sink.written c.put_found.new.sink)
@@ -22,7 +23,7 @@ returns-in-Err-Write-clause-ends g c planned is =
     early_stopped (asked c.args.options.now) planned c.args.input.now c.args.setting.now
     (g.K.Sink.written c.args.sink.now) (g.K.Sink.written c.put_found.new.sink)
     is c.requires.is c.requires.input c.requires.setting c.requires.early c.requires.alone.0 c.requires.single
-    (not_chained c.args.options.now.chain c.requires.whole)
+    (not_chained c.args.options.now.chain c.requires.whole) c.requires.queued
     (c.in-Err-Write.ensures.part (ap Err c.in-Err-Write.field-0-is))
 
 pub returns-in-Err-Write-clause-complete : goal.returns-in-Err-Write-clause-complete
