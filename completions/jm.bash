@@ -151,7 +151,7 @@ _jm() {
     local program=${COMP_WORDS[0]##*/} option=${COMP_WORDS[COMP_CWORD - 1]}
     local _jm_cur _jm_tail _jm_word _jm_quote _jm_files
     local options='--on --joiners --feeders --workers --batch --feed --seed --fixed --weight-r --weight-s
-        --replay --early --report --rows --groups --make'
+        --replay --early --report --rows --groups --rings --make'
     [[ $program == jm-rows ]] && options+=' --columns --names' || options+=' --then'
     COMPREPLY=()
     _jm_current

@@ -73,6 +73,7 @@ for program in jm jm-rows jm-why jm-journal
     complete -c $program -l report -d 'a report follows'
     complete -c $program -l rows -d 'joined rows in place of their numbers'
     complete -c $program -l groups -d 'any number of joiners, in groups'
+    complete -c $program -l rings -d 'messages go over rings, and no thread waits'
 end
 for program in jm jm-why jm-journal
     complete -c $program -l then -x -d 'the predicate of a second join, with a third file'

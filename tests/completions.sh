@@ -77,7 +77,7 @@ check "jm r.csv s.csv --on 'r.x = 7" jm r.csv s.csv --on "'r.x = 7" :: ''
 # options and their values
 check 'jm --jo' jm --jo :: --joiners
 check 'jm --we' jm --we :: --weight-r --weight-s
-check 'jm --r' jm --r :: --replay --report --rows
+check 'jm --r' jm --r :: --replay --report --rows --rings
 check 'jm --columns' jm --columns :: ''
 check 'jm-rows --c' jm-rows --c :: --columns
 check 'jm-why --th' jm-why --th :: --then

@@ -1,14 +1,15 @@
 #!/usr/bin/env python3
 """Joins small random files by random predicates with jm, and compares its pairs with a nested loop's.
 
-    tests/predicates.py [COUNT [SEED]]      2,000 predicates from 1, unless said
+    tests/predicates.py [COUNT [SEED]]              2,000 predicates from 1, unless said
+    tests/predicates.py --rings [COUNT [SEED]]      the same, each with --rings
 
 It is no part of the gate, in which no test may start a program. JM names another program than the repository's own. Truth is
 written here once more, straight from docs/USAGE.md: the tree of a predicate is made first, and its text from the tree. The
 cells have numbers in several spellings, empty texts, spaces and quotes; the predicates have each kind of member from which
 an access or a key is made (equalities and bands of sums, texts, inequalities, two bounds of one side, members of one side
 alone), brackets, `not`, and names in quotes. The number of joiners, feeders and workers, the batch, the order of feeding and
-a replay are drawn too. A failure prints the command, and the files stay.
+a replay are drawn too, and where no order of messages is drawn, whether they go over rings. A failure prints the command, and the files stay.
 """
 import csv
 import os
@@ -222,17 +223,22 @@ def table(draw, path):
     return rows
 
 
-def words(draw):
+def words(draw, rings):
     found = ["--joiners", str(2 ** draw.randrange(7)), "--feeders", str(draw.randint(1, 8)), "--seed", str(draw.randrange(2**64)),
              "--batch", str(draw.choice((1, 2, 7, 64))), "--feed", draw.choice(("alternate", "rfirst", "sfirst"))]
-    return found + (["--replay", str(draw.randrange(2**64))] if draw.random() < 0.5 else ["--workers", str(draw.randint(1, 4))])
+    if not rings and draw.random() < 0.5:
+        return found + ["--replay", str(draw.randrange(2**64))]
+    found += ["--workers", str(draw.randint(1, 4))]
+    return found + (["--rings"] if rings or draw.random() < 0.4 else [])
 
 
 # ---- the comparison
 
 def main():
-    count = int(sys.argv[1]) if len(sys.argv) > 1 else 2000
-    first = int(sys.argv[2]) if len(sys.argv) > 2 else 1
+    rings = "--rings" in sys.argv[1:]
+    numbers = [int(it) for it in sys.argv[1:] if it != "--rings"]
+    count = numbers[0] if numbers else 2000
+    first = numbers[1] if len(numbers) > 1 else 1
     failed = joined = 0
     with tempfile.TemporaryDirectory() as room:
         for seed in range(first, first + count):
@@ -241,7 +247,7 @@ def main():
             pred = predicate(draw)
             wanted = [f"{i},{j}" for i, r in enumerate(rows_r, 1) for j, s in enumerate(rows_s, 1)
                       if pred.holds({"r": r, "s": s})]
-            command = [JM, f"{room}/R.csv", f"{room}/S.csv", "--on", pred.text(draw), *words(draw)]
+            command = [JM, f"{room}/R.csv", f"{room}/S.csv", "--on", pred.text(draw), *words(draw, rings)]
             got = subprocess.run(command, capture_output=True, text=True, check=False)
             joined += len(wanted)
             if got.returncode or got.stdout.split("\n")[:-1] != wanted:

@@ -83,6 +83,7 @@ file quotes.csv 'quote,bid,at\r\nQ1,100,898\r\nQ2,101,902\r\nQ3,97,903\r\n'
 "$jm" >/dev/null 2>&1 # builds the program where it isn't built
 
 check 0 '2,1\n2,3\n3,2\n' '' --on 'r.x = s.y' r.csv s.csv
+check 0 '2,1\n2,3\n3,2\n' '' --on 'r.x = s.y' --rings r.csv s.csv
 check 0 '' '' --on 'r.x = s.y' header.csv s.csv
 check 0 '1,1\n1,2\n2,3\n' '' --on 'abs(r.at - s.at) <= 2 and r."Unit Price" >= s.bid' trades.csv quotes.csv
 check 0 '1,2\n1,3\n2,3\n' '' --on 'r.x < s.x' three.csv three.csv
@@ -95,6 +96,16 @@ done
 for joiners in 1 3 5 7 48 63 64; do
     check 0 '2,1\n2,3\n3,2\n' '' --groups --joiners $joiners --on 'r.x = s.y' r.csv s.csv
 done
+for joiners in 1 2 4 8 16 32 64; do
+    check 0 '2,1\n2,3\n3,2\n' '' --rings --joiners $joiners --workers 3 --on 'r.x = s.y' r.csv s.csv
+done
+check 0 '' '' --rings --on 'r.x = s.y' header.csv s.csv
+check 0 'rows 2000 2000\npairs 4000\nsum 8004000\n' '' --rings --on 'r.key = s.key' --make 2000
+check 0 'rows 20000 20000\npairs 400000\nsum 8000400000\n' '' --rings --joiners 64 --feeders 8 --workers 16 \
+    --on 'r.key = s.key' --make 20000
+check 0 '2,20,1,20\n2,20,3,20\n3,30,2,30\n' '' --rings --rows --on 'r.x = s.y' r.csv s.csv
+check 0 '2,1\n2,3\n3,2\ninput 3 3\nfinal 4 1 copies 15 best 12\njoiner 0 held 0 3 made 0\njoiner 1 held 1 3 made 2\njoiner 2 held 2 3 made 1\njoiner 3 held 0 3 made 0\n' '' \
+    --rings --on 'r.x = s.y' --joiners 4 --fixed 0 --seed 42 --report r.csv s.csv
 check 0 'rows 7 7\npairs 1\nsum 2\n' '' --groups --joiners 7 --on 'r.key = s.key' --make 7
 check 0 '2,20,1,20\n2,20,3,20\n3,30,2,30\n' '' --groups --joiners 3 --rows --on 'r.x = s.y' r.csv s.csv
 check 0 '2,1\n2,3\n3,2\ngroup 0 2\ninput 2 3\ngrid 1 1 2 moved 0\nfinal 1 2 copies 7 best 7\njoiner 0 held 2 2 made 1\njoiner 1 held 2 1 made 0\ngroup 1 1\ninput 1 3\nfinal 1 1 copies 4 best 4\njoiner 0 held 1 3 made 2\n' '' \
@@ -136,6 +147,11 @@ check 2 '' "$usage" --on 'r.x = s.y' --groups --fixed 0 r.csv s.csv
 check 2 '' "$usage" --on 'r.x = s.y' --groups --early r.csv s.csv
 check 2 '' "$usage" --on 'r.x = s.y' --groups --replay 7 r.csv s.csv
 check 2 '' "$usage" --on 'r.x = s.y' --groups r.csv s.csv r.csv
+check 2 '' "$usage" --on 'r.x = s.y' --rings --early r.csv s.csv
+check 2 '' "$usage" --on 'r.x = s.y' --rings --replay 7 r.csv s.csv
+check 2 '' "$usage" --on 'r.x = s.y' --rings --groups r.csv s.csv
+check 2 '' "$usage" --on 'r.x = s.y' --rings --then 'r.r_x = s.x' r.csv s.csv r.csv
+check 2 '' "$usage" --on 'r.x = s.y' --rings r.csv s.csv r.csv
 check 2 '' "$usage" --on 'r.x = s.y' --unknown r.csv s.csv
 check 2 '' "$usage" --on 'r.x = s.y' --feeders 9 r.csv s.csv
 check 2 '' "$usage" --on 'r.x = s.y' --batch 0 r.csv s.csv
@@ -166,6 +182,7 @@ picture --on 'r.x = s.y' --fixed 0 r.csv s.csv
 picture --on 'r.x = s.y' --joiners 1 r.csv s.csv
 picture --on 'r.x = s.y' --weight-r 4 r.csv s.csv
 picture --on 'r.key = s.key' --make 2000
+picture --on 'r.key = s.key' --make 2000 --rings
 picture --on 'r.key = s.key' --make 3000 --joiners 64 --feeders 8 --feed rfirst --replay 7
 picture --on 'r.x = s.y' --rows r.csv s.csv
 journal --on 'r.x = s.y' r.csv s.csv
@@ -175,6 +192,7 @@ journal --on 'r.x = s.y' --rows --report r.csv s.csv
 journal --on 'r.x = s.y' --then 'r.s_y = s.y' r.csv s.csv s.csv
 journal --on 'r.key = s.key' --make 2000 --joiners 64 --feed rfirst
 journal --on 'r.key = s.key' --make 2000 --joiners 21 --groups
+journal --on 'r.key = s.key' --make 2000 --rings
 journal --on 'r.key = s.key' --make 2000 --fixed 0 --weight-s 9
 journal
 journal --on 'r.x =' r.csv s.csv

@@ -56,6 +56,10 @@ fn words_with_a_match(rt: HostRuntime) -> Result<(), Fail> {
             "--groups and more than two files don't go together\n",
         ),
         (
+            "jm|--on|p|--rings|--replay|1|r|s",
+            "--rings and --replay don't go together\n",
+        ),
+        (
             "jm|--on|p|r|s|q",
             "two files are wanted; given: 3\n    r\n    s\n    q\n",
         ),
