@@ -20,6 +20,7 @@ mod made;
 mod pieces;
 mod programs;
 mod replays;
+mod rings;
 mod rows;
 mod threads;
 

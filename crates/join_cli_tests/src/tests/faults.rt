@@ -50,6 +50,7 @@ fn refuses_words(rt: HostRuntime) -> Result<(), Fail> {
     refuses_line(&rt, alloc, "jm|--on|r.|--weight-s|1025|r|s")?;
     refuses_line(&rt, alloc, "jm|--on|r.|--make|3|--rows")?;
     refuses_line(&rt, alloc, "jm|--on|r.|--groups|--fixed|0|r|s")?;
+    refuses_line(&rt, alloc, "jm|--on|r.|--rings|--early|r|s")?;
     Ok(())
 }
 
