@@ -3,3 +3,4 @@ mod inputs;
 mod rows;
 mod seeds;
 mod starving;
+mod waves;

@@ -1,0 +1,133 @@
+// Two waves against one run of all rows.
+
+ghost use Rattle.std.specs.Prelude.{◌≡◌, ◌≤◌, IfOk, true};
+ghost use Rattle.trace_law.specs.Validity.{IsValidInput, IsValidSetting};
+ghost use Rattle.actor_core.specs.Rests.{IsRestOf, IsUpto};
+
+use super::inputs::{eight_rows_a_side, four_joiners};
+use super::seeds::replayed;
+use link_trace::{Input, Rest, Setting, Upto, WaveRun, replay_wave};
+use std::alloc::{AllocError, Global};
+use std::process::Abort;
+use std::sync::Wait;
+use std::test::Fail;
+use trace_law::limits_suffice;
+
+// Whether a wave that goes on from this rest can end there.
+fn can_end(rest: &Rest, input: &Input, end: Upto) -> bool
+    ensures { result ≡ true → IsUpto rest.now.line end input.now }
+{
+    rest.line.rows_r <= end.rows_r
+        && rest.line.rows_s <= end.rows_s
+        && end.rows_r <= input.table_r.rows.len()
+        && end.rows_s <= input.table_s.rows.len()
+}
+
+// The wave that goes on from this rest and ends there, if it can.
+fn wave<R: Wait>(
+    rt: &R,
+    alloc: Global,
+    rest: Rest,
+    input: &Input,
+    setting: &Setting,
+    end: Upto,
+    seed: u64,
+) -> Result<WaveRun, AllocError>
+    requires input { IsValidInput input.now }
+    requires setting { IsValidSetting setting.now }
+    requires rest { IsRestOf input.now setting.now rest }
+    ensures { IfOk result (λ wave. IsRestOf input.now setting.now wave.rest) }
+{
+    if !can_end(&rest, input, end) || rest.line.epoch > 1 << 31 {
+        return Err(AllocError);
+    }
+    replay_wave(rt, alloc, rest, input, setting, end, seed)
+}
+
+// What a run begins with.
+fn empty_rest(alloc: Global, input: &Input, setting: &Setting) -> Result<Rest, AllocError>
+    requires input { IsValidInput input.now }
+    requires setting { IsValidSetting setting.now }
+    ensures { IfOk result (λ rest. IsRestOf input.now setting.now rest) }
+{
+    limits_suffice();
+    Rest::empty(alloc, setting.k, setting.fixed, &input.theta)
+}
+
+// How many pairs each of two waves has, the first of which ends behind so many rows of each side.
+fn pairs_of_two<R: Wait>(
+    rt: &R,
+    alloc: Global,
+    input: &Input,
+    setting: &Setting,
+    first_rows: (u64, u64),
+    seed: u64,
+) -> Result<(u64, u64), AllocError> {
+    if !input.valid() || !setting.valid() {
+        return Err(AllocError);
+    }
+    let (rows_r, rows_s) = first_rows;
+    let rest = empty_rest(alloc, input, setting)?;
+    let first = wave(
+        rt,
+        alloc,
+        rest,
+        input,
+        setting,
+        Upto { rows_r, rows_s },
+        seed,
+    )?;
+    let end = Upto {
+        rows_r: input.table_r.rows.len(),
+        rows_s: input.table_s.rows.len(),
+    };
+    let second = wave(rt, alloc, first.rest, input, setting, end, seed)?;
+    Ok((first.run.pairs.len(), second.run.pairs.len()))
+}
+
+// The rows of both sides that the first wave has, and the pairs of the two waves.
+const WAVES: [(u64, u64, u64, u64); 5] = [
+    (0, 0, 0, 64),
+    (4, 4, 16, 48),
+    (8, 0, 0, 64),
+    (3, 8, 24, 40),
+    (8, 8, 64, 0),
+];
+
+fn each_splits<R: Abort + Wait>(rt: &R, alloc: Global, input: &Input) -> Result<u64, AllocError> {
+    let mut count = 0u64;
+    for (rows_r, rows_s, one, other) in WAVES {
+        for seed in 0..4u64 {
+            let (first, second) = pairs_of_two(
+                rt,
+                alloc,
+                input,
+                &four_joiners(),
+                (rows_r, rows_s),
+                seed,
+            )?;
+            assert_eq!(rt; first, one, "{rows_r} and {rows_s} rows first, seed {seed}");
+            assert_eq!(rt;
+                second,
+                other,
+                "{rows_r} and {rows_s} rows first, seed {seed}"
+            );
+            count = count.wrapping_add(1);
+        }
+    }
+    Ok(count)
+}
+
+#[test]
+fn two_waves_have_the_pairs_of_one_run(rt: HostRuntime) -> Result<(), Fail> {
+    let alloc = rt.alloc();
+    let input = eight_rows_a_side(alloc)?;
+    let whole = replayed(&rt, alloc, &input, &four_joiners(), 1)?;
+    assert_eq!(rt; whole.pairs.len(), 64, "pairs of one run");
+    assert_eq!(rt;
+        each_splits(&rt, alloc, &input)?,
+        20,
+        "pairs of waves that were made"
+    );
+    Ok(())
+}
