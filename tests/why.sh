@@ -110,6 +110,8 @@ agrees --on 'r.key = s.key' --make 10
 agrees --on 'r.nope = s.key' --make 10
 agrees --on 'r.key = s.key' --make 10 r.csv
 agrees --on 'r.x = s.y' r.csv s.csv
+agrees --on 'text(r.id) = text(s.id) and s.y >= r.id and s.y <= r.x' r.csv s.csv
+agrees --on 's.y <= r.x + 5 and s.y >= r.x' r.csv s.csv
 agrees --on '1 = 1' r.csv s.csv
 agrees --on 'r.x = ' r.csv s.csv
 agrees --on 'x = y' missing.csv s.csv
