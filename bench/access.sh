@@ -1,7 +1,7 @@
 #!/bin/sh
 # Times joins with one more condition beside an equality, 8,000 and 131,072 rows a side, the least wall time of three runs
-# each: what is wanted is at most twice the plain equality. Those by which a joiner doesn't look up are timed with 8,000
-# rows alone.
+# each: what is wanted is at most twice the plain equality. What a joiner doesn't look up by, and an interval with very
+# many pairs, is timed with 8,000 rows alone.
 set -eu
 top=$(cd "$(dirname "$0")/.." && pwd -P)
 room=$(mktemp -d)
