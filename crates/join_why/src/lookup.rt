@@ -3,7 +3,16 @@
 use crate::shown::push_column;
 use join_rows::{Names, Side};
 use std::alloc::AllocError;
-use theta_pred::{Access, KeyAtom, Linear, Same, Theta};
+use theta_pred::{Access, Interval, KeyAtom, Linear, Range, Same, Theta};
+
+/// What stands before equalities.
+const BY_VALUES: &str = "rows that agree are looked up by their values:\n";
+
+/// What stands before a range alone.
+const IN_RANGE: &str = "rows are looked up in a range:\n";
+
+/// What stands before a range behind equalities.
+const AND_IN_RANGE: &str = "and of these only those in a range:\n";
 
 /// The tables that a predicate reads.
 #[derive(Clone, Copy)]
@@ -56,19 +65,14 @@ impl Headers<'_> {
                 self.push_sum(text, Side::R, &pair.r_sum)?;
                 text.push_str(" = ")?;
                 self.push_sum(text, Side::S, &pair.s_sum)?;
-                match pair.gap {
-                    0 => Ok(()),
-                    gap if gap < 0 => write!(text, " - {}", gap.unsigned_abs()),
-                    gap => write!(text, " + {gap}"),
-                }
+                push_constant(text, pair.gap, false)
             }
         }
     }
 
-    /// Appends all equalities, a line each.
-    fn push_access(&self, text: &mut String, access: &Access) -> Result<(), AllocError> {
-        text.push_str("rows that agree are looked up by their values:\n")?;
-        for same in access.sames.as_slice() {
+    /// Appends equalities, a line each.
+    fn push_sames(&self, text: &mut String, sames: &[Same]) -> Result<(), AllocError> {
+        for same in sames {
             text.push_str("    ")?;
             self.push_same(text, same)?;
             text.push('\n')?;
@@ -76,19 +80,100 @@ impl Headers<'_> {
         Ok(())
     }
 
-    /// Appends the range in which the sums of two rows lie apart.
-    fn push_range(&self, text: &mut String, atom: &KeyAtom) -> Result<(), AllocError> {
-        text.push_str("rows are looked up in a range:\n    ")?;
+    /// Appends how far the sums of two rows lie apart.
+    fn push_span(&self, text: &mut String, atom: &KeyAtom) -> Result<(), AllocError> {
         self.push_sum(text, Side::R, &atom.r_sum)?;
         text.push_str(" less ")?;
         self.push_sum(text, Side::S, &atom.s_sum)?;
         match (atom.low, atom.high) {
-            (Some(low), Some(high)) => write!(text, " from {low} to {high}\n"),
-            (Some(low), None) => write!(text, " at least {low}\n"),
-            (None, Some(high)) => write!(text, " at most {high}\n"),
-            (None, None) => text.push('\n'),
+            (Some(low), Some(high)) => write!(text, " from {low} to {high}"),
+            (Some(low), None) => write!(text, " at least {low}"),
+            (None, Some(high)) => write!(text, " at most {high}"),
+            (None, None) => Ok(()),
         }
     }
+
+    /// Appends between which sums of the other side a sum lies.
+    fn push_interval(&self, text: &mut String, interval: &Interval) -> Result<(), AllocError> {
+        let Interval {
+            points,
+            lower,
+            upper,
+        } = interval;
+        match points {
+            Side::R => {
+                self.push_sum(text, Side::R, &lower.r_sum)?;
+                text.push_str(" from ")?;
+                self.push_sum(text, Side::S, &lower.s_sum)?;
+                push_constant(text, lower.low.unwrap_or(0), false)?;
+                text.push_str(" to ")?;
+                self.push_sum(text, Side::S, &upper.s_sum)?;
+                push_constant(text, upper.high.unwrap_or(0), false)
+            }
+            // (R's sum less S's is bounded, so S's is R's less the bound)
+            Side::S => {
+                self.push_sum(text, Side::S, &lower.s_sum)?;
+                text.push_str(" from ")?;
+                self.push_sum(text, Side::R, &lower.r_sum)?;
+                push_constant(text, lower.high.unwrap_or(0), true)?;
+                text.push_str(" to ")?;
+                self.push_sum(text, Side::R, &upper.r_sum)?;
+                push_constant(text, upper.low.unwrap_or(0), true)
+            }
+        }
+    }
+
+    /// Appends a range, on a line of its own.
+    fn push_range(&self, text: &mut String, range: &Range) -> Result<(), AllocError> {
+        text.push_str("    ")?;
+        match range {
+            Range::Span(atom) => self.push_span(text, atom)?,
+            Range::Interval(interval) => self.push_interval(text, interval)?,
+        }
+        text.push('\n')
+    }
+
+    /// Appends all equalities and the range.
+    fn push_access(&self, text: &mut String, access: &Access) -> Result<(), AllocError> {
+        let sames = access.sames.as_slice();
+        if !sames.is_empty() {
+            text.push_str(BY_VALUES)?;
+            self.push_sames(text, sames)?;
+        }
+        match &access.range {
+            Some(range) => {
+                text.push_str(if sames.is_empty() {
+                    IN_RANGE
+                } else {
+                    AND_IN_RANGE
+                })?;
+                self.push_range(text, range)
+            }
+            None => Ok(()),
+        }
+    }
+
+    /// Appends the range of a key atom alone.
+    fn push_key(&self, text: &mut String, atom: &KeyAtom) -> Result<(), AllocError> {
+        text.push_str(IN_RANGE)?;
+        text.push_str("    ")?;
+        self.push_span(text, atom)?;
+        text.push('\n')
+    }
+}
+
+/// Appends a constant behind a sum, with the other sign where it is turned.
+fn push_constant(text: &mut String, constant: i128, is_turned: bool) -> Result<(), AllocError> {
+    if constant == 0 {
+        return Ok(());
+    }
+    let sign = if (constant < 0) == is_turned {
+        "+"
+    } else {
+        "-"
+    };
+    let size = constant.unsigned_abs();
+    write!(text, " {sign} {size}")
 }
 
 /// Appends what is looked up of a row, where anything is, and answers whether it is.
@@ -102,7 +187,7 @@ pub(crate) fn push_lookup(
         return Ok(true);
     }
     if let Some(atom) = theta.key_atom()? {
-        headers.push_range(text, &atom)?;
+        headers.push_key(text, &atom)?;
         return Ok(true);
     }
     Ok(false)

@@ -37,6 +37,73 @@ fn a_range_is_looked_up(rt: HostRuntime) -> Result<(), Fail> {
 }
 
 #[test]
+fn a_range_beside_equalities_is_told_with_them(rt: HostRuntime) -> Result<(), Fail> {
+    let band =
+        "rows that agree are looked up by their values:\n    text(r.id) = text(s.id)\nand of these only those in a range:\n    r.x less s.y from -5 to 5\n";
+    finds(
+        &rt,
+        rt.alloc(),
+        "abs(r.x - s.y) <= 5 and text(r.id) = text(s.id)",
+        band,
+    )?;
+    let bound =
+        "rows that agree are looked up by their values:\n    r.id = s.id\nand of these only those in a range:\n    r.x less s.y at most -1\n";
+    finds(&rt, rt.alloc(), "r.id = s.id and r.x < s.y", bound)?;
+    Ok(())
+}
+
+#[test]
+fn tests_of_the_same_sums_are_one_range(rt: HostRuntime) -> Result<(), Fail> {
+    let lines = "rows are looked up in a range:\n    r.x less s.y from -5 to 0\n";
+    finds(&rt, rt.alloc(), "s.y >= r.x and s.y <= r.x + 5", lines)?;
+    finds(&rt, rt.alloc(), "r.x + 5 >= s.y and r.x - s.y <= 0", lines)?;
+    Ok(())
+}
+
+// Between two columns of R, in either order of the bounds, with constants of either sign, and between two sums.
+#[test]
+fn a_column_of_s_lies_between_sums_of_r(rt: HostRuntime) -> Result<(), Fail> {
+    let plain = "rows are looked up in a range:\n    s.y from r.id to r.x\n";
+    finds(&rt, rt.alloc(), "s.y >= r.id and s.y <= r.x", plain)?;
+    finds(&rt, rt.alloc(), "s.y <= r.x and s.y >= r.id", plain)?;
+    let shifted = "rows are looked up in a range:\n    s.y from r.id - 1 to r.x + 3\n";
+    finds(
+        &rt,
+        rt.alloc(),
+        "s.y > r.id - 2 and s.y - 3 <= r.x",
+        shifted,
+    )?;
+    let sums = "rows are looked up in a range:\n    s.y from r.id - r.x to r.id + r.x + 2\n";
+    finds(
+        &rt,
+        rt.alloc(),
+        "r.id - r.x <= s.y and s.y <= r.id + r.x + 2",
+        sums,
+    )?;
+    Ok(())
+}
+
+#[test]
+fn a_column_of_r_lies_between_sums_of_s(rt: HostRuntime) -> Result<(), Fail> {
+    let shifted = "rows are looked up in a range:\n    r.x from s.id - 4 to s.y + 2\n";
+    finds(
+        &rt,
+        rt.alloc(),
+        "r.x >= s.id - 4 and r.x < s.y + 3",
+        shifted,
+    )?;
+    let beside =
+        "rows that agree are looked up by their values:\n    text(r.id) = text(s.id)\nand of these only those in a range:\n    r.x from s.id to s.y\n";
+    finds(
+        &rt,
+        rt.alloc(),
+        "r.x <= s.y and text(r.id) = text(s.id) and r.x >= s.id",
+        beside,
+    )?;
+    Ok(())
+}
+
+#[test]
 fn else_all_are_compared(rt: HostRuntime) -> Result<(), Fail> {
     let lines = "no key: 3 times 3 evaluations, since no member of the top `and` serves\n";
     finds(&rt, rt.alloc(), "r.x = s.y or r.id = s.id", lines)?;
