@@ -1,0 +1,11 @@
+//! Growth at rest: each joiner of a grid splits into four.
+#![tactic(auto)]
+
+mod laws;
+mod split;
+
+pub use laws::{children_hold, each_has_one_parent};
+pub use split::children;
+
+#[cfg(test)]
+mod tests;
