@@ -1,1 +1,5 @@
 pub mod Parents
+pub mod Kept
+pub mod OneStore
+pub mod Sums
+pub mod Growth

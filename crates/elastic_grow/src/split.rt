@@ -1,7 +1,7 @@
 // The four joiners that come of one.
 
 ghost use Rattle.std.specs.Prelude.{◌≡◌, ◌*◌, ◌%◌, ◌<◌, ◌≤◌, ◌^◌};
-ghost use Rattle.elastic_grow.specs.Children.{child, children_of};
+ghost use Rattle.elastic_grow.specs.Children.{child, children_of, parent_of};
 
 // Two to this power.
 pub(crate) fn power(exponent: u32) -> u32
@@ -55,4 +55,13 @@ pub fn children(k: u32, shift: u32, id: u32) -> [u32; 4]
         child(shift, id, 1, 0),
         child(shift, id, 1, 1),
     ]
+}
+
+// The joiner whose child this one is.
+pub(crate) fn parent(shift: u32, id: u32) -> u32
+    requires shift { shift ≤ 6 }
+    requires id { id ≤ 2 ^ 8 }
+    ensures { result ≡ parent_of shift id }
+{
+    begin(id >> (shift + 2), shift) + column(shift, id)
 }

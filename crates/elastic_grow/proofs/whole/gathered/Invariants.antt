@@ -1,0 +1,7 @@
+use Rattle.std.proofs.Common.{◌≡◌, ◌*◌}
+use Rattle.join_rows.specs.Lists.{gather}
+use Rattle.elastic_grow.specs.Stores.{side_at}
+use Rattle.elastic_grow.proofs.whole.gathered.Given as goal
+
+abbrev pub invariant-loop-i : goal.invariant-loop-i
+invariant-loop-i l = l.all ≡ gather l.i (λ i. side_at l.stores l.side (i * l.step))
