@@ -1,6 +1,6 @@
 -- The grown rest stands for every input for which the rest stood.
 use Rattle.std.proofs.Common.{◌≡◌, ◌≢◌, ℕ, ◌+◌, ◌*◌, ◌^◌, ◌<◌, ◌≤◌, max, inl, inr, refl, sym, ◌∙◌, ap, subst, arith}
-use Rattle.std.proofs.Common.{Bool, true, false, not, Option, Some, None, List, [], ◌∷◌, ◌++◌, length, ◌||◌}
+use Rattle.std.proofs.Common.{Bool, true, false, not, Option, Some, None, List, [], length, ◌||◌}
 use Rattle.std.specs.Prelude.{map, filter, slice_get, All, if◌then◌else◌}
 use Rattle.std.proofs.lemmas.Bool.{cases_eq}
 use Rattle.std.proofs.lemmas.Bool.Decides.{nat_tests}

@@ -1,5 +1,5 @@
 -- The stores of a grown grid, one after another.
-use Rattle.std.proofs.Common.{◌≡◌, ℕ, ◌+◌, ◌*◌, ◌^◌, ◌<◌, ◌≤◌, inl, inr, refl, sym, ◌∙◌, ap, subst, Option, Some}
+use Rattle.std.proofs.Common.{◌≡◌, ℕ, ◌+◌, ◌^◌, ◌<◌, ◌≤◌, inl, inr, sym, ◌∙◌, ap, subst, Option, Some}
 use Rattle.std.proofs.Common.{List, [], ◌∷◌, ◌++◌, length}
 use Rattle.std.specs.Prelude.{slice_get, All}
 use Rattle.std.proofs.lemmas.List.{length-append}
@@ -11,7 +11,7 @@ use Rattle.migration_plan.specs.Steps.{holds}
 use Rattle.store_parts.specs.Stored.{Stored, kept_of}
 use Rattle.actor_core.proofs.Beginnings.{there}
 use Rattle.actor_core.proofs.WaveBeginnings.{last_is}
-use Rattle.elastic_grow.specs.Children.{child, parent_of}
+use Rattle.elastic_grow.specs.Children.{child}
 use Rattle.elastic_grow.specs.Stores.{AreKept, AreKeptCopies, IsByIndex}
 use Rattle.elastic_grow.specs.Growth.{AreOfParents}
 use Rattle.elastic_grow.proofs.Parents.{parent_is, children_hold}

@@ -15,7 +15,7 @@ use Rattle.theta_pred.specs.Formula.{Meaning}
 use Rattle.store_parts.specs.Stored.{Stored, with_tuple, with_tuple_at}
 use Rattle.joiner_core.specs.State.{tuples_of, IsKeyOf}
 use Rattle.joiner_core.proofs.StoreLists.{by_side-bag}
-use Rattle.elastic_grow.specs.Stores.{all_of, with_all, IsByIndex, IsWhole}
+use Rattle.elastic_grow.specs.Stores.{all_of, with_all, IsWhole}
 
 next_of : (side : Side) (ts : List Tuple) (t : Tuple) (b : Bool) → is_of side t ≡ b
     → filter (is_of side) (ts ++ t ∷ []) ≡ filter (is_of side) ts ++ cond b (t ∷ []) []
@@ -37,13 +37,15 @@ next_at R store ts t own =
     let s = next_of S ts t false (ap (same_side S) own) ∙ append-nil (filter (is_of S) ts) in
     both store ((store.r ++ filter (is_of R) ts) ++ t ∷ []) (store.s ++ filter (is_of S) ts)
     (store.r ++ filter (is_of R) (ts ++ t ∷ [])) (store.s ++ filter (is_of S) (ts ++ t ∷ []))
-    (append_assoc store.r (filter (is_of R) ts) (t ∷ []) ∙ ap (λ l. store.r ++ l) (sym r)) (ap (λ l. store.s ++ l) (sym s))
+    (append_assoc store.r (filter (is_of R) ts) (t ∷ []) ∙ ap (λ l. store.r ++ l) (sym r))
+    (ap (λ l. store.s ++ l) (sym s))
 next_at S store ts t own =
     let r = next_of R ts t false (ap (same_side R) own) ∙ append-nil (filter (is_of R) ts) in
     let s = next_of S ts t true (ap (same_side S) own) in
     both store (store.r ++ filter (is_of R) ts) ((store.s ++ filter (is_of S) ts) ++ t ∷ [])
     (store.r ++ filter (is_of R) (ts ++ t ∷ [])) (store.s ++ filter (is_of S) (ts ++ t ∷ []))
-    (ap (λ l. store.r ++ l) (sym r)) (append_assoc store.s (filter (is_of S) ts) (t ∷ []) ∙ ap (λ l. store.s ++ l) (sym s))
+    (ap (λ l. store.r ++ l) (sym r))
+    (append_assoc store.s (filter (is_of S) ts) (t ∷ []) ∙ ap (λ l. store.s ++ l) (sym s))
 
 -- a store with some tuples more, and then one
 pub with_next : (store now : Stored) (ts : List Tuple) (t : Tuple) → now ≡ with_all store ts
@@ -67,16 +69,20 @@ whole_is theta k b stores first whole all sorted empty key all_is moves order is
     let none_r = front_nil first.r first.s empty in
     let none_s = back_nil first.r first.s empty in
     let bag : SameBag sorted (all_of k b stores) =
-    SameBag-trans (SameBag-sym (SameBag-permutation all sorted moves)) (subst (SameBag all) all_is (SameBag-refl all)) in
+    SameBag-trans (SameBag-sym (SameBag-permutation all sorted moves))
+    (subst (SameBag all) all_is (SameBag-refl all)) in
     subst (IsWhole theta k b stores) (sym is) (record {
       tuples =
           subst (λ ts. SameBag ts (all_of k b stores))
-          (sym (ap₂ (λ (us vs : List Tuple). (us ++ filter (is_of R) sorted) ++ (vs ++ filter (is_of S) sorted)) none_r none_s))
+          (sym (ap₂ (λ (us vs : List Tuple). (us ++ filter (is_of R) sorted) ++ (vs ++ filter (is_of S) sorted))
+          none_r none_s))
           (SameBag-trans (by_side-bag sorted) bag);
       order = record {
-        r = subst (λ (us : List Tuple). IsNonDecreasingBy (λ (t : Tuple). t.index) (us ++ filter (is_of R) sorted)) (sym none_r)
+        r = subst (λ (us : List Tuple). IsNonDecreasingBy (λ (t : Tuple). t.index) (us ++ filter (is_of R) sorted))
+            (sym none_r)
             (IsNonDecreasingBy-filter (λ (t : Tuple). t.index) (is_of R) sorted order);
-        s = subst (λ (us : List Tuple). IsNonDecreasingBy (λ (t : Tuple). t.index) (us ++ filter (is_of S) sorted)) (sym none_s)
+        s = subst (λ (us : List Tuple). IsNonDecreasingBy (λ (t : Tuple). t.index) (us ++ filter (is_of S) sorted))
+            (sym none_s)
             (IsNonDecreasingBy-filter (λ (t : Tuple). t.index) (is_of S) sorted order);
       };
       key = key;

@@ -1,6 +1,6 @@
 -- What the stores of a grid hold together, and what of it the joiners of a grown grid hold.
-use Rattle.std.proofs.Common.{◌≡◌, ℕ, zero, suc, ◌+◌, ◌-◌, ◌*◌, ◌/◌, ◌%◌, ◌^◌, ◌<◌, ◌≤◌, inl, inr, refl, sym, ◌∙◌, ap}
-use Rattle.std.proofs.Common.{ap₂, subst, arith, Bool, true, false, lt-ltb, List, [], ◌∷◌, ◌++◌}
+use Rattle.std.proofs.Common.{◌≡◌, ℕ, ◌+◌, ◌-◌, ◌*◌, ◌/◌, ◌%◌, ◌^◌, ◌<◌, ◌≤◌, inl, inr, refl, sym, ◌∙◌, ap}
+use Rattle.std.proofs.Common.{ap₂, subst, arith, Bool, true, false, lt-ltb, List}
 use Rattle.std.specs.Prelude.{map, filter, sum_by, nat_lt, ◌==◌}
 use Rattle.std.proofs.Math.Nat.{mod-eq_of_lt}
 use Rattle.std.proofs.lemmas.Bool.{cases_lt, le-ltb, ne_eqb, eqb-true}
@@ -12,7 +12,7 @@ use Rattle.join_rows.specs.Lists.{SameBag, gather, total}
 use Rattle.join_rows.proofs.Bags.{only_if, sum-same, sum-filter, sum_of_map}
 use Rattle.join_rows.proofs.Totals.{total_same, total-zero, one_index, exchange, sum_plus, sum-gather, zeros}
 use Rattle.epoch_tags.specs.declared.tuple.Tuple.{Tuple}
-use Rattle.grid_map.specs.Grid.{row_of, holds_r}
+use Rattle.grid_map.specs.Grid.{row_of}
 use Rattle.grid_map.proofs.Halves.{high_row}
 use Rattle.migration_plan.specs.Steps.{holds, holds_ticket, is_of, same_side}
 use Rattle.store_parts.specs.Stored.{Stored}

@@ -1,5 +1,5 @@
 -- The growth of what a wave leaves.
-use Rattle.std.specs.Prelude.{◌≡◌, ◌≢◌, ℕ, ◌+◌, ◌*◌, ◌^◌, Some, List, slice_get}
+use Rattle.std.specs.Prelude.{ℕ, ◌+◌, ◌*◌, ◌^◌, Some, List, slice_get}
 use Rattle.grid_map.specs.declared.cost.Weights.{Weights}
 use Rattle.grid_map.specs.Load.{best_shift}
 use Rattle.theta_pred.specs.Formula.{Meaning}

@@ -1,5 +1,5 @@
 -- What the stores of a grown grid are made of.
-use Rattle.std.specs.Prelude.{◌≡◌, ℕ, ◌+◌, ◌-◌, ◌*◌, ◌^◌, ◌<◌, Option, Some, List, [], ◌∷◌, ◌++◌, map, filter, length}
+use Rattle.std.specs.Prelude.{◌≡◌, ℕ, ◌+◌, ◌-◌, ◌*◌, ◌^◌, ◌<◌, Option, Some, List, [], ◌++◌, map, filter, length}
 use Rattle.std.specs.Prelude.{slice_get, slice_index_or}
 use Rattle.std.specs.List.Sorted.{IsNonDecreasingBy}
 use Rattle.join_rows.specs.declared.table.Side.{Side}
@@ -22,7 +22,8 @@ side_at stores side i = filter (is_of side) (slice_index_or (map tuples_of store
 -- those of R in the stores of the first column, which together have each once, and those of S in the first row's
 abbrev pub all_of : ℕ → ℕ → List Stored → List Tuple
 all_of k b stores =
-    gather (2 ^ (k - b)) (λ row. side_at stores R (row * 2 ^ b)) ++ gather (2 ^ b) (λ column. side_at stores S (column * 1))
+    gather (2 ^ (k - b)) (λ row. side_at stores R (row * 2 ^ b))
+    ++ gather (2 ^ b) (λ column. side_at stores S (column * 1))
 
 -- the store with these tuples more, each behind those of its side
 abbrev pub with_all : Stored → List Tuple → Stored

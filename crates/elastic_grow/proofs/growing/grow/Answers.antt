@@ -17,11 +17,12 @@ returns-clause-copies c is =
 pub returns-clause-order : goal.returns-clause-order
 returns-clause-order c differs =
     let one = c.in_ok-stores.ensures.anew differs in
-    keep_order (record { k = c.args.rest.k + 2; shift = c.grown_line-line.result.shift }) (2 ^ (c.args.rest.k + 2)) one.whole
-    c.in_ok-stores.stores one.is_whole.order one.parts
+    keep_order (record { k = c.args.rest.k + 2; shift = c.grown_line-line.result.shift }) (2 ^ (c.args.rest.k + 2))
+    one.whole c.in_ok-stores.stores one.is_whole.order one.parts
 
 pub returns-clause-stands : goal.returns-clause-stands
 returns-clause-stands c input setting free same stands =
-    grown_stands input setting c.args.rest c.args.weights stands c.requires.k c.requires.shift free same c.args.theta.now
-    c.grown_line-line.result c.as_slice.result.now c.in_ok-stores.stores c.grown_line-line.ensures.line c.as_slice.ensures
-    c.requires.keys c.in_ok-stores.ensures.parts c.in_ok-stores.ensures.anew
+    grown_stands input setting c.args.rest c.args.weights stands c.requires.k c.requires.shift free same
+    c.args.theta.now c.grown_line-line.result c.as_slice.result.now c.in_ok-stores.stores
+    c.grown_line-line.ensures.line c.as_slice.ensures c.requires.keys
+    c.in_ok-stores.ensures.parts c.in_ok-stores.ensures.anew

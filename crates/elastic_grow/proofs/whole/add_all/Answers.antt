@@ -1,4 +1,4 @@
-use Rattle.std.proofs.Common.{◌∙◌, ap}
+use Rattle.std.proofs.Common.{◌∙◌}
 use Rattle.elastic_grow.proofs.OneStore.{with_next}
 use Rattle.elastic_grow.proofs.whole.add_all.Goals as goal
 
