@@ -154,6 +154,26 @@ module _ (input : Input) (setting : Setting) (rest : Rest) (joiners feeders : �
             (subst (λ c. Gives c given) (sym same) gives);
       })
 
+  -- and so they are where the collector is complete
+  pub complete_leaves : CompleteIsFinished → IsValid input setting → IsRestFor input setting rest
+      → is_complete_among joiners feeders cores ≡ true
+      → LeavesItsStores input setting rest joiners feeders cores f journal
+  complete_leaves law valid begins done =
+      let last = all.stands Collector tt in
+      let collected = core_says (2 ^ setting.k) (f Collector) last.0 last.2 (sym (ap is_complete_at last.1) ∙ done) in
+      let agreed = agreeing input setting rest f machines_in_wave fronts ⊥ (λ w. absurd w) in
+      let own = journal_of (all.stands Controller tt).0 in
+      let ended = law input setting rest (family_of own f) valid begins agreed collected in
+      subst (LeavesItsStores input setting rest joiners feeders cores f) (sym journal_is)
+      (record {
+        family = record { agrees = agreed; finished = ended };
+        stored = λ j low core given there gives.
+            let machine = all.stands (Joiner j) low in
+            let same = some_is machine.0 core (sym machine.1 ∙ there) in
+            left_stores input setting rest f machines_in_wave fronts ⊥ (λ w. absurd w) ended valid.some j low given
+            (subst (λ c. Gives c given) (sym same) gives);
+      })
+
 -- the last two machines of a finished family of a wave answer its run
 module _ (law : FinishedAnswers) (input : Input) (setting : Setting) (rest : Rest) (joiners feeders : ℕ)
     (cores : List Core) (f : Actor → ActorLists) (valid : IsValid input setting)

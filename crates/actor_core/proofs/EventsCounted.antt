@@ -19,49 +19,54 @@ use Rattle.trace_law.specs.Family.{IsAgreeing, IsRestFor, Rest, first_rest, migr
 use Rattle.trace_law.proofs.First.{stands as first_stands}
 use Rattle.actor_core.specs.Lists.{ActorLists, Cause, Took, Began, no_lists, posted_to, with_event}
 use Rattle.actor_core.specs.Standing.{Event, GoOut, Stands, Waits}
-use Rattle.actor_core.specs.Families.{AreFronts, IsActor, family_of, start_for}
+use Rattle.actor_core.specs.Families.{AreFronts, IsActor, family_of, start_in_wave}
 use Rattle.actor_core.specs.Counts.{most_events}
 use Rattle.actor_core.specs.Numbers.{number}
-use Rattle.actor_core.specs.Players.{AllStand, AreLinked, IsLinked, MayBegin, Player, Runs}
+use Rattle.actor_core.specs.Players.{AllStand, AllStandInWave, AreLinked, IsLinked, MayBegin, Player, Runs}
 use Rattle.actor_core.specs.declared.machines.Core.{Core}
 use Rattle.actor_core.specs.declared.machines.Core.TheVariants.{Feeder as TheFeeder, Joiner as TheJoiner}
 use Rattle.actor_core.specs.declared.machines.Core.TheVariants.{Controller as TheController, Collector as TheCollector}
 use Rattle.actor_core.proofs.OwnNumbers.{is_actor, same_self, some_is}
-use Rattle.actor_core.proofs.EventCounts.{beginning_counts, count, left_linked, linked_after, taking_counts}
+use Rattle.actor_core.proofs.EventCounts.{beginning_counts, count, goes_out_in_run, left_linked, linked_after}
+use Rattle.actor_core.proofs.EventCounts.{taking_counts}
 use Rattle.actor_core.proofs.Runs.{Grows, prefix_self, runs_grow, runs_stand}
 use Rattle.actor_core.proofs.Seated.{AllRelate, HasRun, Relates, all_grow}
 
--- ---- one actor of a run
+-- ---- one actor of a wave
 
 -- an actor that begins is a feeder
-begins_feeder : (input : Input) (setting : Setting) (a : Actor) (ls : ActorLists) (core : Core) → IsActor setting a
-    → Stands (start_for input setting a) ls core → (¬ Waits core) → (p : ℕ) × (a ≡ Feeder p) × (p < setting.feeders)
-begins_feeder input setting (Feeder p) ls core is st free = (p, refl, is)
-begins_feeder input setting (Joiner j) ls (TheFeeder f) is st free = absurd st
-begins_feeder input setting (Joiner j) ls (TheJoiner c) is st free = absurd (free tt)
-begins_feeder input setting (Joiner j) ls (TheController c) is st free = absurd (free tt)
-begins_feeder input setting (Joiner j) ls (TheCollector c) is st free = absurd (free tt)
-begins_feeder input setting Controller ls (TheFeeder f) is st free = absurd st
-begins_feeder input setting Controller ls (TheJoiner c) is st free = absurd (free tt)
-begins_feeder input setting Controller ls (TheController c) is st free = absurd (free tt)
-begins_feeder input setting Controller ls (TheCollector c) is st free = absurd (free tt)
-begins_feeder input setting Collector ls (TheFeeder f) is st free = absurd st
-begins_feeder input setting Collector ls (TheJoiner c) is st free = absurd (free tt)
-begins_feeder input setting Collector ls (TheController c) is st free = absurd (free tt)
-begins_feeder input setting Collector ls (TheCollector c) is st free = absurd (free tt)
+begins_feeder : (input : Input) (setting : Setting) (rest : Rest) (a : Actor) (ls : ActorLists) (core : Core)
+    → IsActor setting a
+    → Stands (start_in_wave input setting rest a) ls core → (¬ Waits core) → (p : ℕ) × (a ≡ Feeder p)
+    × (p < setting.feeders)
+begins_feeder input setting rest (Feeder p) ls core is st free = (p, refl, is)
+begins_feeder input setting rest (Joiner j) ls (TheFeeder f) is st free = absurd st
+begins_feeder input setting rest (Joiner j) ls (TheJoiner c) is st free = absurd (free tt)
+begins_feeder input setting rest (Joiner j) ls (TheController c) is st free = absurd (free tt)
+begins_feeder input setting rest (Joiner j) ls (TheCollector c) is st free = absurd (free tt)
+begins_feeder input setting rest Controller ls (TheFeeder f) is st free = absurd st
+begins_feeder input setting rest Controller ls (TheJoiner c) is st free = absurd (free tt)
+begins_feeder input setting rest Controller ls (TheController c) is st free = absurd (free tt)
+begins_feeder input setting rest Controller ls (TheCollector c) is st free = absurd (free tt)
+begins_feeder input setting rest Collector ls (TheFeeder f) is st free = absurd st
+begins_feeder input setting rest Collector ls (TheJoiner c) is st free = absurd (free tt)
+begins_feeder input setting rest Collector ls (TheController c) is st free = absurd (free tt)
+begins_feeder input setting rest Collector ls (TheCollector c) is st free = absurd (free tt)
 
-module _ (input : Input) (setting : Setting) (a : Actor) (is : IsActor setting a) where
+module _ (input : Input) (setting : Setting) (rest : Rest) (a : Actor) (is : IsActor setting a) where
   -- ---- what it sends goes over links
 
-  posts_linked : (cause : Cause) (posts : List Post) → GoOut (start_for input setting a) posts
+  posts_linked : (cause : Cause) (posts : List Post) → GoOut (start_in_wave input setting rest a) posts
       → (to : Actor) → AllByRecursion (IsLinked setting a to) (posted_to to posts)
   posts_linked cause posts out to =
-      let all = linked_after input setting a cause posts (λ b. no_lists) (λ from to'. tt) is out a to in
+      let all = linked_after input setting a cause posts (λ b. no_lists) (λ from to'. tt) is
+      (goes_out_in_run input setting rest a posts out) a to in
       subst
       (λ c. AllByRecursion (IsLinked setting a to) ((cond c (with_event cause posts no_lists) no_lists).sent to))
       (same_self a) all
 
-  runs_linked : (n : ℕ) (s t : Player) → Runs n s t → Stands (start_for input setting a) s.lists s.core → (to : Actor)
+  runs_linked : (n : ℕ) (s t : Player) → Runs n s t → Stands (start_in_wave input setting rest a) s.lists s.core
+      → (to : Actor)
       → AllByRecursion (IsLinked setting a to) (s.lists.sent to)
       → AllByRecursion (IsLinked setting a to) (t.lists.sent to)
   runs_linked zero s t runs st to linked =
@@ -69,8 +74,8 @@ module _ (input : Input) (setting : Setting) (a : Actor) (is : IsActor setting a
   runs_linked (suc n) s t runs st to linked =
       let middle = runs.0 in
       let event = runs.2 in
-      let stood = runs_stand n s middle runs.1 (start_for input setting a) st in
-      let out = event.event.over (start_for input setting a) middle.lists stood in
+      let stood = runs_stand n s middle runs.1 (start_in_wave input setting rest a) st in
+      let out = event.event.over (start_in_wave input setting rest a) middle.lists stood in
       subst (λ (ls : ActorLists). AllByRecursion (IsLinked setting a to) (ls.sent to)) (sym event.lists)
       (all-append (IsLinked setting a to) (middle.lists.sent to) (posted_to to event.posts)
       (runs_linked n s middle runs.1 st to linked) (posts_linked event.cause event.posts out to))
@@ -78,7 +83,8 @@ module _ (input : Input) (setting : Setting) (a : Actor) (is : IsActor setting a
   -- ---- one event is one more
 
   -- it made some events and then one more, the others' lists growing
-  module _ (n : ℕ) (s t : Player) (runs : Runs (suc n) s t) (st : Stands (start_for input setting a) s.lists s.core)
+  module _ (n : ℕ) (s t : Player) (runs : Runs (suc n) s t)
+      (st : Stands (start_in_wave input setting rest a) s.lists s.core)
       (before after : Actor → ActorLists) (first : before a ≡ s.lists) (last : after a ≡ t.lists)
       (grow : (b : Actor) → Grows (before b) (after b)) (linked : AreLinked setting after)
       (fronts : AreFronts after) where
@@ -105,8 +111,8 @@ module _ (input : Input) (setting : Setting) (a : Actor) (is : IsActor setting a
     began_more : (posts : List Post) → t.lists ≡ with_event Began posts middle.lists → (¬ Waits middle.core)
         → length (posted_to_controller posts) ≡ 1 → count setting before + 1 ≤ count setting after
     began_more posts lists free asks =
-        let stood = runs_stand n s middle runs.1 (start_for input setting a) st in
-        let feeder = begins_feeder input setting a middle.lists middle.core is stood free in
+        let stood = runs_stand n s middle runs.1 (start_in_wave input setting rest a) st in
+        let feeder = begins_feeder input setting rest a middle.lists middle.core is stood free in
         let between = middle.lists.sent Controller in
         let sent = between ++ posted_to Controller posts in
         let same = ap (λ (ls : ActorLists). ls.sent Controller) (last ∙ lists) in
@@ -144,22 +150,23 @@ pub record HasMadeSome (old new : Player) : Type 0 where
   pub before : ℕ
   pub runs : Runs (suc before) old new
 
--- each actor of a run made some events
-module _ (input : Input) (setting : Setting) (joiners feeders : ℕ) (old new : List Core) (f g : Actor → ActorLists)
-    (stands : AllStand input setting joiners feeders old f) (all : AllRelate HasRun joiners feeders old new f g) where
+-- each actor of a wave made some events
+module _ (input : Input) (setting : Setting) (rest : Rest) (joiners feeders : ℕ) (old new : List Core)
+    (f g : Actor → ActorLists) (stands : AllStandInWave input setting rest joiners feeders old f)
+    (all : AllRelate HasRun joiners feeders old new f g) where
   -- the machine that the actor of a number had
   stood : (a : Actor) (n : ℕ) → number joiners feeders a ≡ Some n → (R : Player → Player → Type 0)
       (own : Relates R joiners feeders old new f g a)
-      → IsActor setting a × Stands (start_for input setting a) (f a) own.before
+      → IsActor setting a × Stands (start_in_wave input setting rest a) (f a) own.before
   stood a n is R own =
       let actor = is_actor setting joiners feeders a n stands.joiners_are stands.feeders_are is in
       let st = stands.stands a actor in
       let same = some_is st.0 own.before (sym st.1 ∙ own.was) in
-      (actor, subst (λ core. Stands (start_for input setting a) (f a) core) same st.2)
+      (actor, subst (λ core. Stands (start_in_wave input setting rest a) (f a) core) same st.2)
 
   -- what is sent goes over links still
-  pub still_linked : AreLinked setting f → AreLinked setting g
-  still_linked linked from to = go (number joiners feeders from) refl
+  pub still_linked_in_wave : AreLinked setting f → AreLinked setting g
+  still_linked_in_wave linked from to = go (number joiners feeders from) refl
     where
       go : (o : Option ℕ) → number joiners feeders from ≡ o
           → AllByRecursion (IsLinked setting from to) ((g from).sent to)
@@ -171,23 +178,36 @@ module _ (input : Input) (setting : Setting) (joiners feeders : ℕ) (old new : 
           let st = stood from n is HasRun own in
           let before : Player = record { core = own.before; lists = f from } in
           let after : Player = record { core = own.after; lists = g from } in
-          runs_linked input setting from st.0 own.holds.count before after own.holds.runs st.1 to (linked from to)
+          runs_linked input setting rest from st.0 own.holds.count before after own.holds.runs st.1 to (linked from to)
 
   -- where one of them made an event, the lists count one more
-  pub counted_more : (a : Actor) (place : ℕ) → number joiners feeders a ≡ Some place
+  pub counted_more_in_wave : (a : Actor) (place : ℕ) → number joiners feeders a ≡ Some place
       → Relates HasMadeSome joiners feeders old new f g a → AreFronts g
       → (n n' : ℕ) → n' ≤ n + 1 → IsCounted setting f n → IsCounted setting g n'
-  counted_more a place is own fronts n n' few counted =
+  counted_more_in_wave a place is own fronts n n' few counted =
       let st = stood a place is HasMadeSome own in
-      let linked = still_linked counted.linked in
+      let linked = still_linked_in_wave counted.linked in
       let before : Player = record { core = own.before; lists = f a } in
       let after : Player = record { core = own.after; lists = g a } in
       let grow = all_grow joiners feeders old new f g all in
       let made = own.holds in
       let more =
-      runs_count input setting a st.0 made.before before after made.runs st.1 f g refl refl grow linked fronts in
+      runs_count input setting rest a st.0 made.before before after made.runs st.1 f g refl refl grow linked fronts in
       let enough = counted.enough in
       record { linked = linked; enough = omega (arith, few, more, enough) }
+
+-- the same of a run, that is of the wave that begins with no rows
+module _ (input : Input) (setting : Setting) (joiners feeders : ℕ) (old new : List Core) (f g : Actor → ActorLists)
+    (stands : AllStand input setting joiners feeders old f) (all : AllRelate HasRun joiners feeders old new f g) where
+  -- what is sent goes over links still
+  pub still_linked : AreLinked setting f → AreLinked setting g
+  still_linked = still_linked_in_wave input setting (first_rest setting) joiners feeders old new f g stands all
+
+  -- where one of them made an event, the lists count one more
+  pub counted_more : (a : Actor) (place : ℕ) → number joiners feeders a ≡ Some place
+      → Relates HasMadeSome joiners feeders old new f g a → AreFronts g
+      → (n n' : ℕ) → n' ≤ n + 1 → IsCounted setting f n → IsCounted setting g n'
+  counted_more = counted_more_in_wave input setting (first_rest setting) joiners feeders old new f g stands all
 
 -- ---- so they are few
 

@@ -23,4 +23,5 @@ pub mod Bases
 pub mod WaveBeginnings
 pub mod LeftStores
 pub mod NextRest
+pub mod LastLines
 pub mod LaterEnds

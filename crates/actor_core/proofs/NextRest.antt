@@ -1,5 +1,5 @@
 -- What a wave leaves is a rest that stands for its input.
-use Rattle.std.proofs.Common.{◌≡◌, ℕ, ◌+◌, ◌<◌, ◌^◌, lt-ltb, sym, ap, subst, ◌∙◌, arith, cond, Option, Some}
+use Rattle.std.proofs.Common.{true, ◌≡◌, ℕ, ◌+◌, ◌<◌, ◌^◌, lt-ltb, sym, ap, subst, ◌∙◌, arith, cond, Option, Some}
 use Rattle.std.proofs.Common.{None}
 use Rattle.std.proofs.Common.{List, [], ◌∷◌, ◌++◌, length, get_or}
 use Rattle.std.specs.Prelude.{slice_get, reverse, All}
@@ -18,7 +18,7 @@ use Rattle.pair_collector.specs.Standing.{CollectorState}
 use Rattle.trace_law.specs.declared.input.Input.{Input}
 use Rattle.trace_law.specs.declared.setting.Setting.{Setting}
 use Rattle.trace_law.specs.Validity.{IsValid}
-use Rattle.trace_law.specs.Laws.{AnswersInTheEnd}
+use Rattle.trace_law.specs.Laws.{AnswersInTheEnd, CompleteIsFinished}
 use Rattle.trace_law.specs.Family.{IsRestFor, AnswersTheJoin, aged, rest_after}
 use Rattle.trace_law.specs.Family.{Rest as WaveRest}
 use Rattle.actor_core.specs.declared.machines.Core.{Core}
@@ -29,11 +29,11 @@ use Rattle.actor_core.specs.Families.{AreFronts, core_in, family_of}
 use Rattle.actor_core.specs.Leavings.{AreLeft, Gives}
 use Rattle.actor_core.specs.Lists.{ActorLists}
 use Rattle.actor_core.specs.Numbers.{at_number}
-use Rattle.actor_core.specs.Players.{AllStandInWave, journal_among}
+use Rattle.actor_core.specs.Players.{AllStandInWave, is_complete_among, journal_among}
 use Rattle.actor_core.specs.Rests.{IsRestOf, tuples_at}
 use Rattle.actor_core.specs.Standing.{IsOver, JoinsBy}
 use Rattle.actor_core.proofs.Beginnings.{there}
-use Rattle.actor_core.proofs.CompleteAnswer.{LeavesItsStores, over_leaves}
+use Rattle.actor_core.proofs.CompleteAnswer.{LeavesItsStores, complete_leaves, over_leaves}
 use Rattle.actor_core.proofs.LeftStores.{in_front}
 
 -- the store of a machine that joins by a predicate has its key
@@ -51,14 +51,12 @@ heads x y xs ys same = cc
 module _ (law : AnswersInTheEnd) (input : Input) (setting : Setting) (rest : WaveRest) (joiners feeders : ℕ)
     (cores : List Core) (f : Actor → ActorLists) (valid : IsValid input setting)
     (begins : IsRestFor input setting rest) (all : AllStandInWave input setting rest joiners feeders cores f)
-    (fronts : AreFronts f) (over : IsAllAt IsOver cores) (joins : IsAllAt (JoinsBy input.theta) cores)
+    (leaves : LeavesItsStores input setting rest joiners feeders cores f (journal_among joiners feeders cores))
+    (joins : IsAllAt (JoinsBy input.theta) cores)
     (stores : List Stored) (controller : ControllerState) (collector : CollectorState)
     (left : AreLeft feeders cores stores controller collector) where
   abbrev journal : List TurnLine
   journal = journal_among joiners feeders cores
-
-  leaves : LeavesItsStores input setting rest joiners feeders cores f journal
-  leaves = over_leaves input setting rest joiners feeders cores f all fronts over valid.some
 
   answers : AnswersTheJoin input setting rest (family_of journal f) leaves.family.agrees
   answers = law input setting rest (family_of journal f) valid begins leaves.family.agrees leaves.family.finished
@@ -107,10 +105,10 @@ module _ (law : AnswersInTheEnd) (input : Input) (setting : Setting) (rest : Wav
       subst (λ ts. SameBag ts ((rest_after input setting rest (family_of journal f) leaves.family.agrees).stores j))
       (sym tuples) (leaves.stored j low own.0 given.0 named own.2)
 
-  -- the stores with the last line of the journal stand for the input
-  pub next_rest : (k : ℕ) (line : TurnLine) (past : List TurnLine) → k ≡ setting.k → reverse journal ≡ line ∷ past
+  -- the stores that the machines of a finished wave give back, with the last line of the journal, stand for the input
+  pub rest_left : (k : ℕ) (line : TurnLine) (past : List TurnLine) → k ≡ setting.k → reverse journal ≡ line ∷ past
       → IsRestOf input setting (record { k = k; line = line; stores = stores })
-  next_rest k line past grid last =
+  rest_left k line past grid last =
       let own = leaves.family.agrees.controller in
       let same : own.line ≡ line = heads own.line line own.past past (sym own.journal ∙ last) in
       subst (λ l. IsRestOf input setting (record { k = k; line = l; stores = stores })) same
@@ -123,3 +121,32 @@ module _ (law : AnswersInTheEnd) (input : Input) (setting : Setting) (rest : Wav
           stored = λ j low. SameBag-trans (SameBag-map (aged own.line) (stored j low)) (answers.again.stored j low);
         };
       })
+
+-- so it is of a wave in which the work of all is over
+pub next_rest : (law : AnswersInTheEnd) (input : Input) (setting : Setting) (rest : WaveRest) (joiners feeders : ℕ)
+    (cores : List Core) (f : Actor → ActorLists) (valid : IsValid input setting) → IsRestFor input setting rest
+    → (all : AllStandInWave input setting rest joiners feeders cores f) → AreFronts f → IsAllAt IsOver cores
+    → IsAllAt (JoinsBy input.theta) cores
+    → (stores : List Stored) (controller : ControllerState) (collector : CollectorState)
+    → AreLeft feeders cores stores controller collector
+    → (k : ℕ) (line : TurnLine) (past : List TurnLine) → k ≡ setting.k
+    → reverse (journal_among joiners feeders cores) ≡ line ∷ past
+    → IsRestOf input setting (record { k = k; line = line; stores = stores })
+next_rest law input setting rest joiners feeders cores f valid begins all fronts over joins =
+    rest_left law input setting rest joiners feeders cores f valid begins all
+    (over_leaves input setting rest joiners feeders cores f all fronts over valid.some) joins
+
+-- and of one whose collector is complete
+pub complete_rest : (law : AnswersInTheEnd) (done : CompleteIsFinished) (input : Input) (setting : Setting)
+    (rest : WaveRest) (joiners feeders : ℕ)
+    (cores : List Core) (f : Actor → ActorLists) (valid : IsValid input setting) → IsRestFor input setting rest
+    → (all : AllStandInWave input setting rest joiners feeders cores f) → AreFronts f
+    → is_complete_among joiners feeders cores ≡ true → IsAllAt (JoinsBy input.theta) cores
+    → (stores : List Stored) (controller : ControllerState) (collector : CollectorState)
+    → AreLeft feeders cores stores controller collector
+    → (k : ℕ) (line : TurnLine) (past : List TurnLine) → k ≡ setting.k
+    → reverse (journal_among joiners feeders cores) ≡ line ∷ past
+    → IsRestOf input setting (record { k = k; line = line; stores = stores })
+complete_rest law done input setting rest joiners feeders cores f valid begins all fronts collected joins =
+    rest_left law input setting rest joiners feeders cores f valid begins all
+    (complete_leaves input setting rest joiners feeders cores f all fronts done valid begins collected) joins

@@ -5,8 +5,9 @@ use Rattle.join_rows.specs.Lists.{IsPrefix}
 use Rattle.epoch_tags.specs.declared.actor.Actor.{Actor}
 use Rattle.epoch_tags.specs.declared.message.Msg.{Msg}
 use Rattle.epoch_tags.specs.declared.message.Post.{Post}
+use Rattle.theta_pred.specs.Formula.{Meaning}
 use Rattle.actor_core.specs.Lists.{ActorLists, Cause, Took, Began, same_actor, posted_to, with_cause, with_event}
-use Rattle.actor_core.specs.Standing.{Start, Stands, IsLive, given_by}
+use Rattle.actor_core.specs.Standing.{JoinsBy, Start, Stands, IsLive, given_by}
 use Rattle.actor_core.specs.Families.{journal_of}
 use Rattle.actor_core.specs.Players.{Player, Runs}
 
@@ -33,6 +34,11 @@ runs_stand (suc n) s t runs start st =
 pub runs_live : (n : ℕ) (s t : Player) → Runs n s t → IsLive s.core → IsLive t.core
 runs_live zero s t runs live = subst (λ (p : Player). IsLive p.core) (sym runs) live
 runs_live (suc n) s t runs live = runs.2.live
+
+-- a joiner joins by the predicate by which it did
+pub runs_join : (theta : Meaning) (n : ℕ) (s t : Player) → Runs n s t → JoinsBy theta s.core → JoinsBy theta t.core
+runs_join theta zero s t runs joins = subst (λ (p : Player). JoinsBy theta p.core) (sym runs) joins
+runs_join theta (suc n) s t runs joins = runs.2.event.joins theta (runs_join theta n s runs.0 runs.1 joins)
 
 -- no event gives a pair
 pub runs_given : (n : ℕ) (s t : Player) → Runs n s t → given_by t.core ≡ given_by s.core

@@ -3,21 +3,25 @@ use Rattle.std.proofs.Common.{◌≡◌, ℕ, ◌+◌, ◌<◌, ltb, ltb-true, r
 use Rattle.std.proofs.Common.{Option, Some, None, List, get_or, map, length, arith}
 use Rattle.std.specs.Prelude.{slice_get}
 use Rattle.std.proofs.lemmas.List.{get_or-map, length-map}
-use Rattle.std.proofs.lemmas.Option.{slice_get-get_or}
+use Rattle.std.proofs.lemmas.Option.{slice_get-get_or, slice_get_within}
 use Rattle.join_rows.specs.Lists.{IsPrefix}
 use Rattle.epoch_tags.specs.declared.actor.Actor.{Actor}
 use Rattle.epoch_tags.specs.declared.actor.Actor.TheVariants.{Feeder, Joiner, Controller, Collector}
 use Rattle.trace_law.specs.declared.input.Input.{Input}
 use Rattle.trace_law.specs.declared.setting.Setting.{Setting}
+use Rattle.trace_law.specs.Family.{Rest, first_rest}
+use Rattle.theta_pred.specs.Formula.{Meaning}
+use Rattle.actor_core.specs.Elements.{IsAllAt}
 use Rattle.actor_core.specs.Lists.{ActorLists}
-use Rattle.actor_core.specs.Standing.{Start, Stands}
-use Rattle.actor_core.specs.Families.{core_in, journal_of, start_for}
-use Rattle.actor_core.specs.Numbers.{number, at_number}
-use Rattle.actor_core.specs.Players.{AllStand, Extends, Player, Runs, journal_among, journal_at, lists_among, lists_at}
+use Rattle.actor_core.specs.Standing.{JoinsBy, Start, Stands}
+use Rattle.actor_core.specs.Families.{core_in, journal_of, start_in_wave}
+use Rattle.actor_core.specs.Numbers.{actor_at, number, at_number}
+use Rattle.actor_core.specs.Players.{AllStand, AllStandInWave, Extends, Player, Runs, journal_among, journal_at}
+use Rattle.actor_core.specs.Players.{lists_among, lists_at}
 use Rattle.actor_core.specs.declared.machines.Core.{Core}
 use Rattle.actor_core.proofs.Beginnings.{there}
-use Rattle.actor_core.proofs.OwnNumbers.{none_some, some_is}
-use Rattle.actor_core.proofs.Runs.{Grows, grows_same, runs_grow, runs_journal, runs_stand}
+use Rattle.actor_core.proofs.OwnNumbers.{none_some, number_there, some_is}
+use Rattle.actor_core.proofs.Runs.{Grows, grows_same, runs_grow, runs_join, runs_journal, runs_stand}
 
 -- a number is below that of all actors
 pub number_low : (joiners feeders : ℕ) (a : Actor) (n : ℕ) → number joiners feeders a ≡ Some n
@@ -157,11 +161,11 @@ module _ (R : Player → Player → Type 0) (joiners feeders : ℕ) (old new : L
           some (record { core = own.before; lists = f a }) (record { core = own.after; lists = g a }) own.holds
 
   -- the machines stand for the lists still
-  pub still_stand : ((s t : Player) → R s t → (start : Start) → Stands start s.lists s.core
+  pub still_stand_in_wave : ((s t : Player) → R s t → (start : Start) → Stands start s.lists s.core
       → Stands start t.lists t.core)
-      → (input : Input) (setting : Setting) → AllStand input setting joiners feeders old f
-      → AllStand input setting joiners feeders new g
-  still_stand keeps input setting st = record {
+      → (input : Input) (setting : Setting) (rest : Rest) → AllStandInWave input setting rest joiners feeders old f
+      → AllStandInWave input setting rest joiners feeders new g
+  still_stand_in_wave keeps input setting rest st = record {
     joiners_are = st.joiners_are;
     feeders_are = st.feeders_are;
     all = all.long ∙ st.all;
@@ -170,8 +174,32 @@ module _ (R : Player → Player → Type 0) (joiners feeders : ℕ) (old new : L
         let now = related_at a own.0 own.1 in
         let one : Player = record { core = own.0; lists = f a } in
         let other : Player = record { core = now.0; lists = g a } in
-        (now.0, now.1, keeps one other now.2 (start_for input setting a) own.2);
+        (now.0, now.1, keeps one other now.2 (start_in_wave input setting rest a) own.2);
   }
+
+  -- and so do those of a run
+  pub still_stand : ((s t : Player) → R s t → (start : Start) → Stands start s.lists s.core
+      → Stands start t.lists t.core)
+      → (input : Input) (setting : Setting) → AllStand input setting joiners feeders old f
+      → AllStand input setting joiners feeders new g
+  still_stand keeps input setting = still_stand_in_wave keeps input setting (first_rest setting)
+
+  -- what holds of the machine of each actor, and stays so, holds of the machine of each still
+  pub still_all : (P : Core → Type 0) → ((s t : Player) → R s t → P s.core → P t.core)
+      → length old ≡ feeders + joiners + 2
+      → IsAllAt P old → IsAllAt P new
+  still_all P keeps many before n core is =
+      let low : n < feeders + joiners + 2 = subst (λ z. n < z) (all.long ∙ many) (slice_get_within new n core is) in
+      let a = actor_at joiners feeders n in
+      let numbered = number_there joiners feeders n low in
+      let own = all.each a n numbered in
+      let was : slice_get old n ≡ Some own.before =
+      sym (ap (λ (o : Option ℕ). at_number None o (λ k. slice_get old k)) numbered) ∙ own.was in
+      let now : slice_get new n ≡ Some own.after =
+      sym (ap (λ (o : Option ℕ). at_number None o (λ k. slice_get new k)) numbered) ∙ own.now in
+      subst P (some_is own.after core (sym now ∙ is))
+      (keeps (record { core = own.before; lists = f a }) (record { core = own.after; lists = g a }) own.holds
+      (before n own.before was))
 
 -- ---- where each actor made some events
 
@@ -202,7 +230,20 @@ module _ (joiners feeders : ℕ) (old new : List Core) (f g : Actor → ActorLis
       (subst (IsPrefix (journal_of own.before)) (sym (ap journal_at own.now)) front)
 
   -- the machines stand for the lists still
+  pub stand_after_in_wave : (input : Input) (setting : Setting) (rest : Rest)
+      → AllStandInWave input setting rest joiners feeders old f
+      → AllStandInWave input setting rest joiners feeders new g
+  stand_after_in_wave =
+      still_stand_in_wave HasRun joiners feeders old new f g all (λ s t ran. runs_stand ran.count s t ran.runs)
+
+  -- and so do those of a run
   pub stand_after : (input : Input) (setting : Setting) → AllStand input setting joiners feeders old f
       → AllStand input setting joiners feeders new g
-  stand_after =
-      still_stand HasRun joiners feeders old new f g all (λ s t ran. runs_stand ran.count s t ran.runs)
+  stand_after input setting = stand_after_in_wave input setting (first_rest setting)
+
+  -- the joiners join by the predicate by which they did
+  pub join_after : (theta : Meaning) → length old ≡ feeders + joiners + 2 → IsAllAt (JoinsBy theta) old
+      → IsAllAt (JoinsBy theta) new
+  join_after theta =
+      still_all HasRun joiners feeders old new f g all (JoinsBy theta)
+      (λ s t ran. runs_join theta ran.count s t ran.runs)

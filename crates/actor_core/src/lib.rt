@@ -13,6 +13,7 @@ mod numbers;
 mod rests;
 mod start;
 mod step;
+mod wave_runs;
 mod waves;
 
 pub use answers::answer;
@@ -26,4 +27,5 @@ pub use numbers::number;
 pub use rests::{Rest, Stores, Upto};
 pub use start::{core_at, joiners_of};
 pub use step::Step;
+pub use wave_runs::{WaveRun, wave_run};
 pub use waves::cores_in_wave;

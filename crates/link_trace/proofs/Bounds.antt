@@ -10,7 +10,7 @@ use Rattle.trace_law.specs.declared.input.Input.{Input}
 use Rattle.trace_law.specs.declared.setting.Setting.{Setting}
 use Rattle.trace_law.specs.declared.run.Run.{Run}
 use Rattle.theta_pred.specs.Formula.{Meaning}
-use Rattle.link_trace.specs.declared.waves.WaveRun.{WaveRun}
+use Rattle.actor_core.specs.declared.wave_runs.WaveRun.{WaveRun}
 use Rattle.trace_law.specs.Validity.{IsValidInput, IsValidSetting, IsValid}
 use Rattle.trace_law.specs.Family.{IsRestFor, Rest, first_rest, migrations}
 use Rattle.trace_law.specs.Runs.{IsRunOf}

@@ -10,7 +10,7 @@ use Rattle.epoch_tags.specs.declared.actor.Actor.TheVariants.{Controller}
 use Rattle.trace_law.specs.declared.input.Input.{Input}
 use Rattle.trace_law.specs.declared.setting.Setting.{Setting}
 use Rattle.trace_law.specs.declared.run.Run.{Run}
-use Rattle.link_trace.specs.declared.waves.WaveRun.{WaveRun}
+use Rattle.actor_core.specs.declared.wave_runs.WaveRun.{WaveRun}
 use Rattle.trace_law.specs.Family.{Rest, first_rest}
 use Rattle.actor_core.specs.declared.machines.Core.{Core}
 use Rattle.actor_core.specs.Lists.{ActorLists, no_lists}

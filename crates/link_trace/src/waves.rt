@@ -1,8 +1,9 @@
 // A wave on one thread: the end of its world, and what it leaves for the next.
 
-ghost use Rattle.std.specs.Prelude.{◌≡◌, ◌<◌, ◌≤◌, ℕ, ◌^◌, ◌∷◌, IfOk, IfSome, List, Some, reverse, true, false};
+ghost use Rattle.std.specs.Prelude.{◌≡◌, ◌≤◌, ℕ, ◌^◌, IfOk, Some};
 ghost use Rattle.epoch_tags.specs.declared.actor.Actor.TheVariants.{Controller as Controller'};
 ghost use Rattle.epoch_tags.specs.declared.actor.Actor.{Actor as Actor'};
+ghost use Rattle.load_controller.specs.Journal.{last_line};
 ghost use Rattle.load_controller.specs.declared.line.TurnLine.{TurnLine as TurnLine'};
 ghost use Rattle.trace_law.specs.declared.input.Input.{Input as Input'};
 ghost use Rattle.trace_law.specs.declared.setting.Setting.{Setting as Setting'};
@@ -22,54 +23,11 @@ ghost use Rattle.link_trace.specs.Worlds.{state_of, core_of, AllJoinBy, StandsIn
 use crate::replays::{STREAM, all_marked, make_next};
 use crate::slots::slots_of;
 use crate::world::{World, machines};
-use actor_core::{Rest, Upto, answer, machines_left, wave_events_fit};
-use load_controller::{Journal, TurnLine};
+use actor_core::{Rest, Upto, WaveRun, machines_left, wave_events_fit, wave_run};
 use rand_pcg::Lcg64Xsh32;
 use std::alloc::{AllocError, Global};
 use std::sync::Wait;
 use trace_law::{Input, Run, Setting, answers_in_the_end, events_are_few, finished_answers};
-
-/// What a wave answers, and what it leaves for the next.
-#[derive(Drop)]
-pub struct WaveRun {
-    pub run: Run,
-    pub rest: Rest,
-}
-
-// The last line of a journal.
-#[tactic(auto, using(crate::proofs::LastLines::last_there))]
-fn last_line(journal: &Journal) -> Option<TurnLine>
-    ensures { IfSome result (λ last. (line : TurnLine') (past : List TurnLine')
-        → reverse journal.now ≡ line ∷ past → last ≡ line) }
-{
-    let count = journal.len();
-    if count == 0 {
-        return None;
-    }
-    Some(*journal.at(count - 1))
-}
-
-// Whether there are two to this power of joiners.
-fn is_power(joiners: u32, k: u32) -> bool
-    requires { k < 32 }
-    ensures up { result ≡ true → joiners ≡ 2 ^ k }
-    ensures down { result ≡ false → joiners ≡ 2 ^ k → ⊥ }
-{
-    1u32 << k == joiners
-}
-
-// Of which power of two this many joiners are.
-#[tactic(auto, using(crate::proofs::LastLines::same_power, crate::proofs::LastLines::none_below))]
-fn exponent_of(joiners: u32) -> u32
-    ensures { (k : ℕ) → k ≤ 8 → joiners ≡ 2 ^ k → result ≡ k }
-{
-    for k in 0..9u32 {
-        if is_power(joiners, k) {
-            return k;
-        }
-    }
-    0
-}
 
 impl<'a> World<'a> {
     /// The answer of a wave that is done, with so many rounds, and what it leaves for the next. After `AllocError` the
@@ -91,6 +49,8 @@ impl<'a> World<'a> {
             → StandsInWave input setting rest (state_of self.entry) lists → (core : Core')
             → core_of (state_of self.entry) Controller' ≡ Some core
             → wave.run.journal ≡ journal_of core) }
+        ensures line { IfOk result (λ wave. (first : TurnLine')
+            → wave.rest.line ≡ last_line first wave.run.journal) }
         ensures bouts { IfOk result (λ wave. wave.run.bouts ≡ bouts) }
     {
         finished_answers();
@@ -102,18 +62,10 @@ impl<'a> World<'a> {
             places,
             ..
         } = self;
-        let k = exponent_of(joiners);
         let cores = machines(alloc, places)?;
         let left = machines_left(alloc, feeders, cores)?;
         let (stores, controller, collector) = left;
-        let Some(line) = last_line(controller.journal()) else {
-            return Err(AllocError);
-        };
-        let run = answer(alloc, &controller, collector, bouts)?;
-        Ok(WaveRun {
-            run,
-            rest: Rest { k, line, stores },
-        })
+        wave_run(alloc, joiners, stores, &controller, collector, bouts)
     }
 }
 
@@ -136,6 +88,7 @@ pub fn replay_wave<R: Wait>(
     ensures run { IfOk result (λ wave. IsRunOf (upto end input.now) setting.now
         rest.line wave.run.journal wave.run) }
     ensures rest { IfOk result (λ wave. IsRestOf input.now setting.now wave.rest) }
+    ensures line { IfOk result (λ wave. wave.rest.line ≡ last_line rest.line wave.run.journal) }
     ensures order { IfOk result (λ wave.
         IsWaveReplay (upto end input.now) setting.now (rest_of rest) seed wave.run) }
     ensures bound { IfOk result (λ wave. wave.run.bouts ≤ most_events (upto end input.now) setting.now

@@ -1,5 +1,6 @@
 mod by_hand;
 mod inputs;
+mod later;
 mod rows;
 mod seeds;
 mod starving;

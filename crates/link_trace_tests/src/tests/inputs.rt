@@ -90,6 +90,18 @@ pub(super) fn eight_rows_a_side(alloc: Global) -> Result<Input, AllocError> {
     )
 }
 
+/// The same with 24 rows of R behind them.
+pub(super) fn with_more_of_r(alloc: Global) -> Result<Input, AllocError> {
+    let numbers = b"01234567abcdefghijklmnopqrstuvwx";
+    let numbers_s = b"01234567";
+    input(
+        alloc,
+        "1 = 1",
+        (numbers, numbers),
+        (numbers_s, &[0, 1, 2, 3, 4, 5, 6, 7]),
+    )
+}
+
 pub(super) fn four_joiners() -> Setting {
     Setting {
         k: 2,

@@ -23,8 +23,8 @@ fn can_end(rest: &Rest, input: &Input, end: Upto) -> bool
         && end.rows_s <= input.table_s.rows.len()
 }
 
-// The wave that goes on from this rest and ends there, if it can.
-fn wave<R: Wait>(
+/// The wave that goes on from this rest and ends there, if it can.
+pub(super) fn wave<R: Wait>(
     rt: &R,
     alloc: Global,
     rest: Rest,
@@ -44,8 +44,12 @@ fn wave<R: Wait>(
     replay_wave(rt, alloc, rest, input, setting, end, seed)
 }
 
-// What a run begins with.
-fn empty_rest(alloc: Global, input: &Input, setting: &Setting) -> Result<Rest, AllocError>
+/// What a run begins with.
+pub(super) fn empty_rest(
+    alloc: Global,
+    input: &Input,
+    setting: &Setting,
+) -> Result<Rest, AllocError>
     requires input { IsValidInput input.now }
     requires setting { IsValidSetting setting.now }
     ensures { IfOk result (λ rest. IsRestOf input.now setting.now rest) }

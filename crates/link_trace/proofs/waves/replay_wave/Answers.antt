@@ -85,6 +85,10 @@ returns-clause-rest g c =
     reached.stands c.loop.invariant.joins))
     c.finish_wave.ensures.rest
 
+pub returns-clause-line : goal.returns-clause-line
+returns-clause-line g c =
+    IfOk-weaker c.finish_wave.result _ _ (λ wave is. is c.args.rest.line) c.finish_wave.ensures.line
+
 pub returns-clause-order : goal.returns-clause-order
 returns-clause-order g c =
     wave_replayed (upto c.args.end c.args.input.now) c.args.setting.now (rest_of c.args.rest) c.args.seed
