@@ -10,6 +10,3 @@ mod whole;
 pub use growing::grow;
 pub use laws::{children_hold, each_has_one_parent};
 pub use split::children;
-
-#[cfg(test)]
-mod tests;

@@ -1,9 +1,9 @@
-ghost use Rattle.std.specs.Prelude.{◌≡◌, ◌≤◌, ◌^◌, IfOk};
+ghost use Rattle.std.specs.Prelude.{◌≡◌, ◌≤◌, ◌^◌, IfOk, true};
 ghost use Rattle.joiner_core.specs.State.{IsKeyOf};
+ghost use Rattle.store_parts.specs.Matches.{HasWidth};
 
-use crate::whole::add_all;
-use crate::*;
 use actor_core::{Rest, Stores};
+use elastic_grow::{children, grow};
 use epoch_tags::{Tuple, Tuples};
 use grid_map::Weights;
 use join_rows::{Bytes, Cell, Cells, Names, Side};
@@ -43,27 +43,52 @@ fn row(alloc: Global, side: Side, index: u32, ticket: u8) -> Result<Tuple, Alloc
     })
 }
 
-fn rows(alloc: Global, told: &[(Side, u32, u8)]) -> Result<Vec<Tuple>, AllocError> {
-    let mut tuples = Vec::new(alloc);
-    for (side, index, ticket) in told {
-        tuples.push(row(alloc, *side, *index, *ticket)?)?;
+// Whether a tuple has a cell for each column of its side.
+fn has_width(theta: &Theta, tuple: &Tuple) -> bool
+    ensures { result ≡ true → HasWidth theta.now tuple.now.side tuple.now }
+{
+    match tuple.side {
+        Side::R => tuple.cells.len() == theta.width_r(),
+        Side::S => tuple.cells.len() == theta.width_s(),
     }
-    Ok(tuples)
 }
 
-fn store(alloc: Global, theta: &Theta, told: &[(Side, u32, u8)]) -> Result<Store, AllocError>
+// The store with one row more.
+fn with_row(
+    alloc: Global,
+    theta: &Theta,
+    store: Store,
+    told: (Side, u32, u8),
+) -> Result<Store, AllocError>
+    requires { IsKeyOf theta.now store.key }
     ensures { IfOk result (λ store. IsKeyOf theta.now store.key) }
 {
-    let mut store = first_store(alloc, theta)?;
-    add_all(&mut store, theta, rows(alloc, told)?)?;
+    let (side, index, ticket) = told;
+    let tuple = row(alloc, side, index, ticket)?;
+    if !has_width(theta, &tuple) {
+        return Err(AllocError);
+    }
+    let mut store = store;
+    store.fits_key(theta, &tuple);
+    store.add(tuple)?;
     Ok(store)
+}
+
+fn store(alloc: Global, theta: &Theta, told: &[(Side, u32, u8); 4]) -> Result<Store, AllocError>
+    ensures { IfOk result (λ store. IsKeyOf theta.now store.key) }
+{
+    let store = first_store(alloc, theta)?;
+    let store = with_row(alloc, theta, store, told[0])?;
+    let store = with_row(alloc, theta, store, told[1])?;
+    let store = with_row(alloc, theta, store, told[2])?;
+    with_row(alloc, theta, store, told[3])
 }
 
 // What a single joiner with these rows grows to.
 fn grown(
     alloc: Global,
     theta: &Theta,
-    told: &[(Side, u32, u8)],
+    told: &[(Side, u32, u8); 4],
     rows_r: u64,
     rows_s: u64,
 ) -> Result<Rest, AllocError>
