@@ -1,12 +1,12 @@
 -- Seats whose mouths all came to their senders are joined, and have empty lists.
 use Rattle.std.proofs.Common.{◌≡◌, ℕ, zero, suc, ◌+◌, ◌<◌, ◌^◌, ◌↔◌, ◌++◌, refl, sym, ap, subst, ◌∙◌, Bool, true, false}
 use Rattle.std.proofs.Common.{Option, Some, None, List, [], ◌∷◌, get_or, map, length, arith, true≢false, eqb, cond}
-use Rattle.std.proofs.Common.{eq-eqb, eqb-true}
+use Rattle.std.proofs.Common.{eq-eqb, eqb-true, inl, inr}
 use Rattle.std.specs.Prelude.{slice_get, slice_index, IsSome, Contains}
 use Rattle.std.proofs.Math.Pow.{pow-lt}
 use Rattle.std.proofs.lemmas.Nat.{xor_lt}
-use Rattle.std.proofs.lemmas.List.{length-map, get_or-map, get_or_default}
-use Rattle.std.proofs.lemmas.Option.{slice_get-get_or}
+use Rattle.std.proofs.lemmas.List.{length-append, length-map, get_or-map, get_or_default}
+use Rattle.std.proofs.lemmas.Option.{slice_get-get_or, slice_get_within}
 use Rattle.epoch_tags.specs.declared.actor.Actor.{Actor}
 use Rattle.epoch_tags.specs.declared.actor.Actor.TheVariants.{Collector}
 use Rattle.epoch_tags.specs.Links.{HasLink, feeder_joiner, joiner_joiner, controller_feeder, feeder_controller}
@@ -17,23 +17,29 @@ use Rattle.ruled_links.specs.Inboxes.{InboxView, OfSender, is_sender, fresh, ope
 use Rattle.ruled_links.proofs.PartsLemmas.{name_once}
 use Rattle.pair_collector.specs.Standing.{nothing_yet}
 use Rattle.trace_law.specs.declared.input.Input.{Input}
+use Rattle.theta_pred.specs.Formula.{Meaning}
 use Rattle.trace_law.specs.declared.setting.Setting.{Setting}
+use Rattle.trace_law.specs.Family.{Rest}
+use Rattle.actor_core.specs.Elements.{IsAllAt}
+use Rattle.actor_core.specs.declared.machines.Core.{Core}
 use Rattle.actor_core.specs.Lists.{no_lists}
-use Rattle.actor_core.specs.Standing.{Stands, IsLive, given_by}
-use Rattle.actor_core.specs.Families.{start_for, IsActor}
+use Rattle.actor_core.specs.Standing.{JoinsBy, Stands, IsLive, given_by}
+use Rattle.actor_core.specs.Families.{start_in_wave, IsActor}
 use Rattle.actor_core.specs.Numbers.{number, at_number}
 use Rattle.actor_core.specs.Players.{lists_among, lists_at}
-use Rattle.actor_core.proofs.OwnNumbers.{number_actor}
+use Rattle.actor_core.specs.Rests.{AreMade}
+use Rattle.actor_core.proofs.OwnNumbers.{none_some, number_actor, some_is}
+use Rattle.actor_core.proofs.WaveBeginnings.{last_is}
 use Rattle.join_runtime.specs.Views.{SeatView, Frame, frame_of, lists_of, address_of, contents, sent_by, sent_at}
 use Rattle.join_runtime.specs.Joins.{AreJoined, AreSettled, AllLead, IsPlaced, Leads, HasMouthTo, IsGathered, Knows}
 use Rattle.join_runtime.specs.Joins.{slot_of}
-use Rattle.join_runtime.specs.Bouts.{SeatsView, StandsFor, lists_in, mouth_at, mouth_of, seat_of}
-use Rattle.join_runtime.specs.Seating.{IsNewSeat, AreNew, AreFilled}
+use Rattle.join_runtime.specs.Bouts.{SeatsView, StandsInWave, lists_in, mouth_at, mouth_of, seat_of}
+use Rattle.join_runtime.specs.Seating.{IsFresh, AreFresh, IsNewSeat, AreNew, AreFilled, AreSeated}
 use Rattle.join_runtime.specs.Early.{AreGiven, given_at, given_in}
 use Rattle.join_runtime.proofs.KnownCounts.{is_sender-named}
 use Rattle.join_runtime.proofs.FramePlaces.{address_at}
 use Rattle.actor_core.proofs.Beginnings.{has_number, there}
-use Rattle.actor_core.proofs.Seated.{core_there, lists_there, number_low}
+use Rattle.actor_core.proofs.Seated.{core_at, core_there, lists_there, number_low}
 
 -- ---- members of lists
 
@@ -120,16 +126,18 @@ lead_frames seats leads n r f low low' =
 
 -- ---- the seats
 
-module _ (input : Input) (setting : Setting) (count : ℕ) (first seats : List SeatView) (mouths : List (List Sending))
-    (new : AreNew input setting count first mouths) (filled : AreFilled (2 ^ setting.k)
-    setting.feeders count mouths first seats) (many : count ≡ setting.feeders + 2 ^ setting.k + 2) where
+module _ (setting : Setting) (count : ℕ) (cores : List Core) (first seats : List SeatView)
+    (mouths : List (List Sending)) (new : AreNew (2 ^ setting.k) setting.feeders count cores first mouths)
+    (filled : AreFilled (2 ^ setting.k) setting.feeders count mouths first seats)
+    (many : count ≡ setting.feeders + 2 ^ setting.k + 2) where
   long : length seats ≡ count
   long = filled.all ∙ new.all
 
   low_of : (n : ℕ) → n < length seats → n < count
   low_of n low = subst (λ z. n < z) long low
 
-  made : (n : ℕ) (d : SeatView) → n < count → IsNewSeat input setting n (get_or first n d) (get_or mouths n [])
+  made : (n : ℕ) (d : SeatView) → n < count
+      → IsNewSeat (2 ^ setting.k) setting.feeders n (get_or cores n d.core) (get_or first n d) (get_or mouths n [])
   made n d low = new.new n d low
 
   still : (n : ℕ) (d : SeatView) → n < count → get_or seats n d
@@ -268,15 +276,6 @@ module _ (input : Input) (setting : Setting) (count : ℕ) (first seats : List S
                 (own.2 one.names one.senders);
           }
 
-  -- these seats heard senders alone, none of their machines is spent, and what is left on each link is known
-  pub all_settled : AreSettled seats
-  all_settled = record {
-    hear = λ n d low from none. ap (λ xs. contents (messages_of from xs)) (nothing_received n d (low_of n low));
-    live = λ n d low. subst IsLive (sym (ap (λ (s : SeatView). s.core) (still n d (low_of n low))))
-        (made n d (low_of n low)).live;
-    gathered = gathered;
-  }
-
   -- each machine stands for empty lists, and these are its seat's
   empty_lists : (n : ℕ) (d : SeatView) → n < count → lists_of (get_or seats n d) ≡ no_lists
   empty_lists n d low = λ i. record { received = λ from. none_of from i; sent = λ to. none_to to i }
@@ -290,47 +289,6 @@ module _ (input : Input) (setting : Setting) (count : ℕ) (first seats : List S
           go : (o : Option ℕ) → at_number [] o (sent_at (get_or seats n d).mouths) ≡ []
           go None = refl
           go (Some r) = nothing_sent n r d low
-
-  -- there is a machine for each actor, which began as input and setting say and stands for the lists of its seat
-  pub all_stand : (spent : Bool) → StandsFor input setting (record {
-    joiners = 2 ^ setting.k;
-    feeders = setting.feeders;
-    seats = seats;
-    spent = spent;
-  })
-  all_stand spent = record {
-    joiners_are = refl;
-    feeders_are = refl;
-    all = length-map seats (λ (s : SeatView). s.core) ∙ (long ∙ many);
-    stands = λ a is.
-        let num = has_number setting a is in
-        let low = subst (λ z. num.0 < z) (sym many) (number_low (2 ^ setting.k) setting.feeders a num.0 num.1) in
-        let low' = subst (λ z. num.0 < z) (sym long) low in
-        let d = (there seats num.0 low').0 in
-        let one = made num.0 d low in (
-          (get_or seats num.0 d).core,
-          core_there (λ (s : SeatView). s.core) (2 ^ setting.k) setting.feeders seats a num.0 d num.1 low',
-          subst (λ ls. Stands (start_for input setting a) ls (get_or seats num.0 d).core)
-              (sym (lists_there lists_of (2 ^ setting.k) setting.feeders seats a num.0 d num.1 low'
-              ∙ empty_lists num.0 d low))
-              (subst (λ c. Stands (start_for input setting a) no_lists c)
-              (sym (ap (λ (s : SeatView). s.core) (still num.0 d low)))
-              (subst (λ z. Stands (start_for input setting z) no_lists (get_or first num.0 d).core)
-              (number_actor (2 ^ setting.k) setting.feeders a num.0 num.1) one.stands)),
-        );
-  }
-
-  -- the collector's seat is the last
-  pub none_given : (spent : Bool) → AreGiven (2 ^ setting.k) nothing_yet
-      (given_in (record { joiners = 2 ^ setting.k; feeders = setting.feeders; seats = seats; spent = spent }))
-  none_given spent j below =
-      let place = setting.feeders + 2 ^ setting.k + 1 in
-      let low : place < count = omega (arith, many) in
-      let low' = subst (λ z. place < z) (sym long) low in
-      let d = (there seats place low').0 in
-      ap (λ given. slice_index given j) (ap given_at (core_there (λ (s : SeatView). s.core) (2 ^ setting.k)
-      setting.feeders seats Collector place d refl low')
-      ∙ ap (λ (s : SeatView). given_by s.core) (still place d low)) ∙ (made place d low).given j below
 
   -- no actor of these seats has received or sent anything
   pub all_empty : (spent : Bool) (a : Actor) → lists_in (record {
@@ -437,41 +395,135 @@ module _ (input : Input) (setting : Setting) (count : ℕ) (first seats : List S
     pub all_linked : (from to : Actor) → (IsSome (mouth_of v from to) ↔ HasLink setting.k setting.feeders from to)
     all_linked from to = (link_of from to, has_mouth from to)
 
+  -- ---- the machines, which are as they were made
+
+  module _ (input : Input) (rest : Rest) (fresh : AreFresh input setting rest count cores) where
+    machine : (n : ℕ) (d : SeatView) → n < count → IsFresh input setting rest n (get_or first n d).core
+    machine n d low =
+        subst (IsFresh input setting rest n) (sym (made n d low).core_is)
+        (fresh.each n (get_or cores n d.core)
+        (slice_get-get_or cores n d.core (subst (λ z. n < z) (sym fresh.all) low)))
+
+    -- these seats heard senders alone, none of their machines is spent, and what is left on each link is known
+    pub all_settled : AreSettled seats
+    all_settled = record {
+      hear = λ n d low from none. ap (λ xs. contents (messages_of from xs)) (nothing_received n d (low_of n low));
+      live = λ n d low. subst IsLive (sym (ap (λ (s : SeatView). s.core) (still n d (low_of n low))))
+          (machine n d (low_of n low)).live;
+      gathered = gathered;
+    }
+
+    -- there is a machine for each actor, which began as input, setting and rest say and stands for the lists of its
+    -- seat
+    pub all_stand : (spent : Bool) → StandsInWave input setting rest (record {
+      joiners = 2 ^ setting.k;
+      feeders = setting.feeders;
+      seats = seats;
+      spent = spent;
+    })
+    all_stand spent = record {
+      joiners_are = refl;
+      feeders_are = refl;
+      all = length-map seats (λ (s : SeatView). s.core) ∙ (long ∙ many);
+      stands = λ a is.
+          let num = has_number setting a is in
+          let low = subst (λ z. num.0 < z) (sym many) (number_low (2 ^ setting.k) setting.feeders a num.0 num.1) in
+          let low' = subst (λ z. num.0 < z) (sym long) low in
+          let d = (there seats num.0 low').0 in (
+            (get_or seats num.0 d).core,
+            core_there (λ (s : SeatView). s.core) (2 ^ setting.k) setting.feeders seats a num.0 d num.1 low',
+            subst (λ ls. Stands (start_in_wave input setting rest a) ls (get_or seats num.0 d).core)
+                (sym (lists_there lists_of (2 ^ setting.k) setting.feeders seats a num.0 d num.1 low'
+                ∙ empty_lists num.0 d low))
+                (subst (λ c. Stands (start_in_wave input setting rest a) no_lists c)
+                (sym (ap (λ (s : SeatView). s.core) (still num.0 d low)))
+                (subst (λ z. Stands (start_in_wave input setting rest z) no_lists (get_or first num.0 d).core)
+                (number_actor (2 ^ setting.k) setting.feeders a num.0 num.1) (machine num.0 d low).stands)),
+          );
+    }
+
+    -- the collector's seat is the last
+    pub none_given : (spent : Bool) → AreGiven (2 ^ setting.k) nothing_yet
+        (given_in (record { joiners = 2 ^ setting.k; feeders = setting.feeders; seats = seats; spent = spent }))
+    none_given spent j below =
+        let place = setting.feeders + 2 ^ setting.k + 1 in
+        let low : place < count = omega (arith, many) in
+        let low' = subst (λ z. place < z) (sym long) low in
+        let d = (there seats place low').0 in
+        ap (λ given. slice_index given j) (ap given_at (core_there (λ (s : SeatView). s.core) (2 ^ setting.k)
+        setting.feeders seats Collector place d refl low')
+        ∙ ap (λ (s : SeatView). given_by s.core) (still place d low)) ∙ (machine place d low).given j below
+
+  -- the joiners join by the predicate by which the machines did
+  pub all_join : (theta : Meaning) → length cores ≡ count → IsAllAt (JoinsBy theta) cores
+      → IsAllAt (JoinsBy theta) (map (λ (s : SeatView). s.core) seats)
+  all_join theta each joins n core is =
+      let core_of = λ (s : SeatView). s.core in
+      let low : n < length seats =
+      subst (λ z. n < z) (length-map seats core_of) (slice_get_within (map core_of seats) n core is) in
+      let d = (there seats n low).0 in
+      let low' = low_of n low in
+      let here = core_at core_of seats n d low in
+      let own : get_or cores n d.core ≡ core =
+      sym (ap core_of (still n d low') ∙ (made n d low').core_is)
+      ∙ some_is (get_or seats n d).core core (sym here ∙ is) in
+      subst (JoinsBy theta) own
+      (joins n (get_or cores n d.core)
+      (slice_get-get_or cores n d.core (subst (λ z. n < z) (sym each) low')))
+
 -- ---- the same from what each call says
 
-module _ (input : Input) (setting : Setting) (joiners : ℕ) (first seats : List SeatView) (mouths : List (List Sending))
-    (is : joiners ≡ 2 ^ setting.k) (new : AreNew input setting (setting.feeders + joiners + 2) first mouths)
-    (filled : AreFilled joiners setting.feeders (length mouths) mouths first seats) where
+-- the machines of a wave at its beginning are fresh
+pub made_fresh : (input : Input) (setting : Setting) (rest : Rest) (count : ℕ) (cores : List Core)
+    → AreMade input setting rest count cores → AreFresh input setting rest count cores
+made_fresh input setting rest count cores made = record {
+  all = made.all;
+  each = λ n core is. let own = made.each n core is in
+      record { stands = own.stands; live = own.live; given = own.given };
+}
+
+module _ (input : Input) (setting : Setting) (rest : Rest) where
+  -- no machine is yet there
+  pub none_fresh : AreFresh input setting rest 0 []
+  none_fresh = record { all = refl; each = λ n core is. absurd (none_some core is) }
+
+  -- one machine more
+  pub one_fresh : (n : ℕ) (cores : List Core) (core : Core) → AreFresh input setting rest n cores
+      → IsFresh input setting rest n core → AreFresh input setting rest (n + 1) (cores ++ core ∷ [])
+  one_fresh n cores core fresh own = record {
+    all = length-append cores (core ∷ []) ∙ ap (λ z. z + 1) fresh.all;
+    each = λ m other is. elim (last_is cores core other m is) [
+      | inl there ↦ fresh.each m other there
+      | inr last ↦
+          subst (λ z. IsFresh input setting rest z other) (sym fresh.all ∙ sym last.0)
+          (subst (IsFresh input setting rest n) last.1 own)
+    ];
+  }
+
+module _ (setting : Setting) (joiners : ℕ) (cores : List Core) (seats : List SeatView) (is : joiners ≡ 2 ^ setting.k)
+    (all : length cores ≡ setting.feeders + joiners + 2)
+    (seated : AreSeated joiners setting.feeders cores seats) where
+  abbrev first : List SeatView
+  first = seated.first
+
+  abbrev mouths : List (List Sending)
+  mouths = seated.mouths
+
   count_is : setting.feeders + joiners + 2 ≡ setting.feeders + 2 ^ setting.k + 2
   count_is = ap (λ n. setting.feeders + n + 2) is
 
+  all_new : AreNew (2 ^ setting.k) setting.feeders (setting.feeders + joiners + 2) cores first mouths
+  all_new = subst (λ j. AreNew j setting.feeders (setting.feeders + joiners + 2) cores first mouths) is
+      (subst (λ n. AreNew joiners setting.feeders n cores first mouths) all seated.new)
+
   all_filled : AreFilled (2 ^ setting.k) setting.feeders (setting.feeders + joiners + 2) mouths first seats
   all_filled = subst (λ j. AreFilled j setting.feeders (setting.feeders + joiners + 2) mouths first seats) is
-      (subst (λ n. AreFilled joiners setting.feeders n mouths first seats) new.each filled)
+      (subst (λ n. AreFilled joiners setting.feeders n mouths first seats) (seated.new.each ∙ all) seated.filled)
 
   -- as many new seats as the run has actors are joined once each mouth came to its sender
   pub start_joined : AreJoined joiners setting.feeders (map frame_of seats)
   start_joined = subst (λ j. AreJoined j setting.feeders (map frame_of seats)) (sym is)
-      (all_joined input setting (setting.feeders + joiners + 2) first seats mouths new all_filled count_is)
-
-  -- they heard senders alone, none of their machines is spent, and what is left on each link is known
-  pub start_settled : AreSettled seats
-  start_settled = all_settled input setting (setting.feeders + joiners + 2) first seats mouths new all_filled count_is
-
-  -- each machine began as input and setting say and stands for the lists of its seat
-  pub start_stands : (spent : Bool) → StandsFor input setting (record {
-    joiners = joiners;
-    feeders = setting.feeders;
-    seats = seats;
-    spent = spent;
-  })
-  start_stands spent = subst (λ j. StandsFor input setting (record {
-    joiners = j;
-    feeders = setting.feeders;
-    seats = seats;
-    spent = spent;
-  })) (sym is) (all_stand input setting (setting.feeders + joiners + 2)
-      first seats mouths new all_filled count_is spent)
+      (all_joined setting (setting.feeders + joiners + 2) cores first seats mouths all_new all_filled count_is)
 
   -- no actor of them has received or sent anything
   pub start_empty : (spent : Bool) (a : Actor) → lists_in (record {
@@ -485,20 +537,8 @@ module _ (input : Input) (setting : Setting) (joiners : ℕ) (first seats : List
     feeders = setting.feeders;
     seats = seats;
     spent = spent;
-  }) a ≡ no_lists) (sym is) (all_empty input setting (setting.feeders + joiners + 2)
-      first seats mouths new all_filled count_is spent a)
-
-  -- their collector has given no pair of any joiner
-  pub start_given : (spent : Bool) → AreGiven (2 ^ setting.k) nothing_yet
-      (given_in (record { joiners = joiners; feeders = setting.feeders; seats = seats; spent = spent }))
-  start_given spent =
-      subst (λ j. AreGiven (2 ^ setting.k) nothing_yet (given_in (record {
-        joiners = j;
-        feeders = setting.feeders;
-        seats = seats;
-        spent = spent;
-      }))) (sym is)
-      (none_given input setting (setting.feeders + joiners + 2) first seats mouths new all_filled count_is spent)
+  }) a ≡ no_lists) (sym is) (all_empty setting (setting.feeders + joiners + 2)
+      cores first seats mouths all_new all_filled count_is spent a)
 
   -- an actor of them has a mouth to another exactly where there is a link between the two
   pub start_linked : (spent : Bool) (from to : Actor)
@@ -507,5 +547,49 @@ module _ (input : Input) (setting : Setting) (joiners : ℕ) (first seats : List
   start_linked spent from to =
       subst (λ j. IsSome (mouth_of (record { joiners = j; feeders = setting.feeders; seats = seats; spent = spent })
       from to) ↔ HasLink setting.k setting.feeders from to) (sym is)
-      (all_linked input setting (setting.feeders + joiners + 2)
-      first seats mouths new all_filled count_is spent from to)
+      (all_linked setting (setting.feeders + joiners + 2)
+      cores first seats mouths all_new all_filled count_is spent from to)
+
+  -- their joiners join by the predicate by which the machines did
+  pub start_joins : (theta : Meaning) → IsAllAt (JoinsBy theta) cores
+      → IsAllAt (JoinsBy theta) (map (λ (s : SeatView). s.core) seats)
+  start_joins theta =
+      all_join setting (setting.feeders + joiners + 2) cores first seats mouths all_new all_filled count_is theta all
+
+  module _ (input : Input) (rest : Rest) (fresh : AreFresh input setting rest (length cores) cores) where
+    all_fresh : AreFresh input setting rest (setting.feeders + joiners + 2) cores
+    all_fresh = subst (λ n. AreFresh input setting rest n cores) all fresh
+
+    -- they heard senders alone, none of their machines is spent, and what is left on each link is known
+    pub start_settled : AreSettled seats
+    start_settled =
+        all_settled setting (setting.feeders + joiners + 2) cores first seats mouths all_new all_filled count_is input
+        rest all_fresh
+
+    -- each machine began as input, setting and rest say and stands for the lists of its seat
+    pub start_stands : (spent : Bool) → StandsInWave input setting rest (record {
+      joiners = joiners;
+      feeders = setting.feeders;
+      seats = seats;
+      spent = spent;
+    })
+    start_stands spent = subst (λ j. StandsInWave input setting rest (record {
+      joiners = j;
+      feeders = setting.feeders;
+      seats = seats;
+      spent = spent;
+    })) (sym is) (all_stand setting (setting.feeders + joiners + 2)
+        cores first seats mouths all_new all_filled count_is input rest all_fresh spent)
+
+    -- their collector has given no pair of any joiner
+    pub start_given : (spent : Bool) → AreGiven (2 ^ setting.k) nothing_yet
+        (given_in (record { joiners = joiners; feeders = setting.feeders; seats = seats; spent = spent }))
+    start_given spent =
+        subst (λ j. AreGiven (2 ^ setting.k) nothing_yet (given_in (record {
+          joiners = j;
+          feeders = setting.feeders;
+          seats = seats;
+          spent = spent;
+        }))) (sym is)
+        (none_given setting (setting.feeders + joiners + 2) cores first seats mouths all_new all_filled count_is input
+        rest all_fresh spent)

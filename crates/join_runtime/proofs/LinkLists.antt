@@ -14,6 +14,7 @@ use Rattle.trace_law.specs.declared.input.Input.{Input}
 use Rattle.trace_law.specs.declared.setting.Setting.{Setting}
 use Rattle.trace_law.specs.Validity.{IsValid}
 use Rattle.trace_law.specs.Laws.{QuietIsFinished}
+use Rattle.trace_law.specs.Family.{IsRestFor, Rest}
 use Rattle.actor_core.specs.Lists.{ActorLists, no_lists}
 use Rattle.actor_core.specs.Families.{AreFronts, core_in}
 use Rattle.actor_core.specs.Standing.{Waits}
@@ -23,12 +24,13 @@ use Rattle.actor_core.specs.declared.machines.Core.{Core}
 use Rattle.actor_core.proofs.OwnNumbers.{number_actor, none_some, some_is, number_there}
 use Rattle.actor_core.proofs.Beginnings.{there}
 use Rattle.actor_core.proofs.Seated.{core_there, number_low, lists_there as seat_lists}
-use Rattle.actor_core.proofs.Stilled.{still_complete}
+use Rattle.actor_core.proofs.Stilled.{still_complete_in_wave}
 use Rattle.join_runtime.specs.Views.{SeatView, Frame, lists_of, frame_of, address_of, contents, received_of, sent_by}
 use Rattle.join_runtime.specs.Views.{sent_at, sent_through}
 use Rattle.join_runtime.specs.Joins.{AreJoined, ActorsDiffer, Leads, AreSettled, HasMouthTo, IsKnown, IsGathered, Knows}
 use Rattle.join_runtime.specs.Joins.{slot_of}
-use Rattle.join_runtime.specs.Bouts.{SeatsView, StandsFor, cores_in, lists_in, AllRest, IsReady, IsStill, SomeReady}
+use Rattle.join_runtime.specs.Bouts.{SeatsView, StandsInWave, cores_in, lists_in, AllRest, IsReady, IsStill}
+use Rattle.join_runtime.specs.Bouts.{SomeReady}
 use Rattle.join_runtime.specs.Endings.{is_collected}
 use Rattle.join_runtime.proofs.KnownCounts.{is_sender-named, knows_none, knows_some}
 use Rattle.join_runtime.proofs.FramePlaces.{actors_differ, frame_at, address_at}
@@ -293,12 +295,13 @@ module _ (v : SeatsView) (joined : AreJoined v.joiners v.feeders (map frame_of v
           subst Waits same (rest n d low).waits
 
   -- so the collector is complete
-  pub rest_collected : AllRest v.seats → QuietIsFinished → (input : Input) (setting : Setting) → IsValid input setting
-      → StandsFor input setting v → is_collected v ≡ true
-  rest_collected rest law input setting valid stands =
-      still_complete input setting v.joiners v.feeders (cores_in v) (lists_in v) stands (fronts v joined settled)
-      (λ from to link. all_received v joined settled rest from to)
-      (λ p low core is. waits_there rest (Feeder p) core is) law valid
+  pub rest_collected : AllRest v.seats → QuietIsFinished → (input : Input) (setting : Setting) (from : Rest)
+      → IsValid input setting → IsRestFor input setting from → StandsInWave input setting from v
+      → is_collected v ≡ true
+  rest_collected rest law input setting from valid begins stands =
+      still_complete_in_wave input setting from v.joiners v.feeders (cores_in v) (lists_in v) stands
+      (fronts v joined settled) (λ from to link. all_received v joined settled rest from to)
+      (λ p low core is. waits_there rest (Feeder p) core is) law valid begins
 
   -- where all rest, nothing is left on any link, and no machine would begin
   pub still : AllRest v.seats → IsStill v

@@ -3,17 +3,22 @@ use Rattle.std.proofs.Common.{◌≡◌, ℕ, ◌+◌, ◌<◌, inl, inr, refl, 
 use Rattle.std.proofs.Common.{List, get_or, set, map, length, arith}
 use Rattle.std.specs.List.{SwappedAt}
 use Rattle.std.proofs.lemmas.Bool.{cases_eq}
-use Rattle.std.proofs.lemmas.List.{get_or_default, get_or-set_other, get_or-set_same, length-set}
+use Rattle.std.proofs.lemmas.List.{get_or_default, get_or-set_other, get_or-set_same, length-map, length-set}
 use Rattle.join_rows.specs.Lists.{IsPrefix}
 use Rattle.epoch_tags.specs.declared.actor.Actor.{Actor}
 use Rattle.trace_law.specs.declared.input.Input.{Input}
+use Rattle.theta_pred.specs.Formula.{Meaning}
 use Rattle.trace_law.specs.declared.setting.Setting.{Setting}
+use Rattle.trace_law.specs.Family.{Rest}
+use Rattle.actor_core.specs.Elements.{IsAllAt}
+use Rattle.actor_core.specs.Standing.{JoinsBy}
 use Rattle.actor_core.specs.Lists.{ActorLists}
 use Rattle.actor_core.specs.declared.machines.Core.{Core}
-use Rattle.actor_core.specs.Players.{AllStand, AreLinked, Extends, journal_among, lists_among}
-use Rattle.actor_core.proofs.EventsCounted.{still_linked}
+use Rattle.actor_core.specs.Players.{AllStandInWave, AreLinked, Extends, journal_among, lists_among}
+use Rattle.actor_core.proofs.EventsCounted.{still_linked_in_wave}
 use Rattle.actor_core.proofs.Runs.{runs_live}
-use Rattle.actor_core.proofs.Seated.{AllRelate, HasRun, all_relate, extends, journal_grows, stand_after}
+use Rattle.actor_core.proofs.Seated.{AllRelate, HasRun, all_relate, extends, join_after, journal_grows}
+use Rattle.actor_core.proofs.Seated.{stand_after_in_wave}
 use Rattle.join_runtime.specs.Views.{SeatView, frame_of, lists_of, player}
 use Rattle.join_runtime.specs.Turns.{Advances, AllStep, AllWork, IsAlike, Steps, Works}
 use Rattle.join_runtime.specs.Joins.{AreGathered, AreSettled}
@@ -175,12 +180,20 @@ module _ (went : Bool) (joiners feeders : ℕ) (old new : List SeatView) (long :
   journal_after = journal_grows joiners feeders (cores_of old) (cores_of new) before after ran
 
   -- the machines of all actors stand for the later lists, if they stood for the earlier
-  pub stands_after : (input : Input) (setting : Setting) → AllStand input setting joiners feeders (cores_of old) before
-      → AllStand input setting joiners feeders (cores_of new) after
-  stands_after = stand_after joiners feeders (cores_of old) (cores_of new) before after ran
+  pub stands_after : (input : Input) (setting : Setting) (rest : Rest)
+      → AllStandInWave input setting rest joiners feeders (cores_of old) before
+      → AllStandInWave input setting rest joiners feeders (cores_of new) after
+  stands_after = stand_after_in_wave joiners feeders (cores_of old) (cores_of new) before after ran
 
   -- and what was sent goes over links of the run still
-  pub linked_after : (input : Input) (setting : Setting) → AllStand input setting joiners feeders (cores_of old) before
+  pub linked_after : (input : Input) (setting : Setting) (rest : Rest)
+      → AllStandInWave input setting rest joiners feeders (cores_of old) before
       → AreLinked setting before → AreLinked setting after
-  linked_after input setting stands =
-      still_linked input setting joiners feeders (cores_of old) (cores_of new) before after stands ran
+  linked_after input setting rest stands =
+      still_linked_in_wave input setting rest joiners feeders (cores_of old) (cores_of new) before after stands ran
+
+  -- the joiners join by the predicate by which they did
+  pub joins_after : (theta : Meaning) → IsAllAt (JoinsBy theta) (cores_of old) → IsAllAt (JoinsBy theta) (cores_of new)
+  joins_after theta =
+      join_after joiners feeders (cores_of old) (cores_of new) before after ran theta
+      (length-map old (λ (s : SeatView). s.core) ∙ all)

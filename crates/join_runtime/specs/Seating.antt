@@ -1,15 +1,17 @@
 -- The seats of a run at its beginning, and how mouths come to their senders.
-use Rattle.std.specs.Prelude.{◌≡◌, ◌≢◌, ◌<◌, ◌+◌, ◌^◌, ◌⊎◌, ℕ, Some, None, IsSome, Contains, List, [], map, length}
-use Rattle.std.specs.Prelude.{slice_set, slice_index_or}
+use Rattle.std.specs.Prelude.{◌≡◌, ◌≢◌, ◌<◌, ◌+◌, ◌^◌, ◌⊎◌, ℕ, Option, Some, None, IsSome, Contains, List, [], map, length}
+use Rattle.std.specs.Prelude.{slice_get, slice_set, slice_index_or}
 use Rattle.epoch_tags.specs.declared.actor.Actor.{Actor}
 use Rattle.epoch_tags.specs.Links.{HasLink}
 use Rattle.ruled_links.specs.Ends.{Sending}
-use Rattle.ruled_links.specs.Inboxes.{Differ, fresh, opened}
+use Rattle.ruled_links.specs.Inboxes.{Differ, InboxView, fresh, opened}
 use Rattle.trace_law.specs.declared.input.Input.{Input}
 use Rattle.trace_law.specs.declared.setting.Setting.{Setting}
+use Rattle.trace_law.specs.Family.{Rest}
 use Rattle.actor_core.specs.Lists.{no_lists}
 use Rattle.actor_core.specs.Standing.{Stands, HasGivenNone, IsLive}
-use Rattle.actor_core.specs.Families.{start_for}
+use Rattle.actor_core.specs.Families.{start_in_wave}
+use Rattle.actor_core.specs.declared.machines.Core.{Core}
 use Rattle.actor_core.specs.Numbers.{number, actor_at}
 use Rattle.join_runtime.specs.Views.{SeatView}
 use Rattle.join_runtime.specs.Joins.{slot_of}
@@ -26,33 +28,53 @@ pub record AreLinked (joiners feeders below : ℕ) (to : Actor) (actors : List A
   pub whole : (k : ℕ) → joiners ≡ 2 ^ k → (a : Actor) (n : ℕ) → number joiners feeders a ≡ Some n → n < below
       → HasLink k feeders a to → Contains actors a
 
--- the seat of the actor with this number as it was made, and the mouths of its inbox
-pub record IsNewSeat (input : Input) (setting : Setting) (n : ℕ) (seat : SeatView)
-    (mouths : List Sending) : Type 0 where
-  pub joiners_are : seat.joiners ≡ 2 ^ setting.k
-  pub feeders_are : seat.feeders ≡ setting.feeders
-  pub actor : seat.actor ≡ actor_at (2 ^ setting.k) setting.feeders n
+-- the machine of the actor with this number, before the first event of a wave that goes on from this rest
+pub record IsFresh (input : Input) (setting : Setting) (rest : Rest) (n : ℕ) (core : Core) : Type 0 where
+  pub stands : Stands (start_in_wave input setting rest (actor_at (2 ^ setting.k) setting.feeders n)) no_lists core
+  pub live : IsLive core
+  pub given : HasGivenNone (2 ^ setting.k) core
+
+-- the machines of the first so many actors, in the order of their numbers
+pub record AreFresh (input : Input) (setting : Setting) (rest : Rest) (count : ℕ) (cores : List Core) : Type 0 where
+  pub all : length cores ≡ count
+  pub each : (n : ℕ) (core : Core) → slice_get cores n ≡ Some core → IsFresh input setting rest n core
+
+-- an inbox of the actor with this number as it was made, its mouths, and places with no mouth
+pub record IsRoom (joiners feeders n : ℕ) (inbox : InboxView) (mouths : List Sending) (places : List (Option Sending))
+    : Type 0 where
+  pub to : inbox.to ≡ actor_at joiners feeders n
+  pub received : inbox.received ≡ []
+  pub names : List Actor
+  pub below : ℕ
+  pub numbers : AreBelow joiners feeders below names
+  pub links : AreLinked joiners feeders (feeders + joiners + 2) (actor_at joiners feeders n) names
+  pub senders : inbox.senders ≡ map fresh names
+  pub mouths_are : mouths ≡ map (opened inbox.link inbox.to) names
+  pub no_mouth : (r : ℕ) → slice_index_or places r None ≡ None
+
+-- the seat of the actor with this number as it was made for this machine, and the mouths of its inbox
+pub record IsNewSeat (joiners feeders n : ℕ) (core : Core) (seat : SeatView) (mouths : List Sending) : Type 0 where
+  pub joiners_are : seat.joiners ≡ joiners
+  pub feeders_are : seat.feeders ≡ feeders
+  pub actor : seat.actor ≡ actor_at joiners feeders n
+  pub core_is : seat.core ≡ core
   pub to : seat.inbox.to ≡ seat.actor
   pub received : seat.inbox.received ≡ []
   pub names : List Actor
   pub below : ℕ
-  pub numbers : AreBelow (2 ^ setting.k) setting.feeders below names
-  pub links : AreLinked (2 ^ setting.k) setting.feeders (setting.feeders + 2 ^ setting.k + 2)
-      (actor_at (2 ^ setting.k) setting.feeders n) names
+  pub numbers : AreBelow joiners feeders below names
+  pub links : AreLinked joiners feeders (feeders + joiners + 2) (actor_at joiners feeders n) names
   pub senders : seat.inbox.senders ≡ map fresh names
   pub mouths_are : mouths ≡ map (opened seat.inbox.link seat.inbox.to) names
   pub no_mouth : (r : ℕ) → slice_index_or seat.mouths r None ≡ None
-  pub stands : Stands (start_for input setting (actor_at (2 ^ setting.k) setting.feeders n)) no_lists seat.core
-  pub live : IsLive seat.core
-  pub given : HasGivenNone (2 ^ setting.k) seat.core
 
--- so many seats, with the mouths of their inboxes
-pub record AreNew (input : Input) (setting : Setting) (count : ℕ) (seats : List SeatView)
+-- so many seats for these machines, with the mouths of their inboxes
+pub record AreNew (joiners feeders count : ℕ) (cores : List Core) (seats : List SeatView)
     (mouths : List (List Sending)) : Type 0 where
   pub all : length seats ≡ count
   pub each : length mouths ≡ count
-  pub new : (n : ℕ) (d : SeatView) → n < count → IsNewSeat input setting n (slice_index_or seats n d)
-      (slice_index_or mouths n [])
+  pub new : (n : ℕ) (d : SeatView) → n < count → IsNewSeat joiners feeders n (slice_index_or cores n d.core)
+      (slice_index_or seats n d) (slice_index_or mouths n [])
 
 -- the mouth came to its sender, as that one's to the actor with the number `receiver`
 pub record Puts (joiners feeders receiver : ℕ) (mouth : Sending) (old new : List SeatView) : Type 0 where
@@ -89,3 +111,10 @@ pub record AreFilled (joiners feeders below : ℕ) (mouths : List (List Sending)
   pub has : (n r : ℕ) (d : SeatView) (mouth : Sending) → r < below
       → IsOneOf joiners feeders n (slice_index_or mouths r []) mouth
       → (n < length old) × IsSome (slot_of new d n r)
+
+-- the seats for these machines, of which each mouth came to its sender
+pub record AreSeated (joiners feeders : ℕ) (cores : List Core) (seats : List SeatView) : Type 0 where
+  pub first : List SeatView
+  pub mouths : List (List Sending)
+  pub new : AreNew joiners feeders (length cores) cores first mouths
+  pub filled : AreFilled joiners feeders (length mouths) mouths first seats

@@ -4,6 +4,8 @@ ghost use Rattle.std.specs.Prelude.{◌≡◌, ◌<◌, ℕ, true, false, Ok, On
 ghost use Rattle.join_rows.specs.Lists.{IsPrefix};
 ghost use Rattle.trace_law.specs.declared.input.Input.{Input as Input'};
 ghost use Rattle.trace_law.specs.declared.setting.Setting.{Setting as Setting'};
+ghost use Rattle.theta_pred.specs.Formula.{Meaning};
+ghost use Rattle.trace_law.specs.Family.{IsRestFor, Rest as Rest'};
 ghost use Rattle.trace_law.specs.Validity.{IsValid};
 ghost use Rattle.actor_core.specs.Families.{AreFronts};
 ghost use Rattle.actor_core.specs.Players.{AgreesOnLinks, Extends};
@@ -11,7 +13,7 @@ ghost use Rattle.join_runtime.specs.Views.{SeatView, frame_of};
 ghost use Rattle.join_runtime.specs.Turns.{AllStep, IsAlike};
 ghost use Rattle.join_runtime.specs.Workers.{AllWorked};
 ghost use Rattle.join_runtime.specs.Joins.{ActorsDiffer, AllLead, AreGathered, IsSlotOf, Tells, slot_of};
-ghost use Rattle.join_runtime.specs.Bouts.{AllAdvance, AllLive, AllRest, IsStill, NoneSpent, SomeReady, StandsFor, lists_in};
+ghost use Rattle.join_runtime.specs.Bouts.{AllAdvance, AllJoinBy, AllLive, AllRest, IsStill, NoneSpent, SomeReady, StandsFor, StandsInWave, lists_in};
 ghost use Rattle.join_runtime.specs.Endings.{is_collected, journal_in};
 
 use crate::seat::Seat;
@@ -248,13 +250,23 @@ pub(crate) fn bout_by<'a, R: Wait, G: Gate, F: FnOnce(Vec<Seat<'a>>) -> Vec<Seat
     ensures collected { result ≡ Ok false → (input : Input') (setting : Setting')
         → IsValid input setting → StandsFor input setting seats.old
         → is_collected seats.old ≡ true }
+    ensures collected_in_wave { result ≡ Ok false → (input : Input') (setting : Setting') (rest : Rest')
+        → IsValid input setting → IsRestFor input setting rest
+        → StandsInWave input setting rest seats.old → is_collected seats.old ≡ true }
     ensures agrees { OnOk result (AreFronts (lists_in seats.new)) }
     ensures extends { OnOk result (Extends (lists_in seats.old) (lists_in seats.new)) }
     ensures journal { OnOk result (IsPrefix (journal_in seats.old) (journal_in seats.new)) }
     ensures stands { OnOk result ((input : Input') (setting : Setting')
         → StandsFor input setting seats.old → StandsFor input setting seats.new) }
+    ensures stands_in_wave { OnOk result ((input : Input') (setting : Setting') (rest : Rest')
+        → StandsInWave input setting rest seats.old → StandsInWave input setting rest seats.new) }
+    ensures joins { OnOk result
+        ((theta : Meaning) → AllJoinBy theta seats.old → AllJoinBy theta seats.new) }
     ensures linked { OnOk result ((input : Input') (setting : Setting')
         → StandsFor input setting seats.old → AgreesOnLinks setting (lists_in seats.old)
+        → AgreesOnLinks setting (lists_in seats.new)) }
+    ensures linked_in_wave { OnOk result ((input : Input') (setting : Setting') (rest : Rest')
+        → StandsInWave input setting rest seats.old → AgreesOnLinks setting (lists_in seats.old)
         → AgreesOnLinks setting (lists_in seats.new)) }
     ensures goes_on { OnOk result ((seats.old.spent ≡ false) × (seats.new.spent ≡ false)) }
     ensures fails { OnErr result (seats.new.spent ≡ true) }
@@ -292,13 +304,23 @@ pub fn bout<R: Threads + Wait + Sync, G: Gate + Sync>(
     ensures collected { result ≡ Ok false → (input : Input') (setting : Setting')
         → IsValid input setting → StandsFor input setting seats.old
         → is_collected seats.old ≡ true }
+    ensures collected_in_wave { result ≡ Ok false → (input : Input') (setting : Setting') (rest : Rest')
+        → IsValid input setting → IsRestFor input setting rest
+        → StandsInWave input setting rest seats.old → is_collected seats.old ≡ true }
     ensures agrees { OnOk result (AreFronts (lists_in seats.new)) }
     ensures extends { OnOk result (Extends (lists_in seats.old) (lists_in seats.new)) }
     ensures journal { OnOk result (IsPrefix (journal_in seats.old) (journal_in seats.new)) }
     ensures stands { OnOk result ((input : Input') (setting : Setting')
         → StandsFor input setting seats.old → StandsFor input setting seats.new) }
+    ensures stands_in_wave { OnOk result ((input : Input') (setting : Setting') (rest : Rest')
+        → StandsInWave input setting rest seats.old → StandsInWave input setting rest seats.new) }
+    ensures joins { OnOk result
+        ((theta : Meaning) → AllJoinBy theta seats.old → AllJoinBy theta seats.new) }
     ensures linked { OnOk result ((input : Input') (setting : Setting')
         → StandsFor input setting seats.old → AgreesOnLinks setting (lists_in seats.old)
+        → AgreesOnLinks setting (lists_in seats.new)) }
+    ensures linked_in_wave { OnOk result ((input : Input') (setting : Setting') (rest : Rest')
+        → StandsInWave input setting rest seats.old → AgreesOnLinks setting (lists_in seats.old)
         → AgreesOnLinks setting (lists_in seats.new)) }
     ensures goes_on { OnOk result ((seats.old.spent ≡ false) × (seats.new.spent ≡ false)) }
     ensures fails { OnErr result (seats.new.spent ≡ true) }

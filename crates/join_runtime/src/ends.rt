@@ -5,24 +5,27 @@ ghost use Rattle.epoch_tags.specs.declared.actor.Actor.{Actor as Actor'};
 ghost use Rattle.trace_law.specs.declared.input.Input.{Input as Input'};
 ghost use Rattle.trace_law.specs.declared.setting.Setting.{Setting as Setting'};
 ghost use Rattle.trace_law.specs.Validity.{IsValid};
-ghost use Rattle.trace_law.specs.Family.{first_rest};
+ghost use Rattle.trace_law.specs.Family.{first_rest, IsRestFor, Rest as Rest'};
 ghost use Rattle.trace_law.specs.Runs.{IsRunOf};
 ghost use Rattle.actor_core.specs.Endings.{AreLast};
 ghost use Rattle.actor_core.specs.Families.{AreFronts};
-ghost use Rattle.actor_core.specs.Players.{IsFinishedFamily};
-ghost use Rattle.join_runtime.specs.Bouts.{StandsFor, lists_in};
+ghost use Rattle.actor_core.specs.Players.{IsFinishedFamily, IsFinishedWave};
+ghost use Rattle.actor_core.specs.Rests.{IsRestOf};
+ghost use Rattle.load_controller.specs.Journal.{last_line};
+ghost use Rattle.load_controller.specs.declared.line.TurnLine.{TurnLine as TurnLine'};
+ghost use Rattle.join_runtime.specs.Bouts.{AllJoinBy, StandsFor, StandsInWave, lists_in};
 ghost use Rattle.join_runtime.specs.Endings.{end_of, is_collected, journal_in, lists_left};
 
 use crate::bouts::Seats;
 use crate::seat::Seat;
-use actor_core::{Core, answer, last_machines};
+use actor_core::{Core, WaveRun, answer, last_machines, machines_left, wave_run};
 use join_rows::Items;
 use load_controller::Controller;
 use pair_collector::Collector;
 use ruled_links::{Inbox, Mouth};
 use std::alloc::{AllocError, Global};
 use std::marker::Model;
-use trace_law::{Run, complete_is_finished, finished_answers};
+use trace_law::{Run, answers_in_the_end, complete_is_finished, finished_answers};
 
 /// What an actor's finished seat leaves: its inbox and its mouths.
 #[derive(Drop)]
@@ -70,6 +73,13 @@ impl Model for Ends {
 #[derive(Drop)]
 pub struct Told {
     pub run: Run,
+    pub ends: Ends,
+}
+
+/// What a wave answers and leaves for the next, and what its seats leave.
+#[derive(Drop)]
+pub struct WaveTold {
+    pub wave: WaveRun,
     pub ends: Ends,
 }
 
@@ -143,6 +153,56 @@ impl<'a> Seats<'a> {
         let run = answer(alloc, &controller, collector, bouts)?;
         Ok(Told {
             run,
+            ends: Ends {
+                joiners,
+                feeders,
+                ends,
+            },
+        })
+    }
+
+    /// The answer of a wave whose collector is complete, with so many bouts, what it leaves for the next, and what its
+    /// seats leave. After `AllocError` the seats are gone.
+    pub fn finish_wave(self, bouts: u64) -> Result<WaveTold, AllocError>
+        requires { is_collected self ≡ true }
+        ensures family { IfOk result (λ told.
+            (input : Input') (setting : Setting') (rest : Rest') → IsValid input setting
+            → IsRestFor input setting rest → StandsInWave input setting rest self.entry
+            → AreFronts (lists_in self.entry)
+            → IsFinishedWave input setting rest told.wave.run.journal (lists_left told.ends)) }
+        ensures run { IfOk result (λ told.
+            (input : Input') (setting : Setting') (rest : Rest') → IsValid input setting
+            → IsRestFor input setting rest → StandsInWave input setting rest self.entry
+            → AreFronts (lists_in self.entry)
+            → IsRunOf input setting rest.line told.wave.run.journal told.wave.run) }
+        ensures rest { IfOk result (λ told.
+            (input : Input') (setting : Setting') (rest : Rest') → IsValid input setting
+            → IsRestFor input setting rest → StandsInWave input setting rest self.entry
+            → AreFronts (lists_in self.entry) → AllJoinBy input.theta self.entry
+            → IsRestOf input setting told.wave.rest) }
+        ensures line { IfOk result (λ told. (first : TurnLine')
+            → told.wave.rest.line ≡ last_line first told.wave.run.journal) }
+        ensures ends { IfOk result (λ told.
+            (a : Actor') → lists_left told.ends a ≡ lists_in self.entry a) }
+        ensures journal { IfOk result (λ told. told.wave.run.journal ≡ journal_in self.entry) }
+        ensures bouts { IfOk result (λ told. told.wave.run.bouts ≡ bouts) }
+    {
+        complete_is_finished();
+        finished_answers();
+        answers_in_the_end();
+        let Seats {
+            alloc,
+            joiners,
+            feeders,
+            seats,
+            ..
+        } = self;
+        let (cores, ends) = parts(alloc, seats)?;
+        let left = machines_left(alloc, feeders, cores)?;
+        let (stores, controller, collector) = left;
+        let wave = wave_run(alloc, joiners, stores, &controller, collector, bouts)?;
+        Ok(WaveTold {
+            wave,
             ends: Ends {
                 joiners,
                 feeders,

@@ -14,8 +14,9 @@ mod seat;
 mod seating;
 mod started;
 
+pub use actor_core::{Rest, Upto, WaveRun};
 pub use bouts::{Seats, bout};
 pub use early::{EarlyFault, run_early};
-pub use ends::{End, Ends, Told, Trail};
-pub use runs::run;
+pub use ends::{End, Ends, Told, Trail, WaveTold};
+pub use runs::{run, run_wave};
 pub use seat::Seat;

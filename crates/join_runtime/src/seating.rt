@@ -1,24 +1,26 @@
-// The seats of a run at its beginning.
+// The seats of a run and of a wave at their beginning.
 
 ghost use Rattle.std.specs.Prelude.{◌≡◌, ◌<◌, ◌≤◌, ◌+◌, ◌^◌, ◌↔◌, ℕ, true, false, None, Some, IsSome, IfOk, OnOk, length, map, slice_set, slice_index_or};
 ghost use Rattle.epoch_tags.specs.declared.actor.Actor.{Actor as Actor'};
 ghost use Rattle.trace_law.specs.Validity.{IsValidInput, IsValidSetting};
+ghost use Rattle.trace_law.specs.Family.{first_rest};
 ghost use Rattle.actor_core.specs.Numbers.{actor_at};
+ghost use Rattle.actor_core.specs.Rests.{IsRestOf, IsUpto, rest_of, upto};
 ghost use Rattle.ruled_links.specs.Inboxes.{Differ};
 ghost use Rattle.actor_core.specs.Lists.{no_lists};
 ghost use Rattle.join_runtime.specs.Views.{SeatView};
 ghost use Rattle.join_runtime.specs.Joins.{slot_of};
-ghost use Rattle.join_runtime.specs.Seating.{AreBelow, AreFilled, AreLinked, AreNew, IsNewSeat, Puts, Places};
-ghost use Rattle.join_runtime.specs.Bouts.{StandsFor, lists_in, mouth_of};
+ghost use Rattle.join_runtime.specs.Seating.{AreBelow, AreFilled, AreFresh, AreLinked, AreNew, AreSeated, IsNewSeat, IsRoom, Puts, Places};
+ghost use Rattle.join_runtime.specs.Bouts.{AllJoinBy, StandsFor, StandsInWave, lists_in, mouth_of};
 ghost use Rattle.join_runtime.specs.Early.{AreGiven, given_in};
 ghost use Rattle.epoch_tags.specs.Links.{HasLink};
 ghost use Rattle.pair_collector.specs.Standing.{nothing_yet};
 
 use crate::bouts::Seats;
 use crate::seat::{Seat, no_mouths};
-use actor_core::{core_at, has_link, joiners_of, number};
+use actor_core::{Core, Rest, Upto, core_at, cores_in_wave, has_link, joiners_of, number};
 use epoch_tags::Actor;
-use ruled_links::{Actors, Mouth, Mouths, inbox};
+use ruled_links::{Actors, Inbox, Mouth, Mouths, inbox};
 use std::alloc::{AllocError, Global};
 use std::mem;
 use trace_law::{Input, Setting};
@@ -62,25 +64,38 @@ fn senders_of(
     Ok(senders)
 }
 
-// The seat of the actor with this number, which has no mouth yet, and the mouths of its inbox.
-fn seat_at<'a>(
+// What the seat of the actor with this number has beside its machine: its inbox, the mouths of it, and the places for its
+// own mouths.
+fn room_at(
     alloc: Global,
-    input: &'a Input,
-    setting: &Setting,
+    joiners: u32,
+    feeders: u32,
     n: u32,
-) -> Result<(Seat<'a>, Mouths), AllocError>
-    requires input { IsValidInput input.now }
-    requires setting { IsValidSetting setting.now }
-    ensures { IfOk result (λ made. IsNewSeat input.now setting.now n made.0 made.1) }
+) -> Result<(Inbox, Mouths, Vec<Option<Mouth>>), AllocError>
+    requires few { feeders + joiners + 2 < 2 ^ 32 }
+    ensures { IfOk result (λ room. IsRoom joiners feeders n room.0 room.1 room.2.items) }
 {
-    let joiners = joiners_of(setting);
-    let feeders = setting.feeders;
     let count = feeders + joiners + 2;
     let actor = actor_of(joiners, feeders, n);
     let senders = senders_of(alloc, joiners, feeders, count, actor)?;
     let (inbox, mouths) = inbox(alloc, actor, &senders)?;
     let places = no_mouths(alloc, count)?;
-    let core = core_at(alloc, input, setting, n)?;
+    Ok((inbox, mouths, places))
+}
+
+// The seat of the actor with this number and this machine, which has no mouth yet, and the mouths of its inbox.
+fn seat_at<'a>(
+    alloc: Global,
+    joiners: u32,
+    feeders: u32,
+    n: u32,
+    core: Core<'a>,
+) -> Result<(Seat<'a>, Mouths), AllocError>
+    requires few { feeders + joiners + 2 < 2 ^ 32 }
+    ensures { IfOk result (λ made. IsNewSeat joiners feeders n core.entry made.0 made.1) }
+{
+    let (inbox, mouths, places) = room_at(alloc, joiners, feeders, n)?;
+    let actor = actor_of(joiners, feeders, n);
     let seat = Seat::new(alloc, joiners, feeders, actor, core, inbox, places);
     Ok((seat, mouths))
 }
@@ -142,25 +157,63 @@ fn give_all(
     Ok(())
 }
 
-// The seats of so many actors, without mouths, and the mouths of each one's inbox.
+// The seats for these machines, in their order and without mouths, and the mouths of each one's inbox.
 fn new_seats<'a>(
+    alloc: Global,
+    joiners: u32,
+    feeders: u32,
+    cores: Vec<Core<'a>>,
+) -> Result<(Vec<Seat<'a>>, Vec<Mouths>), AllocError>
+    requires few { feeders + joiners + 2 < 2 ^ 32 }
+    requires all { length cores.items ≡ feeders + joiners + 2 }
+    ensures { IfOk result (λ made. AreNew joiners feeders (length cores.entry.items)
+        cores.entry.items made.0.items made.1.items) }
+{
+    let mut seats = Vec::new(alloc);
+    let mut all_mouths = Vec::new(alloc);
+    let mut n = 0u32;
+    for core in cores {
+        let (seat, mouths) = seat_at(alloc, joiners, feeders, n, core)?;
+        seats.push(seat)?;
+        all_mouths.push(mouths)?;
+        n += 1;
+    }
+    Ok((seats, all_mouths))
+}
+
+// The machines of so many actors of a run at its beginning, by their numbers.
+fn first_cores<'a>(
     alloc: Global,
     input: &'a Input,
     setting: &Setting,
     count: u32,
-) -> Result<(Vec<Seat<'a>>, Vec<Mouths>), AllocError>
+) -> Result<Vec<Core<'a>>, AllocError>
     requires input { IsValidInput input.now }
     requires setting { IsValidSetting setting.now }
-    ensures { IfOk result (λ made. AreNew input.now setting.now count made.0.items made.1.items) }
+    ensures { IfOk result (λ cores.
+        AreFresh input.now setting.now (first_rest setting.now) count cores.items) }
 {
-    let mut seats = Vec::new(alloc);
-    let mut all_mouths = Vec::new(alloc);
+    let mut cores = Vec::new(alloc);
     for n in 0..count {
-        let (seat, mouths) = seat_at(alloc, input, setting, n)?;
-        seats.push(seat)?;
-        all_mouths.push(mouths)?;
+        cores.push(core_at(alloc, input, setting, n)?)?;
     }
-    Ok((seats, all_mouths))
+    Ok(cores)
+}
+
+// The seats for these machines, in their order and joined by all links.
+fn seats_of<'a>(
+    alloc: Global,
+    joiners: u32,
+    feeders: u32,
+    cores: Vec<Core<'a>>,
+) -> Result<Vec<Seat<'a>>, AllocError>
+    requires few { feeders + joiners + 2 < 2 ^ 32 }
+    requires all { length cores.items ≡ feeders + joiners + 2 }
+    ensures { IfOk result (λ seats. AreSeated joiners feeders cores.entry.items seats.items) }
+{
+    let (mut seats, mouths) = new_seats(alloc, joiners, feeders, cores)?;
+    give_all(alloc, &mut seats, joiners, feeders, mouths)?;
+    Ok(seats)
 }
 
 impl<'a> Seats<'a> {
@@ -183,8 +236,45 @@ impl<'a> Seats<'a> {
     {
         let joiners = joiners_of(setting);
         let feeders = setting.feeders;
-        let (mut seats, mouths) = new_seats(alloc, input, setting, feeders + joiners + 2)?;
-        give_all(alloc, &mut seats, joiners, feeders, mouths)?;
+        let cores = first_cores(alloc, input, setting, feeders + joiners + 2)?;
+        let seats = seats_of(alloc, joiners, feeders, cores)?;
+        Ok(Seats {
+            alloc,
+            joiners,
+            feeders,
+            seats,
+            spent: false,
+        })
+    }
+
+    /// The seats of all actors of a wave before its first event, which goes on from this rest and ends there, joined by all
+    /// links. The seats borrow the input.
+    pub fn start_at(
+        alloc: Global,
+        rest: Rest,
+        input: &'a Input,
+        setting: &Setting,
+        end: Upto,
+    ) -> Result<Seats<'a>, AllocError>
+        requires input { IsValidInput input.now }
+        requires setting { IsValidSetting setting.now }
+        requires end { IsUpto rest.line end input.now }
+        requires rest { IsRestOf input.now setting.now rest }
+        requires epoch { rest.line.epoch ≤ 2 ^ 31 }
+        ensures stands { IfOk result
+            (StandsInWave (upto end input.now) setting.now (rest_of rest)) }
+        ensures empty { IfOk result (λ seats. (a : Actor') → lists_in seats a ≡ no_lists) }
+        ensures joins { IfOk result (AllJoinBy input.now.theta) }
+        ensures links { IfOk result (λ seats. (from to : Actor') → (IsSome (mouth_of seats from to)
+            ↔ HasLink setting.now.k setting.now.feeders from to)) }
+        ensures given { IfOk result (λ seats.
+            AreGiven (2 ^ setting.now.k) nothing_yet (given_in seats)) }
+        ensures at_work { IfOk result (λ seats. seats.spent ≡ false) }
+    {
+        let joiners = joiners_of(setting);
+        let feeders = setting.feeders;
+        let cores = cores_in_wave(alloc, rest, input, setting, end)?;
+        let seats = seats_of(alloc, joiners, feeders, cores)?;
         Ok(Seats {
             alloc,
             joiners,

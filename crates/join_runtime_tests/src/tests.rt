@@ -1,4 +1,5 @@
 mod early;
+mod waves;
 
 use epoch_tags::Actor;
 use grid_map::Weights;

@@ -1,10 +1,13 @@
 use Rattle.std.proofs.Common.{◌∙◌, Ok, ap, false, subst, sym}
 use Rattle.std.proofs.lemmas.List.{length-map}
+use Rattle.trace_law.specs.Family.{first_rest}
+use Rattle.trace_law.proofs.First.{stands as first_stands}
 use Rattle.join_runtime.specs.Views.{frame_of}
 use Rattle.join_runtime.specs.Joins.{AreJoined}
 use Rattle.join_runtime.specs.Bouts.{SeatsView}
 use Rattle.join_runtime.proofs.LinkLists.{busy, fronts, rest_collected, still}
-use Rattle.join_runtime.proofs.SeatBouts.{extends_after, journal_after, linked_after, settled_after, stands_after}
+use Rattle.join_runtime.proofs.SeatBouts.{extends_after, joins_after, journal_after, linked_after, settled_after}
+use Rattle.join_runtime.proofs.SeatBouts.{stands_after}
 use Rattle.join_runtime.proofs.bouts.bout_by.Goals as goal
 
 pub invariant_of-seats-2 : goal.invariant_of-seats-2
@@ -70,7 +73,22 @@ returns-clause-collected g c =
     λ is.
     rw (← c.seats.view_is)
     (λ input setting valid stands. rest_collected v c.seats.invariant.0 (c.seats.invariant.1 c.if-seats.false)
-    (said.rest is) c.quiet_is_finished.ensures input setting valid stands)
+    (said.rest is) c.quiet_is_finished.ensures input setting (first_rest setting) valid
+    (first_stands input setting valid) stands)
+
+pub returns-clause-collected_in_wave : goal.returns-clause-collected_in_wave
+returns-clause-collected_in_wave g c =
+    let said = c.in_ok-went.ensures in
+    let v : SeatsView = record {
+      joiners = c.seats.inside.joiners;
+      feeders = c.seats.inside.feeders;
+      seats = c.seats.inside.seats.items;
+      spent = c.seats.inside.spent;
+    } in
+    λ is.
+    rw (← c.seats.view_is)
+    (rest_collected v c.seats.invariant.0 (c.seats.invariant.1 c.if-seats.false) (said.rest is)
+    c.quiet_is_finished.ensures)
 
 pub returns-clause-extends : goal.returns-clause-extends
 returns-clause-extends g c =
@@ -102,7 +120,29 @@ returns-clause-stands g c =
     let said = c.in_ok-went.ensures in
     let all = sym (length-map seats.items frame_of) ∙ c.seats.invariant.0.all in
     rw (← c.seats.view_is)
+    (λ input setting. stands_after c.in_ok-went.went c.seats.inside.joiners c.seats.inside.feeders seats.items new long
+    all (λ is. said.went (ap Ok is)) (λ is. said.same (ap Ok is)) input setting (first_rest setting))
+
+pub returns-clause-stands_in_wave : goal.returns-clause-stands_in_wave
+returns-clause-stands_in_wave g c =
+    let seats = c.seats.inside.seats in
+    let new = c.bout_of.new.seats.items in
+    let long = c.bout_of.ensures.long in
+    let said = c.in_ok-went.ensures in
+    let all = sym (length-map seats.items frame_of) ∙ c.seats.invariant.0.all in
+    rw (← c.seats.view_is)
     (stands_after c.in_ok-went.went c.seats.inside.joiners c.seats.inside.feeders seats.items new long all
+    (λ is. said.went (ap Ok is)) (λ is. said.same (ap Ok is)))
+
+pub returns-clause-joins : goal.returns-clause-joins
+returns-clause-joins g c =
+    let seats = c.seats.inside.seats in
+    let new = c.bout_of.new.seats.items in
+    let long = c.bout_of.ensures.long in
+    let said = c.in_ok-went.ensures in
+    let all = sym (length-map seats.items frame_of) ∙ c.seats.invariant.0.all in
+    rw (← c.seats.view_is)
+    (joins_after c.in_ok-went.went c.seats.inside.joiners c.seats.inside.feeders seats.items new long all
     (λ is. said.went (ap Ok is)) (λ is. said.same (ap Ok is)))
 
 pub returns-clause-linked : goal.returns-clause-linked
@@ -125,5 +165,29 @@ returns-clause-linked g c =
         spent = false;
       }) joined settled;
       linked = linked_after c.in_ok-went.went c.seats.inside.joiners c.seats.inside.feeders seats.items new long all
-          (λ is. said.went (ap Ok is)) (λ is. said.same (ap Ok is)) input setting stands before.linked;
+          (λ is. said.went (ap Ok is)) (λ is. said.same (ap Ok is)) input setting (first_rest setting) stands
+          before.linked;
+    })
+
+pub returns-clause-linked_in_wave : goal.returns-clause-linked_in_wave
+returns-clause-linked_in_wave g c =
+    let seats = c.seats.inside.seats in
+    let new = c.bout_of.new.seats.items in
+    let long = c.bout_of.ensures.long in
+    let said = c.in_ok-went.ensures in
+    let all = sym (length-map seats.items frame_of) ∙ c.seats.invariant.0.all in
+    let joined = subst (AreJoined c.seats.inside.joiners c.seats.inside.feeders) (sym c.bout_of.ensures.frames)
+    c.seats.invariant.0 in
+    let settled = settled_after c.in_ok-went.went seats.items new long (λ is. said.went (ap Ok is))
+    (λ is. said.gathered (ap Ok is)) (λ is. said.same (ap Ok is)) (c.seats.invariant.1 c.if-seats.false) in
+    rw (← c.seats.view_is)
+    (λ input setting rest stands before. record {
+      fronts = fronts (record {
+        joiners = c.seats.inside.joiners;
+        feeders = c.seats.inside.feeders;
+        seats = new;
+        spent = false;
+      }) joined settled;
+      linked = linked_after c.in_ok-went.went c.seats.inside.joiners c.seats.inside.feeders seats.items new long all
+          (λ is. said.went (ap Ok is)) (λ is. said.same (ap Ok is)) input setting rest stands before.linked;
     })

@@ -1,40 +1,46 @@
-use Rattle.std.proofs.Common.{false}
+use Rattle.std.proofs.Common.{◌∙◌, false, sym, subst}
+use Rattle.trace_law.specs.Family.{first_rest}
+use Rattle.join_runtime.specs.Seating.{AreFresh}
 use Rattle.join_runtime.proofs.Built.{start_empty, start_given, start_joined, start_linked, start_settled, start_stands}
 use Rattle.join_runtime.proofs.bouts.Seats.start.Goals as goal
 
 pub invariant_of-result : goal.invariant_of-result
 invariant_of-result c =
-    let input = c.args.input.now in
     let setting = c.args.setting.now in
-    let first = c.in_ok-seats.seats.items in
-    let seats = c.give_all.new.seats.items in
-    let mouths = c.in_ok-seats.mouths.items in (
-      start_joined input setting c.joiners_of-joiners.result first seats mouths c.joiners_of-joiners.ensures.value
-          c.in_ok-seats.ensures c.in_ok-give_all.ensures,
-      λ z. start_settled input setting c.joiners_of-joiners.result first seats mouths c.joiners_of-joiners.ensures.value
-          c.in_ok-seats.ensures c.in_ok-give_all.ensures,
+    let cores = c.in_ok-cores.cores.items in
+    let fresh = c.in_ok-cores.ensures in
+    let all = fresh.all in (
+      start_joined setting c.joiners_of-joiners.result cores c.in_ok-seats.seats.items
+          c.joiners_of-joiners.ensures.value all c.in_ok-seats.ensures,
+      λ z. start_settled setting c.joiners_of-joiners.result cores c.in_ok-seats.seats.items
+          c.joiners_of-joiners.ensures.value all c.in_ok-seats.ensures c.args.input.now (first_rest setting)
+          (subst (λ n. AreFresh c.args.input.now setting (first_rest setting) n cores) (sym all) fresh),
     )
 
 pub returns-clause-stands : goal.returns-clause-stands
 returns-clause-stands c =
-    start_stands c.args.input.now c.args.setting.now c.joiners_of-joiners.result c.in_ok-seats.seats.items
-    c.give_all.new.seats.items c.in_ok-seats.mouths.items c.joiners_of-joiners.ensures.value c.in_ok-seats.ensures
-    c.in_ok-give_all.ensures false
+    let setting = c.args.setting.now in
+    let cores = c.in_ok-cores.cores.items in
+    let fresh = c.in_ok-cores.ensures in
+    start_stands setting c.joiners_of-joiners.result cores c.in_ok-seats.seats.items
+    c.joiners_of-joiners.ensures.value fresh.all c.in_ok-seats.ensures c.args.input.now (first_rest setting)
+    (subst (λ n. AreFresh c.args.input.now setting (first_rest setting) n cores) (sym fresh.all) fresh) false
 
 pub returns-clause-empty : goal.returns-clause-empty
 returns-clause-empty c =
-    start_empty c.args.input.now c.args.setting.now c.joiners_of-joiners.result c.in_ok-seats.seats.items
-    c.give_all.new.seats.items c.in_ok-seats.mouths.items c.joiners_of-joiners.ensures.value c.in_ok-seats.ensures
-    c.in_ok-give_all.ensures false
+    start_empty c.args.setting.now c.joiners_of-joiners.result c.in_ok-cores.cores.items c.in_ok-seats.seats.items
+    c.joiners_of-joiners.ensures.value c.in_ok-cores.ensures.all c.in_ok-seats.ensures false
 
 pub returns-clause-links : goal.returns-clause-links
 returns-clause-links c =
-    start_linked c.args.input.now c.args.setting.now c.joiners_of-joiners.result c.in_ok-seats.seats.items
-    c.give_all.new.seats.items c.in_ok-seats.mouths.items c.joiners_of-joiners.ensures.value c.in_ok-seats.ensures
-    c.in_ok-give_all.ensures false
+    start_linked c.args.setting.now c.joiners_of-joiners.result c.in_ok-cores.cores.items c.in_ok-seats.seats.items
+    c.joiners_of-joiners.ensures.value c.in_ok-cores.ensures.all c.in_ok-seats.ensures false
 
 pub returns-clause-given : goal.returns-clause-given
 returns-clause-given c =
-    start_given c.args.input.now c.args.setting.now c.joiners_of-joiners.result c.in_ok-seats.seats.items
-    c.give_all.new.seats.items c.in_ok-seats.mouths.items c.joiners_of-joiners.ensures.value c.in_ok-seats.ensures
-    c.in_ok-give_all.ensures false
+    let setting = c.args.setting.now in
+    let cores = c.in_ok-cores.cores.items in
+    let fresh = c.in_ok-cores.ensures in
+    start_given setting c.joiners_of-joiners.result cores c.in_ok-seats.seats.items
+    c.joiners_of-joiners.ensures.value fresh.all c.in_ok-seats.ensures c.args.input.now (first_rest setting)
+    (subst (λ n. AreFresh c.args.input.now setting (first_rest setting) n cores) (sym fresh.all) fresh) false
