@@ -5,4 +5,5 @@ pub mod Pieces
 pub mod Puts
 mod RowSteps
 mod RowsRead
+mod Sums
 mod Worked

@@ -9,7 +9,8 @@ use Rattle.row_tickets.specs.declared.place.Feed.TheVariants.{RFirst, Alternate}
 use Rattle.trace_law.specs.declared.setting.Setting.{Setting}
 use Rattle.trace_law.specs.declared.run.Run.{Run}
 use Rattle.join_report.specs.PairLines.{pair_lines}
-use Rattle.join_report.specs.Report.{report_of}
+use Rattle.join_report.specs.Report.{grown_report_of, report_of}
+use Rattle.join_report.specs.Waves.{sums_of}
 
 abbrev two_pairs : List Pair
 two_pairs = record { i = 0; j = 0 } ∷ record { i = 0; j = 2 } ∷ []
@@ -132,3 +133,86 @@ pub report_of_one_step : report_of twice_as_heavy 8 8 one_step
     ≡ codes "input 8 8\ngrid 1 4 1 moved 0\nfinal 4 1 copies 48 best 48\njoiner 0 held 2 8 made 16\njoiner 1 held 2 8 made 16\njoiner 2 held 2 8 made 16\njoiner 3 held 2 8 made 16\n"
 unfolding digits
 report_of_one_step = refl
+
+-- one joiner that splits into four, two rows a side
+abbrev one_joiner : Setting
+one_joiner = record {
+  k = 0;
+  feeders = 1;
+  workers = 1;
+  batch = 64;
+  feed = Alternate;
+  fixed = None;
+  weights = record { r = 1; s = 1 };
+}
+
+abbrev alone : Run
+alone = record {
+  pairs = [];
+  made = 1 ∷ [];
+  loads = record { rows_r = 2; rows_s = 2 } ∷ [];
+  moved = [];
+  journal = line 0 0 ∷ line 0 0 ∷ [];
+  bouts = 0;
+}
+
+abbrev one_each : Held
+one_each = record { rows_r = 1; rows_s = 1 }
+
+abbrev split : Run
+split = record {
+  pairs = [];
+  made = 1 ∷ 0 ∷ 0 ∷ 1 ∷ [];
+  loads = one_each ∷ one_each ∷ one_each ∷ one_each ∷ [];
+  moved = [];
+  journal = line 0 1 ∷ line 0 1 ∷ [];
+  bouts = 0;
+}
+
+-- the report of a run that grew without a step
+pub report_of_growth : grown_report_of one_joiner 2 2 alone (record { k = 2; shift = 1 }) 8 split
+    ≡ codes "input 2 2\ngrow 2 2 placed 8\nfinal 2 2 copies 8 best 8\njoiner 0 held 1 1 made 1\njoiner 1 held 1 1 made 0\njoiner 2 held 1 1 made 0\njoiner 3 held 1 1 made 1\n"
+unfolding digits
+report_of_growth = refl
+
+-- two joiners that take a step to two columns, and split into eight, which take one to one row
+abbrev two_joiners : Setting
+two_joiners = record {
+  k = 1;
+  feeders = 1;
+  workers = 2;
+  batch = 4;
+  feed = RFirst;
+  fixed = None;
+  weights = record { r = 1; s = 1 };
+}
+
+abbrev widened : Run
+widened = record {
+  pairs = [];
+  made = [];
+  loads = [];
+  moved = 2 ∷ [];
+  journal = line 0 0 ∷ line 1 1 ∷ [];
+  bouts = 0;
+}
+
+abbrev row_of_eight : Run
+row_of_eight = record {
+  pairs = [];
+  made = 3 ∷ 4 ∷ [];
+  loads = record { rows_r = 1; rows_s = 2 } ∷ record { rows_r = 1; rows_s = 1 } ∷ [];
+  moved = 8 ∷ [];
+  journal = line 1 2 ∷ line 2 3 ∷ line 2 3 ∷ [];
+  bouts = 0;
+}
+
+-- the steps since the growth are counted on
+pub report_of_growth_and_steps : grown_report_of two_joiners 1 9 widened (record { k = 3; shift = 2 }) 22 row_of_eight
+    ≡ codes "input 1 9\ngrid 1 1 2 moved 2\ngrow 2 4 placed 22\ngrid 2 1 8 moved 8\nfinal 1 8 copies 17 best 17\njoiner 0 held 1 2 made 3\njoiner 1 held 1 1 made 4\n"
+unfolding digits
+report_of_growth_and_steps = refl
+
+-- the pairs that three joiners made in one wave and the next
+pub sums_of_waves : sums_of (16 ∷ 0 ∷ 3 ∷ []) (1 ∷ 2 ∷ 0 ∷ []) ≡ 17 ∷ 2 ∷ 3 ∷ []
+sums_of_waves = refl

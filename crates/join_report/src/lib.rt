@@ -1,5 +1,5 @@
-//! The texts of an output: the pairs, their rows, or a summary of them, and the report of a run; and a text put into a
-//! sink piece by piece.
+//! The texts of an output: the pairs, their rows, or a summary of them, and the report of a run, in one grid or in one
+//! that grew; the numbers of its waves, added up; and a text put into a sink piece by piece.
 #![tactic(auto)]
 
 mod pairs;
@@ -7,9 +7,11 @@ mod put;
 mod report;
 mod rows;
 mod summary;
+mod waves;
 
 pub use pairs::pairs_text;
 pub use put::put_all;
-pub use report::report_text;
+pub use report::{grown_report_text, report_text};
 pub use rows::rows_text;
 pub use summary::summary_text;
+pub use waves::sum_counts;

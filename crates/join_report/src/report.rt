@@ -1,11 +1,13 @@
-// The report of a run.
+// The report of a run, and of one whose joiners have split.
 
-ghost use Rattle.std.specs.Prelude.{◌≡◌, ◌<◌, ◌≤◌, ◌*◌, ◌^◌, ◌++◌, ℕ, IfOk, OnOk, length, string_bytes};
+ghost use Rattle.std.specs.Prelude.{◌≡◌, ◌<◌, ◌≤◌, ◌+◌, ◌*◌, ◌^◌, ◌++◌, ℕ, IfOk, OnOk, length, string_bytes};
+ghost use Rattle.grid_map.specs.Grid.{rows, columns};
 ghost use Rattle.grid_map.specs.Load.{AreWeights};
 ghost use Rattle.load_controller.specs.Journal.{last_epoch as last_epoch', shift_at as shift_at'};
 ghost use Rattle.trace_law.specs.Validity.{IsValidSetting};
 ghost use Rattle.trace_law.specs.Family.{first_rest};
-ghost use Rattle.join_report.specs.Report.{AreWithin, final_line, grid_line, grid_lines, input_line, joiner_line, joiner_lines, last_shift as last_shift', report_of};
+ghost use Rattle.join_report.specs.Report.{AreWithin, final_line, grid_line, grid_lines_from, grow_line, grown_report_of};
+ghost use Rattle.join_report.specs.Report.{input_line, joiner_line, joiner_lines, last_shift_from, report_of};
 ghost use Rattle.join_report.specs.Report as report;
 
 use epoch_tags::Counts;
@@ -39,23 +41,31 @@ fn last_epoch(journal: &Journal) -> u32
     epoch
 }
 
-/// The shift of the first epoch.
-fn first_shift(setting: &Setting) -> u32
+/// The grid of the first epoch.
+fn first_grid(setting: &Setting) -> Shape
     requires { IsValidSetting setting.now }
-    ensures shift { result ≡ (first_rest setting.now).line.shift }
-    ensures within { result ≤ setting.now.k }
+    ensures k { result.k ≡ setting.now.k }
+    ensures shift { result.shift ≡ (first_rest setting.now).line.shift }
+    ensures within { result.shift ≤ setting.now.k }
 {
-    setting.fixed.unwrap_or(setting.k / 2)
+    Shape {
+        k: setting.k,
+        shift: setting.fixed.unwrap_or(setting.k / 2),
+    }
 }
 
-/// The shift of the last epoch.
-fn last_shift(setting: &Setting, journal: &Journal) -> u32
-    requires setting { IsValidSetting setting.now }
-    requires shifts { AreWithin setting.now.k journal.now }
-    ensures shift { result ≡ last_shift' setting.now journal.now }
-    ensures within { result ≤ setting.now.k }
+/// The grid of the last epoch of waves that begin at this one.
+fn last_grid(first: Shape, journal: &Journal) -> Shape
+    requires first { first.shift ≤ first.k }
+    requires shifts { AreWithin first.k journal.now }
+    ensures k { result.k ≡ first.k }
+    ensures shift { result.shift ≡ last_shift_from first.shift journal.now }
+    ensures within { result.shift ≤ first.k }
 {
-    shift_at(journal, first_shift(setting), last_epoch(journal))
+    Shape {
+        k: first.k,
+        shift: shift_at(journal, first.shift, last_epoch(journal)),
+    }
 }
 
 /// Adds the line of the numbers of rows.
@@ -85,27 +95,25 @@ fn write_grid(text: &mut String, epoch: u64, shape: Shape, moved: u64) -> Result
     write!(text, "grid {epoch} {n} {m} moved {moved}\n")
 }
 
-/// Adds the lines of all steps.
+/// Adds the lines of the steps of waves that begin at this grid and behind so many steps.
 fn write_grids(
     text: &mut String,
-    setting: &Setting,
+    first: Shape,
+    before: u64,
     journal: &Journal,
     moved: &Counts,
 ) -> Result<(), AllocError>
-    requires setting { IsValidSetting setting.now }
-    requires shifts { AreWithin setting.now.k journal.now }
-    requires few { length moved.now < 2 ^ 32 }
-    ensures { OnOk result (string_bytes text.new
-        ≡ string_bytes text.old ++ grid_lines setting.now journal.now moved.now) }
+    requires first { first.shift ≤ first.k }
+    requires k { first.k ≤ 8 }
+    requires shifts { AreWithin first.k journal.now }
+    requires few { before + length moved.now < 2 ^ 32 }
+    ensures { OnOk result (string_bytes text.new ≡ string_bytes text.old
+        ++ grid_lines_from first.k first.shift before journal.now moved.now) }
 {
-    let first = first_shift(setting);
     for step in 0..moved.len() {
-        let epoch = step + 1;
-        let shift = shift_at(journal, first, epoch as u32);
-        let shape = Shape {
-            k: setting.k,
-            shift,
-        };
+        let epoch = before + step + 1;
+        let shift = shift_at(journal, first.shift, epoch as u32);
+        let shape = Shape { k: first.k, shift };
         write_grid(text, epoch, shape, *moved.at(step))?;
     }
     Ok(())
@@ -196,13 +204,66 @@ pub fn report_text(
 {
     let mut text = String::new(alloc);
     write_input(&mut text, rows_r, rows_s)?;
-    write_grids(&mut text, setting, &run.journal, &run.moved)?;
-    let shift = last_shift(setting, &run.journal);
-    let shape = Shape {
-        k: setting.k,
-        shift,
-    };
+    let first = first_grid(setting);
+    write_grids(&mut text, first, 0, &run.journal, &run.moved)?;
+    let shape = last_grid(first, &run.journal);
     write_final(&mut text, shape, setting.weights, rows_r, rows_s)?;
     write_joiners(&mut text, &run.loads, &run.made)?;
+    Ok(text)
+}
+
+/// Adds the line of the grid that the joiners have split into.
+fn write_growth(text: &mut String, shape: Shape, placed: u64) -> Result<(), AllocError>
+    requires shift { shape.shift ≤ shape.k }
+    requires k { shape.k ≤ 8 }
+    ensures { OnOk result (string_bytes text.new ≡ string_bytes text.old
+        ++ grow_line (rows shape.k shape.shift) (columns shape.shift) placed) }
+{
+    let n = power(shape.k - shape.shift);
+    let m = power(shape.shift);
+    write!(text, "grow {n} {m} placed {placed}\n")
+}
+
+/// The report of a run in several waves, between two of which each joiner split into four: the line `input x y`; the
+/// lines of the steps of `before`, the waves that the setting's own grid ran; a line `grow n m placed q` of the rows
+/// and columns of `shape`, the grid that the joiners split into, and of how many tuples the new joiners were given;
+/// and then the lines of `after`, the waves since: its steps, their epochs counted on, and its last grid and joiners.
+/// Each line is as in `report_text`. Of `before` only the steps are told.
+pub fn grown_report_text(
+    alloc: Global,
+    setting: &Setting,
+    rows_r: u64,
+    rows_s: u64,
+    before: &Run,
+    shape: Shape,
+    placed: u64,
+    after: &Run,
+) -> Result<String, AllocError>
+    requires setting { IsValidSetting setting.now }
+    requires before { AreWithin setting.now.k before.now.journal }
+    requires shift { shape.shift ≤ shape.k }
+    requires k { shape.k ≤ 8 }
+    requires after { AreWithin shape.k after.now.journal }
+    requires steps { length before.now.moved + length after.now.moved < 2 ^ 32 }
+    requires rows_r { rows_r ≤ 2 ^ 32 }
+    requires rows_s { rows_s ≤ 2 ^ 32 }
+    ensures { IfOk result (λ text. string_bytes text
+        ≡ grown_report_of setting.now rows_r rows_s before.now shape placed after.now) }
+{
+    let mut text = String::new(alloc);
+    write_input(&mut text, rows_r, rows_s)?;
+    let steps = before.moved.len();
+    write_grids(
+        &mut text,
+        first_grid(setting),
+        0,
+        &before.journal,
+        &before.moved,
+    )?;
+    write_growth(&mut text, shape, placed)?;
+    write_grids(&mut text, shape, steps, &after.journal, &after.moved)?;
+    let last = last_grid(shape, &after.journal);
+    write_final(&mut text, last, setting.weights, rows_r, rows_s)?;
+    write_joiners(&mut text, &after.loads, &after.made)?;
     Ok(text)
 }

@@ -4,8 +4,8 @@ ghost use Rattle.join_report.specs.Report.{AreWithin};
 mod joined;
 
 use epoch_tags::{Counts, Pair, Pairs};
-use grid_map::Weights;
-use join_report::{pairs_text, report_text};
+use grid_map::{Shape, Weights};
+use join_report::{grown_report_text, pairs_text, report_text, sum_counts};
 use load_controller::{Cause, Journal, TurnLine};
 use pair_collector::{Held, Loads};
 use row_tickets::Feed;
@@ -61,15 +61,22 @@ fn line(epoch: u32, shift: u32) -> TurnLine
     }
 }
 
-// A journal with lines of these epochs and shifts, 2 at most.
-fn journal(alloc: Global, lines: &[(u32, u32)]) -> Result<Journal, AllocError>
-    ensures { IfOk result (AreWithin 2) }
+// A journal with lines of these epochs and shifts, k at most.
+fn narrow_journal(alloc: Global, k: u32, lines: &[(u32, u32)]) -> Result<Journal, AllocError>
+    ensures { IfOk result (AreWithin k) }
 {
     let mut journal = Journal::new(alloc);
     for (epoch, shift) in lines {
-        journal.push(line(*epoch, (*shift).min(2)))?;
+        journal.push(line(*epoch, (*shift).min(k)))?;
     }
     Ok(journal)
+}
+
+// One of a grid of four.
+fn journal(alloc: Global, lines: &[(u32, u32)]) -> Result<Journal, AllocError>
+    ensures { IfOk result (AreWithin 2) }
+{
+    narrow_journal(alloc, 2, lines)
 }
 
 // Eight rows a side in a grid of four that goes to shift 0 and back.
@@ -160,5 +167,89 @@ fn a_heavy_side_counts_its_weight(rt: HostRuntime) -> Result<(), Fail> {
     let wanted =
         "input 8 8\ngrid 1 4 1 moved 0\nfinal 4 1 copies 48 best 48\njoiner 0 held 2 8 made 16\njoiner 1 held 2 8 made 16\njoiner 2 held 2 8 made 16\njoiner 3 held 2 8 made 16\n";
     assert!(rt; text.as_str() == wanted);
+    Ok(())
+}
+
+// Two joiners that take a step to two columns, and split into eight, which take one to one row.
+#[test]
+fn a_grown_report_counts_its_steps_on(rt: HostRuntime) -> Result<(), Fail> {
+    let alloc = rt.alloc();
+    let setting = Setting {
+        k: 1,
+        feeders: 1,
+        workers: 2,
+        batch: 4,
+        feed: Feed::RFirst,
+        fixed: None,
+        weights: Weights { r: 1, s: 1 },
+    };
+    let before = Run {
+        pairs: Pairs::new(alloc),
+        made: counts(alloc, &[4, 4])?,
+        loads: loads(alloc, &[(1, 4), (1, 4)])?,
+        moved: counts(alloc, &[2])?,
+        journal: narrow_journal(alloc, 1, &[(0, 0), (1, 1)])?,
+        bouts: 0,
+    };
+    let after = Run {
+        pairs: Pairs::new(alloc),
+        made: counts(alloc, &[3, 4])?,
+        loads: loads(alloc, &[(1, 2), (1, 1)])?,
+        moved: counts(alloc, &[8])?,
+        journal: narrow_journal(alloc, 3, &[(1, 2), (2, 3), (2, 3)])?,
+        bouts: 0,
+    };
+    let shape = Shape { k: 3, shift: 2 };
+    let text = grown_report_text(alloc, &setting, 1, 9, &before, shape, 22, &after)?;
+    let wanted =
+        "input 1 9\ngrid 1 1 2 moved 2\ngrow 2 4 placed 22\ngrid 2 1 8 moved 8\nfinal 1 8 copies 17 best 17\njoiner 0 held 1 2 made 3\njoiner 1 held 1 1 made 4\n";
+    assert!(rt; text.as_str() == wanted);
+    Ok(())
+}
+
+// One joiner that splits into four, of two rows a side.
+#[test]
+fn a_grid_grows_without_a_step(rt: HostRuntime) -> Result<(), Fail> {
+    let alloc = rt.alloc();
+    let setting = Setting {
+        k: 0,
+        feeders: 1,
+        workers: 1,
+        batch: 64,
+        feed: Feed::Alternate,
+        fixed: None,
+        weights: Weights { r: 1, s: 1 },
+    };
+    let before = Run {
+        pairs: Pairs::new(alloc),
+        made: counts(alloc, &[1])?,
+        loads: loads(alloc, &[(2, 2)])?,
+        moved: Counts::new(alloc),
+        journal: narrow_journal(alloc, 0, &[(0, 0), (0, 0)])?,
+        bouts: 0,
+    };
+    let after = Run {
+        pairs: Pairs::new(alloc),
+        made: counts(alloc, &[1, 0, 0, 1])?,
+        loads: loads(alloc, &[(1, 1), (1, 1), (1, 1), (1, 1)])?,
+        moved: Counts::new(alloc),
+        journal: narrow_journal(alloc, 2, &[(0, 1), (0, 1)])?,
+        bouts: 0,
+    };
+    let shape = Shape { k: 2, shift: 1 };
+    let text = grown_report_text(alloc, &setting, 2, 2, &before, shape, 8, &after)?;
+    let wanted =
+        "input 2 2\ngrow 2 2 placed 8\nfinal 2 2 copies 8 best 8\njoiner 0 held 1 1 made 1\njoiner 1 held 1 1 made 0\njoiner 2 held 1 1 made 0\njoiner 3 held 1 1 made 1\n";
+    assert!(rt; text.as_str() == wanted);
+    Ok(())
+}
+
+#[test]
+fn waves_are_added_place_by_place(rt: HostRuntime) -> Result<(), Fail> {
+    let alloc = rt.alloc();
+    let first = counts(alloc, &[16, 0, 3])?;
+    let second = counts(alloc, &[1, 2, 0])?;
+    let sums = sum_counts(alloc, &first, &second)?;
+    assert!(rt; sums.as_slice() == [17, 2, 3].as_slice());
     Ok(())
 }

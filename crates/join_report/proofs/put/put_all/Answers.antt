@@ -31,7 +31,8 @@ returns-in_err-put-clause-takes g c more h =
     let before : c.loop-place.place ≤ c.min-end.result = omega arith in
     let rest = length c.args.bytes.now - c.min-end.result + more in
     let room : c.loop-place.place
-    + (length (take (c.min-end.result - c.loop-place.place) (drop c.loop-place.place c.args.bytes.now)) + rest) ≡ length c.args.bytes.now + more =
+    + (length (take (c.min-end.result - c.loop-place.place) (drop c.loop-place.place c.args.bytes.now)) + rest)
+    ≡ length c.args.bytes.now + more =
     piece_room c.args.bytes.now c.loop-place.place c.min-end.result rest before (omega arith) ∙ omega arith in
     absurd (cc (c.in_err-put.ensures.takes rest
     (c.loop-place.invariant.left (length (take (c.min-end.result - c.loop-place.place)

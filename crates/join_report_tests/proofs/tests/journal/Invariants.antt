@@ -1,5 +1,0 @@
-use Rattle.join_report.specs.Report.{AreWithin}
-use Rattle.join_report_tests.proofs.tests.journal.Given as goal
-
-abbrev pub invariant-loop-epoch : goal.invariant-loop-epoch
-invariant-loop-epoch l = AreWithin 2 l.journal
