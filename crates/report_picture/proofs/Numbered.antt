@@ -23,16 +23,24 @@ one_more line n (suc id) (y ∷ xs) x at =
     ∙ ap (λ m. (line n y ++ lines_from line (n + 1) (take id xs)) ++ line m x) there
 
 -- one line more behind a text
+pub lines_more_from : {X : Type 0} (line : ℕ → X → List ℕ) (n : ℕ) (before text text' : List ℕ) (id : ℕ) (xs : List X)
+    (x : X)
+    → slice_get xs id ≡ Some x
+    → text ≡ before ++ lines_from line n (take id xs) → text' ≡ text ++ line (n + id) x
+    → text' ≡ before ++ lines_from line n (take (id + 1) xs)
+lines_more_from line n before text text' id xs x at so_far more =
+    let next : id + 1 ≡ suc id = omega arith in
+    let lines = lines_from line n (take id xs) in
+    more ∙ ap (λ t. t ++ line (n + id) x) so_far
+    ∙ append_assoc before lines (line (n + id) x)
+    ∙ ap (λ all. before ++ all) (sym (one_more line n id xs x at))
+    ∙ ap (λ m. before ++ lines_from line n (take m xs)) (sym next)
+
+-- the same of things that are numbered from 0
 pub lines_more : {X : Type 0} (line : ℕ → X → List ℕ) (before text text' : List ℕ) (id : ℕ) (xs : List X) (x : X)
     → slice_get xs id ≡ Some x
     → text ≡ before ++ lines_from line 0 (take id xs) → text' ≡ text ++ line id x
     → text' ≡ before ++ lines_from line 0 (take (id + 1) xs)
 lines_more line before text text' id xs x at so_far more =
-    let next : id + 1 ≡ suc id = omega arith in
-    let here : 0 + id ≡ id = omega arith in
-    let lines = lines_from line 0 (take id xs) in
-    more ∙ ap (λ t. t ++ line id x) so_far
-    ∙ append_assoc before lines (line id x)
-    ∙ ap (λ m. before ++ (lines ++ line m x)) (sym here)
-    ∙ ap (λ all. before ++ all) (sym (one_more line 0 id xs x at))
-    ∙ ap (λ m. before ++ lines_from line 0 (take m xs)) (sym next)
+    let here : id ≡ 0 + id = omega arith in
+    lines_more_from line 0 before text text' id xs x at so_far (more ∙ ap (λ m. text ++ line m x) here)

@@ -1,10 +1,11 @@
 -- The picture of a report, an SVG. What isn't the report's own in it is a total, a ratio, a place, a width or a shade.
 use Rattle.std.specs.Prelude.{◌+◌, ◌-◌, ◌*◌, ◌/◌, ◌%◌, ◌==◌, ◌++◌, ℕ, List, flat_map, length, min, max}
-use Rattle.std.specs.Prelude.{nat_le, nat_lt, if◌then◌else◌, codes}
+use Rattle.std.specs.Prelude.{[], Bool, ◌||◌, not, Option, None, Some, is_some, option_map, unwrap_or, nat_le, nat_lt, if◌then◌else◌, codes}
 use Rattle.std.specs.List.{enumerate_from}
 use Rattle.std.specs.Fmt.{decimal}
 use Rattle.report_picture.specs.Totals.{held_by, most_held, all_rows_r, all_rows_s, all_made}
 use Rattle.report_picture.specs.declared.report.Step.{Step}
+use Rattle.report_picture.specs.declared.report.Growth.{Growth}
 use Rattle.report_picture.specs.declared.report.Joiner.{Joiner}
 use Rattle.report_picture.specs.declared.report.Report.{Report}
 
@@ -27,6 +28,21 @@ counts_of x y made steps =
     ++ (decimal y ++ (codes ", pairs: " ++ (decimal made
     ++ (codes ". Changes of the grid: " ++ (decimal steps ++ codes ".")))))))
 
+-- how many changes of the grid there were in all, before a growth and since
+abbrev pub changes_of : Report → ℕ
+changes_of report = length report.steps.items + length report.later.items
+
+-- a growth in words
+unfoldable pub grown_words_of : Growth → List ℕ
+grown_words_of growth =
+    codes " Grown to rows " ++ (decimal growth.n ++ (codes ", columns " ++ (decimal growth.m
+    ++ (codes ", rows placed: " ++ (decimal growth.placed ++ codes ".")))))
+
+-- the growth in words, if there was one
+abbrev pub growth_words_of : Option Growth → List ℕ
+growth_words_of None = []
+growth_words_of (Some growth) = grown_words_of growth
+
 -- the last grid in words
 unfoldable pub shape_of : ℕ → ℕ → List ℕ
 shape_of n m =
@@ -45,12 +61,13 @@ ground = codes " times the best.</desc>\n<rect width='100%' height='100%' fill='
 abbrev pub hundredths_of : ℕ → ℕ → ℕ
 hundredths_of copies best = if best == 0 then 100 else (copies * 100 + best / 2) / best
 
--- the picture in words: how many joiners, rows, pairs and changes, the last grid, and its load against the best
+-- the picture in words: how many joiners, rows, pairs and changes, the growth, the last grid, and its load against the
+-- best
 abbrev pub words_of : Report → List ℕ
 words_of report =
     name_of (report.n * report.m)
-    ++ counts_of report.x report.y (all_made report.joiners.items) (length report.steps.items)
-    ++ shape_of report.n report.m ++ ratio_of (hundredths_of report.copies report.best) ++ ground
+    ++ counts_of report.x report.y (all_made report.joiners.items) (changes_of report)
+    ++ growth_words_of report.growth ++ shape_of report.n report.m ++ ratio_of (hundredths_of report.copies report.best) ++ ground
 
 -- the numbers of rows and pairs
 unfoldable pub title_of : ℕ → ℕ → ℕ → List ℕ
@@ -58,12 +75,16 @@ title_of x y made =
     codes "<text x='24' y='32' text-anchor='start' font-size='15'>rows of R: " ++ (decimal x
     ++ (codes ", rows of S: " ++ (decimal y ++ (codes ", pairs: " ++ (decimal made ++ codes "</text>\n")))))
 
--- a pattern of cells of which a square has n rows and m columns
+-- how wide or high each of so many cells of a square is, at least one pixel
+abbrev pub cell_size : ℕ → ℕ
+cell_size cells = max (128 / cells) 1
+
+-- a pattern of cells of this width and height
 unfoldable pub pattern_of : ℕ → ℕ → ℕ → List ℕ
-pattern_of id n m =
-    codes "<pattern id='grid" ++ (decimal id ++ (codes "' width='" ++ (decimal (128 / m)
+pattern_of id width height =
+    codes "<pattern id='grid" ++ (decimal id ++ (codes "' width='" ++ (decimal width
     ++ (codes "' height='"
-    ++ (decimal (128 / n)
+    ++ (decimal height
     ++ codes "' patternUnits='userSpaceOnUse'><path d='M0 0H128V128H0Z' fill='#e8f1fb' stroke='#1f5fa8' stroke-width='2'/></pattern>\n")))))
 
 -- a square that is filled by a pattern
@@ -72,7 +93,7 @@ filled_of id = codes "<rect width='128' height='128' fill='url(#grid" ++ (decima
 
 -- a square that is cut into n rows and m columns
 abbrev pub square_of : ℕ → ℕ → ℕ → List ℕ
-square_of id n m = pattern_of id n m ++ filled_of id
+square_of id n m = pattern_of id (cell_size m) (cell_size n) ++ filled_of id
 
 -- the place of a square
 unfoldable pub opening_of : ℕ → List ℕ
@@ -83,13 +104,22 @@ abbrev pub columns_at_start : ℕ → ℕ
 columns_at_start joiners =
     if nat_lt joiners 4 then 1 else if nat_lt joiners 16 then 2 else if nat_lt joiners 64 then 4 else 8
 
--- the columns of the first grid, which is the last where there is no step
-abbrev pub first_columns : Report → ℕ
-first_columns report = if length report.steps.items == 0 then report.m else columns_at_start (report.n * report.m)
+-- the joiners of the first grid: a fourth of those that it has grown into, or as many as the last grid has
+abbrev pub first_joiners : Report → ℕ
+first_joiners report =
+    unwrap_or (option_map (λ (growth : Growth). max (growth.n * growth.m / 4) 1) report.growth) (report.n * report.m)
 
--- the rows of the first grid, which has as many joiners as the last
+-- whether the grid has changed or grown
+abbrev pub is_changed : Report → Bool
+is_changed report = is_some report.growth || not (length report.steps.items == 0)
+
+-- the columns of the first grid, which is the last where it never changed
+abbrev pub first_columns : Report → ℕ
+first_columns report = if is_changed report then columns_at_start (first_joiners report) else report.m
+
+-- the rows of the first grid
 abbrev pub first_rows : Report → ℕ
-first_rows report = (report.n * report.m) / first_columns report
+first_rows report = first_joiners report / first_columns report
 
 -- the names of the first grid
 unfoldable pub first_names_of : ℕ → ℕ → List ℕ
@@ -115,14 +145,44 @@ names_of epoch step =
     codes "<text x='64' y='-10'>epoch " ++ (decimal epoch ++ (codes "</text><text x='64' y='148'>" ++ (decimal step.n
     ++ (codes " &#215; " ++ (decimal step.m ++ codes "</text>\n")))))
 
--- the grid of a step
-abbrev pub step_of : ℕ → Step → List ℕ
-step_of epoch step =
-    opening_of (24 + 208 * epoch) ++ square_of epoch step.n step.m ++ names_of epoch step ++ moved_of step.moved
+-- the grid of a step, so many places behind that of its epoch
+abbrev pub step_of : ℕ → ℕ → Step → List ℕ
+step_of aside epoch step =
+    opening_of (24 + 208 * (epoch + aside)) ++ square_of (epoch + aside) step.n step.m ++ names_of epoch step
+    ++ moved_of step.moved
 
--- the grids of all steps, the first of which leads to epoch 1
-abbrev pub steps_of : List Step → List ℕ
-steps_of steps = flat_map (λ step. step_of (step.0 + 1) step.1) (enumerate_from 0 steps)
+-- the grids of the steps behind so many
+abbrev pub steps_of : ℕ → ℕ → List Step → List ℕ
+steps_of aside before steps = flat_map (λ step. step_of aside (step.0 + 1) step.1) (enumerate_from before steps)
+
+-- an arrow to the grid of a growth, with the rows that its joiners were given
+unfoldable pub placed_of : ℕ → List ℕ
+placed_of placed =
+    codes "<path d='M-72 64H-8m-8 -5l8 5l-8 5' fill='none' stroke='#1c2733'/><text x='-40' y='56'>" ++ (decimal placed
+    ++ codes "</text><text x='-40' y='80'>placed</text></g>\n")
+
+-- the names of the grid of a growth
+unfoldable pub grown_names_of : Growth → List ℕ
+grown_names_of growth =
+    codes "<text x='64' y='-10'>grown to</text><text x='64' y='148'>" ++ (decimal growth.n
+    ++ (codes " &#215; " ++ (decimal growth.m ++ codes "</text>\n")))
+
+-- the grid of a growth
+abbrev pub grown_of : ℕ → Growth → List ℕ
+grown_of place growth =
+    opening_of (24 + 208 * place) ++ square_of place growth.n growth.m ++ grown_names_of growth
+    ++ placed_of growth.placed
+
+-- the grid of the growth, if there was one
+abbrev pub growth_of : ℕ → Option Growth → List ℕ
+growth_of place None = []
+growth_of place (Some growth) = grown_of place growth
+
+-- the grids behind the first: those of the steps, of the growth, and of the steps since, one place further behind
+abbrev pub grids_of : Report → List ℕ
+grids_of report =
+    steps_of 0 0 report.steps.items ++ growth_of (length report.steps.items + 1) report.growth
+    ++ steps_of 1 (length report.steps.items) report.later.items
 
 -- the load
 unfoldable pub load_name_of : ℕ → List ℕ
@@ -203,9 +263,13 @@ field_of n m joiners =
     last_of n m (all_rows_r joiners) (all_rows_s joiners) ++ legend_of (most_held joiners)
     ++ cells_of m (most_held joiners) joiners
 
+-- how many grids are drawn
+abbrev pub grids_drawn : Report → ℕ
+grids_drawn report = changes_of report + (if is_some report.growth then 2 else 1)
+
 -- room for the title, all grids and the field
 abbrev pub width_of : Report → ℕ
-width_of report = max 640 (max (24 + 208 * (length report.steps.items + 1)) (48 + 124 * report.m))
+width_of report = max 640 (max (24 + 208 * grids_drawn report) (48 + 124 * report.m))
 
 -- the same from above to below
 abbrev pub height_of : Report → ℕ
@@ -216,5 +280,5 @@ abbrev pub picture_of : Report → List ℕ
 picture_of report =
     head_of (width_of report) (height_of report) ++ words_of report
     ++ title_of report.x report.y (all_made report.joiners.items)
-    ++ first_of report ++ steps_of report.steps.items ++ load_of report.copies report.best
+    ++ first_of report ++ grids_of report ++ load_of report.copies report.best
     ++ field_of report.n report.m report.joiners.items ++ codes "</svg>\n"

@@ -1,9 +1,10 @@
 -- The lines of a report.
 use Rattle.std.specs.Prelude.{◌≡◌, ◌≤◌, ◌<◌, ◌+◌, ◌-◌, ◌*◌, ◌^◌, ◌==◌, ◌++◌, ◌⊎◌, ℕ, All, IsTrue}
-use Rattle.std.specs.Prelude.{List, [], ◌∷◌, eqb, get_or, drop, flat_map, count_by, length, codes}
+use Rattle.std.specs.Prelude.{List, [], ◌∷◌, Option, None, Some, IfSome, eqb, get_or, drop, flat_map, count_by, length, codes}
 use Rattle.std.specs.List.{enumerate_from, slice_split, starts_with}
 use Rattle.std.specs.Fmt.{decimal}
 use Rattle.report_picture.specs.declared.report.Step.{Step}
+use Rattle.report_picture.specs.declared.report.Growth.{Growth}
 use Rattle.report_picture.specs.declared.report.Joiner.{Joiner}
 use Rattle.report_picture.specs.declared.report.Report.{Report}
 
@@ -17,9 +18,20 @@ grid_line epoch step =
     codes "grid " ++ decimal epoch ++ codes " " ++ decimal step.n ++ codes " " ++ decimal step.m
     ++ codes " moved " ++ decimal step.moved ++ codes "\n"
 
--- the lines of all steps, the first of which leads to epoch 1
-abbrev pub grid_lines : List Step → List ℕ
-grid_lines steps = flat_map (λ step. grid_line (step.0 + 1) step.1) (enumerate_from 0 steps)
+-- the lines of the steps behind so many
+abbrev pub grid_lines : ℕ → List Step → List ℕ
+grid_lines before steps = flat_map (λ step. grid_line (step.0 + 1) step.1) (enumerate_from before steps)
+
+-- the grid after each joiner has split into four, and how many rows the new joiners were given
+abbrev pub grow_line : Growth → List ℕ
+grow_line growth =
+    codes "grow " ++ decimal growth.n ++ codes " " ++ decimal growth.m
+    ++ codes " placed " ++ decimal growth.placed ++ codes "\n"
+
+-- the line of a growth, if there was one
+abbrev pub growth_lines : Option Growth → List ℕ
+growth_lines None = []
+growth_lines (Some growth) = grow_line growth
 
 -- the last grid, its copies, and the fewest
 abbrev pub final_line : ℕ → ℕ → ℕ → ℕ → List ℕ
@@ -37,25 +49,35 @@ joiner_line id joiner =
 abbrev pub joiner_lines : List Joiner → List ℕ
 joiner_lines joiners = flat_map (λ joiner. joiner_line joiner.0 joiner.1) (enumerate_from 0 joiners)
 
--- the numbers of rows, the steps, the last grid, and the joiners
+-- the numbers of rows, the steps, the growth and the steps since, numbered on, the last grid, and the joiners
 abbrev pub report_lines : Report → List ℕ
 report_lines report =
-    input_line report.x report.y ++ grid_lines report.steps.items
+    input_line report.x report.y ++ grid_lines 0 report.steps.items
+    ++ growth_lines report.growth ++ grid_lines (length report.steps.items) report.later.items
     ++ final_line report.n report.m report.copies report.best
     ++ joiner_lines report.joiners.items
 
 -- a number of rows or columns of a grid
 abbrev pub IsSide : ℕ → Type 0
-IsSide n = (0 < n) × (n ≤ 64)
+IsSide n = (0 < n) × (n ≤ 256)
 
 -- the grid that a step leads to has a number of rows and of columns
 abbrev pub HasSides : Step → Type 0
 HasSides step = IsSide step.n × IsSide step.m
 
--- each grid has 1 to 64 rows and as many columns, and there are at most 2 ^ 16 steps
+-- the grid of a growth has a number of rows and of columns
+abbrev pub HasGrownSides : Growth → Type 0
+HasGrownSides growth = IsSide growth.n × IsSide growth.m
+
+-- each grid has 1 to 256 rows and as many columns, there are at most 2 ^ 16 steps, and as many since a growth, which
+-- there are only where there was one
 pub record HasGrids (report : Report) : Type 0 where
   pub steps : All HasSides report.steps.items
   pub few : length report.steps.items ≤ 2 ^ 16
+  pub growth : IfSome report.growth HasGrownSides
+  pub later : All HasSides report.later.items
+  pub few_later : length report.later.items ≤ 2 ^ 16
+  pub since : report.growth ≡ None → report.later.items ≡ []
   pub n : IsSide report.n
   pub m : IsSide report.m
 

@@ -78,7 +78,7 @@ fn write_joiner(
     joiner: Joiner,
 ) -> Result<(), AllocError>
     requires side { IsSide m }
-    requires id { id < 2 ^ 12 }
+    requires id { id < 2 ^ 16 }
     ensures { OnOk result
         (string_bytes text.new ≡ string_bytes text.old ++ drawing.joiner_of m most id joiner) }
 {
@@ -95,7 +95,7 @@ fn write_joiners(
     joiners: &[Joiner],
 ) -> Result<(), AllocError>
     requires side { IsSide m }
-    requires few { length joiners.now ≤ 2 ^ 12 }
+    requires few { length joiners.now ≤ 2 ^ 16 }
     ensures { OnOk result
         (string_bytes text.new ≡ string_bytes text.old ++ drawing.cells_of m most joiners.now) }
 {
@@ -114,7 +114,7 @@ pub(crate) fn write_field(
     totals: Totals,
 ) -> Result<(), AllocError>
     requires side { IsSide m }
-    requires few { length joiners.now ≤ 2 ^ 12 }
+    requires few { length joiners.now ≤ 2 ^ 16 }
     requires rows_r { totals.rows_r ≡ of.all_rows_r joiners.now }
     requires rows_s { totals.rows_s ≡ of.all_rows_s joiners.now }
     requires most { totals.most ≡ of.most_held joiners.now }

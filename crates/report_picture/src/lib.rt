@@ -14,7 +14,7 @@ mod words;
 
 pub use error::ReportError;
 pub use read::read_report;
-pub use report::{Joiner, Report, Step};
+pub use report::{Growth, Joiner, Report, Step};
 pub use svg::picture;
 
 #[cfg(test)]

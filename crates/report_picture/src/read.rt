@@ -1,16 +1,16 @@
 // A report's numbers, read back from its text. The lines are read loosely, each number by its place in its line,
 // into a report that is whole in any case; the text of that report is then compared with the one that was read.
 
-ghost use Rattle.std.specs.Prelude.{◌≡◌, ◌≢◌, ◌≤◌, ◌<◌, ◌+◌, ◌^◌, ◌⊎◌, ℕ, [], IfOk, IsTrue, OnOk};
+ghost use Rattle.std.specs.Prelude.{◌≡◌, ◌≢◌, ◌≤◌, ◌<◌, ◌+◌, ◌^◌, ◌⊎◌, ℕ, [], All, IfOk, IsTrue, OnOk};
 ghost use Rattle.std.specs.Prelude.{Err, Some, get_or, length, slice_get, take, unwrap_or};
 ghost use Rattle.std.specs.Fmt.{decimal};
 ghost use Rattle.report_picture.specs.Lines.{AreLines, BeginsLine, EndsWith, EndsWithReport};
-ghost use Rattle.report_picture.specs.Lines.{HasGrids, IsSide, IsWhole, MayBegin, feeds_in, words_in};
+ghost use Rattle.report_picture.specs.Lines.{HasGrids, HasSides, IsSide, IsWhole, MayBegin, feeds_in, words_in};
 ghost use Rattle.report_picture.specs.declared.error.ReportError.TheVariants.{Line};
 
 use crate::error::ReportError;
 use crate::lines::lines_text;
-use crate::report::{Joiner, Report, Step};
+use crate::report::{Growth, Joiner, Report, Step};
 use std::alloc::{AllocError, Global};
 use std::str;
 
@@ -46,24 +46,48 @@ fn number(line: &[u8], place: usize) -> u64
 fn side(line: &[u8], place: usize) -> u64
     ensures { IsSide result }
 {
-    number(line, place).clamp(1, 64)
+    number(line, place).clamp(1, 256)
 }
 
-// As many steps as a report has at most.
+// As many steps as a report has at most, and as many since a growth.
 const MOST_STEPS: usize = 65536;
 
-fn take_grid(report: &mut Report, line: &[u8]) -> Result<(), AllocError>
-    requires { HasGrids report.old }
-    ensures { HasGrids report.new }
+fn push_step(steps: &mut Vec<Step>, line: &[u8]) -> Result<(), AllocError>
+    requires few { length steps.old.items ≤ 2 ^ 16 }
+    requires sides { All HasSides steps.old.items }
+    ensures few { length steps.new.items ≤ 2 ^ 16 }
+    ensures sides { All HasSides steps.new.items }
 {
-    if report.steps.len() < MOST_STEPS {
-        report.steps.push(Step {
+    if steps.len() < MOST_STEPS {
+        steps.push(Step {
             n: side(line, 2),
             m: side(line, 3),
             moved: number(line, 5),
         })?;
     }
     Ok(())
+}
+
+fn take_grid(report: &mut Report, line: &[u8]) -> Result<(), AllocError>
+    requires { HasGrids report.old }
+    ensures { HasGrids report.new }
+{
+    if report.growth.is_some() {
+        push_step(&mut report.later, line)
+    } else {
+        push_step(&mut report.steps, line)
+    }
+}
+
+fn take_growth(report: &mut Report, line: &[u8])
+    requires { HasGrids report.old }
+    ensures { HasGrids report.new }
+{
+    report.growth = Some(Growth {
+        n: side(line, 1),
+        m: side(line, 2),
+        placed: number(line, 4),
+    });
 }
 
 fn take_final(report: &mut Report, line: &[u8])
@@ -97,6 +121,8 @@ fn take_line(report: &mut Report, line: &[u8]) -> Result<(), AllocError>
         report.y = number(line, 2);
     } else if line.starts_with(b"grid ") {
         take_grid(report, line)?;
+    } else if line.starts_with(b"grow ") {
+        take_growth(report, line);
     } else if line.starts_with(b"final ") {
         take_final(report, line);
     } else if line.starts_with(b"joiner ") {
@@ -127,6 +153,8 @@ fn nearest(alloc: Global, text: &[u8]) -> Result<Report, AllocError>
         x: 0,
         y: 0,
         steps: Vec::new(alloc),
+        growth: None,
+        later: Vec::new(alloc),
         n: 1,
         m: 1,
         copies: 0,
@@ -225,7 +253,7 @@ fn line_at(text: &[u8], place: usize) -> u64
 }
 
 /// The report that a text ends with. Lines before it are passed over: it begins at the last line
-/// that begins with `input `. A report has at most 65,536 `grid` lines.
+/// that begins with `input `. A report has at most 65,536 `grid` lines, and as many behind a `grow` line.
 pub fn read_report(alloc: Global, text: &[u8]) -> Result<Report, ReportError>
     ensures ok { IfOk result (EndsWithReport text.now) }
     ensures whole { IfOk result IsWhole }

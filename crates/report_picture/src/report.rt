@@ -10,6 +10,14 @@ pub struct Step {
     pub moved: u64,
 }
 
+/// The grid after each joiner has split into four, and how many rows the new joiners were given.
+#[derive(Clone, Copy)]
+pub struct Growth {
+    pub n: u64,
+    pub m: u64,
+    pub placed: u64,
+}
+
 /// The rows of R and of S that a joiner holds, and the pairs that it made.
 #[derive(Clone, Copy)]
 pub struct Joiner {
@@ -19,12 +27,15 @@ pub struct Joiner {
 }
 
 /// The numbers of a report. Epochs and joiners aren't among them: a step stands at the place of its epoch,
-/// counted from 1, and a joiner at its id, counted from 0.
+/// counted from 1, those of `later` counted on, and a joiner at its id, counted from 0.
 #[derive(Drop)]
 pub struct Report {
     pub x: u64,
     pub y: u64,
     pub steps: Vec<Step>,
+    pub growth: Option<Growth>,
+    /// The steps since the growth.
+    pub later: Vec<Step>,
     pub n: u64,
     pub m: u64,
     pub copies: u64,

@@ -1,15 +1,15 @@
 // The picture of a report.
 
-ghost use Rattle.std.specs.Prelude.{◌≡◌, ◌≤◌, ◌++◌, IfOk, OnOk, string_bytes};
+ghost use Rattle.std.specs.Prelude.{◌≡◌, ◌≤◌, ◌^◌, ◌++◌, IfOk, OnOk, string_bytes};
 ghost use Rattle.report_picture.specs.Lines.{IsSide, IsWhole};
 ghost use Rattle.report_picture.specs.Drawing as drawing;
 
 use crate::field::write_field;
-use crate::life::{write_first, write_steps};
+use crate::life::{write_first, write_grids};
 use crate::load::write_load;
 use crate::report::Report;
 use crate::totals::sum_up;
-use crate::words::write_words;
+use crate::words::{changes, write_words};
 use std::alloc::{AllocError, Global};
 
 fn write_head(text: &mut String, width: u64, height: u64) -> Result<(), AllocError>
@@ -32,11 +32,20 @@ fn write_title(text: &mut String, x: u64, y: u64, made: u128) -> Result<(), Allo
     )
 }
 
+// How many grids are drawn: the first, one behind each step, and that of a growth.
+fn grids(report: &Report) -> u64
+    requires { IsWhole report.now }
+    ensures grids { result ≡ drawing.grids_drawn report.now }
+    ensures few { result ≤ 2 ^ 18 }
+{
+    changes(report) + if report.growth.is_some() { 2 } else { 1 }
+}
+
 fn width(report: &Report) -> u64
     requires { IsWhole report.now }
     ensures { result ≡ drawing.width_of report.now }
 {
-    let life = 24 + 208 * (report.steps.len() as u64 + 1);
+    let life = 24 + 208 * grids(report);
     let field = 48 + 124 * report.m;
     life.max(field).max(640)
 }
@@ -50,7 +59,7 @@ fn height(report: &Report) -> u64
 
 /// A report as an SVG. For those who don't see it a title and a description in words; then, from
 /// above to below, the numbers of rows and pairs; the grid's shapes from the first over each step
-/// to the last, between them the rows that moved; the load against the best, in words and on a
+/// and a growth to the last, between them the rows that moved or were placed; the load against the best, in words and on a
 /// scale from the best to 5/4 of it; and the joiners at their places in the last grid, with the
 /// rows that they hold and the pairs that they made, shaded by these rows from none to the most
 /// that a joiner holds.
@@ -64,7 +73,7 @@ pub fn picture(alloc: Global, report: &Report) -> Result<String, AllocError>
     write_words(&mut text, report, all.made)?;
     write_title(&mut text, report.x, report.y, all.made)?;
     write_first(&mut text, report)?;
-    write_steps(&mut text, &report.steps)?;
+    write_grids(&mut text, report)?;
     write_load(&mut text, report.copies, report.best)?;
     write_field(&mut text, report.n, report.m, &report.joiners, all)?;
     text.push_str("</svg>\n")?;

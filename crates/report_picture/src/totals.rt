@@ -22,17 +22,17 @@ pub(crate) fn held(joiner: Joiner) -> u128
 }
 
 fn plus(total: u128, more: u64) -> u128
-    requires { total ≤ 2 ^ 76 }
+    requires { total ≤ 2 ^ 80 }
     ensures sum { result ≡ total + more }
     ensures within { result ≤ total + 2 ^ 64 }
 {
     total + u128::from(more)
 }
 
-/// The totals of at most 64 by 64 joiners.
+/// The totals of at most 256 by 256 joiners.
 #[tactic(auto, using(std::proofs::lemmas::List::Sums::sum_by_more, std::proofs::lemmas::List::Sums::fold_more))]
 pub(crate) fn sum_up(joiners: &[Joiner]) -> Totals
-    requires { length joiners.now ≤ 2 ^ 12 }
+    requires { length joiners.now ≤ 2 ^ 16 }
     ensures rows_r { result.rows_r ≡ of.all_rows_r joiners.now }
     ensures rows_s { result.rows_s ≡ of.all_rows_s joiners.now }
     ensures made { result.made ≡ of.all_made joiners.now }

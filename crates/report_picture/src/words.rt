@@ -1,12 +1,12 @@
 // The picture in words, for those who don't see it.
 
-ghost use Rattle.std.specs.Prelude.{◌≡◌, ◌++◌, OnOk, string_bytes};
+ghost use Rattle.std.specs.Prelude.{◌≡◌, ◌≤◌, ◌^◌, ◌++◌, OnOk, string_bytes};
 ghost use Rattle.report_picture.specs.Lines.{IsWhole};
 ghost use Rattle.report_picture.specs.Drawing as drawing;
 ghost use Rattle.report_picture.specs.Totals as of;
 
 use crate::load::{hundredths, write_ratio};
-use crate::report::Report;
+use crate::report::{Growth, Report};
 use std::alloc::AllocError;
 
 fn write_name(text: &mut String, joiners: u64) -> Result<(), AllocError>
@@ -24,6 +24,36 @@ fn write_counts(text: &mut String, x: u64, y: u64, made: u128, steps: u64) -> Re
         text,
         "<desc>Rows of R: {x}, rows of S: {y}, pairs: {made}. Changes of the grid: {steps}."
     )
+}
+
+/// How many changes of the grid there were.
+pub(crate) fn changes(report: &Report) -> u64
+    requires { IsWhole report.now }
+    ensures changes { result ≡ drawing.changes_of report.now }
+    ensures few { result ≤ 2 ^ 17 }
+{
+    report.steps.len() as u64 + report.later.len() as u64
+}
+
+fn write_grown(text: &mut String, growth: Growth) -> Result<(), AllocError>
+    ensures { OnOk result
+        (string_bytes text.new ≡ string_bytes text.old ++ drawing.grown_words_of growth) }
+{
+    let Growth { n, m, placed } = growth;
+    write!(
+        text,
+        " Grown to rows {n}, columns {m}, rows placed: {placed}."
+    )
+}
+
+fn write_growth(text: &mut String, growth: Option<Growth>) -> Result<(), AllocError>
+    ensures { OnOk result
+        (string_bytes text.new ≡ string_bytes text.old ++ drawing.growth_words_of growth) }
+{
+    match growth {
+        None => Ok(()),
+        Some(growth) => write_grown(text, growth),
+    }
 }
 
 fn write_shape(text: &mut String, n: u64, m: u64) -> Result<(), AllocError>
@@ -50,8 +80,8 @@ pub(crate) fn write_words(text: &mut String, report: &Report, made: u128) -> Res
         (string_bytes text.new ≡ string_bytes text.old ++ drawing.words_of report.now) }
 {
     write_name(text, report.n * report.m)?;
-    let steps = report.steps.len() as u64;
-    write_counts(text, report.x, report.y, made, steps)?;
+    write_counts(text, report.x, report.y, made, changes(report))?;
+    write_growth(text, report.growth)?;
     write_shape(text, report.n, report.m)?;
     write_ratio(text, hundredths(report.copies, report.best))?;
     write_ground(text)

@@ -6,5 +6,5 @@ use Rattle.report_picture.proofs.life.write_steps.Given as goal
 
 abbrev pub invariant-loop-index : goal.invariant-loop-index
 invariant-loop-index l =
-    string_bytes l.text ≡ string_bytes l.initial.text ++ lines_from (λ index step. step_of (index + 1) step) 0
-    (take l.index l.steps)
+    string_bytes l.text ≡ string_bytes l.initial.text
+    ++ lines_from (λ index step. step_of l.aside (index + 1) step) l.before (take l.index l.steps)

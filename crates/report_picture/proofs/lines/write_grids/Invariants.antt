@@ -6,5 +6,5 @@ use Rattle.report_picture.proofs.lines.write_grids.Given as goal
 
 abbrev pub invariant-loop-index : goal.invariant-loop-index
 invariant-loop-index l =
-    string_bytes l.text ≡ string_bytes l.initial.text ++ lines_from (λ index step. grid_line (index + 1) step) 0
+    string_bytes l.text ≡ string_bytes l.initial.text ++ lines_from (λ index step. grid_line (index + 1) step) l.before
     (take l.index l.steps)
