@@ -1,5 +1,7 @@
--- The changes of the grid that a journal tells.
-use Rattle.std.specs.Prelude.{◌==◌, ◌&&◌, ℕ, List, [], ◌∷◌, if◌then◌else◌}
+-- The changes of the grid that a journal tells, and where its waves begin.
+use Rattle.std.specs.Prelude.{◌==◌, ◌&&◌, ℕ, Bool, true, false, List, [], ◌∷◌, filter, if◌then◌else◌}
+use Rattle.load_controller.specs.declared.line.Cause.{Cause}
+use Rattle.load_controller.specs.declared.line.Cause.TheVariants.{Start, Wave, Count, Settle, Drain}
 use Rattle.load_controller.specs.declared.line.TurnLine.{TurnLine}
 use Rattle.journal_picture.specs.declared.changes.Step.{Step}
 
@@ -23,3 +25,15 @@ steps_from before (line ∷ rest) =
 abbrev pub steps_of : List TurnLine → List Step
 steps_of [] = []
 steps_of (first ∷ rest) = steps_from first rest
+
+-- a line begins a wave behind the first
+abbrev pub is_wave : Cause → Bool
+is_wave Start = false
+is_wave Wave = true
+is_wave (Count feeder dr ds) = false
+is_wave (Settle joiner) = false
+is_wave (Drain feeder) = false
+
+-- the lines of a journal that begin the waves behind the first
+abbrev pub waves_of : List TurnLine → List TurnLine
+waves_of journal = filter (λ line. is_wave line.cause) journal

@@ -1,10 +1,10 @@
-// The changes of the grid that a journal tells.
+// The changes of the grid that a journal tells, and where its waves begin.
 
 ghost use Rattle.std.specs.Prelude.{◌≡◌, IfOk};
 ghost use Rattle.journal_picture.specs.Changes as of;
 
 use join_rows::Items;
-use load_controller::TurnLine;
+use load_controller::{Cause, TurnLine};
 use std::alloc::{AllocError, Global};
 
 /// A step from one shape of the grid to the next.
@@ -54,4 +54,26 @@ pub fn steps(alloc: Global, journal: &[TurnLine]) -> Result<Items<Step>, AllocEr
         before = begun;
     }
     Ok(steps)
+}
+
+fn is_wave(cause: Cause) -> bool
+    ensures { result ≡ of.is_wave cause }
+{
+    match cause {
+        Cause::Wave => true,
+        _ => false,
+    }
+}
+
+/// The lines of a journal that begin the waves behind the first, in its order.
+pub fn waves(alloc: Global, journal: &[TurnLine]) -> Result<Items<TurnLine>, AllocError>
+    ensures { IfOk result (λ waves. waves ≡ of.waves_of journal.now) }
+{
+    let mut waves = Items::new(alloc);
+    for &line in journal {
+        if is_wave(line.cause) {
+            waves.push(line)?;
+        }
+    }
+    Ok(waves)
 }

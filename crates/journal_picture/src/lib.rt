@@ -13,7 +13,7 @@ mod place;
 mod point;
 mod words;
 
-pub use changes::{Step, steps};
+pub use changes::{Step, steps, waves};
 pub use curve::{Greatest, Stretch, greatest_heights, stretches};
 pub use drawing::Drawing;
 pub use laws::{each_line_has_its_point, points_stay_within};

@@ -4,7 +4,7 @@ ghost use Rattle.std.specs.Prelude.{◌≤◌};
 ghost use Rattle.grid_map.specs.Load.{AreWeights};
 
 use crate::axes::{tick, write_axis_across, write_axis_up, write_bound};
-use crate::changes::{Step, steps};
+use crate::changes::{Step, steps, waves};
 use crate::curve::{Greatest, Stretch, greatest_heights, stretches};
 use crate::labels::{Labels, lanes};
 use crate::place::{across, down, height, rows};
@@ -24,6 +24,8 @@ pub(crate) struct Chart {
     pub(crate) greatest: Greatest,
     pub(crate) stretches: Items<Stretch>,
     pub(crate) steps: Items<Step>,
+    /// The lines that begin the waves behind the first.
+    pub(crate) waves: Items<TurnLine>,
 }
 
 fn last_rows(points: &[Point]) -> u64 {
@@ -51,6 +53,7 @@ pub(crate) fn make_chart(
         greatest: greatest_heights(points.as_slice()),
         stretches: stretches(alloc, total, points.as_slice())?,
         steps: steps(alloc, journal)?,
+        waves: waves(alloc, journal)?,
     })
 }
 
@@ -66,6 +69,20 @@ fn write_band(text: &mut String, total: u64, step: &Step) -> Result<(), AllocErr
 fn write_bands(text: &mut String, chart: &Chart) -> Result<(), AllocError> {
     for step in chart.steps.as_slice() {
         write_band(text, chart.total, step)?;
+    }
+    Ok(())
+}
+
+/// Adds a mark where each wave behind the first begins, numbered from 2.
+fn write_waves(text: &mut String, total: u64, waves: &[TurnLine]) -> Result<(), AllocError> {
+    let mut wave: u64 = 1;
+    for &line in waves {
+        let x = across(total, rows(line));
+        wave = wave.saturating_add(1);
+        write!(
+            text,
+            "<path d='M{x} 0V200' stroke='#1c2733' stroke-dasharray='2 3'/><text x='{x}' dx='4' y='195' text-anchor='start'>wave {wave}</text>\n"
+        )?;
     }
     Ok(())
 }
@@ -175,6 +192,7 @@ pub(crate) fn write_panel(
     write_heading(text, heading, chart, lanes)?;
     write_axis_up(text, tick)?;
     write_bands(text, chart)?;
+    write_waves(text, chart.total, chart.waves.as_slice())?;
     write_labels(text, chart, lanes)?;
     write_axis_across(text, chart.total)?;
     write_bound(text, tick)?;

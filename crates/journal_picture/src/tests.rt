@@ -1,4 +1,4 @@
-use crate::{Drawing, Greatest, greatest_heights, height, points, steps, stretches};
+use crate::{Drawing, Greatest, greatest_heights, height, points, steps, stretches, waves};
 use grid_map::Weights;
 use load_controller::{Cause, TurnLine};
 use std::test::Fail;
@@ -93,6 +93,43 @@ fn a_column_keeps_its_highest_point(rt: HostRuntime) -> Result<(), Fail> {
     assert!(rt;
         stretches.as_slice().iter().any(|stretch| height(stretch.highest) == 1272
             && height(stretch.last) == 1000)
+    );
+    Ok(())
+}
+
+// A line with which a wave begins has the numbers of the line before it.
+fn wave_line(rows_r: u64, rows_s: u64) -> TurnLine {
+    TurnLine {
+        cause: Cause::Wave,
+        ..line(rows_r, rows_s, 0, 1, false)
+    }
+}
+
+// Two waves behind the first, the last of which brings no row.
+#[test]
+fn waves_are_marked(rt: HostRuntime) -> Result<(), Fail> {
+    let alloc = rt.alloc();
+    let journal = [
+        line(0, 0, 0, 1, false),
+        line(4, 4, 0, 1, false),
+        wave_line(4, 4),
+        line(8, 8, 0, 1, false),
+        wave_line(8, 8),
+    ];
+    assert_eq!(rt; waves(alloc, &journal)?.len(), 2);
+    assert_eq!(rt; steps(alloc, &journal)?.len(), 0);
+    let mut drawing = Drawing::new(alloc);
+    drawing.add(alloc, "joiners: 4", 2, ONE, &journal)?;
+    let text = drawing.picture(alloc)?;
+    assert!(rt;
+        text.as_str().contains(
+            "<path d='M300 0V200' stroke='#1c2733' stroke-dasharray='2 3'/><text x='300' dx='4' y='195' text-anchor='start'>wave 2</text>"
+        )
+    );
+    assert!(rt;
+        text.as_str().contains(
+            "<path d='M600 0V200' stroke='#1c2733' stroke-dasharray='2 3'/><text x='600' dx='4' y='195' text-anchor='start'>wave 3</text>"
+        )
     );
     Ok(())
 }
