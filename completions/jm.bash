@@ -152,7 +152,7 @@ _jm() {
     local _jm_cur _jm_tail _jm_word _jm_quote _jm_files
     local options='--on --joiners --feeders --workers --batch --feed --seed --fixed --weight-r --weight-s
         --replay --early --report --rows --groups --rings --make'
-    [[ $program == jm-rows ]] && options+=' --columns --names' || options+=' --then'
+    [[ $program == jm-rows ]] && options+=' --columns --names' || options+=' --then --grow'
     COMPREPLY=()
     _jm_current
     if [[ $_jm_cur == '=' ]]; then
@@ -168,6 +168,7 @@ _jm() {
         --workers) _jm_one_of '1 2 3 4 5 6 7 8 9 10 11 12 13 14 15 16' ;;
         --feed) _jm_one_of 'alternate rfirst sfirst' ;;
         --fixed) _jm_one_of '0 1 2 3 4 5 6' ;;
+        --grow) _jm_one_of '1 2 3' ;;
         --batch) _jm_range 'from 1 to 4096' ;;
         --weight-r | --weight-s) _jm_range 'from 1 to 1024' ;;
         --make) _jm_range 'from 1 to 65536' ;;

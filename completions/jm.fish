@@ -77,6 +77,7 @@ for program in jm jm-rows jm-why jm-journal
 end
 for program in jm jm-why jm-journal
     complete -c $program -l then -x -d 'the predicate of a second join, with a third file'
+    complete -c $program -l grow -x -d 'after how many waves each joiner splits into four, from 1 to 3' -a '(seq 3)'
     complete -c $program -l make -x -d 'both tables are made, from 1 to 65536 rows each'
 end
 complete -c jm-rows -l columns -x -d 'which columns are written' -a '(__jm_columns)'

@@ -78,6 +78,10 @@ check "jm r.csv s.csv --on 'r.x = 7" jm r.csv s.csv --on "'r.x = 7" :: ''
 check 'jm --jo' jm --jo :: --joiners
 check 'jm --we' jm --we :: --weight-r --weight-s
 check 'jm --r' jm --r :: --replay --report --rows --rings
+check 'jm --g' jm --g :: --groups --grow
+check 'jm-rows --g' jm-rows --g :: --groups
+check 'jm --grow ' jm --grow '' :: 1 2 3
+check "jm --grow 1 r.csv s.csv r2.csv s2.csv --on r." jm --grow 1 r.csv s.csv r2.csv s2.csv --on r. :: r.id r.x
 check 'jm --columns' jm --columns :: ''
 check 'jm-rows --c' jm-rows --c :: --columns
 check 'jm-why --th' jm-why --th :: --then

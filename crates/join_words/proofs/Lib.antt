@@ -4,3 +4,4 @@ pub mod Powers
 pub mod RangeLemmas
 pub mod ReadLemmas
 pub mod TextReads
+pub mod Together

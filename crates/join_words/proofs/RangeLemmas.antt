@@ -258,6 +258,18 @@ weight_s_is = record {
   named = refl;
 }
 
+grow_is : IsArg rules 18 (codes "grow") (vp.Unsigned 1 3)
+grow_is = record {
+  in_range = omega arith;
+  is_id = λ d. refl;
+  has_parser = λ d. refl;
+  in_case = λ d. refl;
+  is_only = refl;
+  no_help = refl;
+  no_version = refl;
+  named = refl;
+}
+
 -- the first value of each argument that has bounds of its own
 pub record AreIn (m : ArgMatches) : Type 0 where
   pub joiners : (t : Text) → first_value (found_of m) (codes "joiners") ≡ Some t → IsUnsignedIn 1 64 t
@@ -265,6 +277,7 @@ pub record AreIn (m : ArgMatches) : Type 0 where
   pub workers : (t : Text) → first_value (found_of m) (codes "workers") ≡ Some t → IsUnsignedIn 1 16 t
   pub batch : (t : Text) → first_value (found_of m) (codes "batch") ≡ Some t → IsUnsignedIn 1 4096 t
   pub make : (t : Text) → first_value (found_of m) (codes "make") ≡ Some t → IsUnsignedIn 1 65536 t
+  pub grow : (t : Text) → first_value (found_of m) (codes "grow") ≡ Some t → IsUnsignedIn 1 3 t
   pub weight_r : (t : Text) → first_value (found_of m) (codes "weight-r") ≡ Some t → IsUnsignedIn 1 1024 t
   pub weight_s : (t : Text) → first_value (found_of m) (codes "weight-s") ≡ Some t → IsUnsignedIn 1 1024 t
 
@@ -275,6 +288,7 @@ are_in old m p command = record {
   workers = command_accepts old m p command 3 (codes "workers") (vp.Unsigned 1 16) workers_is;
   batch = command_accepts old m p command 4 (codes "batch") (vp.Unsigned 1 4096) batch_is;
   make = command_accepts old m p command 11 (codes "make") (vp.Unsigned 1 65536) make_is;
+  grow = command_accepts old m p command 18 (codes "grow") (vp.Unsigned 1 3) grow_is;
   weight_r = command_accepts old m p command 8 (codes "weight-r") (vp.Unsigned 1 1024) weight_r_is;
   weight_s = command_accepts old m p command 9 (codes "weight-s") (vp.Unsigned 1 1024) weight_s_is;
 }

@@ -13,7 +13,7 @@ use Rattle.clap.specs.declared.parser.matches.ArgMatches.{ArgMatches}
 use Rattle.clap.proofs.OnLiterals.{clap_on_literals}
 use Rattle.clap.proofs.WalkLemmas.{first_value-rows}
 use Rattle.join_words.specs.Command.{IsCommand, jm_command}
-use Rattle.join_words.specs.Words.{IsMatch, asked_by, asked_of, asked_unless}
+use Rattle.join_words.specs.Words.{Asked, Gives, IsMatch, asked_by, asked_of, asked_unless}
 use Rattle.join_words.specs.declared.options.WordsError.{WordsError}
 use Rattle.join_words.specs.declared.options.WordsError.TheVariants.{Fault, Memory}
 use Rattle.join_words.specs.declared.options.WordsFault.{WordsFault}
@@ -29,6 +29,11 @@ same_fault told fault is = cc
 pub same_error : {T : Type 0} (told error : WordsError) → ◌≡◌ {A = Result T WordsError} (Err told) (Err error)
     → told ≡ error
 same_error told error is = cc
+
+-- the fault that an answer of the checks tells
+pub gives_fault : (wanted : Result Asked WordsFault) (error : WordsError) (fault : WordsFault) → Gives wanted (Err error)
+    → error ≡ Fault fault → wanted ≡ Err fault
+gives_fault wanted error fault gives is = subst (λ (e : WordsError). Gives wanted (Err e)) is gives
 
 simple_command : is_simple jm_command ≡ true
 unfolding clap_on_literals jm_command
@@ -113,6 +118,8 @@ is_match app words matches command none has are = record {
         record { some_r = r.0; few_r = r.1; some_s = s.0; few_s = s.1 };
     make = number_within 1 65536 (first_of (codes "make") (rows_of (found_of matches)))
         (λ text is. are.make text (first_value-rows (found_of matches) (codes "make") ∙ is));
+    grow = number_within 1 3 (first_of (codes "grow") (rows_of (found_of matches)))
+        (λ text is. are.grow text (first_value-rows (found_of matches) (codes "grow") ∙ is));
   };
 }
 

@@ -4,7 +4,7 @@ use Rattle.std.specs.List.{list_any}
 use Rattle.join_words.specs.declared.apart.Given.{Given}
 use Rattle.join_words.specs.declared.apart.Word.{Word}
 use Rattle.join_words.specs.declared.apart.Word.TheVariants.{Fixed, Replay, Make, Early, Rows, Groups, Then, Rings}
-use Rattle.join_words.specs.declared.apart.Word.TheVariants.{ManyFiles}
+use Rattle.join_words.specs.declared.apart.Word.TheVariants.{ManyFiles, Grow, FewFiles}
 
 -- whether a word is given
 abbrev pub has_word : Given → Word → Bool
@@ -17,6 +17,8 @@ has_word given Groups = given.groups
 has_word given Then = given.chain
 has_word given Rings = given.rings
 has_word given ManyFiles = given.many_files
+has_word given Grow = given.grow
+has_word given FewFiles = given.few_files
 
 -- whether both words of a pair are
 abbrev pub are_apart : Given → Word × Word → Bool
@@ -32,4 +34,6 @@ apart =
     (Early, Replay) ∷ (Early, Make) ∷ (Early, Rows) ∷ (Make, Rows)
     ∷ (Groups, Fixed) ∷ (Groups, Early) ∷ (Groups, Replay) ∷ (Groups, ManyFiles) ∷ (Groups, Then)
     ∷ (Then, Early) ∷ (Then, Rows) ∷ (Then, Make) ∷ (Then, Replay)
-    ∷ (Rings, Groups) ∷ (Rings, Then) ∷ (Rings, Early) ∷ (Rings, Replay) ∷ (Rings, ManyFiles) ∷ []
+    ∷ (Rings, Groups) ∷ (Rings, Then) ∷ (Rings, Early) ∷ (Rings, Replay) ∷ (Rings, ManyFiles)
+    ∷ (Early, ManyFiles)
+    ∷ (Grow, Fixed) ∷ (Grow, Groups) ∷ (Grow, Then) ∷ (Grow, Rings) ∷ (Grow, FewFiles) ∷ []

@@ -54,6 +54,7 @@ rules = text_rule (codes "on")
     ∷ flag_rule (codes "groups")
     ∷ option_rule (codes "then")
     ∷ flag_rule (codes "rings")
+    ∷ number_rule (codes "grow") 1 3
     ∷ files_rule (codes "files") ∷ []
 
 -- a command with these arguments too

@@ -1,3 +1,4 @@
 pub mod Apart
 pub mod Command
+pub mod Found
 pub mod Words

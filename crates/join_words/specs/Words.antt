@@ -1,25 +1,31 @@
 -- What the words of the command line ask for.
-use Rattle.std.specs.Prelude.{◌≡◌, ◌≤◌, ℕ, Bool, true, false, List, [], ◌∷◌, length, Option, Some, None, IfSome}
-use Rattle.std.specs.Prelude.{is_some, Result, Ok, Err, codes, unwrap_or, option_and_then, option_map, nat_le, nat_lt}
+use Rattle.std.specs.Prelude.{◌≡◌, ◌≤◌, ◌*◌, ⊤, ℕ, Bool, true, false, List, [], ◌∷◌, length, map, Option, Some, None}
+use Rattle.std.specs.Prelude.{IfSome, is_some, Result, Ok, Err, codes, unwrap_or, option_map, nat_le, nat_lt}
 use Rattle.std.specs.Prelude.{if◌then◌else◌}
 use Rattle.std.specs.Int.{is_power_of_two, trailing_zeros, w64}
+use Rattle.std.specs.declared.alloc.Global.{Global}
+use Rattle.std.specs.declared.vec.Vec.{Vec}
 use Rattle.std.specs.Str.{bytes_eq}
-use Rattle.std.specs.Str.Parse.{digits_value, without_leading_plus}
 use Rattle.grid_map.specs.Load.{AreWeights}
 use Rattle.grid_map.specs.declared.cost.Weights.{Weights}
 use Rattle.row_tickets.specs.declared.place.Feed.{Feed}
 use Rattle.row_tickets.specs.declared.place.Feed.TheVariants.{Alternate, RFirst, SFirst}
-use Rattle.clap.specs.ValueTests.{is_unsigned_in}
-use Rattle.clap.specs.Walk.{Row, Text, all_of, first_of}
+use Rattle.clap.specs.Walk.{Row, Text}
 use Rattle.clap.specs.Simple.{matches_of}
 use Rattle.clap.specs.Faults.{fault_of}
 use Rattle.clap.specs.Kinds.{Kinds}
 use Rattle.join_words.specs.Apart.{any_of, apart}
 use Rattle.join_words.specs.Command.{jm_command}
+use Rattle.join_words.specs.Found.{batch_at, feeders_at, flag_at, groups_at, grow_at, joiners_at, make_at, names_given}
+use Rattle.join_words.specs.Found.{number_at, rings_at, text_at, then_at, weights_at, workers_at}
 use Rattle.join_words.specs.declared.apart.Given.{Given}
+use Rattle.join_words.specs.declared.checks.Begun.{Begun}
 use Rattle.join_words.specs.declared.names.Named.{Named}
 use Rattle.join_words.specs.declared.options.Chain.{Chain}
 use Rattle.join_words.specs.declared.options.Options.{Options}
+use Rattle.join_words.specs.declared.options.Wave.{Wave}
+use Rattle.join_words.specs.declared.options.WordsError.{WordsError}
+use Rattle.join_words.specs.declared.options.WordsError.TheVariants.{Fault, Memory}
 use Rattle.join_words.specs.declared.options.WordsFault.{WordsFault}
 use Rattle.join_words.specs.declared.options.WordsFault.TheVariants.{NoMatch, Joiners, Fixed, Together, Files}
 
@@ -32,14 +38,23 @@ pub record AskedChain : Type 0 where
 abbrev pub asked_chain : Chain → AskedChain
 asked_chain chain = record { on = chain.on.now; name = chain.name.now }
 
+-- a wave behind the first: the names of its two files
+pub record AskedWave : Type 0 where
+  pub name_r : List ℕ
+  pub name_s : List ℕ
+
+-- what such a wave of the code says
+abbrev pub asked_wave : Wave → AskedWave
+asked_wave wave = record { name_r = wave.name_r.now; name_s = wave.name_s.now }
+
 -- what the words ask for: the predicate's text; 2^k joiners, or how many there are where they form groups; whether
 -- messages go over rings; the feeders; the workers, which are the threads of a run that isn't a replay; how many rows
 -- each feeder asks for at once and in which order; the shift at which the grid stays, where one is given; what a row of
 -- each side weighs in a grid's load; the seed of the tickets; the seed of the order of a replay, where one is given;
--- how
--- many rows a side has, where tables are to be made; whether the pairs of each bout are wanted early; whether a report
--- is wanted; whether joined rows are; the names of the two files, empty where there are none; and the second join,
--- where one is asked for
+-- how many rows a side has, where tables are to be made; whether the pairs of each bout are wanted early; whether a
+-- report is wanted; whether joined rows are; the names of the first wave's two files, empty where there are none; the
+-- later waves; after how many waves each joiner splits into four, where they are to; and the second join, where one is
+-- asked for
 pub record Asked : Type 0 where
   pub on : List ℕ
   pub k : ℕ
@@ -59,6 +74,8 @@ pub record Asked : Type 0 where
   pub rows : Bool
   pub name_r : List ℕ
   pub name_s : List ℕ
+  pub later : List AskedWave
+  pub grow : Option ℕ
   pub chain : Option AskedChain
 
 -- what these options say
@@ -82,70 +99,15 @@ asked options = record {
   rows = options.rows;
   name_r = options.name_r.now;
   name_s = options.name_s.now;
+  later = map asked_wave options.later.items;
+  grow = options.grow;
   chain = option_map asked_chain options.chain;
 }
 
--- ---- what clap's matches say of one argument
-
--- a whole number of 64 bits
-abbrev pub number_of : Text → Option ℕ
-number_of text = if is_unsigned_in 0 18446744073709551615 text then Some (digits_value 10 (without_leading_plus text))
-    else None
-
--- the number of an argument's first value, where it is one
-abbrev pub number_at : Text → List Row → Option ℕ
-number_at id rows = option_and_then number_of (first_of id rows)
-
--- the first value of an argument, empty where there is none
-abbrev pub text_at : Text → List Row → Text
-text_at id rows = unwrap_or (first_of id rows) []
-
--- whether an argument is set
-abbrev pub flag_at : Text → List Row → Bool
-flag_at id rows = bytes_eq (text_at id rows) (codes "true")
-
--- how many joiners
-abbrev pub joiners_at : List Row → ℕ
-joiners_at rows = unwrap_or (number_at (codes "joiners") rows) 4
-
--- how many feeders
-abbrev pub feeders_at : List Row → ℕ
-feeders_at rows = unwrap_or (number_at (codes "feeders") rows) 2
-
--- how many workers
-abbrev pub workers_at : List Row → ℕ
-workers_at rows = unwrap_or (number_at (codes "workers") rows) 4
-
--- how many rows a feeder asks for at once
-abbrev pub batch_at : List Row → ℕ
-batch_at rows = unwrap_or (number_at (codes "batch") rows) 64
-
--- what a row of each side weighs
-abbrev pub weights_at : List Row → Weights
-weights_at rows = record {
-  r = unwrap_or (number_at (codes "weight-r") rows) 1;
-  s = unwrap_or (number_at (codes "weight-s") rows) 1;
-}
-
--- how many rows a side has, where tables are to be made
-abbrev pub make_at : List Row → Option ℕ
-make_at rows = number_at (codes "make") rows
-
--- whether the joiners are to form groups
-abbrev pub groups_at : List Row → Bool
-groups_at rows = flag_at (codes "groups") rows
-
--- the text of the second predicate, where there is one
-abbrev pub then_at : List Row → Option Text
-then_at rows = first_of (codes "then") rows
-
--- whether messages are to go over rings
-abbrev pub rings_at : List Row → Bool
-rings_at rows = flag_at (codes "rings") rows
-
--- the names of files
-abbrev pub names_given : List Row → List Text
-names_given rows = unwrap_or (all_of (codes "files") rows) []
+-- whether no wave is behind so many: twice their number isn't below this number of names
+abbrev pub no_wave_behind : Option ℕ → ℕ → Bool
+no_wave_behind None names = false
+no_wave_behind (Some wave) names = nat_le names (2 * wave)
 
 -- which of the words are given that don't stand together with each other one
 abbrev pub given_by : List Row → Given
@@ -159,6 +121,8 @@ given_by rows = record {
   chain = is_some (then_at rows);
   rings = rings_at rows;
   many_files = nat_lt 2 (length (names_given rows));
+  grow = is_some (grow_at rows);
+  few_files = no_wave_behind (grow_at rows) (length (names_given rows));
 }
 
 -- ---- the checks, in their order
@@ -204,51 +168,73 @@ members_of true joiners = Some joiners
 abbrev pub unless_apart : {A : Type 0} → Given → Result A WordsFault → Result A WordsFault
 unless_apart given next = if any_of given apart then Err Together else next
 
--- the names of the two files, and the second join with a third, where one is asked for
+-- the names of the first wave's two files, those of the later waves, and the second join with a third file, where one is
+-- asked for
 pub record Names : Type 0 where
   pub name_r : Text
   pub name_s : Text
+  pub later : List AskedWave
   pub chain : Option AskedChain
 
--- just two names
-abbrev pub two_names : List Text → Result Names WordsFault
-two_names (name_r ∷ name_s ∷ []) = Ok (record { name_r = name_r; name_s = name_s; chain = None })
-two_names _ = Err Files
+-- a wave of these two names
+abbrev pub wave_named : Text → Text → AskedWave
+wave_named name_r name_s = record { name_r = name_r; name_s = name_s }
+
+-- the later waves of these names, two each, at most three waves
+abbrev pub later_names : List Text → Result (List AskedWave) WordsFault
+later_names [] = Ok []
+later_names (r2 ∷ s2 ∷ []) = Ok (wave_named r2 s2 ∷ [])
+later_names (r2 ∷ s2 ∷ r3 ∷ s3 ∷ []) = Ok (wave_named r2 s2 ∷ wave_named r3 s3 ∷ [])
+later_names (r2 ∷ s2 ∷ r3 ∷ s3 ∷ r4 ∷ s4 ∷ []) =
+    Ok (wave_named r2 s2 ∷ wave_named r3 s3 ∷ wave_named r4 s4 ∷ [])
+later_names _ = Err Files
+
+-- two, four, six or eight names, two for each wave
+abbrev pub wave_names : List Text → Result Names WordsFault
+wave_names (name_r ∷ name_s ∷ rest) =
+    then_of (later_names rest) (λ later. Ok (record { name_r = name_r; name_s = name_s; later = later; chain = None }))
+wave_names _ = Err Files
 
 -- just three names, the third of a second join with this predicate
 abbrev pub three_names : Text → List Text → Result Names WordsFault
 three_names on (name_r ∷ name_s ∷ name_q ∷ []) =
-    Ok (record { name_r = name_r; name_s = name_s; chain = Some (record { on = on; name = name_q }) })
+    Ok (record { name_r = name_r; name_s = name_s; later = []; chain = Some (record { on = on; name = name_q }) })
 three_names on _ = Err Files
 
 -- no name
 abbrev pub no_names : List Text → Result Names WordsFault
-no_names [] = Ok (record { name_r = []; name_s = []; chain = None })
+no_names [] = Ok (record { name_r = []; name_s = []; later = []; chain = None })
 no_names _ = Err Files
 
--- the names of the two files; with a second predicate there is a third, and where tables are made there is none
+-- the names of the files, two for each wave; with a second predicate there are three, and where tables are made there is
+-- none
 abbrev pub names_by : Option ℕ → Option Text → List Text → Result Names WordsFault
 names_by (Some count) on names = no_names names
-names_by None None names = two_names names
+names_by None None names = wave_names names
 names_by None (Some on) names = three_names on names
+
+-- what the checks before that of the names find, or the first of them that a match fails
+abbrev pub begun_by : List Row → Result Begun WordsFault
+begun_by rows =
+    then_of (feed_named (text_at (codes "feed") rows)) (λ feed.
+    then_of (grid_of (groups_at rows) (joiners_at rows)) (λ k.
+    then_of (staying_of (groups_at rows) k (number_at (codes "fixed") rows)) (λ fixed.
+    unless_apart (given_by rows) (Ok (record { feed = feed; k = k; fixed = fixed })))))
 
 -- what a match asks for, or the first check that it fails
 abbrev pub asked_by : List Row → Result Asked WordsFault
 asked_by rows =
-    then_of (feed_named (text_at (codes "feed") rows)) (λ feed.
-    then_of (grid_of (groups_at rows) (joiners_at rows)) (λ k.
-    then_of (staying_of (groups_at rows) k (number_at (codes "fixed") rows)) (λ fixed.
-    unless_apart (given_by rows) (
+    then_of (begun_by rows) (λ begun.
     then_of (names_by (make_at rows) (then_at rows) (names_given rows)) (λ names. Ok (record {
       on = text_at (codes "on") rows;
-      k = k;
+      k = begun.k;
       groups = members_of (groups_at rows) (joiners_at rows);
       rings = rings_at rows;
       feeders = feeders_at rows;
       workers = workers_at rows;
       batch = batch_at rows;
-      feed = feed;
-      fixed = fixed;
+      feed = begun.feed;
+      fixed = begun.fixed;
       weights = weights_at rows;
       seed = unwrap_or (number_at (codes "seed") rows) 1;
       replay = number_at (codes "replay") rows;
@@ -258,8 +244,10 @@ asked_by rows =
       rows = flag_at (codes "rows") rows;
       name_r = names.name_r;
       name_s = names.name_s;
+      later = names.later;
+      grow = grow_at rows;
       chain = names.chain;
-    }))))))
+    })))
 
 -- ---- the words
 
@@ -280,6 +268,7 @@ pub record AreBounded (rows : List Row) : Type 0 where
   pub batch : (1 ≤ batch_at rows) × (batch_at rows ≤ 4096)
   pub weights : AreWeights (weights_at rows)
   pub make : IfSome (make_at rows) (λ count. (1 ≤ count) × (count ≤ 65536))
+  pub grow : IfSome (grow_at rows) (λ wave. (1 ≤ wave) × (wave ≤ 3))
 
 -- the command has a match for the words, and these are its rows
 pub record IsMatch (words : List Text) (rows : List Row) : Type 0 where
@@ -294,15 +283,24 @@ abbrev pub names_of : Named → Names
 names_of named = record {
   name_r = named.name_r.now;
   name_s = named.name_s.now;
+  later = map asked_wave named.later.items;
   chain = option_map asked_chain named.chain;
 }
 
--- the code's names are those
-abbrev pub GivesFiles : Result Names WordsFault → Result Named WordsFault → Type 0
-GivesFiles wanted (Ok named) = wanted ≡ Ok (names_of named)
-GivesFiles wanted (Err fault) = wanted ≡ Err fault
+-- the code's later waves are those, or memory ran out
+abbrev pub GivesWaves : Result (List AskedWave) WordsFault → Result (Vec Wave Global) WordsError → Type 0
+GivesWaves wanted (Ok later) = wanted ≡ Ok (map asked_wave later.items)
+GivesWaves wanted (Err (Fault fault)) = wanted ≡ Err fault
+GivesWaves wanted (Err Memory) = ⊤
 
--- the code's options are those
-abbrev pub Gives : Result Asked WordsFault → Result Options WordsFault → Type 0
+-- the code's names are those, or memory ran out
+abbrev pub GivesFiles : Result Names WordsFault → Result Named WordsError → Type 0
+GivesFiles wanted (Ok named) = wanted ≡ Ok (names_of named)
+GivesFiles wanted (Err (Fault fault)) = wanted ≡ Err fault
+GivesFiles wanted (Err Memory) = ⊤
+
+-- the code's options are those, or memory ran out
+abbrev pub Gives : Result Asked WordsFault → Result Options WordsError → Type 0
 Gives wanted (Ok options) = wanted ≡ Ok (asked options)
-Gives wanted (Err fault) = wanted ≡ Err fault
+Gives wanted (Err (Fault fault)) = wanted ≡ Err fault
+Gives wanted (Err Memory) = ⊤

@@ -4,7 +4,8 @@ ghost use Rattle.std.specs.Prelude.{◌≡◌, IfSome, is_some, true};
 ghost use Rattle.join_words.specs.Apart;
 ghost use Rattle.join_words.specs.Apart.{are_apart, has_word};
 
-/// A word of the command line that doesn't stand together with each other one. `ManyFiles` is more than two names of files.
+/// A word of the command line that doesn't stand together with each other one. `ManyFiles` is more than two names of files;
+/// `FewFiles` is that twice the number of `--grow` isn't below the number of names of files, so that no wave is behind.
 #[derive(Clone, Copy, Debug, PartialEq, Eq)]
 pub enum Word {
     Fixed,
@@ -16,6 +17,8 @@ pub enum Word {
     Then,
     Rings,
     ManyFiles,
+    Grow,
+    FewFiles,
 }
 
 /// Which of these words are given.
@@ -30,10 +33,12 @@ pub(crate) struct Given {
     pub(crate) chain: bool,
     pub(crate) rings: bool,
     pub(crate) many_files: bool,
+    pub(crate) grow: bool,
+    pub(crate) few_files: bool,
 }
 
 /// The pairs of words that don't stand together.
-const APART: [(Word, Word); 18] = [
+const APART: [(Word, Word); 24] = [
     (Word::Early, Word::Replay),
     (Word::Early, Word::Make),
     (Word::Early, Word::Rows),
@@ -52,6 +57,12 @@ const APART: [(Word, Word); 18] = [
     (Word::Rings, Word::Early),
     (Word::Rings, Word::Replay),
     (Word::Rings, Word::ManyFiles),
+    (Word::Early, Word::ManyFiles),
+    (Word::Grow, Word::Fixed),
+    (Word::Grow, Word::Groups),
+    (Word::Grow, Word::Then),
+    (Word::Grow, Word::Rings),
+    (Word::Grow, Word::FewFiles),
 ];
 
 impl Given {
@@ -69,6 +80,8 @@ impl Given {
             Word::Then => self.chain,
             Word::Rings => self.rings,
             Word::ManyFiles => self.many_files,
+            Word::Grow => self.grow,
+            Word::FewFiles => self.few_files,
         }
     }
 

@@ -1,20 +1,22 @@
 // The checks of a match, in the order of their faults.
 
-ghost use Rattle.std.specs.Prelude.{◌≡◌, ◌≤◌, ◌<◌, ◌^◌, IfOk, IfSome, None, true, false, is_some, unwrap_or};
+ghost use Rattle.std.specs.Prelude.{◌≡◌, ◌≤◌, ◌<◌, ◌^◌, [], IfOk, IfSome, None, true, false, codes, is_some, length, unwrap_or};
 ghost use Rattle.clap.specs.Matches.{found_of};
 ghost use Rattle.clap.specs.Walk.{rows_of};
 ghost use Rattle.grid_map.specs.Load.{AreWeights};
 ghost use Rattle.join_words.specs.Apart.{any_of, apart, are_apart};
-ghost use Rattle.join_words.specs.Words.{AreBounded, Gives, asked_by, exponent_of, feed_named, fixed_within, given_by};
-ghost use Rattle.join_words.specs.Words.{grid_of, members_of, number_at, staying_of, weights_at};
+ghost use Rattle.join_words.specs.Found.{groups_at, number_at, weights_at};
+ghost use Rattle.join_words.specs.Words.{AreBounded, Gives, asked_by, begun_by, exponent_of, feed_named, fixed_within};
+ghost use Rattle.join_words.specs.Words.{given_by, grid_of, members_of, no_wave_behind, staying_of};
 
 use crate::apart::{Given, Word};
 use crate::found::{flag, is_given, number, text};
-use crate::names::{Named, are_many, read_names};
-use crate::options::{Options, WordsFault};
+use crate::names::{Named, count, read_names};
+use crate::options::{Options, WordsError, WordsFault};
 use clap::ArgMatches;
 use grid_map::Weights;
 use row_tickets::Feed;
+use std::alloc::Global;
 
 /// k of 2^k joiners.
 fn exponent(joiners: u64) -> Result<u32, WordsFault>
@@ -32,6 +34,7 @@ fn exponent(joiners: u64) -> Result<u32, WordsFault>
 fn within(k: u32, fixed: Option<u64>) -> Result<Option<u32>, WordsFault>
     ensures exact { result ≡ fixed_within k fixed }
     ensures fits { IfOk result (λ fixed. IfSome fixed (λ fixed. fixed ≤ k)) }
+    ensures free { is_some fixed ≡ false → IfOk result (λ fixed. fixed ≡ None) }
 {
     match fixed {
         None => Ok(None),
@@ -85,6 +88,7 @@ fn staying(groups: bool, k: u32, fixed: Option<u64>) -> Result<Option<u32>, Word
     ensures exact { result ≡ staying_of groups k fixed }
     ensures fits { IfOk result (λ fixed. IfSome fixed (λ fixed. fixed ≤ k)) }
     ensures none { groups ≡ true → IfOk result (λ fixed. fixed ≡ None) }
+    ensures free { is_some fixed ≡ false → IfOk result (λ fixed. fixed ≡ None) }
 {
     if groups { Ok(None) } else { within(k, fixed) }
 }
@@ -98,10 +102,22 @@ fn members(groups: bool, joiners: u64) -> Option<u32>
     if groups { Some(joiners as u32) } else { None }
 }
 
+/// Whether no wave is behind so many: twice their number isn't below this number of names.
+fn is_last(wave: Option<u64>, names: u64) -> bool
+    ensures { result ≡ no_wave_behind wave names }
+{
+    match wave {
+        Some(wave) => u128::from(names) <= 2 * u128::from(wave),
+        None => false,
+    }
+}
+
 /// Which of the words are given that don't stand together with each other one.
 fn given(matches: &ArgMatches<'_>) -> Given
     ensures { result ≡ given_by (rows_of (found_of matches.now)) }
 {
+    let names = count(matches);
+    let grow = number(matches, "grow");
     Given {
         fixed: number(matches, "fixed").is_some(),
         replay: number(matches, "replay").is_some(),
@@ -111,7 +127,9 @@ fn given(matches: &ArgMatches<'_>) -> Given
         groups: flag(matches, "groups"),
         chain: is_given(matches, "then"),
         rings: flag(matches, "rings"),
-        many_files: are_many(matches),
+        many_files: names > 2,
+        grow: grow.is_some(),
+        few_files: is_last(grow, names),
     }
 }
 
@@ -124,8 +142,54 @@ pub fn words_apart(matches: &ArgMatches<'_>) -> Option<(Word, Word)>
     given(matches).clash()
 }
 
-/// What a match asks for, or the first check that it fails.
-pub(crate) fn checked<'a>(matches: &ArgMatches<'a>) -> Result<Options<'a>, WordsFault>
+/// What the checks before that of the names find.
+#[derive(Clone, Copy, Debug)]
+pub(crate) struct Begun {
+    pub(crate) feed: Feed,
+    pub(crate) k: u32,
+    pub(crate) fixed: Option<u32>,
+}
+
+/// What the checks before that of the names find, or the first of them that a match fails.
+fn begin(matches: &ArgMatches<'_>) -> Result<Begun, WordsFault>
+    requires bounded { AreBounded (rows_of (found_of matches.now)) }
+    ensures exact { result ≡ begun_by (rows_of (found_of matches.now)) }
+    ensures small { IfOk result (λ begun. begun.k ≤ 6) }
+    ensures fits { IfOk result (λ begun. IfSome begun.fixed (λ fixed. fixed ≤ begun.k)) }
+    ensures grouped { IfOk result (λ begun. groups_at (rows_of (found_of matches.now)) ≡ true
+        → begun.fixed ≡ None) }
+    ensures unfixed { is_some (number_at (codes "fixed") (rows_of (found_of matches.now))) ≡ false
+        → IfOk result (λ begun. begun.fixed ≡ None) }
+    ensures together { IfOk result (λ _.
+        any_of (given_by (rows_of (found_of matches.now))) apart ≡ false) }
+{
+    let feed = feed(text(matches, "feed"))?;
+    let groups = flag(matches, "groups");
+    let joiners = number(matches, "joiners").unwrap_or(4);
+    let k = grid(groups, joiners)?;
+    let fixed = staying(groups, k, number(matches, "fixed"))?;
+    if given(matches).clash().is_some() {
+        return Err(WordsFault::Together);
+    }
+    Ok(Begun { feed, k, fixed })
+}
+
+/// The number of an option that is given and less than 2^32.
+fn small_option(matches: &ArgMatches<'_>, id: &str) -> Option<u32>
+    requires { IfSome (number_at id.now (rows_of (found_of matches.now))) (λ n. n < 2 ^ 32) }
+    ensures { result ≡ number_at id.now (rows_of (found_of matches.now)) }
+{
+    match number(matches, id) {
+        Some(number) => Some(number as u32),
+        None => None,
+    }
+}
+
+/// What a match asks for, or the first check that it fails; or memory is wanting for the later waves.
+pub(crate) fn checked<'a>(
+    alloc: Global,
+    matches: &ArgMatches<'a>,
+) -> Result<Options<'a>, WordsError>
     requires bounded { AreBounded (rows_of (found_of matches.now)) }
     ensures exact { Gives (asked_by (rows_of (found_of matches.now))) result }
     ensures small { IfOk result (λ options. options.k ≤ 6) }
@@ -149,40 +213,57 @@ pub(crate) fn checked<'a>(matches: &ArgMatches<'a>) -> Result<Options<'a>, Words
     ensures ringed { IfOk result (λ options. options.rings ≡ true
         → (options.groups ≡ None) × (options.chain ≡ None) × (options.early ≡ false)
         × (options.replay ≡ None)) }
+    ensures later { IfOk result (λ options. length options.later.items ≤ 3) }
+    ensures made_once { IfOk result (λ options.
+        IfSome options.make (λ _. options.later.items ≡ [])) }
+    ensures early_once { IfOk result (λ options. options.early ≡ true → options.later.items ≡ []) }
+    ensures grouped_once { IfOk result (λ options.
+        IfSome options.groups (λ _. options.later.items ≡ [])) }
+    ensures chained_once { IfOk result (λ options.
+        IfSome options.chain (λ _. options.later.items ≡ [])) }
+    ensures ringed_once { IfOk result (λ options. options.rings ≡ true → options.later.items ≡ []) }
+    ensures grow { IfOk result (λ options. IfSome options.grow (λ wave.
+        (1 ≤ wave) × (wave ≤ length options.later.items) × (options.fixed ≡ None)
+        × (options.groups ≡ None) × (options.chain ≡ None) × (options.rings ≡ false))) }
 {
-    let feed = feed(text(matches, "feed"))?;
+    let begun = match begin(matches) {
+        Ok(begun) => begun,
+        Err(fault) => return Err(WordsError::Fault(fault)),
+    };
     let groups = flag(matches, "groups");
     let joiners = number(matches, "joiners").unwrap_or(4);
-    let k = grid(groups, joiners)?;
-    let fixed = staying(groups, k, number(matches, "fixed"))?;
-    if given(matches).clash().is_some() {
-        return Err(WordsFault::Together);
-    }
     let make = number(matches, "make");
-    let Named {
-        name_r,
-        name_s,
-        chain,
-    } = read_names(matches, make)?;
-    Ok(Options {
-        on: text(matches, "on"),
-        k,
-        groups: members(groups, joiners),
-        rings: flag(matches, "rings"),
-        feeders: small_number(matches, "feeders", 2),
-        workers: small_number(matches, "workers", 4),
-        batch: small_number(matches, "batch", 64),
-        feed,
-        fixed,
-        weights: weights(matches),
-        seed: number(matches, "seed").unwrap_or(1),
-        replay: number(matches, "replay"),
-        make,
-        early: flag(matches, "early"),
-        report: flag(matches, "report"),
-        rows: flag(matches, "rows"),
-        name_r,
-        name_s,
-        chain,
-    })
+    match read_names(alloc, matches, make) {
+        Ok(
+            Named {
+                name_r,
+                name_s,
+                later,
+                chain,
+            },
+        ) => Ok(Options {
+            on: text(matches, "on"),
+            k: begun.k,
+            groups: members(groups, joiners),
+            rings: flag(matches, "rings"),
+            feeders: small_number(matches, "feeders", 2),
+            workers: small_number(matches, "workers", 4),
+            batch: small_number(matches, "batch", 64),
+            feed: begun.feed,
+            fixed: begun.fixed,
+            weights: weights(matches),
+            seed: number(matches, "seed").unwrap_or(1),
+            replay: number(matches, "replay"),
+            make,
+            early: flag(matches, "early"),
+            report: flag(matches, "report"),
+            rows: flag(matches, "rows"),
+            name_r,
+            name_s,
+            later,
+            grow: small_option(matches, "grow"),
+            chain,
+        }),
+        Err(error) => Err(error),
+    }
 }

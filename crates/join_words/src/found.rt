@@ -3,7 +3,7 @@
 ghost use Rattle.std.specs.Prelude.{◌≡◌, is_some, option_map};
 ghost use Rattle.clap.specs.Matches.{found_of};
 ghost use Rattle.clap.specs.Walk.{first_of, rows_of};
-ghost use Rattle.join_words.specs.Words.{flag_at, number_at, number_of, text_at};
+ghost use Rattle.join_words.specs.Found.{flag_at, number_at, number_of, text_at};
 
 use clap::ArgMatches;
 

@@ -14,7 +14,7 @@ mod syntax;
 pub use apart::Word;
 pub use checks::words_apart;
 pub use laws::requests_have_no_match;
-pub use options::{Chain, Options, WordsError, WordsFault};
+pub use options::{Chain, Options, Wave, WordsError, WordsFault};
 pub use process::command_words;
 pub use reading::read_words;
 pub use syntax::command;

@@ -1,108 +1,175 @@
 // The names of the files, and the join that a third one is for.
 
-ghost use Rattle.std.specs.Prelude.{◌≡◌, IfOk, IfSome, IsSome, None, length, nat_lt, option_map};
+ghost use Rattle.std.specs.Prelude.{◌≡◌, ◌≤◌, ◌*◌, ◌+◌, [], IfOk, IfErr, IfSome, IsSome, None, length, option_map};
 ghost use Rattle.clap.specs.Matches.{found_of};
 ghost use Rattle.clap.specs.Walk.{rows_of, texts};
-ghost use Rattle.join_words.specs.Words.{GivesFiles, names_by, names_given, no_names, then_at, three_names, two_names};
+ghost use Rattle.join_words.specs.Found.{names_given, then_at};
+ghost use Rattle.join_words.specs.Words.{GivesFiles, GivesWaves, asked_wave, later_names, names_by, no_names, three_names};
+ghost use Rattle.join_words.specs.Words.{wave_named, wave_names};
 
 use crate::found::given;
-use crate::options::{Chain, WordsFault};
+use crate::options::{Chain, Wave, WordsError, WordsFault};
 use clap::ArgMatches;
+use std::alloc::{AllocError, Global};
 
-/// The names of the two files, and the second join with a third, where one is asked for.
-#[derive(Clone, Copy, Debug)]
+/// The names of the first wave's two files, the later waves, and the second join with a third file, where one is asked for.
+#[derive(Debug, Drop)]
 pub(crate) struct Named<'a> {
     pub(crate) name_r: &'a str,
     pub(crate) name_s: &'a str,
+    pub(crate) later: Vec<Wave<'a>>,
     pub(crate) chain: Option<Chain<'a>>,
 }
 
-/// Just two names.
-fn two<'a>(names: &[&'a str]) -> Result<Named<'a>, WordsFault>
-    ensures exact { GivesFiles (two_names (texts names.now)) result }
+/// Too many or too few names.
+const FILES: WordsError = WordsError::Fault(WordsFault::Files);
+
+/// These waves.
+fn kept<'a>(alloc: Global, waves: &[Wave<'a>]) -> Result<Vec<Wave<'a>>, WordsError>
+    ensures items { IfOk result (λ later. later.items ≡ waves.now) }
+    ensures memory { IfErr result (λ error. error ≡ WordsError.Memory) }
+{
+    match Vec::from_slice(alloc, waves) {
+        Ok(later) => Ok(later),
+        Err(AllocError) => Err(WordsError::Memory),
+    }
+}
+
+/// A wave of these two files.
+fn wave<'a>(name_r: &'a str, name_s: &'a str) -> Wave<'a>
+    ensures { asked_wave result ≡ wave_named name_r.entry.now name_s.entry.now }
+{
+    Wave { name_r, name_s }
+}
+
+/// The later waves of these names, two each, at most three waves.
+fn later<'a>(alloc: Global, names: &[&'a str]) -> Result<Vec<Wave<'a>>, WordsError>
+    ensures exact { GivesWaves (later_names (texts names.now)) result }
+    ensures few { IfOk result (λ later. length later.items ≤ 3) }
+    ensures half { IfOk result (λ later. 2 * length later.items ≡ length names.now) }
+{
+    match names {
+        [] => kept(alloc, &[]),
+        [r2, s2] => kept(alloc, &[wave(*r2, *s2)]),
+        [r2, s2, r3, s3] => kept(alloc, &[wave(*r2, *s2), wave(*r3, *s3)]),
+        [r2, s2, r3, s3, r4, s4] => kept(alloc, &[wave(*r2, *s2), wave(*r3, *s3), wave(*r4, *s4)]),
+        _ => Err(FILES),
+    }
+}
+
+/// Two, four, six or eight names, two for each wave.
+fn waves<'a>(alloc: Global, names: &[&'a str]) -> Result<Named<'a>, WordsError>
+    ensures exact { GivesFiles (wave_names (texts names.now)) result }
+    ensures few { IfOk result (λ named. length named.later.items ≤ 3) }
+    ensures half { IfOk result (λ named. 2 * length named.later.items + 2 ≡ length names.now) }
     ensures single { IfOk result (λ named. named.chain ≡ None) }
 {
     match names {
-        [name_r, name_s] => Ok(Named {
-            name_r: *name_r,
-            name_s: *name_s,
-            chain: None,
-        }),
-        _ => Err(WordsFault::Files),
+        [name_r, name_s, rest @ ..] => match later(alloc, rest) {
+            Ok(later) => Ok(Named {
+                name_r: *name_r,
+                name_s: *name_s,
+                later,
+                chain: None,
+            }),
+            Err(error) => Err(error),
+        },
+        _ => Err(FILES),
     }
 }
 
 /// Just three names, the third of a second join with this predicate.
-fn three<'a>(names: &[&'a str], on: &'a str) -> Result<Named<'a>, WordsFault>
+fn three<'a>(alloc: Global, names: &[&'a str], on: &'a str) -> Result<Named<'a>, WordsError>
     ensures exact { GivesFiles (three_names on.now (texts names.now)) result }
+    ensures alone { IfOk result (λ named. named.later.items ≡ []) }
+    ensures chained { IfOk result (λ named. IsSome named.chain) }
 {
     match names {
         [name_r, name_s, name] => Ok(Named {
             name_r: *name_r,
             name_s: *name_s,
+            later: Vec::new(alloc),
             chain: Some(Chain { on, name: *name }),
         }),
-        _ => Err(WordsFault::Files),
+        _ => Err(FILES),
     }
 }
 
 /// No name.
-fn none<'a>(names: &[&'a str]) -> Result<Named<'a>, WordsFault>
+fn none<'a>(alloc: Global, names: &[&'a str]) -> Result<Named<'a>, WordsError>
     ensures exact { GivesFiles (no_names (texts names.now)) result }
+    ensures alone { IfOk result (λ named. named.later.items ≡ []) }
+    ensures empty { IfOk result (λ named. length names.now ≡ 0) }
     ensures single { IfOk result (λ named. named.chain ≡ None) }
 {
     match names {
         [] => Ok(Named {
             name_r: "",
             name_s: "",
+            later: Vec::new(alloc),
             chain: None,
         }),
-        _ => Err(WordsFault::Files),
+        _ => Err(FILES),
     }
 }
 
-/// Whether there are more than two names of files.
-pub(crate) fn are_many(matches: &ArgMatches<'_>) -> bool
-    ensures { result ≡ nat_lt 2 (length (names_given (rows_of (found_of matches.now)))) }
+/// How many names of files there are.
+pub(crate) fn count(matches: &ArgMatches<'_>) -> u64
+    ensures { result ≡ length (names_given (rows_of (found_of matches.now))) }
 {
     match matches.get_strs("files") {
-        Some(names) => names.len() > 2,
-        None => false,
+        Some(names) => names.len() as u64,
+        None => 0,
     }
 }
 
 /// These names, of which there are none where tables are made, and three with a second predicate.
 fn checked<'a>(
+    alloc: Global,
     names: &[&'a str],
     make: Option<u64>,
     on: Option<&'a str>,
-) -> Result<Named<'a>, WordsFault>
+) -> Result<Named<'a>, WordsError>
     ensures exact { GivesFiles
         (names_by make (option_map (λ text. text.now) on.entry) (texts names.now)) result }
-    ensures chained { IfOk result (λ named. IfSome named.chain (λ _. IsSome on.entry)) }
+    ensures few { IfOk result (λ named. length named.later.items ≤ 3) }
+    ensures half { IfOk result (λ named. named.chain ≡ None
+        → length names.now ≤ 2 * length named.later.items + 2) }
+    ensures two { IfOk result (λ named. length names.now ≤ 2 → named.later.items ≡ []) }
+    ensures made { IfOk result (λ named. IfSome make (λ _. named.later.items ≡ [])) }
+    ensures chained { IfOk result (λ named. IfSome named.chain
+        (λ _. IsSome on.entry × (named.later.items ≡ []))) }
 {
     match make {
-        Some(_) => none(names),
+        Some(_) => none(alloc, names),
         None => match on {
-            Some(on) => three(names, on),
-            None => two(names),
+            Some(on) => three(alloc, names, on),
+            None => waves(alloc, names),
         },
     }
 }
 
 /// The names of the files, and the second join, where one is asked for.
 pub(crate) fn read_names<'a>(
+    alloc: Global,
     matches: &ArgMatches<'a>,
     make: Option<u64>,
-) -> Result<Named<'a>, WordsFault>
+) -> Result<Named<'a>, WordsError>
     ensures exact { GivesFiles (names_by make (then_at (rows_of (found_of matches.now)))
         (names_given (rows_of (found_of matches.now)))) result }
+    ensures few { IfOk result (λ named. length named.later.items ≤ 3) }
+    ensures half { IfOk result (λ named. named.chain ≡ None
+        → length (names_given (rows_of (found_of matches.now)))
+        ≤ 2 * length named.later.items + 2) }
+    ensures two { IfOk result (λ named.
+        length (names_given (rows_of (found_of matches.now))) ≤ 2 → named.later.items ≡ []) }
+    ensures made { IfOk result (λ named. IfSome make (λ _. named.later.items ≡ [])) }
     ensures chained { IfOk result (λ named. IfSome named.chain
-        (λ _. IsSome (then_at (rows_of (found_of matches.now))))) }
+        (λ _. IsSome (then_at (rows_of (found_of matches.now))) × (named.later.items ≡ []))) }
 {
     let on = given(matches, "then");
     match matches.get_strs("files") {
-        Some(names) => checked(names, make, on),
-        None => checked(&[], make, on),
+        Some(names) => checked(alloc, names, make, on),
+        None => checked(alloc, &[], make, on),
     }
 }

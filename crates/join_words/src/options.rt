@@ -12,18 +12,28 @@ pub struct Chain<'a> {
     pub name: &'a str,
 }
 
-/// What the words ask for.
+/// The two files of a wave behind the first.
 #[derive(Clone, Copy, Debug, PartialEq, Eq)]
+pub struct Wave<'a> {
+    /// The name of its file of R.
+    pub name_r: &'a str,
+    /// The name of its file of S.
+    pub name_s: &'a str,
+}
+
+/// What the words ask for.
+#[derive(Debug, Drop, PartialEq, Eq)]
 pub struct Options<'a> {
     /// The text of the predicate.
     pub on: &'a str,
     /// There are 2^k joiners, unless they form groups; k is 0 then.
     pub k: u32,
     /// How many joiners there are, 1 to 64, where they are to form groups: one for each binary digit of the number,
-    /// of as many joiners as the digit is worth. No shift is fixed then, there is no replay, and pairs aren't wanted early.
+    /// of as many joiners as the digit is worth. No shift is fixed then, there is no replay, pairs aren't wanted early, and
+    /// there is no later wave.
     pub groups: Option<u32>,
     /// Messages go over rings, in whose run no thread waits for another's step. There is no replay then, pairs aren't wanted
-    /// early, joiners form no groups, and there is no second join.
+    /// early, joiners form no groups, and there is neither a second join nor a later wave.
     pub rings: bool,
     /// How many feeders share the rows, 1 to 8.
     pub feeders: u32,
@@ -44,19 +54,25 @@ pub struct Options<'a> {
     pub replay: Option<u64>,
     /// How many rows a side has, 1 to 65,536, where tables are to be made. There are no files then.
     pub make: Option<u64>,
-    /// The pairs are wanted as they are found, bout by bout. There is no replay then, there are files, joined rows aren't
+    /// The pairs are wanted as they are found, bout by bout. There is no replay then, there are two files, joined rows aren't
     /// wanted, and joiners form no groups.
     pub early: bool,
     /// A report is wanted beside the output.
     pub report: bool,
     /// The joined rows are wanted in place of their numbers.
     pub rows: bool,
-    /// The name of the file of R, empty where tables are made.
+    /// The name of the first wave's file of R, empty where tables are made.
     pub name_r: &'a str,
-    /// The name of the file of S, empty where tables are made.
+    /// The name of the first wave's file of S, empty where tables are made.
     pub name_s: &'a str,
+    /// The waves behind the first, in order, at most three. There are none where tables are made, pairs are wanted early,
+    /// joiners form groups, messages go over rings, or there is a second join.
+    pub later: Vec<Wave<'a>>,
+    /// After how many waves each joiner splits into four, where they are to. There is a wave behind these then, no shift is
+    /// fixed, joiners form no groups, messages don't go over rings, and there is no second join.
+    pub grow: Option<u32>,
     /// The second join, where one is asked for. There is no replay then, there are files, pairs aren't wanted early nor as
-    /// joined rows, and joiners form no groups.
+    /// joined rows, joiners form no groups, and there is no later wave.
     pub chain: Option<Chain<'a>>,
 }
 
@@ -70,12 +86,14 @@ pub enum WordsFault {
     Joiners,
     /// `--fixed` is given without `--groups`, and is greater than k.
     Fixed,
-    /// `--early` stands with `--replay`, `--make` or `--rows`; `--make` stands with `--rows`; `--groups` stands with
-    /// `--fixed`, `--early`, `--replay`, `--then` or more than two names of files; `--then` stands with `--early`,
-    /// `--rows`, `--make` or `--replay`; or `--rings` stands with `--groups`, `--then`, `--early`, `--replay` or more than two
-    /// names of files.
+    /// `--early` stands with `--replay`, `--make`, `--rows` or more than two names of files; `--make` stands with `--rows`;
+    /// `--groups` stands with `--fixed`, `--early`, `--replay`, `--then` or more than two names of files; `--then` stands
+    /// with `--early`, `--rows`, `--make` or `--replay`; `--rings` stands with `--groups`, `--then`, `--early`, `--replay`
+    /// or more than two names of files; `--grow` stands with `--fixed`, `--groups`, `--then` or `--rings`, or twice its
+    /// number isn't below the number of names of files.
     Together,
-    /// There aren't just two names of files, or with `--then` three, or with `--make` there is one.
+    /// There aren't two, four, six or eight names of files, or with `--then` there aren't three, or with `--make` there is
+    /// one.
     Files,
 }
 

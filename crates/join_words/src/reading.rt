@@ -1,6 +1,6 @@
 // The words, read.
 
-ghost use Rattle.std.specs.Prelude.{◌≡◌, ◌≢◌, ◌≤◌, Ok, Err, IfOk, IfSome, None, true, false, map, string_bytes};
+ghost use Rattle.std.specs.Prelude.{◌≡◌, ◌≢◌, ◌≤◌, [], Ok, Err, IfOk, IfSome, None, true, false, length, map, string_bytes};
 ghost use Rattle.clap.specs.Matches.{found_of};
 ghost use Rattle.clap.specs.Values.{kind_of};
 ghost use Rattle.clap.specs.Walk.{rows_of};
@@ -74,10 +74,22 @@ pub fn read_words<'a>(alloc: Global, words: &'a [String]) -> Result<Options<'a>,
     ensures ringed { IfOk result (λ options. options.rings ≡ true
         → (options.groups ≡ None) × (options.chain ≡ None) × (options.early ≡ false)
         × (options.replay ≡ None)) }
+    ensures later { IfOk result (λ options. length options.later.items ≤ 3) }
+    ensures made_once { IfOk result (λ options.
+        IfSome options.make (λ _. options.later.items ≡ [])) }
+    ensures early_once { IfOk result (λ options. options.early ≡ true → options.later.items ≡ []) }
+    ensures grouped_once { IfOk result (λ options.
+        IfSome options.groups (λ _. options.later.items ≡ [])) }
+    ensures chained_once { IfOk result (λ options.
+        IfSome options.chain (λ _. options.later.items ≡ [])) }
+    ensures ringed_once { IfOk result (λ options. options.rings ≡ true → options.later.items ≡ []) }
+    ensures grow { IfOk result (λ options. IfSome options.grow (λ wave.
+        (1 ≤ wave) × (wave ≤ length options.later.items) × (options.fixed ≡ None)
+        × (options.groups ≡ None) × (options.chain ≡ None) × (options.rings ≡ false))) }
 {
     let matches = matched(alloc, words)?;
-    match checked(&matches) {
+    match checked(alloc, &matches) {
         Ok(options) => Ok(options),
-        Err(fault) => Err(WordsError::Fault(fault)),
+        Err(error) => Err(error),
     }
 }

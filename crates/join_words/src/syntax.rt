@@ -90,5 +90,6 @@ pub fn command<'a>(alloc: Global) -> Result<Command<'a>, AllocError>
         .arg(flag(alloc, "groups"))?
         .arg(option(alloc, "then"))?
         .arg(flag(alloc, "rings"))?
+        .arg(number(alloc, "grow", 1, 3))?
         .arg(files(alloc, "files"))
 }

@@ -1,7 +1,8 @@
 mod together;
+mod waves;
 
 use grid_map::Weights;
-use join_words::{Options, WordsError, WordsFault, read_words};
+use join_words::{Chain, Options, Wave, WordsError, WordsFault, read_words};
 use row_tickets::Feed;
 use std::alloc::{AllocError, Global};
 use std::test::Fail;
@@ -17,7 +18,33 @@ fn words(alloc: Global, line: &str) -> Result<Vec<String>, AllocError> {
     Ok(words)
 }
 
-const PLAIN: Options<'static> = Options {
+/// What is to be read: options whose later waves are a slice.
+#[derive(Clone, Copy)]
+struct Wanted {
+    on: &'static str,
+    k: u32,
+    groups: Option<u32>,
+    rings: bool,
+    feeders: u32,
+    workers: u32,
+    batch: u32,
+    feed: Feed,
+    fixed: Option<u32>,
+    weights: Weights,
+    seed: u64,
+    replay: Option<u64>,
+    make: Option<u64>,
+    early: bool,
+    report: bool,
+    rows: bool,
+    name_r: &'static str,
+    name_s: &'static str,
+    later: &'static [Wave<'static>],
+    grow: Option<u32>,
+    chain: Option<Chain<'static>>,
+}
+
+const PLAIN: Wanted = Wanted {
     on: "p",
     k: 2,
     groups: None,
@@ -36,15 +63,60 @@ const PLAIN: Options<'static> = Options {
     rows: false,
     name_r: "r",
     name_s: "s",
+    later: &[],
+    grow: None,
     chain: None,
 };
 
-fn grid(k: u32, fixed: Option<u32>) -> Options<'static> {
-    Options { k, fixed, ..PLAIN }
+/// Those options.
+fn options(alloc: Global, wanted: Wanted) -> Result<Options<'static>, AllocError> {
+    Ok(Options {
+        on: wanted.on,
+        k: wanted.k,
+        groups: wanted.groups,
+        rings: wanted.rings,
+        feeders: wanted.feeders,
+        workers: wanted.workers,
+        batch: wanted.batch,
+        feed: wanted.feed,
+        fixed: wanted.fixed,
+        weights: wanted.weights,
+        seed: wanted.seed,
+        replay: wanted.replay,
+        make: wanted.make,
+        early: wanted.early,
+        report: wanted.report,
+        rows: wanted.rows,
+        name_r: wanted.name_r,
+        name_s: wanted.name_s,
+        later: Vec::from_slice(alloc, wanted.later)?,
+        grow: wanted.grow,
+        chain: wanted.chain,
+    })
 }
 
-fn feeders(feeders: u32, batch: u32, feed: Feed) -> Options<'static> {
-    Options {
+/// Whether those options are read from a line.
+fn reads(alloc: Global, line: &str, wanted: Wanted) -> Result<bool, AllocError> {
+    let words = words(alloc, line)?;
+    let wanted = options(alloc, wanted)?;
+    Ok(read_words(alloc, &words) == Ok(wanted))
+}
+
+/// What is wrong with a line, if something is.
+fn refusal(alloc: Global, line: &str) -> Result<Option<WordsError>, AllocError> {
+    let words = words(alloc, line)?;
+    match read_words(alloc, &words) {
+        Ok(_) => Ok(None),
+        Err(error) => Ok(Some(error)),
+    }
+}
+
+fn grid(k: u32, fixed: Option<u32>) -> Wanted {
+    Wanted { k, fixed, ..PLAIN }
+}
+
+fn feeders(feeders: u32, batch: u32, feed: Feed) -> Wanted {
+    Wanted {
         feeders,
         batch,
         feed,
@@ -52,34 +124,34 @@ fn feeders(feeders: u32, batch: u32, feed: Feed) -> Options<'static> {
     }
 }
 
-fn workers(workers: u32) -> Options<'static> {
-    Options { workers, ..PLAIN }
+fn workers(workers: u32) -> Wanted {
+    Wanted { workers, ..PLAIN }
 }
 
-fn weights(r: u32, s: u32) -> Options<'static> {
-    Options {
+fn weights(r: u32, s: u32) -> Wanted {
+    Wanted {
         weights: Weights { r, s },
         ..PLAIN
     }
 }
 
-fn replay(seed: u64) -> Options<'static> {
-    Options {
+fn replay(seed: u64) -> Wanted {
+    Wanted {
         replay: Some(seed),
         ..PLAIN
     }
 }
 
-fn on(text: &'static str) -> Options<'static> {
-    Options { on: text, ..PLAIN }
+fn on(text: &'static str) -> Wanted {
+    Wanted { on: text, ..PLAIN }
 }
 
-fn seed(seed: u64) -> Options<'static> {
-    Options { seed, ..PLAIN }
+fn seed(seed: u64) -> Wanted {
+    Wanted { seed, ..PLAIN }
 }
 
-fn name_r(name: &'static str) -> Options<'static> {
-    Options {
+fn name_r(name: &'static str) -> Wanted {
+    Wanted {
         name_r: name,
         ..PLAIN
     }
@@ -87,7 +159,7 @@ fn name_r(name: &'static str) -> Options<'static> {
 
 #[test]
 fn reads_what_the_words_ask_for(rt: HostRuntime) -> Result<(), Fail> {
-    let report = Options {
+    let report = Wanted {
         report: true,
         ..PLAIN
     };
@@ -135,8 +207,7 @@ fn reads_what_the_words_ask_for(rt: HostRuntime) -> Result<(), Fail> {
         ("jm|--on|p|--|--report|s", name_r("--report")),
     ];
     for (line, wanted) in cases {
-        let words = words(rt.alloc(), line)?;
-        assert_eq!(rt; read_words(rt.alloc(), &words), Ok(wanted), "{line}");
+        assert!(rt; reads(rt.alloc(), line, wanted)?, "{line}");
     }
     Ok(())
 }
@@ -207,9 +278,8 @@ fn tells_the_first_fault(rt: HostRuntime) -> Result<(), Fail> {
         ("jm|--on|p|r|s|--|--report", WordsFault::Files),
     ];
     for (line, fault) in cases {
-        let words = words(rt.alloc(), line)?;
-        let wanted = Err(WordsError::Fault(fault));
-        assert_eq!(rt; read_words(rt.alloc(), &words), wanted, "{line}");
+        let wanted = Some(WordsError::Fault(fault));
+        assert_eq!(rt; refusal(rt.alloc(), line)?, wanted, "{line}");
     }
     Ok(())
 }

@@ -1,9 +1,9 @@
-use super::{PLAIN, words};
-use join_words::{Chain, Options, WordsError, WordsFault, read_words};
+use super::{PLAIN, Wanted, reads, refusal};
+use join_words::{Chain, WordsError, WordsFault};
 use std::test::Fail;
 
-fn made(count: u64) -> Options<'static> {
-    Options {
+fn made(count: u64) -> Wanted {
+    Wanted {
         make: Some(count),
         name_r: "",
         name_s: "",
@@ -13,11 +13,11 @@ fn made(count: u64) -> Options<'static> {
 
 #[test]
 fn made_tables_joined_rows_and_early_pairs(rt: HostRuntime) -> Result<(), Fail> {
-    let rows = Options {
+    let rows = Wanted {
         rows: true,
         ..PLAIN
     };
-    let early = Options {
+    let early = Wanted {
         early: true,
         ..PLAIN
     };
@@ -28,14 +28,13 @@ fn made_tables_joined_rows_and_early_pairs(rt: HostRuntime) -> Result<(), Fail> 
         ("jm|--early|--on|p|r|s", early),
     ];
     for (line, wanted) in cases {
-        let words = words(rt.alloc(), line)?;
-        assert_eq!(rt; read_words(rt.alloc(), &words), Ok(wanted), "{line}");
+        assert!(rt; reads(rt.alloc(), line, wanted)?, "{line}");
     }
     Ok(())
 }
 
-fn groups(joiners: u32) -> Options<'static> {
-    Options {
+fn groups(joiners: u32) -> Wanted {
+    Wanted {
         k: 0,
         groups: Some(joiners),
         ..PLAIN
@@ -44,7 +43,7 @@ fn groups(joiners: u32) -> Options<'static> {
 
 #[test]
 fn any_number_of_joiners_forms_groups(rt: HostRuntime) -> Result<(), Fail> {
-    let made = Options {
+    let made = Wanted {
         make: Some(7),
         name_r: "",
         name_s: "",
@@ -57,14 +56,13 @@ fn any_number_of_joiners_forms_groups(rt: HostRuntime) -> Result<(), Fail> {
         ("jm|--on|p|--joiners|63|--groups|--make|7", made),
     ];
     for (line, wanted) in cases {
-        let words = words(rt.alloc(), line)?;
-        assert_eq!(rt; read_words(rt.alloc(), &words), Ok(wanted), "{line}");
+        assert!(rt; reads(rt.alloc(), line, wanted)?, "{line}");
     }
     Ok(())
 }
 
-fn chain(on: &'static str, name: &'static str) -> Options<'static> {
-    Options {
+fn chain(on: &'static str, name: &'static str) -> Wanted {
+    Wanted {
         chain: Some(Chain { on, name }),
         ..PLAIN
     }
@@ -72,11 +70,11 @@ fn chain(on: &'static str, name: &'static str) -> Options<'static> {
 
 #[test]
 fn a_second_join_has_a_third_file(rt: HostRuntime) -> Result<(), Fail> {
-    let fixed = Options {
+    let fixed = Wanted {
         fixed: Some(1),
         ..chain("p2", "q")
     };
-    let report = Options {
+    let report = Wanted {
         report: true,
         ..chain("", "s")
     };
@@ -87,25 +85,24 @@ fn a_second_join_has_a_third_file(rt: HostRuntime) -> Result<(), Fail> {
         ("jm|--on|p|--then||--report|r|s|s", report),
     ];
     for (line, wanted) in cases {
-        let words = words(rt.alloc(), line)?;
-        assert_eq!(rt; read_words(rt.alloc(), &words), Ok(wanted), "{line}");
+        assert!(rt; reads(rt.alloc(), line, wanted)?, "{line}");
     }
     Ok(())
 }
 
 #[test]
 fn messages_go_over_rings(rt: HostRuntime) -> Result<(), Fail> {
-    let plain = Options {
+    let plain = Wanted {
         rings: true,
         ..PLAIN
     };
-    let made = Options {
+    let made = Wanted {
         rings: true,
         fixed: Some(0),
         report: true,
         ..made(7)
     };
-    let rows = Options {
+    let rows = Wanted {
         rows: true,
         ..plain
     };
@@ -115,8 +112,7 @@ fn messages_go_over_rings(rt: HostRuntime) -> Result<(), Fail> {
         ("jm|--on|p|--make|7|--rings|--report|--fixed|0", made),
     ];
     for (line, wanted) in cases {
-        let words = words(rt.alloc(), line)?;
-        assert_eq!(rt; read_words(rt.alloc(), &words), Ok(wanted), "{line}");
+        assert!(rt; reads(rt.alloc(), line, wanted)?, "{line}");
     }
     Ok(())
 }
@@ -134,7 +130,7 @@ fn faults_of_words_that_do_not_go_together(rt: HostRuntime) -> Result<(), Fail> 
         ),
         (
             WordsFault::Together,
-            "jm|--on|p|--make|3|--rows\njm|--on|p|--rows|--make|3|r|s\njm|--on|p|--early|--rows|r|s\njm|--on|p|--early|--replay|7|r|s\njm|--on|p|--early|--make|3\njm|--on|p|--early|--make|3|--rows|r",
+            "jm|--on|p|--make|3|--rows\njm|--on|p|--rows|--make|3|r|s\njm|--on|p|--early|--rows|r|s\njm|--on|p|--early|--replay|7|r|s\njm|--on|p|--early|--make|3\njm|--on|p|--early|--make|3|--rows|r\njm|--on|p|--early|r|s|t",
         ),
         (
             WordsFault::Together,
@@ -158,14 +154,13 @@ fn faults_of_words_that_do_not_go_together(rt: HostRuntime) -> Result<(), Fail> 
         ),
         (
             WordsFault::Files,
-            "jm|--on|p|--make|3|r|s\njm|--on|p|--make|3|r\njm|--on|p|--rows|r\njm|--on|p|--rows\njm|--on|p|--early|r\njm|--on|p|--groups|r\njm|--on|p|--groups|--make|3|r|s\njm|--on|p|--early|r|s|t\njm|--on|p|--rings|r",
+            "jm|--on|p|--make|3|r|s\njm|--on|p|--make|3|r\njm|--on|p|--rows|r\njm|--on|p|--rows\njm|--on|p|--early|r\njm|--on|p|--groups|r\njm|--on|p|--groups|--make|3|r|s\njm|--on|p|--rings|r",
         ),
     ];
     for (fault, lines) in cases {
         for line in lines.split('\n') {
-            let words = words(rt.alloc(), line)?;
-            let wanted = Err(WordsError::Fault(fault));
-            assert_eq!(rt; read_words(rt.alloc(), &words), wanted, "{line}");
+            let wanted = Some(WordsError::Fault(fault));
+            assert_eq!(rt; refusal(rt.alloc(), line)?, wanted, "{line}");
         }
     }
     Ok(())

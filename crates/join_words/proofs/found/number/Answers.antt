@@ -1,7 +1,7 @@
 use Rattle.std.proofs.Common.{◌∙◌, Some, None, ap}
 use Rattle.std.specs.Prelude.{option_and_then}
 use Rattle.clap.specs.Matches.{found_of}
-use Rattle.join_words.specs.Words.{number_of}
+use Rattle.join_words.specs.Found.{number_of}
 use Rattle.join_words.proofs.TextReads.{first_is}
 use Rattle.join_words.proofs.found.number.Goals as goal
 

@@ -85,9 +85,13 @@ returns c =
     let a18 : App = with_rule a17 r18 in
     let e18 : IsApp c.in_ok-arg-18.field-0 a18 = added a17 c.in_ok-arg-17.field-0 c.in_ok-arg-18.field-0 c.flag-5.result
     r18 e17 c.flag-5.ensures.local c.flag-5.ensures.rule c.in_ok-arg-18.ensures in
-    IfOk-weaker c.arg-19.result (λ r. AddsArg c.in_ok-arg-18.field-0 c.files.result r) (λ r. IsCommand (app_of r))
+    let r19 : Rule = number_rule (codes "grow") 1 3 in
+    let a19 : App = with_rule a18 r19 in
+    let e19 : IsApp c.in_ok-arg-19.field-0 a19 = added a18 c.in_ok-arg-18.field-0 c.in_ok-arg-19.field-0
+    c.number-4.result r19 e18 c.number-4.ensures.local c.number-4.ensures.rule c.in_ok-arg-19.ensures in
+    IfOk-weaker c.arg-20.result (λ r. AddsArg c.in_ok-arg-19.field-0 c.files.result r) (λ r. IsCommand (app_of r))
     (λ r adds.
-    let e19 : IsApp r (with_rule a18 (files_rule (codes "files"))) =
-    added a18 c.in_ok-arg-18.field-0 r c.files.result (files_rule (codes "files"))
-    e18 c.files.ensures.local c.files.ensures.rule adds in
-    record { is = e19.is }) c.arg-19.ensures
+    let e20 : IsApp r (with_rule a19 (files_rule (codes "files"))) =
+    added a19 c.in_ok-arg-19.field-0 r c.files.result (files_rule (codes "files"))
+    e19 c.files.ensures.local c.files.ensures.rule adds in
+    record { is = e20.is }) c.arg-20.ensures
