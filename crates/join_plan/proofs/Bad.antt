@@ -9,6 +9,9 @@ use Rattle.join_rows.specs.Columns.{IsBad, IsFirstBad, is_bad}
 use Rattle.join_rows.specs.declared.table.Side.{Side}
 use Rattle.join_plan.specs.declared.fault.InputFault.TheVariants.{Number}
 use Rattle.join_plan.specs.declared.fault.InputFault.{InputFault}
+use Rattle.join_plan.specs.declared.places.Place.{Place}
+use Rattle.join_plan.specs.declared.waves.WaveEnd.{WaveEnd}
+use Rattle.join_plan.specs.Located.{located}
 use Rattle.join_plan.specs.Numbers.{is_bad_cell, first_bad, column_fault, first_of}
 
 bad_is : (column : ℕ) (row : List Cell) → IsBad column row → is_bad_cell (slice_get row column) ≡ true
@@ -61,15 +64,17 @@ first_bad-first column rows number first =
     rw sum (first_bad-at column 1 rows first.place first.row first.there first.bad first.before)
 
 -- a column with no bad cell has no fault
-pub no_fault : (side : Side) (wave column : ℕ) (rows : List (List Cell))
+pub no_fault : (side : Side) (wave column : ℕ) (ends : List WaveEnd) (rows : List (List Cell))
     → ((place : ℕ) (row : List Cell) → slice_get rows place ≡ Some row → ¬ (IsBad column row))
-    → None ≡ column_fault side wave rows column
-no_fault side wave column rows good = rw (first_bad-none column 1 rows good) refl
+    → None ≡ column_fault side wave ends rows column
+no_fault side wave column ends rows good = rw (first_bad-none column 1 rows good) refl
 
--- and one with a first bad cell has that
-pub first_fault : (side : Side) (wave column : ℕ) (rows : List (List Cell)) (number : ℕ) → IsFirstBad column rows number
-    → Some (Number side wave (column + 1) number) ≡ column_fault side wave rows column
-first_fault side wave column rows number first = rw (first_bad-first column rows number first) refl
+-- and one with a first bad cell has that, told of the file that it comes from
+pub first_fault : (side : Side) (wave column : ℕ) (ends : List WaveEnd) (rows : List (List Cell)) (number : ℕ)
+    (place : Place)
+    → IsFirstBad column rows number → place ≡ located side wave 0 ends number
+    → Some (Number side place.wave (column + 1) place.row) ≡ column_fault side wave ends rows column
+first_fault side wave column ends rows number place first is = rw (first_bad-first column rows number first, is) refl
 
 -- of several columns one with a fault is the first from its place on
 pub first_of-here : (fault_of : ℕ → Option InputFault) (columns : List ℕ) (i : ℕ) (fault : InputFault)

@@ -8,3 +8,6 @@ pub mod Seen
 pub mod Readings
 pub mod Prepared
 pub mod Lines
+pub mod HeaderLemmas
+pub mod WaveLemmas
+pub mod LaterFiles

@@ -1,7 +1,7 @@
 -- A plan and how it was asked for, from one stage to the next.
 use Rattle.std.proofs.Common.{◌≡◌, ◌⊎◌, inl, inr, refl, sym, ap, subst, ◌∙◌}
-use Rattle.std.proofs.Common.{ℕ, List, Option, None, Some, Result, Ok, Err}
-use Rattle.std.specs.Prelude.{is_some, option_map}
+use Rattle.std.proofs.Common.{◌+◌, ℕ, List, length, Option, None, Some, Result, Ok, Err}
+use Rattle.std.specs.Prelude.{IfOk, is_some, option_map}
 use Rattle.join_rows.specs.Shelves.{Spot, Told}
 use Rattle.theta_text.specs.Grammar.{Tree}
 use Rattle.join_words.specs.Words.{Asked, AskedChain, asked_chain}
@@ -10,12 +10,14 @@ use Rattle.join_plan.specs.declared.fault.Refusal.{Refusal}
 use Rattle.join_plan.specs.declared.fault.Refusal.TheVariants as refusals
 use Rattle.join_plan.specs.declared.files.Gathered.{Gathered}
 use Rattle.join_plan.specs.declared.fitting.Planned.{Planned}
-use Rattle.join_plan.specs.Files.{gathered_by}
-use Rattle.join_plan.specs.Plan.{IsPlanOf, fitted}
+use Rattle.join_plan.specs.Files.{made_tables}
+use Rattle.join_plan.specs.Later.{gathered_by}
+use Rattle.join_plan.specs.Plan.{IsAsked, IsFit, IsPlanOf, fitted}
 use Rattle.join_plan.specs.Refusals.{then_of}
 use Rattle.join_plan.specs.Seen.{GatheredSeen, IsSeenPlan, PlanSeen, SeenBehind}
 use Rattle.join_plan.specs.Texts.{AreRead, HasFurther, HaveTrees, IsReadFurther, Readings, Trees, read_so, trees_of}
 use Rattle.join_plan.proofs.Readings.{every_request}
+use Rattle.join_plan.proofs.WaveLemmas.{single_end}
 
 -- there is a second tree just where a second join is asked for
 pub further_there : (chain : Option AskedChain) (further : Option Tree) → HasFurther chain further
@@ -46,6 +48,30 @@ refused_seen told spot asked trees refusal seen = record { found = none_gathered
 pub chain_there : (chain : Option Chain) → is_some (option_map asked_chain chain) ≡ is_some chain
 chain_there None = refl
 chain_there (Some chain) = refl
+
+-- what is planned of what was gathered was asked for
+pub is_asked : (told : Told) (asked : Asked) (trees : Trees) (found : Gathered) (result : Result Planned Refusal)
+    → HaveTrees asked trees
+    → ((files : List ℕ → Option (List ℕ)) → told ≡ Some files → gathered_by asked files ≡ Ok found)
+    → ((count : ℕ) → asked.make ≡ Some count → found.tables ≡ made_tables count)
+    → is_some found.third ≡ is_some asked.chain → length found.ends ≡ length asked.later + 1
+    → IfOk result (λ planned. fitted trees found ≡ Ok planned) → IfOk result IsFit
+    → IfOk result (λ planned. is_some planned.third ≡ is_some found.third)
+    → IfOk result (λ planned. planned.ends ≡ found.ends) → IfOk result (IsAsked told asked)
+is_asked told asked trees found (Err refusal) have files made chained waves fits fit third ends = tt
+is_asked told asked trees found (Ok planned) have files made chained waves fits fit third ends =
+    let all : length planned.ends ≡ length asked.later + 1 = ap length ends ∙ waves in
+    record {
+      trees = trees;
+      have = have;
+      found = found;
+      fits = fits;
+      files = files;
+      made = made;
+      chained = third ∙ chained;
+      waves = all;
+      single = λ alone. single_end planned.tables planned.ends fit.ends (all ∙ ap (λ l. length l + 1) alone);
+    }
 
 -- ---- texts that have trees
 

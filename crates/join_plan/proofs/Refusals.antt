@@ -1,7 +1,7 @@
 -- What is told where nothing was carried out is so.
-use Rattle.std.proofs.Common.{◌≡◌, ◌≤◌, inl, inr, ℕ, List, Option, None, Some, Result, Err, true, refl, sym, subst}
+use Rattle.std.proofs.Common.{◌≡◌, ◌≤◌, inl, inr, ℕ, List, Option, None, Some, Result, Ok, Err, true, refl, sym, subst}
 use Rattle.std.proofs.Common.{arith}
-use Rattle.std.specs.Prelude.{is_some}
+use Rattle.std.specs.Prelude.{IfErr, is_some}
 use Rattle.join_rows.specs.Shelves.{Spot, Told}
 use Rattle.theta_text.specs.Texts.{IsDeepAt, IsLiteralAt, IsSyntaxAt, IsWideAt, limits}
 use Rattle.theta_text.specs.declared.tree.Pred.{Pred}
@@ -12,7 +12,7 @@ use Rattle.theta_pred.specs.declared.fault.ResolveFault.TheVariants as columns
 use Rattle.join_words.specs.Words.{Asked, AskedChain}
 use Rattle.join_plan.specs.declared.fault.Refusal.{Refusal}
 use Rattle.join_plan.specs.declared.fault.Refusal.TheVariants as refusals
-use Rattle.join_plan.specs.declared.fault.LimitFault.TheVariants.{Between, TooLong, TooMany}
+use Rattle.join_plan.specs.declared.fault.LimitFault.TheVariants.{Between, TooLong, TooMany, Total}
 use Rattle.join_plan.specs.declared.fault.TextFault.{TextFault}
 use Rattle.join_plan.specs.declared.fault.TextFault.TheVariants.{Syntax, Deep, Wide, Literal, NoColumn, TwoColumns}
 use Rattle.join_plan.specs.declared.refusal.Which.{Which}
@@ -87,6 +87,7 @@ later_refuses old middle new told later spot asked (refusals.Then fault) rises s
 later_refuses old middle new told later spot asked (refusals.Input fault) rises same refuses = tt
 later_refuses old middle new told later spot asked (refusals.Limit (TooLong side wave)) rises same refuses = refuses
 later_refuses old middle new told later spot asked (refusals.Limit (TooMany side wave)) rises same refuses = tt
+later_refuses old middle new told later spot asked (refusals.Limit (Total side wave rows)) rises same refuses = tt
 later_refuses old middle new told later spot asked (refusals.Limit (Between pairs)) rises same refuses = refuses
 later_refuses old middle new told later spot asked refusals.Read rises same refuses = (
   refuses.0,
@@ -96,3 +97,11 @@ later_refuses old middle new told later spot asked refusals.Read rises same refu
   ],
 )
 later_refuses old middle new told later spot asked refusals.Memory rises same refuses = tt
+
+-- the same of an answer, where it is a refusal
+pub later_refuses_if : {A : Type 0} (old middle new : ℕ) (told later : Told) (spot : Spot) (asked : Asked)
+    (result : Result A Refusal) → old ≤ middle → later ≡ told
+    → IfErr result (Refuses middle new later spot asked) → IfErr result (Refuses old new told spot asked)
+later_refuses_if old middle new told later spot asked (Ok all) rises same refuses = tt
+later_refuses_if old middle new told later spot asked (Err refusal) rises same refuses =
+    later_refuses old middle new told later spot asked refusal rises same refuses

@@ -1,7 +1,8 @@
 -- What was read of the files, from one stage to the next.
-use Rattle.std.proofs.Common.{◌≡◌, ◌≤◌, ◌<◌, ◌+◌, ◌^◌, ◌∙◌, ◌⊎◌, inl, inr, ℕ, Bool, true, false, List, [], length, take}
-use Rattle.std.proofs.Common.{arith, Option, None, Some, Result, Ok, Err, refl, sym, ap, subst}
+use Rattle.std.proofs.Common.{◌≡◌, ◌≤◌, ◌<◌, ◌+◌, ◌^◌, ◌∙◌, ◌⊎◌, inl, inr, ℕ, Bool, true, false, List, [], ◌∷◌, length}
+use Rattle.std.proofs.Common.{take, arith, Option, None, Some, Result, Ok, Err, refl, sym, ap, subst}
 use Rattle.std.specs.Prelude.{Contains, MatchResult, nat_lt}
+use Rattle.std.proofs.lemmas.List.Elements.{Contains-append_right}
 use Rattle.join_rows.specs.Reads.{IsOfBytes}
 use Rattle.join_rows.specs.Records.{table_of}
 use Rattle.join_rows.specs.Shelves.{Lacks, Spot, Tells, Told}
@@ -14,10 +15,10 @@ use Rattle.join_plan.specs.declared.fault.Refusal.{Refusal}
 use Rattle.join_plan.specs.declared.fault.Refusal.TheVariants as refusals
 use Rattle.join_plan.specs.declared.files.Gathered.{Gathered}
 use Rattle.join_plan.specs.declared.files.Tables.{Tables}
-use Rattle.join_plan.specs.Causes.{Refuses}
-use Rattle.join_plan.specs.Files.{Source, or_refused, sources, table_found}
+use Rattle.join_plan.specs.Causes.{IsSourceOf, Refuses}
+use Rattle.join_plan.specs.Files.{Source, later_sources, or_refused, sources, table_found, third_source}
 use Rattle.join_plan.specs.Refusals.{file_refusal, then_of}
-use Rattle.join_plan.specs.Seen.{AllSeen, BeginsWith, GatheredSeen, IsSeen, TablesAsked, TablesSeen, ThirdSeen}
+use Rattle.join_plan.specs.Seen.{BeginsWith, BehindSeen, GatheredSeen, IsSeen, TablesAsked, TablesSeen, ThirdSeen}
 
 abbrev pub refused_table : TableFault → Result Table TableFault
 refused_table fault = Err fault
@@ -99,13 +100,13 @@ module _ (source : Source) where
       → ((refused_table fault ≡ Err files.Read → ⊥)
       → (place : ℕ) × (spot ≡ Some (source.name, place)) × (place ≤ 2 ^ 24 + 1)
       × (refused_table fault ≡ Err files.TooLong → 2 ^ 24 < place) × D place)
-      → asked.make ≡ None → Contains (sources asked) source
+      → IsSourceOf asked source
       → Refuses old new told spot asked (file_refusal source.side source.wave fault)
-  file_refuses files.TooLong old new told spot D asked read place none among =
+  file_refuses files.TooLong old new told spot D asked read place of =
       let stands = place (λ wrong. cc wrong) in
       record {
         source = source;
-        among = among;
+        among = of.among;
         of_side = refl;
         of_wave = refl;
         place = stands.0;
@@ -113,17 +114,17 @@ module _ (source : Source) where
         past = stands.3 refl;
         near = stands.2;
       }
-  file_refuses files.Read old new told spot D asked read place none among = (
-    none,
+  file_refuses files.Read old new told spot D asked read place of = (
+    of.files,
     elim (read refl) [
       | inl rose ↦ inl rose
-      | inr lacks ↦ inr (record { source = source; among = among; lacks = lacks })
+      | inr lacks ↦ inr (record { source = source; among = of.among; lacks = lacks })
     ],
   )
-  file_refuses files.NoHeader old new told spot D asked read place none among = tt
-  file_refuses (files.Width number found) old new told spot D asked read place none among = tt
-  file_refuses files.TooMany old new told spot D asked read place none among = tt
-  file_refuses files.Memory old new told spot D asked read place none among = tt
+  file_refuses files.NoHeader old new told spot D asked read place of = tt
+  file_refuses (files.Width number found) old new told spot D asked read place of = tt
+  file_refuses files.TooMany old new told spot D asked read place of = tt
+  file_refuses files.Memory old new told spot D asked read place of = tt
 
 -- ---- both files
 
@@ -221,29 +222,28 @@ pub third_is_seen : (told : Told) (middle spot : Spot) (chain : Option AskedChai
 third_is_seen told middle spot chain asked table is seen =
     subst (λ c. ThirdSeen told middle spot c (then_of table (λ found. Ok (Some found)))) (sym is) (table, seen, refl)
 
--- what is told of it is so, since it is among the files that are asked for
+-- it is among the files that are asked for
 pub third_among : (asked : Asked) (chain : AskedChain) → asked.chain ≡ Some chain
     → Contains (sources asked) (record { side = S; wave = 2; name = chain.name })
-third_among asked chain is = by asked.chain is
-  where
-    by : (found : Option AskedChain) → found ≡ Some chain
-        → Contains (sources (record asked { chain = found })) (record { side = S; wave = 2; name = chain.name })
-    by None is = absurd (cc is)
-    by (Some other) is =
-        let same : other ≡ chain = cc is in
-        (2, omega arith, ap (λ (c : AskedChain). record { side = S; wave = 2; name = c.name }) same)
+third_among asked chain is =
+    Contains-append_right (_ ∷ _ ∷ later_sources 2 asked.later) (third_source asked.chain) _
+    (rw is (0, omega arith, refl))
 
 -- ---- all of them
 
--- behind two tables the third was read, or not
+-- what was read behind two tables was read of what is asked for
 pub all_seen : (told : Told) (middle spot : Spot) (asked : Asked) (tables : Tables) (result : Result Gathered Refusal)
-    → TablesAsked told middle asked asked.make (Ok tables) → AllSeen told middle spot asked.chain (Ok tables) result
+    → TablesAsked told middle asked asked.make (Ok tables) → BehindSeen told middle spot asked (Ok tables) result
     → GatheredSeen told spot asked result
 all_seen told middle spot asked tables result first behind =
-    record { middle = middle; tables = Ok tables; first = first; then_third = behind }
+    record { middle = middle; tables = Ok tables; first = first; behind = behind }
 
 -- behind a refusal nothing was
 pub refused_all_seen : (told : Told) (spot : Spot) (asked : Asked) (refusal : Refusal)
     → TablesAsked told spot asked asked.make (no_tables refusal) → GatheredSeen told spot asked (Err refusal)
-refused_all_seen told spot asked refusal first =
-    record { middle = spot; tables = no_tables refusal; first = first; then_third = (refl, refl) }
+refused_all_seen told spot asked refusal first = record {
+  middle = spot;
+  tables = no_tables refusal;
+  first = first;
+  behind = record { middle = spot; waves = Err refusal; later = (refl, refl); third = (refl, refl) };
+}

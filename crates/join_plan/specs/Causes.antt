@@ -6,7 +6,7 @@ use Rattle.join_rows.specs.Shelves.{Told, Lacks, Spot}
 use Rattle.join_words.specs.Words.{Asked, AskedChain}
 use Rattle.join_plan.specs.declared.fault.Refusal.{Refusal}
 use Rattle.join_plan.specs.declared.fault.Refusal.TheVariants.{Input, Limit, Memory, Predicate, Read, Then}
-use Rattle.join_plan.specs.declared.fault.LimitFault.TheVariants.{Between, TooLong, TooMany}
+use Rattle.join_plan.specs.declared.fault.LimitFault.TheVariants.{Between, TooLong, TooMany, Total}
 use Rattle.join_plan.specs.declared.fault.TextFault.{TextFault}
 use Rattle.join_plan.specs.declared.refusal.Which.{Which}
 use Rattle.join_plan.specs.declared.refusal.Which.TheVariants.{On, Then as Further}
@@ -40,6 +40,15 @@ abbrev pub IsTextOf : Which → List ℕ → Asked → Type 0
 IsTextOf On text asked = asked.on ≡ text
 IsTextOf Further text asked = IsSomeAnd asked.chain (λ chain. chain.on ≡ text)
 
+-- no tables are made, and the file is one of those that are asked for
+pub record IsSourceOf (asked : Asked) (source : Source) : Type 0 where
+  pub files : asked.make ≡ None
+  pub among : Contains (sources asked) source
+
+-- each of these is such a file
+abbrev pub AreAsked : Asked → List Source → Type 0
+AreAsked asked files = (source : Source) → Contains files source → IsSourceOf asked source
+
 -- this predicate is asked for
 abbrev pub HasText : Which → Asked → Type 0
 HasText On asked = ⊤
@@ -54,6 +63,7 @@ Refuses old new told spot asked (Then fault) = IsTrueFurther asked.chain fault
 Refuses old new told spot asked (Input fault) = ⊤
 Refuses old new told spot asked (Limit (TooLong side wave)) = StandsPast spot side wave (sources asked)
 Refuses old new told spot asked (Limit (TooMany side wave)) = ⊤
+Refuses old new told spot asked (Limit (Total side wave rows)) = ⊤
 Refuses old new told spot asked (Limit (Between pairs)) = ⊥
 Refuses old new told spot asked Read = (asked.make ≡ None) × ((old < new) ⊎ LacksOne told (sources asked))
 Refuses old new told spot asked Memory = ⊤

@@ -1,15 +1,14 @@
 -- The tables: made, or read of the files.
-use Rattle.std.specs.Prelude.{ℕ, List, [], ◌∷◌, Option, None, Some, Result, Ok, Err}
+use Rattle.std.specs.Prelude.{◌+◌, ◌++◌, ℕ, List, [], ◌∷◌, Option, None, Some, Result, Ok, Err}
 use Rattle.join_rows.specs.declared.table.Side.{Side}
 use Rattle.join_rows.specs.declared.table.Side.TheVariants.{R, S}
 use Rattle.join_rows.specs.declared.table.Table.{Table}
 use Rattle.join_rows.specs.declared.fault.TableFault.{TableFault}
 use Rattle.join_rows.specs.Made.{made_table}
 use Rattle.join_rows.specs.Records.{table_of}
-use Rattle.join_words.specs.Words.{Asked, AskedChain}
+use Rattle.join_words.specs.Words.{Asked, AskedChain, AskedWave}
 use Rattle.join_plan.specs.declared.fault.Refusal.{Refusal}
 use Rattle.join_plan.specs.declared.fault.Refusal.TheVariants.{Read}
-use Rattle.join_plan.specs.declared.files.Gathered.{Gathered}
 use Rattle.join_plan.specs.declared.files.Tables.{Tables}
 use Rattle.join_plan.specs.declared.reading.File.{File}
 use Rattle.join_plan.specs.Refusals.{file_refusal, then_of}
@@ -24,6 +23,20 @@ pub record Source : Type 0 where
 abbrev pub source_of : File → Source
 source_of file = record { side = file.side; wave = file.wave; name = file.name.now }
 
+-- the file of R and that of S of a later wave
+abbrev pub wave_sources : ℕ → AskedWave → List Source
+wave_sources number wave =
+    record { side = R; wave = number; name = wave.name_r } ∷ record {
+      side = S;
+      wave = number;
+      name = wave.name_s;
+    } ∷ []
+
+-- those of each wave from this number on
+abbrev pub later_sources : ℕ → List AskedWave → List Source
+later_sources number [] = []
+later_sources number (wave ∷ waves) = wave_sources number wave ++ later_sources (number + 1) waves
+
 -- the third file, where there is one: that of S in wave 2
 abbrev pub third_source : Option AskedChain → List Source
 third_source None = []
@@ -36,7 +49,7 @@ sources asked =
       side = S;
       wave = 1;
       name = asked.name_s;
-    } ∷ third_source asked.chain
+    } ∷ (later_sources 2 asked.later ++ third_source asked.chain)
 
 -- the table of a side's file in a wave, or the refusal that its fault is
 abbrev pub or_refused : Side → ℕ → Result Table TableFault → Result Table Refusal
@@ -70,13 +83,3 @@ tables_by (Some count) files name_r name_s = Ok (made_tables count)
 abbrev pub third_by : Option AskedChain → (List ℕ → Option (List ℕ)) → Result (Option Table) Refusal
 third_by None files = Ok None
 third_by (Some chain) files = then_of (table_found S 2 (files chain.name)) (λ table. Ok (Some table))
-
--- two tables, and then the third
-abbrev pub with_third : Tables → Result (Option Table) Refusal → Result Gathered Refusal
-with_third tables third = then_of third (λ found. Ok (record { tables = tables; third = found }))
-
--- all tables that are asked for, or the first refusal
-abbrev pub gathered_by : Asked → (List ℕ → Option (List ℕ)) → Result Gathered Refusal
-gathered_by asked files =
-    then_of (tables_by asked.make files asked.name_r asked.name_s)
-    (λ tables. with_third tables (third_by asked.chain files))

@@ -1,8 +1,12 @@
 pub mod Refusals
 pub mod Texts
 pub mod Columns
+pub mod Waves
+pub mod Headers
+pub mod Located
 pub mod Numbers
 pub mod Files
+pub mod Later
 pub mod Plan
 pub mod Seen
 pub mod Causes

@@ -7,9 +7,9 @@ use Rattle.join_rows.specs.declared.table.Side.TheVariants.{R, S}
 use Rattle.join_plan.specs.declared.fault.TextFault.{TextFault}
 use Rattle.join_plan.specs.declared.fault.TextFault.TheVariants.{Syntax, Deep, Wide, Literal, NoColumn, TwoColumns}
 use Rattle.join_plan.specs.declared.fault.InputFault.{InputFault}
-use Rattle.join_plan.specs.declared.fault.InputFault.TheVariants.{NoHeader, Width, Number}
+use Rattle.join_plan.specs.declared.fault.InputFault.TheVariants.{Header, NoHeader, Width, Number}
 use Rattle.join_plan.specs.declared.fault.LimitFault.{LimitFault}
-use Rattle.join_plan.specs.declared.fault.LimitFault.TheVariants.{TooLong, TooMany, Between}
+use Rattle.join_plan.specs.declared.fault.LimitFault.TheVariants.{TooLong, TooMany, Total, Between}
 
 -- of a side
 abbrev pub side_line : Side → List ℕ
@@ -41,9 +41,14 @@ row_line side wave row = file_line side wave ++ codes " row " ++ decimal row
 abbrev pub cell_line : Side → ℕ → ℕ → ℕ → List ℕ
 cell_line side wave row column = row_line side wave row ++ codes " column " ++ decimal column
 
--- of a file that is no table, or a cell that is no number
+-- of how many rows a side has up to such a file
+abbrev pub count_line : Side → ℕ → ℕ → List ℕ
+count_line side wave rows = file_line side wave ++ codes " has " ++ decimal rows
+
+-- of a file that is no table or has another header, or a cell that is no number
 abbrev pub input_line : InputFault → List ℕ
 input_line (NoHeader side wave) = file_line side wave ++ codes " has no header"
+input_line (Header side wave) = file_line side wave ++ codes " has another header"
 input_line (Width side wave row found) = row_line side wave row ++ codes " has " ++ decimal found ++ codes " fields"
 input_line (Number side wave column row) = cell_line side wave row column ++ codes " is no number"
 
@@ -51,4 +56,5 @@ input_line (Number side wave column row) = cell_line side wave row column ++ cod
 abbrev pub limit_line : LimitFault → List ℕ
 limit_line (TooLong side wave) = file_line side wave ++ codes " has more than 16777216 bytes"
 limit_line (TooMany side wave) = file_line side wave ++ codes " has more than 262144 rows"
+limit_line (Total side wave rows) = count_line side wave rows ++ codes " rows in all"
 limit_line (Between pairs) = decimal pairs ++ codes " pairs between the joins"

@@ -1,5 +1,5 @@
 -- What the words and the files come to, in the order in which they are looked at.
-use Rattle.std.specs.Prelude.{◌≡◌, ◌+◌, ℕ, List, length, Option, None, Some, Result, Ok, Err, IfSome, is_some}
+use Rattle.std.specs.Prelude.{◌≡◌, ◌+◌, ℕ, List, [], ◌∷◌, length, Option, None, Some, Result, Ok, Err, IfSome, is_some}
 use Rattle.join_rows.specs.declared.table.Table.{Table}
 use Rattle.join_rows.specs.Records.{IsTable}
 use Rattle.join_rows.specs.Shelves.{Told}
@@ -15,11 +15,14 @@ use Rattle.join_plan.specs.declared.files.Tables.{Tables}
 use Rattle.join_plan.specs.declared.fitting.Planned.{Planned}
 use Rattle.join_plan.specs.declared.fitting.Third.{Third}
 use Rattle.join_plan.specs.declared.refusal.Which.TheVariants.{On, Then}
+use Rattle.join_plan.specs.declared.waves.WaveEnd.{WaveEnd}
 use Rattle.join_plan.specs.Columns.{theta_over}
-use Rattle.join_plan.specs.Files.{gathered_by, made_tables}
+use Rattle.join_plan.specs.Files.{made_tables}
+use Rattle.join_plan.specs.Later.{gathered_by}
 use Rattle.join_plan.specs.Numbers.{number_fault_of}
 use Rattle.join_plan.specs.Refusals.{then_of}
 use Rattle.join_plan.specs.Texts.{AreRead, HaveTrees, Readings, Trees, trees_of}
+use Rattle.join_plan.specs.Waves.{AreEnds, end_of}
 
 -- what was planned, unless a cell doesn't fit a predicate
 abbrev pub unless_unfit : Option InputFault → Planned → Result Planned Refusal
@@ -46,14 +49,14 @@ third_fitted tables _ _ = Ok None
 
 -- the plan of two tables and a predicate, behind which the names of the second have their columns, and the columns
 -- their numbers
-abbrev pub planned_with : Tables → Meaning → Option Tree → Option Table → Result Planned Refusal
-planned_with tables theta further table = then_of (third_fitted tables further table)
-    (λ third. checked (record { tables = tables; theta = theta; third = third }))
+abbrev pub planned_with : Tables → List WaveEnd → Meaning → Option Tree → Option Table → Result Planned Refusal
+planned_with tables ends theta further table = then_of (third_fitted tables further table)
+    (λ third. checked (record { tables = tables; ends = ends; theta = theta; third = third }))
 
 -- the plan of what was gathered: the names have their columns, and then as above
 abbrev pub fitted : Trees → Gathered → Result Planned Refusal
 fitted trees found = then_of (theta_over On found.tables.of_r.names found.tables.of_s.names trees.on)
-    (λ theta. planned_with found.tables theta trees.further found.third)
+    (λ theta. planned_with found.tables found.ends theta trees.further found.third)
 
 -- the texts, the tables, the columns, the numbers
 abbrev pub plan_of : Asked → Readings → (List ℕ → Option (List ℕ)) → Result Planned Refusal
@@ -81,16 +84,19 @@ pub record IsThirdFit (tables : Tables) (third : Third) : Type 0 where
   pub width_r : third.theta.width_r ≡ length tables.of_r.names + length tables.of_s.names
   pub width_s : third.theta.width_s ≡ length third.table.names
 
--- tables with a predicate over their headers, and a third table that fits them, where there is one
+-- tables with the ends of their waves and a predicate over their headers, and a third table that fits them, where there
+-- is one
 pub record IsFit (planned : Planned) : Type 0 where
   pub table_r : IsTable planned.tables.of_r
   pub table_s : IsTable planned.tables.of_s
   pub width_r : planned.theta.width_r ≡ length planned.tables.of_r.names
   pub width_s : planned.theta.width_s ≡ length planned.tables.of_s.names
+  pub ends : AreEnds planned.tables planned.ends
   pub third : IfSome planned.third (IsThirdFit planned.tables)
 
 -- these are tables and predicates that were asked for: the texts have trees which fit the tables, and these are the
--- made ones, or those of the told files; there is a third table just where a second join is asked for
+-- made ones, or those of the told files; there is a third table just where a second join is asked for, and there are as
+-- many ends as waves, so of one wave that of the tables
 pub record IsAsked (told : Told) (asked : Asked) (planned : Planned) : Type 0 where
   pub trees : Trees
   pub have : HaveTrees asked trees
@@ -99,3 +105,5 @@ pub record IsAsked (told : Told) (asked : Asked) (planned : Planned) : Type 0 wh
   pub files : (files : List ℕ → Option (List ℕ)) → told ≡ Some files → gathered_by asked files ≡ Ok found
   pub made : (count : ℕ) → asked.make ≡ Some count → found.tables ≡ made_tables count
   pub chained : is_some planned.third ≡ is_some asked.chain
+  pub waves : length planned.ends ≡ length asked.later + 1
+  pub single : asked.later ≡ [] → planned.ends ≡ end_of planned.tables ∷ []

@@ -22,12 +22,17 @@ pub enum TextFault {
     TwoColumns { side: Side, name: Bytes },
 }
 
-/// What is wrong with a file. Rows and columns are counted from 1, and so are waves: the file of each side is that of
-/// wave 1, and the third file of a second join is that of S in wave 2.
+/// What is wrong with a file. Rows and columns are counted from 1, and so are waves. The third file of a second join is
+/// that of S in wave 2.
 #[derive(Clone, Copy, Debug, PartialEq, Eq)]
 pub enum InputFault {
     /// It has no record.
     NoHeader {
+        side: Side,
+        wave: u32,
+    },
+    /// It is a table whose header isn't the first of its side, field by field.
+    Header {
         side: Side,
         wave: u32,
     },
@@ -40,7 +45,8 @@ pub enum InputFault {
     },
     /// The column stands in a sum of a predicate, and the row is the first whose cell there isn't
     /// empty and is no number. The columns of the first predicate come before those of the second; of each
-    /// those of side R come before those of side S, and each before those on its right.
+    /// those of side R come before those of side S, and each before those on its right. In a column earlier waves come
+    /// before later ones.
     Number {
         side: Side,
         wave: u32,
@@ -56,6 +62,8 @@ pub enum LimitFault {
     TooLong { side: Side, wave: u32 },
     /// The file has more than 2^18 rows under its header.
     TooMany { side: Side, wave: u32 },
+    /// The side has so many rows in the waves up to this one, the first such number past 2^18.
+    Total { side: Side, wave: u32, rows: u64 },
     /// The first two files have so many matching pairs, more than the 2^18 rows that a second join takes.
     Between { pairs: u64 },
 }

@@ -1,17 +1,21 @@
-// The tables of both sides, made or read, and the third of a second join.
+// The tables of both sides, made or read, with the rows of later files, and the third of a second join.
 
-ghost use Rattle.std.specs.Prelude.{◌≡◌, ◌⊎◌, ◌<◌, ◌≤◌, ℕ, List, Option, None, Some, Ok, Err};
-ghost use Rattle.std.specs.Prelude.{IfErr, IfOk, IfSome, is_some};
+ghost use Rattle.std.specs.Prelude.{◌≡◌, ◌⊎◌, ◌<◌, ◌≤◌, ◌+◌, ℕ, List, [], length, Option, None, Some};
+ghost use Rattle.std.specs.Prelude.{Ok, Err, IfErr, IfOk, IfSome, is_some};
 ghost use Rattle.join_rows.specs.Shelves.{last_fault};
 ghost use Rattle.join_rows.specs.Records.{IsTable};
 ghost use Rattle.join_words.specs.Words.{asked};
 ghost use Rattle.join_plan.specs.Causes.{Refuses};
-ghost use Rattle.join_plan.specs.Files;
-ghost use Rattle.join_plan.specs.Files.{gathered_by, made_tables, tables_by};
-ghost use Rattle.join_plan.specs.Seen.{AllSeen, GatheredSeen, TablesAsked};
+ghost use Rattle.join_plan.specs.Files.{made_tables, tables_by, third_by};
+ghost use Rattle.join_plan.specs.Later;
+ghost use Rattle.join_plan.specs.Later.{gathered_behind, gathered_by, waves_by};
+ghost use Rattle.join_plan.specs.Seen.{AllSeen, BehindSeen, GatheredSeen, LaterSeen, TablesAsked};
+ghost use Rattle.join_plan.specs.Waves.{AreEnds, first_wave as first_wave'};
 
 use crate::fault::Refusal;
+use crate::later::read_later;
 use crate::reading::{read_tables, third_table};
+use crate::waves::{InWaves, WaveEnds, first_wave};
 use join_rows::{Shelf, Side, Table, make_table};
 use join_words::Options;
 use std::alloc::{AllocError, Global};
@@ -23,10 +27,11 @@ pub struct Tables {
     pub of_s: Table,
 }
 
-/// The tables of both sides, and the third, where there is one.
+/// The tables of both sides with the rows of all waves, the ends of these, and the third table, where there is one.
 #[derive(Debug, Drop)]
 pub struct Gathered {
     pub tables: Tables,
+    pub ends: WaveEnds,
     pub third: Option<Table>,
 }
 
@@ -84,11 +89,53 @@ fn two_tables<H: Shelf>(
     }
 }
 
-/// Two tables, and then the third of a second join.
-fn with_third<H: Shelf>(
+/// The waves of two tables and the later files.
+fn all_waves<H: Shelf>(
     alloc: Global,
     options: &Options<'_>,
     tables: Tables,
+    shelf: &mut H,
+) -> Result<InWaves, Refusal>
+    requires faults { H.faults shelf.old < last_fault }
+    requires few { length options.now.later.items ≤ 3 }
+    requires later { IfSome options.now.make (λ _. options.now.later.items ≡ []) }
+    requires table_r { IsTable tables.of_r }
+    requires table_s { IsTable tables.of_s }
+    ensures told { H.told shelf.new ≡ H.told shelf.old }
+    ensures rises { H.faults shelf.old ≤ H.faults shelf.new }
+    ensures answer { (files : List ℕ → Option (List ℕ)) → H.told shelf.old ≡ Some files
+        → H.faults shelf.new ≡ H.faults shelf.old → (result ≡ Err Refusal.Memory)
+        ⊎ (result ≡ waves_by (asked options.now) files tables) }
+    ensures found { IfOk result
+        (λ waves. (files : List ℕ → Option (List ℕ)) → H.told shelf.old ≡ Some files
+        → waves_by (asked options.now) files tables ≡ Ok waves) }
+    ensures alone { options.now.later.items ≡ [] → (shelf.new ≡ shelf.old)
+        × IfOk result (λ waves. waves ≡ first_wave' tables) }
+    ensures seen { (result ≡ Err Refusal.Read → ⊥) → (result ≡ Err Refusal.Memory → ⊥)
+        → LaterSeen (H.told shelf.old) (H.picked shelf.old) (H.picked shelf.new)
+        (asked options.now) (Ok tables) result }
+    ensures sound { H.sound shelf.old
+        → H.sound shelf.new × (H.faults shelf.new ≡ H.faults shelf.old) }
+    ensures counts { (result ≡ Err Refusal.Read → ⊥) → H.faults shelf.new ≡ H.faults shelf.old }
+    ensures refused { IfErr result (Refuses (H.faults shelf.old) (H.faults shelf.new)
+        (H.told shelf.old) (H.picked shelf.new) (asked options.now)) }
+    ensures whole_r { IfOk result (λ waves. IsTable waves.tables.of_r) }
+    ensures whole_s { IfOk result (λ waves. IsTable waves.tables.of_s) }
+    ensures ends { IfOk result (λ waves. AreEnds waves.tables waves.ends) }
+    ensures waves { IfOk result (λ waves.
+        length waves.ends ≡ length options.now.later.items + 1) }
+{
+    match first_wave(alloc, tables) {
+        Ok(waves) => read_later(alloc, shelf, 2, options.later.as_slice(), waves),
+        Err(AllocError) => Err(Refusal::Memory),
+    }
+}
+
+/// The tables of all waves, and then the third of a second join.
+fn with_third<H: Shelf>(
+    alloc: Global,
+    options: &Options<'_>,
+    waves: InWaves,
     shelf: &mut H,
 ) -> Result<Gathered, Refusal>
     requires faults { H.faults shelf.old < last_fault }
@@ -97,25 +144,76 @@ fn with_third<H: Shelf>(
     ensures rises { H.faults shelf.old ≤ H.faults shelf.new }
     ensures answer { (files : List ℕ → Option (List ℕ)) → H.told shelf.old ≡ Some files
         → H.faults shelf.new ≡ H.faults shelf.old → (result ≡ Err Refusal.Memory)
-        ⊎ (result ≡ Files.with_third tables (Files.third_by (asked options.now).chain files)) }
+        ⊎ (result ≡ Later.with_third waves (third_by (asked options.now).chain files)) }
     ensures found { IfOk result
         (λ found. (files : List ℕ → Option (List ℕ)) → H.told shelf.old ≡ Some files
-        → Files.with_third tables (Files.third_by (asked options.now).chain files) ≡ Ok found) }
+        → Later.with_third waves (third_by (asked options.now).chain files) ≡ Ok found) }
     ensures alone { options.now.chain ≡ None → shelf.new ≡ shelf.old }
     ensures seen { (result ≡ Err Refusal.Read → ⊥) → (result ≡ Err Refusal.Memory → ⊥)
         → AllSeen (H.told shelf.old) (H.picked shelf.old) (H.picked shelf.new)
-        (asked options.now).chain (Ok tables) result }
+        (asked options.now).chain (Ok waves) result }
     ensures sound { H.sound shelf.old
         → H.sound shelf.new × (H.faults shelf.new ≡ H.faults shelf.old) }
     ensures counts { (result ≡ Err Refusal.Read → ⊥) → H.faults shelf.new ≡ H.faults shelf.old }
     ensures refused { IfErr result (Refuses (H.faults shelf.old) (H.faults shelf.new)
         (H.told shelf.old) (H.picked shelf.new) (asked options.now)) }
-    ensures tables { IfOk result (λ found. found.tables ≡ tables) }
+    ensures tables { IfOk result (λ found. found.tables ≡ waves.tables) }
+    ensures ends { IfOk result (λ found. found.ends ≡ waves.ends) }
     ensures whole { IfOk result (λ found. IfSome found.third IsTable) }
     ensures chained { IfOk result (λ found. is_some found.third ≡ is_some options.now.chain) }
 {
+    let InWaves { tables, ends } = waves;
     match third_table(alloc, options, shelf) {
-        Ok(third) => Ok(Gathered { tables, third }),
+        Ok(third) => Ok(Gathered {
+            tables,
+            ends,
+            third,
+        }),
+        Err(refusal) => Err(refusal),
+    }
+}
+
+/// Two tables, and then the later files and the third.
+fn with_others<H: Shelf>(
+    alloc: Global,
+    options: &Options<'_>,
+    tables: Tables,
+    shelf: &mut H,
+) -> Result<Gathered, Refusal>
+    requires faults { H.faults shelf.old < last_fault }
+    requires few { length options.now.later.items ≤ 3 }
+    requires later { IfSome options.now.make (λ _. options.now.later.items ≡ []) }
+    requires chained { IfSome options.now.chain (λ _. options.now.make ≡ None) }
+    requires table_r { IsTable tables.of_r }
+    requires table_s { IsTable tables.of_s }
+    ensures told { H.told shelf.new ≡ H.told shelf.old }
+    ensures rises { H.faults shelf.old ≤ H.faults shelf.new }
+    ensures answer { (files : List ℕ → Option (List ℕ)) → H.told shelf.old ≡ Some files
+        → H.faults shelf.new ≡ H.faults shelf.old → (result ≡ Err Refusal.Memory)
+        ⊎ (result ≡ gathered_behind (asked options.now) files tables) }
+    ensures found { IfOk result
+        (λ found. (files : List ℕ → Option (List ℕ)) → H.told shelf.old ≡ Some files
+        → gathered_behind (asked options.now) files tables ≡ Ok found) }
+    ensures alone { options.now.later.items ≡ [] → options.now.chain ≡ None
+        → (shelf.new ≡ shelf.old) × IfOk result (λ found. found.tables ≡ tables) }
+    ensures seen { (result ≡ Err Refusal.Read → ⊥) → (result ≡ Err Refusal.Memory → ⊥)
+        → BehindSeen (H.told shelf.old) (H.picked shelf.old) (H.picked shelf.new)
+        (asked options.now) (Ok tables) result }
+    ensures sound { H.sound shelf.old
+        → H.sound shelf.new × (H.faults shelf.new ≡ H.faults shelf.old) }
+    ensures counts { (result ≡ Err Refusal.Read → ⊥) → H.faults shelf.new ≡ H.faults shelf.old }
+    ensures refused { IfErr result (Refuses (H.faults shelf.old) (H.faults shelf.new)
+        (H.told shelf.old) (H.picked shelf.new) (asked options.now)) }
+    ensures whole_r { IfOk result (λ found. IsTable found.tables.of_r) }
+    ensures whole_s { IfOk result (λ found. IsTable found.tables.of_s) }
+    ensures whole { IfOk result (λ found. IfSome found.third IsTable) }
+    ensures chained { IfOk result (λ found. is_some found.third ≡ is_some options.now.chain) }
+    ensures ends { IfOk result (λ found. AreEnds found.tables found.ends) }
+    ensures waves { IfOk result (λ found.
+        length found.ends ≡ length options.now.later.items + 1) }
+{
+    match all_waves(alloc, options, tables, shelf) {
+        Ok(waves) => with_third(alloc, options, waves, shelf),
         Err(refusal) => Err(refusal),
     }
 }
@@ -128,6 +226,8 @@ pub(crate) fn all_tables<H: Shelf>(
 ) -> Result<Gathered, Refusal>
     requires faults { H.faults shelf.old < last_fault }
     requires make { IfSome options.now.make (λ count. (1 ≤ count) × (count ≤ 65536)) }
+    requires few { length options.now.later.items ≤ 3 }
+    requires later { IfSome options.now.make (λ _. options.now.later.items ≡ []) }
     requires chained { IfSome options.now.chain (λ _. options.now.make ≡ None) }
     ensures told { H.told shelf.new ≡ H.told shelf.old }
     ensures rises { H.faults shelf.old ≤ H.faults shelf.new }
@@ -150,9 +250,12 @@ pub(crate) fn all_tables<H: Shelf>(
     ensures whole_s { IfOk result (λ found. IsTable found.tables.of_s) }
     ensures whole { IfOk result (λ found. IfSome found.third IsTable) }
     ensures chained { IfOk result (λ found. is_some found.third ≡ is_some options.now.chain) }
+    ensures ends { IfOk result (λ found. AreEnds found.tables found.ends) }
+    ensures waves { IfOk result (λ found.
+        length found.ends ≡ length options.now.later.items + 1) }
 {
     match two_tables(alloc, options, shelf) {
-        Ok(tables) => with_third(alloc, options, tables, shelf),
+        Ok(tables) => with_others(alloc, options, tables, shelf),
         Err(refusal) => Err(refusal),
     }
 }

@@ -10,6 +10,7 @@ ghost use Rattle.join_plan.specs.Causes.{HasText, Refuses};
 ghost use Rattle.join_plan.specs.Plan;
 ghost use Rattle.join_plan.specs.Plan.{IsFit, IsThirdFit, fitted as fitted', planned_with, second_theta as second_theta', third_fitted, third_over};
 ghost use Rattle.join_plan.specs.Texts.{AreNarrow, trees_in};
+ghost use Rattle.join_plan.specs.Waves.{AreEnds};
 
 use crate::columns::theta;
 use crate::fault::Refusal;
@@ -17,6 +18,7 @@ use crate::files::{Gathered, Tables};
 use crate::numbers::number_fault;
 use crate::predicate::Preds;
 use crate::refusal::Which;
+use crate::waves::WaveEnds;
 use join_rows::Table;
 use joined_rows::joined_names;
 use std::alloc::{AllocError, Global};
@@ -30,10 +32,12 @@ pub struct Third {
     pub theta: Theta,
 }
 
-/// Two tables and a predicate over them, and the third of a second join, where one is asked for.
+/// Two tables with the rows of all waves and the ends of these, a predicate over them, and the third table of a second
+/// join, where one is asked for.
 #[derive(Drop)]
 pub struct Planned {
     pub tables: Tables,
+    pub ends: WaveEnds,
     pub theta: Theta,
     pub third: Option<Third>,
 }
@@ -44,6 +48,7 @@ fn checked(planned: Planned) -> Result<Planned, Refusal>
     ensures answer { result ≡ Plan.checked planned }
     ensures fit { IfOk result IsFit }
     ensures third { IfOk result (λ checked. is_some checked.third ≡ is_some planned.third) }
+    ensures ends { IfOk result (λ checked. checked.ends ≡ planned.ends) }
     ensures refused { (old new : ℕ) (told : Told) (spot : Spot) (asked : Asked)
         → IfErr result (Refuses old new told spot asked) }
 {
@@ -129,6 +134,7 @@ fn fitted_third(
 fn planned_of(
     alloc: Global,
     tables: Tables,
+    ends: WaveEnds,
     theta: Theta,
     further: &Option<Pred>,
     table: Option<Table>,
@@ -138,20 +144,23 @@ fn planned_of(
     requires both { is_some further.now ≡ is_some table }
     requires table_r { IsTable tables.of_r }
     requires table_s { IsTable tables.of_s }
+    requires ends { AreEnds tables ends }
     requires width_r { theta.width_r ≡ length tables.of_r.names }
     requires width_s { theta.width_s ≡ length tables.of_s.names }
     ensures answer { (result ≡ Err Refusal.Memory)
-        ⊎ (result ≡ planned_with tables theta (option_map tree_of further.now) table) }
+        ⊎ (result ≡ planned_with tables ends theta (option_map tree_of further.now) table) }
     ensures found { IfOk result (λ planned.
-        planned_with tables theta (option_map tree_of further.now) table ≡ Ok planned) }
+        planned_with tables ends theta (option_map tree_of further.now) table ≡ Ok planned) }
     ensures fit { IfOk result IsFit }
     ensures third { IfOk result (λ planned. is_some planned.third ≡ is_some table) }
+    ensures ends { IfOk result (λ planned. planned.ends ≡ ends) }
     ensures refused { (old new : ℕ) (told : Told) (spot : Spot) (asked : Asked)
         → is_some asked.chain ≡ is_some table → IfErr result (Refuses old new told spot asked) }
 {
     match fitted_third(alloc, &tables, further, table) {
         Ok(third) => checked(Planned {
             tables,
+            ends,
             theta,
             third,
         }),
@@ -164,6 +173,7 @@ pub(crate) fn fitted(alloc: Global, preds: &Preds, found: Gathered) -> Result<Pl
     requires narrow { AreNarrow preds.now }
     requires whole_r { IsTable found.tables.of_r }
     requires whole_s { IsTable found.tables.of_s }
+    requires ends { AreEnds found.tables found.ends }
     requires whole { IfSome found.third IsTable }
     requires both { is_some preds.now.further ≡ is_some found.third }
     ensures answer { (result ≡ Err Refusal.Memory)
@@ -171,12 +181,14 @@ pub(crate) fn fitted(alloc: Global, preds: &Preds, found: Gathered) -> Result<Pl
     ensures found { IfOk result (λ planned. fitted' (trees_in preds.now) found ≡ Ok planned) }
     ensures fit { IfOk result IsFit }
     ensures third { IfOk result (λ planned. is_some planned.third ≡ is_some found.third) }
+    ensures ends { IfOk result (λ planned. planned.ends ≡ found.ends) }
     ensures refused { (old new : ℕ) (told : Told) (spot : Spot) (asked : Asked)
         → is_some asked.chain ≡ is_some found.third
         → IfErr result (Refuses old new told spot asked) }
 {
     let Gathered {
         tables,
+        ends,
         third: table,
     } = found;
     match theta(
@@ -186,7 +198,7 @@ pub(crate) fn fitted(alloc: Global, preds: &Preds, found: Gathered) -> Result<Pl
         &tables.of_r.names,
         &tables.of_s.names,
     ) {
-        Ok(theta) => planned_of(alloc, tables, theta, &preds.further, table),
+        Ok(theta) => planned_of(alloc, tables, ends, theta, &preds.further, table),
         Err(refusal) => Err(refusal),
     }
 }

@@ -3,16 +3,22 @@
 #![tactic(auto)]
 
 mod columns;
+mod continued;
 mod fault;
 mod files;
 mod fitting;
+mod headers;
+mod later;
 mod laws;
 mod numbers;
+mod places;
 mod plan;
 mod predicate;
 mod reading;
 mod refusal;
+mod rows;
 mod text;
+mod waves;
 
 pub use fault::{InputFault, LimitFault, Refusal, TextFault};
 pub use files::{Gathered, Tables};
@@ -20,3 +26,4 @@ pub use fitting::{Planned, Third};
 pub use laws::requests_have_one_plan;
 pub use plan::prepare;
 pub use refusal::Which;
+pub use waves::{WaveEnd, WaveEnds};

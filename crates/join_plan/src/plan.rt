@@ -1,6 +1,6 @@
 // What the words ask for, made ready.
 
-ghost use Rattle.std.specs.Prelude.{◌≡◌, ◌⊎◌, ◌<◌, ◌≤◌, ℕ, List, None, Option, Some, Err};
+ghost use Rattle.std.specs.Prelude.{◌≡◌, ◌⊎◌, ◌<◌, ◌≤◌, ℕ, List, [], length, None, Option, Some, Err};
 ghost use Rattle.std.specs.Prelude.{IfErr, IfOk, IfSome};
 ghost use Rattle.join_rows.specs.Shelves.{last_fault};
 ghost use Rattle.theta_text.specs.Grammar.{Tree};
@@ -8,7 +8,7 @@ ghost use Rattle.theta_text.specs.Texts.{IsFaultOf, TextReads, limits};
 ghost use Rattle.theta_text.specs.declared.fault.PredFault.{PredFault};
 ghost use Rattle.join_words.specs.Words.{AskedChain, asked};
 ghost use Rattle.join_plan.specs.Causes.{Refuses};
-ghost use Rattle.join_plan.specs.Files.{gathered_by};
+ghost use Rattle.join_plan.specs.Later.{gathered_by};
 ghost use Rattle.join_plan.specs.Plan.{IsAsked, IsFit, IsPlanOf, fitted as fitted'};
 ghost use Rattle.join_plan.specs.Refusals.{then_of};
 ghost use Rattle.join_plan.specs.Seen.{IsSeenPlan, PlanSeen};
@@ -33,6 +33,8 @@ fn prepare_over<H: Shelf>(
 ) -> Result<Planned, Refusal>
     requires faults { H.faults shelf.old < last_fault }
     requires make { IfSome options.now.make (λ count. (1 ≤ count) × (count ≤ 65536)) }
+    requires few { length options.now.later.items ≤ 3 }
+    requires later { IfSome options.now.make (λ _. options.now.later.items ≡ []) }
     requires chained { IfSome options.now.chain (λ _. options.now.make ≡ None) }
     requires have { HaveTrees (asked options.now) (trees_in preds.now) }
     requires narrow { AreNarrow preds.now }
@@ -61,9 +63,10 @@ fn prepare_over<H: Shelf>(
 }
 
 /// What the options ask for, or the first refusal: of the text of the predicate, of that of the
-/// second, of the file of R, of that of S, of the third, of the columns, of those of the second
-/// predicate, of the numbers, of those of the second predicate. A refusal of a text comes before
-/// any call of the shelf, and where tables are made there is none.
+/// second, of the file of R, of that of S, of those of the later waves, of the third, of the columns,
+/// of those of the second predicate, of the numbers, of those of the second predicate. A refusal of a
+/// text comes before any call of the shelf, and where tables are made there is none. There are no
+/// more than three later waves, and none where tables are made.
 pub fn prepare<H: Shelf>(
     alloc: Global,
     options: &Options<'_>,
@@ -71,6 +74,8 @@ pub fn prepare<H: Shelf>(
 ) -> Result<Planned, Refusal>
     requires faults { H.faults shelf.old < last_fault }
     requires make { IfSome options.now.make (λ count. (1 ≤ count) × (count ≤ 65536)) }
+    requires few { length options.now.later.items ≤ 3 }
+    requires later { IfSome options.now.make (λ _. options.now.later.items ≡ []) }
     requires chained { IfSome options.now.chain (λ _. options.now.make ≡ None) }
     ensures told { H.told shelf.new ≡ H.told shelf.old }
     ensures rises { H.faults shelf.old ≤ H.faults shelf.new }

@@ -1,12 +1,12 @@
 // The files, read one after the other.
 
-ghost use Rattle.std.specs.Prelude.{◌≡◌, ◌⊎◌, ◌<◌, ◌≤◌, ℕ, List, Contains, Option, None, Some, Ok, Err};
+ghost use Rattle.std.specs.Prelude.{◌≡◌, ◌⊎◌, ◌<◌, ◌≤◌, ℕ, List, Option, None, Some, Ok, Err};
 ghost use Rattle.std.specs.Prelude.{IfErr, IfOk, IfSome, is_some};
 ghost use Rattle.join_rows.specs.Shelves.{last_fault};
 ghost use Rattle.join_rows.specs.Records.{IsTable};
 ghost use Rattle.join_words.specs.Words.{Asked, asked};
-ghost use Rattle.join_plan.specs.Causes.{Refuses};
-ghost use Rattle.join_plan.specs.Files.{source_of, sources, table_found, tables_of, third_by};
+ghost use Rattle.join_plan.specs.Causes.{IsSourceOf, Refuses};
+ghost use Rattle.join_plan.specs.Files.{source_of, table_found, tables_of, third_by};
 ghost use Rattle.join_plan.specs.Seen.{IsSeen, TablesSeen, ThirdSeen};
 
 use crate::fault::Refusal;
@@ -25,7 +25,11 @@ pub(crate) struct File<'a> {
 }
 
 /// The table in a file.
-fn table<H: Shelf>(alloc: Global, shelf: &mut H, file: &File<'_>) -> Result<Table, Refusal>
+pub(crate) fn table<H: Shelf>(
+    alloc: Global,
+    shelf: &mut H,
+    file: &File<'_>,
+) -> Result<Table, Refusal>
     requires { H.faults shelf.old < last_fault }
     ensures told { H.told shelf.new ≡ H.told shelf.old }
     ensures rises { H.faults shelf.old ≤ H.faults shelf.new }
@@ -41,8 +45,7 @@ fn table<H: Shelf>(alloc: Global, shelf: &mut H, file: &File<'_>) -> Result<Tabl
     ensures sound { H.sound shelf.old
         → H.sound shelf.new × (H.faults shelf.new ≡ H.faults shelf.old) }
     ensures counts { (result ≡ Err Refusal.Read → ⊥) → H.faults shelf.new ≡ H.faults shelf.old }
-    ensures refused { (asked : Asked) → asked.make ≡ None
-        → Contains (sources asked) (source_of file.now)
+    ensures refused { (asked : Asked) → IsSourceOf asked (source_of file.now)
         → IfErr result (Refuses (H.faults shelf.old) (H.faults shelf.new)
         (H.told shelf.old) (H.picked shelf.new) asked) }
     ensures whole { IfOk result IsTable }

@@ -1,7 +1,7 @@
 // What a line says of a fault.
 
 ghost use Rattle.std.specs.Prelude.{◌≡◌, Some};
-ghost use Rattle.join_plan.specs.Lines.{cell_line, file_line, input_line, limit_line};
+ghost use Rattle.join_plan.specs.Lines.{cell_line, count_line, file_line, input_line, limit_line};
 ghost use Rattle.join_plan.specs.Lines.{name_line, row_line, side_line, text_line};
 
 use crate::fault::{InputFault, LimitFault, TextFault};
@@ -73,6 +73,20 @@ impl fmt::Display for CellName {
     }
 }
 
+/// How many rows a side has up to such a file.
+#[derive(Clone, Copy)]
+struct CountName(Side, u32, u64);
+
+impl fmt::Display for CountName {
+    ghost output = { λ count. Some (count_line count.0 count.1 count.2) };
+
+    fn fmt<W: fmt::Write>(&self, f: &mut fmt::Formatter<W>) -> fmt::Result {
+        let file = FileName(self.0, self.1);
+        let rows = self.2;
+        write!(f, "{file} has {rows}")
+    }
+}
+
 /// What is wrong, and where. A name that isn't UTF-8 is shown as `?`.
 impl fmt::Display for TextFault {
     ghost output = { λ fault. Some (text_line fault) };
@@ -106,6 +120,10 @@ impl fmt::Display for InputFault {
             InputFault::NoHeader { side, wave } => {
                 let file = FileName(*side, *wave);
                 write!(f, "{file} has no header")
+            }
+            InputFault::Header { side, wave } => {
+                let file = FileName(*side, *wave);
+                write!(f, "{file} has another header")
             }
             InputFault::Width {
                 side,
@@ -142,6 +160,10 @@ impl fmt::Display for LimitFault {
             LimitFault::TooMany { side, wave } => {
                 let file = FileName(*side, *wave);
                 write!(f, "{file} has more than 262144 rows")
+            }
+            LimitFault::Total { side, wave, rows } => {
+                let count = CountName(*side, *wave, *rows);
+                write!(f, "{count} rows in all")
             }
             LimitFault::Between { pairs } => write!(f, "{pairs} pairs between the joins"),
         }

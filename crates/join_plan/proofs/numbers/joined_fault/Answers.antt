@@ -13,5 +13,5 @@ joined_columns_fault-requires-clause-columns c =
 pub returns : goal.returns
 returns c =
     c.joined_columns_fault.ensures
-    ∙ ap (joined_fault c.args.tables.now)
+    ∙ ap (joined_fault c.args.tables.now c.args.ends.now)
     (c.as_slice.ensures ∙ sym (summed_columns-places c.args.theta.now R c.numeric.result.now c.numeric.ensures))

@@ -11,6 +11,6 @@ columns_fault-requires-clause-columns c =
 pub returns : goal.returns
 returns c =
     c.columns_fault.ensures
-    ∙ ap (number_fault c.args.side c.args.wave c.args.table.now.rows)
+    ∙ ap (number_fault c.args.side c.args.wave c.args.ends.now c.args.table.now.rows)
     (c.as_slice.ensures ∙ sym (summed_columns-places c.args.theta.now c.args.side c.numeric.result.now
     c.numeric.ensures))

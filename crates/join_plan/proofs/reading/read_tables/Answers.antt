@@ -36,7 +36,10 @@ returns-clause-seen g c read memory =
 pub returns-in_err-of_r-clause-refused : goal.returns-in_err-of_r-clause-refused
 returns-in_err-of_r-clause-refused g c =
     let p = err_from_is_err_and c.from_residual.result c.from_residual.ensures.1 in
-    rw (p.1, p.2) (c.in_err-of_r.ensures.refused (asked c.args.options.now) c.requires.files (0, omega arith, refl))
+    rw (p.1, p.2) (c.in_err-of_r.ensures.refused (asked c.args.options.now) (record {
+      files = c.requires.files;
+      among = (0, omega arith, refl);
+    }))
 
 pub returns-in_err-of_s-clause-refused : goal.returns-in_err-of_s-clause-refused
 returns-in_err-of_s-clause-refused g c =
@@ -46,4 +49,7 @@ returns-in_err-of_s-clause-refused g c =
     (g.H.Shelf.told c.args.shelf.now) (g.H.Shelf.told c.table.new.shelf) (g.H.Shelf.picked c.table-2.new.shelf)
     (asked c.args.options.now)
     c.in_err-of_s.field-0.0 c.in_ok-of_r.ensures.rises c.in_ok-of_r.ensures.told
-    (c.in_err-of_s.ensures.refused (asked c.args.options.now) c.requires.files (1, omega arith, refl)))
+    (c.in_err-of_s.ensures.refused (asked c.args.options.now) (record {
+      files = c.requires.files;
+      among = (1, omega arith, refl);
+    })))

@@ -20,12 +20,12 @@ returns-in-Err-clause-answer g c files is same =
     (λ lacks. c.in-Err.ensures.read.1 (inr lacks)) c.in-Err.ensures.answer files is same)
 
 pub returns-in-Err-clause-refused : goal.returns-in-Err-clause-refused
-returns-in-Err-clause-refused g c asked none among =
+returns-in-Err-clause-refused g c asked of =
     rw c.file_refused.ensures
     (file_refuses (source_of c.args.file.now) c.in-Err.fault (g.H.Shelf.faults c.args.shelf.now)
     (g.H.Shelf.faults c.read_table.new.shelf) (g.H.Shelf.told c.args.shelf.now)
     (g.H.Shelf.picked c.read_table.new.shelf) _ asked
-    c.in-Err.ensures.read.0 c.in-Err.ensures.place none among)
+    c.in-Err.ensures.read.0 c.in-Err.ensures.place of)
 
 pub returns-in-Ok-clause-seen : goal.returns-in-Ok-clause-seen
 returns-in-Ok-clause-seen g c read memory =
