@@ -3,9 +3,9 @@
 use crate::kept::KeptFile;
 use crate::lines::{Found, record_at};
 use crate::shown::push_bytes;
-use crate::source::{Source, source_of};
+use crate::source::{Source, last_source, source_of};
 use join_plan::{InputFault, LimitFault};
-use join_rows::{Bytes, Side};
+use join_rows::Bytes;
 use join_words::Options;
 use std::alloc::{AllocError, Global};
 
@@ -45,6 +45,26 @@ fn no_header(alloc: Global, source: Source<'_>) -> Result<String, AllocError> {
     format!(in alloc;
         "{label}, {name}, has no header: nothing stands in it but line ends, if any\n"
     )
+}
+
+/// What is wrong with a header that isn't the first of its side.
+fn other_header(
+    alloc: Global,
+    source: Source<'_>,
+    first: Source<'_>,
+) -> Result<String, AllocError> {
+    let Source { label, name, .. } = source;
+    let wanted = record_of(alloc, first, 0)?;
+    let found = record_of(alloc, source, 0)?;
+    let first_label = first.label;
+    let first_name = first.name;
+    let mut explained = format!(in alloc;
+        "{label}, {name}, has another header than {first_label}, {first_name}; wanted are the fields:\n"
+    )?;
+    push_fields(&mut explained, &wanted)?;
+    explained.push_str("and it has:\n")?;
+    push_fields(&mut explained, &found)?;
+    Ok(explained)
 }
 
 fn width(alloc: Global, source: Source<'_>, row: u64, fields: u64) -> Result<String, AllocError> {
@@ -119,6 +139,11 @@ pub(crate) fn explain_input(
         InputFault::NoHeader { side, wave } => {
             no_header(alloc, source_of(options, files, side, wave))
         }
+        InputFault::Header { side, wave } => other_header(
+            alloc,
+            source_of(options, files, side, wave),
+            source_of(options, files, side, 1),
+        ),
         InputFault::Width {
             side,
             wave,
@@ -154,6 +179,12 @@ pub(crate) fn explain_limit(
                 "{label}, {name}, has more than 262144 rows, which is the most that a file may have\n"
             )
         }
+        LimitFault::Total { side, wave, rows } => {
+            let Source { label, name, .. } = source_of(options, files, side, wave);
+            format!(in alloc;
+                "{label}, {name}: with its rows there are {rows} on its side, and a side may have at most 262144\n"
+            )
+        }
         LimitFault::Between { pairs } => {
             format!(in alloc;
                 "the first two files have {pairs} matching pairs, and a second join takes at most 262144\n"
@@ -169,11 +200,6 @@ pub(crate) fn explain_read(
     files: &[KeptFile],
     cause: &str,
 ) -> Result<String, AllocError> {
-    let source = match files.len() {
-        0 | 1 => source_of(options, files, Side::R, 1),
-        2 => source_of(options, files, Side::S, 1),
-        _ => source_of(options, files, Side::S, 2),
-    };
-    let Source { label, name, .. } = source;
+    let Source { label, name, .. } = last_source(options, files);
     format!(in alloc; "{label}, {name}, can't be read: {cause}\n")
 }

@@ -4,9 +4,10 @@ ghost use Rattle.std.specs.Prelude.{◌≤◌};
 ghost use Rattle.grid_map.specs.Load.{AreWeights};
 
 use crate::lookup::{Headers, push_lookup};
+use crate::source::{label_of, name_of};
 use grid_map::{Shape, Weights, best_shift, copies};
-use join_plan::{Planned, Third};
-use join_rows::Table;
+use join_plan::{Planned, Tables, Third, WaveEnd};
+use join_rows::{Side, Table};
 use join_words::Options;
 use joined_rows::joined_names;
 use std::alloc::{AllocError, Global};
@@ -41,12 +42,56 @@ fn bytes_of(table: &Table) -> u64
     (rows * PER_ROW + rows * columns * PER_CELL).min(1 << 50)
 }
 
-/// Appends how many rows and columns a table has.
-fn push_table(text: &mut String, label: &str, name: &str, table: &Table) -> Result<(), AllocError> {
-    let rows = table.rows.len();
+/// Appends how many of a table's rows are of a file, and its columns.
+fn push_table(
+    text: &mut String,
+    label: &str,
+    name: &str,
+    rows: u64,
+    table: &Table,
+) -> Result<(), AllocError> {
     let columns = table.names.len();
     let name = if name.is_empty() { "made" } else { name };
     write!(text, "{label}, {name}: rows {rows}, columns {columns}\n")
+}
+
+/// Appends the two files of a wave, which lies between these ends.
+fn push_wave(
+    text: &mut String,
+    options: &Options<'_>,
+    tables: &Tables,
+    wave: u32,
+    between: (WaveEnd, WaveEnd),
+) -> Result<(), AllocError> {
+    let (before, end) = between;
+    for side in [Side::R, Side::S] {
+        let (rows, table) = match side {
+            Side::R => (end.rows_r.saturating_sub(before.rows_r), &tables.of_r),
+            Side::S => (end.rows_s.saturating_sub(before.rows_s), &tables.of_s),
+        };
+        let name = name_of(options, side, wave);
+        push_table(text, label_of(side, wave), name, rows, table)?;
+    }
+    Ok(())
+}
+
+/// Appends the files of each wave.
+fn push_waves(
+    text: &mut String,
+    options: &Options<'_>,
+    planned: &Planned,
+) -> Result<(), AllocError> {
+    let mut before = WaveEnd {
+        rows_r: 0,
+        rows_s: 0,
+    };
+    let mut wave: u32 = 1;
+    for end in planned.ends.as_slice() {
+        push_wave(text, options, &planned.tables, wave, (before, *end))?;
+        before = *end;
+        wave = wave.saturating_add(1);
+    }
+    Ok(())
 }
 
 /// Appends the shape of a grid.
@@ -129,7 +174,8 @@ fn push_second(
     third: &Third,
 ) -> Result<(), AllocError> {
     let name = options.chain.map_or("", |chain| chain.name);
-    push_table(text, "S2", name, &third.table)?;
+    let rows = third.table.rows.len();
+    push_table(text, "S2", name, rows, &third.table)?;
     let tables = &planned.tables;
     let joined = joined_names(alloc, &tables.of_r.names, &tables.of_s.names)?;
     let headers = Headers {
@@ -154,8 +200,7 @@ pub(crate) fn explain_plan(
 {
     let tables = &planned.tables;
     let mut text = format!(in alloc; "jm would join:\n")?;
-    push_table(&mut text, "R", options.name_r, &tables.of_r)?;
-    push_table(&mut text, "S", options.name_s, &tables.of_s)?;
+    push_waves(&mut text, options, planned)?;
     let headers = Headers {
         r: &tables.of_r.names,
         s: &tables.of_s.names,
@@ -171,6 +216,12 @@ pub(crate) fn explain_plan(
     match options.groups {
         Some(joiners) => push_groups(&mut text, joiners)?,
         None => push_grid(&mut text, options, planned)?,
+    }
+    if let Some(wave) = options.grow {
+        write!(
+            text,
+            "growth: behind wave {wave} each joiner splits into four\n"
+        )?;
     }
     if let Some(third) = &planned.third {
         push_second(alloc, &mut text, options, planned, third)?;

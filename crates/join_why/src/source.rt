@@ -11,7 +11,7 @@ use std::alloc::{AllocError, Global};
 /// A file that the words name.
 #[derive(Clone, Copy, Debug)]
 pub(crate) struct Source<'a> {
-    /// `R`, `S`, or `S2` for the third file, as `jm` calls it.
+    /// `R` or `S`, and behind the first wave with its number, as `jm` calls it; the third file of two joins is `S2`.
     pub(crate) label: &'static str,
     pub(crate) name: &'a str,
     /// What was read of it, where it is kept whole.
@@ -28,6 +28,54 @@ fn bytes_at<'a>(files: &'a [KeptFile], place: usize) -> Option<&'a [u8]> {
     }
 }
 
+/// How `jm` calls the file of a side in a wave.
+pub(crate) fn label_of(side: Side, wave: u32) -> &'static str {
+    match (side, wave) {
+        (Side::R, 0 | 1) => "R",
+        (Side::R, 2) => "R2",
+        (Side::R, 3) => "R3",
+        (Side::R, _) => "R4",
+        (Side::S, 0 | 1) => "S",
+        (Side::S, 2) => "S2",
+        (Side::S, 3) => "S3",
+        (Side::S, _) => "S4",
+    }
+}
+
+/// The name of a side's file in a later wave, or that of the third file of two joins; empty where there is none.
+fn later_name<'a>(options: &Options<'a>, side: Side, wave: u32) -> &'a str {
+    if let Some(chain) = options.chain {
+        return chain.name;
+    }
+    match (side, options.later.get(wave.saturating_sub(2) as usize)) {
+        (Side::R, Some(wave)) => wave.name_r,
+        (Side::S, Some(wave)) => wave.name_s,
+        (_, None) => "",
+    }
+}
+
+/// The name of a side's file in a wave.
+pub(crate) fn name_of<'a>(options: &Options<'a>, side: Side, wave: u32) -> &'a str {
+    match (side, wave) {
+        (Side::R, 0 | 1) => options.name_r,
+        (Side::S, 0 | 1) => options.name_s,
+        _ => later_name(options, side, wave),
+    }
+}
+
+/// The place of a side's file in a wave among those that are read, from 0.
+fn place_of(options: &Options<'_>, side: Side, wave: u32) -> usize {
+    if wave > 1 && options.chain.is_some() {
+        return 2;
+    }
+    let earlier = wave.clamp(1, 4) - 1;
+    let place = match side {
+        Side::R => 2 * earlier,
+        Side::S => 2 * earlier + 1,
+    };
+    place as usize
+}
+
 /// The file of a side in a wave.
 pub(crate) fn source_of<'a>(
     options: &Options<'a>,
@@ -35,23 +83,21 @@ pub(crate) fn source_of<'a>(
     side: Side,
     wave: u32,
 ) -> Source<'a> {
-    match (side, wave) {
-        (Side::R, _) => Source {
-            label: "R",
-            name: options.name_r,
-            bytes: bytes_at(files, 0),
-        },
-        (Side::S, 1) => Source {
-            label: "S",
-            name: options.name_s,
-            bytes: bytes_at(files, 1),
-        },
-        (Side::S, _) => Source {
-            label: "S2",
-            name: options.chain.map_or("", |chain| chain.name),
-            bytes: bytes_at(files, 2),
-        },
+    Source {
+        label: label_of(side, wave),
+        name: name_of(options, side, wave),
+        bytes: bytes_at(files, place_of(options, side, wave)),
     }
+}
+
+/// The file that was read last.
+pub(crate) fn last_source<'a>(options: &Options<'a>, files: &'a [KeptFile]) -> Source<'a> {
+    let count = files.len().clamp(1, 8) as u32;
+    if count > 2 && options.chain.is_some() {
+        return source_of(options, files, Side::S, 2);
+    }
+    let side = if count % 2 == 1 { Side::R } else { Side::S };
+    source_of(options, files, side, (count + 1) / 2)
 }
 
 /// The fields of a file's first record; none where it isn't kept.

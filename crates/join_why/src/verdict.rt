@@ -1,6 +1,6 @@
 // What `jm` would make of its words and files, before it joins anything.
 
-ghost use Rattle.std.specs.Prelude.{◌≡◌, ◌≢◌, ◌<◌, ◌≤◌, Ok, IfSome, None, map, string_bytes};
+ghost use Rattle.std.specs.Prelude.{◌≡◌, ◌≢◌, ◌<◌, ◌≤◌, [], length, Ok, IfSome, None, map, string_bytes};
 ghost use Rattle.join_rows.specs.Shelves.{last_fault};
 ghost use Rattle.join_words.specs.Words.{asked};
 ghost use Rattle.join_words.specs.declared.options.WordsFault.{WordsFault};
@@ -52,6 +52,8 @@ impl Verdict {
 fn judge_asked<H: Shelf>(alloc: Global, options: &Options<'_>, shelf: &mut H) -> Verdict
     requires shelf { H.faults shelf.old < last_fault }
     requires make { IfSome options.now.make (λ count. (1 ≤ count) × (count ≤ 65536)) }
+    requires few { length options.now.later.items ≤ 3 }
+    requires later { IfSome options.now.make (λ _. options.now.later.items ≡ []) }
     requires chained { IfSome options.now.chain (λ _. options.now.make ≡ None) }
     ensures words { (fault : WordsFault) → result ≢ Verdict.Words fault }
     ensures tells { Tells H.Shelf (asked options.now) shelf.old shelf.new result }

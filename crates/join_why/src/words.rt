@@ -17,6 +17,8 @@ fn word_text(word: Word) -> &'static str {
         Word::Then => "--then",
         Word::Rings => "--rings",
         Word::ManyFiles => "more than two files",
+        Word::Grow => "--grow",
+        Word::FewFiles => "no file of a wave behind it",
     }
 }
 
@@ -64,7 +66,7 @@ fn wanted_files(matches: &ArgMatches<'_>) -> &'static str {
     } else if matches.get_str("then").is_some() {
         "with --then three files are wanted"
     } else {
-        "two files are wanted"
+        "two files are wanted, or with later waves four, six or eight"
     }
 }
 

@@ -4,7 +4,7 @@ use Rattle.std.proofs.Common.{subst}
 use Rattle.join_rows.specs.Shelves.{Told}
 use Rattle.join_words.specs.Words.{Asked}
 use Rattle.join_words.specs.declared.options.WordsFault.{WordsFault}
-use Rattle.join_plan.specs.declared.fault.LimitFault.TheVariants.{Between, TooLong, TooMany}
+use Rattle.join_plan.specs.declared.fault.LimitFault.TheVariants.{Between, TooLong, TooMany, Total}
 use Rattle.join_plan.specs.declared.fault.Refusal.{Refusal}
 use Rattle.join_plan.specs.declared.fitting.Planned.{Planned}
 use Rattle.join_plan.proofs.Readings.{one_plan}
@@ -29,6 +29,7 @@ ended asked planned (outcomes.Then fault) ends = absurd ends
 ended asked planned (outcomes.Input fault) ends = absurd ends
 ended asked planned (outcomes.Limit (TooLong side wave)) ends = absurd ends
 ended asked planned (outcomes.Limit (TooMany side wave)) ends = absurd ends
+ended asked planned (outcomes.Limit (Total side wave rows)) ends = absurd ends
 ended asked planned (outcomes.Limit (Between pairs)) ends = inr tt
 ended asked planned outcomes.Read ends = absurd ends
 ended asked planned outcomes.Write ends = absurd ends

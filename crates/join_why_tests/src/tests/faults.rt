@@ -61,7 +61,7 @@ fn words_with_a_match(rt: HostRuntime) -> Result<(), Fail> {
         ),
         (
             "jm|--on|p|r|s|q",
-            "two files are wanted; given: 3\n    r\n    s\n    q\n",
+            "two files are wanted, or with later waves four, six or eight; given: 3\n    r\n    s\n    q\n",
         ),
         (
             "jm|--on|p|--then|p|r",

@@ -1,6 +1,7 @@
 // Files that are no tables, or not those that a predicate reads.
 
 use super::{FILES, Q, R, S, tells};
+use std::alloc::{AllocError, Global};
 use std::test::Fail;
 
 #[test]
@@ -60,6 +61,65 @@ fn the_third_file_of_two_joins(rt: HostRuntime) -> Result<(), Fail> {
         "jm|--on|r.x = s.y|--then|r.s_id = s.z|r|s|u",
         (R, S, Q),
         (6, text),
+    )?;
+    Ok(())
+}
+
+#[test]
+fn a_file_of_a_later_wave(rt: HostRuntime) -> Result<(), Fail> {
+    let text = "S2, t, can't be read: there is no file of this name\n";
+    tells(
+        &rt,
+        rt.alloc(),
+        "jm|--on|r.x = s.y|r|s|r|t",
+        FILES,
+        (6, text),
+    )?;
+    let text = "R2, t, can't be read: there is no file of this name\n";
+    tells(
+        &rt,
+        rt.alloc(),
+        "jm|--on|r.x = s.y|r|s|t|s",
+        FILES,
+        (6, text),
+    )?;
+    Ok(())
+}
+
+#[test]
+fn another_header(rt: HostRuntime) -> Result<(), Fail> {
+    let text =
+        "S2, q, has another header than S, s; wanted are the fields:\n    id\n    y\nand it has:\n    id\n    z\n";
+    tells(
+        &rt,
+        rt.alloc(),
+        "jm|--on|r.x = s.y|r|s|r|q",
+        FILES,
+        (4, text),
+    )?;
+    Ok(())
+}
+
+// A table of so many rows.
+fn long(alloc: Global, rows: u64) -> Result<String, AllocError> {
+    let mut text = String::from_str(alloc, "x\n")?;
+    for _ in 0..rows {
+        text.push_str("1\n")?;
+    }
+    Ok(text)
+}
+
+#[test]
+fn more_rows_than_a_side_may_have(rt: HostRuntime) -> Result<(), Fail> {
+    let text =
+        "R2, r: with its rows there are 280000 on its side, and a side may have at most 262144\n";
+    let long = long(rt.alloc(), 140_000)?;
+    tells(
+        &rt,
+        rt.alloc(),
+        "jm|--on|r.x = s.y|r|s|r|s",
+        (long.as_str(), S, ""),
+        (5, text),
     )?;
     Ok(())
 }

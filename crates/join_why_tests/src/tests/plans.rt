@@ -137,3 +137,17 @@ fn of_made_tables_in_groups(rt: HostRuntime) -> Result<(), Fail> {
     )?;
     Ok(())
 }
+
+#[test]
+fn the_files_of_each_wave_are_told(rt: HostRuntime) -> Result<(), Fail> {
+    let text =
+        "jm would join:\nR, r: rows 3, columns 2\nS, s: rows 3, columns 2\nR2, r: rows 3, columns 2\nS2, s: rows 3, columns 2\nrows that agree are looked up by their values:\n    r.x = s.y\ngrid: begins as 1 × 1, and the best for all rows is 1 × 1\nmemory: some 8 MB, and the output\ngrowth: behind wave 1 each joiner splits into four\n";
+    tells(
+        &rt,
+        rt.alloc(),
+        "jm|--on|r.x = s.y|--joiners|1|--grow|1|r|s|r|s",
+        FILES,
+        (0, text),
+    )?;
+    Ok(())
+}
