@@ -21,7 +21,7 @@ use Rattle.join_plan.specs.declared.fitting.Third.{Third}
 use Rattle.join_plan.specs.Plan.{IsFit, IsThirdFit}
 use Rattle.join_cli.specs.declared.outcome.Outcome.{Outcome}
 use Rattle.join_cli.specs.declared.outcome.Outcome.TheVariants as outcomes
-use Rattle.join_plan.specs.declared.fault.LimitFault.TheVariants.{Between, TooLong, TooMany}
+use Rattle.join_plan.specs.declared.fault.LimitFault.TheVariants.{Between, TooLong, TooMany, Total}
 use Rattle.join_cli.specs.Chain.{IsChainOver, IsStopped, IsThirdOver, bare_text, chain_text, third_of, triple_lines}
 use Rattle.join_cli.specs.Courses.{by_chain}
 use Rattle.join_cli.specs.Ends.{IsHalted, IsMade}
@@ -145,6 +145,7 @@ chain_halted asked planned input third (outcomes.Limit (Between pairs)) input_is
 }
 chain_halted asked planned input third (outcomes.Limit (TooLong side wave)) input_is third_is stopped = elim stopped [ ]
 chain_halted asked planned input third (outcomes.Limit (TooMany side wave)) input_is third_is stopped = elim stopped [ ]
+chain_halted asked planned input third (outcomes.Limit (Total side wave rows)) input_is third_is stopped = elim stopped [ ]
 chain_halted asked planned input third (outcomes.Done _ _) input_is third_is stopped = elim stopped [ ]
 chain_halted asked planned input third (outcomes.DoneGroups _ _) input_is third_is stopped = elim stopped [ ]
 chain_halted asked planned input third (outcomes.DoneChain _ _ _) input_is third_is stopped = elim stopped [ ]

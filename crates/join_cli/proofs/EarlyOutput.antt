@@ -30,6 +30,7 @@ use Rattle.join_cli.specs.Plan.{answer_of, input_of, output_of, report_asked, se
 use Rattle.join_report.proofs.Pieces.{known-none}
 use Rattle.join_runtime.specs.Endings.{EndsView}
 use Rattle.join_cli.specs.Courses.{Course, IsRunInThreads, by_run}
+use Rattle.join_cli.proofs.InWaves.{went_once}
 use Rattle.join_cli.proofs.Inputs.{course_in_threads, journal_of_run}
 
 -- bytes, and more behind them
@@ -120,17 +121,17 @@ early_written asked planned input setting journal trail old new input_is setting
 pub early_stopped : (asked : Asked) (planned : Planned) (input : Input) (setting : Setting) (old new : Option (List ℕ))
     → input ≡ input_of asked.seed planned → setting ≡ setting_of asked → IsValidInput input → IsValidSetting setting
     → asked.early ≡ true → asked.replay ≡ None → asked.groups ≡ None → asked.chain ≡ None → asked.rings ≡ false
-    → PutPart asked.report input setting old new → StoppedAt asked.early asked planned old new
+    → asked.later ≡ [] → PutPart asked.report input setting old new → StoppedAt asked.early asked planned old new
 early_stopped asked planned input setting old new input_is setting_is of_input of_setting early threads single alone
-    queued put =
+    queued once put =
     subst (λ e. StoppedAt e asked planned old new) (sym early) (elim put [
       | inl some ↦ inl (subst (λ i. WroteSome i old new) input_is some)
       | inr cut ↦ inr (record {
         way = by_run cut.run.journal cut.trail;
-        course =
-            course_in_threads asked planned input setting cut.run cut.trail input_is setting_is of_input of_setting
+        course = went_once asked planned cut.run.journal cut.trail once
+            (course_in_threads asked planned input setting cut.run cut.trail input_is setting_is of_input of_setting
             threads
-            single alone queued cut.is_run cut.went;
+            single alone queued cut.is_run cut.went);
         text = cut.text;
         output = same_output asked planned input setting cut.run.journal cut.trail cut.text input_is setting_is early
             cut.is;
@@ -141,9 +142,10 @@ early_stopped asked planned input setting old new input_is setting_is of_input o
 -- a sink that takes each output that is asked for takes the early one
 pub early_takes : (takes : ℕ → Type 0) (asked : Asked) (planned : Planned) (input : Input) (setting : Setting)
     → input ≡ input_of asked.seed planned → setting ≡ setting_of asked → IsValidInput input → IsValidSetting setting
-    → asked.early ≡ true → asked.make ≡ None → asked.rows ≡ false → asked.groups ≡ None → asked.chain ≡ None
-    → TakesEach takes asked planned → TakesFound takes asked.report input setting
-early_takes takes asked planned input setting input_is setting_is of_input of_setting early make rows single alone each =
+    → asked.early ≡ true → asked.make ≡ None → asked.rows ≡ false → asked.later ≡ [] → asked.groups ≡ None
+    → asked.chain ≡ None → TakesEach takes asked planned → TakesFound takes asked.report input setting
+early_takes takes asked planned input setting input_is setting_is of_input of_setting early make rows once single alone
+    each =
     let lines = pair_lines (nested_loop (input_of asked.seed planned)) in
     let of : Input → Setting → List TurnLine → List ℕ = λ i s journal. report_asked asked.report i s journal in
     record {
@@ -162,7 +164,7 @@ early_takes takes asked planned input setting input_is setting_is of_input of_se
           (subst (λ s. takes (length lines + (length (of (input_of asked.seed planned) s run.journal) + 0)))
           (sym setting_is)
           (subst takes (ap length same ∙ two_parts lines (of (input_of asked.seed planned) (setting_of asked)
-          run.journal)) (each.each single alone run.journal lawful)));
+          run.journal)) (each.each once single alone run.journal lawful)));
     }
   where
     plus_none : (n : ℕ) → n ≡ n + 0

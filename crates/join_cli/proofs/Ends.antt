@@ -1,11 +1,13 @@
 -- A run of well-formed files ends well.
-use Rattle.std.proofs.Common.{◌≡◌, ◌⊎◌, ◌+◌, ◌≤◌, ◌<◌, ◌^◌, inl, inr, ℕ, List, Option, None, Some, Result, Ok}
+use Rattle.std.proofs.Common.{◌≡◌, ◌∙◌, ◌⊎◌, ◌+◌, ◌≤◌, ◌<◌, ◌^◌, inl, inr, ℕ, List, [], ◌∷◌, Option, None, Some, Result, Ok}
 use Rattle.std.proofs.Common.{Err, refl, sym, ap, subst, length, arith}
 use Rattle.std.specs.Prelude.{IfSome, is_some, true, false}
 use Rattle.join_rows.specs.Shelves.{Told}
 use Rattle.trace_law.specs.Join.{nested_loop}
-use Rattle.join_words.specs.Words.{Asked}
-use Rattle.join_plan.specs.declared.fault.LimitFault.TheVariants.{Between, TooLong, TooMany}
+use Rattle.load_controller.specs.declared.line.TurnLine.{TurnLine}
+use Rattle.join_runtime.specs.Endings.{EndsView}
+use Rattle.join_words.specs.Words.{Asked, AskedWave}
+use Rattle.join_plan.specs.declared.fault.LimitFault.TheVariants.{Between, TooLong, TooMany, Total}
 use Rattle.join_plan.specs.declared.fault.Refusal.{Refusal}
 use Rattle.join_plan.specs.declared.fault.Refusal.TheVariants as refusals
 use Rattle.join_plan.specs.declared.fitting.Planned.{Planned}
@@ -15,7 +17,8 @@ use Rattle.join_plan.proofs.Readings.{one_plan}
 use Rattle.join_cli.specs.declared.outcome.Outcome.{Outcome}
 use Rattle.join_cli.specs.declared.outcome.Outcome.TheVariants as outcomes
 use Rattle.join_cli.specs.Chain.{IsFewBetween}
-use Rattle.join_cli.specs.Courses.{Course, WentSo, by_chain, by_groups, by_rings, by_run, output_over}
+use Rattle.join_cli.specs.Courses.{Course, WentInWaves, WentSo, by_chain, by_groups, by_rings, by_run}
+use Rattle.join_cli.specs.Courses.{output_in_waves, output_over}
 use Rattle.join_cli.specs.Ends.{Concludes, ConcludesBy, EndsAs, IsDone, IsEndOf, IsHalted, IsMade, IsSomeCourse}
 use Rattle.join_cli.specs.Ends.{TakesEach, Wrote, WroteFront, WroteSoFar, course_of}
 use Rattle.join_cli.specs.Outcomes.{outcome_of}
@@ -35,6 +38,7 @@ end_of asked planned old new outcomes.Write concludes put = absurd (put refl)
 end_of asked planned old new (outcomes.Limit (Between pairs)) (between, same) put = inr between
 end_of asked planned old new (outcomes.Limit (TooLong side wave)) concludes put = elim concludes [ ]
 end_of asked planned old new (outcomes.Limit (TooMany side wave)) concludes put = elim concludes [ ]
+end_of asked planned old new (outcomes.Limit (Total side wave rows)) concludes put = elim concludes [ ]
 end_of asked planned old new (outcomes.Words _) concludes put = elim concludes [ ]
 end_of asked planned old new (outcomes.Predicate _) concludes put = elim concludes [ ]
 end_of asked planned old new (outcomes.Then _) concludes put = elim concludes [ ]
@@ -95,6 +99,7 @@ concludes_well asked planned old new outcomes.Memory concludes = inr (inr (inl r
 concludes_well asked planned old new (outcomes.Limit (Between pairs)) concludes = inr (inr (inr (pairs, refl)))
 concludes_well asked planned old new (outcomes.Limit (TooLong side wave)) concludes = elim concludes [ ]
 concludes_well asked planned old new (outcomes.Limit (TooMany side wave)) concludes = elim concludes [ ]
+concludes_well asked planned old new (outcomes.Limit (Total side wave rows)) concludes = elim concludes [ ]
 concludes_well asked planned old new (outcomes.Words _) concludes = elim concludes [ ]
 concludes_well asked planned old new (outcomes.Predicate _) concludes = elim concludes [ ]
 concludes_well asked planned old new (outcomes.Then _) concludes = elim concludes [ ]
@@ -131,15 +136,25 @@ complete_made asked files made planned found is = elim found [
   | inr of ↦ cc (one_plan asked files (Ok made) (Ok planned) of is)
 ]
 
--- a sink that takes each output takes the one over how a run went
+-- a sink that takes each output takes the one over a run in one wave or in several
+takes_in_waves : (takes : ℕ → Type 0) (asked : Asked) (planned : Planned) (journal : List TurnLine)
+    (trail : List EndsView) (later : List AskedWave) → asked.later ≡ later
+    → WentInWaves later asked planned journal trail
+    → TakesEach takes asked planned → takes (length (output_in_waves later asked planned journal))
+takes_in_waves takes asked planned journal trail [] once course each =
+    each.each once course.single course.whole journal course.lawful
+takes_in_waves takes asked planned journal trail (wave ∷ later) some are each =
+    each.waves (λ none. cc (sym some ∙ none)) journal trail are
+
+-- and the one over how any run went
 takes_over : (takes : ℕ → Type 0) (asked : Asked) (planned : Planned) (way : Course) → WentSo asked planned way
     → TakesEach takes asked planned → takes (length (output_over asked planned way))
 takes_over takes asked planned (by_run journal trail) course each =
-    each.each course.single course.whole journal course.lawful
+    takes_in_waves takes asked planned journal trail asked.later refl course each
 takes_over takes asked planned (by_groups journals trail) course each = each.groups journals trail course
 takes_over takes asked planned (by_chain first second trail) course each = each.chain first second trail course
 takes_over takes asked planned (by_rings journal ends back) course each =
-    each.each course.single course.whole journal course.lawful
+    each.each course.once course.single course.whole journal course.lawful
 
 -- and so the bytes that were made
 pub takes_made : (takes : ℕ → Type 0) (asked : Asked) (planned : Planned) (bytes : List ℕ) (way : Option Course)
@@ -165,6 +180,7 @@ halted_concludes asked planned written outcomes.Memory whole halted = rw whole r
 halted_concludes asked planned written (outcomes.Limit (Between pairs)) whole halted = (halted, refl)
 halted_concludes asked planned written (outcomes.Limit (TooLong side wave)) whole halted = elim halted [ ]
 halted_concludes asked planned written (outcomes.Limit (TooMany side wave)) whole halted = elim halted [ ]
+halted_concludes asked planned written (outcomes.Limit (Total side wave rows)) whole halted = elim halted [ ]
 halted_concludes asked planned written (outcomes.Done _ _) whole halted = elim halted [ ]
 halted_concludes asked planned written (outcomes.DoneGroups _ _) whole halted = elim halted [ ]
 halted_concludes asked planned written (outcomes.DoneChain _ _ _) whole halted = elim halted [ ]
@@ -196,6 +212,7 @@ halted_few asked planned (outcomes.Limit (Between pairs)) halted few =
     absurd (many_or_few planned.third (length (nested_loop (input_of asked.seed planned))) halted.chained many few)
 halted_few asked planned (outcomes.Limit (TooLong side wave)) halted few = elim halted [ ]
 halted_few asked planned (outcomes.Limit (TooMany side wave)) halted few = elim halted [ ]
+halted_few asked planned (outcomes.Limit (Total side wave rows)) halted few = elim halted [ ]
 halted_few asked planned (outcomes.Done _ _) halted few = elim halted [ ]
 halted_few asked planned (outcomes.DoneGroups _ _) halted few = elim halted [ ]
 halted_few asked planned (outcomes.DoneChain _ _ _) halted few = elim halted [ ]

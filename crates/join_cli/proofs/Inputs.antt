@@ -1,5 +1,5 @@
 -- What is joined is a valid input, and the journal of its run one of a lawful controller.
-use Rattle.std.proofs.Common.{◌≡◌, ◌<◌, ◌^◌, ℕ, Bool, true, false, None, List, All, length, sym, ◌∙◌, ap, subst}
+use Rattle.std.proofs.Common.{◌≡◌, ◌<◌, ◌^◌, ℕ, Bool, true, false, None, List, [], All, length, sym, ◌∙◌, ap, subst}
 use Rattle.std.proofs.lemmas.List.FromFn.{length-map-range_with_len}
 use Rattle.join_rows.specs.Records.{IsTable}
 use Rattle.join_rows.specs.declared.table.Side.{Side}
@@ -118,14 +118,15 @@ course_in_threads asked planned input setting run trail input_is setting_is of_i
 pub course_over_rings : (asked : Asked) (planned : Planned) (input : Input) (setting : Setting) (run : Run)
     (ends : RingEndsView) (back : Bool)
     → input ≡ input_of asked.seed planned → setting ≡ setting_of asked → IsValidInput input → IsValidSetting setting
-    → asked.rings ≡ true → asked.groups ≡ None → asked.chain ≡ None
+    → asked.rings ≡ true → asked.later ≡ [] → asked.groups ≡ None → asked.chain ≡ None
     → IsRunOf input setting (first_rest setting).line run.journal run → back ≡ false
     → IsFinishedFamily input setting run.journal (lists_left ends)
     → IsOverRings asked planned run.journal ends back
-course_over_rings asked planned input setting run ends back input_is setting_is of_input of_setting ringed single
+course_over_rings asked planned input setting run ends back input_is setting_is of_input of_setting ringed once single
     whole is kept family =
     record {
       ringed = ringed;
+      once = once;
       single = single;
       whole = whole;
       lawful = journal_of_run asked planned input setting run input_is setting_is of_input of_setting is;

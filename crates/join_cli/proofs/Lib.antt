@@ -11,3 +11,12 @@ pub mod Past
 pub mod Lines
 pub mod Ran
 pub mod Statuses
+pub mod WaveJournals
+pub mod WaveCounts
+pub mod WaveRuns
+pub mod WaveFacts
+pub mod WaveOutput
+pub mod GrownFacts
+pub mod GrownRuns
+pub mod GrownOutput
+pub mod InWaves

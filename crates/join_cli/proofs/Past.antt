@@ -1,7 +1,8 @@
 -- A place past the greatest length is told.
-use Rattle.std.proofs.Common.{◌≡◌, ◌<◌, ◌^◌, ◌∙◌, ℕ, Bool, true, false, List, [], length, arith, Option, None, Some}
-use Rattle.std.proofs.Common.{Result, Ok, Err, refl, sym, ap, subst}
-use Rattle.std.specs.Prelude.{Contains, nat_lt}
+use Rattle.std.proofs.Common.{◌≡◌, ◌<◌, ◌≤◌, ◌^◌, ◌∙◌, ℕ, Bool, true, false, List, [], ◌∷◌, ◌++◌, length, arith, Option}
+use Rattle.std.proofs.Common.{None, Some, Result, Ok, Err, refl, sym, ap, subst}
+use Rattle.std.specs.Prelude.{Contains, MatchResult, nat_lt}
+use Rattle.std.proofs.lemmas.List.Elements.{Contains-append_left, Contains-append_right}
 use Rattle.join_rows.specs.Records.{most_bytes, table_of}
 use Rattle.join_rows.specs.Shelves.{Spot, Told}
 use Rattle.join_rows.specs.declared.fault.TableFault.{TableFault}
@@ -14,16 +15,26 @@ use Rattle.join_plan.specs.declared.fault.Refusal.{Refusal}
 use Rattle.join_plan.specs.declared.fault.Refusal.TheVariants as refusals
 use Rattle.join_plan.specs.declared.files.Gathered.{Gathered}
 use Rattle.join_plan.specs.declared.files.Tables.{Tables}
-use Rattle.join_plan.specs.Files.{Source, or_refused, sources, table_found, tables_in, with_third}
+use Rattle.join_plan.specs.Files.{Source, later_sources, or_refused, sources, table_found, tables_in, third_source}
+use Rattle.join_plan.specs.Later.{step, with_more, with_third}
 use Rattle.join_plan.specs.Plan.{fitted}
 use Rattle.join_plan.specs.Refusals.{then_of}
-use Rattle.join_plan.specs.Seen.{AllSeen, IsSeen, TablesAsked, TablesSeen}
+use Rattle.join_plan.specs.Seen.{AllSeen, BehindSeen, IsSeen, SeenFrom, TablesAsked, TablesSeen}
+use Rattle.join_plan.specs.Waves.{first_wave}
 use Rattle.join_plan.specs.Texts.{Trees}
 use Rattle.join_plan.proofs.Seen.{third_among}
 use Rattle.join_cli.specs.declared.outcome.Outcome.{Outcome}
 use Rattle.join_cli.specs.Outcomes.{outcome_of}
 use Rattle.join_cli.specs.Past.{IsTooLong}
 use Rattle.join_cli.specs.Seen.{Ends, EndsOver}
+
+-- what a function makes
+abbrev made_by : {A B : Type 0} → (A → B) → Type 0
+made_by {A} {B} f = B
+
+-- tables and where their waves end, a type that has no name here
+abbrev InWaves : Type 0
+InWaves = made_by first_wave
 
 -- so many bytes are no table
 long_is_none : (bytes : List ℕ) → 2 ^ 24 < length bytes → table_of bytes ≡ Err files.TooLong
@@ -120,45 +131,155 @@ ended : (asked : Asked) (trees : Trees) (old new : Option (List ℕ)) (outcome :
 ended asked trees old new outcome found refusal is ends =
     (subst (λ f. Ends asked old new (then_of f (fitted trees)) outcome) is ends).0
 
+-- ---- the later files
+
+abbrev no_waves : Refusal → Result InWaves Refusal
+no_waves refusal = Err refusal
+
+-- a later file that is too long is refused
+long_step : (source : Source) (waves : InWaves) (bytes : List ℕ) → 2 ^ 24 < length bytes
+    → step source waves (Some bytes) ≡ no_waves (refusals.Limit (TooLong source.side source.wave))
+long_step source waves bytes long = ap (λ r. then_of (or_refused source.side source.wave r) (with_more source waves))
+    (long_is_none bytes long)
+
+-- of one of these files it is told that it is too long
+record IsLaterTooLong (all : List Source) (name : List ℕ) (result : Result InWaves Refusal) : Type 0 where
+  source : Source
+  among : Contains all source
+  named : source.name ≡ name
+  told : result ≡ no_waves (refusals.Limit (TooLong source.side source.wave))
+
+-- at a place past the greatest length, where that isn't before them all
+later_long : (told : Told) (last spot : Spot) (waves : InWaves) (all : List Source) (result : Result InWaves Refusal)
+    (name : List ℕ) (place : ℕ) → SeenFrom told last spot waves all result
+    → (last ≡ Some (name, place) → place ≤ 2 ^ 24) → spot ≡ Some (name, place) → 2 ^ 24 < place
+    → IsLaterTooLong all name result
+later_long told last spot waves [] result name place seen near is long =
+    let low = near (sym seen.0 ∙ is) in absurd (omega (arith, low, long))
+later_long told last spot waves (source ∷ more) result name place seen near is long =
+    by (step source waves (Some seen.0)) refl seen.2
+    (λ waves' after low. later_long told (Some (source.name, length seen.0)) spot waves' more result name place after low
+    is long)
+  where
+    by : (r : Result InWaves Refusal) → step source waves (Some seen.0) ≡ r
+        → MatchResult r (λ w. SeenFrom told (Some (source.name, length seen.0)) spot w more result)
+        (λ refusal. (spot ≡ Some (source.name, length seen.0)) × (result ≡ Err refusal))
+        → ((waves' : InWaves) → SeenFrom told (Some (source.name, length seen.0)) spot waves' more result
+        → (◌≡◌ {A = Spot} (Some (source.name, length seen.0)) (Some (name, place)) → place ≤ 2 ^ 24)
+        → IsLaterTooLong more name result)
+        → IsLaterTooLong (source ∷ more) name result
+    by (Ok waves') e after go_on =
+        let there = go_on waves' after (λ same. low (nat_lt (2 ^ 24) (length seen.0)) refl (ap place_at same)) in
+        record {
+          source = there.source;
+          among = Contains-append_right (source ∷ []) more there.source there.among;
+          named = there.named;
+          told = there.told;
+        }
+      where
+        low : (b : Bool) → nat_lt (2 ^ 24) (length seen.0) ≡ b → length seen.0 ≡ place → place ≤ 2 ^ 24
+        low true p same = absurd (cc (sym (long_step source waves seen.0 (grind (arith, p))) ∙ e))
+        low false p same = grind (arith, p, same)
+    by (Err refusal) e after go_on =
+        let size : place ≡ length seen.0 = ap place_at (sym is ∙ after.0) in
+        record {
+          source = source;
+          among = (0, omega arith, refl);
+          named = ap name_at (sym after.0 ∙ is);
+          told = after.1 ∙ sym e ∙ long_step source waves seen.0 (subst (λ n. 2 ^ 24 < n) size long);
+        }
+
+-- a later file is one that is asked for
+later_among : (asked : Asked) (source : Source) → Contains (later_sources 2 asked.later) source
+    → Contains (sources asked) source
+later_among asked source among =
+    Contains-append_right
+    (record { side = R; wave = 1; name = asked.name_r } ∷ record { side = S; wave = 1; name = asked.name_s } ∷ [])
+    (later_sources 2 asked.later ++ third_source asked.chain) source
+    (Contains-append_left (later_sources 2 asked.later) (third_source asked.chain) source among)
+
+-- ---- all files
+
+-- where the first two files are tables, the place isn't past the greatest length behind them
+near_two : (told : Told) (spot : Spot) (asked : Asked) (tables : Tables) (name : List ℕ) (place : ℕ)
+    → TablesSeen told spot asked.name_r asked.name_s (Ok tables) → spot ≡ Some (name, place) → place ≤ 2 ^ 24
+near_two told spot asked tables name place seen is = by (nat_lt (2 ^ 24) place) refl
+  where
+    by : (b : Bool) → nat_lt (2 ^ 24) place ≡ b → place ≤ 2 ^ 24
+    by true p =
+        let two = two_long told spot asked (Ok tables) name place seen is (grind (arith, p)) in absurd (cc two.3)
+    by false p = grind (arith, p)
+
+module _ (told : Told) (spot : Spot) (asked : Asked) (trees : Trees) (old new : Option (List ℕ)) (outcome : Outcome)
+    (name : List ℕ) (place : ℕ) (found : Result Gathered Refusal)
+    (ends : Ends asked old new (then_of found (fitted trees)) outcome)
+    (is : spot ≡ Some (name, place)) (past : 2 ^ 24 < place) where
+  -- behind two tables and the later files, the third file
+  third : (chain : Option AskedChain) (begun middle : Spot) (tables : Tables) (waves : InWaves) → asked.chain ≡ chain
+      → TablesSeen told begun asked.name_r asked.name_s (Ok tables)
+      → SeenFrom told begun middle (first_wave tables) (later_sources 2 asked.later) (Ok waves)
+      → AllSeen told middle spot chain (Ok waves) found → IsTooLong asked name outcome
+  third None begun middle tables waves here seen later all =
+      let long = later_long told begun middle (first_wave tables) (later_sources 2 asked.later) (Ok waves) name place
+      later (near_two told begun asked tables name place seen) (sym all.1.0 ∙ is) past in
+      absurd (cc long.told)
+  third (Some chain) begun middle tables waves here seen later all =
+      let behind = all.1 in
+      let long = third_long told spot chain behind.0 name place behind.1 is past in
+      let refused : all.0 ≡ no_third (refusals.Limit (TooLong S 2)) =
+      behind.2 ∙ ap (λ t. then_of t (λ found. Ok (Some found))) long.1 in
+      record {
+        source = record { side = S; wave = 2; name = chain.name };
+        among = third_among asked chain here;
+        named = long.0;
+        told = ended asked trees old new outcome found (refusals.Limit (TooLong S 2))
+            (all.2 ∙ ap (with_third waves) refused) ends;
+      }
+
+  -- behind two tables, the later files
+  later_files : (waves : Result InWaves Refusal) (begun middle : Spot) (tables : Tables)
+      → TablesSeen told begun asked.name_r asked.name_s (Ok tables)
+      → SeenFrom told begun middle (first_wave tables) (later_sources 2 asked.later) waves
+      → AllSeen told middle spot asked.chain waves found → IsTooLong asked name outcome
+  later_files (Ok waves) begun middle tables seen later all =
+      third asked.chain begun middle tables waves refl seen later all
+  later_files (Err refusal) begun middle tables seen later all =
+      let long = later_long told begun middle (first_wave tables) (later_sources 2 asked.later) (no_waves refusal) name
+      place later (near_two told begun asked tables name place seen) (sym all.0 ∙ is) past in
+      let same : refusal ≡ refusals.Limit (TooLong long.source.side long.source.wave) = cc long.told in
+      record {
+        source = long.source;
+        among = later_among asked long.source long.among;
+        named = long.named;
+        told = ended asked trees old new outcome found (refusals.Limit (TooLong long.source.side long.source.wave))
+            (all.1 ∙ ap (λ r. Err r) same) ends;
+      }
+
+  -- the first two files
+  two_files : (tables : Result Tables Refusal) (begun : Spot)
+      → TablesSeen told begun asked.name_r asked.name_s tables → BehindSeen told begun spot asked tables found
+      → IsTooLong asked name outcome
+  two_files (Ok tables) begun seen behind =
+      later_files behind.waves begun behind.middle tables seen behind.later behind.third
+  two_files (Err refusal) begun seen behind =
+      let after = behind.later in
+      let all = subst (λ w. AllSeen told behind.middle spot asked.chain w found) after.1 behind.third in
+      let two = two_long told begun asked (no_tables refusal) name place seen (sym after.0 ∙ sym all.0 ∙ is) past in
+      let same : refusal ≡ refusals.Limit (TooLong two.0.side two.0.wave) = cc two.3 in
+      record {
+        source = two.0;
+        among = two.1;
+        named = two.2;
+        told = ended asked trees old new outcome found (refusals.Limit (TooLong two.0.side two.0.wave))
+            (all.1 ∙ ap (λ r. Err r) same) ends;
+      }
+
 -- what was read up to a place past the greatest length is no table, so the refusal is the one that tells its file
 pub past_is_too_long : (told : Told) (spot : Spot) (asked : Asked) (trees : Trees) (old new : Option (List ℕ))
     (outcome : Outcome)
     (name : List ℕ) (place : ℕ) → asked.make ≡ None → EndsOver told spot asked trees old new outcome
     → spot ≡ Some (name, place) → 2 ^ 24 < place → IsTooLong asked name outcome
 past_is_too_long told spot asked trees old new outcome name place none over is past =
-    by over.seen.tables (subst (λ make. TablesAsked told over.seen.middle asked make over.seen.tables)
-    none over.seen.first) over.seen.then_third
-  where
-    -- behind two tables, the third file
-    third : (chain : Option AskedChain) (middle : Spot) (tables : Tables) → asked.chain ≡ chain
-        → TablesSeen told middle asked.name_r asked.name_s (Ok tables)
-        → AllSeen told middle spot chain (Ok tables) over.found → IsTooLong asked name outcome
-    third None middle tables here seen all =
-        let two = two_long told middle asked (Ok tables) name place seen (sym all.1.0 ∙ is) past in
-        absurd (cc two.3)
-    third (Some chain) middle tables here seen all =
-        let behind = all.1 in
-        let long = third_long told spot chain behind.0 name place behind.1 is past in
-        let refused : all.0 ≡ no_third (refusals.Limit (TooLong S 2)) =
-        behind.2 ∙ ap (λ t. then_of t (λ found. Ok (Some found))) long.1 in
-        record {
-          source = record { side = S; wave = 2; name = chain.name };
-          among = third_among asked chain here;
-          named = long.0;
-          told = ended asked trees old new outcome over.found (refusals.Limit (TooLong S 2))
-              (all.2 ∙ ap (with_third tables) refused) over.ends;
-        }
-
-    by : (tables : Result Tables Refusal) → TablesSeen told over.seen.middle asked.name_r asked.name_s tables
-        → AllSeen told over.seen.middle spot asked.chain tables over.found → IsTooLong asked name outcome
-    by (Ok tables) seen all = third asked.chain over.seen.middle tables refl seen all
-    by (Err refusal) seen all =
-        let two = two_long told over.seen.middle asked (no_tables refusal) name place seen (sym all.0 ∙ is) past in
-        let same : refusal ≡ refusals.Limit (TooLong two.0.side two.0.wave) = cc two.3 in
-        record {
-          source = two.0;
-          among = two.1;
-          named = two.2;
-          told = ended asked trees old new outcome over.found (refusals.Limit (TooLong two.0.side two.0.wave))
-              (all.1 ∙ ap (λ r. Err r) same) over.ends;
-        }
+    two_files told spot asked trees old new outcome name place over.found over.ends is past over.seen.tables
+    over.seen.middle (subst (λ make. TablesAsked told over.seen.middle asked make over.seen.tables) none
+    over.seen.first) over.seen.behind

@@ -6,7 +6,7 @@ use Rattle.join_rows.specs.declared.sink.Sink.{Ghosts as SinkGhosts}
 use Rattle.join_rows.specs.Shelves.{Told}
 use Rattle.join_words.specs.Words.{Asked, asked_of}
 use Rattle.join_words.specs.declared.options.WordsFault.{WordsFault}
-use Rattle.join_plan.specs.declared.fault.LimitFault.TheVariants.{Between, TooLong, TooMany}
+use Rattle.join_plan.specs.declared.fault.LimitFault.TheVariants.{Between, TooLong, TooMany, Total}
 use Rattle.join_plan.specs.declared.fault.Refusal.{Refusal}
 use Rattle.join_plan.specs.declared.fitting.Planned.{Planned}
 use Rattle.join_cli.specs.declared.outcome.Outcome.{Outcome}
@@ -26,6 +26,7 @@ end_status asked planned (outcomes.DoneRings journal left back) ends = inl refl
 end_status asked planned (outcomes.Limit (Between pairs)) ends = inr (refl, (pairs, ends))
 end_status asked planned (outcomes.Limit (TooLong side wave)) ends = absurd ends
 end_status asked planned (outcomes.Limit (TooMany side wave)) ends = absurd ends
+end_status asked planned (outcomes.Limit (Total side wave rows)) ends = absurd ends
 end_status asked planned (outcomes.Words fault) ends = absurd ends
 end_status asked planned (outcomes.Predicate fault) ends = absurd ends
 end_status asked planned (outcomes.Then fault) ends = absurd ends

@@ -51,6 +51,8 @@ four = record {
   rows = false;
   name_r = codes "r";
   name_s = codes "s";
+  later = [];
+  grow = None;
   chain = None;
 }
 

@@ -15,10 +15,13 @@ use Rattle.group_split.specs.Parts.{input_of_part, part, setting_of_group}
 use Rattle.group_split.specs.Sizes.{digits, numbers_of}
 use Rattle.trace_law.specs.Family.{first_rest}
 use Rattle.trace_law.specs.Runs.{IsRunOf}
-use Rattle.join_words.specs.Words.{Asked}
+use Rattle.join_words.specs.Words.{Asked, AskedWave}
 use Rattle.join_plan.specs.declared.fitting.Planned.{Planned}
 use Rattle.join_cli.specs.Chain.{IsChainOf, chain_output}
 use Rattle.join_cli.specs.Plan.{IsJournalOf, answer_of, input_of, output_of, report_over, setting_of}
+use Rattle.join_cli.specs.Grown.{AreGrownWavesOf, grown_output_of}
+use Rattle.join_cli.specs.Waves.{AreWavesOf}
+use Rattle.join_cli.specs.WaveTexts.{waves_output_of}
 
 -- a replay with this number, whose controller has this journal, leaves nothing
 pub record IsReplayed (input : Input) (setting : Setting) (seed : ℕ) (journal : List TurnLine)
@@ -74,12 +77,13 @@ AreRunsFrom input joiners numbers setting g (k ∷ digits) (run ∷ runs) =
     × AreRunsFrom input joiners numbers setting (g + 1) digits runs
 AreRunsFrom input joiners numbers setting g _ _ = ⊥
 
--- what is answered of a run over rings, of two tables and joiners in one grid: the journal of a lawful controller; it
--- didn't fall back; and the lists of what its seats left are a finished, agreeing family, whose controller has this
--- journal
+-- what is answered of a run over rings, of two tables in one wave and joiners in one grid: the journal of a lawful
+-- controller; it didn't fall back; and the lists of what its seats left are a finished, agreeing family, whose controller
+-- has this journal
 pub record IsOverRings (asked : Asked) (planned : Planned) (journal : List TurnLine) (ends : RingEndsView)
     (fallen : Bool) : Type 0 where
   pub ringed : asked.rings ≡ true
+  pub once : asked.later ≡ []
   pub single : asked.groups ≡ None
   pub whole : asked.chain ≡ None
   pub lawful : IsJournalOf asked planned journal
@@ -93,9 +97,19 @@ pub data Course : Type 0 where
   by_chain : List TurnLine → List TurnLine → List EndsView → Course
   by_rings : List TurnLine → RingEndsView → Bool → Course
 
+-- a run of several waves went as was asked for: with a growth behind so many of them, or without one
+abbrev pub WentOnward : Option ℕ → Asked → Planned → List TurnLine → List EndsView → Type 0
+WentOnward None asked planned journal trail = AreWavesOf asked planned journal trail
+WentOnward (Some wave) asked planned journal trail = AreGrownWavesOf wave asked planned journal trail
+
+-- a run with one journal went as was asked for: in one wave, or in several where there are later ones
+abbrev pub WentInWaves : List AskedWave → Asked → Planned → List TurnLine → List EndsView → Type 0
+WentInWaves [] asked planned journal trail = IsCourseOf asked planned journal trail
+WentInWaves (wave ∷ later) asked planned journal trail = WentOnward asked.grow asked planned journal trail
+
 -- it went so as was asked for
 abbrev pub WentSo : Asked → Planned → Course → Type 0
-WentSo asked planned (by_run journal trail) = IsCourseOf asked planned journal trail
+WentSo asked planned (by_run journal trail) = WentInWaves asked.later asked planned journal trail
 WentSo asked planned (by_groups journals trail) = AreGroupsOf asked planned journals trail
 WentSo asked planned (by_chain first second trail) = IsChainOf asked planned first second trail
 WentSo asked planned (by_rings journal ends back) = IsOverRings asked planned journal ends back
@@ -126,9 +140,19 @@ groups_text asked input setting joiners numbers journals =
     answer_of asked.make asked.rows input
     ++ (if asked.report then group_reports input joiners numbers setting 0 (digits joiners) journals else [])
 
+-- the output over the journal of a run in several waves, with a growth behind so many of them, or without one
+abbrev pub output_onward : Option ℕ → Asked → Planned → List TurnLine → List ℕ
+output_onward None asked planned journal = waves_output_of asked planned journal
+output_onward (Some wave) asked planned journal = grown_output_of wave asked planned journal
+
+-- the output over the journal of a run in one wave, or in several where there are later ones
+abbrev pub output_in_waves : List AskedWave → Asked → Planned → List TurnLine → List ℕ
+output_in_waves [] asked planned journal = output_of asked planned journal
+output_in_waves (wave ∷ later) asked planned journal = output_onward asked.grow asked planned journal
+
 -- the output that is asked for of a plan, over how its run went
 abbrev pub output_over : Asked → Planned → Course → List ℕ
-output_over asked planned (by_run journal trail) = output_of asked planned journal
+output_over asked planned (by_run journal trail) = output_in_waves asked.later asked planned journal
 output_over asked planned (by_groups journals trail) =
     let joiners = unwrap_or asked.groups 0 in
     groups_text asked (input_of asked.seed planned) (setting_of asked) joiners (groups_drawn asked planned joiners)

@@ -1,5 +1,5 @@
 -- How a run ends, and what it leaves.
-use Rattle.std.specs.Prelude.{◌≡◌, ◌⊎◌, ℕ, ⊤, true, List, length, Option, None, Some, Result, Ok, Err}
+use Rattle.std.specs.Prelude.{◌≡◌, ◌≢◌, ◌⊎◌, ℕ, ⊤, true, List, [], length, Option, None, Some, Result, Ok, Err}
 use Rattle.join_rows.specs.Shelves.{Told}
 use Rattle.theta_text.specs.declared.fault.PredFault.{PredFault}
 use Rattle.load_controller.specs.declared.line.TurnLine.{TurnLine}
@@ -18,7 +18,7 @@ use Rattle.join_cli.specs.declared.outcome.Outcome.TheVariants.{Done, DoneGroups
 use Rattle.join_cli.specs.declared.outcome.Outcome.TheVariants.{Limit, Memory, Predicate, Read, Then, Words, Write}
 use Rattle.join_cli.specs.Chain.{IsBetween, IsChainOf, IsFewBetween}
 use Rattle.join_cli.specs.Courses.{AreGroupsOf, Course, WentSo, by_chain, by_groups, by_rings, by_run}
-use Rattle.join_cli.specs.Courses.{output_over}
+use Rattle.join_cli.specs.Courses.{WentOnward, output_onward, output_over}
 use Rattle.join_cli.specs.Early.{StoppedAt, WroteLines, WroteOutput}
 use Rattle.join_cli.specs.Outcomes.{outcome_of}
 use Rattle.join_cli.specs.Plan.{IsJournalOf, input_of, output_of}
@@ -121,11 +121,14 @@ IsHalted asked planned Memory = ⊤
 IsHalted asked planned (Limit (Between pairs)) = IsBetween asked planned pairs
 IsHalted asked planned outcome = ⊥
 
--- the output over each such journal is taken, or over the journals of groups, or those of a second join, and early the
--- lines of all pairs alone
+-- the output over each such journal is taken, or, where there are later waves, over those of several, over the journals
+-- of groups, or those of a second join, and early the lines of all pairs alone
 pub record TakesEach (takes : ℕ → Type 0) (asked : Asked) (planned : Planned) : Type 0 where
-  pub each : asked.groups ≡ None → asked.chain ≡ None → (journal : List TurnLine) → IsJournalOf asked planned journal
-      → takes (length (output_of asked planned journal))
+  pub each : asked.later ≡ [] → asked.groups ≡ None → asked.chain ≡ None → (journal : List TurnLine)
+      → IsJournalOf asked planned journal → takes (length (output_of asked planned journal))
+  pub waves : asked.later ≢ [] → (journal : List TurnLine) (trail : List EndsView)
+      → WentOnward asked.grow asked planned journal trail
+      → takes (length (output_onward asked.grow asked planned journal))
   pub groups : (journals : List (List TurnLine)) (trail : List EndsView) → AreGroupsOf asked planned journals trail
       → takes (length (output_over asked planned (by_groups journals trail)))
   pub chain : (first second : List TurnLine) (trail : List EndsView) → IsChainOf asked planned first second trail

@@ -12,3 +12,10 @@ pub mod Promises
 pub mod Statuses
 pub mod Dealt
 pub mod Requests
+pub mod Journals
+pub mod Waves
+pub mod WaveTexts
+pub mod Left
+pub mod WaveSteps
+pub mod Grown
+pub mod GrownSteps

@@ -1,6 +1,6 @@
 // Carrying out a plan: its run, and the writing of the output.
 
-ghost use Rattle.std.specs.Prelude.{◌≡◌, ◌≢◌, ◌⊎◌, ◌<◌, ◌≤◌, ℕ, IfSome, None, is_some, true, false};
+ghost use Rattle.std.specs.Prelude.{◌≡◌, ◌≢◌, ◌⊎◌, ◌<◌, ◌≤◌, ℕ, [], IfSome, None, is_some, true, false};
 ghost use Rattle.join_rows.specs.Shelves.{last_fault};
 ghost use Rattle.join_rows.specs.Sinks.{PutsSome};
 ghost use Rattle.trace_law.specs.Validity.{IsValidInput, IsValidSetting};
@@ -11,7 +11,7 @@ ghost use Rattle.join_plan.specs.declared.fitting.Planned.{Planned as Planned'};
 ghost use Rattle.join_cli.specs.Plan.{input_of, setting_of};
 ghost use Rattle.join_cli.specs.Ends.{Concludes, IsDone, TakesEach};
 ghost use Rattle.join_cli.specs.Chain.{IsFewBetween};
-ghost use Rattle.join_cli.specs.Requests.{IsChained, IsRinged};
+ghost use Rattle.join_cli.specs.Requests.{AreLaterAlone, IsChained, IsRinged};
 
 use crate::early::put_found;
 use crate::input::{input, setting};
@@ -46,6 +46,7 @@ fn conclude_whole<R: Threads + Wait + Sync, K: Sink, G: Gate + Sync>(
     requires grouped { IfSome options.now.groups (λ _. (options.now.fixed ≡ None)
         × (options.now.early ≡ false) × (options.now.replay ≡ None)) }
     requires there { is_some planned.third ≡ is_some options.now.chain }
+    requires later { AreLaterAlone options.now }
     ensures ends { Concludes (asked options.now) planned
         (K.written sink.old) (K.written sink.new) result }
     ensures nothing { result ≡ Outcome.Memory → sink.new ≡ sink.old }
@@ -88,6 +89,7 @@ fn end_early<R: Threads + Wait + Sync, K: Sink, G: Gate + Sync>(
     requires single { options.now.groups ≡ None }
     requires whole { options.now.chain ≡ None }
     requires queued { options.now.rings ≡ false }
+    requires once { options.now.later.items ≡ [] }
     ensures ends { (planned : Planned') → input.now ≡ input_of options.now.seed planned
         → Concludes (asked options.now) planned (K.written sink.old) (K.written sink.new) result }
     ensures counts { result ≢ Outcome.Write → K.faults sink.new ≡ K.faults sink.old }
@@ -127,6 +129,7 @@ fn conclude_early<R: Threads + Wait + Sync, K: Sink, G: Gate + Sync>(
     requires single { options.now.groups ≡ None }
     requires whole { options.now.chain ≡ None }
     requires queued { options.now.rings ≡ false }
+    requires once { options.now.later.items ≡ [] }
     ensures ends { Concludes (asked options.now) planned
         (K.written sink.old) (K.written sink.new) result }
     ensures counts { result ≢ Outcome.Write → K.faults sink.new ≡ K.faults sink.old }
@@ -166,6 +169,7 @@ pub(crate) fn conclude<R: Threads + Wait + Sync, K: Sink, G: Gate + Sync>(
     requires chained { IfSome options.now.chain (IsChained options.now) }
     requires ringed { options.now.rings ≡ true → IsRinged options.now }
     requires there { is_some planned.third ≡ is_some options.now.chain }
+    requires later { AreLaterAlone options.now }
     ensures ends { Concludes (asked options.now) planned
         (K.written sink.old) (K.written sink.new) result }
     ensures nothing { options.now.early ≡ false → result ≡ Outcome.Memory → sink.new ≡ sink.old }

@@ -6,6 +6,8 @@ mod conclude;
 mod early;
 mod entry;
 mod groups;
+mod growth;
+mod growth_output;
 mod input;
 mod laws;
 mod outcome;
@@ -15,6 +17,8 @@ mod rings;
 mod run;
 mod text;
 mod top;
+mod wave_output;
+mod waves;
 
 pub use entry::{Ended, jm_program};
 pub use join_plan::{InputFault, LimitFault, TextFault};

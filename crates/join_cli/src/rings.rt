@@ -1,6 +1,6 @@
 // The output of a run over rings.
 
-ghost use Rattle.std.specs.Prelude.{◌≡◌, IfOk, None, true};
+ghost use Rattle.std.specs.Prelude.{◌≡◌, [], IfOk, None, true};
 ghost use Rattle.trace_law.specs.Validity.{IsValidInput, IsValidSetting};
 ghost use Rattle.join_words.specs.Words.{asked};
 ghost use Rattle.join_plan.specs.declared.fitting.Planned.{Planned as Planned'};
@@ -30,6 +30,7 @@ pub(crate) fn rings_output<R: Threads + Sync, G: Gate + Sync>(
     requires setting { IsValidSetting setting.now }
     requires is { setting.now ≡ setting_of (asked options.now) }
     requires ringed { options.now.rings ≡ true }
+    requires once { options.now.later.items ≡ [] }
     requires single { options.now.groups ≡ None }
     requires whole { options.now.chain ≡ None }
     ensures { IfOk result

@@ -1,13 +1,13 @@
 // The top call.
 
 ghost use Rattle.std.specs.Prelude.{◌≡◌, ◌≢◌, ◌<◌, ◌≤◌, None, Some, true, false, IfSome, map};
-ghost use Rattle.std.specs.Prelude.{string_bytes};
+ghost use Rattle.std.specs.Prelude.{length, string_bytes};
 ghost use Rattle.join_rows.specs.Shelves.{last_fault};
 ghost use Rattle.trace_law.specs.Validity.{IsValidSetting};
 ghost use Rattle.join_words.specs.Words.{asked};
 ghost use Rattle.join_words.specs.declared.options.WordsFault.{WordsFault};
 ghost use Rattle.join_cli.specs.Plan.{setting_of};
-ghost use Rattle.join_cli.specs.Requests.{IsChained, IsRinged};
+ghost use Rattle.join_cli.specs.Requests.{AreLaterAlone, IsChained, IsRinged};
 ghost use Rattle.join_cli.specs.Courses.{Course};
 ghost use Rattle.join_cli.specs.Ends.{Wrote, WroteFront, course_of};
 ghost use Rattle.join_cli.specs.Programs.{WroteOver};
@@ -43,6 +43,8 @@ fn join_files<R: Threads + Wait + Sync, H: Shelf, K: Sink, G: Gate + Sync>(
         × (options.now.early ≡ false) × (options.now.replay ≡ None)) }
     requires chained { IfSome options.now.chain (IsChained options.now) }
     requires ringed { options.now.rings ≡ true → IsRinged options.now }
+    requires few { length options.now.later.items ≤ 3 }
+    requires later { AreLaterAlone options.now }
     ensures words { (fault : WordsFault) → result ≢ Outcome.Words fault }
     ensures answers { Answers H.Shelf K.Sink (asked options.now)
         shelf.old shelf.new sink.old sink.new result }
@@ -63,12 +65,13 @@ fn join_files<R: Threads + Wait + Sync, H: Shelf, K: Sink, G: Gate + Sync>(
 }
 
 /// Runs `jm` with these words, the program's name first. The first of these that applies is
-/// answered: the words, the text of the predicate, that of the second, the file of R, the file of S, the third,
-/// the columns, those of the second predicate, the numbers of R and then of S, those of the second predicate;
+/// answered: the words, the text of the predicate, that of the second, the file of R, the file of S, those of the later
+/// waves, the third, the columns, those of the second predicate, the numbers of R and then of S, those of the second predicate;
 /// then the join is run, and the second behind it, and the output made whole, and then it is
 /// written. Early output is written while the join is run. Memory may run out at each of them. The
 /// run is one in as many threads as there are workers, whose seats pass the gate at each turn, or a
-/// replay in one thread; where joiners form groups there is such a run for each; with `--rings` it is one over rings.
+/// replay in one thread, of several waves one behind the other; where joiners form groups there is such a run for each;
+/// with `--rings` it is one over rings.
 /// What it promises holds if it returns.
 pub fn join_main<R: Threads + Wait + Sync, H: Shelf, K: Sink, G: Gate + Sync>(
     rt: &R,

@@ -15,6 +15,7 @@ mod early;
 mod extremes;
 mod faults;
 mod groups;
+mod growth;
 mod limits;
 mod made;
 mod pieces;
@@ -23,6 +24,7 @@ mod replays;
 mod rings;
 mod rows;
 mod threads;
+mod waves;
 
 // The number of a call that isn't made.
 const NEVER: u64 = 1000000;

@@ -1,0 +1,148 @@
+-- The waves of a run with a growth are those of what was run.
+use Rattle.std.proofs.Common.{◌≡◌, ◌∙◌, ◌+◌, ◌*◌, ◌<◌, ◌≤◌, ◌^◌, ℕ, List, [], ◌++◌, Option, None, ap₂, arith, drop, length}
+use Rattle.std.proofs.Common.{length-append, refl, sym, ap, subst, take}
+use Rattle.std.proofs.lemmas.List.{length-take-le, take-append-drop}
+use Rattle.std.specs.List.{IsSplitAt}
+use Rattle.std.specs.Prelude.{flat_map}
+use Rattle.epoch_tags.specs.declared.tuple.Pair.{Pair}
+use Rattle.load_controller.specs.declared.line.TurnLine.{TurnLine}
+use Rattle.load_controller.specs.Journal.{Fits}
+use Rattle.trace_law.specs.declared.input.Input.{Input}
+use Rattle.trace_law.specs.declared.run.Run.{Run}
+use Rattle.trace_law.specs.declared.setting.Setting.{Setting}
+use Rattle.trace_law.specs.Family.{first_rest, rules_of}
+use Rattle.actor_core.specs.declared.rests.Rest.{Rest}
+use Rattle.actor_core.specs.declared.rests.Upto.{Upto}
+use Rattle.actor_core.specs.Rests.{IsRestOf, rest_of}
+use Rattle.elastic_grow.specs.Growth.{grown_line, grown_setting}
+use Rattle.join_plan.specs.declared.waves.WaveEnd.{WaveEnd}
+use Rattle.join_cli.specs.declared.growth.Grown.{Grown}
+use Rattle.join_cli.specs.declared.waves.Waved.{Waved}
+use Rattle.join_cli.specs.Grown.{waves_since}
+use Rattle.join_cli.specs.GrownSteps.{AreFirstWaves, AreGrownWaves}
+use Rattle.join_cli.specs.Left.{AreBehind, counted, end_behind, line_behind}
+use Rattle.join_cli.specs.WaveSteps.{AreAhead, AreWavesBehind}
+use Rattle.join_cli.specs.WaveTexts.{no_waves, waves_over}
+use Rattle.join_cli.specs.Waves.{no_rows, waves_pairs}
+use Rattle.join_cli.proofs.GrownFacts.{ahead_early, ahead_later, pairs_of_both}
+use Rattle.join_cli.proofs.WaveRuns.{from_none}
+
+-- from a first rest on they are the first waves
+pub first_are : (number : Option ℕ) (input : Input) (setting : Setting) (none first : Waved) (ends : List WaveEnd)
+    → rest_of none.rest ≡ first_rest setting → none.run ≡ no_waves setting → none.trail ≡ []
+    → IsRestOf input setting none.rest → AreWavesBehind number input setting none ends first
+    → AreFirstWaves number input setting ends first
+first_are number input setting none first ends rest_is run_is trail_is stands more =
+    record {
+      all = from_none number input setting none first ends rest_is run_is trail_is more;
+      behind = subst (λ l. AreBehind l ends more.journals first.rest.line) (ap (λ r. r.line) rest_is) more.behind;
+      stands = more.stands stands;
+    }
+
+-- the line of a rest that stands is small
+pub small_line : (input : Input) (setting : Setting) (rest : Rest) → IsRestOf input setting rest
+    → Fits (rules_of setting) rest.line
+small_line input setting rest is = is.stands.line.fits
+
+-- the grown line has counted what the last before it has
+pub grown_counted : (number : Option ℕ) (input : Input) (setting : Setting) (ends : List WaveEnd) (first : Waved)
+    (line : TurnLine) → AreFirstWaves number input setting ends first
+    → line ≡ grown_line setting.weights setting.k first.rest.line → counted line ≡ end_behind no_rows ends
+grown_counted number input setting ends first line are is = ap counted is ∙ are.behind.counts
+
+-- so the other waves end behind it
+pub ahead_since : (number : Option ℕ) (input : Input) (setting : Setting) (wave : ℕ) (ends : List WaveEnd)
+    (first : Waved) (line : TurnLine) → AreFirstWaves number input setting (take wave ends) first
+    → line ≡ grown_line setting.weights setting.k first.rest.line → AreAhead input no_rows ends
+    → AreAhead input (counted line) (drop wave ends)
+ahead_since number input setting wave ends first line are is ahead =
+    subst (λ e. AreAhead input e (drop wave ends))
+    (sym (grown_counted number input setting (take wave ends) first line are is))
+    (ahead_later wave input no_rows ends ahead)
+
+-- and it is few epochs later
+pub few_since : (number : Option ℕ) (input : Input) (setting : Setting) (wave : ℕ) (ends : List WaveEnd)
+    (first : Waved) (line : TurnLine) → AreFirstWaves number input setting (take wave ends) first
+    → line ≡ grown_line setting.weights setting.k first.rest.line → length ends ≤ 4
+    → line.epoch + 304 * length (drop wave ends) ≤ 2 ^ 31
+few_since number input setting wave ends first line are is few =
+    let same : line.epoch ≡ first.rest.line.epoch = ap (λ (l : TurnLine). l.epoch) is in
+    let early : first.rest.line.epoch ≤ 0 + 304 * length (take wave ends) = are.behind.few in
+    let all : length (take wave ends) + length (drop wave ends) ≡ length ends =
+    sym (length-append (take wave ends) (drop wave ends)) ∙ ap length (take-append-drop wave ends) in
+    omega (arith, same, early, all, few)
+
+-- the waves before and since are those of a run with a growth
+pub grown_are : (number : Option ℕ) (input : Input) (setting : Setting) (wave : ℕ) (ends : List WaveEnd)
+    (first none since : Waved) → wave ≤ length ends → AreFirstWaves number input setting (take wave ends) first
+    → none.rest.line ≡ grown_line setting.weights setting.k first.rest.line
+    → IsRestOf input (grown_setting setting) none.rest → none.run ≡ no_waves (grown_setting setting)
+    → none.trail ≡ first.trail → AreWavesBehind number input (grown_setting setting) none (drop wave ends) since
+    → AreGrownWaves number input setting wave ends
+    (record { before = first.run; line = none.rest.line; since = since.run; trail = since.trail })
+grown_are number input setting wave ends first none since split are line stands run_is trail_is more =
+    let here = waves_pairs input no_rows (take wave ends) in
+    let there = waves_pairs input (end_behind no_rows (take wave ends)) (drop wave ends) in
+    let pairs_since : since.run.pairs ≡ there =
+    more.pairs ∙ ap (λ (r : Run). r.pairs ++ waves_pairs input (counted none.rest.line) (drop wave ends)) run_is
+    ∙ ap (λ e. waves_pairs input e (drop wave ends))
+    (grown_counted number input setting (take wave ends) first none.rest.line are line) in
+    record {
+      split = split;
+      left = first.trail;
+      first = are.all;
+      line_is = line ∙ ap (grown_line setting.weights setting.k) are.behind.line_is;
+      rest = rest_of none.rest;
+      from = refl;
+      stands = stands.stands;
+      journals = more.journals;
+      trails = more.trails;
+      onward = more.went;
+      since_is = more.run
+          ∙ ap (λ r. waves_over input (grown_setting setting) none.rest.line r (drop wave ends) more.journals) run_is;
+      pairs = ap₂ (λ p q. p ++ q) are.all.pairs pairs_since ∙ pairs_of_both wave input no_rows ends;
+      trail_is = more.trail ∙ ap (λ t. t ++ flat_map (λ left. left) more.trails) trail_is;
+    }
+
+-- ---- the ends, split
+
+-- the first of them end one behind the other
+pub split_early : (input : Input) (wave : ℕ) (ends early later : List WaveEnd) → IsSplitAt ends wave early later
+    → AreAhead input no_rows ends → AreAhead input no_rows early
+split_early input wave ends early later (low, is_early, is_later, early_size, later_size) ahead =
+    subst (AreAhead input no_rows) (sym is_early) (ahead_early wave input no_rows ends ahead)
+
+-- the others do behind the growth
+pub split_later : (number : Option ℕ) (input : Input) (setting : Setting) (wave : ℕ) (ends early later : List WaveEnd)
+    (first : Waved) (line : TurnLine) → IsSplitAt ends wave early later
+    → AreFirstWaves number input setting early first → line ≡ grown_line setting.weights setting.k first.rest.line
+    → AreAhead input no_rows ends → AreAhead input (counted line) later
+split_later number input setting wave ends early later first line (low, is_early, is_later, early_size, later_size) are is
+    ahead =
+    subst (AreAhead input (counted line)) (sym is_later)
+    (ahead_since number input setting wave ends first line
+    (subst (λ es. AreFirstWaves number input setting es first) is_early are) is ahead)
+
+-- and few epochs later
+pub split_few : (number : Option ℕ) (input : Input) (setting : Setting) (wave : ℕ) (ends early later : List WaveEnd)
+    (first : Waved) (line : TurnLine) → IsSplitAt ends wave early later
+    → AreFirstWaves number input setting early first → line ≡ grown_line setting.weights setting.k first.rest.line
+    → length ends ≤ 4 → line.epoch + 304 * length later ≤ 2 ^ 31
+split_few number input setting wave ends early later first line (low, is_early, is_later, early_size, later_size) are is few =
+    subst (λ es. line.epoch + 304 * length es ≤ 2 ^ 31) (sym is_later)
+    (few_since number input setting wave ends first line
+    (subst (λ es. AreFirstWaves number input setting es first) is_early are) is few)
+
+-- so both are the waves of a run with a growth
+pub split_are : (number : Option ℕ) (input : Input) (setting : Setting) (wave : ℕ) (ends early later : List WaveEnd)
+    (first none since : Waved) → IsSplitAt ends wave early later → AreFirstWaves number input setting early first
+    → none.rest.line ≡ grown_line setting.weights setting.k first.rest.line
+    → IsRestOf input (grown_setting setting) none.rest → none.run ≡ no_waves (grown_setting setting)
+    → none.trail ≡ first.trail → AreWavesBehind number input (grown_setting setting) none later since
+    → AreGrownWaves number input setting wave ends
+    (record { before = first.run; line = none.rest.line; since = since.run; trail = since.trail })
+split_are number input setting wave ends early later first none since (low, is_early, is_later, early_size, later_size) are line stands
+    run_is trail_is more =
+    grown_are number input setting wave ends first none since low
+    (subst (λ es. AreFirstWaves number input setting es first) is_early are) line stands run_is trail_is
+    (subst (λ es. AreWavesBehind number input (grown_setting setting) none es since) is_later more)

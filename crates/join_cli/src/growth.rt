@@ -1,0 +1,123 @@
+// A run of several waves in which each joiner splits into four behind one of them.
+
+ghost use Rattle.std.specs.Prelude.{◌≡◌, ◌+◌, ◌*◌, ◌≤◌, ◌^◌, IfOk, None, length};
+ghost use Rattle.trace_law.specs.Validity.{IsValidInput, IsValidSetting};
+ghost use Rattle.actor_core.specs.Rests.{IsRestOf};
+ghost use Rattle.elastic_grow.specs.Growth.{grown_line, grown_setting as grown_setting'};
+ghost use Rattle.join_cli.specs.GrownSteps.{AreFirstWaves, AreGrownWaves};
+ghost use Rattle.join_cli.specs.Left.{counted};
+ghost use Rattle.join_cli.specs.WaveSteps.{AreAhead, AreWavesBehind};
+ghost use Rattle.join_cli.specs.Waves.{no_rows};
+
+use crate::waves::{Waved, no_waves, through};
+use elastic_grow::grow;
+use join_plan::WaveEnd;
+use join_runtime::Trail;
+use link_trace::{Input, Rest, Run, Setting};
+use load_controller::TurnLine;
+use std::alloc::{AllocError, Global};
+use std::sync::Wait;
+use std::thread::Threads;
+use worker_gate::Gate;
+
+/// All waves of a run with a growth: those before it in one, the line with which the others begin, those in one, and
+/// what the seats of all left.
+#[derive(Drop)]
+pub(crate) struct Grown {
+    pub(crate) before: Run,
+    pub(crate) line: TurnLine,
+    pub(crate) since: Run,
+    pub(crate) trail: Trail,
+}
+
+/// The same setting with four times as many joiners.
+pub(crate) fn grown_setting(setting: &Setting) -> Setting
+    requires { setting.now.k ≤ 6 }
+    ensures { result ≡ grown_setting' setting.now }
+{
+    Setting {
+        k: setting.k + 2,
+        ..*setting
+    }
+}
+
+/// What waves left, with each joiner split into four.
+fn grown_rest(
+    alloc: Global,
+    rest: Rest,
+    input: &Input,
+    setting: &Setting,
+) -> Result<Rest, AllocError>
+    requires setting { IsValidSetting setting.now }
+    requires k { setting.now.k ≤ 6 }
+    requires free { setting.now.fixed ≡ None }
+    requires rest { IsRestOf input.now setting.now rest }
+    ensures line { IfOk result (λ grown.
+        grown.line ≡ grown_line setting.now.weights setting.now.k rest.line) }
+    ensures rest { IfOk result (λ grown. IsRestOf input.now (grown_setting' setting.now) grown) }
+{
+    grow(alloc, rest, setting.weights, &input.theta)
+}
+
+/// The waves up to these ends, the first of which begins with no rows, and what they leave.
+fn first_waves<R: Threads + Wait + Sync, G: Gate + Sync>(
+    rt: &R,
+    alloc: Global,
+    number: Option<u64>,
+    input: &Input,
+    setting: &Setting,
+    ends: &[WaveEnd],
+    gate: &G,
+) -> Result<Waved, AllocError>
+    requires input { IsValidInput input.now }
+    requires setting { IsValidSetting setting.now }
+    requires ends { AreAhead input.now no_rows ends.now }
+    requires few { length ends.now ≤ 4 }
+    ensures { IfOk result (AreFirstWaves number input.now setting.now ends.now) }
+{
+    let rest = Rest::empty(alloc, setting.k, setting.fixed, &input.theta)?;
+    let run = no_waves(alloc, setting)?;
+    let trail = Trail::new(alloc);
+    let none = Waved { run, trail, rest };
+    through(rt, alloc, number, none, input, setting, ends, gate)
+}
+
+/// The waves up to these ends, with a growth behind so many of them. Want of memory is told also where there are fewer.
+pub(crate) fn grown_waves<R: Threads + Wait + Sync, G: Gate + Sync>(
+    rt: &R,
+    alloc: Global,
+    number: Option<u64>,
+    wave: u32,
+    input: &Input,
+    setting: &Setting,
+    ends: &[WaveEnd],
+    gate: &G,
+) -> Result<Grown, AllocError>
+    requires input { IsValidInput input.now }
+    requires setting { IsValidSetting setting.now }
+    requires k { setting.now.k ≤ 6 }
+    requires free { setting.now.fixed ≡ None }
+    requires ends { AreAhead input.now no_rows ends.now }
+    requires few { length ends.now ≤ 4 }
+    ensures { IfOk result (AreGrownWaves number input.now setting.now wave ends.now) }
+{
+    let Some((early, later)) = ends.split_at_checked(wave as usize) else {
+        return Err(AllocError);
+    };
+    let first = first_waves(rt, alloc, number, input, setting, early, gate)?;
+    let rest = grown_rest(alloc, first.rest, input, setting)?;
+    let line = rest.line;
+    let setting = grown_setting(setting);
+    let none = Waved {
+        run: no_waves(alloc, &setting)?,
+        trail: first.trail,
+        rest,
+    };
+    let since = through(rt, alloc, number, none, input, &setting, later, gate)?;
+    Ok(Grown {
+        before: first.run,
+        line,
+        since: since.run,
+        trail: since.trail,
+    })
+}

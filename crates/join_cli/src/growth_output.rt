@@ -1,0 +1,163 @@
+// The output of a run of several waves with a growth.
+
+ghost use Rattle.std.specs.Prelude.{◌≡◌, ◌≢◌, ◌+◌, ◌<◌, ◌≤◌, ◌++◌, ◌^◌, [], IfOk, None, Some, false, length};
+ghost use Rattle.join_rows.specs.declared.table.Side.TheVariants.{R as R', S as S'};
+ghost use Rattle.trace_law.specs.Join.{row_count};
+ghost use Rattle.trace_law.specs.Validity.{IsValidInput, IsValidSetting};
+ghost use Rattle.join_report.specs.Report.{AreWithin};
+ghost use Rattle.join_words.specs.Words.{asked};
+ghost use Rattle.join_plan.specs.declared.fitting.Planned.{Planned as Planned'};
+ghost use Rattle.join_cli.specs.Ends.{IsMade, course_of};
+ghost use Rattle.join_cli.specs.Grown.{bare_grown_report_of, grown_shape, placed_at};
+ghost use Rattle.join_cli.specs.Plan.{input_of, setting_of};
+ghost use Rattle.join_cli.specs.WaveSteps.{AreAhead};
+ghost use Rattle.join_cli.specs.WaveTexts.{lines_of};
+ghost use Rattle.join_cli.specs.Waves.{no_rows};
+
+use crate::growth::{Grown, grown_waves};
+use crate::outcome::Outcome;
+use crate::output::{Joined, bytes_of};
+use crate::wave_output::lines;
+use crate::waves::journal_of_both;
+use grid_map::{Shape, Weights, copies};
+use join_plan::WaveEnd;
+use join_report::grown_report_text;
+use join_rows::Bytes;
+use join_words::Options;
+use link_trace::{Input, Setting};
+use load_controller::TurnLine;
+use std::alloc::{AllocError, Global};
+use std::sync::Wait;
+use std::thread::Threads;
+use worker_gate::Gate;
+
+/// How many tuples the joiners of a grid of this shape have stored together at this line.
+fn placed(shape: Shape, line: TurnLine) -> u64
+    requires shift { shape.shift ≤ shape.k }
+    requires k { shape.k ≤ 8 }
+    requires rows_r { line.rows_r ≤ 2 ^ 32 }
+    requires rows_s { line.rows_s ≤ 2 ^ 32 }
+    ensures { result ≡ placed_at shape line }
+{
+    copies(shape, Weights { r: 1, s: 1 }, line.rows_r, line.rows_s)
+}
+
+/// The report over both grids where it is asked for, and else no bytes.
+fn report_of_both(
+    alloc: Global,
+    options: &Options<'_>,
+    input: &Input,
+    setting: &Setting,
+    grown: &Grown,
+) -> Result<Bytes, AllocError>
+    requires input { IsValidInput input.now }
+    requires setting { IsValidSetting setting.now }
+    requires k { setting.now.k ≤ 6 }
+    requires shift { grown.now.line.shift ≤ setting.now.k + 2 }
+    requires rows_r { grown.now.line.rows_r ≤ 2 ^ 32 }
+    requires rows_s { grown.now.line.rows_s ≤ 2 ^ 32 }
+    requires before { AreWithin setting.now.k grown.now.before.journal }
+    requires since { AreWithin (setting.now.k + 2) grown.now.since.journal }
+    requires steps { length grown.now.before.moved + length grown.now.since.moved < 2 ^ 32 }
+    ensures { IfOk result (λ lines. lines ≡ bare_grown_report_of options.now.report setting.now
+        (row_count input.now R') (row_count input.now S')
+        grown.now.before grown.now.line grown.now.since) }
+{
+    if !options.report {
+        return Ok(Bytes::new(alloc));
+    }
+    let shape = Shape {
+        k: setting.k + 2,
+        shift: grown.line.shift,
+    };
+    let rows_r = input.table_r.rows.len();
+    let rows_s = input.table_s.rows.len();
+    let stored = placed(shape, grown.line);
+    let text = grown_report_text(
+        alloc,
+        setting,
+        rows_r,
+        rows_s,
+        &grown.before,
+        shape,
+        stored,
+        &grown.since,
+    )?;
+    Ok(bytes_of(text))
+}
+
+/// The lines of all waves' pairs, and then the report where it is asked for.
+fn text_of_both(
+    alloc: Global,
+    options: &Options<'_>,
+    input: &Input,
+    setting: &Setting,
+    grown: &Grown,
+) -> Result<Bytes, AllocError>
+    requires input { IsValidInput input.now }
+    requires setting { IsValidSetting setting.now }
+    requires k { setting.now.k ≤ 6 }
+    requires shift { grown.now.line.shift ≤ setting.now.k + 2 }
+    requires rows_r { grown.now.line.rows_r ≤ 2 ^ 32 }
+    requires rows_s { grown.now.line.rows_s ≤ 2 ^ 32 }
+    requires before { AreWithin setting.now.k grown.now.before.journal }
+    requires since { AreWithin (setting.now.k + 2) grown.now.since.journal }
+    requires steps { length grown.now.before.moved + length grown.now.since.moved < 2 ^ 32 }
+    ensures { IfOk result (λ text. text
+        ≡ (lines_of options.now.rows input.now grown.now.before.pairs
+        ++ lines_of options.now.rows input.now grown.now.since.pairs)
+        ++ bare_grown_report_of options.now.report setting.now
+        (row_count input.now R') (row_count input.now S')
+        grown.now.before grown.now.line grown.now.since) }
+{
+    let mut text = lines(alloc, options, input, grown.before.pairs.as_slice())?;
+    let since = lines(alloc, options, input, grown.since.pairs.as_slice())?;
+    text.append(since.as_slice())?;
+    let report = report_of_both(alloc, options, input, setting, grown)?;
+    text.append(report.as_slice())?;
+    Ok(text)
+}
+
+/// The output that the options ask for of an input, with this setting, whose waves end there, with a growth behind so
+/// many of them.
+pub(crate) fn grown_output<R: Threads + Wait + Sync, G: Gate + Sync>(
+    rt: &R,
+    alloc: Global,
+    options: &Options<'_>,
+    wave: u32,
+    input: &Input,
+    ends: &[WaveEnd],
+    setting: &Setting,
+    gate: &G,
+) -> Result<Joined, AllocError>
+    requires input { IsValidInput input.now }
+    requires setting { IsValidSetting setting.now }
+    requires is { setting.now ≡ setting_of (asked options.now) }
+    requires ends { AreAhead input.now no_rows ends.now }
+    requires few { length ends.now ≤ 4 }
+    requires later { options.now.later.items ≢ [] }
+    requires grow { options.now.grow ≡ Some wave }
+    requires k { options.now.k ≤ 6 }
+    requires free { options.now.fixed ≡ None }
+    requires single { options.now.groups ≡ None }
+    requires whole { options.now.chain ≡ None }
+    requires queued { options.now.rings ≡ false }
+    ensures { IfOk result
+        (λ joined. (planned : Planned') → input.now ≡ input_of options.now.seed planned
+        → planned.ends ≡ ends.now
+        → IsMade (asked options.now) planned joined.text (course_of joined.done)) }
+{
+    let grown = grown_waves(rt, alloc, options.replay, wave, input, setting, ends, gate)?;
+    let text = text_of_both(alloc, options, input, setting, &grown)?;
+    let Grown {
+        before,
+        since,
+        trail,
+        ..
+    } = grown;
+    let journal = journal_of_both(before.journal, &since.journal)?;
+    Ok(Joined {
+        text,
+        done: Outcome::Done { journal, trail },
+    })
+}

@@ -1,0 +1,307 @@
+// The waves of a run, one after the other.
+
+ghost use Rattle.std.specs.Prelude.{◌≡◌, ◌++◌, ◌+◌, ◌*◌, ◌≤◌, ◌^◌, IfOk, OnOk, length, replicate};
+ghost use Rattle.trace_law.specs.Validity.{IsValidInput, IsValidSetting};
+ghost use Rattle.trace_law.specs.Runs.{IsRunOf};
+ghost use Rattle.load_controller.specs.Journal.{last_line};
+ghost use Rattle.actor_core.specs.Rests.{IsRestOf, IsUpto, rest_of, upto};
+ghost use Rattle.join_cli.specs.WaveSteps.{AreAhead, AreAllWaves, AreWavesBehind, IsWaveBehind};
+ghost use Rattle.join_cli.specs.Left.{counted};
+ghost use Rattle.join_cli.specs.WaveTexts.{no_waves as no_waves', sums_of, with_wave};
+ghost use Rattle.join_cli.specs.Waves.{IsWaveInThreads, IsWaveReplayed, WaveWentAs, no_rows, upto_of};
+
+use epoch_tags::{Counts, Pairs};
+use join_plan::WaveEnd;
+use join_runtime::{Trail, WaveTold, run_wave};
+use link_trace::{Input, Rest, Run, Setting, Upto, WaveRun, replay_wave};
+use load_controller::Journal;
+use pair_collector::Loads;
+use std::alloc::{AllocError, Global};
+use std::sync::Wait;
+use std::thread::Threads;
+use worker_gate::Gate;
+
+/// Some waves in one: what they answer, what their seats left, and what the last of them leaves for the next.
+#[derive(Drop)]
+pub(crate) struct Waved {
+    pub(crate) run: Run,
+    pub(crate) trail: Trail,
+    pub(crate) rest: Rest,
+}
+
+/// A replay of the wave that goes on from this rest, with this number.
+fn replayed<R: Wait>(
+    rt: &R,
+    alloc: Global,
+    rest: Rest,
+    input: &Input,
+    setting: &Setting,
+    end: Upto,
+    seed: u64,
+) -> Result<Waved, AllocError>
+    requires input { IsValidInput input.now }
+    requires setting { IsValidSetting setting.now }
+    requires end { IsUpto rest.line end input.now }
+    requires rest { IsRestOf input.now setting.now rest }
+    requires epoch { rest.line.epoch ≤ 2 ^ 31 }
+    ensures run { IfOk result (λ wave. IsRunOf (upto end input.now) setting.now rest.line
+        wave.run.journal wave.run) }
+    ensures went { IfOk result (λ wave. IsWaveReplayed (upto end input.now) setting.now
+        (rest_of rest) seed wave.run.journal wave.trail) }
+    ensures line { IfOk result (λ wave. wave.rest.line ≡ last_line rest.line wave.run.journal) }
+    ensures rest { IfOk result (λ wave. IsRestOf input.now setting.now wave.rest) }
+{
+    let WaveRun { run, rest } = replay_wave(rt, alloc, rest, input, setting, end, seed)?;
+    let trail = Trail::new(alloc);
+    Ok(Waved { run, trail, rest })
+}
+
+/// A run of that wave in threads.
+fn threaded<R: Threads + Wait + Sync, G: Gate + Sync>(
+    rt: &R,
+    alloc: Global,
+    rest: Rest,
+    input: &Input,
+    setting: &Setting,
+    end: Upto,
+    gate: &G,
+) -> Result<Waved, AllocError>
+    requires input { IsValidInput input.now }
+    requires setting { IsValidSetting setting.now }
+    requires end { IsUpto rest.line end input.now }
+    requires rest { IsRestOf input.now setting.now rest }
+    requires epoch { rest.line.epoch ≤ 2 ^ 31 }
+    ensures run { IfOk result (λ wave. IsRunOf (upto end input.now) setting.now rest.line
+        wave.run.journal wave.run) }
+    ensures went { IfOk result (λ wave. IsWaveInThreads (upto end input.now) setting.now
+        (rest_of rest) wave.run.journal wave.trail) }
+    ensures line { IfOk result (λ wave. wave.rest.line ≡ last_line rest.line wave.run.journal) }
+    ensures rest { IfOk result (λ wave. IsRestOf input.now setting.now wave.rest) }
+{
+    let WaveTold { wave, ends } = run_wave(rt, alloc, rest, input, setting, end, gate)?;
+    let mut trail = Trail::new(alloc);
+    trail.push(ends)?;
+    Ok(Waved {
+        run: wave.run,
+        trail,
+        rest: wave.rest,
+    })
+}
+
+/// The wave that goes on from this rest: in threads, or as a replay where a number of one is given.
+fn one_wave<R: Threads + Wait + Sync, G: Gate + Sync>(
+    rt: &R,
+    alloc: Global,
+    number: Option<u64>,
+    rest: Rest,
+    input: &Input,
+    setting: &Setting,
+    end: Upto,
+    gate: &G,
+) -> Result<Waved, AllocError>
+    requires input { IsValidInput input.now }
+    requires setting { IsValidSetting setting.now }
+    requires end { IsUpto rest.line end input.now }
+    requires rest { IsRestOf input.now setting.now rest }
+    requires epoch { rest.line.epoch ≤ 2 ^ 31 }
+    ensures run { IfOk result (λ wave. IsRunOf (upto end input.now) setting.now rest.line
+        wave.run.journal wave.run) }
+    ensures went { IfOk result (λ wave. WaveWentAs number (upto end input.now) setting.now
+        (rest_of rest) wave.run.journal wave.trail) }
+    ensures line { IfOk result (λ wave. wave.rest.line ≡ last_line rest.line wave.run.journal) }
+    ensures rest { IfOk result (λ wave. IsRestOf input.now setting.now wave.rest) }
+{
+    match number {
+        Some(seed) => replayed(rt, alloc, rest, input, setting, end, seed),
+        None => threaded(rt, alloc, rest, input, setting, end, gate),
+    }
+}
+
+/// Adds up the numbers of two lists, place by place, behind these sums.
+fn add_sums(sums: &mut Counts, counts: &[u64], more: &[u64]) -> Result<(), AllocError>
+    ensures { OnOk result (sums.new ≡ sums.old ++ sums_of counts.now more.now) }
+{
+    let [count, counts @ ..] = counts else {
+        return Ok(());
+    };
+    let [other, more @ ..] = more else {
+        return Ok(());
+    };
+    let Some(sum) = count.checked_add(*other) else {
+        return Err(AllocError);
+    };
+    sums.push(sum)?;
+    add_sums(sums, counts, more)
+}
+
+/// The numbers of two lists added up, place by place. Want of memory is told also where a sum doesn't fit 64 bits.
+fn sums(alloc: Global, counts: &Counts, more: &Counts) -> Result<Counts, AllocError>
+    ensures { IfOk result (λ sums. sums ≡ sums_of counts.now more.now) }
+{
+    let mut sums = Counts::new(alloc);
+    add_sums(&mut sums, counts.as_slice(), more.as_slice())?;
+    Ok(sums)
+}
+
+/// Some pairs, and more behind them.
+fn pairs_of_both(pairs: Pairs, more: &Pairs) -> Result<Pairs, AllocError>
+    ensures { IfOk result (λ both. both ≡ pairs ++ more.now) }
+{
+    let mut both = pairs.into_vec();
+    both.extend_from_slice(more.as_slice())?;
+    Ok(Pairs::from_vec(both))
+}
+
+/// Some numbers, and more behind them.
+fn counts_of_both(counts: Counts, more: &Counts) -> Result<Counts, AllocError>
+    ensures { IfOk result (λ both. both ≡ counts ++ more.now) }
+{
+    let mut both = counts.into_vec();
+    both.extend_from_slice(more.as_slice())?;
+    Ok(Counts::from_vec(both))
+}
+
+/// A journal, and another behind it.
+pub(crate) fn journal_of_both(journal: Journal, more: &Journal) -> Result<Journal, AllocError>
+    ensures { IfOk result (λ both. both ≡ journal ++ more.now) }
+{
+    let mut both = journal.into_vec();
+    both.extend_from_slice(more.as_slice())?;
+    Ok(Journal::from_vec(both))
+}
+
+/// Some waves and the next in one.
+fn run_of_both(alloc: Global, before: Run, next: Run) -> Result<Run, AllocError>
+    ensures { IfOk result (λ both. both ≡ with_wave before next) }
+{
+    let pairs = pairs_of_both(before.pairs, &next.pairs)?;
+    let made = sums(alloc, &before.made, &next.made)?;
+    let moved = counts_of_both(before.moved, &next.moved)?;
+    let journal = journal_of_both(before.journal, &next.journal)?;
+    Ok(Run {
+        pairs,
+        made,
+        loads: next.loads,
+        moved,
+        journal,
+        bouts: 0,
+    })
+}
+
+/// Some ends, and more behind them.
+fn trail_of_both(trail: Trail, more: Trail) -> Result<Trail, AllocError>
+    ensures { IfOk result (λ both. both ≡ trail ++ more) }
+{
+    let mut both = trail;
+    for ends in more.into_vec() {
+        both.push(ends)?;
+    }
+    Ok(both)
+}
+
+/// These waves and the next, which goes on from what they left.
+fn next_wave<R: Threads + Wait + Sync, G: Gate + Sync>(
+    rt: &R,
+    alloc: Global,
+    number: Option<u64>,
+    before: Waved,
+    input: &Input,
+    setting: &Setting,
+    end: &WaveEnd,
+    gate: &G,
+) -> Result<Waved, AllocError>
+    requires input { IsValidInput input.now }
+    requires setting { IsValidSetting setting.now }
+    requires end { IsUpto before.rest.line (upto_of end.now) input.now }
+    requires rest { IsRestOf input.now setting.now before.rest }
+    requires epoch { before.rest.line.epoch ≤ 2 ^ 31 }
+    ensures { IfOk result (IsWaveBehind number input.now setting.now before end.now) }
+{
+    let Waved { run, trail, rest } = before;
+    let end = Upto {
+        rows_r: end.rows_r,
+        rows_s: end.rows_s,
+    };
+    let next = one_wave(rt, alloc, number, rest, input, setting, end, gate)?;
+    Ok(Waved {
+        run: run_of_both(alloc, run, next.run)?,
+        trail: trail_of_both(trail, next.trail)?,
+        rest: next.rest,
+    })
+}
+
+/// These waves and those behind them up to these ends, each of which goes on from what the one before left.
+pub(crate) fn through<R: Threads + Wait + Sync, G: Gate + Sync>(
+    rt: &R,
+    alloc: Global,
+    number: Option<u64>,
+    before: Waved,
+    input: &Input,
+    setting: &Setting,
+    ends: &[WaveEnd],
+    gate: &G,
+) -> Result<Waved, AllocError>
+    requires input { IsValidInput input.now }
+    requires setting { IsValidSetting setting.now }
+    requires ends { AreAhead input.now (counted before.rest.line) ends.now }
+    requires rest { IsRestOf input.now setting.now before.rest }
+    requires epoch { before.rest.line.epoch + 304 * length ends.now ≤ 2 ^ 31 }
+    ensures { IfOk result (AreWavesBehind number input.now setting.now before ends.now) }
+{
+    let [end, ends @ ..] = ends else {
+        return Ok(before);
+    };
+    let after = next_wave(rt, alloc, number, before, input, setting, end, gate)?;
+    through(rt, alloc, number, after, input, setting, ends, gate)
+}
+
+/// So many zeros as there are joiners.
+fn zeros(alloc: Global, k: u32) -> Result<Counts, AllocError>
+    requires { k ≤ 8 }
+    ensures { IfOk result (λ zeros. zeros ≡ replicate (2 ^ k) 0) }
+{
+    let count = (1u32 << k) as usize;
+    Ok(Counts::from_vec(vec![in alloc; 0u64; count]?))
+}
+
+/// Before the first wave no joiner has made a pair, and nothing has moved.
+pub(crate) fn no_waves(alloc: Global, setting: &Setting) -> Result<Run, AllocError>
+    requires setting { IsValidSetting setting.now }
+    ensures { IfOk result (λ run. run ≡ no_waves' setting.now) }
+{
+    Ok(Run {
+        pairs: Pairs::new(alloc),
+        made: zeros(alloc, setting.k)?,
+        loads: Loads::new(alloc),
+        moved: Counts::new(alloc),
+        journal: Journal::new(alloc),
+        bouts: 0,
+    })
+}
+
+/// The waves up to these ends, the first of which begins with no rows.
+pub(crate) fn all_waves<R: Threads + Wait + Sync, G: Gate + Sync>(
+    rt: &R,
+    alloc: Global,
+    number: Option<u64>,
+    input: &Input,
+    setting: &Setting,
+    ends: &[WaveEnd],
+    gate: &G,
+) -> Result<Waved, AllocError>
+    requires input { IsValidInput input.now }
+    requires setting { IsValidSetting setting.now }
+    requires ends { AreAhead input.now no_rows ends.now }
+    requires few { length ends.now ≤ 4 }
+    ensures { IfOk result (λ all.
+        AreAllWaves number input.now setting.now ends.now all.run all.trail) }
+{
+    let rest = Rest::empty(alloc, setting.k, setting.fixed, &input.theta)?;
+    let run = no_waves(alloc, setting)?;
+    let none = Waved {
+        run,
+        trail: Trail::new(alloc),
+        rest,
+    };
+    through(rt, alloc, number, none, input, setting, ends, gate)
+}
