@@ -8,7 +8,7 @@ use group_split::digits;
 use join_cli::{Journals, Outcome};
 use join_words::Options;
 use journal_picture::Drawing;
-use load_controller::Journal;
+use load_controller::{Cause, Journal, TurnLine};
 use std::alloc::{AllocError, Global};
 
 /// Adds the journal of a run of 2^k joiners, of which so much is told beside their number.
@@ -18,20 +18,14 @@ fn add(
     options: &Options<'_>,
     name: &str,
     k: u32,
-    journal: &Journal,
+    journal: &[TurnLine],
 ) -> Result<(), AllocError>
     requires k { k ≤ 8 }
     requires weights { AreWeights options.now.weights }
 {
     let joiners = 1u64 << k;
     let heading = format!(in alloc; "{name}joiners: {joiners}")?;
-    drawing.add(
-        alloc,
-        heading.as_str(),
-        k,
-        options.weights,
-        journal.as_slice(),
-    )
+    drawing.add(alloc, heading.as_str(), k, options.weights, journal)
 }
 
 /// Adds the journals of the groups from this one on, with these exponents.
@@ -59,7 +53,7 @@ fn add_groups(
         options,
         name.as_str(),
         *exponent as u32,
-        journal,
+        journal.as_slice(),
     )?;
     add_groups(
         alloc,
@@ -92,6 +86,78 @@ fn add_all_groups(
     )
 }
 
+fn is_wave(line: &TurnLine) -> bool {
+    match line.cause {
+        Cause::Wave => true,
+        _ => false,
+    }
+}
+
+/// Where the wave behind so many begins in a journal, or the journal's end where there is none.
+fn begin_of(lines: &[TurnLine], waves: u32) -> usize {
+    let mut left = waves;
+    for place in 0..lines.len() {
+        if is_wave(&lines[place]) {
+            if left <= 1 {
+                return place;
+            }
+            left -= 1;
+        }
+    }
+    lines.len()
+}
+
+/// These lines as those of a run that begins with the first of them.
+fn begun(alloc: Global, lines: &[TurnLine]) -> Result<Journal, AllocError> {
+    let mut journal = Journal::new(alloc);
+    let [first, lines @ ..] = lines else {
+        return Ok(journal);
+    };
+    journal.push(TurnLine {
+        cause: Cause::Start,
+        ..*first
+    })?;
+    for &line in lines {
+        journal.push(line)?;
+    }
+    Ok(journal)
+}
+
+/// Adds the journal of joiners in one grid, in two parts where they split into four behind so many waves.
+fn add_grid(
+    alloc: Global,
+    drawing: &mut Drawing,
+    options: &Options<'_>,
+    lines: &[TurnLine],
+) -> Result<(), AllocError>
+    requires k { options.now.k ≤ 6 }
+    requires weights { AreWeights options.now.weights }
+{
+    let Some(waves) = options.grow else {
+        return add(alloc, drawing, options, "", options.k, lines);
+    };
+    let Some((before, since)) = lines.split_at_checked(begin_of(lines, waves)) else {
+        return Ok(());
+    };
+    add(
+        alloc,
+        drawing,
+        options,
+        "before the growth, ",
+        options.k,
+        before,
+    )?;
+    let since = begun(alloc, since)?;
+    add(
+        alloc,
+        drawing,
+        options,
+        "since the growth, ",
+        options.k + 2,
+        since.as_slice(),
+    )
+}
+
 /// The picture of the journals of an outcome whose output was written whole; of another there is none.
 pub(crate) fn picture(
     alloc: Global,
@@ -106,7 +172,7 @@ pub(crate) fn picture(
     let mut drawing = Drawing::new(alloc);
     match outcome {
         Outcome::Done { journal, .. } | Outcome::DoneRings { journal, .. } => {
-            add(alloc, &mut drawing, options, "", options.k, journal)?;
+            add_grid(alloc, &mut drawing, options, journal.as_slice())?;
         }
         Outcome::DoneGroups { journals, .. } => {
             let joiners = options.groups.unwrap_or(0);
@@ -119,7 +185,7 @@ pub(crate) fn picture(
                 options,
                 "first join, ",
                 options.k,
-                first,
+                first.as_slice(),
             )?;
             add(
                 alloc,
@@ -127,7 +193,7 @@ pub(crate) fn picture(
                 options,
                 "second join, ",
                 options.k,
-                second,
+                second.as_slice(),
             )?;
         }
         _ => return Ok(None),
