@@ -19,6 +19,3 @@ pub use drawing::Drawing;
 pub use laws::{each_line_has_its_point, points_stay_within};
 pub use place::height;
 pub use point::{Point, points};
-
-#[cfg(test)]
-mod tests;

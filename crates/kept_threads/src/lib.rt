@@ -11,6 +11,3 @@ mod worker;
 pub use pool::Pool;
 pub use signal::Signals;
 pub use task::Task;
-
-#[cfg(test)]
-mod tests;

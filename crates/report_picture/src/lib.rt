@@ -16,6 +16,3 @@ pub use error::ReportError;
 pub use read::read_report;
 pub use report::{Growth, Joiner, Report, Step};
 pub use svg::picture;
-
-#[cfg(test)]
-mod tests;

@@ -6,6 +6,3 @@ mod feeder;
 mod sending;
 
 pub use feeder::Feeder;
-
-#[cfg(test)]
-mod tests;

@@ -84,8 +84,8 @@ fn take_between(slots: &mut [Option<RingIn>], low: usize, high: usize) -> Option
 }
 
 impl Inlets {
-    // So many places for ends, with none there.
-    pub(crate) fn new(alloc: Global, count: u32) -> Result<Inlets, AllocError>
+    /// So many places for ends, with none there.
+    pub fn new(alloc: Global, count: u32) -> Result<Inlets, AllocError>
         ensures none { IfOk result (λ inlets. (n : ℕ) → slice_index_or inlets n None ≡ None) }
         ensures places { IfOk result (λ inlets. length inlets ≡ count) }
     {

@@ -17,9 +17,8 @@ mod wiring;
 
 pub use bouts::{RingSeats, ring_bout};
 pub use ends::{RingEnd, RingEnds, RingRun};
+pub use inlets::Inlets;
+pub use outlets::Outlets;
 pub use ring_links::{Outlet, RingIn, RingOut, beside, ring};
 pub use runs::ring_run;
 pub use seat::{RingSeat, RingStep};
-
-#[cfg(test)]
-mod tests;

@@ -114,8 +114,8 @@ fn add_to(slots: &mut Vec<Option<Outlet>>, place: usize, msg: Msg) -> Result<(),
 }
 
 impl Outlets {
-    // So many places for outlets, with none there.
-    pub(crate) fn new(alloc: Global, count: u32) -> Result<Outlets, AllocError>
+    /// So many places for outlets, with none there.
+    pub fn new(alloc: Global, count: u32) -> Result<Outlets, AllocError>
         ensures none { IfOk result (λ outlets. (n : ℕ) → slice_index_or outlets n None ≡ None) }
         ensures places { IfOk result (λ outlets. length outlets ≡ count) }
     {

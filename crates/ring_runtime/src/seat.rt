@@ -120,8 +120,8 @@ fn open(
 }
 
 impl<'a> RingSeat<'a> {
-    // A seat that has had no turn.
-    pub(crate) fn new(
+    /// A seat that has had no turn, of an actor of a run with so many joiners and feeders.
+    pub fn new(
         alloc: Global,
         joiners: u32,
         feeders: u32,
@@ -153,16 +153,17 @@ impl<'a> RingSeat<'a> {
         }
     }
 
-    // Gets the end of the ring from the actor of this number.
-    pub(crate) fn put_in(&mut self, place: usize, inn: RingIn) -> Result<(), AllocError>
+    /// Gets the end of the ring from the actor of this number: the feeders from 0, then the joiners, the
+    /// controller and the collector. AllocError where there is no such place.
+    pub fn put_in(&mut self, place: usize, inn: RingIn) -> Result<(), AllocError>
         ensures { OnOk result ((place < length self.old.ins)
             × (self.new ≡ record self.old { ins = slice_set self.old.ins place (Some inn) })) }
     {
         self.ins.put(place, inn)
     }
 
-    // Gets the outlet to the actor of this number.
-    pub(crate) fn put_out(&mut self, place: usize, outlet: Outlet) -> Result<(), AllocError>
+    /// Gets the outlet to the actor of this number, counted so. AllocError where there is no such place.
+    pub fn put_out(&mut self, place: usize, outlet: Outlet) -> Result<(), AllocError>
         ensures { OnOk result ((place < length self.old.outs)
             × (self.new ≡ record self.old { outs = slice_set self.old.outs place (Some outlet) })) }
     {

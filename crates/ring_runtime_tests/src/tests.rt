@@ -1,4 +1,5 @@
 mod runs;
+mod turns;
 
 use grid_map::Weights;
 use join_rows::{Bytes, Cell, Cells, Names, Rows, Table};

@@ -13,6 +13,3 @@ pub use dealing::standing_at;
 pub use gate::{Gate, NoGate, Spot};
 pub use pair::PairGate;
 pub use progress::{ProgressGate, Screen};
-
-#[cfg(test)]
-mod tests;

@@ -1,11 +1,11 @@
 ghost use Rattle.std.specs.Prelude.{◌<◌};
 
-use crate::{CountingGate, Gate, NoGate, PairGate, ProgressGate, Screen, Spot, standing_at};
 use epoch_tags::Actor;
 use std::sync::atomic::{AtomicU64, Ordering};
 use std::test::*;
 use std::thread;
 use std::thread::Threads;
+use worker_gate::{CountingGate, Gate, NoGate, PairGate, ProgressGate, Screen, Spot, standing_at};
 
 fn spot(actor: Actor, turn: u64) -> Spot {
     Spot { actor, turn }

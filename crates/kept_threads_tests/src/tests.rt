@@ -1,6 +1,6 @@
 ghost use Rattle.std.specs.Prelude.{◌≡◌, ◌+◌, ◌%◌, ◌^◌};
 
-use crate::{Pool, Signals, Task};
+use kept_threads::{Pool, Signals, Task};
 use std::alloc::{AllocError, Global};
 use std::marker::Sync;
 use std::sync::{Barrier, Wait};

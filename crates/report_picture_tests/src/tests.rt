@@ -1,4 +1,4 @@
-use crate::{ReportError, picture, read_report};
+use report_picture::{ReportError, picture, read_report};
 use std::test::Fail;
 
 // Two joiners that go from one column to two.

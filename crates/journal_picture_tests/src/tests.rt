@@ -1,5 +1,7 @@
-use crate::{Drawing, Greatest, greatest_heights, height, points, steps, stretches, waves};
 use grid_map::Weights;
+use journal_picture::{
+    Drawing, Greatest, greatest_heights, height, points, steps, stretches, waves,
+};
 use load_controller::{Cause, TurnLine};
 use std::test::Fail;
 

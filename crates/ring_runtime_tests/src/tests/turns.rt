@@ -1,20 +1,31 @@
-use crate::inlets::Inlets;
-use crate::outlets::Outlets;
-use crate::*;
+// Two seats alone, turn by turn.
+
 use actor_core::Core;
 use epoch_tags::{Actor, Tuples};
 use grid_map::Weights;
 use load_controller::Controller;
 use reshuffler_core::Feeder;
+use ring_runtime::{Inlets, Outlet, Outlets, RingSeat, RingStep, ring};
 use std::alloc::{AllocError, Global};
 use std::test::*;
 use worker_gate::NoGate;
 
-// The seat of an actor of a run with one joiner and one feeder.
-fn seat<'a>(alloc: Global, actor: Actor, core: Core<'a>) -> Result<RingSeat<'a>, AllocError> {
+// Places for the ends of four actors.
+fn ends(alloc: Global) -> Result<(Inlets, Outlets), AllocError> {
     let ins = Inlets::new(alloc, 4)?;
     let outs = Outlets::new(alloc, 4)?;
-    Ok(RingSeat::new(alloc, 1, 1, actor, core, ins, outs))
+    Ok((ins, outs))
+}
+
+// The seat of an actor of a run with one joiner and one feeder.
+fn seat<'a>(alloc: Global, actor: Actor, core: Core<'a>) -> Result<RingSeat<'a>, AllocError> {
+    match ends(alloc) {
+        Ok((ins, outs)) => Ok(RingSeat::new(alloc, 1, 1, actor, core, ins, outs)),
+        Err(refused) => {
+            drop(core);
+            Err(refused)
+        }
+    }
 }
 
 fn feeder<'a>(alloc: Global) -> Result<RingSeat<'a>, AllocError> {
@@ -70,20 +81,26 @@ fn play(feeder: &mut RingSeat, controller: &mut RingSeat) -> [[Option<RingStep>;
     ]
 }
 
-// The same of a feeder and a controller that are joined first. Each function has one seat of its own: to drop two is dear
-// to prove.
+// The same of a feeder and a controller that are joined first. Each function has one seat of its own, and drops it by a
+// call.
 fn play_with_controller(
     alloc: Global,
     feeder: &mut RingSeat,
 ) -> Result<[[Option<RingStep>; 3]; 4], AllocError> {
     let mut controller = controller(alloc)?;
-    join_both(alloc, feeder, &mut controller)?;
-    Ok(play(feeder, &mut controller))
+    let played = match join_both(alloc, feeder, &mut controller) {
+        Ok(()) => Ok(play(feeder, &mut controller)),
+        Err(refused) => Err(refused),
+    };
+    drop(controller);
+    played
 }
 
 fn play_two_seats(alloc: Global) -> Result<[[Option<RingStep>; 3]; 4], AllocError> {
     let mut feeder = feeder(alloc)?;
-    play_with_controller(alloc, &mut feeder)
+    let played = play_with_controller(alloc, &mut feeder);
+    drop(feeder);
+    played
 }
 
 // The last turns end in an error, since what the feeder then sends to the joiner has no ring.
