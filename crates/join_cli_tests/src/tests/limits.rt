@@ -15,7 +15,25 @@ fn file(alloc: Global, header: &str, line: &str, count: usize) -> Result<String,
     Ok(text)
 }
 
-// A run over so many of these lines in the file of R and in that of S ends so.
+// A run of these words over so many of these lines in the file of R and in that of S ends so.
+fn takes_over<R: Abort + Threads + Wait + Sync>(
+    rt: &R,
+    alloc: Global,
+    line: &str,
+    of_r: (&str, usize),
+    of_s: (&str, usize),
+    status: u8,
+    told: &str,
+) -> Result<(), AllocError> {
+    let r = file(alloc, "a\n", of_r.0, of_r.1)?;
+    let s = file(alloc, "b\n", of_s.0, of_s.1)?;
+    let calls = (NEVER, NEVER, NEVER);
+    let same = ends(rt, alloc, line, (&r, &s), calls, (status, told, ""))?;
+    assert!(rt; same, "for {told}");
+    Ok(())
+}
+
+// The same of one wave.
 fn takes<R: Abort + Threads + Wait + Sync>(
     rt: &R,
     alloc: Global,
@@ -24,13 +42,7 @@ fn takes<R: Abort + Threads + Wait + Sync>(
     status: u8,
     told: &str,
 ) -> Result<(), AllocError> {
-    let r = file(alloc, "a\n", of_r.0, of_r.1)?;
-    let s = file(alloc, "b\n", of_s.0, of_s.1)?;
-    let line = "jm|--on|r.a = s.b|r|s";
-    let calls = (NEVER, NEVER, NEVER);
-    let same = ends(rt, alloc, line, (&r, &s), calls, (status, told, ""))?;
-    assert!(rt; same, "for {told}");
-    Ok(())
+    takes_over(rt, alloc, "jm|--on|r.a = s.b|r|s", of_r, of_s, status, told)
 }
 
 #[test]
@@ -52,5 +64,19 @@ fn takes_so_many_rows(rt: HostRuntime) -> Result<(), Fail> {
     takes(&rt, alloc, ("1\n", 262_145), ("", 0), 5, told)?;
     let told = "limit: S has more than 262144 rows\n";
     takes(&rt, alloc, ("", 0), ("1\n", 262_145), 5, told)?;
+    Ok(())
+}
+
+// The files of later waves are those of the first once more.
+#[test]
+fn takes_so_many_rows_in_all(rt: HostRuntime) -> Result<(), Fail> {
+    let alloc = rt.alloc();
+    let two = "jm|--on|r.a = s.b|r|s|r|s";
+    takes_over(&rt, alloc, two, ("1\n", 131_072), ("", 0), 0, "")?;
+    let told = "limit: R2 has 262146 rows in all\n";
+    takes_over(&rt, alloc, two, ("1\n", 131_073), ("", 0), 5, told)?;
+    let three = "jm|--on|r.a = s.b|r|s|r|s|r|s";
+    let told = "limit: S3 has 262146 rows in all\n";
+    takes_over(&rt, alloc, three, ("", 0), ("1\n", 87_382), 5, told)?;
     Ok(())
 }
