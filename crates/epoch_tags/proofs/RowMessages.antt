@@ -6,6 +6,7 @@ use Rattle.epoch_tags.specs.declared.message.ToJoiner.{ToJoiner}
 use Rattle.epoch_tags.specs.declared.message.ToJoiner.TheVariants.{Tup, Turn, End, Moved, MovedEnd}
 use Rattle.epoch_tags.specs.Messages.{tups_of}
 
+-- of two lists end to end they are those in the first, and then those in the second
 pub tups_of-append : (e : ℕ) (xs ys : List ToJoiner) → tups_of e (xs ++ ys) ≡ tups_of e xs ++ tups_of e ys
 tups_of-append e [] ys = refl
 tups_of-append e (Tup x ∷ xs) ys = either (x.stamp == e) (tups_of-append e xs ys)

@@ -39,6 +39,7 @@ rows_only width number (row ∷ rows) why h = by (nat_lt (2 ^ 18) number) (lengt
     by false false p s more = let e : fault.Width number (length row) ≡ why = cc (rw (p, s) at h) in
         subst IsOfRecords e tt
 
+-- what is wrong with a list of records is never a failed read, too many bytes, or a want of memory
 pub only-form : (all : List (List (List ℕ))) (e : TableFault) → table_of_records all ≡ Err e → IsOfRecords e
 unfolding table_of_records
 only-form [] e h = let same : fault.NoHeader ≡ e = cc h in subst IsOfRecords same tt
@@ -49,14 +50,17 @@ only-form (names ∷ rows) e h = by (fault_of_rows (length names) 1 rows) refl
     by (Some why) q = let same : why ≡ e = cc (rw q at h) in
         subst IsOfRecords same (rows_only (length names) 1 rows why q)
 
+-- the table of a file within the limit of bytes is that of its records
 pub short-table : (file : List ℕ) → length file ≤ 2 ^ 24 → table_of file ≡ table_of_records (records_of file)
 unfolding table_of
 short-table file h = let t : nat_lt (2 ^ 24) (length file) ≡ false = grind arith in rw t refl
 
+-- a file past the limit of bytes is too long, whatever its records are
 pub long-table : (file : List ℕ) → 2 ^ 24 < length file → table_of file ≡ Err fault.TooLong
 unfolding table_of
 long-table file h = let t : nat_lt (2 ^ 24) (length file) ≡ true = grind arith in rw t refl
 
+-- a told file that isn't read whole, while no call failed, is refused for want of memory or for the fault it has
 pub fault-answers : (told : Told) (name : List ℕ) (old new : ℕ) (spot : Spot) (e : TableFault)
     → WholeErr told name old new spot e
     → (file : List ℕ) → Tells told name file → new ≡ old → (refused e ≡ refused fault.Memory)
@@ -74,6 +78,7 @@ fault-answers told name old new spot fault.Memory w file t s = inl refl
 abbrev pub TableIn : List ℕ → Result Table TableFault → Type 0
 TableIn bytes r = (r ≡ Err fault.Memory) ⊎ (r ≡ table_of_records (records_of bytes))
 
+-- the table in bytes is refused for want of memory, or for what is wrong with its records
 pub table-not : (bytes : List ℕ) (r : Result Table TableFault) (e : TableFault) → TableIn bytes r → r ≡ Err e
     → (e ≡ fault.Memory) ⊎ IsOfRecords e
 table-not bytes r e t h = elim t [
@@ -81,6 +86,7 @@ table-not bytes r e t h = elim t [
   | inr f ↦ inr (only-form (records_of bytes) e (sym f ∙ h))
 ]
 
+-- of a told file that was read whole the answer is the file's own, or a want of memory
 pub bytes-answer : (told : Told) (name : List ℕ) (old new : ℕ) (spot : Spot) (bytes : List ℕ)
     (r : Result Table TableFault) → WholeOk told name old new spot bytes → TableIn bytes r
     → (file : List ℕ) → Tells told name file → (r ≡ Err fault.Memory) ⊎ (r ≡ table_of file)
@@ -92,6 +98,7 @@ bytes-answer told name old new spot bytes r w t file tells = elim t [
       inr (f ∙ ap (λ x. table_of_records (records_of x)) same ∙ sym (short-table file few))
 ]
 
+-- after a whole read the answer is a failed read just if a call failed or there is no such file, so never
 pub bytes-read : (told : Told) (name : List ℕ) (old new : ℕ) (spot : Spot) (bytes : List ℕ)
     (r : Result Table TableFault) → WholeOk told name old new spot bytes → TableIn bytes r
     → (r ≡ Err fault.Read → (old < new) ⊎ Lacks told name) × ((old < new) ⊎ Lacks told name → r ≡ Err fault.Read)
@@ -100,6 +107,7 @@ bytes-read told name old new spot bytes r w t = (
   λ h. elim h [ inl rose ↦ absurd (omega (arith, rose, w.0)) | inr lacks ↦ absurd (w.1 lacks) ],
 )
 
+-- and the shelf stands in that file, past the limit just where the answer is that it is too long, memory aside
 pub bytes-place : (told : Told) (name : List ℕ) (old new : ℕ) (spot : Spot) (bytes : List ℕ)
     (r : Result Table TableFault) → WholeOk told name old new spot bytes → TableIn bytes r
     → (place : ℕ) × (spot ≡ Some (name, place)) × (place ≤ 2 ^ 24 + 1) × (r ≡ Err fault.TooLong → 2 ^ 24 < place)

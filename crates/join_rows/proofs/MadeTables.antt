@@ -10,6 +10,7 @@ use Rattle.join_rows.specs.Made.{made_fields, made_names, made_table}
 use Rattle.join_rows.specs.Records.{HasItsNumber, IsTable, cells_of}
 use Rattle.join_rows.proofs.Shapes.{cells_numbers}
 
+-- of up to 2^16 rows it is: named, of one width, within the limit, with the number of each cell's text
 pub made-shape : (side : Side) (count : ℕ) → count ≤ 2 ^ 16 → IsTable (made_table side count)
 made-shape side count few =
     let row = λ (place : ℕ). cells_of (made_fields side place) in

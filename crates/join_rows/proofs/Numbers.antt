@@ -125,7 +125,8 @@ reads_test : (numeral after : List ℕ) → reads numeral after ≡ true
 reads_test numeral after h =
     let spaces : Bool = spaces_at after == length after in
     let digits : Bool = is_numeral (without_leading_sign numeral) in
-    let front : (spaces && digits) ≡ true = cut_left (spaces && digits) (fits_i64 (signed_digits_value 10 numeral)) h in (
+    let front : (spaces && digits) ≡ true =
+    cut_left (spaces && digits) (fits_i64 (signed_digits_value 10 numeral)) h in (
       grind (arith, cut_left spaces digits front),
       numeral_test (without_leading_sign numeral) (cut_right spaces digits front),
       fits_test (signed_digits_value 10 numeral) (cut_right (spaces && digits)
@@ -155,6 +156,8 @@ not_read numeral after never = by (reads numeral after) refl
     by false e = e
 
 -- the three ways in which a text is refused or read
+
+-- refused: behind the bytes up to the next space stand other bytes than spaces
 pub number-unspaced : (text rest numeral after : List ℕ) → rest ≡ drop (spaces_at text) text
     → numeral ≡ take (others_at rest) rest → after ≡ drop (others_at rest) rest
     → spaces_at after ≢ length after → None ≡ number_of text
@@ -162,6 +165,7 @@ number-unspaced text rest numeral after er en ea other =
     let no = not_read numeral after (λ yes. other (reads_test numeral after yes).0) in
     sym (parts_are text rest numeral after er en ea ∙ ap (λ (b : Bool). number_if b numeral) no)
 
+-- refused: the bytes up to the next space aren't UTF-8
 pub number-strange : (text rest numeral after : List ℕ) → rest ≡ drop (spaces_at text) text
     → numeral ≡ take (others_at rest) rest → after ≡ drop (others_at rest) rest
     → ¬ (IsUtf8 numeral) → None ≡ number_of text
@@ -169,6 +173,7 @@ number-strange text rest numeral after er en ea strange =
     let no = not_read numeral after (λ yes. strange (numeral-utf8 numeral (reads_test numeral after yes).1)) in
     sym (parts_are text rest numeral after er en ea ∙ ap (λ (b : Bool). number_if b numeral) no)
 
+-- read or refused: with spaces alone behind them, it is what a parser of i64 makes of those bytes
 pub number-parsed : {E : Type 0} (text rest numeral after : List ℕ) (r : Result ℤ E) → rest ≡ drop (spaces_at text) text
     → numeral ≡ take (others_at rest) rest → after ≡ drop (others_at rest) rest
     → spaces_at after ≡ length after → ParsesSigned w64 10 numeral r → result_ok r ≡ number_of text
@@ -186,6 +191,7 @@ number_if-some : (b : Bool) (numeral : List ℕ) (number : ℤ) → number_if b 
 number_if-some true numeral number h = (refl, cc h)
 number_if-some false numeral number h = cc h
 
+-- a number that is read off a text is one that the text writes
 pub number_of-writes : (text : List ℕ) (number : ℤ) → number_of text ≡ Some number → IsNumber text number
 number_of-writes text number h =
     let rest : List ℕ = drop (spaces_at text) text in
@@ -207,6 +213,7 @@ number_of-writes text number h =
       fits = rw some.1 t.2;
     }
 
+-- and a number that a text writes is read off it
 pub number_of-written : (text : List ℕ) (number : ℤ) → IsNumber text number → number_of text ≡ Some number
 number_of-written text number is =
     let plain = plain_numeral is.numeral is.digits in
@@ -235,6 +242,7 @@ number_of-written text number is =
 pub cut-drop : (n : ℕ) (xs : List ℕ) → take (length xs - n) (drop n xs) ≡ drop n xs
 cut-drop n xs = take_all (length xs - n) (drop n xs) (omega (arith, length-drop n xs))
 
+-- the bytes from a place on, as a slice has them
 abbrev pub cut_from : ℕ → List ℕ → List ℕ
 cut_from n xs = take (length xs - n) (drop n xs)
 
@@ -244,18 +252,21 @@ rest_is text p e = rw e (cut-drop (spaces_at text) text)
 after_is : (rest : List ℕ) (size : ℕ) → size ≡ others_at rest → cut_from size rest ≡ drop (others_at rest) rest
 after_is rest size e = rw e (cut-drop (others_at rest) rest)
 
+-- the same three ways, of slices: other bytes than spaces stand behind the numeral
 pub unspaced-cut : (text : List ℕ) (p size : ℕ) → p ≡ spaces_at text → size ≡ others_at (cut_from p text)
     → spaces_at (cut_from size (cut_from p text)) ≢ length (cut_from size (cut_from p text)) → None ≡ number_of text
 unspaced-cut text p size ep es other =
     number-unspaced text (cut_from p text) (take size (cut_from p text)) (cut_from size (cut_from p text))
     (rest_is text p ep) (ap (λ (n : ℕ). take n (cut_from p text)) es) (after_is (cut_from p text) size es) other
 
+-- or the numeral isn't UTF-8
 pub strange-cut : (text : List ℕ) (p size : ℕ) → p ≡ spaces_at text → size ≡ others_at (cut_from p text)
     → ¬ (IsUtf8 (take size (cut_from p text))) → None ≡ number_of text
 strange-cut text p size ep es strange =
     number-strange text (cut_from p text) (take size (cut_from p text)) (cut_from size (cut_from p text))
     (rest_is text p ep) (ap (λ (n : ℕ). take n (cut_from p text)) es) (after_is (cut_from p text) size es) strange
 
+-- or it is parsed, with spaces alone behind it
 pub parsed-cut : {E : Type 0} (text : List ℕ) (p size : ℕ) (r : Result ℤ E) → p ≡ spaces_at text
     → size ≡ others_at (cut_from p text)
     → spaces_at (cut_from size (cut_from p text)) ≡ length (cut_from size (cut_from p text))

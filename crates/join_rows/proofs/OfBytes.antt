@@ -11,6 +11,7 @@ use Rattle.join_rows.specs.declared.fault.TableFault.TheVariants as fault
 use Rattle.join_rows.proofs.Answered.{TableIn, long-table, refused, short-table}
 use Rattle.join_rows.proofs.Says.{says-table, table-says}
 
+-- so it is where a file isn't read whole, unless a read failed or memory was wanting: it is too long
 pub bytes-refused : (told : Told) (name : List ℕ) (old new : ℕ) (spot : Spot) (e : TableFault)
     → WholeErr told name old new spot e
     → (refused e ≡ refused fault.Read → ⊥) → (refused e ≡ refused fault.Memory → ⊥)
@@ -31,6 +32,7 @@ bytes-refused told name old new spot (fault.Width number found) w read memory = 
 bytes-refused told name old new spot fault.TooMany w read memory = absurd w
 bytes-refused told name old new spot fault.Memory w read memory = absurd (memory refl)
 
+-- and where it is read whole, unless memory was wanting for the table
 pub bytes-read_whole : (told : Told) (name : List ℕ) (old new : ℕ) (spot : Spot) (bytes : List ℕ)
     (r : Result Table TableFault) → WholeOk told name old new spot bytes → TableIn bytes r
     → (r ≡ Err fault.Memory → ⊥) → IsOfBytes told name spot r

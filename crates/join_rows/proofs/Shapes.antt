@@ -93,6 +93,7 @@ all_wide width (row ∷ rows) h (suc k) d e = all_wide width rows h.1 k d (omega
 pub cell-number : (text : List ℕ) → HasItsNumber (cell_of text)
 cell-number text number = (number_of-writes text number, number_of-written text number)
 
+-- and so have all cells of a row
 pub cells_numbers : (fields : List (List ℕ)) → All HasItsNumber (cells_of fields)
 cells_numbers [] k d e = absurd (omega (arith, e))
 cells_numbers (field ∷ fields) zero d e = cell-number field
@@ -103,6 +104,7 @@ rows_numbers [] k d e = absurd (omega (arith, e))
 rows_numbers (row ∷ rows) zero d e = cells_numbers row
 rows_numbers (row ∷ rows) (suc k) d e = rows_numbers rows k d (omega (arith, e))
 
+-- the table of a text's records has a name or more, rows of that width, within the limit, and its cells' numbers
 pub table-shape : (bytes : List ℕ) (table : Table) → table_of_records (records_of bytes) ≡ Ok table → IsTable table
 unfolding table_of_records
 table-shape bytes table h = go (records_of bytes) refl h
@@ -123,6 +125,7 @@ table-shape bytes table h = go (records_of bytes) refl h
             })
         by (Some why) q = cc (rw q at h)
 
+-- so has each table that is answered, where the answer is that of the records or a want of memory
 pub table-in-shape : (bytes : List ℕ) (r : Result Table TableFault) → (r ≡ Err fault.Memory)
     ⊎ (r ≡ table_of_records (records_of bytes)) → IfOk r IsTable
 table-in-shape bytes (Err why) h = tt

@@ -27,10 +27,13 @@ wide-more width [] row wide e = (e, tt)
 wide-more width (d ∷ done) row wide e = (wide.0, wide-more width done row wide.1 e)
 
 -- the answers, from what was read of all the records
+
+-- no record: no header
 pub answers-none : (all : List (List (List ℕ))) → all ≡ [] → Err fault.NoHeader ≡ table_of_records all
 unfolding table_of_records
 answers-none all e = rw e refl
 
+-- a header, and rows of its width within the limit: their table
 pub answers-good : (all : List (List (List ℕ))) (names : List (List ℕ)) (done : List (List (List ℕ)))
     (rows : List (List Cell)) → all ≡ names ∷ done → rows ≡ map cells_of done
     → AreWide (length names) done → length done ≤ 262144 → Ok (record { names = names; rows = rows })
@@ -42,6 +45,7 @@ answers-good all names done rows e r wide few =
     ∙ fault_of_rows-append (length names) 1 done [] wide (omega (arith, few)) in
     rw (e, r, none) refl
 
+-- within the limit, a first row of another width: its number and how many fields it has
 pub answers-narrow : (all : List (List (List ℕ))) (names row : List (List ℕ)) (done more : List (List (List ℕ)))
     → all ≡ (names ∷ (done ++ (row ∷ []))) ++ more
     → AreWide (length names) done → length done < 262144 → length row ≢ length names
@@ -56,6 +60,7 @@ answers-narrow all names row done more e wide few other =
     let found = fault_of_rows-append (length names) 1 done (row ∷ more) wide (omega (arith, few)) ∙ at_row in
     rw (e, append_assoc done (row ∷ []) more, found) refl
 
+-- a row past the limit, behind rows of the header's width alone: too many rows
 pub answers-long : (all : List (List (List ℕ))) (names row : List (List ℕ)) (done more : List (List (List ℕ)))
     → all ≡ (names ∷ (done ++ (row ∷ []))) ++ more
     → AreWide (length names) done → length done ≡ 262144 → Err fault.TooMany ≡ table_of_records all

@@ -70,6 +70,7 @@ down k b c id t small within is =
     of_tuple k b c id t (subst (λ side. Parts k b c id (partner_in_step b c id) t.side side t.ticket) (sym exchanged)
     (subst (λ n. Parts k b c id (partner n id) t.side S t.ticket) (sym low) parts))
 
+-- a step to a neighbouring shift does to what joiners hold what the law says, in grids of up to 256 joiners
 pub one_step_lem : OneStep
 one_step_lem = λ k b c id small low high near t.
     elim near [ inl is ↦ up k b c id t small high is | inr is ↦ down k b c id t small low is ]

@@ -45,6 +45,7 @@ between feeders p i t below here few again =
           omega arith
     ]
 
+-- p's indices from one of them on begin with it, and go on from as many further as there are feeders
 pub indices_next : (feeders p i n : ℕ) → p < feeders → i % feeders ≡ p → i < n
     → indices_from feeders p i n ≡ i ∷ indices_from feeders p (i + feeders) n
 indices_next feeders p i n below here more =
@@ -56,6 +57,7 @@ indices_next feeders p i n below here more =
     (λ t low. between feeders p i t below here (omega arith)) in
     rw left (rw is_here (ap (λ js. i ∷ js) (rw (far, over) at rest)))
 
+-- all indices of p's are those from p itself on
 pub indices_begin : (feeders p n : ℕ) → p < feeders → indices feeders p n ≡ indices_from feeders p p n
 indices_begin feeders p n below =
     let start : 0 + p ≡ p = omega arith in
@@ -63,6 +65,7 @@ indices_begin feeders p n below =
     let low' : t < feeders = omega arith in let is : t % feeders ≡ t = mod-eq_of_lt low' in
     let again' = rw same at again in omega arith))
 
+-- as many further as there are feeders, an index leaves the same when divided by their number
 pub stays_of_p : (feeders i : ℕ) → (i + feeders) % feeders ≡ i % feeders
 stays_of_p feeders i = let one : i + feeders ≡ i + 1 * feeders = omega arith in
     ap (λ n. n % feeders) one ∙ add-mul-mod_self_right i 1 feeders
