@@ -33,6 +33,7 @@ only_if-sum : {X : Type 0} (b : Bool) (g : X → ℕ) (ys : List X)
 only_if-sum true g ys = refl
 only_if-sum false g ys = sym (sum_zero ys)
 
+-- a sum over the pairs of two lists is the double sum of what each two of their tuples add
 pub sum-pairs : (f : Pair → ℕ) (test : Tuple → Tuple → Bool) (xs ys : List Tuple)
     → sum_by f (pairs_by test xs ys) ≡ double (weight f test) xs ys
 sum-pairs f test xs ys =
@@ -47,11 +48,13 @@ sum-pairs f test xs ys =
         ∙ sum-filter (λ q. f (pair_of r q)) (λ q. is_of S q && test r q) ys)
         ∙ only_if-sum (is_of R r) (λ q. only_if (is_of S q && test r q) (f (pair_of r q))) ys
 
+-- a double sum doesn't depend on the order within its two lists
 pub double-bag : (w : Tuple → Tuple → ℕ) (xs xs' ys ys' : List Tuple) → SameBag xs xs' → SameBag ys ys'
     → double w xs ys ≡ double w xs' ys'
 double-bag w xs xs' ys ys' left right = left.sums (λ r. sum_by (w r) ys)
     ∙ sum-same (λ r. sum_by (w r) ys) (λ r. sum_by (w r) ys') (λ r. right.sums (w r)) xs'
 
+-- where each element adds two numbers, the sum is that of the first and that of the second together
 pub sum_two : {X : Type 0} (a b : X → ℕ) (xs : List X) → sum_by (λ x. a x + b x) xs ≡ sum_by a xs + sum_by b xs
 sum_two a b [] = refl
 sum_two a b (x ∷ xs) =
@@ -71,6 +74,7 @@ double-add w x xs none =
     sum_two (λ r. w r x) (λ r. sum_by (w r) xs) xs in
     omega arith
 
+-- the double sum of a list with itself is 0 where no two of its tuples add anything
 pub double-none : (P : Tuple → Type 0) (w : Tuple → Tuple → ℕ) (xs : List Tuple) → AllByRecursion P xs
     → ((r q : Tuple) → P r → P q → w r q ≡ 0) → double w xs xs ≡ 0
 double-none P w xs all none =

@@ -10,6 +10,7 @@ use Rattle.joiner_law.specs.Standing.{IsOfFeeder, one_if}
 use Rattle.joiner_law.proofs.LongerLists.{TurnsGoBy-append, CountsUp-append}
 use Rattle.epoch_tags.proofs.Appends.{turns-append, ends-append}
 
+-- a tuple may follow, stamped with the epoch to which the feeder has turned, while it hasn't ended
 pub feeder-tup : (e : ℕ) (b : ℕ → ℕ) (done : ℕ) (turned : Bool) (ms : List ToJoiner) (x : Tuple)
     → x.stamp ≡ e + (done + one_if turned)
     → IsOfFeeder e b done turned false ms → IsOfFeeder e b done turned false (ms ++ Tup x ∷ [])
@@ -23,6 +24,7 @@ feeder-tup e b done turned ms x stamp is =
       ends = omega (arith, ends-append ms (Tup x ∷ []));
     }
 
+-- its turn to the next epoch may follow, with that epoch's shift, while it has neither turned nor ended
 pub feeder-turn : (e : ℕ) (b : ℕ → ℕ) (done : ℕ) (ms : List ToJoiner) (epoch shift : ℕ) → epoch ≡ e + done + 1
     → shift ≡ b epoch
     → IsOfFeeder e b done false false ms → IsOfFeeder e b done true false (ms ++ Turn epoch shift ∷ [])
@@ -36,6 +38,7 @@ feeder-turn e b done ms epoch shift next of is =
       ends = omega (arith, ends-append ms (Turn epoch shift ∷ []));
     }
 
+-- its end may follow, whether it has turned or not
 pub feeder-end : (e : ℕ) (b : ℕ → ℕ) (done : ℕ) (turned : Bool) (ms : List ToJoiner)
     → IsOfFeeder e b done turned false ms → IsOfFeeder e b done turned true (ms ++ End ∷ [])
 feeder-end e b done turned ms is =
@@ -67,6 +70,7 @@ TurnsGoBy-same b c e (End ∷ ms) up same by = rw up tt
 TurnsGoBy-same b c e (Moved epoch x ∷ ms) up same by = absurd up
 TurnsGoBy-same b c e (MovedEnd epoch ∷ ms) up same by = absurd up
 
+-- while it hasn't turned, later epochs may get other shifts
 pub feeder-shifts : (e : ℕ) (b c : ℕ → ℕ) (done : ℕ) (ended : Bool) (ms : List ToJoiner)
     → ((i : ℕ) → i ≤ e + done → b i ≡ c i) → IsOfFeeder e b done false ended ms → IsOfFeeder e c done false ended ms
 feeder-shifts e b c done ended ms same is =
@@ -89,6 +93,7 @@ tups-later e f (End ∷ ms) up low = rw up refl
 tups-later e f (Moved epoch x ∷ ms) up low = absurd up
 tups-later e f (MovedEnd epoch ∷ ms) up low = absurd up
 
+-- while it hasn't turned, no tuple of a later epoch was taken of it
 pub feeder-none : (e : ℕ) (b : ℕ → ℕ) (done : ℕ) (ended : Bool) (f : ℕ) (ms : List ToJoiner) → e + done < f
     → IsOfFeeder e b done false ended ms → tups_of f ms ≡ []
 feeder-none e b done ended f ms low is = let many = is.turns in tups-later e f ms is.counts_up (omega arith)

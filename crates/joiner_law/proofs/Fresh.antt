@@ -4,6 +4,7 @@ use Rattle.join_rows.specs.Lists.{gather, greatest}
 use Rattle.epoch_tags.specs.declared.message.ToJoiner.{ToJoiner}
 use Rattle.joiner_law.specs.Law.{JoinerStart, JoinerLists, JoinerLaw, Taken, IsTakenOf, opened, arrived, found}
 
+-- nothing received and nothing sent
 abbrev pub no_lists : JoinerLists
 no_lists = record {
   from_feeder = λ p. [];
@@ -13,6 +14,7 @@ no_lists = record {
   to_collector = [];
 }
 
+-- nothing taken, and the shift with which the joiner begins, whatever the epoch
 abbrev pub none_taken : JoinerStart → Taken
 none_taken s = record { from_feeder = λ p. []; from_joiner = λ q. []; shift_at = λ e. s.shift }
 
@@ -32,6 +34,7 @@ none_found s empty =
     let none : arrived s (none_taken s) s.epoch ≡ [] = gather_none s.feeders in
     rw (none, empty) refl
 
+-- where there is a feeder, the shift is one of the grid and the base is empty, these lists keep the law
 pub fresh : (s : JoinerStart) → 0 < s.feeders → s.shift ≤ s.k → s.base ≡ [] → JoinerLaw s no_lists (none_taken s)
 fresh s some within empty =
     let none : opened s (none_taken s) ≡ 0 = none_opened s.feeders in

@@ -22,6 +22,7 @@ use Rattle.join_rows.proofs.Totals.{sum_plus, sum_same_on}
 
 -- ---- stores
 
+-- one tuple more that arrived in the latest step is one more in its store
 pub stored-arrived : (k id : ℕ) (x : Tuple) (step : Step) (past : List Step)
     → SameBag (stored k id (with_arrived x step ∷ past)) (x ∷ stored k id (step ∷ past))
 stored-arrived k id x step past = record {
@@ -38,6 +39,7 @@ stored-arrived k id x step past = record {
       (omega arith);
 }
 
+-- and so is one more that came
 pub stored-came : (k id : ℕ) (x : Tuple) (step : Step) (past : List Step)
     → SameBag (stored k id (with_came x step ∷ past)) (x ∷ stored k id (step ∷ past))
 stored-came k id x step past = record {
@@ -60,6 +62,7 @@ if_kept-append : (kept : Bool) (x : Tuple) (xs ys : List Tuple) → if_kept kept
 if_kept-append true x xs ys = refl
 if_kept-append false x xs ys = refl
 
+-- a late tuple, of the step before the latest, is one more in the latest store if it is kept there
 pub stored-under : (k id : ℕ) (x : Tuple) (new cur : Step) (past : List Step)
     → SameBag (stored k id (new ∷ (with_arrived x cur ∷ past)))
     (if_kept (holds k new.shift id x) x (stored k id (new ∷ (cur ∷ past))))
@@ -73,6 +76,7 @@ stored-under k id x new cur past =
     subst (λ (zs : List Tuple). SameBag (stored k id (new ∷ (with_arrived x cur ∷ past))) zs)
     (if_kept-append (keep x) x (filter keep (stored k id (cur ∷ past))) (new.came ++ new.arrived)) whole
 
+-- a step that is just opened stores what it keeps of the store before
 pub stored-new : (k id shift : ℕ) (past : List Step) → stored k id (new_step shift ∷ past)
     ≡ filter (holds k shift id) (stored k id past)
 stored-new k id shift past = append-nil (filter (holds k shift id) (stored k id past))
@@ -100,6 +104,7 @@ AllUpTo-same : (e n : ℕ) (xs : List Tuple) → n ≡ e → AllByRecursion (λ 
 AllUpTo-same e n [] is all = tt
 AllUpTo-same e n (x ∷ xs) is all = (let here : x.stamp ≡ n = all.0 in omega arith, AllUpTo-same e n xs is all.1)
 
+-- no stamp in a store is above its epoch, where what came is older and what arrived is in time
 pub stored-up_to : (epoch k id : ℕ) (step : Step) (past : List Step) → CameOlder epoch (step ∷ past)
     → ArrivedInTime epoch (step ∷ past) → AllUpTo (epoch + length past) (stored k id (step ∷ past))
 stored-up_to epoch k id step [] older in_time =
@@ -343,6 +348,7 @@ none-new f m epoch before past r q low_r low_q =
     nothing true false d n = refl
     nothing false c d n = refl
 
+-- a step that is just opened adds no pair, where no stamp in the store is above the epoch before
 pub found-new : (m : Tuple → Tuple → Bool) (epoch k id shift : ℕ) (before : Step) (past : List Step)
     → AllUpTo (epoch + length past) (stored k id (before ∷ past))
     → SameBag (all_found m epoch k id (new_step shift ∷ (before ∷ past))) (all_found m epoch k id (before ∷ past))

@@ -44,6 +44,7 @@ step-quiet s t p m n step low none is = record {
     came-same zero same = same
     came-same (suc n) same = same
 
+-- a feeder's message that brings no tuple with the stamp of one of these steps leaves them as they are
 pub history-quiet : (s : JoinerStart) (t : Taken) (p : ℕ) (m : ToJoiner) (steps : List Step) → p < s.feeders
     → ((n : ℕ) → n < length steps → tups_of (s.epoch + n) (m ∷ []) ≡ []) → IsHistory s t steps
     → IsHistory s (took_of_feeder p m t) steps
@@ -139,6 +140,7 @@ step-part s t q m n step none is = record {
               (sym (ap (λ ms. moved_of e ms) (grown-other q m t.from_joiner who differ))) same
         ]
 
+-- a joiner's message that moves no tuple in one of these steps leaves them as they are
 pub history-part : (s : JoinerStart) (t : Taken) (q : ℕ) (m : ToJoiner) (steps : List Step)
     → ((n : ℕ) → n < length steps → moved_of (s.epoch + n) (m ∷ []) ≡ []) → IsHistory s t steps
     → IsHistory s (took_of_joiner q m t) steps
@@ -170,6 +172,7 @@ came-more s t n epoch x came is_open same = record {
     rotate : (f : Tuple → ℕ) (x : Tuple) (xs : List Tuple) → f x + sum_by f xs ≡ sum_by f (xs ++ (x ∷ []))
     rotate f x xs = omega (arith, sum_by-append f xs (x ∷ []), sum_by-cons f x [])
 
+-- a tuple that the partner moves in the latest step is one more that came in it
 pub history-came : (s : JoinerStart) (t : Taken) (epoch : ℕ) (x : Tuple) (step before : Step) (past : List Step)
     → epoch ≡ s.epoch + length past + 1
     → IsHistory s t (step ∷ (before ∷ past))
@@ -210,6 +213,7 @@ step-shift s t epoch shift n step low is = record {
         keeps (n + 1) (omega arith) in
         rw (one, two) same
 
+-- the shift of a later epoch leaves the steps as they are
 pub history-shift : (s : JoinerStart) (t : Taken) (epoch shift : ℕ) (steps : List Step) → s.epoch + length steps ≤ epoch
     → IsHistory s t steps → IsHistory s (with_shift epoch shift t) steps
 history-shift s t epoch shift [] low is = tt
@@ -220,6 +224,7 @@ history-shift s t epoch shift (step ∷ past) low is = (
 
 -- ---- what an epoch's number says
 
+-- with one tuple more that arrived in the latest step, each step still goes to a neighbouring shift
 pub by_one-arrived : (x : Tuple) (step : Step) (past : List Step) → GoesByOne (step ∷ past)
     → GoesByOne (with_arrived x step ∷ past)
 by_one-arrived x step [] by = tt

@@ -11,6 +11,7 @@ use Rattle.epoch_tags.specs.Messages.{tups_of, turns, ends, moved_of}
 use Rattle.epoch_tags.specs.Orders.{CountsUp, TurnsGoBy}
 use Rattle.joiner_law.specs.Standing.{grown}
 
+-- what two lists one after the other move in an epoch: the tuples of the first, and then of the second
 pub moved_of-append : (e : ℕ) (xs ys : List ToJoiner) → moved_of e (xs ++ ys) ≡ moved_of e xs ++ moved_of e ys
 moved_of-append e [] ys = refl
 moved_of-append e (Tup x ∷ xs) ys = moved_of-append e xs ys
@@ -25,6 +26,7 @@ moved_of-append e (Moved epoch x ∷ xs) ys = either (epoch == e) (moved_of-appe
     either false rest = rest
 moved_of-append e (MovedEnd epoch ∷ xs) ys = moved_of-append e xs ys
 
+-- the turns of two lists one after the other go by the shifts if those of each list do
 pub TurnsGoBy-append : (b : ℕ → ℕ) (xs ys : List ToJoiner) → TurnsGoBy b xs → TurnsGoBy b ys → TurnsGoBy b (xs ++ ys)
 TurnsGoBy-append b [] ys left right = right
 TurnsGoBy-append b (Tup x ∷ xs) ys left right = TurnsGoBy-append b xs ys left right
@@ -47,9 +49,11 @@ CountsUp-append e (MovedEnd epoch ∷ xs) ys left none right = absurd left
 
 -- ---- all links, one of them with a message more
 
+-- the link of the message has it at its end
 pub grown-same : (p : ℕ) (m : ToJoiner) (f : ℕ → List ToJoiner) → grown p m f p ≡ f p ++ m ∷ []
 grown-same p m f = rw (eq-eqb p p refl) refl
 
+-- and each other link is as it was
 pub grown-other : (p : ℕ) (m : ToJoiner) (f : ℕ → List ToJoiner) (q : ℕ) → q ≢ p → grown p m f q ≡ f q
 grown-other p m f q differ = rw (ne_eqb q p differ) refl
 

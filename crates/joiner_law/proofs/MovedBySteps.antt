@@ -23,9 +23,11 @@ use Rattle.joiner_law.proofs.StepStores.{store-is}
 
 -- ---- bags and their sizes
 
+-- two lists that are one bag are equally long
 pub length-bag : {X : Type 0} (xs ys : List X) → SameBag xs ys → length xs ≡ length ys
 length-bag xs ys same = length_sum xs ∙ same.sums (λ x. 1) ∙ sym (length_sum ys)
 
+-- and as many tuples of the one as of the other pass a test
 pub count-bag : (keep : Tuple → Bool) (xs ys : List Tuple) → SameBag xs ys → count_by keep xs ≡ count_by keep ys
 count-bag keep xs ys same = sym (length-filter keep xs) ∙ length-bag (filter keep xs) (filter keep ys)
     (SameBag-filter keep same) ∙ length-filter keep ys
@@ -81,6 +83,7 @@ moved-here s lists t ended step before past is sent =
     (SameBag-trans sent.tuples (SameBag-filter (is_of (exchanged_side before.shift step.shift))
     (SameBag-sym (store-is s t before past is.1))))
 
+-- in each opened step, by its number, the exchanged side of the store before went to the partner
 pub moved-law : (s : JoinerStart) (lists : JoinerLists) (t : Taken) (ended : Bool) (steps : List Step) (n : ℕ)
     → IsHistory s t steps → AreSent s lists ended steps → n + 1 < length steps → MovedAt s lists t n
 moved-law s lists t ended [] n is sent low = absurd (omega arith)
@@ -90,12 +93,14 @@ moved-law s lists t ended (step ∷ (before ∷ past)) n is sent low = elim (cas
   | inr other ↦ moved-law s lists t true (before ∷ past) n is.1 sent.1 (omega arith)
 ]
 
+-- the partner in step n was sent the end of this joiner's part of it, just once
 abbrev pub EndedAt : JoinerStart → JoinerLists → Taken → ℕ → Type 0
 EndedAt s lists t n = moved_ends (s.epoch + n + 1) (lists.to_joiner (partner_of s t n)) ≡ 1
 
 up-one : (n : ℕ) (b : Bool) → n ≡ one_if b → b ≡ true → n ≡ 1
 up-one n b is up = is ∙ ap one_if up
 
+-- this is so of each opened step before the latest, and of the latest where its end was sent
 pub ended-law : (s : JoinerStart) (lists : JoinerLists) (t : Taken) (ended : Bool) (steps : List Step) (n : ℕ)
     → IsHistory s t steps → AreSent s lists ended steps → n + 1 < length steps → (n + 2 ≡ length steps → ended ≡ true)
     → EndedAt s lists t n
@@ -133,6 +138,7 @@ count-here s lists t n low only moved =
     ∙ length-bag _ _ moved
     ∙ length-filter (is_of (exchanged s t n)) (store s t n)
 
+-- how many tuples each step moves is how many were sent in it, where these went to its partner alone, one of the grid
 pub counts-law : (s : JoinerStart) (lists : JoinerLists) (t : Taken) (ended : Bool) (step : Step) (past : List Step)
     → IsHistory s t (step ∷ past) → AreSent s lists ended (step ∷ past)
     → ((n : ℕ) → n < length past → partner_of s t n < 2 ^ s.k) → ((n : ℕ) → n < length past → GoesToPartner s lists t n)
@@ -168,6 +174,7 @@ low-below : (old new k : ℕ) → AreNeighbours old new → old ≤ k → new �
 low-below old new k (inl is) low high = omega arith
 low-below old new k (inr is) low high = omega arith
 
+-- between two neighbouring shifts of the grid a joiner's partner is a joiner of the grid
 pub partner-within : (s : JoinerStart) (t : Taken) (n : ℕ) → s.id < 2 ^ s.k
     → AreNeighbours (shift_after s t n) (shift_after s t (n + 1)) → shift_after s t n ≤ s.k
     → shift_after s t (n + 1) ≤ s.k → partner_of s t n < 2 ^ s.k

@@ -33,6 +33,7 @@ added x a xs ys same more = record {
       omega (arith, is, now, sum_by-cons f x xs, sum_by-append f a (x ∷ []), sum_by-cons f x []);
 }
 
+-- from lists that are all empty nothing is gathered
 pub gather-none : {X : Type 0} (f : ℕ → List X) (n : ℕ) → ((i : ℕ) → i < n → f i ≡ []) → gather n f ≡ []
 gather-none f zero none = refl
 gather-none f (suc n) none =
@@ -61,6 +62,7 @@ parts-same s t ended [] m p is = tt
 parts-same s t ended (step ∷ []) m p is = tt
 parts-same s t ended (step ∷ (before ∷ past)) m p is = (is.0, parts-same s t true (before ∷ past) m p is.1)
 
+-- nor on one tuple more that arrived in the latest step
 pub parts-arrived : (s : JoinerStart) (t : Taken) (ended : Bool) (x : Tuple) (step : Step) (past : List Step)
     (m : ToJoiner) (p : ℕ) → AreParts s t ended (step ∷ past)
     → AreParts s (took_of_feeder p m t) ended (with_arrived x step ∷ past)
@@ -72,15 +74,18 @@ pub no_pairs : (to epoch : ℕ) (xs : List Tuple) → posted_to_collector (map (
 no_pairs to epoch [] = refl
 no_pairs to epoch (x ∷ xs) = no_pairs to epoch xs
 
+-- and none of them goes to the controller
 pub no_orders : (to epoch : ℕ) (xs : List Tuple) → posted_to_controller (map (moved_post to epoch) xs) ≡ []
 no_orders to epoch [] = refl
 no_orders to epoch (x ∷ xs) = no_orders to epoch xs
 
+-- with such posts sent, the pairs sent and those that wait are still those of all steps
 pub pairs-posted : (s : JoinerStart) (lists : JoinerLists) (waiting : List Pair) (steps : List Step) (to epoch : ℕ)
     (xs : List Tuple) → ArePairs s (pairs_sent lists) waiting steps
     → ArePairs s (pairs_sent (with_sent lists (map (moved_post to epoch) xs))) waiting steps
 pairs-posted s lists waiting steps to epoch xs is = rw (no_pairs to epoch xs, append-nil lists.to_collector) is
 
+-- and what the controller was told is what it was told before
 pub told-posted : (lists : JoinerLists) (to epoch : ℕ) (xs : List Tuple) (zs : List ToController)
     → lists.to_controller ≡ zs → (with_sent lists (map (moved_post to epoch) xs)).to_controller ≡ zs
 told-posted lists to epoch xs zs is = rw (no_orders to epoch xs) (append-nil lists.to_controller ∙ is)
@@ -93,6 +98,7 @@ grown-ends e q m f j none = elim (cases_eq j q) [
   | inr differ ↦ ap (λ ms. moved_ends e ms) (grown-other q m f j differ)
 ]
 
+-- a joiner's message that is no end of one of these steps leaves what partners ended as it was
 pub parts-quiet : (s : JoinerStart) (t : Taken) (ended : Bool) (q : ℕ) (m : ToJoiner) (steps : List Step)
     → ((n : ℕ) → n + 1 < length steps → moved_ends (s.epoch + n + 1) (m ∷ []) ≡ 0) → AreParts s t ended steps
     → AreParts s (took_of_joiner q m t) ended steps
@@ -105,6 +111,7 @@ parts-quiet s t ended q m (step ∷ (before ∷ past)) none is = (
       (λ n less. none n (omega arith)) is.1,
 )
 
+-- and so does a moved tuple, with which the latest step has one more that came
 pub parts-moved : (s : JoinerStart) (t : Taken) (ended : Bool) (q epoch : ℕ) (x : Tuple) (step : Step)
     (past : List Step) → AreParts s t ended (step ∷ past) → AreParts s (took_of_joiner q (Moved epoch x) t) ended
     (with_came x step ∷ past)
@@ -149,10 +156,12 @@ who-is s t new cur past is =
     let two : shift_after s t (length past + 1) ≡ new.shift = ap t.shift_at next ∙ is.0.shift in
     rw (one, two) refl
 
+-- the shift of a later epoch leaves the first shift as it was
 pub first-kept : (s : JoinerStart) (t : Taken) (epoch shift : ℕ) → s.epoch < epoch → shift_after s t 0 ≡ s.shift
     → shift_after s (with_shift epoch shift t) 0 ≡ s.shift
 first-kept s t epoch shift low is = rw (ne_eqb (s.epoch + 0) epoch (λ same. absurd (omega arith))) is
 
+-- where no link has anything later than an epoch, none has with one message more that isn't later
 pub up_to-grown : (last q : ℕ) (m : ToJoiner) (f : ℕ → List ToJoiner) → SentUpTo last (m ∷ [])
     → ((j : ℕ) → SentUpTo last (f j)) → (j : ℕ) → SentUpTo last (grown q m f j)
 up_to-grown last q m f here all j = elim (cases_eq j q) [

@@ -25,11 +25,13 @@ use Rattle.epoch_tags.proofs.Appends.{moved_ends-append}
 
 -- ---- what posts carry
 
+-- posts of moved tuples bring their receiver one message for each tuple, in order
 pub posted-here : (to epoch : ℕ) (xs : List Tuple) → posted_to_joiner to (map (moved_post to epoch) xs)
     ≡ map (λ x. Moved epoch x) xs
 posted-here to epoch [] = refl
 posted-here to epoch (x ∷ xs) = rw (eq-eqb to to refl) (ap (λ ms. Moved epoch x ∷ ms) (posted-here to epoch xs))
 
+-- and no other joiner anything
 pub posted-elsewhere : (to epoch j : ℕ) (xs : List Tuple) → to ≢ j
     → posted_to_joiner j (map (moved_post to epoch) xs) ≡ []
 posted-elsewhere to epoch j [] differ = refl
@@ -52,6 +54,7 @@ pub record IsQuietAt (e : ℕ) (posts : List Post) : Type 0 where
   pub tuples : (j : ℕ) → moved_of e (posted_to_joiner j posts) ≡ []
   pub ends : (j : ℕ) → moved_ends e (posted_to_joiner j posts) ≡ 0
 
+-- posts of tuples moved in another epoch carry nothing of this one
 pub quiet-moved : (e to epoch : ℕ) (xs : List Tuple) → epoch ≢ e → IsQuietAt e (map (moved_post to epoch) xs)
 quiet-moved e to epoch xs differ = record {
   tuples = λ j. elim (cases_eq to j) [
@@ -64,6 +67,7 @@ quiet-moved e to epoch xs differ = record {
   ];
 }
 
+-- nor does the post that ends a part of another epoch
 pub quiet-end : (e to epoch : ℕ) → epoch ≢ e → IsQuietAt e (moved_end_post to epoch ∷ [])
 quiet-end e to epoch differ = record { tuples = tuples; ends = ends }
   where
@@ -110,12 +114,13 @@ all-quiet s lists posts ended (step ∷ (before ∷ past)) quiet is = (
   all-quiet s lists posts true (before ∷ past) (λ n less. quiet n (omega arith)) is.1,
 )
 
--- an earlier tuple more in the latest step changes nothing that was sent
+-- one tuple more that arrived in the latest step changes nothing that was sent
 pub sent-arrived : (s : JoinerStart) (lists : JoinerLists) (ended : Bool) (x : Tuple) (step : Step) (past : List Step)
     → AreSent s lists ended (step ∷ past) → AreSent s lists ended (with_arrived x step ∷ past)
 sent-arrived s lists ended x step [] is = tt
 sent-arrived s lists ended x step (before ∷ past) is = (record { tuples = is.0.tuples; ends = is.0.ends }, is.1)
 
+-- nor does one tuple more that came
 pub sent-came : (s : JoinerStart) (lists : JoinerLists) (ended : Bool) (x : Tuple) (step : Step) (past : List Step)
     → AreSent s lists ended (step ∷ past) → AreSent s lists ended (with_came x step ∷ past)
 sent-came s lists ended x step [] is = tt
@@ -210,6 +215,7 @@ reached-moved : (e epoch : ℕ) (xs : List Tuple) → e ≤ epoch → reached e 
 reached-moved e epoch [] low = low
 reached-moved e epoch (x ∷ xs) low = reached-moved epoch epoch xs (omega arith)
 
+-- two lists with nothing later than an epoch have nothing later one after the other
 pub up_to-append : (last : ℕ) (xs ys : List ToJoiner) → SentUpTo last xs → SentUpTo last ys → SentUpTo last (xs ++ ys)
 up_to-append last [] ys left right = right
 up_to-append last (Tup x ∷ xs) ys left right = up_to-append last xs ys left right
@@ -222,6 +228,7 @@ up_to-moved : (last : ℕ) (xs : List Tuple) → SentUpTo last (map (λ x. Moved
 up_to-moved last [] = tt
 up_to-moved last (x ∷ xs) = (omega arith, up_to-moved last xs)
 
+-- a list with nothing later than an epoch has nothing later than a later one
 pub up_to-later : (last later : ℕ) (ms : List ToJoiner) → last ≤ later → SentUpTo last ms → SentUpTo later ms
 up_to-later last later [] le up = tt
 up_to-later last later (Tup x ∷ ms) le up = up_to-later last later ms le up
@@ -259,6 +266,7 @@ link-end first last ms is = record {
   goes_on = rw (reached-append first ms (MovedEnd last ∷ [])) (omega arith);
 }
 
+-- the last epoch of a link, and the one that may follow, can be put later
 pub link-later : (first last last' next next' : ℕ) (ms : List ToJoiner) → last ≤ last' → next ≤ next'
     → IsLink first last next ms → IsLink first last' next' ms
 link-later first last last' next next' ms le le' is = let low = is.goes_on in
@@ -274,6 +282,7 @@ none-later last f (Moved epoch x ∷ ms) up low = let le : epoch ≤ last = up.0
     rw (ne_eqb epoch f (λ same. absurd (omega arith))) (none-later last f ms up.1 low)
 none-later last f (MovedEnd epoch ∷ ms) up low = none-later last f ms up.1 low
 
+-- nor was an end of such an epoch
 pub no_end-later : (last f : ℕ) (ms : List ToJoiner) → SentUpTo last ms → last < f → moved_ends f ms ≡ 0
 no_end-later last f [] up low = refl
 no_end-later last f (Tup x ∷ ms) up low = no_end-later last f ms up low

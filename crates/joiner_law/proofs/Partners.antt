@@ -18,6 +18,7 @@ use Rattle.std.proofs.lemmas.List.{append-nil}
 
 -- ---- lists of messages
 
+-- what is said of the epochs in each of two lists is so in the two one after the other
 pub parts-append : (P Q : ℕ → Type 0) (xs ys : List ToJoiner) → HasParts P Q xs → HasParts P Q ys
     → HasParts P Q (xs ++ ys)
 parts-append P Q [] ys left right = right
@@ -27,6 +28,7 @@ parts-append P Q (End ∷ xs) ys left right = parts-append P Q xs ys left right
 parts-append P Q (Moved epoch x ∷ xs) ys left right = (left.0, parts-append P Q xs ys left.1 right)
 parts-append P Q (MovedEnd epoch ∷ xs) ys left right = (left.0, parts-append P Q xs ys left.1 right)
 
+-- what follows from what is said of the epochs in a list is so of them too
 pub parts-more : (P Q P' Q' : ℕ → Type 0) (ms : List ToJoiner) → ((e : ℕ) → P e → P' e) → ((e : ℕ) → Q e → Q' e)
     → HasParts P Q ms → HasParts P' Q' ms
 parts-more P Q P' Q' [] p q is = tt
@@ -36,6 +38,7 @@ parts-more P Q P' Q' (End ∷ ms) p q is = parts-more P Q P' Q' ms p q is
 parts-more P Q P' Q' (Moved epoch x ∷ ms) p q is = (p epoch is.0, parts-more P Q P' Q' ms p q is.1)
 parts-more P Q P' Q' (MovedEnd epoch ∷ ms) p q is = (q epoch is.0, parts-more P Q P' Q' ms p q is.1)
 
+-- of an epoch in which a list moves a tuple, what is said of all such epochs is so
 pub has-moved : (P Q : ℕ → Type 0) (e : ℕ) (ms : List ToJoiner) → HasParts P Q ms → 0 < length (moved_of e ms) → P e
 has-moved P Q e [] is some = absurd (omega arith)
 has-moved P Q e (Tup x ∷ ms) is some = has-moved P Q e ms is some
@@ -47,6 +50,7 @@ has-moved P Q e (Moved epoch x ∷ ms) is some = elim (cases_eq epoch e) [
 ]
 has-moved P Q e (MovedEnd epoch ∷ ms) is some = has-moved P Q e ms is.1 some
 
+-- and of an epoch of which it has an end, what is said of those
 pub has-end : (P Q : ℕ → Type 0) (e : ℕ) (ms : List ToJoiner) → HasParts P Q ms → 0 < moved_ends e ms → Q e
 has-end P Q e [] is some = absurd (omega arith)
 has-end P Q e (Tup x ∷ ms) is some = has-end P Q e ms is some
@@ -111,19 +115,23 @@ end-turned s new cur past q e (inr is) = inr is
 
 -- ---- what was taken
 
+-- what each joiner moved here, and the ends of its parts, are of steps whose partner it is
 abbrev pub TakenParts : JoinerStart → List Step → (ℕ → List ToJoiner) → Type 0
 TakenParts s steps f = (q : ℕ) → HasParts (λ e. IsPartOf s steps q e) (λ e. IsPartOf s steps q e) (f q)
 
+-- this stays so with one tuple more that arrived in the latest step
 pub taken-arrived : (s : JoinerStart) (f : ℕ → List ToJoiner) (x : Tuple) (step : Step) (past : List Step)
     → TakenParts s (step ∷ past) f → TakenParts s (with_arrived x step ∷ past) f
 taken-arrived s f x step past is q = parts-more _ _ _ _ (f q) (part-arrived s x step past q)
     (part-arrived s x step past q) (is q)
 
+-- and with a late one, in the step before the open one
 pub taken-under : (s : JoinerStart) (f : ℕ → List ToJoiner) (x : Tuple) (new cur : Step) (past : List Step)
     → TakenParts s (new ∷ (cur ∷ past)) f → TakenParts s (new ∷ (with_arrived x cur ∷ past)) f
 taken-under s f x new cur past is q = parts-more _ _ _ _ (f q) (part-under s x new cur past q)
     (part-under s x new cur past q) (is q)
 
+-- and as a step is opened
 pub taken-new : (s : JoinerStart) (f : ℕ → List ToJoiner) (shift : ℕ) (steps : List Step) → TakenParts s steps f
     → TakenParts s (new_step shift ∷ steps) f
 taken-new s f shift steps is q = parts-more _ _ _ _ (f q) (part-new s shift steps q) (part-new s shift steps q) (is q)
@@ -136,6 +144,7 @@ taken-grown s f steps j m here is q = elim (cases_eq q j) [
   | inr differ ↦ rw (grown-other j m f q differ) (is q)
 ]
 
+-- and with a tuple that the open step's partner moves here in that step
 pub taken-came : (s : JoinerStart) (f : ℕ → List ToJoiner) (x : Tuple) (new cur : Step) (past : List Step) (j epoch : ℕ)
     → epoch ≡ s.epoch + length past + 1 → j ≡ partner_in_step cur.shift new.shift s.id
     → TakenParts s (new ∷ (cur ∷ past)) f → TakenParts s (with_came x new ∷ (cur ∷ past)) (grown j (Moved epoch x) f)
@@ -143,6 +152,7 @@ taken-came s f x new cur past j epoch now who is = taken-grown s f (with_came x 
     (inl (now, who), tt) (λ q. parts-more _ _ _ _ (f q) (part-came s x new (cur ∷ past) q)
     (part-came s x new (cur ∷ past) q) (is q))
 
+-- and with the end of its part
 pub taken-end : (s : JoinerStart) (f : ℕ → List ToJoiner) (new cur : Step) (past : List Step) (j epoch : ℕ)
     → epoch ≡ s.epoch + length past + 1 → j ≡ partner_in_step cur.shift new.shift s.id
     → TakenParts s (new ∷ (cur ∷ past)) f → TakenParts s (new ∷ (cur ∷ past)) (grown j (MovedEnd epoch) f)
@@ -153,15 +163,18 @@ taken-end s f new cur past j epoch now who is = taken-grown s f (new ∷ (cur �
 
 -- ---- what was sent
 
+-- what was moved to each joiner, and the ends, are of steps whose partner it is, an end only of one that was ended
 abbrev pub SentParts : JoinerStart → Bool → List Step → (ℕ → List ToJoiner) → Type 0
 SentParts s ended steps f = (q : ℕ) → HasParts (λ e. IsPartOf s steps q e) (λ e. IsEndOf s ended steps q e) (f q)
 
+-- this stays so with one tuple more that arrived in the latest step
 pub parts_sent-arrived : (s : JoinerStart) (ended : Bool) (f : ℕ
     → List ToJoiner) (x : Tuple) (step : Step) (past : List Step) → SentParts s ended (step ∷ past) f
     → SentParts s ended (with_arrived x step ∷ past) f
 parts_sent-arrived s ended f x step past is q = parts-more _ _ _ _ (f q) (part-arrived s x step past q)
     (end-arrived s ended x step past q) (is q)
 
+-- and with one more that came
 pub parts_sent-came : (s : JoinerStart) (ended : Bool) (f : ℕ
     → List ToJoiner) (x : Tuple) (step : Step) (past : List Step) → SentParts s ended (step ∷ past) f
     → SentParts s ended (with_came x step ∷ past) f
@@ -178,6 +191,7 @@ parts_sent-posts s ended lists steps who epoch xs here is q = elim (cases_eq who
   | inr other ↦ rw (posted-elsewhere who epoch q xs other, append-nil (lists.to_joiner q)) (is q)
 ]
 
+-- and with a late one, in the step before the open one, as tuples are posted to the open step's partner
 pub parts_sent-under : (s : JoinerStart) (ended : Bool) (lists : JoinerLists) (x : Tuple) (new cur : Step)
     (past : List Step) (xs : List Tuple) → SentParts s ended (new ∷ (cur ∷ past)) lists.to_joiner
     → SentParts s ended (new ∷ (with_arrived x cur ∷ past))
@@ -189,6 +203,7 @@ parts_sent-under s ended lists x new cur past xs is =
     (λ q. parts-more _ _ _ _ (lists.to_joiner q) (part-under s x new cur past q) (end-under s ended x new cur past q)
     (is q))
 
+-- and as a step is opened and tuples are posted to its partner
 pub parts_sent-new : (s : JoinerStart) (lists : JoinerLists) (shift : ℕ) (before : Step) (past : List Step)
     (xs : List Tuple) → SentParts s true (before ∷ past) lists.to_joiner
     → SentParts s false (new_step shift ∷ (before ∷ past)) (with_sent lists
@@ -199,6 +214,7 @@ parts_sent-new s lists shift before past xs is =
     (λ q. parts-more _ _ _ _ (lists.to_joiner q) (part-new s shift (before ∷ past) q)
     (end-new s shift (before ∷ past) q) (is q))
 
+-- and as the end of the open step is posted to its partner
 pub parts_sent-end : (s : JoinerStart) (lists : JoinerLists) (new cur : Step) (past : List Step)
     → SentParts s false (new ∷ (cur ∷ past)) lists.to_joiner
     → SentParts s true (new ∷ (cur ∷ past)) (with_sent lists
@@ -221,12 +237,14 @@ parts_sent-end s lists new cur past is q =
       | inr other ↦ rw (ne_eqb who q other, append-nil (lists.to_joiner q)) before
     ]
 
+-- and where the links are the same, one by one
 pub parts_sent-none : (s : JoinerStart) (ended : Bool) (steps : List Step) (f g : ℕ → List ToJoiner)
     → ((q : ℕ) → g q ≡ f q) → SentParts s ended steps f → SentParts s ended steps g
 parts_sent-none s ended steps f g same is q = rw (same q) (is q)
 
 -- ---- by numbers of steps
 
+-- an epoch of a step whose partner is joiner q is, in the law's words, that of an opened step n with partner q
 pub part-at : (s : JoinerStart) (t : Taken) (steps : List Step) (q e : ℕ) → IsHistory s t steps → IsPartOf s steps q e
     → (n : ℕ) × (e ≡ s.epoch + n + 1) × (n + 1 < length steps) × (q ≡ partner_of s t n)
 part-at s t [] q e is part = absurd part
@@ -239,6 +257,7 @@ part-at s t (step ∷ (before ∷ past)) q e is (inl part) =
 part-at s t (step ∷ (before ∷ past)) q e is (inr part) = let rest = part-at s t (before ∷ past) q e is.1 part in
     let low = rest.2 in (rest.0, rest.1, omega arith, rest.3)
 
+-- the same where this joiner ended its part of the step, which is the latest only if that was ended
 pub end-at : (s : JoinerStart) (t : Taken) (ended : Bool) (steps : List Step) (q e : ℕ) → IsHistory s t steps
     → IsEndOf s ended steps q e
     → (n : ℕ) × (e ≡ s.epoch + n + 1) × ((n + 2 < length steps) ⊎ ((n + 2 ≡ length steps) × (ended ≡ true)))
@@ -259,6 +278,7 @@ end-at s t ended (step ∷ (before ∷ past)) q e is (inr part) =
     low n (inl less) = omega arith
     low n (inr same) = let is = same.0 in omega arith
 
+-- one tuple more that arrived in the latest step changes no number of moved tuples
 pub counts-arrived : (k id : ℕ) (x : Tuple) (step : Step) (past : List Step)
     → moved_counts k id (with_arrived x step ∷ past) ≡ moved_counts k id (step ∷ past)
 counts-arrived k id x step [] = refl

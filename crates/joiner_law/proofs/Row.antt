@@ -18,6 +18,7 @@ use Rattle.joiner_law.specs.Law.{exchanged, store}
 use Rattle.joiner_law.specs.Rows.{of_feeder, of_joiner, joiner_0, all_taken, r_row}
 use Rattle.std.proofs.lemmas.List.{append-nil}
 
+-- a list that was taken whole, so that nothing is held
 pub all_of : (can_take : ToJoiner → Type 0) (ms : List ToJoiner) → IsTakenOf can_take ms ms
 all_of can_take ms = record { held = []; splits = append-nil ms; stuck = λ m rest is. absurd (cc) }
 
@@ -29,6 +30,7 @@ to_joiner zero = []
 to_joiner (suc zero) = part
 to_joiner (suc (suc q)) = []
 
+-- all that joiner 0 received, and all that it sent
 abbrev pub row_lists : JoinerLists
 row_lists = record {
   from_feeder = of_feeder;
@@ -128,6 +130,7 @@ row_never_falls zero = tt
 row_never_falls (suc zero) = (omega arith, (omega arith, tt))
 row_never_falls (suc (suc q)) = tt
 
+-- they keep each clause of the law, with the one step settled and the last message sent
 pub row_law : JoinerLaw joiner_0 row_lists all_taken
 row_law = record {
   done = 1;

@@ -23,6 +23,7 @@ use Rattle.joiner_law.proofs.Heart.{pairs-bag}
 
 -- ---- stores
 
+-- the law's store after so many steps is the store of the latest of these steps, as a bag
 pub store-is : (s : JoinerStart) (t : Taken) (step : Step) (past : List Step) → IsHistory s t (step ∷ past)
     → SameBag (store s t (length past)) (stored s.k s.id (step ∷ past))
 store-is s t step [] is =
@@ -88,6 +89,7 @@ pairs-base m base new = record {
       ) (omega arith);
 }
 
+-- the law's pairs, and those of the base with itself, are the pairs of all steps
 pub found-is : (s : JoinerStart) (t : Taken) (step : Step) (past : List Step) → IsHistory s t (step ∷ past)
     → SameBag (found s t (length past) ++ pairs_by s.matches s.base s.base)
     (all_found s.matches s.epoch s.k s.id (step ∷ past))
@@ -158,6 +160,7 @@ all_older e (x ∷ xs) none =
     low : (n : ℕ) → cond {A = ℕ} (nat_le n e) 0 1 ≡ 0 → n ≤ e
     low n is = grind arith
 
+-- where no stamp in a list is above an epoch, none is in any other order of the list
 pub older-bag : (e : ℕ) (xs ys : List Tuple) → SameBag xs ys → AllByRecursion (λ (x : Tuple). x.stamp ≤ e) ys
     → AllByRecursion (λ (x : Tuple). x.stamp ≤ e) xs
 older-bag e xs ys same all = all_older e xs (same.sums (newer e) ∙ none_newer e ys all)
@@ -176,6 +179,7 @@ older-is s t (step ∷ (before ∷ past)) is base older = (
 
 -- ---- shifts
 
+-- where turns go by the shifts, all turns to an epoch carry its shift
 pub shifts-are : (b : ℕ → ℕ) (e : ℕ) (ms : List ToJoiner) → TurnsGoBy b ms
     → AllByRecursion (λ shift. shift ≡ b e) (turn_shifts e ms)
 shifts-are b e [] by = tt
@@ -188,6 +192,7 @@ shifts-are b e (End ∷ ms) by = shifts-are b e ms by
 shifts-are b e (Moved epoch x ∷ ms) by = shifts-are b e ms by
 shifts-are b e (MovedEnd epoch ∷ ms) by = shifts-are b e ms by
 
+-- where each step goes to a neighbouring shift, the law's shifts before and after each are neighbours
 pub by_one-law : (s : JoinerStart) (t : Taken) (step : Step) (past : List Step) (n : ℕ) → IsHistory s t (step ∷ past)
     → GoesByOne (step ∷ past) → n < length past → AreNeighbours (shift_after s t n) (shift_after s t (n + 1))
 by_one-law s t step [] n is by low = absurd (omega arith)

@@ -25,6 +25,7 @@ use Rattle.joiner_law.proofs.OneMessage.{who-is, up_to-grown}
 
 -- ---- a tuple of the settled epoch, with no step open
 
+-- it probes the whole store, and is then stored
 pub settled-tup : (s : JoinerStart) (t : Taken) (lists : JoinerLists) (waiting : List Pair) (ended : ℕ
     → Bool) (a : List Tuple) (cur : Step) (past : List Step) (p : ℕ) (x : Tuple)
     → p < s.feeders → ended p ≡ false → x.stamp ≡ s.epoch + length past
@@ -69,6 +70,8 @@ added-kept : (kept : Bool) (x : Tuple) (b xs ys : List Tuple) → SameBag b xs �
 added-kept true x b xs ys same more = added x b xs ys same more
 added-kept false x b xs ys same more = SameBag-trans same (SameBag-sym more)
 
+-- it probes the whole old store and is stored there; where it is kept, it also probes the tuples of the open epoch and
+-- is in the new store; and where it is of the exchanged side, it is posted to the partner
 pub open-late : (s : JoinerStart) (t : Taken) (lists : JoinerLists) (waiting : List Pair) (turned ended : ℕ
     → Bool) (part_ended : Bool) (a b : List Tuple) (new cur : Step) (past : List Step) (p : ℕ) (x : Tuple)
     → p < s.feeders → ended p ≡ false → turned p ≡ false → x.stamp ≡ s.epoch + length past
@@ -119,6 +122,7 @@ open-late s t lists waiting turned ended part_ended a b new cur past p x low goi
 
 -- ---- a tuple of the open step
 
+-- of a feeder that has turned: it probes the whole new store, and is then stored there
 pub open-tup : (s : JoinerStart) (t : Taken) (lists : JoinerLists) (waiting : List Pair) (turned ended : ℕ
     → Bool) (all_turned part_ended : Bool) (a b : List Tuple) (new cur : Step) (past : List Step) (p : ℕ) (x : Tuple)
     → p < s.feeders → ended p ≡ false → turned p ≡ true → x.stamp ≡ s.epoch + length (cur ∷ past)
@@ -152,6 +156,7 @@ open-tup s t lists waiting turned ended all_turned part_ended a b new cur past p
 
 -- ---- a tuple that the partner moved here
 
+-- it probes only the tuples of the open epoch, and is then in the new store
 pub open-moved : (s : JoinerStart) (t : Taken) (lists : JoinerLists) (waiting : List Pair) (turned ended : ℕ
     → Bool) (all_turned part_ended : Bool) (a b : List Tuple) (new cur : Step) (past : List Step) (epoch : ℕ)
     (x : Tuple)

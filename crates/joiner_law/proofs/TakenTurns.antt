@@ -34,6 +34,7 @@ use Rattle.epoch_tags.proofs.Appends.{moved_ends-append}
 
 -- ---- a step is opened
 
+-- the exchanged side of the store is posted to the partner, and the new store begins with what is kept
 pub opened-step : (s : JoinerStart) (t : Taken) (lists : JoinerLists) (waiting : List Pair) (ended : ℕ
     → Bool) (a : List Tuple) (cur : Step) (past : List Step) (shift : ℕ)
     → shift ≤ s.k → AreNeighbours cur.shift shift
@@ -221,6 +222,7 @@ all-turned s t lists waiting turned ended part_ended a b new cur past stands =
 
 -- ---- a feeder's end
 
+-- while a step is open: this feeder has ended, and all else is as it was
 pub open-end : (s : JoinerStart) (t : Taken) (lists : JoinerLists) (waiting : List Pair) (turned ended : ℕ
     → Bool) (all_turned part_ended : Bool) (a b : List Tuple) (new cur : Step) (past : List Step) (p : ℕ)
     → p < s.feeders → ended p ≡ false
@@ -254,6 +256,7 @@ open-end s t lists waiting turned ended all_turned part_ended a b new cur past p
       taken_up_to = stands.taken_up_to;
     }
 
+-- and the same while none is open
 pub settled-end : (s : JoinerStart) (t : Taken) (lists : JoinerLists) (waiting : List Pair) (ended : ℕ
     → Bool) (a : List Tuple) (cur : Step) (past : List Step) (p : ℕ)
     → p < s.feeders → ended p ≡ false
@@ -285,6 +288,7 @@ settled-end s t lists waiting ended a cur past p low going stands =
 
 -- ---- the end of the partner's part
 
+-- the partner has ended its part of the open step, and all else is as it was
 pub open-moved_end : (s : JoinerStart) (t : Taken) (lists : JoinerLists) (waiting : List Pair) (turned ended : ℕ
     → Bool) (all_turned : Bool) (a b : List Tuple) (new cur : Step) (past : List Step) (epoch : ℕ)
     → epoch ≡ s.epoch + length past + 1
@@ -325,6 +329,7 @@ open-moved_end s t lists waiting turned ended all_turned a b new cur past epoch 
 
 -- ---- the step is settled
 
+-- once all feeders have turned and the partner ended its part: the controller is told, and the new store is the store
 pub settled-step : (s : JoinerStart) (t : Taken) (lists : JoinerLists) (waiting : List Pair) (turned ended : ℕ
     → Bool) (a b : List Tuple) (new cur : Step) (past : List Step)
     → ((p : ℕ) → p < s.feeders → turned p ≡ true)

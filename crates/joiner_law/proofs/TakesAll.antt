@@ -12,6 +12,7 @@ use Rattle.joiner_law.specs.Law.{JoinerStart, Taken, opened, shift_after, CanTak
 
 -- ---- of a feeder
 
+-- no end stands before another message of a feeder
 pub counts_ends : (e : ℕ) (xs ys : List ToJoiner) (m : ToJoiner) → CountsUp e (xs ++ m ∷ ys) → ends xs ≡ 0
 counts_ends e [] ys m up = refl
 counts_ends e (Tup x ∷ xs) ys m (is, up) = counts_ends e xs ys m up
@@ -36,6 +37,7 @@ counts_first e End ys up = tt
 counts_first e (Moved' epoch x) ys up = up
 counts_first e (MovedEnd epoch) ys up = up
 
+-- a feeder's tuple is of the epoch to which the turns before it lead, and its turn leads to the next
 pub counts_at : (e : ℕ) (xs ys : List ToJoiner) (m : ToJoiner) → CountsUp e (xs ++ m ∷ ys) → StandsAt (e + turns xs) m
 counts_at e [] ys m up = let is : e + 0 ≡ e = omega arith in subst (λ v. StandsAt v m) (sym is) (counts_first e m ys up)
 counts_at e (Tup x ∷ xs) ys m (is, up) = counts_at e xs ys m up
@@ -134,6 +136,7 @@ ends_above f e (MovedEnd epoch ∷ ms) (low, falls) has = elim (cases_Bool (epoc
       let rest = ends_above (epoch + 1) e ms falls has' in omega arith
 ]
 
+-- up to the end of an epoch nothing of a later one comes
 pub sooner : (f e v : ℕ) (m : ToJoiner) (ys : List ToJoiner) → NeverFalls f (m ∷ ys) → 0 < moved_ends e (m ∷ ys)
     → IsOfEpoch v m → v ≤ e
 sooner f e v (Tup x) ys falls has is = absurd falls

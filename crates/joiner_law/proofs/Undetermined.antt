@@ -81,6 +81,7 @@ none_moved_one : (n : ℕ) → n < 1 → SameBag (moved_of (0 + n + 1) [])
 none_moved_one zero low = record { sums = λ f. refl }
 none_moved_one (suc n) low = absurd (omega arith)
 
+-- the joiner keeps the law if it took the turn of feeder 0 and holds that of feeder 1
 pub law_one : JoinerLaw start lists one
 law_one = record {
   done = 0;
@@ -142,6 +143,7 @@ none_moved_other : (n : ℕ) → n < 1 → SameBag (moved_of (0 + n + 1) [])
 none_moved_other zero low = record { sums = λ f. refl }
 none_moved_other (suc n) low = absurd (omega arith)
 
+-- and with the same lists if it took the turn of feeder 1 and holds that of feeder 0
 pub law_other : JoinerLaw start lists other
 law_other = record {
   done = 0;
