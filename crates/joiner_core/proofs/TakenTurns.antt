@@ -141,7 +141,8 @@ pub took-turn : (m m1 m2 m3 : EpochState) (p epoch shift : ℕ) (last ready : Bo
     → (ready ≡ true → IsReady m2.step) → (ready ≡ false → IsReady m2.step → ⊥) → m3 ≡ after_settle ready m2
     → after ≡ s2 ++ posts_settled ready m2
     → TookOfFeeder p (Turn epoch shift) m m3 waiting waiting before after
-took-turn m m1 m2 m3 p epoch shift last ready waiting before s1 s2 after few within can rest1 begun posts1 rest2 turned up down posts2 settles not_yet state posts3 =
+took-turn m m1 m2 m3 p epoch shift last ready waiting before s1 s2 after few within can rest1 begun posts1 rest2 turned
+    up down posts2 settles not_yet state posts3 =
     let k1 : m1.k ≡ m.k = ap (λ (z : EpochState). z.k) rest1 in
     let k2 : m2.k ≡ m.k = ap (λ (z : EpochState). z.k) rest2 ∙ k1 in
     let b2 : m2.shift ≡ m.shift = ap (λ (z : EpochState). z.shift) rest2 ∙ ap (λ (z : EpochState). z.shift) rest1 in

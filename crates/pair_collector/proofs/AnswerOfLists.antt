@@ -20,6 +20,7 @@ map_of_map : {X Y Z : Type 0} (g : Y → Z) (f : X → Y) (xs : List X) → map 
 map_of_map g f [] = refl
 map_of_map g f (x ∷ xs) = ap (λ ys. g (f x) ∷ ys) (map_of_map g f xs)
 
+-- two functions that agree everywhere make the same of a list
 pub map_same : {X Y : Type 0} (f g : X → Y) → ((x : X) → f x ≡ g x) → (xs : List X) → map f xs ≡ map g xs
 map_same f g same [] = refl
 map_same f g same (x ∷ xs) = ap (λ y. y ∷ map f xs) (same x) ∙ ap (λ ys. g x ∷ ys) (map_same f g same xs)

@@ -48,6 +48,7 @@ front-after found kept (Fin rows_r rows_s moved) = by_last kept.last
     by_last None = refl
     by_last (Some last) = refl
 
+-- what is to be kept with one message more is what was to be kept, after that message
 pub kept-append : (ms : List ToCollector) (m : ToCollector) → kept_of (ms ++ m ∷ []) ≡ kept_after (kept_of ms) m
 kept-append [] (Found pairs) = ap (λ ps. record { pairs = ps; last = None }) (append-nil pairs)
 kept-append [] (Fin rows_r rows_s moved) = refl
@@ -56,12 +57,13 @@ kept-append (Found pairs ∷ ms) m = ap (λ (kept : Kept). record kept { pairs =
 kept-append (Fin rows_r rows_s moved ∷ ms) (Found pairs) = refl
 kept-append (Fin rows_r rows_s moved ∷ ms) (Fin rows_r' rows_s' moved') = refl
 
--- a joiner has ended where one of its messages is a `Fin`
+-- a joiner of which something is kept as its last message has sent a `Fin`
 pub ended : (ms : List ToCollector) → is_some (last_of ms) ≡ true → 0 < fins ms
 ended (Found pairs ∷ ms) is = ended ms is
 ended (Fin rows_r rows_s moved ∷ ms) is = omega arith
 ended [] is = absurd (cc)
 
+-- and where it has sent one, what the first of them carries is kept
 pub has_last : (ms : List ToCollector) → 0 < fins ms → is_some (last_of ms) ≡ true
 has_last [] some = absurd (omega arith)
 has_last (Found pairs ∷ ms) some = has_last ms some
@@ -69,6 +71,7 @@ has_last (Fin rows_r rows_s moved ∷ ms) some = refl
 
 -- ---- the list of all joiners
 
+-- a list that has at each place what a function gives for it is what that gives for all its places in order
 pub from_places : {X : Type 0} (f : ℕ → X) (a : ℕ) (xs : List X)
     → ((j : ℕ) (x : X) → slice_get xs j ≡ Some x → x ≡ f (a + j)) → xs ≡ map f (range_with_len a (length xs))
 from_places f a [] each = refl
@@ -79,6 +82,7 @@ from_places f a (x ∷ xs) each =
     rw next at (each (suc j) y is)) in
     ap (λ y. y ∷ xs) first ∙ ap (λ ys. f a ∷ ys) rest
 
+-- the lists for the numbers from 0 on, one behind the other, are what is gathered of them
 pub flat_map-range : {X : Type 0} (g : ℕ → List X) (n : ℕ) → flat_map (λ xs. xs) (map g (range_with_len 0 n))
     ≡ gather n g
 flat_map-range g zero = refl
@@ -121,6 +125,7 @@ module _ (state : CollectorState) (lists : CollectorLists) where
 
 -- ---- a message
 
+-- a joiner's message is taken where what is kept of this joiner becomes what is kept after the message
 pub joiner_takes : (old : CollectorState) (given : List ℕ) (spent : Bool) (j : ℕ) (m : ToCollector) (kept : Kept)
     → j < length old.joiners → kept ≡ get_or old.joiners j kept
     → TakesMessage (Joiner j) m old (record {
@@ -170,18 +175,21 @@ stranger_takes old j m past = record {
       ]);
 }
 
+-- a message of a joiner that has ended leaves what is kept of it as it was
 pub passed_over : (kept : Kept) (m : ToCollector) → is_some kept.last ≡ true → kept_after kept m ≡ kept
 passed_over kept (Found pairs) is = rw is refl
 passed_over kept (Fin rows_r rows_s moved) is = rw is refl
 
 -- ---- the end
 
+-- where the element at each place passes a test, all pass it
 pub every : {X : Type 0} (test : X → Bool) (xs : List X) → ((j : ℕ) (x : X) → slice_get xs j ≡ Some x → test x ≡ true)
     → list_all test xs ≡ true
 every test [] each = refl
 every test (x ∷ xs) each = and_from (test x) (list_all test xs) (each 0 x refl)
     (every test xs (λ j y at. each (suc j) y at))
 
+-- and where all pass it, the element at each place does
 pub one_of : {X : Type 0} (test : X → Bool) (xs : List X) → list_all test xs ≡ true → (j : ℕ) (x : X)
     → slice_get xs j ≡ Some x → test x ≡ true
 one_of test [] all j x at = absurd (cc)
@@ -190,6 +198,7 @@ one_of test (y ∷ ys) all zero x at =
     subst (λ z. test z ≡ true) same (and_parts (test y) (list_all test ys) all).0
 one_of test (y ∷ ys) all (suc j) x at = one_of test ys (and_parts (test y) (list_all test ys) all).1 j x at
 
+-- the machine finds that all joiners have ended just where it has the `Fin` of each
 pub complete_says : (joiners : ℕ) (lists : CollectorLists) (state : CollectorState) → StandsFor joiners lists state
     → IsTrue (is_complete state) ↔ IsComplete joiners lists
 complete_says joiners lists state stands = (
@@ -205,6 +214,7 @@ complete_says joiners lists state stands = (
       (has_last (lists.from_joiner j) (each j low))),
 )
 
+-- the machine that keeps this of the joiners, has given so many pairs of each, and is spent or not
 abbrev pub state_of : List Kept → List ℕ → Bool → CollectorState
 state_of xs given spent = record { joiners = xs; given = given; spent = spent }
 
@@ -223,6 +233,7 @@ passes_over (Err e) xs given j m kept after spent none is low at = tt
 
 -- ---- the beginning
 
+-- a machine that keeps nothing of each joiner yet stands for empty lists
 pub fresh_stands : (joiners n : ℕ) (xs : List Kept) (given : List ℕ) (spent : Bool) → n ≡ joiners
     → xs ≡ replicate n nothing_kept → StandsFor joiners nothing_yet (state_of xs given spent)
 fresh_stands joiners n xs given spent all is =

@@ -14,6 +14,7 @@ before_all p q r (inl less) (inr (same, low)) = inl (omega arith)
 before_all p q r (inr (same, low)) (inl less) = inl (omega arith)
 before_all p q r (inr (same, low)) (inr (same', low')) = inr (omega arith, omega arith)
 
+-- pairs are in order if each comes before the next
 pub in_order : (ps : List Pair) → ((k : ℕ) (d : Pair) → k + 1 < length ps
     → IsBefore (get_or ps k d) (get_or ps (k + 1) d)) → InOrder ps
 in_order [] each = tt
