@@ -63,6 +63,7 @@ asked_given (Err e) items access t others entries windows is indexed gives = tt
 pub made_apart : (access : Access) (t : Tuple) (windows : List Window) → windows ≡ asked access t → AreApart windows
 made_apart access t windows is = subst AreApart (sym is) (asked_apart access t)
 
+-- at the places that the index gave are the stored tuples that stand where the tuple asks
 pub stands_from_asked : {V E : Type 0} (r : Result V E) (items : V
     → List ℕ) (access : Access) (t : Tuple) (others : List Tuple)
     → IfOk r (λ x. items x ≡ asked_places access t others)
@@ -70,6 +71,7 @@ pub stands_from_asked : {V E : Type 0} (r : Result V E) (items : V
 stands_from_asked (Ok x) items access t others given = ap (at_places others) given ∙ at_asked access t others
 stands_from_asked (Err e) items access t others given = tt
 
+-- and each of these places is that of a stored tuple
 pub below_from_asked : {V E : Type 0} (r : Result V E) (items : V
     → List ℕ) (access : Access) (t : Tuple) (others : List Tuple)
     → IfOk r (λ x. items x ≡ asked_places access t others) → IfOk r (λ x. All (λ p. p < length others) (items x))
@@ -94,6 +96,7 @@ filter_more p others places i place other at here =
     ap (filter p) (at_places_more others places i place other at here)
     ∙ filter-append p (at_places others (take i places)) (other ∷ [])
 
+-- with one more place, whose tuple passes, at the kept places are still the tuples so far that pass
 pub kept_one : (p : Tuple → Bool) (others : List Tuple) (places kept : List ℕ) (i place : ℕ) (other : Tuple)
     → slice_get places i ≡ Some place → slice_get others place ≡ Some other
     → at_places others kept ≡ filter p (at_places others (take i places)) → p other ≡ true
@@ -105,6 +108,7 @@ kept_one p others places kept i place other at here so_far is =
     (at_place others place other here ∙ sym (ap (λ c. cond c (other ∷ []) []) is))
     ∙ sym (filter_more p others places i place other at here)
 
+-- and they still are without it, where its tuple doesn't pass
 pub kept_none : (p : Tuple → Bool) (others : List Tuple) (places kept : List ℕ) (i place : ℕ) (other : Tuple)
     → slice_get places i ≡ Some place → slice_get others place ≡ Some other
     → at_places others kept ≡ filter p (at_places others (take i places)) → p other ≡ false
@@ -122,6 +126,7 @@ admitted_at : (side : Side) (theta : Meaning) (access : Access) (t other : Tuple
 admitted_at R theta access t other law holds = law t.cells other.cells holds
 admitted_at S theta access t other law holds = law other.cells t.cells holds
 
+-- a probe of the tuples that agree in an access of the predicate finds what a probe of all stored ones does
 pub matches_by_access : (theta : Meaning) (access : Access) (t : Tuple) (which : Which) (others : List Tuple)
     → IsAccessOf theta (terms_of access)
     → matches theta t which (filter (is_admitted access t) others) ≡ matches theta t which others
@@ -130,6 +135,7 @@ matches_by_access theta access t which others law =
     (λ other found. admitted_at t.side theta access t other law
     (and_left (does_match theta t other) (is_named which other) found)) others)
 
+-- those of them that are named are as many as a probe by the access evaluates
 pub count_by_access : (access : Access) (t : Tuple) (which : Which) (others : List Tuple)
     → count_by (is_named which) (filter (is_admitted access t) others) ≡ admitted access t which others
 count_by_access access t which others = count_of_filter (is_named which) (is_admitted access t) (is_admitted access t)
@@ -137,6 +143,7 @@ count_by_access access t which others = count_of_filter (is_named which) (is_adm
 
 -- ---- a store's own access
 
+-- where a store has an access, its index is one of the numbers that the access gives to its tuples
 pub index_of_access : (key : Option KeyAtom) (stored : Option Access) (access : Access) (side : Side)
     (ts others : List Tuple) (entries : List (ℤ × SmallVec ℕ)) → stored ≡ Some access → others ≡ ts
     → IsMapOf (map (indexed_at key stored side) ts) entries → IsMapOf (numbers_at access side others) entries
@@ -144,12 +151,14 @@ index_of_access key stored access side ts others entries is same indexed =
     let P : Option Access → Type 0 = λ o. IsMapOf (map (indexed_at key o side) ts) entries in
     subst (λ xs. IsMapOf (numbers_at access side xs) entries) (sym same) (subst P is indexed)
 
+-- a probe of it evaluates as many tuples as are named and agree in the access
 pub looked_is : (key : Option KeyAtom) (stored : Option Access) (access : Access) (t : Tuple) (which : Which)
     (ts others : List Tuple) → stored ≡ Some access → others ≡ ts
     → admitted access t which others ≡ looked_at key stored t which ts
 looked_is key stored access t which ts others is same =
     ap (admitted access t which) same ∙ ap (λ o. looked_at key o t which ts) (sym is)
 
+-- and looks at as many as stand where the access asks
 pub stood_is : (key : Option KeyAtom) (stored : Option Access) (access : Access) (t : Tuple) (ts others : List Tuple)
     → stored ≡ Some access → others ≡ ts
     → count_by (does_stand access t) others ≡ count_by (stands_by key stored t) ts

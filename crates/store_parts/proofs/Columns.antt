@@ -10,6 +10,7 @@ use Rattle.theta_pred.specs.Linear.{AreBelow}
 use Rattle.store_parts.specs.Keyed.{HasColumns, FitsKeyAt, FitsKey, IsOwn}
 use Rattle.store_parts.specs.Matches.{HasWidth}
 
+-- a row of the predicate's width has the columns of the key atom's sum of its side
 pub HasColumns-width : (side : Side) (theta : Meaning) (key : KeyAtom) (t : Tuple) → IsKeyOf theta (atom_of key)
     → HasWidth theta side t → HasColumns key side t
 HasColumns-width R theta key t law width = subst (λ n. AreBelow n key.r_sum.parts) (sym width) law.lies.r

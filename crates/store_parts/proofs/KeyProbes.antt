@@ -60,6 +60,7 @@ filter_of_filter p q needs [] = refl
 filter_of_filter p q needs (x ∷ xs) = filter_step p (q x) (p x) x (filter q xs) (filter p xs) refl (needs x)
     (filter_of_filter p q needs xs)
 
+-- a test that nothing passes keeps nothing
 pub filter_none : {X : Type 0} (p : X → Bool) → ((x : X) → p x ≡ false) → (xs : List X) → filter p xs ≡ []
 filter_none p none [] = refl
 filter_none p none (x ∷ xs) = ap (λ b. cond b (x ∷ filter p xs) (filter p xs)) (none x) ∙ filter_none p none xs
@@ -74,6 +75,7 @@ one_if_both true false = refl
 one_if_both false true = refl
 one_if_both false false = refl
 
+-- of what a test keeps, as many pass another as pass both
 pub count_of_filter : {X : Type 0} (p q r : X → Bool) → ((x : X) → q x ≡ r x) → (xs : List X)
     → count_by p (filter q xs) ≡ count_by (λ x. p x && r x) xs
 count_of_filter p q r same xs =
@@ -104,6 +106,7 @@ below_take_in : (b : Bool) (n m : ℕ) (ps : List ℕ) → n < m → All (λ p. 
 below_take_in true n m ps here rest = All-cons (λ p. p < m) n ps here rest
 below_take_in false n m ps here rest = rest
 
+-- the places of values that pass a test, counted from n, are below where the list ends
 pub places_below : (test : Option ℤ → Bool) (n m : ℕ) (values : List (Option ℤ)) → n + length values ≤ m
     → All (λ p. p < m) (places_by test n values)
 places_below test n m [] fits = λ k d less. absurd (omega arith)
@@ -111,6 +114,7 @@ places_below test n m (v ∷ values) fits =
     below_take_in (test v) n m (places_by test (n + 1) values) (omega arith)
     (places_below test (n + 1) m values (omega arith))
 
+-- the places of the values between two bounds are places of stored tuples
 pub places_are_below : (from to : Option ℤ) (key : KeyAtom) (side : Side) (others : List Tuple)
     → All (λ p. p < length others) (places_between from to 0 (values_at key side others))
 places_are_below from to key side others = places_below (lies from to) 0 (length others) (values_at key side others)
@@ -127,6 +131,7 @@ same_filter p q same (x ∷ xs) = filter_agree (p x) (q x) x (same x) (same_filt
         → cond a (x ∷ xs) xs ≡ cond b (x ∷ ys) ys
     filter_agree a b x e same = cc
 
+-- at the places between the bounds of a tuple's value are the tuples with which the key atom is true
 pub band_candidates : (key : KeyAtom) (t : Tuple) (others : List Tuple) (v : ℤ) → value_at key t.side t ≡ Some v
     → at_places others (places_between (least_at t.side key v) (greatest_at t.side key v) 0
     (values_at key (other_side t.side) others)) ≡ filter (is_key_true key t) others
@@ -135,10 +140,12 @@ band_candidates key t others v is =
     ∙ same_filter (λ x. lies (least_at t.side key v) (greatest_at t.side key v) (value_at key (other_side t.side) x))
     (is_key_true key t) (λ x. band_is_key key t x v is) others
 
+-- where a tuple has no value, the key atom is true with none
 pub no_candidates : (key : KeyAtom) (t : Tuple) (others : List Tuple) → value_at key t.side t ≡ None
     → filter (is_key_true key t) others ≡ []
 no_candidates key t others none = filter_none (is_key_true key t) (λ x. no_key key t x none) others
 
+-- a probe of those with which the predicate's key atom is true finds what a probe of all stored tuples does
 pub matches_by_key : (theta : Meaning) (key : KeyAtom) (t : Tuple) (which : Which) (others : List Tuple) → IsLaw theta
     → key_of theta.formula ≡ Some (atom_of key)
     → matches theta t which (filter (is_key_true key t) others) ≡ matches theta t which others
@@ -146,6 +153,7 @@ matches_by_key theta key t which others law own =
     ap (map (pair_of t)) (filter_of_filter (is_found theta t which) (is_key_true key t)
     (λ x found. found_has_key theta key t which x law own found) others)
 
+-- those of them that are named are as many as a probe by the key evaluates
 pub count_by_key : (key : KeyAtom) (t : Tuple) (which : Which) (others : List Tuple)
     → count_by (is_named which) (filter (is_key_true key t) others) ≡ evaluated (Some key) t which others
 count_by_key key t which others = count_of_filter (is_named which) (is_key_true key t) (is_key_true key t) (λ x. refl)
@@ -156,13 +164,16 @@ count_by_key key t which others = count_of_filter (is_named which) (is_key_true 
 take_at : {X : Type 0} (xs : List X) (i : ℕ) (x : X) → slice_get xs i ≡ Some x → take (i + 1) xs ≡ take i xs ++ x ∷ []
 take_at xs i x here = take_one xs i x (slice_get_within xs i x here) (sym (get_or_from_slice_get xs i x x here))
 
+-- at places and more behind them is what is at the first, and then what is at the others
 pub at_places-append : {X : Type 0} (xs : List X) (ps qs : List ℕ)
     → at_places xs (ps ++ qs) ≡ at_places xs ps ++ at_places xs qs
 at_places-append xs ps qs = filter_map-append (slice_get xs) ps qs
 
+-- at one place alone is the one element that stands there
 pub at_place : {X : Type 0} (xs : List X) (p : ℕ) (x : X) → slice_get xs p ≡ Some x → at_places xs (p ∷ []) ≡ x ∷ []
 at_place xs p x here = ap (λ o. cons_option o []) here
 
+-- one more place adds the element that stands there
 pub at_places_more : {X : Type 0} (xs : List X) (places : List ℕ) (i p : ℕ) (x : X) → slice_get places i ≡ Some p
     → slice_get xs p ≡ Some x
     → at_places xs (take (i + 1) places) ≡ at_places xs (take i places) ++ x ∷ []
@@ -170,6 +181,7 @@ at_places_more xs places i p x place here =
     ap (at_places xs) (take_at places i p place) ∙ at_places-append xs (take i places) (p ∷ [])
     ∙ ap (λ l. at_places xs (take i places) ++ l) (at_place xs p x here)
 
+-- it adds the pair of the tuple that stands there, if the probe finds that
 pub matches_at_more : (theta : Meaning) (t : Tuple) (which : Which) (xs : List Tuple) (places : List ℕ) (i p : ℕ)
     (x : Tuple) → slice_get places i ≡ Some p → slice_get xs p ≡ Some x
     → matches theta t which (at_places xs (take (i + 1) places)) ≡ matches theta t which (at_places xs (take i places))
@@ -178,6 +190,7 @@ matches_at_more theta t which xs places i p x place here =
     ap (matches theta t which) (at_places_more xs places i p x place here)
     ∙ matches-append theta t which (at_places xs (take i places)) (x ∷ [])
 
+-- and one tuple that is evaluated, if that is named
 pub count_at_more : (which : Which) (xs : List Tuple) (places : List ℕ) (i p : ℕ) (x : Tuple)
     → slice_get places i ≡ Some p → slice_get xs p ≡ Some x
     → count_by (is_named which) (at_places xs (take (i + 1) places))
@@ -186,6 +199,7 @@ count_at_more which xs places i p x place here =
     ap (count_by (is_named which)) (at_places_more xs places i p x place here)
     ∙ count_by-append (is_named which) (at_places xs (take i places)) (x ∷ [])
 
+-- what was appended for the first places is a front of what all places give
 pub front_of_places : (theta : Meaning) (t : Tuple) (which : Which) (xs : List Tuple) (places : List ℕ) (i : ℕ)
     (old new : List Pair) → new ≡ old ++ matches theta t which (at_places xs (take i places))
     → AppendsFront old new (matches theta t which (at_places xs places))
@@ -226,6 +240,7 @@ band_given (Ok x) items key t others entries w v from to same at_least at_most i
     (at_least ∙ ap (λ x. least_at t.side key x) same) (at_most ∙ ap (λ x. greatest_at t.side key x) same)
 band_given (Err e) items key t others entries w v from to same at_least at_most indexed gives = tt
 
+-- at the places that the index gave for the band are the tuples with which the key atom is true
 pub keyed_from_band : {V E : Type 0} (r : Result V E) (items : V
     → List ℕ) (key : KeyAtom) (t : Tuple) (others : List Tuple) (v : ℤ) → value_at key t.side t ≡ Some v
     → IfOk r (λ x. items x ≡ band_places key t others v) → IfOk r
@@ -233,6 +248,7 @@ pub keyed_from_band : {V E : Type 0} (r : Result V E) (items : V
 keyed_from_band (Ok x) items key t others v is given = ap (at_places others) given ∙ band_candidates key t others v is
 keyed_from_band (Err e) items key t others v is given = tt
 
+-- and each of these places is that of a stored tuple
 pub below_from_band : {V E : Type 0} (r : Result V E) (items : V
     → List ℕ) (key : KeyAtom) (t : Tuple) (others : List Tuple) (v : ℤ)
     → IfOk r (λ x. items x ≡ band_places key t others v) → IfOk r (λ x. All (λ p. p < length others) (items x))

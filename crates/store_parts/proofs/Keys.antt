@@ -31,6 +31,7 @@ plus_low x y l = grind (arith, ints)
 plus_high : (x y h : ℤ) → int_le x (y +ℤ h) ≡ int_le (x -ℤ y) h
 plus_high x y h = grind (arith, ints)
 
+-- two tests together say what two others do, where each says what its counterpart does
 pub both : (a b c d : Bool) → a ≡ b → c ≡ d → (a && c) ≡ (b && d)
 both a b c d p q = cc
 

@@ -41,6 +41,7 @@ ge_plain true q = refl
 ge_plain false true = refl
 ge_plain false false = refl
 
+-- a number is at most another just where the other isn't less
 pub int_le-not : (x y : ℤ) → int_le x y ≡ not (int_lt y x)
 int_le-not (pos a) (pos b) = grind (arith, nat_tests)
 int_le-not (pos a) (negsuc b) = refl
@@ -122,6 +123,7 @@ rises_take_in : (b : Bool) (low n : ℕ) (ps : List ℕ) → low ≤ n → Rises
 rises_take_in true low n ps le here skipped = (le, here)
 rises_take_in false low n ps le here skipped = skipped
 
+-- the places of the values that pass a test rise
 pub places_rise : (test : Option ℤ → Bool) (low n : ℕ) (values : List (Option ℤ)) → low ≤ n
     → Rises low (places_by test n values)
 places_rise test low n [] le = tt
@@ -215,6 +217,7 @@ refilled found sorted moved =
 
 -- ---- what a range of a tree gives
 
+-- what a tree gives for its range between two bounds is what is gathered between them
 pub gathered-range : (from to : Option ℤ) (entries : List (ℤ × SmallVec ℕ))
     → flat_map (λ e. e.1.items) (filter (λ e. range_contains int_cmp (start_of from) (end_of to) e.0) entries)
     ≡ gathered from to entries
@@ -222,6 +225,7 @@ gathered-range from to entries =
     ap (flat_map (λ e. e.1.items)) (filter_agree (λ e. range_contains int_cmp (start_of from) (end_of to) e.0)
     (λ e. lies from to (Some e.0)) (λ e. in_range from to e.0) entries)
 
+-- once no entry is left, what was taken is all
 pub all_taken : (left : List (ℤ × SmallVec ℕ)) (taken all : List ℕ) → left ≡ []
     → taken ++ flat_map (λ e. e.1.items) left ≡ all → taken ≡ all
 all_taken left taken all none is = grind (arith, common_steps)
@@ -236,6 +240,7 @@ lies-backward None to v back = absurd (false≢true back)
 lies-backward (Some a) None v back = absurd (false≢true back)
 lies-backward (Some a) (Some b) v back = none_lies a b v back
 
+-- between bounds that run backwards nothing is gathered
 pub gathered-backward : (from to : Option ℤ) (entries : List (ℤ × SmallVec ℕ)) → is_backward from to ≡ true
     → gathered from to entries ≡ []
 gathered-backward from to entries back =

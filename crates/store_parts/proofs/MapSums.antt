@@ -47,6 +47,7 @@ apart_at : {X : Type 0} (b : Bool) (x : X) (o : Option X) → cond b (Some x) o 
 apart_at true x o none = absurd (cc)
 apart_at false x o none = (refl, none)
 
+-- an entry inserted at a new key adds its term to a sum over the entries
 pub sum-insert_entry : {K X : Type 0} (cmp : K → K → Ordering) (F : K × X → ℕ) (k : K) (v : X) (es : List (K × X))
     → lookup (is_at (cmp k)) es ≡ None
     → sum_by F (insert_entry cmp es k v) ≡ F (k, v) + sum_by F es
@@ -75,6 +76,7 @@ set_at test F v w more false e es here grows found rest = omega (
   rest found,
 )
 
+-- another value set at a key changes a sum over the entries by what the term of that key grows
 pub sum-set_value : {K X : Type 0} (test : K → Bool) (F : K × X → ℕ) (v w : X) (more : ℕ) (es : List (K × X))
     → ((q : K) → test q ≡ true → F (q, w) ≡ F (q, v) + more) → lookup test es ≡ Some v
     → sum_by F (set_value test es w) ≡ sum_by F es + more
@@ -88,6 +90,7 @@ sum-set_value test F v w more (e ∷ es) grows found = set_at test F v w more (t
 abbrev pub FindsOnly : (ℤ → Ordering) → ℤ → Type 0
 FindsOnly compare v = (q : ℤ) → is_at compare q ≡ true → q ≡ v
 
+-- the query for a value finds no other value
 pub finds_only : (v : ℤ) → FindsOnly (int_cmp v) v
 finds_only v q hit = sym (exact_signed v q (equal_from_test (int_cmp v q) hit))
   where
@@ -117,6 +120,7 @@ value_more f values v n at_end =
     let place : f (v, 0 + length values) ≡ f (v, n) = ap (λ m. f (v, m)) (omega (arith, at_end)) in
     omega (arith, more, joined, last, place)
 
+-- an entry written back with the places that it had leaves the map's values as they are
 pub map_kept : (compare : ℤ → Ordering) (values : List (Option ℤ)) (old new : List (ℤ × SmallVec ℕ)) (p w : SmallVec ℕ)
     → lookup (is_at compare) old ≡ Some p → new ≡ set_value (is_at compare) old w → w.items ≡ p.items
     → IsMapOf values old → IsMapOf values new
@@ -127,6 +131,7 @@ map_kept compare values old new p w found written same h = record {
       omega (arith, whole, set, h.sums f);
 }
 
+-- once the next place is pushed to the entry of its value, the map has that value as one more
 pub map_pushed : (compare : ℤ → Ordering) (values : List (Option ℤ)) (v : ℤ) (n : ℕ) (old new : List (ℤ × SmallVec ℕ))
     (p w : SmallVec ℕ)
     → FindsOnly compare v → lookup (is_at compare) old ≡ Some p → new ≡ set_value (is_at compare) old w
@@ -140,6 +145,7 @@ map_pushed compare values v n old new p w exact found written pushed at_end h = 
       omega (arith, whole, set, h.sums f, value_more f values v n at_end);
 }
 
+-- so it has once an entry of that one place is inserted, where the value had none
 pub map_inserted : (values : List (Option ℤ)) (v : ℤ) (n : ℕ) (old new : List (ℤ × SmallVec ℕ)) (w : SmallVec ℕ)
     → lookup (is_at (int_cmp v)) old ≡ None → new ≡ insert_entry int_cmp old v w → w.items ≡ n ∷ []
     → length values ≡ n → IsMapOf values old → IsMapOf (values ++ Some v ∷ []) new
@@ -172,6 +178,7 @@ sum-put F v empty w more old new (Some p) is put zero grows =
 at_empty : (f : ℤ × ℕ → ℕ) (v : ℤ) (empty : SmallVec ℕ) → empty.items ≡ [] → at_each f (v, empty) ≡ 0
 at_empty f v empty none = ap (λ xs. sum_by (λ x. f (v, x)) xs) none
 
+-- an entry put with the places that it had, none where there was no entry, leaves the map's values as they are
 pub map_put_kept : (values : List (Option ℤ)) (v : ℤ) (old new : List (ℤ × SmallVec ℕ)) (empty w : SmallVec ℕ)
     (found : Option (SmallVec ℕ))
     → lookup (is_at (int_cmp v)) old ≡ found → IsPut v w found old new → empty.items ≡ []
@@ -184,6 +191,7 @@ map_put_kept values v old new empty w found is put none same h = record {
       omega (arith, set, h.sums f);
 }
 
+-- once it is put with the next place behind these, the map has that place's value as one more
 pub map_put_pushed : (values : List (Option ℤ)) (v : ℤ) (n : ℕ) (old new : List (ℤ × SmallVec ℕ)) (empty w : SmallVec ℕ)
     (found : Option (SmallVec ℕ))
     → lookup (is_at (int_cmp v)) old ≡ found → IsPut v w found old new → empty.items ≡ []
@@ -198,6 +206,7 @@ map_put_pushed values v n old new empty w found is put none pushed at_end h = re
 
 -- ---- a tuple with no value
 
+-- a tuple that has no value needs no entry: the map as it is has the values of all, with this one
 pub map_no_value : (value : Option ℤ) (values : List (Option ℤ)) (entries : List (ℤ × SmallVec ℕ))
     → ((v : ℤ) → value ≡ Some v → ⊥) → IsMapOf values entries → IsMapOf (values ++ value ∷ []) entries
 map_no_value None values entries never h = record {

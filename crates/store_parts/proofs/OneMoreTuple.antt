@@ -10,16 +10,19 @@ use Rattle.theta_pred.specs.Formula.{Meaning}
 use Rattle.store_parts.specs.declared.which.Which.{Which}
 use Rattle.store_parts.specs.Matches.{matches, is_found, pair_of, AppendsFront}
 
+-- one more element taken of a list is its next one, behind those before
 pub take_one : {X : Type 0} (xs : List X) (i : ℕ) (x : X) → i < length xs → x ≡ get_or xs i x
     → take (i + 1) xs ≡ take i xs ++ x ∷ []
 take_one xs i x low is = take_more xs i x low ∙ ap (λ y. take i xs ++ y ∷ []) (sym is)
 
+-- a probe of two lists, one behind the other, finds what it finds in the first and then in the second
 pub matches-append : (theta : Meaning) (t : Tuple) (which : Which) (xs ys : List Tuple)
     → matches theta t which (xs ++ ys) ≡ matches theta t which xs ++ matches theta t which ys
 matches-append theta t which xs ys =
     ap (map (pair_of t)) (filter-append (is_found theta t which) xs ys)
     ∙ map-append (pair_of t) (filter (is_found theta t which) xs) (filter (is_found theta t which) ys)
 
+-- a test passes as many of two lists, one behind the other, as of the first and of the second
 pub count_by-append : {X : Type 0} (p : X → Bool) (xs ys : List X)
     → count_by p (xs ++ ys) ≡ count_by p xs + count_by p ys
 count_by-append p xs ys = sum_by-append (λ x. cond (p x) 1 0) xs ys

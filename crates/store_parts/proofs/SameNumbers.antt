@@ -22,6 +22,7 @@ use Rattle.store_parts.specs.Places.{lies}
 le_self : (z : ℤ) → int_le z z ≡ true
 le_self z = grind (arith, ints)
 
+-- a number lies between two bounds that are both this number
 pub lies_self : (z : ℤ) → lies (Some z) (Some z) (Some z) ≡ true
 lies_self z = let le = le_self z in cc
 

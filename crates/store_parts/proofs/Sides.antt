@@ -52,6 +52,7 @@ filter-both_r p rs ss are =
     ∙ append-nil (filter q rs)
     ∙ filter-own R p rs refl are.r
 
+-- the same, where it asks for S
 pub filter-both_s : (p : Tuple → Bool) (rs ss : List Tuple) → AreSided rs ss
     → filter (λ t. is_of S t && p t) (rs ++ ss) ≡ filter p ss
 filter-both_s p rs ss are =
@@ -67,6 +68,7 @@ abbrev pub probed_at : Side → (Tuple → Tuple → Bool) → (Tuple → Bool) 
 probed_at R test names x ys = map (pair_at R x) (filter (λ q. is_of S q && (test x q && names q)) ys)
 probed_at S test names x ys = map (pair_at S x) (filter (λ r. is_of R r && (test r x && names r)) ys)
 
+-- the same, by the side of the tuple that probes
 abbrev pub probed : (Tuple → Tuple → Bool) → (Tuple → Bool) → Tuple → List Tuple → List Pair
 probed test names x ys = probed_at x.side test names x ys
 

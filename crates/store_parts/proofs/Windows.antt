@@ -87,6 +87,7 @@ stand_lies hash class v low high is =
 
 -- ---- intervals
 
+-- where the first of two is true, one of them is
 pub or_left : (a b : Bool) → a ≡ true → (a || b) ≡ true
 or_left a b p = cc
 

@@ -45,12 +45,15 @@ second = row R 1 99 903
 abbrev count : Tuple → Atom → ℕ
 count t atom = count_by (λ other. is_atom_true atom t.cells other.cells) stored
 
+-- the first row, at 900, evaluates those at 898 and 902
 pub first_evaluates_2 : (key : KeyAtom) → atom_of key ≡ band → evaluated (Some key) first All stored ≡ 2
 first_evaluates_2 key is_band = ap (count first) is_band
 
+-- the second, at 903, evaluates those at 902 and 903
 pub second_evaluates_2 : (key : KeyAtom) → atom_of key ≡ band → evaluated (Some key) second All stored ≡ 2
 second_evaluates_2 key is_band = ap (count second) is_band
 
+-- without a key the first evaluates all three
 pub scan_evaluates_3 : evaluated None first All stored ≡ 3
 scan_evaluates_3 = refl
 
@@ -71,5 +74,6 @@ words = word S (97 ∷ []) ∷ word S (98 ∷ []) ∷ word S (97 ∷ []) ∷ wor
 abbrev by_words : Access
 by_words = record { sames = Texts (record { r = 0; s = 0 }) ∷ []; range = None }
 
+-- a row of R with the first of these texts evaluates the two of four rows of S that have it too
 pub text_evaluates_2 : (key : Option KeyAtom) → looked_at key (Some by_words) (word R (97 ∷ [])) All words ≡ 2
 text_evaluates_2 key = refl

@@ -47,6 +47,7 @@ both p q is_p is_q = cc
 at_most : (x y : ℤ) → x ≤ℤ y → int_le x y ≡ true
 at_most x y h = grind (arith, ints)
 
+-- where a comparison of two sums is true, the difference of their columns lies between the bounds that it gives
 pub num_bounds : (op : Op) (x y gap c : ℤ) → allows op (int_cmp x y) ≡ true → x -ℤ y ≡ gap +ℤ c
     → (is_from (num_low op c) gap && is_up_to (num_high op c) gap) ≡ true
 num_bounds Eq x y gap c holds apart =
@@ -79,14 +80,17 @@ band_reach op x reach gap c small apart =
     let below = within.1 in
     both _ _ (at_most (neg_ℤ reach -ℤ c) gap (omega (arith, ints))) (at_most gap (reach -ℤ c) (omega (arith, ints)))
 
+-- of a band that leaves its bound out, each size below the bound is at most the greatest that it allows
 pub lt_reach : (x bound : ℤ) → allows Lt (int_cmp (size_of x) bound) ≡ true → size_of x ≤ℤ reach Lt bound
 lt_reach x bound holds =
     let is = lt_from (size_of x) bound (int_cmp (size_of x) bound) (int_ranks (size_of x) bound) holds in
     omega (arith, ints)
 
+-- where a sum has a size that a band allows, what its columns come to lies between the band's bounds
 pub band_bounds : (op : Op) (x bound gap c : ℤ) → size_of x ≤ℤ reach op bound → x ≡ gap +ℤ c
     → (is_from (Some (neg_ℤ (reach op bound) -ℤ c)) gap && is_up_to (Some (reach op bound -ℤ c)) gap) ≡ true
 band_bounds op x bound gap c small apart = band_reach op x (reach op bound) gap c small apart
 
+-- of a band that takes its bound in, each size up to the bound is at most the greatest that it allows
 pub le_reach : (x bound : ℤ) → allows Le (int_cmp (size_of x) bound) ≡ true → size_of x ≤ℤ reach Le bound
 le_reach x bound holds = le_from (size_of x) bound (int_cmp (size_of x) bound) (int_ranks (size_of x) bound) holds

@@ -16,15 +16,18 @@ use Rattle.theta_pred.specs.Keys.{constant_of, difference}
 use Rattle.theta_pred.specs.Linear.{part_of, value_of}
 use Rattle.theta_pred.specs.Sums.{of_side, plus, with_sign, number_of, signed_of, sum_of}
 
+-- what is there in two equal options is equal
 pub some-injective : {X : Type 0} (x y : X) → Some x ≡ Some y → x ≡ y
 some-injective x y is = ap (λ o. unwrap_or o x) is
 
 -- ---- sums of columns
 
+-- 0 added to a number that may be absent leaves it as it is
 pub plus_nil : (o : Option ℤ) → plus (Some (pos 0)) o ≡ o
 plus_nil None = refl
 plus_nil (Some x) = ap Some (omega (arith, ints))
 
+-- three numbers of which any may be absent come to the same, whichever two are added first
 pub plus_more : (o p q : Option ℤ) → plus (plus o p) q ≡ plus o (plus p q)
 plus_more None p q = refl
 plus_more (Some x) None q = refl
@@ -176,6 +179,7 @@ between_is : (low high o p : Option ℤ) (x y : ℤ) → o ≡ Some x → p ≡ 
     → is_between low high o p ≡ (is_from low (x -ℤ y) && is_up_to high (x -ℤ y))
 between_is low high o p x y is_x is_y = ap (λ q. is_between low high q p) is_x ∙ ap (is_between low high (Some x)) is_y
 
+-- where two sums have numbers, the atom of their difference is true if what the columns come to is in its bounds
 pub difference_true : (r s : List Cell) (left right : List SignedTerm) (low high : Option ℤ) (x y : ℤ)
     → sum_of r s left ≡ Some x → sum_of r s right ≡ Some y
     → ((gap : ℤ) → x -ℤ y ≡ gap +ℤ (constant_of left -ℤ constant_of right)

@@ -27,10 +27,12 @@ use Rattle.theta_pred.proofs.KeyPlaces.{difference-below}
 
 -- ---- which member it is
 
+-- of two that are true together the first is true
 pub and_left : (p q : Bool) → (p && q) ≡ true → p ≡ true
 and_left true q e = refl
 and_left false q e = absurd (false≢true e)
 
+-- and so is the second
 pub and_right : (p q : Bool) → (p && q) ≡ true → q ≡ true
 and_right true q e = e
 and_right false q e = absurd (false≢true e)
@@ -120,6 +122,7 @@ compares-some op None p is = absurd (false≢true is)
 compares-some op (Some x) None is = absurd (false≢true is)
 compares-some op (Some x) (Some y) is = (x, y, refl, refl, is)
 
+-- where a comparison of two sums is true of two rows, the atom that is made of it is true of them
 pub num-true : (r s : List Cell) (left right : List SignedTerm) (op : Op)
     → compares op (sum_of r s left) (sum_of r s right) ≡ true
     → let c = constant_of left -ℤ constant_of right in is_atom_true
@@ -211,6 +214,7 @@ atom-lies width_r width_s (txt left op right) atom sound is = absurd (none-some 
 
 -- ---- the law
 
+-- the key atom of a sound predicate has its columns in the rows, and is true wherever the predicate is
 pub key_of-law : (theta : Meaning) (atom : Atom) → IsSound theta.width_r theta.width_s theta.formula
     → key_of theta.formula ≡ Some atom → IsKeyOf theta atom
 key_of-law theta atom sound is =

@@ -27,6 +27,7 @@ number_columns-below width_r width_s side minus number within =
     (number_places side number)
     (number_places-within width_r width_s side number within)
 
+-- where the columns of a sum are there, those of a side lie in rows of that side's width
 pub columns_of-below : (width_r width_s : ℕ) (side : Side) (turned : Bool) (terms : List SignedTerm)
     → AreWithin width_r width_s terms
     → AreBelow (of_side width_r width_s side) (columns_of side turned terms)

@@ -12,6 +12,7 @@ use Rattle.theta_pred.specs.Linear.{part_of, value_of, AreBelow}
 use Rattle.theta_pred.specs.Sums.{plus, with_sign}
 use Rattle.theta_pred.proofs.SumSteps.{plus_assoc}
 
+-- the next term's constant moves from what is left of a sum to the running total: both are still the whole
 pub constant_step : (items : List SignedTerm) (i : ℕ) (d : SignedTerm) (v x whole : ℤ) → i < length items
     → x ≡ with_sign (get_or items i d).minus (constant_in (get_or items i d).number)
     → v +ℤ constant_of (drop i items) ≡ whole → (v +ℤ x) +ℤ constant_of (drop (i + 1) items) ≡ whole
@@ -22,6 +23,7 @@ constant_step items i d v x whole below is before =
     let sums : (v +ℤ x) +ℤ rest ≡ v +ℤ (x +ℤ rest) = omega (arith, ints) in
     rw add-one (sums ∙ ap (λ y. v +ℤ y) (sym here) ∙ before)
 
+-- so does the number of the next part of a sum of columns, where its cell has one
 pub value_step : (row : List Cell) (items : List Part) (i : ℕ) (d : Part) (v x : ℤ) (whole : Option ℤ)
     → i < length items
     → Some x ≡ part_of (get_or items i d) row → plus (Some v) (value_of (drop i items) row) ≡ whole

@@ -10,10 +10,12 @@ use Rattle.theta_pred.specs.declared.tree.Tree.{Tree}
 use Rattle.theta_pred.specs.Formula.{Formula, formula_of}
 use Rattle.theta_pred.specs.Resolved.{resolved_term, resolved_sum, resolved}
 
+-- what is left of a list is its next item, and then what is left behind that
 pub drop-next : {X : Type 0} (items : List X) (i : ℕ) (x : X) → i < length items → x ≡ get_or items i x
     → drop i items ≡ x ∷ drop (i + 1) items
 drop-next items i x below is = rw add-one (drop-cons items i x below ∙ ap (λ y. y ∷ drop (suc i) items) (sym is))
 
+-- the next term of a sum, resolved, moves from what is left to what is done: both together are still the whole
 pub resolved_sum-next : (names_r names_s : List (List ℕ)) (before after : List SignedTerm) (signed : Signed)
     (number : Number)
     (left rest : List Signed) (whole : List SignedTerm) → left ≡ signed ∷ rest
@@ -30,6 +32,7 @@ map-push : {X Y : Type 0} (f : X → Y) (xs : List X) (x : X) → map f (xs ++ x
 map-push f [] x = refl
 map-push f (y ∷ ys) x = ap (λ zs. f y ∷ zs) (map-push f ys x)
 
+-- so does the next member of a predicate, made into a tree
 pub resolved-next : (names_r names_s : List (List ℕ)) (before after : List Tree) (pred : Pred) (tree : Tree)
     (left rest : List Pred) (whole : List Formula) → left ≡ pred ∷ rest
     → formula_of tree ≡ resolved names_r names_s pred

@@ -31,6 +31,7 @@ place_if_on-within width_r width_s S S place h = All-cons (Under width_r width_s
 place_if_on-within width_r width_s R S place h = All-nil (Under width_r width_s R)
 place_if_on-within width_r width_s S R place h = All-nil (Under width_r width_s S)
 
+-- the place of a term's column of this side is below the side's width, where that column is there
 pub number_places-within : (width_r width_s : ℕ) (side : Side) (number : Number) → IsNumberWithin width_r width_s number
     → All (Under width_r width_s side) (number_places side number)
 number_places-within width_r width_s side (Given value) h = All-nil (Under width_r width_s side)
@@ -65,6 +66,7 @@ mutual
       All-append (Under width_r width_s side) (sum_places side f) _ (sum_places-within width_r width_s side f h.0)
       (all_sum_places-within width_r width_s side fs h.1)
 
+-- the places of a side in a sound predicate's sums, sorted and each kept once, are the side's numeric columns
 pub AreNumeric-sorted : (width_r width_s : ℕ) (side : Side) (f : Formula) (added sorted kept : List ℕ)
     → IsSound width_r width_s f → added ≡ sum_places side f → IsPermutation added sorted → IsSorted nat_cmp sorted
     → IsFiltered (DiffersFromLast eqb) [] sorted kept → AreNumeric f side (of_side width_r width_s side) kept

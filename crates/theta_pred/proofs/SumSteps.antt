@@ -9,10 +9,12 @@ use Rattle.theta_pred.specs.Sizes.{IsAtMost}
 use Rattle.theta_pred.specs.Sound.{AreWithin, IsNumberWithin}
 use Rattle.theta_pred.specs.Sums.{plus, signed_of, sum_of}
 
+-- two numbers and a rest that may be absent come to the same, whichever two are added first
 pub plus_assoc : (v x : ℤ) (rest : Option ℤ) → plus (Some (v +ℤ x)) rest ≡ plus (Some v) (plus (Some x) rest)
 plus_assoc v x None = refl
 plus_assoc v x (Some y) = let e : (v +ℤ x) +ℤ y ≡ v +ℤ (x +ℤ y) = omega (arith, ints) in ap Some e
 
+-- the next term's number, where it has one, moves from what is left of a sum to the total: both are still the whole
 pub sum_step : (r s : List Cell) (items : List SignedTerm) (i : ℕ) (d : SignedTerm) (v x : ℤ) (whole : Option ℤ)
     → i < length items
     → Some x ≡ signed_of r s (get_or items i d) → plus (Some v) (sum_of r s (drop i items)) ≡ whole
@@ -29,6 +31,7 @@ pub within_step : (width_r width_s : ℕ) (items : List SignedTerm) (i : ℕ) (d
 within_step width_r width_s items i d below within =
     rw add-one (subst (AreWithin width_r width_s) (drop-cons items i d below) within)
 
+-- a sum within one limit for each of its numbers stays so with one more number that is within the limit
 pub IsAtMost-next : (limit i : ℕ) (v x : ℤ) → IsAtMost (limit * i) v → IsAtMost limit x
     → IsAtMost (limit * (i + 1)) (v +ℤ x)
 IsAtMost-next limit i v x v_small x_small = record { above = omega (arith, ints); below = omega (arith, ints) }

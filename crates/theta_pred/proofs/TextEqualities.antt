@@ -46,6 +46,7 @@ of_two r s S R i j atom is holds =
       s = i;
     }) atom is) (sym (same_texts (text_at i s) (text_at j r) holds))
 
+-- where an equality of the texts of a column of R and one of S is true, the two rows have one text there
 pub of_columns-equal : (r s : List Cell) (left right : Column) (atom : TextAtom) → of_columns left right ≡ Some atom
     → is_true r s (txt (texts.Cell left) Eq (texts.Cell right)) ≡ true → text_at atom.r r ≡ text_at atom.s s
 of_columns-equal r s left right atom is holds = of_two r s left.side right.side left.place right.place atom is holds

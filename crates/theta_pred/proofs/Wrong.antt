@@ -13,6 +13,7 @@ use Rattle.theta_pred.specs.Names.{places_from, StandsOnce, IsFirstWrong}
 use Rattle.theta_pred.specs.Resolved.{Tells}
 use Rattle.theta_pred.specs.Sums.{of_side}
 
+-- a name that stands alone is the first wrong one, if it is wrong
 pub IsFirstWrong-one : (names_r names_s : List (List ℕ)) (name : Name) → IsFirstWrong names_r names_s (name ∷ []) name
 IsFirstWrong-one names_r names_s name =
     record { before = []; after = []; splits = refl; once = All-nil (StandsOnce names_r names_s) }
@@ -27,6 +28,7 @@ IsFirstWrong-right names_r names_s xs ys name once wrong = record {
   once = All-append (StandsOnce names_r names_s) xs wrong.before once wrong.once;
 }
 
+-- a fault told of the names behind is that of all names, where those in front each stand in their header once
 pub Tells-right : (names_r names_s : List (List ℕ)) (xs ys : List Name) (fault : ResolveFault)
     → All (StandsOnce names_r names_s) xs → Tells names_r names_s ys fault → Tells names_r names_s (xs ++ ys) fault
 Tells-right names_r names_s xs ys (NoColumn side word) once tells =
@@ -52,6 +54,7 @@ places_from-within place word (name ∷ names) =
     next_places place (bytes_eq name word) limit _ (omega arith)
     (All-weaker (Under (place + 1 + length names)) (Under limit) (λ x h. omega arith) _ behind)
 
+-- the width of a side is the number of names in its header
 pub of_side-length : (names_r names_s : List (List ℕ)) (side : Side)
     → of_side (length names_r) (length names_s) side ≡ length (of_side names_r names_s side)
 of_side-length names_r names_s R = refl
@@ -73,6 +76,7 @@ pub record Leads (names_r names_s : List (List ℕ)) (left whole : List Name) : 
   pub once : All (StandsOnce names_r names_s) left → All (StandsOnce names_r names_s) whole
   pub told : (fault : ResolveFault) → Tells names_r names_s left fault → Tells names_r names_s whole fault
 
+-- the names behind the next ones still lead to all, where each of the next stands in its header once
 pub Leads-next : (names_r names_s : List (List ℕ)) (xs rest whole : List Name)
     → Leads names_r names_s (xs ++ rest) whole
     → All (StandsOnce names_r names_s) xs → Leads names_r names_s rest whole
