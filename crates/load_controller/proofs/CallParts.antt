@@ -25,6 +25,7 @@ use Rattle.load_controller.proofs.Standings.{same_line}
 
 -- ---- posts, one after another
 
+-- lists to which no post is added, with the journal that they have, are the same lists
 pub sent_none : (lists : ControllerLists) (journal : List TurnLine) → journal ≡ lists.journal
     → lists ≡ with_sent lists [] journal
 sent_none lists journal same = λ i. record {
@@ -34,6 +35,7 @@ sent_none lists journal same = λ i. record {
   journal = sym same i;
 }
 
+-- posts sent in two parts leave the same lists as those of both sent at once
 pub sent_twice : (lists : ControllerLists) (a b : List Post) (j j' : List TurnLine)
     → with_sent (with_sent lists a j) b j' ≡ with_sent lists (a ++ b) j'
 sent_twice lists a b j j' = λ i. record {
@@ -45,9 +47,11 @@ sent_twice lists a b j j' = λ i. record {
   journal = j';
 }
 
+-- a journal begins with itself
 pub prefix_self : (xs : List TurnLine) → IsPrefix xs xs
 prefix_self xs = record { rest = []; joins = append-nil xs }
 
+-- a beginning of a journal's beginning is a beginning of the journal
 pub prefix_then : (a b c : List TurnLine) → IsPrefix a b → IsPrefix b c → IsPrefix a c
 prefix_then a b c p q = record {
   rest = p.rest ++ q.rest;
@@ -55,6 +59,7 @@ prefix_then a b c p q = record {
       ∙ ap (λ xs. xs ++ q.rest) p.joins ∙ q.joins;
 }
 
+-- lists that keep the law within a call still do where no post is added
 abbrev pub sent_within : (r : Rules) (first : TurnLine) (lists : ControllerLists) (journal : List TurnLine) (held : ℕ
     → List ℕ) (w : StandsWithin r first lists journal held)
     → StandsWithin r first (with_sent lists [] journal) journal held
@@ -71,6 +76,7 @@ sent_within r first lists journal held w = record {
 
 -- ---- nothing, and one part after another
 
+-- a ledger that stays as it is, with nothing sent, has done a part of a call
 pub advances_none : (c : Ledger) (posts : List Post) → Advances c c posts posts
 advances_none c posts = record {
   state = refl;
@@ -91,6 +97,7 @@ posted_both r r' x y z a b same one two =
     let two' : posts_by r z ≡ posts_by r y ++ b = subst (λ q. posts_by q z ≡ posts_by q y ++ b) same two in
     two' ∙ ap (λ ps. ps ++ b) one ∙ append_assoc (posts_by r x) a b
 
+-- the posts of two parts go over the controller's links, where those of each part do
 pub over_both : (r r' : Rules) (a b : List Post) → r' ≡ r → AllGoOver r.k r.feeders Controller a
     → AllGoOver r'.k r'.feeders Controller b → AllGoOver r.k r.feeders Controller (a ++ b)
 over_both r r' a b same one two =
@@ -109,6 +116,7 @@ stands_both r r' first lists a b j j' h h' same w moves =
     subst (λ ls. StandsWithin r first ls j' h') (sent_twice lists a b j j')
     (subst (λ q. StandsWithin q first (with_sent (with_sent lists a j) b j') j' h') same moved)
 
+-- one part of a call and another after it are a part of the call
 pub advances_then : (a b c : Ledger) (pa pb pc : List Post) → Advances a b pa pb → Advances b c pb pc
     → Advances a c pa pc
 advances_then a b c pa pb pc one two = record {
@@ -126,6 +134,7 @@ advances_then a b c pa pb pc one two = record {
       (λ w'. two.stands first (with_sent lists one.added b.journal) w');
 }
 
+-- a part that was handed the message and another after it are a part that was handed the message
 pub took_then : (from : Actor) (m : ToController) (a b c : Ledger) (pa pb pc : List Post) → Took from m a b pa pb
     → Advances b c pb pc → Took from m a c pa pc
 took_then from m a b c pa pb pc one two = record {
@@ -155,6 +164,7 @@ pub record AddsLine (cause : Cause) (old new : Ledger) (past : List TurnLine) (b
   pub posted : posts_by (rules_of old) (reverse new.journal) ≡ posts_by (rules_of old) (reverse old.journal)
       ++ posts_for (rules_of old) new.line old.line past
 
+-- where a cause was counted, its line is the journal's last, and the posts for that line were sent
 pub adds_line : (cause : Cause) (old new : Ledger) (before after : List Post) (s : IsSound old) → IsSound new
     → CountsCause cause old new before after → AddsLine cause old new s.past before after
 adds_line cause old new before after s t c =
@@ -182,6 +192,7 @@ adds_line cause old new before after s t c =
           ++ posts_for (rules_of old) new.line old.line s.past) (sym s.newest);
     }
 
+-- these posts go over the controller's links, where a line of this cause may come
 pub over_line : (cause : Cause) (old new : Ledger) (before after : List Post) (s : IsSound old) → CauseFits old cause
     → CountsCause cause old new before after
     → AllGoOver old.k old.feeders Controller (posts_for (rules_of old) new.line old.line s.past)
@@ -223,8 +234,10 @@ recast r first lists journal held w line past newest same_line same_past = recor
       (subst (λ ls. (q : ℕ) → q < r.feeders → lists.to_feeder q ≡ sent_by r q (w.line ∷ ls)) (sym same_past) w.sends);
 }
 
+-- pasts that are one begin with the same line
 pub first_same : (a b : TurnLine) (xs ys : List TurnLine) → a ∷ xs ≡ b ∷ ys → a ≡ b
 first_same a b xs ys e = cc
 
+-- and go on with the same past
 pub rest_same : (a b : TurnLine) (xs ys : List TurnLine) → a ∷ xs ≡ b ∷ ys → xs ≡ ys
 rest_same a b xs ys e = cc

@@ -134,6 +134,7 @@ module _ (c : Ledger) (s : IsSound c) where
 
 -- ---- a line more
 
+-- a ledger that has the line of a cause in its journal, and else what it had, is the old state with that line
 pub line_state : (cause : Cause) (old new : Ledger) (s : IsSound old) → rules_of new ≡ rules_of old
     → new.held ≡ old.held → line_after (rules_of old) old.line s.past cause ≡ new.line
     → new.journal ≡ old.journal ++ new.line ∷ [] → state_of new false ≡ with_line cause (state_of old false)

@@ -39,10 +39,12 @@ all_push : {M : Type 0} (P : M → Type 0) (ms : List M) (m : M) → AllByRecurs
 all_push P [] m all here = (here, tt)
 all_push P (x ∷ ms) m (first, all) here = (first, all_push P ms m all here)
 
+-- the list at the message's index has the message at its end
 pub grown_same : {M : Type 0} (at : ℕ) (m : M) (lists : ℕ → List M) (i : ℕ) → at ≡ i
     → grown at m lists i ≡ lists i ++ m ∷ []
 grown_same at m lists i same = rw (eq-eqb at i same) refl
 
+-- each other list stays as it is
 pub grown_other : {M : Type 0} (at : ℕ) (m : M) (lists : ℕ → List M) (i : ℕ) → (at ≡ i → ⊥)
     → grown at m lists i ≡ lists i
 grown_other at m lists i differ = rw (ne_eqb at i differ) refl
@@ -367,12 +369,14 @@ message_passed rules first lists journal held w Collector m never = w
 abbrev pub own_start : TurnLine → ControllerState → ControllerStart
 own_start first state = record { rules = state.rules; first = first }
 
+-- a machine stands for the same lists if its own rules are taken for those with which it began
 pub as_own : (start : ControllerStart) (lists : ControllerLists) (state : ControllerState) → StandsFor start lists state
     → StandsFor (own_start start.first state) lists state
 as_own start lists state stands =
     subst (λ (rules : Rules). StandsFor (record { rules = rules; first = start.first }) lists state) (sym stands.began)
     stands
 
+-- lists for which a machine stands between calls keep the law within a call
 abbrev pub within_of : (first : TurnLine) (lists : ControllerLists) (state : ControllerState)
     → StandsFor (own_start first state) lists state
     → StandsWithin state.rules first lists state.journal (held_at state.held)
@@ -395,6 +399,7 @@ within_of first lists state stands =
       sends = law.sends;
     }
 
+-- of a machine that stands for lists no joiner's first held epoch is in place
 pub stuck_of : (first : TurnLine) (lists : ControllerLists) (state : ControllerState)
     (stands : StandsFor (own_start first state) lists state) (j : ℕ) → j < 2 ^ state.rules.k
     → (epoch : ℕ) (rest : List ℕ) → held_at state.held j ≡ epoch ∷ rest
@@ -402,6 +407,7 @@ pub stuck_of : (first : TurnLine) (lists : ControllerLists) (state : ControllerS
 stuck_of first lists state stands j low epoch rest is = (stands.law.settles j low).stuck epoch rest
     (sym (stands.held j low) ∙ is)
 
+-- once no joiner's first held epoch is in place, a machine stands for the lists that keep the law within a call
 pub stands_of : (first : TurnLine) (lists : ControllerLists) (state : ControllerState)
     (w : StandsWithin state.rules first lists state.journal (held_at state.held))
     → ((j : ℕ) → j < 2 ^ state.rules.k → (epoch : ℕ) (rest : List ℕ) → held_at state.held j ≡ epoch ∷ rest

@@ -96,7 +96,7 @@ filter_more p others places i place other at here =
     ap (filter p) (at_places_more others places i place other at here)
     ∙ filter-append p (at_places others (take i places)) (other ∷ [])
 
--- with one more place, whose tuple passes, at the kept places are still the tuples so far that pass
+-- a place whose tuple passes is kept: at the kept places are still the tuples so far that pass
 pub kept_one : (p : Tuple → Bool) (others : List Tuple) (places kept : List ℕ) (i place : ℕ) (other : Tuple)
     → slice_get places i ≡ Some place → slice_get others place ≡ Some other
     → at_places others kept ≡ filter p (at_places others (take i places)) → p other ≡ true
@@ -108,7 +108,7 @@ kept_one p others places kept i place other at here so_far is =
     (at_place others place other here ∙ sym (ap (λ c. cond c (other ∷ []) []) is))
     ∙ sym (filter_more p others places i place other at here)
 
--- and they still are without it, where its tuple doesn't pass
+-- a place whose tuple doesn't pass is left out: at the kept places they still are
 pub kept_none : (p : Tuple → Bool) (others : List Tuple) (places kept : List ℕ) (i place : ℕ) (other : Tuple)
     → slice_get places i ≡ Some place → slice_get others place ≡ Some other
     → at_places others kept ≡ filter p (at_places others (take i places)) → p other ≡ false

@@ -5,7 +5,8 @@ use Rattle.load_controller.specs.Machine.{rules_of}
 use Rattle.load_controller.proofs.MessageCalls.{passed_takes}
 use Rattle.load_controller.proofs.ledger.Ledger.receive.Goals as goal
 
-pub returns-in_ok-receive_of_feeder-in-Feeder-clause-passes : goal.returns-in_ok-receive_of_feeder-in-Feeder-clause-passes
+pub returns-in_ok-receive_of_feeder-in-Feeder-clause-passes :
+    goal.returns-in_ok-receive_of_feeder-in-Feeder-clause-passes
 returns-in_ok-receive_of_feeder-in-Feeder-clause-passes c = λ line past newest over.
     c.in_ok-receive_of_feeder-in-Feeder.ensures.passes line past newest
     (subst (λ from. IsPassedOver (rules_of c.args.self.now) line past from c.args.m) c.in-Feeder.is over)
