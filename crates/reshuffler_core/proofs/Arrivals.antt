@@ -86,6 +86,8 @@ copies_count_up k j e b (x ∷ batch) ms up = either (holds k b j x) (copies_cou
     either true rest = (refl, rest)
     either false rest = rest
 
+-- a joiner is sent turns that count up, tuples with the epoch of the turns before them, and an end at most as the last,
+-- where the orders taken count up and a stop is taken last
 pub answers_count_up : (k j e b : ℕ) (batches : List (List Tuple)) (ms : List ToFeeder)
     → order_epochs ms ≡ counting_from (e + 1) (length (order_epochs ms)) → StopsLast ms
     → CountsUp e (answers k j e b batches ms)
@@ -101,11 +103,13 @@ answers_count_up k j e b (batch ∷ batches) (Grant ∷ ms) orders last =
     copies_count_up k j e b batch (answers k j e b batches ms) (answers_count_up k j e b batches ms orders last)
 answers_count_up k j e b batches (Stop ∷ ms) orders last = rw last refl
 
+-- with tuples in front of them, turns still carry the shifts of their epochs
 pub copies_go : (k j e c : ℕ) (b : ℕ → ℕ) (ts : List Tuple) (ms : List ToJoiner) → TurnsGoBy b ms
     → TurnsGoBy b (map (λ t. Tup (stamped e t)) ts ++ ms)
 copies_go k j e c b [] ms go = go
 copies_go k j e c b (x ∷ ts) ms go = copies_go k j e c b ts ms go
 
+-- each turn that a joiner is sent carries the shift of its epoch, where each order does
 pub answers_go : (k j e c : ℕ) (b : ℕ → ℕ) (batches : List (List Tuple)) (ms : List ToFeeder) → GoesBy b ms
     → TurnsGoBy b (answers k j e c batches ms)
 answers_go k j e c b batches [] go = tt

@@ -36,6 +36,7 @@ how_many n size some more = elim (cases_lt n size) [
       ap (λ a. a / size) at ∙ one ∙ ap (λ a. suc (a / size)) (sym left)
 ]
 
+-- a load that isn't empty is cut into its front of the size of a batch and the batches of what is left
 pub cut_first : {X : Type 0} (size : ℕ) (xs : List X) → 0 < size → 0 < length xs
     → cut size xs ≡ take size xs ∷ cut size (drop size xs)
 cut_first size xs some more =
@@ -45,6 +46,7 @@ cut_first size xs some more =
     rw (count, none) (ap (λ pieces. take size xs ∷ pieces) (pieces_later size xs 0
     ((length (drop size xs) + size - 1) / size)))
 
+-- an empty load has no batch
 pub cut_none : {X : Type 0} (size : ℕ) (xs : List X) → 0 < size → length xs ≡ 0 → cut size xs ≡ []
 cut_none size xs some none =
     let count : (length xs + size - 1) / size ≡ 0 = div-eq_of_lt (omega arith) in
@@ -61,12 +63,14 @@ some_left size sent xs some more =
     sym one ∙ ap (λ n. n / size) at ∙ sym count ∙ sym (length-map-range_with_len
     (λ i. take size (drop (i * size) (drop sent xs))) 0 ((length (drop sent xs) + size - 1) / size))
 
+-- of a load that was sent whole no batch is left
 pub none_left : {X : Type 0} (size sent : ℕ) (xs : List X) → 0 < size → length xs - sent ≡ 0
     → 0 ≡ length (cut size (drop sent xs))
 none_left size sent xs some none = sym (ap length (cut_none size (drop sent xs) some (length-drop sent xs ∙ none)))
 
 -- the first batch is the front of the load, and the others are those of the rest
 
+-- the front of a load, of the size of a batch or all of it where that is less, is the first batch
 pub first_cut : {X : Type 0} (size n : ℕ) (xs : List X) → 0 < size → n ≡ min (length xs) size
     → take n xs ≡ first_batch (cut size xs)
 first_cut size n [] some is = take_all n [] (omega arith) ∙ ap first_batch (sym (cut_none size [] some refl))
@@ -77,6 +81,7 @@ first_cut size n (x ∷ xs) some is = elim (cases_lt (length (x ∷ xs)) size) [
       ∙ ap first_batch (sym (cut_first size (x ∷ xs) some (omega arith)))
 ]
 
+-- the other batches are those of the load without that front
 pub rest_cut : {X : Type 0} (size n : ℕ) (xs : List X) → 0 < size → n ≡ min (length xs) size
     → drop 1 (cut size xs) ≡ cut size (drop n xs)
 rest_cut size n [] some is = rw (cut_none size [] some refl)

@@ -65,11 +65,13 @@ everyone : (first n : ℕ) → filter (λ i. true) (range_with_len first n) ≡ 
 everyone first zero = refl
 everyone first (suc n) = ap (λ is. first ∷ is) (everyone (first + 1) n)
 
+-- a message that goes to all joiners comes to each of them just once
 pub all-joiner : (m : ToJoiner) (j n : ℕ) → j < n → posted_to_joiner j (posts_to_all n m) ≡ m ∷ []
 all-joiner m j n below =
     ap (λ is. posted_to_joiner j (map (post_to m) is)) (sym (everyone 0 n))
     ∙ one_in (λ i. true) m j 0 n (omega arith) (omega arith)
 
+-- of the posts of a batch a joiner gets the tuples that it holds, stamped, in their order
 pub batch-joiner : (k e b j : ℕ) (batch : List Tuple) → j < 2 ^ k
     → posted_to_joiner j (posts_of_batch k e b batch) ≡ copies_for k j e b batch
 batch-joiner k e b j [] below = refl
@@ -91,9 +93,11 @@ none_to_controller : (m : ToJoiner) (js : List ℕ) → posted_to_controller (ma
 none_to_controller m [] = refl
 none_to_controller m (j ∷ js) = none_to_controller m js
 
+-- of a message that goes to all joiners nothing comes to the controller
 pub all-controller : (m : ToJoiner) (n : ℕ) → posted_to_controller (posts_to_all n m) ≡ []
 all-controller m n = none_to_controller m (range_with_len 0 n)
 
+-- nor does anything of a batch
 pub batch-controller : (k e b : ℕ) (batch : List Tuple) → posted_to_controller (posts_of_batch k e b batch) ≡ []
 batch-controller k e b [] = refl
 batch-controller k e b (t ∷ ts) =
@@ -147,12 +151,14 @@ range-more a (suc n) =
     ap (range_with_len a) one ∙ ap (λ is. a ∷ is) (range-more (a + 1) n
     ∙ ap (λ i. range_with_len (a + 1) n ++ i ∷ []) at)
 
+-- a message to all has one post more, at the end, where there is one joiner more
 pub all-more : (m : ToJoiner) (n : ℕ) → posts_to_all (n + 1) m ≡ posts_to_all n m ++ post_to m n ∷ []
 all-more m n =
     let at : 0 + n ≡ n = omega arith in
     ap (map (post_to m)) (range-more 0 n) ∙ map-append (post_to m) (range_with_len 0 n) ((0 + n) ∷ [])
     ∙ ap (λ i. posts_to_all n m ++ post_to m i ∷ []) at
 
+-- a tuple has one post more, at the end, where that joiner holds it, and else the same posts
 pub tuple-more : (k n e b : ℕ) (t : Tuple) → posts_of_tuple k (n + 1) e b t ≡ posts_of_tuple k n e b t
     ++ cond (holds k b n t) (post_to (Tup (stamped e t)) n ∷ []) []
 tuple-more k n e b t =

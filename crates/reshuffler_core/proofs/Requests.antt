@@ -44,6 +44,7 @@ not_true : (b : Bool) → (¬ (b ≡ true)) → b ≡ false
 not_true true never = absurd (never refl)
 not_true false never = refl
 
+-- a feeder that isn't waiting has no batch asked for and not granted, and hasn't drained
 pub is_free : (s : FeederState) → (¬ (IsWaiting s)) → (s.asked ≡ false) × (s.drained ≡ false)
 is_free s free = (not_true s.asked (λ up. free (inl up)), not_true s.drained (λ up. free (inr up)))
 
@@ -126,6 +127,8 @@ as_started : (s : FeederState) (bs : List (List Tuple)) → state_begun (record 
 as_started s [] = refl
 as_started s (batch ∷ batches) = refl
 
+-- a feeder that isn't waiting, sends its next request and then takes the held messages up to the first that it can't
+-- take stands for its lists with these posts at their ends
 pub begins : (s new : FeederState) (before middle after : List Post) → s.asked ≡ false → s.drained ≡ false
     → middle ≡ before ++ to_controller (next_request s.to_come) ∷ []
     → Advances (state_begun (record s { spent = true }) s.to_come) new middle after → IsStuck new

@@ -83,6 +83,7 @@ answer_one s Grant j below = by_batches s.to_come
         ∙ sym (batch-joiner s.start.k s.epoch s.shift j batch below)
 answer_one s Stop j below = sym (all-joiner End j (2 ^ s.start.k) below)
 
+-- whatever message a feeder takes, it sends the controller nothing for it
 pub nothing_asked : (s : FeederState) (m : ToFeeder) → posted_to_controller (posts_for s m) ≡ []
 nothing_asked s (Order epoch shift) = all-controller (Turn epoch shift) (2 ^ s.start.k)
 nothing_asked s Grant = batch-controller s.start.k s.epoch s.shift (first_batch s.to_come)
@@ -90,6 +91,7 @@ nothing_asked s Stop = all-controller End (2 ^ s.start.k)
 
 -- ---- the message taken
 
+-- where a flag is up just if there are some, and it is down, there are none
 pub none_stopped : (b : Bool) (n : ℕ) → b ≡ false → (b ≡ true ↔ (0 < n)) → n ≡ 0
 none_stopped b zero is both = refl
 none_stopped b (suc n) is both = absurd (false≢true (sym is ∙ both.1 (omega arith)))

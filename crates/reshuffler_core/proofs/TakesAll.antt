@@ -36,12 +36,15 @@ asks_drain_last (batch ∷ batches) (Ask dr ds ∷ front) rest is =
 asks_drain_last (batch ∷ batches) (Drained ∷ front) rest is = absurd (cc)
 asks_drain_last (batch ∷ batches) (Settled epoch ∷ front) rest is = absurd (cc)
 
+-- a front of a feeder's requests asks, and at most says at the end that it has drained
 pub drains_last : (s : FeederStart) (sent : List ToController) → IsPrefix sent (requests s) → DrainsLast sent
 drains_last s sent prefix = asks_drain_last s.batches sent prefix.rest prefix.joins
 
+-- a front of a list of requests asks for no more rows of R than the list
 pub fewer_r : (sent all : List ToController) → IsPrefix sent all → asked_r sent ≤ asked_r all
 fewer_r sent all prefix = let e = asked_r-append sent prefix.rest in let is = ap asked_r prefix.joins in omega arith
 
+-- nor for more rows of S
 pub fewer_s : (sent all : List ToController) → IsPrefix sent all → asked_s sent ≤ asked_s all
 fewer_s sent all prefix = let e = asked_s-append sent prefix.rest in let is = ap asked_s prefix.joins in omega arith
 
@@ -97,6 +100,7 @@ ends_copied k j e b (x ∷ batch) ms = either (holds k b j x) (ends_copied k j e
     either true rest = rest
     either false rest = rest
 
+-- a joiner is sent as many turns as orders were taken
 pub answers_turns : (k j e b : ℕ) (batches : List (List Tuple)) (ms : List ToFeeder)
     → turns (answers k j e b batches ms) ≡ length (order_epochs ms)
 answers_turns k j e b batches [] = refl
@@ -107,6 +111,7 @@ answers_turns k j e b (batch ∷ batches) (Grant ∷ ms) = turns_copied k j e b 
     ∙ answers_turns k j e b batches ms
 answers_turns k j e b batches (Stop ∷ ms) = answers_turns k j e b batches ms
 
+-- and as many ends as stops
 pub answers_ends : (k j e b : ℕ) (batches : List (List Tuple)) (ms : List ToFeeder)
     → ends (answers k j e b batches ms) ≡ stops ms
 answers_ends k j e b batches [] = refl

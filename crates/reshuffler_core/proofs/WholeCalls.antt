@@ -22,6 +22,7 @@ use Rattle.reshuffler_core.proofs.CallResults.{one_state, one_posts, whole_state
 
 -- ---- lists that are the same, one by one
 
+-- what a machine took of some lists it took of others too, where these are the same on each link
 pub same_lists : (s : FeederState) (xs ys : FeederLists) (taken : List ToFeeder) → Goes s xs taken
     → ys.received ≡ xs.received → ys.to_controller ≡ xs.to_controller
     → ((j : ℕ) → ys.to_joiner j ≡ xs.to_joiner j) → Goes s ys taken
@@ -46,6 +47,7 @@ joined-joiner : (j : ℕ) (xs ys : List Post) → posted_to_joiner j (xs ++ ys) 
     ++ posted_to_joiner j ys
 joined-joiner j xs ys = filter_map-append (λ post. for_joiner j post.to post.msg) xs ys
 
+-- posts behind posts carry to the controller what the first ones carry and then what the others do
 pub joined-controller : (xs ys : List Post) → posted_to_controller (xs ++ ys) ≡ posted_to_controller xs
     ++ posted_to_controller ys
 joined-controller xs ys = filter_map-append (λ post. for_controller post.to post.msg) xs ys
@@ -62,6 +64,7 @@ sent_on s lists xs ys taken g = same_lists s (with_sent (with_sent lists xs) ys)
 
 -- ---- some of the held
 
+-- to take none of the held is to go on as well: nothing changes, and nothing is sent
 pub stays : (s : FeederState) (posts : List Post) → Advances s s posts posts
 stays s posts = record {
   start = refl;
@@ -78,6 +81,7 @@ stays s posts = record {
   };
 }
 
+-- going on twice is going on once, with the posts of both
 pub further : (a b c : FeederState) (xs ys zs : List Post) → Advances a b xs ys → Advances b c ys zs
     → Advances a c xs zs
 further a b c xs ys zs p q = record {
@@ -114,11 +118,13 @@ same_start s rest (Order epoch shift) = refl
 same_start s rest Grant = refl
 same_start s rest Stop = refl
 
+-- what a message does to the machine leaves the held messages as they are
 pub same_held : (s : FeederState) (m : ToFeeder) → (state_after s m).held ≡ s.held
 same_held s (Order epoch shift) = refl
 same_held s Grant = refl
 same_held s Stop = refl
 
+-- a machine goes on where it takes the first of the held, if that can be taken, and sends what is sent for it
 pub one_taken : (s : FeederState) (m : ToFeeder) (before : List Post) → IsReady s m
     → Advances s (state_after (record s { held = drop 1 s.held }) m) before
     (before ++ posts_for (record s { held = drop 1 s.held }) m)
@@ -145,6 +151,7 @@ same_takes s rest (Order epoch shift) can = can
 same_takes s rest Grant can = can
 same_takes s rest Stop can = can
 
+-- the first of the held, if it can be taken, still can be when it is no longer held
 pub still_takes : (s : FeederState) (m : ToFeeder) → IsReady s m → Takes (record s { held = drop 1 s.held }) m
 still_takes s m ready = same_takes s (drop 1 s.held) m ready.takes
 
@@ -221,6 +228,8 @@ received s lists m spent stands =
       is_stopped = stands.stopped;
     }
 
+-- a machine that holds a message behind the others and then takes the held ones, up to the first that it can't, stands
+-- for its lists with the message and these posts at their ends
 pub takes_message : (old new : FeederState) (m : ToFeeder) (before after : List Post)
     → Advances (record old { held = old.held ++ m ∷ []; spent = true }) new before after → IsStuck new
     → TakesMessage m old (record new { spent = false }) before after
@@ -242,6 +251,7 @@ takes_message old new m before after go stuck = record {
 
 -- ---- beginnings
 
+-- a machine as it began stands for empty lists: all batches are to come, nothing is asked for and nothing held
 pub fresh : (s : FeederState) → s.epoch ≡ s.start.epoch → s.shift ≡ s.start.shift → s.to_come ≡ s.start.batches
     → s.asked ≡ false → s.drained ≡ false → s.stopped ≡ false → s.held ≡ [] → StandsFor s.start nothing_yet s
 fresh s epoch shift to_come asked drained stopped held = record {

@@ -32,6 +32,7 @@ of_other n ms x e = filter-append (λ (m : Envelope). eqb (number_of m.from) n) 
     ∙ ap (λ (b : Bool). of_sender n ms ++ cond b (x ∷ []) []) (ne_eqb (number_of x.from) n e)
     ∙ append-nil (of_sender n ms)
 
+-- of messages behind messages a sender's are those among the first and then those among the others
 pub of_both : (n : ℕ) (xs ys : List Envelope) → of_sender n (xs ++ ys) ≡ of_sender n xs ++ of_sender n ys
 of_both n xs ys = filter-append (λ (m : Envelope). eqb (number_of m.from) n) xs ys
 
@@ -52,6 +53,7 @@ seated_else n top seat m e = ap (λ (b : Bool). cond b top (seat m)) (sym (ne_eq
 has_here : (n : ℕ) (s : List Envelope) (known : List (ℕ × List Envelope)) → has_sender ((n, s) ∷ known) n ≡ true
 has_here n s known = ap (λ (b : Bool). cond b true (has_sender known n)) (eq-eqb n n refl)
 
+-- who is found among the others is found in the whole list, whoever stands first
 pub has_if : (b c : Bool) → c ≡ true → cond b true c ≡ true
 has_if true c e = refl
 has_if false c e = e
@@ -87,6 +89,7 @@ kept_put known n sent x f k (no e) = subst (λ (l : List Envelope). IsKept known
 
 -- ---- the steps
 
+-- a new queue keeps the rule: it holds nothing, its one pass takes, and it has no sender
 pub begins : IsDelivered [] (inbox_hand false true 0 [] [] [] ∷ [])
 begins = let first = inbox_hand false true 0 [] [] [] in record {
   seat = λ _. 0;
@@ -103,6 +106,7 @@ begins = let first = inbox_hand false true 0 [] [] [] in record {
       (λ j u other e. absurd (other (at_end [] first u j (λ x. some-ne-none u (sym x)) e))) j u e;
 }
 
+-- a push by a sender's pass keeps the rule: the message joins what that one sent, which were fewer than 2^62 messages
 pub puts : (n pass : ℕ) (v : InboxHand) (x : Envelope) → v.puts ≡ true → number_of x.from ≡ v.sender
     → length v.sent < 2 ^ 62 → Pushes IsDelivered n pass v x
     (λ w. w ≡ inbox_hand v.puts v.takes v.sender (v.sent ++ x ∷ []) v.received v.known)
@@ -166,6 +170,8 @@ taken_is_sent r items sent x e = let n = number_of x.from in let r' : List Envel
       omega arith,
     )
 
+-- a pop by the pass that takes keeps the rule: the message is the last of what was received, and its sender is one of
+-- the inbox's, of whom at most 2^62 messages have then been received
 pub takes : (pass : ℕ) (v : InboxHand) → v.takes ≡ true → Pops IsDelivered pass v
     (λ x w. (w ≡ inbox_hand v.puts v.takes v.sender v.sent (v.received ++ x ∷ []) v.known)
     × (has_sender v.known (number_of x.from) ≡ true) × (length (of_sender (number_of x.from) (v.received ++ x ∷ []))
@@ -278,6 +284,7 @@ cut n s pass v may own items hands h at is apart =
           new) (at_more vs right u j e);
     }
 
+-- a pass for a new sender is cut off the receiver's, and the rule stays: that one has sent nothing
 pub opens : (n pass : ℕ) (v : InboxHand) → v.takes ≡ true → v.puts ≡ false → has_sender v.known n ≡ false
     → Forks IsDelivered pass v (inbox_hand false true 0 [] v.received ((n, []) ∷ v.known))
     (inbox_hand true false n [] [] [])
@@ -287,6 +294,7 @@ opens n pass v may none new items hands h at =
     cut n [] pass v may (λ p. absurd (true≢false (sym p ∙ none))) items hands h at (sym ((h.kept n).none new'))
     (λ j u other e p q. true≢false (sym ((h.fits j u e).puts p).2 ∙ ap (λ (k : ℕ). has_sender h.known k) q ∙ new'))
 
+-- a sender's pass is cut off the one that has both, and the rule stays: the receiver's knows all that this one sent
 pub parts : (pass : ℕ) (v : InboxHand) → v.puts ≡ true → v.takes ≡ true
     → Forks IsDelivered pass v (inbox_hand false true 0 [] v.received ((v.sender, v.sent) ∷ v.known))
     (inbox_hand true false v.sender v.sent [] [])
@@ -323,6 +331,7 @@ stands_met n m pass other v u both spent hands seat at none at' is two may q (no
       q.2,
     )
 
+-- a sender's pass is joined into the receiver's, where that doesn't put, and the rule stays
 pub meets : (pass : ℕ) (v : InboxHand) (other : ℕ) (u : InboxHand) → v.takes ≡ true → v.puts ≡ false → u.puts ≡ true
     → Merges IsDelivered pass v other u (inbox_hand true true u.sender u.sent v.received v.known)
     (inbox_hand false false 0 [] [] [])
@@ -380,6 +389,8 @@ leaves pass v may items hands h at n = let mine = (h.fits pass v at).takes may i
     (counts (known_of h.known n) front.rest (of_sender n h.received) (of_sender n items) (of_sender n h.sent)
     front.joins split)
 
+-- a look of the pass that has both: what its sender, one of the inbox, sent is what was received of it and then what
+-- the queue holds of it, and what is known of each sender and was not received is left
 pub looks : (pass : ℕ) (v : InboxHand) → v.puts ≡ true → v.takes ≡ true
     → Learns IsDelivered pass v (λ items. (v.sent ≡ of_sender v.sender v.received ++ of_sender v.sender items)
     × (has_sender v.known v.sender ≡ true) × ((n : ℕ) → length (known_of v.known n) ≤ length (of_sender n v.received)

@@ -49,6 +49,7 @@ pub note_found : (places : List ℕ) (ps : List Part) (n k : ℕ) (d : Part) →
 note_found places ps n k d h lt is = set_map (noted n) ps k d lt
     (λ i less other. noted_other n (get_or ps i d) (only places ps n k i d h lt is less other))
 
+-- where one part is told what is left, all parts of its sender are: it is the only one
 pub tell_found : (places : List ℕ) (ps : List Part) (n left k : ℕ) (d : Part) → IsIndexed places ps → k < length ps
     → number_of (get_or ps k d).from ≡ n → set ps k (set_known n left (get_or ps k d)) ≡ map (set_known n left) ps
 tell_found places ps n left k d h lt is = set_map (set_known n left) ps k d lt
@@ -65,6 +66,7 @@ note_none n (p ∷ ps) e = let both = part_here (eqb (number_of p.from) n) (has_
     λ i. sym (ap (λ (b : Bool). cond b (record { from = p.from; taken = p.taken + 1; known = p.known - 1 }) p) both.0) i
     ∷ note_none n ps both.1 i
 
+-- where no part is of a number, to tell what is left of it changes nothing
 pub tell_none : (n left : ℕ) (ps : List Part) → has_part n ps ≡ false → ps ≡ map (set_known n left) ps
 tell_none n left [] e = refl
 tell_none n left (p ∷ ps) e = let both = part_here (eqb (number_of p.from) n) (has_part n ps) e in
@@ -133,9 +135,11 @@ index_map f places ps same h k d lt = let less : k < length ps = omega (arith, l
     ap (λ (p : Part). p.from) (get_or-map f ps k d d less) ∙ same (get_or ps k d) in
     subst (λ (a : Actor). (number_of a < length places) × (get_or places (number_of a) 0 ≡ k)) (sym here) (h k d less)
 
+-- the places still are those of the parts where a taken message is noted
 pub index_notes : (n : ℕ) (places : List ℕ) (ps : List Part) → IsIndexed places ps → IsIndexed places (map (noted n) ps)
 index_notes n places ps h = index_map (noted n) places ps (λ p. note_from (eqb (number_of p.from) n) p) h
 
+-- and where a part is told what is left of its sender
 pub index_tells : (n left : ℕ) (places : List ℕ) (ps : List Part) → IsIndexed places ps
     → IsIndexed places (map (set_known n left) ps)
 index_tells n left places ps h = index_map (set_known n left) places ps

@@ -15,6 +15,7 @@ use Rattle.ruled_links.specs.Parts.{noted, set_known, has_part, PartFits, Distin
 use Rattle.ruled_links.proofs.PartsLemmas.{named_notes, named_tells, note_from, tell_from, rest_false, notes_fit}
 use Rattle.ruled_links.proofs.PartsLemmas.{tells_fit, fits_new, named_new, named_still}
 
+-- no two parts are of one sender where a taken message is noted, if no two were before
 pub distinct_notes : (n : ℕ) (ps : List Part) → Distinct ps → Distinct (map (noted n) ps)
 distinct_notes n [] d = tt
 distinct_notes n (p ∷ ps) d = (
@@ -23,6 +24,7 @@ distinct_notes n (p ∷ ps) d = (
   distinct_notes n ps d.1,
 )
 
+-- the same, where a part is told what is left of its sender
 pub distinct_tells : (n k : ℕ) (ps : List Part) → Distinct ps → Distinct (map (set_known n k) ps)
 distinct_tells n k [] d = tt
 distinct_tells n k (p ∷ ps) d = (
@@ -45,6 +47,7 @@ head_differs : (q : Part) (ps : List Part) (m : ℕ) → has_part m (q ∷ ps) �
 head_differs q ps m e f = true≢false (ap (λ (b : Bool). cond b true (has_part m ps))
     (sym (eq-eqb (number_of q.from) m f)) ∙ e)
 
+-- the same, where a part of a new sender comes to stand at the end
 pub distinct_push : (ps : List Part) (p : Part) → Distinct ps → has_part (number_of p.from) ps ≡ false
     → Distinct (ps ++ p ∷ [])
 distinct_push [] p d e = (refl, tt)
@@ -58,12 +61,14 @@ note_less : (b : Bool) (p : Part)
 note_less true p = omega arith
 note_less false p = omega arith
 
+-- where a taken message is noted, no more messages are known to be left than before
 pub sum_notes : (n : ℕ) (ps : List Part) → sum_by known_left (map (noted n) ps) ≤ sum_by known_left ps
 sum_notes n [] = omega arith
 sum_notes n (p ∷ ps) = let a = sum_by-cons known_left (noted n p) (map (noted n) ps) in
     let b = sum_by-cons known_left p ps in let c = note_less (eqb (number_of p.from) n) p in let d = sum_notes n ps in
     omega arith
 
+-- as many messages are known to be left in all where a part of which none are comes to stand at the end
 pub sum_push : (ps : List Part) (p : Part) → p.known ≡ 0 → sum_by known_left (ps ++ p ∷ []) ≡ sum_by known_left ps
 sum_push [] p e = sum_by-cons known_left p [] ∙ ap (λ (n : ℕ). n + 0) e
 sum_push (q ∷ ps) p e = sum_by-cons known_left q (ps ++ p ∷ []) ∙ ap (λ (n : ℕ). q.known + n) (sum_push ps p e)
@@ -123,6 +128,7 @@ less items (p ∷ ps) h = let a = sum_by-cons known_left p ps in let b = sum_by-
     let c : p.known ≤ its items p = h 0 p (omega arith) in
     let r = less items ps (λ k d lt. h (suc k) d (omega arith)) in omega arith
 
+-- no more are known to be left in all than the queue holds, if so it is of each sender and no two parts are of one
 pub sum_held : (items : List Envelope) (ps : List Part) → Distinct ps
     → All (λ (p : Part). p.known ≤ length (of_sender (number_of p.from) items)) ps → sum_by known_left ps ≤ length items
 sum_held items ps d h = let a = less items ps h in let b = all_its items ps d in omega arith
@@ -144,6 +150,8 @@ tell_bound v n k items p h le f (no e) = let m = number_of p.from in
     ≤ length (of_sender (number_of (cond b (record { from = p.from; taken = p.taken; known = k }) p).from) items))
     (sym (ne_eqb m n e)) goal
 
+-- so it is also once a sender's part is told at most what the queue holds of that one, if what is known of each sender
+-- and was not received is left
 pub sum_tells : (v : InboxHand) (n k : ℕ) (items : List Envelope) (ps : List Part) → Distinct ps → All (PartFits v) ps
     → k ≤ length (of_sender n items) → ((m : ℕ) → length (known_of v.known m) ≤ length (of_sender m v.received)
     + length (of_sender m items)) → sum_by known_left (map (set_known n k) ps) ≤ length items
@@ -152,6 +160,7 @@ sum_tells v n k items ps d h le f = sum_held items (map (set_known n k) ps) (dis
     (λ i e lt. let p : Part = get_or ps i e in tell_bound v n k items p (h i e lt) le f
     (ℕ_discrete (number_of p.from) n)))
 
+-- nothing is known to be left in all where nothing is of any sender
 pub sum_none : (ps : List OfSender) → All (λ (p : OfSender). p.known ≡ 0) ps → sum_by (λ (p : OfSender). p.known) ps ≡ 0
 sum_none [] h = refl
 sum_none (p ∷ ps) h = let a = sum_by-cons (λ (q : OfSender). q.known) p ps in

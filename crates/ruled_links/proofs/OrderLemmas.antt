@@ -31,6 +31,7 @@ spent_fits sender receiver sent received pass = record {
 
 -- ---- the steps
 
+-- a new queue keeps the rule: it holds nothing, and its one pass puts and takes
 pub begins : IsInOrder [] (hand true true [] [] [] ∷ [])
 begins = let first = hand true true [] [] [] in record {
   sender = 0;
@@ -45,6 +46,7 @@ begins = let first = hand true true [] [] [] in record {
       (λ j u other e. absurd (other (at_end [] first u j (λ x. some-ne-none u (sym x)) e))) j u e;
 }
 
+-- a push by the pass that puts keeps the rule: the message is the last of what was sent
 pub puts : (n pass : ℕ) (v : Hand) (x : Envelope) → v.puts ≡ true
     → Pushes IsInOrder n pass v x (λ w. w ≡ hand v.puts v.takes (v.sent ++ x ∷ []) v.received v.known)
 puts n pass v x may items hands _ h at =
@@ -73,6 +75,7 @@ puts n pass v x may items hands _ h at =
       refl,
     )
 
+-- a pop by the pass that takes keeps the rule: the message is the last of what was received
 pub takes : (pass : ℕ) (v : Hand) → v.takes ≡ true → Pops IsInOrder pass v
     (λ x w. w ≡ hand v.puts v.takes v.sent (v.received ++ x ∷ []) v.known)
 takes pass v may x items hands h at =
@@ -101,6 +104,7 @@ takes pass v may x items hands h at =
       refl,
     )
 
+-- the sender's pass is cut off the one that does both, and the rule stays: the receiver's knows all that was sent
 pub parts : (pass : ℕ) (v : Hand) → v.puts ≡ true → v.takes ≡ true
     → Forks IsInOrder pass v (hand false true [] v.received v.sent) (hand true false v.sent [] [])
 parts pass v may_put may_take items hands h at =
@@ -135,6 +139,7 @@ parts pass v may_put may_take items hands h at =
           (at_snoc cut right u j e);
     }
 
+-- the sender's pass is joined into the receiver's, and the rule stays
 pub meets : (pass : ℕ) (v : Hand) (other : ℕ) (u : Hand) → v.takes ≡ true → u.puts ≡ true
     → Merges IsInOrder pass v other u (hand true true u.sent v.received v.known) (hand false false [] [] [])
 meets pass v other u may_take may_put items hands h at two at' =
@@ -166,6 +171,7 @@ meets pass v other u may_take may_put items hands h at two at' =
           (λ j y apart e. fit j y e apart);
     }
 
+-- a look of the pass that does both: what was sent is what was received and then what the queue holds
 pub looks : (pass : ℕ) (v : Hand) → v.puts ≡ true → v.takes ≡ true
     → Learns IsInOrder pass v (λ items. v.received ++ items ≡ v.sent)
 looks pass v may_put may_take items hands h at =
@@ -182,6 +188,7 @@ counts known rest received items sent a b = omega (
   length-append received items,
 )
 
+-- the queue holds at least so many messages as the receiver's pass knows of and has not received
 pub leaves : (pass : ℕ) (v : Hand) → v.takes ≡ true → Learns IsInOrder pass v
     (λ items. length v.known ≤ length v.received + length items)
 leaves pass v may items hands h at =

@@ -20,6 +20,7 @@ note_if : (b : Bool) (p : Part) → seen (cond b (record { from = p.from; taken 
 note_if true p = refl
 note_if false p = refl
 
+-- where a taken message is noted, contracts see one less known to be left of its sender, unless that was 0
 pub lowered_notes : (a : Actor) (ps : List Part) → map seen (map (noted (number_of a)) ps) ≡ lowered a (map seen ps)
 lowered_notes a [] = refl
 lowered_notes a (p ∷ ps) = λ i. note_if (eqb (number_of p.from) (number_of a)) p i ∷ lowered_notes a ps i
@@ -29,26 +30,31 @@ tell_if : (b : Bool) (n : ℕ) (p : Part) → seen (cond b (record { from = p.fr
 tell_if true n p = refl
 tell_if false n p = refl
 
+-- where a part is told what is left of its sender, contracts see that number for it
 pub told_tells : (a : Actor) (n : ℕ) (ps : List Part) → map seen (map (set_known (number_of a) n) ps)
     ≡ told a n (map seen ps)
 told_tells a n [] = refl
 told_tells a n (p ∷ ps) = λ i. tell_if (eqb (number_of p.from) (number_of a)) n p i ∷ told_tells a n ps i
 
+-- a part stays its sender's, whether or not a message is noted in it
 pub note_from : (b : Bool) (p : Part)
     → (cond b (record { from = p.from; taken = p.taken + 1; known = p.known - 1 }) p).from ≡ p.from
 note_from true p = refl
 note_from false p = refl
 
+-- the same senders have parts where a taken message is noted
 pub named_notes : (n m : ℕ) (ps : List Part) → has_part m (map (noted n) ps) ≡ has_part m ps
 named_notes n m [] = refl
 named_notes n m (p ∷ ps) = λ i. cond (eqb (number_of (note_from (eqb (number_of p.from) n) p i)) m) true
     (named_notes n m ps i)
 
+-- a part stays its sender's, whether or not it is told what is left
 pub tell_from : (b : Bool) (n : ℕ) (p : Part) → (cond b (record { from = p.from; taken = p.taken; known = n }) p).from
     ≡ p.from
 tell_from true n p = refl
 tell_from false n p = refl
 
+-- the same senders have parts where one is told what is left
 pub named_tells : (n k m : ℕ) (ps : List Part) → has_part m (map (set_known n k) ps) ≡ has_part m ps
 named_tells n k m [] = refl
 named_tells n k m (p ∷ ps) = λ i. cond (eqb (number_of (tell_from (eqb (number_of p.from) n) k p i)) m) true
@@ -69,6 +75,7 @@ note_fits v x p h (no e) = let n = number_of p.from in
     subst (λ (b : Bool). PartFits w (cond b (record { from = p.from; taken = p.taken + 1; known = p.known - 1 }) p))
     (sym (ne_eqb n (number_of x.from) e)) (h.0 ∙ ap length (sym (of_other n v.received x (λ q. e (sym q)))), h.1)
 
+-- the parts have the counts of their senders again where a message joins what was received and is noted
 pub notes_fit : (v : InboxHand) (x : Envelope) (ps : List Part) → All (PartFits v) ps
     → All (PartFits (inbox_hand false true 0 [] (v.received ++ x ∷ []) v.known)) (map (noted (number_of x.from)) ps)
 notes_fit v x ps h = All-map (PartFits (inbox_hand false true 0 [] (v.received ++ x ∷ []) v.known))
@@ -76,6 +83,7 @@ notes_fit v x ps h = All-map (PartFits (inbox_hand false true 0 [] (v.received +
     (λ k d lt. let p : Part = get_or ps k d in note_fits v x p (h k d lt)
     (ℕ_discrete (number_of p.from) (number_of x.from)))
 
+-- a sender's part counts fewer than 2^62 messages, where with the next one at most so many were received
 pub few_taken : (v : InboxHand) (x : Envelope) (ps : List Part)
     → length (of_sender (number_of x.from) (v.received ++ x ∷ [])) ≤ 2 ^ 62 → All (PartFits v) ps
     → All (λ p. number_of p.from ≡ number_of x.from → p.taken < 2 ^ 62) ps
@@ -85,6 +93,7 @@ few_taken v x ps few h k d lt e = let n = number_of x.from in let p : Part = get
     let a : p.taken ≡ length (of_sender n v.received) = (h k d lt).0
     ∙ ap (λ (k : ℕ). length (of_sender k v.received)) e in omega arith
 
+-- nothing is known to be left of any sender where all that was known of each has been received
 pub none_left : (v : InboxHand) (ps : List Part) → ((n : ℕ)
     → length (known_of v.known n) ≤ length (of_sender n v.received) + 0) → All (PartFits v) ps
     → All (λ (p : OfSender). p.known ≡ 0) (map seen ps)
@@ -111,6 +120,8 @@ tell_fits v n k s p is h (no e) = let m = number_of p.from in
     subst (λ (b : Bool). PartFits w (cond b (record { from = p.from; taken = p.taken; known = k }) p))
     (sym (ne_eqb m n e)) (h.0, h.1 ∙ ap (λ (j : ℕ). j - p.taken) b)
 
+-- the parts have the counts of their senders again where a list of one sender becomes known, and its part is told how
+-- many messages of that were not received
 pub tells_fit : (v : InboxHand) (n k : ℕ) (s : List Envelope) (ps : List Part)
     → k ≡ length s - length (of_sender n v.received) → All (PartFits v) ps
     → All (PartFits (inbox_hand false true 0 [] v.received ((n, s) ∷ v.known))) (map (set_known n k) ps)
@@ -149,6 +160,7 @@ parted v u b c w n us bs cs ws = let e = cs ∙ bs in ws ∙ ap
     ∙ ap (λ (k : ℕ). inbox_hand false true 0 [] v.received ((k, u.sent) ∷ v.known))
     (ap (λ (h : InboxHand). h.sender) us)
 
+-- what a sender's part counts as taken is how many of its messages were received
 pub found_taken : (v : InboxHand) (ps : List Part) (n t : ℕ) (p : Part) → All (PartFits v) ps → Contains ps p
     → number_of p.from ≡ n → t ≡ p.taken → t ≡ length (of_sender n v.received)
 found_taken v ps n t p h c e is = is ∙ (All-contains (PartFits v) ps p h c).0
@@ -163,6 +175,7 @@ named_still n s known ps here f m none = elim (ℕ_discrete n m) [
   | no e ↦ ap (λ (b : Bool). cond b true (has_sender known m)) (ne_eqb n m e) ∙ f m none
 ]
 
+-- an actor is one of the senders that contracts see just where it has a part
 pub named_seen : (a : Actor) (ps : List Part) → is_sender a (map seen ps) ≡ has_part (number_of a) ps
 named_seen a [] = refl
 named_seen a (p ∷ ps) = λ i. cond (eqb (number_of p.from) (number_of a)) true (named_seen a ps i)
@@ -184,10 +197,12 @@ named_push m [] p e = refl
 named_push m (q ∷ ps) p e = push_if (eqb (number_of q.from) m) (has_part m ps) (has_part m (ps ++ p ∷ []))
     (named_push m ps p) e
 
+-- the sender of the part that stands at the end has a part
 pub named_end : (m : ℕ) (ps : List Part) (p : Part) → number_of p.from ≡ m → has_part m (ps ++ p ∷ []) ≡ true
 named_end m [] p e = ap (λ (b : Bool). cond b true false) (eq-eqb (number_of p.from) m e)
 named_end m (q ∷ ps) p e = has_if (eqb (number_of q.from) m) _ (named_end m ps p e)
 
+-- who has no part is no sender that the rule knows, also once a new sender has come with its part
 pub named_new : (m : ℕ) (known : List (ℕ × List Envelope)) (ps : List Part) (p : Part)
     → ((n : ℕ) → has_part n ps ≡ false → has_sender known n ≡ false) → has_part m (ps ++ p ∷ []) ≡ false
     → has_sender ((number_of p.from, []) ∷ known) m ≡ false
@@ -224,6 +239,7 @@ no_sender a [] f = refl
 no_sender a (x ∷ xs) f = ap (λ (b : Bool). cond b true (is_sender a (map fresh xs)))
     (ne_eqb (number_of x) (number_of a) (f 0 a (omega arith))) ∙ no_sender a xs (λ k d lt. f (suc k) d (omega arith))
 
+-- no two actors have one number
 pub name_once : (a b : Actor) → number_of a ≡ number_of b → a ≡ b
 name_once (Feeder i) (Feeder j) e = let q : i ≡ j = omega arith in ap (λ (k : ℕ). Feeder k) q
 name_once (Feeder i) (Joiner j) e = absurd (omega arith)
@@ -249,6 +265,7 @@ not_before xs i d differ lt = no_sender (get_or xs i d) (take i xs)
     (λ k e lt'. let le : k < i = omega (arith, length-take i xs) in
     λ q. differ k i e le lt (sym (get_or-take i xs k e le) ∙ name_once _ _ q ∙ get_or_default xs i d e lt))
 
+-- who isn't found in a list isn't found among the others, behind the first
 pub rest_false : (b c : Bool) → cond b true c ≡ false → c ≡ false
 rest_false true c e = absurd (true≢false e)
 rest_false false c e = e
@@ -258,6 +275,7 @@ pub senders_lowered : (a : Actor) (ss : List OfSender) → senders_of (lowered a
 senders_lowered a [] = refl
 senders_lowered a (s ∷ ss) = λ i. s.from ∷ senders_lowered a ss i
 
+-- so they do where it is told what is left of one
 pub senders_told : (a : Actor) (n : ℕ) (ss : List OfSender) → senders_of (told a n ss) ≡ senders_of ss
 senders_told a n [] = refl
 senders_told a n (s ∷ ss) = λ i. s.from ∷ senders_told a n ss i

@@ -40,6 +40,7 @@ at_more (x ∷ xs) a b (suc j) e = ⊎_elim (λ t. inl t) (λ t. inr (ap suc t.0
 abbrev pub Each : {V : Type 0} → (ℕ → V → Type 0) → List V → Type 0
 Each {V} F hands = (pass : ℕ) (v : V) → get_elem? hands pass ≡ some v → F pass v
 
+-- where one pass changes, each fits, if that one does as it then is and the others did
 pub Each-set : {V : Type 0} → (F : ℕ → V → Type 0) (hands : List V) (pass : ℕ) (w : V) → F pass w
     → ((j : ℕ) (u : V) → j ≢ pass → get_elem? hands j ≡ some u → F j u) → Each F (set hands pass w)
 Each-set {V} F hands pass w mine others j u e = ⊎_elim (λ (x : (j ≡ pass) × (w ≡ u)). subst (λ (y : ℕ × V). F y.0 y.1)

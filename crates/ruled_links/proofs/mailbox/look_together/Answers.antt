@@ -93,7 +93,8 @@ invariant_of-inbox g c = let v = c.inbox.inside.pass.me.view.client in let u = c
     let more : (m : ℕ) → length (known_of v.known m) ≤ length (of_sender m v.received) + length (of_sender m items) =
     λ m. subst (λ (h : InboxHand). length (known_of h.known m) ≤ length (of_sender m h.received)
     + length (of_sender m items)) c.absorb.ensures.rule (c.len_as.ensures.rule.2.2 m) in
-    let fits : length items < 2 ^ 64 = subst (λ (m : ℕ). m < 2 ^ 64) (sym c.len_as.ensures.rule.1) c.len_as.type_inv in (
+    let fits : length items < 2 ^ 64 = subst (λ (m : ℕ). m < 2 ^ 64) (sym c.len_as.ensures.rule.1)
+    c.len_as.type_inv in (
       search rules,
       subst (λ (h : InboxHand). h ≡ inbox_hand false true 0 [] h.received h.known) (sym is) refl,
       subst (λ (l : List Part). AreCounted w l) (sym (told_once g c))
