@@ -28,6 +28,7 @@ run_all p (x ∷ xs) = go (run_all p xs) (p x) refl
         subst (λ n. AllByRecursion (λ b. p b ≡ true) (take n (x ∷ xs))) (sym one) (e, ih)
     go ih false e = tt
 
+-- no more bytes at the front pass a test than there are
 pub run_le : (p : ℕ → Bool) (xs : List ℕ) → prefix_len p xs ≤ length xs
 run_le p [] = omega arith
 run_le p (x ∷ xs) = go (run_le p xs) (p x)
@@ -36,6 +37,7 @@ run_le p (x ∷ xs) = go (run_le p xs) (p x)
     go ih true = omega arith
     go ih false = omega arith
 
+-- a front of which each byte passes the test is no longer than the run of those that do
 pub run_bound : (p : ℕ → Bool) (xs : List ℕ) (m : ℕ) → m ≤ length xs → AllByRecursion (λ b. p b ≡ true) (take m xs)
     → m ≤ prefix_len p xs
 run_bound p xs zero le all = omega arith
@@ -217,6 +219,7 @@ there_quoted q k bs isnt f = go (quoted_len q bs) (closes q bs)
     go None h = tt
     go (Some n) (content, e, le, pos) = (f (q ∷ take n bs) (content, ap (λ z. q ∷ z) e), omega arith, omega arith, isnt)
 
+-- where a token is found, bytes at the front spell it, one or more, and it is no stray one
 pub there : (text : List ℕ) → IsThere text (front text)
 there [] = tt
 there (b ∷ bs) = go (is_letter b) refl (is_digit b) refl
@@ -241,6 +244,7 @@ not_stray text Word n isnt h = h
 not_stray text Stray n isnt h = absurd (isnt refl)
 not_stray text k n isnt h = h
 
+-- a token that is found is the one that comes next, with one byte or more, within the text
 pub next_some : (text : List ℕ) (k : Kind) (n : ℕ) → front text ≡ Some (k, n) → IsNextKind text k n × (n ≤ length text)
     × (0 < n)
 next_some text k n e =
@@ -254,6 +258,7 @@ next_some text k n e =
       h.2,
     )
 
+-- where none is found, no token begins, and the whole text is stray
 pub next_none : (text : List ℕ) → front text ≡ None → IsNextKind text Stray (length text)
 next_none text e = record {
   all = refl;
@@ -261,6 +266,7 @@ next_none text e = record {
       (least kind m text le sp);
 }
 
+-- a closing quote that is found lies within the text
 pub quoted_within : (q : ℕ) (bs : List ℕ) → MatchOption (quoted_len q bs) (Unit {0}) (λ n. n ≤ length bs)
 quoted_within q bs = go (quoted_len q bs) (closes q bs)
   where
@@ -277,6 +283,7 @@ turn_other q at b best rest e = ap (found_by at best) (other q b rest e) ∙ go 
     go None = refl
     go (Some n) = let h : at + suc n ≡ at + 1 + n = omega arith in ap (λ x. Some x) h
 
+-- where two quotes stand together, the first is the best end so far, and the search goes on behind both
 pub turn_twice : (q at b c : ℕ) (best : Option ℕ) (rest : List ℕ) → (b == q) ≡ true → (c == q) ≡ true
     → found_by at best (quoted_len q (b ∷ c ∷ rest)) ≡ found_by (at + 2) (Some (at + 1)) (quoted_len q rest)
 turn_twice q at b c best rest e e' = ap (found_by at best) (twice q b c rest e e') ∙ go (quoted_len q rest)
@@ -329,6 +336,7 @@ same_found (Some x) k k' n n' e e' =
       sym (ap (λ (z : Kind × ℕ). z.1) a) ∙ ap (λ (z : Kind × ℕ). z.1) b,
     )
 
+-- at the front of a text one kind of token comes next, with one length
 pub next_unique : (text : List ℕ) (k k' : Kind) (n n' : ℕ) → IsNextKind text k n → IsNextKind text k' n' → (k ≡ k')
     × (n ≡ n')
 next_unique text k k' n n' h h' = go (is_stray k) (is_stray k')

@@ -22,25 +22,32 @@ abbrev pub raised : Bool → ℕ → ℕ
 raised true n = suc n
 raised false n = n
 
+-- what is to come, one nesting deeper where the first flag says so, one term wider where the second does
 abbrev pub up : Bool → Bool → Symbol → Symbol
 up b c (unit d) = unit (raised b d)
 up b c (tail d) = tail (raised b d)
 up b c (more n) = more (raised c n)
 up b c x = x
 
+-- the same of all that is to come
 abbrev pub ups : Bool → Bool → List Symbol → List Symbol
 ups b c s = map (up b c) s
 
+-- the limits, one nesting deeper and one term wider where these flags say so, with this greatest number
 abbrev pub Wide : Limits → Bool → Bool → ℕ → Limits
 Wide L b c g = record { nesting = raised b L.nesting; more = raised c L.more; greatest = g }
 
+-- the number that a token spells, and 0 where it spells none
 abbrev pub value_of : Token → ℕ
 value_of (Number v) = number_of v
 value_of _ = 0
 
+-- the step succeeds
 abbrev pub IsOk : Step → Type 0
 IsOk r = (s : List Symbol) × (r ≡ Ok s)
 
+-- what wider limits make of a step at a token: one that succeeds does so there too, with as much more room behind it;
+-- one that a limit stops succeeds where that limit is the wider one, or takes in the token's number
 abbrev pub Lifts : Bool → Bool → ℕ → Token → Step → Step → Type 0
 Lifts b c g t (Ok s) r = r ≡ Ok (ups b c s)
 Lifts b c g t (Err syntax) r = Unit {0}
@@ -48,6 +55,7 @@ Lifts b c g t (Err deep) r = b ≡ true → IsOk r
 Lifts b c g t (Err wide) r = c ≡ true → IsOk r
 Lifts b c g t (Err literal) r = value_of t ≤ g → IsOk r
 
+-- the same of the step at a token, against what is to come
 abbrev pub LiftsAt : Limits → Bool → Bool → ℕ → List Symbol → Token → Type 0
 LiftsAt L b c g s t = Lifts b c g t (step L s t) (step (Wide L b c g) (ups b c s) t)
 
@@ -119,6 +127,7 @@ lifts_unit L false c g le (suc d) s (Word Text w) = refl
 lifts_unit L false c g le (suc d) s (Literal w) = refl
 lifts_unit L false c g le (suc d) s t = lifts_sum L false c g le (op ∷ sum ∷ s) t
 
+-- wider limits make that of each step, if their greatest number is no less
 pub lifts : (L : Limits) (b c : Bool) (g : ℕ) → L.greatest ≤ g → (s : List Symbol) (t : Token) → LiftsAt L b c g s t
 lifts L b c g le [] t = tt
 lifts L b c g le (unit d ∷ s) t = lifts_unit L b c g le d s t
@@ -161,6 +170,7 @@ lifted_run L b c g le (t ∷ ts) s = go (λ s'. lifted_run L b c g le ts s') (st
         ∙ h) (ih s1)
     go ih (Err k) f e = tt
 
+-- a run over one token more is the run so far, and then the step at that token
 pub run-append : (L : Limits) (front : List Token) (t : Token) (s s' : List Symbol) → run L s front ≡ Ok s'
     → run L s (front ++ t ∷ []) ≡ then_run (step L s' t) (λ s. Ok s)
 run-append L [] t s s' e =
@@ -248,6 +258,7 @@ blames_unit L (suc d) s (Word Text w) = tt
 blames_unit L (suc d) s (Literal w) = tt
 blames_unit L (suc d) s t = blames_sum L (op ∷ sum ∷ s) t
 
+-- a limit stops the machine only at a token that it bounds: one that nests, a sign or a number
 pub blames : (L : Limits) (s : List Symbol) (t : Token) → Blames t (step L s t)
 blames L [] t = tt
 blames L (unit d ∷ s) t = blames_unit L d s t
@@ -289,6 +300,7 @@ pub record Stops (L : Limits) (end : ℕ) (from : List Symbol) (tokens : List Pl
   pub ran : run L from (words front) ≡ Ok s
   pub halted : Halts L s k rest
 
+-- where the verdict is that something is wrong, the machine stopped for that, and at that place
 pub stops : (L : Limits) (end : ℕ) (tokens : List Placed) (s : List Symbol) (k : Kind) (place : ℕ)
     → verdict L end s tokens ≡ wrong k place → Stops L end s tokens k place
 stops L end [] s k place e = go (is_done s) refl e
@@ -347,6 +359,7 @@ syntax_fault L end tokens place e =
     go front s ran [] h = stuck_end L (words front) s ran h.1
     go front s ran (p ∷ ps) h = stuck_at L (words front) s p.token ran h
 
+-- for the three limits at once: where one is what is wrong, the token at the place passes it, and wouldn't a wider one
 pub passes : (L : Limits) (b c : Bool) (g : Token → ℕ) (end : ℕ) (tokens : List Placed) (place : ℕ) (k : Kind)
     (IsOf : Token → Type 0)
     → ((t : Token) → L.greatest ≤ g t) → (k ≡ syntax → ⊥)
@@ -381,18 +394,21 @@ passes L b c g end tokens place k IsOf le other e kind lifting = let st = stops 
           },
         )
 
+-- where a unit is too deep by the verdict, the token at the place nests deeper than the limit
 pub deep_fault : (L : Limits) (end : ℕ) (tokens : List Placed) (place : ℕ)
     → verdict L end (start L) tokens ≡ wrong deep place → IsDeepFault L tokens place
 deep_fault L end tokens place e =
     (passes L true false (λ t. L.greatest) end tokens place deep IsNesting (λ t. omega arith) (λ h. cc) e (λ t b. b)
     (λ t r f. f refl)).1
 
+-- where a sum is too wide by it, the sign at the place is of a term too many
 pub wide_fault : (L : Limits) (end : ℕ) (tokens : List Placed) (place : ℕ)
     → verdict L end (start L) tokens ≡ wrong wide place → IsWideFault L tokens place
 wide_fault L end tokens place e =
     (passes L false true (λ t. L.greatest) end tokens place wide IsSign (λ t. omega arith) (λ h. cc) e (λ t b. b)
     (λ t r f. f refl)).1
 
+-- where a number is too great by it, the one at the place is greater than the limit
 pub literal_fault : (L : Limits) (end : ℕ) (tokens : List Placed) (place : ℕ)
     → verdict L end (start L) tokens ≡ wrong literal place → IsLiteralFault L tokens place
 literal_fault L end tokens place e =
@@ -400,6 +416,7 @@ literal_fault L end tokens place e =
     (λ t. omega arith) (λ h. cc) e (λ t b. b) (λ t r f. f (omega arith)) in
     (L.greatest + value_of t, p)
 
+-- nothing is wrong with tokens that spell all that is to come, where that can come of the start
 pub reads_fine : (L : Limits) (end : ℕ) (tokens : List Placed) (s : List Symbol) → Fits s → GivesAll L s (words tokens)
     → verdict L end s tokens ≡ fine
 reads_fine L end [] s f r = ap (λ b. cond b fine (wrong syntax end)) (spells_done L s r)

@@ -40,6 +40,7 @@ Gives L op before after = (o : Op) × OpText before o after
 Gives L bound before after = (v : ℤ) × BoundText L.greatest before v after
 Gives L side before after = (x : TextSide) × SideText before x after
 
+-- the tokens are what all these symbols stand for, one behind the other, with no token left
 abbrev pub GivesAll : Limits → List Symbol → List Token → Type 0
 GivesAll L [] tokens = tokens ≡ []
 GivesAll L (x ∷ s) tokens = (mid : List Token) × Gives L x tokens mid × GivesAll L s mid
@@ -54,6 +55,7 @@ abbrev pub IfGoes : Step → (List Symbol → Type 0) → Type 0
 IfGoes (Ok s) P = P s
 IfGoes (Err k) P = Unit {0}
 
+-- where a step that succeeds has a fact after it, it has each that follows from that one
 pub if_goes_map : (r : Step) (P Q : List Symbol → Type 0) → ((s : List Symbol) → P s → Q s) → IfGoes r P → IfGoes r Q
 if_goes_map (Ok s) P Q f p = f s p
 if_goes_map (Err k) P Q f p = tt
@@ -197,6 +199,7 @@ tail_none L d ts = ([], [], ts, refl, refl)
 more_none : (L : Limits) (n : ℕ) (ts : List Token) → Gives L (more n) ts ts
 more_none L n ts = ([], refl)
 
+-- with a token in front, what spells all to come after its step spells all that was to come before it
 pub push : (L : Limits) (s : List Symbol) (t : Token) (ts : List Token) → Back L (step L s t) ts s (t ∷ ts)
 push L [] t ts = tt
 push L (unit d ∷ s) t ts = push_unit L d s t ts
@@ -250,6 +253,7 @@ BelowTail [] = Unit {0}
 BelowTail (close ∷ s) = Unit {0}
 BelowTail _ = ⊥
 
+-- below further terms, a sum or a unit: a sign of comparison, a closing parenthesis, or the rest of a predicate
 abbrev pub BelowMore : List Symbol → Type 0
 BelowMore (op ∷ s) = Unit {0}
 BelowMore (close ∷ s) = Unit {0}
@@ -265,6 +269,7 @@ Fits (sum ∷ s) = BelowMore s × Fits s
 Fits (unit d ∷ s) = BelowMore s × Fits s
 Fits (x ∷ s) = Fits s
 
+-- the step succeeds, and these tokens spell all that is to come after it
 abbrev pub Pulls : Limits → Step → List Token → Type 0
 Pulls L r ts = Goes r (λ s'. GivesAll L s' ts)
 
@@ -411,6 +416,8 @@ pull_op : (L : Limits) (s : List Symbol) (t : Token) (ts mid : List Token) (o : 
 pull_op L s (Compare o') ts mid o (e, e') r = again L s ts mid e' r
 pull_op L s _ ts mid o h r = absurd h
 
+-- the machine goes over the first of the tokens that spell all to come, if that can come of the start, and the others
+-- spell what comes after it
 pub pull : (L : Limits) (s : List Symbol) (t : Token) (ts : List Token) → Fits s → GivesAll L s (t ∷ ts)
     → Pulls L (step L s t) ts
 pull L [] t ts f r = let clash : t ∷ ts ≡ [] = r in let bad : ⊥ = cc in absurd bad

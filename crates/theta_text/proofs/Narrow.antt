@@ -4,6 +4,7 @@ use Rattle.std.proofs.lemmas.List.{map-append}
 use Rattle.theta_text.specs.declared.tree.Pred.{Pred}
 use Rattle.theta_text.specs.Sizes.{longest, longest_sum}
 
+-- the greater of two numbers is within a bound that both are within
 pub max-le : (a b n : ℕ) → a ≤ n → b ≤ n → max a b ≤ n
 max-le a b n h h' = grind arith
 
@@ -14,6 +15,7 @@ longest-append (m ∷ ms) n limit h h' =
     let tail : longest ms ≤ limit = grind arith in
     max-le m (longest (ms ++ n ∷ [])) limit head (longest-append ms n limit tail h')
 
+-- where the sums of some members and of one more have at most 16 terms, those of all together do
 pub longest-push : (all members : List Pred) (member : Pred) → all ≡ members ++ member ∷ []
     → longest (map longest_sum members) ≤ 16 → longest_sum member ≤ 16
     → longest (map longest_sum all) ≤ 16

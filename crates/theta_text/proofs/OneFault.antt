@@ -45,12 +45,14 @@ abbrev pub Blocked : Limits → List Token → List Token → Type 0
 Blocked L front [] = (t : Tree) → Reads L front t → ⊥
 Blocked L front (t ∷ ts) = IsOpen L (front ++ t ∷ []) → ⊥
 
--- the token behind the front has this kind and passes a limit
+-- behind the front, at the place, is a token of this kind with which some predicate of some size goes on
 abbrev pub At : (Token → Type 0) → List Placed → List Placed → ℕ → Type 0
 At IsOf front [] place = ⊥
 At IsOf front (p ∷ ps) place = (place ≡ p.place) × IsOf p.token
     × ((L : Limits) × IsOpen L (words front ++ p.token ∷ []))
 
+-- what a fault tells of a front and the rest: one of syntax, that the front is stuck before the rest; one of a limit,
+-- that some predicate has the next token there, and that this limit bounds such tokens
 abbrev pub Says : ℕ → List Placed → List Placed → PredFault → Type 0
 Says end front rest (faults.Syntax place) = (place ≡ place_of end rest) × IsStuck (words front) (words rest)
 Says end front rest (faults.Deep place) = At IsNesting front rest place
@@ -178,6 +180,7 @@ leaves L text faults.Memory h = absurd h
 abbrev pub IsLonger : List Placed → List Placed → List Placed → List Placed → Type 0
 IsLonger a b longer shorter = (x : Placed) × (xs : List Placed) × (longer ≡ a ++ x ∷ xs) × (b ≡ x ∷ (xs ++ shorter))
 
+-- the one front is longer, or the other, or both ways are the same
 abbrev pub Parts : List Placed → List Placed → List Placed → List Placed → Type 0
 Parts a b a' b' = IsLonger a b a' b' ⊎ (IsLonger a' b' a b ⊎ ((a ≡ a') × (b ≡ b')))
 

@@ -9,11 +9,12 @@ use Rattle.theta_text.specs.Tokens.{is_blank, IsNext, Stand, AreTokens}
 use Rattle.theta_text.proofs.Fronts.{run_bound}
 use Rattle.theta_text.proofs.Spellings.{same_next}
 
--- the tokens stand in the text up to some place, and from there to `at` there are only spaces
+-- the tokens stand in the text up to some place, and `at` is behind the blanks that follow there
 abbrev pub StandsTo : List ℕ → List Placed → ℕ → Type 0
 StandsTo text ps at = (to : ℕ) × (to ≤ length text) × Stand text 0 ps to
     × (at ≡ to + prefix_len is_blank (drop to text))
 
+-- with the token that comes next behind the blanks, tokens that stand in the text still do
 pub stand_push : (text : List ℕ) (from : ℕ) (ps : List Placed) (to : ℕ) (p : Placed) (n : ℕ) → Stand text from ps to
     → p.place ≡ to + prefix_len is_blank (drop to text) → p.place < length text → IsNext (drop p.place text) p.token n
     → Stand text from (ps ++ p ∷ []) (p.place + n)

@@ -14,14 +14,17 @@ Reaches m (Some n) = m ≤ n
 abbrev pub Ends : ℕ → List ℕ → ℕ → Type 0
 Ends q bs n = (content : List ℕ) × (take n bs ≡ doubled q content ++ q ∷ []) × (n ≤ length bs) × (0 < n)
 
+-- an end that is found ends what is quoted
 abbrev pub Closes : ℕ → List ℕ → Type 0
 Closes q bs = MatchOption (quoted_len q bs) (Unit {0}) (Ends q bs)
 
+-- a byte that is no quote is one byte more up to the end that is found behind it
 pub other : (q b : ℕ) (bs : List ℕ) → (b == q) ≡ false → quoted_len q (b ∷ bs) ≡ option_map suc (quoted_len q bs)
 other q b [] e = ap (λ t. cond t (Some 1) None) e
 other q b (c ∷ bs) e = ap (λ t. cond t (cond (c == q) (Some (later (quoted_len q bs))) (Some 1))
     (option_map suc (quoted_len q (c ∷ bs)))) e
 
+-- two quotes together are content if an end comes later, and else the first of them is the end
 pub twice : (q b c : ℕ) (bs : List ℕ) → (b == q) ≡ true → (c == q) ≡ true
     → quoted_len q (b ∷ c ∷ bs) ≡ Some (later (quoted_len q bs))
 twice q b c bs e e' =
@@ -29,21 +32,26 @@ twice q b c bs e e' =
     e
     ∙ ap (λ t. cond t (Some (later (quoted_len q bs))) (Some 1)) e'
 
+-- a quote with another byte behind it, no quote, is the end
 pub once : (q b c : ℕ) (bs : List ℕ) → (b == q) ≡ true → (c == q) ≡ false → quoted_len q (b ∷ c ∷ bs) ≡ Some 1
 once q b c bs e e' =
     ap (λ t. cond t (cond (c == q) (Some (later (quoted_len q bs))) (Some 1)) (option_map suc (quoted_len q (c ∷ bs))))
     e
     ∙ ap (λ t. cond t (Some (later (quoted_len q bs))) (Some 1)) e'
 
+-- and so is one that is the last byte
 pub last_one : (q b : ℕ) → (b == q) ≡ true → quoted_len q (b ∷ []) ≡ Some 1
 last_one q b e = ap (λ t. cond t (Some 1) None) e
 
+-- by the test on bytes too, a byte is equal to itself
 pub same_self : (q : ℕ) → (q == q) ≡ true
 same_self q = eq-eqb q q refl
 
+-- a quote in the content stands twice
 pub doubled-same : (q c : ℕ) (cs : List ℕ) → (c == q) ≡ true → doubled q (c ∷ cs) ≡ q ∷ q ∷ doubled q cs
 doubled-same q c cs e = ap (λ t. cond t (q ∷ q ∷ doubled q cs) (c ∷ doubled q cs)) e
 
+-- any other byte of it stands once
 pub doubled-other : (q c : ℕ) (cs : List ℕ) → (c == q) ≡ false → doubled q (c ∷ cs) ≡ c ∷ doubled q cs
 doubled-other q c cs e = ap (λ t. cond t (q ∷ q ∷ doubled q cs) (c ∷ doubled q cs)) e
 
@@ -71,6 +79,7 @@ starts_one q (c ∷ bs) = go (c == q) refl
     go true e = subst (λ o. Reaches 1 o) (sym (twice q q c bs (same_self q) e)) (at_least (quoted_len q bs))
     go false e = subst (λ o. Reaches 1 o) (sym (once q q c bs (same_self q) e)) (omega arith)
 
+-- where a content and its closing quote stand at the front, an end is found, and no sooner than theirs
 pub reach : (q : ℕ) (content : List ℕ) (m : ℕ) (bs : List ℕ) → take m bs ≡ doubled q content ++ q ∷ [] → m ≤ length bs
     → Reaches m (quoted_len q bs)
 reach q [] m bs e le =
@@ -118,6 +127,7 @@ ends_at q bs o e h = subst (λ o. MatchOption o (Unit {0}) (Ends q bs)) (sym e) 
 one_end : (q b : ℕ) (bs : List ℕ) → (b == q) ≡ true → Ends q (b ∷ bs) 1
 one_end q b bs e = ([], ap (λ z. z ∷ []) (eqb-true b q e), omega arith, omega arith)
 
+-- whatever the bytes, an end that is found ends what is quoted
 pub closes : (q : ℕ) (bs : List ℕ) → Closes q bs
 closes q [] = tt
 closes q (b ∷ []) = go (b == q) refl

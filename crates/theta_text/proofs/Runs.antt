@@ -63,6 +63,7 @@ fits_field s (Word k w) f = f
 fits_field s (Quoted w) f = f
 fits_field s _ f = tt
 
+-- where all that is to come can come of the start, so can what is to come after a step
 pub fits : (L : Limits) (s : List Symbol) (t : Token) → Fits s → IfGoes (step L s t) Fits
 fits L [] t f = tt
 fits L (unit d ∷ s) t f = fits_unit L d s t f
@@ -113,6 +114,7 @@ nought_test L ts = (
   nought_sum L ts,
 )
 
+-- some bytes spell the token
 abbrev pub IsSpelled : Token → Type 0
 IsSpelled t = (bytes : List ℕ) × Spells t bytes
 
@@ -128,6 +130,7 @@ field_spelled = (34 ∷ 34 ∷ [], refl)
 side_spelled : IsSpelled (Word R (114 ∷ []))
 side_spelled = (114 ∷ [], (refl, (refl, tt), refl))
 
+-- some tokens that bytes spell are all that is to come
 abbrev pub Finish : Limits → List Symbol → Type 0
 Finish L s = (ts : List Token) × AreSpelled ts × GivesAll L s ts
 
@@ -140,6 +143,7 @@ finish_unit L d s u (ts, sp, r) = (
   (ts, (num (nought ∷ []) Eq (nought ∷ []), u ts), r),
 )
 
+-- whatever is to come, such tokens can follow
 pub finish : (L : Limits) (s : List Symbol) → Finish L s
 finish L [] = ([], tt, refl)
 finish L (unit zero ∷ s) = finish_unit L zero s (nought_test L) (finish L s)
@@ -188,6 +192,7 @@ no_sum L (x ∷ xs) mid (to, (e, h), f) = h
 no_num : (L : Limits) (x : Tree) (mid : List Token) → NumTest L [] x mid → ⊥
 no_num L x mid (l, o, r, m1, m2, e, hl, ho, hr) = no_sum L l m1 hl
 
+-- where an empty list of tokens spells all that is to come, nothing more has to come
 pub spells_done : (L : Limits) (s : List Symbol) → GivesAll L s [] → is_done s ≡ true
 spells_done L [] r = refl
 spells_done L (unit zero ∷ s) (mid, (t, u), r) = absurd (no_num L t mid u)
@@ -217,10 +222,12 @@ abbrev pub then_run : Step → (List Symbol → Step) → Step
 then_run (Ok s) go = go s
 then_run (Err k) go = Err k
 
+-- what is to come after some tokens, or what is wrong with the first that has no step
 abbrev pub run : Limits → List Symbol → List Token → Step
 run L s [] = Ok s
 run L s (t ∷ ts) = then_run (step L s t) (λ s'. run L s' ts)
 
+-- with the tokens of a run in front, what spells all to come after it spells all that was to come before it
 pub run_push : (L : Limits) (front rest : List Token) (s : List Symbol)
     → IfGoes (run L s front) (λ s'. GivesAll L s' rest → GivesAll L s (front ++ rest))
 run_push L [] rest s = λ r. r
@@ -232,6 +239,8 @@ run_push L (t ∷ ts) rest s = go (λ s'. run_push L ts rest s') (step L s t) (p
     go ih (Ok s1) f = if_goes_map (run L s1 ts) _ _ (λ s' g r. f (g r)) (ih s1)
     go ih (Err k) f = tt
 
+-- the machine goes over any front of tokens that spell all to come, if that can come of the start, and the rest spells
+-- what comes after it, which can come of the start too
 pub run_pull : (L : Limits) (front rest : List Token) (s : List Symbol) → Fits s → GivesAll L s (front ++ rest)
     → Goes (run L s front) (λ s'. GivesAll L s' rest × Fits s')
 run_pull L [] rest s f r = (r, f)
@@ -250,6 +259,7 @@ pub reads_start : (L : Limits) (tokens : List Token) (t : Tree) → Reads L toke
 reads_start L tokens t (first, others, to, e, (first', us, to', e', u, fu), fo) =
     (to', (first', u), ([], (us, others, to, fu, fo), refl))
 
+-- and what the start spells is a predicate within the limits
 pub start_reads : (L : Limits) (tokens : List Token) → GivesAll L (start L) tokens → (t : Tree) × Reads L tokens t
 start_reads L tokens (m1, (t, u), (m2, (us, ts', m, fu, ft), e)) = (
   joined any (joined every t us) ts',
@@ -274,6 +284,7 @@ open_goes L front (rest, t, sp, r) = go (run L (start L) front) (run_pull L fron
     go (Ok s) p = p.1
     go (Err k) p = p
 
+-- where the machine goes over a front, some predicate within the limits begins so
 pub goes_open : (L : Limits) (front : List Token) (s : List Symbol) → run L (start L) front ≡ Ok s → IsOpen L front
 goes_open L front s e =
     let (rest, sp, r) = finish L s in

@@ -42,6 +42,7 @@ undoubled-doubled q (b ∷ bs) = go (undoubled-doubled q bs) (b == q) refl
 unquoted-quoted : (q : ℕ) (bytes content : List ℕ) → bytes ≡ in_quotes q content → unquoted q bytes ≡ content
 unquoted-quoted q bytes content e = ap (unquoted q) e ∙ undoubled-doubled q content
 
+-- the kind of a token
 abbrev pub kind_of : Token → Kind
 kind_of (Word keyword word) = kinds.Word
 kind_of (Number digits) = kinds.Number
@@ -123,6 +124,7 @@ longest_token text k n h = record {
   longest = λ other m le sp. h.longest (kind_of other) m le (spells_kind other (take m text) sp);
 }
 
+-- where a kind comes next in a text, so does the token of that kind that the bytes spell
 pub next_token : (text : List ℕ) (k : Kind) (n : ℕ) → IsNextKind text k n → IsNext text (token_at k (take n text)) n
 next_token text kinds.Stray n h = record {
   all = h.all;

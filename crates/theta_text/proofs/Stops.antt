@@ -20,6 +20,7 @@ shape (tail d) = tail 0
 shape (more n) = more 0
 shape x = x
 
+-- all that is to come, without its numbers
 abbrev pub shapes : List Symbol → List Symbol
 shapes s = map shape s
 
@@ -29,10 +30,12 @@ free_term s (Number v) = Ok s
 free_term s (Word k w) = at_name s (Word k w)
 free_term s _ = Err syntax
 
+-- at a sum, which may have any number of terms
 abbrev pub free_sum : List Symbol → Token → Step
 free_sum s (Sign m) = Ok (term ∷ more 0 ∷ s)
 free_sum s t = free_term (more 0 ∷ s) t
 
+-- at a unit, in which others may be nested to any depth
 abbrev pub free_unit : List Symbol → Token → Step
 free_unit s (Word Not w) = Ok (unit 0 ∷ s)
 free_unit s Open = Ok (unit 0 ∷ tail 0 ∷ close ∷ s)
@@ -41,14 +44,17 @@ free_unit s (Word Text w) = at_side (op ∷ side ∷ s) (Word Text w)
 free_unit s (Literal w) = at_side (op ∷ side ∷ s) (Literal w)
 free_unit s t = free_sum (op ∷ sum ∷ s) t
 
+-- at the end of a term, which any number of others may follow
 abbrev pub free_more : List Symbol → Step → Token → Step
 free_more s below (Sign m) = Ok (term ∷ more 0 ∷ s)
 free_more s below t = below
 
+-- at the bound of a band, which may be any number
 abbrev pub free_bound : List Symbol → Token → Step
 free_bound s (Number v) = Ok s
 free_bound s _ = Err syntax
 
+-- one token, against what is to come, without limits
 abbrev pub free : List Symbol → Token → Step
 free [] t = Err syntax
 free (unit d ∷ s) t = free_unit s t
@@ -116,6 +122,7 @@ frees_unit L (suc d) s (Literal w) = refl
 frees_unit L zero s t = frees_sum L (op ∷ sum ∷ s) t
 frees_unit L (suc d) s t = frees_sum L (op ∷ sum ∷ s) t
 
+-- a step does without limits what it does within them, but where a limit stopped it
 pub frees : (L : Limits) (s : List Symbol) (t : Token) → Frees (step L s t) (free (shapes s) t)
 frees L [] t = refl
 frees L (unit d ∷ s) t = frees_unit L d s t
@@ -141,10 +148,12 @@ frees L (bound ∷ s) (Number v) = frees_small L (number_of v) s
 frees L (bound ∷ s) _ = refl
 frees L (side ∷ s) t = frees_side s t
 
+-- the steps of several tokens, without limits
 abbrev pub free_run : List Symbol → List Token → Step
 free_run s [] = Ok s
 free_run s (t ∷ ts) = then_run (free s t) (λ s'. free_run s' ts)
 
+-- where the machine goes over tokens within limits, it does without, and the same is to come but for its numbers
 pub free_runs : (L : Limits) (front : List Token) (s : List Symbol)
     → IfGoes (run L s front) (λ s'. free_run (shapes s) front ≡ Ok (shapes s'))
 free_runs L [] s = refl
@@ -157,6 +166,7 @@ free_runs L (t ∷ ts) s = go (λ s'. free_runs L ts s') (step L s t) (free (sha
         (ih s1)
     go ih (Err k) f e = tt
 
+-- a run without limits over one token more is the run so far, and then the step at that token
 pub free_run-append : (front : List Token) (t : Token) (s s' : List Symbol) → free_run s front ≡ Ok s'
     → free_run s (front ++ t ∷ []) ≡ then_run (free s' t) (λ s. Ok s)
 free_run-append [] t s s' e =
@@ -175,9 +185,11 @@ pub goes_ok : (r : Step) (P : List Symbol → Type 0) → Goes r P → (s : List
 goes_ok (Ok s) P p = (s, refl, p)
 goes_ok (Err k) P p = absurd p
 
+-- what is true of whatever a step leaves to come is true of what it is known to leave
 pub if_goes_at : (r : Step) (P : List Symbol → Type 0) (s : List Symbol) → r ≡ Ok s → IfGoes r P → P s
 if_goes_at r P s e p = subst (λ x. IfGoes x P) e p
 
+-- the same, where what the run within limits leaves to come is known
 pub free_of : (L : Limits) (front : List Token) (s s' : List Symbol) → run L s front ≡ Ok s'
     → free_run (shapes s) front ≡ Ok (shapes s')
 free_of L front s s' e = if_goes_at (run L s front) _ s' e (free_runs L front s)
@@ -197,15 +209,18 @@ stuck_at L front s t ran stop L' o =
     let no : ⊥ = cc in
     absurd no
 
+-- whether something has to come yet doesn't hang on the numbers
 pub done_shapes : (s : List Symbol) → is_done (shapes s) ≡ is_done s
 done_shapes [] = refl
 done_shapes (tail d ∷ s) = done_shapes s
 done_shapes (more n ∷ s) = done_shapes s
 done_shapes (x ∷ s) = refl
 
+-- a step that succeeds leaves one thing to come and no other
 pub ok_inj : (s s' : List Symbol) (r : Step) → r ≡ Ok s → r ≡ Ok s' → s ≡ s'
 ok_inj s s' r e e' = let both : Ok s ≡ Ok s' = sym e ∙ e' in cc
 
+-- a front with no token behind it is that front
 pub run_append_nil : (front : List Token) → front ++ [] ≡ front
 run_append_nil [] = refl
 run_append_nil (t ∷ ts) = ap (λ x. t ∷ x) (run_append_nil ts)

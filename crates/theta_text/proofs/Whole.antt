@@ -18,11 +18,13 @@ pub at_start : (end d : ℕ) (tokens : List Placed) → d ≡ 32 → verdict lim
     ≡ verdict limits end (unit d ∷ tail d ∷ []) tokens
 at_start end d tokens e = ap (λ n. verdict limits end (unit n ∷ tail n ∷ []) tokens) (nesting_is ∙ sym e)
 
+-- a predicate as deep as the limit allows, with no token behind it, is what the tokens read as
 pub whole_read : (L : Limits) (d : ℕ) (before after : List Token) (t : Tree) → d ≡ L.nesting
     → Predicate (Unit' L d) before t after → after ≡ [] → Reads L before t
 whole_read L d before after t e r end =
     subst (λ n. Predicate (Unit' L n) before t []) e (subst (λ x. Predicate (Unit' L d) before t x) end r)
 
+-- where the tokens read as a predicate, a fault that agrees with the verdict is want of memory
 pub fault_unread : (L : Limits) (end : ℕ) (tokens : List Placed) (fault : PredFault)
     → IsFault (verdict L end (start L) tokens) fault → (t : Tree) → Reads L (words tokens) t → fault ≡ faults.Memory
 fault_unread L end tokens fault h t r = go (verdict L end (start L) tokens) (reads_fine L end tokens (start L) (
@@ -37,21 +39,25 @@ fault_unread L end tokens fault h t r = go (verdict L end (start L) tokens) (rea
     go v e (faults.Literal place) h = let clash : fine ≡ wrong literal place = sym e ∙ h in cc
     go v e faults.Memory h = refl
 
+-- where such a fault is of syntax, the tokens leave the grammar at its place
 pub syntax_of : (L : Limits) (end : ℕ) (tokens : List Placed) (fault : PredFault) (place : ℕ)
     → IsFault (verdict L end (start L) tokens) fault → fault ≡ faults.Syntax place → IsSyntaxFault L end tokens place
 syntax_of L end tokens fault place h e = syntax_fault L end tokens place
     (subst (λ x. IsFault (verdict L end (start L) tokens) x) e h)
 
+-- where it is of depth, the token at its place nests deeper than the limit
 pub deep_of : (L : Limits) (end : ℕ) (tokens : List Placed) (fault : PredFault) (place : ℕ)
     → IsFault (verdict L end (start L) tokens) fault → fault ≡ faults.Deep place → IsDeepFault L tokens place
 deep_of L end tokens fault place h e = deep_fault L end tokens place
     (subst (λ x. IsFault (verdict L end (start L) tokens) x) e h)
 
+-- where it is of width, the sign at its place is of a term too many
 pub wide_of : (L : Limits) (end : ℕ) (tokens : List Placed) (fault : PredFault) (place : ℕ)
     → IsFault (verdict L end (start L) tokens) fault → fault ≡ faults.Wide place → IsWideFault L tokens place
 wide_of L end tokens fault place h e = wide_fault L end tokens place
     (subst (λ x. IsFault (verdict L end (start L) tokens) x) e h)
 
+-- where it is of a number, the one at its place is greater than the limit
 pub literal_of : (L : Limits) (end : ℕ) (tokens : List Placed) (fault : PredFault) (place : ℕ)
     → IsFault (verdict L end (start L) tokens) fault → fault ≡ faults.Literal place → IsLiteralFault L tokens place
 literal_of L end tokens fault place h e = literal_fault L end tokens place
