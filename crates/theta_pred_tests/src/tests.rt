@@ -1,9 +1,12 @@
 // What predicates answer.
 
+mod accesses;
 mod columns;
 mod keys;
 mod names;
 mod predicates;
+mod sums;
+mod texts;
 
 use self::predicates::{apart, band, compared, either, negated, text_below};
 use join_rows::{Bytes, Cell, Cells, Names};

@@ -1,0 +1,189 @@
+// The accesses of predicates.
+
+use super::texts::{over_x_and_a, write_atom, write_sum};
+use join_rows::Side;
+use std::alloc::{AllocError, Global};
+use std::process::Abort;
+use std::test::Fail;
+use theta_pred::{Access, Interval, Range, Same, TextAtom};
+
+// R's column and S's of equal texts, or R's columns, S's and how much R's sum is above S's.
+fn write_same(text: &mut String, same: &Same) -> Result<(), AllocError> {
+    match same {
+        Same::Texts(TextAtom { r, s }) => write!(text, "[{r} {s}]"),
+        Same::Sums(pair) => {
+            let gap = pair.gap;
+            write!(text, "[")?;
+            write_sum(text, &pair.r_sum)?;
+            write!(text, " ")?;
+            write_sum(text, &pair.s_sum)?;
+            write!(text, " {gap}]")
+        }
+    }
+}
+
+// The side of the sum that lies between two, and the tests that bound it from below and from above.
+fn write_interval(text: &mut String, interval: &Interval) -> Result<(), AllocError> {
+    let side = match interval.points {
+        Side::R => 'r',
+        Side::S => 's',
+    };
+    write!(text, "({side}: ")?;
+    write_atom(text, &interval.lower)?;
+    write!(text, "; ")?;
+    write_atom(text, &interval.upper)?;
+    write!(text, ")")
+}
+
+// The range of an access, if it has one.
+fn write_range(text: &mut String, range: &Option<Range>) -> Result<(), AllocError> {
+    match range {
+        Some(Range::Span(atom)) => {
+            write!(text, "(")?;
+            write_atom(text, atom)?;
+            write!(text, ")")
+        }
+        Some(Range::Interval(interval)) => write_interval(text, interval),
+        None => Ok(()),
+    }
+}
+
+fn told_access(alloc: Global, access: &Option<Access>) -> Result<String, AllocError> {
+    let mut text = String::new(alloc);
+    match access {
+        Some(access) => {
+            for same in access.sames.as_slice() {
+                write_same(&mut text, same)?;
+            }
+            write_range(&mut text, &access.range)?;
+        }
+        None => write!(text, "none")?,
+    }
+    Ok(text)
+}
+
+fn copied_access(alloc: Global, access: &Option<Access>) -> Result<Option<Access>, AllocError> {
+    match access {
+        Some(access) => Ok(Some(access.copy(alloc)?)),
+        None => Ok(None),
+    }
+}
+
+// Each line is a predicate and its access, which its copy is too.
+fn tells_accesses(rt: &impl Abort, alloc: Global, lines: &[&str]) -> Result<(), AllocError> {
+    for line in lines {
+        let Some((text, wanted)) = line.split_once(" | ") else {
+            return Err(AllocError);
+        };
+        let access = over_x_and_a(alloc, text)?.access()?;
+        let copy = copied_access(alloc, &access)?;
+        assert_eq!(rt; told_access(alloc, &access)?.as_str(), wanted, "{text}");
+        assert_eq!(rt;
+            told_access(alloc, &copy)?.as_str(),
+            wanted,
+            "{text}, copied"
+        );
+    }
+    Ok(())
+}
+
+#[test]
+fn predicates_with_their_accesses(rt: HostRuntime) -> Result<(), Fail> {
+    let lines = [
+        "text(r.x) = text(s.a) | [0 1]",
+        "text(s.a) = text(r.x) | [0 1]",
+        "r.x + 5 = s.a | [+0 +1 -5]",
+        "s.a - r.x = 3 | [-0 -1 3]",
+        "r.x + r.a = s.x - s.a + s.a | [+0+1 +0-1+1 0]",
+        "1 = 1 and (text(r.x) = text(s.a) and (r.a = s.x and 2 = 2)) | [0 1][+1 +0 0]",
+        "(text(r.x) = text(s.a) or 1 = 1) and r.x = s.x | [+0 +0 0]",
+        "abs(r.a - r.x) <= 2 and text(r.x) = text(s.x) | [0 0]",
+        "abs(r.a - s.a) > 2 and text(r.x) = text(s.x) | [0 0]",
+    ];
+    tells_accesses(&rt, rt.alloc(), &lines)?;
+    Ok(())
+}
+
+#[test]
+fn equalities_with_a_range_beside_them(rt: HostRuntime) -> Result<(), Fail> {
+    let lines = [
+        "r.x < s.x and text(r.a) = text(s.x) and r.x = s.a | [1 0][+0 +1 0](+0 +0 none -1)",
+        "abs(r.a - s.a) <= 2 and text(r.x) = text(s.x) and r.x = s.x | [0 0][+0 +0 0](+1 +1 -2 2)",
+        "abs(r.a - s.a) <= 2 and text(r.x) = text(s.x) | [0 0](+1 +1 -2 2)",
+        "text(r.x) = text(s.x) and r.x <= s.x and abs(r.a - s.a) < 1 | [0 0](+1 +1 0 0)",
+        "text(r.x) = text(s.x) and (1 = 1 and s.x <= r.x) | [0 0](+0 +0 0 none)",
+        "r.x = s.x and s.a - r.a < 3 and r.a - s.a < 3 | [+0 +0 0](+1 +1 -2 2)",
+    ];
+    tells_accesses(&rt, rt.alloc(), &lines)?;
+    Ok(())
+}
+
+#[test]
+fn tests_of_the_same_sums_are_met(rt: HostRuntime) -> Result<(), Fail> {
+    let lines = [
+        "r.x <= s.x and r.x >= s.x - 4 | (+0 +0 -4 0)",
+        "s.x - 4 <= r.x and s.x >= r.x | (+0 +0 -4 0)",
+        "abs(s.x - r.x) <= 5 and r.x < s.x and s.x < r.x + 9 | (+0 +0 -5 -1)",
+        "(r.x <= s.x and r.a <= s.a) and (r.x >= s.x - 4 or 1 = 1) and r.x > s.x - 2 | (+0 +0 -1 0)",
+        "r.x + r.a <= s.x and s.x - 2 <= r.x + r.a | (+0+1 +0 -2 0)",
+        "0 - r.x - r.a <= s.x - s.a and s.x - s.a <= 8 - r.x - r.a | (+0+1 -0+1 0 8)",
+        "r.a + r.x <= s.x and s.x - 2 <= r.x + r.a | (+0+1 +0 -2 0)",
+        "r.x - r.a <= s.x and s.x + r.a <= r.x + 7 | (+0-1 +0 -7 0)",
+        "s.x + s.a - r.a - r.x >= 0 and 9 + r.x >= s.a - r.a + s.x | (+0+1 +0+1 -9 0)",
+        "r.x < s.x and r.x > s.x | (+0 +0 1 -1)",
+        "abs(r.x - s.x) <= 2 and abs(r.a - s.a) <= 9 and abs(s.x - r.x - 1) <= 2 | (+0 +0 -2 1)",
+    ];
+    tells_accesses(&rt, rt.alloc(), &lines)?;
+    Ok(())
+}
+
+#[test]
+fn a_sum_between_two_sums_of_the_other_side(rt: HostRuntime) -> Result<(), Fail> {
+    let lines = [
+        "s.x <= r.x and r.x <= s.a | (r: +0 +0 0 none; +0 +1 none 0)",
+        "r.x <= s.a and s.x <= r.x | (r: +0 +0 0 none; +0 +1 none 0)",
+        "r.x <= s.x and s.x < r.a | (s: +0 +0 none 0; +1 +0 1 none)",
+        "s.x >= r.x and s.x <= r.a + 3 | (s: +0 +0 none 0; +1 +0 -3 none)",
+        "0 - r.x <= s.x and s.x <= r.a | (s: -0 +0 none 0; +1 +0 0 none)",
+        "s.x <= 0 - r.x and 0 - r.x <= s.a | (r: +0 -1 0 none; +0 -0 none 0)",
+        "text(r.x) = text(s.x) and s.x + 1 <= r.x + r.a and r.x + r.a < s.a \
+            | [0 0](r: +0+1 +0 1 none; +0+1 +1 none -1)",
+        "r.x <= s.x and r.a <= s.x and s.x <= r.a | (s: +0 +0 none 0; +1 +0 0 none)",
+    ];
+    tells_accesses(&rt, rt.alloc(), &lines)?;
+    Ok(())
+}
+
+#[test]
+fn a_range_with_two_bounds_goes_before_one_with_one(rt: HostRuntime) -> Result<(), Fail> {
+    let lines = [
+        "r.a <= s.a and s.x <= r.x and r.x <= s.x + 4 | (+0 +0 0 4)",
+        "r.a <= s.a and s.x <= r.x and r.x < s.a | (r: +0 +0 0 none; +0 +1 none -1)",
+        "text(r.x) = text(s.x) and r.a > s.x and s.a >= r.x and s.a < r.a \
+            | [0 0](s: +0 +1 none 0; +1 +1 1 none)",
+        "r.a <= s.a and s.x <= r.x and r.x > s.a | (s: +1 +1 none 0; +0 +1 1 none)",
+    ];
+    tells_accesses(&rt, rt.alloc(), &lines)?;
+    Ok(())
+}
+
+#[test]
+fn predicates_without_an_access(rt: HostRuntime) -> Result<(), Fail> {
+    let lines = [
+        "r.x <= s.x | none",
+        "s.x >= r.x | none",
+        "abs(r.a - s.a) <= 2 | none",
+        "r.x <= s.x and r.a <= s.a | none",
+        "abs(s.a - r.a) <= 2 and s.x <= r.x and r.x <= s.a | none",
+        "s.x <= r.x and s.a <= r.x | none",
+        "r.x <= s.x and r.x < s.x + 3 | none",
+        "r.x != s.x | none",
+        "r.x = 3 and r.x = r.a | none",
+        "text(r.x) = text(r.a) and text(s.x) = 'u' | none",
+        "text(r.x) < text(s.a) | none",
+        "text(r.x) = text(s.a) or 1 = 1 | none",
+        "not text(r.x) = text(s.a) | none",
+    ];
+    tells_accesses(&rt, rt.alloc(), &lines)?;
+    Ok(())
+}
