@@ -95,6 +95,7 @@ module _ (end : Upto) (input : Input) (within : IsWithin end input) where
   pub count_r : row_count (upto end input) R ≡ end.rows_r
   count_r = length-take-le end.rows_r input.table_r.rows within.rows_r
 
+  -- and of S
   pub count_s : row_count (upto end input) S ≡ end.rows_s
   count_s = length-take-le end.rows_s input.table_s.rows within.rows_s
 

@@ -46,7 +46,7 @@ last_is (z ∷ xs) x y (suc n) is = elim (last_is xs x y n is) [
   | inr last ↦ inr (ap suc last.0, last.1)
 ]
 
--- a controller's machine, and a collector's, join by no predicate
+-- a controller's machine joins by no predicate
 pub controller_joins : (theta : Meaning) (s : ControllerStart) (ls : ActorLists) (core : Core)
     → Stands (OfController s) ls core → JoinsBy theta core
 controller_joins theta s ls (TheFeeder f) st = absurd st
@@ -54,6 +54,7 @@ controller_joins theta s ls (TheJoiner j) st = absurd st
 controller_joins theta s ls (TheController c) st = tt
 controller_joins theta s ls (TheCollector c) st = absurd st
 
+-- nor does a collector's
 pub collector_joins : (theta : Meaning) (n : ℕ) (ls : ActorLists) (core : Core) → Stands (OfCollector n) ls core
     → JoinsBy theta core
 collector_joins theta n ls (TheFeeder f) st = absurd st
@@ -86,6 +87,7 @@ below_all stores before left more store j n joins first at many =
 -- ---- the machines, one after another
 
 module _ (input : Input) (setting : Setting) (rest : Rest) where
+  -- no machine is yet made
   pub none_made : AreMade input setting rest 0 []
   none_made = record { all = refl; each = λ n core is. absurd (none n core is) }
     where

@@ -86,6 +86,7 @@ pub not_given : {X : Type 0} {P : Type 0} (given : Option X) → IfSome given (�
 not_given None alone differs = refl
 not_given (Some x) alone differs = absurd (differs alone)
 
+-- nor is a flag set that stands so
 pub not_set : {P : Type 0} (flag : Bool) → (flag ≡ true → P) → (P → ⊥) → flag ≡ false
 not_set false alone differs = refl
 not_set true alone differs = absurd (differs (alone refl))

@@ -11,6 +11,7 @@ use Rattle.join_cli.specs.Ends.{Concludes}
 use Rattle.join_cli.specs.Outcomes.{outcome_of}
 use Rattle.join_cli.specs.Seen.{Ends, EndsBehind, EndsSeen}
 
+-- a refusal in place of a plan
 abbrev pub no_plan : Refusal → Result Planned Refusal
 no_plan refusal = Err refusal
 

@@ -36,6 +36,7 @@ flat journals = flat_map (λ journal. journal) journals
 
 -- ---- the journal of all waves is theirs
 
+-- behind the journal of what came before stand those of the waves that went on from it, one after the other
 pub journal_from : (number : Option ℕ) (input : Input) (setting : Setting) (rest : Rest) (line : TurnLine) (before : Run)
     (ends : List WaveEnd) (journals : List (List TurnLine)) (trails : List (List EndsView))
     → WentThrough number input setting rest ends journals trails
@@ -53,10 +54,13 @@ journal_from number input setting rest line before (end ∷ ends) (journal ∷ j
 
 -- ---- and is parted where it was joined
 
+-- there are no journals, or the first of them begins as one that goes on from this line; and one after the other they
+-- are parted into these again
 pub record ArePartedFrom (line : TurnLine) (journals : List (List TurnLine)) : Type 0 where
   pub begin : BeginWith (begun line) journals
   pub parts : waves_in (flat journals) ≡ journals
 
+-- so are those of waves that went on from a rest with this line, where there is a feeder
 pub parted_from : (number : Option ℕ) (input : Input) (setting : Setting) (rest : Rest) (ends : List WaveEnd)
     (journals : List (List TurnLine)) (trails : List (List EndsView)) → 0 < setting.feeders
     → WentThrough number input setting rest ends journals trails → ArePartedFrom rest.line journals
@@ -91,6 +95,7 @@ past_fits setting first journal (line ∷ past) fits is follows =
     let each : AllByRecursion P (line ∷ past) = shifts_within (rules_of setting) first line past fits follows in
     subst (AllByRecursion P) (ap reverse (sym is) ∙ reverse-reverse journal) (all-reverse P (line ∷ past) each)
 
+-- of waves that went one after the other no line has a shift past the grid
 pub shifts_from : (number : Option ℕ) (input : Input) (setting : Setting) (rest : Rest) (ends : List WaveEnd)
     (journals : List (List TurnLine)) (trails : List (List EndsView))
     → WentThrough number input setting rest ends journals trails
@@ -108,6 +113,7 @@ shifts_from number input setting rest (end ∷ ends) (journal ∷ journals) (tra
 
 -- ---- there are few steps
 
+-- of a valid input and setting each wave that goes on adds at most 304 steps to what came before
 pub steps_from : (number : Option ℕ) (input : Input) (setting : Setting) (rest : Rest) (line : TurnLine) (before : Run)
     (start : Upto) (ends : List WaveEnd) (journals : List (List TurnLine)) (trails : List (List EndsView))
     → IsValidInput input → IsValidSetting setting → AreAhead input start ends → rest.line ≡ line

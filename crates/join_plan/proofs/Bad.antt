@@ -28,6 +28,7 @@ good_is column row good = by (slice_get row column) refl
     by None there = refl
     by (Some cell) there = of cell there (is_bad cell) refl
 
+-- where no row has a bad cell in the column, none is found
 pub first_bad-none : (column number : ℕ) (rows : List (List Cell))
     → ((place : ℕ) (row : List Cell) → slice_get rows place ≡ Some row → ¬ (IsBad column row))
     → first_bad column number rows ≡ None
@@ -57,6 +58,7 @@ first_bad-at column number (first ∷ rows) (suc place) row there bad before =
     let sum : number + suc place ≡ number + 1 + place = omega arith in
     rw (is, sum) rest
 
+-- the first row with a bad cell, counted from 1, is the one that is found
 pub first_bad-first : (column : ℕ) (rows : List (List Cell)) (number : ℕ) → IsFirstBad column rows number
     → first_bad column 1 rows ≡ Some number
 first_bad-first column rows number first =

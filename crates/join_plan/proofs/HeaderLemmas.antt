@@ -12,6 +12,7 @@ use Rattle.join_rows.specs.Records.{HasItsNumber, IsTable, most_rows}
 use Rattle.join_rows.specs.declared.table.Table.{Table}
 use Rattle.join_plan.specs.Headers.{same_names}
 
+-- a test whose opposite holds fails
 pub not_true : (b : Bool) → true ≡ not b → b ≡ false
 not_true true is = absurd (true≢false is)
 not_true false is = refl
@@ -20,6 +21,7 @@ and_false : (b : Bool) → (b && false) ≡ false
 and_false true = refl
 and_false false = refl
 
+-- headers of two lengths aren't equal
 pub names_differ : (one other : List (List ℕ)) → (length one ≡ length other → ⊥) → false ≡ same_names one other
 unfolding same_names
 names_differ [] [] differ = absurd (differ refl)

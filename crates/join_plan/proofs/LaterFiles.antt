@@ -18,9 +18,11 @@ use Rattle.join_plan.specs.Later.{gathered, step, with_more}
 use Rattle.join_plan.specs.Refusals.{then_of}
 use Rattle.join_plan.specs.Seen.{IsNextSeen, IsSeen, SeenFrom}
 
+-- a refusal in place of a table
 abbrev pub no_table : Refusal → Result Table Refusal
 no_table refusal = Err refusal
 
+-- a refusal in place of the tables of waves
 abbrev pub no_waves : Refusal → Result InWaves Refusal
 no_waves refusal = Err refusal
 
@@ -184,6 +186,7 @@ module _ (number : ℕ) (later : List Wave) (d : Wave) (some : 1 ≤ length late
   abbrev pub all_files : List Source
   all_files = later_sources number (map asked_wave later)
 
+  -- these are the files of the first and, behind them, those of the others
   pub all_are : all_files ≡ first_files ++ other_files
   all_are = by later some
     where
@@ -194,6 +197,7 @@ module _ (number : ℕ) (later : List Wave) (d : Wave) (some : 1 ≤ length late
       by (wave ∷ waves) some =
           let whole : take (suc (length waves) - 1) waves ≡ waves = take_all _ waves (omega arith) in rw whole refl
 
+  -- where all are asked for, those of the first are
   pub first_asked : (asked : Asked) → AreAsked asked all_files → AreAsked asked first_files
   first_asked asked are source among =
       are source (rw all_are (Contains-append_left first_files other_files source among))

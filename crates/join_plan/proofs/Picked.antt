@@ -132,6 +132,7 @@ module _ (test : ℕ → Bool) where
   picked (suc n) a [] rising above below picks = picked-none n a (picked n (a + 1)) picks
   picked (suc n) a (x ∷ xs) rising above below picks = picked-some n a x xs (picked n (a + 1)) rising above below picks
 
+-- the numeric columns that a predicate keeps of a side are those that stand in a sum, from the left
 pub summed_columns-places : (theta : Meaning) (side : Side) (places : List ℕ)
     → AreNumeric theta.formula side (width_of theta side) places
     → summed_columns theta side ≡ places

@@ -36,6 +36,7 @@ fitted_seen told spot asked trees found result seen (inl m) memory = absurd (mem
 fitted_seen told spot asked trees found result seen (inr is) memory =
     record { found = Ok found; seen = seen; answer = is }
 
+-- a refusal in place of what is gathered
 abbrev pub none_gathered : Refusal → Result Gathered Refusal
 none_gathered refusal = Err refusal
 
@@ -118,6 +119,7 @@ seen_by told spot asked trees result have seen = record {
   seen = subst (λ t. SeenBehind told spot asked t result) (sym (comes_to trees)) seen;
 }
 
+-- a refusal in place of a plan
 abbrev pub none_planned : Refusal → Result Planned Refusal
 none_planned refusal = Err refusal
 

@@ -32,6 +32,7 @@ one_further None None (Some other) read read' = absurd read'
 one_further (Some chain) None other read read' = absurd read
 one_further (Some chain) (Some one) None read read' = absurd read'
 
+-- so both texts together read in one way alone
 pub one_request : (asked : Asked) (one other : Readings) → AreRead asked one → AreRead asked other → one ≡ other
 one_request asked one other read read' =
     ap₂ {A = Result Tree PredFault} {B = Option (Result Tree PredFault)}

@@ -22,6 +22,7 @@ use Rattle.join_plan.specs.Files.{sources}
 use Rattle.join_plan.specs.Refusals.{column_refusal, text_refusal, told_by}
 use Rattle.join_plan.specs.Texts.{IsTrueOf}
 
+-- a fault of a text in place of its predicate
 abbrev pub no_pred : PredFault → Result Pred PredFault
 no_pred fault = Err fault
 

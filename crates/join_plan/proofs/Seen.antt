@@ -20,6 +20,7 @@ use Rattle.join_plan.specs.Files.{Source, later_sources, or_refused, sources, ta
 use Rattle.join_plan.specs.Refusals.{file_refusal, then_of}
 use Rattle.join_plan.specs.Seen.{BeginsWith, BehindSeen, GatheredSeen, IsSeen, TablesAsked, TablesSeen, ThirdSeen}
 
+-- a fault of a file in place of its table
 abbrev pub refused_table : TableFault → Result Table TableFault
 refused_table fault = Err fault
 
@@ -81,6 +82,7 @@ module _ (source : Source) where
     answer = ap as_table of_bytes.answer;
   }
 
+  -- a fault of it, as a refusal in place of its table
   abbrev pub refused_as : TableFault → Result Table Refusal
   refused_as fault = Err (file_refusal source.side source.wave fault)
 
@@ -142,6 +144,7 @@ unfolding front_told
 front_begins None name file tells = absurd tells
 front_begins (Some all) name file tells = rw tells refl
 
+-- a refusal in place of a table
 abbrev pub no_table : Refusal → Result Table Refusal
 no_table refusal = Err refusal
 
@@ -161,6 +164,7 @@ table_seen seen table A B is a = by (table_of seen) refl
     by (Ok found) e = rw e a
     by (Err fault) e = absurd (cc (rw e at is))
 
+-- a refusal in place of both tables
 abbrev pub no_tables : Refusal → Result Tables Refusal
 no_tables refusal = Err refusal
 
@@ -169,10 +173,11 @@ pub other_refusal : {A B : Type 0} (refusal why : Refusal)
     → (◌≡◌ {A = Result A Refusal} (Err refusal) (Err why) → ⊥) → ◌≡◌ {A = Result B Refusal} (Err refusal) (Err why) → ⊥
 other_refusal refusal why h e = let same : refusal ≡ why = cc e in h (ap (λ r. Err r) same)
 
--- the sources of both sides
+-- the file of R in the first wave
 abbrev pub source_r : List ℕ → Source
 source_r name = record { side = R; wave = 1; name = name }
 
+-- and that of S
 abbrev pub source_s : List ℕ → Source
 source_s name = record { side = S; wave = 1; name = name }
 

@@ -29,6 +29,7 @@ layer_names (Pred-F.Num left op right) = refl
 layer_names (Pred-F.Abs sum op bound) = refl
 layer_names (Pred-F.Txt left op right) = refl
 
+-- the names in a predicate, in the order of writing, are those in its tree
 pub names_in-tree : (pred : Pred) → names_in pred ≡ tree_names (tree_of pred)
 names_in-tree = ind-Pred HasNames (λ x y is.
     let layer = subst (λ z. names_step (map-Pred _ _ names_in z) ≡ tree_names (tree_step (map-Pred _ _ tree_of z))) is
@@ -55,6 +56,7 @@ module _ (names_r names_s : List (List ℕ)) where
   layer_formula (Pred-F.Abs sum op bound) = refl
   layer_formula (Pred-F.Txt left op right) = refl
 
+  -- a predicate's formula over two headers is that of its tree
   pub resolved-tree : (pred : Pred) → resolved names_r names_s pred ≡ formula_over names_r names_s (tree_of pred)
   resolved-tree = ind-Pred HasFormula (λ x y is.
       let layer = subst (λ z. resolved_step names_r names_s (map-Pred _ _ (resolved names_r names_s) z)

@@ -33,6 +33,7 @@ abbrev refused_with : Refusal → Result Meaning Refusal
 refused_with refusal = Err refusal
 
 module _ (which : Which) (names_r names_s : List (List ℕ)) where
+  -- where each name stands in its header just once, none is wrong
   pub first_wrong-none : (names : List Name) → All (StandsOnce names_r names_s) names
       → first_wrong names_r names_s names ≡ None
   first_wrong-none [] once = refl
@@ -79,6 +80,7 @@ module _ (which : Which) (names_r names_s : List (List ℕ)) where
       )
   told names faults.Memory tells = inl refl
 
+  -- so a predicate of such names is what its tree comes to over the headers
   pub theta_found : (pred : Pred) → All (StandsOnce names_r names_s) (names_in pred)
       → theta_over which names_r names_s (tree_of pred) ≡ Ok (record {
         formula = resolved names_r names_s pred;
@@ -91,6 +93,7 @@ module _ (which : Which) (names_r names_s : List (List ℕ)) where
       (first_wrong-none (names_in pred) once) in
       rw (none, sym (resolved-tree names_r names_s pred)) refl
 
+  -- where resolving tells a fault instead, the tree is refused by that fault, unless memory ran out
   pub theta_refused : (pred : Pred) (fault : ResolveFault) → Tells names_r names_s (names_in pred) fault
       → (column_refusal which fault ≡ Memory) ⊎ (theta_over which names_r names_s (tree_of pred)
       ≡ Err (column_refusal which fault))
@@ -107,6 +110,7 @@ module _ (which : Which) (names_r names_s : List (List ℕ)) where
           subst (λ names. first_wrong names_r names_s names ≡ Some found.0) (names_in-tree pred) found.1 in
           inr (rw (there, found.2) refl)
 
+  -- and so that refusal is the answer for the tree, or want of memory
   pub refused_over : (pred : Pred) (fault : ResolveFault) → Tells names_r names_s (names_in pred) fault
       → (refused_with (column_refusal which fault) ≡ refused_with Memory)
       ⊎ (refused_with (column_refusal which fault) ≡ theta_over which names_r names_s (tree_of pred))

@@ -311,6 +311,7 @@ module _ (setting : Setting) (count : ℕ) (cores : List Core) (first seats : Li
   -- ---- one actor has a mouth to another exactly where there is a link
 
   module _ (spent : Bool) where
+    -- these seats as those of a run, spent or not
     abbrev pub v : SeatsView
     v = record { joiners = 2 ^ setting.k; feeders = setting.feeders; seats = seats; spent = spent }
 
@@ -392,6 +393,7 @@ module _ (setting : Setting) (count : ℕ) (cores : List Core) (first seats : Li
         }) in
         subst IsSome (sym (mouth_is from to num.0 num'.0 d num.1 num'.1 low_seat)) given.1
 
+    -- mouths lead where the run has links, and nowhere else
     pub all_linked : (from to : Actor) → (IsSome (mouth_of v from to) ↔ HasLink setting.k setting.feeders from to)
     all_linked from to = (link_of from to, has_mouth from to)
 

@@ -103,12 +103,14 @@ module _ (v : SeatsView) (joined : AreJoined v.joiners v.feeders (map frame_of v
           complete_in_wave input setting rest v.joiners v.feeders (cores_in v) (lists_in v) stands fronts law valid
           begins done
 
+      -- so what its seats leave is a finished family of the wave, with the journal of the run that is told
       pub told_wave : (run : Run) → run.journal ≡ controller.journal → (e : EndsView)
           → ((a : Actor) → lists_left e a ≡ lists_in v a) → IsFinishedWave input setting rest run.journal (lists_left e)
       told_wave run is e same =
           subst (λ js. IsFinishedWave input setting rest js (lists_left e)) (sym (told_journal run is))
           (subst (IsFinishedWave input setting rest (journal_in v)) (sym (fun_ext same)) wave_ends)
 
+      -- and what its controller and its collector answer is a run of the wave
       pub told_wave_run : (run : Run) → FinishedAnswers → (bouts : ℕ)
           → ((joiners : ℕ) (ls : CollectorLists) → CollectorStands joiners ls collector
           → IsAnswerOf joiners ls controller.journal bouts run)
@@ -138,12 +140,14 @@ module _ (v : SeatsView) (joined : AreJoined v.joiners v.feeders (map frame_of v
     module _ (law : CompleteIsFinished) (done : is_collected v ≡ true) (input : Input) (setting : Setting)
         (valid : IsValid input setting) (stands : StandsFor input setting v) (fronts : AreFronts (lists_in v))
         (run : Run) where
+      -- what its seats leave is a finished family, with the journal of the run that is told
       pub told_family : run.journal ≡ controller.journal → (e : EndsView)
           → ((a : Actor) → lists_left e a ≡ lists_in v a) → IsFinishedFamily input setting run.journal (lists_left e)
       told_family =
           told_wave law done input setting (first_rest setting) valid (first_stands input setting valid) stands fronts
           run
 
+      -- and what its controller and its collector answer is a run of this input and setting
       pub told_run : FinishedAnswers → (bouts : ℕ)
           → ((joiners : ℕ) (ls : CollectorLists) → CollectorStands joiners ls collector
           → IsAnswerOf joiners ls controller.journal bouts run)

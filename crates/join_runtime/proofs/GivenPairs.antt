@@ -176,6 +176,7 @@ module _ (v : SeatsView) (joined : AreJoined v.joiners v.feeders (map frame_of v
         subst (Stands (OfCollector (2 ^ setting.k)) (lists_in v Collector)) (some_is one.0 s.core (sym one.1 ∙ own))
         one.2
 
+    -- where the pairs of earlier lists were given and no others, the collector gives those that came since, in some order
     pub gives_since : (earlier : CollectorLists) → AreGiven (2 ^ setting.k) earlier (given_in v)
         → IsPermutation (pairs_since (2 ^ setting.k) earlier (collected_in v)) pairs
     gives_since earlier gave = gives.gives (2 ^ setting.k) earlier (lists_in v Collector) stood
@@ -188,6 +189,7 @@ module _ (v : SeatsView) (joined : AreJoined v.joiners v.feeders (map frame_of v
         ∙ (core_at (λ (x : SeatView). x.core) changed place t (omega (arith, low, long))
         ∙ ap (λ (x : SeatView). Some x.core) (get_or-set_same v.seats place t t low))))
 
+    -- and then all pairs that it took are given
     pub all_given : AreGiven (2 ^ setting.k) (collected_in v) (given_in after)
     all_given = subst (AreGiven (2 ^ setting.k) (collected_in v)) (sym (ap given_at own_after))
         (gives.given (2 ^ setting.k) (lists_in v Collector) stood)

@@ -45,12 +45,13 @@ differ_of v joined k n d before low same =
     (sym (joined.placed k d (omega arith)).actor ∙ (same ∙ (joined.placed n d low).actor)) in
     omega arith
 
--- what one actor received of another, and what that one sent to it
+-- nothing went from the one actor to the other, which doesn't have it as a sender
 pub record HasNone (s t : SeatView) (from to : Actor) : Type 0 where
   pub sent : (lists_of s).sent to ≡ []
   pub received : (lists_of t).received from ≡ []
   pub foreign : is_sender from t.inbox.senders ≡ false
 
+-- or the one has a mouth to the other: what went through it, of which is known how much is left
 pub record HasMouth (s t : SeatView) (from to : Actor) : Type 0 where
   pub mouth : Sending
   pub from_is : mouth.from ≡ from
@@ -99,6 +100,7 @@ module _ (v : SeatsView) (joined : AreJoined v.joiners v.feeders (map frame_of v
         ∙ (ap (λ k. sent_through v.joiners k s.mouths to) placed.1
         ∙ ap (λ (o : Option ℕ). at_number [] o (sent_at s.mouths)) is)
 
+    -- to an actor that isn't there nothing was sent
     pub sent_nowhere : (n : ℕ) (to : Actor) → n < length v.seats → number v.joiners v.feeders to ≡ None
         → (lists_of (get_or v.seats n d)).sent to ≡ []
     sent_nowhere n to low is =
@@ -120,6 +122,7 @@ module _ (v : SeatsView) (joined : AreJoined v.joiners v.feeders (map frame_of v
         go true e = let has = heard_at r from low e in absurd (none_some has.sender (sym is ∙ has.is))
         go false e = settled.hear r d low from e
 
+    -- of two actors that are there, the one has a mouth to the other, or nothing goes from it to that one
     pub between : (n r : ℕ) (from to : Actor) → number v.joiners v.feeders from ≡ Some n
         → number v.joiners v.feeders to ≡ Some r
         → HasNone (get_or v.seats n d) (get_or v.seats r d) from to

@@ -6,6 +6,7 @@ use Rattle.clap.specs.Simple.{App, app_of, with_rule}
 use Rattle.clap.specs.declared.builder.arg.Arg.{Arg}
 use Rattle.clap.specs.declared.builder.command.Command.{Command}
 
+-- what clap's definitions have of the command is this
 pub record IsApp (command : Command) (app : App) : Type 0 where
   pub is : app_of command ≡ app
 

@@ -9,6 +9,7 @@ use Rattle.clap.specs.declared.builder.value_parser.ValueParser.TheVariants as v
 use Rattle.clap.proofs.ValueTestLemmas.{accepts-Accepts, Accepts-accepts}
 use Rattle.join_words.specs.Found.{number_of}
 
+-- what `parse` reads of a text, with its error left out, is the text's number of 64 bits, where it has one
 pub number_parsed : {E : Type 0} (text : List ℕ) (parsed : Result ℕ E) → ParsesUnsigned 64 10 text parsed
     → result_ok parsed ≡ number_of text
 number_parsed text (Ok v) parses =

@@ -21,6 +21,7 @@ set_below n i few set = let no = above in omega (arith, no)
         let bad : 0 % 2 ≡ 1 = ap (λ (q : ℕ). q % 2) (sym none) ∙ set in
         omega arith
 
+-- where at most 64 joiners are a power of two, its exponent is at most 6
 pub small_exponent : (joiners : ℕ) → joiners ≤ 64 → is_power_of_two joiners ≡ true → trailing_zeros w64 joiners ≤ 6
 small_exponent joiners few power =
     set_below joiners (trailing_zeros w64 joiners) few (bit_at-trailing_zeros w64 joiners (is_positive joiners power)

@@ -37,6 +37,7 @@ here : (i k : ℕ) (b : Bool) → (not b || nat_eq i k) ≡ true → b ≡ true 
 here i k true e t = grind arith
 here i k false e t = cc
 
+-- so an argument with this id is the one at that place
 pub only_at : (i : ℕ) (rs : List Rule) (k : ℕ) (id : Text) → only i rs k id ≡ true → (j : ℕ) (d : Rule) → j < length rs
     → bytes_eq (slice_index_or rs j d).id id ≡ true → i + j ≡ k
 only_at i [] k id all j d lt same = absurd (omega arith)
@@ -281,6 +282,7 @@ pub record AreIn (m : ArgMatches) : Type 0 where
   pub weight_r : (t : Text) → first_value (found_of m) (codes "weight-r") ≡ Some t → IsUnsignedIn 1 1024 t
   pub weight_s : (t : Text) → first_value (found_of m) (codes "weight-s") ≡ Some t → IsUnsignedIn 1 1024 t
 
+-- of what the command of `jm` matched, each of these values lies in its bounds
 pub are_in : (old : Command) (m : ArgMatches) → IsParsedFrom old m → IsCommand (app_of old) → AreIn m
 are_in old m p command = record {
   joiners = command_accepts old m p command 1 (codes "joiners") (vp.Unsigned 1 64) joiners_is;

@@ -43,9 +43,11 @@ free_command : is_simple_and_free jm_command ≡ true
 unfolding clap_on_literals jm_command
 free_command = refl
 
+-- the command of `jm` is simple, so clap's definitions give its matches
 pub simple : (app : App) → IsCommand app → is_simple app ≡ true
 simple app command = ap is_simple command.is ∙ simple_command
 
+-- and no argument of it has a rule on another, so they give its faults
 pub free : (app : App) → IsCommand app → is_simple_and_free app ≡ true
 free app command = ap is_simple_and_free command.is ∙ free_command
 

@@ -34,6 +34,7 @@ past_within : (rules : Rules) (first : TurnLine) (past : List TurnLine) → Fits
 past_within rules first [] fits follows = absurd follows
 past_within rules first (line ∷ past) fits follows = shifts_within rules first line past fits follows
 
+-- in a journal that a controller makes of not too many rows, each line with rows has its point
 pub each_has_its_point : (rules : Rules) (first : TurnLine) (journal : List TurnLine) → Fits rules first
     → Follows rules first (reverse journal) → All IsFew journal
     → points_of rules.k rules.weights journal ≡ map (point_of rules.k rules.weights) (filter counts_rows journal)

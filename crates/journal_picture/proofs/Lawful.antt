@@ -23,6 +23,7 @@ all_near rules first (line ∷ before ∷ past) fits free follows = (
   all_near rules first (before ∷ past) fits free follows.2,
 )
 
+-- where no shift is fixed, each point of a journal that a controller makes is within the bound
 pub stays_within : (rules : Rules) (first : TurnLine) (journal : List TurnLine) → Fits rules first → rules.fixed ≡ None
     → Follows rules first (reverse journal) → All IsWithin (points_of rules.k rules.weights journal)
 stays_within rules first journal fits free follows =

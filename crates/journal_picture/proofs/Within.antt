@@ -26,6 +26,7 @@ point_within k weights line within near still =
     let y = weight_s weights line in
     (near still).near (best_shift k line.shift x y) (best_within k line.shift x y within)
 
+-- where each line that isn't moving is near the best grid, each point is within the bound
 pub points_within : (k : ℕ) (weights : Weights) (journal : List TurnLine) → AreNear k weights journal
     → All IsWithin (points_of k weights journal)
 points_within k weights journal near =

@@ -38,6 +38,7 @@ agree_in_wave input setting rest w lists stands =
     agrees_in_wave input setting rest w.joiners w.feeders w.cores lists stands.machines
     (balanced_fronts lists (left_of w) stands.balanced)
 
+-- and so do those of a run, that is of the wave that begins with no rows
 pub agree : WorldAgrees
 agree input setting w lists stands = agree_in_wave input setting (first_rest setting) w lists stands
 

@@ -3,6 +3,7 @@ use Rattle.std.proofs.Common.{◌≡◌, ℕ, sym, ◌∙◌, ap, List, ◌++◌
 use Rattle.std.proofs.lemmas.List.{take-append-drop}
 use Rattle.report_picture.specs.Lines.{AreLines, EndsWith}
 
+-- a text with nothing but lines before a place ends with what stands from there on
 pub ends : (text end : List ℕ) (place : ℕ) → AreLines (take place text) → drop place text ≡ end → EndsWith text end
 ends text end place lines same = record {
   before = take place text;

@@ -91,12 +91,14 @@ module _ (v : RingSeatsView) (wired : AreWired v.joiners v.feeders (map frame_of
       family_ends =
           complete_finished input setting v.joiners v.feeders (cores_in v) (lists_in v) stands fronts law valid done
 
+      -- so what the seats leave is a finished family, with the journal of the run that is told
       pub told_family : run.journal ≡ controller.journal → (e : RingEndsView)
           → ((a : Actor) → lists_left e a ≡ lists_in v a) → IsFinishedFamily input setting run.journal (lists_left e)
       told_family is e same =
           subst (λ js. IsFinishedFamily input setting js (lists_left e)) (sym (told_journal run is))
           (subst (IsFinishedFamily input setting (journal_in v)) (sym (fun_ext same)) family_ends)
 
+      -- and what the controller and the collector answer is a run of this input and setting
       pub told_run : FinishedAnswers → (bouts : ℕ)
           → ((joiners : ℕ) (ls : CollectorLists) → CollectorStands joiners ls collector
           → IsAnswerOf joiners ls controller.journal bouts run)

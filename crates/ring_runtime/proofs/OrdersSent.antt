@@ -15,6 +15,7 @@ use Rattle.actor_core.specs.Families.{family_of}
 use Rattle.actor_core.specs.Lists.{ActorLists}
 use Rattle.ring_runtime.specs.Runs.{orders_in}
 
+-- where the lists of a run agree, these orders are as many as the last epoch of its journal
 pub orders_are : (input : Input) (setting : Setting) → 0 < setting.feeders → (journal : List TurnLine)
     (lists : Actor → ActorLists) → IsAgreeing input setting (first_rest setting) (family_of journal lists)
     → orders_in lists ≡ last_epoch journal

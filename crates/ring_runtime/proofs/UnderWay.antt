@@ -107,6 +107,7 @@ pub record IsUnderWay (input : Input) (setting : Setting) (v : RingSeatsView) (b
   pub counted : IsCounted setting (lists_in v) events
   pub paced : IsPaced v.seats bouts events
 
+-- before the first bout, seats that stand for empty lists are under way
 pub begun : (input : Input) (setting : Setting) (v : RingSeatsView) → 0 < setting.feeders → StandsFor input setting v
     → ((a : Actor) → lists_in v a ≡ no_lists) → IsUnderWay input setting v 0
 begun input setting v some stands empty = record {
@@ -204,6 +205,8 @@ module _ (input : Input) (setting : Setting) (old new : RingSeatsView) (bouts : 
         paced = inr (ready, few);
       }
 
+  -- where a bout made an event if some seat was ready, and left one ready if it made none, the run is under way with
+  -- one bout more
   pub one_bout_more : (SomeSeat IsReady old.seats → SomeEvent old.seats new.seats)
       → SomeEvent old.seats new.seats ⊎ SomeSeat IsReady new.seats → IsUnderWay input setting new (bouts + 1)
   one_bout_more event moves = elim before.paced [
@@ -220,6 +223,7 @@ module _ (input : Input) (setting : Setting) (old new : RingSeatsView) (bouts : 
     | inr both ↦ with_event (event both.0)
   ]
 
+-- what a bout answers where it succeeds
 abbrev pub answer : Bool → Result Bool AllocError
 answer went = Ok went
 
@@ -265,9 +269,11 @@ module _ (input : Input) (setting : Setting) (v : RingSeatsView) (bouts : ℕ) (
 
   module _ (journal : List TurnLine) (lists : Actor → ActorLists) (same : (a : Actor) → lists a ≡ lists_in v a)
       (family : IsFinishedFamily input setting journal lists) where
+    -- the controller sent the first feeder as many orders as the last epoch of its journal
     pub left_orders : orders_in lists ≡ last_epoch journal
     left_orders = orders_are input setting valid.some journal lists family.agrees
 
+    -- and there were at most two bouts for each event that a run with so many orders can have
     pub few_bouts : bouts ≤ most_bouts input setting (orders_in lists)
     few_bouts =
         let agrees =
