@@ -56,12 +56,12 @@ impl Rest {
     ) -> Result<Rest, AllocError>
         requires k { k ≤ 8 }
         requires fixed { ForSome fixed (λ shift. shift ≤ k) }
-        ensures first { IfOk result (λ rest. (setting : Setting') → setting.k ≡ k → setting.fixed ≡ fixed
-            → rest_of rest ≡ first_rest setting) }
+        ensures first { IfOk result (λ rest. (setting : Setting') → setting.k ≡ k
+            → setting.fixed ≡ fixed → rest_of rest ≡ first_rest setting) }
         ensures epoch { IfOk result (λ rest. rest.line.epoch ≡ 0) }
-        ensures stands { IfOk result (λ rest. (input : Input') (setting : Setting') → IsValid input setting
-            → setting.k ≡ k → setting.fixed ≡ fixed → input.theta ≡ theta.now
-            → IsRestOf input setting rest) }
+        ensures stands { IfOk result (λ rest. (input : Input') (setting : Setting')
+            → IsValid input setting → setting.k ≡ k → setting.fixed ≡ fixed
+            → input.theta ≡ theta.now → IsRestOf input setting rest) }
     {
         let shift = fixed.unwrap_or(k / 2);
         let line = TurnLine {

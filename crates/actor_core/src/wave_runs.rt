@@ -26,7 +26,8 @@ pub struct WaveRun {
 fn last_line(journal: &Journal) -> Option<TurnLine>
     ensures back { IfSome result (λ last. (line : TurnLine') (past : List TurnLine')
         → reverse journal.now ≡ line ∷ past → last ≡ line) }
-    ensures last { IfSome result (λ last. (first : TurnLine') → last ≡ last_line' first journal.now) }
+    ensures last { IfSome result (λ last. (first : TurnLine')
+        → last ≡ last_line' first journal.now) }
 {
     let count = journal.len();
     if count == 0 {

@@ -131,8 +131,9 @@ fn joiner_in_wave<'a>(
     requires stamps { AllByRecursion (λ (x : Tuple'). x.stamp ≤ line.now.epoch) (tuples_of base) }
     requires rows { AreRows input.now.theta (tuples_of base) }
     requires key { IsKeyOf input.now.theta base.key }
-    ensures stands { IfOk result (λ core. Stands (OfJoiner
-        (joiner_start input.now setting.now (with_base line.now (tuples_of base)) j)) no_lists core) }
+    ensures stands { IfOk result (λ core. Stands
+        (OfJoiner (joiner_start input.now setting.now (with_base line.now (tuples_of base)) j))
+        no_lists core) }
     ensures live { IfOk result IsLive }
     ensures given { IfOk result (HasGivenNone (2 ^ setting.now.k)) }
     ensures joins { IfOk result (JoinsBy input.now.theta) }
@@ -206,8 +207,8 @@ fn feeders_in_wave<'a>(
     requires setting { IsValidSetting setting.now }
     requires end { IsWithin end input.now }
     requires rest { IsRestOf (upto end input.now) setting.now rest.now }
-    ensures { IfOk result (λ cores.
-        AreMade (upto end input.now) setting.now (rest_of rest.now) setting.now.feeders cores.items) }
+    ensures { IfOk result (λ cores. AreMade (upto end input.now) setting.now (rest_of rest.now)
+        setting.now.feeders cores.items) }
 {
     let mut cores = Vec::new(alloc);
     for p in 0..setting.feeders {
@@ -257,8 +258,8 @@ pub fn cores_in_wave<'a>(
     requires epoch { rest.line.epoch ≤ 2 ^ 31 }
     ensures made { IfOk result (λ cores. AreMade (upto end input.now) setting.now (rest_of rest)
         (setting.now.feeders + 2 ^ setting.now.k + 2) cores.items) }
-    ensures stands { IfOk result (λ cores. AllStandInWave (upto end input.now) setting.now (rest_of rest)
-        (2 ^ setting.now.k) setting.now.feeders cores.items (λ actor. no_lists)) }
+    ensures stands { IfOk result (λ cores. AllStandInWave (upto end input.now) setting.now
+        (rest_of rest) (2 ^ setting.now.k) setting.now.feeders cores.items (λ actor. no_lists)) }
 {
     let line = rest.line;
     let mut cores = joiners_in_wave(alloc, rest, input, setting, end)?;

@@ -109,8 +109,8 @@ pub fn grow(alloc: Global, rest: Rest, weights: Weights, theta: &Theta) -> Resul
         → AreKeptCopies rest.k rest.line.shift rest.stores grown.stores) }
     ensures order { IfOk result (λ grown. grown.line.shift ≢ rest.line.shift + 1
         → All IsByIndex grown.stores) }
-    ensures stands { IfOk result (λ grown. (input : Input') (setting : Setting') → setting.fixed ≡ None
-        → setting.weights ≡ weights → IsRestOf input setting rest
+    ensures stands { IfOk result (λ grown. (input : Input') (setting : Setting')
+        → setting.fixed ≡ None → setting.weights ≡ weights → IsRestOf input setting rest
         → IsRestOf input (grown_setting setting) grown) }
 {
     let line = grown_line(weights, rest.k, rest.line);

@@ -38,7 +38,8 @@ pub fn part(alloc: Global, joiners: u32, numbers: &Counts, group: u64) -> Result
 // The rows of these indices, which share their cells with the table's.
 fn rows_at(alloc: Global, rows: &Rows, indices: &Counts) -> Result<Rows, AllocError>
     requires { All (λ index. index < length rows.now) indices.now }
-    ensures { IfOk result (λ chosen. chosen ≡ map (λ index. slice_index_or rows.now index []) indices.now) }
+    ensures { IfOk result (λ chosen.
+        chosen ≡ map (λ index. slice_index_or rows.now index []) indices.now) }
 {
     let mut chosen = Rows::new(alloc);
     for index in indices.as_slice() {

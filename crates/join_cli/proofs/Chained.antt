@@ -145,7 +145,8 @@ chain_halted asked planned input third (outcomes.Limit (Between pairs)) input_is
 }
 chain_halted asked planned input third (outcomes.Limit (TooLong side wave)) input_is third_is stopped = elim stopped [ ]
 chain_halted asked planned input third (outcomes.Limit (TooMany side wave)) input_is third_is stopped = elim stopped [ ]
-chain_halted asked planned input third (outcomes.Limit (Total side wave rows)) input_is third_is stopped = elim stopped [ ]
+chain_halted asked planned input third (outcomes.Limit (Total side wave rows)) input_is third_is stopped =
+    elim stopped [ ]
 chain_halted asked planned input third (outcomes.Done _ _) input_is third_is stopped = elim stopped [ ]
 chain_halted asked planned input third (outcomes.DoneGroups _ _) input_is third_is stopped = elim stopped [ ]
 chain_halted asked planned input third (outcomes.DoneChain _ _ _) input_is third_is stopped = elim stopped [ ]

@@ -161,8 +161,8 @@ module _ (number : Option ℕ) (input : Input) (setting : Setting) (wave : ℕ) 
   pub grown_journals : waves_in (grown.before.journal ++ grown.since.journal) ≡ all_journals
   grown_journals =
       let some : 0 < setting.feeders = let low = of_setting.some_feeders in omega (arith, low) in
-      let later = parted_from number input (grown_setting setting) are.rest (drop wave ends) are.journals are.trails some
-      are.onward in
+      let later = parted_from number input (grown_setting setting) are.rest (drop wave ends) are.journals are.trails
+      some are.onward in
       let is_wave_line : is_wave (begun are.rest.line).cause ≡ true =
       ap (λ (l : TurnLine). is_wave (begun l).cause) (are.from ∙ are.line_is) in
       let all = parted_before number input setting (first_rest setting) (take wave ends) are.first.journals

@@ -117,8 +117,8 @@ pub split_later : (number : Option ℕ) (input : Input) (setting : Setting) (wav
     (first : Waved) (line : TurnLine) → IsSplitAt ends wave early later
     → AreFirstWaves number input setting early first → line ≡ grown_line setting.weights setting.k first.rest.line
     → AreAhead input no_rows ends → AreAhead input (counted line) later
-split_later number input setting wave ends early later first line (low, is_early, is_later, early_size, later_size) are is
-    ahead =
+split_later number input setting wave ends early later first line (low, is_early, is_later, early_size, later_size) are
+    is ahead =
     subst (AreAhead input (counted line)) (sym is_later)
     (ahead_since number input setting wave ends first line
     (subst (λ es. AreFirstWaves number input setting es first) is_early are) is ahead)
@@ -128,7 +128,8 @@ pub split_few : (number : Option ℕ) (input : Input) (setting : Setting) (wave 
     (first : Waved) (line : TurnLine) → IsSplitAt ends wave early later
     → AreFirstWaves number input setting early first → line ≡ grown_line setting.weights setting.k first.rest.line
     → length ends ≤ 4 → line.epoch + 304 * length later ≤ 2 ^ 31
-split_few number input setting wave ends early later first line (low, is_early, is_later, early_size, later_size) are is few =
+split_few number input setting wave ends early later first line (low, is_early, is_later, early_size, later_size) are
+    is few =
     subst (λ es. line.epoch + 304 * length es ≤ 2 ^ 31) (sym is_later)
     (few_since number input setting wave ends first line
     (subst (λ es. AreFirstWaves number input setting es first) is_early are) is few)
@@ -141,8 +142,8 @@ pub split_are : (number : Option ℕ) (input : Input) (setting : Setting) (wave 
     → none.trail ≡ first.trail → AreWavesBehind number input (grown_setting setting) none later since
     → AreGrownWaves number input setting wave ends
     (record { before = first.run; line = none.rest.line; since = since.run; trail = since.trail })
-split_are number input setting wave ends early later first none since (low, is_early, is_later, early_size, later_size) are line stands
-    run_is trail_is more =
+split_are number input setting wave ends early later first none since
+    (low, is_early, is_later, early_size, later_size) are line stands run_is trail_is more =
     grown_are number input setting wave ends first none since low
     (subst (λ es. AreFirstWaves number input setting es first) is_early are) line stands run_is trail_is
     (subst (λ es. AreWavesBehind number input (grown_setting setting) none es since) is_later more)

@@ -91,7 +91,8 @@ pub course_of_run : (asked : Asked) (planned : Planned) (input : Input) (setting
     → asked.groups ≡ None → asked.chain ≡ None → asked.rings ≡ false
     → IsRunOf input setting (first_rest setting).line run.journal run
     → WentAs asked.replay input setting run.journal trail → IsCourseOf asked planned run.journal trail
-course_of_run asked planned input setting run trail input_is setting_is of_input of_setting single whole queued is went =
+course_of_run asked planned input setting run trail input_is setting_is of_input of_setting single whole queued is
+    went =
     record {
       single = single;
       whole = whole;

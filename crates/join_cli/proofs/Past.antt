@@ -158,8 +158,8 @@ later_long told last spot waves [] result name place seen near is long =
     let low = near (sym seen.0 ∙ is) in absurd (omega (arith, low, long))
 later_long told last spot waves (source ∷ more) result name place seen near is long =
     by (step source waves (Some seen.0)) refl seen.2
-    (λ waves' after low. later_long told (Some (source.name, length seen.0)) spot waves' more result name place after low
-    is long)
+    (λ waves' after low. later_long told (Some (source.name, length seen.0)) spot waves' more result name place after
+    low is long)
   where
     by : (r : Result InWaves Refusal) → step source waves (Some seen.0) ≡ r
         → MatchResult r (λ w. SeenFrom told (Some (source.name, length seen.0)) spot w more result)

@@ -131,9 +131,11 @@ pub few_epochs : (input : Input) (setting : Setting) (line : TurnLine) (journal 
     → (last_line line journal).epoch ≤ line.epoch + 304
 few_epochs input setting line journal valid for lawful =
     let few = few_migrations input setting line journal valid for lawful in
-    let begins = lawful_begins (rules_of setting) line (λ p. map size_of (batches input setting line p)) journal lawful in
+    let begins = lawful_begins (rules_of setting) line (λ p. map size_of (batches input setting line p)) journal
+    lawful in
     let same : last_epoch journal ≡ (last_line line journal).epoch =
-    ap last_epoch begins.is ∙ last_epoch_is (begun line) begins.more ∙ sym (ap (λ ls. (last_line line ls).epoch) begins.is)
+    ap last_epoch begins.is ∙ last_epoch_is (begun line) begins.more
+    ∙ sym (ap (λ ls. (last_line line ls).epoch) begins.is)
     in
     omega (arith, few, same)
 

@@ -37,8 +37,8 @@ flat journals = flat_map (λ journal. journal) journals
 -- ---- the journal of all waves is theirs
 
 -- behind the journal of what came before stand those of the waves that went on from it, one after the other
-pub journal_from : (number : Option ℕ) (input : Input) (setting : Setting) (rest : Rest) (line : TurnLine) (before : Run)
-    (ends : List WaveEnd) (journals : List (List TurnLine)) (trails : List (List EndsView))
+pub journal_from : (number : Option ℕ) (input : Input) (setting : Setting) (rest : Rest) (line : TurnLine)
+    (before : Run) (ends : List WaveEnd) (journals : List (List TurnLine)) (trails : List (List EndsView))
     → WentThrough number input setting rest ends journals trails
     → (waves_over input setting line before ends journals).journal ≡ before.journal ++ flat journals
 journal_from number input setting rest line before [] [] [] went = sym (append-nil before.journal)
@@ -175,7 +175,8 @@ pub few_steps : (number : Option ℕ) (input : Input) (setting : Setting) (ends 
     → length ends ≤ 4 → AreAllWaves number input setting ends run trail → length run.moved < 2 ^ 32
 few_steps number input setting ends run trail of_input of_setting ahead few all =
     let rest = first_rest setting in
-    let same : length run.moved ≡ length (waves_over input setting rest.line (no_waves setting) ends all.journals).moved =
+    let same : length run.moved
+    ≡ length (waves_over input setting rest.line (no_waves setting) ends all.journals).moved =
     ap (λ (r : Run). length r.moved) all.run_is in
     let steps = steps_from number input setting rest rest.line (no_waves setting) no_rows ends all.journals all.trails
     of_input of_setting ahead refl all.went in

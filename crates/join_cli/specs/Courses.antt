@@ -78,8 +78,8 @@ AreRunsFrom input joiners numbers setting g (k ∷ digits) (run ∷ runs) =
 AreRunsFrom input joiners numbers setting g _ _ = ⊥
 
 -- what is answered of a run over rings, of two tables in one wave and joiners in one grid: the journal of a lawful
--- controller; it didn't fall back; and the lists of what its seats left are a finished, agreeing family, whose controller
--- has this journal
+-- controller; it didn't fall back; and the lists of what its seats left are a finished, agreeing family, whose
+-- controller has this journal
 pub record IsOverRings (asked : Asked) (planned : Planned) (journal : List TurnLine) (ends : RingEndsView)
     (fallen : Bool) : Type 0 where
   pub ringed : asked.rings ≡ true

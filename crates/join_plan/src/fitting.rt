@@ -88,7 +88,8 @@ fn third_of(alloc: Global, tables: &Tables, pred: &Pred, table: Table) -> Result
     requires whole { IsTable table }
     ensures answer { (result ≡ Err Refusal.Memory)
         ⊎ (result ≡ third_over tables.now (tree_of pred.now) table) }
-    ensures found { IfOk result (λ third. third_over tables.now (tree_of pred.now) table ≡ Ok third) }
+    ensures found { IfOk result
+        (λ third. third_over tables.now (tree_of pred.now) table ≡ Ok third) }
     ensures refused { (old new : ℕ) (told : Told) (spot : Spot) (asked : Asked)
         → HasText Which.Then asked → IfErr result (Refuses old new told spot asked) }
     ensures fit { IfOk result (IsThirdFit tables.now) }

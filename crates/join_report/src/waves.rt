@@ -13,8 +13,8 @@ pub fn sum_counts(alloc: Global, counts: &Counts, more: &Counts) -> Result<Count
     requires counts { All (λ count. count < 2 ^ 63) counts.now }
     requires more { All (λ count. count < 2 ^ 63) more.now }
     ensures sums { IfOk result (λ sums. sums ≡ sums_of counts.now more.now) }
-    ensures within { (m n : ℕ) → All (λ count. count ≤ m) counts.now → All (λ count. count ≤ n) more.now
-        → IfOk result (All (λ sum. sum ≤ m + n)) }
+    ensures within { (m n : ℕ) → All (λ count. count ≤ m) counts.now
+        → All (λ count. count ≤ n) more.now → IfOk result (All (λ sum. sum ≤ m + n)) }
 {
     let mut sums = Counts::new(alloc);
     let places = counts.len().min(more.len());

@@ -176,7 +176,7 @@ module _ (v : SeatsView) (joined : AreJoined v.joiners v.feeders (map frame_of v
         subst (Stands (OfCollector (2 ^ setting.k)) (lists_in v Collector)) (some_is one.0 s.core (sym one.1 ∙ own))
         one.2
 
-    -- where the pairs of earlier lists were given and no others, the collector gives those that came since, in some order
+    -- where the pairs of earlier lists were given and no others, the collector gives those since, in some order
     pub gives_since : (earlier : CollectorLists) → AreGiven (2 ^ setting.k) earlier (given_in v)
         → IsPermutation (pairs_since (2 ^ setting.k) earlier (collected_in v)) pairs
     gives_since earlier gave = gives.gives (2 ^ setting.k) earlier (lists_in v Collector) stood

@@ -250,7 +250,8 @@ pub(crate) fn bout_by<'a, R: Wait, G: Gate, F: FnOnce(Vec<Seat<'a>>) -> Vec<Seat
     ensures collected { result ≡ Ok false → (input : Input') (setting : Setting')
         → IsValid input setting → StandsFor input setting seats.old
         → is_collected seats.old ≡ true }
-    ensures collected_in_wave { result ≡ Ok false → (input : Input') (setting : Setting') (rest : Rest')
+    ensures collected_in_wave { result ≡ Ok false
+        → (input : Input') (setting : Setting') (rest : Rest')
         → IsValid input setting → IsRestFor input setting rest
         → StandsInWave input setting rest seats.old → is_collected seats.old ≡ true }
     ensures agrees { OnOk result (AreFronts (lists_in seats.new)) }
@@ -304,7 +305,8 @@ pub fn bout<R: Threads + Wait + Sync, G: Gate + Sync>(
     ensures collected { result ≡ Ok false → (input : Input') (setting : Setting')
         → IsValid input setting → StandsFor input setting seats.old
         → is_collected seats.old ≡ true }
-    ensures collected_in_wave { result ≡ Ok false → (input : Input') (setting : Setting') (rest : Rest')
+    ensures collected_in_wave { result ≡ Ok false
+        → (input : Input') (setting : Setting') (rest : Rest')
         → IsValid input setting → IsRestFor input setting rest
         → StandsInWave input setting rest seats.old → is_collected seats.old ≡ true }
     ensures agrees { OnOk result (AreFronts (lists_in seats.new)) }

@@ -174,7 +174,8 @@ pub fn run_early<R: Threads + Wait + Sync, G: Gate + Sync, K: Sink>(
         thread::scope_env(),
         rt,
         move |scope|
-            requires { (IsValidInput input.now × IsValidSetting setting.now) × (K.faults sink.now < last_fault) }
+            requires { (IsValidInput input.now × IsValidSetting setting.now)
+                × (K.faults sink.now < last_fault) }
         {
             let mut pool = pool_of(rt, alloc, scope, signals, turns);
             let told = run_early_by(rt, alloc, input, setting, gate, sink, &mut pool);

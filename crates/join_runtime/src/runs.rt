@@ -127,8 +127,8 @@ pub fn run_wave<'a, R: Threads + Wait + Sync, G: Gate + Sync>(
     requires end { IsUpto rest.line end input.now }
     requires rest { IsRestOf input.now setting.now rest }
     requires epoch { rest.line.epoch ≤ 2 ^ 31 }
-    ensures family { IfOk result (λ told. IsFinishedWave (upto end input.now) setting.now (rest_of rest)
-        told.wave.run.journal (lists_left told.ends)) }
+    ensures family { IfOk result (λ told. IsFinishedWave (upto end input.now) setting.now
+        (rest_of rest) told.wave.run.journal (lists_left told.ends)) }
     ensures linked { IfOk result (λ told. AgreesOnLinks setting.now (lists_left told.ends)) }
     ensures run { IfOk result (λ told. IsRunOf (upto end input.now) setting.now rest.line
         told.wave.run.journal told.wave.run) }

@@ -31,8 +31,8 @@ pub same_error : {T : Type 0} (told error : WordsError) → ◌≡◌ {A = Resul
 same_error told error is = cc
 
 -- the fault that an answer of the checks tells
-pub gives_fault : (wanted : Result Asked WordsFault) (error : WordsError) (fault : WordsFault) → Gives wanted (Err error)
-    → error ≡ Fault fault → wanted ≡ Err fault
+pub gives_fault : (wanted : Result Asked WordsFault) (error : WordsError) (fault : WordsFault)
+    → Gives wanted (Err error) → error ≡ Fault fault → wanted ≡ Err fault
 gives_fault wanted error fault gives is = subst (λ (e : WordsError). Gives wanted (Err e)) is gives
 
 simple_command : is_simple jm_command ≡ true

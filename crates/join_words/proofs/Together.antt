@@ -18,7 +18,8 @@ not_both : (given : Given) (pairs : List (Word × Word)) (i : ℕ) (d : Word × 
     → i < length pairs → are_apart given (slice_index_or pairs i d) ≡ false
 not_both given pairs i d none low = go (are_apart given (slice_index_or pairs i d)) refl
   where
-    go : (b : Bool) → are_apart given (slice_index_or pairs i d) ≡ b → are_apart given (slice_index_or pairs i d) ≡ false
+    go : (b : Bool) → are_apart given (slice_index_or pairs i d) ≡ b
+        → are_apart given (slice_index_or pairs i d) ≡ false
     go false is = is
     go true is = let any = list_any_at (are_apart given) pairs i d low is in cc
 
@@ -64,7 +65,8 @@ few_names names few = ltb-false 2 names few
 
 -- a wave behind which there are names, two of them for each wave but the first
 behind : (wave names later : ℕ) → nat_le names (2 * wave) ≡ false → names ≤ 2 * later + 2 → wave ≤ later
-behind wave names later few half = let more : 2 * wave < names = leb-false names (2 * wave) few in omega (arith, more, half)
+behind wave names later few half =
+    let more : 2 * wave < names = leb-false names (2 * wave) few in omega (arith, more, half)
 
 module _ (rows : List Row) (none : any_of (given_by rows) apart ≡ false) where
   -- of made tables no joined rows are wanted
@@ -115,7 +117,8 @@ module _ (rows : List Row) (none : any_of (given_by rows) apart ≡ false) where
   chain_stands P None flag joiners groups replay make early joined has is are early_is replay_is make_is rows_are = tt
   chain_stands P (Some x) flag joiners groups replay make early joined has is are early_is replay_is make_is rows_are =
       let on : is_some (then_at rows) ≡ true = has.0 in
-      let no_groups = first (groups_at rows) (is_some (then_at rows)) (clash_at (given_by rows) 8 none (omega arith)) on in
+      let no_groups = first (groups_at rows) (is_some (then_at rows))
+      (clash_at (given_by rows) 8 none (omega arith)) on in
       let no_early = other (is_some (then_at rows)) (flag_at (codes "early") rows)
       (clash_at (given_by rows) 9 none (omega arith)) on in
       let no_rows = other (is_some (then_at rows)) (flag_at (codes "rows") rows)
@@ -140,7 +143,8 @@ module _ (rows : List Row) (none : any_of (given_by rows) apart ≡ false) where
   rings_stand P chain flag joiners groups replay early rings has is are early_is replay_is rings_are told =
       let on : rings_at rows ≡ true = sym rings_are ∙ told in
       let no_groups = other (rings_at rows) (groups_at rows) (clash_at (given_by rows) 13 none (omega arith)) on in
-      let no_chain = other (rings_at rows) (is_some (then_at rows)) (clash_at (given_by rows) 14 none (omega arith)) on in
+      let no_chain = other (rings_at rows) (is_some (then_at rows))
+      (clash_at (given_by rows) 14 none (omega arith)) on in
       let no_early = other (rings_at rows) (flag_at (codes "early") rows)
       (clash_at (given_by rows) 15 none (omega arith)) on in
       let no_replay = other (rings_at rows) (is_some (number_at (codes "replay") rows))

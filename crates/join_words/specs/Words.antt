@@ -168,8 +168,8 @@ members_of true joiners = Some joiners
 abbrev pub unless_apart : {A : Type 0} → Given → Result A WordsFault → Result A WordsFault
 unless_apart given next = if any_of given apart then Err Together else next
 
--- the names of the first wave's two files, those of the later waves, and the second join with a third file, where one is
--- asked for
+-- the names of the first wave's two files, those of the later waves, and the second join with a third file, where one
+-- is asked for
 pub record Names : Type 0 where
   pub name_r : Text
   pub name_s : Text
@@ -206,8 +206,8 @@ abbrev pub no_names : List Text → Result Names WordsFault
 no_names [] = Ok (record { name_r = []; name_s = []; later = []; chain = None })
 no_names _ = Err Files
 
--- the names of the files, two for each wave; with a second predicate there are three, and where tables are made there is
--- none
+-- the names of the files, two for each wave; with a second predicate there are three, and where tables are made there
+-- is none
 abbrev pub names_by : Option ℕ → Option Text → List Text → Result Names WordsFault
 names_by (Some count) on names = no_names names
 names_by None None names = wave_names names

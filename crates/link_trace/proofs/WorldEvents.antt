@@ -278,7 +278,8 @@ pub delivered : (joiners feeders : ℕ) (from to : Actor) (sender receiver : ℕ
     → left_in joiners feeders ws' ≡ put_on to sends (left_in joiners feeders later)
     → Delivers from to (record { joiners = joiners; feeders = feeders; cores = cores; waiting = ws })
     (record { joiners = joiners; feeders = feeders; cores = cores'; waiting = ws' })
-delivered joiners feeders from to sender receiver from_is to_is m cores one other cores' ws middle later ws' before sends e took same occurs none d put =
+delivered joiners feeders from to sender receiver from_is to_is m cores one other cores' ws middle later ws'
+    before sends e took same occurs none d put =
     delivers joiners feeders from to sender receiver from_is to_is m cores cores' ws middle ws' sends took
     (recast receiver (Took from m) cores cores' one other before sends e d none occurs)
     (put ∙ ap (λ w. put_on to sends (left_in joiners feeders w)) same)

@@ -91,8 +91,8 @@ pub fn replay_wave<R: Wait>(
     ensures line { IfOk result (λ wave. wave.rest.line ≡ last_line rest.line wave.run.journal) }
     ensures order { IfOk result (λ wave.
         IsWaveReplay (upto end input.now) setting.now (rest_of rest) seed wave.run) }
-    ensures bound { IfOk result (λ wave. wave.run.bouts ≤ most_events (upto end input.now) setting.now
-        (migrations rest.line wave.run.journal)) }
+    ensures bound { IfOk result (λ wave. wave.run.bouts ≤ most_events (upto end input.now)
+        setting.now (migrations rest.line wave.run.journal)) }
 {
     events_are_few();
     wave_events_fit();

@@ -199,7 +199,8 @@ impl<'a> World<'a> {
         ensures still { (input : Input') (setting : Setting') (lists : Actor' → ActorLists)
             → IsValid input setting → StandsFor input setting (state_of self.now) lists
             → IsStill setting (state_of self.now) → result ≡ true }
-        ensures still_in_wave { (input : Input') (setting : Setting') (rest : Rest') (lists : Actor' → ActorLists)
+        ensures still_in_wave { (input : Input') (setting : Setting') (rest : Rest')
+            (lists : Actor' → ActorLists)
             → IsValid input setting → IsRestFor input setting rest
             → StandsInWave input setting rest (state_of self.now) lists
             → IsStill setting (state_of self.now) → result ≡ true }

@@ -67,7 +67,8 @@ abbrev pub words_of : Report → List ℕ
 words_of report =
     name_of (report.n * report.m)
     ++ counts_of report.x report.y (all_made report.joiners.items) (changes_of report)
-    ++ growth_words_of report.growth ++ shape_of report.n report.m ++ ratio_of (hundredths_of report.copies report.best) ++ ground
+    ++ growth_words_of report.growth ++ shape_of report.n report.m ++ ratio_of (hundredths_of report.copies report.best)
+    ++ ground
 
 -- the numbers of rows and pairs
 unfoldable pub title_of : ℕ → ℕ → ℕ → List ℕ

@@ -35,5 +35,6 @@ returns-in-Err-Write-clause-complete g c planned is takes =
     absurd (c.in-Err-Write.ensures.takes
     (early_takes (g.K.Sink.takes c.args.sink.now) (asked c.args.options.now) planned c.args.input.now c.args.setting.now
     is c.requires.is c.requires.input c.requires.setting c.requires.early c.requires.alone.1 c.requires.alone.2
-    (asks_once c.args.options.now c.requires.once) c.requires.single (not_chained c.args.options.now.chain c.requires.whole) takes)
+    (asks_once c.args.options.now c.requires.once) c.requires.single
+    (not_chained c.args.options.now.chain c.requires.whole) takes)
     (ap Err c.in-Err-Write.field-0-is))

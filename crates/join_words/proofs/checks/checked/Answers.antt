@@ -20,18 +20,18 @@ returns-in-Ok-read_names-clause-grouped c =
 pub returns-in-Ok-read_names-clause-chained : goal.returns-in-Ok-read_names-clause-chained
 returns-in-Ok-read_names-clause-chained c =
     chain_stands (rows_of (found_of c.args.matches.now)) c.in-Ok.ensures.together
-    (c.in-Ok-read_names.field-0.later.items ≡ []) c.in-Ok-read_names.field-0.chain c.flag-groups.result c.unwrap_or-joiners.result
-    c.members.result c.number-in-Ok-read_names-2.result c.number-make.result c.flag-in-Ok-read_names.result
-    c.flag-in-Ok-read_names-3.result c.in-Ok-read_names.ensures.chained c.flag-groups.ensures c.members.ensures.exact
-    c.flag-in-Ok-read_names.ensures c.number-in-Ok-read_names-2.ensures c.number-make.ensures
-    c.flag-in-Ok-read_names-3.ensures
+    (c.in-Ok-read_names.field-0.later.items ≡ []) c.in-Ok-read_names.field-0.chain c.flag-groups.result
+    c.unwrap_or-joiners.result c.members.result c.number-in-Ok-read_names-2.result c.number-make.result
+    c.flag-in-Ok-read_names.result c.flag-in-Ok-read_names-3.result c.in-Ok-read_names.ensures.chained
+    c.flag-groups.ensures c.members.ensures.exact c.flag-in-Ok-read_names.ensures
+    c.number-in-Ok-read_names-2.ensures c.number-make.ensures c.flag-in-Ok-read_names-3.ensures
 
 pub returns-in-Ok-read_names-clause-ringed : goal.returns-in-Ok-read_names-clause-ringed
 returns-in-Ok-read_names-clause-ringed c =
     rings_stand (rows_of (found_of c.args.matches.now)) c.in-Ok.ensures.together
-    (c.in-Ok-read_names.field-0.later.items ≡ []) c.in-Ok-read_names.field-0.chain c.flag-groups.result c.unwrap_or-joiners.result
-    c.members.result c.number-in-Ok-read_names-2.result c.flag-in-Ok-read_names.result c.flag.result
-    c.in-Ok-read_names.ensures.chained c.flag-groups.ensures c.members.ensures.exact
+    (c.in-Ok-read_names.field-0.later.items ≡ []) c.in-Ok-read_names.field-0.chain c.flag-groups.result
+    c.unwrap_or-joiners.result c.members.result c.number-in-Ok-read_names-2.result c.flag-in-Ok-read_names.result
+    c.flag.result c.in-Ok-read_names.ensures.chained c.flag-groups.ensures c.members.ensures.exact
     c.flag-in-Ok-read_names.ensures c.number-in-Ok-read_names-2.ensures c.flag.ensures
 
 pub returns-in-Ok-read_names-clause-early_once : goal.returns-in-Ok-read_names-clause-early_once
@@ -53,8 +53,8 @@ returns-in-Ok-read_names-clause-ringed_once c =
 pub returns-in-Ok-read_names-clause-grow : goal.returns-in-Ok-read_names-clause-grow
 returns-in-Ok-read_names-clause-grow c =
     growth_stands (rows_of (found_of c.args.matches.now)) c.in-Ok.ensures.together
-    (c.in-Ok-read_names.field-0.later.items ≡ []) c.in-Ok-read_names.field-0.chain c.in-Ok-read_names.field-0.later.items
-    c.flag-groups.result c.unwrap_or-joiners.result c.small_option.result c.members.result c.in-Ok.begun.fixed
-    c.flag.result c.small_option.ensures c.requires.bounded.grow c.in-Ok-read_names.ensures.chained
-    c.in-Ok-read_names.ensures.half c.flag-groups.ensures c.members.ensures.exact c.in-Ok.ensures.unfixed
-    c.flag.ensures
+    (c.in-Ok-read_names.field-0.later.items ≡ []) c.in-Ok-read_names.field-0.chain
+    c.in-Ok-read_names.field-0.later.items c.flag-groups.result c.unwrap_or-joiners.result c.small_option.result
+    c.members.result c.in-Ok.begun.fixed c.flag.result c.small_option.ensures c.requires.bounded.grow
+    c.in-Ok-read_names.ensures.chained c.in-Ok-read_names.ensures.half c.flag-groups.ensures
+    c.members.ensures.exact c.in-Ok.ensures.unfixed c.flag.ensures
