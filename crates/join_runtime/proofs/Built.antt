@@ -1,20 +1,13 @@
 -- Seats whose mouths all came to their senders are joined, and have empty lists.
-use Rattle.std.proofs.Common.{◌≡◌, ℕ, zero, suc, ◌+◌, ◌<◌, ◌^◌, ◌↔◌, ◌++◌, refl, sym, ap, subst, ◌∙◌, Bool, true, false}
-use Rattle.std.proofs.Common.{Option, Some, None, List, [], ◌∷◌, get_or, map, length, arith, true≢false, eqb, cond}
-use Rattle.std.proofs.Common.{eq-eqb, eqb-true, inl, inr}
+use Rattle.std.proofs.Common.{◌≡◌, ℕ, ◌+◌, ◌<◌, ◌^◌, ◌++◌, refl, sym, ap, subst, ◌∙◌, Bool, true, Option, Some, None}
+use Rattle.std.proofs.Common.{List, [], get_or, map, length, arith}
 use Rattle.std.specs.Prelude.{slice_get, slice_index, IsSome, Contains}
-use Rattle.std.proofs.Math.Pow.{pow-lt}
-use Rattle.std.proofs.lemmas.Nat.{xor_lt}
-use Rattle.std.proofs.lemmas.List.{length-append, length-map, get_or-map, get_or_default}
+use Rattle.std.proofs.lemmas.List.{length-map, get_or-map}
 use Rattle.std.proofs.lemmas.Option.{slice_get-get_or, slice_get_within}
 use Rattle.epoch_tags.specs.declared.actor.Actor.{Actor}
 use Rattle.epoch_tags.specs.declared.actor.Actor.TheVariants.{Collector}
-use Rattle.epoch_tags.specs.Links.{HasLink, feeder_joiner, joiner_joiner, controller_feeder, feeder_controller}
-use Rattle.epoch_tags.specs.Links.{joiner_controller, joiner_collector}
 use Rattle.ruled_links.specs.Ends.{Sending}
-use Rattle.ruled_links.specs.Delivery.{number_of}
 use Rattle.ruled_links.specs.Inboxes.{InboxView, OfSender, is_sender, fresh, opened, messages_of}
-use Rattle.ruled_links.proofs.PartsLemmas.{name_once}
 use Rattle.pair_collector.specs.Standing.{nothing_yet}
 use Rattle.trace_law.specs.declared.input.Input.{Input}
 use Rattle.theta_pred.specs.Formula.{Meaning}
@@ -24,107 +17,20 @@ use Rattle.actor_core.specs.Elements.{IsAllAt}
 use Rattle.actor_core.specs.declared.machines.Core.{Core}
 use Rattle.actor_core.specs.Lists.{no_lists}
 use Rattle.actor_core.specs.Standing.{JoinsBy, Stands, IsLive, given_by}
-use Rattle.actor_core.specs.Families.{start_in_wave, IsActor}
+use Rattle.actor_core.specs.Families.{start_in_wave}
 use Rattle.actor_core.specs.Numbers.{number, at_number}
 use Rattle.actor_core.specs.Players.{lists_among, lists_at}
-use Rattle.actor_core.specs.Rests.{AreMade}
-use Rattle.actor_core.proofs.OwnNumbers.{none_some, number_actor, some_is}
-use Rattle.actor_core.proofs.WaveBeginnings.{last_is}
+use Rattle.actor_core.proofs.OwnNumbers.{number_actor, some_is}
 use Rattle.join_runtime.specs.Views.{SeatView, Frame, frame_of, lists_of, address_of, contents, sent_by, sent_at}
-use Rattle.join_runtime.specs.Joins.{AreJoined, AreSettled, AllLead, IsPlaced, Leads, HasMouthTo, IsGathered, Knows}
-use Rattle.join_runtime.specs.Joins.{slot_of}
-use Rattle.join_runtime.specs.Bouts.{SeatsView, StandsInWave, lists_in, mouth_at, mouth_of, seat_of}
-use Rattle.join_runtime.specs.Seating.{IsFresh, AreFresh, IsNewSeat, AreNew, AreFilled, AreSeated}
+use Rattle.join_runtime.specs.Joins.{AreJoined, AreSettled, IsPlaced, Leads, HasMouthTo, IsGathered, Knows, slot_of}
+use Rattle.join_runtime.specs.Bouts.{StandsInWave, lists_in}
+use Rattle.join_runtime.specs.Seating.{IsFresh, AreFresh, IsNewSeat, AreNew, AreFilled}
 use Rattle.join_runtime.specs.Early.{AreGiven, given_at, given_in}
 use Rattle.join_runtime.proofs.KnownCounts.{is_sender-named}
-use Rattle.join_runtime.proofs.FramePlaces.{address_at}
+use Rattle.join_runtime.proofs.FramePlaces.{address_at, some_address, lead_frames}
+use Rattle.join_runtime.proofs.FreshSenders.{contains_map, map_contains, named, is_named, knows_fresh}
 use Rattle.actor_core.proofs.Beginnings.{has_number, there}
 use Rattle.actor_core.proofs.Seated.{core_at, core_there, lists_there, number_low}
-
--- ---- members of lists
-
-contains_map : {X Y : Type 0} (g : X → Y) (xs : List X) (y : Y) → Contains (map g xs) y → (x : X) × Contains xs x
-    × (g x ≡ y)
-contains_map g [] y has = absurd (let low = has.1 in omega (arith, low))
-contains_map g (x ∷ xs) y has = go has.0 has.1 has.2
-  where
-    go : (k : ℕ) → k < length (map g (x ∷ xs)) → get_or (map g (x ∷ xs)) k y ≡ y → (z : _) × Contains (x ∷ xs) z
-        × (g z ≡ y)
-    go k low is =
-        let low' : k < length (x ∷ xs) = subst (λ n. k < n) (length-map (x ∷ xs) g) low in
-        let z = get_or (x ∷ xs) k x in
-        (z, (k, low', get_or_default (x ∷ xs) k z x low'), sym (get_or-map g (x ∷ xs) k x y low') ∙ is)
-
-map_contains : {X Y : Type 0} (g : X → Y) (xs : List X) (x : X) → Contains xs x → Contains (map g xs) (g x)
-map_contains g xs x has = (
-  has.0,
-  subst (λ n. has.0 < n) (sym (length-map xs g)) has.1,
-  get_or-map g xs has.0 x (g x) has.1 ∙ ap g has.2,
-)
-
--- a sender of a new inbox is one of the names
-named : (a : Actor) (names : List Actor) → is_sender a (map fresh names) ≡ true → Contains names a
-named a [] is = absurd (true≢false (sym is))
-named a (x ∷ names) is = go (eqb (number_of x) (number_of a)) refl is (λ is'. named a names is')
-  where
-    go : (b : Bool) → eqb (number_of x) (number_of a) ≡ b → cond b true (is_sender a (map fresh names)) ≡ true
-        → (is_sender a (map fresh names) ≡ true → Contains names a) → Contains (x ∷ names) a
-    go true e is' rest = (0, omega arith, name_once x a (eqb-true (number_of x) (number_of a) e))
-    go false e is' rest = let later = rest is' in (suc later.0, omega (arith, later.1), later.2)
-
--- and each name is a sender
-is_named : (a : Actor) (names : List Actor) → Contains names a → is_sender a (map fresh names) ≡ true
-is_named a [] has = absurd (let low = has.1 in omega (arith, low))
-is_named a (x ∷ names) has = go has.0 has.1 has.2 (λ rest. is_named a names rest)
-  where
-    go : (k : ℕ) → k < length (x ∷ names) → get_or (x ∷ names) k a ≡ a
-        → (Contains names a → is_sender a (map fresh names) ≡ true)
-        → cond (eqb (number_of x) (number_of a)) true (is_sender a (map fresh names)) ≡ true
-    go zero low is rest = ap (λ b. cond b true (is_sender a (map fresh names)))
-        (eq-eqb (number_of x) (number_of a) (ap number_of is))
-    go (suc k) low is rest = later (eqb (number_of x) (number_of a)) (rest (k, omega arith, is))
-      where
-        later : (b : Bool) → is_sender a (map fresh names) ≡ true → cond b true (is_sender a (map fresh names)) ≡ true
-        later true e = refl
-        later false e = e
-
-knows_fresh : (from : Actor) (names : List Actor) → Knows from 0 (map fresh names)
-knows_fresh from [] = tt
-knows_fresh from (x ∷ names) = ((λ e. refl), knows_fresh from names)
-
-some_address : (o : Option Sending) → IsSome o → IsSome (address_of o)
-some_address None is = is
-some_address (Some mouth) is = refl
-
--- the two ends of a link are actors of the run
-actors_linked : (setting : Setting) (from to : Actor) → HasLink setting.k setting.feeders from to → IsActor setting from
-    × IsActor setting to
-actors_linked setting _ _ (feeder_joiner low high) = (low, high)
-actors_linked setting _ _ (joiner_joiner {i = i} {low = low} high within) =
-    (high, xor_lt setting.k i (2 ^ low) high (pow-lt within))
-actors_linked setting _ _ (controller_feeder low) = (tt, low)
-actors_linked setting _ _ (feeder_controller low) = (low, tt)
-actors_linked setting _ _ (joiner_controller low) = (low, tt)
-actors_linked setting _ _ (joiner_collector low) = (low, tt)
-
--- ---- frames of seats
-
-lead_frames : (seats : List SeatView) → ((n r : ℕ) (d : SeatView) → n < length seats → r < length seats
-    → Leads (address_of (slot_of seats d n r)) (frame_of (get_or seats n d)) (frame_of (get_or seats r d)))
-    → AllLead (map frame_of seats)
-lead_frames seats leads n r f low low' =
-    let here = subst (λ z. n < z) (length-map seats frame_of) low in
-    let there' = subst (λ z. r < z) (length-map seats frame_of) low' in
-    let d = (there seats n here).0 in
-    let one = get_or-map frame_of seats n d f here in
-    let other = get_or-map frame_of seats r d f there' in
-    subst (λ (x : Frame). Leads (get_or x.addresses r None) x (get_or (map frame_of seats) r f)) (sym one)
-    (subst (λ (x : Frame). Leads (get_or (frame_of (get_or seats n d)).addresses r None) (frame_of (get_or seats n d))
-    x) (sym other)
-    (subst (λ a. Leads a (frame_of (get_or seats n d)) (frame_of (get_or seats r d)))
-    (sym (address_at (get_or seats n d).mouths r)) (leads n r d here there')))
-
--- ---- the seats
 
 module _ (setting : Setting) (count : ℕ) (cores : List Core) (first seats : List SeatView)
     (mouths : List (List Sending)) (new : AreNew (2 ^ setting.k) setting.feeders count cores first mouths)
@@ -308,95 +214,6 @@ module _ (setting : Setting) (count : ℕ) (cores : List Core) (first seats : Li
           let d = (there seats n low').0 in
           lists_there lists_of (2 ^ setting.k) setting.feeders seats a n d is low' ∙ empty_lists n d low
 
-  -- ---- one actor has a mouth to another exactly where there is a link
-
-  module _ (spent : Bool) where
-    -- these seats as those of a run, spent or not
-    abbrev pub v : SeatsView
-    v = record { joiners = 2 ^ setting.k; feeders = setting.feeders; seats = seats; spent = spent }
-
-    mouth_is : (from to : Actor) (n r : ℕ) (d : SeatView) → number (2 ^ setting.k) setting.feeders from ≡ Some n
-        → number (2 ^ setting.k) setting.feeders to ≡ Some r → n < length seats
-        → mouth_of v from to ≡ slot_of seats d n r
-    mouth_is from to n r d is is' low =
-        ap (λ (o : Option ℕ). mouth_at (at_number None o (λ k. slice_get seats k))
-        (number (2 ^ setting.k) setting.feeders to)) is
-        ∙ ap (mouth_at (slice_get seats n)) is'
-        ∙ ap (λ (o : Option SeatView). mouth_at o (Some r)) (slice_get-get_or seats n d low)
-
-    low_number : (a : Actor) (n : ℕ) → number (2 ^ setting.k) setting.feeders a ≡ Some n → n < count
-    low_number a n is = subst (λ z. n < z) (sym many) (number_low (2 ^ setting.k) setting.feeders a n is)
-
-    link_of : (from to : Actor) → IsSome (mouth_of v from to) → HasLink setting.k setting.feeders from to
-    link_of from to some = go (number (2 ^ setting.k) setting.feeders from) refl
-      where
-        by_mouth : (n r : ℕ) (d : SeatView) → number (2 ^ setting.k) setting.feeders from ≡ Some n
-            → number (2 ^ setting.k) setting.feeders to ≡ Some r → n < count → (slot : Option Sending)
-            → slot_of seats d n r ≡ slot → IsSome slot → HasLink setting.k setting.feeders from to
-        by_mouth n r d is is' low None slot none = absurd (true≢false (sym none))
-        by_mouth n r d is is' low (Some mouth) slot there' =
-            let own = filled.own n r d mouth (subst (λ z. n < z) (sym new.all) low) slot in
-            let one = new.new r d own.0 in
-            let inbox = (get_or first r d).inbox in
-            let found = contains_map (opened inbox.link inbox.to) one.names mouth
-            (subst (λ ms. Contains ms mouth) one.mouths_are own.1.one) in
-            let from_is : found.0 ≡ from =
-            ap (λ (m : Sending). m.from) found.2
-            ∙ (sym (number_actor (2 ^ setting.k) setting.feeders mouth.from n own.1.sender)
-            ∙ number_actor (2 ^ setting.k) setting.feeders from n is) in
-            subst (λ a. HasLink setting.k setting.feeders a to) from_is
-            (subst (HasLink setting.k setting.feeders found.0) (number_actor (2 ^ setting.k) setting.feeders to r is')
-            (one.links.sound setting.k refl found.0 found.1))
-
-        nowhere : (o : Option SeatView) → mouth_at o None ≡ None
-        nowhere None = refl
-        nowhere (Some seat) = refl
-
-        to_there : (n : ℕ) → number (2 ^ setting.k) setting.feeders from ≡ Some n → (o : Option ℕ)
-            → number (2 ^ setting.k) setting.feeders to ≡ o → HasLink setting.k setting.feeders from to
-        to_there n is None is' =
-            absurd (true≢false (sym (subst IsSome (ap (mouth_at (seat_of v from)) is' ∙ nowhere (seat_of v from))
-            some)))
-        to_there n is (Some r) is' =
-            let low = low_number from n is in
-            let low' = subst (λ z. n < z) (sym long) low in
-            let d = (there seats n low').0 in
-            by_mouth n r d is is' low (slot_of seats d n r) refl
-            (subst IsSome (mouth_is from to n r d is is' low') some)
-
-        go : (o : Option ℕ) → number (2 ^ setting.k) setting.feeders from ≡ o
-            → HasLink setting.k setting.feeders from to
-        go None is = absurd (true≢false
-            (sym (subst IsSome (ap (λ (o : Option ℕ). mouth_at (at_number None o (λ k. slice_get seats k))
-            (number (2 ^ setting.k) setting.feeders to)) is) some)))
-        go (Some n) is = to_there n is (number (2 ^ setting.k) setting.feeders to) refl
-
-    has_mouth : (from to : Actor) → HasLink setting.k setting.feeders from to → IsSome (mouth_of v from to)
-    has_mouth from to link =
-        let ends = actors_linked setting from to link in
-        let num = has_number setting from ends.0 in
-        let num' = has_number setting to ends.1 in
-        let low = low_number to num'.0 num'.1 in
-        let low_from = low_number from num.0 num.1 in
-        let low_seat = subst (λ z. num.0 < z) (sym long) low_from in
-        let d = (there seats num.0 low_seat).0 in
-        let one = new.new num'.0 d low in
-        let inbox = (get_or first num'.0 d).inbox in
-        let name = one.links.whole setting.k refl from num.0 num.1 (subst (λ z. num.0 < z) many low_from)
-        (subst (HasLink setting.k setting.feeders from)
-        (sym (number_actor (2 ^ setting.k) setting.feeders to num'.0 num'.1)) link) in
-        let has = subst (λ ms. Contains ms (opened inbox.link inbox.to from)) (sym one.mouths_are)
-        (map_contains (opened inbox.link inbox.to) one.names from name) in
-        let given = filled.has num.0 num'.0 d (opened inbox.link inbox.to from) low (record {
-          one = has;
-          sender = num.1;
-        }) in
-        subst IsSome (sym (mouth_is from to num.0 num'.0 d num.1 num'.1 low_seat)) given.1
-
-    -- mouths lead where the run has links, and nowhere else
-    pub all_linked : (from to : Actor) → (IsSome (mouth_of v from to) ↔ HasLink setting.k setting.feeders from to)
-    all_linked from to = (link_of from to, has_mouth from to)
-
   -- ---- the machines, which are as they were made
 
   module _ (input : Input) (rest : Rest) (fresh : AreFresh input setting rest count cores) where
@@ -472,126 +289,3 @@ module _ (setting : Setting) (count : ℕ) (cores : List Core) (first seats : Li
       subst (JoinsBy theta) own
       (joins n (get_or cores n d.core)
       (slice_get-get_or cores n d.core (subst (λ z. n < z) (sym each) low')))
-
--- ---- the same from what each call says
-
--- the machines of a wave at its beginning are fresh
-pub made_fresh : (input : Input) (setting : Setting) (rest : Rest) (count : ℕ) (cores : List Core)
-    → AreMade input setting rest count cores → AreFresh input setting rest count cores
-made_fresh input setting rest count cores made = record {
-  all = made.all;
-  each = λ n core is. let own = made.each n core is in
-      record { stands = own.stands; live = own.live; given = own.given };
-}
-
-module _ (input : Input) (setting : Setting) (rest : Rest) where
-  -- no machine is yet there
-  pub none_fresh : AreFresh input setting rest 0 []
-  none_fresh = record { all = refl; each = λ n core is. absurd (none_some core is) }
-
-  -- one machine more
-  pub one_fresh : (n : ℕ) (cores : List Core) (core : Core) → AreFresh input setting rest n cores
-      → IsFresh input setting rest n core → AreFresh input setting rest (n + 1) (cores ++ core ∷ [])
-  one_fresh n cores core fresh own = record {
-    all = length-append cores (core ∷ []) ∙ ap (λ z. z + 1) fresh.all;
-    each = λ m other is. elim (last_is cores core other m is) [
-      | inl there ↦ fresh.each m other there
-      | inr last ↦
-          subst (λ z. IsFresh input setting rest z other) (sym fresh.all ∙ sym last.0)
-          (subst (IsFresh input setting rest n) last.1 own)
-    ];
-  }
-
-module _ (setting : Setting) (joiners : ℕ) (cores : List Core) (seats : List SeatView) (is : joiners ≡ 2 ^ setting.k)
-    (all : length cores ≡ setting.feeders + joiners + 2)
-    (seated : AreSeated joiners setting.feeders cores seats) where
-  abbrev first : List SeatView
-  first = seated.first
-
-  abbrev mouths : List (List Sending)
-  mouths = seated.mouths
-
-  count_is : setting.feeders + joiners + 2 ≡ setting.feeders + 2 ^ setting.k + 2
-  count_is = ap (λ n. setting.feeders + n + 2) is
-
-  all_new : AreNew (2 ^ setting.k) setting.feeders (setting.feeders + joiners + 2) cores first mouths
-  all_new = subst (λ j. AreNew j setting.feeders (setting.feeders + joiners + 2) cores first mouths) is
-      (subst (λ n. AreNew joiners setting.feeders n cores first mouths) all seated.new)
-
-  all_filled : AreFilled (2 ^ setting.k) setting.feeders (setting.feeders + joiners + 2) mouths first seats
-  all_filled = subst (λ j. AreFilled j setting.feeders (setting.feeders + joiners + 2) mouths first seats) is
-      (subst (λ n. AreFilled joiners setting.feeders n mouths first seats) (seated.new.each ∙ all) seated.filled)
-
-  -- as many new seats as the run has actors are joined once each mouth came to its sender
-  pub start_joined : AreJoined joiners setting.feeders (map frame_of seats)
-  start_joined = subst (λ j. AreJoined j setting.feeders (map frame_of seats)) (sym is)
-      (all_joined setting (setting.feeders + joiners + 2) cores first seats mouths all_new all_filled count_is)
-
-  -- no actor of them has received or sent anything
-  pub start_empty : (spent : Bool) (a : Actor) → lists_in (record {
-    joiners = joiners;
-    feeders = setting.feeders;
-    seats = seats;
-    spent = spent;
-  }) a ≡ no_lists
-  start_empty spent a = subst (λ j. lists_in (record {
-    joiners = j;
-    feeders = setting.feeders;
-    seats = seats;
-    spent = spent;
-  }) a ≡ no_lists) (sym is) (all_empty setting (setting.feeders + joiners + 2)
-      cores first seats mouths all_new all_filled count_is spent a)
-
-  -- an actor of them has a mouth to another exactly where there is a link between the two
-  pub start_linked : (spent : Bool) (from to : Actor)
-      → (IsSome (mouth_of (record { joiners = joiners; feeders = setting.feeders; seats = seats; spent = spent })
-      from to) ↔ HasLink setting.k setting.feeders from to)
-  start_linked spent from to =
-      subst (λ j. IsSome (mouth_of (record { joiners = j; feeders = setting.feeders; seats = seats; spent = spent })
-      from to) ↔ HasLink setting.k setting.feeders from to) (sym is)
-      (all_linked setting (setting.feeders + joiners + 2)
-      cores first seats mouths all_new all_filled count_is spent from to)
-
-  -- their joiners join by the predicate by which the machines did
-  pub start_joins : (theta : Meaning) → IsAllAt (JoinsBy theta) cores
-      → IsAllAt (JoinsBy theta) (map (λ (s : SeatView). s.core) seats)
-  start_joins theta =
-      all_join setting (setting.feeders + joiners + 2) cores first seats mouths all_new all_filled count_is theta all
-
-  module _ (input : Input) (rest : Rest) (fresh : AreFresh input setting rest (length cores) cores) where
-    all_fresh : AreFresh input setting rest (setting.feeders + joiners + 2) cores
-    all_fresh = subst (λ n. AreFresh input setting rest n cores) all fresh
-
-    -- they heard senders alone, none of their machines is spent, and what is left on each link is known
-    pub start_settled : AreSettled seats
-    start_settled =
-        all_settled setting (setting.feeders + joiners + 2) cores first seats mouths all_new all_filled count_is input
-        rest all_fresh
-
-    -- each machine began as input, setting and rest say and stands for the lists of its seat
-    pub start_stands : (spent : Bool) → StandsInWave input setting rest (record {
-      joiners = joiners;
-      feeders = setting.feeders;
-      seats = seats;
-      spent = spent;
-    })
-    start_stands spent = subst (λ j. StandsInWave input setting rest (record {
-      joiners = j;
-      feeders = setting.feeders;
-      seats = seats;
-      spent = spent;
-    })) (sym is) (all_stand setting (setting.feeders + joiners + 2)
-        cores first seats mouths all_new all_filled count_is input rest all_fresh spent)
-
-    -- their collector has given no pair of any joiner
-    pub start_given : (spent : Bool) → AreGiven (2 ^ setting.k) nothing_yet
-        (given_in (record { joiners = joiners; feeders = setting.feeders; seats = seats; spent = spent }))
-    start_given spent =
-        subst (λ j. AreGiven (2 ^ setting.k) nothing_yet (given_in (record {
-          joiners = j;
-          feeders = setting.feeders;
-          seats = seats;
-          spent = spent;
-        }))) (sym is)
-        (none_given setting (setting.feeders + joiners + 2) cores first seats mouths all_new all_filled count_is input
-        rest all_fresh spent)

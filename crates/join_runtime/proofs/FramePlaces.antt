@@ -1,11 +1,14 @@
 -- The numbers of actors, and frames at their places.
 use Rattle.std.proofs.Common.{◌≡◌, ℕ, zero, suc, ◌+◌, ◌<◌, refl, sym, ap, ◌∙◌, Option, None, List, [], ◌∷◌, get_or, map}
-use Rattle.std.proofs.Common.{length, arith}
-use Rattle.std.proofs.lemmas.List.{get_or-map}
+use Rattle.std.proofs.Common.{length, arith, subst, Some}
+use Rattle.std.specs.Prelude.{IsSome}
+use Rattle.std.proofs.lemmas.List.{get_or-map, length-map}
 use Rattle.ruled_links.specs.Ends.{Sending}
 use Rattle.actor_core.specs.Numbers.{number, actor_at}
 use Rattle.actor_core.proofs.OwnNumbers.{some_is, number_there}
-use Rattle.join_runtime.specs.Views.{SeatView, frame_of, address_of}
+use Rattle.actor_core.proofs.Beginnings.{there}
+use Rattle.join_runtime.specs.Views.{SeatView, frame_of, address_of, Frame}
+use Rattle.join_runtime.specs.Joins.{AllLead, Leads, slot_of}
 
 -- so at two places stand two actors
 pub actors_differ : (joiners feeders i k : ℕ) → i < feeders + joiners + 2 → k < feeders + joiners + 2
@@ -39,3 +42,24 @@ frames_same (x ∷ xs) (y ∷ ys) long same =
     let first : frame_of y ≡ frame_of x = same 0 x (omega arith) in
     let rest = frames_same xs ys (omega arith) (λ n d low. same (suc n) d (omega arith)) in
     λ i. first i ∷ rest i
+
+-- where there is a mouth, it has an address
+pub some_address : (o : Option Sending) → IsSome o → IsSome (address_of o)
+some_address None is = is
+some_address (Some mouth) is = refl
+
+-- where each mouth leads from its seat to the seat at its place, so do all addresses of their frames
+pub lead_frames : (seats : List SeatView) → ((n r : ℕ) (d : SeatView) → n < length seats → r < length seats
+    → Leads (address_of (slot_of seats d n r)) (frame_of (get_or seats n d)) (frame_of (get_or seats r d)))
+    → AllLead (map frame_of seats)
+lead_frames seats leads n r f low low' =
+    let here = subst (λ z. n < z) (length-map seats frame_of) low in
+    let there' = subst (λ z. r < z) (length-map seats frame_of) low' in
+    let d = (there seats n here).0 in
+    let one = get_or-map frame_of seats n d f here in
+    let other = get_or-map frame_of seats r d f there' in
+    subst (λ (x : Frame). Leads (get_or x.addresses r None) x (get_or (map frame_of seats) r f)) (sym one)
+    (subst (λ (x : Frame). Leads (get_or (frame_of (get_or seats n d)).addresses r None) (frame_of (get_or seats n d))
+    x) (sym other)
+    (subst (λ a. Leads a (frame_of (get_or seats n d)) (frame_of (get_or seats r d)))
+    (sym (address_at (get_or seats n d).mouths r)) (leads n r d here there')))

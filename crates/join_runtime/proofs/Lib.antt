@@ -5,7 +5,12 @@ pub mod FramePlaces
 pub mod LinkEnds
 pub mod LinkLists
 pub mod MouthRows
+pub mod InboxSenders
+pub mod NewSeats
+pub mod FreshSenders
 pub mod Built
+pub mod MouthLinks
+pub mod Starts
 pub mod Ended
 pub mod SeatBouts
 pub mod Sent

@@ -1,6 +1,6 @@
 // A bout: turns of all seats side by side, and then the two ends of each link held together.
 
-ghost use Rattle.std.specs.Prelude.{◌≡◌, ◌<◌, ℕ, true, false, Ok, OnOk, OnErr, None, length, map, slice_index_or};
+ghost use Rattle.std.specs.Prelude.{◌≡◌, ◌<◌, ℕ, true, false, Ok, OnOk, OnErr, length, map, slice_index_or};
 ghost use Rattle.join_rows.specs.Lists.{IsPrefix};
 ghost use Rattle.trace_law.specs.declared.input.Input.{Input as Input'};
 ghost use Rattle.trace_law.specs.declared.setting.Setting.{Setting as Setting'};
@@ -12,13 +12,14 @@ ghost use Rattle.actor_core.specs.Players.{AgreesOnLinks, Extends};
 ghost use Rattle.join_runtime.specs.Views.{SeatView, frame_of};
 ghost use Rattle.join_runtime.specs.Turns.{AllStep, IsAlike};
 ghost use Rattle.join_runtime.specs.Workers.{AllWorked};
-ghost use Rattle.join_runtime.specs.Joins.{ActorsDiffer, AllLead, AreGathered, IsSlotOf, Tells, slot_of};
+ghost use Rattle.join_runtime.specs.Joins.{ActorsDiffer, AllLead, AreGathered};
 ghost use Rattle.join_runtime.specs.Bouts.{AllAdvance, AllJoinBy, AllLive, AllRest, IsStill, NoneSpent, SomeReady, StandsFor, StandsInWave, lists_in};
 ghost use Rattle.join_runtime.specs.Endings.{is_collected, journal_in};
 
+use crate::ahead::go_ahead;
+use crate::gathered::gather_all;
 use crate::seat::Seat;
 use crate::started::work_started;
-use ruled_links::Mouth;
 use std::alloc::{AllocError, Global};
 use std::marker::Model;
 use std::mem;
@@ -26,45 +27,6 @@ use std::sync::Wait;
 use std::thread::Threads;
 use trace_law::quiet_is_finished;
 use worker_gate::Gate;
-
-// How many rounds feeders and controller have ahead of the others in one bout.
-const ROUNDS: u32 = 4;
-
-// Turns of each feeder and of the controller, one after another.
-fn round_ahead<R: Wait, G: Gate>(rt: &R, seats: &mut [Seat], gate: &G) -> Result<(), AllocError>
-    ensures ok { OnOk result (AllStep seats.old seats.new) }
-    ensures frames { map frame_of seats.new ≡ map frame_of seats.old }
-{
-    for place in 0..seats.len() {
-        seats[place].turns_ahead(rt, gate)?;
-    }
-    Ok(())
-}
-
-// Whether some seat knows of more messages than it can take in a bout.
-fn is_crowded(seats: &[Seat]) -> bool {
-    for seat in seats {
-        if seat.is_crowded() {
-            return true;
-        }
-    }
-    false
-}
-
-// Rounds of feeders and controller ahead of a bout, so that the threads of a bout have enough to do; none where some seat
-// has more than it can take.
-fn go_ahead<R: Wait, G: Gate>(rt: &R, seats: &mut [Seat], gate: &G) -> Result<(), AllocError>
-    ensures ok { OnOk result (AllStep seats.old seats.new) }
-    ensures frames { map frame_of seats.new ≡ map frame_of seats.old }
-{
-    if is_crowded(seats) {
-        return Ok(());
-    }
-    for _ in 0..ROUNDS {
-        round_ahead(rt, seats, gate)?;
-    }
-    Ok(())
-}
 
 fn all_rest(seats: &[Seat]) -> bool
     requires { AllLive seats.now }
@@ -88,49 +50,6 @@ fn any_spent(seats: &[Seat]) -> bool
         }
     }
     false
-}
-
-// Holds each mouth of a seat and the inbox to which it leads together.
-fn gather_row<R: Wait>(rt: &R, mouths: &mut Vec<Option<Mouth>>, seats: &mut [Seat])
-    requires { (r : ℕ) (d : SeatView) → r < length seats.old
-        → IsSlotOf (slice_index_or mouths.old.items r None) (slice_index_or seats.old r d).inbox }
-    ensures mouths { mouths.new.items ≡ mouths.old.items }
-    ensures told { (r : ℕ) (d : SeatView) → r < length seats.old
-        → Tells (slice_index_or mouths.old.items r None) (slice_index_or seats.old r d)
-        (slice_index_or seats.new r d) }
-{
-    for place in 0..seats.len() {
-        if place < mouths.len() {
-            seats[place].gather(rt, &mut mouths[place]);
-        }
-    }
-}
-
-fn gather_from<R: Wait>(rt: &R, seats: &mut [Seat], sender: usize)
-    requires sender { sender < length seats.old }
-    requires joined { (r : ℕ) (d : SeatView) → r < length seats.old
-        → IsSlotOf (slot_of seats.old d sender r) (slice_index_or seats.old r d).inbox }
-    ensures told { (r : ℕ) (d : SeatView) → r < length seats.old
-        → Tells (slot_of seats.old d sender r) (slice_index_or seats.old r d)
-        (slice_index_or seats.new r d) }
-{
-    let mut mouths = seats[sender].take_mouths();
-    gather_row(rt, &mut mouths, seats);
-    seats[sender].give_mouths(mouths);
-}
-
-// Holds the two ends of each link together.
-fn gather_all<R: Wait>(rt: &R, seats: &mut [Seat])
-    requires leads { AllLead (map frame_of seats.old) }
-    requires differ { ActorsDiffer (map frame_of seats.old) }
-    ensures frames { map frame_of seats.new ≡ map frame_of seats.old }
-    ensures alike { (n : ℕ) (d : SeatView) → n < length seats.old
-        → IsAlike (slice_index_or seats.old n d) (slice_index_or seats.new n d) }
-    ensures gathered { AreGathered seats.new }
-{
-    for sender in 0..seats.len() {
-        gather_from(rt, seats, sender);
-    }
 }
 
 // What stands before the turns of all seats: turns ahead of the others. `Ok(false)`: all rest.

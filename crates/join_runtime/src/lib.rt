@@ -1,11 +1,13 @@
 //! Seats, each an actor's machine with its inbox and its mouths; their turns, and bouts of turns side by side in threads.
 #![tactic(auto)]
 
+mod ahead;
 mod bouts;
 mod dealt;
 mod early;
 mod ends;
 mod fresh;
+mod gathered;
 mod kept;
 mod left;
 mod mouths;

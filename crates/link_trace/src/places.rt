@@ -1,15 +1,17 @@
-// An actor's machine, and what waits for it.
+// An actor's machine, and what waits for it; the places of all actors, as they are made and taken apart.
 
-ghost use Rattle.std.specs.Prelude.{◌≡◌, ◌++◌, ◌∷◌, [], List, ◌<◌, MatchOption, OnOk, IfOk, MatchBool, Ok, true, false, length, slice_set, slice_index_or, None};
+ghost use Rattle.std.specs.Prelude.{◌≡◌, ◌++◌, ◌∷◌, [], List, ◌<◌, MatchOption, OnOk, IfOk, MatchBool, Ok, true, false, length, slice_set, slice_index_or, None, All};
+ghost use Rattle.trace_law.specs.Validity.{IsValidInput, IsValidSetting};
 ghost use Rattle.actor_core.specs.Lists.{Took, Began};
-ghost use Rattle.actor_core.specs.Standing.{Occurs, Waits};
-ghost use Rattle.actor_core.specs.Elements.{IsAt};
-ghost use Rattle.link_trace.specs.Worlds.{waiting_at, waiting_of, cores_of, waits, TakesOff, PutsOn, OccursAt};
+ghost use Rattle.actor_core.specs.Standing.{Occurs, Waits, IsOver, GoesOn};
+ghost use Rattle.actor_core.specs.Elements.{IsAt, IsAllAt, IsSomeAt};
+ghost use Rattle.link_trace.specs.Worlds.{waiting_at, waiting_of, cores_of, waits, TakesOff, PutsOn, OccursAt, AreNew, HaveNothing};
 
-use actor_core::Core;
+use actor_core::{Core, core_at};
 use epoch_tags::{Actor, Msg, Sends};
-use std::alloc::AllocError;
+use std::alloc::{AllocError, Global};
 use std::collections::VecDeque;
+use trace_law::{Input, Setting};
 
 /// An actor's machine, and the messages on their way to it, by the numbers of their senders.
 #[derive(Drop)]
@@ -154,4 +156,79 @@ pub(crate) fn begin(
     } else {
         Err(AllocError)
     }
+}
+
+// No messages, from each of so many senders.
+fn no_messages(alloc: Global, senders: u32) -> Result<Vec<VecDeque<Msg>>, AllocError>
+    ensures { IfOk result (λ waiting. All (λ queue. queue.items ≡ []) waiting.items) }
+{
+    let mut waiting = Vec::new(alloc);
+    for _ in 0..senders {
+        waiting.push(VecDeque::new(alloc))?;
+    }
+    Ok(waiting)
+}
+
+// All actors of a run at its beginning, by their numbers.
+pub(crate) fn new_places<'a>(
+    alloc: Global,
+    input: &'a Input,
+    setting: &Setting,
+    count: u32,
+) -> Result<Vec<Place<'a>>, AllocError>
+    requires input { IsValidInput input.now }
+    requires setting { IsValidSetting setting.now }
+    ensures { IfOk result (λ places. AreNew input.now setting.now count places.items) }
+{
+    let mut places = Vec::new(alloc);
+    for n in 0..count {
+        let core = core_at(alloc, input, setting, n)?;
+        let waiting = no_messages(alloc, count)?;
+        places.push(Place { core, waiting })?;
+    }
+    Ok(places)
+}
+
+// Places for these machines, in their order, with nothing that waits there.
+pub(crate) fn places_of<'a>(
+    alloc: Global,
+    cores: Vec<Core<'a>>,
+    count: u32,
+) -> Result<Vec<Place<'a>>, AllocError>
+    ensures cores { IfOk result (λ places. cores_of places.items ≡ cores.entry.items) }
+    ensures empty { IfOk result (λ places. HaveNothing places.items) }
+{
+    let mut places = Vec::new(alloc);
+    for core in cores {
+        let waiting = no_messages(alloc, count)?;
+        places.push(Place { core, waiting })?;
+    }
+    Ok(places)
+}
+
+// Whether the work of all is over.
+pub(crate) fn all_are_over(places: &[Place]) -> bool
+    ensures over { result ≡ true → IsAllAt IsOver (cores_of places.now) }
+    ensures goes_on { result ≡ false → IsSomeAt GoesOn (cores_of places.now) }
+{
+    for place in places {
+        if !place.core.is_over() {
+            return false;
+        }
+    }
+    true
+}
+
+// The machines of all places.
+pub(crate) fn machines<'a>(
+    alloc: Global,
+    places: Vec<Place<'a>>,
+) -> Result<Vec<Core<'a>>, AllocError>
+    ensures { IfOk result (λ cores. cores.items ≡ cores_of places.entry.items) }
+{
+    let mut cores = Vec::new(alloc);
+    for place in places {
+        cores.push(place.core)?;
+    }
+    Ok(cores)
 }

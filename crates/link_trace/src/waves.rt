@@ -20,9 +20,10 @@ ghost use Rattle.actor_core.specs.Standing.{IsOver};
 ghost use Rattle.link_trace.specs.Order.{IsWaveReplay};
 ghost use Rattle.link_trace.specs.Worlds.{state_of, core_of, AllJoinBy, StandsInWave};
 
+use crate::places::machines;
 use crate::replays::{STREAM, all_marked, make_next};
 use crate::slots::slots_of;
-use crate::world::{World, machines};
+use crate::world::World;
 use actor_core::{Rest, Upto, WaveRun, machines_left, wave_events_fit, wave_run};
 use rand_pcg::Lcg64Xsh32;
 use std::alloc::{AllocError, Global};

@@ -1,6 +1,6 @@
 // All machines of a run on one thread, and what is under way between them.
 
-ghost use Rattle.std.specs.Prelude.{◌≡◌, ◌≤◌, ◌^◌, [], All, Ok, Some, None, IfOk, IfSome, OnOk, OnErr, IsTrue, ◌↔◌, true, false};
+ghost use Rattle.std.specs.Prelude.{◌≡◌, ◌≤◌, ◌^◌, [], Ok, Some, None, IfOk, IfSome, OnOk, OnErr, IsTrue, ◌↔◌, true, false};
 ghost use Rattle.epoch_tags.specs.Links.{HasLink};
 ghost use Rattle.epoch_tags.specs.declared.actor.Actor.TheVariants.{Feeder as Feeder', Controller as Controller'};
 ghost use Rattle.epoch_tags.specs.declared.actor.Actor.{Actor as Actor'};
@@ -17,17 +17,15 @@ ghost use Rattle.actor_core.specs.declared.machines.Core.{Core as Core'};
 ghost use Rattle.actor_core.specs.Numbers.{number as number'};
 ghost use Rattle.actor_core.specs.Rests.{upto, rest_of, IsRestOf, IsUpto};
 ghost use Rattle.actor_core.specs.Elements.{IsAllAt, IsSomeAt};
-ghost use Rattle.link_trace.specs.Worlds.{state_of, left_of, core_of, cores_of, StandsFor, StandsInWave, AllJoinBy, AreNew, HaveNothing, IsStill, Delivers, MakesEvent};
+ghost use Rattle.link_trace.specs.Worlds.{state_of, left_of, core_of, StandsFor, StandsInWave, AllJoinBy, IsStill, Delivers, MakesEvent};
 
-use crate::places::{Place, begin, hand, take};
+use crate::places::{Place, all_are_over, begin, hand, machines, new_places, places_of, take};
 use crate::sending::send_all;
 use actor_core::{
-    Core, Rest, Step, Upto, answer, core_at, cores_in_wave, has_link, joiners_of, last_machines,
-    number,
+    Core, Rest, Step, Upto, answer, cores_in_wave, has_link, joiners_of, last_machines, number,
 };
-use epoch_tags::{Actor, Msg, Sends};
+use epoch_tags::{Actor, Sends};
 use std::alloc::{AllocError, Global};
-use std::collections::VecDeque;
 use trace_law::{Input, Run, Setting, finished_answers, quiet_is_finished};
 
 /// The machines of all actors of a run, and the messages that are left on each link.
@@ -38,81 +36,6 @@ pub struct World<'a> {
     pub(crate) feeders: u32,
     pub(crate) places: Vec<Place<'a>>,
     pub(crate) spent: bool,
-}
-
-// No messages, from each of so many senders.
-fn no_messages(alloc: Global, senders: u32) -> Result<Vec<VecDeque<Msg>>, AllocError>
-    ensures { IfOk result (λ waiting. All (λ queue. queue.items ≡ []) waiting.items) }
-{
-    let mut waiting = Vec::new(alloc);
-    for _ in 0..senders {
-        waiting.push(VecDeque::new(alloc))?;
-    }
-    Ok(waiting)
-}
-
-// All actors of a run at its beginning, by their numbers.
-fn new_places<'a>(
-    alloc: Global,
-    input: &'a Input,
-    setting: &Setting,
-    count: u32,
-) -> Result<Vec<Place<'a>>, AllocError>
-    requires input { IsValidInput input.now }
-    requires setting { IsValidSetting setting.now }
-    ensures { IfOk result (λ places. AreNew input.now setting.now count places.items) }
-{
-    let mut places = Vec::new(alloc);
-    for n in 0..count {
-        let core = core_at(alloc, input, setting, n)?;
-        let waiting = no_messages(alloc, count)?;
-        places.push(Place { core, waiting })?;
-    }
-    Ok(places)
-}
-
-// Places for these machines, in their order, with nothing that waits there.
-fn places_of<'a>(
-    alloc: Global,
-    cores: Vec<Core<'a>>,
-    count: u32,
-) -> Result<Vec<Place<'a>>, AllocError>
-    ensures cores { IfOk result (λ places. cores_of places.items ≡ cores.entry.items) }
-    ensures empty { IfOk result (λ places. HaveNothing places.items) }
-{
-    let mut places = Vec::new(alloc);
-    for core in cores {
-        let waiting = no_messages(alloc, count)?;
-        places.push(Place { core, waiting })?;
-    }
-    Ok(places)
-}
-
-// Whether the work of all is over.
-fn all_are_over(places: &[Place]) -> bool
-    ensures over { result ≡ true → IsAllAt IsOver (cores_of places.now) }
-    ensures goes_on { result ≡ false → IsSomeAt GoesOn (cores_of places.now) }
-{
-    for place in places {
-        if !place.core.is_over() {
-            return false;
-        }
-    }
-    true
-}
-
-// The machines of all places.
-pub(crate) fn machines<'a>(
-    alloc: Global,
-    places: Vec<Place<'a>>,
-) -> Result<Vec<Core<'a>>, AllocError>
-    ensures { IfOk result (λ cores. cores.items ≡ cores_of places.entry.items) }
-{
-    let mut cores = Vec::new(alloc);
-    for place in places {
-        cores.push(place.core)?;
-    }
-    Ok(cores)
 }
 
 impl<'a> World<'a> {

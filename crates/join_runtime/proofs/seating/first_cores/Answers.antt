@@ -1,7 +1,7 @@
 use Rattle.std.proofs.Common.{◌+◌, sym, subst}
 use Rattle.trace_law.specs.Family.{first_rest}
 use Rattle.join_runtime.specs.Seating.{AreFresh}
-use Rattle.join_runtime.proofs.Built.{none_fresh, one_fresh}
+use Rattle.join_runtime.proofs.Starts.{none_fresh, one_fresh}
 use Rattle.join_runtime.proofs.seating.first_cores.Goals as goal
 
 pub loop-n-init : goal.loop-n-init

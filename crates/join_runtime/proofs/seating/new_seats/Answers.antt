@@ -1,7 +1,7 @@
 use Rattle.std.proofs.Common.{◌≡◌, ◌+◌, ◌++◌, ◌∷◌, [], ◌∙◌, ap, append_assoc, length, sym, subst}
 use Rattle.std.proofs.lemmas.List.{length-append}
 use Rattle.join_runtime.specs.Seating.{IsNewSeat}
-use Rattle.join_runtime.proofs.MouthRows.{new_more}
+use Rattle.join_runtime.proofs.NewSeats.{new_more}
 use Rattle.join_runtime.proofs.seating.new_seats.Goals as goal
 
 pub loop-core-preserved : goal.loop-core-preserved

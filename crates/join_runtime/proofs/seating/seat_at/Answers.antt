@@ -1,6 +1,6 @@
 use Rattle.std.proofs.Common.{sym, subst}
 use Rattle.join_runtime.specs.Seating.{IsNewSeat}
-use Rattle.join_runtime.proofs.MouthRows.{room_seat}
+use Rattle.join_runtime.proofs.NewSeats.{room_seat}
 use Rattle.join_runtime.proofs.seating.seat_at.Goals as goal
 
 pub returns : goal.returns

@@ -1,6 +1,6 @@
 use Rattle.std.proofs.Common.{◌≡◌, ◌<◌, ◌+◌, ◌∙◌, Some, ap, arith, sym, true≢false}
 use Rattle.actor_core.specs.Numbers.{number}
-use Rattle.join_runtime.proofs.MouthRows.{below_more, below_none, below_push, linked_more, linked_none, linked_push}
+use Rattle.join_runtime.proofs.InboxSenders.{below_more, below_none, below_push, linked_more, linked_none, linked_push}
 use Rattle.join_runtime.proofs.seating.senders_of.Goals.{then-has_link+in_ok-push, else-has_link}
 use Rattle.join_runtime.proofs.seating.senders_of.Goals as goal
 use Rattle.actor_core.proofs.OwnNumbers.{number_there}

@@ -1,7 +1,8 @@
 use Rattle.std.proofs.Common.{◌∙◌, false, sym, subst}
 use Rattle.trace_law.specs.Family.{first_rest}
 use Rattle.join_runtime.specs.Seating.{AreFresh}
-use Rattle.join_runtime.proofs.Built.{start_empty, start_given, start_joined, start_linked, start_settled, start_stands}
+use Rattle.join_runtime.proofs.Starts.{start_empty, start_given, start_joined, start_linked, start_settled}
+use Rattle.join_runtime.proofs.Starts.{start_stands}
 use Rattle.join_runtime.proofs.bouts.Seats.start.Goals as goal
 
 pub invariant_of-result : goal.invariant_of-result

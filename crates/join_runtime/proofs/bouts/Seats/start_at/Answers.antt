@@ -2,8 +2,8 @@ use Rattle.std.proofs.Common.{◌≡◌, ◌+◌, ◌^◌, ◌∙◌, ap, false,
 use Rattle.actor_core.specs.Rests.{rest_of, upto}
 use Rattle.actor_core.proofs.LaterEnds.{stands_upto}
 use Rattle.join_runtime.specs.Seating.{AreFresh}
-use Rattle.join_runtime.proofs.Built.{made_fresh, start_empty, start_given, start_joined, start_joins, start_linked}
-use Rattle.join_runtime.proofs.Built.{start_settled, start_stands}
+use Rattle.join_runtime.proofs.Starts.{made_fresh, start_empty, start_given, start_joined, start_joins, start_linked}
+use Rattle.join_runtime.proofs.Starts.{start_settled, start_stands}
 use Rattle.join_runtime.proofs.bouts.Seats.start_at.Goals as goal
 
 pub cores_in_wave-requires-clause-end : goal.cores_in_wave-requires-clause-end

@@ -2,7 +2,7 @@ use Rattle.std.proofs.Common.{◌≡◌, ℕ, ◌<◌, length, map, slice_index_
 use Rattle.join_runtime.specs.Views.{SeatView, frame_of}
 use Rattle.join_runtime.specs.Turns.{IsAlike}
 use Rattle.join_runtime.specs.Joins.{AreGatheredBelow}
-use Rattle.join_runtime.proofs.bouts.gather_all.Given as goal
+use Rattle.join_runtime.proofs.gathered.gather_all.Given as goal
 
 abbrev pub invariant-loop-sender : goal.invariant-loop-sender
 invariant-loop-sender g l = record {

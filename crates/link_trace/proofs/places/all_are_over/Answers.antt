@@ -5,7 +5,7 @@ use Rattle.std.proofs.lemmas.Option.{slice_get_within}
 use Rattle.actor_core.specs.Standing.{IsOver}
 use Rattle.link_trace.specs.Worlds.{cores_of}
 use Rattle.link_trace.proofs.Changed.{core_there}
-use Rattle.link_trace.proofs.world.all_are_over.Goals as goal
+use Rattle.link_trace.proofs.places.all_are_over.Goals as goal
 
 pub loop-place-preserved : goal.loop-place-preserved
 loop-place-preserved c n core low is = elim (cases_eq n c.loop-place.place-index) [

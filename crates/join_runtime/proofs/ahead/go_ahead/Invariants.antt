@@ -1,7 +1,7 @@
 use Rattle.std.proofs.Common.{◌≡◌, map}
 use Rattle.join_runtime.specs.Turns.{AllStep}
 use Rattle.join_runtime.specs.Views.{frame_of}
-use Rattle.join_runtime.proofs.bouts.go_ahead.Given as goal
+use Rattle.join_runtime.proofs.ahead.go_ahead.Given as goal
 
 abbrev pub invariant-loop : goal.invariant-loop
 invariant-loop g l = record {

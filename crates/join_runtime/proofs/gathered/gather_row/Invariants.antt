@@ -1,7 +1,7 @@
 use Rattle.std.proofs.Common.{◌≡◌, ℕ, ◌<◌, ◌≤◌, None, slice_index_or}
 use Rattle.join_runtime.specs.Views.{SeatView}
 use Rattle.join_runtime.specs.Joins.{Tells}
-use Rattle.join_runtime.proofs.bouts.gather_row.Given as goal
+use Rattle.join_runtime.proofs.gathered.gather_row.Given as goal
 
 abbrev pub invariant-loop-place : goal.invariant-loop-place
 invariant-loop-place g l = record {

@@ -3,7 +3,7 @@ use Rattle.std.proofs.lemmas.List.{map-append}
 use Rattle.link_trace.specs.declared.places.Place.{Place}
 use Rattle.link_trace.specs.Worlds.{HaveNothing, cores_of}
 use Rattle.link_trace.proofs.Beginnings.{none_more}
-use Rattle.link_trace.proofs.world.places_of.Goals as goal
+use Rattle.link_trace.proofs.places.places_of.Goals as goal
 
 pub loop-core-preserved : goal.loop-core-preserved
 loop-core-preserved c =

@@ -1,6 +1,6 @@
 use Rattle.std.proofs.Common.{◌∙◌, ◌<◌, length, arith}
 use Rattle.join_runtime.proofs.SeatBouts.{all_stepped, frames_at, steps_at}
-use Rattle.join_runtime.proofs.bouts.round_ahead.Goals as goal
+use Rattle.join_runtime.proofs.ahead.round_ahead.Goals as goal
 
 pub returns-in_err-turns_ahead-clause-frames : goal.returns-in_err-turns_ahead-clause-frames
 returns-in_err-turns_ahead-clause-frames g c =

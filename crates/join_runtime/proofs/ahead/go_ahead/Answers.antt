@@ -1,6 +1,6 @@
 use Rattle.std.proofs.Common.{◌∙◌}
 use Rattle.join_runtime.proofs.SeatBouts.{all_stepped}
-use Rattle.join_runtime.proofs.bouts.go_ahead.Goals as goal
+use Rattle.join_runtime.proofs.ahead.go_ahead.Goals as goal
 
 pub loop-preserved : goal.loop-preserved
 loop-preserved g c = record {

@@ -1,7 +1,7 @@
 use Rattle.std.proofs.Common.{◌+◌, sym, subst}
 use Rattle.link_trace.specs.Worlds.{AreNew}
 use Rattle.link_trace.proofs.Beginnings.{one_new}
-use Rattle.link_trace.proofs.world.new_places.Goals as goal
+use Rattle.link_trace.proofs.places.new_places.Goals as goal
 
 pub loop-n-preserved : goal.loop-n-preserved
 loop-n-preserved c =

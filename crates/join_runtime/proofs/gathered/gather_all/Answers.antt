@@ -1,7 +1,7 @@
 use Rattle.std.proofs.Common.{◌≡◌, ◌∙◌, sym, subst, length, arith, slice_index_or}
 use Rattle.join_runtime.specs.Joins.{AllLead, ActorsDiffer, slot_of}
 use Rattle.join_runtime.proofs.LinkEnds.{alike_more, gathered_more, slots_lead, tells_frames}
-use Rattle.join_runtime.proofs.bouts.gather_all.Goals as goal
+use Rattle.join_runtime.proofs.gathered.gather_all.Goals as goal
 
 pub gather_from-requires-clause-joined : goal.gather_from-requires-clause-joined
 gather_from-requires-clause-joined g c =

@@ -1,6 +1,6 @@
 use Rattle.std.proofs.Common.{◌≡◌, All, [], sym, subst}
 use Rattle.std.proofs.lemmas.List.Elements.{All-push}
-use Rattle.link_trace.proofs.world.no_messages.Goals as goal
+use Rattle.link_trace.proofs.places.no_messages.Goals as goal
 
 pub loop-preserved : goal.loop-preserved
 loop-preserved c =

@@ -1,6 +1,6 @@
 use Rattle.std.proofs.Common.{◌≡◌}
 use Rattle.link_trace.specs.Worlds.{HaveNothing, cores_of}
-use Rattle.link_trace.proofs.world.places_of.Given as goal
+use Rattle.link_trace.proofs.places.places_of.Given as goal
 
 abbrev pub invariant-loop-core : goal.invariant-loop-core
 invariant-loop-core l = record {

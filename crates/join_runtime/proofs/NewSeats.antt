@@ -1,0 +1,89 @@
+-- Seats as they are made, one after another.
+use Rattle.std.proofs.Common.{◌≡◌, ℕ, ◌+◌, ◌<◌, inl, inr, refl, sym, ap, subst, ◌∙◌, false, Option, List, [], ◌∷◌, ◌++◌}
+use Rattle.std.proofs.Common.{get_or, length, arith}
+use Rattle.std.proofs.lemmas.Bool.{cases_lt}
+use Rattle.std.proofs.Math.Seq.{get_or-append_seam}
+use Rattle.std.proofs.lemmas.List.{length-append, get_or_append_left}
+use Rattle.epoch_tags.specs.declared.actor.Actor.{Actor}
+use Rattle.ruled_links.specs.Ends.{Sending}
+use Rattle.ruled_links.specs.Inboxes.{InboxView}
+use Rattle.actor_core.specs.Numbers.{actor_at}
+use Rattle.actor_core.specs.declared.machines.Core.{Core}
+use Rattle.join_runtime.specs.Views.{SeatView}
+use Rattle.join_runtime.specs.Seating.{AreNew, IsNewSeat, IsRoom}
+
+-- a machine with a room as it was made is a seat as it was made
+pub room_seat : (joiners feeders n : ℕ) (core : Core) (actor : Actor) (inbox : InboxView) (mouths : List Sending)
+    (places : List (Option Sending)) → actor ≡ actor_at joiners feeders n
+    → IsRoom joiners feeders n inbox mouths places
+    → IsNewSeat joiners feeders n core (record {
+      joiners = joiners;
+      feeders = feeders;
+      actor = actor;
+      core = core;
+      inbox = inbox;
+      mouths = places;
+      spent = false;
+    }) mouths
+room_seat joiners feeders n core actor inbox mouths places is room = record {
+  joiners_are = refl;
+  feeders_are = refl;
+  actor = is;
+  core_is = refl;
+  to = room.to ∙ sym is;
+  received = room.received;
+  names = room.names;
+  below = room.below;
+  numbers = room.numbers;
+  links = room.links;
+  senders = room.senders;
+  mouths_are = room.mouths_are;
+  no_mouth = room.no_mouth;
+}
+
+-- seats as they were made, and one more of the next number for one machine more, are seats as they were made, with the
+-- mouths of their inboxes
+pub new_more : (joiners feeders : ℕ) (cores : List Core) (core : Core) (seats : List SeatView)
+    (mouths : List (List Sending)) (seat : SeatView) (own : List Sending)
+    → AreNew joiners feeders (length cores) cores seats mouths
+    → IsNewSeat joiners feeders (length cores) core seat own
+    → AreNew joiners feeders (length (cores ++ core ∷ [])) (cores ++ core ∷ []) (seats ++ seat ∷ [])
+    (mouths ++ own ∷ [])
+new_more joiners feeders cores core seats mouths seat own old one =
+    subst (λ n. AreNew joiners feeders n (cores ++ core ∷ []) (seats ++ seat ∷ []) (mouths ++ own ∷ []))
+    (sym (length-append cores (core ∷ [])))
+    (record {
+      all = length-append seats (seat ∷ []) ∙ ap (λ n. n + 1) old.all;
+      each = length-append mouths (own ∷ []) ∙ ap (λ n. n + 1) old.each;
+      new = new;
+    })
+  where
+    new : (n : ℕ) (d : SeatView) → n < length cores + 1
+        → IsNewSeat joiners feeders n (get_or (cores ++ core ∷ []) n d.core) (get_or (seats ++ seat ∷ []) n d)
+        (get_or (mouths ++ own ∷ []) n [])
+    new n d low = elim (cases_lt n (length cores)) [
+      | inl less ↦
+          let machine = get_or_append_left cores (core ∷ []) d.core n less in
+          let left = get_or_append_left seats (seat ∷ []) d n (omega (arith, old.all)) in
+          let right = get_or_append_left mouths (own ∷ []) [] n (omega (arith, old.each)) in
+          subst (λ c. IsNewSeat joiners feeders n c (get_or (seats ++ seat ∷ []) n d)
+          (get_or (mouths ++ own ∷ []) n [])) (sym machine)
+          (subst (λ s. IsNewSeat joiners feeders n (get_or cores n d.core) s (get_or (mouths ++ own ∷ []) n []))
+          (sym left)
+          (subst (IsNewSeat joiners feeders n (get_or cores n d.core) (get_or seats n d)) (sym right)
+          (old.new n d less)))
+      | inr more ↦
+          let is : length cores ≡ n = omega arith in
+          let here : length seats ≡ n = old.all ∙ is in
+          let there' : length mouths ≡ n = old.each ∙ is in
+          let machine = subst (λ z. get_or (cores ++ core ∷ []) z d.core ≡ core) is
+          (get_or-append_seam cores core [] d.core) in
+          let left = subst (λ z. get_or (seats ++ seat ∷ []) z d ≡ seat) here (get_or-append_seam seats seat [] d) in
+          let right = subst (λ z. get_or (mouths ++ own ∷ []) z [] ≡ own) there'
+          (get_or-append_seam mouths own [] []) in
+          subst (λ c. IsNewSeat joiners feeders n c (get_or (seats ++ seat ∷ []) n d)
+          (get_or (mouths ++ own ∷ []) n [])) (sym machine)
+          (subst (λ s. IsNewSeat joiners feeders n core s (get_or (mouths ++ own ∷ []) n [])) (sym left)
+          (subst (IsNewSeat joiners feeders n core seat) (sym right)
+          (subst (λ z. IsNewSeat joiners feeders z core seat own) is one)))
+    ]

@@ -1,0 +1,53 @@
+// Turns of feeders and controller ahead of a bout.
+
+ghost use Rattle.std.specs.Prelude.{◌≡◌, OnOk, map};
+ghost use Rattle.join_runtime.specs.Views.{frame_of};
+ghost use Rattle.join_runtime.specs.Turns.{AllStep};
+
+use crate::seat::Seat;
+use std::alloc::AllocError;
+use std::sync::Wait;
+use worker_gate::Gate;
+
+// How many rounds feeders and controller have ahead of the others in one bout.
+const ROUNDS: u32 = 4;
+
+// Turns of each feeder and of the controller, one after another.
+fn round_ahead<R: Wait, G: Gate>(rt: &R, seats: &mut [Seat], gate: &G) -> Result<(), AllocError>
+    ensures ok { OnOk result (AllStep seats.old seats.new) }
+    ensures frames { map frame_of seats.new ≡ map frame_of seats.old }
+{
+    for place in 0..seats.len() {
+        seats[place].turns_ahead(rt, gate)?;
+    }
+    Ok(())
+}
+
+// Whether some seat knows of more messages than it can take in a bout.
+fn is_crowded(seats: &[Seat]) -> bool {
+    for seat in seats {
+        if seat.is_crowded() {
+            return true;
+        }
+    }
+    false
+}
+
+// Rounds of feeders and controller ahead of a bout, so that the threads of a bout have enough to do; none where some seat
+// has more than it can take.
+pub(crate) fn go_ahead<R: Wait, G: Gate>(
+    rt: &R,
+    seats: &mut [Seat],
+    gate: &G,
+) -> Result<(), AllocError>
+    ensures ok { OnOk result (AllStep seats.old seats.new) }
+    ensures frames { map frame_of seats.new ≡ map frame_of seats.old }
+{
+    if is_crowded(seats) {
+        return Ok(());
+    }
+    for _ in 0..ROUNDS {
+        round_ahead(rt, seats, gate)?;
+    }
+    Ok(())
+}
