@@ -2,10 +2,13 @@
 #![tactic(auto)]
 
 mod band;
+mod by_access;
+mod by_key;
 mod copies;
 mod hashed;
 mod index;
 mod kept_side;
+mod length_classes;
 mod looks;
 mod numbers;
 mod ordered;
@@ -14,6 +17,7 @@ mod probe;
 mod stands;
 mod steps;
 mod store;
+mod value_windows;
 mod which;
 
 pub use looks::Looks;

@@ -1,9 +1,11 @@
-// The store.
+// The store, and how a tuple finds others in it.
 
-ghost use Rattle.std.specs.Prelude.{◌≡◌, ◌+◌, ◌<◌, ◌≤◌, ◌^◌, [], ◌++◌, count_by, Some, None, All, IfOk, OnOk, OnErr};
+mod filling;
+
+ghost use Rattle.std.specs.Prelude.{◌≡◌, ◌+◌, ◌<◌, ◌++◌, count_by, All, OnOk, OnErr};
 ghost use Rattle.store_parts.specs.Accessed.{IsOwnAccess};
 ghost use Rattle.store_parts.specs.Indexed.{IsIndexed};
-ghost use Rattle.store_parts.specs.Keyed.{FitsKey, IsOwn};
+ghost use Rattle.store_parts.specs.Keyed.{IsOwn};
 ghost use Rattle.store_parts.specs.Matches.{
   evaluated,
   looked_at,
@@ -13,17 +15,16 @@ ghost use Rattle.store_parts.specs.Matches.{
   AppendsFront,
   HasWidth,
 };
-ghost use Rattle.store_parts.specs.Stored.{kept_of, others_of, side_of, with_tuple, HaveWidths};
+ghost use Rattle.store_parts.specs.Stored.{others_of, side_of, HaveWidths};
 
-use crate::copies::{access_copy, key_copy};
-use crate::index::{Index, index_by};
-use crate::kept_side::{add_to, index_of, kept_side};
+use crate::by_access::seek_by;
+use crate::by_key::{find_keyed, seek, sift};
+use crate::index::Index;
 use crate::looks::Looks;
-use crate::probe::{find_each, find_keyed, scan, seek, seek_by, sift};
+use crate::probe::{find_each, scan};
 use crate::steps::Steps;
 use crate::which::Which;
 use epoch_tags::{Pairs, Tuple, Tuples};
-use grid_map::Shape;
 use join_rows::Side;
 use std::alloc::{AllocError, Global};
 use std::marker::{Brand, Model};
@@ -108,79 +109,6 @@ fn find_from<L: Ledger>(
 }
 
 impl Store {
-    /// A store with no tuples. It takes no memory.
-    pub fn new(alloc: Global, key: Option<KeyAtom>) -> Store
-        ensures { result ≡ record { key = key; access = None; r = []; s = [] } }
-    {
-        let r_index = index_by(alloc, &key, &None);
-        let s_index = index_by(alloc, &key, &None);
-        Store {
-            key,
-            access: None,
-            r: Tuples::new(alloc),
-            r_index,
-            s: Tuples::new(alloc),
-            s_index,
-            alloc,
-        }
-    }
-
-    /// The same store, whose tuples are found by this access.
-    pub fn with_access(self, access: Option<Access>) -> Result<Store, AllocError>
-        ensures { IfOk result (λ store. store ≡ record self { access = access }) }
-    {
-        let alloc = self.alloc;
-        let r_index = index_of(alloc, self.r.as_slice(), &self.key, &access, Side::R)?;
-        let s_index = index_of(alloc, self.s.as_slice(), &self.key, &access, Side::S)?;
-        Ok(Store {
-            key: self.key,
-            access,
-            r: self.r,
-            r_index,
-            s: self.s,
-            s_index,
-            alloc,
-        })
-    }
-
-    /// Adds a tuple to those of its side, as the last. It is dropped where memory is wanting.
-    pub fn add(&mut self, tuple: Tuple) -> Result<(), AllocError>
-        requires { FitsKey self.old.key tuple }
-        ensures ok { OnOk result (self.new ≡ with_tuple self.old tuple) }
-        ensures err { OnErr result (self.new ≡ self.old) }
-    {
-        let alloc = self.alloc;
-        match tuple.side {
-            Side::R => add_to(
-                alloc,
-                &mut self.r,
-                &mut self.r_index,
-                &self.key,
-                &self.access,
-                Side::R,
-                tuple,
-            ),
-            Side::S => add_to(
-                alloc,
-                &mut self.s,
-                &mut self.s_index,
-                &self.key,
-                &self.access,
-                Side::S,
-                tuple,
-            ),
-        }
-    }
-
-    /// That a row of the predicate's width fits the predicate's own key. It has no code.
-    pub fn fits_key(&self, theta: &Theta, tuple: &Tuple)
-        requires width { HasWidth theta.now tuple.now.side tuple.now }
-        requires own { IsOwn theta.now self.now.key }
-        ensures { FitsKey self.now.key tuple.now }
-    {
-        theta.key_law();
-    }
-
     /// The tuples of a side.
     pub fn side(&self, side: Side) -> &Tuples
         ensures tuples { result.now ≡ side_of self.now side }
@@ -307,45 +235,5 @@ impl Store {
             (AppendsFront found.old found.new (matches theta.now tuple.now which others)) }
     {
         find_from::<Brand>(self, tuple, theta, which, found, Blank::new(1))
-    }
-
-    /// A store with the same key and access, and copies of the tuples that the joiner holds in a grid of this shape.
-    pub fn kept_copy(&self, shape: Shape, id: u32) -> Result<Store, AllocError>
-        requires shift { shape.shift ≤ shape.k }
-        requires k { shape.k ≤ 8 }
-        requires id { id < 2 ^ shape.k }
-        ensures { IfOk result (λ kept. kept ≡ kept_of shape id self.now) }
-    {
-        let key = key_copy(self.alloc, &self.key)?;
-        let access = access_copy(self.alloc, &self.access)?;
-        let (r, r_index) = kept_side(
-            self.alloc,
-            self.r.as_slice(),
-            &self.r_index,
-            &self.key,
-            &self.access,
-            Side::R,
-            shape,
-            id,
-        )?;
-        let (s, s_index) = kept_side(
-            self.alloc,
-            self.s.as_slice(),
-            &self.s_index,
-            &self.key,
-            &self.access,
-            Side::S,
-            shape,
-            id,
-        )?;
-        Ok(Store {
-            key,
-            access,
-            r,
-            r_index,
-            s,
-            s_index,
-            alloc: self.alloc,
-        })
     }
 }

@@ -1,4 +1,0 @@
-use Rattle.store_parts.proofs.stands.+class_from.Given as goal
-
-abbrev pub decreases-class_from : goal.decreases-class_from
-decreases-class_from l = l.left
