@@ -2,21 +2,23 @@
 use Rattle.std.proofs.Common.{◌≡◌, ℕ, ◌+◌, ◌≤◌, ℤ, pos, negsuc, Bool, true, false, cond, not, ◌&&◌, ◌||◌, Option, Some}
 use Rattle.std.proofs.Common.{None}
 use Rattle.std.proofs.Common.{List, [], ◌∷◌, ◌++◌, refl, sym, ap, ◌∙◌, arith, length, drop, get_or, append_assoc}
+use Rattle.std.proofs.Common.{append-nil}
 use Rattle.std.proofs.Common.{add-one}
 use Rattle.std.proofs.Common.{◌<◌}
 use Rattle.std.proofs.Math.Seq.{drop-cons}
-use Rattle.std.specs.Prelude.{filter, flat_map, sum_by, int_lt, int_le}
+use Rattle.std.specs.Prelude.{All, IfSome, filter, flat_map, sum_by, int_lt, int_le}
+use Rattle.std.specs.Map.{keys_of}
 use Rattle.smallvec.specs.SmallVec.{SmallVec}
 use Rattle.std.specs.declared.cmp.Ordering.TheVariants.{Less, Equal, Greater}
-use Rattle.std.specs.Ordering.{nat_cmp, int_cmp, is_lt, is_le}
+use Rattle.std.specs.Ordering.{nat_cmp, int_cmp, is_gt, is_lt, is_le}
 use Rattle.std.specs.List.Sorted.{IsPermutation, IsSorted}
-use Rattle.std.specs.BTreeMap.Range.{range_contains}
+use Rattle.std.specs.BTreeMap.Range.{range_contains, IsLeBy}
 use Rattle.std.proofs.lemmas.Grind.{common_steps}
 use Rattle.std.proofs.lemmas.List.Sums.{sum_by-cons, sum_by-append}
 use Rattle.std.proofs.lemmas.List.Sorted.{sum_by-IsPermutation, length_permutation, IsNonDecreasingBy-from_sort}
 use Rattle.std.specs.List.{refill}
 use Rattle.std.proofs.lemmas.List.{take_all, take-append-le}
-use Rattle.std.proofs.lemmas.List.Elements.{filter_agree}
+use Rattle.std.proofs.lemmas.List.Elements.{All-cons, All-head, All-nil, All-tail, filter_agree}
 use Rattle.std.proofs.lemmas.Bool.{false≢true}
 use Rattle.std.proofs.lemmas.Bool.Decides.{nat_tests}
 use Rattle.std.proofs.lemmas.Int.{ints}
@@ -24,7 +26,7 @@ use Rattle.store_parts.specs.Places.{entries_from, gathered, is_backward, lies, 
 use Rattle.store_parts.proofs.SortedLists.{Rises, same_rising, rises_from_sorted}
 use Rattle.store_parts.specs.Places.{at_each, IsMapOf, start_of, end_of, places_by, lies_at, lies_in}
 use Rattle.store_parts.specs.Places.{gathered_at, gathered_in}
-use Rattle.store_parts.specs.Places.{AreApart}
+use Rattle.store_parts.specs.Places.{are_clear, is_beyond, AreApart, AreWithin}
 use Rattle.store_parts.specs.declared.places.Window.{Window}
 use Rattle.store_parts.proofs.Keys.{both}
 use Rattle.store_parts.proofs.KeyProbes.{filter_none}
@@ -247,6 +249,57 @@ gathered-backward from to entries back =
     ap (flat_map (λ e. e.1.items)) (filter_none (λ e. lies from to (Some e.0)) (λ e. lies-backward from to e.0 back)
     entries)
 
+-- ---- a window beyond all values
+
+gt_plain : (p q : Bool) → (p ≡ true → q ≡ false) → is_gt (cond p Less (cond q Greater Equal)) ≡ q
+gt_plain true q apart = sym (apart refl)
+gt_plain false true apart = refl
+gt_plain false false apart = refl
+
+from_first : (x v : ℤ) → is_gt (int_cmp x v) ≡ false → int_le x v ≡ true
+from_first x v le =
+    int_le-not x v ∙ ap not (sym (gt_plain (int_lt x v) (int_lt v x) (int_lt-asym x v)) ∙ le)
+
+up_to_last : (y v : ℤ) → is_lt (int_cmp y v) ≡ false → int_le v y ≡ true
+up_to_last y v le = sym (high_is y v) ∙ ap not le
+
+-- an entry's value lies between these two
+abbrev lies_between : ℤ → ℤ → ℤ × SmallVec ℕ → Type 0
+lies_between first last e = lies_at (Some e.0) (record { from = first; to = last }) ≡ true
+
+-- all values lie between two keys where none is below the one or above the other
+pub within_ends : (first last : ℤ) (entries : List (ℤ × SmallVec ℕ)) → All (IsLeBy int_cmp first) (keys_of entries)
+    → All (λ q. is_lt (int_cmp last q) ≡ false) (keys_of entries)
+    → AreWithin (record { from = first; to = last }) entries
+within_ends first last [] from to = All-nil (lies_between first last)
+within_ends first last (e ∷ es) from to =
+    let past : ℤ → Type 0 = λ q. is_lt (int_cmp last q) ≡ false in
+    let here = both _ _ _ _ (from_first first e.0 (All-head (IsLeBy int_cmp first) e.0 (keys_of es) from))
+    (up_to_last last e.0 (All-head past e.0 (keys_of es) to)) in
+    All-cons (lies_between first last) e es here (within_ends first last es
+    (All-tail (IsLeBy int_cmp first) e.0 (keys_of es) from) (All-tail past e.0 (keys_of es) to))
+
+clear_at : (a b c d v : ℤ) → (int_le a v && int_le v b) ≡ true → (int_lt d a || int_lt b c) ≡ true
+    → (int_le c v && int_le v d) ≡ false
+clear_at a b c d v within clear = grind (arith, ints)
+
+none_gathered : (ends window : Window) (entries : List (ℤ × SmallVec ℕ)) → AreWithin ends entries
+    → are_clear window ends ≡ true → gathered_at window entries ≡ []
+none_gathered ends window [] all clear = refl
+none_gathered ends window (e ∷ es) all clear =
+    let kept = filter (λ e. lies (Some window.from) (Some window.to) (Some e.0)) es in
+    ap (λ b. flat_map (λ e. e.1.items) (cond b (e ∷ kept) kept))
+    (clear_at ends.from ends.to window.from window.to e.0 (All-head (lies_between ends.from ends.to) e es all) clear)
+    ∙ none_gathered ends window es (All-tail (lies_between ends.from ends.to) e es all) clear
+
+-- a window beyond all values gives no places
+pub gathered-beyond : (ends : Option Window) (window : Window) (entries : List (ℤ × SmallVec ℕ))
+    → IfSome ends (λ ends. AreWithin ends entries) → is_beyond ends window ≡ true → gathered_at window entries ≡ []
+gathered-beyond None window entries all beyond = absurd (false≢true beyond)
+gathered-beyond (Some ends) window entries all beyond = none_gathered ends window entries all beyond
+
+-- ---- windows one after another
+
 -- one window more was gathered
 pub one_window_more : (windows : List Window) (i : ℕ) (d : Window) (entries : List (ℤ × SmallVec ℕ))
     (found more new whole : List ℕ) → i < length windows
@@ -260,3 +313,11 @@ one_window_more windows i d entries found more new whole less so_far is pushed =
     ∙ ap (λ ws. found ++ gathered_in ws entries) (sym (drop-cons windows i d less
     ∙ ap (λ n. get_or windows i d ∷ drop n windows) (sym (add-one i))))
     ∙ so_far
+
+-- a window was passed over that gives no places
+pub no_window_more : (windows : List Window) (i : ℕ) (d : Window) (entries : List (ℤ × SmallVec ℕ))
+    (found whole : List ℕ) → i < length windows → found ++ gathered_in (drop i windows) entries ≡ whole
+    → gathered_at (get_or windows i d) entries ≡ []
+    → found ++ gathered_in (drop (i + 1) windows) entries ≡ whole
+no_window_more windows i d entries found whole less so_far none =
+    one_window_more windows i d entries found [] found whole less so_far (sym none) (sym (append-nil found))

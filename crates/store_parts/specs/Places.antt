@@ -1,7 +1,7 @@
 -- An index of values: from each value to the places at which it stands.
 use Rattle.std.specs.Prelude.{◌≡◌, ℕ, ◌+◌, ℤ, int_lt, Bool, true, false, ◌&&◌, Option, Some, None, List, [], ◌∷◌}
 use Rattle.std.specs.Prelude.{sum_by}
-use Rattle.std.specs.Prelude.{filter, flat_map, if◌then◌else◌, ⊤}
+use Rattle.std.specs.Prelude.{All, ◌||◌, filter, flat_map, if◌then◌else◌, ⊤}
 use Rattle.std.specs.List.{list_any}
 use Rattle.smallvec.specs.SmallVec.{SmallVec}
 use Rattle.std.specs.declared.ops.Bound.{Bound}
@@ -61,6 +61,19 @@ abbrev pub AreApart : List Window → Type 0
 AreApart [] = ⊤
 AreApart (window ∷ windows) =
     ((v : Option ℤ) → lies_at v window ≡ true → lies_in windows v ≡ false) × AreApart windows
+
+-- all values lie in the window
+abbrev pub AreWithin : Window → List (ℤ × SmallVec ℕ) → Type 0
+AreWithin window entries = All (λ e. lies_at (Some e.0) window ≡ true) entries
+
+-- whether a window ends before another begins, or begins where that has ended
+abbrev pub are_clear : Window → Window → Bool
+are_clear a b = int_lt a.to b.from || int_lt b.to a.from
+
+-- the same, where there is another
+abbrev pub is_beyond : Option Window → Window → Bool
+is_beyond None window = false
+is_beyond (Some ends) window = are_clear window ends
 
 -- the places of the entries whose values lie in the window, entry by entry
 abbrev pub gathered_at : Window → List (ℤ × SmallVec ℕ) → List ℕ

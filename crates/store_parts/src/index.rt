@@ -1,21 +1,24 @@
 // An index of values: at which places one stands that lies between two bounds.
 
 ghost use Rattle.std.specs.Prelude.{◌≡◌, ℤ, Option, Some, List, [], ◌∷◌, ◌++◌, length, IfOk, OnOk, OnErr};
+ghost use Rattle.std.specs.Prelude.{IfSome};
 ghost use Rattle.store_parts.specs.Places.{
   entries_of,
   gathered,
   gathered_at,
   gathered_in,
+  is_beyond,
   lies_in,
   places_between,
   places_by,
   AreApart,
+  AreWithin,
   IsMapOf,
 };
 
 use crate::band::is_equality;
 use crate::hashed::{HashedMap, add_hashed, gather_hashed};
-use crate::ordered::{OrderedMap, add_ordered, gather_ordered};
+use crate::ordered::{OrderedMap, add_ordered, ends_of, gather_ordered};
 use crate::places::{Found, Window};
 use smallvec::SmallVec;
 use std::alloc::{AllocError, Global};
@@ -63,15 +66,53 @@ impl Map {
     {
         self.gather(alloc, Some(window.from), Some(window.to))
     }
+
+    // Between which two values all lie, where that is known.
+    fn ends(&self) -> Option<Window>
+        ensures { IfSome result (λ ends. AreWithin ends (entries_of self.now)) }
+    {
+        match self {
+            Map::Ordered(map) => ends_of(map),
+            Map::Hashed(_) => None,
+        }
+    }
 }
 
-// The places of the values in these windows, window by window.
+// Whether a window lies beyond all values, which these two bound.
+fn is_beyond(ends: Option<Window>, window: Window) -> bool
+    ensures { result ≡ is_beyond ends window }
+{
+    match ends {
+        Some(ends) => window.to < ends.from || ends.to < window.from,
+        None => false,
+    }
+}
+
+// The places of the values in a window of a map whose values these two bound.
+fn gather_among(
+    alloc: Global,
+    map: &Map,
+    ends: Option<Window>,
+    window: Window,
+) -> Result<Found, AllocError>
+    requires { IfSome ends (λ ends. AreWithin ends (entries_of map.now)) }
+    ensures { IfOk result (λ found. found.items ≡ gathered_at window (entries_of map.now)) }
+{
+    if is_beyond(ends, window) {
+        return Ok(SmallVec::new(alloc));
+    }
+    map.gather_at(alloc, window)
+}
+
+// The places of the values in these windows, window by window. A tuple asks for the intervals of each class of
+// lengths, and few classes have any: where nothing is told apart by a hash, those at both ends are passed over.
 fn gather_in(alloc: Global, map: &Map, windows: &[Window]) -> Result<Found, AllocError>
     ensures { IfOk result (λ found. found.items ≡ gathered_in windows.now (entries_of map.now)) }
 {
     let mut found = SmallVec::new(alloc);
+    let ends = map.ends();
     for window in windows {
-        let more = map.gather_at(alloc, *window)?;
+        let more = gather_among(alloc, map, ends, *window)?;
         found.extend_from_slice(more.as_slice())?;
     }
     Ok(found)

@@ -1,9 +1,10 @@
 // Values with their places, in a map that is read between two bounds.
 
 ghost use Rattle.std.specs.Prelude.{◌≡◌, ℤ, Option, Some, List, [], ◌∷◌, ◌++◌, length, IfOk, OnOk, OnErr};
-ghost use Rattle.store_parts.specs.Places.{end_of, gathered, is_backward, start_of, IsMapOf};
+ghost use Rattle.std.specs.Prelude.{IfSome};
+ghost use Rattle.store_parts.specs.Places.{end_of, gathered, is_backward, start_of, AreWithin, IsMapOf};
 
-use crate::places::{Found, Places};
+use crate::places::{Found, Places, Window};
 use smallvec::SmallVec;
 use std::alloc::{AllocError, Global};
 use std::collections::BTreeMap;
@@ -60,6 +61,22 @@ pub(crate) fn add_ordered(
     places.push(place)?;
     map.insert(value, places)?;
     Ok(())
+}
+
+// Between which two values all of a map lie; none where it has none.
+pub(crate) fn ends_of(map: &OrderedMap) -> Option<Window>
+    ensures { IfSome result (λ ends. AreWithin ends map.now.entries) }
+{
+    let Some(first) = map.first_key_value() else {
+        return None;
+    };
+    let Some(last) = map.last_key_value() else {
+        return None;
+    };
+    Some(Window {
+        from: *first.0,
+        to: *last.0,
+    })
 }
 
 // The places of the values between two bounds.
