@@ -1,6 +1,7 @@
 // The end of a step.
 
-ghost use Rattle.std.specs.Prelude.{◌≡◌, ◌++◌, true, false, IfOk};
+ghost use Rattle.std.specs.Prelude.{◌≡◌, ◌++◌, true, false, IfOk, None, Some};
+ghost use Rattle.joiner_core.specs.State.{OpenStep};
 ghost use Rattle.joiner_core.specs.Taking.{IsStepWithin};
 ghost use Rattle.joiner_core.specs.Changes.{after_settle, posts_settled, IsReady};
 
@@ -33,17 +34,32 @@ impl<'a> Epochs<'a> {
         if !self.is_ready() {
             return Ok(false);
         }
-        if let Some(open) = self.step.take() {
+        if let Some(open) = &self.step {
             sends.push(Post {
                 to: Actor::Controller,
                 msg: Msg::Controller(ToController::Settled { epoch: open.epoch }),
             })?;
             self.moved
                 .push(self.store.count(exchanged_side(self.shift, open.shift)))?;
+        }
+        self.close();
+        Ok(true)
+    }
+
+    // The open step, if there is one, becomes the settled one.
+    fn close(&mut self)
+        ensures none { self.old.step ≡ None → self.new ≡ self.old }
+        ensures some { (o : OpenStep) → self.old.step ≡ Some o → self.new ≡ record self.old {
+          epoch = o.epoch;
+          shift = o.shift;
+          store = o.store;
+          step = None;
+        } }
+    {
+        if let Some(open) = self.step.take() {
             self.epoch = open.epoch;
             self.shift = open.shift;
             self.store = open.store;
         }
-        Ok(true)
     }
 }
