@@ -1,18 +1,21 @@
 // How a store comes to its tuples: none at first, an access by which they are found, one more, those that are kept.
 
 ghost use Rattle.std.specs.Prelude.{◌≡◌, ◌<◌, ◌≤◌, ◌^◌, [], None, IfOk, OnOk, OnErr};
+ghost use Rattle.join_rows.specs.declared.table.Side.TheVariants.{R as R', S as S'};
+ghost use Rattle.store_parts.specs.Indexed.{IsIndexed};
 ghost use Rattle.store_parts.specs.Keyed.{FitsKey, IsOwn};
 ghost use Rattle.store_parts.specs.Matches.{HasWidth};
 ghost use Rattle.store_parts.specs.Stored.{kept_of, with_tuple};
 
 use crate::copies::{access_copy, key_copy};
-use crate::index::index_by;
+use crate::index::{Index, index_by};
 use crate::kept_side::{add_to, index_of, kept_side};
 use crate::store::Store;
 use epoch_tags::{Tuple, Tuples};
 use grid_map::Shape;
 use join_rows::Side;
 use std::alloc::{AllocError, Global};
+use std::mem;
 use theta_pred::{Access, KeyAtom, Theta};
 
 impl Store {
@@ -34,21 +37,33 @@ impl Store {
     }
 
     /// The same store, whose tuples are found by this access.
-    pub fn with_access(self, access: Option<Access>) -> Result<Store, AllocError>
+    pub fn with_access(mut self, access: Option<Access>) -> Result<Store, AllocError>
         ensures { IfOk result (λ store. store ≡ record self { access = access }) }
     {
+        match self.indexes_by(&access) {
+            Ok((r_index, s_index)) => {
+                drop(mem::replace(&mut self.access, access));
+                drop(mem::replace(&mut self.r_index, r_index));
+                drop(mem::replace(&mut self.s_index, s_index));
+                Ok(self)
+            }
+            Err(refused) => {
+                drop(access);
+                drop(self);
+                Err(refused)
+            }
+        }
+    }
+
+    // The indexes of both sides' tuples by this access.
+    fn indexes_by(&self, access: &Option<Access>) -> Result<(Index, Index), AllocError>
+        ensures r { IfOk result (λ both. IsIndexed self.now.key access.now R' self.now.r both.0) }
+        ensures s { IfOk result (λ both. IsIndexed self.now.key access.now S' self.now.s both.1) }
+    {
         let alloc = self.alloc;
-        let r_index = index_of(alloc, self.r.as_slice(), &self.key, &access, Side::R)?;
-        let s_index = index_of(alloc, self.s.as_slice(), &self.key, &access, Side::S)?;
-        Ok(Store {
-            key: self.key,
-            access,
-            r: self.r,
-            r_index,
-            s: self.s,
-            s_index,
-            alloc,
-        })
+        let r_index = index_of(alloc, self.r.as_slice(), &self.key, access, Side::R)?;
+        let s_index = index_of(alloc, self.s.as_slice(), &self.key, access, Side::S)?;
+        Ok((r_index, s_index))
     }
 
     /// Adds a tuple to those of its side, as the last. It is dropped where memory is wanting.
