@@ -109,7 +109,10 @@ impl<'a> Core<'a> {
     {
         match self {
             Core::Controller(controller) => Some(controller),
-            _ => None,
+            other => {
+                drop(other);
+                None
+            }
         }
     }
 
@@ -121,7 +124,10 @@ impl<'a> Core<'a> {
     {
         match self {
             Core::Collector(collector) => Some(collector),
-            _ => None,
+            other => {
+                drop(other);
+                None
+            }
         }
     }
 }
