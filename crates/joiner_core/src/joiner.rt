@@ -59,7 +59,13 @@ fn accessed(theta: &Theta, base: Store) -> Result<Store, AllocError>
     ensures key { IfOk result (λ store. store.key ≡ base.key) }
     ensures access { IfOk result (λ store. IsAccessOf theta.now store.access) }
 {
-    base.with_access(theta.access()?)
+    match theta.access() {
+        Ok(access) => base.with_access(access),
+        Err(refused) => {
+            drop(base);
+            Err(refused)
+        }
+    }
 }
 
 /// A store with no tuples, the predicate's key atom and its access, as a joiner of that predicate has at the beginning
