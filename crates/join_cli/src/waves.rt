@@ -17,6 +17,7 @@ use link_trace::{Input, Rest, Run, Setting, Upto, WaveRun, replay_wave};
 use load_controller::Journal;
 use pair_collector::Loads;
 use std::alloc::{AllocError, Global};
+use std::mem;
 use std::sync::Wait;
 use std::thread::Threads;
 use worker_gate::Gate;
@@ -170,22 +171,37 @@ pub(crate) fn journal_of_both(journal: Journal, more: &Journal) -> Result<Journa
     Ok(Journal::from_vec(both))
 }
 
+/// Takes the next wave into some waves. The loads of the two are exchanged.
+fn add_wave(alloc: Global, all: &mut Run, next: &mut Run) -> Result<(), AllocError>
+    ensures { OnOk result (all.new ≡ with_wave all.old next.old) }
+{
+    let pairs = mem::replace(&mut all.pairs, Pairs::new(alloc));
+    all.pairs = pairs_of_both(pairs, &next.pairs)?;
+    all.made = sums(alloc, &all.made, &next.made)?;
+    let moved = mem::replace(&mut all.moved, Counts::new(alloc));
+    all.moved = counts_of_both(moved, &next.moved)?;
+    let journal = mem::replace(&mut all.journal, Journal::new(alloc));
+    all.journal = journal_of_both(journal, &next.journal)?;
+    mem::swap(&mut all.loads, &mut next.loads);
+    all.bouts = 0;
+    Ok(())
+}
+
 /// Some waves and the next in one.
 fn run_of_both(alloc: Global, before: Run, next: Run) -> Result<Run, AllocError>
     ensures { IfOk result (λ both. both ≡ with_wave before next) }
 {
-    let pairs = pairs_of_both(before.pairs, &next.pairs)?;
-    let made = sums(alloc, &before.made, &next.made)?;
-    let moved = counts_of_both(before.moved, &next.moved)?;
-    let journal = journal_of_both(before.journal, &next.journal)?;
-    Ok(Run {
-        pairs,
-        made,
-        loads: next.loads,
-        moved,
-        journal,
-        bouts: 0,
-    })
+    let mut all = before;
+    let mut next = next;
+    let added = add_wave(alloc, &mut all, &mut next);
+    drop(next);
+    match added {
+        Ok(()) => Ok(all),
+        Err(refused) => {
+            drop(all);
+            Err(refused)
+        }
+    }
 }
 
 /// Some ends, and more behind them.
