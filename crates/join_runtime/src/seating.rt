@@ -94,10 +94,17 @@ fn seat_at<'a>(
     requires few { feeders + joiners + 2 < 2 ^ 32 }
     ensures { IfOk result (λ made. IsNewSeat joiners feeders n core.entry made.0 made.1) }
 {
-    let (inbox, mouths, places) = room_at(alloc, joiners, feeders, n)?;
-    let actor = actor_of(joiners, feeders, n);
-    let seat = Seat::new(alloc, joiners, feeders, actor, core, inbox, places);
-    Ok((seat, mouths))
+    match room_at(alloc, joiners, feeders, n) {
+        Ok((inbox, mouths, places)) => {
+            let actor = actor_of(joiners, feeders, n);
+            let seat = Seat::new(alloc, joiners, feeders, actor, core, inbox, places);
+            Ok((seat, mouths))
+        }
+        Err(refused) => {
+            drop(core);
+            Err(refused)
+        }
+    }
 }
 
 // Gives a mouth that leads to the actor with this number to its sender.

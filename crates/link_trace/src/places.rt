@@ -169,6 +169,21 @@ fn no_messages(alloc: Global, senders: u32) -> Result<Vec<VecDeque<Msg>>, AllocE
     Ok(waiting)
 }
 
+// A place for this machine, with nothing that waits there.
+fn place_of<'a>(alloc: Global, core: Core<'a>, count: u32) -> Result<Place<'a>, AllocError>
+    ensures core { IfOk result (λ place. place.core ≡ core.entry) }
+    ensures empty { IfOk result
+        (λ place. All (λ queue. queue.items ≡ []) place.waiting.items) }
+{
+    match no_messages(alloc, count) {
+        Ok(waiting) => Ok(Place { core, waiting }),
+        Err(refused) => {
+            drop(core);
+            Err(refused)
+        }
+    }
+}
+
 // All actors of a run at its beginning, by their numbers.
 pub(crate) fn new_places<'a>(
     alloc: Global,
@@ -183,8 +198,8 @@ pub(crate) fn new_places<'a>(
     let mut places = Vec::new(alloc);
     for n in 0..count {
         let core = core_at(alloc, input, setting, n)?;
-        let waiting = no_messages(alloc, count)?;
-        places.push(Place { core, waiting })?;
+        let place = place_of(alloc, core, count)?;
+        places.push(place)?;
     }
     Ok(places)
 }
@@ -200,8 +215,8 @@ pub(crate) fn places_of<'a>(
 {
     let mut places = Vec::new(alloc);
     for core in cores {
-        let waiting = no_messages(alloc, count)?;
-        places.push(Place { core, waiting })?;
+        let place = place_of(alloc, core, count)?;
+        places.push(place)?;
     }
     Ok(places)
 }

@@ -1,4 +1,9 @@
-use Rattle.std.proofs.Common.{◌+◌, sym, subst}
+use Rattle.std.proofs.Common.{◌+◌, ◌^◌, sym, subst}
+use Rattle.actor_core.specs.Lists.{no_lists}
+use Rattle.actor_core.specs.Standing.{Stands}
+use Rattle.actor_core.specs.Families.{start_for}
+use Rattle.actor_core.specs.Numbers.{actor_at}
+use Rattle.actor_core.specs.declared.machines.Core.{Core}
 use Rattle.link_trace.specs.Worlds.{AreNew}
 use Rattle.link_trace.proofs.Beginnings.{one_new}
 use Rattle.link_trace.proofs.places.new_places.Goals as goal
@@ -7,8 +12,9 @@ pub loop-n-preserved : goal.loop-n-preserved
 loop-n-preserved c =
     let input = c.args.input.now in
     let setting = c.args.setting.now in
+    let place = c.in_ok-place.place in
+    let IsFresh : Core → Type 0 =
+    λ core. Stands (start_for input setting (actor_at (2 ^ setting.k) setting.feeders c.loop-n.n)) no_lists core in
     subst (AreNew input setting (c.loop-n.n + 1)) (sym c.in_ok-push.ensures.items)
-    (one_new input setting c.loop-n.n c.loop-n.places.items c.loop-n.invariant (record {
-      core = c.in_ok-core.core;
-      waiting = c.in_ok-waiting.waiting;
-    }) c.in_ok-core.ensures.stands c.in_ok-waiting.ensures)
+    (one_new input setting c.loop-n.n c.loop-n.places.items c.loop-n.invariant place
+    (subst IsFresh (sym c.in_ok-place.ensures.core) c.in_ok-core.ensures.stands) c.in_ok-place.ensures.empty)

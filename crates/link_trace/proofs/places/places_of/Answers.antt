@@ -7,11 +7,13 @@ use Rattle.link_trace.proofs.places.places_of.Goals as goal
 
 pub loop-core-preserved : goal.loop-core-preserved
 loop-core-preserved c =
-    let place : Place = record { core = c.in-Some.core; waiting = c.in_ok-waiting.waiting } in
+    let place = c.in_ok-place.place in
+    let before = c.loop-core.places.items in
     let items = c.in_ok-push.ensures.items in
     record {
-      cores = ap cores_of items ∙ map-append (λ (p : Place). p.core) c.loop-core.places.items (place ∷ [])
-          ∙ ap (λ cores. cores ++ place.core ∷ []) c.loop-core.invariant.cores;
+      cores = ap cores_of items ∙ map-append (λ (p : Place). p.core) before (place ∷ [])
+          ∙ ap (λ core. cores_of before ++ core ∷ []) c.in_ok-place.ensures.core
+          ∙ ap (λ cores. cores ++ c.in-Some.core ∷ []) c.loop-core.invariant.cores;
       empty = subst HaveNothing (sym items)
-          (none_more c.loop-core.places.items place c.loop-core.invariant.empty c.in_ok-waiting.ensures);
+          (none_more before place c.loop-core.invariant.empty c.in_ok-place.ensures.empty);
     }
