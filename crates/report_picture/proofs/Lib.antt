@@ -1,5 +1,11 @@
 mod Endings
+mod Entries
 mod Feeds
+mod Folded
+mod Made
+mod Named
 mod Numbered
+mod Parted
+mod Quiet
 mod Starts
 mod Worked

@@ -1,8 +1,9 @@
 -- The places at which lines begin, where a line is passed over.
 use Rattle.std.proofs.Common.{◌≡◌, ◌≢◌, ◌≤◌, ◌<◌, ◌+◌, ◌-◌, ◌⊎◌, inl, inr, ℕ, sym, ◌∙◌, ap, subst, arith}
-use Rattle.std.proofs.Common.{List, get_or, drop, length}
+use Rattle.std.proofs.Common.{List, get_or, drop, length, drop_of_length-le, eqb, codes}
 use Rattle.std.specs.Prelude.{nat_lt}
-use Rattle.std.proofs.lemmas.Bool.{cases_eq, ltb-true, ltb-false, cond_both}
+use Rattle.std.specs.List.{starts_with}
+use Rattle.std.proofs.lemmas.Bool.{false≢true, cases_eq, cases_lt, ltb-true, ltb-false, cond_both}
 use Rattle.std.proofs.lemmas.List.{get_or-drop, length-drop}
 use Rattle.report_picture.specs.Lines.{BeginsLine, MayBegin}
 
@@ -31,27 +32,39 @@ none_within text rest place len earlier same line after before begins =
     (ap (λ r. get_or r (earlier - 1 - place) 0) same ∙ get_or-drop place text (earlier - 1 - place) 0
     ∙ ap (λ i. get_or text i 0) there ∙ begins positive)
 
+-- a report may begin only within the text
+pub may_begin_within : (text : List ℕ) (place : ℕ) → MayBegin text place → place < length text
+may_begin_within text place may =
+    elim (cases_lt place (length text)) [
+      | inl inside ↦ inside
+      | inr past ↦
+          let none = ap (λ rest. starts_with eqb rest (codes "input ")) (drop_of_length-le text past) in
+          absurd (false≢true (sym none ∙ may.input))
+    ]
+
 -- what is known of the last start is known behind one line more
 pub last_so_far : (text rest : List ℕ) (place len start start' : ℕ) → rest ≡ drop place text
     → ((k : ℕ) → k < len → get_or rest k 0 ≢ 10)
-    → ((earlier : ℕ) → earlier < place → MayBegin text earlier → (earlier ≤ start) × (start < place))
+    → place < length text
+    → ((earlier : ℕ) → earlier < place → MayBegin text earlier
+    → (earlier ≤ start) × (start < place) × (start < length text))
     → (MayBegin text place → start' ≡ place)
     → ((start' ≡ start) ⊎ ((start' ≡ place) × MayBegin text place))
     → (earlier : ℕ) → earlier < place + (len + 1) → MayBegin text earlier
-    → (earlier ≤ start') × (start' < place + (len + 1))
-last_so_far text rest place len start start' same line last newest either earlier before may =
-    let Goal = (earlier ≤ start') × (start' < place + (len + 1)) in
+    → (earlier ≤ start') × (start' < place + (len + 1)) × (start' < length text)
+last_so_far text rest place len start start' same line inside last newest either earlier before may =
+    let Goal = (earlier ≤ start') × (start' < place + (len + 1)) × (start' < length text) in
     elim (cases_eq earlier place) [
       | inl here ↦
           let new : start' ≡ place = newest (subst (λ e. MayBegin text e) here may) in
-          (omega (arith, new, here), omega (arith, new))
+          (omega (arith, new, here), omega (arith, new), omega (arith, new, inside))
       | inr differ ↦
           cond_both {A = ℕ} (nat_lt earlier place) 0 0 (λ _. Goal)
           (λ e. let less : earlier < place = ltb-true earlier place e in
           let old = last earlier less may in
           elim either [
-            | inl kept ↦ (omega (arith, kept, old.0), omega (arith, kept, old.1))
-            | inr new ↦ (omega (arith, new.0), omega (arith, new.0))
+            | inl kept ↦ (omega (arith, kept, old.0), omega (arith, kept, old.1), omega (arith, kept, old.2))
+            | inr new ↦ (omega (arith, new.0), omega (arith, new.0), omega (arith, new.0, inside))
           ])
           (λ e. let more : place ≤ earlier = ltb-false earlier place e in
           absurd (none_within text rest place len earlier same line (omega arith) before may.line))

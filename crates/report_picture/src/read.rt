@@ -1,11 +1,19 @@
 // A report's numbers, read back from its text. The lines are read loosely, each number by its place in its line,
 // into a report that is whole in any case; the text of that report is then compared with the one that was read.
 
-ghost use Rattle.std.specs.Prelude.{◌≡◌, ◌≢◌, ◌≤◌, ◌<◌, ◌+◌, ◌^◌, ◌⊎◌, ℕ, [], All, IfOk, IsTrue, OnOk};
-ghost use Rattle.std.specs.Prelude.{Err, Some, get_or, length, slice_get, take, unwrap_or};
+ghost use Rattle.std.specs.Prelude.{◌≡◌, ◌≢◌, ◌≤◌, ◌<◌, ◌+◌, ◌*◌, ◌^◌, ◌⊎◌, ℕ, [], All, List};
+ghost use Rattle.std.specs.Prelude.{Err, IfOk, IsTrue, OnOk, Some, drop, fold, get_or, length, slice_get, take};
+ghost use Rattle.std.specs.Prelude.{unwrap_or};
 ghost use Rattle.std.specs.Fmt.{decimal};
-ghost use Rattle.report_picture.specs.Lines.{AreLines, BeginsLine, EndsWith, EndsWithReport};
-ghost use Rattle.report_picture.specs.Lines.{HasGrids, HasSides, IsSide, IsWhole, MayBegin, feeds_in, words_in};
+ghost use Rattle.report_picture.specs.declared.report.Growth.{Growth as TheGrowth};
+ghost use Rattle.report_picture.specs.declared.report.Joiner.{Joiner as TheJoiner};
+ghost use Rattle.report_picture.specs.declared.report.Report.{Report as TheReport};
+ghost use Rattle.report_picture.specs.declared.report.Step.{Step as TheStep};
+ghost use Rattle.report_picture.specs.Lines.{AreLines, BeginsLine, EndsWith, EndsWithReport, HasGrids, HasGrownSides};
+ghost use Rattle.report_picture.specs.Lines.{HasSides, IsSide, IsWhole, MayBegin, feeds_in, report_lines, words_in};
+ghost use Rattle.report_picture.specs.Reading.{Entry, Final, Grid, Grow, Held, Input, IsReadable, NumbersFit};
+ghost use Rattle.report_picture.specs.Reading.{line_of, nothing_yet as blank, numbers_of, taken, text_of, with_grid};
+ghost use Rattle.report_picture.specs.Reading.{with_step, words_of};
 ghost use Rattle.report_picture.specs.declared.error.ReportError.TheVariants.{Line};
 
 use crate::error::ReportError;
@@ -44,89 +52,159 @@ fn number(line: &[u8], place: usize) -> u64
 
 // The same as a number of rows or columns, the nearest one.
 fn side(line: &[u8], place: usize) -> u64
-    ensures { IsSide result }
+    ensures side { IsSide result }
+    ensures exact { (n : ℕ) → IsSide n → slice_get (words_in line.now) place ≡ Some (decimal n)
+        → result ≡ n }
 {
     number(line, place).clamp(1, 256)
+}
+
+fn read_step(line: &[u8]) -> Step
+    ensures sides { HasSides result }
+    ensures exact { (epoch : ℕ) (wanted : TheStep) → IsReadable (Grid epoch wanted)
+        → words_in line.now ≡ words_of (Grid epoch wanted) → result ≡ wanted }
+{
+    let n = side(line, 2);
+    let m = side(line, 3);
+    let moved = number(line, 5);
+    Step { n, m, moved }
+}
+
+fn read_growth(line: &[u8]) -> Growth
+    ensures sides { HasGrownSides result }
+    ensures exact { (wanted : TheGrowth) → IsReadable (Grow wanted)
+        → words_in line.now ≡ words_of (Grow wanted) → result ≡ wanted }
+{
+    let n = side(line, 1);
+    let m = side(line, 2);
+    let placed = number(line, 4);
+    Growth { n, m, placed }
+}
+
+fn read_joiner(line: &[u8]) -> Joiner
+    ensures { (id : ℕ) (wanted : TheJoiner) → IsReadable (Held id wanted)
+        → words_in line.now ≡ words_of (Held id wanted) → result ≡ wanted }
+{
+    let rows_r = number(line, 3);
+    let rows_s = number(line, 4);
+    let made = number(line, 6);
+    Joiner {
+        rows_r,
+        rows_s,
+        made,
+    }
 }
 
 // As many steps as a report has at most, and as many since a growth.
 const MOST_STEPS: usize = 65536;
 
-fn push_step(steps: &mut Vec<Step>, line: &[u8]) -> Result<(), AllocError>
+fn push_step(steps: &mut Vec<Step>, step: Step) -> Result<(), AllocError>
     requires few { length steps.old.items ≤ 2 ^ 16 }
     requires sides { All HasSides steps.old.items }
+    requires step { HasSides step }
     ensures few { length steps.new.items ≤ 2 ^ 16 }
     ensures sides { All HasSides steps.new.items }
+    ensures exact { OnOk result (steps.new.items ≡ with_step steps.old.items step) }
 {
     if steps.len() < MOST_STEPS {
-        steps.push(Step {
-            n: side(line, 2),
-            m: side(line, 3),
-            moved: number(line, 5),
-        })?;
+        steps.push(step)?;
     }
     Ok(())
 }
 
-fn take_grid(report: &mut Report, line: &[u8]) -> Result<(), AllocError>
+fn take_input(report: &mut Report, line: &[u8])
     requires { HasGrids report.old }
-    ensures { HasGrids report.new }
+    ensures grids { HasGrids report.new }
+    ensures exact { (x y : ℕ) → IsReadable (Input x y) → words_in line.now ≡ words_of (Input x y)
+        → numbers_of report.new ≡ taken (numbers_of report.old) (Input x y) }
+{
+    let x = number(line, 1);
+    let y = number(line, 2);
+    report.x = x;
+    report.y = y;
+}
+
+fn take_grid(report: &mut Report, step: Step) -> Result<(), AllocError>
+    requires grids { HasGrids report.old }
+    requires step { HasSides step }
+    ensures grids { HasGrids report.new }
+    ensures exact { OnOk result (numbers_of report.new ≡ with_grid (numbers_of report.old) step) }
 {
     if report.growth.is_some() {
-        push_step(&mut report.later, line)
+        push_step(&mut report.later, step)
     } else {
-        push_step(&mut report.steps, line)
+        push_step(&mut report.steps, step)
     }
 }
 
-fn take_growth(report: &mut Report, line: &[u8])
-    requires { HasGrids report.old }
-    ensures { HasGrids report.new }
+fn take_growth(report: &mut Report, growth: Growth)
+    requires grids { HasGrids report.old }
+    requires growth { HasGrownSides growth }
+    ensures grids { HasGrids report.new }
+    ensures exact { numbers_of report.new ≡ taken (numbers_of report.old) (Grow growth) }
 {
-    report.growth = Some(Growth {
-        n: side(line, 1),
-        m: side(line, 2),
-        placed: number(line, 4),
-    });
+    report.growth = Some(growth);
 }
 
 fn take_final(report: &mut Report, line: &[u8])
     requires { HasGrids report.old }
-    ensures { HasGrids report.new }
+    ensures grids { HasGrids report.new }
+    ensures exact { (n m copies best : ℕ) → IsReadable (Final n m copies best)
+        → words_in line.now ≡ words_of (Final n m copies best)
+        → numbers_of report.new ≡ taken (numbers_of report.old) (Final n m copies best) }
 {
-    report.n = side(line, 1);
-    report.m = side(line, 2);
-    report.copies = number(line, 4);
-    report.best = number(line, 6);
+    let n = side(line, 1);
+    let m = side(line, 2);
+    let copies = number(line, 4);
+    let best = number(line, 6);
+    report.n = n;
+    report.m = m;
+    report.copies = copies;
+    report.best = best;
 }
 
-fn take_joiner(report: &mut Report, line: &[u8]) -> Result<(), AllocError>
+fn take_joiner(report: &mut Report, joiner: Joiner) -> Result<(), AllocError>
     requires { HasGrids report.old }
-    ensures { HasGrids report.new }
+    ensures grids { HasGrids report.new }
+    ensures exact { (id : ℕ)
+        → OnOk result (numbers_of report.new ≡ taken (numbers_of report.old) (Held id joiner)) }
 {
-    report.joiners.push(Joiner {
-        rows_r: number(line, 3),
-        rows_s: number(line, 4),
-        made: number(line, 6),
-    })?;
+    report.joiners.push(joiner)?;
     Ok(())
 }
 
 fn take_line(report: &mut Report, line: &[u8]) -> Result<(), AllocError>
     requires { HasGrids report.old }
-    ensures { HasGrids report.new }
+    ensures grids { HasGrids report.new }
+    ensures exact { (entry : Entry) → IsReadable entry → line.now ≡ line_of entry
+        → OnOk result (numbers_of report.new ≡ taken (numbers_of report.old) entry) }
 {
     if line.starts_with(b"input ") {
-        report.x = number(line, 1);
-        report.y = number(line, 2);
+        take_input(report, line);
+        Ok(())
     } else if line.starts_with(b"grid ") {
-        take_grid(report, line)?;
+        take_grid(report, read_step(line))
     } else if line.starts_with(b"grow ") {
-        take_growth(report, line);
+        take_growth(report, read_growth(line));
+        Ok(())
     } else if line.starts_with(b"final ") {
         take_final(report, line);
+        Ok(())
     } else if line.starts_with(b"joiner ") {
-        take_joiner(report, line)?;
+        take_joiner(report, read_joiner(line))
+    } else {
+        Ok(())
+    }
+}
+
+fn take_lines(report: &mut Report, text: &[u8]) -> Result<(), AllocError>
+    requires { HasGrids report.old }
+    ensures grids { HasGrids report.new }
+    ensures exact { (entries : List Entry) → All IsReadable entries → text.now ≡ text_of entries
+        → OnOk result (numbers_of report.new ≡ fold taken (numbers_of report.old) entries) }
+{
+    for line in text.split(|byte| *byte == b'\n') {
+        take_line(report, line)?;
     }
     Ok(())
 }
@@ -134,7 +212,9 @@ fn take_line(report: &mut Report, line: &[u8]) -> Result<(), AllocError>
 // As many joiners as the last grid has: what is too much goes, what is missing holds nothing.
 fn fit_joiners(report: &mut Report) -> Result<(), AllocError>
     requires { HasGrids report.old }
-    ensures { OnOk result (IsWhole report.new) }
+    ensures whole { OnOk result (IsWhole report.new) }
+    ensures same { length report.old.joiners.items ≡ report.old.n * report.old.m
+        → OnOk result (numbers_of report.new ≡ numbers_of report.old) }
 {
     let nothing = Joiner {
         rows_r: 0,
@@ -145,11 +225,12 @@ fn fit_joiners(report: &mut Report) -> Result<(), AllocError>
     report.joiners.resize(joiners, nothing)
 }
 
-// The report that the lines of a text come nearest to.
-fn nearest(alloc: Global, text: &[u8]) -> Result<Report, AllocError>
-    ensures { IfOk result IsWhole }
+// What a reader begins with.
+fn nothing_yet(alloc: Global) -> Report
+    ensures grids { HasGrids result }
+    ensures nothing { numbers_of result ≡ blank }
 {
-    let mut report = Report {
+    Report {
         x: 0,
         y: 0,
         steps: Vec::new(alloc),
@@ -160,10 +241,17 @@ fn nearest(alloc: Global, text: &[u8]) -> Result<Report, AllocError>
         copies: 0,
         best: 0,
         joiners: Vec::new(alloc),
-    };
-    for line in text.split(|byte| *byte == b'\n') {
-        take_line(&mut report, line)?;
     }
+}
+
+// The report that the lines of a text come nearest to.
+fn nearest(alloc: Global, text: &[u8]) -> Result<Report, AllocError>
+    ensures whole { IfOk result IsWhole }
+    ensures exact { (wanted : TheReport) → IsWhole wanted → NumbersFit wanted
+        → text.now ≡ report_lines wanted → IfOk result (λ read. numbers_of read ≡ numbers_of wanted) }
+{
+    let mut report = nothing_yet(alloc);
+    take_lines(&mut report, text)?;
     fit_joiners(&mut report)?;
     Ok(report)
 }
@@ -201,6 +289,7 @@ fn report_start(text: &[u8]) -> usize
     ensures within { result ≤ length text.now }
     ensures there { result < length text.now → MayBegin text.now result }
     ensures last { (place : ℕ) → MayBegin text.now place → place ≤ result }
+    ensures found { (place : ℕ) → MayBegin text.now place → result < length text.now }
 {
     let mut start = text.len();
     let mut place = 0;
@@ -214,7 +303,8 @@ fn report_start(text: &[u8]) -> usize
 // Whether a line may begin here.
 fn begins_line(text: &[u8], place: usize) -> bool
     requires { place ≤ length text.now }
-    ensures { IsTrue result → AreLines (take place text.now) }
+    ensures lines { IsTrue result → AreLines (take place text.now) }
+    ensures found { BeginsLine text.now place → IsTrue result }
 {
     place == 0 || text[place - 1] == b'\n'
 }
@@ -222,7 +312,8 @@ fn begins_line(text: &[u8], place: usize) -> bool
 // Whether the text is lines up to this place, and then just another text.
 fn ends_with(text: &[u8], place: usize, end: &[u8]) -> bool
     requires { place ≤ length text.now }
-    ensures { IsTrue result → EndsWith text.now end.now }
+    ensures ends { IsTrue result → EndsWith text.now end.now }
+    ensures found { BeginsLine text.now place → drop place text.now ≡ end.now → IsTrue result }
 {
     begins_line(text, place) && &text[place..] == end
 }
@@ -263,6 +354,10 @@ pub fn read_report(alloc: Global, text: &[u8]) -> Result<Report, ReportError>
         → feeds_in (take place text.now) < line }
     ensures missing { (line : ℕ) → result ≡ Err (Line line)
         → ((place : ℕ) → MayBegin text.now place → ⊥) → line ≡ feeds_in text.now + 1 }
+    ensures complete { (report : TheReport) (line : ℕ) → IsWhole report → NumbersFit report
+        → EndsWithReport text.now report → result ≢ Err (Line line) }
+    ensures same { (report : TheReport) → IsWhole report → NumbersFit report
+        → EndsWithReport text.now report → IfOk result (λ read. numbers_of read ≡ numbers_of report) }
 {
     let start = report_start(text);
     let rest = &text[start..];

@@ -7,7 +7,8 @@ invariant-loop-place l = record {
   within : l.start ≤ length l.text;
   line : l.place ≤ length l.text → BeginsLine l.text l.place;
   there : l.start < length l.text → MayBegin l.text l.start;
-  last : (earlier : ℕ) → earlier < l.place → MayBegin l.text earlier → (earlier ≤ l.start) × (l.start < l.place);
+  last : (earlier : ℕ) → earlier < l.place → MayBegin l.text earlier → (earlier ≤ l.start) × (l.start < l.place)
+      × (l.start < length l.text);
 }
 
 abbrev pub decreases-loop-place : goal.decreases-loop-place

@@ -1,0 +1,135 @@
+-- What each line of a report says, and what a reader makes of the lines, one after the other.
+use Rattle.std.specs.Prelude.{◌<◌, ◌^◌, ◌++◌, ℕ, All, List, [], ◌∷◌, Option, None, Some, IfSome}
+use Rattle.std.specs.Prelude.{cond, nat_lt, length, codes, flat_map}
+use Rattle.std.specs.List.{join_with_byte}
+use Rattle.std.specs.Fmt.{decimal}
+use Rattle.report_picture.specs.declared.report.Step.{Step}
+use Rattle.report_picture.specs.declared.report.Growth.{Growth}
+use Rattle.report_picture.specs.declared.report.Joiner.{Joiner}
+use Rattle.report_picture.specs.declared.report.Report.{Report}
+use Rattle.report_picture.specs.Lines.{IsSide, HasSides, HasGrownSides}
+
+-- the numbers of a report
+pub record Numbers : Type 0 where
+  pub x : ℕ
+  pub y : ℕ
+  pub steps : List Step
+  pub growth : Option Growth
+  pub later : List Step
+  pub n : ℕ
+  pub m : ℕ
+  pub copies : ℕ
+  pub best : ℕ
+  pub joiners : List Joiner
+
+-- these numbers
+abbrev pub numbers_with : (x y : ℕ) (steps : List Step) (growth : Option Growth) (later : List Step)
+    (n m copies best : ℕ) (joiners : List Joiner) → Numbers
+numbers_with x y steps growth later n m copies best joiners = record {
+  x = x;
+  y = y;
+  steps = steps;
+  growth = growth;
+  later = later;
+  n = n;
+  m = m;
+  copies = copies;
+  best = best;
+  joiners = joiners;
+}
+
+-- those of this report
+abbrev pub numbers_of : Report → Numbers
+numbers_of report =
+    numbers_with report.x report.y report.steps.items report.growth report.later.items report.n report.m report.copies
+    report.best report.joiners.items
+
+-- a step's number of rows fits 64 bits
+abbrev pub MovedFits : Step → Type 0
+MovedFits step = step.moved < 2 ^ 64
+
+-- so does a growth's
+abbrev pub PlacedFits : Growth → Type 0
+PlacedFits growth = growth.placed < 2 ^ 64
+
+-- and so do a joiner's three numbers
+abbrev pub HeldFits : Joiner → Type 0
+HeldFits joiner = (joiner.rows_r < 2 ^ 64) × (joiner.rows_s < 2 ^ 64) × (joiner.made < 2 ^ 64)
+
+-- each number of rows and of pairs in a report fits 64 bits
+pub record NumbersFit (report : Report) : Type 0 where
+  pub x : report.x < 2 ^ 64
+  pub y : report.y < 2 ^ 64
+  pub steps : All MovedFits report.steps.items
+  pub growth : IfSome report.growth PlacedFits
+  pub later : All MovedFits report.later.items
+  pub copies : report.copies < 2 ^ 64
+  pub best : report.best < 2 ^ 64
+  pub joiners : All HeldFits report.joiners.items
+
+-- what a line says: the numbers of rows, the grid of an epoch, a growth, the last grid, what the joiner of an id holds
+-- and made, or nothing
+pub data Entry : Type 0 where
+  Input : ℕ → ℕ → Entry
+  Grid : ℕ → Step → Entry
+  Grow : Growth → Entry
+  Final : ℕ → ℕ → ℕ → ℕ → Entry
+  Held : ℕ → Joiner → Entry
+  Blank : Entry
+
+-- the words of the line that says it
+abbrev pub words_of : Entry → List (List ℕ)
+words_of (Input x y) = codes "input" ∷ decimal x ∷ decimal y ∷ []
+words_of (Grid epoch step) =
+    codes "grid" ∷ decimal epoch ∷ decimal step.n ∷ decimal step.m ∷ codes "moved" ∷ decimal step.moved ∷ []
+words_of (Grow growth) =
+    codes "grow" ∷ decimal growth.n ∷ decimal growth.m ∷ codes "placed" ∷ decimal growth.placed ∷ []
+words_of (Final n m copies best) =
+    codes "final" ∷ decimal n ∷ decimal m ∷ codes "copies" ∷ decimal copies ∷ codes "best" ∷ decimal best ∷ []
+words_of (Held id joiner) =
+    codes "joiner" ∷ decimal id ∷ codes "held" ∷ decimal joiner.rows_r ∷ decimal joiner.rows_s ∷ codes "made"
+    ∷ decimal joiner.made ∷ []
+words_of Blank = [] ∷ []
+
+-- that line, without its line feed
+abbrev pub line_of : Entry → List ℕ
+line_of entry = join_with_byte 32 (words_of entry)
+
+-- the lines of these entries
+abbrev pub text_of : List Entry → List ℕ
+text_of entries = flat_map (λ entry. line_of entry ++ 10 ∷ []) entries
+
+-- the numbers of a line fit 64 bits, and those of rows and columns of a grid are such
+abbrev pub IsReadable : Entry → Type 0
+IsReadable (Input x y) = (x < 2 ^ 64) × (y < 2 ^ 64)
+IsReadable (Grid epoch step) = (epoch < 2 ^ 64) × HasSides step × MovedFits step
+IsReadable (Grow growth) = HasGrownSides growth × PlacedFits growth
+IsReadable (Final n m copies best) = IsSide n × IsSide m × (copies < 2 ^ 64) × (best < 2 ^ 64)
+IsReadable (Held id joiner) = (id < 2 ^ 64) × HeldFits joiner
+IsReadable Blank = Unit {0}
+
+-- one step more, up to 2 ^ 16
+abbrev pub with_step : List Step → Step → List Step
+with_step steps step = cond (nat_lt (length steps) (2 ^ 16)) (steps ++ step ∷ []) steps
+
+-- a step stands before the growth as long as there was none, and else behind it
+abbrev pub with_grid_by : Option Growth → Numbers → Step → Numbers
+with_grid_by None numbers step = record numbers { steps = with_step numbers.steps step }
+with_grid_by (Some growth) numbers step = record numbers { later = with_step numbers.later step }
+
+-- the grid of one more step
+abbrev pub with_grid : Numbers → Step → Numbers
+with_grid numbers step = with_grid_by numbers.growth numbers step
+
+-- what a reader begins with
+abbrev pub nothing_yet : Numbers
+nothing_yet = numbers_with 0 0 [] None [] 1 1 0 0 []
+
+-- what a line adds
+abbrev pub taken : Numbers → Entry → Numbers
+taken numbers (Input x y) = record numbers { x = x; y = y }
+taken numbers (Grid epoch step) = with_grid numbers step
+taken numbers (Grow growth) = record numbers { growth = Some growth }
+taken numbers (Final n m copies best) = record numbers { n = n; m = m; copies = copies; best = best }
+taken numbers (Held id joiner) = record numbers { joiners = numbers.joiners ++ joiner ∷ [] }
+taken numbers Blank = numbers
