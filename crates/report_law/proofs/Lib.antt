@@ -1,0 +1,4 @@
+mod Made
+mod Runs
+mod Steps
+mod Worked
