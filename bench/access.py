@@ -28,8 +28,9 @@ COLUMNS = ["k", "m", "k2", "k100", "t", "a", "b", "p", "c", "d"]
 
 # A predicate, with the plain count of its pairs: the columns whose texts agree, and a column of the second file with
 # the bounds between which a row of the first has it. `same` is the predicate of the same pairs before it; `turned` has
-# the two files the other way round.
-Case = collections.namedtuple("Case", "what on texts point bounds same turned", defaults=[(), None, None, None, False])
+# the two files the other way round; `own` says of a side and a row of it whether the row passes what reads it alone.
+Case = collections.namedtuple("Case", "what on texts point bounds same turned own",
+                              defaults=[(), None, None, None, False, lambda side, row: True])
 
 
 def rows_of(side, count):
@@ -63,12 +64,12 @@ def write(name, rows):
 def count(case, r, s):
     """How many pairs there are, by sorted lists of points, one for each group of texts."""
     groups = collections.defaultdict(list)
-    for row in s:
+    for row in (it for it in s if case.own("s", it)):
         groups[tuple(row[it] for it in case.texts)].append(row[case.point] if case.point else 0)
     for points in groups.values():
         points.sort()
     pairs = 0
-    for row in r:
+    for row in (it for it in r if case.own("r", it)):
         points = groups.get(tuple(row[it] for it in case.texts), [])
         low, high = case.bounds(row) if case.bounds else (0, 0)
         pairs += max(0, bisect.bisect_right(points, high) - bisect.bisect_left(points, low))
@@ -114,6 +115,16 @@ def intervals(rows, r, s):
                    lambda row, reach=reach: (row["a"] - reach, row["a"] + reach))
     yield Case("intervals and texts, 100", f"{text('k100')} and s.a >= r.a and s.a <= r.b", ("k100",), "a",
                lambda row: (row["a"], row["b"]))
+
+
+def members_of_one_side():
+    """Members that read one file alone, beside an equality, a band, and nothing."""
+    yield Case("an equality, and every second row of R", f"{text('k')} and text(r.k2) = 'k0'", ("k",),
+               own=lambda side, row: side == "s" or row["k2"] == "k0")
+    yield Case("a band, and each hundredth row of both", "abs(r.t - s.t) <= 2 and text(r.k100) = 'k7' and text(s.k100) = 'k7'",
+               (), "t", lambda row: (row["t"] - 2, row["t"] + 2), own=lambda side, row: row["k100"] == "k7")
+    yield Case("each hundredth row of both", "text(r.k100) = 'k7' and text(s.k100) = 'k7'", (),
+               own=lambda side, row: row["k100"] == "k7")
 
 
 def run(on, files):
@@ -165,7 +176,7 @@ def main():
         with open("/proc/loadavg", encoding="ascii") as it:
             print(f"{words.rows} rows a side, {words.runs} runs each; the load before: {it.read().split()[0]}\n")
         print("| | predicate | pairs | processor time |\n|---|---|---|---|")
-        for case in [*equalities(), *bands(), *intervals(words.rows, r, s)]:
+        for case in [*equalities(), *bands(), *intervals(words.rows, r, s), *members_of_one_side()]:
             well &= measure(case, room, words.runs, count(case, r, s), seen)
     return 0 if well else 1
 

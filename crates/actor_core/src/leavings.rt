@@ -2,27 +2,37 @@
 
 ghost use Rattle.std.specs.Prelude.{◌≡◌, ◌++◌, ◌∷◌, [], IfOk, IfSome};
 ghost use Rattle.actor_core.specs.declared.machines.Core.TheVariants.{Controller as TheController, Collector as TheCollector};
-ghost use Rattle.actor_core.specs.Leavings.{AreLeft, AreStores, Gives};
+ghost use Rattle.actor_core.specs.Leavings.{AreLeft, AreStores, Gives, GivesStore};
 
 use crate::machines::Core;
 use crate::rests::Stores;
+use joiner_core::Joiner;
 use load_controller::Controller;
 use pair_collector::Collector;
 use std::alloc::{AllocError, Global};
 use store_parts::Store;
+
+// The store of a joiner that isn't spent.
+fn given_by(joiner: Joiner) -> Result<Store, AllocError>
+    ensures { IfOk result (λ store. GivesStore joiner.entry store) }
+{
+    if joiner.is_spent() {
+        drop(joiner);
+        return Err(AllocError);
+    }
+    Ok(joiner.into_store())
+}
 
 // The store of a joiner's machine.
 fn store_of(core: Core) -> Result<Store, AllocError>
     ensures { IfOk result (λ store. Gives core.entry store) }
 {
     match core {
-        Core::Joiner(joiner) => {
-            if joiner.is_spent() {
-                return Err(AllocError);
-            }
-            Ok(joiner.into_store())
+        Core::Joiner(joiner) => given_by(joiner),
+        other => {
+            drop(other);
+            Err(AllocError)
         }
-        _ => Err(AllocError),
     }
 }
 

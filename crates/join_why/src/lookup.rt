@@ -14,6 +14,9 @@ const IN_RANGE: &str = "rows are looked up in a range:\n";
 /// What stands before a range behind equalities.
 const AND_IN_RANGE: &str = "and of these only those in a range:\n";
 
+/// What stands behind each row's side where members read that side alone.
+const LEFT_OUT: &str = "that fail a member that reads them alone aren't looked up\n";
+
 /// The tables that a predicate reads.
 #[derive(Clone, Copy)]
 pub(crate) struct Headers<'a> {
@@ -67,15 +70,18 @@ impl Headers<'_> {
                 self.push_sum(text, Side::S, &pair.s_sum)?;
                 push_constant(text, pair.gap, false)
             }
+            Same::Alone(_) => Ok(()),
         }
     }
 
     /// Appends equalities, a line each.
     fn push_sames(&self, text: &mut String, sames: &[Same]) -> Result<(), AllocError> {
         for same in sames {
-            text.push_str("    ")?;
-            self.push_same(text, same)?;
-            text.push('\n')?;
+            if is_equality(same) {
+                text.push_str("    ")?;
+                self.push_same(text, same)?;
+                text.push('\n')?;
+            }
         }
         Ok(())
     }
@@ -133,24 +139,30 @@ impl Headers<'_> {
         text.push('\n')
     }
 
-    /// Appends all equalities and the range.
-    fn push_access(&self, text: &mut String, access: &Access) -> Result<(), AllocError> {
+    /// Appends all equalities and the range, and answers whether there are any.
+    fn push_keys(&self, text: &mut String, access: &Access) -> Result<bool, AllocError> {
         let sames = access.sames.as_slice();
-        if !sames.is_empty() {
+        let is_equal = has_equality(sames);
+        if is_equal {
             text.push_str(BY_VALUES)?;
             self.push_sames(text, sames)?;
         }
         match &access.range {
             Some(range) => {
-                text.push_str(if sames.is_empty() {
-                    IN_RANGE
-                } else {
-                    AND_IN_RANGE
-                })?;
-                self.push_range(text, range)
+                text.push_str(if is_equal { AND_IN_RANGE } else { IN_RANGE })?;
+                self.push_range(text, range)?;
+                Ok(true)
             }
-            None => Ok(()),
+            None => Ok(is_equal),
         }
+    }
+
+    /// Appends all equalities and the range, and of which sides rows are left out, and answers whether there are
+    /// equalities or a range.
+    fn push_access(&self, text: &mut String, access: &Access) -> Result<bool, AllocError> {
+        let is_keyed = self.push_keys(text, access)?;
+        push_left_out(text, access.sames.as_slice())?;
+        Ok(is_keyed)
     }
 
     /// Appends the range of a key atom alone.
@@ -160,6 +172,49 @@ impl Headers<'_> {
         self.push_span(text, atom)?;
         text.push('\n')
     }
+}
+
+/// Whether this is an equality of both sides.
+fn is_equality(same: &Same) -> bool {
+    match same {
+        Same::Texts(_) | Same::Sums(_) => true,
+        Same::Alone(_) => false,
+    }
+}
+
+/// Whether one of these is.
+fn has_equality(sames: &[Same]) -> bool {
+    for same in sames {
+        if is_equality(same) {
+            return true;
+        }
+    }
+    false
+}
+
+/// Whether one of these reads this side alone.
+fn reads_alone(sames: &[Same], side: Side) -> bool {
+    for same in sames {
+        if let Same::Alone(alone) = same {
+            if alone.side == side {
+                return true;
+            }
+        }
+    }
+    false
+}
+
+/// Appends of which sides rows are left out.
+fn push_left_out(text: &mut String, sames: &[Same]) -> Result<(), AllocError> {
+    if reads_alone(sames, Side::R) {
+        text.push_str("rows of R ")?;
+        text.push_str(LEFT_OUT)?;
+    }
+    if reads_alone(sames, Side::S) {
+        text.push_str("rows of S ")?;
+        text.push_str(LEFT_OUT)?;
+    }
+    Ok(())
 }
 
 /// Appends a constant behind a sum, with the other sign where it is turned.
@@ -176,15 +231,16 @@ fn push_constant(text: &mut String, constant: i128, is_turned: bool) -> Result<(
     write!(text, " {sign} {size}")
 }
 
-/// Appends what is looked up of a row, where anything is, and answers whether it is.
+/// Appends what is looked up of a row, and answers whether it is looked up by anything.
 pub(crate) fn push_lookup(
     text: &mut String,
     theta: &Theta,
     headers: Headers<'_>,
 ) -> Result<bool, AllocError> {
     if let Some(access) = theta.access()? {
-        headers.push_access(text, &access)?;
-        return Ok(true);
+        let is_keyed = headers.push_access(text, &access);
+        drop(access);
+        return is_keyed;
     }
     if let Some(atom) = theta.key_atom()? {
         headers.push_key(text, &atom)?;

@@ -170,9 +170,13 @@ pub(crate) struct Opened {
 }
 
 impl Model for Opened {
+    ghost use Rattle.std.specs.Coded.{codes};
+    ghost use Rattle.theta_pred.specs.FormulaCode.{formula_code};
     ghost use Rattle.joiner_core.specs.State.{OpenStep};
 
     ghost Value = { OpenStep };
+
+    ghost coded = { Prim.hlevel (codes, formula_code (Prim.hlevel codes)) };
 
     ghost view = { λ o. record {
       epoch = o.epoch;

@@ -25,10 +25,14 @@ pub(crate) struct Stock {
 }
 
 impl Model for Stock {
+    ghost use Rattle.std.specs.Coded.{codes};
+    ghost use Rattle.theta_pred.specs.FormulaCode.{formula_code};
     ghost use Rattle.store_parts.specs.Stored.{AreSided};
     ghost use Rattle.joiner_core.specs.State.{Stocked, stocked_of};
 
     ghost Value = { Stocked };
+
+    ghost coded = { Prim.hlevel (codes, formula_code (Prim.hlevel codes)) };
 
     ghost view = { λ stock. stocked_of stock.store };
 

@@ -1,20 +1,24 @@
--- Rows that agree in all equalities have one number.
+-- Rows that agree in all but the range have one number.
 use Rattle.std.proofs.Common.{◌≡◌, ℤ, pos, ◌-ℤ◌, true, Option, Some, None, List, [], ◌∷◌, refl, ap, ◌∙◌}
-use Rattle.std.proofs.Common.{arith}
+use Rattle.std.proofs.Common.{arith, cond, not}
 use Rattle.std.specs.Prelude.{map, int_le, option_map, option_and_then}
 use Rattle.std.proofs.lemmas.Bool.{false≢true}
 use Rattle.std.proofs.lemmas.Int.{ints}
 use Rattle.std.proofs.lemmas.Slice.Eq.{bytes_eq-Decides}
 use Rattle.join_rows.specs.declared.table.Cell.{Cell}
+use Rattle.join_rows.specs.declared.table.Side.{Side}
 use Rattle.join_rows.specs.declared.table.Side.TheVariants.{R, S}
 use Rattle.theta_pred.specs.declared.agree.Same.{Same}
-use Rattle.theta_pred.specs.declared.agree.Same.TheVariants.{Texts, Sums}
+use Rattle.theta_pred.specs.declared.agree.Same.TheVariants.{Texts, Sums, Alone}
+use Rattle.theta_pred.specs.Formula.{Formula}
+use Rattle.theta_pred.specs.OneSided.{is_true_alone}
+use Rattle.theta_pred.specs.Sums.{of_side}
 use Rattle.theta_pred.specs.Accesses.{agreement_of, agrees, agree_in_all}
 use Rattle.theta_pred.specs.Keys.{is_between}
 use Rattle.theta_pred.specs.Linear.{value_of}
 use Rattle.theta_pred.specs.TextAtoms.{text_at}
 use Rattle.theta_pred.proofs.KeyMembers.{and_left, and_right}
-use Rattle.store_parts.specs.Accessed.{value_on, mixed, numbered, number_of}
+use Rattle.store_parts.specs.Accessed.{value_on, mixed, numbered, number_of, own_value}
 use Rattle.store_parts.specs.Places.{lies}
 
 -- ---- rows that agree have one number
@@ -44,12 +48,19 @@ apart_one gap (Some x) (Some y) is = (
   refl,
 )
 
+-- a row that passes a test of its side, and any row of the other, have one value
+passed_one : (r s : List Cell) (own : Side) (f : Formula) → is_true_alone own (of_side r s own) f ≡ true
+    → AreOne (own_value R own f r) (own_value S own f s)
+passed_one r s R f is = (pos 0, ap (λ b. cond (not b) None (Some (pos 0))) is, refl)
+passed_one r s S f is = (pos 0, refl, ap (λ b. cond (not b) None (Some (pos 0))) is)
+
 same_value : (r s : List Cell) (same : Same) → agrees r s (agreement_of same) ≡ true
     → AreOne (value_on R same r) (value_on S same s)
 same_value r s (Texts atom) is =
     let equal = (bytes_eq-Decides (text_at atom.r r) (text_at atom.s s)).0 is in
     (pos (number_of (text_at atom.s s)), ap (λ text. Some (pos (number_of text))) equal, refl)
 same_value r s (Sums pair) is = apart_one pair.gap (value_of pair.r_sum.parts r) (value_of pair.s_sum.parts s) is
+same_value r s (Alone it) is = passed_one r s it.side it.test.formula is
 
 -- rows that agree have one number
 pub same_numbers : (r s : List Cell) (number : ℤ) (sames : List Same) → agree_in_all (map agreement_of sames) r s ≡ true

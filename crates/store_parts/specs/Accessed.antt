@@ -1,6 +1,6 @@
 -- The access by which a store looks for tuples: the numbers of tuples, and with which others they agree.
 use Rattle.std.specs.Prelude.{◌≡◌, ℕ, ◌+◌, ◌*◌, ◌%◌, ◌^◌, ℤ, pos, ◌-ℤ◌, Bool, true, false, Option, Some, None, List, []}
-use Rattle.std.specs.Prelude.{◌∷◌, option_map}
+use Rattle.std.specs.Prelude.{◌∷◌, option_map, not, ◌&&◌}
 use Rattle.std.specs.Prelude.{option_and_then, if◌then◌else◌}
 use Rattle.std.specs.Int.{int_wrapping_add, int_wrapping_mul, w128}
 use Rattle.join_rows.specs.declared.table.Cell.{Cell}
@@ -12,11 +12,12 @@ use Rattle.theta_pred.specs.declared.agree.Interval.{Interval}
 use Rattle.theta_pred.specs.declared.agree.Range.{Range}
 use Rattle.theta_pred.specs.declared.agree.Range.TheVariants as ranges
 use Rattle.theta_pred.specs.declared.agree.Same.{Same}
-use Rattle.theta_pred.specs.declared.agree.Same.TheVariants.{Texts, Sums}
+use Rattle.theta_pred.specs.declared.agree.Same.TheVariants.{Texts, Sums, Alone}
 use Rattle.theta_pred.specs.Accesses.{access_of, terms_of, do_agree}
-use Rattle.theta_pred.specs.Formula.{Meaning}
+use Rattle.theta_pred.specs.Formula.{Formula, Meaning}
 use Rattle.theta_pred.specs.declared.atom.KeyAtom.{KeyAtom}
 use Rattle.theta_pred.specs.Linear.{value_of}
+use Rattle.theta_pred.specs.OneSided.{is_true_alone}
 use Rattle.theta_pred.specs.TextAtoms.{text_at}
 use Rattle.store_parts.specs.declared.places.Window.{Window}
 use Rattle.store_parts.specs.Keyed.{value_at, least_at, greatest_at}
@@ -31,12 +32,23 @@ number_from number (byte ∷ bytes) = number_from ((number * 1099511628211 % 2 ^
 abbrev pub number_of : List ℕ → ℕ
 number_of text = number_from 0 text
 
--- the value of a row of this side in what is compared; none where a cell of a sum is no number
+-- whether two sides are one
+abbrev pub is_at : Side → Side → Bool
+is_at R R = true
+is_at S S = true
+is_at _ _ = false
+
+-- the value of a row of this side in a test of rows of one side, `own`: none where it is a row of that side and fails
+abbrev pub own_value : Side → Side → Formula → List Cell → Option ℤ
+own_value side own f row = if is_at side own && not (is_true_alone side row f) then None else Some (pos 0)
+
+-- the value of a row of this side in what is compared; none where a cell of a sum is no number, or the row fails a test
 abbrev pub value_on : Side → Same → List Cell → Option ℤ
 value_on R (Texts atom) row = Some (pos (number_of (text_at atom.r row)))
 value_on S (Texts atom) row = Some (pos (number_of (text_at atom.s row)))
 value_on R (Sums pair) row = option_map (λ v. v -ℤ pair.gap) (value_of pair.r_sum.parts row)
 value_on S (Sums pair) row = value_of pair.s_sum.parts row
+value_on side (Alone it) row = own_value side it.side it.test.formula row
 
 -- a number with one value more
 abbrev pub mixed : ℤ → ℤ → ℤ
@@ -49,12 +61,6 @@ numbered side number (same ∷ sames) row =
     option_and_then (λ value. numbered side (mixed number value) sames row) (value_on side same row)
 
 -- ---- by what numbers tuples stand in the index, and between which a tuple asks for others
-
--- whether two sides are one
-abbrev pub is_at : Side → Side → Bool
-is_at R R = true
-is_at S S = true
-is_at _ _ = false
 
 -- where the interval of a tuple of this side begins, beside the value of the lower bound's sum
 abbrev pub first_at : Interval → Side → ℤ → ℤ
@@ -74,7 +80,7 @@ interval_stand hash interval side (Some v) (Some w) =
     stand_of hash (first_at interval side v) (last_at interval side w)
 interval_stand hash interval side _ _ = None
 
--- where a tuple of this side stands, by its number of equalities: without a range, there
+-- where a tuple of this side stands, by its number of agreements: without a range, there
 abbrev pub stand_at : Option Range → Side → ℤ → Tuple → Option ℤ
 stand_at None side number t = Some number
 stand_at (Some (ranges.Span atom)) side number t = value_stand (hash_of number) (value_at atom side t)
@@ -105,7 +111,7 @@ interval_windows hash interval side (Some v) (Some w) =
     window hash (pos 0) (low_of (least_at side interval.lower v)) (high_of (greatest_at side interval.upper w)) ∷ []
 interval_windows hash interval side _ _ = []
 
--- between which numbers a tuple of this side asks for those of the other, by its number of equalities
+-- between which numbers a tuple of this side asks for those of the other, by its number of agreements
 abbrev pub windows_at : Option Range → Side → ℤ → Tuple → List Window
 windows_at None side number t = record { from = number; to = number } ∷ []
 windows_at (Some (ranges.Span atom)) side number t = span_windows (hash_of number) atom side (value_at atom side t)

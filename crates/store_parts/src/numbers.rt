@@ -3,7 +3,7 @@
 ghost use Rattle.std.specs.Prelude.{◌≡◌, ◌+◌, ◌*◌, ◌%◌, ◌^◌, option_map, pos, IfSome, Some};
 ghost use Rattle.theta_pred.specs.Keys.{is_between};
 ghost use Rattle.theta_pred.specs.Sizes.{IsAtMost};
-ghost use Rattle.store_parts.specs.Accessed.{is_admitted, numbered, number_from, number_of, value_on};
+ghost use Rattle.store_parts.specs.Accessed.{is_admitted, number_from, number_of, numbered, own_value, value_on};
 ghost use Rattle.theta_pred.specs.Accesses.{
   agree_in_all,
   agreement_of,
@@ -14,12 +14,14 @@ ghost use Rattle.theta_pred.specs.Accesses.{
   reach_of,
   terms_of,
 };
+ghost use Rattle.theta_pred.specs.OneSided.{is_true_alone};
+ghost use Rattle.theta_pred.specs.Sums.{of_side};
 ghost use Rattle.theta_pred.specs.TextAtoms.{text_at};
 
 use crate::band::{difference, is_true_of};
 use epoch_tags::Tuple;
 use join_rows::{Cells, Side};
-use theta_pred::{Access, Range, Same};
+use theta_pred::{Access, Alone, Range, Same};
 
 // The text of a row in a column, empty where it has no such column.
 fn text_at(row: &Cells, column: u64) -> &[u8]
@@ -52,6 +54,17 @@ fn text_number(row: &Cells, column: u64) -> i128
     i128::from(number_of(text_at(row, column)))
 }
 
+// The value of a row of this side in a test of rows of one side: none where it is a row of that side and fails.
+fn own_value(alone: &Alone, side: Side, row: &Cells) -> Option<i128>
+    ensures { result ≡ own_value side alone.now.side alone.now.test.formula row.now }
+{
+    if alone.side == side && !alone.test.holds_alone(side, row) {
+        None
+    } else {
+        Some(0)
+    }
+}
+
 // The value of a row of this side in what is compared.
 fn value_on(same: &Same, side: Side, row: &Cells) -> Option<i128>
     ensures { result ≡ value_on side same.now row.now }
@@ -68,10 +81,11 @@ fn value_on(same: &Same, side: Side, row: &Cells) -> Option<i128>
             },
             Side::S => pair.s_sum.value(row),
         },
+        Same::Alone(alone) => own_value(alone, side, row),
     }
 }
 
-// The number of a tuple of this side, of all its values in which rows are equal.
+// The number of a tuple of this side, of all its values in which rows agree.
 pub(crate) fn number(access: &Access, side: Side, tuple: &Tuple) -> Option<i128>
     ensures { result ≡ numbered side (pos 0) access.now.sames tuple.now.cells }
 {
@@ -97,6 +111,17 @@ fn are_apart(gap: i128, x: Option<i128>, y: Option<i128>) -> bool
     }
 }
 
+// Whether the row of a test's side passes it.
+fn passes(alone: &Alone, r: &Cells, s: &Cells) -> bool
+    ensures { let own = of_side r.now s.now alone.now.side in
+        result ≡ is_true_alone alone.now.side own alone.now.test.formula }
+{
+    match alone.side {
+        Side::R => alone.test.holds_alone(Side::R, r),
+        Side::S => alone.test.holds_alone(Side::S, s),
+    }
+}
+
 // Whether two rows agree in this.
 fn agrees(same: &Same, r: &Cells, s: &Cells) -> bool
     ensures { result ≡ agrees r.now s.now (agreement_of same.now) }
@@ -104,10 +129,11 @@ fn agrees(same: &Same, r: &Cells, s: &Cells) -> bool
     match same {
         Same::Texts(atom) => text_at(r, atom.r) == text_at(s, atom.s),
         Same::Sums(pair) => are_apart(pair.gap, pair.r_sum.value(r), pair.s_sum.value(s)),
+        Same::Alone(alone) => passes(alone, r, s),
     }
 }
 
-// Whether they agree in all equalities.
+// Whether they agree in all but the range.
 fn agree_in_all(access: &Access, r: &Cells, s: &Cells) -> bool
     ensures { result ≡ agree_in_all (agreements access.now) r.now s.now }
 {

@@ -44,11 +44,15 @@ pub struct Store {
 }
 
 impl Model for Store {
+    ghost use Rattle.std.specs.Coded.{codes};
     ghost use Rattle.join_rows.specs.declared.table.Side.TheVariants.{R, S};
+    ghost use Rattle.theta_pred.specs.FormulaCode.{formula_code};
     ghost use Rattle.store_parts.specs.Indexed.{IsIndexed};
     ghost use Rattle.store_parts.specs.Stored.{Stored, AreSided};
 
     ghost Value = { Stored };
+
+    ghost coded = { Prim.hlevel (codes, formula_code (Prim.hlevel codes)) };
 
     ghost view = { λ store. record { key = store.key; access = store.access; r = store.r; s = store.s } };
 

@@ -3,6 +3,7 @@
 mod equalities;
 mod kept;
 mod many;
+mod own;
 mod probes;
 mod ranges;
 mod rows;

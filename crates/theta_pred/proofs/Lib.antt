@@ -6,6 +6,7 @@ pub mod KeyPlaces
 pub mod KeySums
 pub mod Left
 pub mod NumericPlaces
+pub mod OneSidedLaws
 pub mod SpanLaws
 pub mod SumSteps
 pub mod SumTests

@@ -6,7 +6,6 @@ use Rattle.std.proofs.lemmas.Int.{ints}
 use Rattle.join_rows.specs.declared.table.Cell.{Cell}
 use Rattle.theta_pred.specs.declared.tree.SignedTerm.{SignedTerm}
 use Rattle.theta_pred.specs.Sizes.{IsAtMost}
-use Rattle.theta_pred.specs.Sound.{AreWithin, IsNumberWithin}
 use Rattle.theta_pred.specs.Sums.{plus, signed_of, sum_of}
 
 -- two numbers and a rest that may be absent come to the same, whichever two are added first
@@ -23,13 +22,6 @@ sum_step r s items i d v x whole below is before =
     rw add-one (plus_assoc v x (sum_of r s (drop (suc i) items))
     ∙ ap (λ o. plus (Some v) (plus o (sum_of r s (drop (suc i) items)))) is
     ∙ ap (λ xs. plus (Some v) (sum_of r s xs)) (sym (drop-cons items i d below)) ∙ before)
-
--- the terms that are left lie in the rows, and the next one does
-pub within_step : (width_r width_s : ℕ) (items : List SignedTerm) (i : ℕ) (d : SignedTerm) → i < length items
-    → AreWithin width_r width_s (drop i items)
-    → IsNumberWithin width_r width_s (get_or items i d).number × AreWithin width_r width_s (drop (i + 1) items)
-within_step width_r width_s items i d below within =
-    rw add-one (subst (AreWithin width_r width_s) (drop-cons items i d below) within)
 
 -- a sum within one limit for each of its numbers stays so with one more number that is within the limit
 pub IsAtMost-next : (limit i : ℕ) (v x : ℤ) → IsAtMost (limit * i) v → IsAtMost limit x

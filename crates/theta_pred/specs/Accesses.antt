@@ -1,5 +1,5 @@
--- The access of a predicate: the equalities of its conjunctions by which rows of the two sides agree, and the range of
--- a sum beside them.
+-- The access of a predicate: the equalities of its conjunctions by which rows of the two sides agree, the tests that
+-- read rows of one side alone, and the range of a sum beside them.
 use Rattle.std.specs.Prelude.{Bool, true, false, List, [], ◌∷◌, ◌++◌, map, ℤ, ◌-ℤ◌, neg_ℤ, Option, Some, None}
 use Rattle.std.specs.Prelude.{option_map, option_to_list, not, ◌&&◌, ◌||◌, IsTrue, if◌then◌else◌}
 use Rattle.std.specs.List.{list_all}
@@ -12,7 +12,7 @@ use Rattle.theta_pred.specs.declared.agree.Access.{Access}
 use Rattle.theta_pred.specs.declared.agree.Range.{Range}
 use Rattle.theta_pred.specs.declared.agree.Range.TheVariants.{Span, Interval}
 use Rattle.theta_pred.specs.declared.agree.Same.{Same}
-use Rattle.theta_pred.specs.declared.agree.Same.TheVariants.{Texts, Sums}
+use Rattle.theta_pred.specs.declared.agree.Same.TheVariants.{Texts, Sums, Alone}
 use Rattle.theta_pred.specs.declared.atom.Part.{Part}
 use Rattle.theta_pred.specs.declared.kind.Kind.{Kind}
 use Rattle.theta_pred.specs.declared.kind.Kind.TheVariants.{Band, Inequality}
@@ -23,21 +23,26 @@ use Rattle.theta_pred.specs.Formula.{Formula, every, num, txt, Formulas, no_form
 use Rattle.theta_pred.specs.Keys.{Atom, atom_in, atom_of, columns_of, constant_of, is_atom_true, is_between, is_of_kind}
 use Rattle.theta_pred.specs.Keys.{key_of, splits}
 use Rattle.theta_pred.specs.Linear.{value_of}
+use Rattle.theta_pred.specs.OneSided.{is_true_alone, names}
+use Rattle.theta_pred.specs.Sums.{of_side}
 use Rattle.theta_pred.specs.Spans.{do_enclose, first_met, is_one_sided, met_with, same_test, upright}
 use Rattle.theta_pred.specs.TextAtoms.{of_columns, text_at}
 use Rattle.theta_pred.specs.Truth.{holds}
 
--- what two rows agree in: the texts of two columns, or two sums, R's the other and so much more
+-- what two rows agree in: the texts of two columns, or two sums, R's the other and so much more, or a test of the row
+-- of one side, whatever stands beside it
 pub data Agreement : Type 0 where
   texts : TextAtom → Agreement
   sums : List Part → List Part → ℤ → Agreement
+  alone : Side → Formula → Agreement
 
--- what an equality that was made says
+-- what an agreement that was made says
 abbrev pub agreement_of : Same → Agreement
 agreement_of (Texts atom) = texts atom
 agreement_of (Sums pair) = sums pair.r_sum.parts pair.s_sum.parts pair.gap
+agreement_of (Alone it) = alone it.side it.test.formula
 
--- what all the equalities of an access say
+-- what all the agreements of an access say
 abbrev pub agreements : Access → List Agreement
 agreements access = map agreement_of access.sames
 
@@ -45,6 +50,7 @@ agreements access = map agreement_of access.sames
 abbrev pub agrees : List Cell → List Cell → Agreement → Bool
 agrees r s (texts atom) = bytes_eq (text_at atom.r r) (text_at atom.s s)
 agrees r s (sums a b gap) = is_between (Some gap) (Some gap) (value_of a r) (value_of b s)
+agrees r s (alone side f) = is_true_alone side (of_side r s side) f
 
 -- ---- a range, and the terms of an access
 
@@ -68,7 +74,7 @@ abbrev pub is_in_range : Option Reach → List Cell → List Cell → Bool
 is_in_range None r s = true
 is_in_range (Some reach) r s = is_reached reach r s
 
--- what an access says: the equalities, and the range beside them
+-- what an access says: the agreements, and the range beside them
 pub record Terms : Type 0 where
   pub sames : List Agreement
   pub range : Option Reach
@@ -85,7 +91,7 @@ agree_in_all all r s = list_all (agrees r s) all
 abbrev pub do_agree : Terms → List Cell → List Cell → Bool
 do_agree terms r s = agree_in_all terms.sames r s && is_in_range terms.range r s
 
--- ---- the equalities of a predicate
+-- ---- the agreements of a predicate
 
 -- what an equality of two sums says: of each side the parts that name its columns, and the gap between the constants
 abbrev pub of_sums : List SignedTerm → List SignedTerm → Agreement
@@ -98,11 +104,19 @@ agreement_in (num left Eq right) = if splits left right then Some (of_sums left 
 agreement_in (txt (texts'.Cell left) Eq (texts'.Cell right)) = option_map texts (of_columns left right)
 agreement_in _ = None
 
+-- what a member says of rows of this side, where it names no column of the other
+abbrev pub own_in : Side → Formula → Option Agreement
+own_in side f = if names (of_side S R side) f then None else Some (alone side f)
+
+-- what a member says by itself; one that names no column says it of both sides
+abbrev pub agreements_at : Formula → List Agreement
+agreements_at f = option_to_list (agreement_in f) ++ option_to_list (own_in R f) ++ option_to_list (own_in S f)
+
 abbrev mutual
   -- the agreements of a predicate's conjunctions, in the order of writing
   pub agreements_of : Formula → List Agreement
   agreements_of (every fs) = agreements_in fs
-  agreements_of f = option_to_list (agreement_in f)
+  agreements_of f = agreements_at f
 
   -- the agreements of a conjunction's members, one member after another
   pub agreements_in : Formulas → List Agreement
@@ -167,11 +181,11 @@ range_of atoms = first_reach (first_narrow atoms atoms) (option_map span (first_
 
 -- ---- the access
 
--- the equalities and the range of a predicate
+-- the agreements and the range of a predicate
 abbrev pub all_terms : Formula → Terms
 all_terms f = record { sames = agreements_of f; range = range_of (spans f) }
 
--- whether there is an equality
+-- whether there is an agreement
 abbrev pub has_same : List Agreement → Bool
 has_same [] = false
 has_same (a ∷ rest) = true
@@ -182,8 +196,8 @@ tells_more key None = false
 tells_more (Some key) (Some (span atom)) = not (same_test (upright R key) atom)
 tells_more key (Some reach) = true
 
--- the access of a predicate, where it has one: all its equalities and its range. None where it has no equality, and the
--- range is none or only the key atom: the index of the key atom serves then.
+-- the access of a predicate, where it has one: all its agreements and its range. None where it has no agreement, and
+-- the range is none or only the key atom: the index of the key atom serves then.
 abbrev pub access_of : Formula → Option Terms
 access_of f = if has_same (agreements_of f) || tells_more (key_of f) (range_of (spans f)) then Some (all_terms f)
     else None

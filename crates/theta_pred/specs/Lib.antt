@@ -5,6 +5,7 @@ pub mod Keys
 pub mod Linear
 pub mod Names
 pub mod Numeric
+pub mod OneSided
 pub mod Resolved
 pub mod Spans
 pub mod Standing

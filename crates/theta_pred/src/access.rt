@@ -1,13 +1,17 @@
-// The equalities of a tree's conjunctions by which rows of the two sides agree, and the range beside them.
+// What rows of the two sides agree in by a tree's conjunctions, and the range beside it.
 
 ghost use Rattle.std.specs.Prelude.{◌≡◌, ◌≤◌, ◌++◌, ◌||◌, length, map, option_map, option_to_list, IfOk, OnOk, Some};
 ghost use Rattle.theta_pred.specs.Accesses.{
   access_of,
+  agreement_in,
   agreement_of,
+  agreements_at,
   agreements_of,
   all_terms,
+  alone,
   has_same,
   of_sums,
+  own_in,
   span_in,
   spans,
   spans_of,
@@ -20,14 +24,17 @@ ghost use Rattle.theta_pred.specs.Formula.{formula_of};
 ghost use Rattle.theta_pred.specs.Keys.{atom_of, key_of};
 ghost use Rattle.theta_pred.specs.Sound.{IsSound};
 
-use crate::agree::{Access, Same, Sames, SumPair};
+use crate::agree::{Access, Alone, Same, Sames, SumPair};
 use crate::atom::KeyAtom;
 use crate::bounds::constant_apart;
+use crate::copies::copy_of;
 use crate::key::{atom_in, columns, do_split, is_of_kind, key_of};
 use crate::kind::Kind;
+use crate::one_sided::{names, other_of};
 use crate::range::{range_of, tells_more};
 use crate::spans::upright;
 use crate::text_atom::of_columns;
+use crate::theta::Theta;
 use crate::tree::{SignedTerm, Text, Tree};
 use join_rows::Side;
 use std::alloc::{AllocError, Global};
@@ -46,8 +53,8 @@ fn sum_pair(alloc: Global, left: &[SignedTerm], right: &[SignedTerm]) -> Result<
     }))
 }
 
-// Appends the agreements of a tree's conjunctions.
-fn add_sames(
+// Appends the agreement of a tree that is an equality of both sides.
+fn add_equality(
     alloc: Global,
     tree: &Tree,
     width_r: u64,
@@ -56,15 +63,9 @@ fn add_sames(
 ) -> Result<(), AllocError>
     requires { IsSound width_r width_s (formula_of tree.now) }
     ensures { OnOk result (map agreement_of sames.new.items
-        ≡ map agreement_of sames.old.items ++ agreements_of (formula_of tree.now)) }
+        ≡ map agreement_of sames.old.items ++ option_to_list (agreement_in (formula_of tree.now))) }
 {
     match tree {
-        Tree::And(members) => {
-            for member in members {
-                add_sames(alloc, member, width_r, width_s, sames)?;
-            }
-            Ok(())
-        }
         Tree::Num {
             left,
             op: Op::Eq,
@@ -86,6 +87,83 @@ fn add_sames(
             Ok(())
         }
         _ => Ok(()),
+    }
+}
+
+// The test that a tree is of rows of this side.
+fn alone(
+    alloc: Global,
+    side: Side,
+    tree: &Tree,
+    width_r: u64,
+    width_s: u64,
+) -> Result<Same, AllocError>
+    requires { IsSound width_r width_s (formula_of tree.now) }
+    ensures { IfOk result (λ same. agreement_of same ≡ alone side (formula_of tree.now)) }
+{
+    let copy = copy_of(alloc, tree)?;
+    Ok(Same::Alone(Alone {
+        side,
+        test: Theta::over(alloc, copy, width_r, width_s)?,
+    }))
+}
+
+// Appends what a tree says of rows of this side, where it names no column of the other.
+fn add_own(
+    alloc: Global,
+    side: Side,
+    tree: &Tree,
+    width_r: u64,
+    width_s: u64,
+    sames: &mut Vec<Same>,
+) -> Result<(), AllocError>
+    requires { IsSound width_r width_s (formula_of tree.now) }
+    ensures { OnOk result (map agreement_of sames.new.items
+        ≡ map agreement_of sames.old.items ++ option_to_list (own_in side (formula_of tree.now))) }
+{
+    if !names(tree, other_of(side)) {
+        sames.push(alone(alloc, side, tree, width_r, width_s)?)?;
+    }
+    Ok(())
+}
+
+// Appends what a tree says by itself.
+fn add_member(
+    alloc: Global,
+    tree: &Tree,
+    width_r: u64,
+    width_s: u64,
+    sames: &mut Vec<Same>,
+) -> Result<(), AllocError>
+    requires { IsSound width_r width_s (formula_of tree.now) }
+    ensures { OnOk result (map agreement_of sames.new.items
+        ≡ map agreement_of sames.old.items ++ agreements_at (formula_of tree.now)) }
+{
+    add_equality(alloc, tree, width_r, width_s, sames)?;
+    add_own(alloc, Side::R, tree, width_r, width_s, sames)?;
+    add_own(alloc, Side::S, tree, width_r, width_s, sames)
+}
+
+// Appends the agreements of a tree's conjunctions.
+fn add_sames(
+    alloc: Global,
+    tree: &Tree,
+    width_r: u64,
+    width_s: u64,
+    sames: &mut Vec<Same>,
+) -> Result<(), AllocError>
+    requires { IsSound width_r width_s (formula_of tree.now) }
+    ensures { OnOk result (map agreement_of sames.new.items
+        ≡ map agreement_of sames.old.items ++ agreements_of (formula_of tree.now)) }
+{
+    match tree {
+        Tree::And(members) => {
+            for member in members {
+                add_sames(alloc, member, width_r, width_s, sames)?;
+            }
+            Ok(())
+        }
+        _ => add_member(alloc, tree, width_r, width_s, sames),
     }
 }
 
@@ -134,7 +212,7 @@ fn add_spans(
     }
 }
 
-// All equalities of a tree.
+// All agreements of a tree.
 fn sames_of(alloc: Global, tree: &Tree, width_r: u64, width_s: u64) -> Result<Sames, AllocError>
     requires { IsSound width_r width_s (formula_of tree.now) }
     ensures { IfOk result (λ sames. map agreement_of sames ≡ agreements_of (formula_of tree.now)) }
@@ -160,7 +238,7 @@ fn spans_of(
     Ok(all)
 }
 
-// All that a tree says by equalities and a range.
+// All that a tree says by agreements and a range.
 fn all_of(alloc: Global, tree: &Tree, width_r: u64, width_s: u64) -> Result<Access, AllocError>
     requires { IsSound width_r width_s (formula_of tree.now) }
     ensures { IfOk result (λ access. terms_of access ≡ all_terms (formula_of tree.now)) }
@@ -171,7 +249,7 @@ fn all_of(alloc: Global, tree: &Tree, width_r: u64, width_s: u64) -> Result<Acce
     Ok(Access { sames, range })
 }
 
-// Whether there is an equality.
+// Whether there is an agreement.
 fn has_same(sames: &[Same]) -> bool
     ensures { result ≡ has_same (map agreement_of sames.now) }
 {

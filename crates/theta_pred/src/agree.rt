@@ -6,6 +6,7 @@ ghost use Rattle.theta_pred.specs.Sizes.{IsAtMost};
 
 use crate::atom::{KeyAtom, Linear};
 use crate::text_atom::TextAtom;
+use crate::theta::Theta;
 use join_rows::{Items, Side};
 use std::alloc::{AllocError, Global};
 
@@ -18,11 +19,19 @@ pub struct SumPair {
     pub ghost small: { IsAtMost (2 ^ 100) gap },
 }
 
-/// What rows of the two sides agree in: two texts, or two sums.
-#[derive(Debug, Drop)]
+/// A test that reads rows of this side alone: `test` names no column of the other.
+#[derive(Drop)]
+pub struct Alone {
+    pub side: Side,
+    pub test: Theta,
+}
+
+/// What rows of the two sides agree in: two texts, or two sums, or a test of the row of one side.
+#[derive(Drop)]
 pub enum Same {
     Texts(TextAtom),
     Sums(SumPair),
+    Alone(Alone),
 }
 
 pub type Sames = Items<Same>;
@@ -45,7 +54,7 @@ pub enum Range {
 }
 
 /// All in which rows agree of which a predicate is true, and the range in which their sums lie.
-#[derive(Debug, Drop)]
+#[derive(Drop)]
 pub struct Access {
     pub sames: Sames,
     pub range: Option<Range>,
@@ -63,6 +72,17 @@ impl SumPair {
     }
 }
 
+impl Alone {
+    fn copy(&self) -> Result<Alone, AllocError>
+        ensures { IfOk result (λ alone. alone ≡ self.now) }
+    {
+        Ok(Alone {
+            side: self.side,
+            test: self.test.copy()?,
+        })
+    }
+}
+
 impl Same {
     fn copy(&self, alloc: Global) -> Result<Same, AllocError>
         ensures { IfOk result (λ same. same ≡ self.now) }
@@ -70,6 +90,7 @@ impl Same {
         Ok(match self {
             Same::Texts(atom) => Same::Texts(*atom),
             Same::Sums(pair) => Same::Sums(pair.copy(alloc)?),
+            Same::Alone(alone) => Same::Alone(alone.copy()?),
         })
     }
 }

@@ -31,7 +31,7 @@ use std::alloc::{AllocError, Global};
 use theta_text::Op;
 
 // Whether a sum names a column of this side.
-fn names_side(sum: &[SignedTerm], side: Side) -> bool
+pub(crate) fn names_side(sum: &[SignedTerm], side: Side) -> bool
     ensures { result ≡ names_side side sum.now }
 {
     for term in sum {

@@ -11,6 +11,7 @@ mod key;
 mod kind;
 mod named;
 mod numeric;
+mod one_sided;
 mod range;
 mod resolver;
 mod short;
@@ -22,7 +23,7 @@ mod theta;
 mod tree;
 mod truth;
 
-pub use agree::{Access, Interval, Range, Same, Sames, SumPair};
+pub use agree::{Access, Alone, Interval, Range, Same, Sames, SumPair};
 pub use atom::{KeyAtom, Linear, Part, Parts};
 pub use fault::ResolveFault;
 pub use resolver::resolve;

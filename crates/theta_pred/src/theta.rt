@@ -5,6 +5,7 @@ ghost use Rattle.theta_pred.specs.Accesses.{access_of, terms_of, IsAccessOf, Ter
 ghost use Rattle.theta_pred.specs.Formula.{formula_of};
 ghost use Rattle.theta_pred.specs.Keys.{atom_of, key_of, Atom, IsKeyOf};
 ghost use Rattle.theta_pred.specs.Numeric.{AreNumeric};
+ghost use Rattle.theta_pred.specs.OneSided.{is_true_alone};
 ghost use Rattle.theta_pred.specs.Sound.{IsSound};
 ghost use Rattle.theta_pred.specs.Truth.{holds, width_of, IsRowOf};
 
@@ -127,11 +128,12 @@ impl Theta {
 
     /// All equalities of the top conjunction, and of the conjunctions within it however deep, by which
     /// rows of the two sides agree: each of two sums that names a column of both sides, and each of
-    /// a text of R and one of S. Beside them the range of a sum: the first band of these conjunctions
+    /// a text of R and one of S. Among them, in the order of writing, each member that names columns of
+    /// one side alone, or of none, which rows of a side pass or don't. Beside them the range of a sum: the first band of these conjunctions
     /// that names a column of both sides, or the first inequality where there is none, met with every
     /// other that has the same two sums. Where that has one bound only, and another test bounds the
     /// same sum of one side from the other side, the range is the interval between the two. None where
-    /// there is no equality and the range says no more than the key atom, whose index serves then.
+    /// there is no such member and the range says no more than the key atom, whose index serves then.
     pub fn access(&self) -> Result<Option<Access>, AllocError>
         ensures { IfOk result (λ access.
             option_map terms_of access ≡ access_of self.now.formula) }
@@ -153,6 +155,18 @@ impl Theta {
         requires row_s { IsRowOf self.now Side.S s.now }
         ensures { result ≡ holds self.now r.now s.now }
     {
-        is_true(&self.tree, r, s)
+        is_true(&self.tree, self.width_r, self.width_s, r, s)
+    }
+
+    /// Whether the predicate is true of a row of this side with none of the other beside it: each cell of
+    /// the other is missing, so it has no number and the empty text. It takes no memory.
+    pub fn holds_alone(&self, side: Side, row: &Cells) -> bool
+        ensures { result ≡ is_true_alone side row.now self.now.formula }
+    {
+        let none = Cells::new(self.alloc);
+        match side {
+            Side::R => is_true(&self.tree, self.width_r, self.width_s, row, &none),
+            Side::S => is_true(&self.tree, self.width_r, self.width_s, &none, row),
+        }
     }
 }

@@ -1,8 +1,8 @@
 // The truth of a tree at two rows.
 
-ghost use Rattle.std.specs.Prelude.{◌≡◌, length, option_map, Some};
+ghost use Rattle.std.specs.Prelude.{◌≡◌, ◌≤◌, length, option_map, Some};
 ghost use Rattle.theta_pred.specs.Formula.{formula_of};
-ghost use Rattle.theta_pred.specs.Sound.{IsSound, IsSum, IsTextWithin};
+ghost use Rattle.theta_pred.specs.Sound.{IsSound};
 ghost use Rattle.theta_pred.specs.Sums.{sum_of, text_of};
 ghost use Rattle.theta_pred.specs.Truth;
 
@@ -12,15 +12,15 @@ use join_rows::Cells;
 use std::cmp::Ordering;
 use theta_text::Op;
 
-// Whether the tree is true.
-pub(crate) fn is_true(tree: &Tree, r: &Cells, s: &Cells) -> bool
-    requires { IsSound (length r.now) (length s.now) (formula_of tree.now) }
+// Whether the tree, which is one over headers of these widths, is true of two rows of any width.
+pub(crate) fn is_true(tree: &Tree, width_r: u64, width_s: u64, r: &Cells, s: &Cells) -> bool
+    requires { IsSound width_r width_s (formula_of tree.now) }
     ensures { result ≡ Truth.is_true r.now s.now (formula_of tree.now) }
 {
     match tree {
         Tree::Or(members) => {
             for member in members {
-                if is_true(member, r, s) {
+                if is_true(member, width_r, width_s, r, s) {
                     return true;
                 }
             }
@@ -28,13 +28,13 @@ pub(crate) fn is_true(tree: &Tree, r: &Cells, s: &Cells) -> bool
         }
         Tree::And(members) => {
             for member in members {
-                if !is_true(member, r, s) {
+                if !is_true(member, width_r, width_s, r, s) {
                     return false;
                 }
             }
             true
         }
-        Tree::Not(member) => !is_true(member, r, s),
+        Tree::Not(member) => !is_true(member, width_r, width_s, r, s),
         Tree::Num { left, op, right } => sums_compare(left, *op, right, r, s),
         Tree::Abs { sum, op, bound } => size_compares(sum, *op, *bound, r, s),
         Tree::Txt { left, op, right } => allows(*op, text(left, r, s).cmp(text(right, r, s))),
@@ -43,8 +43,8 @@ pub(crate) fn is_true(tree: &Tree, r: &Cells, s: &Cells) -> bool
 
 // Whether a test on two sums is true.
 fn sums_compare(left: &SignedTerms, op: Op, right: &SignedTerms, r: &Cells, s: &Cells) -> bool
-    requires left { IsSum (length r.now) (length s.now) left.now }
-    requires right { IsSum (length r.now) (length s.now) right.now }
+    requires left { length left.now ≤ 16 }
+    requires right { length right.now ≤ 16 }
     ensures { result
         ≡ Truth.compares op (sum_of r.now s.now left.now) (sum_of r.now s.now right.now) }
 {
@@ -56,7 +56,7 @@ fn sums_compare(left: &SignedTerms, op: Op, right: &SignedTerms, r: &Cells, s: &
 
 // Whether a test on a sum's absolute value is true.
 fn size_compares(terms: &SignedTerms, op: Op, bound: i64, r: &Cells, s: &Cells) -> bool
-    requires { IsSum (length r.now) (length s.now) terms.now }
+    requires { length terms.now ≤ 16 }
     ensures { result
         ≡ Truth.compares op (option_map Truth.size_of (sum_of r.now s.now terms.now)) (Some bound) }
 {

@@ -9,7 +9,8 @@ mod sums;
 mod texts;
 
 use self::predicates::{apart, band, compared, either, negated, text_below};
-use join_rows::{Bytes, Cell, Cells, Names};
+use self::texts::over_x_and_a;
+use join_rows::{Bytes, Cell, Cells, Names, Side};
 use std::alloc::{AllocError, Global};
 use std::process::Abort;
 use std::test::Fail;
@@ -105,6 +106,40 @@ fn answers_each(rt: &impl Abort, alloc: Global, theta: &Theta, lines: &[&str]) -
 fn answers(rt: &impl Abort, alloc: Global, pred: Pred, lines: &[&str]) -> Result<(), Fail> {
     let theta = made_over_x_and_y(rt, alloc, pred)?;
     answers_each(rt, alloc, &theta, lines)
+}
+
+// That a predicate is true, or not, of a row with this beside 1, and none of the other side.
+fn answers_alone(
+    rt: &impl Abort,
+    alloc: Global,
+    text: &str,
+    side: Side,
+    x: &str,
+    wanted: bool,
+) -> Result<(), AllocError> {
+    let row = row(alloc, x, "1:1")?;
+    let theta = over_x_and_a(alloc, text)?;
+    let answer = theta.holds_alone(side, &row);
+    drop(theta);
+    assert_eq!(rt; answer, wanted, "{text} of {x}");
+    Ok(())
+}
+
+#[test]
+fn a_row_of_one_side_alone(rt: HostRuntime) -> Result<(), Fail> {
+    for (text, side, x, wanted) in [
+        ("text(r.x) = 'u' and r.a = 1", Side::R, "u", true),
+        ("text(r.x) = 'u' and r.a = 1", Side::R, "v", false),
+        ("s.x > s.a", Side::S, "2:2", true),
+        ("s.x > s.a", Side::S, "1:1", false),
+        ("not s.x > s.a", Side::S, "u", true), // a cell without a number
+        ("r.x = s.x", Side::R, "2:2", false), // S's cell is missing
+        ("text(r.x) > text(s.x)", Side::R, "u", true), // and has the empty text
+        ("1 = 1", Side::S, "2:2", true),
+    ] {
+        answers_alone(&rt, rt.alloc(), text, side, x, wanted)?;
+    }
+    Ok(())
 }
 
 #[test]

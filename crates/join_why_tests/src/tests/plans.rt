@@ -53,6 +53,20 @@ fn a_range_beside_equalities_is_told_with_them(rt: HostRuntime) -> Result<(), Fa
 }
 
 #[test]
+fn rows_that_fail_a_member_of_their_own_are_left_out(rt: HostRuntime) -> Result<(), Fail> {
+    let one =
+        "rows that agree are looked up by their values:\n    r.id = s.id\nrows of R that fail a member that reads them alone aren't looked up\n";
+    finds(&rt, rt.alloc(), "r.x > 5 and r.id = s.id", one)?;
+    let both =
+        "rows are looked up in a range:\n    r.x less s.y at most -1\nrows of R that fail a member that reads them alone aren't looked up\nrows of S that fail a member that reads them alone aren't looked up\n";
+    finds(&rt, rt.alloc(), "r.x < s.y and 1 = 1", both)?;
+    let no_key =
+        "rows of S that fail a member that reads them alone aren't looked up\nno key: 3 times 3 evaluations, since no member of the top `and` serves\n";
+    finds(&rt, rt.alloc(), "text(s.id) = 'u'", no_key)?;
+    Ok(())
+}
+
+#[test]
 fn tests_of_the_same_sums_are_one_range(rt: HostRuntime) -> Result<(), Fail> {
     let lines = "rows are looked up in a range:\n    r.x less s.y from -5 to 0\n";
     finds(&rt, rt.alloc(), "s.y >= r.x and s.y <= r.x + 5", lines)?;

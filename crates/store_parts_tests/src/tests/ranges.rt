@@ -22,28 +22,27 @@ fn a_band_finds_what_a_scan_finds(rt: HostRuntime) -> Result<(), Fail> {
 
 #[test]
 fn an_order_finds_in_stored_order(rt: HostRuntime) -> Result<(), Fail> {
-    probed(
-        &rt,
-        rt.alloc(),
-        "r.x < s.x and text(r.a) = 'u'",
-        true,
-        false,
-        &[
-            "S 0 0 8 -",
-            "S 1 0 5 -",
-            "R 0 0 -3 u",
-            "S 2 1 7 -",
-            "R 1 0 6 u",
-        ],
-        &[
-            "R 9 0 5 u among all finds [9 0][9 2]",
-            "R 9 0 5 u among 1 finds [9 2]",
-            "R 9 0 5 v among all finds ",
-            "S 9 0 -2 - among all finds [0 9]",
-            "S 9 0 7 - among all finds [0 9][1 9]",
-            "S 9 0 -3 - among all finds ",
-        ],
-    )?;
+    let lines = [
+        "S 0 0 8 -",
+        "S 1 0 5 -",
+        "R 0 0 -3 u",
+        "S 2 1 7 -",
+        "R 1 0 6 u",
+    ];
+    let probes = [
+        "R 9 0 5 u among all finds [9 0][9 2]",
+        "R 9 0 5 u among 1 finds [9 2]",
+        "R 9 0 5 v among all finds ",
+        "S 9 0 -2 - among all finds [0 9]",
+        "S 9 0 7 - among all finds [0 9][1 9]",
+        "S 9 0 -3 - among all finds ",
+    ];
+    for (predicate, accessed) in [
+        ("r.x < s.x and (text(r.a) = 'u' or r.x = s.x)", false),
+        ("r.x < s.x and text(r.a) = 'u'", true),
+    ] {
+        probed(&rt, rt.alloc(), predicate, true, accessed, &lines, &probes)?;
+    }
     Ok(())
 }
 

@@ -5,9 +5,10 @@ use join_rows::Side;
 use std::alloc::{AllocError, Global};
 use std::process::Abort;
 use std::test::Fail;
-use theta_pred::{Access, Interval, Range, Same, TextAtom};
+use theta_pred::{Access, Alone, Interval, Range, Same, TextAtom};
 
-// R's column and S's of equal texts, or R's columns, S's and how much R's sum is above S's.
+// R's column and S's of equal texts, or R's columns, S's and how much R's sum is above S's, or the side whose rows a
+// test reads alone.
 fn write_same(text: &mut String, same: &Same) -> Result<(), AllocError> {
     match same {
         Same::Texts(TextAtom { r, s }) => write!(text, "[{r} {s}]"),
@@ -19,6 +20,18 @@ fn write_same(text: &mut String, same: &Same) -> Result<(), AllocError> {
             write_sum(text, &pair.s_sum)?;
             write!(text, " {gap}]")
         }
+        Same::Alone(
+            Alone {
+                side: Side::R,
+                test: _,
+            },
+        ) => write!(text, "{{r}}"),
+        Same::Alone(
+            Alone {
+                side: Side::S,
+                test: _,
+            },
+        ) => write!(text, "{{s}}"),
     }
 }
 
@@ -130,7 +143,7 @@ fn predicates_with_their_accesses(rt: HostRuntime) -> Result<(), Fail> {
         "r.x + 5 = s.a | [+0 +1 -5]",
         "s.a - r.x = 3 | [-0 -1 3]",
         "r.x + r.a = s.x - s.a + s.a | [+0+1 +0-1+1 0]",
-        "1 = 1 and (text(r.x) = text(s.a) and (r.a = s.x and 2 = 2)) | [0 1][+1 +0 0]",
+        "text(r.x) = text(s.a) and (r.a = s.x and (r.a = s.x + 1)) | [0 1][+1 +0 0][+1 +0 1]",
         "(text(r.x) = text(s.a) or 1 = 1) and r.x = s.x | [+0 +0 0]",
         "abs(r.a - r.x) <= 2 and text(r.x) = text(s.x) | [0 0]",
         "abs(r.a - s.a) > 2 and text(r.x) = text(s.x) | [0 0]",
@@ -146,7 +159,7 @@ fn equalities_with_a_range_beside_them(rt: HostRuntime) -> Result<(), Fail> {
         "abs(r.a - s.a) <= 2 and text(r.x) = text(s.x) and r.x = s.x | [0 0][+0 +0 0](+1 +1 -2 2)",
         "abs(r.a - s.a) <= 2 and text(r.x) = text(s.x) | [0 0](+1 +1 -2 2)",
         "text(r.x) = text(s.x) and r.x <= s.x and abs(r.a - s.a) < 1 | [0 0](+1 +1 0 0)",
-        "text(r.x) = text(s.x) and (1 = 1 and s.x <= r.x) | [0 0](+0 +0 0 none)",
+        "text(r.x) = text(s.x) and (r.x != s.x and s.x <= r.x) | [0 0](+0 +0 0 none)",
         "r.x = s.x and s.a - r.a < 3 and r.a - s.a < 3 | [+0 +0 0](+1 +1 -2 2)",
     ];
     tells_accesses(&rt, rt.alloc(), &lines)?;
@@ -203,6 +216,27 @@ fn a_range_with_two_bounds_goes_before_one_with_one(rt: HostRuntime) -> Result<(
 }
 
 #[test]
+fn members_that_read_one_side_alone(rt: HostRuntime) -> Result<(), Fail> {
+    let lines = [
+        "r.x > 5 | {r}",
+        "s.x != s.a or abs(s.a) < 3 | {s}",
+        "1 = 2 | {r}{s}",
+        "not (r.x = 1 and text(r.a) = '') | {r}",
+        "r.x = 3 and r.x = r.a | {r}{r}",
+        "text(r.x) = text(r.a) and text(s.x) = 'u' | {r}{s}",
+        "text(r.x) = 'u' and r.a = s.a | {r}[+1 +1 0]",
+        "(r.x = 1 and text(s.a) = 'u') and r.a = s.a | {r}{s}[+1 +1 0]",
+        "1 = 1 and (text(r.x) = text(s.a) and (r.a = s.x and 2 = 2)) | {r}{s}[0 1][+1 +0 0]{r}{s}",
+        "r.x > 5 and s.x <= r.x | {r}(+0 +0 0 none)",
+        "text(r.x) = text(s.x) and (1 = 1 and s.x <= r.x) | [0 0]{r}{s}(+0 +0 0 none)",
+        "abs(r.a - s.a) <= 2 and 's' < text(s.x) | {s}(+1 +1 -2 2)",
+        "r.x > 5 or s.x > 5 | none",
+    ];
+    tells_accesses(&rt, rt.alloc(), &lines)?;
+    Ok(())
+}
+
+#[test]
 fn predicates_without_an_access(rt: HostRuntime) -> Result<(), Fail> {
     let lines = [
         "r.x <= s.x | none",
@@ -213,8 +247,6 @@ fn predicates_without_an_access(rt: HostRuntime) -> Result<(), Fail> {
         "s.x <= r.x and s.a <= r.x | none",
         "r.x <= s.x and r.x < s.x + 3 | none",
         "r.x != s.x | none",
-        "r.x = 3 and r.x = r.a | none",
-        "text(r.x) = text(r.a) and text(s.x) = 'u' | none",
         "text(r.x) < text(s.a) | none",
         "text(r.x) = text(s.a) or 1 = 1 | none",
         "not text(r.x) = text(s.a) | none",

@@ -6,7 +6,7 @@ use Rattle.theta_pred.specs.declared.tree.SignedTerm.{SignedTerm}
 use Rattle.theta_pred.specs.declared.tree.Number.TheVariants.{Given}
 use Rattle.theta_pred.specs.Sizes.{IsAtMost}
 use Rattle.theta_pred.specs.Sums.{plus, sum_of}
-use Rattle.theta_pred.proofs.SumSteps.{sum_step, within_step, IsAtMost-next}
+use Rattle.theta_pred.proofs.SumSteps.{sum_step, IsAtMost-next}
 use Rattle.theta_pred.proofs.sums.sum.Goals as goal
 
 pub loop-term-preserved : goal.loop-term-preserved
@@ -22,13 +22,12 @@ loop-term-preserved c =
     let x_small = c.in_ok-value.ensures.small in
     let v_small = c.loop-term.invariant.small in
     let all = ap length c.loop-term.invariant.all in
-    let i_small : i < 16 = omega (arith, c.requires.short, all) in
+    let i_small : i < 16 = omega (arith, c.requires, all) in
     let is : before +ℤ x ≡ after = omega (arith, ints) in
     record {
       value = subst (λ v. plus (Some v) (sum_of r s (drop (i + 1) items)) ≡ sum_of r s c.args.terms.now) is
           (sum_step r s items i default before x _ c.loop-term-test.true c.in_ok-value.ensures.value
           c.loop-term.invariant.value);
-      within = (within_step _ _ items i default c.loop-term-test.true c.loop-term.invariant.within).1;
       small = subst (IsAtMost (2 ^ 63 * (i + 1))) is (IsAtMost-next (2 ^ 63) i before x v_small x_small);
       all = c.loop-term.invariant.all;
     }

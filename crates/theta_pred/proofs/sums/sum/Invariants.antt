@@ -1,6 +1,5 @@
-use Rattle.std.proofs.Common.{◌≡◌, ◌*◌, ◌^◌, length, drop, Some}
+use Rattle.std.proofs.Common.{◌≡◌, ◌*◌, ◌^◌, drop, Some}
 use Rattle.theta_pred.specs.Sizes.{IsAtMost}
-use Rattle.theta_pred.specs.Sound.{AreWithin}
 use Rattle.theta_pred.specs.Sums.{plus, sum_of}
 use Rattle.theta_pred.proofs.sums.sum.Given as goal
 
@@ -9,7 +8,6 @@ invariant-loop-term l =
     let left = drop l.term-index l.term-items in
     record {
       value : plus (Some l.value) (sum_of l.r l.s left) ≡ sum_of l.r l.s l.terms;
-      within : AreWithin (length l.r) (length l.s) left;
       small : IsAtMost (2 ^ 63 * l.term-index) l.value;
       all : l.term-items ≡ l.terms;
     }

@@ -1,4 +1,4 @@
-use Rattle.std.proofs.Common.{◌≡◌, length, map, drop}
+use Rattle.std.proofs.Common.{◌≡◌, map, drop}
 use Rattle.theta_pred.specs.Formula.{formula_of, formulas}
 use Rattle.theta_pred.specs.Sound.{AreSound}
 use Rattle.theta_pred.specs.Truth
@@ -12,7 +12,7 @@ invariant-loop-member l =
     let left = formulas (map formula_of (drop l.member-index l.member-items)) in
     record {
       value : Truth.some_is_true l.r l.s left ≡ Truth.is_true l.r l.s (formula_of l.tree);
-      sound : AreSound (length l.r) (length l.s) left;
+      sound : AreSound l.width_r l.width_s left;
     }
 
 abbrev pub invariant-loop-member-2 : goal.invariant-loop-member-2
@@ -20,5 +20,5 @@ invariant-loop-member-2 l =
     let left = formulas (map formula_of (drop l.member-index l.member-items)) in
     record {
       value : Truth.each_is_true l.r l.s left ≡ Truth.is_true l.r l.s (formula_of l.tree);
-      sound : AreSound (length l.r) (length l.s) left;
+      sound : AreSound l.width_r l.width_s left;
     }
