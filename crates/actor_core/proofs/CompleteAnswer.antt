@@ -224,11 +224,6 @@ module _ (input : Input) (setting : Setting) (joiners feeders : ℕ) (cores : Li
       complete_in_wave input setting (first_rest setting) joiners feeders cores f all fronts law valid
       (first_stands input setting valid) done
 
-  -- and so they are where the work of all is over
-  pub over_finished : IsAllAt IsOver cores
-      → IsFinishedFamily input setting (journal_among joiners feeders cores) f
-  over_finished over = over_in_wave input setting (first_rest setting) joiners feeders cores f all fronts over
-
 -- the last two machines of a finished family answer its run
 pub run_ends : (law : FinishedAnswers) (input : Input) (setting : Setting) (joiners feeders : ℕ) (cores : List Core)
     (f : Actor → ActorLists) → IsValid input setting → AllStand input setting joiners feeders cores f

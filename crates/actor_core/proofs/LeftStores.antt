@@ -1,9 +1,8 @@
 -- The stores that joiners' machines give back.
-use Rattle.std.proofs.Common.{◌≡◌, ℕ, zero, suc, ◌+◌, ◌<◌, ◌≤◌, refl, sym, ap, subst, ◌∙◌, inl, inr, arith}
+use Rattle.std.proofs.Common.{◌≡◌, ℕ, zero, suc, ◌+◌, ◌≤◌, refl, sym, ap, subst, ◌∙◌, inl, inr, arith}
 use Rattle.std.proofs.Common.{Some, List, [], ◌∷◌, ◌++◌, length}
 use Rattle.std.specs.Prelude.{slice_get}
 use Rattle.std.proofs.lemmas.List.{length-append}
-use Rattle.std.proofs.lemmas.Option.{slice_get_within}
 use Rattle.store_parts.specs.Stored.{Stored}
 use Rattle.actor_core.specs.Leavings.{AreStores, Gives}
 use Rattle.actor_core.specs.declared.machines.Core.{Core}
@@ -27,19 +26,6 @@ none_given feeders = record {
   long = omega arith;
   each = λ k given is. absurd (none_some given is);
 }
-
--- one machine more of those before
-pub passes_one : (feeders : ℕ) (cores : List Core) (core : Core) (stores : List Stored) → length cores < feeders
-    → AreStores feeders cores stores → AreStores feeders (cores ++ core ∷ []) stores
-passes_one feeders cores core stores low are =
-    let more = length-append cores (core ∷ []) in
-    let long = are.long in
-    record {
-      long = omega (arith, more, long, low);
-      each = λ k given is.
-          let there = slice_get_within stores k given is in
-          absurd (omega (arith, there, long, low));
-    }
 
 -- one machine more, and its store
 pub gives_one : (feeders : ℕ) (cores : List Core) (core : Core) (stores : List Stored) (given : Stored)

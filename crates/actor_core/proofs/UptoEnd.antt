@@ -1,13 +1,11 @@
 -- The input up to a wave's end.
 use Rattle.std.proofs.Common.{◌≡◌, ℕ, zero, suc, ◌<◌, ◌^◌, refl, sym, ap, ap₂, ◌∙◌, arith, Bool, true}
 use Rattle.std.proofs.Common.{false}
-use Rattle.std.proofs.Common.{cond, List, [], ◌∷◌, ◌++◌, take, length, map, lt-ltb, ltb-true}
-use Rattle.std.specs.Prelude.{not, filter, sum_by, nat_lt, All, slice_get, Some}
+use Rattle.std.proofs.Common.{cond, List, [], ◌∷◌, take, length, map, lt-ltb, ltb-true}
+use Rattle.std.specs.Prelude.{not, filter, sum_by, nat_lt, All}
 use Rattle.std.specs.List.{AllByRecursion}
-use Rattle.std.proofs.Math.Seq.{take-suc}
-use Rattle.std.proofs.lemmas.List.{length-take-le, get_or-take, map-append}
-use Rattle.std.proofs.lemmas.List.Elements.{filter-append, All-from_recursion, recursion_from_All}
-use Rattle.std.proofs.lemmas.Option.{get_or_from_slice_get, slice_get_within}
+use Rattle.std.proofs.lemmas.List.{length-take-le, get_or-take}
+use Rattle.std.proofs.lemmas.List.Elements.{All-from_recursion, recursion_from_All}
 use Rattle.join_rows.specs.declared.table.Side.{Side}
 use Rattle.join_rows.specs.declared.table.Side.TheVariants.{R, S}
 use Rattle.join_rows.proofs.Bags.{only_if}
@@ -35,17 +33,6 @@ use Rattle.actor_core.proofs.Beginnings.{map-cut}
 picked : {X Y : Type 0} (g : X → Y) (c : Bool) (x : X) → map g (cond c (x ∷ []) []) ≡ cond c (g x ∷ []) []
 picked g true x = refl
 picked g false x = refl
-
--- with the next element the front has its image more, if it passes
-pub front_grows : {X Y : Type 0} (g : X → Y) (test : X → Bool) (xs : List X) (i : ℕ) (x : X) → slice_get xs i ≡ Some x
-    → map g (filter test (take (suc i) xs)) ≡ map g (filter test (take i xs)) ++ cond (test x) (g x ∷ []) []
-front_grows g test xs i x is =
-    let next = take-suc xs i x (slice_get_within xs i x is) ∙ ap (λ y. take i xs ++ y ∷ [])
-    (get_or_from_slice_get xs i x x is) in
-    ap (λ ys. map g (filter test ys)) next
-    ∙ ap (map g) (filter-append test (take i xs) (x ∷ []))
-    ∙ map-append g (filter test (take i xs)) (filter test (x ∷ []))
-    ∙ ap (λ ys. map g (filter test (take i xs)) ++ ys) (picked g (test x) x)
 
 -- ---- the rows of a share
 

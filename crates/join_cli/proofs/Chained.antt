@@ -1,7 +1,7 @@
 -- The output of a second join is what the definitions say.
 use Rattle.std.proofs.Common.{◌≡◌, ◌∙◌, ◌≤◌, ◌++◌, ◌^◌, ℕ, Bool, true, false, List, [], ◌∷◌, length, arith, Option}
 use Rattle.std.proofs.Common.{None, Some, refl, sym, ap, subst}
-use Rattle.std.specs.Prelude.{All, IfSome, is_some}
+use Rattle.std.specs.Prelude.{IfSome, is_some}
 use Rattle.std.proofs.lemmas.List.{length-map}
 use Rattle.join_rows.specs.declared.table.Side.TheVariants.{R}
 use Rattle.trace_law.specs.declared.input.Input.{Input}
@@ -13,7 +13,7 @@ use Rattle.join_runtime.specs.Endings.{EndsView}
 use Rattle.load_controller.specs.declared.line.TurnLine.{TurnLine}
 use Rattle.chain_join.specs.declared.chain.ChainRun.{ChainRun}
 use Rattle.chain_join.specs.declared.second.Third.{Third as ChainThird}
-use Rattle.chain_join.specs.Chains.{IsToldOf, IsWide, joined_row, nested3, second_input}
+use Rattle.chain_join.specs.Chains.{IsToldOf, joined_row, nested3, second_input}
 use Rattle.join_words.specs.Words.{Asked}
 use Rattle.join_words.specs.declared.options.Chain.{Chain}
 use Rattle.join_plan.specs.declared.fitting.Planned.{Planned}
@@ -45,13 +45,6 @@ third_over seed planned input is fit = subst (λ i. IfSome planned.third (IsThir
         → IfSome third (IsThirdOver (input_of seed planned))
     by None fits = tt
     by (Some third) fits = record { table = fits.table; width_r = fits.width_r; width_s = fits.width_s }
-
--- it is as wide as its predicate says
-pub third_wide : (input : Input) (third : Third) → IsThirdOver input third → IsWide third.table third.theta.width_s
-third_wide input third over = record {
-  header = sym over.width_s;
-  rows = subst (λ w. All (λ row. length row ≡ w) third.table.rows) (sym over.width_s) over.table.wide;
-}
 
 -- ---- the two runs
 

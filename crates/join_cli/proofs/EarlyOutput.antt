@@ -22,7 +22,7 @@ use Rattle.join_words.specs.declared.options.Chain.{Chain}
 use Rattle.join_words.specs.declared.options.Options.{Options}
 use Rattle.join_cli.specs.Requests.{IsChained, IsRinged}
 use Rattle.join_plan.specs.declared.fitting.Planned.{Planned}
-use Rattle.join_cli.specs.Early.{CutFound, IsFoundText, IsOutput, PutFound, PutPart, StoppedAt, TakesFound, WroteLines}
+use Rattle.join_cli.specs.Early.{CutFound, IsFoundText, IsOutput, PutFound, PutPart, StoppedAt, TakesFound}
 use Rattle.join_cli.specs.Early.{WroteOutput}
 use Rattle.join_cli.specs.Ends.{ConcludesBy, IsMade, TakesEach}
 use Rattle.join_cli.specs.declared.outcome.Outcome.{Outcome}
@@ -200,18 +200,6 @@ whole_stopped asked planned text old new (Some way) whole made front =
       output = subst (λ e. IsOutput e asked planned way text) (sym whole) made.1;
       front = front;
     })
-
--- where nothing is wanted early and nothing was written, no more than that was
-pub whole_lines : (asked : Asked) (planned : Planned) (old new : Option (List ℕ)) → asked.early ≡ false → new ≡ old
-    → WroteLines asked.early asked planned old new
-whole_lines asked planned old new whole same = rw whole same
-
--- early output is of joiners in one grid
-pub one_grid : (groups : Option ℕ) (early : Bool) (P Q : Type 0) → IfSome groups (λ _. P × (early ≡ false) × Q)
-    → early ≡ true
-    → groups ≡ None
-one_grid None early P Q alone is = refl
-one_grid (Some joiners) early P Q alone is = absurd (cc (sym is ∙ alone.1))
 
 -- and of two tables
 pub two_tables : (options : Options) (chain : Option Chain) → IfSome chain (IsChained options) → options.early ≡ true

@@ -1,26 +1,19 @@
 -- The waves of a run with a growth are those of what was run.
-use Rattle.std.proofs.Common.{◌≡◌, ◌∙◌, ◌+◌, ◌*◌, ◌<◌, ◌≤◌, ◌^◌, ℕ, List, [], ◌++◌, Option, None, ap₂, arith, drop, length}
-use Rattle.std.proofs.Common.{length-append, refl, sym, ap, subst, take}
-use Rattle.std.proofs.lemmas.List.{length-take-le, take-append-drop}
+use Rattle.std.proofs.Common.{◌≡◌, ◌∙◌, ◌+◌, ◌≤◌, ℕ, List, [], ◌++◌, Option, ap₂, drop, length}
+use Rattle.std.proofs.Common.{refl, sym, ap, subst, take}
 use Rattle.std.specs.List.{IsSplitAt}
 use Rattle.std.specs.Prelude.{flat_map}
-use Rattle.epoch_tags.specs.declared.tuple.Pair.{Pair}
 use Rattle.load_controller.specs.declared.line.TurnLine.{TurnLine}
-use Rattle.load_controller.specs.Journal.{Fits}
 use Rattle.trace_law.specs.declared.input.Input.{Input}
 use Rattle.trace_law.specs.declared.run.Run.{Run}
 use Rattle.trace_law.specs.declared.setting.Setting.{Setting}
-use Rattle.trace_law.specs.Family.{first_rest, rules_of}
-use Rattle.actor_core.specs.declared.rests.Rest.{Rest}
-use Rattle.actor_core.specs.declared.rests.Upto.{Upto}
+use Rattle.trace_law.specs.Family.{first_rest}
 use Rattle.actor_core.specs.Rests.{IsRestOf, rest_of}
 use Rattle.elastic_grow.specs.Growth.{grown_line, grown_setting}
 use Rattle.join_plan.specs.declared.waves.WaveEnd.{WaveEnd}
-use Rattle.join_cli.specs.declared.growth.Grown.{Grown}
 use Rattle.join_cli.specs.declared.waves.Waved.{Waved}
-use Rattle.join_cli.specs.Grown.{waves_since}
 use Rattle.join_cli.specs.GrownSteps.{AreFirstWaves, AreGrownWaves}
-use Rattle.join_cli.specs.Left.{AreBehind, counted, end_behind, line_behind}
+use Rattle.join_cli.specs.Left.{AreBehind, counted, end_behind}
 use Rattle.join_cli.specs.WaveSteps.{AreAhead, AreWavesBehind}
 use Rattle.join_cli.specs.WaveTexts.{no_waves, waves_over}
 use Rattle.join_cli.specs.Waves.{no_rows, waves_pairs}
@@ -39,11 +32,6 @@ first_are number input setting none first ends rest_is run_is trail_is stands mo
       stands = more.stands stands;
     }
 
--- the line of a rest that stands is small
-pub small_line : (input : Input) (setting : Setting) (rest : Rest) → IsRestOf input setting rest
-    → Fits (rules_of setting) rest.line
-small_line input setting rest is = is.stands.line.fits
-
 -- the grown line has counted what the last before it has
 pub grown_counted : (number : Option ℕ) (input : Input) (setting : Setting) (ends : List WaveEnd) (first : Waved)
     (line : TurnLine) → AreFirstWaves number input setting ends first
@@ -59,18 +47,6 @@ ahead_since number input setting wave ends first line are is ahead =
     subst (λ e. AreAhead input e (drop wave ends))
     (sym (grown_counted number input setting (take wave ends) first line are is))
     (ahead_later wave input no_rows ends ahead)
-
--- and it is few epochs later
-pub few_since : (number : Option ℕ) (input : Input) (setting : Setting) (wave : ℕ) (ends : List WaveEnd)
-    (first : Waved) (line : TurnLine) → AreFirstWaves number input setting (take wave ends) first
-    → line ≡ grown_line setting.weights setting.k first.rest.line → length ends ≤ 4
-    → line.epoch + 304 * length (drop wave ends) ≤ 2 ^ 31
-few_since number input setting wave ends first line are is few =
-    let same : line.epoch ≡ first.rest.line.epoch = ap (λ (l : TurnLine). l.epoch) is in
-    let early : first.rest.line.epoch ≤ 0 + 304 * length (take wave ends) = are.behind.few in
-    let all : length (take wave ends) + length (drop wave ends) ≡ length ends =
-    sym (length-append (take wave ends) (drop wave ends)) ∙ ap length (take-append-drop wave ends) in
-    omega (arith, same, early, all, few)
 
 -- the waves before and since are those of a run with a growth
 pub grown_are : (number : Option ℕ) (input : Input) (setting : Setting) (wave : ℕ) (ends : List WaveEnd)
@@ -122,17 +98,6 @@ split_later number input setting wave ends early later first line (low, is_early
     subst (AreAhead input (counted line)) (sym is_later)
     (ahead_since number input setting wave ends first line
     (subst (λ es. AreFirstWaves number input setting es first) is_early are) is ahead)
-
--- and few epochs later
-pub split_few : (number : Option ℕ) (input : Input) (setting : Setting) (wave : ℕ) (ends early later : List WaveEnd)
-    (first : Waved) (line : TurnLine) → IsSplitAt ends wave early later
-    → AreFirstWaves number input setting early first → line ≡ grown_line setting.weights setting.k first.rest.line
-    → length ends ≤ 4 → line.epoch + 304 * length later ≤ 2 ^ 31
-split_few number input setting wave ends early later first line (low, is_early, is_later, early_size, later_size) are
-    is few =
-    subst (λ es. line.epoch + 304 * length es ≤ 2 ^ 31) (sym is_later)
-    (few_since number input setting wave ends first line
-    (subst (λ es. AreFirstWaves number input setting es first) is_early are) is few)
 
 -- so both are the waves of a run with a growth
 pub split_are : (number : Option ℕ) (input : Input) (setting : Setting) (wave : ℕ) (ends early later : List WaveEnd)

@@ -1,13 +1,10 @@
 -- Runs of one wave, and of several.
-use Rattle.std.proofs.Common.{◌≡◌, ◌<◌, ◌≤◌, ℕ, zero, suc, Bool, true, false, List, [], ◌∷◌, Option, None, Some, refl, sym, ap}
-use Rattle.std.proofs.Common.{◌==◌, arith, length, map, subst}
-use Rattle.std.specs.Prelude.{All, IfSome}
+use Rattle.std.proofs.Common.{◌≡◌, ℕ, suc, Bool, true, false, List, [], ◌∷◌, None, Some, refl, sym, ap}
+use Rattle.std.proofs.Common.{arith, map, subst}
 use Rattle.std.specs.List.{AllByRecursion, AllPairs}
 use Rattle.std.proofs.lemmas.List.Elements.{recursion_from_All}
-use Rattle.join_rows.specs.declared.table.Side.TheVariants.{R, S}
 use Rattle.load_controller.specs.declared.line.TurnLine.{TurnLine}
 use Rattle.trace_law.specs.declared.input.Input.{Input}
-use Rattle.trace_law.specs.Join.{row_count}
 use Rattle.actor_core.specs.Rests.{IsWithin}
 use Rattle.join_runtime.specs.Endings.{EndsView}
 use Rattle.join_words.specs.Words.{Asked, AskedWave, asked, asked_wave}
@@ -80,11 +77,6 @@ asks_several options some none = by options.later.items some none
     by : (later : List _) → (later ≡ [] → ⊥) → map asked_wave later ≡ [] → ⊥
     by [] some none = some refl
     by (wave ∷ later) some none = cc none
-
--- what stands without later waves isn't given where there are some
-pub not_given : {X : Type 0} {P : Type 0} (given : Option X) → IfSome given (λ _. P) → (P → ⊥) → given ≡ None
-not_given None alone differs = refl
-not_given (Some x) alone differs = absurd (differs alone)
 
 -- nor is a flag set that stands so
 pub not_set : {P : Type 0} (flag : Bool) → (flag ≡ true → P) → (P → ⊥) → flag ≡ false

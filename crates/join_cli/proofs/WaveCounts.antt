@@ -1,5 +1,6 @@
 -- What the journal of one wave has counted.
-use Rattle.std.proofs.Common.{◌≡◌, ◌∙◌, ◌+◌, ◌*◌, ◌<◌, ◌≤◌, ◌^◌, ℕ, arith, refl, sym, ap, subst, length, take, List, [], ◌∷◌}
+use Rattle.std.proofs.Common.{◌≡◌, ◌∙◌, ◌+◌, ◌*◌, ◌<◌, ◌≤◌, ◌^◌, ℕ, arith, refl, sym, ap, subst, length, take, List, []}
+use Rattle.std.proofs.Common.{◌∷◌}
 use Rattle.std.proofs.Common.{◌++◌}
 use Rattle.std.specs.Prelude.{map, reverse, sum_by}
 use Rattle.std.proofs.lemmas.List.{length-take-le, reverse-append, reverse-reverse}

@@ -1,5 +1,6 @@
 -- A run of several waves in which the joiners split into four behind one of them, and its output.
-use Rattle.std.specs.Prelude.{◌≡◌, ◌++◌, ◌+◌, ℕ, Bool, false, List, [], Option, None, drop, flat_map, if◌then◌else◌, take}
+use Rattle.std.specs.Prelude.{◌≡◌, ◌++◌, ◌+◌, ℕ, Bool, false, List, [], Option, None, drop, flat_map, if◌then◌else◌}
+use Rattle.std.specs.Prelude.{take}
 use Rattle.join_rows.specs.declared.table.Side.TheVariants.{R, S}
 use Rattle.grid_map.specs.declared.shape.Shape.{Shape}
 use Rattle.grid_map.specs.Load.{copies}

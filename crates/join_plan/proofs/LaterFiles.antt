@@ -14,9 +14,9 @@ use Rattle.join_plan.specs.declared.fault.Refusal.TheVariants as refusals
 use Rattle.join_plan.specs.declared.waves.InWaves.{InWaves}
 use Rattle.join_plan.specs.Causes.{AreAsked}
 use Rattle.join_plan.specs.Files.{Source, later_sources, third_source, wave_sources}
-use Rattle.join_plan.specs.Later.{gathered, step, with_more}
+use Rattle.join_plan.specs.Later.{gathered, step}
 use Rattle.join_plan.specs.Refusals.{then_of}
-use Rattle.join_plan.specs.Seen.{IsNextSeen, IsSeen, SeenFrom}
+use Rattle.join_plan.specs.Seen.{IsNextSeen, SeenFrom}
 
 -- a refusal in place of a table
 abbrev pub no_table : Refusal → Result Table Refusal
@@ -80,30 +80,6 @@ pub seen_last : (told : Told) (last spot : Spot) (waves : InWaves) (source : Sou
 seen_last told last spot waves source (Ok all) is =
     seen_next told last spot spot waves all source [] (Ok all) is (refl, refl)
 seen_last told last spot waves source (Err refusal) is = seen_refused told last spot waves source [] refusal is
-
--- a file that was read as a table, whose rows were then put behind those of its side
-pub seen_more : (told : Told) (spot : Spot) (waves : InWaves) (source : Source) (table : Table)
-    (result : Result InWaves Refusal)
-    → IsSeen told spot source (Ok table)
-    → (result ≡ no_waves refusals.Memory) ⊎ (result ≡ with_more source waves table)
-    → (result ≡ no_waves refusals.Memory → ⊥) → IsNextSeen told spot source waves result
-seen_more told spot waves source table result is (inl m) memory = absurd (memory m)
-seen_more told spot waves source table result is (inr over) memory = record {
-  seen = is.seen;
-  place = is.place;
-  first = is.first;
-  answer = over ∙ ap (λ t. then_of t (with_more source waves)) is.answer;
-}
-
--- one that was read as none
-pub seen_none : (told : Told) (spot : Spot) (waves : InWaves) (source : Source) (refusal : Refusal)
-    → IsSeen told spot source (no_table refusal) → IsNextSeen told spot source waves (no_waves refusal)
-seen_none told spot waves source refusal is = record {
-  seen = is.seen;
-  place = is.place;
-  first = is.first;
-  answer = ap (λ t. then_of t (with_more source waves)) is.answer;
-}
 
 -- files that were all read, and then more
 pub seen_on : (told : Told) (last middle spot : Spot) (waves all : InWaves) (front back : List Source)

@@ -19,23 +19,6 @@ use Rattle.join_plan.specs.Texts.{AreRead, HasFurther, HaveTrees, IsReadFurther,
 use Rattle.join_plan.proofs.Readings.{every_request}
 use Rattle.join_plan.proofs.WaveLemmas.{single_end}
 
--- there is a second tree just where a second join is asked for
-pub further_there : (chain : Option AskedChain) (further : Option Tree) → HasFurther chain further
-    → is_some further ≡ is_some chain
-further_there None None has = refl
-further_there (Some chain) (Some tree) has = refl
-further_there None (Some tree) has = absurd has
-further_there (Some chain) None has = absurd has
-
--- the plan of what was gathered is that of what was seen
-pub fitted_seen : (told : Told) (spot : Spot) (asked : Asked) (trees : Trees) (found : Gathered)
-    (result : Result Planned Refusal)
-    → GatheredSeen told spot asked (Ok found) → (result ≡ Err refusals.Memory) ⊎ (result ≡ fitted trees found)
-    → (result ≡ Err refusals.Memory → ⊥) → PlanSeen told spot asked trees result
-fitted_seen told spot asked trees found result seen (inl m) memory = absurd (memory m)
-fitted_seen told spot asked trees found result seen (inr is) memory =
-    record { found = Ok found; seen = seen; answer = is }
-
 -- a refusal in place of what is gathered
 abbrev pub none_gathered : Refusal → Result Gathered Refusal
 none_gathered refusal = Err refusal

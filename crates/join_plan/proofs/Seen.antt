@@ -1,6 +1,6 @@
 -- What was read of the files, from one stage to the next.
 use Rattle.std.proofs.Common.{◌≡◌, ◌≤◌, ◌<◌, ◌+◌, ◌^◌, ◌∙◌, ◌⊎◌, inl, inr, ℕ, Bool, true, false, List, [], ◌∷◌, length}
-use Rattle.std.proofs.Common.{take, arith, Option, None, Some, Result, Ok, Err, refl, sym, ap, subst}
+use Rattle.std.proofs.Common.{take, arith, Option, None, Some, Result, Ok, Err, refl, sym, ap}
 use Rattle.std.specs.Prelude.{Contains, MatchResult, nat_lt}
 use Rattle.std.proofs.lemmas.List.Elements.{Contains-append_right}
 use Rattle.join_rows.specs.Reads.{IsOfBytes}
@@ -18,7 +18,7 @@ use Rattle.join_plan.specs.declared.files.Tables.{Tables}
 use Rattle.join_plan.specs.Causes.{IsSourceOf, Refuses}
 use Rattle.join_plan.specs.Files.{Source, later_sources, or_refused, sources, table_found, third_source}
 use Rattle.join_plan.specs.Refusals.{file_refusal, then_of}
-use Rattle.join_plan.specs.Seen.{BeginsWith, BehindSeen, GatheredSeen, IsSeen, TablesAsked, TablesSeen, ThirdSeen}
+use Rattle.join_plan.specs.Seen.{BeginsWith, BehindSeen, GatheredSeen, IsSeen, TablesAsked, TablesSeen}
 
 -- a fault of a file in place of its table
 abbrev pub refused_table : TableFault → Result Table TableFault
@@ -219,14 +219,6 @@ seen_both told middle spot name_r name_s table_r second is_r is_s = record {
 
 -- ---- the third
 
--- it is asked for, and so seen
-pub third_is_seen : (told : Told) (middle spot : Spot) (chain : Option AskedChain) (asked : AskedChain)
-    (table : Result Table Refusal)
-    → chain ≡ Some asked → IsSeen told spot (record { side = S; wave = 2; name = asked.name }) table
-    → ThirdSeen told middle spot chain (then_of table (λ found. Ok (Some found)))
-third_is_seen told middle spot chain asked table is seen =
-    subst (λ c. ThirdSeen told middle spot c (then_of table (λ found. Ok (Some found)))) (sym is) (table, seen, refl)
-
 -- it is among the files that are asked for
 pub third_among : (asked : Asked) (chain : AskedChain) → asked.chain ≡ Some chain
     → Contains (sources asked) (record { side = S; wave = 2; name = chain.name })
@@ -242,13 +234,3 @@ pub all_seen : (told : Told) (middle spot : Spot) (asked : Asked) (tables : Tabl
     → GatheredSeen told spot asked result
 all_seen told middle spot asked tables result first behind =
     record { middle = middle; tables = Ok tables; first = first; behind = behind }
-
--- behind a refusal nothing was
-pub refused_all_seen : (told : Told) (spot : Spot) (asked : Asked) (refusal : Refusal)
-    → TablesAsked told spot asked asked.make (no_tables refusal) → GatheredSeen told spot asked (Err refusal)
-refused_all_seen told spot asked refusal first = record {
-  middle = spot;
-  tables = no_tables refusal;
-  first = first;
-  behind = record { middle = spot; waves = Err refusal; later = (refl, refl); third = (refl, refl) };
-}

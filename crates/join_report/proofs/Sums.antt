@@ -1,11 +1,10 @@
 -- Two lists joined element by element.
-use Rattle.std.proofs.Common.{◌≡◌, ◌≤◌, ◌+◌, ◌∙◌, ℕ, zero, suc, min, refl, ap, subst, arith, List, [], ◌∷◌, ◌++◌}
+use Rattle.std.proofs.Common.{◌≡◌, ◌≤◌, ◌+◌, ◌∙◌, ℕ, zero, suc, min, refl, ap, arith, List, [], ◌∷◌, ◌++◌}
 use Rattle.std.proofs.Common.{length, take, Some}
 use Rattle.std.specs.Prelude.{All, slice_get}
 use Rattle.std.specs.List.{AllByRecursion}
 use Rattle.std.specs.Simd.Lanes.{zip2}
-use Rattle.std.proofs.lemmas.List.Elements.{All-from_recursion, All-get_or, recursion_from_All}
-use Rattle.std.proofs.lemmas.Option.{get_or_from_slice_get, slice_get_within}
+use Rattle.std.proofs.lemmas.List.Elements.{All-from_recursion, recursion_from_All}
 use Rattle.join_report.specs.Waves.{sums_of}
 
 one_more : {X Y Z : Type 0} (f : X → Y → Z) (xs : List X) (ys : List Y) (n : ℕ) (x : X) (y : Y)
@@ -37,11 +36,6 @@ zip2_whole f (x ∷ xs) [] (suc n) low = refl
 zip2_whole f (x ∷ xs) (y ∷ ys) zero low = absurd (omega arith)
 zip2_whole f (x ∷ xs) (y ∷ ys) (suc n) low = let low' : min (length xs) (length ys) ≤ n = omega arith in
     ap (λ zs. f x y ∷ zs) (zip2_whole f xs ys n low')
-
--- what holds of each element holds of the one at a place
-pub holds_at : {X : Type 0} (P : X → Type 0) (xs : List X) (n : ℕ) (x : X) → All P xs → slice_get xs n ≡ Some x → P x
-holds_at P xs n x all at = subst P (get_or_from_slice_get xs n x x at)
-    (All-get_or P xs n x (slice_get_within xs n x at) all)
 
 each_within : (xs ys : List ℕ) (m n : ℕ) → AllByRecursion (λ x. x ≤ m) xs → AllByRecursion (λ y. y ≤ n) ys
     → AllByRecursion (λ sum. sum ≤ m + n) (sums_of xs ys)

@@ -104,11 +104,6 @@ actors_linked setting _ _ (joiner_collector low) = (low, tt)
 
 -- ---- new seats, one after another
 
--- before the first
-pub new_none : (input : Input) (setting : Setting) (seats : List RingSeatView) → seats ≡ []
-    → AreNewSeats input setting 0 seats
-new_none input setting seats is = record { all = ap length is; new = λ n d low. absurd (omega arith) }
-
 -- one seat more
 pub new_more : (input : Input) (setting : Setting) (count : ℕ) (seats : List RingSeatView) (seat : RingSeatView)
     → AreNewSeats input setting count seats

@@ -18,18 +18,6 @@ pub record FlushesSome (place : ℕ) (moved : Bool) (old new : List (Option Outl
   pub stuck : moved ≡ false → (n : ℕ) → n < place → IsStuckAt (get_or old n None)
   pub rings : map out_address new ≡ map out_address old
 
--- before the first
-pub flushed_none : (outs : List (Option OutletView)) → FlushesSome 0 false outs outs
-flushed_none outs = record {
-  long = refl;
-  same = λ n. refl;
-  rest = λ n low. refl;
-  less = λ e. absurd (true≢false (sym e));
-  still = λ e. refl;
-  stuck = λ e n low. absurd (omega (arith, low));
-  rings = refl;
-}
-
 module _ (place : ℕ) (old new : List (Option OutletView)) (d slot' : Option OutletView) (low : place < length new)
     (same : sent_at slot' ≡ sent_at (get_or new place d))
     (ring : out_address slot' ≡ out_address (get_or new place d)) where

@@ -173,15 +173,6 @@ module _ (joiners feeders : ℕ) (from to : Actor) where
 
 -- ---- the rings of one sender
 
--- before the first
-pub row_none : (joiners feeders from : ℕ) (seats : List RingSeatView) → WiresRow joiners feeders from 0 seats seats
-row_none joiners feeders from seats = record {
-  all = refl;
-  same = λ n d low. same_places (get_or seats n d);
-  done = λ r d low none none'. absurd (omega arith);
-  rest = λ n r d past. (refl, refl);
-}
-
 -- no link to the next
 pub row_pass : (joiners feeders from below : ℕ) (first old : List RingSeatView)
     → ((k : ℕ) → joiners ≡ 2 ^ k → ¬ HasLink k feeders (actor_at joiners feeders from) (actor_at joiners feeders below))
@@ -264,15 +255,6 @@ module _ (joiners feeders from below : ℕ) (first old : List RingSeatView) wher
       before
 
 -- ---- the rings of all senders
-
--- before the first
-pub all_none : (joiners feeders : ℕ) (seats : List RingSeatView) → AreWiredBelow joiners feeders 0 seats seats
-all_none joiners feeders seats = record {
-  all = refl;
-  same = λ n d low. same_places (get_or seats n d);
-  done = λ n r d low low' none none'. absurd (omega arith);
-  rest = λ n r d past. (refl, refl);
-}
 
 -- the rings of the next sender
 pub all_more : (joiners feeders below : ℕ) (first old new : List RingSeatView)

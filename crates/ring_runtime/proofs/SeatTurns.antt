@@ -1,8 +1,8 @@
 -- The turns of one seat in a bout.
-use Rattle.std.proofs.Common.{◌≡◌, ℕ, zero, suc, ◌+◌, ◌<◌, ◌⊎◌, inl, inr, sym, subst, refl, ◌∙◌, true, arith}
+use Rattle.std.proofs.Common.{◌≡◌, ℕ, zero, suc, ◌+◌, ◌<◌, inl, sym, subst, refl, ◌∙◌, true, arith}
 use Rattle.actor_core.specs.Players.{MakesEvent, Runs}
-use Rattle.ring_runtime.specs.Seats.{RingSeatView, AllStuck, frame_of, player_of, waiting_in}
-use Rattle.ring_runtime.specs.Turns.{IsIdle, Moves, Rests, Works}
+use Rattle.ring_runtime.specs.Seats.{RingSeatView, frame_of, player_of, waiting_in}
+use Rattle.ring_runtime.specs.Turns.{Moves, Rests, Works}
 
 -- after so many turns: some events; where there was none, the seat rested at first, and by now fewer messages wait
 pub record Progress (round : ℕ) (old new : RingSeatView) : Type 0 where
@@ -12,17 +12,6 @@ pub record Progress (round : ℕ) (old new : RingSeatView) : Type 0 where
   pub fresh : round ≡ 0 → new ≡ old
   pub rested : count ≡ 0 → 0 < round → Rests old.core old.ins
   pub fewer : count ≡ 0 → 0 < round → waiting_in new.outs < waiting_in old.outs
-
--- before the first turn
-pub progress_none : (s : RingSeatView) → Progress 0 s s
-progress_none s = record {
-  count = 0;
-  runs = refl;
-  frame = refl;
-  fresh = λ e. refl;
-  rested = λ e low. absurd (omega (arith, low));
-  fewer = λ e low. absurd (omega (arith, low));
-}
 
 -- one turn more, with an event
 pub progress_took : (round : ℕ) (s t u : RingSeatView) → Progress round s t → MakesEvent (player_of t) (player_of u)
@@ -57,41 +46,6 @@ progress_moved round s t u before moves rests frame = record {
   fresh = λ e. absurd (omega (arith, e));
   rested = λ none low. rested_yet round s t before none rests;
   fewer = λ none low. fewer_yet round s t before none (waiting_in u.outs) moves.fewer;
-}
-
-stuck_or_fewer : (round : ℕ) (s t u : RingSeatView) (before : Progress round s t) → before.count ≡ 0
-    → waiting_in u.outs ≡ waiting_in t.outs → AllStuck t.outs
-    → (waiting_in u.outs < waiting_in s.outs) ⊎ AllStuck s.outs
-stuck_or_fewer zero s t u before none same stuck = inr
-    (subst (λ (v : RingSeatView). AllStuck v.outs) (before.fresh refl) stuck)
-stuck_or_fewer (suc round) s t u before none same stuck =
-    let fewer = before.fewer none (omega arith) in
-    inl (omega (arith, fewer, same))
-
--- the last turn did nothing
-pub works_idle : (round : ℕ) (s t u : RingSeatView) → Progress round s t → IsIdle t u → AllStuck t.outs
-    → Rests t.core t.ins
-    → frame_of u ≡ frame_of t → Works s u
-works_idle round s t u before idle stuck rests frame = record {
-  frame = frame ∙ before.frame;
-  advances = inr (record {
-    count = before.count;
-    runs = subst (Runs before.count (player_of s)) (sym idle.player) before.runs;
-    none = λ none. rested_yet round s t before none rests;
-    moves = λ none. stuck_or_fewer round s t u before none idle.as_many stuck;
-  });
-}
-
--- all turns are over
-pub works_end : (round : ℕ) (s t : RingSeatView) → 0 < round → Progress round s t → Works s t
-works_end round s t some before = record {
-  frame = before.frame;
-  advances = inr (record {
-    count = before.count;
-    runs = before.runs;
-    none = λ none. before.rested none some;
-    moves = λ none. inl (before.fewer none some);
-  });
 }
 
 -- a turn failed
