@@ -1,0 +1,7 @@
+use Rattle.join_runtime.specs.Bouts.{cores_in, lists_in}
+use Rattle.actor_core.proofs.CompleteAnswer.{agrees_in_wave}
+use Rattle.seats_law.proofs.laws.seats_agree.Goals as goal
+
+pub returns : goal.returns
+returns c = λ input setting rest v stands fronts.
+    agrees_in_wave input setting rest v.joiners v.feeders (cores_in v) (lists_in v) stands fronts
