@@ -6,6 +6,3 @@ mod outlet;
 
 pub use ends::{RingIn, RingOut, beside, ring};
 pub use outlet::Outlet;
-
-#[cfg(test)]
-mod tests;

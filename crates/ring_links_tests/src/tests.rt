@@ -6,8 +6,8 @@ mod outlets;
 mod rings;
 mod threads;
 
-use crate::*;
 use epoch_tags::{Actor, Envelope, Msg, ToController};
+use ring_links::{RingIn, RingOut};
 
 fn message(number: u32) -> Msg {
     Msg::Controller(ToController::Ask { dr: number, ds: 0 })

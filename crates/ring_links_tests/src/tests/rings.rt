@@ -3,8 +3,8 @@ ghost use Rattle.epoch_tags.specs.declared.actor.Actor.TheVariants.{Feeder};
 ghost use Rattle.ring_links.specs.Rings.{AreEnds, IsSameIn, IsSameOut};
 
 use super::{next, put};
-use crate::*;
 use epoch_tags::Actor;
+use ring_links::{RingIn, RingOut, beside, ring};
 use std::test::*;
 
 #[test]

@@ -1,5 +1,5 @@
 use Rattle.ring_links.specs.Rings.{IsSameOut}
-use Rattle.ring_links.proofs.tests.threads.put_some.Given as goal
+use Rattle.ring_links_tests.proofs.tests.threads.put_some.Given as goal
 
 abbrev pub invariant-loop : goal.invariant-loop
 invariant-loop l = IsSameOut l.fn.out l.out

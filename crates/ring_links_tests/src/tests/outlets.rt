@@ -2,8 +2,8 @@ ghost use Rattle.std.specs.Prelude.{◌≡◌};
 ghost use Rattle.ring_links.specs.Rings.{AreEnds};
 
 use super::{message, next};
-use crate::*;
 use epoch_tags::Actor;
+use ring_links::{Outlet, RingIn, ring};
 use std::alloc::AllocError;
 use std::test::*;
 
