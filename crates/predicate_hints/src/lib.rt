@@ -17,6 +17,3 @@ pub use follow::may_follow;
 pub use kinds::Expected;
 pub use listing::expected;
 pub use pointing::caret;
-
-#[cfg(test)]
-mod tests;

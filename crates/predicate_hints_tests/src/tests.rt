@@ -1,2 +1,3 @@
 mod meanings;
 mod places;
+mod sentences;

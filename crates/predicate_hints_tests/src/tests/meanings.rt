@@ -1,14 +1,19 @@
 // What first tries meant, at the places that `parse` names.
 
-use crate::meant;
-use crate::sentences::{
+use super::sentences::{
     ABS_LEFT, ABS_RIGHT, BRACKETS, CHAIN, COLUMN, EQUAL, FUNCTION, NEGATION, NULL, OR_EQUAL,
     PRODUCT, QUOTES, QUOTIENT, SEMICOLON, TABLE, TEXTS, UNCLOSED, UNEQUAL, WHOLE,
 };
+use predicate_hints::meant;
+use std::alloc::Global;
+use std::process::Abort;
 use theta_text::{PredFault, parse};
 
+// A text, the place at which it is refused, and what was meant there.
+type Try = (&'static str, u64, &'static str);
+
 // The first tries of the table in docs/USAGE.md, but for `r.name = s.name`, which is a predicate.
-const TRIES: [(&str, u64, &str); 18] = [
+const TRIES: [Try; 9] = [
     ("x = y", 0, COLUMN),
     (
         "r.id = s.id AND r.a = s.a",
@@ -30,6 +35,9 @@ const TRIES: [(&str, u64, &str); 18] = [
         4,
         "there is no in: write r.a = 10 or r.a = 20",
     ),
+];
+
+const MORE_TRIES: [Try; 9] = [
     (
         "r.name like 'A%'",
         7,
@@ -46,7 +54,7 @@ const TRIES: [(&str, u64, &str); 18] = [
 ];
 
 // Others like them.
-const OTHERS: [(&str, u64, &str); 16] = [
+const OTHERS: [Try; 8] = [
     ("R.a = s.a", 0, TABLE),
     ("ABS(r.a) = 1", 0, "keywords are lower case: write abs(..)"),
     ("r = s.a", 2, COLUMN),
@@ -55,6 +63,9 @@ const OTHERS: [(&str, u64, &str); 16] = [
     ("text(r.name) = s.name", 15, TEXTS),
     ("r.name = text(s.name)", 9, TEXTS),
     ("abs(r.a - s.a) <= -5", 18, ABS_RIGHT),
+];
+
+const MORE_OTHERS: [Try; 8] = [
     ("abs((r.a - s.a)) <= 5", 4, BRACKETS),
     ("r.a not in (1, 2)", 4, NEGATION),
     ("r.a => s.a", 5, OR_EQUAL),
@@ -65,27 +76,42 @@ const OTHERS: [(&str, u64, &str); 16] = [
     ("r.id = s.id;", 11, SEMICOLON),
 ];
 
+fn fault_of(alloc: Global, text: &str) -> Option<PredFault> {
+    parse(alloc, text).err()
+}
+
+// The text is refused at its place, and this was meant there.
+fn has_a_sentence<R: Abort>(rt: &R, alloc: Global, (text, place, sentence): Try) {
+    let fault = PredFault::Syntax { place };
+    assert_eq!(rt; fault_of(alloc, text), Some(fault), "{text}");
+    assert_eq!(rt; meant(text, place), Some(sentence), "{text}");
+}
+
 #[test]
 fn each_first_try_has_a_sentence(rt: HostRuntime) {
-    for (text, place, sentence) in TRIES {
-        assert_eq!(rt;
-            parse(rt.alloc(), text).err(),
-            Some(PredFault::Syntax { place }),
-            "{text}"
-        );
-        assert_eq!(rt; meant(text, place), Some(sentence), "{text}");
+    for &it in &TRIES {
+        has_a_sentence(&rt, rt.alloc(), it);
+    }
+}
+
+#[test]
+fn each_further_try_has_a_sentence(rt: HostRuntime) {
+    for &it in &MORE_TRIES {
+        has_a_sentence(&rt, rt.alloc(), it);
     }
 }
 
 #[test]
 fn others_like_them_have_one(rt: HostRuntime) {
-    for (text, place, sentence) in OTHERS {
-        assert_eq!(rt;
-            parse(rt.alloc(), text).err(),
-            Some(PredFault::Syntax { place }),
-            "{text}"
-        );
-        assert_eq!(rt; meant(text, place), Some(sentence), "{text}");
+    for &it in &OTHERS {
+        has_a_sentence(&rt, rt.alloc(), it);
+    }
+}
+
+#[test]
+fn further_others_have_one(rt: HostRuntime) {
+    for &it in &MORE_OTHERS {
+        has_a_sentence(&rt, rt.alloc(), it);
     }
 }
 
@@ -101,10 +127,14 @@ const UNKNOWN: [(&str, u64); 6] = [
     ("(((((((((((((((((((((((((((((((((1=1", 32),
 ];
 
+fn has_none<R: Abort>(rt: &R, alloc: Global, (text, place): (&str, u64)) {
+    assert!(rt; fault_of(alloc, text).is_some(), "{text}");
+    assert_eq!(rt; meant(text, place), None, "{text}");
+}
+
 #[test]
 fn no_other_text_has_one(rt: HostRuntime) {
-    for (text, place) in UNKNOWN {
-        assert!(rt; parse(rt.alloc(), text).is_err(), "{text}");
-        assert_eq!(rt; meant(text, place), None, "{text}");
+    for &it in &UNKNOWN {
+        has_none(&rt, rt.alloc(), it);
     }
 }

@@ -1,10 +1,12 @@
 // A place below its line, and what can stand at it.
 
-use crate::Expected::{
+use predicate_hints::Expected::{
     And, Close, Column, Comparison, Distance, End, Name, Not, Number, Open, Or, Point, Quoted,
     Sign, Text,
 };
-use crate::{Expected, caret, expected};
+use predicate_hints::{Expected, caret, expected};
+use std::alloc::{AllocError, Global};
+use std::process::Abort;
 use std::test::Fail;
 
 // A text, a place, and the place shown.
@@ -34,11 +36,20 @@ const SHOWN: [(&str, u64, &str); 11] = [
     ("r.ö = 1", 3, "r.ö = 1\n       ^"),
 ];
 
+fn is_shown<R: Abort>(
+    rt: &R,
+    alloc: Global,
+    (text, place, shown): (&str, u64, &str),
+) -> Result<(), AllocError> {
+    let both = caret(alloc, text, place)?;
+    assert_eq!(rt; both.as_str(), shown);
+    Ok(())
+}
+
 #[test]
 fn a_place_is_shown(rt: HostRuntime) -> Result<(), Fail> {
-    for (text, place, shown) in SHOWN {
-        let both = caret(rt.alloc(), text, place)?;
-        assert_eq!(rt; both.as_str(), shown);
+    for &it in &SHOWN {
+        is_shown(&rt, rt.alloc(), it)?;
     }
     Ok(())
 }
@@ -66,11 +77,20 @@ const LISTED: [(&str, &[Expected]); 12] = [
     ("1+1+1+1+1+1+1+1+1+1+1+1+1+1+1+1", &[Comparison]),
 ];
 
+fn is_listed<R: Abort>(
+    rt: &R,
+    alloc: Global,
+    (text, kinds): (&str, &[Expected]),
+) -> Result<(), AllocError> {
+    let found = expected(alloc, text, text.len() as u64)?;
+    assert_eq!(rt; found.as_slice(), kinds, "{text}");
+    Ok(())
+}
+
 #[test]
 fn what_can_stand_is_listed(rt: HostRuntime) -> Result<(), Fail> {
-    for (text, kinds) in LISTED {
-        let found = expected(rt.alloc(), text, text.len() as u64)?;
-        assert_eq!(rt; found.as_slice(), kinds, "{text}");
+    for &it in &LISTED {
+        is_listed(&rt, rt.alloc(), it)?;
     }
     Ok(())
 }
@@ -78,11 +98,20 @@ fn what_can_stand_is_listed(rt: HostRuntime) -> Result<(), Fail> {
 // A text, and a place within one of its characters or past it.
 const NOWHERE: [(&str, u64); 2] = [("'ö' = 'ö'", 2), ("r.x", 4)];
 
+fn nothing_stands<R: Abort>(
+    rt: &R,
+    alloc: Global,
+    (text, place): (&str, u64),
+) -> Result<(), AllocError> {
+    let found = expected(alloc, text, place)?;
+    assert!(rt; found.is_empty(), "{text}");
+    Ok(())
+}
+
 #[test]
 fn nothing_stands_where_no_place_is(rt: HostRuntime) -> Result<(), Fail> {
-    for (text, place) in NOWHERE {
-        let found = expected(rt.alloc(), text, place)?;
-        assert!(rt; found.is_empty(), "{text}");
+    for &it in &NOWHERE {
+        nothing_stands(&rt, rt.alloc(), it)?;
     }
     Ok(())
 }
