@@ -47,6 +47,7 @@ module _ (joiners : ℕ) (lists : CollectorLists) (state : CollectorState) (stan
       step) (λ j. slice_index (moves lists j) step)
       (λ j low. ap (λ (kept : Kept). slice_index (moves_of kept.last) step) (at_place j low))
 
+  -- an answer that is put in order and counted from what is kept is the answer for the lists
   pub collects : (collected : Collected) (all : List Pair) → all ≡ pairs_kept state → IsPermutation all collected.pairs
       → InOrder collected.pairs
       → collected.made ≡ map (λ kept. length kept.pairs) state.joiners

@@ -23,6 +23,7 @@ module _ (joiners : ℕ) (lists : CollectorLists) (state : CollectorState) (stan
   kept_at j low = stands.each j (get_or state.joiners j nothing_kept)
       (slice_get-get_or state.joiners j nothing_kept (rw stands.began low))
 
+  -- the pairs that are kept behind those given are those that the lists have behind the earlier lists'
   pub behind_is_since : (earlier : CollectorLists) → HasGiven joiners earlier state
       → kept_behind state.given state.joiners (length state.joiners) ≡ pairs_since joiners earlier lists
   behind_is_since earlier gave =

@@ -95,13 +95,16 @@ flat_map-range g (suc n) =
     ∙ ap (λ xs. xs ++ g n) (flat_map-range g n)
 
 module _ (state : CollectorState) (lists : CollectorLists) where
+  -- at each place is kept what is to be kept of that joiner's messages
   abbrev pub Each : Type 0
   Each = (j : ℕ) (kept : Kept) → slice_get state.joiners j ≡ Some kept → kept ≡ kept_of (lists.from_joiner j)
 
+  -- then what is kept is that of all joiners in the order of their numbers
   pub as_map : Each → state.joiners ≡ map (λ j. kept_of (lists.from_joiner j)) (range_with_len 0 (length state.joiners))
   as_map each = from_places (λ j. kept_of (lists.from_joiner j)) 0 state.joiners
       (λ j kept is. let same : 0 + j ≡ j = omega arith in rw same (each j kept is))
 
+  -- and the pairs that are kept are the pairs of all joiners
   pub pairs_are : Each → pairs_kept state ≡ pairs_taken (length state.joiners) lists
   pairs_are each =
       ap (flat_map (λ kept. kept.pairs)) (as_map each)
@@ -113,6 +116,7 @@ module _ (state : CollectorState) (lists : CollectorLists) where
       flat_map-of_map f [] = refl
       flat_map-of_map f (j ∷ js) = ap (λ ps. (f j).pairs ++ ps) (flat_map-of_map f js)
 
+  -- so such a machine stands for the lists
   pub stand : (joiners : ℕ) → length state.joiners ≡ joiners → Each → StandsFor joiners lists state
   stand joiners began each = record {
     began = began;
