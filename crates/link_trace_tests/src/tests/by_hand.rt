@@ -1,6 +1,7 @@
 // A run whose order is made by hand: a feeder begins, and then all that can be taken is taken.
 
 use super::inputs::{eight_rows_a_side, four_joiners};
+use super::is;
 use epoch_tags::{Actor, Tuples};
 use join_rows::Side;
 use joiner_core::Joiner;
@@ -129,16 +130,27 @@ pub(super) fn started<'a>(
 /// The run of a world that is done.
 pub(super) fn finished(world: World<'_>, events: u64) -> Result<Run, AllocError> {
     if !world.done() {
+        drop(world);
         return Err(AllocError);
     }
     world.finish(events)
 }
 
-fn made_in(mut world: World<'_>, last: u32) -> Result<(u64, Run), AllocError> {
-    let events = make_all(&mut world)?;
+// How many rows the joiners of a world store with their stamps, and its run.
+fn stored_and_run(world: World<'_>, events: u64, last: u32) -> Result<(u64, Run), AllocError> {
     let stored = rightly_stored(&world, last);
     let run = finished(world, events)?;
     Ok((stored, run))
+}
+
+fn made_in(mut world: World<'_>, last: u32) -> Result<(u64, Run), AllocError> {
+    match make_all(&mut world) {
+        Ok(events) => stored_and_run(world, events, last),
+        Err(refused) => {
+            drop(world);
+            Err(refused)
+        }
+    }
 }
 
 // The run that ends in this epoch, and how many rows its joiners store with their stamps.
@@ -150,6 +162,18 @@ fn made_by_hand(
 ) -> Result<(u64, Run), AllocError> {
     let world = started(alloc, input, setting)?;
     made_in(world, last)
+}
+
+// The same of eight rows a side.
+fn eight_made_by_hand(
+    alloc: Global,
+    setting: &Setting,
+    last: u32,
+) -> Result<(u64, Run), AllocError> {
+    let input = eight_rows_a_side(alloc)?;
+    let made = made_by_hand(alloc, &input, setting, last);
+    drop(input);
+    made
 }
 
 // The rows of R and of S that each joiner holds, where all hold equally many.
@@ -164,28 +188,30 @@ fn held_by_each(run: &Run) -> Option<(u64, u64)> {
 }
 
 fn has_each_part(rt: &impl Abort, run: &Run) {
-    assert_eq!(rt;
+    is(
+        rt,
         epochs_number(&run.journal),
         1_1111_1122_2222,
-        "an epoch a line"
+        "an epoch a line",
     );
-    assert_eq!(rt;
+    is(
+        rt,
         drain_place(&run.journal),
         Some(9),
-        "the line where the feeder drains"
+        "the line where the feeder drains",
     );
-    assert_eq!(rt; run.moved.as_slice(), [0, 8].as_slice(), "moved");
-    assert_eq!(rt; held_by_each(run), Some((4, 4)), "rows of each joiner");
-    assert_eq!(rt; run.made.as_slice(), [16, 16, 16, 16].as_slice(), "made");
-    assert_eq!(rt; run.pairs.len(), 64, "pairs");
+    is(rt, run.moved.as_slice(), [0, 8].as_slice(), "moved");
+    is(rt, held_by_each(run), Some((4, 4)), "rows of each joiner");
+    is(rt, run.made.as_slice(), [16, 16, 16, 16].as_slice(), "made");
+    is(rt, run.pairs.len(), 64, "pairs");
 }
 
 #[test]
 fn eight_rows_a_side_by_hand(rt: HostRuntime) -> Result<(), Fail> {
-    let input = eight_rows_a_side(rt.alloc())?;
-    let (stored, run) = made_by_hand(rt.alloc(), &input, &four_joiners(), 2)?;
-    assert_eq!(rt; stored, 32, "rows that are stored with their stamps");
+    let (stored, run) = eight_made_by_hand(rt.alloc(), &four_joiners(), 2)?;
+    is(&rt, stored, 32, "rows that are stored with their stamps");
     has_each_part(&rt, &run);
+    drop(run);
     Ok(())
 }
 
@@ -198,23 +224,29 @@ fn heavy_rows() -> Setting {
 
 // Four rows of R lead to shift 0, where the grid stays: with all rows shift 1 has as many copies, 48.
 fn has_one_step(rt: &impl Abort, run: &Run) {
-    assert_eq!(rt; epochs_number(&run.journal), 1_1111_1111, "an epoch a line");
-    assert_eq!(rt;
+    is(
+        rt,
+        epochs_number(&run.journal),
+        1_1111_1111,
+        "an epoch a line",
+    );
+    is(
+        rt,
         drain_place(&run.journal),
         Some(9),
-        "the line where the feeder drains"
+        "the line where the feeder drains",
     );
-    assert_eq!(rt; run.moved.as_slice(), [0].as_slice(), "moved");
-    assert_eq!(rt; held_by_each(run), Some((2, 8)), "rows of each joiner");
-    assert_eq!(rt; run.made.as_slice(), [16, 16, 16, 16].as_slice(), "made");
-    assert_eq!(rt; run.pairs.len(), 64, "pairs");
+    is(rt, run.moved.as_slice(), [0].as_slice(), "moved");
+    is(rt, held_by_each(run), Some((2, 8)), "rows of each joiner");
+    is(rt, run.made.as_slice(), [16, 16, 16, 16].as_slice(), "made");
+    is(rt, run.pairs.len(), 64, "pairs");
 }
 
 #[test]
 fn heavy_rows_of_r_by_hand(rt: HostRuntime) -> Result<(), Fail> {
-    let input = eight_rows_a_side(rt.alloc())?;
-    let (stored, run) = made_by_hand(rt.alloc(), &input, &heavy_rows(), 1)?;
-    assert_eq!(rt; stored, 40, "rows that are stored with their stamps");
+    let (stored, run) = eight_made_by_hand(rt.alloc(), &heavy_rows(), 1)?;
+    is(&rt, stored, 40, "rows that are stored with their stamps");
     has_one_step(&rt, &run);
+    drop(run);
     Ok(())
 }

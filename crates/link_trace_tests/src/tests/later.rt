@@ -1,8 +1,9 @@
-// A wave of 24 rows of R behind eight rows a side. Its journal is the same in each order, but for the line where the feeder
-// drains.
+// A wave of 24 rows of R behind eight rows a side. Its journal is the same in each order, but for the line where the
+// feeder drains.
 
 use super::inputs::{four_joiners, with_more_of_r};
-use super::waves::{empty_rest, wave};
+use super::is;
+use super::waves::{first_wave, wave};
 use link_trace::{Input, Rest, Run, Setting, Upto, WaveRun};
 use std::alloc::{AllocError, Global};
 use std::process::Abort;
@@ -24,13 +25,12 @@ fn second<R: Wait>(
         rows_r: 8,
         rows_s: 8,
     };
-    let rest = empty_rest(alloc, input, setting)?;
-    let first = wave(rt, alloc, rest, input, setting, end, seed)?;
+    let (_, rest) = first_wave(rt, alloc, input, setting, end, seed)?;
     let end = Upto {
         rows_r: 32,
         rows_s: 8,
     };
-    wave(rt, alloc, first.rest, input, setting, end, seed)
+    wave(rt, alloc, rest, input, setting, end, seed)
 }
 
 // A digit for each line: its shift, and its epoch.
@@ -47,36 +47,44 @@ fn steps_of(run: &Run) -> (u64, u64) {
 // It begins with the rows that were counted, and with the bases of the last decision.
 fn begins_there(rt: &impl Abort, run: &Run) {
     if let Some(line) = run.journal.as_slice().first() {
-        assert_eq!(rt; (line.rows_r, line.rows_s), (8, 8), "rows counted before");
-        assert_eq!(rt;
+        is(
+            rt,
+            (line.rows_r, line.rows_s),
+            (8, 8),
+            "rows counted before",
+        );
+        is(
+            rt,
             (line.base_r, line.base_s),
             (8, 8),
-            "rows at the last decision"
+            "rows at the last decision",
         );
     }
 }
 
 // At 16 rows of R the shift stays, and at 32 a step leads to shift 0: it moves each row of S, which two joiners hold.
 fn has_one_step(rt: &impl Abort, run: &Run) {
-    assert_eq!(rt;
+    is(
+        rt,
         steps_of(run),
         (1111_1100_0000, 2222_2233_3333),
-        "shifts and epochs"
+        "shifts and epochs",
     );
-    assert_eq!(rt; run.moved.as_slice(), [16].as_slice(), "moved");
-    assert_eq!(rt; run.pairs.len(), 192, "pairs with a new row");
+    is(rt, run.moved.as_slice(), [16].as_slice(), "moved");
+    is(rt, run.pairs.len(), 192, "pairs with a new row");
 }
 
 fn leaves(rt: &impl Abort, rest: &Rest) {
     let line = &rest.line;
-    assert_eq!(rt; (line.rows_r, line.rows_s), (32, 8), "rows counted");
-    assert_eq!(rt;
+    is(rt, (line.rows_r, line.rows_s), (32, 8), "rows counted");
+    is(
+        rt,
         (line.base_r, line.base_s),
         (32, 8),
-        "rows at the last decision"
+        "rows at the last decision",
     );
-    assert_eq!(rt; (line.epoch, line.shift), (3, 0), "epoch and shift");
-    assert_eq!(rt; rest.stores.len(), 4, "stores");
+    is(rt, (line.epoch, line.shift), (3, 0), "epoch and shift");
+    is(rt, rest.stores.len(), 4, "stores");
 }
 
 fn is_as_worked<R: Abort + Wait>(
@@ -89,14 +97,25 @@ fn is_as_worked<R: Abort + Wait>(
     begins_there(rt, &wave.run);
     has_one_step(rt, &wave.run);
     leaves(rt, &wave.rest);
+    drop(wave);
+    Ok(())
+}
+
+fn each_is_as_worked<R: Abort + Wait>(
+    rt: &R,
+    alloc: Global,
+    input: &Input,
+) -> Result<(), AllocError> {
+    for seed in 0..4u64 {
+        is_as_worked(rt, alloc, input, seed)?;
+    }
     Ok(())
 }
 
 #[test]
 fn rows_of_r_behind_eight_a_side(rt: HostRuntime) -> Result<(), Fail> {
     let input = with_more_of_r(rt.alloc())?;
-    for seed in 0..4u64 {
-        is_as_worked(&rt, rt.alloc(), &input, seed)?;
-    }
-    Ok(())
+    let played = each_is_as_worked(&rt, rt.alloc(), &input);
+    drop(input);
+    Ok(played?)
 }

@@ -1,6 +1,7 @@
 // Small inputs through a replay.
 
 use super::inputs::input;
+use super::is;
 use super::seeds::replayed;
 use grid_map::Weights;
 use link_trace::{Input, Run, Setting};
@@ -41,7 +42,9 @@ fn equal_numbers<R: Wait>(
     k: u32,
 ) -> Result<Run, AllocError> {
     let input = equal_input(alloc, numbers, ticket)?;
-    replayed(rt, alloc, &input, &one_feeder(k), 7)
+    let run = replayed(rt, alloc, &input, &one_feeder(k), 7);
+    drop(input);
+    run
 }
 
 // The pairs as digits: each row of R and of S.
@@ -65,8 +68,9 @@ fn last_epoch(run: &Run) -> Option<u32> {
 #[test]
 fn an_empty_side_has_no_pairs(rt: HostRuntime) -> Result<(), Fail> {
     let run = equal_numbers(&rt, rt.alloc(), &[], 0, 2)?;
-    assert_eq!(rt; run.pairs.len(), 0, "pairs");
-    assert_eq!(rt; last_shift(&run), Some(2), "the last grid is 1 by 4");
+    is(&rt, run.pairs.len(), 0, "pairs");
+    is(&rt, last_shift(&run), Some(2), "the last grid is 1 by 4");
+    drop(run);
     Ok(())
 }
 
@@ -79,24 +83,26 @@ fn only_load(run: &Run) -> Option<(u64, u64)> {
 }
 
 fn has_all_rows(rt: &impl Abort, run: &Run) {
-    assert_eq!(rt; pairs_number(run), 10_12_21, "pairs");
-    assert_eq!(rt; run.journal.len(), 3, "lines");
-    assert_eq!(rt; last_epoch(run), Some(0), "epoch");
-    assert_eq!(rt; run.bouts, 17, "events");
-    assert_eq!(rt; only_load(run), Some((3, 3)), "rows of one joiner");
+    is(rt, pairs_number(run), 10_12_21, "pairs");
+    is(rt, run.journal.len(), 3, "lines");
+    is(rt, last_epoch(run), Some(0), "epoch");
+    is(rt, run.bouts, 17, "events");
+    is(rt, only_load(run), Some((3, 3)), "rows of one joiner");
 }
 
 #[test]
 fn one_joiner_holds_all_rows(rt: HostRuntime) -> Result<(), Fail> {
     let run = equal_numbers(&rt, rt.alloc(), &[10, 20, 30], 100, 0)?;
     has_all_rows(&rt, &run);
+    drop(run);
     Ok(())
 }
 
 #[test]
 fn equal_tickets_meet_in_one_joiner(rt: HostRuntime) -> Result<(), Fail> {
     let run = equal_numbers(&rt, rt.alloc(), &[10, 20, 30], 0, 2)?;
-    assert_eq!(rt; pairs_number(&run), 10_12_21, "pairs");
-    assert_eq!(rt; run.made.as_slice(), [3, 0, 0, 0].as_slice(), "made");
+    is(&rt, pairs_number(&run), 10_12_21, "pairs");
+    is(&rt, run.made.as_slice(), [3, 0, 0, 0].as_slice(), "made");
+    drop(run);
     Ok(())
 }

@@ -45,8 +45,13 @@ fn drive(world: &mut World, seed: u64) -> Result<u64, AllocError> {
 }
 
 fn driven_in(mut world: World<'_>, seed: u64) -> Result<Run, AllocError> {
-    let events = drive(&mut world, seed)?;
-    finished(world, events)
+    match drive(&mut world, seed) {
+        Ok(events) => finished(world, events),
+        Err(refused) => {
+            drop(world);
+            Err(refused)
+        }
+    }
 }
 
 // The run of a world that is driven to its end by the words of this seed.
@@ -88,18 +93,55 @@ fn difference(one: &Run, other: &Run) -> &'static str {
     }
 }
 
-// The run of a world that is driven by the words of this seed. It has to be the replay of the seed.
-fn replayed_as_driven<R: Abort + Wait>(
+// The first field in which the replay of this seed differs from a run.
+fn replay_difference<R: Wait>(
     rt: &R,
     alloc: Global,
     input: &Input,
     setting: &Setting,
     seed: u64,
-) -> Result<Run, AllocError> {
-    let wanted = driven(alloc, input, setting, seed)?;
+    wanted: &Run,
+) -> Result<&'static str, AllocError> {
     let run = replayed(rt, alloc, input, setting, seed)?;
-    assert_eq!(rt; difference(&run, &wanted), "none", "seed {seed}");
-    Ok(wanted)
+    let found = difference(&run, wanted);
+    drop(run);
+    Ok(found)
+}
+
+// That the replay of this seed is this run.
+fn is_replayed<R: Abort + Wait>(
+    rt: &R,
+    alloc: Global,
+    input: &Input,
+    setting: &Setting,
+    seed: u64,
+    wanted: &Run,
+) -> Result<(), AllocError> {
+    let found = replay_difference(rt, alloc, input, setting, seed, wanted)?;
+    assert_eq!(rt; found, "none", "seed {seed}");
+    Ok(())
+}
+
+fn has_journal(run: &Run, journal: &Journal) -> bool {
+    run.journal.as_slice() == journal.as_slice()
+}
+
+// Whether the run of a world that is driven by the words of this seed has this journal. It has to be the replay of the
+// seed.
+fn replays_with_journal<R: Abort + Wait>(
+    rt: &R,
+    alloc: Global,
+    input: &Input,
+    setting: &Setting,
+    seed: u64,
+    journal: &Journal,
+) -> Result<bool, AllocError> {
+    let run = driven(alloc, input, setting, seed)?;
+    let held = is_replayed(rt, alloc, input, setting, seed, &run);
+    let same = has_journal(&run, journal);
+    drop(run);
+    held?;
+    Ok(same)
 }
 
 // How many of the first 32 seeds have another journal than this one.
@@ -112,8 +154,7 @@ fn other_journals<R: Abort + Wait>(
 ) -> Result<u64, AllocError> {
     let mut others = 0u64;
     for seed in 0..32 {
-        let run = replayed_as_driven(rt, alloc, input, setting, seed)?;
-        if run.journal.as_slice() != journal.as_slice() {
+        if !replays_with_journal(rt, alloc, input, setting, seed, journal)? {
             others = others.wrapping_add(1);
         }
     }
@@ -128,14 +169,22 @@ fn later_journals<R: Abort + Wait>(
     setting: &Setting,
 ) -> Result<u64, AllocError> {
     let first = driven(alloc, input, setting, 0)?;
-    other_journals(rt, alloc, input, setting, &first.journal)
+    let others = other_journals(rt, alloc, input, setting, &first.journal);
+    drop(first);
+    others
+}
+
+// The same of eight rows a side.
+fn later_journals_of_eight<R: Abort + Wait>(rt: &R, alloc: Global) -> Result<u64, AllocError> {
+    let input = eight_rows_a_side(alloc)?;
+    let others = later_journals(rt, alloc, &input, &four_joiners());
+    drop(input);
+    others
 }
 
 #[test]
 fn a_replay_makes_the_events_in_its_order(rt: HostRuntime) -> Result<(), Fail> {
-    let alloc = rt.alloc();
-    let input = eight_rows_a_side(alloc)?;
-    let others = later_journals(&rt, alloc, &input, &four_joiners())?;
+    let others = later_journals_of_eight(&rt, rt.alloc())?;
     assert!(rt; others > 0, "the journals aren't all equal");
     Ok(())
 }

@@ -2,6 +2,7 @@
 
 use super::by_hand::actor;
 use super::inputs::{eight_rows_a_side, four_joiners, input};
+use super::is;
 use super::seeds::replayed;
 use link_trace::{Input, Run, Setting, replay_starving};
 use std::alloc::{AllocError, Global};
@@ -21,23 +22,24 @@ fn starving(
     replay_starving(alloc, input, setting, actor(letter))
 }
 
-// All pairs are found where the actor of this letter is served last.
-fn finds_all(
-    rt: &impl Abort,
+// How many pairs are found where the actor of this letter is served last.
+fn pairs_of_starving(
     alloc: Global,
     input: &Input,
     setting: &Setting,
     letter: u8,
-) -> Result<(), AllocError> {
+) -> Result<u64, AllocError> {
     let run = starving(alloc, input, setting, letter)?;
-    assert_eq!(rt; run.pairs.len(), 64, "pairs");
-    Ok(())
+    let pairs = run.pairs.len();
+    drop(run);
+    Ok(pairs)
 }
 
-fn finds_all_of(rt: &impl Abort, alloc: Global, input: &Input) -> Result<(), Fail> {
+fn finds_all_of(rt: &impl Abort, alloc: Global, input: &Input) -> Result<(), AllocError> {
     let setting = four_joiners();
     for letter in b"f0123co" {
-        finds_all(rt, alloc, input, &setting, *letter)?;
+        let pairs = pairs_of_starving(alloc, input, &setting, *letter)?;
+        is(rt, pairs, 64, "pairs");
     }
     Ok(())
 }
@@ -45,7 +47,9 @@ fn finds_all_of(rt: &impl Abort, alloc: Global, input: &Input) -> Result<(), Fai
 #[test]
 fn each_actor_is_served_last(rt: HostRuntime) -> Result<(), Fail> {
     let input = eight_rows_a_side(rt.alloc())?;
-    finds_all_of(&rt, rt.alloc(), &input)
+    let found = finds_all_of(&rt, rt.alloc(), &input);
+    drop(input);
+    Ok(found?)
 }
 
 // Three rows a side, of which equal ones match, all with one ticket.
@@ -66,6 +70,11 @@ fn one_joiner() -> Setting {
     setting
 }
 
+// How many events and lines a run has.
+fn size_of(run: &Run) -> (u64, u64) {
+    (run.bouts, run.journal.len())
+}
+
 // The events and lines of the replay of this seed.
 fn size_of_replay<R: Wait>(
     rt: &R,
@@ -74,20 +83,24 @@ fn size_of_replay<R: Wait>(
     seed: u64,
 ) -> Result<(u64, u64), AllocError> {
     let run = replayed(rt, alloc, input, &one_joiner(), seed)?;
-    Ok((run.bouts, run.journal.len()))
+    let size = size_of(&run);
+    drop(run);
+    Ok(size)
 }
 
 // The same where the actor of this letter is served last.
 fn size_of_starving(alloc: Global, input: &Input, letter: u8) -> Result<(u64, u64), AllocError> {
     let run = starving(alloc, input, &one_joiner(), letter)?;
-    Ok((run.bouts, run.journal.len()))
+    let size = size_of(&run);
+    drop(run);
+    Ok(size)
 }
 
 fn replays_have_17_events<R: Abort + Wait>(
     rt: &R,
     alloc: Global,
     input: &Input,
-) -> Result<(), Fail> {
+) -> Result<(), AllocError> {
     for seed in 0..32 {
         let size = size_of_replay(rt, alloc, input, seed)?;
         assert_eq!(rt; size, (17, 3), "seed {seed}");
@@ -95,10 +108,10 @@ fn replays_have_17_events<R: Abort + Wait>(
     Ok(())
 }
 
-fn starving_has_17_events(rt: &impl Abort, alloc: Global, input: &Input) -> Result<(), Fail> {
+fn starving_has_17_events(rt: &impl Abort, alloc: Global, input: &Input) -> Result<(), AllocError> {
     for letter in b"f0co" {
         let size = size_of_starving(alloc, input, *letter)?;
-        assert_eq!(rt; size, (17, 3), "events and lines");
+        is(rt, size, (17, 3), "events and lines");
     }
     Ok(())
 }
@@ -106,11 +119,15 @@ fn starving_has_17_events(rt: &impl Abort, alloc: Global, input: &Input) -> Resu
 #[test]
 fn one_joiner_has_17_events_in_each_replay(rt: HostRuntime) -> Result<(), Fail> {
     let input = three_rows_a_side(rt.alloc())?;
-    replays_have_17_events(&rt, rt.alloc(), &input)
+    let held = replays_have_17_events(&rt, rt.alloc(), &input);
+    drop(input);
+    Ok(held?)
 }
 
 #[test]
 fn one_joiner_has_17_events_whoever_is_served_last(rt: HostRuntime) -> Result<(), Fail> {
     let input = three_rows_a_side(rt.alloc())?;
-    starving_has_17_events(&rt, rt.alloc(), &input)
+    let held = starving_has_17_events(&rt, rt.alloc(), &input);
+    drop(input);
+    Ok(held?)
 }
