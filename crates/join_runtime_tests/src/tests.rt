@@ -1,62 +1,33 @@
 mod early;
+mod inputs;
 mod waves;
 
 use epoch_tags::Actor;
 use grid_map::Weights;
-use join_rows::{Bytes, Cell, Cells, Names, Rows, Table};
+use inputs::input;
 use join_runtime::{Told, run};
 use row_tickets::Feed;
 use std::alloc::{AllocError, Global};
+use std::fmt::Debug;
+use std::process::Abort;
 use std::sync::Wait;
 use std::test::Fail;
 use std::thread::Threads;
-use theta_pred::{Theta, parse, resolve};
 use trace_law::{Input, Setting};
 use worker_gate::{Gate, NoGate, PairGate};
 
-fn row(alloc: Global, number: i64) -> Result<Cells, AllocError> {
-    let mut row = Cells::new(alloc);
-    row.push(Cell {
-        text: Bytes::new(alloc),
-        num: Some(number),
-    })?;
-    Ok(row)
-}
-
-// A table with one column.
-fn table(alloc: Global, name: &[u8], numbers: [i64; 3]) -> Result<Table, AllocError> {
-    let mut names = Names::new(alloc);
-    names.push(Bytes::from_slice(alloc, name)?)?;
-    let mut rows = Rows::new(alloc);
-    for number in numbers {
-        rows.push(row(alloc, number)?)?;
-    }
-    Ok(Table { names, rows })
-}
-
-fn equality(alloc: Global, table_r: &Table, table_s: &Table) -> Result<Theta, AllocError> {
-    let Ok(pred) = parse(alloc, "r.x = s.y") else {
-        return Err(AllocError);
-    };
-    match resolve(alloc, &pred, &table_r.names, &table_s.names) {
-        Ok(theta) => Ok(theta),
-        Err(_) => Err(AllocError),
-    }
+// That these are equal: one call, where an assertion in its place is dear to prove.
+fn is<T: Copy + Debug + PartialEq>(rt: &impl Abort, seen: T, wanted: T, what: &str) {
+    assert_eq!(rt; seen, wanted, "{what}");
 }
 
 fn three_rows_a_side(alloc: Global, tickets: [u8; 3]) -> Result<Input, AllocError> {
-    let tickets_r = Bytes::from_slice(alloc, &tickets)?;
-    let tickets_s = Bytes::from_slice(alloc, &tickets)?;
-    let table_r = table(alloc, b"x", [10, 20, 30])?;
-    let table_s = table(alloc, b"y", [20, 30, 20])?;
-    let theta = equality(alloc, &table_r, &table_s)?;
-    Ok(Input {
-        table_r,
-        table_s,
-        theta,
-        tickets_r,
-        tickets_s,
-    })
+    input(
+        alloc,
+        "r.x = s.y",
+        (&[10, 20, 30], &tickets),
+        (&[20, 30, 20], &tickets),
+    )
 }
 
 // Four joiners.
@@ -108,6 +79,14 @@ struct Found {
     made: Option<u64>,
 }
 
+fn found_in(told: &Told) -> Found {
+    Found {
+        pairs: pairs_number(told),
+        bouts: told.run.bouts,
+        made: made_by_joiner_0(told),
+    }
+}
+
 fn seen<R: Threads + Wait + Sync, G: Gate + Sync>(
     rt: &R,
     alloc: Global,
@@ -116,11 +95,9 @@ fn seen<R: Threads + Wait + Sync, G: Gate + Sync>(
     gate: &G,
 ) -> Result<Found, AllocError> {
     let told = run_checked(rt, alloc, input, setting, gate)?;
-    Ok(Found {
-        pairs: pairs_number(&told),
-        bouts: told.run.bouts,
-        made: made_by_joiner_0(&told),
-    })
+    let found = found_in(&told);
+    drop(told);
+    Ok(found)
 }
 
 // The same of three rows a side with these tickets.
@@ -132,19 +109,30 @@ fn seen_of_three<R: Threads + Wait + Sync, G: Gate + Sync>(
     gate: &G,
 ) -> Result<Found, AllocError> {
     let input = three_rows_a_side(alloc, tickets)?;
-    seen(rt, alloc, &input, setting, gate)
+    let found = seen(rt, alloc, &input, setting, gate);
+    drop(input);
+    found
 }
 
 // The three pairs of rows, in order.
 const PAIRS: u64 = 10_12_21;
 
+fn finds_the_pairs<R: Abort + Threads + Wait + Sync>(
+    rt: &R,
+    alloc: Global,
+    workers: u32,
+) -> Result<(), AllocError> {
+    let tickets = [161, 123, 186];
+    let seen = seen_of_three(rt, alloc, tickets, &setting(2, workers), &NoGate)?;
+    assert_eq!(rt; seen.pairs, PAIRS, "with {workers} workers");
+    assert!(rt; seen.bouts > 0, "bouts with {workers} workers");
+    Ok(())
+}
+
 #[test]
 fn any_number_of_workers_finds_the_pairs(rt: HostRuntime) -> Result<(), Fail> {
-    let tickets = [161, 123, 186];
     for workers in [1u32, 4, 16] {
-        let seen = seen_of_three(&rt, rt.alloc(), tickets, &setting(2, workers), &NoGate)?;
-        assert_eq!(rt; seen.pairs, PAIRS, "with {workers} workers");
-        assert!(rt; seen.bouts > 0, "bouts with {workers} workers");
+        finds_the_pairs(&rt, rt.alloc(), workers)?;
     }
     Ok(())
 }
@@ -152,16 +140,27 @@ fn any_number_of_workers_finds_the_pairs(rt: HostRuntime) -> Result<(), Fail> {
 #[test]
 fn where_all_tickets_are_0_one_joiner_makes_all(rt: HostRuntime) -> Result<(), Fail> {
     let seen = seen_of_three(&rt, rt.alloc(), [0, 0, 0], &setting(1, 2), &NoGate)?;
-    assert_eq!(rt; seen.pairs, PAIRS, "pairs");
-    assert_eq!(rt; seen.made, Some(3), "made by joiner 0");
+    is(&rt, seen.pairs, PAIRS, "pairs");
+    is(&rt, seen.made, Some(3), "made by joiner 0");
     Ok(())
+}
+
+// The pairs of a run in which these two are to meet, and whether they met.
+fn pairs_of_two_workers<R: Threads + Wait + Sync>(
+    rt: &R,
+    alloc: Global,
+) -> Result<(u64, bool), AllocError> {
+    let gate = PairGate::new(Actor::Joiner(0), Actor::Collector, 1 << 27);
+    let seen = seen_of_three(rt, alloc, [161, 123, 186], &setting(1, 2), &gate);
+    let met = gate.met();
+    drop(gate);
+    Ok((seen?.pairs, met))
 }
 
 #[test]
 fn two_workers_meet(rt: HostRuntime) -> Result<(), Fail> {
-    let gate = PairGate::new(Actor::Joiner(0), Actor::Collector, 1 << 27);
-    let seen = seen_of_three(&rt, rt.alloc(), [161, 123, 186], &setting(1, 2), &gate)?;
-    assert_eq!(rt; seen.pairs, PAIRS, "pairs");
-    assert!(rt; gate.met(), "the two met");
+    let (pairs, met) = pairs_of_two_workers(&rt, rt.alloc())?;
+    is(&rt, pairs, PAIRS, "pairs");
+    is(&rt, met, true, "the two met");
     Ok(())
 }

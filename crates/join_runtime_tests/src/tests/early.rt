@@ -3,7 +3,7 @@
 ghost use Rattle.std.specs.Prelude.{◌<◌};
 ghost use Rattle.join_rows.specs.Shelves.{last_fault};
 
-use super::{setting, three_rows_a_side};
+use super::{is, setting, three_rows_a_side};
 use join_rows::{ListSink, Sink};
 use join_runtime::{EarlyFault, run_early};
 use std::alloc::{AllocError, Global};
@@ -27,7 +27,10 @@ fn fault_of<R: Threads + Wait + Sync, K: Sink>(
         return Some(EarlyFault::Memory);
     }
     match run_early(rt, alloc, input, setting, &NoGate, sink) {
-        Ok(_) => None,
+        Ok(told) => {
+            drop(told);
+            None
+        }
         Err(fault) => Some(fault),
     }
 }
@@ -58,7 +61,9 @@ fn puts_each<R: Threads + Wait + Sync>(
 ) -> Result<bool, AllocError> {
     let mut sink = ListSink::new(alloc, 64)?;
     let fault = fault_of(rt, alloc, input, setting, &mut sink);
-    Ok(fault.is_none() && has_each_line(sink.written()))
+    let puts = fault.is_none() && has_each_line(sink.written());
+    drop(sink);
+    Ok(puts)
 }
 
 // The same of three rows a side with these tickets.
@@ -70,25 +75,38 @@ fn puts_each_line<R: Threads + Wait + Sync>(
     workers: u32,
 ) -> Result<bool, AllocError> {
     let input = three_rows_a_side(alloc, tickets)?;
-    puts_each(rt, alloc, &input, &setting(feeders, workers))
+    let puts = puts_each(rt, alloc, &input, &setting(feeders, workers));
+    drop(input);
+    puts
 }
 
 #[test]
 fn each_line_is_put_once(rt: HostRuntime) -> Result<(), Fail> {
     let alloc = rt.alloc();
     let tickets = [161, 123, 186];
-    assert!(rt; puts_each_line(&rt, alloc, tickets, 2, 1)?, "with 1 worker");
-    assert!(rt;
+    is(
+        &rt,
+        puts_each_line(&rt, alloc, tickets, 2, 1)?,
+        true,
+        "with 1 worker",
+    );
+    is(
+        &rt,
         puts_each_line(&rt, alloc, tickets, 2, 4)?,
-        "with 4 workers"
+        true,
+        "with 4 workers",
     );
-    assert!(rt;
+    is(
+        &rt,
         puts_each_line(&rt, alloc, tickets, 1, 16)?,
-        "with 16 workers"
+        true,
+        "with 16 workers",
     );
-    assert!(rt;
+    is(
+        &rt,
         puts_each_line(&rt, alloc, [0, 0, 0], 1, 2)?,
-        "with equal tickets"
+        true,
+        "with equal tickets",
     );
     Ok(())
 }
@@ -100,9 +118,15 @@ fn first_put_fails<R: Threads + Wait + Sync>(
     input: &Input,
 ) -> Result<(Option<EarlyFault>, usize), AllocError> {
     let mut sink = ListSink::new(alloc, 64)?;
-    sink.fail_put(1)?;
-    let fault = fault_of(rt, alloc, input, &setting(1, 2), &mut sink);
-    Ok((fault, sink.written().len()))
+    let seen = match sink.fail_put(1) {
+        Ok(()) => {
+            let fault = fault_of(rt, alloc, input, &setting(1, 2), &mut sink);
+            Ok((fault, sink.written().len()))
+        }
+        Err(refused) => Err(refused),
+    };
+    drop(sink);
+    seen
 }
 
 fn first_put_of_three_fails<R: Threads + Wait + Sync>(
@@ -110,13 +134,15 @@ fn first_put_of_three_fails<R: Threads + Wait + Sync>(
     alloc: Global,
 ) -> Result<(Option<EarlyFault>, usize), AllocError> {
     let input = three_rows_a_side(alloc, [161, 123, 186])?;
-    first_put_fails(rt, alloc, &input)
+    let seen = first_put_fails(rt, alloc, &input);
+    drop(input);
+    seen
 }
 
 #[test]
 fn the_first_put_that_fails_ends_it(rt: HostRuntime) -> Result<(), Fail> {
     let (fault, written) = first_put_of_three_fails(&rt, rt.alloc())?;
-    assert_eq!(rt; fault, Some(EarlyFault::Write), "the fault");
-    assert_eq!(rt; written, 0, "what was written");
+    is(&rt, fault, Some(EarlyFault::Write), "the fault");
+    is(&rt, written, 0, "what was written");
     Ok(())
 }
