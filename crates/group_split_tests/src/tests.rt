@@ -6,12 +6,19 @@ use group_split::{GroupsRun, group_of, numbers, run_groups, sizes};
 use join_rows::{Bytes, Cell, Cells, Names, Rows, Table};
 use row_tickets::Feed;
 use std::alloc::{AllocError, Global};
+use std::fmt::Debug;
+use std::process::Abort;
 use std::sync::Wait;
 use std::test::Fail;
 use std::thread::Threads;
 use theta_pred::{Theta, parse, resolve};
 use trace_law::{Input, Run, Setting};
 use worker_gate::NoGate;
+
+// That these are equal: one call, where an assertion in its place is dear to prove.
+fn is<T: Copy + Debug + PartialEq>(rt: &impl Abort, seen: T, wanted: T, what: &str) {
+    assert_eq!(rt; seen, wanted, "{what}");
+}
 
 // Numbers below 100 as one number, two digits each.
 fn as_number(numbers: &Counts) -> u64 {
@@ -27,7 +34,9 @@ fn sizes_of(alloc: Global, joiners: u32) -> Result<u64, AllocError> {
         return Err(AllocError);
     }
     let sizes = sizes(alloc, joiners)?;
-    Ok(as_number(&sizes))
+    let number = as_number(&sizes);
+    drop(sizes);
+    Ok(number)
 }
 
 fn numbers_of(alloc: Global, seed: u64, joiners: u32, count: u64) -> Result<u64, AllocError> {
@@ -35,7 +44,9 @@ fn numbers_of(alloc: Global, seed: u64, joiners: u32, count: u64) -> Result<u64,
         return Err(AllocError);
     }
     let numbers = numbers(alloc, seed, joiners, count)?;
-    Ok(as_number(&numbers))
+    let number = as_number(&numbers);
+    drop(numbers);
+    Ok(number)
 }
 
 fn group_at(joiners: u32, number: u64) -> Option<u32> {
@@ -86,63 +97,148 @@ fn each_number_is_of_one_group(rt: HostRuntime) -> Result<(), Fail> {
 // Those of seed 42 are the words of another program's generator.
 #[test]
 fn numbers_are_words_of_stream_57(rt: HostRuntime) -> Result<(), Fail> {
-    assert_eq!(rt; numbers_of(rt.alloc(), 1, 1, 3)?, 0, "one joiner");
-    assert_eq!(rt;
+    is(&rt, numbers_of(rt.alloc(), 1, 1, 3)?, 0, "one joiner");
+    is(
+        &rt,
         numbers_of(rt.alloc(), 42, 5, 8)?,
         4_03_03_02_01_04_01_02,
-        "five"
+        "five",
     );
-    assert_eq!(rt;
+    is(
+        &rt,
         numbers_of(rt.alloc(), 42, 64, 4)?,
         23_49_26_53,
-        "sixty-four"
+        "sixty-four",
     );
     Ok(())
 }
 
+// What each function here makes, it lets go by a call where it can't go on: what a way out drops by itself is dear to
+// prove.
+
 fn row(alloc: Global, number: i64) -> Result<Cells, AllocError> {
     let mut row = Cells::new(alloc);
-    row.push(Cell {
+    let cell = Cell {
         text: Bytes::new(alloc),
         num: Some(number),
-    })?;
-    Ok(row)
+    };
+    match row.push(cell) {
+        Ok(()) => Ok(row),
+        Err(refused) => {
+            drop(row);
+            Err(refused)
+        }
+    }
+}
+
+fn add_rows(alloc: Global, rows: &mut Rows, numbers: &[i64]) -> Result<(), AllocError> {
+    for number in numbers {
+        rows.push(row(alloc, *number)?)?;
+    }
+    Ok(())
+}
+
+fn rows(alloc: Global, numbers: &[i64]) -> Result<Rows, AllocError> {
+    let mut rows = Rows::new(alloc);
+    match add_rows(alloc, &mut rows, numbers) {
+        Ok(()) => Ok(rows),
+        Err(refused) => {
+            drop(rows);
+            Err(refused)
+        }
+    }
+}
+
+// The header of one column.
+fn header(alloc: Global, name: &[u8]) -> Result<Names, AllocError> {
+    let name = Bytes::from_slice(alloc, name)?;
+    let mut names = Names::new(alloc);
+    match names.push(name) {
+        Ok(()) => Ok(names),
+        Err(refused) => {
+            drop(names);
+            Err(refused)
+        }
+    }
 }
 
 // A table with one column.
-fn table(alloc: Global, name: &[u8], numbers: [i64; 3]) -> Result<Table, AllocError> {
-    let mut names = Names::new(alloc);
-    names.push(Bytes::from_slice(alloc, name)?)?;
-    let mut rows = Rows::new(alloc);
-    for number in numbers {
-        rows.push(row(alloc, number)?)?;
+fn table(alloc: Global, name: &[u8], numbers: &[i64]) -> Result<Table, AllocError> {
+    let names = header(alloc, name)?;
+    match rows(alloc, numbers) {
+        Ok(rows) => Ok(Table { names, rows }),
+        Err(refused) => {
+            drop(names);
+            Err(refused)
+        }
     }
-    Ok(Table { names, rows })
 }
 
-fn equality(alloc: Global, table_r: &Table, table_s: &Table) -> Result<Theta, AllocError> {
+fn equality(alloc: Global, r: &Table, s: &Table) -> Result<Theta, AllocError> {
     let Ok(pred) = parse(alloc, "r.x = s.y") else {
         return Err(AllocError);
     };
-    match resolve(alloc, &pred, &table_r.names, &table_s.names) {
+    let theta = match resolve(alloc, &pred, &r.names, &s.names) {
         Ok(theta) => Ok(theta),
-        Err(_) => Err(AllocError),
+        Err(fault) => {
+            drop(fault);
+            Err(AllocError)
+        }
+    };
+    drop(pred);
+    theta
+}
+
+// A table and the tickets of its rows.
+#[derive(Drop)]
+struct Ticketed {
+    table: Table,
+    tickets: Bytes,
+}
+
+fn with_tickets(
+    alloc: Global,
+    name: &[u8],
+    numbers: &[i64],
+    tickets: &[u8],
+) -> Result<Ticketed, AllocError> {
+    let tickets = Bytes::from_slice(alloc, tickets)?;
+    match table(alloc, name, numbers) {
+        Ok(table) => Ok(Ticketed { table, tickets }),
+        Err(refused) => {
+            drop(tickets);
+            Err(refused)
+        }
+    }
+}
+
+fn over(alloc: Global, r: Ticketed, s: Ticketed) -> Result<Input, AllocError> {
+    match equality(alloc, &r.table, &s.table) {
+        Ok(theta) => Ok(Input {
+            table_r: r.table,
+            table_s: s.table,
+            theta,
+            tickets_r: r.tickets,
+            tickets_s: s.tickets,
+        }),
+        Err(refused) => {
+            drop(r);
+            drop(s);
+            Err(refused)
+        }
     }
 }
 
 fn three_rows_a_side(alloc: Global) -> Result<Input, AllocError> {
-    let tickets_r = Bytes::from_slice(alloc, &[161, 123, 186])?;
-    let tickets_s = Bytes::from_slice(alloc, &[161, 123, 186])?;
-    let table_r = table(alloc, b"x", [10, 20, 30])?;
-    let table_s = table(alloc, b"y", [20, 30, 20])?;
-    let theta = equality(alloc, &table_r, &table_s)?;
-    Ok(Input {
-        table_r,
-        table_s,
-        theta,
-        tickets_r,
-        tickets_s,
-    })
+    let tickets = [161, 123, 186];
+    let of_r = with_tickets(alloc, b"x", &[10, 20, 30], &tickets)?;
+    match with_tickets(alloc, b"y", &[20, 30, 20], &tickets) {
+        Ok(of_s) => over(alloc, of_r, of_s),
+        Err(refused) => {
+            drop(of_r);
+            Err(refused)
+        }
+    }
 }
 
 // Two feeders and two workers; the number of joiners in it isn't used.
@@ -215,6 +311,20 @@ fn seen(answer: &GroupsRun) -> (u64, u64, u64, u64) {
     )
 }
 
+// The same of a run.
+fn seen_of<R: Threads + Wait + Sync>(
+    rt: &R,
+    alloc: Global,
+    input: &Input,
+    joiners: u32,
+    numbers: &Counts,
+) -> Result<(u64, u64, u64, u64), AllocError> {
+    let answer = run_checked(rt, alloc, input, joiners, numbers, &setting())?;
+    let seen = seen(&answer);
+    drop(answer);
+    Ok(seen)
+}
+
 // The same of three rows a side with these numbers.
 fn seen_of_three<R: Threads + Wait + Sync>(
     rt: &R,
@@ -223,8 +333,17 @@ fn seen_of_three<R: Threads + Wait + Sync>(
     numbers: &Counts,
 ) -> Result<(u64, u64, u64, u64), AllocError> {
     let input = three_rows_a_side(alloc)?;
-    let answer = run_checked(rt, alloc, &input, joiners, numbers, &setting())?;
-    Ok(seen(&answer))
+    let seen = seen_of(rt, alloc, &input, joiners, numbers);
+    drop(input);
+    seen
+}
+
+fn counts(alloc: Global, numbers: [u64; 3]) -> Result<Counts, AllocError> {
+    let mut held = Counts::new(alloc);
+    for number in numbers {
+        held.push(number)?;
+    }
+    Ok(held)
 }
 
 fn seen_with<R: Threads + Wait + Sync>(
@@ -233,11 +352,10 @@ fn seen_with<R: Threads + Wait + Sync>(
     joiners: u32,
     numbers: [u64; 3],
 ) -> Result<(u64, u64, u64, u64), AllocError> {
-    let mut held = Counts::new(alloc);
-    for number in numbers {
-        held.push(number)?;
-    }
-    seen_of_three(rt, alloc, joiners, &held)
+    let numbers = counts(alloc, numbers)?;
+    let seen = seen_of_three(rt, alloc, joiners, &numbers);
+    drop(numbers);
+    seen
 }
 
 #[test]
