@@ -1,10 +1,11 @@
 // Runs over rings.
 
-use super::{equality, row, setting, three_rows_a_side};
+use super::{Ticketed, header, is, over, row, setting, three_rows_a_side};
 use epoch_tags::Actor;
-use join_rows::{Bytes, Names, Rows, Table};
+use join_rows::{Bytes, Rows, Table};
 use ring_runtime::{RingRun, ring_run};
 use std::alloc::{AllocError, Global};
+use std::process::Abort;
 use std::test::Fail;
 use std::thread::Threads;
 use trace_law::{Input, Setting};
@@ -42,6 +43,27 @@ struct Found {
     fallen: bool,
 }
 
+fn found_in(told: &RingRun) -> Found {
+    Found {
+        pairs: pairs_number(told),
+        bouts: told.run.bouts,
+        fallen: told.fallen,
+    }
+}
+
+fn seen<R: Threads + Sync, G: Gate + Sync>(
+    rt: &R,
+    alloc: Global,
+    input: &Input,
+    setting: &Setting,
+    gate: &G,
+) -> Result<Found, AllocError> {
+    let told = run_checked(rt, alloc, input, setting, gate)?;
+    let found = found_in(&told);
+    drop(told);
+    Ok(found)
+}
+
 fn seen_of_three<R: Threads + Sync, G: Gate + Sync>(
     rt: &R,
     alloc: Global,
@@ -49,24 +71,30 @@ fn seen_of_three<R: Threads + Sync, G: Gate + Sync>(
     gate: &G,
 ) -> Result<Found, AllocError> {
     let input = three_rows_a_side(alloc)?;
-    let told = run_checked(rt, alloc, &input, setting, gate)?;
-    Ok(Found {
-        pairs: pairs_number(&told),
-        bouts: told.run.bouts,
-        fallen: told.fallen,
-    })
+    let found = seen(rt, alloc, &input, setting, gate);
+    drop(input);
+    found
 }
 
 // The three pairs of rows, in order.
 const PAIRS: u64 = 10_12_21;
 
+fn finds_the_pairs<R: Abort + Threads + Sync>(
+    rt: &R,
+    alloc: Global,
+    workers: u32,
+) -> Result<(), AllocError> {
+    let seen = seen_of_three(rt, alloc, &setting(2, 2, workers), &NoGate)?;
+    assert_eq!(rt; seen.pairs, PAIRS, "with {workers} workers");
+    assert!(rt; seen.bouts > 0, "bouts with {workers} workers");
+    assert!(rt; !seen.fallen, "over rings with {workers} workers");
+    Ok(())
+}
+
 #[test]
 fn any_number_of_workers_finds_the_pairs(rt: HostRuntime) -> Result<(), Fail> {
     for workers in [1u32, 4, 16] {
-        let seen = seen_of_three(&rt, rt.alloc(), &setting(2, 2, workers), &NoGate)?;
-        assert_eq!(rt; seen.pairs, PAIRS, "with {workers} workers");
-        assert!(rt; seen.bouts > 0, "bouts with {workers} workers");
-        assert!(rt; !seen.fallen, "over rings with {workers} workers");
+        finds_the_pairs(&rt, rt.alloc(), workers)?;
     }
     Ok(())
 }
@@ -74,28 +102,59 @@ fn any_number_of_workers_finds_the_pairs(rt: HostRuntime) -> Result<(), Fail> {
 #[test]
 fn one_joiner_one_feeder_and_one_worker_find_the_pairs(rt: HostRuntime) -> Result<(), Fail> {
     let seen = seen_of_three(&rt, rt.alloc(), &setting(0, 1, 1), &NoGate)?;
-    assert_eq!(rt; seen.pairs, PAIRS, "pairs");
+    is(&rt, seen.pairs, PAIRS, "pairs");
     Ok(())
+}
+
+// The pairs of a run in which these two are to meet, and whether they met.
+fn pairs_of_two_workers<R: Threads + Sync>(
+    rt: &R,
+    alloc: Global,
+) -> Result<(u64, bool), AllocError> {
+    let gate = PairGate::new(Actor::Joiner(0), Actor::Collector, 1 << 27);
+    let seen = seen_of_three(rt, alloc, &setting(2, 1, 2), &gate);
+    let met = gate.met();
+    drop(gate);
+    Ok((seen?.pairs, met))
 }
 
 #[test]
 fn two_workers_meet(rt: HostRuntime) -> Result<(), Fail> {
-    let gate = PairGate::new(Actor::Joiner(0), Actor::Collector, 1 << 27);
-    let seen = seen_of_three(&rt, rt.alloc(), &setting(2, 1, 2), &gate)?;
-    assert_eq!(rt; seen.pairs, PAIRS, "pairs");
-    assert!(rt; gate.met(), "the two met");
+    let (pairs, met) = pairs_of_two_workers(&rt, rt.alloc())?;
+    is(&rt, pairs, PAIRS, "pairs");
+    is(&rt, met, true, "the two met");
     Ok(())
+}
+
+// The numbers 0 to 6, again and again.
+fn add_many_rows(alloc: Global, rows: &mut Rows, count: u32) -> Result<(), AllocError> {
+    for number in 0..count {
+        rows.push(row(alloc, (number % 7) as i64)?)?;
+    }
+    Ok(())
+}
+
+fn many_rows(alloc: Global, count: u32) -> Result<Rows, AllocError> {
+    let mut rows = Rows::new(alloc);
+    match add_many_rows(alloc, &mut rows, count) {
+        Ok(()) => Ok(rows),
+        Err(refused) => {
+            drop(rows);
+            Err(refused)
+        }
+    }
 }
 
 // A table with one column, in which the numbers 0 to 6 come again and again.
 fn long_table(alloc: Global, name: &[u8], count: u32) -> Result<Table, AllocError> {
-    let mut names = Names::new(alloc);
-    names.push(Bytes::from_slice(alloc, name)?)?;
-    let mut rows = Rows::new(alloc);
-    for number in 0..count {
-        rows.push(row(alloc, (number % 7) as i64)?)?;
+    let names = header(alloc, name)?;
+    match many_rows(alloc, count) {
+        Ok(rows) => Ok(Table { names, rows }),
+        Err(refused) => {
+            drop(names);
+            Err(refused)
+        }
     }
-    Ok(Table { names, rows })
 }
 
 fn tickets(alloc: Global, count: u32, step: u32) -> Result<Bytes, AllocError> {
@@ -106,19 +165,43 @@ fn tickets(alloc: Global, count: u32, step: u32) -> Result<Bytes, AllocError> {
     Ok(tickets)
 }
 
+fn long_with_tickets(
+    alloc: Global,
+    name: &[u8],
+    count: u32,
+    step: u32,
+) -> Result<Ticketed, AllocError> {
+    let tickets = tickets(alloc, count, step)?;
+    match long_table(alloc, name, count) {
+        Ok(table) => Ok(Ticketed { table, tickets }),
+        Err(refused) => {
+            drop(tickets);
+            Err(refused)
+        }
+    }
+}
+
 fn many_rows_a_side(alloc: Global, count: u32) -> Result<Input, AllocError> {
-    let tickets_r = tickets(alloc, count, 37)?;
-    let tickets_s = tickets(alloc, count, 101)?;
-    let table_r = long_table(alloc, b"x", count)?;
-    let table_s = long_table(alloc, b"y", count)?;
-    let theta = equality(alloc, &table_r, &table_s)?;
-    Ok(Input {
-        table_r,
-        table_s,
-        theta,
-        tickets_r,
-        tickets_s,
-    })
+    let of_r = long_with_tickets(alloc, b"x", count, 37)?;
+    match long_with_tickets(alloc, b"y", count, 101) {
+        Ok(of_s) => over(alloc, of_r, of_s),
+        Err(refused) => {
+            drop(of_r);
+            Err(refused)
+        }
+    }
+}
+
+fn pairs_of<R: Threads + Sync>(
+    rt: &R,
+    alloc: Global,
+    input: &Input,
+    setting: &Setting,
+) -> Result<u64, AllocError> {
+    let told = run_checked(rt, alloc, input, setting, &NoGate)?;
+    let pairs = told.run.pairs.len();
+    drop(told);
+    Ok(pairs)
 }
 
 // How many pairs a run of so many rows a side has.
@@ -129,8 +212,9 @@ fn pairs_of_many<R: Threads + Sync>(
     setting: &Setting,
 ) -> Result<u64, AllocError> {
     let input = many_rows_a_side(alloc, count)?;
-    let told = run_checked(rt, alloc, &input, setting, &NoGate)?;
-    Ok(told.run.pairs.len())
+    let pairs = pairs_of(rt, alloc, &input, setting);
+    drop(input);
+    pairs
 }
 
 #[test]
