@@ -8,36 +8,68 @@ mod predicates;
 mod sums;
 mod texts;
 
+ghost use Rattle.std.specs.Prelude.{◌≤◌};
+ghost use Rattle.theta_text.specs.Sizes.{longest_sum as longest_sum'};
+
 use self::predicates::{apart, band, compared, either, negated, text_below};
-use self::texts::over_x_and_a;
+use self::texts::{is_told, over_x_and_a};
 use join_rows::{Bytes, Cell, Cells, Names, Side};
 use std::alloc::{AllocError, Global};
 use std::process::Abort;
 use std::test::Fail;
-use theta_pred::{Op, Pred, Theta, longest_sum, resolve};
+use theta_pred::{Op, Pred, ResolveFault, Theta, longest_sum, resolve};
 
-fn header(alloc: Global, words: &[&[u8]]) -> Result<Names, AllocError> {
-    let mut names = Names::new(alloc);
-    for word in words {
-        names.push(Bytes::from_slice(alloc, *word)?)?;
+fn push_words(alloc: Global, names: &mut Names, words: &str) -> Result<(), AllocError> {
+    for word in words.split(' ') {
+        names.push(Bytes::from_slice(alloc, word.as_bytes())?)?;
     }
-    Ok(names)
+    Ok(())
+}
+
+// Columns of these names, with a blank between two.
+fn header(alloc: Global, words: &str) -> Result<Names, AllocError> {
+    let mut names = Names::new(alloc);
+    match push_words(alloc, &mut names, words) {
+        Ok(()) => Ok(names),
+        Err(refused) => {
+            drop(names);
+            Err(refused)
+        }
+    }
+}
+
+fn has_short_sums(rt: &impl Abort, pred: &Pred)
+    ensures { longest_sum' pred.now ≤ 16 }
+{
+    assert!(rt; longest_sum(pred) <= 16);
 }
 
 // ---- what they answer
 
-// The predicate over the columns id, x and y, id.
-fn over_x_and_y(rt: &impl Abort, alloc: Global, pred: &Pred) -> Result<Theta, Fail> {
-    let names_r = header(alloc, &[b"id", b"x"])?;
-    let names_s = header(alloc, &[b"y", b"id"])?;
-    assert!(rt; longest_sum(pred) <= 16);
-    Ok(resolve(alloc, pred, &names_r, &names_s)?)
+// The predicate over these columns and y, id.
+fn over_y(alloc: Global, pred: &Pred, names_r: &Names) -> Result<Theta, ResolveFault>
+    requires { longest_sum' pred.now ≤ 16 }
+{
+    let names_s = header(alloc, "y id")?;
+    let theta = resolve(alloc, pred, names_r, &names_s);
+    drop(names_s);
+    theta
 }
 
-// The same of a predicate that nobody needs any more. It is dropped here, on one way out: the proof costs seconds for
-// each other one.
+// The predicate over the columns id, x and y, id.
+fn over_x_and_y(rt: &impl Abort, alloc: Global, pred: &Pred) -> Result<Theta, Fail> {
+    has_short_sums(rt, pred);
+    let names_r = header(alloc, "id x")?;
+    let theta = over_y(alloc, pred, &names_r);
+    drop(names_r);
+    Ok(theta?)
+}
+
+// The same of a predicate that nobody needs any more.
 fn made_over_x_and_y(rt: &impl Abort, alloc: Global, pred: Pred) -> Result<Theta, Fail> {
-    over_x_and_y(rt, alloc, &pred)
+    let theta = over_x_and_y(rt, alloc, &pred);
+    drop(pred);
+    theta
 }
 
 fn cell_of(alloc: Global, text: &str, num: Option<i64>) -> Result<Cell, AllocError> {
@@ -55,11 +87,24 @@ fn cell(alloc: Global, word: &str) -> Result<Cell, AllocError> {
     }
 }
 
+fn push_cell(alloc: Global, row: &mut Cells, word: &str) -> Result<(), AllocError> {
+    row.push(cell(alloc, word)?)
+}
+
+fn push_both(alloc: Global, row: &mut Cells, first: &str, second: &str) -> Result<(), AllocError> {
+    push_cell(alloc, row, first)?;
+    push_cell(alloc, row, second)
+}
+
 fn row(alloc: Global, first: &str, second: &str) -> Result<Cells, AllocError> {
     let mut row = Cells::new(alloc);
-    row.push(cell(alloc, first)?)?;
-    row.push(cell(alloc, second)?)?;
-    Ok(row)
+    match push_both(alloc, &mut row, first, second) {
+        Ok(()) => Ok(row),
+        Err(refused) => {
+            drop(row);
+            Err(refused)
+        }
+    }
 }
 
 fn answer(rt: &impl Abort, theta: &Theta, r: &Cells, s: &Cells) -> bool {
@@ -68,44 +113,117 @@ fn answer(rt: &impl Abort, theta: &Theta, r: &Cells, s: &Cells) -> bool {
     theta.holds(r, s)
 }
 
-// What the predicate and its copy answer at a row with x and a row with y.
+fn answer_beside(
+    rt: &impl Abort,
+    alloc: Global,
+    theta: &Theta,
+    r: &Cells,
+    y: &str,
+) -> Result<bool, AllocError> {
+    let s = row(alloc, y, "1:1")?;
+    let answer = answer(rt, theta, r, &s);
+    drop(s);
+    Ok(answer)
+}
+
+// What the predicate answers at a row with x and a row with y.
+fn answer_at(
+    rt: &impl Abort,
+    alloc: Global,
+    theta: &Theta,
+    x: &str,
+    y: &str,
+) -> Result<bool, AllocError> {
+    let r = row(alloc, "1:1", x)?;
+    let answer = answer_beside(rt, alloc, theta, &r, y);
+    drop(r);
+    answer
+}
+
+// What its copy answers there.
+fn copy_answer_at(
+    rt: &impl Abort,
+    alloc: Global,
+    theta: &Theta,
+    x: &str,
+    y: &str,
+) -> Result<bool, AllocError> {
+    let copy = theta.copy()?;
+    let answer = answer_at(rt, alloc, &copy, x, y);
+    drop(copy);
+    answer
+}
+
+fn word_of(answer: bool) -> &'static str {
+    if answer { "true" } else { "false" }
+}
+
+// That both answer so.
 fn both_answer(
     rt: &impl Abort,
     alloc: Global,
     theta: &Theta,
     x: &str,
     y: &str,
-    wanted: bool,
+    wanted: &str,
 ) -> Result<(), AllocError> {
-    let r = row(alloc, "1:1", x)?;
-    let s = row(alloc, y, "1:1")?;
-    let copy = theta.copy()?;
-    assert_eq!(rt; answer(rt, theta, &r, &s), wanted, "{x} and {y}");
-    assert_eq!(rt;
-        answer(rt, &copy, &r, &s),
-        wanted,
-        "of the copy, {x} and {y}"
-    );
+    let first = answer_at(rt, alloc, theta, x, y)?;
+    is_told(rt, word_of(first), wanted, x, " and ", y);
+    let second = copy_answer_at(rt, alloc, theta, x, y)?;
+    is_told(rt, word_of(second), wanted, x, ", by the copy, and ", y);
     Ok(())
 }
 
-// Each line is x, y and whether the predicate holds.
-fn answers_each(rt: &impl Abort, alloc: Global, theta: &Theta, lines: &[&str]) -> Result<(), Fail> {
+fn answers_cells(
+    rt: &impl Abort,
+    alloc: Global,
+    theta: &Theta,
+    cells: &str,
+    wanted: &str,
+) -> Result<(), AllocError> {
+    match cells.split_once(' ') {
+        Some((x, y)) => both_answer(rt, alloc, theta, x, y, wanted),
+        None => Err(AllocError),
+    }
+}
+
+// A line is x, y and whether the predicate holds.
+fn answers_line(
+    rt: &impl Abort,
+    alloc: Global,
+    theta: &Theta,
+    line: &str,
+) -> Result<(), AllocError> {
+    match line.split_once(" is ") {
+        Some((cells, wanted)) => answers_cells(rt, alloc, theta, cells, wanted),
+        None => Err(AllocError),
+    }
+}
+
+fn answers_each(
+    rt: &impl Abort,
+    alloc: Global,
+    theta: &Theta,
+    lines: &[&str],
+) -> Result<(), AllocError> {
     for line in lines {
-        let Some((cells, wanted)) = line.split_once(" is ") else {
-            return Err(Fail::from(AllocError));
-        };
-        let Some((x, y)) = cells.split_once(' ') else {
-            return Err(Fail::from(AllocError));
-        };
-        both_answer(rt, alloc, theta, x, y, wanted == "true")?;
+        answers_line(rt, alloc, theta, line)?;
     }
     Ok(())
 }
 
 fn answers(rt: &impl Abort, alloc: Global, pred: Pred, lines: &[&str]) -> Result<(), Fail> {
     let theta = made_over_x_and_y(rt, alloc, pred)?;
-    answers_each(rt, alloc, &theta, lines)
+    let outcome = answers_each(rt, alloc, &theta, lines);
+    drop(theta);
+    outcome?;
+    Ok(())
+}
+
+// Whether a predicate is true of a row with this beside 1, and none of the other side.
+fn holds_alone(alloc: Global, theta: &Theta, side: Side, x: &str) -> Result<bool, AllocError> {
+    let row = row(alloc, x, "1:1")?;
+    Ok(theta.holds_alone(side, &row))
 }
 
 // That a predicate is true, or not, of a row with this beside 1, and none of the other side.
@@ -117,11 +235,10 @@ fn answers_alone(
     x: &str,
     wanted: bool,
 ) -> Result<(), AllocError> {
-    let row = row(alloc, x, "1:1")?;
     let theta = over_x_and_a(alloc, text)?;
-    let answer = theta.holds_alone(side, &row);
+    let answer = holds_alone(alloc, &theta, side, x);
     drop(theta);
-    assert_eq!(rt; answer, wanted, "{text} of {x}");
+    assert!(rt; answer? == wanted, "{text} of {x}");
     Ok(())
 }
 

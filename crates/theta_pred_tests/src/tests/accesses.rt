@@ -1,78 +1,90 @@
 // The accesses of predicates.
 
-use super::texts::{over_x_and_a, write_atom, write_sum};
+use super::texts::{is_told, over_x_and_a, write_atom, write_sums};
 use join_rows::Side;
 use std::alloc::{AllocError, Global};
 use std::process::Abort;
 use std::test::Fail;
-use theta_pred::{Access, Alone, Interval, Range, Same, TextAtom};
+use theta_pred::{Access, Interval, KeyAtom, Range, Same, SumPair, TextAtom};
+
+fn write_pair(text: &mut String, pair: &SumPair) -> Result<(), AllocError> {
+    text.push_str("[")?;
+    write_sums(text, &pair.r_sum, &pair.s_sum)?;
+    let gap = pair.gap;
+    write!(text, " {gap}]")
+}
 
 // R's column and S's of equal texts, or R's columns, S's and how much R's sum is above S's, or the side whose rows a
 // test reads alone.
 fn write_same(text: &mut String, same: &Same) -> Result<(), AllocError> {
     match same {
         Same::Texts(TextAtom { r, s }) => write!(text, "[{r} {s}]"),
-        Same::Sums(pair) => {
-            let gap = pair.gap;
-            write!(text, "[")?;
-            write_sum(text, &pair.r_sum)?;
-            write!(text, " ")?;
-            write_sum(text, &pair.s_sum)?;
-            write!(text, " {gap}]")
-        }
-        Same::Alone(
-            Alone {
-                side: Side::R,
-                test: _,
-            },
-        ) => write!(text, "{{r}}"),
-        Same::Alone(
-            Alone {
-                side: Side::S,
-                test: _,
-            },
-        ) => write!(text, "{{s}}"),
+        Same::Sums(pair) => write_pair(text, pair),
+        Same::Alone(alone) => text.push_str(side_alone(alone.side)),
+    }
+}
+
+fn side_alone(side: Side) -> &'static str {
+    match side {
+        Side::R => "{r}",
+        Side::S => "{s}",
+    }
+}
+
+fn side_before(side: Side) -> &'static str {
+    match side {
+        Side::R => "(r: ",
+        Side::S => "(s: ",
     }
 }
 
 // The side of the sum that lies between two, and the tests that bound it from below and from above.
 fn write_interval(text: &mut String, interval: &Interval) -> Result<(), AllocError> {
-    let side = match interval.points {
-        Side::R => 'r',
-        Side::S => 's',
-    };
-    write!(text, "({side}: ")?;
+    text.push_str(side_before(interval.points))?;
     write_atom(text, &interval.lower)?;
-    write!(text, "; ")?;
+    text.push_str("; ")?;
     write_atom(text, &interval.upper)?;
-    write!(text, ")")
+    text.push_str(")")
+}
+
+fn write_span(text: &mut String, atom: &KeyAtom) -> Result<(), AllocError> {
+    text.push_str("(")?;
+    write_atom(text, atom)?;
+    text.push_str(")")
 }
 
 // The range of an access, if it has one.
 fn write_range(text: &mut String, range: &Option<Range>) -> Result<(), AllocError> {
     match range {
-        Some(Range::Span(atom)) => {
-            write!(text, "(")?;
-            write_atom(text, atom)?;
-            write!(text, ")")
-        }
+        Some(Range::Span(atom)) => write_span(text, atom),
         Some(Range::Interval(interval)) => write_interval(text, interval),
         None => Ok(()),
     }
 }
 
+fn write_access(text: &mut String, access: &Access) -> Result<(), AllocError> {
+    for same in access.sames.as_slice() {
+        write_same(text, same)?;
+    }
+    write_range(text, &access.range)
+}
+
+fn write_if_any(text: &mut String, access: &Option<Access>) -> Result<(), AllocError> {
+    match access {
+        Some(access) => write_access(text, access),
+        None => text.push_str("none"),
+    }
+}
+
 fn told_access(alloc: Global, access: &Option<Access>) -> Result<String, AllocError> {
     let mut text = String::new(alloc);
-    match access {
-        Some(access) => {
-            for same in access.sames.as_slice() {
-                write_same(&mut text, same)?;
-            }
-            write_range(&mut text, &access.range)?;
+    match write_if_any(&mut text, access) {
+        Ok(()) => Ok(text),
+        Err(refused) => {
+            drop(text);
+            Err(refused)
         }
-        None => write!(text, "none")?,
     }
-    Ok(text)
 }
 
 fn copied_access(alloc: Global, access: &Option<Access>) -> Result<Option<Access>, AllocError> {
@@ -114,18 +126,24 @@ fn told_as_copied(alloc: Global, text: &str) -> Result<String, AllocError> {
     told
 }
 
-// A line is a predicate and its access, which its copy is too.
-fn tells_access(rt: &impl Abort, alloc: Global, line: &str) -> Result<(), AllocError> {
-    let Some((text, wanted)) = line.split_once(" | ") else {
-        return Err(AllocError);
-    };
-    assert_eq!(rt; told(alloc, text)?.as_str(), wanted, "{text}");
-    assert_eq!(rt;
-        told_as_copied(alloc, text)?.as_str(),
-        wanted,
-        "{text}, copied"
-    );
+fn is_told_so(rt: &impl Abort, told: String, wanted: &str, text: &str, how: &str) {
+    is_told(rt, told.as_str(), wanted, text, how, "");
+    drop(told);
+}
+
+// A predicate and its access, which its copy is too.
+fn tells_both(rt: &impl Abort, alloc: Global, text: &str, wanted: &str) -> Result<(), AllocError> {
+    is_told_so(rt, told(alloc, text)?, wanted, text, "");
+    is_told_so(rt, told_as_copied(alloc, text)?, wanted, text, ", copied");
     Ok(())
+}
+
+// A line is both.
+fn tells_access(rt: &impl Abort, alloc: Global, line: &str) -> Result<(), AllocError> {
+    match line.split_once(" | ") {
+        Some((text, wanted)) => tells_both(rt, alloc, text, wanted),
+        None => Err(AllocError),
+    }
 }
 
 fn tells_accesses(rt: &impl Abort, alloc: Global, lines: &[&str]) -> Result<(), AllocError> {
@@ -145,7 +163,7 @@ fn predicates_with_their_accesses(rt: HostRuntime) -> Result<(), Fail> {
         "r.x + r.a = s.x - s.a + s.a | [+0+1 +0-1+1 0]",
         "text(r.x) = text(s.a) and (r.a = s.x and (r.a = s.x + 1)) | [0 1][+1 +0 0][+1 +0 1]",
         "(text(r.x) = text(s.a) or 1 = 1) and r.x = s.x | [+0 +0 0]",
-        "abs(r.a - r.x) <= 2 and text(r.x) = text(s.x) | [0 0]",
+        "abs(r.a - r.x) <= 2 and text(r.x) = text(s.x) | {r}[0 0]",
         "abs(r.a - s.a) > 2 and text(r.x) = text(s.x) | [0 0]",
     ];
     tells_accesses(&rt, rt.alloc(), &lines)?;

@@ -1,19 +1,28 @@
 // The key atoms of predicates.
 
-use super::texts::{over_x_and_a, write_atom};
+use super::texts::{is_told, over_x_and_a, write_atom};
 use std::alloc::{AllocError, Global};
 use std::process::Abort;
 use std::test::Fail;
 use theta_pred::{KeyAtom, Theta};
 
 // R's columns, S's columns, the least and the greatest difference.
+fn write_key(text: &mut String, key: &Option<KeyAtom>) -> Result<(), AllocError> {
+    match key {
+        Some(atom) => write_atom(text, atom),
+        None => text.push_str("no key"),
+    }
+}
+
 fn told(alloc: Global, key: &Option<KeyAtom>) -> Result<String, AllocError> {
     let mut text = String::new(alloc);
-    match key {
-        Some(atom) => write_atom(&mut text, atom)?,
-        None => write!(text, "no key")?,
+    match write_key(&mut text, key) {
+        Ok(()) => Ok(text),
+        Err(refused) => {
+            drop(text);
+            Err(refused)
+        }
     }
-    Ok(text)
 }
 
 fn copied(alloc: Global, key: &Option<KeyAtom>) -> Result<Option<KeyAtom>, AllocError> {
@@ -25,13 +34,28 @@ fn copied(alloc: Global, key: &Option<KeyAtom>) -> Result<Option<KeyAtom>, Alloc
 
 fn key_text(alloc: Global, theta: &Theta) -> Result<String, AllocError> {
     let key = theta.key_atom()?;
-    told(alloc, &key)
+    let told = told(alloc, &key);
+    drop(key);
+    told
+}
+
+fn told_copy(alloc: Global, key: &Option<KeyAtom>) -> Result<String, AllocError> {
+    let copy = copied(alloc, key)?;
+    let told = told(alloc, &copy);
+    drop(copy);
+    told
 }
 
 fn copied_key_text(alloc: Global, theta: &Theta) -> Result<String, AllocError> {
     let key = theta.key_atom()?;
-    let copy = copied(alloc, &key)?;
-    told(alloc, &copy)
+    let told = told_copy(alloc, &key);
+    drop(key);
+    told
+}
+
+fn is_told_so(rt: &impl Abort, told: String, wanted: &str, text: &str, how: &str) {
+    is_told(rt, told.as_str(), wanted, text, how, "");
+    drop(told);
 }
 
 // Tells the key of this predicate so, and its copy's.
@@ -39,25 +63,43 @@ fn tells_key(
     rt: &impl Abort,
     alloc: Global,
     theta: &Theta,
+    text: &str,
     wanted: &str,
 ) -> Result<(), AllocError> {
-    assert_eq!(rt; key_text(alloc, theta)?.as_str(), wanted);
-    assert_eq!(rt;
-        copied_key_text(alloc, theta)?.as_str(),
+    is_told_so(rt, key_text(alloc, theta)?, wanted, text, "");
+    is_told_so(
+        rt,
+        copied_key_text(alloc, theta)?,
         wanted,
-        "of the copy"
+        text,
+        ", of the copy",
     );
     Ok(())
 }
 
-// Each line is a predicate and its key.
+fn tells_key_of(
+    rt: &impl Abort,
+    alloc: Global,
+    text: &str,
+    wanted: &str,
+) -> Result<(), AllocError> {
+    let theta = over_x_and_a(alloc, text)?;
+    let outcome = tells_key(rt, alloc, &theta, text, wanted);
+    drop(theta);
+    outcome
+}
+
+// A line is a predicate and its key.
+fn tells_line(rt: &impl Abort, alloc: Global, line: &str) -> Result<(), AllocError> {
+    match line.split_once(" | ") {
+        Some((text, wanted)) => tells_key_of(rt, alloc, text, wanted),
+        None => Err(AllocError),
+    }
+}
+
 fn tells_keys(rt: &impl Abort, alloc: Global, lines: &[&str]) -> Result<(), AllocError> {
     for line in lines {
-        let Some((text, wanted)) = line.split_once(" | ") else {
-            return Err(AllocError);
-        };
-        let theta = over_x_and_a(alloc, text)?;
-        tells_key(rt, alloc, &theta, wanted)?;
+        tells_line(rt, alloc, line)?;
     }
     Ok(())
 }

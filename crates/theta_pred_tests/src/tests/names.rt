@@ -1,31 +1,39 @@
 // The columns that predicates name.
 
-use super::header;
+ghost use Rattle.std.specs.Prelude.{◌≤◌};
+ghost use Rattle.theta_text.specs.Sizes.{longest_sum as longest_sum'};
+
 use super::predicates::{below_3, both, column, two};
-use join_rows::{Bytes, Side};
+use super::{has_short_sums, header};
+use join_rows::{Bytes, Names, Side};
 use std::alloc::{AllocError, Global};
 use std::process::Abort;
 use std::test::Fail;
-use theta_pred::{Pred, ResolveFault, Sum, Theta, longest_sum, resolve};
+use theta_pred::{Pred, ResolveFault, Sum, Theta, resolve};
 
-// The predicate over the columns a, x, b, b and y.
-fn over_a_to_b(
-    rt: &impl Abort,
-    alloc: Global,
-    pred: Pred,
-) -> Result<Result<Theta, ResolveFault>, AllocError> {
-    resolved(rt, alloc, &pred)
+// The predicate over these columns and y.
+fn over_y(alloc: Global, pred: &Pred, names_r: &Names) -> Result<Theta, ResolveFault>
+    requires { longest_sum' pred.now ≤ 16 }
+{
+    let names_s = header(alloc, "y")?;
+    let theta = resolve(alloc, pred, names_r, &names_s);
+    drop(names_s);
+    theta
 }
 
-fn resolved(
-    rt: &impl Abort,
-    alloc: Global,
-    pred: &Pred,
-) -> Result<Result<Theta, ResolveFault>, AllocError> {
-    let names_r = header(alloc, &[b"a", b"x", b"b", b"b"])?;
-    let names_s = header(alloc, &[b"y"])?;
-    assert!(rt; longest_sum(pred) <= 16);
-    Ok(resolve(alloc, pred, &names_r, &names_s))
+fn resolved(rt: &impl Abort, alloc: Global, pred: &Pred) -> Result<Theta, ResolveFault> {
+    has_short_sums(rt, pred);
+    let names_r = header(alloc, "a x b b")?;
+    let theta = over_y(alloc, pred, &names_r);
+    drop(names_r);
+    theta
+}
+
+// The predicate over the columns a, x, b, b and y.
+fn over_a_to_b(rt: &impl Abort, alloc: Global, pred: Pred) -> Result<Theta, ResolveFault> {
+    let theta = resolved(rt, alloc, &pred);
+    drop(pred);
+    theta
 }
 
 fn has_numeric(rt: &impl Abort, theta: &Theta) {
@@ -35,8 +43,9 @@ fn has_numeric(rt: &impl Abort, theta: &Theta) {
 
 #[test]
 fn numeric_columns_are_named_once(rt: HostRuntime) -> Result<(), Fail> {
-    let theta = over_a_to_b(&rt, rt.alloc(), both(rt.alloc())?)??;
+    let theta = over_a_to_b(&rt, rt.alloc(), both(rt.alloc())?)?;
     has_numeric(&rt, &theta);
+    drop(theta);
     Ok(())
 }
 
@@ -46,8 +55,17 @@ fn wrong_name(answer: Result<Theta, ResolveFault>) -> Option<(bool, Side, Bytes)
         Err(ResolveFault::TwoColumns { side, name }) => Some((true, side, name)),
         Err(ResolveFault::NoColumn { side, name }) => Some((false, side, name)),
         Err(ResolveFault::Memory) => None,
-        Ok(_theta) => None,
+        Ok(theta) => {
+            drop(theta);
+            None
+        }
     }
+}
+
+fn is_told(rt: &impl Abort, twice: bool, side: Side, name: &[u8], wanted: (bool, Side, &[u8])) {
+    assert_eq!(rt; twice, wanted.0);
+    assert_eq!(rt; side, wanted.1);
+    assert_eq!(rt; name, wanted.2);
 }
 
 fn tells(
@@ -56,33 +74,32 @@ fn tells(
     sum: Sum,
     wanted: (bool, Side, &[u8]),
 ) -> Result<(), AllocError> {
-    let Some((twice, side, name)) = wrong_name(over_a_to_b(rt, alloc, below_3(sum))?) else {
-        return Err(AllocError);
-    };
-    assert_eq!(rt; twice, wanted.0);
-    assert_eq!(rt; side, wanted.1);
-    assert_eq!(rt; name.as_slice(), wanted.2);
-    Ok(())
+    match wrong_name(over_a_to_b(rt, alloc, below_3(sum))) {
+        Some((twice, side, name)) => {
+            is_told(rt, twice, side, name.as_slice(), wanted);
+            drop(name);
+            Ok(())
+        }
+        None => Err(AllocError),
+    }
+}
+
+// The sum of these two columns.
+fn two_columns(
+    alloc: Global,
+    first: (Side, &[u8]),
+    second: (Side, &[u8]),
+) -> Result<Sum, AllocError> {
+    let left = column(alloc, false, first.0, first.1)?;
+    two(alloc, left, column(alloc, false, second.0, second.1))
 }
 
 #[test]
 fn the_first_wrong_name_is_told(rt: HostRuntime) -> Result<(), Fail> {
     let alloc = rt.alloc();
-    let doubled = column(alloc, false, Side::R, b"b")?;
-    let absent = column(alloc, false, Side::S, b"z")?;
-    tells(
-        &rt,
-        alloc,
-        two(alloc, doubled, absent)?,
-        (true, Side::R, b"b"),
-    )?;
-    let absent = column(alloc, false, Side::S, b"z")?;
-    let doubled = column(alloc, false, Side::R, b"b")?;
-    tells(
-        &rt,
-        alloc,
-        two(alloc, absent, doubled)?,
-        (false, Side::S, b"z"),
-    )?;
+    let doubled_first = two_columns(alloc, (Side::R, b"b"), (Side::S, b"z"))?;
+    tells(&rt, alloc, doubled_first, (true, Side::R, b"b"))?;
+    let absent_first = two_columns(alloc, (Side::S, b"z"), (Side::R, b"b"))?;
+    tells(&rt, alloc, absent_first, (false, Side::S, b"z"))?;
     Ok(())
 }

@@ -2,7 +2,7 @@
 
 ghost use Rattle.std.specs.Prelude.{◌≡◌, length, IfOk};
 
-use super::texts::write_number;
+use super::texts::{is_told, write_number};
 use join_rows::{Bytes, Cell, Cells};
 use std::alloc::{AllocError, Global};
 use std::process::Abort;
@@ -40,6 +40,83 @@ fn difference(alloc: Global) -> Result<Linear, AllocError> {
     Ok(Linear { parts })
 }
 
+fn told(alloc: Global, value: Option<i128>) -> Result<String, AllocError> {
+    let mut text = String::new(alloc);
+    match write_number(&mut text, value) {
+        Ok(()) => Ok(text),
+        Err(refused) => {
+            drop(text);
+            Err(refused)
+        }
+    }
+}
+
+fn is_value(
+    rt: &impl Abort,
+    alloc: Global,
+    value: Option<i128>,
+    wanted: &str,
+    first: &str,
+    less: &str,
+    second: &str,
+) -> Result<(), AllocError> {
+    let told = told(alloc, value)?;
+    is_told(rt, told.as_str(), wanted, first, less, second);
+    drop(told);
+    Ok(())
+}
+
+fn copy_has_value(
+    rt: &impl Abort,
+    alloc: Global,
+    sum: &Linear,
+    row: &Cells,
+    first: &str,
+    second: &str,
+    wanted: &str,
+) -> Result<(), AllocError> {
+    let copy = sum.copy(alloc)?;
+    let value = copy.value(row);
+    drop(copy);
+    is_value(
+        rt,
+        alloc,
+        value,
+        wanted,
+        first,
+        " less, by the copy, ",
+        second,
+    )
+}
+
+fn has_value(
+    rt: &impl Abort,
+    alloc: Global,
+    sum: &Linear,
+    row: &Cells,
+    first: &str,
+    second: &str,
+    wanted: &str,
+) -> Result<(), AllocError> {
+    let value = sum.value(row);
+    is_value(rt, alloc, value, wanted, first, " less ", second)?;
+    copy_has_value(rt, alloc, sum, row, first, second, wanted)
+}
+
+fn has_value_at(
+    rt: &impl Abort,
+    alloc: Global,
+    sum: &Linear,
+    first: &str,
+    second: &str,
+    wanted: &str,
+) -> Result<(), AllocError> {
+    let row = row(alloc, first, second)?;
+    let outcome = has_value(rt, alloc, sum, &row, first, second, wanted);
+    drop(row);
+    outcome
+}
+
 // The value of the sum and of its copy at a row of these two numbers.
 fn both_values(
     rt: &impl Abort,
@@ -49,13 +126,19 @@ fn both_values(
     wanted: &str,
 ) -> Result<(), AllocError> {
     let sum = difference(alloc)?;
-    let row = row(alloc, first, second)?;
-    let mut text = String::new(alloc);
-    write_number(&mut text, sum.value(&row))?;
-    assert_eq!(rt; text.as_str(), wanted, "{first} less {second}");
-    let copy = sum.copy(alloc)?;
-    assert_eq!(rt; copy.value(&row), sum.value(&row), "{first} less {second}");
-    Ok(())
+    let outcome = has_value_at(rt, alloc, &sum, first, second, wanted);
+    drop(sum);
+    outcome
+}
+
+// Its value at a row without cells.
+fn value_beyond_the_row(alloc: Global) -> Result<Option<i128>, AllocError> {
+    let sum = difference(alloc)?;
+    let row = Cells::new(alloc);
+    let value = sum.value(&row);
+    drop(row);
+    drop(sum);
+    Ok(value)
 }
 
 #[test]
@@ -71,10 +154,7 @@ fn sums_with_their_values(rt: HostRuntime) -> Result<(), Fail> {
     )?;
     both_values(&rt, alloc, "-", "7", "none")?;
     both_values(&rt, alloc, "5", "-", "none")?;
-    assert_eq!(rt;
-        difference(alloc)?.value(&Cells::new(alloc)),
-        None,
-        "beyond the row"
-    );
+    let value = value_beyond_the_row(alloc)?;
+    assert_eq!(rt; value, None, "beyond the row");
     Ok(())
 }

@@ -3,8 +3,10 @@
 ghost use Rattle.std.specs.Prelude.{◌≤◌};
 ghost use Rattle.theta_text.specs.Sizes.{longest_sum};
 
-use join_rows::{Bytes, Names};
+use super::header;
+use join_rows::Names;
 use std::alloc::{AllocError, Global};
+use std::process::Abort;
 use theta_pred::{KeyAtom, Linear, Pred, Theta, parse, resolve};
 
 fn resolved(alloc: Global, pred: &Pred, names: &Names) -> Result<Theta, AllocError>
@@ -12,26 +14,38 @@ fn resolved(alloc: Global, pred: &Pred, names: &Names) -> Result<Theta, AllocErr
 {
     match resolve(alloc, pred, names, names) {
         Ok(theta) => Ok(theta),
-        Err(_) => Err(AllocError),
+        Err(fault) => {
+            drop(fault);
+            Err(AllocError)
+        }
     }
 }
 
 fn over(alloc: Global, text: &str, names: &Names) -> Result<Theta, AllocError> {
     match parse(alloc, text) {
-        Ok(pred) => resolved(alloc, &pred, names),
+        Ok(pred) => {
+            let theta = resolved(alloc, &pred, names);
+            drop(pred);
+            theta
+        }
         Err(_) => Err(AllocError),
     }
 }
 
 // The predicate of a text over two tables with the columns x and a.
 pub(super) fn over_x_and_a(alloc: Global, text: &str) -> Result<Theta, AllocError> {
-    let mut names = Names::new(alloc);
-    names.push(Bytes::from_slice(alloc, b"x")?)?;
-    names.push(Bytes::from_slice(alloc, b"a")?)?;
-    over(alloc, text, &names)
+    let names = header(alloc, "x a")?;
+    let theta = over(alloc, text, &names);
+    drop(names);
+    theta
 }
 
-pub(super) fn write_sum(text: &mut String, sum: &Linear) -> Result<(), AllocError> {
+// That something is told so.
+pub(super) fn is_told(rt: &impl Abort, told: &str, wanted: &str, of: &str, how: &str, other: &str) {
+    assert_eq!(rt; told, wanted, "{of}{how}{other}");
+}
+
+fn write_sum(text: &mut String, sum: &Linear) -> Result<(), AllocError> {
     for part in sum.parts.as_slice() {
         let sign = if part.minus { '-' } else { '+' };
         let column = part.column;
@@ -43,16 +57,27 @@ pub(super) fn write_sum(text: &mut String, sum: &Linear) -> Result<(), AllocErro
 pub(super) fn write_number(text: &mut String, number: Option<i128>) -> Result<(), AllocError> {
     match number {
         Some(number) => write!(text, "{number}"),
-        None => write!(text, "none"),
+        None => text.push_str("none"),
     }
 }
 
+fn write_after_space(text: &mut String, number: Option<i128>) -> Result<(), AllocError> {
+    text.push_str(" ")?;
+    write_number(text, number)
+}
+
+pub(super) fn write_sums(
+    text: &mut String,
+    left: &Linear,
+    right: &Linear,
+) -> Result<(), AllocError> {
+    write_sum(text, left)?;
+    text.push_str(" ")?;
+    write_sum(text, right)
+}
+
 pub(super) fn write_atom(text: &mut String, atom: &KeyAtom) -> Result<(), AllocError> {
-    write_sum(text, &atom.r_sum)?;
-    write!(text, " ")?;
-    write_sum(text, &atom.s_sum)?;
-    write!(text, " ")?;
-    write_number(text, atom.low)?;
-    write!(text, " ")?;
-    write_number(text, atom.high)
+    write_sums(text, &atom.r_sum, &atom.s_sum)?;
+    write_after_space(text, atom.low)?;
+    write_after_space(text, atom.high)
 }
