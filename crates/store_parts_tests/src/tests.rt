@@ -19,29 +19,70 @@ use rows::filled;
 use std::alloc::{AllocError, Global};
 use std::process::Abort;
 use store_parts::{KeyAtom, Store};
-use theta_pred::{Theta, parse, resolve};
+use theta_pred::{ResolveFault, Theta, parse, resolve};
 
-fn resolved(alloc: Global, text: &str, names: &Names) -> Result<Theta, AllocError> {
-    let Ok(pred) = parse(alloc, text) else {
-        return Err(AllocError);
-    };
-    match resolve(alloc, &pred, names, names) {
+fn theta_from(answer: Result<Theta, ResolveFault>) -> Result<Theta, AllocError> {
+    match answer {
         Ok(theta) => Ok(theta),
+        Err(fault) => {
+            drop(fault);
+            Err(AllocError)
+        }
+    }
+}
+
+// The predicate of a text over two tables with these columns.
+fn over(alloc: Global, text: &str, names: &Names) -> Result<Theta, AllocError> {
+    match parse(alloc, text) {
+        Ok(pred) => {
+            let answer = resolve(alloc, &pred, names, names);
+            drop(pred);
+            theta_from(answer)
+        }
         Err(_) => Err(AllocError),
     }
 }
 
-// The predicate of a text over two tables with the columns x and a.
+// The columns x and a.
+fn x_and_a(alloc: Global) -> Result<Names, AllocError> {
+    let mut names = Names::new(alloc);
+    match push_x_and_a(alloc, &mut names) {
+        Ok(()) => Ok(names),
+        Err(refused) => {
+            drop(names);
+            Err(refused)
+        }
+    }
+}
+
+fn push_x_and_a(alloc: Global, names: &mut Names) -> Result<(), AllocError> {
+    names.push(Bytes::from_slice(alloc, b"x")?)?;
+    names.push(Bytes::from_slice(alloc, b"a")?)
+}
+
+// The predicate of a text over two tables with these.
+fn read_over_x_and_a(alloc: Global, text: &str) -> Result<Theta, AllocError> {
+    let names = x_and_a(alloc)?;
+    let theta = over(alloc, text, &names);
+    drop(names);
+    theta
+}
+
+fn has_two_columns_a_side(rt: &impl Abort, theta: &Theta)
+    ensures r { theta.now.width_r ≡ 2 }
+    ensures s { theta.now.width_s ≡ 2 }
+{
+    assert_eq!(rt; theta.width_r(), 2);
+    assert_eq!(rt; theta.width_s(), 2);
+}
+
+// The same, of which is known that they have two columns.
 fn over_x_and_a(rt: &impl Abort, alloc: Global, text: &str) -> Result<Theta, AllocError>
     ensures r { IfOk result (λ theta. theta.width_r ≡ 2) }
     ensures s { IfOk result (λ theta. theta.width_s ≡ 2) }
 {
-    let mut names = Names::new(alloc);
-    names.push(Bytes::from_slice(alloc, b"x")?)?;
-    names.push(Bytes::from_slice(alloc, b"a")?)?;
-    let theta = resolved(alloc, text, &names)?;
-    assert_eq!(rt; theta.width_r(), 2);
-    assert_eq!(rt; theta.width_s(), 2);
+    let theta = read_over_x_and_a(alloc, text)?;
+    has_two_columns_a_side(rt, &theta);
     Ok(theta)
 }
 
@@ -60,18 +101,39 @@ fn key(theta: &Theta) -> Result<Option<KeyAtom>, AllocError>
 fn key_copy(alloc: Global, theta: &Theta) -> Result<Option<KeyAtom>, AllocError>
     ensures { IfOk result (IsOwn theta.now) }
 {
-    match theta.key_atom()? {
+    let key = key(theta)?;
+    let copy = copied(alloc, theta, &key);
+    drop(key);
+    copy
+}
+
+// The copy of a predicate's key.
+fn copied(
+    alloc: Global,
+    theta: &Theta,
+    key: &Option<KeyAtom>,
+) -> Result<Option<KeyAtom>, AllocError>
+    requires { IsOwn theta.now key.now }
+    ensures { IfOk result (IsOwn theta.now) }
+{
+    match key {
         Some(key) => Ok(Some(key.copy(alloc)?)),
         None => Ok(None),
     }
 }
 
 fn has_key(theta: &Theta) -> Result<bool, AllocError> {
-    Ok(theta.key_atom()?.is_some())
+    let key = theta.key_atom()?;
+    let has = key.is_some();
+    drop(key);
+    Ok(has)
 }
 
 fn has_access(theta: &Theta) -> Result<bool, AllocError> {
-    Ok(theta.access()?.is_some())
+    let access = theta.access()?;
+    let has = access.is_some();
+    drop(access);
+    Ok(has)
 }
 
 // That a store with this key finds these.
@@ -88,7 +150,26 @@ fn find_with(
     requires own { IsOwn theta.now key }
 {
     let store = filled(alloc, theta, Store::new(alloc, key), lines)?;
-    find(rt, alloc, &store, theta, probes)
+    let outcome = find(rt, alloc, &store, theta, probes);
+    drop(store);
+    outcome
+}
+
+// The same store with the predicate's access.
+fn with_its_access(theta: &Theta, store: Store) -> Result<Store, AllocError>
+    requires widths { HaveWidths theta.now store }
+    requires own { IsOwn theta.now store.key }
+    ensures widths { IfOk result (λ store. HaveWidths theta.now store) }
+    ensures own { IfOk result (λ store. IsOwn theta.now store.key) }
+    ensures access { IfOk result (λ store. IsOwnAccess theta.now store.access) }
+{
+    match theta.access() {
+        Ok(access) => store.with_access(access),
+        Err(refused) => {
+            drop(store);
+            Err(refused)
+        }
+    }
 }
 
 // A store with the predicate's key and access.
@@ -97,7 +178,7 @@ fn accessed(alloc: Global, theta: &Theta) -> Result<Store, AllocError>
     ensures own { IfOk result (λ store. IsOwn theta.now store.key) }
     ensures access { IfOk result (λ store. IsOwnAccess theta.now store.access) }
 {
-    Store::new(alloc, key(theta)?).with_access(theta.access()?)
+    with_its_access(theta, Store::new(alloc, key(theta)?))
 }
 
 // That a store that has the access before its rows finds these.
@@ -112,7 +193,9 @@ fn find_by_access(
     requires s { theta.now.width_s ≡ 2 }
 {
     let store = filled(alloc, theta, accessed(alloc, theta)?, lines)?;
-    find(rt, alloc, &store, theta, probes)
+    let outcome = find(rt, alloc, &store, theta, probes);
+    drop(store);
+    outcome
 }
 
 // A store of these lines that is given the access after them.
@@ -124,7 +207,7 @@ fn accessed_after(alloc: Global, theta: &Theta, lines: &[&str]) -> Result<Store,
     ensures access { IfOk result (λ store. IsOwnAccess theta.now store.access) }
 {
     let store = filled(alloc, theta, Store::new(alloc, key(theta)?), lines)?;
-    store.with_access(theta.access()?)
+    with_its_access(theta, store)
 }
 
 // That such a store finds these, too.
@@ -139,7 +222,9 @@ fn find_by_later_access(
     requires s { theta.now.width_s ≡ 2 }
 {
     let store = accessed_after(alloc, theta, lines)?;
-    find(rt, alloc, &store, theta, probes)
+    let outcome = find(rt, alloc, &store, theta, probes);
+    drop(store);
+    outcome
 }
 
 // The same with no key, with the predicate's, with a copy of it, and by the predicate's access.
@@ -183,6 +268,31 @@ fn probed(
     probes: &[&str],
 ) -> Result<(), AllocError> {
     let theta = over_x_and_a(rt, alloc, predicate)?;
-    finds_by(rt, &theta, predicate, (keyed, accessed))?;
-    find_with_each(rt, alloc, &theta, lines, probes)
+    let outcome = probed_by(
+        rt,
+        alloc,
+        &theta,
+        predicate,
+        (keyed, accessed),
+        lines,
+        probes,
+    );
+    drop(theta);
+    outcome
+}
+
+fn probed_by(
+    rt: &impl Abort,
+    alloc: Global,
+    theta: &Theta,
+    predicate: &str,
+    wanted: (bool, bool),
+    lines: &[&str],
+    probes: &[&str],
+) -> Result<(), AllocError>
+    requires r { theta.now.width_r ≡ 2 }
+    requires s { theta.now.width_s ≡ 2 }
+{
+    finds_by(rt, theta, predicate, wanted)?;
+    find_with_each(rt, alloc, theta, lines, probes)
 }

@@ -25,19 +25,36 @@ fn add_without_key(store: &mut Store, tuple: Tuple) -> Result<(), AllocError>
     store.add(tuple)
 }
 
+// A row without cells.
+fn of_ticket(alloc: Global, side: Side, index: u32, ticket: u8) -> Tuple {
+    Tuple {
+        side,
+        index,
+        ticket,
+        stamp: 0,
+        cells: Cells::new(alloc),
+    }
+}
+
+fn add_all(alloc: Global, store: &mut Store, rows: &[(Side, u32, u8)]) -> Result<(), AllocError>
+    requires { store.old.key ≡ None }
+    ensures { store.new.key ≡ None }
+{
+    for (side, index, ticket) in rows {
+        add_without_key(store, of_ticket(alloc, *side, *index, *ticket))?;
+    }
+    Ok(())
+}
+
 fn of_tickets(alloc: Global, rows: &[(Side, u32, u8)]) -> Result<Store, AllocError> {
     let mut store = Store::new(alloc, None);
-    for (side, index, ticket) in rows {
-        let tuple = Tuple {
-            side: *side,
-            index: *index,
-            ticket: *ticket,
-            stamp: 0,
-            cells: Cells::new(alloc),
-        };
-        add_without_key(&mut store, tuple)?;
+    match add_all(alloc, &mut store, rows) {
+        Ok(()) => Ok(store),
+        Err(refused) => {
+            drop(store);
+            Err(refused)
+        }
     }
-    Ok(store)
 }
 
 // The indices of the tuples of a side that a joiner of two keeps.
@@ -52,7 +69,9 @@ fn kept_indices(
     assert!(rt; shift <= 1);
     assert!(rt; id <= 1);
     let kept = store.kept_copy(Shape { k: 1, shift }, id)?;
-    indices(alloc, kept.side(side))
+    let indices = indices(alloc, kept.side(side));
+    drop(kept);
+    indices
 }
 
 // That they are these.
@@ -88,6 +107,14 @@ fn keep(rt: &impl Abort, alloc: Global, store: &Store) -> Result<(), AllocError>
     Ok(())
 }
 
+// The same of a store of these rows.
+fn keep_of(rt: &impl Abort, alloc: Global, rows: &[(Side, u32, u8)]) -> Result<(), AllocError> {
+    let store = of_tickets(alloc, rows)?;
+    let outcome = keep(rt, alloc, &store);
+    drop(store);
+    outcome
+}
+
 #[test]
 fn a_joiner_keeps_what_it_holds(rt: HostRuntime) -> Result<(), Fail> {
     let rows = [
@@ -98,7 +125,6 @@ fn a_joiner_keeps_what_it_holds(rt: HostRuntime) -> Result<(), Fail> {
         (Side::R, 2, 127),
         (Side::S, 2, 255),
     ];
-    let store = of_tickets(rt.alloc(), &rows)?;
-    keep(&rt, rt.alloc(), &store)?;
+    keep_of(&rt, rt.alloc(), &rows)?;
     Ok(())
 }

@@ -20,37 +20,91 @@ use theta_pred::Theta;
 fn one_of_many(alloc: Global, index: u32) -> Result<Tuple, AllocError>
     ensures { IfOk result (λ tuple. length tuple.cells ≡ 2) }
 {
+    let empty = cell(alloc, "-")?;
     let first = Cell {
         text: Bytes::new(alloc),
         num: Some(i64::from(index % 1000)),
     };
-    row(alloc, Side::S, index, 0, first, cell(alloc, "-")?)
+    row(alloc, Side::S, index, 0, first, empty)
 }
 
-// That store, with 5,000 tuples of S.
-fn many(alloc: Global, theta: &Theta, store: Store) -> Result<Store, AllocError>
+fn add_one_of_many(
+    alloc: Global,
+    theta: &Theta,
+    store: &mut Store,
+    index: u32,
+) -> Result<(), AllocError>
     requires r { theta.now.width_r ≡ 2 }
     requires s { theta.now.width_s ≡ 2 }
-    requires widths { HaveWidths theta.now store }
-    requires own { IsOwn theta.now store.key }
-    requires access { IsOwnAccess theta.now store.access }
-    ensures widths { IfOk result (λ store. HaveWidths theta.now store) }
-    ensures own { IfOk result (λ store. IsOwn theta.now store.key) }
-    ensures access { IfOk result (λ store. IsOwnAccess theta.now store.access) }
+    requires widths { HaveWidths theta.now store.old }
+    requires own { IsOwn theta.now store.old.key }
+    requires access { IsOwnAccess theta.now store.old.access }
+    ensures widths { HaveWidths theta.now store.new }
+    ensures own { IsOwn theta.now store.new.key }
+    ensures access { IsOwnAccess theta.now store.new.access }
 {
-    let mut store = store;
+    add(store, theta, one_of_many(alloc, index)?)
+}
+
+// Adds 5,000 tuples of S.
+fn add_many(alloc: Global, theta: &Theta, store: &mut Store) -> Result<(), AllocError>
+    requires r { theta.now.width_r ≡ 2 }
+    requires s { theta.now.width_s ≡ 2 }
+    requires widths { HaveWidths theta.now store.old }
+    requires own { IsOwn theta.now store.old.key }
+    requires access { IsOwnAccess theta.now store.old.access }
+    ensures widths { HaveWidths theta.now store.new }
+    ensures own { IsOwn theta.now store.new.key }
+    ensures access { IsOwnAccess theta.now store.new.access }
+{
     for index in 0..5000 {
-        let tuple = one_of_many(alloc, index)?;
-        add(&mut store, theta, tuple)?;
+        add_one_of_many(alloc, theta, store, index)?;
     }
-    Ok(store)
+    Ok(())
+}
+
+// What two rows find among them.
+fn find_two(rt: &impl Abort, alloc: Global, theta: &Theta, store: &Store) -> Result<(), AllocError>
+    requires r { theta.now.width_r ≡ 2 }
+    requires s { theta.now.width_s ≡ 2 }
+    requires widths { HaveWidths theta.now store.now }
+    requires own { IsOwn theta.now store.now.key }
+    requires access { IsOwnAccess theta.now store.now.access }
+{
+    assert_eq!(rt; store.side(Side::S).len(), 5000);
+    finds(
+        rt,
+        alloc,
+        store,
+        theta,
+        "R 9 0 999 -",
+        Which::All,
+        "[9 999][9 1999][9 2999][9 3999][9 4999]",
+    )?;
+    finds(rt, alloc, store, theta, "R 9 0 1000 -", Which::All, "")
+}
+
+fn fill_and_find(
+    rt: &impl Abort,
+    alloc: Global,
+    theta: &Theta,
+    store: &mut Store,
+) -> Result<(), AllocError>
+    requires r { theta.now.width_r ≡ 2 }
+    requires s { theta.now.width_s ≡ 2 }
+    requires widths { HaveWidths theta.now store.old }
+    requires own { IsOwn theta.now store.old.key }
+    requires access { IsOwnAccess theta.now store.old.access }
+{
+    add_many(alloc, theta, store)?;
+    find_two(rt, alloc, theta, store)
 }
 
 fn find_among_many(
     rt: &impl Abort,
     alloc: Global,
     theta: &Theta,
-    store: Store,
+    mut store: Store,
 ) -> Result<(), AllocError>
     requires r { theta.now.width_r ≡ 2 }
     requires s { theta.now.width_s ≡ 2 }
@@ -58,26 +112,30 @@ fn find_among_many(
     requires own { IsOwn theta.now store.key }
     requires access { IsOwnAccess theta.now store.access }
 {
-    let store = many(alloc, theta, store)?;
-    assert_eq!(rt; store.side(Side::S).len(), 5000);
-    finds(
-        rt,
-        alloc,
-        &store,
-        theta,
-        "R 9 0 999 -",
-        Which::All,
-        "[9 999][9 1999][9 2999][9 3999][9 4999]",
-    )?;
-    finds(rt, alloc, &store, theta, "R 9 0 1000 -", Which::All, "")
+    let outcome = fill_and_find(rt, alloc, theta, &mut store);
+    drop(store);
+    outcome
+}
+
+// Among many in a store with no key, with the predicate's, and with its access.
+fn find_among_many_by_each(rt: &impl Abort, alloc: Global, theta: &Theta) -> Result<(), AllocError>
+    requires r { theta.now.width_r ≡ 2 }
+    requires s { theta.now.width_s ≡ 2 }
+{
+    find_among_many(rt, alloc, theta, Store::new(alloc, no_key(theta)))?;
+    find_among_many(rt, alloc, theta, Store::new(alloc, key(theta)?))?;
+    find_among_many(rt, alloc, theta, accessed(alloc, theta)?)
+}
+
+fn find_among_many_over(rt: &impl Abort, alloc: Global, predicate: &str) -> Result<(), AllocError> {
+    let theta = over_x_and_a(rt, alloc, predicate)?;
+    let outcome = find_among_many_by_each(rt, alloc, &theta);
+    drop(theta);
+    outcome
 }
 
 #[test]
 fn a_store_of_5000_tuples_is_probed(rt: HostRuntime) -> Result<(), Fail> {
-    let alloc = rt.alloc();
-    let theta = over_x_and_a(&rt, alloc, "r.x = s.x")?;
-    find_among_many(&rt, alloc, &theta, Store::new(alloc, no_key(&theta)))?;
-    find_among_many(&rt, alloc, &theta, Store::new(alloc, key(&theta)?))?;
-    find_among_many(&rt, alloc, &theta, accessed(alloc, &theta)?)?;
+    find_among_many_over(&rt, rt.alloc(), "r.x = s.x")?;
     Ok(())
 }

@@ -35,7 +35,7 @@ fn members_of_both_sides_beside_an_order(rt: HostRuntime) -> Result<(), Fail> {
         &rt,
         rt.alloc(),
         "(r.x > 5 and s.x <= r.x) and text(s.a) < 'm'",
-        true,
+        false,
         true,
         &[
             "S 0 0 3 a",

@@ -34,8 +34,15 @@ fn counted<L: Ledger>(
 {
     let mut found = Pairs::new(alloc);
     let mut steps = Steps::<L>::new(blank);
-    store.probe(tuple, theta, which, &mut found, &mut steps)?;
-    Ok(found)
+    let outcome = store.probe(tuple, theta, which, &mut found, &mut steps);
+    drop(steps);
+    match outcome {
+        Ok(()) => Ok(found),
+        Err(refused) => {
+            drop(found);
+            Err(refused)
+        }
+    }
 }
 
 fn found(
@@ -52,17 +59,103 @@ fn found(
     counted::<Brand>(alloc, store, tuple, theta, which, Blank::new(1))
 }
 
-fn text(alloc: Global, pairs: &Pairs) -> Result<String, AllocError> {
-    let mut text = String::new(alloc);
+// The same as a joiner finds them.
+fn found_uncounted(
+    alloc: Global,
+    store: &Store,
+    tuple: &Tuple,
+    theta: &Theta,
+    which: Which,
+) -> Result<Pairs, AllocError>
+    requires width { HasWidth theta.now tuple.now.side tuple.now }
+    requires widths { HaveWidths theta.now store.now }
+    requires own { IsOwn theta.now store.now.key }
+    requires access { IsOwnAccess theta.now store.now.access }
+{
+    let mut found = Pairs::new(alloc);
+    match store.find_uncounted(tuple, theta, which, &mut found) {
+        Ok(()) => Ok(found),
+        Err(refused) => {
+            drop(found);
+            Err(refused)
+        }
+    }
+}
+
+fn write_pairs(text: &mut String, pairs: &Pairs) -> Result<(), AllocError> {
     for pair in pairs.as_slice() {
         let i = pair.i;
         let j = pair.j;
         write!(text, "[{i} {j}]")?;
     }
-    Ok(text)
+    Ok(())
 }
 
-// That a row finds these pairs, by a probe that counts and as a joiner finds them.
+// These pairs as a text.
+fn text(alloc: Global, pairs: Pairs) -> Result<String, AllocError> {
+    let mut text = String::new(alloc);
+    let outcome = write_pairs(&mut text, &pairs);
+    drop(pairs);
+    match outcome {
+        Ok(()) => Ok(text),
+        Err(refused) => {
+            drop(text);
+            Err(refused)
+        }
+    }
+}
+
+// That the pairs that a row finds are told so.
+fn is_told(rt: &impl Abort, told: &str, wanted: &str, line: &str, which: Which, how: &str) {
+    assert_eq!(rt; told, wanted, "{line}, {which:?}{how}");
+}
+
+fn tells(
+    rt: &impl Abort,
+    alloc: Global,
+    pairs: Pairs,
+    line: &str,
+    which: Which,
+    wanted: &str,
+    how: &str,
+) -> Result<(), AllocError> {
+    let told = text(alloc, pairs)?;
+    is_told(rt, told.as_str(), wanted, line, which, how);
+    drop(told);
+    Ok(())
+}
+
+// That a tuple finds these pairs, by a probe that counts and as a joiner finds them.
+fn finds_both_ways(
+    rt: &impl Abort,
+    alloc: Global,
+    store: &Store,
+    theta: &Theta,
+    tuple: &Tuple,
+    line: &str,
+    which: Which,
+    wanted: &str,
+) -> Result<(), AllocError>
+    requires width { HasWidth theta.now tuple.now.side tuple.now }
+    requires widths { HaveWidths theta.now store.now }
+    requires own { IsOwn theta.now store.now.key }
+    requires access { IsOwnAccess theta.now store.now.access }
+{
+    let first = found(alloc, store, tuple, theta, which)?;
+    tells(rt, alloc, first, line, which, wanted, "")?;
+    let second = found_uncounted(alloc, store, tuple, theta, which)?;
+    tells(
+        rt,
+        alloc,
+        second,
+        line,
+        which,
+        wanted,
+        ", as a joiner finds them",
+    )
+}
+
+// That a row finds them.
 pub(super) fn finds(
     rt: &impl Abort,
     alloc: Global,
@@ -79,16 +172,9 @@ pub(super) fn finds(
     requires access { IsOwnAccess theta.now store.now.access }
 {
     let tuple = tuple(alloc, line)?;
-    let first = found(alloc, store, &tuple, theta, which)?;
-    assert_eq!(rt; text(alloc, &first)?.as_str(), wanted, "{line}, {which:?}");
-    let mut second = Pairs::new(alloc);
-    store.find_uncounted(&tuple, theta, which, &mut second)?;
-    assert_eq!(rt;
-        text(alloc, &second)?.as_str(),
-        wanted,
-        "{line}, {which:?}, as a joiner finds them"
-    );
-    Ok(())
+    let outcome = finds_both_ways(rt, alloc, store, theta, &tuple, line, which, wanted);
+    drop(tuple);
+    outcome
 }
 
 fn named(word: &str) -> Which {
@@ -98,7 +184,30 @@ fn named(word: &str) -> Which {
     }
 }
 
-// Each probe is a row, the stamp that it looks at or `all`, and the pairs that it finds.
+// A probe is a row, the stamp that it looks at or `all`, and the pairs that it finds.
+fn find_one(
+    rt: &impl Abort,
+    alloc: Global,
+    store: &Store,
+    theta: &Theta,
+    probe: &str,
+) -> Result<(), AllocError>
+    requires r { theta.now.width_r ≡ 2 }
+    requires s { theta.now.width_s ≡ 2 }
+    requires widths { HaveWidths theta.now store.now }
+    requires own { IsOwn theta.now store.now.key }
+    requires access { IsOwnAccess theta.now store.now.access }
+{
+    let Some((line, rest)) = probe.split_once(" among ") else {
+        return Err(AllocError);
+    };
+    let Some((word, wanted)) = rest.split_once(" finds ") else {
+        return Err(AllocError);
+    };
+    finds(rt, alloc, store, theta, line, named(word), wanted)
+}
+
+// That each of these does.
 pub(super) fn find(
     rt: &impl Abort,
     alloc: Global,
@@ -113,13 +222,7 @@ pub(super) fn find(
     requires access { IsOwnAccess theta.now store.now.access }
 {
     for probe in probes {
-        let Some((line, rest)) = probe.split_once(" among ") else {
-            return Err(AllocError);
-        };
-        let Some((word, wanted)) = rest.split_once(" finds ") else {
-            return Err(AllocError);
-        };
-        finds(rt, alloc, store, theta, line, named(word), wanted)?;
+        find_one(rt, alloc, store, theta, probe)?;
     }
     Ok(())
 }

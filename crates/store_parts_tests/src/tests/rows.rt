@@ -54,6 +54,15 @@ pub(super) fn tuple(alloc: Global, line: &str) -> Result<Tuple, AllocError>
     ensures { IfOk result (λ tuple. length tuple.cells ≡ 2) }
 {
     let words: Vec<&str> = line.split_whitespace().collect(alloc)?;
+    let tuple = tuple_of(alloc, words.as_slice());
+    drop(words);
+    tuple
+}
+
+// The row of such words.
+fn tuple_of(alloc: Global, words: &[&str]) -> Result<Tuple, AllocError>
+    ensures { IfOk result (λ tuple. length tuple.cells ≡ 2) }
+{
     let [of, index, stamp, first, second] = *words else {
         return Err(AllocError);
     };
@@ -82,11 +91,42 @@ pub(super) fn add(store: &mut Store, theta: &Theta, tuple: Tuple) -> Result<(), 
     store.add(tuple)
 }
 
+// Adds the row of a line.
+fn add_line(alloc: Global, theta: &Theta, store: &mut Store, line: &str) -> Result<(), AllocError>
+    requires r { theta.now.width_r ≡ 2 }
+    requires s { theta.now.width_s ≡ 2 }
+    requires widths { HaveWidths theta.now store.old }
+    requires own { IsOwn theta.now store.old.key }
+    requires access { IsOwnAccess theta.now store.old.access }
+    ensures widths { HaveWidths theta.now store.new }
+    ensures own { IsOwn theta.now store.new.key }
+    ensures access { IsOwnAccess theta.now store.new.access }
+{
+    add(store, theta, tuple(alloc, line)?)
+}
+
+// Adds the rows of these lines.
+fn fill(alloc: Global, theta: &Theta, store: &mut Store, lines: &[&str]) -> Result<(), AllocError>
+    requires r { theta.now.width_r ≡ 2 }
+    requires s { theta.now.width_s ≡ 2 }
+    requires widths { HaveWidths theta.now store.old }
+    requires own { IsOwn theta.now store.old.key }
+    requires access { IsOwnAccess theta.now store.old.access }
+    ensures widths { HaveWidths theta.now store.new }
+    ensures own { IsOwn theta.now store.new.key }
+    ensures access { IsOwnAccess theta.now store.new.access }
+{
+    for line in lines {
+        add_line(alloc, theta, store, line)?;
+    }
+    Ok(())
+}
+
 // That store, with the tuples of these lines.
 pub(super) fn filled(
     alloc: Global,
     theta: &Theta,
-    store: Store,
+    mut store: Store,
     lines: &[&str],
 ) -> Result<Store, AllocError>
     requires r { theta.now.width_r ≡ 2 }
@@ -98,10 +138,11 @@ pub(super) fn filled(
     ensures own { IfOk result (λ store. IsOwn theta.now store.key) }
     ensures access { IfOk result (λ store. IsOwnAccess theta.now store.access) }
 {
-    let mut store = store;
-    for line in lines {
-        let tuple = tuple(alloc, line)?;
-        add(&mut store, theta, tuple)?;
+    match fill(alloc, theta, &mut store, lines) {
+        Ok(()) => Ok(store),
+        Err(refused) => {
+            drop(store);
+            Err(refused)
+        }
     }
-    Ok(store)
 }

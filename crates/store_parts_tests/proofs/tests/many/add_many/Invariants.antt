@@ -1,10 +1,10 @@
 use Rattle.store_parts.specs.Accessed.{IsOwnAccess}
 use Rattle.store_parts.specs.Keyed.{IsOwn}
 use Rattle.store_parts.specs.Stored.{HaveWidths}
-use Rattle.store_parts_tests.proofs.tests.rows.filled.Given as goal
+use Rattle.store_parts_tests.proofs.tests.many.add_many.Given as goal
 
-abbrev pub invariant-loop-line : goal.invariant-loop-line
-invariant-loop-line l = record {
+abbrev pub invariant-loop-index : goal.invariant-loop-index
+invariant-loop-index l = record {
   widths : HaveWidths l.theta l.store;
   own : IsOwn l.theta l.store.key;
   access : IsOwnAccess l.theta l.store.access;
