@@ -1,4 +1,5 @@
-ghost use Rattle.std.specs.Prelude.{◌≡◌, IfOk};
+ghost use Rattle.std.specs.Prelude.{◌≡◌, ◌<◌, ◌≤◌, ◌^◌, ◌++◌, [], length, All, IfOk, OnOk};
+ghost use Rattle.trace_law.specs.Validity.{IsValidSetting};
 ghost use Rattle.join_report.specs.Report.{AreWithin};
 
 mod joined;
@@ -10,38 +11,51 @@ use load_controller::{Cause, Journal, TurnLine};
 use pair_collector::{Held, Loads};
 use row_tickets::Feed;
 use std::alloc::{AllocError, Global};
+use std::process::Abort;
 use std::test::Fail;
 use trace_law::{Run, Setting};
 
-fn counts(alloc: Global, numbers: &[u64]) -> Result<Counts, AllocError>
-    ensures { IfOk result (λ counts. counts ≡ numbers.now) }
+fn push_counts(counts: &mut Counts, numbers: &[u64]) -> Result<(), AllocError>
+    ensures { OnOk result (counts.new ≡ counts.old ++ numbers.now) }
 {
-    let mut counts = Counts::new(alloc);
     for number in numbers {
         counts.push(*number)?;
     }
-    Ok(counts)
+    Ok(())
 }
 
 // What joiners hold: numbers of rows of R and of S.
-fn loads(alloc: Global, held: &[(u64, u64)]) -> Result<Loads, AllocError> {
-    let mut loads = Loads::new(alloc);
+fn push_loads(loads: &mut Loads, held: &[(u64, u64)]) -> Result<(), AllocError> {
     for (rows_r, rows_s) in held {
         loads.push(Held {
             rows_r: *rows_r,
             rows_s: *rows_s,
         })?;
     }
-    Ok(loads)
+    Ok(())
+}
+
+fn has_text(rt: &impl Abort, text: &str, wanted: &str) {
+    assert!(rt; text == wanted);
+}
+
+fn tells_pairs(
+    rt: &impl Abort,
+    alloc: Global,
+    pairs: &[Pair],
+    wanted: &str,
+) -> Result<(), AllocError> {
+    let text = pairs_text(alloc, pairs)?;
+    has_text(rt, text.as_str(), wanted);
+    drop(text);
+    Ok(())
 }
 
 #[test]
 fn pairs_are_counted_from_1(rt: HostRuntime) -> Result<(), Fail> {
-    let none = pairs_text(rt.alloc(), &[])?;
-    assert!(rt; none.as_str() == "");
+    tells_pairs(&rt, rt.alloc(), &[], "")?;
     let pairs = [Pair { i: 0, j: 0 }, Pair { i: 0, j: 2 }];
-    let text = pairs_text(rt.alloc(), &pairs)?;
-    assert!(rt; text.as_str() == "1,1\n1,3\n");
+    tells_pairs(&rt, rt.alloc(), &pairs, "1,1\n1,3\n")?;
     Ok(())
 }
 
@@ -61,28 +75,87 @@ fn line(epoch: u32, shift: u32) -> TurnLine
     }
 }
 
-// A journal with lines of these epochs and shifts, k at most.
-fn narrow_journal(alloc: Global, k: u32, lines: &[(u32, u32)]) -> Result<Journal, AllocError>
-    ensures { IfOk result (AreWithin k) }
+// Lines of these epochs and shifts, k at most.
+fn push_lines(journal: &mut Journal, k: u32, lines: &[(u32, u32)]) -> Result<(), AllocError>
+    requires { AreWithin k journal.old }
+    ensures { AreWithin k journal.new }
 {
-    let mut journal = Journal::new(alloc);
     for (epoch, shift) in lines {
         journal.push(line(*epoch, (*shift).min(k)))?;
     }
-    Ok(journal)
+    Ok(())
 }
 
-// One of a grid of four.
-fn journal(alloc: Global, lines: &[(u32, u32)]) -> Result<Journal, AllocError>
-    ensures { IfOk result (AreWithin 2) }
+// Adds these to what a run answers.
+fn add(
+    run: &mut Run,
+    made: &[u64],
+    held: &[(u64, u64)],
+    moved: &[u64],
+    k: u32,
+    lines: &[(u32, u32)],
+) -> Result<(), AllocError>
+    requires { AreWithin k run.old.journal }
+    ensures moved { OnOk result (run.new.moved ≡ run.old.moved ++ moved.now) }
+    ensures journal { AreWithin k run.new.journal }
 {
-    narrow_journal(alloc, 2, lines)
+    push_counts(&mut run.made, made)?;
+    push_loads(&mut run.loads, held)?;
+    push_counts(&mut run.moved, moved)?;
+    push_lines(&mut run.journal, k, lines)
+}
+
+// What a run in a grid of 2^k joiners answers: the pairs that each made, what each holds, how many rows moved in each
+// step, and the epochs and shifts of the journal's lines.
+fn run_of(
+    alloc: Global,
+    made: &[u64],
+    held: &[(u64, u64)],
+    moved: &[u64],
+    k: u32,
+    lines: &[(u32, u32)],
+) -> Result<Run, AllocError>
+    ensures moved { IfOk result (λ run. run.moved ≡ moved.now) }
+    ensures journal { IfOk result (λ run. AreWithin k run.journal) }
+{
+    let mut run = Run {
+        pairs: Pairs::new(alloc),
+        made: Counts::new(alloc),
+        loads: Loads::new(alloc),
+        moved: Counts::new(alloc),
+        journal: Journal::new(alloc),
+        bouts: 0,
+    };
+    match add(&mut run, made, held, moved, k, lines) {
+        Ok(()) => Ok(run),
+        Err(refused) => {
+            drop(run);
+            Err(refused)
+        }
+    }
+}
+
+// The report of a run that nobody needs any more.
+fn report_of(
+    alloc: Global,
+    setting: &Setting,
+    rows_r: u64,
+    rows_s: u64,
+    run: Run,
+) -> Result<String, AllocError>
+    requires setting { IsValidSetting setting.now }
+    requires shifts { AreWithin setting.now.k run.journal }
+    requires steps { length run.moved < 2 ^ 32 }
+    requires rows_r { rows_r ≤ 2 ^ 32 }
+    requires rows_s { rows_s ≤ 2 ^ 32 }
+{
+    let text = report_text(alloc, setting, rows_r, rows_s, &run);
+    drop(run);
+    text
 }
 
 // Eight rows a side in a grid of four that goes to shift 0 and back.
-#[test]
-fn a_report_tells_of_steps_and_joiners(rt: HostRuntime) -> Result<(), Fail> {
-    let alloc = rt.alloc();
+fn report_of_steps(alloc: Global) -> Result<String, AllocError> {
     let setting = Setting {
         k: 2,
         feeders: 1,
@@ -92,60 +165,107 @@ fn a_report_tells_of_steps_and_joiners(rt: HostRuntime) -> Result<(), Fail> {
         fixed: None,
         weights: Weights { r: 1, s: 1 },
     };
-    let run = Run {
-        pairs: Pairs::new(alloc),
-        made: counts(alloc, &[16, 16, 16, 16])?,
-        loads: loads(alloc, &[(4, 4), (4, 4), (4, 4), (4, 4)])?,
-        moved: counts(alloc, &[0, 8])?,
-        journal: journal(alloc, &[(0, 1), (1, 0), (1, 0), (2, 1)])?,
-        bouts: 0,
-    };
-    let text = report_text(alloc, &setting, 8, 8, &run)?;
+    let run = run_of(
+        alloc,
+        &[16, 16, 16, 16],
+        &[(4, 4), (4, 4), (4, 4), (4, 4)],
+        &[0, 8],
+        2,
+        &[(0, 1), (1, 0), (1, 0), (2, 1)],
+    )?;
+    report_of(alloc, &setting, 8, 8, run)
+}
+
+#[test]
+fn a_report_tells_of_steps_and_joiners(rt: HostRuntime) -> Result<(), Fail> {
+    let text = report_of_steps(rt.alloc())?;
     let wanted =
         "input 8 8\ngrid 1 4 1 moved 0\ngrid 2 2 2 moved 8\nfinal 2 2 copies 32 best 32\njoiner 0 held 4 4 made 16\njoiner 1 held 4 4 made 16\njoiner 2 held 4 4 made 16\njoiner 3 held 4 4 made 16\n";
-    assert!(rt; text.as_str() == wanted);
+    has_text(&rt, text.as_str(), wanted);
+    drop(text);
     Ok(())
 }
 
-// Three rows a side in a grid of four that stays at shift 0; a heavy side R changes what is best, and nothing else.
-#[test]
-fn a_fixed_grid_has_no_steps(rt: HostRuntime) -> Result<(), Fail> {
-    let alloc = rt.alloc();
-    let run = Run {
-        pairs: Pairs::new(alloc),
-        made: counts(alloc, &[0, 2, 1, 0])?,
-        loads: loads(alloc, &[(0, 3), (1, 3), (2, 3), (0, 3)])?,
-        moved: Counts::new(alloc),
-        journal: Journal::new(alloc),
-        bouts: 0,
+// Three rows a side in a grid of four that stays at shift 0.
+fn fixed_run(alloc: Global) -> Result<Run, AllocError>
+    ensures moved { IfOk result (λ run. run.moved ≡ []) }
+    ensures journal { IfOk result (λ run. AreWithin 2 run.journal) }
+{
+    run_of(
+        alloc,
+        &[0, 2, 1, 0],
+        &[(0, 3), (1, 3), (2, 3), (0, 3)],
+        &[],
+        2,
+        &[],
+    )
+}
+
+// Its report where a row of R weighs so much.
+fn fixed_report(alloc: Global, weight_r: u32) -> Result<String, AllocError>
+    requires some { 1 ≤ weight_r }
+    requires few { weight_r ≤ 1024 }
+{
+    let setting = Setting {
+        k: 2,
+        feeders: 2,
+        workers: 4,
+        batch: 64,
+        feed: Feed::Alternate,
+        fixed: Some(0),
+        weights: Weights { r: weight_r, s: 1 },
     };
+    report_of(alloc, &setting, 3, 3, fixed_run(alloc)?)
+}
+
+fn wanted_of_fixed(alloc: Global, costs: &str) -> Result<String, AllocError> {
     let joiners =
         "joiner 0 held 0 3 made 0\njoiner 1 held 1 3 made 2\njoiner 2 held 2 3 made 1\njoiner 3 held 0 3 made 0\n";
-    let cases = [(1, "copies 15 best 12"), (4, "copies 24 best 24")];
-    for (weight_r, costs) in cases {
-        let setting = Setting {
-            k: 2,
-            feeders: 2,
-            workers: 4,
-            batch: 64,
-            feed: Feed::Alternate,
-            fixed: Some(0),
-            weights: Weights { r: weight_r, s: 1 },
-        };
-        let text = report_text(alloc, &setting, 3, 3, &run)?;
-        let wanted = format!(in alloc; "input 3 3\nfinal 4 1 {costs}\n{joiners}")?;
-        assert!(rt;
-            text.as_str() == wanted.as_str(),
-            "rows of R weigh {weight_r}"
-        );
-    }
+    format!(in alloc; "input 3 3\nfinal 4 1 {costs}\n{joiners}")
+}
+
+fn has_fixed_text(rt: &impl Abort, text: &str, wanted: &str, weight_r: u32) {
+    assert!(rt; text == wanted, "rows of R weigh {weight_r}");
+}
+
+fn tells_fixed(
+    rt: &impl Abort,
+    alloc: Global,
+    text: &str,
+    weight_r: u32,
+    costs: &str,
+) -> Result<(), AllocError> {
+    let wanted = wanted_of_fixed(alloc, costs)?;
+    has_fixed_text(rt, text, wanted.as_str(), weight_r);
+    drop(wanted);
+    Ok(())
+}
+
+fn reports_fixed(
+    rt: &impl Abort,
+    alloc: Global,
+    weight_r: u32,
+    costs: &str,
+) -> Result<(), AllocError>
+    requires some { 1 ≤ weight_r }
+    requires few { weight_r ≤ 1024 }
+{
+    let text = fixed_report(alloc, weight_r)?;
+    let outcome = tells_fixed(rt, alloc, text.as_str(), weight_r, costs);
+    drop(text);
+    outcome
+}
+
+// A heavy side R changes what is best, and nothing else.
+#[test]
+fn a_fixed_grid_has_no_steps(rt: HostRuntime) -> Result<(), Fail> {
+    reports_fixed(&rt, rt.alloc(), 1, "copies 15 best 12")?;
+    reports_fixed(&rt, rt.alloc(), 4, "copies 24 best 24")?;
     Ok(())
 }
 
 // Eight rows a side, those of R twice as heavy, in a grid that goes to shift 0 and stays there.
-#[test]
-fn a_heavy_side_counts_its_weight(rt: HostRuntime) -> Result<(), Fail> {
-    let alloc = rt.alloc();
+fn report_of_weights(alloc: Global) -> Result<String, AllocError> {
     let setting = Setting {
         k: 2,
         feeders: 1,
@@ -155,25 +275,32 @@ fn a_heavy_side_counts_its_weight(rt: HostRuntime) -> Result<(), Fail> {
         fixed: None,
         weights: Weights { r: 2, s: 1 },
     };
-    let run = Run {
-        pairs: Pairs::new(alloc),
-        made: counts(alloc, &[16, 16, 16, 16])?,
-        loads: loads(alloc, &[(2, 8), (2, 8), (2, 8), (2, 8)])?,
-        moved: counts(alloc, &[0])?,
-        journal: journal(alloc, &[(0, 1), (1, 0), (1, 0)])?,
-        bouts: 0,
-    };
-    let text = report_text(alloc, &setting, 8, 8, &run)?;
+    let run = run_of(
+        alloc,
+        &[16, 16, 16, 16],
+        &[(2, 8), (2, 8), (2, 8), (2, 8)],
+        &[0],
+        2,
+        &[(0, 1), (1, 0), (1, 0)],
+    )?;
+    report_of(alloc, &setting, 8, 8, run)
+}
+
+#[test]
+fn a_heavy_side_counts_its_weight(rt: HostRuntime) -> Result<(), Fail> {
+    let text = report_of_weights(rt.alloc())?;
     let wanted =
         "input 8 8\ngrid 1 4 1 moved 0\nfinal 4 1 copies 48 best 48\njoiner 0 held 2 8 made 16\njoiner 1 held 2 8 made 16\njoiner 2 held 2 8 made 16\njoiner 3 held 2 8 made 16\n";
-    assert!(rt; text.as_str() == wanted);
+    has_text(&rt, text.as_str(), wanted);
+    drop(text);
     Ok(())
 }
 
-// Two joiners that take a step to two columns, and split into eight, which take one to one row.
-#[test]
-fn a_grown_report_counts_its_steps_on(rt: HostRuntime) -> Result<(), Fail> {
-    let alloc = rt.alloc();
+// The report of two joiners that split into eight, which take a step to one row.
+fn report_from_two(alloc: Global, before: &Run) -> Result<String, AllocError>
+    requires moved { length before.now.moved ≤ 1 }
+    requires journal { AreWithin 1 before.now.journal }
+{
     let setting = Setting {
         k: 1,
         feeders: 1,
@@ -183,34 +310,50 @@ fn a_grown_report_counts_its_steps_on(rt: HostRuntime) -> Result<(), Fail> {
         fixed: None,
         weights: Weights { r: 1, s: 1 },
     };
-    let before = Run {
-        pairs: Pairs::new(alloc),
-        made: counts(alloc, &[4, 4])?,
-        loads: loads(alloc, &[(1, 4), (1, 4)])?,
-        moved: counts(alloc, &[2])?,
-        journal: narrow_journal(alloc, 1, &[(0, 0), (1, 1)])?,
-        bouts: 0,
-    };
-    let after = Run {
-        pairs: Pairs::new(alloc),
-        made: counts(alloc, &[3, 4])?,
-        loads: loads(alloc, &[(1, 2), (1, 1)])?,
-        moved: counts(alloc, &[8])?,
-        journal: narrow_journal(alloc, 3, &[(1, 2), (2, 3), (2, 3)])?,
-        bouts: 0,
-    };
+    let after = run_of(
+        alloc,
+        &[3, 4],
+        &[(1, 2), (1, 1)],
+        &[8],
+        3,
+        &[(1, 2), (2, 3), (2, 3)],
+    )?;
     let shape = Shape { k: 3, shift: 2 };
-    let text = grown_report_text(alloc, &setting, 1, 9, &before, shape, 22, &after)?;
+    let text = grown_report_text(alloc, &setting, 1, 9, before, shape, 22, &after);
+    drop(after);
+    text
+}
+
+// Before that they take a step to two columns.
+fn report_of_two(alloc: Global) -> Result<String, AllocError> {
+    let before = run_of(
+        alloc,
+        &[4, 4],
+        &[(1, 4), (1, 4)],
+        &[2],
+        1,
+        &[(0, 0), (1, 1)],
+    )?;
+    let text = report_from_two(alloc, &before);
+    drop(before);
+    text
+}
+
+#[test]
+fn a_grown_report_counts_its_steps_on(rt: HostRuntime) -> Result<(), Fail> {
+    let text = report_of_two(rt.alloc())?;
     let wanted =
         "input 1 9\ngrid 1 1 2 moved 2\ngrow 2 4 placed 22\ngrid 2 1 8 moved 8\nfinal 1 8 copies 17 best 17\njoiner 0 held 1 2 made 3\njoiner 1 held 1 1 made 4\n";
-    assert!(rt; text.as_str() == wanted);
+    has_text(&rt, text.as_str(), wanted);
+    drop(text);
     Ok(())
 }
 
-// One joiner that splits into four, of two rows a side.
-#[test]
-fn a_grid_grows_without_a_step(rt: HostRuntime) -> Result<(), Fail> {
-    let alloc = rt.alloc();
+// The report of one joiner that splits into four.
+fn report_from_one(alloc: Global, before: &Run) -> Result<String, AllocError>
+    requires moved { length before.now.moved ≤ 1 }
+    requires journal { AreWithin 0 before.now.journal }
+{
     let setting = Setting {
         k: 0,
         feeders: 1,
@@ -220,36 +363,73 @@ fn a_grid_grows_without_a_step(rt: HostRuntime) -> Result<(), Fail> {
         fixed: None,
         weights: Weights { r: 1, s: 1 },
     };
-    let before = Run {
-        pairs: Pairs::new(alloc),
-        made: counts(alloc, &[1])?,
-        loads: loads(alloc, &[(2, 2)])?,
-        moved: Counts::new(alloc),
-        journal: narrow_journal(alloc, 0, &[(0, 0), (0, 0)])?,
-        bouts: 0,
-    };
-    let after = Run {
-        pairs: Pairs::new(alloc),
-        made: counts(alloc, &[1, 0, 0, 1])?,
-        loads: loads(alloc, &[(1, 1), (1, 1), (1, 1), (1, 1)])?,
-        moved: Counts::new(alloc),
-        journal: narrow_journal(alloc, 2, &[(0, 1), (0, 1)])?,
-        bouts: 0,
-    };
+    let after = run_of(
+        alloc,
+        &[1, 0, 0, 1],
+        &[(1, 1), (1, 1), (1, 1), (1, 1)],
+        &[],
+        2,
+        &[(0, 1), (0, 1)],
+    )?;
     let shape = Shape { k: 2, shift: 1 };
-    let text = grown_report_text(alloc, &setting, 2, 2, &before, shape, 8, &after)?;
+    let text = grown_report_text(alloc, &setting, 2, 2, before, shape, 8, &after);
+    drop(after);
+    text
+}
+
+// It has two rows a side.
+fn report_of_one(alloc: Global) -> Result<String, AllocError> {
+    let before = run_of(alloc, &[1], &[(2, 2)], &[], 0, &[(0, 0), (0, 0)])?;
+    let text = report_from_one(alloc, &before);
+    drop(before);
+    text
+}
+
+#[test]
+fn a_grid_grows_without_a_step(rt: HostRuntime) -> Result<(), Fail> {
+    let text = report_of_one(rt.alloc())?;
     let wanted =
         "input 2 2\ngrow 2 2 placed 8\nfinal 2 2 copies 8 best 8\njoiner 0 held 1 1 made 1\njoiner 1 held 1 1 made 0\njoiner 2 held 1 1 made 0\njoiner 3 held 1 1 made 1\n";
-    assert!(rt; text.as_str() == wanted);
+    has_text(&rt, text.as_str(), wanted);
+    drop(text);
     Ok(())
+}
+
+fn counts(alloc: Global, numbers: &[u64]) -> Result<Counts, AllocError>
+    ensures { IfOk result (λ counts. counts ≡ numbers.now) }
+{
+    let mut counts = Counts::new(alloc);
+    match push_counts(&mut counts, numbers) {
+        Ok(()) => Ok(counts),
+        Err(refused) => {
+            drop(counts);
+            Err(refused)
+        }
+    }
+}
+
+// The sums of these counts and of others.
+fn sums_with(alloc: Global, first: &Counts, numbers: &[u64]) -> Result<Counts, AllocError>
+    requires first { All (λ count. count < 2 ^ 63) first.now }
+    requires numbers { All (λ count. count < 2 ^ 63) numbers.now }
+{
+    let second = counts(alloc, numbers)?;
+    let sums = sum_counts(alloc, first, &second);
+    drop(second);
+    sums
+}
+
+fn sums_of(alloc: Global) -> Result<Counts, AllocError> {
+    let first = counts(alloc, &[16, 0, 3])?;
+    let sums = sums_with(alloc, &first, &[1, 2, 0]);
+    drop(first);
+    sums
 }
 
 #[test]
 fn waves_are_added_place_by_place(rt: HostRuntime) -> Result<(), Fail> {
-    let alloc = rt.alloc();
-    let first = counts(alloc, &[16, 0, 3])?;
-    let second = counts(alloc, &[1, 2, 0])?;
-    let sums = sum_counts(alloc, &first, &second)?;
+    let sums = sums_of(rt.alloc())?;
     assert!(rt; sums.as_slice() == [17, 2, 3].as_slice());
+    drop(sums);
     Ok(())
 }
