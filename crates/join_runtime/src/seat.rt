@@ -158,6 +158,7 @@ impl<'a> Seat<'a> {
         ensures waits { result ≡ Ok Idle' → Waits self.old.core }
         ensures goes_on { OnOk result ((self.old.spent ≡ false) × (self.new.spent ≡ false)) }
         ensures fails { OnErr result (self.new.spent ≡ true) }
+        ensures spent { self.old.spent ≡ true → self.new ≡ self.old }
         ensures frame { frame_of self.new ≡ frame_of self.old }
     {
         gate.pass(Spot {

@@ -285,6 +285,7 @@ impl<'a> RingSeat<'a> {
         ensures stuck { result ≡ Ok Idle' → AllStuck self.old.outs }
         ensures goes_on { OnOk result ((self.old.spent ≡ false) × (self.new.spent ≡ false)) }
         ensures fails { OnErr result (self.new.spent ≡ true) }
+        ensures spent { self.old.spent ≡ true → self.new ≡ self.old }
         ensures frame { frame_of self.new ≡ frame_of self.old }
     {
         gate.pass(Spot {
