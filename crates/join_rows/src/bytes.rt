@@ -74,6 +74,17 @@ impl Bytes {
         self.held.as_slice()
     }
 
+    /// The bytes in their order. Those of a long list are handed out as they lie, which takes no memory; those of a
+    /// short one, which lie within it, are copied.
+    pub fn into_vec(self) -> Result<Vec<u8>, AllocError>
+        ensures { IfOk result (λ bytes. bytes.items ≡ self) }
+    {
+        match self.held.into_vec() {
+            Ok(bytes) => Ok(bytes),
+            Err(_) => Err(AllocError),
+        }
+    }
+
     /// Equal bytes.
     pub fn copy(&self) -> Result<Bytes, AllocError>
         ensures { IfOk result (λ bytes. bytes ≡ self.now) }

@@ -39,8 +39,8 @@ impl<T> Items<T> {
         })
     }
 
-    // Where the list's memory is from.
-    pub(crate) fn allocator(&self) -> Global {
+    /// Where the list's memory is from.
+    pub fn allocator(&self) -> Global {
         *self.held.allocator()
     }
 

@@ -117,7 +117,7 @@ fn copied(
     ensures { IfOk result (IsOwn theta.now) }
 {
     match key {
-        Some(key) => Ok(Some(key.copy(alloc)?)),
+        Some(key) => Ok(Some(key.copy()?)),
         None => Ok(None),
     }
 }

@@ -61,12 +61,12 @@ pub struct Access {
 }
 
 impl SumPair {
-    fn copy(&self, alloc: Global) -> Result<SumPair, AllocError>
+    fn copy(&self) -> Result<SumPair, AllocError>
         ensures { IfOk result (λ pair. pair ≡ self.now) }
     {
         Ok(SumPair {
-            r_sum: self.r_sum.copy(alloc)?,
-            s_sum: self.s_sum.copy(alloc)?,
+            r_sum: self.r_sum.copy()?,
+            s_sum: self.s_sum.copy()?,
             gap: self.gap,
         })
     }
@@ -84,36 +84,36 @@ impl Alone {
 }
 
 impl Same {
-    fn copy(&self, alloc: Global) -> Result<Same, AllocError>
+    fn copy(&self) -> Result<Same, AllocError>
         ensures { IfOk result (λ same. same ≡ self.now) }
     {
         Ok(match self {
             Same::Texts(atom) => Same::Texts(*atom),
-            Same::Sums(pair) => Same::Sums(pair.copy(alloc)?),
+            Same::Sums(pair) => Same::Sums(pair.copy()?),
             Same::Alone(alone) => Same::Alone(alone.copy()?),
         })
     }
 }
 
 impl Interval {
-    fn copy(&self, alloc: Global) -> Result<Interval, AllocError>
+    fn copy(&self) -> Result<Interval, AllocError>
         ensures { IfOk result (λ interval. interval ≡ self.now) }
     {
         Ok(Interval {
             points: self.points,
-            lower: self.lower.copy(alloc)?,
-            upper: self.upper.copy(alloc)?,
+            lower: self.lower.copy()?,
+            upper: self.upper.copy()?,
         })
     }
 }
 
 impl Range {
-    fn copy(&self, alloc: Global) -> Result<Range, AllocError>
+    fn copy(&self) -> Result<Range, AllocError>
         ensures { IfOk result (λ range. range ≡ self.now) }
     {
         Ok(match self {
-            Range::Span(atom) => Range::Span(atom.copy(alloc)?),
-            Range::Interval(interval) => Range::Interval(interval.copy(alloc)?),
+            Range::Span(atom) => Range::Span(atom.copy()?),
+            Range::Interval(interval) => Range::Interval(interval.copy()?),
         })
     }
 }
@@ -124,29 +124,29 @@ fn copy_of(alloc: Global, sames: &[Same]) -> Result<Sames, AllocError>
 {
     let mut copies = Vec::new(alloc);
     for same in sames {
-        copies.push(same.copy(alloc)?)?;
+        copies.push(same.copy()?)?;
     }
     Ok(Sames::from_vec(copies))
 }
 
 // An equal range, where there is one.
-fn range_copy(alloc: Global, range: &Option<Range>) -> Result<Option<Range>, AllocError>
+fn range_copy(range: &Option<Range>) -> Result<Option<Range>, AllocError>
     ensures { IfOk result (λ copy. copy ≡ range.now) }
 {
     Ok(match range {
-        Some(range) => Some(range.copy(alloc)?),
+        Some(range) => Some(range.copy()?),
         None => None,
     })
 }
 
 impl Access {
     /// An equal access.
-    pub fn copy(&self, alloc: Global) -> Result<Access, AllocError>
+    pub fn copy(&self) -> Result<Access, AllocError>
         ensures { IfOk result (λ access. access ≡ self.now) }
     {
         Ok(Access {
-            sames: copy_of(alloc, self.sames.as_slice())?,
-            range: range_copy(alloc, &self.range)?,
+            sames: copy_of(self.sames.allocator(), self.sames.as_slice())?,
+            range: range_copy(&self.range)?,
         })
     }
 }

@@ -5,7 +5,7 @@ ghost use Rattle.std.specs.Option.{ForSome};
 ghost use Rattle.theta_pred.specs.Sizes.{IsAtMost};
 
 use join_rows::{Cells, Items};
-use std::alloc::{AllocError, Global};
+use std::alloc::AllocError;
 
 /// A column of one side with its sign, its place counted from 0.
 #[derive(Clone, Copy, Debug, PartialEq, Eq)]
@@ -56,11 +56,11 @@ impl Linear {
     }
 
     /// An equal sum.
-    pub fn copy(&self, alloc: Global) -> Result<Linear, AllocError>
+    pub fn copy(&self) -> Result<Linear, AllocError>
         ensures { IfOk result (λ sum. sum ≡ self.now) }
     {
         Ok(Linear {
-            parts: Parts::from_vec(Vec::from_slice(alloc, self.parts.as_slice())?),
+            parts: Parts::from_vec(Vec::from_slice(self.parts.allocator(), self.parts.as_slice())?),
         })
     }
 }
@@ -78,12 +78,12 @@ pub struct KeyAtom {
 
 impl KeyAtom {
     /// An equal test.
-    pub fn copy(&self, alloc: Global) -> Result<KeyAtom, AllocError>
+    pub fn copy(&self) -> Result<KeyAtom, AllocError>
         ensures { IfOk result (λ atom. atom ≡ self.now) }
     {
         Ok(KeyAtom {
-            r_sum: self.r_sum.copy(alloc)?,
-            s_sum: self.s_sum.copy(alloc)?,
+            r_sum: self.r_sum.copy()?,
+            s_sum: self.s_sum.copy()?,
             low: self.low,
             high: self.high,
         })

@@ -63,38 +63,28 @@ fn do_enclose(points: Side, lower: &KeyAtom, upper: &KeyAtom) -> bool
 }
 
 // The interval between these.
-fn interval(
-    alloc: Global,
-    points: Side,
-    lower: &KeyAtom,
-    upper: &KeyAtom,
-) -> Result<Range, AllocError>
+fn interval(points: Side, lower: &KeyAtom, upper: &KeyAtom) -> Result<Range, AllocError>
     requires { parts_on points (atom_of lower.now) ≡ parts_on points (atom_of upper.now) }
     ensures { IfOk result (λ range.
         reach_of range ≡ interval points (atom_of lower.now) (atom_of upper.now)) }
 {
     Ok(Range::Interval(Interval {
         points,
-        lower: lower.copy(alloc)?,
-        upper: upper.copy(alloc)?,
+        lower: lower.copy()?,
+        upper: upper.copy()?,
     }))
 }
 
 // The interval that two tests make, in either order.
-fn interval_of_two(
-    alloc: Global,
-    points: Side,
-    a: &KeyAtom,
-    b: &KeyAtom,
-) -> Result<Option<Range>, AllocError>
+fn interval_of_two(points: Side, a: &KeyAtom, b: &KeyAtom) -> Result<Option<Range>, AllocError>
     ensures { IfOk result (λ range. option_map reach_of range
         ≡ interval_of_two points (atom_of a.now) (atom_of b.now)) }
 {
     if do_enclose(points, a, b) {
-        return Ok(Some(interval(alloc, points, a, b)?));
+        return Ok(Some(interval(points, a, b)?));
     }
     if do_enclose(points, b, a) {
-        return Ok(Some(interval(alloc, points, b, a)?));
+        return Ok(Some(interval(points, b, a)?));
     }
     Ok(None)
 }
@@ -111,7 +101,7 @@ fn first_interval(
 {
     for other in others {
         let other = upright(alloc, points, other)?;
-        if let Some(range) = interval_of_two(alloc, points, atom, &other)? {
+        if let Some(range) = interval_of_two(points, atom, &other)? {
             return Ok(Some(range));
         }
     }
@@ -169,7 +159,7 @@ fn first_narrow(
         ≡ first_narrow (map atom_of all.now) (map atom_of atoms.now)) }
 {
     for atom in atoms {
-        let met = met_with(atom.copy(alloc)?, all);
+        let met = met_with(atom.copy()?, all);
         if let Some(range) = narrow_of(alloc, met, all)? {
             return Ok(Some(range));
         }
@@ -182,7 +172,7 @@ fn first_span(alloc: Global, spans: &[KeyAtom]) -> Result<Option<Range>, AllocEr
     ensures { IfOk result (λ range. option_map reach_of range
         ≡ option_map span (first_met (map atom_of spans.now))) }
 {
-    match first_met(alloc, spans)? {
+    match first_met(spans)? {
         Some(atom) => Ok(Some(Range::Span(atom))),
         None => Ok(None),
     }

@@ -1,5 +1,6 @@
 use join_rows::{Bytes, Cell, Cells};
 use std::alloc::{AllocError, Global};
+use std::process::Abort;
 use std::test::Fail;
 
 fn cell(alloc: Global, text: &[u8]) -> Result<Cell, AllocError> {
@@ -65,5 +66,24 @@ fn a_copy_goes_to_a_thread(rt: HostRuntime) -> Result<(), Fail> {
     let theirs = cells.copy()?;
     let (there, here) = std::thread::join(&rt, move || theirs.len(), || cells.len());
     assert_eq!(rt; (there, here), (1, 1));
+    Ok(())
+}
+
+fn hands_out(rt: &impl Abort, alloc: Global, text: &[u8]) -> Result<(), AllocError> {
+    let bytes = Bytes::from_slice(alloc, text)?.into_vec()?;
+    assert!(rt; bytes.as_slice() == text, "{} bytes", text.len());
+    Ok(())
+}
+
+#[test]
+fn bytes_are_handed_out(rt: HostRuntime) -> Result<(), Fail> {
+    for text in [
+        b"".as_slice(),
+        b"within".as_slice(),
+        b"sixteen bytes 16".as_slice(),
+        b"longer than sixteen".as_slice(),
+    ] {
+        hands_out(&rt, rt.alloc(), text)?;
+    }
     Ok(())
 }

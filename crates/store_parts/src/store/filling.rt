@@ -111,8 +111,8 @@ impl Store {
         requires id { id < 2 ^ shape.k }
         ensures { IfOk result (λ kept. kept ≡ kept_of shape id self.now) }
     {
-        let key = key_copy(self.alloc, &self.key)?;
-        let access = access_copy(self.alloc, &self.access)?;
+        let key = key_copy(&self.key)?;
+        let access = access_copy(&self.access)?;
         let (r, r_index) = kept_side(
             self.alloc,
             self.r.as_slice(),

@@ -87,9 +87,9 @@ fn told_access(alloc: Global, access: &Option<Access>) -> Result<String, AllocEr
     }
 }
 
-fn copied_access(alloc: Global, access: &Option<Access>) -> Result<Option<Access>, AllocError> {
+fn copied_access(access: &Option<Access>) -> Result<Option<Access>, AllocError> {
     match access {
-        Some(access) => Ok(Some(access.copy(alloc)?)),
+        Some(access) => Ok(Some(access.copy()?)),
         None => Ok(None),
     }
 }
@@ -112,7 +112,7 @@ fn told(alloc: Global, text: &str) -> Result<String, AllocError> {
 
 // The copy of an access, told.
 fn told_copy(alloc: Global, access: &Option<Access>) -> Result<String, AllocError> {
-    let copy = copied_access(alloc, access)?;
+    let copy = copied_access(access)?;
     let told = told_access(alloc, &copy);
     drop(copy);
     told

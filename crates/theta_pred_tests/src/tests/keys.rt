@@ -25,9 +25,9 @@ fn told(alloc: Global, key: &Option<KeyAtom>) -> Result<String, AllocError> {
     }
 }
 
-fn copied(alloc: Global, key: &Option<KeyAtom>) -> Result<Option<KeyAtom>, AllocError> {
+fn copied(key: &Option<KeyAtom>) -> Result<Option<KeyAtom>, AllocError> {
     match key {
-        Some(atom) => Ok(Some(atom.copy(alloc)?)),
+        Some(atom) => Ok(Some(atom.copy()?)),
         None => Ok(None),
     }
 }
@@ -40,7 +40,7 @@ fn key_text(alloc: Global, theta: &Theta) -> Result<String, AllocError> {
 }
 
 fn told_copy(alloc: Global, key: &Option<KeyAtom>) -> Result<String, AllocError> {
-    let copy = copied(alloc, key)?;
+    let copy = copied(key)?;
     let told = told(alloc, &copy);
     drop(copy);
     told

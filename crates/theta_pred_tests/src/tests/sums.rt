@@ -75,7 +75,7 @@ fn copy_has_value(
     second: &str,
     wanted: &str,
 ) -> Result<(), AllocError> {
-    let copy = sum.copy(alloc)?;
+    let copy = sum.copy()?;
     let value = copy.value(row);
     drop(copy);
     is_value(
