@@ -132,11 +132,11 @@ class_holds (suc left) class hash first last x most from to short =
     class_picked (int_le (last -ℤ first) most) left class hash first last x most refl from to
     (class_holds left (class + 1) hash first last x (next_most most) from to short)
 
-last_most : most_after 71 (pos 0) ≡ pos (2 ^ 71 - 1)
+last_most : most_after 18 (pos 0) ≡ pos (2 ^ 72 - 1)
 last_most = refl
 
 long_enough : (first last : ℤ) → int_le (neg_ℤ edge) first ≡ true → int_le last edge ≡ true
-    → int_le (last -ℤ first) (pos (2 ^ 71 - 1)) ≡ true
+    → int_le (last -ℤ first) (pos (2 ^ 72 - 1)) ≡ true
 long_enough first last low high = grind (arith, ints, low, high)
 
 through : (a b c : ℤ) → int_le a b ≡ true → int_le b c ≡ true → int_le a c ≡ true
@@ -153,7 +153,7 @@ interval_lies hash x low high is =
     let to = high_rises high x (and_right (is_from low x) (is_up_to high x) is) in
     let short = ap (int_le (last -ℤ first)) last_most
     ∙ long_enough first last (from_edge (low_of low)) (to_edge (high_of high)) in
-    let stands = class_holds 71 0 hash first last (clamped x) (pos 0) from to short in
+    let stands = class_holds 18 0 hash first last (clamped x) (pos 0) from to short in
     let P : Bool → Type 0 = λ b. lies_in (windows_of hash (clamped x))
     (cond b (Some (stand hash (pos (class_of (last -ℤ first))) first)) None) ≡ true in
     subst P (sym (through first (clamped x) last from to)) stands
@@ -207,7 +207,7 @@ classes_apart (suc left) class hash most x = (
 -- the windows of a point are apart
 pub windows_apart : (hash x : ℤ) → AreApart (windows_of hash x)
 unfolding windows_of
-windows_apart hash x = classes_apart 71 0 hash (pos 0) x
+windows_apart hash x = classes_apart 18 0 hash (pos 0) x
 
 -- one window is apart
 pub one_apart : (it : Window) → AreApart (it ∷ [])

@@ -34,16 +34,16 @@ high_of (Some v) = v
 abbrev pub window : ℤ → ℤ → ℤ → ℤ → Window
 window hash class v w = record { from = stand hash class v; to = stand hash class w }
 
--- ---- intervals, by classes of their lengths: each class takes in lengths twice as great as those of the one before it
+-- ---- intervals, by classes of their lengths: each class takes in lengths sixteen times those of the one before it
 
 -- a length that a class can reach
 pub record IsMost (most : ℤ) : Type 0 where
   pub above : pos 0 ≤ℤ most
-  pub below : most ≤ℤ pos (2 ^ 72)
+  pub below : most ≤ℤ pos (2 ^ 75)
 
 -- the greatest length of the next class
 abbrev pub next_most : ℤ → ℤ
-next_most most = if int_le most (pos (2 ^ 70)) then most +ℤ most +ℤ pos 1 else most
+next_most most = if int_le most (pos (2 ^ 70)) then pos 16 *ℤ most +ℤ pos 15 else most
 
 -- the class of a length, of this one and so many after it
 abbrev pub class_from : ℕ → ℕ → ℤ → ℤ → ℕ
@@ -53,7 +53,7 @@ class_from (suc left) class most length =
 
 -- the class of a length
 unfoldable pub class_of : ℤ → ℕ
-class_of length = class_from 71 0 (pos 0) length
+class_of length = class_from 18 0 (pos 0) length
 
 -- where an interval stands: by its class, where it begins; one that ends before it begins stands nowhere
 abbrev pub stand_of : ℤ → ℤ → ℤ → Option ℤ
@@ -68,4 +68,4 @@ windows_from (suc left) hash class most x =
 
 -- where the intervals that hold a point can stand
 unfoldable pub windows_of : ℤ → ℤ → List Window
-windows_of hash x = windows_from 71 hash 0 (pos 0) x
+windows_of hash x = windows_from 18 hash 0 (pos 0) x

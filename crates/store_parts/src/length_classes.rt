@@ -12,8 +12,8 @@ use std::alloc::{AllocError, Global};
 // The greatest length that there is, 2^70.
 const GREATEST: i128 = 1180591620717411303424;
 
-// The classes of lengths, but the first.
-const MORE_CLASSES: u64 = 71;
+// How many classes of lengths there are, but the first.
+const MORE_CLASSES: u64 = 18;
 
 // The greatest length of the next class.
 fn next_most(most: i128) -> i128
@@ -22,7 +22,7 @@ fn next_most(most: i128) -> i128
     ensures small { IsMost result }
 {
     if most <= GREATEST {
-        most + most + 1
+        16 * most + 15
     } else {
         most
     }
@@ -30,10 +30,10 @@ fn next_most(most: i128) -> i128
 
 // The class of a length, of this one and so many after it.
 fn class_from(left: u64, class: u64, most: i128, length: i128) -> u64
-    requires class { class + left ≤ 71 }
+    requires class { class + left ≤ 18 }
     requires most { IsMost most }
     ensures value { result ≡ class_from left class most length }
-    ensures small { result ≤ 71 }
+    ensures small { result ≤ 18 }
 {
     if left == 0 {
         return class;
@@ -63,7 +63,7 @@ fn length_of(first: i128, last: i128) -> i128
 // The class of an interval's length.
 fn class_of(length: i128) -> u64
     ensures value { result ≡ class_of length }
-    ensures small { result ≤ 71 }
+    ensures small { result ≤ 18 }
 {
     class_from(MORE_CLASSES, 0, 0, length)
 }
@@ -92,7 +92,7 @@ fn add_windows(
     x: i128,
 ) -> Result<(), AllocError>
     requires hash { IsAtMost (2 ^ 48) hash }
-    requires class { class + left ≤ 71 }
+    requires class { class + left ≤ 18 }
     requires most { IsMost most }
     requires x { IsAtMost (2 ^ 69) x }
     ensures { OnOk result
@@ -111,7 +111,7 @@ pub(crate) fn windows_of(alloc: Global, hash: i128, x: i128) -> Result<Windows, 
     requires x { IsAtMost (2 ^ 69) x }
     ensures { IfOk result (λ windows. windows.items ≡ windows_of hash x) }
 {
-    let mut windows = SmallVec::new(alloc);
+    let mut windows = SmallVec::with_capacity(alloc, MORE_CLASSES as usize + 1)?;
     add_windows(&mut windows, MORE_CLASSES, hash, 0, 0, x)?;
     Ok(windows)
 }
