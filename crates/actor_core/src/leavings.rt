@@ -1,8 +1,9 @@
 // What the machines of a wave leave.
 
-ghost use Rattle.std.specs.Prelude.{◌≡◌, ◌++◌, ◌∷◌, [], IfOk, IfSome};
+ghost use Rattle.std.specs.Prelude.{◌≡◌, ◌++◌, ◌∷◌, [], IfOk, IfSome, OnOk};
 ghost use Rattle.actor_core.specs.declared.machines.Core.TheVariants.{Controller as TheController, Collector as TheCollector};
 ghost use Rattle.actor_core.specs.Leavings.{AreLeft, AreStores, Gives, GivesStore};
+ghost use Rattle.store_parts.specs.Stored.{Stored};
 
 use crate::machines::Core;
 use crate::rests::Stores;
@@ -36,6 +37,15 @@ fn store_of(core: Core) -> Result<Store, AllocError>
     }
 }
 
+// Appends the store of a joiner's machine.
+fn add_store(core: Core, stores: &mut Stores) -> Result<(), AllocError>
+    ensures { OnOk result ((given : Stored) × Gives core.entry given
+        × (stores.new ≡ stores.old ++ given ∷ [])) }
+{
+    stores.push(store_of(core)?)?;
+    Ok(())
+}
+
 // The stores of the machines behind so many, each of which is a joiner's.
 fn stores_of<'a>(alloc: Global, feeders: u32, cores: Vec<Core<'a>>) -> Result<Stores, AllocError>
     ensures { IfOk result (λ stores. AreStores feeders cores.entry.items stores) }
@@ -45,8 +55,9 @@ fn stores_of<'a>(alloc: Global, feeders: u32, cores: Vec<Core<'a>>) -> Result<St
     for core in cores {
         if before > 0 {
             before -= 1;
+            drop(core);
         } else {
-            stores.push(store_of(core)?)?;
+            add_store(core, &mut stores)?;
         }
     }
     Ok(stores)

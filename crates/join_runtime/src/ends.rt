@@ -1,6 +1,6 @@
 // What finished seats leave.
 
-ghost use Rattle.std.specs.Prelude.{◌≡◌, true, IfOk, map};
+ghost use Rattle.std.specs.Prelude.{◌≡◌, ◌++◌, ◌∷◌, [], true, IfOk, OnOk, map};
 ghost use Rattle.epoch_tags.specs.declared.actor.Actor.{Actor as Actor'};
 ghost use Rattle.trace_law.specs.declared.input.Input.{Input as Input'};
 ghost use Rattle.trace_law.specs.declared.setting.Setting.{Setting as Setting'};
@@ -86,6 +86,29 @@ pub struct WaveTold {
 /// What several runs leave.
 pub type Trail = Items<Ends>;
 
+// Appends a seat's machine, and what else it leaves.
+fn add_parts<'a>(
+    seat: Seat<'a>,
+    cores: &mut Vec<Core<'a>>,
+    ends: &mut Vec<End>,
+) -> Result<(), AllocError>
+    ensures cores { OnOk result (cores.new.items ≡ cores.old.items ++ seat.entry.core ∷ []) }
+    ensures ends { OnOk result (ends.new.items ≡ ends.old.items ++ end_of seat.entry ∷ []) }
+{
+    let (core, end) = seat.into_parts();
+    match cores.push(core) {
+        Ok(()) => {
+            ends.push(end)?;
+            Ok(())
+        }
+        Err(refused) => {
+            drop(refused);
+            drop(end);
+            Err(AllocError)
+        }
+    }
+}
+
 // The machines of seats, and what else they leave.
 fn parts<'a>(alloc: Global, seats: Vec<Seat<'a>>) -> Result<(Vec<Core<'a>>, Vec<End>), AllocError>
     ensures cores { IfOk result (λ parts. parts.0.items ≡ map (λ s. s.core) seats.entry.items) }
@@ -94,9 +117,7 @@ fn parts<'a>(alloc: Global, seats: Vec<Seat<'a>>) -> Result<(Vec<Core<'a>>, Vec<
     let mut cores = Vec::new(alloc);
     let mut ends = Vec::new(alloc);
     for seat in seats {
-        let (core, end) = seat.into_parts();
-        cores.push(core)?;
-        ends.push(end)?;
+        add_parts(seat, &mut cores, &mut ends)?;
     }
     Ok((cores, ends))
 }

@@ -1,6 +1,6 @@
 // The seats of a run and of a wave at their beginning.
 
-ghost use Rattle.std.specs.Prelude.{◌≡◌, ◌<◌, ◌≤◌, ◌+◌, ◌^◌, ◌↔◌, ℕ, true, false, None, Some, IsSome, IfOk, OnOk, length, map, slice_set, slice_index_or};
+ghost use Rattle.std.specs.Prelude.{◌≡◌, ◌<◌, ◌≤◌, ◌+◌, ◌^◌, ◌↔◌, ◌++◌, ◌∷◌, [], ℕ, true, false, None, Some, IsSome, IfOk, OnOk, length, map, slice_set, slice_index_or};
 ghost use Rattle.epoch_tags.specs.declared.actor.Actor.{Actor as Actor'};
 ghost use Rattle.trace_law.specs.Validity.{IsValidInput, IsValidSetting};
 ghost use Rattle.trace_law.specs.Family.{first_rest};
@@ -78,8 +78,8 @@ fn room_at(
     let count = feeders + joiners + 2;
     let actor = actor_of(joiners, feeders, n);
     let senders = senders_of(alloc, joiners, feeders, count, actor)?;
-    let (inbox, mouths) = inbox(alloc, actor, &senders)?;
     let places = no_mouths(alloc, count)?;
+    let (inbox, mouths) = inbox(alloc, actor, &senders)?;
     Ok((inbox, mouths, places))
 }
 
@@ -164,6 +164,29 @@ fn give_all(
     Ok(())
 }
 
+// Appends a seat, and the mouths of its inbox.
+fn add_seat<'a>(
+    seat: Seat<'a>,
+    mouths: Mouths,
+    seats: &mut Vec<Seat<'a>>,
+    all_mouths: &mut Vec<Mouths>,
+) -> Result<(), AllocError>
+    ensures seats { OnOk result (seats.new.items ≡ seats.old.items ++ seat.entry ∷ []) }
+    ensures mouths { OnOk result (all_mouths.new.items ≡ all_mouths.old.items ++ mouths ∷ []) }
+{
+    match seats.push(seat) {
+        Ok(()) => {
+            all_mouths.push(mouths)?;
+            Ok(())
+        }
+        Err(refused) => {
+            drop(refused);
+            drop(mouths);
+            Err(AllocError)
+        }
+    }
+}
+
 // The seats for these machines, in their order and without mouths, and the mouths of each one's inbox.
 fn new_seats<'a>(
     alloc: Global,
@@ -181,8 +204,7 @@ fn new_seats<'a>(
     let mut n = 0u32;
     for core in cores {
         let (seat, mouths) = seat_at(alloc, joiners, feeders, n, core)?;
-        seats.push(seat)?;
-        all_mouths.push(mouths)?;
+        add_seat(seat, mouths, &mut seats, &mut all_mouths)?;
         n += 1;
     }
     Ok((seats, all_mouths))

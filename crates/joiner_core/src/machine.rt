@@ -1,6 +1,8 @@
 // A joiner's machine: what it has of its epochs, the messages that it holds, and the taking of each kind of message.
 
-ghost use Rattle.std.specs.Prelude.{◌≡◌, ◌<◌, ◌≤◌, ◌^◌, true, false, OnOk, IfOk, ℕ};
+ghost use Rattle.std.specs.Prelude.{◌≡◌, ◌<◌, ◌≤◌, ◌^◌, [], true, false, OnOk, IfOk, ℕ, length};
+ghost use Rattle.epoch_tags.specs.Flags.{flag_at};
+ghost use Rattle.epoch_tags.specs.Held.{held_at};
 ghost use Rattle.joiner_core.specs.State.{HasRow};
 ghost use Rattle.joiner_core.specs.Machine.{state_of, IsMade, IsSound, Accepts, IsOfGrid, Receives};
 ghost use Rattle.epoch_tags.specs.declared.actor.Actor.TheVariants.{Feeder, Joiner as Joiner'};
@@ -21,6 +23,26 @@ pub(crate) struct Machine<'a> {
     pub(crate) alloc: Global,
 }
 
+// What a joiner knows of its senders at its beginning: that no feeder has ended, and of each sender no message is held.
+fn nothing_heard(
+    alloc: Global,
+    k: u32,
+    feeders: u32,
+) -> Result<(Vec<bool>, Held<ToJoiner>, Held<ToJoiner>), AllocError>
+    requires { k ≤ 8 }
+    ensures ended { IfOk result (λ heard. length heard.0.items ≡ feeders) }
+    ensures down { IfOk result (λ heard. (p : ℕ) → flag_at heard.0.items p ≡ false) }
+    ensures of_feeders { IfOk result (λ heard. length heard.1 ≡ feeders) }
+    ensures no_feeders { IfOk result (λ heard. (p : ℕ) → held_at heard.1 p ≡ []) }
+    ensures of_joiners { IfOk result (λ heard. length heard.2 ≡ 2 ^ k) }
+    ensures no_joiners { IfOk result (λ heard. (q : ℕ) → held_at heard.2 q ≡ []) }
+{
+    let ended = all_down(alloc, feeders)?;
+    let of_feeders = Held::start(alloc, feeders)?;
+    let of_joiners = Held::start(alloc, joiners(k))?;
+    Ok((ended, of_feeders, of_joiners))
+}
+
 impl<'a> Machine<'a> {
     pub(crate) fn start_at(
         alloc: Global,
@@ -36,28 +58,31 @@ impl<'a> Machine<'a> {
         ensures { IfOk result
             (λ machine. IsMade k id shift epoch feeders theta.now base (state_of machine)) }
     {
-        let ended = all_down(alloc, feeders)?;
-        let of_feeders = Held::start(alloc, feeders)?;
-        let of_joiners = Held::start(alloc, joiners(k))?;
-        Ok(Machine {
-            epochs: Epochs {
-                k,
-                id,
-                feeders,
-                theta,
-                epoch,
-                shift,
-                store: base,
-                ended,
-                step: None,
-                moved: Counts::new(alloc),
+        match nothing_heard(alloc, k, feeders) {
+            Ok((ended, of_feeders, of_joiners)) => Ok(Machine {
+                epochs: Epochs {
+                    k,
+                    id,
+                    feeders,
+                    theta,
+                    epoch,
+                    shift,
+                    store: base,
+                    ended,
+                    step: None,
+                    moved: Counts::new(alloc),
+                    alloc,
+                },
+                of_feeders,
+                of_joiners,
+                told: false,
                 alloc,
-            },
-            of_feeders,
-            of_joiners,
-            told: false,
-            alloc,
-        })
+            }),
+            Err(refused) => {
+                drop(base);
+                Err(refused)
+            }
+        }
     }
 
     // Takes or holds a message, tries the held ones again and reports.

@@ -11,6 +11,7 @@ use crate::epochs::{Epochs, Opened, partner_in_step};
 use epoch_tags::{Actor, Msg, Post, Sends, ToJoiner, all_down, are_all_up};
 use migration_plan::exchanged_side;
 use std::alloc::AllocError;
+use std::mem;
 
 // Whether one of the two shifts is the other and 1.
 fn are_neighbours(old: u32, new: u32) -> bool
@@ -96,19 +97,20 @@ impl<'a> Epochs<'a> {
         ensures opened { OnOk result (HasOpened self.old epoch shift self.new.step) }
         ensures posts { OnOk result (sends.new ≡ sends.old ++ posts_opened self.old epoch shift) }
     {
-        let store = self.store.kept_copy(self.k, shift, self.id)?;
         let to = partner_in_step(self.k, self.shift, shift, self.id);
         self.store
             .send_side(exchanged_side(self.shift, shift), to, epoch, sends)?;
         let turned = all_down(self.alloc, self.feeders)?;
-        self.step = Some(Opened {
+        let store = self.store.kept_copy(self.k, shift, self.id)?;
+        let opened = Opened {
             epoch,
             shift,
             turned,
             store,
             partner_ended: false,
             alloc: self.alloc,
-        });
+        };
+        drop(mem::replace(&mut self.step, Some(opened)));
         Ok(())
     }
 

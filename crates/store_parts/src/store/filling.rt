@@ -5,7 +5,7 @@ ghost use Rattle.join_rows.specs.declared.table.Side.TheVariants.{R as R', S as 
 ghost use Rattle.store_parts.specs.Indexed.{IsIndexed};
 ghost use Rattle.store_parts.specs.Keyed.{FitsKey, IsOwn};
 ghost use Rattle.store_parts.specs.Matches.{HasWidth};
-ghost use Rattle.store_parts.specs.Stored.{kept_of, with_tuple};
+ghost use Rattle.store_parts.specs.Stored.{kept_of, side_of, with_tuple};
 
 use crate::copies::{access_copy, key_copy};
 use crate::index::{Index, index_by};
@@ -104,6 +104,71 @@ impl Store {
         theta.key_law();
     }
 
+    // An equal key and an equal access.
+    fn ways(&self) -> Result<(Option<KeyAtom>, Option<Access>), AllocError>
+        ensures key { IfOk result (λ ways. ways.0 ≡ self.now.key) }
+        ensures access { IfOk result (λ ways. ways.1 ≡ self.now.access) }
+    {
+        let key = key_copy(&self.key)?;
+        match access_copy(&self.access) {
+            Ok(access) => Ok((key, access)),
+            Err(refused) => {
+                drop(key);
+                Err(refused)
+            }
+        }
+    }
+
+    // Copies of the tuples of a side that the joiner holds in a grid of this shape, with their index.
+    fn kept_at(&self, side: Side, shape: Shape, id: u32) -> Result<(Tuples, Index), AllocError>
+        requires shift { shape.shift ≤ shape.k }
+        requires k { shape.k ≤ 8 }
+        requires id { id < 2 ^ shape.k }
+        ensures kept { IfOk result (λ kept. kept.0 ≡ side_of (kept_of shape id self.now) side) }
+        ensures indexed { IfOk result (λ kept. IsIndexed self.now.key self.now.access side kept.0 kept.1) }
+    {
+        let (tuples, index) = match side {
+            Side::R => (self.r.as_slice(), &self.r_index),
+            Side::S => (self.s.as_slice(), &self.s_index),
+        };
+        kept_side(
+            self.alloc,
+            tuples,
+            index,
+            &self.key,
+            &self.access,
+            side,
+            shape,
+            id,
+        )
+    }
+
+    // The same of both sides.
+    fn kept_sides(
+        &self,
+        shape: Shape,
+        id: u32,
+    ) -> Result<((Tuples, Index), (Tuples, Index)), AllocError>
+        requires shift { shape.shift ≤ shape.k }
+        requires k { shape.k ≤ 8 }
+        requires id { id < 2 ^ shape.k }
+        ensures r { IfOk result (λ both. both.0.0 ≡ (kept_of shape id self.now).r) }
+        ensures r_indexed { IfOk result
+            (λ both. IsIndexed self.now.key self.now.access R' both.0.0 both.0.1) }
+        ensures s { IfOk result (λ both. both.1.0 ≡ (kept_of shape id self.now).s) }
+        ensures s_indexed { IfOk result
+            (λ both. IsIndexed self.now.key self.now.access S' both.1.0 both.1.1) }
+    {
+        let r = self.kept_at(Side::R, shape, id)?;
+        match self.kept_at(Side::S, shape, id) {
+            Ok(s) => Ok((r, s)),
+            Err(refused) => {
+                drop(r);
+                Err(refused)
+            }
+        }
+    }
+
     /// A store with the same key and access, and copies of the tuples that the joiner holds in a grid of this shape.
     pub fn kept_copy(&self, shape: Shape, id: u32) -> Result<Store, AllocError>
         requires shift { shape.shift ≤ shape.k }
@@ -111,36 +176,22 @@ impl Store {
         requires id { id < 2 ^ shape.k }
         ensures { IfOk result (λ kept. kept ≡ kept_of shape id self.now) }
     {
-        let key = key_copy(&self.key)?;
-        let access = access_copy(&self.access)?;
-        let (r, r_index) = kept_side(
-            self.alloc,
-            self.r.as_slice(),
-            &self.r_index,
-            &self.key,
-            &self.access,
-            Side::R,
-            shape,
-            id,
-        )?;
-        let (s, s_index) = kept_side(
-            self.alloc,
-            self.s.as_slice(),
-            &self.s_index,
-            &self.key,
-            &self.access,
-            Side::S,
-            shape,
-            id,
-        )?;
-        Ok(Store {
-            key,
-            access,
-            r,
-            r_index,
-            s,
-            s_index,
-            alloc: self.alloc,
-        })
+        let (key, access) = self.ways()?;
+        match self.kept_sides(shape, id) {
+            Ok(((r, r_index), (s, s_index))) => Ok(Store {
+                key,
+                access,
+                r,
+                r_index,
+                s,
+                s_index,
+                alloc: self.alloc,
+            }),
+            Err(refused) => {
+                drop(key);
+                drop(access);
+                Err(refused)
+            }
+        }
     }
 }

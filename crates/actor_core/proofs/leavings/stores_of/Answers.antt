@@ -11,10 +11,10 @@ loop-core-preserved c =
     let more = length-append cores (core ∷ []) in
     let left = c.loop-core.invariant.left in
     let none = c.if-before-gt0.false in
+    let (given, gives, is) = c.in_ok-add_store.ensures in
     let high : c.args.feeders ≤ length cores = omega (arith, left, none) in
     record {
       left = omega (arith, more, left, none);
-      stores = subst (AreStores c.args.feeders (cores ++ core ∷ [])) (sym c.in_ok-push.ensures.ok)
-          (gives_one c.args.feeders cores core c.loop-core.stores c.in_ok-store_of.field-0 high
-          c.loop-core.invariant.stores c.in_ok-store_of.ensures);
+      stores = subst (AreStores c.args.feeders (cores ++ core ∷ [])) (sym is)
+          (gives_one c.args.feeders cores core c.loop-core.stores given high c.loop-core.invariant.stores gives);
     }

@@ -16,7 +16,7 @@ loop-core-preserved c =
           ∙ (ap (λ l. c.loop-core.yielded ++ l) (sym first) ∙ is.left);
       number = ap (λ n. n + 1) is.number ∙ sym (length-append c.loop-core.yielded (core ∷ []));
       new =
-          rw (c.in_ok-push.ensures.items, c.in_ok-push-2.ensures.items)
+          rw (c.in_ok-add_seat.ensures.seats, c.in_ok-add_seat.ensures.mouths)
           (new_more c.args.joiners c.args.feeders c.loop-core.yielded core c.loop-core.seats.items
           c.loop-core.all_mouths.items seat mouths is.new
           (subst (λ n. IsNewSeat c.args.joiners c.args.feeders n core seat mouths) is.number c.in_ok-seat.ensures));

@@ -1,8 +1,8 @@
-use Rattle.std.proofs.Common.{refl, ◌∙◌}
+use Rattle.std.proofs.Common.{refl}
 use Rattle.joiner_core.proofs.machine.Machine.start_at.Goals as goal
 
-pub returns : goal.returns
-returns c = record {
+pub returns-in-Ok : goal.returns-in-Ok
+returns-in-Ok c = record {
   at_k = refl;
   at_id = refl;
   at_shift = refl;
@@ -12,11 +12,11 @@ returns c = record {
   store = refl;
   moved = c.new.ensures;
   step = refl;
-  ended = c.in_ok-ended.ensures.count;
-  down = c.in_ok-ended.ensures.down;
-  of_feeders = c.in_ok-of_feeders.ensures.count;
-  of_joiners = c.in_ok-of_joiners.ensures.count ∙ c.joiners.ensures;
-  no_feeders = c.in_ok-of_feeders.ensures.empty;
-  no_joiners = c.in_ok-of_joiners.ensures.empty;
+  ended = c.in-Ok.ensures.ended;
+  down = c.in-Ok.ensures.down;
+  of_feeders = c.in-Ok.ensures.of_feeders;
+  of_joiners = c.in-Ok.ensures.of_joiners;
+  no_feeders = c.in-Ok.ensures.no_feeders;
+  no_joiners = c.in-Ok.ensures.no_joiners;
   told = refl;
 }
