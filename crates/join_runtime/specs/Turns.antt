@@ -1,5 +1,5 @@
 -- What a turn of a seat does, and several turns.
-use Rattle.std.specs.Prelude.{◌≡◌, ◌<◌, ◌⊎◌, ⊤, ℕ, true, false, List, length, slice_index_or}
+use Rattle.std.specs.Prelude.{◌≡◌, ◌<◌, ◌⊎◌, ℕ, true, false, List, length, slice_index_or}
 use Rattle.join_rows.specs.Lists.{IsPrefix}
 use Rattle.epoch_tags.specs.declared.actor.Actor.{Actor}
 use Rattle.epoch_tags.specs.declared.message.Post.{Post}
@@ -13,10 +13,10 @@ use Rattle.actor_core.specs.declared.step.Step.{Step}
 use Rattle.actor_core.specs.declared.step.Step.TheVariants.{Took as TookStep, Idle}
 use Rattle.join_runtime.specs.Views.{SeatView, frame_of, lists_of, player, received_of}
 
--- a message that was taken is of one of the inbox's senders
+-- a message that was taken is of one of the inbox's senders; where the actor began, nothing was known to be left
 abbrev pub IsHeard : Cause → List OfSender → Type 0
 IsHeard (Took from m) senders = is_sender from senders ≡ true
-IsHeard Began senders = ⊤
+IsHeard Began senders = all_known senders ≡ 0
 
 -- one event of the seat's actor: a message that it took came out of the inbox, and what it sent went into the mouths,
 -- in
