@@ -23,6 +23,16 @@ fn round_ahead<R: Wait, G: Gate>(rt: &R, seats: &mut [Seat], gate: &G) -> Result
     Ok(())
 }
 
+// Whether some seat has had no turn, as before a run's first bout.
+fn has_new(seats: &[Seat]) -> bool {
+    for seat in seats {
+        if seat.is_new() {
+            return true;
+        }
+    }
+    false
+}
+
 // Whether some seat knows of more messages than it can take in a bout.
 fn is_crowded(seats: &[Seat]) -> bool {
     for seat in seats {
@@ -33,8 +43,8 @@ fn is_crowded(seats: &[Seat]) -> bool {
     false
 }
 
-// Rounds of feeders and controller ahead of a bout, so that the threads of a bout have enough to do; none where some seat
-// has more than it can take.
+// Rounds of feeders and controller ahead of a bout, so that the threads of a bout have enough to do; none ahead of a run's
+// first bout, so that all seats have their first turns side by side, and none where some seat has more than it can take.
 pub(crate) fn go_ahead<R: Wait, G: Gate>(
     rt: &R,
     seats: &mut [Seat],
@@ -43,7 +53,7 @@ pub(crate) fn go_ahead<R: Wait, G: Gate>(
     ensures ok { OnOk result (AllStep seats.old seats.new) }
     ensures frames { map frame_of seats.new ≡ map frame_of seats.old }
 {
-    if is_crowded(seats) {
+    if has_new(seats) || is_crowded(seats) {
         return Ok(());
     }
     for _ in 0..ROUNDS {

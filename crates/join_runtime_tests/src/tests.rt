@@ -1,5 +1,6 @@
 mod early;
 mod inputs;
+mod turns;
 mod waves;
 
 use epoch_tags::Actor;
@@ -149,18 +150,31 @@ fn where_all_tickets_are_0_one_joiner_makes_all(rt: HostRuntime) -> Result<(), F
 fn pairs_of_two_workers<R: Threads + Wait + Sync>(
     rt: &R,
     alloc: Global,
+    a: Actor,
+    b: Actor,
 ) -> Result<(u64, bool), AllocError> {
-    let gate = PairGate::new(Actor::Joiner(0), Actor::Collector, 1 << 27);
+    let gate = PairGate::new(a, b, 1 << 27);
     let seen = seen_of_three(rt, alloc, [161, 123, 186], &setting(1, 2), &gate);
     let met = gate.met();
     drop(gate);
     Ok((seen?.pairs, met))
 }
 
+fn two_meet<R: Abort + Threads + Wait + Sync>(
+    rt: &R,
+    alloc: Global,
+    a: Actor,
+    b: Actor,
+) -> Result<(), AllocError> {
+    let (pairs, met) = pairs_of_two_workers(rt, alloc, a, b)?;
+    is(rt, pairs, PAIRS, "pairs");
+    is(rt, met, true, "the two met");
+    Ok(())
+}
+
 #[test]
 fn two_workers_meet(rt: HostRuntime) -> Result<(), Fail> {
-    let (pairs, met) = pairs_of_two_workers(&rt, rt.alloc())?;
-    is(&rt, pairs, PAIRS, "pairs");
-    is(&rt, met, true, "the two met");
+    two_meet(&rt, rt.alloc(), Actor::Joiner(0), Actor::Collector)?;
+    two_meet(&rt, rt.alloc(), Actor::Feeder(0), Actor::Controller)?;
     Ok(())
 }

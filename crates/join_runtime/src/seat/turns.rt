@@ -58,6 +58,11 @@ impl<'a> Seat<'a> {
         }
     }
 
+    // Whether it has had no turn.
+    pub(crate) fn is_new(&self) -> bool {
+        self.turns == 0
+    }
+
     // Whether more messages are known to be left for it than it can take in one bout.
     pub(crate) fn is_crowded(&self) -> bool {
         self.inbox.known() > TURNS
