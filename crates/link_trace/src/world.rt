@@ -1,6 +1,6 @@
 // All machines of a run on one thread, and what is under way between them.
 
-ghost use Rattle.std.specs.Prelude.{◌≡◌, ◌≤◌, ◌^◌, [], Ok, Some, None, IfOk, IfSome, OnOk, OnErr, IsTrue, ◌↔◌, true, false};
+ghost use Rattle.std.specs.Prelude.{◌≡◌, ◌≤◌, ◌^◌, ℕ, [], Ok, Some, None, IfOk, IfSome, OnOk, OnErr, IsTrue, ◌↔◌, true, false};
 ghost use Rattle.epoch_tags.specs.Links.{HasLink};
 ghost use Rattle.epoch_tags.specs.declared.actor.Actor.TheVariants.{Feeder as Feeder', Controller as Controller'};
 ghost use Rattle.epoch_tags.specs.declared.actor.Actor.{Actor as Actor'};
@@ -95,9 +95,11 @@ impl<'a> World<'a> {
         })
     }
 
-    /// Whether the run has a link from one actor to the other. It takes no memory.
+    /// Whether the run has a link from one actor to the other, also after an error. It takes no memory.
     pub fn has(&self, from: Actor, to: Actor) -> bool
-        ensures { (input : Input') (setting : Setting') (lists : Actor' → ActorLists)
+        ensures of_actors { (k : ℕ) → (state_of self.now).joiners ≡ 2 ^ k
+            → (IsTrue result ↔ HasLink k (state_of self.now).feeders from to) }
+        ensures of_run { (input : Input') (setting : Setting') (lists : Actor' → ActorLists)
             → StandsFor input setting (state_of self.now) lists
             → (IsTrue result ↔ HasLink setting.k setting.feeders from to) }
     {
