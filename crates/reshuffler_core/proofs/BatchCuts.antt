@@ -107,9 +107,11 @@ module _ {X : Type 0} (size sent : ℕ) (xs batch : List X) (some : 0 < size) (w
       let taken = length-take n (drop sent xs) in
       omega arith
 
+  -- what was sent and the batch are no more than the load
   pub stays_within : sent + length batch ≤ length xs
   stays_within = let long = how_long in let left = length-drop sent xs in omega arith
 
+  -- the batches of what is left behind it are those behind the first
   pub rest_of_load : cut size (drop (sent + length batch) xs) ≡ drop 1 (cut size (drop sent xs))
   rest_of_load = sym (rest_cut size (length batch) (drop sent xs) some how_long
       ∙ ap (cut size) (drop-drop (length batch) sent xs))

@@ -34,6 +34,7 @@ module _ (held : List ToFeeder) (spent : Bool) where
   abbrev other : FeederState → FeederState
   other s = record s { held = held; spent = spent }
 
+  -- a machine with these takes the same of what is held, and stays as spent as it is
   pub after_other : (s : FeederState) (ms : List ToFeeder) → after_held (other s) ms
       ≡ record (after_held s ms) { spent = spent }
   after_other s [] = refl
@@ -67,6 +68,7 @@ module _ (held : List ToFeeder) (spent : Bool) where
       either true is = is
       either false is = refl
 
+  -- and sends the same
   pub posts_other : (s : FeederState) (ms : List ToFeeder) → posts_of_held (other s) ms ≡ posts_of_held s ms
   posts_other s [] = refl
   posts_other s (Order epoch shift ∷ ms) =
@@ -106,6 +108,7 @@ module _ (s : FeederState) (m : ToFeeder) (ready : IsReady s m) where
   up : can_take s m ≡ true
   up = takes_up s m ready.takes
 
+  -- the first that is held was taken: what is left to take leaves the same machine
   pub one_state : after_held s s.held ≡ after_held next left
   one_state =
       ap (after_held s) first ∙ ap (λ t. cond t (after_held (state_after s m) left) (record s { held = m ∷ left })) up
@@ -113,6 +116,7 @@ module _ (s : FeederState) (m : ToFeeder) (ready : IsReady s m) where
       (own_spent s m)
       ∙ sym (after_other left s.spent (state_after s m) left) ∙ ap (λ x. after_held x left) (sym (same_spent s m left))
 
+  -- and what the first sends stands before what the others send
   pub one_posts : posts_of_held s s.held ≡ posts_for s m ++ posts_of_held next left
   one_posts =
       ap (posts_of_held s) first ∙ ap (λ t. cond t (posts_for s m ++ posts_of_held (state_after s m) left) []) up
@@ -133,6 +137,7 @@ module _ (s : FeederState) (stuck : IsStuck s) where
   rests (m ∷ ms) at = ap (λ t. cond t (after_held (state_after s m) ms) (record s { held = m ∷ ms })) (down m ms at)
       ∙ ap (λ held. record s { held = held }) (sym at)
 
+  -- a machine that can take none of what it holds stays as it is
   pub stays_stuck : after_held s s.held ≡ s
   stays_stuck = rests s.held refl
 
@@ -140,17 +145,20 @@ module _ (s : FeederState) (stuck : IsStuck s) where
   silent [] at = refl
   silent (m ∷ ms) at = ap (λ t. cond t (posts_for s m ++ posts_of_held (state_after s m) ms) []) (down m ms at)
 
+  -- and sends nothing
   pub sends_nothing : posts_of_held s s.held ≡ []
   sends_nothing = silent s.held refl
 
 -- ---- a whole call: it begins spent, with these held, and ends well
 
 module _ (s new : FeederState) (held : List ToFeeder) (added : List Post) (stuck : IsStuck new) where
+  -- where the steps of the call lead to the last machine, so does all that it holds
   pub whole_state : after_held (record s { held = held; spent = true }) held ≡ after_held new new.held
       → record new { spent = false } ≡ record (after_held s held) { spent = false }
   whole_state state = ap (λ (x : FeederState). record x { spent = false }) (sym (stays_stuck new stuck) ∙ sym state
       ∙ after_other held true s held)
 
+  -- and what was added is all that this sends
   pub whole_posts : posts_of_held (record s { held = held; spent = true }) held ≡ added ++ posts_of_held new new.held
       → added ≡ posts_of_held s held
   whole_posts posts = sym (append-nil added) ∙ ap (λ ps. added ++ ps) (sym (sends_nothing new stuck)) ∙ sym posts

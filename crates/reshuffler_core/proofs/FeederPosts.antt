@@ -127,16 +127,19 @@ module _ (k p feeders : ℕ) (low : p < feeders) where
           (posts_where test m (first + 1) n) one rest
       either false rest = rest
 
+  -- a message to all joiners goes over links
   pub all-over : (m : ToJoiner) → AllGoOver k feeders (Feeder p) (posts_to_all (2 ^ k) m)
   all-over m = subst (λ is. AllGoOver k feeders (Feeder p) (map (post_to m) is)) (everyone 0 (2 ^ k))
       (over_where (λ i. true) m 0 (2 ^ k) (omega arith))
 
+  -- so do the tuples of a batch
   pub batch-over : (e b : ℕ) (batch : List Tuple) → AllGoOver k feeders (Feeder p) (posts_of_batch k e b batch)
   batch-over e b [] = All-nil (GoesOver k feeders (Feeder p))
   batch-over e b (t ∷ ts) =
       All-append (GoesOver k feeders (Feeder p)) (posts_of_tuple k (2 ^ k) e b t) (posts_of_batch k e b ts)
       (over_where (λ j. holds k b j t) (Tup (stamped e t)) 0 (2 ^ k) (omega arith)) (batch-over e b ts)
 
+  -- and a message to the controller
   pub request-over : (m : ToController) → AllGoOver k feeders (Feeder p) (to_controller m ∷ [])
   request-over m = λ i d below. let at : i ≡ 0 = omega arith in
       rw at (record { link = feeder_controller low; kind = tt })

@@ -114,6 +114,7 @@ module _ (s : FeederState) (rest : List ToFeeder) (lists : FeederLists) (taken :
   whole : (m : ToFeeder) → lists.to_controller ++ posted_to_controller (posts_for s m) ≡ lists.to_controller
   whole m = ap (λ ms. lists.to_controller ++ ms) (nothing_asked s m) ∙ append-nil lists.to_controller
 
+  -- the first that is held can be taken: so the machine that took it goes on
   pub took : (m : ToFeeder) → s.held ≡ m ∷ rest → Takes s m
       → Goes (state_after (record s { held = rest }) m) (with_sent lists (posts_for s m)) (taken ++ m ∷ [])
   took (Order epoch shift) held can =

@@ -67,6 +67,7 @@ module _ (s : FeederStart) (sent : List ToController) (n : ℕ) (b : ℕ → ℕ
       let e = stops-append taken (Stop ∷ rest) in
       (drained (omega arith), none_stopped taken rest Stop last)
 
+  -- a feeder that can take none of what it holds has taken all that it received
   pub takes_all : (taken held received : List ToFeeder) → taken ++ held ≡ received
       → ((m : ToFeeder) (rest : List ToFeeder) → held ≡ m ∷ rest → ¬ CanTake s taken sent m)
       → order_epochs received ≡ counting_from (s.epoch + 1) n → GoesBy b received
@@ -165,6 +166,7 @@ module _ (s : FeederStart) (lists : FeederLists) where
       let more = ap stops is ∙ stops-append t1 (Stop ∷ rest) in
       omega arith
 
+  -- what a feeder took of its lists is one list
   pub taken_is_one : (t1 t2 : List ToFeeder) → FeederLaw s lists t1 → FeederLaw s lists t2 → t1 ≡ t2
   taken_is_one t1 t2 law1 law2 = elim (front_of_other t1 law1.held t2 law2.held (law1.splits ∙ sym law2.splits)) [
     | inl r ↦ by_rest t1 t2 law1 law2 r.0 r.1 r.2
