@@ -22,9 +22,10 @@ TOP = os.path.dirname(os.path.dirname(os.path.abspath(__file__)))
 JM = os.environ.get("JM") or f"{TOP}/jm"
 MOST_PAIRS = 5_000_000
 # `k` and `m` are texts all different, the same two together in both files; `k2` and `k100` have so many texts. `t` has
-# as many values as there are rows, `a` ten times as many. From `a` to `b` are lengths of 0 to 100, to `p` those of a
-# Pareto distribution, and from `c` to `d` those to `b`, but for one that lies over all.
-COLUMNS = ["k", "m", "k2", "k100", "t", "a", "b", "p", "c", "d"]
+# as many values as there are rows, `a` ten times as many. From `a` to `b` are lengths of 0 to 100, to `e` a fifth of
+# these, so that a row has about one match, to `p` those of a Pareto distribution, and from `c` to `d` those to `b`, but
+# for one that lies over all.
+COLUMNS = ["k", "m", "k2", "k100", "t", "a", "b", "e", "p", "c", "d"]
 
 # A predicate, with the plain count of its pairs: the columns whose texts agree, and a column of the second file with
 # the bounds between which a row of the first has it. `same` is the predicate of the same pairs before it; `turned` has
@@ -43,8 +44,8 @@ def rows_of(side, count):
         a = draw.randrange(width)
         b = a + draw.randrange(101)
         yield {"k": f"k{key}", "m": f"m{key}", "k2": f"k{draw.randrange(2)}", "k100": f"k{draw.randrange(100)}",
-               "t": draw.randrange(count), "a": a, "b": b, "p": a + int(10 * min(draw.paretovariate(1), count)),
-               "c": a, "d": b}
+               "t": draw.randrange(count), "a": a, "b": b, "e": a + (b - a) // 5,
+               "p": a + int(10 * min(draw.paretovariate(1), count)), "c": a, "d": b}
 
 
 def tables(count):
@@ -102,7 +103,8 @@ def bands():
 
 def intervals(rows, r, s):
     """Intervals, and a band with about as many matches."""
-    for what, low, high in ("0 to 100", "a", "b"), ("Pareto", "a", "p"), ("0 to 100, one over all", "c", "d"):
+    for what, low, high in (("0 to 20", "a", "e"), ("0 to 100", "a", "b"), ("Pareto", "a", "p"),
+                            ("0 to 100, one over all", "c", "d")):
         def between(row, low=low, high=high):
             return row[low], row[high]
         on = f"s.a >= r.{low} and s.a <= r.{high}"
@@ -121,10 +123,10 @@ def members_of_one_side():
     """Members that read one file alone, beside an equality, a band, and nothing."""
     yield Case("an equality, and every second row of R", f"{text('k')} and text(r.k2) = 'k0'", ("k",),
                own=lambda side, row: side == "s" or row["k2"] == "k0")
-    yield Case("a band, and each hundredth row of both", "abs(r.t - s.t) <= 2 and text(r.k100) = 'k7' and text(s.k100) = 'k7'",
-               (), "t", lambda row: (row["t"] - 2, row["t"] + 2), own=lambda side, row: row["k100"] == "k7")
-    yield Case("each hundredth row of both", "text(r.k100) = 'k7' and text(s.k100) = 'k7'", (),
-               own=lambda side, row: row["k100"] == "k7")
+    hundredth = "text(r.k100) = 'k7' and text(s.k100) = 'k7'"
+    yield Case("a band, and each hundredth row of both", f"abs(r.t - s.t) <= 2 and {hundredth}", (), "t",
+               lambda row: (row["t"] - 2, row["t"] + 2), own=lambda side, row: row["k100"] == "k7")
+    yield Case("each hundredth row of both", hundredth, (), own=lambda side, row: row["k100"] == "k7")
 
 
 def run(on, files):
