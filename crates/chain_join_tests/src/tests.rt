@@ -15,17 +15,10 @@ use theta_pred::{Theta, parse, resolve};
 use trace_law::{Input, Setting};
 use worker_gate::NoGate;
 
-fn cell(alloc: Global, number: i64) -> Cell {
-    Cell {
-        text: Bytes::new(alloc),
-        num: Some(number),
-    }
-}
-
-fn row(alloc: Global, id: i64, number: i64) -> Result<Cells, AllocError> {
+fn row(alloc: Global, id: u64, number: u64) -> Result<Cells, AllocError> {
     let mut row = Cells::new(alloc);
-    row.push(cell(alloc, id))?;
-    row.push(cell(alloc, number))?;
+    row.push(Cell::decimal(alloc, id)?)?;
+    row.push(Cell::decimal(alloc, number)?)?;
     Ok(row)
 }
 
@@ -38,9 +31,9 @@ fn names(alloc: Global, name: &[u8]) -> Result<Names, AllocError> {
 }
 
 // Rows with these numbers, under the ids 1, 2 and so on.
-fn rows(alloc: Global, numbers: &[i64]) -> Result<Rows, AllocError> {
+fn rows(alloc: Global, numbers: &[u64]) -> Result<Rows, AllocError> {
     let mut rows = Rows::new(alloc);
-    let mut id = 0i64;
+    let mut id = 0u64;
     for number in numbers {
         id = id.wrapping_add(1);
         rows.push(row(alloc, id, *number)?)?;
@@ -48,7 +41,7 @@ fn rows(alloc: Global, numbers: &[i64]) -> Result<Rows, AllocError> {
     Ok(rows)
 }
 
-fn table(alloc: Global, name: &[u8], numbers: &[i64]) -> Result<Table, AllocError> {
+fn table(alloc: Global, name: &[u8], numbers: &[u64]) -> Result<Table, AllocError> {
     let names = names(alloc, name)?;
     let rows = rows(alloc, numbers)?;
     Ok(Table { names, rows })
@@ -65,7 +58,7 @@ fn theta(alloc: Global, text: &str, names_r: &Names, names_s: &Names) -> Result<
 }
 
 // Tickets for so many rows.
-fn tickets(alloc: Global, numbers: &[i64]) -> Result<Bytes, AllocError> {
+fn tickets(alloc: Global, numbers: &[u64]) -> Result<Bytes, AllocError> {
     let mut tickets = Bytes::new(alloc);
     for number in numbers {
         tickets.push((number.wrapping_mul(77) & 0xff) as u8)?;
@@ -74,7 +67,7 @@ fn tickets(alloc: Global, numbers: &[i64]) -> Result<Bytes, AllocError> {
 }
 
 // R with these numbers as `x`, S with these as `y`, and a predicate.
-fn first(alloc: Global, text: &str, xs: &[i64], ys: &[i64]) -> Result<Input, AllocError> {
+fn first(alloc: Global, text: &str, xs: &[u64], ys: &[u64]) -> Result<Input, AllocError> {
     let table_r = table(alloc, b"x", xs)?;
     let table_s = table(alloc, b"y", ys)?;
     let tickets_r = tickets(alloc, xs)?;
@@ -90,7 +83,7 @@ fn first(alloc: Global, text: &str, xs: &[i64], ys: &[i64]) -> Result<Input, All
 }
 
 // Q with these numbers as `z`, and the predicate by which S's ids are these numbers.
-fn third(alloc: Global, first: &Input, zs: &[i64]) -> Result<Third, AllocError> {
+fn third(alloc: Global, first: &Input, zs: &[u64]) -> Result<Third, AllocError> {
     let names = joined_names(alloc, &first.table_r.names, &first.table_s.names)?;
     let table = table(alloc, b"z", zs)?;
     let theta = theta(alloc, "r.s_id = s.z", &names, &table.names)?;
@@ -205,8 +198,8 @@ fn seen_of<R: Threads + Wait + Sync>(
     rt: &R,
     alloc: Global,
     text: &str,
-    xs: &[i64],
-    ys: &[i64],
+    xs: &[u64],
+    ys: &[u64],
 ) -> Result<Found, ChainFault> {
     let first = first(alloc, text, xs, ys)?;
     seen_with_two(rt, alloc, &first)
@@ -242,7 +235,7 @@ fn seen_of_all<R: Threads + Wait + Sync>(
     alloc: Global,
     count: usize,
 ) -> Result<Found, ChainFault> {
-    let numbers = vec![in alloc; 7i64; count]?;
+    let numbers = vec![in alloc; 7u64; count]?;
     seen_of(rt, alloc, "1 = 1", numbers.as_slice(), numbers.as_slice())
 }
 

@@ -62,7 +62,7 @@ fn equality(alloc: Global) -> Result<Theta, AllocError> {
 fn one_cell(alloc: Global) -> Result<Cells, AllocError> {
     let text = Bytes::from_slice(alloc, b"5")?;
     let mut cells = Cells::new(alloc);
-    match cells.push(Cell { text, num: Some(5) }) {
+    match cells.push(Cell::new(text)) {
         Ok(()) => Ok(cells),
         Err(refused) => {
             drop(cells);

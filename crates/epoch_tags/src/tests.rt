@@ -1,15 +1,12 @@
 use crate::{Counts, Held, Pair, Pairs, Tuple, all_down, are_all_up, is_up};
-use join_rows::{Bytes, Cell, Cells, Side};
+use join_rows::{Cell, Cells, Side};
 use std::test::Fail;
 
 #[test]
 fn a_copy_has_all_of_its_tuple(rt: HostRuntime) -> Result<(), Fail> {
     let alloc = rt.alloc();
     let mut cells = Cells::new(alloc);
-    cells.push(Cell {
-        text: Bytes::from_slice(alloc, b"42")?,
-        num: Some(42),
-    })?;
+    cells.push(Cell::decimal(alloc, 42)?)?;
     let tuple = Tuple {
         side: Side::S,
         index: 7,

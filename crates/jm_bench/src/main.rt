@@ -1,8 +1,8 @@
 //! Work to be timed, chosen by a word: `holds` evaluates a predicate four million times, `add` makes a store of 262,144
 //! tuples, `store` probes it by a band with as many, `beyond` by an inequality, `texts` by an equality of texts and
 //! `texts_beyond` by both; `inbox1`, `inbox8` and `inbox72` put and take 7.2 million messages in turn, of so many
-//! senders; `replay4` replays the join of 65,536 rows by as many over 4 joiners, and `replay64` of 20,000 by as many over
-//! 64 joiners with 8 feeders, and both print the number of events.
+//! senders; `replay4` replays the join of 65,536 rows by as many over 4 joiners, and `replay64` of 20,000 by as many
+//! over 64 joiners with 8 feeders, and both print the number of events.
 #![tactic(auto)]
 
 mod replays;
@@ -58,15 +58,12 @@ fn predicate(alloc: Global, text: &str) -> Result<Theta, AllocError>
     Ok(theta)
 }
 
-// A row of this number, whose text is its four bytes.
+// A row of this number.
 fn row(alloc: Global, number: u32) -> Result<Cells, AllocError>
     ensures { IfOk result (λ row. length row ≡ 1) }
 {
     let mut row = Cells::new(alloc);
-    row.push(Cell {
-        text: Bytes::from_slice(alloc, &number.to_be_bytes())?,
-        num: Some(i64::from(number)),
-    })?;
+    row.push(Cell::decimal(alloc, u64::from(number))?)?;
     Ok(row)
 }
 

@@ -1,5 +1,5 @@
 -- The table that the bytes of a file are, and what is wrong where they are none.
-use Rattle.std.specs.Prelude.{◌≡◌, ◌≢◌, ◌≤◌, ◌<◌, ◌+◌, ◌^◌, ◌==◌, ◌++◌, ◌↔◌, Bool, false, ℕ, ℤ, List, [], ◌∷◌}
+use Rattle.std.specs.Prelude.{◌≡◌, ◌≢◌, ◌≤◌, ◌<◌, ◌+◌, ◌^◌, ◌==◌, ◌++◌, ◌↔◌, refl, Bool, false, ℕ, ℤ, List, [], ◌∷◌}
 use Rattle.std.specs.Prelude.{if◌then◌else◌, length, map, take, nat_lt, Option, None, Some, Result, Ok, Err, All}
 use Rattle.std.specs.List.{AllByRecursion}
 use Rattle.csv.specs.Reading.{default_config, is_bom, records}
@@ -29,7 +29,7 @@ records_of bytes = records default_config (after_marks bytes)
 
 -- the cell of a text
 abbrev pub cell_of : List ℕ → Cell
-cell_of text = record { text = text; num = number_of text }
+cell_of text = record { text = text; num = number_of text; own = refl }
 
 -- the row of these fields
 abbrev pub cells_of : List (List ℕ) → List Cell

@@ -1,9 +1,8 @@
 // The tables that the generator makes.
 
 ghost use Rattle.std.specs.Prelude.{◌≡◌, ◌≤◌, ◌<◌, ◌^◌, IfOk};
-ghost use Rattle.std.specs.Fmt.{decimal};
 ghost use Rattle.join_rows.specs.Made.{made_fields, made_key as made_key', made_names as made_names', made_table, made_val as made_val'};
-ghost use Rattle.join_rows.specs.Records.{IsTable, cell_of, cells_of};
+ghost use Rattle.join_rows.specs.Records.{IsTable, cells_of};
 
 use crate::bytes::Bytes;
 use crate::cells::Cells;
@@ -43,23 +42,15 @@ fn made_val(side: Side, place: u64) -> u64
     }
 }
 
-// The cell of a number in decimal.
-fn decimal_cell(alloc: Global, number: u64) -> Result<Cell, AllocError>
-    ensures { IfOk result (λ cell. cell ≡ cell_of (decimal number)) }
-{
-    let text = format!(in alloc; "{number}")?;
-    Ok(Cell::new(Bytes::from_vec(text.into_bytes())))
-}
-
 // The row at `place`, counted from 0.
 fn made_row(alloc: Global, side: Side, place: u64) -> Result<Cells, AllocError>
     requires { place < 2 ^ 16 }
     ensures { IfOk result (λ cells. cells ≡ cells_of (made_fields side place)) }
 {
     let mut cells = Cells::with_room(alloc, 3)?;
-    cells.push(decimal_cell(alloc, place + 1)?)?;
-    cells.push(decimal_cell(alloc, made_key(side, place))?)?;
-    cells.push(decimal_cell(alloc, made_val(side, place))?)?;
+    cells.push(Cell::decimal(alloc, place + 1)?)?;
+    cells.push(Cell::decimal(alloc, made_key(side, place))?)?;
+    cells.push(Cell::decimal(alloc, made_val(side, place))?)?;
     Ok(cells)
 }
 

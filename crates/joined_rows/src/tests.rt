@@ -13,14 +13,11 @@ fn names(alloc: Global, words: &[&str]) -> Result<Names, AllocError> {
 }
 
 // Rows of one cell each.
-fn rows(alloc: Global, numbers: &[i64]) -> Result<Rows, AllocError> {
+fn rows(alloc: Global, numbers: &[u64]) -> Result<Rows, AllocError> {
     let mut rows = Rows::new(alloc);
     for number in numbers {
         let mut row = Cells::new(alloc);
-        row.push(Cell {
-            text: Bytes::new(alloc),
-            num: Some(*number),
-        })?;
+        row.push(Cell::decimal(alloc, *number)?)?;
         rows.push(row)?;
     }
     Ok(rows)

@@ -122,7 +122,9 @@ fn run_over(
     steps: &[&str],
 ) -> Result<(), AllocError> {
     let mut joiner = first(alloc, k, feeders, theta)?;
-    play(rt, alloc, &mut joiner, steps)
+    let played = play(rt, alloc, &mut joiner, steps);
+    drop(joiner);
+    played
 }
 
 fn first<'a>(
@@ -231,7 +233,7 @@ fn an_access_beside_an_order_serves_all_stores(rt: HostRuntime) -> Result<(), Fa
         "feeder_0 row R 3 0 1 holds 0 sends [found 3 3]",
         "feeder_0 end holds 0 sends [fin 3 2 moved 1]",
     ];
-    let predicate = "text(r.x) = text(s.x) and s.x <= r.x";
+    let predicate = "r.x - r.x = s.x - s.x and s.x <= r.x";
     run(&rt, rt.alloc(), predicate, 1, 1, &steps)?;
     Ok(())
 }

@@ -22,12 +22,9 @@ fn is<T: Copy + Debug + PartialEq>(rt: &impl Abort, seen: T, wanted: T, what: &s
 // What each function here makes, it lets go by a call where it can't go on: what a way out drops by itself is dear to
 // prove.
 
-fn row(alloc: Global, number: i64) -> Result<Cells, AllocError> {
+fn row(alloc: Global, number: u64) -> Result<Cells, AllocError> {
+    let cell = Cell::decimal(alloc, number)?;
     let mut row = Cells::new(alloc);
-    let cell = Cell {
-        text: Bytes::new(alloc),
-        num: Some(number),
-    };
     match row.push(cell) {
         Ok(()) => Ok(row),
         Err(refused) => {
@@ -37,14 +34,14 @@ fn row(alloc: Global, number: i64) -> Result<Cells, AllocError> {
     }
 }
 
-fn add_rows(alloc: Global, rows: &mut Rows, numbers: &[i64]) -> Result<(), AllocError> {
+fn add_rows(alloc: Global, rows: &mut Rows, numbers: &[u64]) -> Result<(), AllocError> {
     for number in numbers {
         rows.push(row(alloc, *number)?)?;
     }
     Ok(())
 }
 
-fn rows(alloc: Global, numbers: &[i64]) -> Result<Rows, AllocError> {
+fn rows(alloc: Global, numbers: &[u64]) -> Result<Rows, AllocError> {
     let mut rows = Rows::new(alloc);
     match add_rows(alloc, &mut rows, numbers) {
         Ok(()) => Ok(rows),
@@ -69,7 +66,7 @@ fn header(alloc: Global, name: &[u8]) -> Result<Names, AllocError> {
 }
 
 // A table with one column.
-fn table(alloc: Global, name: &[u8], numbers: &[i64]) -> Result<Table, AllocError> {
+fn table(alloc: Global, name: &[u8], numbers: &[u64]) -> Result<Table, AllocError> {
     let names = header(alloc, name)?;
     match rows(alloc, numbers) {
         Ok(rows) => Ok(Table { names, rows }),
@@ -105,7 +102,7 @@ struct Ticketed {
 fn with_tickets(
     alloc: Global,
     name: &[u8],
-    numbers: &[i64],
+    numbers: &[u64],
     tickets: &[u8],
 ) -> Result<Ticketed, AllocError> {
     let tickets = Bytes::from_slice(alloc, tickets)?;

@@ -1,7 +1,8 @@
 -- Worked rows: two rows of R that probe a store of three rows of S by the key of a band.
-use Rattle.std.specs.Prelude.{◌≡◌, ℕ, pos, neg_ℤ, false, Option, Some, None, List, [], ◌∷◌, count_by, refl}
+use Rattle.std.specs.Prelude.{◌≡◌, ℕ, pos, neg_ℤ, false, Option, Some, None, List, [], ◌∷◌, codes, count_by, refl}
 use Rattle.std.proofs.Common.{ap}
-use Rattle.join_rows.specs.declared.table.Cell.{Cell}
+use Rattle.join_rows.specs.Numbers.{number_of}
+use Rattle.join_rows.specs.Records.{cell_of}
 use Rattle.join_rows.specs.declared.table.Side.{Side}
 use Rattle.join_rows.specs.declared.table.Side.TheVariants.{R, S}
 use Rattle.epoch_tags.specs.declared.tuple.Tuple.{Tuple}
@@ -23,21 +24,19 @@ band = record { r_sum = at; s_sum = at; low = Some (neg_ℤ (pos 2)); high = Som
 
 -- ---- the rows
 
-abbrev cell : ℕ → Cell
-cell n = record { text = []; num = Some (pos n) }
-
-abbrev row : Side → ℕ → ℕ → ℕ → Tuple
+abbrev row : Side → ℕ → List ℕ → List ℕ → Tuple
 row side index price at =
-    record { side = side; index = index; ticket = 0; stamp = 0; cells = cell price ∷ cell at ∷ [] }
+    record { side = side; index = index; ticket = 0; stamp = 0; cells = cell_of price ∷ cell_of at ∷ [] }
 
 abbrev stored : List Tuple
-stored = row S 0 100 898 ∷ row S 1 101 902 ∷ row S 2 97 903 ∷ []
+stored = row S 0 (codes "100") (codes "898") ∷ row S 1 (codes "101") (codes "902")
+    ∷ row S 2 (codes "97") (codes "903") ∷ []
 
 abbrev first : Tuple
-first = row R 0 105 900
+first = row R 0 (codes "105") (codes "900")
 
 abbrev second : Tuple
-second = row R 1 99 903
+second = row R 1 (codes "99") (codes "903")
 
 -- ---- what the probes evaluate
 
@@ -47,10 +46,12 @@ count t atom = count_by (λ other. is_atom_true atom t.cells other.cells) stored
 
 -- the first row, at 900, evaluates those at 898 and 902
 pub first_evaluates_2 : (key : KeyAtom) → atom_of key ≡ band → evaluated (Some key) first All stored ≡ 2
+unfolding number_of
 first_evaluates_2 key is_band = ap (count first) is_band
 
 -- the second, at 903, evaluates those at 902 and 903
 pub second_evaluates_2 : (key : KeyAtom) → atom_of key ≡ band → evaluated (Some key) second All stored ≡ 2
+unfolding number_of
 second_evaluates_2 key is_band = ap (count second) is_band
 
 -- without a key the first evaluates all three
@@ -65,7 +66,7 @@ word side text = record {
   index = 0;
   ticket = 0;
   stamp = 0;
-  cells = record { text = text; num = None } ∷ [];
+  cells = cell_of text ∷ [];
 }
 
 abbrev words : List Tuple

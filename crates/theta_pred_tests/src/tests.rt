@@ -72,19 +72,10 @@ fn made_over_x_and_y(rt: &impl Abort, alloc: Global, pred: Pred) -> Result<Theta
     theta
 }
 
-fn cell_of(alloc: Global, text: &str, num: Option<i64>) -> Result<Cell, AllocError> {
-    Ok(Cell {
-        text: Bytes::from_slice(alloc, text.as_bytes())?,
-        num,
-    })
-}
-
-// The cell of a word, its text and its number, as 10:10. One without a number has none.
+// The cell of a word. A colon stands for an empty cell.
 fn cell(alloc: Global, word: &str) -> Result<Cell, AllocError> {
-    match word.split_once(':') {
-        Some((text, number)) => cell_of(alloc, text, number.parse::<i64>().ok()),
-        None => cell_of(alloc, word, None),
-    }
+    let text = if word == ":" { "" } else { word };
+    Ok(Cell::new(Bytes::from_slice(alloc, text.as_bytes())?))
 }
 
 fn push_cell(alloc: Global, row: &mut Cells, word: &str) -> Result<(), AllocError> {
@@ -120,7 +111,7 @@ fn answer_beside(
     r: &Cells,
     y: &str,
 ) -> Result<bool, AllocError> {
-    let s = row(alloc, y, "1:1")?;
+    let s = row(alloc, y, "1")?;
     let answer = answer(rt, theta, r, &s);
     drop(s);
     Ok(answer)
@@ -134,7 +125,7 @@ fn answer_at(
     x: &str,
     y: &str,
 ) -> Result<bool, AllocError> {
-    let r = row(alloc, "1:1", x)?;
+    let r = row(alloc, "1", x)?;
     let answer = answer_beside(rt, alloc, theta, &r, y);
     drop(r);
     answer
@@ -222,7 +213,7 @@ fn answers(rt: &impl Abort, alloc: Global, pred: Pred, lines: &[&str]) -> Result
 
 // Whether a predicate is true of a row with this beside 1, and none of the other side.
 fn holds_alone(alloc: Global, theta: &Theta, side: Side, x: &str) -> Result<bool, AllocError> {
-    let row = row(alloc, x, "1:1")?;
+    let row = row(alloc, x, "1")?;
     Ok(theta.holds_alone(side, &row))
 }
 
@@ -247,12 +238,12 @@ fn a_row_of_one_side_alone(rt: HostRuntime) -> Result<(), Fail> {
     for (text, side, x, wanted) in [
         ("text(r.x) = 'u' and r.a = 1", Side::R, "u", true),
         ("text(r.x) = 'u' and r.a = 1", Side::R, "v", false),
-        ("s.x > s.a", Side::S, "2:2", true),
-        ("s.x > s.a", Side::S, "1:1", false),
+        ("s.x > s.a", Side::S, "2", true),
+        ("s.x > s.a", Side::S, "1", false),
         ("not s.x > s.a", Side::S, "u", true), // a cell without a number
-        ("r.x = s.x", Side::R, "2:2", false), // S's cell is missing
+        ("r.x = s.x", Side::R, "2", false), // S's cell is missing
         ("text(r.x) > text(s.x)", Side::R, "u", true), // and has the empty text
-        ("1 = 1", Side::S, "2:2", true),
+        ("1 = 1", Side::S, "2", true),
     ] {
         answers_alone(&rt, rt.alloc(), text, side, x, wanted)?;
     }
@@ -262,10 +253,10 @@ fn a_row_of_one_side_alone(rt: HostRuntime) -> Result<(), Fail> {
 #[test]
 fn bands_compare_whole_numbers(rt: HostRuntime) -> Result<(), Fail> {
     let lines = [
-        "10:10 15:15 is true",
-        "10:10 26:26 is false",
-        "10:10 4:4 is false",
-        "20:20 15:15 is true",
+        "10 15 is true",
+        "10 26 is false",
+        "10 4 is false",
+        "20 15 is true",
     ];
     answers(&rt, rt.alloc(), band(rt.alloc())?, &lines)
 }
@@ -273,26 +264,26 @@ fn bands_compare_whole_numbers(rt: HostRuntime) -> Result<(), Fail> {
 #[test]
 fn differences_compare_whole_numbers(rt: HostRuntime) -> Result<(), Fail> {
     let lines = [
-        ":9223372036854775807 :-9223372036854775808 is true",
-        ":-9223372036854775808 :9223372036854775807 is false",
+        "9223372036854775807 -9223372036854775808 is true",
+        "-9223372036854775808 9223372036854775807 is false",
     ];
     answers(&rt, rt.alloc(), apart(rt.alloc())?, &lines)
 }
 
 #[test]
 fn orders_compare_whole_numbers(rt: HostRuntime) -> Result<(), Fail> {
-    let lines = ["1:1 2:2 is true", "2:2 2:2 is false"];
+    let lines = ["1 2 is true", "2 2 is false"];
     answers(&rt, rt.alloc(), compared(rt.alloc(), Op::Lt)?, &lines)
 }
 
 #[test]
 fn empty_cells_make_a_test_false(rt: HostRuntime) -> Result<(), Fail> {
     let alloc = rt.alloc();
-    let equal = [": 5:5 is false", "5:5 5:5 is true"];
+    let equal = [": 5 is false", "5 5 is true"];
     answers(&rt, alloc, compared(alloc, Op::Eq)?, &equal)?;
-    let unequal = [": 5:5 is false"];
+    let unequal = [": 5 is false"];
     answers(&rt, alloc, compared(alloc, Op::Ne)?, &unequal)?;
-    let not_equal = [": 5:5 is true", "5:5 5:5 is false"];
+    let not_equal = [": 5 is true", "5 5 is false"];
     answers(&rt, alloc, negated(alloc)?, &not_equal)
 }
 
@@ -309,6 +300,6 @@ fn texts_compare_byte_by_byte(rt: HostRuntime) -> Result<(), Fail> {
 
 #[test]
 fn one_of_two_is_enough(rt: HostRuntime) -> Result<(), Fail> {
-    let lines = ["u 7:7 is true", "7:7 7:7 is true", "v 7:7 is false"];
+    let lines = ["u 7 is true", "7 7 is true", "v 7 is false"];
     answers(&rt, rt.alloc(), either(rt.alloc())?, &lines)
 }

@@ -3,7 +3,7 @@
 ghost use Rattle.std.specs.Prelude.{◌≡◌, length, IfOk};
 
 use epoch_tags::{Actor, ToJoiner, Tuple};
-use join_rows::{Bytes, Cell, Cells, Side};
+use join_rows::{Cell, Cells, Side};
 use std::alloc::{AllocError, Global};
 
 pub(super) fn number(word: &str) -> u32 {
@@ -26,10 +26,7 @@ pub(super) fn row(
     ensures stamp { IfOk result (λ tuple. tuple.stamp ≡ stamp) }
 {
     let mut cells = Cells::new(alloc);
-    cells.push(Cell {
-        text: Bytes::new(alloc),
-        num: Some(i64::from(index)),
-    })?;
+    cells.push(Cell::decimal(alloc, u64::from(index))?)?;
     Ok(Tuple {
         side,
         index,

@@ -11,11 +11,8 @@ use theta_pred::{Theta, parse, resolve};
 // prove.
 
 fn row(alloc: Global, number: u8) -> Result<Cells, AllocError> {
+    let cell = Cell::decimal(alloc, u64::from(number))?;
     let mut row = Cells::new(alloc);
-    let cell = Cell {
-        text: Bytes::new(alloc),
-        num: Some(number as i64),
-    };
     match row.push(cell) {
         Ok(()) => Ok(row),
         Err(refused) => {

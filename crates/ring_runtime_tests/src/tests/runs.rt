@@ -129,7 +129,7 @@ fn two_workers_meet(rt: HostRuntime) -> Result<(), Fail> {
 // The numbers 0 to 6, again and again.
 fn add_many_rows(alloc: Global, rows: &mut Rows, count: u32) -> Result<(), AllocError> {
     for number in 0..count {
-        rows.push(row(alloc, (number % 7) as i64)?)?;
+        rows.push(row(alloc, u64::from(number % 7))?)?;
     }
     Ok(())
 }

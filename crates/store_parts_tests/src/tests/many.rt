@@ -9,7 +9,7 @@ use super::probes::finds;
 use super::rows::{add, cell, row};
 use super::{accessed, key, no_key, over_x_and_a};
 use epoch_tags::Tuple;
-use join_rows::{Bytes, Cell, Side};
+use join_rows::{Cell, Side};
 use std::alloc::{AllocError, Global};
 use std::process::Abort;
 use std::test::*;
@@ -21,10 +21,7 @@ fn one_of_many(alloc: Global, index: u32) -> Result<Tuple, AllocError>
     ensures { IfOk result (λ tuple. length tuple.cells ≡ 2) }
 {
     let empty = cell(alloc, "-")?;
-    let first = Cell {
-        text: Bytes::new(alloc),
-        num: Some(i64::from(index % 1000)),
-    };
+    let first = Cell::decimal(alloc, u64::from(index % 1000))?;
     row(alloc, Side::S, index, 0, first, empty)
 }
 

@@ -19,12 +19,9 @@ fn side(word: &str) -> Side {
     if word == "R" { Side::R } else { Side::S }
 }
 
-// A cell of this text; one that is no number is empty for a test on numbers.
+// The cell of a text.
 pub(super) fn cell(alloc: Global, text: &str) -> Result<Cell, AllocError> {
-    Ok(Cell {
-        text: Bytes::from_slice(alloc, text.as_bytes())?,
-        num: text.parse::<i64>().ok(),
-    })
+    Ok(Cell::new(Bytes::from_slice(alloc, text.as_bytes())?))
 }
 
 pub(super) fn row(

@@ -9,20 +9,17 @@ use std::process::Abort;
 use std::test::Fail;
 use theta_pred::{Linear, Part, Parts};
 
-// A cell without a text; one that is no number is empty.
-fn cell(alloc: Global, number: &str) -> Cell {
-    Cell {
-        text: Bytes::new(alloc),
-        num: number.parse::<i64>().ok(),
-    }
+// The cell of a text.
+fn cell(alloc: Global, text: &str) -> Result<Cell, AllocError> {
+    Ok(Cell::new(Bytes::from_slice(alloc, text.as_bytes())?))
 }
 
 fn row(alloc: Global, first: &str, second: &str) -> Result<Cells, AllocError>
     ensures { IfOk result (λ row. length row ≡ 2) }
 {
     let mut row = Cells::new(alloc);
-    row.push(cell(alloc, first))?;
-    row.push(cell(alloc, second))?;
+    row.push(cell(alloc, first)?)?;
+    row.push(cell(alloc, second)?)?;
     Ok(row)
 }
 

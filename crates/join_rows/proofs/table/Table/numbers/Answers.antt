@@ -1,4 +1,4 @@
-use Rattle.std.proofs.Common.{◌∙◌, sym, arith}
+use Rattle.std.proofs.Common.{◌∙◌, refl, sym, arith}
 use Rattle.join_rows.proofs.BadCells.{good-more, good-row, row-within}
 use Rattle.join_rows.proofs.table.Table.numbers.Goals as goal
 
@@ -16,3 +16,13 @@ returns-clause-ok c place row there =
       c.loop-place-test.false,
       c.len.ensures,
     )) there
+
+pub returns-then-bad-clause-first : goal.returns-then-bad-clause-first
+returns-then-bad-clause-first c = record {
+  place = c.loop-place.place;
+  row = c.at-row.result.now;
+  there = c.at-row.ensures;
+  bad = record { cell = c.at.result.now; there = c.at.ensures; bad = sym c.bad.ensures ∙ c.if-bad.true };
+  before = c.loop-place.invariant;
+  counted = refl;
+}
