@@ -6,12 +6,17 @@ use Rattle.smallvec.specs.SmallVec.{SmallVec}
 use Rattle.std.specs.declared.cmp.Ordering.{Ordering}
 use Rattle.std.specs.declared.cmp.Ordering.TheVariants.{Less, Equal, Greater}
 use Rattle.std.specs.Ordering.{int_cmp, is_eq, match_ordering}
-use Rattle.std.specs.Map.{lookup, set_value}
+use Rattle.std.specs.Map.{keys_of, lookup, set_value}
 use Rattle.std.specs.Option.{MatchOption}
-use Rattle.std.specs.List.Sorted.{IsPermutation}
+use Rattle.std.specs.List.Sorted.{IsPermutation, IsStrictlySortedBy}
 use Rattle.std.specs.BTreeMap.{is_at, insert_entry}
 use Rattle.std.proofs.lemmas.List.Sums.{sum_by-cons, sum_by-append}
 use Rattle.std.proofs.lemmas.List.Sorted.{sum_by-IsPermutation}
+use Rattle.std.specs.Cmp.{IsTotalOrder}
+use Rattle.std.proofs.lemmas.Cmp.{int_cmp_total}
+use Rattle.std.proofs.lemmas.Map.{lookup-none}
+use Rattle.std.proofs.lemmas.Map.Entries.{none_below_head}
+use Rattle.std.proofs.lemmas.Map.Keys.{sorted_tail}
 use Rattle.std.proofs.lemmas.Map.Lookups.{exact_signed}
 use Rattle.store_parts.specs.Places.{at_each, IsMapOf}
 use Rattle.store_parts.specs.Places.{entries_from}
@@ -84,6 +89,24 @@ sum-set_value test F v w more [] grows found = absurd (cc)
 sum-set_value test F v w more (e ∷ es) grows found = set_at test F v w more (test e.0) e es refl grows found
     (sum-set_value test F v w more es grows)
 
+-- an entry inserted at a key that is there sets another value at it
+inserted_is_set : {K X : Type 0} {R : K → K → Ordering} → IsTotalOrder R → (k : K) (p w : X) (es : List (K × X))
+    → IsStrictlySortedBy R (keys_of es) → lookup (is_at (R k)) es ≡ Some p
+    → insert_entry R es k w ≡ set_value (is_at (R k)) es w
+inserted_is_set o k p w [] sorted found = absurd (cc)
+inserted_is_set {R = R} o k p w (e ∷ es) sorted found =
+    by (R k e.0) refl found (inserted_is_set o k p w es (sorted_tail R e.0 (keys_of es) sorted))
+  where
+    by : (r : Ordering) → R k e.0 ≡ r → cond (is_eq r) (Some e.1) (lookup (is_at (R k)) es) ≡ Some p
+        → (lookup (is_at (R k)) es ≡ Some p → insert_entry R es k w ≡ set_value (is_at (R k)) es w)
+        → match_ordering r ((k, w) ∷ e ∷ es) ((e.0, w) ∷ es) (e ∷ insert_entry R es k w)
+        ≡ cond (is_eq r) ((e.0, w) ∷ es) (e ∷ set_value (is_at (R k)) es w)
+    by Less less there later =
+        let none = lookup-none (is_at (R k)) es (none_below_head o k e es sorted less).1 in
+        let never : None ≡ Some p = sym none ∙ there in absurd (cc never)
+    by Equal same there later = refl
+    by Greater more there later = ap (λ l. e ∷ l) (later there)
+
 -- ---- the map after an add
 
 -- a query that finds the key v alone
@@ -120,50 +143,28 @@ value_more f values v n at_end =
     let place : f (v, 0 + length values) ≡ f (v, n) = ap (λ m. f (v, m)) (omega (arith, at_end)) in
     omega (arith, more, joined, last, place)
 
--- an entry written back with the places that it had leaves the map's values as they are
-pub map_kept : (compare : ℤ → Ordering) (values : List (Option ℤ)) (old new : List (ℤ × SmallVec ℕ)) (p w : SmallVec ℕ)
-    → lookup (is_at compare) old ≡ Some p → new ≡ set_value (is_at compare) old w → w.items ≡ p.items
-    → IsMapOf values old → IsMapOf values new
-map_kept compare values old new p w found written same h = record {
-  sums = λ f.
-      let whole = ap (λ es. sum_by (at_each f) es) written in
-      let set = sum-set_value (is_at compare) (at_each f) p w 0 old (λ q hit. no_more f q p w same) found in
-      omega (arith, whole, set, h.sums f);
-}
-
--- once the next place is pushed to the entry of its value, the map has that value as one more
-pub map_pushed : (compare : ℤ → Ordering) (values : List (Option ℤ)) (v : ℤ) (n : ℕ) (old new : List (ℤ × SmallVec ℕ))
-    (p w : SmallVec ℕ)
-    → FindsOnly compare v → lookup (is_at compare) old ≡ Some p → new ≡ set_value (is_at compare) old w
-    → w.items ≡ p.items ++ n ∷ []
-    → length values ≡ n → IsMapOf values old → IsMapOf (values ++ Some v ∷ []) new
-map_pushed compare values v n old new p w exact found written pushed at_end h = record {
-  sums = λ f.
-      let whole = ap (λ es. sum_by (at_each f) es) written in
-      let set = sum-set_value (is_at compare) (at_each f) p w (f (v, n)) old
-      (λ q hit. one_more f q v n p w pushed (exact q hit)) found in
-      omega (arith, whole, set, h.sums f, value_more f values v n at_end);
-}
-
--- so it has once an entry of that one place is inserted, where the value had none
-pub map_inserted : (values : List (Option ℤ)) (v : ℤ) (n : ℕ) (old new : List (ℤ × SmallVec ℕ)) (w : SmallVec ℕ)
-    → lookup (is_at (int_cmp v)) old ≡ None → new ≡ insert_entry int_cmp old v w → w.items ≡ n ∷ []
-    → length values ≡ n → IsMapOf values old → IsMapOf (values ++ Some v ∷ []) new
-map_inserted values v n old new w none written made at_end h = record {
-  sums = λ f.
-      let whole = ap (λ es. sum_by (at_each f) es) written in
-      let set = sum-insert_entry int_cmp (at_each f) v w old none in
-      let term = ap (λ xs. sum_by (λ x. f (v, x)) xs) made in
-      let last = sum_by-cons (λ x. f (v, x)) n [] in
-      omega (arith, whole, set, term, last, h.sums f, value_more f values v n at_end);
-}
-
 -- ---- one entry written, where there may have been none
 
--- the entries after w was put at v, where found stood there
+-- the entries after w was put at v, where found stood there: if nothing did, a sum over them has one term more
 abbrev pub IsPut : ℤ → SmallVec ℕ → Option (SmallVec ℕ) → List (ℤ × SmallVec ℕ) → List (ℤ × SmallVec ℕ) → Type 0
-IsPut v w found old new = MatchOption found (IsPermutation ((v, w) ∷ old) new)
+IsPut v w found old new = MatchOption found
+    ((F : ℤ × SmallVec ℕ → ℕ) → sum_by F new ≡ F (v, w) + sum_by F old)
     (λ _. new ≡ set_value (is_at (int_cmp v)) old w)
+
+-- in a hashed map a new entry may stand anywhere
+pub hashed_put : (v : ℤ) (w : SmallVec ℕ) (found : Option (SmallVec ℕ)) (old new : List (ℤ × SmallVec ℕ))
+    → MatchOption found (IsPermutation ((v, w) ∷ old) new) (λ _. new ≡ set_value (is_at (int_cmp v)) old w)
+    → IsPut v w found old new
+hashed_put v w None old new put = λ F. sum_by-IsPermutation F ((v, w) ∷ old) new put ∙ sum_by-cons F (v, w) old
+hashed_put v w (Some p) old new put = put
+
+-- in an ordered map it stands in its order
+pub ordered_put : (v : ℤ) (w : SmallVec ℕ) (found : Option (SmallVec ℕ)) (old new : List (ℤ × SmallVec ℕ))
+    → IsStrictlySortedBy int_cmp (keys_of old) → lookup (is_at (int_cmp v)) old ≡ found
+    → new ≡ insert_entry int_cmp old v w → IsPut v w found old new
+ordered_put v w None old new sorted is put =
+    λ F. ap (sum_by F) put ∙ sum-insert_entry int_cmp F v w old is
+ordered_put v w (Some p) old new sorted is put = put ∙ inserted_is_set int_cmp_total v p w old sorted is
 
 sum-put : (F : ℤ × SmallVec ℕ → ℕ) (v : ℤ) (empty w : SmallVec ℕ) (more : ℕ) (old new : List (ℤ × SmallVec ℕ))
     (found : Option (SmallVec ℕ))
@@ -171,7 +172,7 @@ sum-put : (F : ℤ × SmallVec ℕ → ℕ) (v : ℤ) (empty w : SmallVec ℕ) (
     → ((q : ℤ) → q ≡ v → F (q, w) ≡ F (q, unwrap_or found empty) + more) → sum_by F new ≡ sum_by F old + more
 sum-put F v empty w more old new None is put zero grows =
     let here : F (v, w) ≡ F (v, empty) + more = grows v refl in
-    omega (arith, sum_by-IsPermutation F ((v, w) ∷ old) new put, sum_by-cons F (v, w) old, zero, here)
+    omega (arith, put F, zero, here)
 sum-put F v empty w more old new (Some p) is put zero grows =
     ap (sum_by F) put ∙ sum-set_value (is_at (int_cmp v)) F p w more old (λ q hit. grows q (finds_only v q hit)) is
 

@@ -53,13 +53,8 @@ pub(crate) fn add_ordered(
     ensures err { (values : List (Option ℤ)) → IsMapOf values map.old.entries
         → OnErr result (IsMapOf values map.new.entries) }
 {
-    if let Some(places) = map.get_mut(&value) {
-        places.push(place)?;
-        return Ok(());
-    }
-    let mut places = SmallVec::new(alloc);
+    let places = map.entry(value)?.or_insert(SmallVec::new(alloc));
     places.push(place)?;
-    map.insert(value, places)?;
     Ok(())
 }
 

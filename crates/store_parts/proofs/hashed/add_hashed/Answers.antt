@@ -6,7 +6,7 @@ use Rattle.std.proofs.lemmas.Int.{to_z-of_z}
 use mir.Val.{SFits, to_z, of_z}
 use mir.Syntax.{w128}
 use Rattle.store_parts.specs.Places.{IsMapOf}
-use Rattle.store_parts.proofs.MapSums.{map_put_kept, map_put_pushed}
+use Rattle.store_parts.proofs.MapSums.{hashed_put, map_put_kept, map_put_pushed}
 use Rattle.store_parts.proofs.hashed.add_hashed.Goals as goal
 
 pub returns-in_err-push-clause-err : goal.returns-in_err-push-clause-err
@@ -15,7 +15,8 @@ returns-in_err-push-clause-err c = λ values h.
     let had = c.or_insert-places.ensures.value ∙ ap (λ o. unwrap_or o c.new.result) c.in_ok-map.ensures.value in
     let kept = map_put_kept values (to_z w128 (of_z w128 c.args.value)) c.args.map.now.entries
     (map_with_value c.in_ok-map.field-0 c.push.new.self).entries c.new.result c.push.new.self _ refl
-    (c.in_ok-map.ensures.update.1 c.push.new.self) c.new.ensures.items
+    (hashed_put (to_z w128 (of_z w128 c.args.value)) c.push.new.self _ c.args.map.now.entries _
+    (c.in_ok-map.ensures.update.1 c.push.new.self)) c.new.ensures.items
     (ap (λ (v : SmallVec ℕ). v.items) (c.in_err-push.ensures.err ∙ had)) h in
     rw (p.1) (search (rules, kept))
 
@@ -25,7 +26,8 @@ returns-clause-ok c = λ values at_end h.
     let had = c.or_insert-places.ensures.value ∙ ap (λ o. unwrap_or o c.new.result) c.in_ok-map.ensures.value in
     let added = map_put_pushed values (to_z w128 (of_z w128 c.args.value)) c.args.place c.args.map.now.entries
     (map_with_value c.in_ok-map.field-0 c.push.new.self).entries c.new.result c.push.new.self _ refl
-    (c.in_ok-map.ensures.update.1 c.push.new.self) c.new.ensures.items
+    (hashed_put (to_z w128 (of_z w128 c.args.value)) c.push.new.self _ c.args.map.now.entries _
+    (c.in_ok-map.ensures.update.1 c.push.new.self)) c.new.ensures.items
     (c.in_ok-push.ensures.ok ∙ ap (λ (v : SmallVec ℕ). v.items ++ c.args.place ∷ []) had) at_end h in
     let P : ℤ → Type 0 = λ v. IsMapOf (values ++ Some v ∷ [])
     (map_with_value c.in_ok-map.field-0 c.push.new.self).entries in
