@@ -1,4 +1,5 @@
 mod based;
+mod early;
 mod given;
 mod sent;
 

@@ -1,5 +1,6 @@
 ghost use Rattle.std.specs.Prelude.{◌≤◌, ◌^◌};
 
+mod many_steps;
 mod messages;
 
 use epoch_tags::{Actor, Msg, Sends, ToController, ToFeeder};

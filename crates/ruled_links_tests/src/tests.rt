@@ -3,6 +3,7 @@ ghost use Rattle.ruled_links.specs.Ends.{IsSameIn, IsSameOut};
 ghost use Rattle.epoch_tags.specs.declared.actor.Actor.TheVariants.{Feeder};
 
 mod inboxes;
+mod many;
 
 use epoch_tags::{Actor, Envelope, Msg, ToController};
 use ruled_links::{In, Out, gather, link};

@@ -81,7 +81,9 @@ fn run_with_base_over(
     requires s { theta.now.width_s ≡ 1 }
 {
     let mut joiner = with_base(alloc, theta)?;
-    finishes(rt, alloc, &mut joiner, steps)
+    let finished = finishes(rt, alloc, &mut joiner, steps);
+    drop(joiner);
+    finished
 }
 
 #[test]
