@@ -1,14 +1,14 @@
 -- What a turn of a seat does, and several turns.
-use Rattle.std.specs.Prelude.{◌≡◌, ◌<◌, ◌⊎◌, ℕ, Bool, true, false, Option, Some, None, List}
+use Rattle.std.specs.Prelude.{◌≡◌, ◌<◌, ◌⊎◌, ⊤, ℕ, Bool, true, false, Option, Some, None, List}
 use Rattle.join_rows.specs.Lists.{IsPrefix}
 use Rattle.epoch_tags.specs.declared.actor.Actor.{Actor}
 use Rattle.epoch_tags.specs.declared.message.Envelope.{Envelope}
 use Rattle.epoch_tags.specs.declared.message.Post.{Post}
 use Rattle.ring_links.specs.Rings.{Receiving}
-use Rattle.actor_core.specs.Lists.{Cause, Took, with_cause}
+use Rattle.actor_core.specs.Lists.{Cause, Took, Began, with_cause}
 use Rattle.actor_core.specs.Standing.{Occurs, Waits, IsLive, given_by}
 use Rattle.actor_core.specs.Families.{journal_of}
-use Rattle.actor_core.specs.Players.{MayBegin, Runs}
+use Rattle.actor_core.specs.Players.{MakesEvent, MayBegin, Player, Runs}
 use Rattle.actor_core.specs.declared.machines.Core.{Core}
 use Rattle.ring_runtime.specs.Seats.{RingSeatView, AllStuck, NoneKnown, frame_of, player_of, received_through}
 use Rattle.ring_runtime.specs.Seats.{waiting_in}
@@ -22,6 +22,16 @@ Receives joiners feeders (Some m) old new = (from : Actor)
     → received_through joiners feeders new from
     ≡ with_cause (Took m.from m.msg) (received_through joiners feeders old) from
 
+-- where the actor began, nothing was known to be left for it
+abbrev pub HasLooked : Cause → List (Option Receiving) → Type 0
+HasLooked (Took from m) ins = ⊤
+HasLooked Began ins = NoneKnown ins
+
+-- one event of the actor of a seat that had these ends before
+pub record MakesTurn (ins : List (Option Receiving)) (old new : Player) : Type 0 where
+  pub event : MakesEvent old new
+  pub looked : HasLooked event.cause ins
+
 -- nothing is known to be left for the seat, and its machine would not begin
 pub record Rests (core : Core) (ins : List (Option Receiving)) : Type 0 where
   pub none_known : NoneKnown ins
@@ -33,6 +43,7 @@ pub record IsCaused (joiners feeders : ℕ) (old new : Core) (before after : Lis
   pub cause : Cause
   pub occurs : Occurs cause old new none sends
   pub free : MayBegin cause old
+  pub looked : HasLooked cause before
   pub live : IsLive new
   pub given : given_by new ≡ given_by old
   pub grows : IsPrefix (journal_of old) (journal_of new)

@@ -6,13 +6,13 @@ ghost use Rattle.std.specs.Prelude.{◌≡◌, ◌<◌, Ok, Some, true, false, O
 ghost use Rattle.actor_core.specs.Lists.{Took};
 ghost use Rattle.actor_core.specs.Numbers as numbers;
 ghost use Rattle.actor_core.specs.Standing.{IsLive, Waits};
-ghost use Rattle.actor_core.specs.Players.{MakesEvent, is_complete_core};
+ghost use Rattle.actor_core.specs.Players.{is_complete_core};
 ghost use Rattle.ring_runtime.specs.declared.seat.RingStep.TheVariants.{Took as Took', Moved as Moved', Idle as Idle'};
 ghost use Rattle.ring_runtime.specs.Seats.{AllStuck, NoneKnown, frame_of, in_address, player_of};
 ghost use Rattle.ring_runtime.specs.Bouts.{IsAtRest, IsBusy};
 ghost use Rattle.ring_runtime.specs.Joins.{AreEndsOf, HoldsIn};
 ghost use Rattle.ring_runtime.specs.Endings.{end_of};
-ghost use Rattle.ring_runtime.specs.Turns.{IsIdle, Moves, Opens, Receives};
+ghost use Rattle.ring_runtime.specs.Turns.{IsIdle, MakesTurn, Moves, Opens, Receives};
 
 use crate::ends::RingEnd;
 use crate::inlets::Inlets;
@@ -251,7 +251,8 @@ impl<'a> RingSeat<'a> {
 
     // One event, if there is one to make: its posts wait behind the others.
     fn event(&mut self) -> Result<bool, AllocError>
-        ensures took { result ≡ Ok true → MakesEvent (player_of self.old) (player_of self.new) }
+        ensures took { result ≡ Ok true
+            → MakesTurn self.old.ins (player_of self.old) (player_of self.new) }
         ensures idle { result ≡ Ok false → self.new ≡ self.old }
         ensures none_known { result ≡ Ok false → NoneKnown self.old.ins }
         ensures waits { result ≡ Ok false → Waits self.old.core }
@@ -259,17 +260,17 @@ impl<'a> RingSeat<'a> {
         ensures spent { self.new.spent ≡ self.old.spent }
     {
         let mut sends = Sends::new(self.alloc);
-        if !open(
+        let took = open(
             &mut self.core,
             &mut self.ins,
             self.joiners,
             self.feeders,
             &mut sends,
-        )? {
-            return Ok(false);
+        )?;
+        if took {
+            self.outs.post_all(self.joiners, self.feeders, sends)?;
         }
-        self.outs.post_all(self.joiners, self.feeders, sends)?;
-        Ok(true)
+        Ok(took)
     }
 
     /// Passes the gate, puts from its outlets what finds a place, in order, and then makes one event if it can: takes
@@ -277,7 +278,8 @@ impl<'a> RingSeat<'a> {
     /// the others of its outlet. A strange message is answered by the error, and so is one to an actor to which there
     /// is no ring. After an error the seat is spent. It waits for nothing.
     pub fn turn<G: Gate>(&mut self, gate: &G) -> Result<RingStep, AllocError>
-        ensures took { result ≡ Ok Took' → MakesEvent (player_of self.old) (player_of self.new) }
+        ensures took { result ≡ Ok Took'
+            → MakesTurn self.old.ins (player_of self.old) (player_of self.new) }
         ensures moved { result ≡ Ok Moved' → Moves self.old self.new }
         ensures idle { result ≡ Ok Idle' → IsIdle self.old self.new }
         ensures none_known { IfOk result (λ step. ¬ (step ≡ Took') → NoneKnown self.old.ins) }
