@@ -9,8 +9,8 @@ use std::alloc::AllocError;
 use std::sync::Wait;
 use worker_gate::Gate;
 
-// How many rounds feeders and controller have ahead of the others in one bout.
-const ROUNDS: u32 = 4;
+// The most rounds that feeders and controller have ahead of the others in one bout.
+const ROUNDS: u32 = 128;
 
 // Turns of each feeder and of the controller, one after another.
 fn round_ahead<R: Wait, G: Gate>(rt: &R, seats: &mut [Seat], gate: &G) -> Result<(), AllocError>
@@ -43,8 +43,18 @@ fn is_crowded(seats: &[Seat]) -> bool {
     false
 }
 
-// Rounds of feeders and controller ahead of a bout, so that the threads of a bout have enough to do; none ahead of a run's
-// first bout, so that all seats have their first turns side by side, and none where some seat has more than it can take.
+// Whether some feeder has a batch left.
+fn has_batches(seats: &[Seat]) -> bool {
+    for seat in seats {
+        if seat.batches_left() > 0 {
+            return true;
+        }
+    }
+    false
+}
+
+// Rounds of feeders and controller ahead of a bout, until some seat has more than it can take, so that the threads of a
+// bout have enough to do; none ahead of a run's first bout, so that all seats have their first turns side by side.
 pub(crate) fn go_ahead<R: Wait, G: Gate>(
     rt: &R,
     seats: &mut [Seat],
@@ -53,10 +63,13 @@ pub(crate) fn go_ahead<R: Wait, G: Gate>(
     ensures ok { OnOk result (AllStep seats.old seats.new) }
     ensures frames { map frame_of seats.new ≡ map frame_of seats.old }
 {
-    if has_new(seats) || is_crowded(seats) {
+    if has_new(seats) {
         return Ok(());
     }
     for _ in 0..ROUNDS {
+        if is_crowded(seats) || !has_batches(seats) {
+            return Ok(());
+        }
         round_ahead(rt, seats, gate)?;
     }
     Ok(())

@@ -31,20 +31,16 @@ impl<'a> Seat<'a> {
         }
     }
 
-    // How many turns it may still have in this bout. A seat has fewer than 256 ahead of the others.
-    fn turns_left(&self) -> u64
-        ensures { 0 < result }
-    {
-        TURNS
-            .saturating_sub(self.turns.saturating_sub(self.turns_before))
-            .max(1)
+    // How many turns it may still have in this bout.
+    fn turns_left(&self) -> u64 {
+        TURNS.saturating_sub(self.turns.saturating_sub(self.turns_before))
     }
 
     // The last turns of one bout: until the seat is idle or has had 256.
     pub(crate) fn turns<R: Wait, G: Gate>(&mut self, rt: &R, gate: &G)
         ensures { Works self.old self.new }
     {
-        let most = self.turns_left();
+        let most = self.turns_left().max(1);
         self.turns_up_to(rt, gate, most);
         self.turns_before = self.turns;
     }
@@ -68,7 +64,8 @@ impl<'a> Seat<'a> {
         self.inbox.known() > TURNS
     }
 
-    // The turns of one round ahead of the others, if it goes ahead: until it is idle or has had 16.
+    // The turns of one round ahead of the others, if it goes ahead: until it is idle or has had 16, and never the last that
+    // it may have in this bout.
     pub(crate) fn turns_ahead<R: Wait, G: Gate>(
         &mut self,
         rt: &R,
@@ -80,7 +77,7 @@ impl<'a> Seat<'a> {
         if !self.goes_ahead() {
             return Ok(());
         }
-        for round in 0..TURNS_AHEAD {
+        for round in 0..self.turns_left().saturating_sub(1).min(TURNS_AHEAD) {
             match self.turn(rt, gate) {
                 Ok(Step::Took) => {}
                 Ok(Step::Idle) => return Ok(()),
