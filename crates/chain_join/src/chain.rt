@@ -15,7 +15,7 @@ use std::sync::Wait;
 use std::thread::Threads;
 use thiserror::Error;
 use trace_law::{Input, Setting};
-use worker_gate::Gate;
+use worker_gate::{EarlierGate, Gate};
 
 /// The answer of a chain.
 #[derive(Drop)]
@@ -114,7 +114,9 @@ fn run_second<R: Threads + Wait + Sync, G: Gate + Sync>(
     ensures valid { IfOk result (λ _. IsValidInput (second_input' first.now third seed)) }
 {
     let second = second_input(alloc, first, told.run.pairs.as_slice(), third, seed)?;
-    run_over(rt, alloc, told, &second, setting, gate)
+    let both = run_over(rt, alloc, told, &second, setting, gate);
+    gate.let_go(second);
+    both
 }
 
 /// Joins R with S by a run, and then the joined rows, one for each pair of the first run and in their
@@ -145,7 +147,7 @@ pub fn run_chain<R: Threads + Wait + Sync, G: Gate + Sync>(
     ensures between { (pairs : ℕ) → result ≡ Err (Between' pairs)
         → (pairs ≡ length (nested_loop first.now)) × (2 ^ 18 < pairs) }
 {
-    let told = whole_run(rt, alloc, first, setting, gate)?;
+    let told = whole_run(rt, alloc, first, setting, &EarlierGate::new(gate))?;
     let pairs = told.run.pairs.len();
     if pairs > 1 << 18 {
         return Err(ChainFault::Between { pairs });

@@ -20,7 +20,7 @@ use std::alloc::{AllocError, Global};
 use std::sync::Wait;
 use std::thread::Threads;
 use trace_law::{Input, Run, Setting, begins_with_all, limits_suffice, sorts_into_the_loop};
-use worker_gate::Gate;
+use worker_gate::{EarlierGate, Gate};
 
 pub type Runs = Items<Run>;
 
@@ -106,7 +106,7 @@ fn run_part<R: Threads + Wait + Sync, G: Gate + Sync>(
 {
     limits_suffice();
     begins_with_all();
-    let told = run(rt, alloc, group_input, setting, gate)?;
+    let told = run(rt, alloc, group_input, setting, &EarlierGate::new(gate))?;
     add_told(found, indices, told)
 }
 

@@ -5,7 +5,7 @@ use join_cli::{Ended, command_words, jm_program};
 use join_rows::{DiskShelf, StdSink};
 use std::alloc::AllocError;
 use std::io::{IsTerminal, Stderr, Write};
-use worker_gate::{ProgressGate, Screen};
+use worker_gate::{LastGate, ProgressGate, Screen};
 
 // Standard error, where it is a terminal on which no early pairs stand.
 #[derive(Drop)]
@@ -42,6 +42,6 @@ fn main(rt: HostRuntime) -> Ended {
         &mut DiskShelf::new(rt.alloc(), &rt),
         &mut StdSink::new(rt.stdout()),
         &mut StdSink::new(rt.stderr()),
-        &ProgressGate::new(terminal),
+        &LastGate::new(ProgressGate::new(terminal)),
     )
 }

@@ -19,7 +19,7 @@ use std::marker::Model;
 use std::process::{ExitCode, Termination};
 use std::sync::Wait;
 use std::thread::Threads;
-use worker_gate::Gate;
+use worker_gate::{Gate, NoGate};
 
 /// The exit status of a run of the program. Only `jm_program` makes one, so a `main` that answers
 /// it ends with no other.
@@ -54,13 +54,13 @@ impl Termination for Ended {
     }
 }
 
-/// The end with the status of an outcome.
-fn end_of(outcome: Outcome) -> Ended
+/// The end with the status of an outcome, which is let go.
+fn end_of<G: Gate>(outcome: Outcome, gate: &G) -> Ended
     ensures { result ≡ status_of outcome }
 {
-    Ended {
-        code: exit_code(&outcome),
-    }
+    let code = exit_code(&outcome);
+    gate.let_go(outcome);
+    Ended { code }
 }
 
 /// Ends where there are no words for want of memory.
@@ -69,7 +69,7 @@ fn lacks_words<E: Sink>(alloc: Global, errors: &mut E) -> Ended
     ensures line { TellsLine E.Sink errors.old errors.new Outcome.Memory }
 {
     tell(alloc, &Outcome::Memory, errors);
-    end_of(Outcome::Memory)
+    end_of(Outcome::Memory, &NoGate)
 }
 
 /// Runs what these words ask for, and ends with the status of its outcome.
@@ -88,7 +88,8 @@ fn run_words<R: Threads + Wait + Sync, H: Shelf, K: Sink, E: Sink, G: Gate + Syn
         shelf.old shelf.new sink.old sink.new (TellsLine E.Sink errors.old errors.new) result }
     ensures quiet { result ≡ 0 → errors.new ≡ errors.old }
 {
-    end_of(jm_main(rt, alloc, &words, shelf, sink, errors, gate))
+    let outcome = jm_main(rt, alloc, &words, shelf, sink, errors, gate);
+    end_of(outcome, gate)
 }
 
 /// The program `jm`: runs what the words ask for, puts the output on `sink` and the one line of an

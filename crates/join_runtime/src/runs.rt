@@ -83,8 +83,8 @@ fn in_threads<'a, R: Threads + Wait + Sync, G: Gate + Sync>(
     )
 }
 
-/// Runs the seats of this input and setting, in as many threads as there are workers, bout after bout until the collector
-/// is complete. `bouts` stays at 2^64 - 1 once it is there. What it promises holds if it returns.
+/// Runs the seats of this input and setting, in as many threads as there are workers, bout after bout until the
+/// collector is complete. `bouts` stays at 2^64 - 1 once it is there. What it promises holds if it returns.
 pub fn run<'a, R: Threads + Wait + Sync, G: Gate + Sync>(
     rt: &R,
     alloc: Global,
@@ -107,7 +107,8 @@ pub fn run<'a, R: Threads + Wait + Sync, G: Gate + Sync>(
     let seats = Seats::start(alloc, input, setting)?;
     let told = in_threads(rt, alloc, setting.workers, gate, seats)?;
     let WaveTold { wave, ends } = told;
-    let WaveRun { run, .. } = wave;
+    let WaveRun { run, rest } = wave;
+    gate.let_go(rest);
     Ok(Told { run, ends })
 }
 

@@ -15,6 +15,11 @@ pub trait Gate {
 
     /// Is told after each bout how many of the batches of all feeders were sent. It promises nothing, too.
     fn fed(&self, _sent: u64, _batches: u64) {}
+
+    /// Takes what a run needs no more, and drops it, unless a gate gives it a body. It promises nothing, too.
+    fn let_go<T: Drop>(&self, held: T) {
+        drop(held);
+    }
 }
 
 /// A gate that stands open.

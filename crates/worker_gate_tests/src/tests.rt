@@ -1,11 +1,16 @@
 ghost use Rattle.std.specs.Prelude.{◌<◌};
 
 use epoch_tags::Actor;
+use std::alloc::{AllocError, Global};
+use std::sync::Arc;
 use std::sync::atomic::{AtomicU64, Ordering};
 use std::test::*;
 use std::thread;
 use std::thread::Threads;
-use worker_gate::{CountingGate, Gate, NoGate, PairGate, ProgressGate, Screen, Spot, standing_at};
+use worker_gate::{
+    CountingGate, EarlierGate, Gate, LastGate, NoGate, PairGate, ProgressGate, Screen, Spot,
+    standing_at,
+};
 
 fn spot(actor: Actor, turn: u64) -> Spot {
     Spot { actor, turn }
@@ -37,6 +42,41 @@ fn one_thread_does_not_meet_itself(rt: HostRuntime) -> Result<(), Fail> {
         gate.pass(spot(actor, turn));
         assert!(rt; !gate.met(), "at turn {turn} of {actor:?}");
     }
+    Ok(())
+}
+
+// Whether a gate drops what is let go: whether a value is then held here alone.
+fn drops<G: Gate>(alloc: Global, gate: &G) -> Result<bool, AllocError> {
+    let mut held = Arc::new(alloc, 7u64)?;
+    gate.let_go(Arc::try_clone(&held)?);
+    Ok(Arc::get_mut(&mut held).is_some())
+}
+
+#[test]
+fn what_is_let_go_is_dropped_but_behind_the_last_run(rt: HostRuntime) -> Result<(), Fail> {
+    let alloc = rt.alloc();
+    assert!(rt; drops(alloc, &NoGate)?, "a gate without a body for it");
+    let last = LastGate::new(NoGate);
+    assert!(rt; !drops(alloc, &last)?, "behind the last run");
+    assert!(rt;
+        drops(alloc, &EarlierGate::new(&last))?,
+        "behind an earlier one"
+    );
+    Ok(())
+}
+
+#[test]
+fn a_gate_over_another_passes_all_on(rt: HostRuntime) -> Result<(), Fail> {
+    let counting = CountingGate::new();
+    let slip = Slip {
+        times: AtomicU64::new(0),
+        last: AtomicU64::new(1),
+    };
+    let progress = ProgressGate::new(&slip);
+    LastGate::new(EarlierGate::new(&counting)).pass(spot(Actor::Collector, 0));
+    assert!(rt; counting.passes() == 1);
+    LastGate::new(EarlierGate::new(&progress)).fed(3, 400);
+    assert_eq!(rt; slip.times.load(Ordering::SeqCst), 1);
     Ok(())
 }
 
