@@ -10,9 +10,11 @@ use Rattle.trace_law.specs.declared.setting.Setting.{Setting}
 use Rattle.trace_law.specs.Family.{first_rest}
 use Rattle.actor_core.specs.Rests.{IsRestOf, rest_of}
 use Rattle.elastic_grow.specs.Growth.{grown_line, grown_setting}
+use Rattle.actor_core.specs.declared.rests.Rest.{Rest as Left}
+use Rattle.join_runtime.specs.Endings.{EndsView}
 use Rattle.join_plan.specs.declared.waves.WaveEnd.{WaveEnd}
 use Rattle.join_cli.specs.declared.waves.Waved.{Waved}
-use Rattle.join_cli.specs.GrownSteps.{AreFirstWaves, AreGrownWaves}
+use Rattle.join_cli.specs.GrownSteps.{AreFirstWaves, AreGrownWaves, AreWavesGrown}
 use Rattle.join_cli.specs.Left.{AreBehind, counted, end_behind}
 use Rattle.join_cli.specs.WaveSteps.{AreAhead, AreWavesBehind}
 use Rattle.join_cli.specs.WaveTexts.{no_waves, waves_over}
@@ -80,6 +82,22 @@ grown_are number input setting wave ends first none since split are line stands 
       trail_is = more.trail ∙ ap (λ t. t ++ flat_map (λ left. left) more.trails) trail_is;
     }
 
+-- waves that went on from the grown rest, by the setting as the code has it
+pub waves_since_growth : (number : Option ℕ) (input : Input) (setting grown : Setting) (trail : List EndsView)
+    (rest : Left) (last : TurnLine) (ends : List WaveEnd) (since : Waved)
+    → rest.line ≡ grown_line setting.weights setting.k last → IsRestOf input (grown_setting setting) rest
+    → grown ≡ grown_setting setting
+    → AreWavesBehind number input grown (record { run = no_waves grown; trail = trail; rest = rest }) ends since
+    → AreWavesGrown number input setting trail last ends rest.line since
+waves_since_growth number input setting grown trail rest last ends since line stands is waves = record {
+  line_is = line;
+  rest = rest;
+  from = refl;
+  stands = stands;
+  waves = subst (λ s. AreWavesBehind number input s (record { run = no_waves s; trail = trail; rest = rest }) ends since)
+      is waves;
+}
+
 -- ---- the ends, split
 
 -- the first of them end one behind the other
@@ -99,8 +117,17 @@ split_later number input setting wave ends early later first line (low, is_early
     (ahead_since number input setting wave ends first line
     (subst (λ es. AreFirstWaves number input setting es first) is_early are) is ahead)
 
--- so both are the waves of a run with a growth
-pub split_are : (number : Option ℕ) (input : Input) (setting : Setting) (wave : ℕ) (ends early later : List WaveEnd)
+-- and so they do behind what the first have left
+pub split_behind : (number : Option ℕ) (input : Input) (setting : Setting) (wave : ℕ)
+    (ends early later : List WaveEnd) (first : Waved) → IsSplitAt ends wave early later
+    → AreFirstWaves number input setting early first → AreAhead input no_rows ends
+    → AreAhead input (counted first.rest.line) later
+split_behind number input setting wave ends early later first split are ahead =
+    split_later number input setting wave ends early later first
+    (grown_line setting.weights setting.k first.rest.line) split are refl ahead
+
+-- the waves before and since, with what those since began with as it was made
+split_are : (number : Option ℕ) (input : Input) (setting : Setting) (wave : ℕ) (ends early later : List WaveEnd)
     (first none since : Waved) → IsSplitAt ends wave early later → AreFirstWaves number input setting early first
     → none.rest.line ≡ grown_line setting.weights setting.k first.rest.line
     → IsRestOf input (grown_setting setting) none.rest → none.run ≡ no_waves (grown_setting setting)
@@ -112,3 +139,18 @@ split_are number input setting wave ends early later first none since
     grown_are number input setting wave ends first none since low
     (subst (λ es. AreFirstWaves number input setting es first) is_early are) line stands run_is trail_is
     (subst (λ es. AreWavesBehind number input (grown_setting setting) none es since) is_later more)
+
+-- so both are the waves of a run with a growth
+pub split_grown : (number : Option ℕ) (input : Input) (setting : Setting) (wave : ℕ)
+    (ends early later : List WaveEnd) (first : Waved) (line : TurnLine) (since : Waved)
+    → IsSplitAt ends wave early later → AreFirstWaves number input setting early first
+    → AreWavesGrown number input setting first.trail first.rest.line later line since
+    → AreGrownWaves number input setting wave ends
+    (record { before = first.run; line = line; since = since.run; trail = since.trail })
+split_grown number input setting wave ends early later first line since split are grown =
+    let none : Waved =
+    record { run = no_waves (grown_setting setting); trail = first.trail; rest = grown.rest } in
+    subst (λ l. AreGrownWaves number input setting wave ends
+    (record { before = first.run; line = l; since = since.run; trail = since.trail })) grown.from
+    (split_are number input setting wave ends early later first none since split are (grown.from ∙ grown.line_is)
+    grown.stands refl refl grown.waves)

@@ -6,15 +6,16 @@ use Rattle.trace_law.specs.declared.run.Run.{Run}
 use Rattle.trace_law.specs.declared.setting.Setting.{Setting}
 use Rattle.trace_law.specs.Family.{IsRestFor, Rest, first_rest}
 use Rattle.actor_core.specs.Rests.{IsRestOf}
-use Rattle.elastic_grow.specs.Growth.{grown_setting}
+use Rattle.actor_core.specs.declared.rests.Rest.{Rest as Left}
+use Rattle.elastic_grow.specs.Growth.{grown_line, grown_setting}
 use Rattle.join_runtime.specs.Endings.{EndsView}
 use Rattle.join_plan.specs.declared.waves.WaveEnd.{WaveEnd}
 use Rattle.join_cli.specs.declared.growth.Grown.{Grown}
 use Rattle.join_cli.specs.declared.waves.Waved.{Waved}
 use Rattle.join_cli.specs.Grown.{grown_from, waves_since}
 use Rattle.join_cli.specs.Left.{AreBehind}
-use Rattle.join_cli.specs.WaveSteps.{AreAllWaves}
-use Rattle.join_cli.specs.WaveTexts.{run_of_waves}
+use Rattle.join_cli.specs.WaveSteps.{AreAllWaves, AreWavesBehind}
+use Rattle.join_cli.specs.WaveTexts.{no_waves}
 use Rattle.join_cli.specs.Waves.{WentThrough, no_rows, waves_pairs}
 
 -- the first waves of a run, and what they left
@@ -23,6 +24,17 @@ pub record AreFirstWaves (number : Option ℕ) (input : Input) (setting : Settin
   pub all : AreAllWaves number input setting ends first.run first.trail
   pub behind : AreBehind (first_rest setting).line ends all.journals first.rest.line
   pub stands : IsRestOf input setting first.rest
+
+-- what waves with this last line left begins anew with this one, each joiner split into four, and waves went on from
+-- there up to these ends
+pub record AreWavesGrown (number : Option ℕ) (input : Input) (setting : Setting) (trail : List EndsView)
+    (last : TurnLine) (ends : List WaveEnd) (line : TurnLine) (since : Waved) : Type 0 where
+  pub line_is : line ≡ grown_line setting.weights setting.k last
+  pub rest : Left
+  pub from : rest.line ≡ line
+  pub stands : IsRestOf input (grown_setting setting) rest
+  pub waves : AreWavesBehind number input (grown_setting setting)
+      (record { run = no_waves (grown_setting setting); trail = trail; rest = rest }) ends since
 
 -- all waves of a run with a growth behind so many of them: those before it in one, and those since
 pub record AreGrownWaves (number : Option ℕ) (input : Input) (setting : Setting) (wave : ℕ) (ends : List WaveEnd)

@@ -10,10 +10,10 @@ ghost use Rattle.join_plan.specs.declared.fitting.Planned.{Planned as Planned'};
 ghost use Rattle.join_cli.specs.Chain.{IsChainOver, IsStopped, IsThirdOver, bare_text, chain_text};
 ghost use Rattle.join_cli.specs.Chain.{third_of, triple_line, triple_lines};
 ghost use Rattle.join_cli.specs.Ends.{IsHalted, IsMade, course_of};
-ghost use Rattle.join_cli.specs.Plan.{input_of, setting_of};
+ghost use Rattle.join_cli.specs.Plan.{bare_report_of, input_of, report_asked, setting_of};
 
 use crate::outcome::Outcome;
-use crate::output::{Joined, bare_report, bytes_of, report};
+use crate::output::{Joined, add, bare_report, bytes_of, journal_of, report};
 use chain_join::{ChainFault, ChainRun, Triple, run_chain};
 use join_plan::{LimitFault, Third};
 use join_rows::Bytes;
@@ -56,6 +56,40 @@ struct Chained {
     trail: Trail,
 }
 
+/// Appends the reports of both runs where they are asked for: the second over as many joined rows as the first has pairs,
+/// and over so many rows of the third table.
+fn add_reports(
+    alloc: Global,
+    options: &Options<'_>,
+    input: &Input,
+    setting: &Setting,
+    run: &ChainRun,
+    rows: u64,
+    text: &mut Bytes,
+) -> Result<(), AllocError>
+    requires input { IsValidInput input.now }
+    requires setting { IsValidSetting setting.now }
+    requires first { IsToldOf input.now setting.now run.now.first }
+    requires shifts { AreWithin setting.now.k run.now.second.run.journal }
+    requires steps { length run.now.second.run.moved < 2 ^ 32 }
+    requires joined { length run.now.first.run.pairs ≤ 2 ^ 18 }
+    requires rows { rows ≤ 2 ^ 18 }
+    ensures { OnOk result (text.new ≡ (text.old
+        ++ report_asked options.now.report input.now setting.now run.now.first.run.journal)
+        ++ bare_report_of options.now.report setting.now (length run.now.first.run.pairs) rows
+        run.now.second.run) }
+{
+    add(
+        text,
+        report(alloc, options, input, setting, &run.first.run)?,
+    )?;
+    let joined = run.first.run.pairs.len();
+    add(
+        text,
+        bare_report(alloc, options, setting, joined, rows, &run.second.run)?,
+    )
+}
+
 /// The lines of all triples, and then the reports of both runs where they are asked for: the second over as many
 /// joined rows as the first has pairs, and over so many rows of the third table.
 fn text_of_chain(
@@ -77,12 +111,26 @@ fn text_of_chain(
         (λ text. text ≡ bare_text options.now.report input.now setting.now rows run.now) }
 {
     let mut text = bytes_of(triples_text(alloc, run.triples.as_slice())?);
-    let first = report(alloc, options, input, setting, &run.first.run)?;
-    text.append(first.as_slice())?;
-    let joined = run.first.run.pairs.len();
-    let second = bare_report(alloc, options, setting, joined, rows, &run.second.run)?;
-    text.append(second.as_slice())?;
-    Ok(text)
+    match add_reports(alloc, options, input, setting, run, rows, &mut text) {
+        Ok(()) => Ok(text),
+        Err(refused) => {
+            drop(text);
+            Err(refused)
+        }
+    }
+}
+
+/// Appends the ends of two runs.
+fn add_both(trail: &mut Trail, first: Ends, second: Ends) -> Result<(), AllocError>
+    ensures { OnOk result (trail.new ≡ (trail.old ++ first ∷ []) ++ second ∷ []) }
+{
+    match trail.push(first) {
+        Ok(()) => trail.push(second),
+        Err(refused) => {
+            drop(second);
+            Err(refused)
+        }
+    }
 }
 
 /// A trail of the ends of two runs.
@@ -90,9 +138,22 @@ fn trail_of_both(alloc: Global, first: Ends, second: Ends) -> Result<Trail, Allo
     ensures { IfOk result (λ trail. trail ≡ first ∷ second ∷ []) }
 {
     let mut trail = Trail::new(alloc);
-    trail.push(first)?;
-    trail.push(second)?;
-    Ok(trail)
+    match add_both(&mut trail, first, second) {
+        Ok(()) => Ok(trail),
+        Err(refused) => {
+            drop(trail);
+            Err(refused)
+        }
+    }
+}
+
+/// The journal of a run, and what its seats left.
+fn parts(told: Told) -> (Journal, Ends)
+    ensures journal { result.0 ≡ told.run.journal }
+    ensures ends { result.1 ≡ told.ends }
+{
+    let Told { run, ends } = told;
+    (journal_of(run), ends)
 }
 
 /// A chain's journals and trail, beside this text.
@@ -102,21 +163,28 @@ fn with_text(alloc: Global, text: Bytes, run: ChainRun) -> Result<Chained, Alloc
     ensures second { IfOk result (λ chained. chained.second ≡ run.second.run.journal) }
     ensures trail { IfOk result (λ chained. chained.trail ≡ run.first.ends ∷ run.second.ends ∷ []) }
 {
-    let Told {
-        run: first,
-        ends: ends_first,
-    } = run.first;
-    let Told {
-        run: second,
-        ends: ends_second,
-    } = run.second;
-    let trail = trail_of_both(alloc, ends_first, ends_second)?;
-    Ok(Chained {
-        text,
-        first: first.journal,
-        second: second.journal,
-        trail,
-    })
+    let ChainRun {
+        triples,
+        first,
+        second,
+    } = run;
+    drop(triples);
+    let (first, ends_first) = parts(first);
+    let (second, ends_second) = parts(second);
+    match trail_of_both(alloc, ends_first, ends_second) {
+        Ok(trail) => Ok(Chained {
+            text,
+            first,
+            second,
+            trail,
+        }),
+        Err(refused) => {
+            drop(text);
+            drop(first);
+            drop(second);
+            Err(refused)
+        }
+    }
 }
 
 /// What a chain's runs come to.
@@ -141,8 +209,13 @@ fn chained_of(
     ensures second { IfOk result (λ chained. chained.second ≡ run.second.run.journal) }
     ensures trail { IfOk result (λ chained. chained.trail ≡ run.first.ends ∷ run.second.ends ∷ []) }
 {
-    let text = text_of_chain(alloc, options, input, setting, &run, rows)?;
-    with_text(alloc, text, run)
+    match text_of_chain(alloc, options, input, setting, &run, rows) {
+        Ok(text) => with_text(alloc, text, run),
+        Err(refused) => {
+            drop(run);
+            Err(refused)
+        }
+    }
 }
 
 /// The two runs of a chain over this input and a third table, and the text of its output, or why there is none.

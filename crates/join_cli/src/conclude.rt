@@ -63,9 +63,14 @@ fn conclude_whole<R: Threads + Wait + Sync, K: Sink, G: Gate + Sync>(
         Ok(joined) => joined,
         Err(outcome) => return outcome,
     };
-    match put_all(sink, text.as_slice()) {
+    let put = put_all(sink, text.as_slice());
+    gate.let_go(text);
+    match put {
         Ok(()) => done,
-        Err(Failed) => Outcome::Write,
+        Err(Failed) => {
+            drop(done);
+            Outcome::Write
+        }
     }
 }
 
@@ -142,8 +147,20 @@ fn conclude_early<R: Threads + Wait + Sync, K: Sink, G: Gate + Sync>(
         (K.takes sink.old) (K.takes sink.new) }
 {
     let setting = setting(options);
-    match input(alloc, options.seed, planned.tables, planned.theta) {
-        Ok(input) => end_early(rt, alloc, options, &input, &setting, sink, gate),
+    let Planned {
+        tables,
+        ends,
+        theta,
+        third,
+    } = planned;
+    drop(ends);
+    drop(third);
+    match input(alloc, options.seed, tables, theta) {
+        Ok(input) => {
+            let outcome = end_early(rt, alloc, options, &input, &setting, sink, gate);
+            gate.let_go(input);
+            outcome
+        }
         Err(AllocError) => Outcome::Memory,
     }
 }

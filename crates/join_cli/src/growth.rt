@@ -4,9 +4,10 @@ ghost use Rattle.std.specs.Prelude.{◌≡◌, ◌+◌, ◌*◌, ◌≤◌, ◌^
 ghost use Rattle.trace_law.specs.Validity.{IsValidInput, IsValidSetting};
 ghost use Rattle.actor_core.specs.Rests.{IsRestOf};
 ghost use Rattle.elastic_grow.specs.Growth.{grown_line, grown_setting as grown_setting'};
-ghost use Rattle.join_cli.specs.GrownSteps.{AreFirstWaves, AreGrownWaves};
+ghost use Rattle.join_cli.specs.GrownSteps.{AreFirstWaves, AreGrownWaves, AreWavesGrown};
 ghost use Rattle.join_cli.specs.Left.{counted};
 ghost use Rattle.join_cli.specs.WaveSteps.{AreAhead, AreWavesBehind};
+ghost use Rattle.join_cli.specs.WaveTexts.{no_waves as no_waves'};
 ghost use Rattle.join_cli.specs.Waves.{no_rows};
 
 use crate::waves::{Waved, no_waves, through};
@@ -82,6 +83,75 @@ fn first_waves<R: Threads + Wait + Sync, G: Gate + Sync>(
     through(rt, alloc, number, none, input, setting, ends, gate)
 }
 
+/// The waves up to these ends, which go on from this rest, behind a run that left this.
+fn waves_from<R: Threads + Wait + Sync, G: Gate + Sync>(
+    rt: &R,
+    alloc: Global,
+    number: Option<u64>,
+    trail: Trail,
+    rest: Rest,
+    input: &Input,
+    setting: &Setting,
+    ends: &[WaveEnd],
+    gate: &G,
+) -> Result<Waved, AllocError>
+    requires input { IsValidInput input.now }
+    requires setting { IsValidSetting setting.now }
+    requires ends { AreAhead input.now (counted rest.line) ends.now }
+    requires rest { IsRestOf input.now setting.now rest }
+    requires epoch { rest.line.epoch + 304 * length ends.now ≤ 2 ^ 31 }
+    ensures { IfOk result (AreWavesBehind number input.now setting.now
+        (record { run = no_waves' setting.now; trail = trail; rest = rest }) ends.now) }
+{
+    match no_waves(alloc, setting) {
+        Ok(run) => {
+            let none = Waved { run, trail, rest };
+            through(rt, alloc, number, none, input, setting, ends, gate)
+        }
+        Err(refused) => {
+            drop(trail);
+            drop(rest);
+            Err(refused)
+        }
+    }
+}
+
+/// The line of this rest with each joiner split into four, and the waves up to these ends that go on from there.
+fn waves_grown<R: Threads + Wait + Sync, G: Gate + Sync>(
+    rt: &R,
+    alloc: Global,
+    number: Option<u64>,
+    trail: Trail,
+    rest: Rest,
+    input: &Input,
+    setting: &Setting,
+    ends: &[WaveEnd],
+    gate: &G,
+) -> Result<(TurnLine, Waved), AllocError>
+    requires input { IsValidInput input.now }
+    requires setting { IsValidSetting setting.now }
+    requires k { setting.now.k ≤ 6 }
+    requires free { setting.now.fixed ≡ None }
+    requires ends { AreAhead input.now (counted rest.line) ends.now }
+    requires rest { IsRestOf input.now setting.now rest }
+    requires epoch { rest.line.epoch + 304 * length ends.now ≤ 2 ^ 31 }
+    ensures { IfOk result (λ since.
+        AreWavesGrown number input.now setting.now trail rest.line ends.now since.0 since.1) }
+{
+    match grown_rest(alloc, rest, input, setting) {
+        Ok(rest) => {
+            let line = rest.line;
+            let setting = grown_setting(setting);
+            let waves = waves_from(rt, alloc, number, trail, rest, input, &setting, ends, gate)?;
+            Ok((line, waves))
+        }
+        Err(refused) => {
+            drop(trail);
+            Err(refused)
+        }
+    }
+}
+
 /// The waves up to these ends, with a growth behind so many of them. Want of memory is told also where there are fewer.
 pub(crate) fn grown_waves<R: Threads + Wait + Sync, G: Gate + Sync>(
     rt: &R,
@@ -105,19 +175,29 @@ pub(crate) fn grown_waves<R: Threads + Wait + Sync, G: Gate + Sync>(
         return Err(AllocError);
     };
     let first = first_waves(rt, alloc, number, input, setting, early, gate)?;
-    let rest = grown_rest(alloc, first.rest, input, setting)?;
-    let line = rest.line;
-    let setting = grown_setting(setting);
-    let none = Waved {
-        run: no_waves(alloc, &setting)?,
-        trail: first.trail,
+    let Waved {
+        run: before,
+        trail,
         rest,
-    };
-    let since = through(rt, alloc, number, none, input, &setting, later, gate)?;
-    Ok(Grown {
-        before: first.run,
-        line,
-        since: since.run,
-        trail: since.trail,
-    })
+    } = first;
+    match waves_grown(rt, alloc, number, trail, rest, input, setting, later, gate) {
+        Ok((line, waves)) => {
+            let Waved {
+                run: since,
+                trail,
+                rest,
+            } = waves;
+            gate.let_go(rest);
+            Ok(Grown {
+                before,
+                line,
+                since,
+                trail,
+            })
+        }
+        Err(refused) => {
+            drop(before);
+            Err(refused)
+        }
+    }
 }

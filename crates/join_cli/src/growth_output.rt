@@ -1,12 +1,13 @@
 // The output of a run of several waves with a growth.
 
-ghost use Rattle.std.specs.Prelude.{◌≡◌, ◌≢◌, ◌+◌, ◌<◌, ◌≤◌, ◌++◌, ◌^◌, [], IfOk, None, Some, false, length};
+ghost use Rattle.std.specs.Prelude.{◌≡◌, ◌≢◌, ◌+◌, ◌<◌, ◌≤◌, ◌++◌, ◌^◌, [], IfOk, OnOk, None, Some, false, length};
 ghost use Rattle.join_rows.specs.declared.table.Side.TheVariants.{R as R', S as S'};
 ghost use Rattle.trace_law.specs.Join.{row_count};
 ghost use Rattle.trace_law.specs.Validity.{IsValidInput, IsValidSetting};
 ghost use Rattle.join_report.specs.Report.{AreWithin};
 ghost use Rattle.join_words.specs.Words.{asked};
 ghost use Rattle.join_plan.specs.declared.fitting.Planned.{Planned as Planned'};
+ghost use Rattle.join_cli.specs.Courses.{by_run};
 ghost use Rattle.join_cli.specs.Ends.{IsMade, course_of};
 ghost use Rattle.join_cli.specs.Grown.{bare_grown_report_of, grown_shape, placed_at};
 ghost use Rattle.join_cli.specs.Plan.{input_of, setting_of};
@@ -16,7 +17,7 @@ ghost use Rattle.join_cli.specs.Waves.{no_rows};
 
 use crate::growth::{Grown, grown_waves};
 use crate::outcome::Outcome;
-use crate::output::{Joined, bytes_of};
+use crate::output::{Joined, add, bytes_of, journal_of};
 use crate::wave_output::lines;
 use crate::waves::journal_of_both;
 use grid_map::{Shape, Weights, copies};
@@ -86,6 +87,37 @@ fn report_of_both(
     Ok(bytes_of(text))
 }
 
+/// Appends the lines of the pairs since the growth, and then the report where it is asked for.
+fn add_since(
+    alloc: Global,
+    options: &Options<'_>,
+    input: &Input,
+    setting: &Setting,
+    grown: &Grown,
+    text: &mut Bytes,
+) -> Result<(), AllocError>
+    requires input { IsValidInput input.now }
+    requires setting { IsValidSetting setting.now }
+    requires k { setting.now.k ≤ 6 }
+    requires shift { grown.now.line.shift ≤ setting.now.k + 2 }
+    requires rows_r { grown.now.line.rows_r ≤ 2 ^ 32 }
+    requires rows_s { grown.now.line.rows_s ≤ 2 ^ 32 }
+    requires before { AreWithin setting.now.k grown.now.before.journal }
+    requires since { AreWithin (setting.now.k + 2) grown.now.since.journal }
+    requires steps { length grown.now.before.moved + length grown.now.since.moved < 2 ^ 32 }
+    ensures { OnOk result (text.new
+        ≡ (text.old ++ lines_of options.now.rows input.now grown.now.since.pairs)
+        ++ bare_grown_report_of options.now.report setting.now
+        (row_count input.now R') (row_count input.now S')
+        grown.now.before grown.now.line grown.now.since) }
+{
+    add(
+        text,
+        lines(alloc, options, input, grown.since.pairs.as_slice())?,
+    )?;
+    add(text, report_of_both(alloc, options, input, setting, grown)?)
+}
+
 /// The lines of all waves' pairs, and then the report where it is asked for.
 fn text_of_both(
     alloc: Global,
@@ -111,11 +143,40 @@ fn text_of_both(
         grown.now.before grown.now.line grown.now.since) }
 {
     let mut text = lines(alloc, options, input, grown.before.pairs.as_slice())?;
-    let since = lines(alloc, options, input, grown.since.pairs.as_slice())?;
-    text.append(since.as_slice())?;
-    let report = report_of_both(alloc, options, input, setting, grown)?;
-    text.append(report.as_slice())?;
-    Ok(text)
+    match add_since(alloc, options, input, setting, grown, &mut text) {
+        Ok(()) => Ok(text),
+        Err(refused) => {
+            drop(text);
+            Err(refused)
+        }
+    }
+}
+
+/// The output with this text, of these waves.
+fn joined_of(text: Bytes, grown: Grown) -> Result<Joined, AllocError>
+    ensures { IfOk result (λ joined. (joined.text ≡ text) × (course_of joined.done
+        ≡ Some (by_run (grown.before.journal ++ grown.since.journal) grown.trail))) }
+{
+    let Grown {
+        before,
+        since,
+        trail,
+        ..
+    } = grown;
+    let more = journal_of(since);
+    let both = journal_of_both(journal_of(before), &more);
+    drop(more);
+    match both {
+        Ok(journal) => {
+            let done = Outcome::Done { journal, trail };
+            Ok(Joined { text, done })
+        }
+        Err(refused) => {
+            drop(text);
+            drop(trail);
+            Err(refused)
+        }
+    }
 }
 
 /// The output that the options ask for of an input, with this setting, whose waves end there, with a growth behind so
@@ -148,16 +209,11 @@ pub(crate) fn grown_output<R: Threads + Wait + Sync, G: Gate + Sync>(
         → IsMade (asked options.now) planned joined.text (course_of joined.done)) }
 {
     let grown = grown_waves(rt, alloc, options.replay, wave, input, setting, ends, gate)?;
-    let text = text_of_both(alloc, options, input, setting, &grown)?;
-    let Grown {
-        before,
-        since,
-        trail,
-        ..
-    } = grown;
-    let journal = journal_of_both(before.journal, &since.journal)?;
-    Ok(Joined {
-        text,
-        done: Outcome::Done { journal, trail },
-    })
+    match text_of_both(alloc, options, input, setting, &grown) {
+        Ok(text) => joined_of(text, grown),
+        Err(refused) => {
+            drop(grown);
+            Err(refused)
+        }
+    }
 }

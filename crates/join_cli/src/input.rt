@@ -5,6 +5,7 @@ ghost use Rattle.trace_law.specs.Validity.{IsValidInput, IsValidSetting};
 ghost use Rattle.join_words.specs.Words.{asked};
 ghost use Rattle.chain_join.specs.Chains.{tickets_of};
 ghost use Rattle.join_rows.specs.Records.{IsTable};
+ghost use Rattle.join_rows.specs.declared.table.Side.TheVariants.{R as R', S as S'};
 ghost use Rattle.join_cli.specs.Plan.{input_with, setting_of};
 
 use join_plan::Tables;
@@ -49,6 +50,23 @@ fn drawn(alloc: Global, seed: u64, side: Side, table: &Table) -> Result<Bytes, A
     Ok(drawn)
 }
 
+/// The tickets of the rows of R and of S.
+fn both_drawn(alloc: Global, seed: u64, tables: &Tables) -> Result<(Bytes, Bytes), AllocError>
+    ensures r { IfOk result (λ drawn. drawn.0 ≡ tickets_of seed R' tables.now.of_r.rows) }
+    ensures s { IfOk result (λ drawn. drawn.1 ≡ tickets_of seed S' tables.now.of_s.rows) }
+    ensures bytes_r { IfOk result (λ drawn. All (λ ticket. ticket < 2 ^ 8) drawn.0) }
+    ensures bytes_s { IfOk result (λ drawn. All (λ ticket. ticket < 2 ^ 8) drawn.1) }
+{
+    let of_r = drawn(alloc, seed, Side::R, &tables.of_r)?;
+    match drawn(alloc, seed, Side::S, &tables.of_s) {
+        Ok(of_s) => Ok((of_r, of_s)),
+        Err(refused) => {
+            drop(of_r);
+            Err(refused)
+        }
+    }
+}
+
 /// Tables and a predicate, with the tickets of a seed.
 pub(crate) fn input(
     alloc: Global,
@@ -63,15 +81,18 @@ pub(crate) fn input(
     ensures is { IfOk result (λ input. input ≡ input_with seed tables theta) }
     ensures valid { IfOk result IsValidInput }
 {
-    let table_r = tables.of_r;
-    let table_s = tables.of_s;
-    let tickets_r = drawn(alloc, seed, Side::R, &table_r)?;
-    let tickets_s = drawn(alloc, seed, Side::S, &table_s)?;
-    Ok(Input {
-        table_r,
-        table_s,
-        theta,
-        tickets_r,
-        tickets_s,
-    })
+    match both_drawn(alloc, seed, &tables) {
+        Ok((tickets_r, tickets_s)) => Ok(Input {
+            table_r: tables.of_r,
+            table_s: tables.of_s,
+            theta,
+            tickets_r,
+            tickets_s,
+        }),
+        Err(refused) => {
+            drop(tables);
+            drop(theta);
+            Err(refused)
+        }
+    }
 }

@@ -1,6 +1,6 @@
 // The output of two tables and a predicate.
 
-ghost use Rattle.std.specs.Prelude.{◌≡◌, ◌<◌, ◌≤◌, ◌^◌, IfErr, IfOk, IfSome, None};
+ghost use Rattle.std.specs.Prelude.{◌≡◌, ◌++◌, ◌<◌, ◌≤◌, ◌^◌, IfErr, IfOk, IfSome, OnOk, None};
 ghost use Rattle.std.specs.Prelude.{[], false, is_some, length, string_bytes};
 ghost use Rattle.trace_law.specs.Validity.{IsValidInput, IsValidSetting};
 ghost use Rattle.join_words.specs.Words.{asked};
@@ -32,6 +32,7 @@ use join_report::{pairs_text, report_text, rows_text, summary_text};
 use join_rows::Bytes;
 use join_words::Options;
 use link_trace::{Input, Run, Setting};
+use load_controller::Journal;
 use std::alloc::{AllocError, Global};
 use std::sync::Wait;
 use std::thread::Threads;
@@ -42,6 +43,13 @@ use worker_gate::Gate;
 pub(crate) struct Joined {
     pub(crate) text: Bytes,
     pub(crate) done: Outcome,
+}
+
+/// The journal of a run.
+pub(crate) fn journal_of(run: Run) -> Journal
+    ensures { result ≡ run.journal }
+{
+    run.journal
 }
 
 /// These bytes.
@@ -115,6 +123,34 @@ pub(crate) fn report(
     bare_report(alloc, options, setting, rows_r, rows_s, run)
 }
 
+/// Appends a text.
+pub(crate) fn add(text: &mut Bytes, more: Bytes) -> Result<(), AllocError>
+    ensures { OnOk result (text.new ≡ text.old ++ more) }
+{
+    let added = text.append(more.as_slice());
+    drop(more);
+    added
+}
+
+/// Appends the report where one is asked for.
+fn add_report(
+    alloc: Global,
+    options: &Options<'_>,
+    input: &Input,
+    setting: &Setting,
+    run: &Run,
+    text: &mut Bytes,
+) -> Result<(), AllocError>
+    requires input { IsValidInput input.now }
+    requires setting { IsValidSetting setting.now }
+    requires run { IsRunOf input.now setting.now (first_rest setting.now).line
+        run.now.journal run.now }
+    ensures { OnOk result (text.new ≡ text.old
+        ++ report_asked options.now.report input.now setting.now run.now.journal) }
+{
+    add(text, report(alloc, options, input, setting, run)?)
+}
+
 /// The text of the pairs, and then the report where one is asked for.
 pub(crate) fn text(
     alloc: Global,
@@ -131,9 +167,13 @@ pub(crate) fn text(
         (λ text. text ≡ text_of (asked options.now) input.now setting.now run.now.journal) }
 {
     let mut text = answer(alloc, options, input, run.pairs.as_slice())?;
-    let report = report(alloc, options, input, setting, run)?;
-    text.append(report.as_slice())?;
-    Ok(text)
+    match add_report(alloc, options, input, setting, run, &mut text) {
+        Ok(()) => Ok(text),
+        Err(refused) => {
+            drop(text);
+            Err(refused)
+        }
+    }
 }
 
 /// The output that the options ask for of an input, with this setting, of joiners in one grid and not over rings.
@@ -157,14 +197,18 @@ fn grid_output<R: Threads + Wait + Sync, G: Gate + Sync>(
         → IsMade (asked options.now) planned joined.text (course_of joined.done)) }
 {
     let Course { run, trail } = carry_out(rt, alloc, options.replay, input, setting, gate)?;
-    let text = text(alloc, options, input, setting, &run)?;
-    Ok(Joined {
-        text,
-        done: Outcome::Done {
-            journal: run.journal,
-            trail,
-        },
-    })
+    match text(alloc, options, input, setting, &run) {
+        Ok(text) => {
+            let journal = journal_of(run);
+            let done = Outcome::Done { journal, trail };
+            Ok(Joined { text, done })
+        }
+        Err(refused) => {
+            drop(run);
+            drop(trail);
+            Err(refused)
+        }
+    }
 }
 
 /// The output that the options ask for of an input, with this setting.
@@ -266,6 +310,7 @@ fn output_in_waves<R: Threads + Wait + Sync, G: Gate + Sync>(
     if options.later.is_empty() {
         return output_with(rt, alloc, options, input, third, setting, gate);
     }
+    drop(third);
     let joined = match options.grow {
         Some(wave) => grown_output(rt, alloc, options, wave, input, ends, setting, gate),
         None => waves_output(rt, alloc, options, input, ends, setting, gate),
@@ -303,16 +348,25 @@ pub(crate) fn output<R: Threads + Wait + Sync, G: Gate + Sync>(
         third,
     } = planned;
     match input(alloc, options.seed, tables, theta) {
-        Ok(input) => output_in_waves(
-            rt,
-            alloc,
-            options,
-            &input,
-            ends.as_slice(),
-            third,
-            &setting,
-            gate,
-        ),
-        Err(AllocError) => Err(Outcome::Memory),
+        Ok(input) => {
+            let made = output_in_waves(
+                rt,
+                alloc,
+                options,
+                &input,
+                ends.as_slice(),
+                third,
+                &setting,
+                gate,
+            );
+            gate.let_go(input);
+            drop(ends);
+            made
+        }
+        Err(AllocError) => {
+            drop(ends);
+            drop(third);
+            Err(Outcome::Memory)
+        }
     }
 }

@@ -1,6 +1,6 @@
 // The output of a run of several waves.
 
-ghost use Rattle.std.specs.Prelude.{◌≡◌, ◌≢◌, ◌<◌, ◌≤◌, ◌++◌, ◌^◌, [], IfOk, None, false, length};
+ghost use Rattle.std.specs.Prelude.{◌≡◌, ◌≢◌, ◌<◌, ◌≤◌, ◌++◌, ◌^◌, [], IfOk, OnOk, None, false, length};
 ghost use Rattle.join_rows.specs.declared.table.Side.TheVariants.{R as R', S as S'};
 ghost use Rattle.trace_law.specs.Join.{row_count};
 ghost use Rattle.trace_law.specs.Validity.{IsValidInput, IsValidSetting};
@@ -14,7 +14,7 @@ ghost use Rattle.join_cli.specs.WaveTexts.{lines_of};
 ghost use Rattle.join_cli.specs.Waves.{no_rows};
 
 use crate::outcome::Outcome;
-use crate::output::{Joined, bare_report, bytes_of};
+use crate::output::{Joined, add, bare_report, bytes_of, journal_of};
 use crate::waves::{Waved, all_waves};
 use epoch_tags::Pair;
 use join_plan::WaveEnd;
@@ -43,6 +43,30 @@ pub(crate) fn lines(
     }
 }
 
+/// Appends the report of all waves in one where it is asked for.
+fn add_report(
+    alloc: Global,
+    options: &Options<'_>,
+    input: &Input,
+    setting: &Setting,
+    run: &Run,
+    text: &mut Bytes,
+) -> Result<(), AllocError>
+    requires input { IsValidInput input.now }
+    requires setting { IsValidSetting setting.now }
+    requires shifts { AreWithin setting.now.k run.now.journal }
+    requires steps { length run.now.moved < 2 ^ 32 }
+    ensures { OnOk result (text.new ≡ text.old ++ bare_report_of options.now.report setting.now
+        (row_count input.now R') (row_count input.now S') run.now) }
+{
+    let rows_r = input.table_r.rows.len();
+    let rows_s = input.table_s.rows.len();
+    add(
+        text,
+        bare_report(alloc, options, setting, rows_r, rows_s, run)?,
+    )
+}
+
 /// The lines of all waves' pairs, and then the report of all waves in one where it is asked for.
 fn text_of_waves(
     alloc: Global,
@@ -60,11 +84,13 @@ fn text_of_waves(
         (row_count input.now R') (row_count input.now S') run.now) }
 {
     let mut text = lines(alloc, options, input, run.pairs.as_slice())?;
-    let rows_r = input.table_r.rows.len();
-    let rows_s = input.table_s.rows.len();
-    let report = bare_report(alloc, options, setting, rows_r, rows_s, run)?;
-    text.append(report.as_slice())?;
-    Ok(text)
+    match add_report(alloc, options, input, setting, run, &mut text) {
+        Ok(()) => Ok(text),
+        Err(refused) => {
+            drop(text);
+            Err(refused)
+        }
+    }
 }
 
 /// The output that the options ask for of an input, with this setting, whose waves end there.
@@ -92,7 +118,7 @@ pub(crate) fn waves_output<R: Threads + Wait + Sync, G: Gate + Sync>(
         → planned.ends ≡ ends.now
         → IsMade (asked options.now) planned joined.text (course_of joined.done)) }
 {
-    let Waved { run, trail, .. } = all_waves(
+    let Waved { run, trail, rest } = all_waves(
         rt,
         alloc,
         options.replay,
@@ -101,12 +127,17 @@ pub(crate) fn waves_output<R: Threads + Wait + Sync, G: Gate + Sync>(
         ends,
         gate,
     )?;
-    let text = text_of_waves(alloc, options, input, setting, &run)?;
-    Ok(Joined {
-        text,
-        done: Outcome::Done {
-            journal: run.journal,
-            trail,
-        },
-    })
+    gate.let_go(rest);
+    match text_of_waves(alloc, options, input, setting, &run) {
+        Ok(text) => {
+            let journal = journal_of(run);
+            let done = Outcome::Done { journal, trail };
+            Ok(Joined { text, done })
+        }
+        Err(refused) => {
+            drop(run);
+            drop(trail);
+            Err(refused)
+        }
+    }
 }

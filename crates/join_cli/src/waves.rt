@@ -215,6 +215,34 @@ fn trail_of_both(trail: Trail, more: Trail) -> Result<Trail, AllocError>
     Ok(both)
 }
 
+/// Some waves, of which these are the run and the trail, and the next in one.
+fn waves_of_both(alloc: Global, run: Run, trail: Trail, next: Waved) -> Result<Waved, AllocError>
+    ensures { IfOk result (λ both. (both.run ≡ with_wave run next.run)
+        × (both.trail ≡ trail ++ next.trail) × (both.rest ≡ next.rest)) }
+{
+    let Waved {
+        run: next_run,
+        trail: next_trail,
+        rest,
+    } = next;
+    match run_of_both(alloc, run, next_run) {
+        Ok(run) => match trail_of_both(trail, next_trail) {
+            Ok(trail) => Ok(Waved { run, trail, rest }),
+            Err(refused) => {
+                drop(run);
+                drop(rest);
+                Err(refused)
+            }
+        },
+        Err(refused) => {
+            drop(trail);
+            drop(next_trail);
+            drop(rest);
+            Err(refused)
+        }
+    }
+}
+
 /// These waves and the next, which goes on from what they left.
 fn next_wave<R: Threads + Wait + Sync, G: Gate + Sync>(
     rt: &R,
@@ -238,12 +266,14 @@ fn next_wave<R: Threads + Wait + Sync, G: Gate + Sync>(
         rows_r: end.rows_r,
         rows_s: end.rows_s,
     };
-    let next = one_wave(rt, alloc, number, rest, input, setting, end, gate)?;
-    Ok(Waved {
-        run: run_of_both(alloc, run, next.run)?,
-        trail: trail_of_both(trail, next.trail)?,
-        rest: next.rest,
-    })
+    match one_wave(rt, alloc, number, rest, input, setting, end, gate) {
+        Ok(next) => waves_of_both(alloc, run, trail, next),
+        Err(refused) => {
+            drop(run);
+            drop(trail);
+            Err(refused)
+        }
+    }
 }
 
 /// These waves and those behind them up to these ends, each of which goes on from what the one before left.

@@ -27,49 +27,49 @@ returns-in-Err-clause-left g c = PutsSome-refl (g.K.Sink.written c.args.sink.now
 
 -- ---- it was made and written
 
-pub returns-in-Ok-put_all-clause-ends : goal.returns-in-Ok-put_all-clause-ends
-returns-in-Ok-put_all-clause-ends g c =
+pub returns-in-Ok-put-clause-ends : goal.returns-in-Ok-put-clause-ends
+returns-in-Ok-put-clause-ends g c =
     whole_written (asked c.args.options.now) c.args.planned c.as_slice.result.now (g.K.Sink.written c.args.sink.now)
-    (g.K.Sink.written c.put_all.new.sink) c.in-Ok.joined.done (course_of c.in-Ok.joined.done) c.requires.whole
-    (rw c.as_slice.ensures c.in-Ok.ensures.made) c.in-Ok-put_all.ensures.written
+    (g.K.Sink.written c.put_all-put.new.sink) c.in-Ok.joined.done (course_of c.in-Ok.joined.done) c.requires.whole
+    (rw c.as_slice.ensures c.in-Ok.ensures.made) c.in-Ok-put.ensures.written
 
 -- what was made is no refusal
-pub returns-in-Ok-put_all-clause-nothing : goal.returns-in-Ok-put_all-clause-nothing
-returns-in-Ok-put_all-clause-nothing g c is =
+pub returns-in-Ok-put-clause-nothing : goal.returns-in-Ok-put-clause-nothing
+returns-in-Ok-put-clause-nothing g c is =
     absurd (subst (λ o. IsMade (asked c.args.options.now) c.args.planned c.in-Ok.joined.text (course_of o))
     is c.in-Ok.ensures.made)
 
-pub returns-in-Ok-put_all-clause-between : goal.returns-in-Ok-put_all-clause-between
-returns-in-Ok-put_all-clause-between g c pairs is =
+pub returns-in-Ok-put-clause-between : goal.returns-in-Ok-put-clause-between
+returns-in-Ok-put-clause-between g c pairs is =
     absurd (subst (λ o. IsMade (asked c.args.options.now) c.args.planned c.in-Ok.joined.text (course_of o))
     is c.in-Ok.ensures.made)
 
-pub returns-in-Ok-put_all-clause-fails : goal.returns-in-Ok-put_all-clause-fails
-returns-in-Ok-put_all-clause-fails g c is =
+pub returns-in-Ok-put-clause-fails : goal.returns-in-Ok-put-clause-fails
+returns-in-Ok-put-clause-fails g c is =
     absurd (subst (λ o. IsMade (asked c.args.options.now) c.args.planned c.in-Ok.joined.text (course_of o))
     is c.in-Ok.ensures.made)
 
-pub returns-in-Ok-put_all-clause-complete : goal.returns-in-Ok-put_all-clause-complete
-returns-in-Ok-put_all-clause-complete g c takes few =
+pub returns-in-Ok-put-clause-complete : goal.returns-in-Ok-put-clause-complete
+returns-in-Ok-put-clause-complete g c takes few =
     inl (made_done (asked c.args.options.now) c.args.planned c.in-Ok.joined.text (course_of c.in-Ok.joined.done)
     c.in-Ok.ensures.made)
 
 -- ---- a put failed
 
-pub returns-clause-ends : goal.returns-clause-ends
-returns-clause-ends g c =
+pub returns-in-Err-put-clause-ends : goal.returns-in-Err-put-clause-ends
+returns-in-Err-put-clause-ends g c =
     whole_stopped (asked c.args.options.now) c.args.planned c.as_slice.result.now (g.K.Sink.written c.args.sink.now)
-    (g.K.Sink.written c.put_all.new.sink) (course_of c.in-Ok.joined.done) c.requires.whole
-    (rw c.as_slice.ensures c.in-Ok.ensures.made) c.in-Err-put_all.ensures.front
+    (g.K.Sink.written c.put_all-put.new.sink) (course_of c.in-Ok.joined.done) c.requires.whole
+    (rw c.as_slice.ensures c.in-Ok.ensures.made) c.in-Err-put.ensures.front
 
-pub returns-clause-complete : goal.returns-clause-complete
-returns-clause-complete g c takes few =
-    absurd (cc (c.in-Err-put_all.ensures.takes 0
+pub returns-in-Err-put-clause-complete : goal.returns-in-Err-put-clause-complete
+returns-in-Err-put-clause-complete g c takes few =
+    absurd (cc (c.in-Err-put.ensures.takes 0
     (takes_made (g.K.Sink.takes c.args.sink.now) (asked c.args.options.now) c.args.planned c.as_slice.result.now
     (course_of c.in-Ok.joined.done) (rw c.as_slice.ensures c.in-Ok.ensures.made) takes)).0)
 
-pub returns-clause-left : goal.returns-clause-left
-returns-clause-left g c =
-    PutsSome-front (g.K.Sink.written c.args.sink.now) (g.K.Sink.written c.put_all.new.sink)
-    (g.K.Sink.takes c.args.sink.now) (g.K.Sink.takes c.put_all.new.sink)
-    c.as_slice.result.now c.in-Err-put_all.ensures.left
+pub returns-in-Err-put-clause-left : goal.returns-in-Err-put-clause-left
+returns-in-Err-put-clause-left g c =
+    PutsSome-front (g.K.Sink.written c.args.sink.now) (g.K.Sink.written c.put_all-put.new.sink)
+    (g.K.Sink.takes c.args.sink.now) (g.K.Sink.takes c.put_all-put.new.sink)
+    c.as_slice.result.now c.in-Err-put.ensures.left

@@ -1,6 +1,6 @@
-use Rattle.std.proofs.Common.{◌≡◌, ◌≤◌, None, Some, subst, sym}
+use Rattle.std.proofs.Common.{◌≡◌, ◌≤◌, ◌∙◌, None, subst, sym}
+use Rattle.std.proofs.lemmas.Result.{IfOk-weaker}
 use Rattle.join_words.specs.Words.{asked}
-use Rattle.join_cli.specs.Courses.{by_run}
 use Rattle.join_cli.specs.Ends.{IsMade}
 use Rattle.join_cli.proofs.GrownFacts.{early_shifts, few_grown_steps, later_shifts, line_fits}
 use Rattle.join_cli.proofs.GrownOutput.{grown_are_asked}
@@ -50,14 +50,16 @@ text_of_both-requires-clause-steps g c =
     (subst (λ s. s.k ≤ 6) (sym c.requires.is) c.requires.k)
     (subst (λ s. s.fixed ≡ None) (sym c.requires.is) c.requires.free) c.requires.ends c.requires.few
 
-pub returns : goal.returns
-returns g c = λ planned is ends_is.
+pub returns-in-Ok : goal.returns-in-Ok
+returns-in-Ok g c =
+    IfOk-weaker c.joined_of.result _ _
+    (λ joined made planned is ends_is.
     let own = asked c.args.options.now in
     let are = grown_are_asked own planned c.args.input.now c.args.setting.now c.args.wave c.args.ends.now
-    c.in_ok-grown.grown c.in_ok-text.text is c.requires.is ends_is c.requires.single
+    c.in_ok-grown.grown joined.text is c.requires.is ends_is c.requires.single
     (not_chained c.args.options.now.chain c.requires.whole) c.requires.queued c.requires.free c.requires.setting
-    c.in_ok-grown.ensures c.in_ok-text.ensures in
-    subst (λ j. IsMade own planned c.in_ok-text.text (Some (by_run j c.in_ok-grown.grown.trail)))
-    (sym c.in_ok-journal.ensures)
-    (made_of_grown c.args.wave own planned _ c.in_ok-grown.grown.trail c.in_ok-text.text
-    (asks_several c.args.options.now c.requires.later) c.requires.grow are.0 are.1)
+    c.in_ok-grown.ensures (made.0 ∙ c.in-Ok.ensures) in
+    subst (IsMade own planned joined.text) (sym made.1)
+    (made_of_grown c.args.wave own planned _ c.in_ok-grown.grown.trail joined.text
+    (asks_several c.args.options.now c.requires.later) c.requires.grow are.0 are.1))
+    c.joined_of.ensures

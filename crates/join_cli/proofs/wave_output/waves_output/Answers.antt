@@ -15,12 +15,12 @@ text_of_waves-requires-clause-steps g c =
     few_steps c.args.options.now.replay c.args.input.now c.args.setting.now c.args.ends.now c.in_ok-run.field-0.run
     c.in_ok-run.field-0.trail c.requires.input c.requires.setting c.requires.ends c.requires.few c.in_ok-run.ensures
 
-pub returns : goal.returns
-returns g c = λ planned is ends_is.
+pub returns-in-Ok : goal.returns-in-Ok
+returns-in-Ok g c = λ planned is ends_is.
     let own = asked c.args.options.now in
     let are = waves_are own planned c.args.input.now c.args.setting.now c.args.ends.now c.in_ok-run.field-0.run
-    c.in_ok-run.field-0.trail c.in_ok-text.text is c.requires.is ends_is c.requires.single
+    c.in_ok-run.field-0.trail c.in-Ok.text is c.requires.is ends_is c.requires.single
     (not_chained c.args.options.now.chain c.requires.whole) c.requires.queued c.requires.setting c.in_ok-run.ensures
-    c.in_ok-text.ensures in
-    made_of_several own planned c.in_ok-run.field-0.run.journal c.in_ok-run.field-0.trail c.in_ok-text.text
-    (asks_several c.args.options.now c.requires.later) c.requires.still are.0 are.1
+    c.in-Ok.ensures in
+    rw c.journal_of-journal.ensures (made_of_several own planned c.in_ok-run.field-0.run.journal c.in_ok-run.field-0.trail c.in-Ok.text
+    (asks_several c.args.options.now c.requires.later) c.requires.still are.0 are.1)

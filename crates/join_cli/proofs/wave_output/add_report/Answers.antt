@@ -1,6 +1,6 @@
 use Rattle.std.proofs.Common.{◌≤◌, ◌^◌, length, arith}
 use Rattle.join_rows.specs.declared.table.Side.TheVariants.{R, S}
-use Rattle.join_cli.proofs.wave_output.text_of_waves.Goals as goal
+use Rattle.join_cli.proofs.wave_output.add_report.Goals as goal
 
 pub bare_report-requires-clause-rows_r : goal.bare_report-requires-clause-rows_r
 bare_report-requires-clause-rows_r c =
