@@ -3,13 +3,13 @@
 
 mod end;
 mod epochs;
+mod held;
 mod joiner;
 mod machine;
 mod moved;
 mod report;
 mod settle;
 mod stock;
-mod trial;
 mod tup;
 mod turn;
 

@@ -2,6 +2,7 @@
 #![tactic(auto)]
 
 mod controller;
+mod held;
 mod laws;
 mod ledger;
 mod line;
@@ -9,7 +10,6 @@ mod marks;
 mod next;
 mod post;
 mod receive;
-mod trial;
 
 pub use controller::Controller;
 pub use laws::{
