@@ -16,8 +16,8 @@ fn may_send<T: Send>()
     ensures { IsSend T.row }
 {}
 
-/// A predicate may be read by several threads at once, and an access, which has predicates of its own, may go to another
-/// thread.
+/// A predicate may be read by several threads at once, and an access, which has predicates of its own, may go to
+/// another thread.
 pub fn shares_predicates()
     ensures shared { IsSync theta.the_row }
     ensures sent { IsSend access.the_row }

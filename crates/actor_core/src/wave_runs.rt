@@ -58,8 +58,8 @@ fn exponent_of(joiners: u32) -> u32
     0
 }
 
-/// What a wave's controller and complete collector have to tell, and what the wave leaves for the next: the last line of
-/// the journal, and the stores of so many joiners. An error also comes where the journal has no line.
+/// What a wave's controller and complete collector have to tell, and what the wave leaves for the next: the last line
+/// of the journal, and the stores of so many joiners. An error also comes where the journal has no line.
 pub fn wave_run(
     alloc: Global,
     joiners: u32,

@@ -1,4 +1,5 @@
-//! What actors send one another: tuples, pairs and messages, each in an envelope; and the messages that wait at a receiver.
+//! What actors send one another: tuples, pairs and messages, each in an envelope; and the messages that wait at a
+//! receiver.
 #![tactic(auto)]
 
 mod actor;

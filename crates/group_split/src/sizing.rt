@@ -33,8 +33,8 @@ pub(crate) fn push_if(items: &mut Counts, item: u64, wanted: bool) -> Result<(),
     Ok(())
 }
 
-/// The places of the binary digits that are 1, greatest first, counted from 0: a group's joiners are 2 to the power of its
-/// digit's place.
+/// The places of the binary digits that are 1, greatest first, counted from 0: a group's joiners are 2 to the power of
+/// its digit's place.
 pub fn digits(alloc: Global, joiners: u32) -> Result<Counts, AllocError>
     ensures are { IfOk result (λ places. places ≡ digits joiners) }
     ensures small { IfOk result (All (λ place. place < 7)) }

@@ -66,8 +66,8 @@ fn join_files<R: Threads + Wait + Sync, H: Shelf, K: Sink, G: Gate + Sync>(
 
 /// Runs `jm` with these words, the program's name first. The first of these that applies is
 /// answered: the words, the text of the predicate, that of the second, the file of R, the file of S, those of the later
-/// waves, the third, the columns, those of the second predicate, the numbers of R and then of S, those of the second predicate;
-/// then the join is run, and the second behind it, and the output made whole, and then it is
+/// waves, the third, the columns, those of the second predicate, the numbers of R and then of S, those of the second
+/// predicate; then the join is run, and the second behind it, and the output made whole, and then it is
 /// written. Early output is written while the join is run. Memory may run out at each of them. The
 /// run is one in as many threads as there are workers, whose seats pass the gate at each turn, or a
 /// replay in one thread, of several waves one behind the other; where joiners form groups there is such a run for each;

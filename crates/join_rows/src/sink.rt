@@ -19,8 +19,8 @@ pub trait Sink {
     /// How many calls failed.
     ghost faults: { Self → ℕ };
 
-    /// No put fails from here on while the pieces together have so many bytes at most. A put that fails takes no more of
-    /// them than it appends.
+    /// No put fails from here on while the pieces together have so many bytes at most. A put that fails takes no more
+    /// of them than it appends.
     ghost takes: { Self → ℕ → Type 0 };
 
     /// Appends the piece, or a front of it where the call fails.

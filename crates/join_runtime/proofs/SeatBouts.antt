@@ -88,7 +88,8 @@ pub swapped_work : (old swapped worked new : List SeatView) (i j : ℕ) → leng
     → j < length old
     → SwappedAt old swapped i j → AllWork swapped worked → SwappedAt worked new i j → AllWork old new
 swapped_work old swapped worked new i j long low_i low_j there works back n d low =
-    let moved = λ (a b : ℕ) (from : get_or swapped b d ≡ get_or old a d) (to : get_or new a d ≡ get_or worked b d) (within : b < length swapped).
+    let moved = λ (a b : ℕ) (from : get_or swapped b d ≡ get_or old a d) (to : get_or new a d ≡ get_or worked b d)
+    (within : b < length swapped).
     subst (λ u. Works u (get_or new a d)) from (subst (Works (get_or swapped b d)) (sym to) (works b d within)) in
     elim (cases_eq n i) [
       | inl is ↦

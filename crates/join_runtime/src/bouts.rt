@@ -205,8 +205,9 @@ pub(crate) fn bout_by<'a, R: Wait, G: Gate, F: FnOnce(Vec<Seat<'a>>) -> Vec<Seat
 }
 
 /// One bout. First the feeders and the controller go ahead, in the calling thread and by 64 turns each at most, unless
-/// some seat has had no turn or knows of more messages than it can take. Then each seat has turns until it is idle or has had 256 in this
-/// bout, in as many chunks side by side as there are workers; then the two ends of each link are held together.
+/// some seat has had no turn or knows of more messages than it can take. Then each seat has turns until it is idle or
+/// has had 256 in this bout, in as many chunks side by side as there are workers; then the two ends of each link are
+/// held together.
 /// `Ok(false)`: nothing was left on any link, and no feeder would begin; then nothing changed, and of a valid input the
 /// collector is complete. After an error the seats are spent.
 pub fn bout<R: Threads + Wait + Sync, G: Gate + Sync>(

@@ -20,8 +20,8 @@ fn swap(seats: &mut Vec<Seat>, a: usize, b: usize)
     seats.as_mut_slice().swap(a, b);
 }
 
-// The turns of all seats, of which those at so many last places are still to be dealt to chunks of this size; each stands
-// in its place again behind them.
+// The turns of all seats, of which those at so many last places are still to be dealt to chunks of this size; each
+// stands in its place again behind them.
 fn work_dealt<'a, R: Wait, G: Gate>(
     rt: &R,
     seats: Vec<Seat<'a>>,

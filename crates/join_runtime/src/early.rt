@@ -132,10 +132,11 @@ fn run_early_by<'a, R: Wait, G: Gate, K: Sink>(
     Ok(seats.finish(bouts)?)
 }
 
-/// Does what [`run`](crate::run) does, and after each bout puts the lines of the pairs that came in it, in pieces of 4,096
-/// bytes. At any answer a front of the lines of pairs of the nested loop was appended, none of them twice, so the last line
-/// may be cut; after `Ok` it is the line of each pair of the run, once and whole, in an order that may differ from run to
-/// run. `Write` comes at the first put that fails, and no put follows it. What it promises holds if it returns.
+/// Does what [`run`](crate::run) does, and after each bout puts the lines of the pairs that came in it, in pieces of
+/// 4,096 bytes. At any answer a front of the lines of pairs of the nested loop was appended, none of them twice, so the
+/// last line may be cut; after `Ok` it is the line of each pair of the run, once and whole, in an order that may differ
+/// from run to run. `Write` comes at the first put that fails, and no put follows it. What it promises holds if it
+/// returns.
 pub fn run_early<R: Threads + Wait + Sync, G: Gate + Sync, K: Sink>(
     rt: &R,
     alloc: Global,

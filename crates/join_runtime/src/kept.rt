@@ -50,7 +50,8 @@ pub(crate) fn pool_of<'s, 'a: 's, E, R: Wait + Sync, G: Gate + Sync>(
     Pool::start(rt, alloc, scope, signals, turns)
 }
 
-// Nothing happens to it. What a scope's closure hands back of what it was lent is known by this once the loan has ended.
+// Nothing happens to it. What a scope's closure hands back of what it was lent is known by this once the loan has
+// ended.
 pub(crate) fn same<T>(it: &mut T)
     ensures { it.new ≡ it.old }
 {}

@@ -1,4 +1,5 @@
-//! Seats, each an actor's machine with its inbox and its mouths; their turns, and bouts of turns side by side in threads.
+//! Seats, each an actor's machine with its inbox and its mouths; their turns, and bouts of turns side by side in
+//! threads.
 #![tactic(auto)]
 
 mod ahead;

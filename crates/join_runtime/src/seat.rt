@@ -203,8 +203,8 @@ impl<'a> Seat<'a> {
         }
     }
 
-    // The pairs that its collector took since the last call of this that answered `Ok`; an error too where it is another
-    // actor's.
+    // The pairs that its collector took since the last call of this that answered `Ok`; an error too where it is
+    // another actor's.
     pub(crate) fn fresh(&mut self) -> Result<Pairs, AllocError>
         ensures gives { IfOk result (λ pairs. Gives self.old.core self.new.core pairs) }
         ensures rest { self.new ≡ record self.old { core = self.new.core } }

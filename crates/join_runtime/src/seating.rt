@@ -64,8 +64,8 @@ fn senders_of(
     Ok(senders)
 }
 
-// What the seat of the actor with this number has beside its machine: its inbox, the mouths of it, and the places for its
-// own mouths.
+// What the seat of the actor with this number has beside its machine: its inbox, the mouths of it, and the places for
+// its own mouths.
 fn room_at(
     alloc: Global,
     joiners: u32,
@@ -276,8 +276,8 @@ impl<'a> Seats<'a> {
         })
     }
 
-    /// The seats of all actors of a wave before its first event, which goes on from this rest and ends there, joined by all
-    /// links. The seats borrow the input.
+    /// The seats of all actors of a wave before its first event, which goes on from this rest and ends there, joined by
+    /// all links. The seats borrow the input.
     pub fn start_at(
         alloc: Global,
         rest: Rest,

@@ -58,8 +58,8 @@ fn explain_words_of<H: Shelf + Keeps, F: Files, K: Sink>(
 }
 
 /// The program `jm-why`: puts on `sink` why `jm` would refuse these words and the files that they name, or what it
-/// would do, and ends with the status with which `jm` would refuse them, or with 0. Where memory is wanting it ends with
-/// 8, and where the explanation can't be put with 7. It joins nothing.
+/// would do, and ends with the status with which `jm` would refuse them, or with 0. Where memory is wanting it ends
+/// with 8, and where the explanation can't be put with 7. It joins nothing.
 pub fn why_program<H: Shelf + Keeps, F: Files, K: Sink>(
     alloc: Global,
     words: Result<Vec<String>, AllocError>,

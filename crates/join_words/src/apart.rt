@@ -4,7 +4,8 @@ ghost use Rattle.std.specs.Prelude.{◌≡◌, IfSome, is_some, true};
 ghost use Rattle.join_words.specs.Apart;
 ghost use Rattle.join_words.specs.Apart.{are_apart, has_word};
 
-/// A word of the command line that doesn't stand together with each other one. `ManyFiles` is more than two names of files;
+/// A word of the command line that doesn't stand together with each other one. `ManyFiles` is more than two names of
+/// files;
 /// `FewFiles` is that twice the number of `--grow` isn't below the number of names of files, so that no wave is behind.
 #[derive(Clone, Copy, Debug, PartialEq, Eq)]
 pub enum Word {

@@ -12,7 +12,8 @@ use crate::options::{Chain, Wave, WordsError, WordsFault};
 use clap::ArgMatches;
 use std::alloc::{AllocError, Global};
 
-/// The names of the first wave's two files, the later waves, and the second join with a third file, where one is asked for.
+/// The names of the first wave's two files, the later waves, and the second join with a third file, where one is asked
+/// for.
 #[derive(Debug, Drop)]
 pub(crate) struct Named<'a> {
     pub(crate) name_r: &'a str,

@@ -29,11 +29,11 @@ pub struct Options<'a> {
     /// There are 2^k joiners, unless they form groups; k is 0 then.
     pub k: u32,
     /// How many joiners there are, 1 to 64, where they are to form groups: one for each binary digit of the number,
-    /// of as many joiners as the digit is worth. No shift is fixed then, there is no replay, pairs aren't wanted early, and
-    /// there is no later wave.
+    /// of as many joiners as the digit is worth. No shift is fixed then, there is no replay, pairs aren't wanted early,
+    /// and there is no later wave.
     pub groups: Option<u32>,
-    /// Messages go over rings, in whose run no thread waits for another's step. There is no replay then, pairs aren't wanted
-    /// early, joiners form no groups, and there is neither a second join nor a later wave.
+    /// Messages go over rings, in whose run no thread waits for another's step. There is no replay then, pairs aren't
+    /// wanted early, joiners form no groups, and there is neither a second join nor a later wave.
     pub rings: bool,
     /// How many feeders share the rows, 1 to 8.
     pub feeders: u32,
@@ -54,8 +54,8 @@ pub struct Options<'a> {
     pub replay: Option<u64>,
     /// How many rows a side has, 1 to 65,536, where tables are to be made. There are no files then.
     pub make: Option<u64>,
-    /// The pairs are wanted as they are found, bout by bout. There is no replay then, there are two files, joined rows aren't
-    /// wanted, and joiners form no groups.
+    /// The pairs are wanted as they are found, bout by bout. There is no replay then, there are two files, joined rows
+    /// aren't wanted, and joiners form no groups.
     pub early: bool,
     /// A report is wanted beside the output.
     pub report: bool,
@@ -65,14 +65,14 @@ pub struct Options<'a> {
     pub name_r: &'a str,
     /// The name of the first wave's file of S, empty where tables are made.
     pub name_s: &'a str,
-    /// The waves behind the first, in order, at most three. There are none where tables are made, pairs are wanted early,
-    /// joiners form groups, messages go over rings, or there is a second join.
+    /// The waves behind the first, in order, at most three. There are none where tables are made, pairs are wanted
+    /// early, joiners form groups, messages go over rings, or there is a second join.
     pub later: Vec<Wave<'a>>,
-    /// After how many waves each joiner splits into four, where they are to. There is a wave behind these then, no shift is
-    /// fixed, joiners form no groups, messages don't go over rings, and there is no second join.
+    /// After how many waves each joiner splits into four, where they are to. There is a wave behind these then, no
+    /// shift is fixed, joiners form no groups, messages don't go over rings, and there is no second join.
     pub grow: Option<u32>,
-    /// The second join, where one is asked for. There is no replay then, there are files, pairs aren't wanted early nor as
-    /// joined rows, joiners form no groups, and there is no later wave.
+    /// The second join, where one is asked for. There is no replay then, there are files, pairs aren't wanted early nor
+    /// as joined rows, joiners form no groups, and there is no later wave.
     pub chain: Option<Chain<'a>>,
 }
 
@@ -86,14 +86,15 @@ pub enum WordsFault {
     Joiners,
     /// `--fixed` is given without `--groups`, and is greater than k.
     Fixed,
-    /// `--early` stands with `--replay`, `--make`, `--rows` or more than two names of files; `--make` stands with `--rows`;
-    /// `--groups` stands with `--fixed`, `--early`, `--replay`, `--then` or more than two names of files; `--then` stands
-    /// with `--early`, `--rows`, `--make` or `--replay`; `--rings` stands with `--groups`, `--then`, `--early`, `--replay`
-    /// or more than two names of files; `--grow` stands with `--fixed`, `--groups`, `--then` or `--rings`, or twice its
-    /// number isn't below the number of names of files.
+    /// `--early` stands with `--replay`, `--make`, `--rows` or more than two names of files; `--make` stands with
+    /// `--rows`;
+    /// `--groups` stands with `--fixed`, `--early`, `--replay`, `--then` or more than two names of files; `--then`
+    /// stands with `--early`, `--rows`, `--make` or `--replay`; `--rings` stands with `--groups`, `--then`, `--early`,
+    /// `--replay` or more than two names of files; `--grow` stands with `--fixed`, `--groups`, `--then` or `--rings`,
+    /// or twice its number isn't below the number of names of files.
     Together,
-    /// There aren't two, four, six or eight names of files, or with `--then` there aren't three, or with `--make` there is
-    /// one.
+    /// There aren't two, four, six or eight names of files, or with `--then` there aren't three, or with `--make` there
+    /// is one.
     Files,
 }
 

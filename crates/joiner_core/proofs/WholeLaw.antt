@@ -73,65 +73,66 @@ law : (s : JoinerStart) (t : Taken) (lists : JoinerLists) (done : ℕ) (turned e
     → ((n : ℕ) → n + 1 < length past → AllTurned s t n) → ((n : ℕ) → n + 1 ≡ length past → all_turned ≡ true
     → AllTurned s t n) → ((n : ℕ) → n + 1 ≡ length past → AllTurned s t n → all_turned ≡ true)
     → IsTold s lists t → JoinerLaw s lists t
-law s t lists done turned ended all_turned part_ended step past start feeders joiners is count one settled unsettled last next links below top top' told = record {
-  done = done;
-  of_feeders = feeders;
-  of_joiners = joiners;
-  counts_up = λ p low. (is.feeders p low).counts_up;
-  first_shift = is.first_shift;
-  same_shifts = λ p n low. shifts-are t.shift_at (s.epoch + n) (t.from_feeder p) (is.feeders p low).by_shifts;
-  by_one = λ n less. by_one-law s t step past n is.history is.by_one (omega arith);
-  within = λ n less. history-within s t (step ∷ past) n is.history (omega arith);
-  settled = settled;
-  unsettled = unsettled;
-  one_open = one;
-  of_partner = λ q n less some.
-      let part : IsPartOf s (step ∷ past) q (s.epoch + n + 1) =
-      elim (some-of (length (moved_of (s.epoch + n + 1) (t.from_joiner q)))
-      (moved_ends (s.epoch + n + 1) (t.from_joiner q)) some) [
-        | inl moved ↦ has-moved _ _ (s.epoch + n + 1) (t.from_joiner q) (is.from_partner q) moved
-        | inr over ↦ has-end _ _ (s.epoch + n + 1) (t.from_joiner q) (is.from_partner q) over
-      ] in
-      let at = of-partner s t (step ∷ past) q n is.history part in
-      let low : n + 1 < length (step ∷ past) = at.0 in
-      (omega arith, at.1);
-  founds = told.founds;
-  fins = told.last;
-  to_collector = told.to_collector;
-  pairs = λ older.
-      subst (λ (n : ℕ). SameBag (flat_map (λ ps. ps) told.founds) (found s t n)) (sym count)
-      (subst (λ (xs : List Pair). SameBag xs (found s t (length past))) (append-nil (pairs_sent lists) ∙ told.sent)
-      (pairs-law s t (pairs_sent lists) [] step past is.history
-      (older-is s t (step ∷ past) is.history start.base (λ n less. older n (omega arith))) is.pairs));
-  none_empty = told.none_empty;
-  few_founds = told.few;
-  moved = λ n less. moved-law s lists t all_turned (step ∷ past) n is.history is.sent (omega arith);
-  ended = λ n turns_all.
-      let some = start.some in
-      let more : n < turns (t.from_feeder 0) = turns_all 0 some in
-      let above = greatest_above s.feeders (λ p. turns (t.from_feeder p)) 0 some in
-      ended-law s lists t all_turned (step ∷ past) n is.history is.sent (omega arith)
-      (λ same. top' n (omega arith) turns_all);
-  moved_only = λ q e some.
-      let at = part-at s t (step ∷ past) q e is.history (has-moved _ _ e (lists.to_joiner q) (is.to_partner q) some) in
-      let low : at.0 + 1 < length (step ∷ past) = at.2 in
-      (at.0, at.1, omega arith, at.3);
-  ended_only = λ q e some.
-      let at = end-at s t all_turned (step ∷ past) q e is.history
-      (has-end _ _ e (lists.to_joiner q) (is.to_partner q) some) in (
-        at.0,
-        at.1,
-        elim at.2 [
-          | inl less ↦ below at.0 (omega arith)
-          | inr same ↦ let n = same.0 in top at.0 (omega arith) same.1
-        ],
-        at.3,
-      );
-  never_falls = λ q. (links q).never_falls;
-  told = is.told;
-  fin_last = told.fin_last;
-  finished = told.finished;
-}
+law s t lists done turned ended all_turned part_ended step past start feeders joiners is count one settled unsettled last
+    next links below top top' told = record {
+      done = done;
+      of_feeders = feeders;
+      of_joiners = joiners;
+      counts_up = λ p low. (is.feeders p low).counts_up;
+      first_shift = is.first_shift;
+      same_shifts = λ p n low. shifts-are t.shift_at (s.epoch + n) (t.from_feeder p) (is.feeders p low).by_shifts;
+      by_one = λ n less. by_one-law s t step past n is.history is.by_one (omega arith);
+      within = λ n less. history-within s t (step ∷ past) n is.history (omega arith);
+      settled = settled;
+      unsettled = unsettled;
+      one_open = one;
+      of_partner = λ q n less some.
+          let part : IsPartOf s (step ∷ past) q (s.epoch + n + 1) =
+          elim (some-of (length (moved_of (s.epoch + n + 1) (t.from_joiner q)))
+          (moved_ends (s.epoch + n + 1) (t.from_joiner q)) some) [
+            | inl moved ↦ has-moved _ _ (s.epoch + n + 1) (t.from_joiner q) (is.from_partner q) moved
+            | inr over ↦ has-end _ _ (s.epoch + n + 1) (t.from_joiner q) (is.from_partner q) over
+          ] in
+          let at = of-partner s t (step ∷ past) q n is.history part in
+          let low : n + 1 < length (step ∷ past) = at.0 in
+          (omega arith, at.1);
+      founds = told.founds;
+      fins = told.last;
+      to_collector = told.to_collector;
+      pairs = λ older.
+          subst (λ (n : ℕ). SameBag (flat_map (λ ps. ps) told.founds) (found s t n)) (sym count)
+          (subst (λ (xs : List Pair). SameBag xs (found s t (length past))) (append-nil (pairs_sent lists) ∙ told.sent)
+          (pairs-law s t (pairs_sent lists) [] step past is.history
+          (older-is s t (step ∷ past) is.history start.base (λ n less. older n (omega arith))) is.pairs));
+      none_empty = told.none_empty;
+      few_founds = told.few;
+      moved = λ n less. moved-law s lists t all_turned (step ∷ past) n is.history is.sent (omega arith);
+      ended = λ n turns_all.
+          let some = start.some in
+          let more : n < turns (t.from_feeder 0) = turns_all 0 some in
+          let above = greatest_above s.feeders (λ p. turns (t.from_feeder p)) 0 some in
+          ended-law s lists t all_turned (step ∷ past) n is.history is.sent (omega arith)
+          (λ same. top' n (omega arith) turns_all);
+      moved_only = λ q e some.
+          let at = part-at s t (step ∷ past) q e is.history (has-moved _ _ e (lists.to_joiner q) (is.to_partner q) some) in
+          let low : at.0 + 1 < length (step ∷ past) = at.2 in
+          (at.0, at.1, omega arith, at.3);
+      ended_only = λ q e some.
+          let at = end-at s t all_turned (step ∷ past) q e is.history
+          (has-end _ _ e (lists.to_joiner q) (is.to_partner q) some) in (
+            at.0,
+            at.1,
+            elim at.2 [
+              | inl less ↦ below at.0 (omega arith)
+              | inr same ↦ let n = same.0 in top at.0 (omega arith) same.1
+            ],
+            at.3,
+          );
+      never_falls = λ q. (links q).never_falls;
+      told = is.told;
+      fin_last = told.fin_last;
+      finished = told.finished;
+    }
 
 at-most : (n done : ℕ) (b : Bool) → n ≡ done + one_if b → n ≤ done + 1
 at-most n done true is = omega arith

@@ -67,7 +67,8 @@ fn rounds_of<R: Wait, W: Task<u64>>(
     (items, threads)
 }
 
-// So many rounds of work on these numbers, by the caller and a thread for each of the signals; and how many threads did it.
+// So many rounds of work on these numbers, by the caller and a thread for each of the signals; and how many threads did
+// it.
 fn worked<R: Threads + Wait + Sync, W: Task<u64> + Sync>(
     rt: &R,
     alloc: Global,

@@ -103,9 +103,9 @@ fn add_from_joiners(slots: &mut Vec<Slot>, joiners: u32, to: Actor) -> Result<()
     Ok(())
 }
 
-/// All slots of a run: the feeders' beginnings; the links from each feeder to each joiner, from each joiner to those whose
-/// id differs in one bit, lowest bit first, from the controller to each feeder, from each feeder and then from each
-/// joiner to the controller, from each joiner to the collector. Actors rise.
+/// All slots of a run: the feeders' beginnings; the links from each feeder to each joiner, from each joiner to those
+/// whose id differs in one bit, lowest bit first, from the controller to each feeder, from each feeder and then from
+/// each joiner to the controller, from each joiner to the collector. Actors rise.
 pub(crate) fn slots_of(alloc: Global, setting: &Setting) -> Result<Vec<Slot>, AllocError>
     requires { setting.now.k ≤ 8 }
     ensures { IfOk result (λ slots. slots.items ≡ order.slots_of setting.now) }

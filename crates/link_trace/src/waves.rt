@@ -70,8 +70,8 @@ impl<'a> World<'a> {
     }
 }
 
-/// Runs a world of the wave that goes on from this rest and ends there, until it is done, in the order of `replay`. What
-/// it promises holds if it returns.
+/// Runs a world of the wave that goes on from this rest and ends there, until it is done, in the order of `replay`.
+/// What it promises holds if it returns.
 pub fn replay_wave<R: Wait>(
     rt: &R,
     alloc: Global,

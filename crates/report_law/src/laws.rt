@@ -4,8 +4,8 @@
 ghost use Rattle.report_law.specs.Told.{GrownReportableIsRead, ReportableIsRead, ReportsAreRead};
 
 /// The report of a run of a valid input and setting is the lines of a whole report with the run's numbers, which fit
-/// 64 bits. So, by its clauses, `read_report` takes each text of lines that ends with it, and reads those numbers, unless
-/// memory runs out.
+/// 64 bits. So, by its clauses, `read_report` takes each text of lines that ends with it, and reads those numbers,
+/// unless memory runs out.
 pub fn reports_are_read()
     ensures { ReportsAreRead }
 {}

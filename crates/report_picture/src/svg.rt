@@ -59,8 +59,8 @@ fn height(report: &Report) -> u64
 
 /// A report as an SVG. For those who don't see it a title and a description in words; then, from
 /// above to below, the numbers of rows and pairs; the grid's shapes from the first over each step
-/// and a growth to the last, between them the rows that moved or were placed; the load against the best, in words and on a
-/// scale from the best to 5/4 of it; and the joiners at their places in the last grid, with the
+/// and a growth to the last, between them the rows that moved or were placed; the load against the best, in words and
+/// on a scale from the best to 5/4 of it; and the joiners at their places in the last grid, with the
 /// rows that they hold and the pairs that they made, shaded by these rows from none to the most
 /// that a joiner holds.
 pub fn picture(alloc: Global, report: &Report) -> Result<String, AllocError>

@@ -11,5 +11,6 @@ use Rattle.ring_runtime.specs.contracts.seat.RingSeat as seat
 -- so it may, since its machine, and the ends of its rings, may
 pub seat_send : IsSync theta.the_row → IsSend access.the_row → (κ : _) → IsSend (seat.the_row κ)
 seat_send theta_sync access_send κ =
-    let core = core_send theta_sync access_send in search (sendable, heap.crosses, core, inlets.the_send, outlets.the_send) depth
+    let core = core_send theta_sync access_send in
+    search (sendable, heap.crosses, core, inlets.the_send, outlets.the_send) depth
     40 fits 20000

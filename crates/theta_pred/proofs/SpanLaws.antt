@@ -17,11 +17,13 @@ use Rattle.theta_pred.specs.Truth.{is_true, each_is_true}
 use Rattle.theta_pred.proofs.KeyMembers.{and_left, and_right, atom-true}
 use Rattle.theta_pred.proofs.SumTests.{are_true, both, met_with-true, upright-true}
 
+-- of two lists of tests that are both true, all are
 are_both_true : (r s : List Cell) (xs ys : List Atom) → are_true r s xs ≡ true → are_true r s ys ≡ true
     → are_true r s (xs ++ ys) ≡ true
 are_both_true r s xs ys first second =
     list_all-append (λ atom. is_atom_true atom r s) xs ys ∙ both (are_true r s xs) (are_true r s ys) first second
 
+-- the test that there may be is true as well, with its sum the right way up
 one_true : (r s : List Cell) (o : Option Atom) → ((atom : Atom) → o ≡ Some atom → is_atom_true atom r s ≡ true)
     → are_true r s (option_to_list (option_map (upright R) o)) ≡ true
 one_true r s None each = refl

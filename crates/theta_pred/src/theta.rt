@@ -129,9 +129,9 @@ impl Theta {
     /// All equalities of the top conjunction, and of the conjunctions within it however deep, by which
     /// rows of the two sides agree: each of two sums that names a column of both sides, and each of
     /// a text of R and one of S. Among them, in the order of writing, each member that names columns of
-    /// one side alone, or of none, which rows of a side pass or don't. Beside them the range of a sum: the first band of these conjunctions
-    /// that names a column of both sides, or the first inequality where there is none, met with every
-    /// other that has the same two sums. Where that has one bound only, and another test bounds the
+    /// one side alone, or of none, which rows of a side pass or don't. Beside them the range of a sum: the first band
+    /// of these conjunctions that names a column of both sides, or the first inequality where there is none, met with
+    /// every other that has the same two sums. Where that has one bound only, and another test bounds the
     /// same sum of one side from the other side, the range is the interval between the two. None where
     /// there is no such member and the range says no more than the key atom, whose index serves then.
     pub fn access(&self) -> Result<Option<Access>, AllocError>

@@ -2,7 +2,8 @@
 
 ghost use Rattle.std.specs.Prelude.{◌<◌, ◌≤◌};
 
-// Which seat comes to a place, where chunks of this size are dealt one seat each in turn; the last chunk may be shorter.
+// Which seat comes to a place, where chunks of this size are dealt one seat each in turn; the last chunk may be
+// shorter.
 fn dealt_to(place: usize, count: usize, size: usize) -> usize
     requires { 0 < size }
 {

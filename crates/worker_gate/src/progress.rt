@@ -14,9 +14,9 @@ const NONE: u64 = 101;
 // The length of the line that is shown.
 const WIDTH: usize = 14;
 
-/// A gate that stands open, and shows on a screen which part of the batches were sent, in whole percents, each once as it
-/// comes. The line ends in a carriage return, so that whatever is shown next stands over it; where all were sent the line
-/// is blank.
+/// A gate that stands open, and shows on a screen which part of the batches were sent, in whole percents, each once as
+/// it comes. The line ends in a carriage return, so that whatever is shown next stands over it; where all were sent the
+/// line is blank.
 #[derive(Drop)]
 pub struct ProgressGate<S> {
     screen: S,

@@ -72,8 +72,8 @@ fn each_group_leaves_its_own(rt: HostRuntime) -> Result<(), Fail> {
     Ok(())
 }
 
-// One feeder, so that the counts come in one order: of the three rows of R two are drawn for the first group, whose grid is
-// soon one row of its two joiners, and one for the second.
+// One feeder, so that the counts come in one order: of the three rows of R two are drawn for the first group, whose
+// grid is soon one row of its two joiners, and one for the second.
 #[test]
 fn reports_each_group(rt: HostRuntime) -> Result<(), Fail> {
     let alloc = rt.alloc();

@@ -146,8 +146,8 @@ fn reports_what_rows_weigh(rt: HostRuntime) -> Result<(), Fail> {
     Ok(())
 }
 
-// Three rows a side: by their number the grid of two rows of two joiners is the best, and stays. Where a row of R weighs 4
-// it is soon four rows of one, so that each row of R is held once.
+// Three rows a side: by their number the grid of two rows of two joiners is the best, and stays. Where a row of R
+// weighs 4 it is soon four rows of one, so that each row of R is held once.
 #[test]
 fn a_wide_side_moves_the_grid(rt: HostRuntime) -> Result<(), Fail> {
     let alloc = rt.alloc();

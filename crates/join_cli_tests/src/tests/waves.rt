@@ -28,7 +28,8 @@ fn shelf_of_waves(alloc: Global, r2: &str, s2: &str) -> Result<MapShelf, AllocEr
     Ok(shelf)
 }
 
-// The words end with this status over these files of a second wave, put this line on standard error and write these bytes.
+// The words end with this status over these files of a second wave, put this line on standard error and write these
+// bytes.
 fn waves_end<R: Abort + Threads + Wait + Sync>(
     rt: &R,
     alloc: Global,

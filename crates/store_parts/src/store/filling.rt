@@ -125,7 +125,8 @@ impl Store {
         requires k { shape.k ≤ 8 }
         requires id { id < 2 ^ shape.k }
         ensures kept { IfOk result (λ kept. kept.0 ≡ side_of (kept_of shape id self.now) side) }
-        ensures indexed { IfOk result (λ kept. IsIndexed self.now.key self.now.access side kept.0 kept.1) }
+        ensures indexed { IfOk result (λ kept.
+            IsIndexed self.now.key self.now.access side kept.0 kept.1) }
     {
         let (tuples, index) = match side {
             Side::R => (self.r.as_slice(), &self.r_index),
