@@ -1,6 +1,6 @@
 // The table of a text, by the records of `csv`.
 
-ghost use Rattle.std.specs.Prelude.{◌≡◌, ◌⊎◌, length, IfOk, Err, Some};
+ghost use Rattle.std.specs.Prelude.{◌≡◌, ◌⊎◌, ◌++◌, length, IfOk, OnOk, Err, Some};
 ghost use Rattle.csv.specs.Reading.{Ready, default_config, reader_config, reader_state, reader_trim, source_of, strip_bom};
 ghost use Rattle.csv.specs.Records.{fields_of};
 ghost use Rattle.csv.specs.declared.parser.State.TheVariants as st;
@@ -9,10 +9,10 @@ ghost use Rattle.join_rows.specs.Records.{after_marks, cells_of, has_mark, recor
 ghost use Rattle.join_rows.specs.declared.fault.TableFault.TheVariants as fault;
 
 use crate::bytes::Bytes;
-use crate::cells::Cells;
+use crate::cells::rows_over;
 use crate::fault::TableFault;
 use crate::list::Names;
-use crate::table::{Cell, Rows, Table};
+use crate::table::{Cell, Table};
 use csv::{ByteRecord, Reader, ReaderBuilder};
 use std::alloc::{AllocError, Global};
 
@@ -53,17 +53,16 @@ fn names_from(alloc: Global, row: &ByteRecord) -> Result<Names, AllocError>
     Ok(names)
 }
 
-// The fields of a record, as cells.
-fn cells_from(alloc: Global, row: &ByteRecord) -> Result<Cells, AllocError>
-    ensures { IfOk result (λ cells. cells ≡ cells_of (fields_of row.now)) }
+// Appends the fields of a record, as cells.
+fn add_cells(alloc: Global, cells: &mut Vec<Cell>, row: &ByteRecord) -> Result<(), AllocError>
+    ensures { OnOk result (cells.new.items ≡ cells.old.items ++ cells_of (fields_of row.now)) }
 {
-    let mut cells = Cells::with_room(alloc, row.len())?;
     let mut place = 0;
     while let Some(field) = row.get(place) {
         cells.push(Cell::new(Bytes::from_slice(alloc, field)?))?;
         place += 1;
     }
-    Ok(cells)
+    Ok(())
 }
 
 // A reader over a text, with no header row of its own, that takes records of any width.
@@ -93,22 +92,27 @@ pub(crate) fn table_from(alloc: Global, text: &[u8]) -> Result<Table, TableFault
     }
     let width = row.len();
     let names = names_from(alloc, &row)?;
-    let mut rows = Rows::new(alloc);
+    let mut cells = Vec::new(alloc);
+    let mut count = 0;
     'rows: loop {
         match reader.read_byte_record(&mut row) {
             Err(_) => return Err(TableFault::Memory),
-            Ok(false) => return Ok(Table { names, rows }),
+            Ok(false) => {
+                let rows = rows_over(alloc, cells, width, count)?;
+                return Ok(Table { names, rows });
+            }
             Ok(true) => {}
         }
-        if rows.len() == MOST_ROWS {
+        if count == MOST_ROWS {
             return Err(TableFault::TooMany);
         }
         if row.len() != width {
             return Err(TableFault::Width {
-                row: rows.len() + 1,
+                row: count + 1,
                 found: row.len() as u64,
             });
         }
-        rows.push(cells_from(alloc, &row)?)?;
+        add_cells(alloc, &mut cells, &row)?;
+        count += 1;
     }
 }

@@ -1,4 +1,4 @@
-use join_rows::{Bytes, Cell, Cells};
+use join_rows::{Bytes, Cell, Cells, MapShelf, read_table};
 use std::alloc::{AllocError, Global};
 use std::process::Abort;
 use std::test::Fail;
@@ -84,6 +84,55 @@ fn bytes_are_handed_out(rt: HostRuntime) -> Result<(), Fail> {
         b"longer than sixteen".as_slice(),
     ] {
         hands_out(&rt, rt.alloc(), text)?;
+    }
+    Ok(())
+}
+
+// The rows of a file.
+fn rows_of(alloc: Global, file: &[u8]) -> Result<Vec<Cells>, AllocError> {
+    let mut shelf = MapShelf::new(alloc);
+    shelf.add("file", file)?;
+    match read_table(alloc, &mut shelf, "file") {
+        Ok(table) => Ok(table.rows.into_vec()),
+        Err(_) => Err(AllocError),
+    }
+}
+
+// The rows with one cell more each.
+fn with_nines(alloc: Global, rows: Vec<Cells>) -> Result<Vec<Cells>, AllocError> {
+    let mut all = Vec::new(alloc);
+    for mut row in rows {
+        row.push(cell(alloc, b"9")?)?;
+        all.push(row)?;
+    }
+    Ok(all)
+}
+
+fn have_numbers(rt: &impl Abort, cells: &[Cell], numbers: &[i64]) {
+    assert_eq!(rt; cells.len(), numbers.len());
+    for (cell, number) in cells.iter().zip(numbers) {
+        assert_eq!(rt; cell.num, Some(*number));
+    }
+}
+
+#[test]
+fn a_push_to_a_row_of_a_file_leaves_the_others(rt: HostRuntime) -> Result<(), Fail> {
+    let alloc = rt.alloc();
+    let rows = with_nines(alloc, rows_of(alloc, b"a,b\n1,2\n3,4\n5,6\n")?)?;
+    assert_eq!(rt; rows.len(), 3);
+    for (row, numbers) in rows.iter().zip([[1, 2, 9], [3, 4, 9], [5, 6, 9]].iter()) {
+        have_numbers(&rt, row.as_slice(), numbers);
+    }
+    Ok(())
+}
+
+#[test]
+fn a_row_of_a_file_hands_out_its_own_cells(rt: HostRuntime) -> Result<(), Fail> {
+    let alloc = rt.alloc();
+    let rows = rows_of(alloc, b"a,b\n1,2\n3,4\n")?;
+    assert_eq!(rt; rows.len(), 2);
+    for (row, numbers) in rows.into_iter().zip([[1, 2], [3, 4]].iter()) {
+        have_numbers(&rt, &row.into_vec()?, numbers);
     }
     Ok(())
 }

@@ -1,12 +1,12 @@
-use Rattle.std.proofs.Common.{◌≡◌, ◌∙◌, ◌++◌, ◌∷◌, ◌+◌, length-append, [], ℕ, List, Bor, Some, ap, length, inl, inr}
-use Rattle.std.proofs.Common.{sym, arith, ◌<◌}
-use Rattle.std.proofs.lemmas.List.{map-append}
+use Rattle.std.proofs.Common.{◌≡◌, ◌∙◌, ◌++◌, ◌∷◌, length-append, [], ℕ, List, Bor, Some, ap, length, inl, inr}
+use Rattle.std.proofs.Common.{◌*◌, ◌<◌, arith, map, refl, sym}
 use Rattle.csv.specs.Reading.{strip_bom}
 use Rattle.csv.specs.Records.{fields_of}
 use Rattle.join_rows.specs.Records.{after_marks, cells_of, records_of}
 use Rattle.join_rows.proofs.Counted.{records-begin}
 use Rattle.join_rows.proofs.Marks.{marks-gone}
 use Rattle.join_rows.proofs.Taken.{first_read, last_read, more_read, no_read}
+use Rattle.join_rows.proofs.SharedRows.{cells-are_rows, cells-counted, cells-more}
 use Rattle.join_rows.proofs.Tables.{answers-good, answers-long, answers-narrow, answers-none, wide-more}
 use Rattle.join_rows.proofs.records.table_from.Goals as goal
 
@@ -38,56 +38,68 @@ rows-init c =
       at_z,
       [],
       rw c.in_ok-names.ensures reached,
-      c.new-rows.ensures,
+      c.new-cells.ensures.items,
       tt,
-      ap length c.new-rows.ensures,
+      refl,
       omega arith,
     )
 
+pub rows_over-requires : goal.rows_over-requires
+rows_over-requires c =
+    let (t, ready, config, width, y, source, done, reached, held, wide, size, few) = c.rows.invariant in
+    let are = cells-are_rows (length c.rows.names) done c.rows.cells.items wide held in
+    record {
+      whole = cells-counted (map cells_of done) (length c.rows.names) (length done) c.rows.cells.items are
+          ∙ ap (λ n. n * length c.rows.names) (sym size) ∙ ap (λ n. c.rows.count * n) (sym width);
+    }
+
 pub returns-in-Ok-false-read_byte_record : goal.returns-in-Ok-false-read_byte_record
 returns-in-Ok-false-read_byte_record c =
-    let (t, ready, config, width, y, source, done, reached, rows, wide, size, few) = c.rows.invariant in
+    let (t, ready, config, width, y, source, done, reached, held, wide, size, few) = c.rows.invariant in
     let read = rw c.in-Ok-false-read_byte_record.field-0-test at
     (c.in-Ok-false-read_byte_record.ensures.reads t ready) in
     let all = last_read (λ (s : Bor (List ℕ)). Some s.now) c.rows.reader c.read_byte_record-in-rows.new.self
-    (fields_of c.read_byte_record-in-rows.new.row) (after_marks c.args.text.now) y (c.in_ok-names.names ∷ done)
+    (fields_of c.read_byte_record-in-rows.new.row) (after_marks c.args.text.now) y (c.rows.names ∷ done)
     config source reached read in
-    inr (answers-good (records_of c.args.text.now) c.in_ok-names.names done c.rows.rows all rows wide few)
+    let are = cells-are_rows (length c.rows.names) done c.rows.cells.items wide held in
+    let same = c.in_ok-rows-in-Ok-false-read_byte_record.ensures (map cells_of done)
+    (rw (width, size) are) in
+    inr (answers-good (records_of c.args.text.now) c.rows.names done
+    c.in_ok-rows-in-Ok-false-read_byte_record.rows all same wide few)
 
 pub returns-then-len-width : goal.returns-then-len-width
 returns-then-len-width c =
-    let (t, ready, config, width, y, source, done, reached, rows, wide, size, few) = c.rows.invariant in
+    let (t, ready, config, width, y, source, done, reached, held, wide, size, few) = c.rows.invariant in
     let read = rw c.in-Ok-true-read_byte_record.field-0-test at (c.in-Ok-true-read_byte_record.ensures.reads t ready) in
     let (z, at_z, more) = more_read (λ (s : Bor (List ℕ)). Some s.now) c.rows.reader c.read_byte_record-in-rows.new.self
-    (fields_of c.read_byte_record-in-rows.new.row) (after_marks c.args.text.now) y (c.in_ok-names.names ∷ done)
+    (fields_of c.read_byte_record-in-rows.new.row) (after_marks c.args.text.now) y (c.rows.names ∷ done)
     config source reached read in
     let (n, front) = records-begin (after_marks c.args.text.now) z c.read_byte_record-in-rows.new.self.state
-    (c.in_ok-names.names ∷ (done ++ (fields_of c.read_byte_record-in-rows.new.row ∷ []))) more in
-    let fits : length done < 262144 = omega (arith, few, size, c.len.ensures, c.if-len-eq-MOST_ROWS.false) in
-    let number : length done + 1 ≡ length c.rows.rows + 1 = omega (arith, size) in
-    inr (rw (c.len-then-len-width.ensures, size, c.len-then-len-width-2.ensures)
-    (answers-narrow (records_of c.args.text.now) c.in_ok-names.names (fields_of c.read_byte_record-in-rows.new.row)
-    done _ front wide fits (λ e. c.if-len-width.true (c.len-in-rows.ensures ∙ e ∙ sym width))))
+    (c.rows.names ∷ (done ++ (fields_of c.read_byte_record-in-rows.new.row ∷ []))) more in
+    let fits : length done < 262144 = omega (arith, few, size, c.if-count-eq-MOST_ROWS.false) in
+    inr (rw (size, c.len-then-len-width.ensures)
+    (answers-narrow (records_of c.args.text.now) c.rows.names (fields_of c.read_byte_record-in-rows.new.row)
+    done _ front wide fits (λ e. c.if-len-width.true (c.len.ensures ∙ e ∙ sym width))))
 
-pub returns-then-len-eq-MOST_ROWS : goal.returns-then-len-eq-MOST_ROWS
-returns-then-len-eq-MOST_ROWS c =
-    let (t, ready, config, width, y, source, done, reached, rows, wide, size, few) = c.rows.invariant in
+pub returns-then-count-eq-MOST_ROWS : goal.returns-then-count-eq-MOST_ROWS
+returns-then-count-eq-MOST_ROWS c =
+    let (t, ready, config, width, y, source, done, reached, held, wide, size, few) = c.rows.invariant in
     let read = rw c.in-Ok-true-read_byte_record.field-0-test at (c.in-Ok-true-read_byte_record.ensures.reads t ready) in
     let (z, at_z, more) = more_read (λ (s : Bor (List ℕ)). Some s.now) c.rows.reader c.read_byte_record-in-rows.new.self
-    (fields_of c.read_byte_record-in-rows.new.row) (after_marks c.args.text.now) y (c.in_ok-names.names ∷ done)
+    (fields_of c.read_byte_record-in-rows.new.row) (after_marks c.args.text.now) y (c.rows.names ∷ done)
     config source reached read in
     let (n, front) = records-begin (after_marks c.args.text.now) z c.read_byte_record-in-rows.new.self.state
-    (c.in_ok-names.names ∷ (done ++ (fields_of c.read_byte_record-in-rows.new.row ∷ []))) more in
-    let many : length done ≡ 262144 = omega (arith, size, c.len.ensures, c.if-len-eq-MOST_ROWS.true) in
-    inr (answers-long (records_of c.args.text.now) c.in_ok-names.names (fields_of c.read_byte_record-in-rows.new.row)
+    (c.rows.names ∷ (done ++ (fields_of c.read_byte_record-in-rows.new.row ∷ []))) more in
+    let many : length done ≡ 262144 = omega (arith, size, c.if-count-eq-MOST_ROWS.true) in
+    inr (answers-long (records_of c.args.text.now) c.rows.names (fields_of c.read_byte_record-in-rows.new.row)
     done _ front wide many)
 
 pub rows-preserved : goal.rows-preserved
 rows-preserved c =
-    let (t, ready, config, width, y, source, done, reached, rows, wide, size, few) = c.rows.invariant in
+    let (t, ready, config, width, y, source, done, reached, held, wide, size, few) = c.rows.invariant in
     let read = rw c.in-Ok-true-read_byte_record.field-0-test at (c.in-Ok-true-read_byte_record.ensures.reads t ready) in
     let (z, at_z, more) = more_read (λ (s : Bor (List ℕ)). Some s.now) c.rows.reader c.read_byte_record-in-rows.new.self
-    (fields_of c.read_byte_record-in-rows.new.row) (after_marks c.args.text.now) y (c.in_ok-names.names ∷ done)
+    (fields_of c.read_byte_record-in-rows.new.row) (after_marks c.args.text.now) y (c.rows.names ∷ done)
     config source reached read in (
       read.3 ∙ t,
       inl (c.in-Ok-true-read_byte_record.ensures.ready t),
@@ -97,23 +109,17 @@ rows-preserved c =
       at_z,
       done ++ (fields_of c.read_byte_record-in-rows.new.row ∷ []),
       more,
-      rw (c.in_ok-push.ensures.ok, rows, c.in_ok-cells_from.ensures)
-          (sym (map-append cells_of done (fields_of c.read_byte_record-in-rows.new.row ∷ []))),
-      wide-more (length c.in_ok-names.names) done (fields_of c.read_byte_record-in-rows.new.row) wide
-          (sym c.len-in-rows.ensures ∙ c.if-len-width.false ∙ width),
-      omega (
-        arith,
-        ap length c.in_ok-push.ensures.ok,
-        length-append c.rows.rows (c.in_ok-cells_from.field-0 ∷ []),
-        length-append done (fields_of c.read_byte_record-in-rows.new.row ∷ []),
-        size,
-      ),
+      c.in_ok-add_cells.ensures
+          ∙ ap (λ cells. cells ++ cells_of (fields_of c.read_byte_record-in-rows.new.row)) held
+          ∙ sym (cells-more done (fields_of c.read_byte_record-in-rows.new.row)),
+      wide-more (length c.rows.names) done (fields_of c.read_byte_record-in-rows.new.row) wide
+          (sym c.len.ensures ∙ c.if-len-width.false ∙ width),
+      omega (arith, length-append done (fields_of c.read_byte_record-in-rows.new.row ∷ []), size),
       omega (
         arith,
         length-append done (fields_of c.read_byte_record-in-rows.new.row ∷ []),
         few,
         size,
-        c.len.ensures,
-        c.if-len-eq-MOST_ROWS.false,
+        c.if-count-eq-MOST_ROWS.false,
       ),
     )

@@ -1,4 +1,5 @@
 use Rattle.std.proofs.Common.{◌≡◌, ◌-◌, ◌≤◌, ℕ, List, ◌∷◌, Some, length, map}
+use Rattle.std.specs.List.{flat_map}
 use Rattle.csv.specs.Reading.{Reached, Ready, default_config, source_of}
 use Rattle.csv.specs.declared.parser.State.TheVariants as st
 use Rattle.csv.specs.declared.reader.Trim.TheVariants as trim
@@ -11,8 +12,8 @@ invariant-rows l =
     × (y : List ℕ) × (source_of (λ s. Some s.now) l.reader ≡ Some y)
     × (done : List (List (List ℕ))) × Reached default_config st.StartRecord (after_marks l.fn.text) (l.names ∷ done)
     l.reader.state y
-    × (l.rows ≡ map cells_of done) × AreWide (length l.names) done × (length l.rows ≡ length done)
-    × (length done ≤ 262144)
+    × (l.cells.items ≡ flat_map (λ row. row) (map cells_of done)) × AreWide (length l.names) done
+    × (l.count ≡ length done) × (length done ≤ 262144)
 
 abbrev pub decreases-rows : goal.decreases-rows
-decreases-rows l = 262144 - length l.rows
+decreases-rows l = 262144 - l.count
