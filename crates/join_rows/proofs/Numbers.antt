@@ -26,7 +26,7 @@ plain_digits : (ds : List ℕ) → AllDigits 10 ds → AllByRecursion Plain ds
 plain_digits [] h = tt
 plain_digits (c ∷ ds) h = (plain_digit c h.0, plain_digits ds h.1)
 
-plain_numeral : (numeral : List ℕ) → IsNumeral 10 (without_leading_sign numeral) → (0 < length numeral)
+pub plain_numeral : (numeral : List ℕ) → IsNumeral 10 (without_leading_sign numeral) → (0 < length numeral)
     × AllByRecursion Plain numeral
 plain_numeral [] h = absurd (omega (arith, h.0))
 plain_numeral (c ∷ cs) h = (omega arith, by (c == 45) (c == 43) refl refl h)

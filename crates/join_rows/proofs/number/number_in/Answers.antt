@@ -1,46 +1,31 @@
-use Rattle.std.proofs.Common.{◌∙◌, sym}
-use Rattle.join_rows.proofs.Numbers.{number_of-writes, number_of-written, parsed-cut, strange-cut, unspaced-cut}
+use Rattle.std.proofs.Common.{◌≡◌, ◌∙◌, ◌↔◌, ℕ, ℤ, pos, List, Option, Some, ap, sym, w64}
+use Rattle.std.proofs.lemmas.Int.{to_z_pos}
+use Rattle.join_rows.specs.Numbers.{IsNumber, number_of}
+use Rattle.join_rows.proofs.Numbers.{number_of-writes, number_of-written}
 use Rattle.join_rows.proofs.number.number_in.Goals as goal
 
-pub returns-then-spaces_before-after-clause-value :
-    goal.returns-then-spaces_before-after-clause-value
-returns-then-spaces_before-after-clause-value c =
-    unspaced-cut c.args.text.now c.spaces_before.result c.others_before-size.result c.spaces_before.ensures.count
-    c.others_before-size.ensures.count
-    (λ e. c.if-spaces_before-after.true (c.spaces_before-2.ensures.count ∙ e))
+-- a result that is the text's number is just what the text writes
+exact_of : (text : List ℕ) (result : Option ℤ) → result ≡ number_of text → (number : ℤ)
+    → (result ≡ Some number) ↔ IsNumber text number
+exact_of text result value number = (
+  λ e. number_of-writes text number (sym value ∙ e),
+  λ is. value ∙ number_of-written text number is,
+)
 
-pub returns-then-spaces_before-after-clause-exact :
-    goal.returns-then-spaces_before-after-clause-exact
-returns-then-spaces_before-after-clause-exact c number =
-    let value = returns-then-spaces_before-after-clause-value c in (
-      λ e. number_of-writes c.args.text.now number (sym value ∙ e),
-      λ is. value ∙ number_of-written c.args.text.now number is,
-    )
+pub returns-then-begins_otherwise-clause-exact : goal.returns-then-begins_otherwise-clause-exact
+returns-then-begins_otherwise-clause-exact c =
+    exact_of c.args.text.now _ (sym (c.begins_otherwise.ensures c.if-begins_otherwise.true))
 
-pub returns-in_default-clause-value : goal.returns-in_default-clause-value
-returns-in_default-clause-value c =
-    strange-cut c.args.text.now c.spaces_before.result c.others_before-size.result c.spaces_before.ensures.count
-    c.others_before-size.ensures.count
-    c.in_default.ensures.cases.0
+pub overflow_cast-result : goal.overflow_cast-result
+overflow_cast-result c = (number_of-writes c.args.text.now (pos c.in-Some.number) c.in-Some.ensures).fits
 
-pub returns-in_default-clause-exact : goal.returns-in_default-clause-exact
-returns-in_default-clause-exact c number =
-    let value = returns-in_default-clause-value c in (
-      λ e. number_of-writes c.args.text.now number (sym value ∙ e),
-      λ is. value ∙ number_of-written c.args.text.now number is,
-    )
+pub returns-in-Some-clause-value : goal.returns-in-Some-clause-value
+returns-in-Some-clause-value c =
+    let fits = overflow_cast-result c in
+    ap (λ n. Some n) (to_z_pos w64 c.in-Some.number fits.sfits) ∙ sym c.in-Some.ensures
 
-pub returns-clause-value : goal.returns-clause-value
-returns-clause-value c =
-    c.ok.ensures.value
-    ∙ parsed-cut c.args.text.now c.spaces_before.result c.others_before-size.result c.parse.result
-    c.spaces_before.ensures.count c.others_before-size.ensures.count
-    (sym c.spaces_before-2.ensures.count ∙ c.if-spaces_before-after.false)
-    (rw c.in-Ok.ensures.cases.0 at c.parse.ensures.value.0)
+pub returns-in-Some-clause-exact : goal.returns-in-Some-clause-exact
+returns-in-Some-clause-exact c = exact_of c.args.text.now _ (returns-in-Some-clause-value c)
 
 pub returns-clause-exact : goal.returns-clause-exact
-returns-clause-exact c number =
-    let value = returns-clause-value c in (
-      λ e. number_of-writes c.args.text.now number (sym value ∙ e),
-      λ is. value ∙ number_of-written c.args.text.now number is,
-    )
+returns-clause-exact c = exact_of c.args.text.now c.long_number.result c.long_number.ensures
