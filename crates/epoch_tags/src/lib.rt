@@ -6,13 +6,15 @@ mod actor;
 mod flags;
 mod held;
 mod message;
+mod pairs;
 mod tuple;
 
 pub use actor::Actor;
 pub use flags::{all_down, are_all_up, is_up};
 pub use held::Held;
 pub use message::{Envelope, Msg, Post, Sends, ToCollector, ToController, ToFeeder, ToJoiner};
-pub use tuple::{Counts, Pair, Pairs, Tuple, Tuples};
+pub use pairs::Pairs;
+pub use tuple::{Counts, Pair, Tuple, Tuples};
 
 #[cfg(test)]
 mod tests;

@@ -1,7 +1,8 @@
 // The messages of each kind of actor.
 
 use crate::actor::Actor;
-use crate::tuple::{Counts, Pairs, Tuple};
+use crate::pairs::Pairs;
+use crate::tuple::{Counts, Tuple};
 use join_rows::Items;
 
 /// A message to a joiner.

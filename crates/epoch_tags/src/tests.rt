@@ -31,16 +31,45 @@ fn a_copy_has_all_of_its_tuple(rt: HostRuntime) -> Result<(), Fail> {
 
 #[test]
 fn lists_keep_their_order(rt: HostRuntime) -> Result<(), Fail> {
-    let mut pairs = Pairs::new(rt.alloc());
-    pairs.push(Pair { i: 1, j: 2 })?;
-    pairs.push(Pair { i: 0, j: 5 })?;
-    assert_eq!(rt; pairs.len(), 2);
-    assert_eq!(rt; *pairs.at(1), Pair { i: 0, j: 5 });
     let mut counts = Counts::new(rt.alloc());
     counts.push(9)?;
     counts.push(4)?;
     let counts = counts.into_vec();
     assert_eq!(rt; counts.as_slice(), [9, 4].as_slice());
+    Ok(())
+}
+
+// Three pairs, of which two would lie within the list.
+#[test]
+fn pairs_keep_their_order(rt: HostRuntime) -> Result<(), Fail> {
+    let mut pairs = Pairs::new(rt.alloc());
+    pairs.push(Pair { i: 0, j: 7 })?;
+    pairs.push(Pair { i: 1, j: 6 })?;
+    assert_eq!(rt; pairs.len(), 2);
+    pairs.push(Pair { i: 2, j: 5 })?;
+    assert_eq!(rt; *pairs.at(2), Pair { i: 2, j: 5 });
+    let wanted = [
+        Pair { i: 0, j: 7 },
+        Pair { i: 1, j: 6 },
+        Pair { i: 2, j: 5 },
+    ];
+    assert_eq!(rt; pairs.as_slice(), wanted.as_slice());
+    Ok(())
+}
+
+// One pair, which lies within the list, and three, which don't: a vector of them, and a list of that.
+#[test]
+fn pairs_are_handed_out(rt: HostRuntime) -> Result<(), Fail> {
+    for count in [1, 3] {
+        let mut pairs = Pairs::new(rt.alloc());
+        for i in 0..count {
+            pairs.push(Pair { i, j: i })?;
+        }
+        let held = pairs.into_vec()?;
+        assert_eq!(rt; held.len(), count as usize);
+        let pairs = Pairs::from_vec(held);
+        assert_eq!(rt; pairs.len(), u64::from(count));
+    }
     Ok(())
 }
 

@@ -1,4 +1,4 @@
-// Rows on their way, and the pairs that they make.
+// Rows on their way, and a pair of rows.
 
 ghost use Rattle.std.specs.Prelude.{◌≡◌, IfOk};
 
@@ -34,12 +34,10 @@ impl Tuple {
 pub type Tuples = Items<Tuple>;
 
 /// A row of R and a row of S, by their numbers counted from 0.
-#[derive(Clone, Copy, Debug, PartialEq, Eq)]
+#[derive(Clone, Copy, Debug, Default, PartialEq, Eq)]
 pub struct Pair {
     pub i: u32,
     pub j: u32,
 }
-
-pub type Pairs = Items<Pair>;
 
 pub type Counts = Items<u64>;

@@ -47,18 +47,18 @@ fn no_groups(alloc: Global) -> GroupsRun
 }
 
 // The same, its pairs in order.
-fn ordered(found: GroupsRun) -> GroupsRun
-    ensures permutation { IsPermutation found.pairs result.pairs }
-    ensures order { InOrder result.pairs }
-    ensures runs { result.runs ≡ found.runs }
-    ensures trail { result.trail ≡ found.trail }
+fn ordered(found: GroupsRun) -> Result<GroupsRun, AllocError>
+    ensures permutation { IfOk result (λ all. IsPermutation found.pairs all.pairs) }
+    ensures order { IfOk result (λ all. InOrder all.pairs) }
+    ensures runs { IfOk result (λ all. all.runs ≡ found.runs) }
+    ensures trail { IfOk result (λ all. all.trail ≡ found.trail) }
 {
     let GroupsRun { pairs, runs, trail } = found;
-    GroupsRun {
-        pairs: in_order(pairs.into_vec()),
+    Ok(GroupsRun {
+        pairs: in_order(pairs.into_vec()?),
         runs,
         trail,
-    }
+    })
 }
 
 // The setting of the group of this digit.
@@ -242,5 +242,6 @@ pub fn run_groups<R: Threads + Wait + Sync, G: Gate + Sync>(
     begins_with_all();
     sorts_into_the_loop();
     let found = join_parts(rt, alloc, input, joiners, numbers, setting, gate)?;
-    Ok(ordered(found))
+    let all = ordered(found)?;
+    Ok(all)
 }

@@ -148,7 +148,7 @@ fn sums(alloc: Global, counts: &Counts, more: &Counts) -> Result<Counts, AllocEr
 fn pairs_of_both(pairs: Pairs, more: &Pairs) -> Result<Pairs, AllocError>
     ensures { IfOk result (λ both. both ≡ pairs ++ more.now) }
 {
-    let mut both = pairs.into_vec();
+    let mut both = pairs.into_vec()?;
     both.extend_from_slice(more.as_slice())?;
     Ok(Pairs::from_vec(both))
 }

@@ -127,6 +127,7 @@ fn run_early_by<'a, R: Wait, G: Gate, K: Sink>(
         bouts = bouts.saturating_add(1);
         let fresh = seats.fresh()?;
         put_lines(alloc, fresh.as_slice(), sink)?;
+        drop(fresh);
         gate.fed(batches.saturating_sub(seats.batches_left()), batches);
     }
     Ok(seats.finish(bouts)?)

@@ -14,8 +14,8 @@ returns-clause-pairs g c =
     let same =
     all_pairs input c.args.joiners c.args.numbers.now setting found few c.requires.below c.requires.many
     c.in_ok-found.ensures in
-    ordered_pairs input (first_rest setting).line found.pairs c.ordered.result.pairs c.sorts_into_the_loop.ensures
-    (c.begins_with_all.ensures input setting valid).1 same c.ordered.ensures.permutation c.ordered.ensures.order
+    ordered_pairs input (first_rest setting).line found.pairs c.in_ok-all.all.pairs c.sorts_into_the_loop.ensures
+    (c.begins_with_all.ensures input setting valid).1 same c.in_ok-all.ensures.permutation c.in_ok-all.ensures.order
 
 pub returns-clause-groups : goal.returns-clause-groups
 returns-clause-groups g c =
@@ -25,5 +25,5 @@ returns-clause-groups g c =
     let setting = c.args.setting.now in
     let found = c.in_ok-found.found in
     let groups = all_groups input joiners numbers setting found c.in_ok-found.ensures in
-    subst (λ runs. AreGroups input joiners numbers setting runs c.ordered.result.trail) (sym c.ordered.ensures.runs)
-    (subst (AreGroups input joiners numbers setting found.runs) (sym c.ordered.ensures.trail) groups)
+    subst (λ runs. AreGroups input joiners numbers setting runs c.in_ok-all.all.trail) (sym c.in_ok-all.ensures.runs)
+    (subst (AreGroups input joiners numbers setting found.runs) (sym c.in_ok-all.ensures.trail) groups)
