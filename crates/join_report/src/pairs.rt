@@ -4,15 +4,18 @@ ghost use Rattle.std.specs.Prelude.{◌≡◌, ◌++◌, IfOk, OnOk, string_byte
 ghost use Rattle.join_report.specs.PairLines.{pair_line, pair_lines};
 
 use epoch_tags::Pair;
+use itoa::Buffer;
 use std::alloc::{AllocError, Global};
 
 /// Adds the line of a pair.
 fn write_pair(text: &mut String, pair: Pair) -> Result<(), AllocError>
     ensures { OnOk result (string_bytes text.new ≡ string_bytes text.old ++ pair_line pair) }
 {
-    let i = u64::from(pair.i) + 1;
-    let j = u64::from(pair.j) + 1;
-    write!(text, "{i},{j}\n")
+    let mut buffer = Buffer::new();
+    text.push_str(buffer.format(u64::from(pair.i) + 1))?;
+    text.push(',')?;
+    text.push_str(buffer.format(u64::from(pair.j) + 1))?;
+    text.push('\n')
 }
 
 /// A line for each pair, in their order: the numbers of its rows, counted from 1.
