@@ -94,8 +94,8 @@ waves_since_growth number input setting grown trail rest last ends since line st
   rest = rest;
   from = refl;
   stands = stands;
-  waves = subst (λ s. AreWavesBehind number input s (record { run = no_waves s; trail = trail; rest = rest }) ends since)
-      is waves;
+  waves = subst (λ s.
+      AreWavesBehind number input s (record { run = no_waves s; trail = trail; rest = rest }) ends since) is waves;
 }
 
 -- ---- the ends, split

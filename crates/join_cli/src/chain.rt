@@ -56,8 +56,8 @@ struct Chained {
     trail: Trail,
 }
 
-/// Appends the reports of both runs where they are asked for: the second over as many joined rows as the first has pairs,
-/// and over so many rows of the third table.
+/// Appends the reports of both runs where they are asked for: the second over as many joined rows as the first has
+/// pairs, and over so many rows of the third table.
 fn add_reports(
     alloc: Global,
     options: &Options<'_>,

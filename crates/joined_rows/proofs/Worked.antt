@@ -1,6 +1,6 @@
 -- Worked rows: joined names, and the joined row of a pair.
 use Rattle.std.proofs.Common.{◌≡◌, ℕ, List, [], ◌∷◌, refl}
-use Rattle.std.specs.Prelude.{None, codes}
+use Rattle.std.specs.Prelude.{codes}
 use Rattle.join_rows.specs.Records.{cell_of}
 use Rattle.joined_rows.specs.Joined.{joined_names, joined_row}
 

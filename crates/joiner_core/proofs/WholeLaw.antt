@@ -73,8 +73,8 @@ law : (s : JoinerStart) (t : Taken) (lists : JoinerLists) (done : ℕ) (turned e
     → ((n : ℕ) → n + 1 < length past → AllTurned s t n) → ((n : ℕ) → n + 1 ≡ length past → all_turned ≡ true
     → AllTurned s t n) → ((n : ℕ) → n + 1 ≡ length past → AllTurned s t n → all_turned ≡ true)
     → IsTold s lists t → JoinerLaw s lists t
-law s t lists done turned ended all_turned part_ended step past start feeders joiners is count one settled unsettled last
-    next links below top top' told = record {
+law s t lists done turned ended all_turned part_ended step past start feeders joiners is count one settled unsettled
+    last next links below top top' told = record {
       done = done;
       of_feeders = feeders;
       of_joiners = joiners;
@@ -114,7 +114,8 @@ law s t lists done turned ended all_turned part_ended step past start feeders jo
           ended-law s lists t all_turned (step ∷ past) n is.history is.sent (omega arith)
           (λ same. top' n (omega arith) turns_all);
       moved_only = λ q e some.
-          let at = part-at s t (step ∷ past) q e is.history (has-moved _ _ e (lists.to_joiner q) (is.to_partner q) some) in
+          let moved = has-moved _ _ e (lists.to_joiner q) (is.to_partner q) some in
+          let at = part-at s t (step ∷ past) q e is.history moved in
           let low : at.0 + 1 < length (step ∷ past) = at.2 in
           (at.0, at.1, omega arith, at.3);
       ended_only = λ q e some.

@@ -1,5 +1,5 @@
-//! A pool of threads that are kept between rounds of work. In each round they own items while they work on them, and then
-//! hand them back.
+//! A pool of threads that are kept between rounds of work. In each round they own items while they work on them, and
+//! then hand them back.
 #![tactic(auto)]
 
 mod job;

@@ -56,8 +56,8 @@ fn work_by<R: Wait, T: Drop, W: Task<T>>(
 }
 
 impl<'s, T: Send + Drop + 's, W: Task<T> + Sync> Pool<'s, T, W> {
-    /// Starts a thread for each of the signals, as far as the system and memory allow; with none it starts no thread. The
-    /// scope waits until all have ended, so the pool is to be ended in it.
+    /// Starts a thread for each of the signals, as far as the system and memory allow; with none it starts no thread.
+    /// The scope waits until all have ended, so the pool is to be ended in it.
     pub fn start<E, R: Wait + Sync>(
         rt: &'s R,
         alloc: Global,
@@ -86,9 +86,9 @@ impl<'s, T: Send + Drop + 's, W: Task<T> + Sync> Pool<'s, T, W> {
 }
 
 impl<T: Drop, W: Task<T>> Pool<'_, T, W> {
-    /// One round: does the task to each item, in at most as many chunks side by side as there are threads, the caller's own
-    /// among them, and the items in their order within a chunk. It can't fail: what no thread can take for want of memory,
-    /// the caller does. What it promises holds if it returns.
+    /// One round: does the task to each item, in at most as many chunks side by side as there are threads, the caller's
+    /// own among them, and the items in their order within a chunk. It can't fail: what no thread can take for want of
+    /// memory, the caller does. What it promises holds if it returns.
     pub fn work<R: Wait>(&mut self, rt: &R, items: Vec<T>) -> Vec<T>
         ensures len { length result.items ≡ length items.items }
         ensures changed { EachChanged W.changes items.items result.items }
@@ -111,8 +111,8 @@ impl<T: Drop, W: Task<T>> Pool<'_, T, W> {
         self.workers.len() + 1
     }
 
-    /// Lets the threads end, as a drop does. It is for callers with a task that has type parameters of theirs: there the
-    /// check doesn't find the lifetimes that a drop at a block's end asks for.
+    /// Lets the threads end, as a drop does. It is for callers with a task that has type parameters of theirs: there
+    /// the check doesn't find the lifetimes that a drop at a block's end asks for.
     pub fn end(self) {
         drop(self);
     }

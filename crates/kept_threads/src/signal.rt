@@ -39,8 +39,8 @@ impl Signal {
     }
 }
 
-/// What one thread of a pool and the pool's owner sleep on while they have nothing to do. A pool borrows it, so that it is
-/// made before the scope of the pool's threads. It takes no memory of its own.
+/// What one thread of a pool and the pool's owner sleep on while they have nothing to do. A pool borrows it, so that it
+/// is made before the scope of the pool's threads. It takes no memory of its own.
 #[derive(Drop)]
 pub struct Signals {
     // The thread sleeps on it until it has a job.

@@ -30,7 +30,8 @@ made_turn old core ins outs none sends caused empty sent =
         grows = caused.grows;
         lists = λ i. record {
           received = λ from. caused.received from i;
-          sent = λ to. (sent to ∙ ap (λ ps. sent_through old.joiners old.feeders old.outs to ++ posted_to to ps) posts) i;
+          sent = λ to. (sent to
+              ∙ ap (λ ps. sent_through old.joiners old.feeders old.outs to ++ posted_to to ps) posts) i;
         };
       };
       looked = caused.looked;

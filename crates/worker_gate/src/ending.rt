@@ -3,8 +3,8 @@
 use crate::gate::{Gate, Spot};
 use std::mem;
 
-/// The gate of a program's last run. It passes all on to another one, but what is let go stays where it is: the process is
-/// about to end, and the system takes its memory back as a whole.
+/// The gate of a program's last run. It passes all on to another one, but what is let go stays where it is: the process
+/// is about to end, and the system takes its memory back as a whole.
 #[derive(Drop)]
 pub struct LastGate<G> {
     gate: G,

@@ -64,8 +64,8 @@ impl<'a> Seat<'a> {
         self.inbox.known() > TURNS
     }
 
-    // The turns of one round ahead of the others, if it goes ahead: until it is idle or has had 16, and never the last that
-    // it may have in this bout.
+    // The turns of one round ahead of the others, if it goes ahead: until it is idle or has had 16, and never the last
+    // that it may have in this bout.
     pub(crate) fn turns_ahead<R: Wait, G: Gate>(
         &mut self,
         rt: &R,

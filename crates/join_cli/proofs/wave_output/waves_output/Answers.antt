@@ -22,5 +22,6 @@ returns-in-Ok g c = λ planned is ends_is.
     c.in_ok-run.field-0.trail c.in-Ok.text is c.requires.is ends_is c.requires.single
     (not_chained c.args.options.now.chain c.requires.whole) c.requires.queued c.requires.setting c.in_ok-run.ensures
     c.in-Ok.ensures in
-    rw c.journal_of-journal.ensures (made_of_several own planned c.in_ok-run.field-0.run.journal c.in_ok-run.field-0.trail c.in-Ok.text
-    (asks_several c.args.options.now c.requires.later) c.requires.still are.0 are.1)
+    rw c.journal_of-journal.ensures (made_of_several own planned c.in_ok-run.field-0.run.journal
+    c.in_ok-run.field-0.trail c.in-Ok.text (asks_several c.args.options.now c.requires.later) c.requires.still
+    are.0 are.1)

@@ -32,7 +32,8 @@ returns-clause-ok c = λ values at_end h.
     (c.in_ok-map.ensures.update.1 c.push.new.self) in
     let added = map_put_pushed values v c.args.place c.args.map.now.entries
     (map_with_value c.in_ok-map.field-0 c.push.new.self).entries c.new.result c.push.new.self _ refl put
-    c.new.ensures.items (c.in_ok-push.ensures.ok ∙ ap (λ (v : SmallVec ℕ). v.items ++ c.args.place ∷ []) had) at_end h in
+    c.new.ensures.items
+    (c.in_ok-push.ensures.ok ∙ ap (λ (v : SmallVec ℕ). v.items ++ c.args.place ∷ []) had) at_end h in
     let P : ℤ → Type 0 = λ v. IsMapOf (values ++ Some v ∷ [])
     (map_with_value c.in_ok-map.field-0 c.push.new.self).entries in
     let whole = subst P (to_z-of_z w128 c.args.value fits) added in
