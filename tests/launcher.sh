@@ -113,7 +113,7 @@ asked 'a first run builds what stands below jm' 'lib low' 'lib side' 'lib high' 
 holds 'low is proved before high' stands_before 'lib low' 'lib high'
 holds 'side is proved before high' stands_before 'lib side' 'lib high'
 holds 'high is proved before jm' stands_before 'lib high' 'run jm'
-holds 'a first run says that it builds' grep -q '^jm: building; .* three quarters of an hour' got.err
+holds 'a first run says that it builds' grep -q '^jm: building; .* an hour' got.err
 holds 'it says which crate it is at' grep -q '^jm: proving high, crate 3 of 4$' got.err
 holds 'it comes to the program' grep -q '^jm: proving jm, crate 4 of 4$' got.err
 holds 'and says where a refusal is explained' grep -q '^jm: built; .*/jm-why ' got.err
