@@ -26,6 +26,7 @@ plain_digits : (ds : List ℕ) → AllDigits 10 ds → AllByRecursion Plain ds
 plain_digits [] h = tt
 plain_digits (c ∷ ds) h = (plain_digit c h.0, plain_digits ds h.1)
 
+-- a numeral with or without a sign isn't empty, and its bytes are ASCII and no spaces
 pub plain_numeral : (numeral : List ℕ) → IsNumeral 10 (without_leading_sign numeral) → (0 < length numeral)
     × AllByRecursion Plain numeral
 plain_numeral [] h = absurd (omega (arith, h.0))
