@@ -1,6 +1,7 @@
 -- A message is taken or held.
 use Rattle.std.proofs.Common.{◌≡◌, ℕ, ◌^◌, ◌<◌, inl, inr, refl, sym, ◌∙◌, ap, subst, arith, Bool, true, Option, Some}
-use Rattle.std.proofs.Common.{None, List, [], ◌∷◌, ◌++◌, length, append_assoc, get_or-set_same, get_or-set_other}
+use Rattle.std.proofs.Common.{◌&&◌, false, None, List, [], ◌∷◌, ◌++◌, length, append_assoc, get_or-set_same}
+use Rattle.std.proofs.Common.{get_or-set_other}
 use Rattle.std.specs.Prelude.{slice_set, flat_map}
 use Rattle.std.proofs.Math.ListN.{length-set}
 use Rattle.std.proofs.lemmas.Bool.{cases_eq, false≢true}
@@ -18,7 +19,10 @@ use Rattle.joiner_law.proofs.LongerLists.{grown-same, grown-other}
 use Rattle.joiner_core.specs.State.{HasRow, OpenStep, EpochState, MachineState}
 use Rattle.joiner_core.proofs.RowWidths.{same-rows, rows-held}
 use Rattle.joiner_core.specs.Taking.{StandsBy, Stands, TookOfFeeder, TookOfJoiner, TakesOfFeeder, TakesOfJoiner}
+use Rattle.joiner_core.specs.Outcomes.{can_take_of_feeder, can_take_of_joiner}
+use Rattle.joiner_core.specs.Calls.{is_clear}
 use Rattle.joiner_core.specs.Machine.{IsSound, Accepts}
+use Rattle.joiner_core.proofs.Replays.{does-accept-feeder, does-hold-feeder, does-accept-joiner, does-hold-joiner}
 use Rattle.joiner_core.proofs.OwnPosts.{own-none}
 use Rattle.std.proofs.lemmas.List.{append-nil}
 use Rattle.joiner_core.proofs.SentPosts.{with_sent-none}
@@ -143,6 +147,7 @@ accepts-taken-feeder old new p m w w' before after sound low clear can state too
       taken = inl (record { clear = clear; can = can; feeders = own; joiners = other });
       told = ap (λ (z : MachineState). z.told) state;
       fixed = record { k = took.k; id = took.id; feeders = took.feeders; theta = took.theta };
+      does = does-accept-feeder old new p m w w' before after clear can state took.does;
       rests = λ at. let n = sound.within.ended in absurd (false≢true (sym took.going ∙ at.ended p (omega arith)));
       stands = λ s lists is.
           let many = is.stands.fixed.feeders in
@@ -184,9 +189,10 @@ accepts-taken-feeder old new p m w w' before after sound low clear can state too
 -- p, and which changes nothing else, is accepted
 pub accepts-held-feeder : (old : MachineState) (queues : List (List ToJoiner)) (p : ℕ) (m : ToJoiner) (w : List Pair)
     (before : List Post) → IsSound old → p < old.epochs.feeders → HasRow old.epochs.theta m
+    → (is_clear (held_at old.of_feeders p) && can_take_of_feeder old.epochs p m) ≡ false
     → queues ≡ slice_set old.of_feeders p (held_at old.of_feeders p ++ m ∷ [])
     → Accepts (Feeder p) m old (record old { of_feeders = queues }) w w before before
-accepts-held-feeder old queues p m w before sound low row put =
+accepts-held-feeder old queues p m w before sound low row waits put =
     let count = sound.feeders in
     let within : p < length old.of_feeders = omega arith in
     record {
@@ -204,6 +210,8 @@ accepts-held-feeder old queues p m w before sound low row put =
       taken = inr (ap (λ qs. record old { of_feeders = qs }) put);
       told = refl;
       fixed = record { k = refl; id = refl; feeders = refl; theta = refl };
+      does = does-hold-feeder old (record old { of_feeders = queues }) p m w before waits
+          (ap (λ qs. record old { of_feeders = qs }) put);
       rests = λ at. (refl, refl);
       stands = λ s lists is.
           record {
@@ -260,6 +268,7 @@ accepts-taken-joiner old new q m w w' before after sound clear can state takes =
       taken = inl (record { clear = clear; can = can; feeders = other; joiners = own });
       told = ap (λ (z : MachineState). z.told) state;
       fixed = record { k = took.k; id = took.id; feeders = took.feeders; theta = took.theta };
+      does = does-accept-joiner old new q m w w' before after clear can state took.does;
       rests = λ at. absurd (took.opened at.closed);
       stands = λ s lists is.
           let after = took.stands s is.taken (with_other lists lists.from_feeder (grown q m lists.from_joiner)
@@ -299,9 +308,10 @@ accepts-taken-joiner old new q m w w' before after sound clear can state takes =
 -- it holds of q, and which changes nothing else, is accepted
 pub accepts-held-joiner : (old : MachineState) (queues : List (List ToJoiner)) (q : ℕ) (m : ToJoiner) (w : List Pair)
     (before : List Post) → IsSound old → q < 2 ^ old.epochs.k → HasRow old.epochs.theta m
+    → (is_clear (held_at old.of_joiners q) && can_take_of_joiner old.epochs q m) ≡ false
     → queues ≡ slice_set old.of_joiners q (held_at old.of_joiners q ++ m ∷ [])
     → Accepts (Joiner' q) m old (record old { of_joiners = queues }) w w before before
-accepts-held-joiner old queues q m w before sound low row put =
+accepts-held-joiner old queues q m w before sound low row waits put =
     let count = sound.joiners in
     let within : q < length old.of_joiners = omega arith in
     record {
@@ -319,6 +329,8 @@ accepts-held-joiner old queues q m w before sound low row put =
       taken = inr (ap (λ qs. record old { of_joiners = qs }) put);
       told = refl;
       fixed = record { k = refl; id = refl; feeders = refl; theta = refl };
+      does = does-hold-joiner old (record old { of_joiners = queues }) q m w before waits
+          (ap (λ qs. record old { of_joiners = qs }) put);
       rests = λ at. (refl, refl);
       stands = λ s lists is.
           record {

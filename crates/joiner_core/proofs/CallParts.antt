@@ -18,6 +18,7 @@ use Rattle.joiner_core.specs.State.{EpochState, MachineState}
 use Rattle.joiner_core.proofs.RowWidths.{same-rows, rows-taken}
 use Rattle.joiner_core.specs.Taking.{IsFixed, TookOfFeeder, TookOfJoiner, TakesOfJoiner}
 use Rattle.joiner_core.specs.Machine.{StandsWithin, IsResting, Advances, IsSound, IsReadyOfJoiner, TookHeld}
+use Rattle.joiner_core.proofs.Replays.{does-first-feeder, does-first-joiner}
 use Rattle.joiner_core.proofs.OwnPosts.{own-none, own-append, own-before}
 use Rattle.joiner_core.proofs.SentPosts.{quiet-append, with_sent-none, with_sent-append}
 
@@ -204,6 +205,7 @@ took-held-feeder old new queues p m w w' before after sound low first rest state
       advances = advances-held old new p m w w' before after within (sym sound.feeders) (let n = sound.within.ended in
           omega arith) took first' rest' j (ap (λ (z : MachineState). z.told) state);
       given = (record { first = m; rest = first'; others = rest' }, j);
+      does = does-first-feeder old new queues p m w w' before after first rest state took.does;
       fewer = let n = fewer-of old.of_feeders new.of_feeders p m within first' rest' in
           let e : sum_by length new.of_joiners ≡ sum_by length old.of_joiners = ap (λ qs. sum_by length qs) j in
           omega arith;
@@ -245,6 +247,7 @@ took-held-joiner old new queues q m w w' before after sound ready first rest sta
       advances = advances-held-joiner old new q m w w' before after took first' rest' j
           (ap (λ (z : MachineState). z.told) state);
       given = (record { first = m; rest = first'; others = rest' }, j);
+      does = does-first-joiner old new queues q m w w' before after first rest state took.does;
       fewer = let n = fewer-of old.of_joiners new.of_joiners q m within first' rest' in
           let e : sum_by length new.of_feeders ≡ sum_by length old.of_feeders = ap (λ qs. sum_by length qs) j in
           omega arith;

@@ -48,6 +48,8 @@ takes from m old new before after is = record {
   rows = all-rows old.machine.epochs is.added is.own;
   order = is.order;
   tried = is.tried;
+  state = is.state;
+  posts = is.posts;
   same = record { of_k = is.fixed.k; of_id = is.fixed.id; of_feeders = is.fixed.feeders; of_theta = is.fixed.theta };
   stands = λ s lists stands. with-law s (with_sent (with_message from m lists) is.added) new
       (is.stands s lists stands.machine.between);

@@ -27,6 +27,7 @@ use Rattle.joiner_core.proofs.PartnerParts.{open-part, open-part_end}
 use Rattle.joiner_core.proofs.SettledSteps.{stands-settled, settled-within, settled-k, settled-id, settled-feeders}
 use Rattle.joiner_core.proofs.SettledSteps.{settled-theta}
 use Rattle.joiner_core.proofs.TakenTuples.{new-within}
+use Rattle.joiner_core.proofs.Outcomes.{does-end, does-part}
 
 -- ---- a feeder's end
 
@@ -137,6 +138,7 @@ took-end m m' p waiting before within going state flags = record {
             (subst (λ (ls : JoinerLists). Stands s (took_of_feeder p End t) ls waiting (record m { ended = m'.ended }))
             (sym (with_sent-none lists)) whole),
       );
+  does = does-end m m' p waiting before state flags;
 }
 
 -- ---- a tuple that the partner moved here
@@ -192,6 +194,7 @@ took-moved m m' q epoch x w w' before within row state more fits = rw (state, mo
         subst (λ (ls : JoinerLists). Stands s (took_of_joiner q (Moved epoch x) t) ls (w ++ found_moved m x)
             (after_moved m x)) (sym (with_sent-none lists)) whole,
       );
+  does = record { left = refl; found = refl; posts = sym (append-nil before) };
 })
 
 -- ---- the end of the partner's part
@@ -281,4 +284,5 @@ took-moved_end m m1 m2 q epoch ready w before after within part settles not_yet 
         subst (λ (z : EpochState). Stands s t' (with_sent lists (posts_settled ready m1)) w z) (sym state)
             (stands-settled s t' lists w m1 ready settles first'),
       );
+  does = does-part m m1 m2 ready w before after part settles not_yet state posts;
 }

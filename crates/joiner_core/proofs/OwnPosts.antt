@@ -15,7 +15,7 @@ use Rattle.joiner_law.specs.Posting.{moved_post, moved_end_post, settled_post}
 use Rattle.joiner_core.specs.State.{IsRow, AreRows, IsOwnPost, AllSendRows, OpenStep, EpochState, MachineState}
 use Rattle.joiner_core.specs.Changes.{late_posts, begun_posts, end_posts, posts_turned, settle_posts, posts_settled}
 use Rattle.joiner_core.specs.Taking.{IsWithin, IsFixed, IsStepWithin, TurnFits, AreOwnPosts}
-use Rattle.joiner_core.specs.Machine.{found_posts, fin_posts}
+use Rattle.joiner_core.specs.Calls.{found_posts, fin_posts}
 
 -- two neighbours aren't both the last shift
 pub beside : (k b c : ℕ) → b ≤ k → c ≤ k → AreNeighbours b c → min b c < k

@@ -25,6 +25,7 @@ use Rattle.joiner_core.proofs.StoreBags.{settled-placed, open-placed, both-place
 use Rattle.epoch_tags.specs.declared.message.Post.{Post}
 use Rattle.epoch_tags.specs.Flags.{flag_at}
 use Rattle.joiner_core.proofs.SentPosts.{with_sent-none, quiet-late}
+use Rattle.joiner_core.proofs.Outcomes.{does-old, does-new}
 
 -- with no step open
 closed-old : (s : JoinerStart) (t : Taken) (lists : JoinerLists) (waiting : List Pair) (m : EpochState) (x : Tuple)
@@ -295,6 +296,7 @@ took-old m m' x p found found' before after within can row still state more post
     record { from_feeder = refl; from_joiner = refl },
     stands-old s t lists found m x p low can.going still (fits-old m p x.stamp m.step still can.fits) is,
   );
+  does = does-old m p x found before still;
 })
 
 -- a row that can be taken, of a feeder that has turned in the open step, was taken where it is stored there and its
@@ -319,4 +321,5 @@ took-new m m' x p found found' before within can row has state more = rw (state,
     subst (λ (ls : JoinerLists). Stands s (took_of_feeder p (Tup x) t) ls (found ++ found_new m x)
         (after_new m x)) (sym (with_sent-none lists)) (stands-new s t lists found m x p low can has is),
   );
+  does = does-new m p x found before has;
 })

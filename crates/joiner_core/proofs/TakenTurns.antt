@@ -30,6 +30,7 @@ use Rattle.joiner_core.proofs.FlagChanges.{same-flags, flag-set}
 use Rattle.joiner_core.proofs.OpenedSteps.{IsSomeTurn, begun-by, begun-within, begun-count}
 use Rattle.joiner_core.proofs.SettledSteps.{stands-settled, settled-within, settled-k, settled-feeders, settled-id}
 use Rattle.joiner_core.proofs.SettledSteps.{settled-theta}
+use Rattle.joiner_core.proofs.Outcomes.{does-turn}
 
 by_last : (s : JoinerStart) (t : Taken) (lists : JoinerLists) (waiting : List Pair) (turned ended : ℕ
     → Bool) (part_ended : Bool) (a b : List Tuple) (new cur : Step) (past : List Step) (last : Bool)
@@ -250,6 +251,8 @@ took-turn m m1 m2 m3 p epoch shift last ready waiting before s1 s2 after few wit
             },
             rw state (subst (λ (ls : JoinerLists). Stands s t2 ls waiting (after_settle ready m2)) same third),
           );
+      does = does-turn m m1 m2 m3 p epoch shift last ready waiting before s1 s2 after rest1 begun posts1 rest2 turned up
+          down posts2 settles not_yet state posts3;
     }
   where
     four : {X : Type 0} (us vs ws zs : List X) → ((us ++ vs) ++ ws) ++ zs ≡ us ++ (vs ++ ws ++ zs)

@@ -28,13 +28,17 @@ use Rattle.joiner_core.specs.Taking.{StandsBy, Stands, HasSomeTurn, IsFixed}
 use Rattle.joiner_core.proofs.CallParts.{fixed-then}
 use Rattle.joiner_core.specs.Machine.{StandsWithin, StandsBetween, IsStart, Collects, IsResting, IsOfGrid, Advances}
 use Rattle.joiner_core.specs.Machine.{IsSound, IsStuck, Accepts, Receives, TellsFin, HasFinished, with_message}
-use Rattle.joiner_core.specs.Machine.{found_posts, fin_posts, fin_of, StandInOrder, AreTried, IsLastAtMost}
+use Rattle.joiner_core.specs.Machine.{StandInOrder, AreTried, IsLastAtMost}
+use Rattle.joiner_core.specs.Outcomes.{Does}
+use Rattle.joiner_core.specs.Calls.{found_posts, fin_posts, fin_of, accepts as accepting, takes_all_held, plays}
 use Rattle.joiner_core.specs.Machine.{post_to_collector}
 use Rattle.joiner_law.proofs.MovedBySteps.{gathered-more}
 use Rattle.joiner_core.proofs.OwnPosts.{own-append, own-before, own-found, own-fin}
 use Rattle.joiner_core.proofs.SentPosts.{quiet-append, with_sent-none, with_sent-append}
 use Rattle.joiner_core.proofs.AcceptedMessages.{with_other, PairsMove, stands-other}
 use Rattle.joiner_core.proofs.LawTests.{tests-feeder, tests-joiner}
+use Rattle.joiner_core.proofs.Outcomes.{does-then}
+use Rattle.joiner_core.proofs.Replays.{call-state, call-posts}
 
 -- posts to the collector alone
 only-collected : (lists : JoinerLists) (posts : List Post) → ((j : ℕ) → posted_to_joiner j posts ≡ [])
@@ -291,9 +295,11 @@ in-order a1 a2 w now b one two = record {
 pub receives : (from : Actor) (m : ToJoiner) (old a b new : MachineState) (w0 w1 w2 : List Pair)
     (p0 p1 p2 p3 p4 : List Post) → IsOfGrid from old.epochs → w0 ≡ [] → Accepts from m old a w0 w1 p0 p1 → IsSound b
     → Advances a b w1 w2 p1 p2 → AreTried a b → IsStuck b
+    → Does (takes_all_held a) b w1 w2 p1 p2
     → p3 ≡ p2 ++ found_posts w2 → new ≡ record b { told = new.told } → TellsFin b new.told p3 p4
     → Receives from m old new p0 p4
-receives from m old a b new w0 w1 w2 p0 p1 p2 p3 p4 grid none accepts sound advances tried stuck found state tells =
+receives from m old a b new w0 w1 w2 p0 p1 p2 p3 p4 grid none accepts sound advances tried stuck held found state
+    tells =
     let a1 = accepts.added in
     let a2 = advances.added in
     let a3 = found_posts w2 in
@@ -312,12 +318,17 @@ receives from m old a b new w0 w1 w2 p0 p1 p2 p3 p4 grid none accepts sound adva
       feeders = stuck.feeders;
       joiners = stuck.joiners;
     }) in
+    let played : Does (plays from m old) b [] w2 p0 p2 =
+    subst (λ (w : List Pair). Does (plays from m old) b w w2 p0 p2) none
+    (does-then (accepting from m old) takes_all_held a b w0 w1 w2 p0 p1 p2 accepts.does held) in
+    let sends : p2 ≡ p0 ++ (a1 ++ a2) =
+    advances.sends ∙ ap (λ zs. zs ++ a2) accepts.sends ∙ append_assoc p0 a1 a2 in
     record {
       sound = sound';
       fixed = subst (λ (z : MachineState). IsFixed old.epochs z.epochs) (sym state) fixed;
       added = ((a1 ++ a2) ++ a3) ++ a4;
       sends = tells.sends ∙ ap (λ zs. zs ++ a4) (found ∙ ap (λ zs. zs ++ a3)
-          (advances.sends ∙ ap (λ zs. zs ++ a2) accepts.sends ∙ append_assoc p0 a1 a2) ∙ append_assoc p0 (a1 ++ a2) a3)
+          sends ∙ append_assoc p0 (a1 ++ a2) a3)
           ∙ append_assoc p0 ((a1 ++ a2) ++ a3) a4;
       own = own-append old.epochs ((a1 ++ a2) ++ a3) a4 (own-append old.epochs (a1 ++ a2) a3
           (own-append old.epochs a1 a2 accepts.own (own-before old.epochs a.epochs a2 accepts.fixed advances.own))
@@ -329,6 +340,8 @@ receives from m old a b new w0 w1 w2 p0 p1 p2 p3 p4 grid none accepts sound adva
         tried = subst (λ (z : MachineState). AreTried a z) same tried;
       };
       order = in-order a1 a2 w2 tells.now b accepts.quiet advances.quiet;
+      state = call-state (plays from m old) b new w2 p0 p2 p3 p4 played state tells;
+      posts = call-posts (plays from m old) b new w2 p0 p2 p3 p4 played state tells (a1 ++ a2) sends;
       stands = λ s lists is.
           let ls = with_message from m lists in
           let fixed = is.within.stands.fixed in

@@ -25,7 +25,8 @@ use Rattle.joiner_law.proofs.MovedBySteps.{count-bag, moved-law, ended-law, coun
 use Rattle.joiner_core.specs.Changes.{IsReady}
 use Rattle.joiner_core.specs.State.{OpenStep, EpochState, MachineState}
 use Rattle.joiner_core.specs.Taking.{IsClosed, StandsBy, HasSomeTurn}
-use Rattle.joiner_core.specs.Machine.{IsStart, StandsBetween, fin_of}
+use Rattle.joiner_core.specs.Machine.{IsStart, StandsBetween}
+use Rattle.joiner_core.specs.Calls.{fin_of}
 use Rattle.std.proofs.lemmas.List.{append-nil}
 use Rattle.joiner_core.proofs.LawTests.{closed-few, open-begun}
 use Rattle.joiner_core.proofs.Finished.{parts-at, some-up, more-up, rests-law, law-finished}

@@ -1,6 +1,6 @@
 -- The lists for which a joiner's machine stands, with the messages that it holds.
-use Rattle.std.specs.Prelude.{◌≡◌, ℕ, ◌+◌, ◌^◌, ◌<◌, ◌≤◌, map, slice_set, ◌⊎◌, Bool, true, false, None, ⊤, List, []}
-use Rattle.std.specs.Prelude.{◌∷◌, ◌++◌, length, sum_by, count_by}
+use Rattle.std.specs.Prelude.{◌≡◌, ℕ, ◌+◌, ◌^◌, ◌<◌, ◌≤◌, map, slice_set, ◌⊎◌, Bool, true, false, None, Some, ⊤, List}
+use Rattle.std.specs.Prelude.{suc, [], ◌∷◌, ◌++◌, length}
 use Rattle.std.specs.List.{AllByRecursion}
 use Rattle.epoch_tags.specs.declared.tuple.Pair.{Pair}
 use Rattle.epoch_tags.specs.declared.message.ToCollector.{ToCollector}
@@ -9,14 +9,15 @@ use Rattle.epoch_tags.specs.declared.message.ToJoiner.{ToJoiner}
 use Rattle.epoch_tags.specs.Posts.{posted_to_collector}
 use Rattle.epoch_tags.specs.declared.message.Msg.TheVariants.{Collector as Collector'}
 use Rattle.epoch_tags.specs.declared.message.ToCollector.TheVariants.{Found, Fin}
-use Rattle.join_rows.specs.declared.table.Side.TheVariants.{R, S}
-use Rattle.migration_plan.specs.Steps.{is_of}
 use Rattle.joiner_core.specs.State.{does_hold, HoldsRows, Stocked, EpochState, MachineState}
 use Rattle.theta_pred.specs.Formula.{Meaning}
 use Rattle.epoch_tags.specs.declared.tuple.Tuple.{Tuple}
 use Rattle.joiner_law.specs.Law.{JoinerStart, JoinerLists, Taken, CanTakeOfFeeder, CanTakeOfJoiner, IsTakenOf}
 use Rattle.joiner_law.specs.Law.{received_count}
 use Rattle.joiner_law.specs.Standing.{grown, with_sent}
+use Rattle.joiner_core.specs.Outcomes.{Does}
+use Rattle.joiner_core.specs.Calls.{held_in_all, fin_of, found_posts, fin_posts, accepts, takes_first, first_ready}
+use Rattle.joiner_core.specs.Calls.{state_after, posts_after}
 use Rattle.joiner_core.specs.Taking.{IsWithin, IsFixed, AreOwnPosts, TakesOfFeeder, TakesOfJoiner, Stands}
 use Rattle.epoch_tags.specs.declared.actor.Actor.{Actor}
 use Rattle.epoch_tags.specs.declared.actor.Actor.TheVariants.{Feeder, Joiner as Joiner', Controller, Collector}
@@ -52,10 +53,6 @@ pub record Advances (old new : MachineState) (waiting waiting' : List Pair) (bef
   pub rests : IsResting old.epochs → (new.epochs ≡ old.epochs) × (waiting' ≡ waiting)
   pub stands : (s : JoinerStart) (lists : JoinerLists) → StandsWithin s lists waiting old
       → StandsWithin s (with_sent lists added) waiting' new
-
--- how many messages it holds
-abbrev pub held_in_all : MachineState → ℕ
-held_in_all m = sum_by length m.of_feeders + sum_by length m.of_joiners
 
 -- what holds of the machine between two messages
 pub record IsSound (m : MachineState) : Type 0 where
@@ -158,6 +155,14 @@ pub record TookHeld (from : Actor) (old new : MachineState) (waiting waiting' : 
   pub advances : Advances old new waiting waiting' before after
   pub given : HasGiven from old new
   pub fewer : held_in_all new < held_in_all old
+  pub does : Does (takes_first from old) new waiting waiting' before after
+
+-- the first link that was ready gave a message, which was taken
+pub record DoesNext (old new : MachineState) (waiting waiting' : List Pair) (before after : List Post) : Type 0 where
+  pub from : Actor
+  pub first : first_ready old ≡ Some from
+  pub fewer : held_in_all old ≡ suc (held_in_all new)
+  pub does : Does (takes_first from old) new waiting waiting' before after
 
 -- all feeders have ended, no step is open, and nothing is held
 pub record HasFinished (m : MachineState) : Type 0 where
@@ -172,10 +177,6 @@ pub record IsStart (s : JoinerStart) : Type 0 where
   pub id : s.id < 2 ^ s.k
   pub some : 0 < s.feeders
   pub base : AllByRecursion (λ (x : Tuple). x.stamp ≤ s.epoch) s.base
-
--- the last message, as the machine has it
-abbrev pub fin_of : EpochState → ToCollector
-fin_of m = Fin (count_by (is_of R) m.store.tuples) (count_by (is_of S) m.store.tuples) m.moved
 
 -- what was sent to the collector: pairs, and once, where the machine has finished, the last message
 pub record Collects (s : JoinerStart) (lists : JoinerLists) (m : MachineState) : Type 0 where
@@ -236,22 +237,13 @@ pub record Accepts (from : Actor) (m : ToJoiner) (old new : MachineState) (waiti
   pub rests : IsResting old.epochs → (new.epochs ≡ old.epochs) × (waiting' ≡ waiting)
   pub stands : (s : JoinerStart) (lists : JoinerLists) → StandsWithin s lists waiting old
       → StandsWithin s (with_sent (with_message from m lists) added) waiting' new
+  pub does : Does (accepts from m old) new waiting waiting' before after
 
 -- ---- what is sent at the end of a call
-
--- the pairs go to the collector in one post, where there are any
-abbrev pub found_posts : List Pair → List Post
-found_posts [] = []
-found_posts (p ∷ ps) = record { to = Collector; msg = Collector' (Found (p ∷ ps)) } ∷ []
 
 -- a post to the collector
 abbrev pub post_to_collector : ToCollector → Post
 post_to_collector m = record { to = Collector; msg = Collector' m }
-
--- the posts of the last message: it is sent where the machine first has finished
-abbrev pub fin_posts : Bool → MachineState → List Post
-fin_posts true m = record { to = Collector; msg = Collector' (fin_of m.epochs) } ∷ []
-fin_posts false m = []
 
 -- nothing, or the last message
 abbrev pub IsLastAtMost : List ToCollector → Type 0
@@ -285,6 +277,8 @@ pub record Receives (from : Actor) (m : ToJoiner) (old new : MachineState) (befo
   pub own : AreOwnPosts old.epochs added
   pub order : StandInOrder added
   pub tried : TakesInOrder from m old new
+  pub state : new ≡ state_after from m old
+  pub posts : added ≡ posts_after from m old
   pub stands : (s : JoinerStart) (lists : JoinerLists) → StandsBetween s lists old
       → StandsBetween s (with_sent (with_message from m lists) added) new
 

@@ -9,6 +9,7 @@ use Rattle.epoch_tags.specs.Posts.{AllGoOver}
 use Rattle.theta_pred.specs.Formula.{Meaning}
 use Rattle.joiner_law.specs.Law.{JoinerStart, JoinerLists, JoinerLaw, Taken}
 use Rattle.joiner_law.specs.Standing.{with_sent}
+use Rattle.joiner_core.specs.Calls.{state_after, posts_after}
 use Rattle.joiner_core.specs.Machine.{StandsAt, StandInOrder, TakesInOrder, with_message}
 use Rattle.joiner_core.specs.State.{AllSendRows, MachineState}
 
@@ -66,6 +67,9 @@ pub record TakesMessage (from : Actor) (m : ToJoiner) (old new : JoinerState) (b
   pub rows : AllSendRows (theta_of old) added
   pub order : StandInOrder added
   pub tried : TakesInOrder from m old.machine new.machine
+  -- what the call leaves and posts is determined by what the machine held, the sender and the message
+  pub state : new.machine ≡ state_after from m old.machine
+  pub posts : added ≡ posts_after from m old.machine
   pub same : IsJoiner (k_of old) (id_of old) (feeders_of old) (theta_of old) new
   pub stands : (start : JoinerStart) (lists : JoinerLists) → StandsFor start lists old
       → StandsFor start (with_sent (with_message from m lists) added) new

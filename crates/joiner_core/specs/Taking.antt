@@ -8,6 +8,7 @@ use Rattle.joiner_law.specs.History.{Step}
 use Rattle.joiner_law.specs.Standing.{StandsSettled, StandsOpen, moved_counts, grown, with_sent}
 use Rattle.joiner_core.specs.State.{does_hold, IsStock, IsOwnPost, OpenStep, EpochState}
 use Rattle.joiner_core.specs.Changes.{IsReady}
+use Rattle.joiner_core.specs.Outcomes.{Does, of_feeder, of_joiner}
 use Rattle.epoch_tags.specs.declared.message.Post.{Post}
 use Rattle.epoch_tags.specs.declared.message.ToJoiner.{ToJoiner}
 use Rattle.migration_plan.specs.Steps.{AreNeighbours, partner_in_step}
@@ -152,6 +153,7 @@ pub record TookOfFeeder (p : ℕ) (m : ToJoiner) (old new : EpochState) (waiting
   pub going : flag_at old.ended p ≡ false
   pub stands : (s : JoinerStart) (t : Taken) (lists : JoinerLists) → p < s.feeders → Stands s t lists waiting old
       → (t' : Taken) × IsAfter p m t t' × Stands s t' (with_sent lists added) waiting' new
+  pub does : Does (of_feeder old p m) new waiting waiting' before after
 
 -- what was taken before, with this message of joiner q
 pub record IsAfterJoiner (q : ℕ) (m : ToJoiner) (t t' : Taken) : Type 0 where
@@ -173,6 +175,7 @@ pub record TookOfJoiner (q : ℕ) (m : ToJoiner) (old new : EpochState) (waiting
   pub opened : old.step ≡ None → ⊥
   pub stands : (s : JoinerStart) (t : Taken) (lists : JoinerLists) → Stands s t lists waiting old
       → (t' : Taken) × IsAfterJoiner q m t t' × Stands s t' (with_sent lists added) waiting' new
+  pub does : Does (of_joiner old m) new waiting waiting' before after
 
 -- ---- which messages can be taken, as the machine's tests say
 

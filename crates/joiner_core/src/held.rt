@@ -1,7 +1,9 @@
 // The held messages, which are tried again after each one that was taken.
 
 ghost use Rattle.std.specs.Prelude.{◌≡◌, ◌<◌, ◌^◌, true, false, OnOk, IfOk, IfSome, MatchOption};
-ghost use Rattle.joiner_core.specs.Machine.{state_of, Advances, IsSound, IsStuck, AreStuckOfFeeders, AreStuckOfJoiners, IsReadyOfFeeder, IsReadyOfJoiner, TookHeld, HasTakenNext, AreTried, held_in_all};
+ghost use Rattle.joiner_core.specs.Machine.{state_of, Advances, IsSound, IsStuck, AreStuckOfFeeders, AreStuckOfJoiners, IsReadyOfFeeder, IsReadyOfJoiner, TookHeld, HasTakenNext, AreTried, DoesNext};
+ghost use Rattle.joiner_core.specs.Outcomes.{Does};
+ghost use Rattle.joiner_core.specs.Calls.{held_in_all, takes_all_held};
 ghost use Rattle.epoch_tags.specs.declared.actor.Actor.TheVariants.{Feeder, Joiner as Joiner'};
 
 use crate::machine::Machine;
@@ -22,6 +24,8 @@ impl<'a> Machine<'a> {
             found.old found.new sends.old sends.new) }
         ensures tried { OnOk result (AreTried (state_of self.old) (state_of self.new)) }
         ensures stuck { OnOk result (IsStuck (state_of self.new)) }
+        ensures does { OnOk result (Does (takes_all_held (state_of self.old)) (state_of self.new)
+            found.old found.new sends.old sends.new) }
     {
         'trial: while self.take_one_held(found, sends)? {}
         Ok(())
@@ -44,6 +48,10 @@ impl<'a> Machine<'a> {
             (λ more. more ≡ true → HasTakenNext (state_of self.old) (state_of self.new)) }
         ensures none { IfOk result (λ more. more ≡ false → state_of self.new ≡ state_of self.old) }
         ensures stuck { IfOk result (λ more. more ≡ false → IsStuck (state_of self.new)) }
+        ensures does { IfOk result (λ more. more ≡ true
+            → DoesNext (state_of self.old) (state_of self.new) found.old found.new sends.old sends.new) }
+        ensures rests { IfOk result (λ more. more ≡ false
+            → Does (takes_all_held (state_of self.old)) (state_of self.new) found.old found.new sends.old sends.new) }
     {
         match self.ready_feeder() {
             Some(p) => {

@@ -1,7 +1,8 @@
 // What is sent at the end of a call.
 
 ghost use Rattle.std.specs.Prelude.{◌≡◌, ◌++◌, true, false, OnOk, IfOk};
-ghost use Rattle.joiner_core.specs.Machine.{state_of, fin_of, TellsFin, HasFinished, found_posts};
+ghost use Rattle.joiner_core.specs.Machine.{state_of, TellsFin, HasFinished};
+ghost use Rattle.joiner_core.specs.Calls.{fin_of, found_posts};
 
 use crate::epochs::Epochs;
 use crate::machine::Machine;

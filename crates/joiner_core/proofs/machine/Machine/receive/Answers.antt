@@ -10,4 +10,5 @@ returns c =
     c.args.sends.now c.accept.new.sends c.take_held.new.sends c.send_found.new.sends c.send_fin.new.sends
     c.requires.grid c.new-found.ensures c.in_ok-accept.ensures c.in_ok-take_held.ensures.sound
     c.in_ok-take_held.ensures.took c.in_ok-take_held.ensures.tried c.in_ok-take_held.ensures.stuck
+    c.in_ok-take_held.ensures.does
     c.in_ok-send_found.ensures c.in_ok-send_fin.ensures.rest c.in_ok-send_fin.ensures.tells
