@@ -1,6 +1,8 @@
 -- A machine's call is one event.
 use Rattle.std.proofs.Common.{◌≡◌, ℕ, ◌==◌, refl, sym, ap, subst, ◌∙◌, cond, List, [], ◌∷◌, ◌++◌, filter_map}
-use Rattle.std.proofs.Common.{append-nil, length}
+use Rattle.std.proofs.Common.{append-nil, length, reverse, drop, false, Result, Ok, Err}
+use Rattle.std.specs.Prelude.{OnOk}
+use Rattle.std.proofs.Math.Seq.{drop-append_seam}
 use Rattle.epoch_tags.specs.declared.actor.Actor.{Actor}
 use Rattle.epoch_tags.specs.declared.actor.Actor.TheVariants.{Feeder, Joiner, Controller, Collector}
 use Rattle.epoch_tags.specs.declared.message.Msg.{Msg}
@@ -18,7 +20,8 @@ use Rattle.reshuffler_core.specs.Standing.{with_sent as feeder_with_sent, with_m
 use Rattle.reshuffler_core.specs.Standing.{StandsFor as FeederStands}
 use Rattle.load_controller.specs.declared.line.TurnLine.{TurnLine}
 use Rattle.load_controller.specs.Journal.{Rules}
-use Rattle.load_controller.specs.Standing.{ControllerState, TakesMessage as ControllerTakes}
+use Rattle.load_controller.specs.Standing.{ControllerState, TakesMessage as ControllerTakes, posts_by}
+use Rattle.load_controller.specs.Standing.{state_after as controller_state_after}
 use Rattle.load_controller.specs.Standing.{with_message as controller_with, with_sent as controller_with_sent}
 use Rattle.load_controller.specs.Standing.{StandsFor as ControllerStands}
 use Rattle.joiner_law.specs.Law.{JoinerStart, JoinerLists}
@@ -27,6 +30,7 @@ use Rattle.joiner_core.specs.Machine.{with_message as joiner_with}
 use Rattle.joiner_core.specs.Standing.{TakesMessage as JoinerTakes, StandsFor as JoinerStands, k_of, id_of, feeders_of}
 use Rattle.joiner_core.specs.Standing.{JoinerState}
 use Rattle.pair_collector.specs.Standing.{CollectorState, TakesMessage as CollectorTakes}
+use Rattle.pair_collector.specs.Standing.{state_after as collector_state_after}
 use Rattle.pair_collector.specs.Standing.{with_message as collector_with, StandsFor as CollectorStands}
 use Rattle.trace_law.proofs.PairSums.{turn_round}
 use Rattle.actor_core.specs.Lists.{ActorLists, Took, Began, feeder_lists, joiner_lists, controller_lists}
@@ -34,7 +38,13 @@ use Rattle.actor_core.specs.Lists.{collector_lists, with_event}
 use Rattle.actor_core.specs.Standing.{Start, OfFeeder, OfJoiner, OfController, OfCollector, Stands, GoOut, Occurs}
 use Rattle.actor_core.specs.declared.machines.Core.TheVariants.{Feeder as TheFeeder, Joiner as TheJoiner}
 use Rattle.actor_core.specs.declared.machines.Core.TheVariants.{Controller as TheController, Collector as TheCollector}
+use Rattle.actor_core.specs.Effects.{journal_posts, new_posts}
 use Rattle.actor_core.proofs.TypedLists.{joiner_posts, feeder_posts, controller_posts, collector_posts, appended, got}
+
+-- what follows of a success from two of its clauses
+pub by_both : {T E P Q X : Type 0} (r : Result T E) → (P → Q → X) → OnOk r P → OnOk r Q → OnOk r X
+by_both (Ok x) from one two = from one two
+by_both (Err e) from one two = tt
 
 -- ---- a joiner's own numbers
 
@@ -76,6 +86,8 @@ feeder_takes old new m before after t =
         over = over;
         asks = tt;
         joins = λ theta is. tt;
+        state = ap TheFeeder t.state;
+        posted = t.posts;
       };
     }
   where
@@ -109,9 +121,9 @@ collector_lists_are Collector m ls = refl
 
 -- the collector's call is one event, and sends nothing
 pub collector_takes : (old new : CollectorState) (from : Actor) (m : ToCollector) (before : List Post)
-    → CollectorTakes from m old new
+    → CollectorTakes from m old new → new ≡ collector_state_after from m old
     → Occurs (Took from (Collector' m)) (TheCollector old) (TheCollector new) before before
-collector_takes old new from m before t =
+collector_takes old new from m before t state =
     record {
       added = [];
       sends = sym (append-nil before);
@@ -120,6 +132,8 @@ collector_takes old new from m before t =
         over = over;
         asks = tt;
         joins = λ theta is. tt;
+        state = ap TheCollector state;
+        posted = refl;
       };
     }
   where
@@ -156,7 +170,14 @@ pub feeder_begins : (old new : FeederState) (before after : List Post) → Begin
 feeder_begins old new before after t = record {
   added = t.added;
   sends = t.sends;
-  event = record { stands = stands; over = over; asks = ap length t.asks_next; joins = λ theta is. tt };
+  event = record {
+    stands = stands;
+    over = over;
+    asks = ap length t.asks_next;
+    joins = λ theta is. tt;
+    state = ap TheFeeder t.state;
+    posted = t.posts;
+  };
 }
   where
     stands : (s : Start) (ls : ActorLists) → Stands s ls (TheFeeder old)
@@ -214,6 +235,14 @@ controller_lists_are Collector m posts old new ls =
       journal = new;
     })
 
+controller_posted : (old new : ControllerState) (from : Actor) (m : ToController) (before after : List Post)
+    → (t : ControllerTakes from m old new before after) → t.added ≡ new_posts old (controller_state_after from m old)
+controller_posted old new from m before after t =
+    let same : journal_posts new ≡ journal_posts old ++ t.added =
+    ap (λ (r : Rules). posts_by r (reverse new.journal)) t.rules ∙ t.posted in
+    sym (ap (λ (c : ControllerState). new_posts old c) (sym t.state)
+    ∙ ap (drop (length (journal_posts old))) same ∙ drop-append_seam (journal_posts old) t.added)
+
 -- the controller's call is one event
 pub controller_takes : (old new : ControllerState) (from : Actor) (m : ToController) (before after : List Post)
     → ControllerTakes from m old new before after
@@ -227,6 +256,8 @@ controller_takes old new from m before after t =
         over = over;
         asks = tt;
         joins = λ theta is. tt;
+        state = ap TheController t.state;
+        posted = controller_posted old new from m before after t;
       };
     }
   where
@@ -304,9 +335,9 @@ joiner_lists_are Collector m posts ls =
 
 -- a joiner's call is one event
 pub joiner_takes : (old new : JoinerState) (from : Actor) (m : ToJoiner) (before after : List Post)
-    → JoinerTakes from m old new before after
+    → JoinerTakes from m old new before after → new.spent ≡ false
     → Occurs (Took from (Joiner' m)) (TheJoiner old) (TheJoiner new) before after
-joiner_takes old new from m before after t =
+joiner_takes old new from m before after t going =
     record {
       added = t.added;
       sends = t.sends;
@@ -315,6 +346,8 @@ joiner_takes old new from m before after t =
         over = over;
         asks = tt;
         joins = λ theta is. t.same.of_theta ∙ is;
+        state = ap TheJoiner (λ i. record { machine = t.state i; spent = going i });
+        posted = t.posts;
       };
     }
   where

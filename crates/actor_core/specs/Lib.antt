@@ -1,4 +1,5 @@
 pub mod Lists
+pub mod Effects
 pub mod Standing
 pub mod Numbers
 pub mod Families

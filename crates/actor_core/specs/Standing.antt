@@ -12,6 +12,7 @@ use Rattle.load_controller.specs.Standing.{ControllerStart, StandsFor as Control
 use Rattle.pair_collector.specs.Standing.{StandsFor as CollectorStands, is_complete}
 use Rattle.actor_core.specs.Lists.{ActorLists, Cause, Took, Began, feeder_lists, joiner_lists, controller_lists}
 use Rattle.actor_core.specs.Lists.{collector_lists, with_event}
+use Rattle.actor_core.specs.Effects.{core_after, core_posts}
 use Rattle.actor_core.specs.declared.machines.Core.{Core}
 use Rattle.actor_core.specs.declared.machines.Core.TheVariants.{Feeder as TheFeeder, Joiner as TheJoiner}
 use Rattle.actor_core.specs.declared.machines.Core.TheVariants.{Controller as TheController, Collector as TheCollector}
@@ -61,13 +62,16 @@ JoinsBy theta (TheJoiner j) = theta_of j ≡ theta
 JoinsBy theta (TheController c) = ⊤
 JoinsBy theta (TheCollector c) = ⊤
 
--- one event: for whatever lists the machine stood, it stands for them with the cause received and the posts sent,
--- and the posts go over its links; a joiner keeps its predicate
+-- one event: what it leaves and posts are functions of the machine and the cause. For whatever lists the machine stood,
+-- it stands for them with the cause received and the posts sent, and the posts go over its links; a joiner keeps its
+-- predicate
 pub record Event (cause : Cause) (old new : Core) (posts : List Post) : Type 0 where
   pub stands : (s : Start) (ls : ActorLists) → Stands s ls old → Stands s (with_event cause posts ls) new
   pub over : (s : Start) (ls : ActorLists) → Stands s ls old → GoOut s posts
   pub asks : Asks cause posts
   pub joins : (theta : Meaning) → JoinsBy theta old → JoinsBy theta new
+  pub state : new ≡ core_after cause old
+  pub posted : posts ≡ core_posts cause old
 
 -- an event that turned the posts `before` into `after`
 pub record Occurs (cause : Cause) (old new : Core) (before after : List Post) : Type 0 where

@@ -6,7 +6,7 @@ use Rattle.std.specs.Prelude.{◌==◌, map, flat_map, is_some, slice_get, repli
 use Rattle.std.specs.declared.alloc.AllocError.{AllocError}
 use Rattle.std.specs.List.{range_with_len, list_all}
 use Rattle.std.proofs.lemmas.Bool.{cases_Bool, eqb-true, eq-eqb, and_parts, and_from}
-use Rattle.std.proofs.lemmas.List.{append-nil, set-get_or, length-replicate}
+use Rattle.std.proofs.lemmas.List.{append-nil, set-get_or, set_past, get_or_read, length-replicate}
 use Rattle.std.proofs.lemmas.Grind.{get_or-set_at, flat_map-append}
 use Rattle.std.proofs.lemmas.Option.{slice_get_within, get_or_from_slice_get, slice_get-get_or}
 use Rattle.std.proofs.lemmas.List.FromFn.{map-range_with_len_more}
@@ -22,6 +22,7 @@ use Rattle.pair_collector.specs.Kept.{Kept}
 use Rattle.pair_collector.specs.Law.{CollectorLists, pairs_taken, IsComplete}
 use Rattle.pair_collector.specs.Standing.{CollectorState, StandsFor, TakesMessage, IsPassedOver, kept_of, kept_after}
 use Rattle.pair_collector.specs.Standing.{last_of, pairs_kept, with_message, is_complete, nothing_yet, nothing_kept}
+use Rattle.pair_collector.specs.Standing.{state_after}
 
 -- ---- one joiner
 
@@ -234,6 +235,24 @@ passes_over (Ok x) xs given j m kept after spent none is low at = λ passed.
     let back : set xs j after ≡ xs = ap (set xs j) (same ∙ at) ∙ set-get_or xs j kept in
     ap (λ s. state_of (set xs j after) given s) none ∙ ap (λ ys. state_of ys given false) back
 passes_over (Err e) xs given j m kept after spent none is low at = tt
+
+-- what is kept of this joiner, and nothing else, is what is kept after the message
+pub state_is : (r : Result (Unit {0}) AllocError) (xs : List Kept) (given : List ℕ) (j : ℕ) (m : ToCollector)
+    (kept after : Kept) (spent : Bool) → spent ≡ is_err r → OnOk r (after ≡ kept_after kept m)
+    → j < length xs → kept ≡ get_or xs j kept
+    → OnOk r (state_of (set xs j after) given spent ≡ state_after (Joiner j) m (state_of xs given false))
+state_is (Ok x) xs given j m kept after spent none is low at =
+    ap (λ s. state_of (set xs j after) given s) none
+    ∙ ap (λ k. state_of (set xs j k) given false)
+    (is ∙ ap (λ k. kept_after k m) (get_or_read xs j kept low at nothing_kept))
+state_is (Err e) xs given j m kept after spent none is low at = tt
+
+-- of a joiner past the last one nothing is
+pub stranger_stays : (old : CollectorState) (j : ℕ) (m : ToCollector) → length old.joiners ≤ j
+    → old ≡ state_after (Joiner j) m old
+stranger_stays old j m past =
+    sym (ap (λ xs. record old { joiners = xs })
+    (set_past old.joiners j (kept_after (get_or old.joiners j nothing_kept) m) past))
 
 -- ---- the beginning
 

@@ -1,6 +1,6 @@
 -- What the collector's machine holds, and the lists for which it stands. It stores none of them.
 use Rattle.std.specs.Prelude.{◌≡◌, ℕ, ◌==◌, Bool, true, ◌++◌, ◌∷◌, [], ⊤, List, Option, Some, None, is_some, length}
-use Rattle.std.specs.Prelude.{flat_map, slice_get, slice_index, slice_index_or, if◌then◌else◌}
+use Rattle.std.specs.Prelude.{flat_map, slice_get, slice_index, slice_index_or, slice_set, if◌then◌else◌}
 use Rattle.std.specs.List.{list_all}
 use Rattle.join_rows.specs.Lists.{greatest, total}
 use Rattle.epoch_tags.specs.declared.actor.Actor.{Actor}
@@ -89,6 +89,15 @@ with_message (Joiner j) m lists = record {
 }
 with_message Controller m lists = lists
 with_message Collector m lists = lists
+
+-- the machine after a message: of a joiner that it has, what is kept after the message; any other changes nothing
+abbrev pub state_after : Actor → ToCollector → CollectorState → CollectorState
+state_after (Feeder p) m state = state
+state_after (Joiner j) m state = record state {
+  joiners = slice_set state.joiners j (kept_after (slice_index_or state.joiners j nothing_kept) m);
+}
+state_after Controller m state = state
+state_after Collector m state = state
 
 -- for whatever lists the machine stood, it stands for them with the message at its end
 pub record TakesMessage (from : Actor) (m : ToCollector) (old new : CollectorState) : Type 0 where

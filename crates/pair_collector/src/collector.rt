@@ -3,7 +3,7 @@
 ghost use Rattle.std.specs.Prelude.{◌≡◌, ◌↔◌, IsTrue, true, false, ℕ, Err, IfOk, OnOk, OnErr, length, is_some, alloc_error, IsPermutation};
 ghost use Rattle.std.specs.List.{list_all};
 ghost use Rattle.pair_collector.specs.Law.{CollectorLists, IsComplete};
-ghost use Rattle.pair_collector.specs.Standing.{StandsFor, TakesMessage, IsPassedOver, is_complete, nothing_yet};
+ghost use Rattle.pair_collector.specs.Standing.{StandsFor, TakesMessage, IsPassedOver, is_complete, nothing_yet, state_after};
 ghost use Rattle.pair_collector.specs.Fresh.{HasGiven, pairs_since};
 ghost use Rattle.pair_collector.specs.Order.{InOrder};
 ghost use Rattle.pair_collector.specs.Answer.{Collects};
@@ -65,6 +65,7 @@ impl Collector {
     /// over. After `AllocError` the collector is spent, and every later call of this answers the same.
     pub fn on(&mut self, from: Actor, m: ToCollector) -> Result<(), AllocError>
         ensures takes { OnOk result (TakesMessage from m self.old self.new) }
+        ensures state { OnOk result (self.new ≡ state_after from m self.old) }
         ensures passes { OnOk result (IsPassedOver self.old from → self.new ≡ self.old) }
         ensures given { self.new.given ≡ self.old.given }
         ensures goes_on { OnOk result ((self.old.spent ≡ false) × (self.new.spent ≡ false)) }

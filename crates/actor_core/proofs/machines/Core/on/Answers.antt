@@ -1,9 +1,10 @@
 use Rattle.std.proofs.Common.{ap, refl}
+use Rattle.std.proofs.lemmas.Bool.{false_from_ne_true}
 use Rattle.std.proofs.lemmas.Result.{on_ok_weaker}
 use Rattle.actor_core.specs.Families.{journal_of}
 use Rattle.actor_core.specs.declared.machines.Core.TheVariants.{Feeder as TheFeeder, Joiner as TheJoiner}
 use Rattle.actor_core.specs.declared.machines.Core.TheVariants.{Collector as TheCollector}
-use Rattle.actor_core.proofs.Events.{feeder_takes, controller_takes, collector_takes, joiner_takes}
+use Rattle.actor_core.proofs.Events.{by_both, feeder_takes, controller_takes, collector_takes, joiner_takes}
 use Rattle.actor_core.proofs.Journals.{none_grows}
 use Rattle.actor_core.proofs.machines.Core.on.Goals as goal
 
@@ -17,8 +18,8 @@ pub returns-in-Joiner-msg-clause-occurs : goal.returns-in-Joiner-msg-clause-occu
 returns-in-Joiner-msg-clause-occurs c =
     let on = c.on-in-Joiner-msg in
     rw (c.in-Joiner.is, c.in-Joiner-msg.is)
-    (on_ok_weaker on.result (λ t. joiner_takes c.in-Joiner.joiner on.new.self c.args.from c.in-Joiner-msg.m
-    c.args.sends.now on.new.sends t) on.ensures.takes)
+    (by_both on.result (λ t going. joiner_takes c.in-Joiner.joiner on.new.self c.args.from c.in-Joiner-msg.m
+    c.args.sends.now on.new.sends t (false_from_ne_true on.new.self.spent going.1)) on.ensures.takes on.ensures.goes_on)
 
 pub returns-in-Controller-msg-clause-occurs : goal.returns-in-Controller-msg-clause-occurs
 returns-in-Controller-msg-clause-occurs c =
@@ -31,8 +32,8 @@ pub returns-in-Collector-msg-clause-occurs : goal.returns-in-Collector-msg-claus
 returns-in-Collector-msg-clause-occurs c =
     let on = c.on-in-Collector-msg in
     rw (c.in-Collector.is, c.in-Collector-msg.is)
-    (on_ok_weaker on.result (collector_takes c.in-Collector.collector on.new.self c.args.from c.in-Collector-msg.m
-    c.args.sends.now) on.ensures.takes)
+    (by_both on.result (collector_takes c.in-Collector.collector on.new.self c.args.from c.in-Collector-msg.m
+    c.args.sends.now) on.ensures.takes on.ensures.state)
 
 pub returns-in-Controller-Feeder-clause-grows : goal.returns-in-Controller-Feeder-clause-grows
 returns-in-Controller-Feeder-clause-grows c = none_grows c.on.result c.args.self.now (TheFeeder c.on.new.self)
