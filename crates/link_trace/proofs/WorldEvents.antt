@@ -20,10 +20,12 @@ use Rattle.actor_core.specs.Elements.{IsAllAt}
 use Rattle.actor_core.specs.Families.{start_in_wave, IsActor, changed, put_on, taken_off, after_event, core_in}
 use Rattle.actor_core.specs.Numbers.{number, at_number}
 use Rattle.actor_core.specs.declared.machines.Core.{Core}
-use Rattle.link_trace.specs.Worlds.{MakesEvent, Delivers, OccursAt, TakesOff, KeepsOthers, left_in}
+use Rattle.link_trace.specs.Worlds.{MakesEvent, Delivers, OccursAt, TakesOff, KeepsOthers, WorldState, left_in}
+use Rattle.link_trace.specs.Worlds.{delivered_first, with_posts, without_cause, world_after}
 use Rattle.actor_core.proofs.Balances.{same_is, delivery_balances, beginning_balances}
 use Rattle.actor_core.proofs.OwnNumbers.{same_number, none_some, some_is, is_actor}
 use Rattle.link_trace.proofs.WaitingMessages.{left-with, left_between}
+use Rattle.link_trace.proofs.WorldAfter.{after_is, first_off}
 
 -- ---- machines
 
@@ -123,8 +125,10 @@ joins_after theta n cores core next was keeps all k other there = go (n == k) re
 module _ (joiners feeders : ℕ) (self : Actor) (n : ℕ) (at : number joiners feeders self ≡ Some n) (cause : Cause)
     (cores cores' : List Core) (ws middle ws' : List (List (List Msg))) (sends : List Post)
     (occurs : OccursAt n cause cores cores' [] sends) (put : left_in joiners feeders ws'
-    ≡ put_on self sends (left_in joiners feeders middle)) (empties : (x y : Actor) → left_in joiners feeders ws x y ≡ []
-    → left_in joiners feeders middle x y ≡ []) where
+    ≡ put_on self sends (left_in joiners feeders middle)) (posted : ws' ≡ with_posts joiners feeders self sends middle)
+    (empties : (x y : Actor) → left_in joiners feeders ws x y ≡ [] → left_in joiners feeders middle x y ≡ [])
+    (taken : without_cause self cause (record { joiners = joiners; feeders = feeders; cores = cores; waiting = ws })
+    ≡ record { joiners = joiners; feeders = feeders; cores = cores; waiting = middle }) where
   was : core_in joiners feeders cores self ≡ Some occurs.core
   was = ap (λ (i : Option ℕ). at_number None i (λ k. slice_get cores k)) at ∙ occurs.was
 
@@ -181,13 +185,16 @@ module _ (joiners feeders : ℕ) (self : Actor) (n : ℕ) (at : number joiners f
         subst (IsAllAt (JoinsBy theta)) (sym occurs.now)
         (joins_after theta n cores occurs.core occurs.next occurs.was (occurs.occurs.event.joins theta) all);
     others = others;
+    after = sym (ap (world_after self cause) taken
+        ∙ after_is joiners feeders self n at cause cores cores' middle ws' sends occurs posted);
   }
 
 is_full : List Msg → Bool
 is_full [] = false
 is_full (m ∷ ms) = true
 
-full : (m : Msg) (rest : List Msg) → m ∷ rest ≡ [] → ⊥
+-- a list with a first message isn't empty
+pub full : (m : Msg) (rest : List Msg) → m ∷ rest ≡ [] → ⊥
 unfolding is_full
 full m rest e = true≢false (ap is_full e)
 
@@ -207,13 +214,17 @@ emptied from to m rest left first x y none = go (same_actor from x) (same_actor 
 -- where a machine's beginning occurred and its posts were put on the links, the actor at its number made that event
 pub begins : (joiners feeders : ℕ) (self : Actor) (n : ℕ) → number joiners feeders self ≡ Some n
     → (cores cores' : List Core) (ws ws' : List (List (List Msg))) (sends : List Post)
-    → OccursAt n Began cores cores' [] sends → left_in joiners feeders ws'
-    ≡ put_on self sends (left_in joiners feeders ws)
+    → OccursAt n Began cores cores' [] sends
+    → left_in joiners feeders ws' ≡ put_on self sends (left_in joiners feeders ws)
+    → ws' ≡ with_posts joiners feeders self sends ws
     → MakesEvent self Began (record { joiners = joiners; feeders = feeders; cores = cores; waiting = ws })
     (record { joiners = joiners; feeders = feeders; cores = cores'; waiting = ws' })
-begins joiners feeders self n at cores cores' ws ws' sends occurs put =
-    makes_event joiners feeders self n at Began cores cores' ws ws ws' sends occurs put (λ x y none. none)
+begins joiners feeders self n at cores cores' ws ws' sends occurs put posted =
+    makes_event joiners feeders self n at Began cores cores' ws ws ws' sends occurs put posted (λ x y none. none) refl
     (λ f balanced. beginning_balances self occurs.occurs.added f (left_in joiners feeders ws) balanced)
+
+abbrev waiting_so : ℕ → ℕ → List Core → List (List (List Msg)) → WorldState
+waiting_so joiners feeders cores ws = record { joiners = joiners; feeders = feeders; cores = cores; waiting = ws }
 
 -- where a message was taken off a link, its receiver's event occurred and its posts were put on the links, the message
 -- was delivered
@@ -222,23 +233,31 @@ pub delivers : (joiners feeders : ℕ) (from to : Actor) (sender receiver : ℕ)
     → (m : Msg) (cores cores' : List Core) (ws middle ws' : List (List (List Msg))) (sends : List Post)
     → TakesOff receiver sender m ws middle → OccursAt receiver (Took from m) cores cores' [] sends
     → left_in joiners feeders ws' ≡ put_on to sends (left_in joiners feeders middle)
+    → ws' ≡ with_posts joiners feeders to sends middle
     → Delivers from to (record { joiners = joiners; feeders = feeders; cores = cores; waiting = ws })
     (record { joiners = joiners; feeders = feeders; cores = cores'; waiting = ws' })
-delivers joiners feeders from to sender receiver from_is to_is m cores cores' ws middle ws' sends took occurs put =
+delivers joiners feeders from to sender receiver from_is to_is m cores cores' ws middle ws' sends took occurs put
+    posted =
     let first = left_between joiners feeders ws from to sender receiver from_is to_is took.room ∙ took.first in
     let off = ap (left_in joiners feeders) took.left ∙ left-with joiners feeders ws from to sender receiver from_is
     to_is took.room took.rest in
+    let event = makes_event joiners feeders to receiver to_is (Took from m) cores cores' ws middle ws' sends occurs put
+    posted
+    (λ x y none. ap (λ (l : Actor → Actor → List Msg). l x y) off
+    ∙ emptied from to m took.rest (left_in joiners feeders ws) first x y none)
+    (ap (waiting_so joiners feeders cores)
+    (first_off joiners feeders from to sender receiver from_is to_is m ws middle took))
+    (λ f balanced. subst (λ l. (x y : Actor) → (after_event to (Took from m) occurs.occurs.added f y).received x
+    ++ put_on to occurs.occurs.added l x y ≡ (after_event to (Took from m) occurs.occurs.added f x).sent y)
+    (sym off)
+    (delivery_balances from to m took.rest occurs.occurs.added f (left_in joiners feeders ws) balanced first)) in
     record {
       m = m;
       rest = took.rest;
       first = first;
-      event = makes_event joiners feeders to receiver to_is (Took from m) cores cores' ws middle ws' sends occurs put
-          (λ x y none. ap (λ (l : Actor → Actor → List Msg). l x y) off
-          ∙ emptied from to m took.rest (left_in joiners feeders ws) first x y none)
-          (λ f balanced. subst (λ l. (x y : Actor) → (after_event to (Took from m) occurs.occurs.added f y).received x
-          ++ put_on to occurs.occurs.added l x y ≡ (after_event to (Took from m) occurs.occurs.added f x).sent y)
-          (sym off)
-          (delivery_balances from to m took.rest occurs.occurs.added f (left_in joiners feeders ws) balanced first));
+      event = event;
+      after = event.after
+          ∙ sym (ap (λ (ms : List Msg). delivered_first from to ms (waiting_so joiners feeders cores ws)) first);
     }
 
 -- where the flag is up, what is said of that case holds
@@ -260,12 +279,14 @@ pub begun : (joiners feeders : ℕ) (self : Actor) (n : ℕ) → number joiners 
     → (cores one cores' : List Core) (ws middle ws' : List (List (List Msg))) (before sends : List Post)
     → middle ≡ ws → OccursAt n Began cores one before sends → before ≡ [] → cores' ≡ one
     → left_in joiners feeders ws' ≡ put_on self sends (left_in joiners feeders middle)
+    → ws' ≡ with_posts joiners feeders self sends middle
     → MakesEvent self Began (record { joiners = joiners; feeders = feeders; cores = cores; waiting = ws })
     (record { joiners = joiners; feeders = feeders; cores = cores'; waiting = ws' })
-begun joiners feeders self n at cores one cores' ws middle ws' before sends same occurs none d put =
+begun joiners feeders self n at cores one cores' ws middle ws' before sends same occurs none d put posted =
     begins joiners feeders self n at cores cores' ws ws' sends
     (recast n Began cores cores' cores one before sends refl d none occurs)
     (put ∙ ap (λ w. put_on self sends (left_in joiners feeders w)) same)
+    (posted ∙ ap (with_posts joiners feeders self sends) same)
 
 -- so it is from what each call of a turn says: taking the message off changed no machine, the event occurred with no
 -- post before it and took nothing else off, and posting changed no machine
@@ -276,10 +297,12 @@ pub delivered : (joiners feeders : ℕ) (from to : Actor) (sender receiver : ℕ
     → one ≡ cores → TakesOff receiver sender m ws middle → later ≡ middle
     → OccursAt receiver (Took from m) one other before sends → before ≡ [] → cores' ≡ other
     → left_in joiners feeders ws' ≡ put_on to sends (left_in joiners feeders later)
+    → ws' ≡ with_posts joiners feeders to sends later
     → Delivers from to (record { joiners = joiners; feeders = feeders; cores = cores; waiting = ws })
     (record { joiners = joiners; feeders = feeders; cores = cores'; waiting = ws' })
 delivered joiners feeders from to sender receiver from_is to_is m cores one other cores' ws middle later ws'
-    before sends e took same occurs none d put =
+    before sends e took same occurs none d put posted =
     delivers joiners feeders from to sender receiver from_is to_is m cores cores' ws middle ws' sends took
     (recast receiver (Took from m) cores cores' one other before sends e d none occurs)
     (put ∙ ap (λ w. put_on to sends (left_in joiners feeders w)) same)
+    (posted ∙ ap (with_posts joiners feeders to sends) same)

@@ -11,7 +11,7 @@ use Rattle.trace_law.specs.declared.setting.Setting.{Setting}
 use Rattle.trace_law.specs.declared.run.Run.{Run}
 use Rattle.trace_law.specs.Family.{Rest}
 use Rattle.actor_core.specs.declared.machines.Core.{Core}
-use Rattle.actor_core.specs.Lists.{Began, no_lists}
+use Rattle.actor_core.specs.Lists.{ActorLists, Began, no_lists}
 use Rattle.actor_core.specs.Standing.{IsOver, GoesOn, Waits}
 use Rattle.actor_core.specs.Families.{journal_of}
 use Rattle.actor_core.specs.Elements.{IsAllAt, IsSomeAt}
@@ -105,3 +105,28 @@ pub record IsWaveReplay (input : Input) (setting : Setting) (rest : Rest) (seed 
   pub replays : Replays (slots_of setting) seed first run.bouts last
   pub over : IsAllAt IsOver last.cores
   pub journal : (core : Core) → core_of last Controller ≡ Some core → run.journal ≡ journal_of core
+
+-- ---- a replay is one run
+
+-- two replays in the order of one seed that begin with one world, which stands for some lists, and end where the work
+-- of all is over, have as many events and end with one world
+abbrev pub ReplaysAreOne : Type 0
+ReplaysAreOne = (input : Input) (setting : Setting) (rest : Rest) (lists : Actor → ActorLists) (slots : List Slot)
+    (seed n m : ℕ) (first w v : WorldState)
+    → StandsInWave input setting rest first lists
+    → Replays slots seed first n w → IsAllAt IsOver w.cores
+    → Replays slots seed first m v → IsAllAt IsOver v.cores
+    → (n ≡ m) × (w ≡ v)
+
+-- so two runs of one input and setting that began with one world, in the order of one seed, have as many bouts and one
+-- journal
+abbrev pub RunsAreOne : Type 0
+RunsAreOne = (input : Input) (setting : Setting) (seed : ℕ) (run other : Run) (one : IsReplay input setting seed run)
+    (two : IsReplay input setting seed other)
+    → one.first ≡ two.first → (run.bouts ≡ other.bouts) × (run.journal ≡ other.journal)
+
+-- and so have two of a wave
+abbrev pub WaveRunsAreOne : Type 0
+WaveRunsAreOne = (input : Input) (setting : Setting) (rest : Rest) (seed : ℕ) (run other : Run)
+    (one : IsWaveReplay input setting rest seed run) (two : IsWaveReplay input setting rest seed other)
+    → one.first ≡ two.first → (run.bouts ≡ other.bouts) × (run.journal ≡ other.journal)

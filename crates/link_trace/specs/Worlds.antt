@@ -1,6 +1,6 @@
 -- A world: its machines, and what is left on each link.
 use Rattle.std.specs.Prelude.{◌≡◌, ℕ, ◌<◌, ◌^◌, Option, Some, List, [], ◌∷◌, ◌++◌, map, slice_get, slice_index_or}
-use Rattle.std.specs.Prelude.{slice_set, length, ◌&&◌, false, if◌then◌else◌}
+use Rattle.std.specs.Prelude.{slice_set, length, drop, ◌&&◌, false, None, if◌then◌else◌}
 use Rattle.epoch_tags.specs.declared.actor.Actor.{Actor}
 use Rattle.epoch_tags.specs.declared.actor.Actor.TheVariants.{Feeder}
 use Rattle.epoch_tags.specs.Links.{HasLink}
@@ -11,7 +11,8 @@ use Rattle.trace_law.specs.Family.{IsAgreeing, Rest, first_rest}
 use Rattle.theta_pred.specs.Formula.{Meaning}
 use Rattle.trace_law.specs.declared.input.Input.{Input}
 use Rattle.trace_law.specs.declared.setting.Setting.{Setting}
-use Rattle.actor_core.specs.Lists.{ActorLists, Cause, Took, same_actor, no_lists}
+use Rattle.actor_core.specs.Lists.{ActorLists, Cause, Took, Began, same_actor, no_lists}
+use Rattle.actor_core.specs.Effects.{core_after, core_posts}
 use Rattle.actor_core.specs.Players.{AllStandInWave, journal_among}
 use Rattle.actor_core.specs.Elements.{IsAllAt}
 use Rattle.actor_core.specs.Standing.{Stands, Occurs, GoOut, Asks, JoinsBy, Waits}
@@ -132,13 +133,72 @@ pub record AreNew (input : Input) (setting : Setting) (count : ℕ) (places : Li
 abbrev pub HaveNothing : List Place → Type 0
 HaveNothing places = (receiver sender : ℕ) → waits (waiting_of places) receiver sender ≡ []
 
+-- ---- what an event leaves, as a function of the world and of the cause
+
+-- what waits, with what is left on the link from one actor to another changed so; the same where one of them isn't
+-- there
+abbrev pub with_left : ℕ → ℕ → Actor → Actor → (List Msg → List Msg) → List (List (List Msg)) → List (List (List Msg))
+with_left joiners feeders from to change waiting =
+    at_number waiting (number joiners feeders from)
+    (λ sender. at_number waiting (number joiners feeders to)
+    (λ receiver. with_waiting waiting receiver sender (change (waits waiting receiver sender))))
+
+-- the post of an actor comes behind what is left on its link
+abbrev pub with_post : ℕ → ℕ → Actor → Post → List (List (List Msg)) → List (List (List Msg))
+with_post joiners feeders from post waiting =
+    with_left joiners feeders from post.to (λ ms. ms ++ post.msg ∷ []) waiting
+
+-- so do its posts, one after another
+abbrev pub with_posts : ℕ → ℕ → Actor → List Post → List (List (List Msg)) → List (List (List Msg))
+with_posts joiners feeders from [] waiting = waiting
+with_posts joiners feeders from (post ∷ posts) waiting =
+    with_posts joiners feeders from posts (with_post joiners feeders from post waiting)
+
+-- the machine at this number is the one after the event, and what the event posts is on its links
+abbrev pub with_event_at : Actor → Cause → WorldState → ℕ → Option Core → WorldState
+with_event_at self cause w n None = w
+with_event_at self cause w n (Some core) = record w {
+  cores = slice_set w.cores n (core_after cause core);
+  waiting = with_posts w.joiners w.feeders self (core_posts cause core) w.waiting;
+}
+
+-- the world after this actor's event, which changes its machine and puts its posts on their links, in order; the same
+-- world where it has no machine. A message that the event took isn't taken off here
+abbrev pub world_after : Actor → Cause → WorldState → WorldState
+world_after self cause w =
+    at_number w (number w.joiners w.feeders self)
+    (λ n. with_event_at self cause w n (slice_get w.cores n))
+
+-- the world without the first message of a link
+abbrev pub without_first : Actor → Actor → WorldState → WorldState
+without_first from to w = record w { waiting = with_left w.joiners w.feeders from to (drop 1) w.waiting }
+
+-- the world without what its actor acts on: a message that it took is the first of its link, and at a beginning there
+-- is none
+abbrev pub without_cause : Actor → Cause → WorldState → WorldState
+without_cause self (Took from m) w = without_first from self w
+without_cause self Began w = w
+
+-- the world after its receiver took the first of these messages, which are those left on the link
+abbrev pub delivered_first : Actor → Actor → List Msg → WorldState → WorldState
+delivered_first from to [] w = w
+delivered_first from to (m ∷ rest) w = world_after to (Took from m) (without_first from to w)
+
+-- the world after the first message of a link was delivered: it is off the link, and its receiver made its event; the
+-- same world where nothing is left there
+abbrev pub world_delivered : Actor → Actor → WorldState → WorldState
+world_delivered from to w = delivered_first from to (left_of w from to) w
+
+-- ---- events
+
 -- every other actor has the machine that it had, and where nothing was left of what it sends, nothing is
 pub record KeepsOthers (self : Actor) (old new : WorldState) : Type 0 where
   pub machines : (a : Actor) → same_actor self a ≡ false → core_of new a ≡ core_of old a
   pub links : (from to : Actor) → same_actor self from ≡ false → left_of old from to ≡ [] → left_of new from to ≡ []
 
--- one event of the actor `self`: whatever the lists were, they are the same with the event at their ends; it is one of
--- the run's actors, and its posts go over its links; joiners keep their predicate
+-- one event of the actor `self`: the new world is a function of the old one and of the cause. Whatever the lists were,
+-- they are the same with the event at their ends; it is one of the run's actors, and its posts go over its links;
+-- joiners keep their predicate
 pub record MakesEvent (self : Actor) (cause : Cause) (old new : WorldState) : Type 0 where
   pub posts : List Post
   pub stands : (input : Input) (setting : Setting) (rest : Rest) (f : Actor → ActorLists)
@@ -149,13 +209,15 @@ pub record MakesEvent (self : Actor) (cause : Cause) (old new : WorldState) : Ty
   pub joins : (theta : Meaning) → AllJoinBy theta old → AllJoinBy theta new
   pub asks : Asks cause posts
   pub others : KeepsOthers self old new
+  pub after : new ≡ world_after self cause (without_cause self cause old)
 
--- the first message of a link was handed to its receiver
+-- the first message of a link was handed to its receiver; the new world is a function of the old one and of the link
 pub record Delivers (from to : Actor) (old new : WorldState) : Type 0 where
   pub m : Msg
   pub rest : List Msg
   pub first : left_of old from to ≡ m ∷ rest
   pub event : MakesEvent to (Took from m) old new
+  pub after : new ≡ world_delivered from to old
 
 -- nothing is left on any link of the run, and no feeder would begin
 pub record IsStill (setting : Setting) (w : WorldState) : Type 0 where

@@ -1,6 +1,7 @@
 // Laws of worlds. Each is the contract of a function that does nothing, so that calls above can cite it.
 
 ghost use Rattle.link_trace.specs.Worlds.{WorldAgrees, WorldAgreesInWave};
+ghost use Rattle.link_trace.specs.Order.{ReplaysAreOne, RunsAreOne, WaveRunsAreOne};
 
 /// The lists for which a world stands are an agreeing family of its input and setting.
 pub fn world_agrees()
@@ -10,4 +11,20 @@ pub fn world_agrees()
 /// Those of a wave are one of its input, setting and rest.
 pub fn wave_agrees()
     ensures { WorldAgreesInWave }
+{}
+
+/// Two replays in the order of one seed that begin with one world, and end where the work of all is over, have as many
+/// events and end with one world.
+pub fn replays_are_one()
+    ensures { ReplaysAreOne }
+{}
+
+/// So two runs that are replays of one input, setting, seed and first world have as many bouts and one journal.
+pub fn runs_are_one()
+    ensures { RunsAreOne }
+{}
+
+/// And so have two of a wave.
+pub fn wave_runs_are_one()
+    ensures { WaveRunsAreOne }
 {}

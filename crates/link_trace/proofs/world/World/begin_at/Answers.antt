@@ -11,4 +11,4 @@ returns-clause-took c is =
     (waiting_of self.places.items) (waiting_of c.begin.new.places.items) (waiting_of c.send_all.new.places.items)
     c.new-sends.result c.begin.new.sends
     c.begin.ensures.waiting (when_begun _ _ c.in_ok-begun.begun (search) c.in_ok-begun.ensures.occurs)
-    c.new-sends.ensures c.send_all.ensures.cores c.in_ok-send_all.ensures.left
+    c.new-sends.ensures c.send_all.ensures.cores c.in_ok-send_all.ensures.left c.in_ok-send_all.ensures.waiting

@@ -13,4 +13,4 @@ returns-clause-took c is =
     (waiting_of c.send_all.new.places.items)
     c.new-sends.result c.hand.new.sends
     c.take.ensures.cores c.in-Some.ensures.waiting c.hand.ensures.waiting c.in_ok-hand.ensures.occurs
-    c.new-sends.ensures c.send_all.ensures.cores c.in_ok-send_all.ensures.left
+    c.new-sends.ensures c.send_all.ensures.cores c.in_ok-send_all.ensures.left c.in_ok-send_all.ensures.waiting
