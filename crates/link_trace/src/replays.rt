@@ -12,7 +12,7 @@ ghost use Rattle.link_trace.specs.Worlds.{state_of};
 ghost use Rattle.link_trace.specs.Marks.{AreMarked};
 ghost use Rattle.link_trace.specs.Order.{IsIdle, IsReplay, MakesFirst};
 
-use crate::order::make_first;
+use crate::first_ready::make_first;
 use crate::slots::{Slot, slots_of};
 use crate::world::World;
 use actor_core::events_fit;

@@ -14,7 +14,7 @@ ghost use Rattle.link_trace.specs.Marks.{AreMarked};
 ghost use Rattle.link_trace.specs.Starving.{AreIdleBelow, MakesLeast, MakesStarving, IsStarvingReplay};
 ghost use Rattle.link_trace.specs.Starving as starving;
 
-use crate::order::{is_same, make_at, maker_of};
+use crate::first_ready::{is_same, make_at, maker_of};
 use crate::replays::all_marked;
 use crate::slots::{Slot, slots_of};
 use crate::world::World;

@@ -6,7 +6,7 @@ use Rattle.link_trace.specs.declared.slots.Slot.TheVariants.{Begin}
 use Rattle.link_trace.specs.Worlds.{state_of}
 use Rattle.link_trace.specs.Order.{Happens}
 use Rattle.link_trace.proofs.AllSlots.{idle_round}
-use Rattle.link_trace.proofs.order.make_first.Goals as goal
+use Rattle.link_trace.proofs.first_ready.make_first.Goals as goal
 
 pub returns-then-branch-clause-made : goal.returns-then-branch-clause-made
 returns-then-branch-clause-made c =

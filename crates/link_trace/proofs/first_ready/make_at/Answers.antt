@@ -6,7 +6,7 @@ use Rattle.link_trace.specs.Order.{Happens}
 use Rattle.link_trace.specs.Marks.{IsMarkedFor}
 use Rattle.actor_core.proofs.OwnNumbers.{some_is}
 use Rattle.link_trace.proofs.ReplayMarks.{marked_after}
-use Rattle.link_trace.proofs.order.make_at.Goals as goal
+use Rattle.link_trace.proofs.first_ready.make_at.Goals as goal
 
 pub returns-in-Took-clause-marks : goal.returns-in-Took-clause-marks
 returns-in-Took-clause-marks c =

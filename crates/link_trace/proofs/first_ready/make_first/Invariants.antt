@@ -2,7 +2,7 @@ use Rattle.std.proofs.Common.{◌≡◌}
 use Rattle.link_trace.specs.Worlds.{state_of}
 use Rattle.link_trace.specs.Order.{AreIdleFrom}
 use Rattle.link_trace.specs.Marks.{AreMarked}
-use Rattle.link_trace.proofs.order.make_first.Given as goal
+use Rattle.link_trace.proofs.first_ready.make_first.Given as goal
 
 abbrev pub invariant-loop-i : goal.invariant-loop-i
 invariant-loop-i l = record {
