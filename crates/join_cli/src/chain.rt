@@ -13,7 +13,8 @@ ghost use Rattle.join_cli.specs.Ends.{IsHalted, IsMade, course_of};
 ghost use Rattle.join_cli.specs.Plan.{bare_report_of, input_of, report_asked, setting_of};
 
 use crate::outcome::Outcome;
-use crate::output::{Joined, add, bare_report, bytes_of, journal_of, report};
+use crate::output::Joined;
+use crate::texts::{add, bare_report, bytes_of, journal_of, report};
 use chain_join::{ChainFault, ChainRun, Triple, run_chain};
 use join_plan::{LimitFault, Third};
 use join_rows::Bytes;

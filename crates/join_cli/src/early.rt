@@ -12,8 +12,8 @@ ghost use Rattle.join_cli.specs.Plan.{report_asked};
 ghost use Rattle.join_cli.specs.Courses.{IsRunInThreads};
 ghost use Rattle.join_cli.specs.Early.{PutFound, PutPart, TakesFound};
 
-use crate::output::report;
 use crate::run::Course;
+use crate::texts::report;
 use join_report::put_all;
 use join_rows::{Failed, Sink};
 use join_runtime::{EarlyFault, Ends, Told, Trail, run_early};

@@ -15,7 +15,8 @@ ghost use Rattle.join_cli.specs.Dealt.{IsDealt};
 ghost use Rattle.join_cli.specs.Ends.{IsMade, course_of};
 
 use crate::outcome::{Journals, Outcome};
-use crate::output::{Joined, answer, bytes_of};
+use crate::output::Joined;
+use crate::texts::{answer, bytes_of};
 use epoch_tags::{Counts, Pair};
 use group_split::{GroupsRun, Runs, digits, numbers, part, run_groups};
 use join_report::report_text;

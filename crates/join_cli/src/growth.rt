@@ -10,7 +10,8 @@ ghost use Rattle.join_cli.specs.WaveSteps.{AreAhead, AreWavesBehind};
 ghost use Rattle.join_cli.specs.WaveTexts.{no_waves as no_waves'};
 ghost use Rattle.join_cli.specs.Waves.{no_rows};
 
-use crate::waves::{Waved, no_waves, through};
+use crate::in_one::no_waves;
+use crate::waves::{Waved, through};
 use elastic_grow::grow;
 use join_plan::WaveEnd;
 use join_runtime::Trail;

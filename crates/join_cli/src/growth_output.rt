@@ -16,10 +16,11 @@ ghost use Rattle.join_cli.specs.WaveTexts.{lines_of};
 ghost use Rattle.join_cli.specs.Waves.{no_rows};
 
 use crate::growth::{Grown, grown_waves};
+use crate::in_one::journal_of_both;
 use crate::outcome::Outcome;
-use crate::output::{Joined, add, bytes_of, journal_of};
+use crate::output::Joined;
+use crate::texts::{add, bytes_of, journal_of};
 use crate::wave_output::lines;
-use crate::waves::journal_of_both;
 use grid_map::{Shape, Weights, copies};
 use join_plan::WaveEnd;
 use join_report::grown_report_text;

@@ -8,7 +8,8 @@ ghost use Rattle.join_cli.specs.Plan.{input_of, setting_of};
 ghost use Rattle.join_cli.specs.Ends.{IsMade, course_of};
 
 use crate::outcome::Outcome;
-use crate::output::{Joined, text};
+use crate::output::Joined;
+use crate::texts::text;
 use join_words::Options;
 use link_trace::{Input, Setting};
 use ring_runtime::{RingRun, ring_run};

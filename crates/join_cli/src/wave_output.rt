@@ -14,7 +14,8 @@ ghost use Rattle.join_cli.specs.WaveTexts.{lines_of};
 ghost use Rattle.join_cli.specs.Waves.{no_rows};
 
 use crate::outcome::Outcome;
-use crate::output::{Joined, add, bare_report, bytes_of, journal_of};
+use crate::output::Joined;
+use crate::texts::{add, bare_report, bytes_of, journal_of};
 use crate::waves::{Waved, all_waves};
 use epoch_tags::Pair;
 use join_plan::WaveEnd;

@@ -4,7 +4,7 @@ use Rattle.join_rows.specs.declared.table.Side.TheVariants.{R, S}
 use Rattle.trace_law.specs.Join.{matches_of, rows_of}
 use Rattle.join_report.specs.Summary.{numbers_of}
 use Rattle.join_report.proofs.LoopSums.{loop_sum_fits}
-use Rattle.join_cli.proofs.output.answer.Goals as goal
+use Rattle.join_cli.proofs.texts.answer.Goals as goal
 
 pub summary_text-requires : goal.summary_text-requires
 summary_text-requires c = record {

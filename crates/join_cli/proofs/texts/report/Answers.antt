@@ -1,7 +1,7 @@
 use Rattle.std.proofs.Common.{◌≤◌, ◌^◌, length, arith}
 use Rattle.join_rows.specs.declared.table.Side.TheVariants.{R, S}
 use Rattle.join_cli.proofs.Reports.{few_steps, shifts_fit}
-use Rattle.join_cli.proofs.output.report.Goals as goal
+use Rattle.join_cli.proofs.texts.report.Goals as goal
 
 pub bare_report-requires-clause-shifts : goal.bare_report-requires-clause-shifts
 bare_report-requires-clause-shifts c = shifts_fit c.args.input.now c.args.setting.now c.args.run.now.journal
