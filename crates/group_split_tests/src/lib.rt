@@ -3,4 +3,6 @@
 #![tactic(auto)]
 
 #[cfg(test)]
+mod inputs;
+#[cfg(test)]
 mod tests;
