@@ -13,7 +13,7 @@ ghost use Rattle.join_cli.specs.Ends.{Concludes, IsDone, TakesEach};
 ghost use Rattle.join_cli.specs.Chain.{IsFewBetween};
 ghost use Rattle.join_cli.specs.Requests.{AreLaterAlone, IsChained, IsRinged};
 
-use crate::early::put_found;
+use crate::early_report::put_found;
 use crate::input::{input, setting};
 use crate::outcome::Outcome;
 use crate::output::{Joined, output};

@@ -1,4 +1,4 @@
-// Early output: the lines of the pairs are put as they are found.
+// Early output: the lines of the pairs are put as they are found, and the report after them.
 
 ghost use Rattle.std.specs.Prelude.{◌≡◌, ◌≢◌, ◌<◌, ◌+◌, [], ◌∷◌, Err, IfOk, OnOk, length};
 ghost use Rattle.std.specs.Io.KnownBytes.{append_known};
