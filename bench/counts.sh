@@ -1,11 +1,11 @@
 #!/bin/sh
 # Counts the instructions and the heap's calls of the whole program with one worker: 20,000 rows a side, equal numbers, one
 # match a row. Other than times they are nearly the same on any machine, so a change shows by them what it costs. Fails where
-# either is more than a hundredth above what stands here, which was measured when this script came, with kept threads. JM names another
-# program than the repository's own. It wants valgrind.
+# either is more than a hundredth above what stands here, which was measured once the rows of a file shared one list of
+# cells. JM names another program than the repository's own. It wants valgrind.
 set -eu
-instructions=379500000
-calls=129300
+instructions=308100000
+calls=29300
 top=$(cd "$(dirname "$0")/.." && pwd -P)
 jm=${JM:-$top/crates/jm/out/jm}
 [ -n "${JM:-}" ] || "$top/jm" --on '1 = 2' --make 1 >/dev/null
