@@ -5,6 +5,7 @@ mod fault;
 mod laws;
 mod lexer;
 mod parser;
+mod quoted_texts;
 mod token;
 mod tree;
 

@@ -1,11 +1,12 @@
 // The kind of the token at the front of a text.
 
-ghost use Rattle.std.specs.Prelude.{◌≡◌, ◌≤◌, length, IfSome};
+ghost use Rattle.std.specs.Prelude.{◌≡◌, ◌≤◌, length};
 ghost use Rattle.std.specs.List.{prefix_len};
 ghost use Rattle.theta_text.specs.Tokens.{is_letter, is_digit, is_word, is_blank};
-ghost use Rattle.theta_text.specs.Front.{quoted_len, with_equals, sign, front};
+ghost use Rattle.theta_text.specs.Front.{with_equals, sign, front};
 
 use crate::lexer::kind::Kind;
+use crate::quoted_texts::quoted;
 
 // The kind and the length of the longest token at the front.
 pub(crate) fn front_kind(text: &[u8]) -> Option<(Kind, usize)>
@@ -56,27 +57,6 @@ fn or_equal(one: Kind, two: Kind, rest: &[u8]) -> (Kind, usize)
         [b'=', ..] => (two, 2),
         _ => (one, 1),
     }
-}
-
-// How many bytes there are up to the last possible closing quote and with it.
-fn quoted(quote: u8, text: &[u8]) -> Option<usize>
-    ensures found { result ≡ quoted_len quote text.now }
-    ensures within { IfSome result (λ n. n ≤ length text.now) }
-{
-    let mut best = None;
-    let mut at = 0;
-    while at < text.len() {
-        if text[at] != quote {
-            at += 1;
-            continue;
-        }
-        best = Some(at + 1);
-        if at + 1 == text.len() || text[at + 1] != quote {
-            return best;
-        }
-        at += 2;
-    }
-    best
 }
 
 #[tactic(auto, using(crate::proofs::Fronts::run_le))]

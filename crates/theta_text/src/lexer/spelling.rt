@@ -2,9 +2,10 @@
 
 ghost use Rattle.std.specs.Prelude.{◌≡◌, IfOk};
 ghost use Rattle.theta_text.specs.Tokens.{keyword_of};
-ghost use Rattle.theta_text.specs.Kinds.{token_at, unquoted};
+ghost use Rattle.theta_text.specs.Kinds.{token_at};
 
 use crate::lexer::kind::Kind;
+use crate::quoted_texts::content;
 use crate::token::{Keyword, Token};
 use crate::tree::Op;
 use join_rows::Bytes;
@@ -54,23 +55,4 @@ fn keyword(word: &[u8]) -> Keyword
     } else {
         Keyword::Other
     }
-}
-
-// What stands between two quotes, with doubled quotes undone.
-fn content(alloc: Global, quote: u8, text: &[u8]) -> Result<Bytes, AllocError>
-    ensures { IfOk result (λ bytes. bytes ≡ unquoted quote text.now) }
-{
-    let mut bytes = Bytes::new(alloc);
-    let [_, inner @ ..] = text else {
-        return Ok(bytes);
-    };
-    let mut begun = false;
-    for b in inner {
-        let first = *b == quote && !begun;
-        if !first {
-            bytes.push(*b)?;
-        }
-        begun = first;
-    }
-    Ok(bytes)
 }

@@ -1,6 +1,6 @@
 use Rattle.std.proofs.Common.{◌≡◌, ◌++◌, drop, false}
 use Rattle.theta_text.specs.Kinds.{undoubled}
-use Rattle.theta_text.proofs.lexer.spelling.content.Given as goal
+use Rattle.theta_text.proofs.quoted_texts.content.Given as goal
 
 abbrev pub invariant-loop-b : goal.invariant-loop-b
 invariant-loop-b l =

@@ -1,7 +1,7 @@
 use Rattle.std.proofs.Common.{◌≡◌, ◌-◌, ◌≤◌, length, drop}
 use Rattle.theta_text.specs.Front.{quoted_len}
 use Rattle.theta_text.proofs.Fronts.{found_by}
-use Rattle.theta_text.proofs.lexer.front.quoted.Given as goal
+use Rattle.theta_text.proofs.quoted_texts.quoted.Given as goal
 
 abbrev pub invariant-loop-at : goal.invariant-loop-at
 invariant-loop-at l = record {

@@ -5,7 +5,7 @@ use Rattle.std.proofs.lemmas.List.{drop_all}
 use Rattle.std.proofs.lemmas.Bool.{eq-eqb, ne_eqb}
 use Rattle.theta_text.specs.Front.{quoted_len}
 use Rattle.theta_text.proofs.Fronts.{found_by, quoted_within, turn_other, turn_twice}
-use Rattle.theta_text.proofs.lexer.front.quoted.Goals as goal
+use Rattle.theta_text.proofs.quoted_texts.quoted.Goals as goal
 
 at_drop : (text : List ℕ) (at : ℕ) → at < length text → drop at text ≡ get_or text at 0 ∷ drop (at + 1) text
 at_drop text at lt = let one : suc at ≡ at + 1 = omega arith in
