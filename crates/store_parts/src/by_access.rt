@@ -8,11 +8,11 @@ ghost use Rattle.store_parts.specs.Matches.{admitted, does_stand, matches, other
 ghost use Rattle.store_parts.specs.Places.{IsMapOf};
 ghost use Rattle.theta_pred.specs.Accesses.{access_of, terms_of};
 
+use crate::evaluate::{at, try_places};
 use crate::index::Index;
 use crate::looks::Looks;
 use crate::numbers::is_admitted;
 use crate::places::Found;
-use crate::probe::{at, try_places};
 use crate::stands::asked;
 use crate::steps::Steps;
 use crate::which::Which;

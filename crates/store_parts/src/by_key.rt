@@ -7,10 +7,10 @@ ghost use Rattle.store_parts.specs.Places.{IsMapOf};
 ghost use Rattle.theta_pred.specs.Keys.{atom_of, key_of};
 
 use crate::band::{greatest, is_true_of, least, value_of};
+use crate::evaluate::{try_one, try_places};
 use crate::index::Index;
 use crate::looks::Looks;
 use crate::places::Found;
-use crate::probe::{try_one, try_places};
 use crate::steps::Steps;
 use crate::which::Which;
 use epoch_tags::{Pairs, Tuple};

@@ -19,9 +19,9 @@ ghost use Rattle.store_parts.specs.Stored.{others_of, side_of, HaveWidths};
 
 use crate::by_access::seek_by;
 use crate::by_key::{find_keyed, seek, sift};
+use crate::evaluate::{find_each, scan};
 use crate::index::Index;
 use crate::looks::Looks;
-use crate::probe::{find_each, scan};
 use crate::steps::Steps;
 use crate::which::Which;
 use epoch_tags::{Pairs, Tuple, Tuples};

@@ -1,7 +1,7 @@
 use Rattle.std.proofs.Common.{◌∙◌}
 use Rattle.std.proofs.lemmas.Result.{err_from_is_err_and}
 use Rattle.store_parts.proofs.OneMoreTuple.{front_of_matches}
-use Rattle.store_parts.proofs.probe.scan.Goals as goal
+use Rattle.store_parts.proofs.evaluate.scan.Goals as goal
 
 pub returns-in_err-try_one-clause-err : goal.returns-in_err-try_one-clause-err
 returns-in_err-try_one-clause-err g c =

@@ -1,6 +1,6 @@
 use Rattle.std.proofs.Common.{◌≡◌, ◌+◌, ◌++◌, take, count_by}
 use Rattle.store_parts.specs.Matches.{is_named, matches}
-use Rattle.store_parts.proofs.probe.scan.Given as goal
+use Rattle.store_parts.proofs.evaluate.scan.Given as goal
 
 abbrev pub invariant-loop-other : goal.invariant-loop-other
 invariant-loop-other g l = record {

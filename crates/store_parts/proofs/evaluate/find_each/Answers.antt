@@ -1,6 +1,6 @@
 use Rattle.std.proofs.Common.{rules}
 use Rattle.store_parts.proofs.KeyProbes.{all_seen}
-use Rattle.store_parts.proofs.probe.find_each.Goals as goal
+use Rattle.store_parts.proofs.evaluate.find_each.Goals as goal
 
 pub returns-clause-looks : goal.returns-clause-looks
 returns-clause-looks g c =
