@@ -9,20 +9,14 @@ use Rattle.epoch_tags.specs.declared.actor.Actor.TheVariants.{Joiner as Joiner'}
 use Rattle.epoch_tags.specs.declared.message.Post.{Post}
 use Rattle.epoch_tags.specs.declared.tuple.Tuple.{Tuple}
 use Rattle.epoch_tags.specs.declared.tuple.Pair.{Pair}
-use Rattle.migration_plan.specs.Steps.{AreNeighbours, is_of, exchanged_side, partner_in_step}
+use Rattle.migration_plan.specs.Steps.{is_of, exchanged_side, partner_in_step}
+use Rattle.migration_plan.proofs.Neighbours.{lesser_below}
 use Rattle.theta_pred.specs.Formula.{Meaning}
 use Rattle.joiner_law.specs.Posting.{moved_post, moved_end_post, settled_post}
 use Rattle.joiner_core.specs.State.{IsRow, AreRows, IsOwnPost, AllSendRows, OpenStep, EpochState, MachineState}
 use Rattle.joiner_core.specs.Changes.{late_posts, begun_posts, end_posts, posts_turned, settle_posts, posts_settled}
 use Rattle.joiner_core.specs.Taking.{IsWithin, IsFixed, IsStepWithin, TurnFits, AreOwnPosts}
 use Rattle.joiner_core.specs.Calls.{found_posts, fin_posts}
-
--- two neighbours aren't both the last shift
-pub beside : (k b c : ℕ) → b ≤ k → c ≤ k → AreNeighbours b c → min b c < k
-beside k b c low low' next = elim next [
-  | inl up ↦ omega arith
-  | inr down ↦ omega arith
-]
 
 own-moved : (m : EpochState) (shift epoch : ℕ) (x : Tuple) → m.id < 2 ^ m.k → min m.shift shift < m.k → IsRow m.theta x
     → IsOwnPost m.k m.feeders m.id m.theta (moved_post (partner_in_step m.shift shift m.id) epoch x)
@@ -44,14 +38,14 @@ pub own-late : (m : EpochState) (x : Tuple) (step : Option OpenStep) → m.id < 
     → IsStepWithin m.k m.shift step → IsRow m.theta x → AreOwnPosts m (late_posts m x step)
 own-late m x None id low within row = All-nil (IsOwnPost m.k m.feeders m.id m.theta)
 own-late m x (Some o) id low within row = own-moves m o.shift o.epoch _ id
-    (beside m.k m.shift o.shift low within.0 within.1) (rows-if m.theta (is_of (exchanged_side m.shift o.shift) x)
+    (lesser_below m.k m.shift o.shift low within.0 within.1) (rows-if m.theta (is_of (exchanged_side m.shift o.shift) x)
     x row)
 
 -- so do the rows that are sent to the partner where a turn that fits opens a step
 pub own-begun : (m : EpochState) (p epoch shift : ℕ) (step : Option OpenStep) → IsWithin m
     → TurnFits m p epoch shift step → AreOwnPosts m (begun_posts m epoch shift step)
 own-begun m p epoch shift None within fits =
-    own-moves m shift epoch _ within.id (beside m.k m.shift shift within.shift fits.1 fits.2)
+    own-moves m shift epoch _ within.id (lesser_below m.k m.shift shift within.shift fits.1 fits.2)
     (All-filter (is_of (exchanged_side m.shift shift)) (IsRow m.theta) m.store.tuples within.stock.rows)
 own-begun m p epoch shift (Some o) within fits = All-nil (IsOwnPost m.k m.feeders m.id m.theta)
 
@@ -61,7 +55,7 @@ own-ends m None id low within = All-nil (IsOwnPost m.k m.feeders m.id m.theta)
 own-ends m (Some o) id low within =
     All-cons (IsOwnPost m.k m.feeders m.id m.theta) (moved_end_post (partner_in_step m.shift o.shift m.id) o.epoch) []
     (record {
-      over = record { link = joiner_joiner id (beside m.k m.shift o.shift low within.0 within.1); kind = tt };
+      over = record { link = joiner_joiner id (lesser_below m.k m.shift o.shift low within.0 within.1); kind = tt };
       row = tt;
     }) (All-nil (IsOwnPost m.k m.feeders m.id m.theta))
 

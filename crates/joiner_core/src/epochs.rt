@@ -3,16 +3,16 @@
 ghost use Rattle.std.specs.Prelude.{◌≡◌, ℕ, false, true, None, ◌++◌, ◌∷◌, [], ◌<◌, ◌≤◌, ◌^◌, slice_set, OnOk};
 ghost use Rattle.epoch_tags.specs.Flags.{flag_at, IsEachUp};
 ghost use Rattle.joiner_core.specs.Changes.{turned_in, found_late, posts_late, opened_late};
-ghost use Rattle.migration_plan.specs.Steps.{AreNeighbours, is_of, partner_in_step};
+ghost use Rattle.migration_plan.specs.Steps.{is_of};
 ghost use Rattle.joiner_law.specs.History.{probed};
 ghost use Rattle.joiner_core.specs.State.{stocked_of, HasRow, named_by, does_hold, with_placed, IsRow, IsStock};
 ghost use Rattle.joiner_law.specs.Posting.{moved_post};
 
 use crate::stock::Stock;
 use epoch_tags::{Actor, Counts, Msg, Pairs, Post, Sends, ToJoiner, Tuple, are_all_up, is_up};
-use grid_map::{Shape, partner};
+use grid_map::Shape;
 use join_rows::Side;
-use migration_plan::{kept, low_of};
+use migration_plan::kept;
 use std::alloc::{AllocError, Global};
 use std::marker::Model;
 use store_parts::{Store, Which};
@@ -185,19 +185,6 @@ impl Model for Opened {
       store = o.store;
       partner_ended = o.partner_ended;
     } };
-}
-
-// The joiner with whom joiner `id` exchanges tuples in a step.
-#[tactic(auto, using(crate::proofs::OwnPosts::beside))]
-pub(crate) fn partner_in_step(k: u32, old: u32, new: u32, id: u32) -> u32
-    requires grid { k ≤ 8 }
-    requires from { old ≤ k }
-    requires to { new ≤ k }
-    requires step { AreNeighbours old new }
-    requires id { id < 2 ^ k }
-    ensures { result ≡ partner_in_step old new id }
-{
-    partner(k, low_of(old, new), id)
 }
 
 // Whether the tuple is of that side.

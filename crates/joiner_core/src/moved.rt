@@ -5,8 +5,9 @@ ghost use Rattle.joiner_core.specs.State.{IsRow};
 ghost use Rattle.joiner_core.specs.Taking.{IsWithin, PartFits};
 ghost use Rattle.joiner_core.specs.Changes.{after_moved, found_moved, after_part};
 
-use crate::epochs::{Epochs, partner_in_step};
+use crate::epochs::Epochs;
 use epoch_tags::{Pairs, Tuple};
+use migration_plan::partner_in_step;
 use std::alloc::AllocError;
 use store_parts::Which;
 

@@ -6,9 +6,9 @@ ghost use Rattle.joiner_core.specs.State.{IsRow};
 ghost use Rattle.joiner_core.specs.Taking.{IsWithin, CanTakeTup, TookOfFeeder};
 ghost use Rattle.joiner_core.specs.Changes.{after_old, found_old, posts_old, after_new, found_new};
 
-use crate::epochs::{Epochs, partner_in_step, pass_on};
+use crate::epochs::{Epochs, pass_on};
 use epoch_tags::{Pairs, Sends, Tuple};
-use migration_plan::exchanged_side;
+use migration_plan::{exchanged_side, partner_in_step};
 use std::alloc::AllocError;
 use store_parts::Which;
 

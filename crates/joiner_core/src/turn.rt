@@ -7,9 +7,9 @@ ghost use Rattle.epoch_tags.specs.declared.message.ToJoiner.TheVariants.{Turn};
 ghost use Rattle.epoch_tags.specs.declared.tuple.Pair.{Pair};
 ghost use Rattle.joiner_core.specs.Changes.{HasBegun, begun_posts, posts_opened, HasOpened, HasTurned, AreAllUp, posts_turned};
 
-use crate::epochs::{Epochs, Opened, partner_in_step};
+use crate::epochs::{Epochs, Opened};
 use epoch_tags::{Actor, Msg, Post, Sends, ToJoiner, all_down, are_all_up};
-use migration_plan::exchanged_side;
+use migration_plan::{exchanged_side, partner_in_step};
 use std::alloc::AllocError;
 use std::mem;
 

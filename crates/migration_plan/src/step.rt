@@ -5,7 +5,7 @@ ghost use Rattle.migration_plan.specs.Steps as steps;
 ghost use Rattle.migration_plan.specs.Steps.{AreNeighbours};
 
 use epoch_tags::Tuple;
-use grid_map::{Shape, holds_r, holds_s};
+use grid_map::{Shape, holds_r, holds_s, partner};
 use join_rows::Side;
 
 /// The shift nearer to the goal by 1.
@@ -23,6 +23,20 @@ pub fn low_of(old: u32, new: u32) -> u32
     ensures { result ≡ min old new }
 {
     if old < new { old } else { new }
+}
+
+/// The joiner with whom joiner `id` of `2^k` exchanges tuples in a step.
+#[tactic(auto, using(crate::proofs::Neighbours::lesser_below))]
+pub fn partner_in_step(k: u32, old: u32, new: u32, id: u32) -> u32
+    requires grid { k ≤ 8 }
+    requires from { old ≤ k }
+    requires to { new ≤ k }
+    requires step { AreNeighbours old new }
+    requires id { id < 2 ^ k }
+    ensures value { result ≡ steps.partner_in_step old new id }
+    ensures below { result < 2 ^ k }
+{
+    partner(k, low_of(old, new), id)
 }
 
 /// The side whose tuples partners exchange in a step.

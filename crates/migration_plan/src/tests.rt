@@ -1,4 +1,4 @@
-use crate::{chain, exchanged_side, kept, low_of, next_step};
+use crate::{chain, exchanged_side, kept, low_of, next_step, partner_in_step};
 use epoch_tags::Tuple;
 use grid_map::Shape;
 use join_rows::{Cells, Side};
@@ -26,6 +26,16 @@ fn a_step_names_its_shift_its_bit_and_its_side(rt: HostRuntime) {
                 "the side from {shift} to {goal}"
             );
         }
+    }
+}
+
+#[test]
+fn a_partner_is_the_joiner_that_differs_in_the_bit_of_the_step(rt: HostRuntime) {
+    let cases = [(2, 3, 5, 1), (3, 2, 5, 1), (0, 1, 5, 4), (3, 4, 5, 13)];
+    for (old, new, id, partner) in cases {
+        let found = partner_in_step(4, old, new, id);
+        assert_eq!(rt; found, partner, "of joiner {id} from {old} to {new}");
+        assert_eq!(rt; partner_in_step(4, old, new, found), id, "and back");
     }
 }
 
