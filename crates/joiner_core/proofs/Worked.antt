@@ -45,17 +45,19 @@ rows_are_moved = refl
 abbrev pub early : ToJoiner
 early = Moved 1 (r_row 2 2 0)
 
--- it is held, and nothing is posted
+-- it is held
 pub early_is_held : (state_after (Joiner 1) early joiner_0).of_joiners ≡ [] ∷ (early ∷ []) ∷ []
 early_is_held = refl
 
+-- and nothing is posted for it
 pub early_posts_nothing : posts_after (Joiner 1) early joiner_0 ≡ []
 early_posts_nothing = refl
 
--- the turn has it taken
+-- the machine after the turn that it waits for
 abbrev pub turned : MachineState
 turned = state_after (Feeder 0) (Turn 1 1) (state_after (Joiner 1) early joiner_0)
 
+-- then it is held no more
 pub early_is_taken : turned.of_joiners ≡ [] ∷ [] ∷ []
 early_is_taken = refl
 
