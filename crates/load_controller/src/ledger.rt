@@ -11,7 +11,8 @@ use crate::line::{Cause, Journal, TurnLine};
 use crate::marks::{note_drain, note_settle};
 use crate::next::next_line;
 use crate::post::post_line;
-use epoch_tags::{Held, Sends, all_down, are_all_up};
+use crate::stop::is_over;
+use epoch_tags::{Held, Sends, all_down};
 use grid_map::Weights;
 use std::alloc::{AllocError, Global};
 
@@ -98,7 +99,7 @@ impl Ledger {
         note_drain(&mut self.drained, line.cause);
         self.settled_count = note_settle(&mut self.settled, self.settled_count, stays, line.cause);
         self.line = line;
-        self.over = self.over || (!line.moving && are_all_up(&self.drained));
+        self.over = self.over || is_over(line, &self.drained);
         Ok(())
     }
 

@@ -10,6 +10,7 @@ mod marks;
 mod next;
 mod post;
 mod receive;
+mod stop;
 
 pub use controller::Controller;
 pub use laws::{

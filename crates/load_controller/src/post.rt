@@ -6,11 +6,12 @@ ghost use Rattle.load_controller.specs.Standing.{to_each, grant_for};
 ghost use Rattle.load_controller.specs.Machine.{posts_of};
 
 use crate::line::{Cause, TurnLine};
+use crate::stop::post_stop;
 use epoch_tags::{Actor, Msg, Post, Sends, ToFeeder};
 use std::alloc::AllocError;
 
 // Sends the message to every feeder, rising.
-fn post_to_each(feeders: u32, m: ToFeeder, sends: &mut Sends) -> Result<(), AllocError>
+pub(crate) fn post_to_each(feeders: u32, m: ToFeeder, sends: &mut Sends) -> Result<(), AllocError>
     ensures { OnOk result (sends.new ≡ sends.old ++ to_each feeders m) }
 {
     for p in 0..feeders {
@@ -59,8 +60,5 @@ pub(crate) fn post_line(
         post_to_each(feeders, order, sends)?;
     }
     post_grant(line.cause, sends)?;
-    if ends {
-        post_to_each(feeders, ToFeeder::Stop, sends)?;
-    }
-    Ok(())
+    post_stop(feeders, ends, sends)
 }
