@@ -9,7 +9,8 @@ use Rattle.trace_law.specs.Laws.{KeepsALawfulJournal, LawfulIsBounded}
 use Rattle.trace_law.specs.Family.{first_rest, migrations}
 use Rattle.trace_law.proofs.First.{stands as first_stands}
 use Rattle.trace_law.proofs.Validity.{within_limits}
-use Rattle.actor_core.specs.Counts.{EventsFit, EventsFitInWave, most_events}
+use Rattle.actor_core.specs.Counts.{EventsFit, EventsFitInWave}
+use Rattle.trace_law.specs.Counts.{most_events}
 use Rattle.actor_core.specs.Families.{family_of}
 
 -- what is at most a number below the limit is below it

@@ -1,21 +1,15 @@
--- How many events there are.
-use Rattle.std.specs.Prelude.{ℕ, ◌+◌, ◌-◌, ◌*◌, ◌^◌, ◌<◌, List}
+-- The events of a run are fewer than a number of 64 bits counts.
+use Rattle.std.specs.Prelude.{◌-◌, ◌^◌, ◌<◌, List}
 use Rattle.epoch_tags.specs.declared.actor.Actor.{Actor}
-use Rattle.join_rows.specs.declared.table.Side.TheVariants.{R, S}
 use Rattle.load_controller.specs.Journal.{last_epoch}
 use Rattle.load_controller.specs.declared.line.TurnLine.{TurnLine}
 use Rattle.trace_law.specs.Family.{IsAgreeing, IsRestFor, Rest, first_rest, migrations}
-use Rattle.trace_law.specs.Join.{row_count}
+use Rattle.trace_law.specs.Counts.{most_events}
 use Rattle.trace_law.specs.Validity.{IsValidInput, IsValidSetting}
 use Rattle.trace_law.specs.declared.input.Input.{Input}
 use Rattle.trace_law.specs.declared.setting.Setting.{Setting}
 use Rattle.actor_core.specs.Families.{family_of}
 use Rattle.actor_core.specs.Lists.{ActorLists}
-
--- the most events that a run with so many migrations has
-abbrev pub most_events : Input → Setting → ℕ → ℕ
-most_events input setting migrations =
-    8 * (row_count input R + row_count input S + setting.feeders + 2) * 2 ^ setting.k * (migrations + 2)
 
 -- an agreeing family never has a journal by which a run could have more events than a number of 64 bits counts
 abbrev pub EventsFit : Type 0

@@ -8,7 +8,7 @@ use Rattle.trace_law.specs.declared.setting.Setting.{Setting}
 use Rattle.trace_law.specs.Validity.{IsValid}
 use Rattle.trace_law.specs.Family.{IsRestFor, Rest, migrations}
 use Rattle.trace_law.specs.Runs.{IsRunOf}
-use Rattle.actor_core.specs.Counts.{most_events}
+use Rattle.trace_law.specs.Counts.{most_events}
 use Rattle.actor_core.specs.Lists.{no_lists}
 use Rattle.actor_core.specs.Players.{AgreesOnLinks, IsFinishedWave}
 use Rattle.actor_core.specs.Rests.{IsRestOf}

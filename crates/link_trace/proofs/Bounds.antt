@@ -18,7 +18,8 @@ use Rattle.trace_law.specs.Laws.{EventsAreFew}
 use Rattle.trace_law.proofs.Validity.{within_limits}
 use Rattle.actor_core.specs.Lists.{ActorLists, Cause, Took, Began, no_lists}
 use Rattle.actor_core.specs.Families.{journal_of, after_event}
-use Rattle.actor_core.specs.Counts.{most_events, EventsFit, EventsFitInWave}
+use Rattle.actor_core.specs.Counts.{EventsFit, EventsFitInWave}
+use Rattle.trace_law.specs.Counts.{most_events}
 use Rattle.actor_core.specs.Players.{journal_at}
 use Rattle.actor_core.specs.declared.machines.Core.{Core}
 use Rattle.link_trace.specs.declared.slots.Slot.{Slot}

@@ -10,7 +10,7 @@ ghost use Rattle.trace_law.specs.declared.setting.Setting.{Setting as Setting'};
 ghost use Rattle.trace_law.specs.Validity.{IsValidInput, IsValidSetting, IsValid};
 ghost use Rattle.trace_law.specs.Family.{IsRestFor, Rest as Rest', migrations};
 ghost use Rattle.trace_law.specs.Runs.{IsRunOf};
-ghost use Rattle.actor_core.specs.Counts.{most_events};
+ghost use Rattle.trace_law.specs.Counts.{most_events};
 ghost use Rattle.actor_core.specs.declared.machines.Core.{Core as Core'};
 ghost use Rattle.actor_core.specs.Elements.{IsAllAt};
 ghost use Rattle.actor_core.specs.Families.{journal_of};

@@ -14,7 +14,7 @@ use Rattle.trace_law.specs.Family.{IsAgreeing, first_rest}
 use Rattle.trace_law.specs.Validity.{IsValidInput, IsValidSetting}
 use Rattle.trace_law.proofs.First.{stands as first_stands}
 use Rattle.trace_law.proofs.Validity.{within_limits}
-use Rattle.actor_core.specs.Counts.{most_events}
+use Rattle.trace_law.specs.Counts.{most_events}
 use Rattle.actor_core.specs.Families.{family_of}
 use Rattle.actor_core.specs.Lists.{ActorLists}
 

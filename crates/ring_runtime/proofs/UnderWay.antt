@@ -22,7 +22,7 @@ use Rattle.trace_law.specs.Family.{IsAgreeing, feeder_start, first_rest}
 use Rattle.trace_law.specs.Join.{row_count}
 use Rattle.trace_law.specs.Laws.{EventsAreFew, KeepsALawfulJournal, LawfulIsBounded}
 use Rattle.trace_law.specs.Validity.{IsValid, IsValidInput, IsValidSetting}
-use Rattle.actor_core.specs.Counts.{most_events}
+use Rattle.trace_law.specs.Counts.{most_events}
 use Rattle.actor_core.specs.Families.{AreFronts, family_of, start_for}
 use Rattle.actor_core.specs.Lists.{ActorLists, no_lists}
 use Rattle.actor_core.specs.Numbers.{actor_at, number}

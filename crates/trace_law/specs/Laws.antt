@@ -29,6 +29,7 @@ use Rattle.epoch_tags.specs.Links.{HasLink}
 use Rattle.trace_law.specs.Stored.{StoresItsRows}
 use Rattle.trace_law.specs.declared.setting.Setting.{Setting}
 use Rattle.trace_law.specs.Validity.{IsValidInput, IsValidSetting, IsValid}
+use Rattle.trace_law.specs.Counts.{most_events}
 use Rattle.trace_law.specs.Family.{Rest, IsLineFor, IsRestFor, first_rest, own_rows, migrations, Family, IsAgreeing}
 use Rattle.trace_law.specs.Family.{joiner_start, IsQuiet, IsFinished, IsAllReceived, NothingWrongIsSent, AnswersTheJoin}
 use Rattle.trace_law.specs.Family.{batches, rest_after, rules_of, stamp_at, events}
@@ -144,9 +145,7 @@ abbrev pub EventsAreFew : Type 0
 EventsAreFew =
     (input : Input) (setting : Setting) (rest : Rest) (f : Family) → IsValid input setting
     → IsRestFor input setting rest → IsAgreeing input setting rest f
-    → events setting f
-    ≤ 8 * (row_count input R + row_count input S + setting.feeders + 2) * 2 ^ setting.k *
-    (migrations rest.line f.controller.journal + 2)
+    → events setting f ≤ most_events input setting (migrations rest.line f.controller.journal)
 
 -- what the actors took is determined by the lists, and so are the shifts of the epochs that joiners opened
 abbrev pub TakenIsDetermined : Type 0
