@@ -23,9 +23,9 @@ sized_crates() {
     done
 }
 
-# The crates that the program stands on, and its own. Each line has a crate, "chain" or "beside" as it lies on the
-# longest way up to the program or not, and then the crates that it uses. Those with the most above them come first, so
-# each stands behind those that it uses.
+# The crates that the program stands on, and its own. Each line has a crate, "chain" or "beside" as the longest way up to
+# the program through it is nearly the longest of all or not (nineteen twentieths, by lines of code), and then the crates
+# that it uses. Those with the most above them come first, so each stands behind those that it uses.
 plan_build() {
     sized_crates | awk -F: -v top="$crate" '
         { split($1, words, " "); name = words[1]; size[name] = words[2] + 100; uses[name] = $2 }
@@ -33,7 +33,10 @@ plan_build() {
             if (name in seen || !(name in uses)) return
             seen[name] = 1
             n = split(uses[name], used, " ")
-            for (i = 1; i <= n; i++) reach(used[i])
+            for (i = 1; i <= n; i++) {
+                reach(used[i])
+                if (below[name] < below[used[i]] + size[used[i]]) below[name] = below[used[i]] + size[used[i]]
+            }
             order[++count] = name
         }
         END {
@@ -42,20 +45,15 @@ plan_build() {
                 name = order[at]
                 above[name] += size[name]
                 n = split(uses[name], used, " ")
-                for (i = 1; i <= n; i++) {
-                    if (above[name] > above[used[i]]) { above[used[i]] = above[name]; next_up[used[i]] = name }
-                }
+                for (i = 1; i <= n; i++) if (above[name] > above[used[i]]) above[used[i]] = above[name]
             }
-            for (at = 1; at <= count; at++) {
-                if (first == "" || above[order[at]] > above[first]) first = order[at]
-            }
-            for (name = first; name != ""; name = next_up[name]) on_chain[name] = 1
+            longest = below[top] + size[top]
             for (at = 1; at <= count; at++) {
                 name = order[at]
                 kept = ""
                 n = split(uses[name], used, " ")
                 for (i = 1; i <= n; i++) if (used[i] in seen) kept = kept " " used[i]
-                print above[name], name, (name in on_chain ? "chain" : "beside") kept
+                print above[name], name, (20 * (below[name] + above[name]) >= 19 * longest ? "chain" : "beside") kept
             }
         }
     ' | sort -rn | cut -d' ' -f2-
@@ -180,7 +178,7 @@ begin_one() {
     return 1
 }
 
-# Proves the libraries side by side: those on the longest way up to the program with all processors, the others behind
+# Proves the libraries side by side: those on the longest ways up to the program with all processors, the others behind
 # them. Where memory is too little for that they are proved one by one, each with all processors.
 prove_libraries() {
     while [ -d "$rooms" ] && [ ! -e "$rooms/failed" ]; do
