@@ -3,9 +3,11 @@
 
 mod error;
 mod field;
+mod find;
 mod life;
 mod lines;
 mod load;
+mod nearest;
 mod read;
 mod report;
 mod svg;
