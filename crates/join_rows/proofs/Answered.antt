@@ -78,6 +78,10 @@ fault-answers told name old new spot fault.Memory w file t s = inl refl
 abbrev pub TableIn : List ℕ → Result Table TableFault → Type 0
 TableIn bytes r = (r ≡ Err fault.Memory) ⊎ (r ≡ table_of_records (records_of bytes))
 
+-- bytes within the limit have the table that they are
+pub own-table : (bytes : List ℕ) → length bytes ≤ 2 ^ 24 → TableIn bytes (table_of bytes)
+own-table bytes few = inr (short-table bytes few)
+
 -- the table in bytes is refused for want of memory, or for what is wrong with its records
 pub table-not : (bytes : List ℕ) (r : Result Table TableFault) (e : TableFault) → TableIn bytes r → r ≡ Err e
     → (e ≡ fault.Memory) ⊎ IsOfRecords e

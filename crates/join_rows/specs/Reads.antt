@@ -1,5 +1,5 @@
 -- What reading the bytes of a file answers.
-use Rattle.std.specs.Prelude.{◌≡◌, ◌⊎◌, ◌≤◌, ◌<◌, ◌+◌, ◌^◌, ℕ, List, Result, Err, length, take, Some}
+use Rattle.std.specs.Prelude.{◌≡◌, ◌⊎◌, ◌≤◌, ◌<◌, ◌+◌, ◌^◌, ℕ, List, Result, Ok, Err, length, take, Some}
 use Rattle.join_rows.specs.Shelves.{Lacks, Spot, Tells, Told}
 use Rattle.join_rows.specs.Records.{AnswerSays, SaysOf, table_of}
 use Rattle.join_rows.specs.declared.table.Table.{Table}
@@ -42,3 +42,8 @@ pub record IsOfBytes (told : Told) (name : List ℕ) (spot : Spot) (result : Res
   pub answer : result ≡ table_of bytes
   pub says : AnswerSays result bytes
   pub exact : (why : TableFault) → SaysOf why bytes → result ≡ Err why
+
+-- what a file's bytes answer: the table that they are, or what is wrong with them; where there are none, why
+abbrev pub answer_of : Result (List ℕ) TableFault → Result Table TableFault
+answer_of (Ok bytes) = table_of bytes
+answer_of (Err why) = Err why

@@ -1,19 +1,17 @@
 // Reading a table from a shelf.
 
-ghost use Rattle.std.specs.Prelude.{◌≡◌, ◌⊎◌, ◌≤◌, ◌<◌, ◌+◌, ◌-◌, ◌^◌, ◌↔◌, List, ℕ, length, take, IfOk, IfErr, Err, Some};
+ghost use Rattle.std.specs.Prelude.{◌≡◌, ◌⊎◌, ◌≤◌, ◌<◌, ◌+◌, ◌-◌, ◌^◌, ◌↔◌, List, ℕ, length, take, IfOk, IfErr, OnOk, Err, Some};
 ghost use Rattle.join_rows.specs.Records.{IsTable, table_of};
-ghost use Rattle.join_rows.specs.Reads.{IsOfBytes, WholeErr, WholeOk};
+ghost use Rattle.join_rows.specs.Reads.{IsOfBytes, WholeErr, WholeOk, answer_of};
 ghost use Rattle.join_rows.specs.Shelves.{Lacks, Tells, last_fault};
 ghost use Rattle.join_rows.specs.declared.fault.TableFault.TheVariants as fault;
 
+use crate::bytes::Bytes;
 use crate::fault::TableFault;
-use crate::records::table_from;
+use crate::records::{MOST_BYTES, table_from};
 use crate::shelf::Shelf;
 use crate::table::Table;
 use std::alloc::Global;
-
-// How many bytes a file may have.
-const MOST_BYTES: usize = 1 << 24;
 
 // How many bytes one read takes at most.
 const PIECE: usize = 4096;
@@ -48,6 +46,38 @@ fn read_whole<H: Shelf>(alloc: Global, shelf: &mut H, name: &str) -> Result<Vec<
         bytes.extend_from_slice(&piece[..count])?;
     }
     Err(TableFault::TooLong)
+}
+
+/// The bytes of a file of the shelf, of which no table is made yet. What they answer is the table that they are, or what
+/// is wrong with them.
+///
+/// The file is read to its end, to the first fault, or to the first byte past 2^24, at most 4,096 bytes at a time.
+pub fn read_bytes<H: Shelf>(alloc: Global, shelf: &mut H, name: &str) -> Result<Bytes, TableFault>
+    requires { H.faults shelf.old < last_fault }
+    ensures read { (answer_of result ≡ Err fault.Read)
+        ↔ ((H.faults shelf.old < H.faults shelf.new) ⊎ Lacks (H.told shelf.old) name.now) }
+    ensures answer { (file : List ℕ) → Tells (H.told shelf.old) name.now file
+        → H.faults shelf.new ≡ H.faults shelf.old
+        → (answer_of result ≡ Err fault.Memory) ⊎ (answer_of result ≡ table_of file) }
+    ensures bytes { (answer_of result ≡ Err fault.Read → ⊥)
+        → (answer_of result ≡ Err fault.Memory → ⊥)
+        → IsOfBytes (H.told shelf.old) name.now (H.picked shelf.new) (answer_of result) }
+    ensures table { IfOk (answer_of result) IsTable }
+    ensures place { (answer_of result ≡ Err fault.Read → ⊥)
+        → (place : ℕ) × (H.picked shelf.new ≡ Some (name.now, place))
+        × (place ≤ 2 ^ 24 + 1) × (answer_of result ≡ Err fault.TooLong → 2 ^ 24 < place)
+        × (2 ^ 24 < place → (answer_of result ≡ Err fault.TooLong)
+        ⊎ (answer_of result ≡ Err fault.Memory)) }
+    ensures told { H.told shelf.new ≡ H.told shelf.old }
+    ensures rises { H.faults shelf.old ≤ H.faults shelf.new }
+    ensures counts { OnOk result (H.faults shelf.new ≡ H.faults shelf.old) }
+    ensures sound { H.sound shelf.old
+        → H.sound shelf.new × (H.faults shelf.new ≡ H.faults shelf.old) }
+{
+    match read_whole(alloc, shelf, name) {
+        Ok(bytes) => Ok(Bytes::from_vec(bytes)),
+        Err(fault) => Err(fault),
+    }
 }
 
 /// The table in a file of the shelf: its first record is the header, the others are its rows. Each byte order mark at

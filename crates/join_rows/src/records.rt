@@ -5,7 +5,8 @@ ghost use Rattle.csv.specs.Reading.{Ready, default_config, reader_config, reader
 ghost use Rattle.csv.specs.Records.{fields_of};
 ghost use Rattle.csv.specs.declared.parser.State.TheVariants as st;
 ghost use Rattle.csv.specs.declared.reader.Trim.TheVariants as trim;
-ghost use Rattle.join_rows.specs.Records.{after_marks, cells_of, has_mark, records_of, table_of_records};
+ghost use Rattle.join_rows.specs.Records.{IsTable, after_marks, cells_of, has_mark, records_of};
+ghost use Rattle.join_rows.specs.Records.{table_of, table_of_records};
 ghost use Rattle.join_rows.specs.declared.fault.TableFault.TheVariants as fault;
 
 use crate::bytes::Bytes;
@@ -16,8 +17,11 @@ use crate::table::{Cell, Table};
 use csv::{ByteRecord, Reader, ReaderBuilder};
 use std::alloc::{AllocError, Global};
 
-// How many rows a table may have under its header.
-const MOST_ROWS: u64 = 1 << 18;
+/// How many bytes a file may have.
+pub(crate) const MOST_BYTES: usize = 1 << 24;
+
+/// How many rows a table may have under its header.
+pub(crate) const MOST_ROWS: u64 = 1 << 18;
 
 // Whether a text begins with a byte order mark.
 fn begins_with_mark(text: &[u8]) -> bool
@@ -30,7 +34,7 @@ fn begins_with_mark(text: &[u8]) -> bool
 }
 
 // The text after each byte order mark at its beginning.
-fn without_marks(text: &[u8]) -> &[u8]
+pub(crate) fn without_marks(text: &[u8]) -> &[u8]
     ensures { result.now ≡ after_marks text.now }
 {
     let mut rest = text;
@@ -66,7 +70,7 @@ fn add_cells(alloc: Global, cells: &mut Vec<Cell>, row: &ByteRecord) -> Result<(
 }
 
 // A reader over a text, with no header row of its own, that takes records of any width.
-fn reader_over<'a>(alloc: Global, text: &'a [u8]) -> Reader<&'a [u8]>
+pub(crate) fn reader_over<'a>(alloc: Global, text: &'a [u8]) -> Reader<&'a [u8]>
     ensures trim { reader_trim result ≡ trim.None }
     ensures ready { Ready result }
     ensures config { reader_config result ≡ default_config }
@@ -115,4 +119,15 @@ pub(crate) fn table_from(alloc: Global, text: &[u8]) -> Result<Table, TableFault
         add_cells(alloc, &mut cells, &row)?;
         count += 1;
     }
+}
+
+/// The table that a file's bytes are, or what is wrong with them, or want of memory.
+pub fn table_in(alloc: Global, bytes: &[u8]) -> Result<Table, TableFault>
+    ensures answer { (result ≡ Err fault.Memory) ⊎ (result ≡ table_of bytes.now) }
+    ensures table { IfOk result IsTable }
+{
+    if bytes.len() > MOST_BYTES {
+        return Err(TableFault::TooLong);
+    }
+    table_from(alloc, bytes)
 }
