@@ -1,3 +1,4 @@
+mod both;
 mod made;
 mod numbers;
 mod reading;
