@@ -9,6 +9,7 @@ use std::process::ExitCode;
 fn main(rt: HostRuntime) -> ExitCode {
     let mut shelf = KeptShelf::new(rt.alloc(), DiskShelf::new(rt.alloc(), &rt));
     why_program(
+        &rt,
         rt.alloc(),
         command_words(&rt),
         &mut shelf,

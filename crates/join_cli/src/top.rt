@@ -58,7 +58,7 @@ fn join_files<R: Threads + Wait + Sync, H: Shelf, K: Sink, G: Gate + Sync>(
         → WroteFront (H.told shelf.old) (asked options.now)
         (K.written sink.old) (K.written sink.new) }
 {
-    match prepare(alloc, options, shelf) {
+    match prepare(rt, alloc, options, shelf) {
         Ok(planned) => conclude(rt, alloc, options, planned, sink, gate),
         Err(refusal) => refused(refusal),
     }

@@ -5,6 +5,8 @@ pub mod Bad
 pub mod Picked
 pub mod Refusals
 pub mod Seen
+pub mod OneFile
+pub mod BothFiles
 pub mod Readings
 pub mod Prepared
 pub mod Lines

@@ -61,6 +61,17 @@ abbrev pub table_found : Side → ℕ → Option (List ℕ) → Result Table Ref
 table_found side wave None = Err Read
 table_found side wave (Some bytes) = or_refused side wave (table_of bytes)
 
+-- what the bytes of a side's file in a wave answer: the table that they are, or the refusal of what is wrong with them;
+-- where they weren't read, why
+abbrev pub bytes_found : Side → ℕ → Result (List ℕ) Refusal → Result Table Refusal
+bytes_found side wave (Ok bytes) = table_found side wave (Some bytes)
+bytes_found side wave (Err refusal) = Err refusal
+
+-- two tables, R before S, or the first refusal
+abbrev pub both_found : Result Table TableFault → Result Table TableFault → Result Tables Refusal
+both_found made_r made_s =
+    then_of (or_refused R 1 made_r) (λ r. then_of (or_refused S 1 made_s) (λ s. Ok (record { of_r = r; of_s = s })))
+
 -- the tables in two files, R before S
 abbrev pub tables_in : Option (List ℕ) → Option (List ℕ) → Result Tables Refusal
 tables_in file_r file_s =

@@ -19,6 +19,7 @@ use crate::waves::{InWaves, WaveEnds, first_wave};
 use join_rows::{Shelf, Side, Table, make_table};
 use join_words::Options;
 use std::alloc::{AllocError, Global};
+use std::thread::Threads;
 
 /// The tables of both sides.
 #[derive(Debug, Drop)]
@@ -50,7 +51,8 @@ fn made(alloc: Global, count: u64) -> Result<Tables, AllocError>
 
 /// The two tables that the options ask for, or the first refusal: made ones, for which the shelf isn't
 /// called, or those of the two files.
-fn two_tables<H: Shelf>(
+fn two_tables<R: Threads, H: Shelf>(
+    rt: &R,
     alloc: Global,
     options: &Options<'_>,
     shelf: &mut H,
@@ -85,7 +87,7 @@ fn two_tables<H: Shelf>(
             Ok(tables) => Ok(tables),
             Err(AllocError) => Err(Refusal::Memory),
         },
-        None => read_tables(alloc, shelf, options),
+        None => read_tables(rt, alloc, shelf, options),
     }
 }
 
@@ -219,7 +221,8 @@ fn with_others<H: Shelf>(
 }
 
 /// All tables that the options ask for, or the first refusal. For made ones the shelf isn't called.
-pub(crate) fn all_tables<H: Shelf>(
+pub(crate) fn all_tables<R: Threads, H: Shelf>(
+    rt: &R,
     alloc: Global,
     options: &Options<'_>,
     shelf: &mut H,
@@ -254,7 +257,7 @@ pub(crate) fn all_tables<H: Shelf>(
     ensures waves { IfOk result (λ found.
         length found.ends ≡ length options.now.later.items + 1) }
 {
-    match two_tables(alloc, options, shelf) {
+    match two_tables(rt, alloc, options, shelf) {
         Ok(tables) => with_others(alloc, options, tables, shelf),
         Err(refusal) => Err(refusal),
     }

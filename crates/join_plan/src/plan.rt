@@ -22,10 +22,12 @@ use crate::predicate::{Preds, predicates};
 use join_rows::Shelf;
 use join_words::Options;
 use std::alloc::Global;
+use std::thread::Threads;
 
 /// What the options ask for by these predicates, or the first refusal: of the files, of the
 /// columns, of the numbers.
-fn prepare_over<H: Shelf>(
+fn prepare_over<R: Threads, H: Shelf>(
+    rt: &R,
     alloc: Global,
     options: &Options<'_>,
     preds: &Preds,
@@ -56,7 +58,7 @@ fn prepare_over<H: Shelf>(
         (H.told shelf.old) (H.picked shelf.new) (asked options.now)) }
     ensures counts { (result ≡ Err Refusal.Read → ⊥) → H.faults shelf.new ≡ H.faults shelf.old }
 {
-    match all_tables(alloc, options, shelf) {
+    match all_tables(rt, alloc, options, shelf) {
         Ok(found) => fitted(alloc, preds, found),
         Err(refusal) => Err(refusal),
     }
@@ -67,7 +69,8 @@ fn prepare_over<H: Shelf>(
 /// of those of the second predicate, of the numbers, of those of the second predicate. A refusal of a
 /// text comes before any call of the shelf, and where tables are made there is none. There are no
 /// more than three later waves, and none where tables are made.
-pub fn prepare<H: Shelf>(
+pub fn prepare<R: Threads, H: Shelf>(
+    rt: &R,
     alloc: Global,
     options: &Options<'_>,
     shelf: &mut H,
@@ -100,7 +103,7 @@ pub fn prepare<H: Shelf>(
     ensures counts { (result ≡ Err Refusal.Read → ⊥) → H.faults shelf.new ≡ H.faults shelf.old }
 {
     match predicates(alloc, options) {
-        Ok(preds) => prepare_over(alloc, options, &preds, shelf),
+        Ok(preds) => prepare_over(rt, alloc, options, &preds, shelf),
         Err(refusal) => Err(refusal),
     }
 }

@@ -14,6 +14,7 @@ use join_rows::{Shelf, Sink};
 use std::alloc::{AllocError, Global};
 use std::process::ExitCode;
 use std::rt::Files;
+use std::thread::Threads;
 
 /// What no file has a cause for.
 const NO_CAUSE: &str = "";
@@ -41,7 +42,8 @@ fn tell<K: Sink>(verdict: &Verdict, explained: Result<String, AllocError>, sink:
 }
 
 /// Explains what `jm` would make of these words.
-fn explain_words_of<H: Shelf + Keeps, F: Files, K: Sink>(
+fn explain_words_of<R: Threads, H: Shelf + Keeps, F: Files, K: Sink>(
+    rt: &R,
     alloc: Global,
     words: &[String],
     shelf: &mut H,
@@ -51,7 +53,7 @@ fn explain_words_of<H: Shelf + Keeps, F: Files, K: Sink>(
     requires { H.Shelf.faults shelf.old < last_fault }
     ensures { IsJudgedBy H.Shelf (map string_bytes words.now) shelf.old result }
 {
-    let verdict = judge(alloc, words, shelf);
+    let verdict = judge(rt, alloc, words, shelf);
     let cause = cause(&verdict, shelf, files);
     let explained = explain(alloc, words, &verdict, shelf.files(), cause);
     tell(&verdict, explained, sink)
@@ -60,7 +62,8 @@ fn explain_words_of<H: Shelf + Keeps, F: Files, K: Sink>(
 /// The program `jm-why`: puts on `sink` why `jm` would refuse these words and the files that they name, or what it
 /// would do, and ends with the status with which `jm` would refuse them, or with 0. Where memory is wanting it ends
 /// with 8, and where the explanation can't be put with 7. It joins nothing.
-pub fn why_program<H: Shelf + Keeps, F: Files, K: Sink>(
+pub fn why_program<R: Threads, H: Shelf + Keeps, F: Files, K: Sink>(
+    rt: &R,
     alloc: Global,
     words: Result<Vec<String>, AllocError>,
     shelf: &mut H,
@@ -72,7 +75,7 @@ pub fn why_program<H: Shelf + Keeps, F: Files, K: Sink>(
         IsJudgedBy H.Shelf (map string_bytes given.items) shelf.old (exit_status result)) }
 {
     match words {
-        Ok(words) => ExitCode::from(explain_words_of(alloc, &words, shelf, files, sink)),
+        Ok(words) => ExitCode::from(explain_words_of(rt, alloc, &words, shelf, files, sink)),
         Err(AllocError) => ExitCode::from(8),
     }
 }

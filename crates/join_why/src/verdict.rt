@@ -10,6 +10,7 @@ use join_plan::{Planned, Refusal, prepare};
 use join_rows::Shelf;
 use join_words::{Options, WordsError, WordsFault, read_words};
 use std::alloc::Global;
+use std::thread::Threads;
 
 /// What `jm` would make of its words and files.
 #[derive(Drop)]
@@ -49,7 +50,12 @@ impl Verdict {
 }
 
 /// What `jm` would make of what the options ask for.
-fn judge_asked<H: Shelf>(alloc: Global, options: &Options<'_>, shelf: &mut H) -> Verdict
+fn judge_asked<R: Threads, H: Shelf>(
+    rt: &R,
+    alloc: Global,
+    options: &Options<'_>,
+    shelf: &mut H,
+) -> Verdict
     requires shelf { H.faults shelf.old < last_fault }
     requires make { IfSome options.now.make (λ count. (1 ≤ count) × (count ≤ 65536)) }
     requires few { length options.now.later.items ≤ 3 }
@@ -59,7 +65,7 @@ fn judge_asked<H: Shelf>(alloc: Global, options: &Options<'_>, shelf: &mut H) ->
     ensures tells { Tells H.Shelf (asked options.now) shelf.old shelf.new result }
     ensures leaves { Leaves H.Shelf shelf.old shelf.new result }
 {
-    match prepare(alloc, options, shelf) {
+    match prepare(rt, alloc, options, shelf) {
         Ok(planned) => Verdict::Joins(planned),
         Err(refusal) => Verdict::Refuses(refusal),
     }
@@ -68,12 +74,17 @@ fn judge_asked<H: Shelf>(alloc: Global, options: &Options<'_>, shelf: &mut H) ->
 /// What `jm` would make of these words, the program's name first, and of the files that they name. Nothing is
 /// joined. The files are read as `jm` reads them, each once; where the words ask for nothing, or a text is no
 /// predicate, none is. That there are too many pairs for a second join shows only at the first, and isn't told here.
-pub fn judge<H: Shelf>(alloc: Global, words: &[String], shelf: &mut H) -> Verdict
+pub fn judge<R: Threads, H: Shelf>(
+    rt: &R,
+    alloc: Global,
+    words: &[String],
+    shelf: &mut H,
+) -> Verdict
     requires { H.faults shelf.old < last_fault }
     ensures { Judges H.Shelf (map string_bytes words.now) shelf.old shelf.new result }
 {
     match read_words(alloc, words) {
-        Ok(options) => judge_asked(alloc, &options, shelf),
+        Ok(options) => judge_asked(rt, alloc, &options, shelf),
         Err(WordsError::Fault(fault)) => Verdict::Words(fault),
         Err(WordsError::Memory) => Verdict::Refuses(Refusal::Memory),
     }

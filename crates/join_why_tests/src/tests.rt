@@ -7,6 +7,7 @@ use join_rows::{MapShelf, Shelf};
 use join_why::{Keeps, KeptShelf, explain, judge};
 use std::alloc::{AllocError, Global};
 use std::process::Abort;
+use std::thread::Threads;
 
 mod faults;
 mod files;
@@ -45,14 +46,15 @@ fn shelf_of(alloc: Global, files: Files<'_>) -> Result<MapShelf, AllocError>
 }
 
 // The status that these words would end with, and what is told of them.
-fn told<H: Shelf + Keeps>(
+fn told<R: Threads, H: Shelf + Keeps>(
+    rt: &R,
     alloc: Global,
     words: &[String],
     shelf: &mut H,
 ) -> Result<(u8, String), AllocError>
     requires { H.Shelf.faults shelf.old < last_fault }
 {
-    let verdict = judge(alloc, words, shelf);
+    let verdict = judge(rt, alloc, words, shelf);
     let text = explain(
         alloc,
         words,
@@ -64,7 +66,7 @@ fn told<H: Shelf + Keeps>(
 }
 
 // The words of this line have this status and this explanation over these files.
-fn tells<R: Abort>(
+fn tells<R: Abort + Threads>(
     rt: &R,
     alloc: Global,
     line: &str,
@@ -73,7 +75,7 @@ fn tells<R: Abort>(
 ) -> Result<(), AllocError> {
     let words = words(alloc, line)?;
     let mut shelf = KeptShelf::new(alloc, shelf_of(alloc, files)?);
-    let (status, text) = told(alloc, &words, &mut shelf)?;
+    let (status, text) = told(rt, alloc, &words, &mut shelf)?;
     assert_eq!(rt; text.as_str(), wanted.1, "{line}");
     assert_eq!(rt; status, wanted.0, "{line}");
     Ok(())

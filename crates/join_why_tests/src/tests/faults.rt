@@ -4,9 +4,15 @@ use super::{FILES, tells};
 use std::alloc::{AllocError, Global};
 use std::process::Abort;
 use std::test::Fail;
+use std::thread::Threads;
 
 // The words of this line are refused as these, without a look at a file.
-fn refuses<R: Abort>(rt: &R, alloc: Global, line: &str, text: &str) -> Result<(), AllocError> {
+fn refuses<R: Abort + Threads>(
+    rt: &R,
+    alloc: Global,
+    line: &str,
+    text: &str,
+) -> Result<(), AllocError> {
     tells(rt, alloc, line, FILES, (2, text))
 }
 

@@ -4,9 +4,15 @@ use super::{FILES, tells};
 use std::alloc::{AllocError, Global};
 use std::process::Abort;
 use std::test::Fail;
+use std::thread::Threads;
 
 // Of a predicate that nothing is wrong with the lines that say how matches are found.
-fn finds<R: Abort>(rt: &R, alloc: Global, on: &str, lines: &str) -> Result<(), AllocError> {
+fn finds<R: Abort + Threads>(
+    rt: &R,
+    alloc: Global,
+    on: &str,
+    lines: &str,
+) -> Result<(), AllocError> {
     let line = format!(in alloc; "jm|--on|{on}|--joiners|1|r|s")?;
     let text = format!(in alloc;
         "jm would join:\nR, r: rows 3, columns 2\nS, s: rows 3, columns 2\n{lines}grid: begins as 1 × 1, and the best for all rows is 1 × 1\nmemory: some 8 MB, and the output\n"

@@ -4,9 +4,15 @@ use super::{FILES, tells};
 use std::alloc::{AllocError, Global};
 use std::process::Abort;
 use std::test::Fail;
+use std::thread::Threads;
 
 // The text is refused as this one.
-fn refuses<R: Abort>(rt: &R, alloc: Global, on: &str, text: &str) -> Result<(), AllocError> {
+fn refuses<R: Abort + Threads>(
+    rt: &R,
+    alloc: Global,
+    on: &str,
+    text: &str,
+) -> Result<(), AllocError> {
     let line = format!(in alloc; "jm|--on|{on}|r|s")?;
     tells(rt, alloc, line.as_str(), FILES, (3, text))
 }

@@ -1,55 +1,88 @@
-use Rattle.std.proofs.Common.{Err, Ok, refl, arith}
-use Rattle.std.proofs.lemmas.Result.{err_from_is_err_and}
+use Rattle.std.proofs.Common.{Err, ap, arith, refl, subst, sym}
+use Rattle.join_rows.specs.Records.{table_of}
+use Rattle.join_rows.specs.declared.table.Side.TheVariants.{R, S}
 use Rattle.join_words.specs.Words.{asked}
-use Rattle.join_plan.proofs.Refusals.{later_refuses}
-use Rattle.join_plan.proofs.Seen.{other_refusal, seen_both, seen_one}
+use Rattle.join_plan.specs.Causes.{Refuses}
+use Rattle.join_plan.specs.Files.{or_refused}
+use Rattle.join_plan.specs.Seen.{TablesSeen}
+use Rattle.join_plan.proofs.BothFiles.{both-behind, both-other, both-refused, seen_behind}
+use Rattle.join_plan.proofs.Refusals.{later_refuses, later_refuses_if}
+use Rattle.join_plan.proofs.Seen.{other_refusal, seen_one}
 use Rattle.join_plan.specs.declared.fault.Refusal.TheVariants as refusals
 use Rattle.join_plan.proofs.reading.read_tables.Goals as goal
 
-pub returns-in_err-of_r-clause-seen : goal.returns-in_err-of_r-clause-seen
-returns-in_err-of_r-clause-seen g c read memory =
-    let p = err_from_is_err_and c.from_residual.result c.from_residual.ensures.1 in
-    let seen = c.in_err-of_r.ensures.seen (other_refusal c.in_err-of_r.field-0.0 refusals.Read (rw (p.1, p.2) at read))
-    (other_refusal c.in_err-of_r.field-0.0 refusals.Memory (rw (p.1, p.2) at memory)) in
-    rw (p.1, p.2) (seen_one (g.H.Shelf.told c.args.shelf.now) (g.H.Shelf.picked c.table.new.shelf)
-    c.args.options.now.name_r.now c.args.options.now.name_s.now c.in_err-of_r.field-0.0 seen)
+-- ---- R's file is no table
 
-pub returns-in_err-of_s-clause-seen : goal.returns-in_err-of_s-clause-seen
-returns-in_err-of_s-clause-seen g c read memory =
-    let p = err_from_is_err_and c.from_residual-in_err-of_s.result c.from_residual-in_err-of_s.ensures.1 in
-    let seen = rw c.in_ok-of_r.ensures.told at
-    (c.in_err-of_s.ensures.seen (other_refusal c.in_err-of_s.field-0.0 refusals.Read (rw (p.1, p.2) at read))
-    (other_refusal c.in_err-of_s.field-0.0 refusals.Memory (rw (p.1, p.2) at memory))) in
-    rw (p.1, p.2) (seen_both (g.H.Shelf.told c.args.shelf.now) (g.H.Shelf.picked c.table.new.shelf)
-    (g.H.Shelf.picked c.table-2.new.shelf)
-    c.args.options.now.name_r.now c.args.options.now.name_s.now
-    c.in_ok-of_r.of_r (Err c.in_err-of_s.field-0.0) (c.in_ok-of_r.ensures.seen (λ e. cc e) (λ e. cc e)) seen)
+pub returns-in-Err-clause-seen : goal.returns-in-Err-clause-seen
+returns-in-Err-clause-seen g c read memory =
+    seen_one (g.H.Shelf.told c.args.shelf.now) (g.H.Shelf.picked c.table_bytes.new.shelf)
+    c.args.options.now.name_r.now c.args.options.now.name_s.now c.in-Err.refusal
+    (c.in-Err.ensures.seen (other_refusal c.in-Err.refusal refusals.Read read)
+    (other_refusal c.in-Err.refusal refusals.Memory memory))
 
-pub returns-clause-seen : goal.returns-clause-seen
-returns-clause-seen g c read memory =
-    let seen = rw c.in_ok-of_r.ensures.told at (c.in_ok-of_s.ensures.seen (λ e. cc e) (λ e. cc e)) in
-    seen_both (g.H.Shelf.told c.args.shelf.now) (g.H.Shelf.picked c.table.new.shelf)
-    (g.H.Shelf.picked c.table-2.new.shelf)
-    c.args.options.now.name_r.now c.args.options.now.name_s.now
-    c.in_ok-of_r.of_r (Ok c.in_ok-of_s.of_s) (c.in_ok-of_r.ensures.seen (λ e. cc e) (λ e. cc e)) seen
-
-pub returns-in_err-of_r-clause-refused : goal.returns-in_err-of_r-clause-refused
-returns-in_err-of_r-clause-refused g c =
-    let p = err_from_is_err_and c.from_residual.result c.from_residual.ensures.1 in
-    rw (p.1, p.2) (c.in_err-of_r.ensures.refused (asked c.args.options.now) (record {
+pub returns-in-Err-clause-refused : goal.returns-in-Err-clause-refused
+returns-in-Err-clause-refused g c =
+    c.in-Err.ensures.refused (asked c.args.options.now) (record {
       files = c.requires.files;
       among = (0, omega arith, refl);
+    })
+
+-- ---- S's file isn't read
+
+pub returns-in-Err-bytes_of-clause-seen : goal.returns-in-Err-bytes_of-clause-seen
+returns-in-Err-bytes_of-clause-seen g c read memory =
+    let (table, good) = c.in-Ok.ensures.good in
+    let seen = rw c.in-Ok.ensures.told at
+    (c.in-Err-bytes_of.ensures.seen (other_refusal c.in-Err-bytes_of.refusal refusals.Read read)
+    (other_refusal c.in-Err-bytes_of.refusal refusals.Memory memory)) in
+    seen_behind (g.H.Shelf.told c.args.shelf.now) (g.H.Shelf.picked c.table_bytes.new.shelf)
+    (g.H.Shelf.picked c.bytes_of.new.shelf) c.args.options.now.name_r.now c.args.options.now.name_s.now
+    (or_refused R 1 (table_of c.in-Ok.bytes)) (Err c.in-Err-bytes_of.refusal) table (ap (or_refused R 1) good)
+    c.in-Ok.ensures.seen seen
+
+pub returns-in-Err-bytes_of-clause-refused : goal.returns-in-Err-bytes_of-clause-refused
+returns-in-Err-bytes_of-clause-refused g c =
+    later_refuses (g.H.Shelf.faults c.args.shelf.now) (g.H.Shelf.faults c.table_bytes.new.shelf)
+    (g.H.Shelf.faults c.bytes_of.new.shelf)
+    (g.H.Shelf.told c.args.shelf.now) (g.H.Shelf.told c.table_bytes.new.shelf) (g.H.Shelf.picked c.bytes_of.new.shelf)
+    (asked c.args.options.now) c.in-Err-bytes_of.refusal c.in-Ok.ensures.rises c.in-Ok.ensures.told
+    (c.in-Err-bytes_of.ensures.refused (asked c.args.options.now) (record {
+      files = c.requires.files;
+      among = (1, omega arith, refl);
     }))
 
-pub returns-in_err-of_s-clause-refused : goal.returns-in_err-of_s-clause-refused
-returns-in_err-of_s-clause-refused g c =
-    let p = err_from_is_err_and c.from_residual-in_err-of_s.result c.from_residual-in_err-of_s.ensures.1 in
-    rw (p.1, p.2) (later_refuses (g.H.Shelf.faults c.args.shelf.now) (g.H.Shelf.faults c.table.new.shelf)
-    (g.H.Shelf.faults c.table-2.new.shelf)
-    (g.H.Shelf.told c.args.shelf.now) (g.H.Shelf.told c.table.new.shelf) (g.H.Shelf.picked c.table-2.new.shelf)
-    (asked c.args.options.now)
-    c.in_err-of_s.field-0.0 c.in_ok-of_r.ensures.rises c.in_ok-of_r.ensures.told
-    (c.in_err-of_s.ensures.refused (asked c.args.options.now) (record {
+-- ---- both are read
+
+pub returns-clause-refused : goal.returns-clause-refused
+returns-clause-refused g c =
+    let (table, good) = c.in-Ok.ensures.good in
+    let is = rw (c.as_slice.ensures, c.as_slice-2.ensures) at c.tables_from.ensures.answer in
+    both-refused (or_refused R 1 (table_of c.in-Ok.bytes)) (or_refused S 1 (table_of c.in-Ok-bytes_of.bytes)) table
+    (ap (or_refused R 1) good) c.tables_from.result is
+    (Refuses (g.H.Shelf.faults c.args.shelf.now) (g.H.Shelf.faults c.bytes_of.new.shelf)
+    (g.H.Shelf.told c.args.shelf.now) (g.H.Shelf.picked c.bytes_of.new.shelf) (asked c.args.options.now)) tt
+    (later_refuses_if (g.H.Shelf.faults c.args.shelf.now) (g.H.Shelf.faults c.table_bytes.new.shelf)
+    (g.H.Shelf.faults c.bytes_of.new.shelf) (g.H.Shelf.told c.args.shelf.now)
+    (g.H.Shelf.told c.table_bytes.new.shelf) (g.H.Shelf.picked c.bytes_of.new.shelf) (asked c.args.options.now)
+    (or_refused S 1 (table_of c.in-Ok-bytes_of.bytes)) c.in-Ok.ensures.rises c.in-Ok.ensures.told
+    (c.in-Ok-bytes_of.ensures.refused (asked c.args.options.now) (record {
       files = c.requires.files;
       among = (1, omega arith, refl);
     })))
+
+pub returns-clause-seen : goal.returns-clause-seen
+returns-clause-seen g c read memory =
+    let (table, good) = c.in-Ok.ensures.good in
+    let x = or_refused R 1 (table_of c.in-Ok.bytes) in
+    let y = or_refused S 1 (table_of c.in-Ok-bytes_of.bytes) in
+    let is = rw (c.as_slice.ensures, c.as_slice-2.ensures) at c.tables_from.ensures.answer in
+    let found = ap (or_refused R 1) good in
+    let seen = rw c.in-Ok.ensures.told at
+    (c.in-Ok-bytes_of.ensures.seen (both-other x y table found c.tables_from.result is refusals.Read memory read)
+    (both-other x y table found c.tables_from.result is refusals.Memory memory memory)) in
+    subst (TablesSeen (g.H.Shelf.told c.args.shelf.now) (g.H.Shelf.picked c.bytes_of.new.shelf)
+    c.args.options.now.name_r.now c.args.options.now.name_s.now)
+    (sym (both-behind x y table found c.tables_from.result is memory))
+    (seen_behind (g.H.Shelf.told c.args.shelf.now) (g.H.Shelf.picked c.table_bytes.new.shelf)
+    (g.H.Shelf.picked c.bytes_of.new.shelf) c.args.options.now.name_r.now c.args.options.now.name_s.now x y table found
+    c.in-Ok.ensures.seen seen)
