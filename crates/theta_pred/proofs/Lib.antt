@@ -7,6 +7,7 @@ pub mod KeySums
 pub mod Left
 pub mod NumericPlaces
 pub mod OneSidedLaws
+pub mod OneWay
 pub mod SpanLaws
 pub mod SumSteps
 pub mod SumTests

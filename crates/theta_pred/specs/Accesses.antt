@@ -1,8 +1,8 @@
 -- The access of a predicate: the equalities of its conjunctions by which rows of the two sides agree, the tests that
 -- read rows of one side alone, and the range of a sum beside them.
-use Rattle.std.specs.Prelude.{Bool, true, false, List, [], ◌∷◌, ◌++◌, map, ℤ, ◌-ℤ◌, neg_ℤ, Option, Some, None}
+use Rattle.std.specs.Prelude.{◌≡◌, ℕ, ⊤, Bool, true, false, List, [], ◌∷◌, ◌++◌, map, ℤ, ◌-ℤ◌, neg_ℤ, Option, Some, None}
 use Rattle.std.specs.Prelude.{option_map, option_to_list, not, ◌&&◌, ◌||◌, IsTrue, if◌then◌else◌}
-use Rattle.std.specs.List.{list_all}
+use Rattle.std.specs.List.{list_all, AllByRecursion}
 use Rattle.std.specs.Str.{bytes_eq}
 use Rattle.theta_text.specs.declared.tree.Op.TheVariants.{Eq}
 use Rattle.join_rows.specs.declared.table.Cell.{Cell}
@@ -201,6 +201,23 @@ tells_more key (Some reach) = true
 abbrev pub access_of : Formula → Option Terms
 access_of f = if has_same (agreements_of f) || tells_more (key_of f) (range_of (spans f)) then Some (all_terms f)
     else None
+
+-- ---- the rows that its tests read
+
+-- a test of one side that was made reads rows of these widths
+abbrev pub IsOver : ℕ → ℕ → Same → Type 0
+IsOver width_r width_s (Texts atom) = ⊤
+IsOver width_r width_s (Sums pair) = ⊤
+IsOver width_r width_s (Alone it) = (it.test.width_r ≡ width_r) × (it.test.width_s ≡ width_s)
+
+-- and so does each of these that is such a test
+abbrev pub AreOver : ℕ → ℕ → List Same → Type 0
+AreOver width_r width_s sames = AllByRecursion (IsOver width_r width_s) sames
+
+-- the tests of one side in an access read rows of the predicate's own widths
+abbrev pub IsOverRows : Meaning → Option Access → Type 0
+IsOverRows theta None = ⊤
+IsOverRows theta (Some access) = AreOver theta.width_r theta.width_s access.sames
 
 -- rows agree in all of an access where the predicate is true of them
 abbrev pub IsAccessOf : Meaning → Terms → Type 0

@@ -1,6 +1,6 @@
 // What rows of the two sides agree in by a tree's conjunctions, and the range beside it.
 
-ghost use Rattle.std.specs.Prelude.{◌≡◌, ◌≤◌, ◌++◌, ◌||◌, length, map, option_map, option_to_list, IfOk, OnOk, Some};
+ghost use Rattle.std.specs.Prelude.{◌≡◌, ◌≤◌, ◌++◌, ◌||◌, length, map, option_map, option_to_list, IfOk, OnOk, Option, Some};
 ghost use Rattle.theta_pred.specs.Accesses.{
   access_of,
   agreement_in,
@@ -17,10 +17,15 @@ ghost use Rattle.theta_pred.specs.Accesses.{
   spans_of,
   tells_more,
   terms_of,
+  AreOver,
   IsAccessOf,
+  IsOver,
+  IsOverRows,
   Terms,
 };
-ghost use Rattle.theta_pred.specs.Formula.{formula_of};
+ghost use Rattle.theta_pred.specs.declared.agree.Access.{Access as Access'};
+ghost use Rattle.theta_pred.specs.declared.atom.KeyAtom.{KeyAtom as KeyAtom'};
+ghost use Rattle.theta_pred.specs.Formula.{formula_of, Meaning};
 ghost use Rattle.theta_pred.specs.Keys.{atom_of, key_of};
 ghost use Rattle.theta_pred.specs.Sound.{IsSound};
 
@@ -62,8 +67,10 @@ fn add_equality(
     sames: &mut Vec<Same>,
 ) -> Result<(), AllocError>
     requires { IsSound width_r width_s (formula_of tree.now) }
-    ensures { OnOk result (map agreement_of sames.new.items
+    ensures says { OnOk result (map agreement_of sames.new.items
         ≡ map agreement_of sames.old.items ++ option_to_list (agreement_in (formula_of tree.now))) }
+    ensures widths { OnOk result (AreOver width_r width_s sames.old.items
+        → AreOver width_r width_s sames.new.items) }
 {
     match tree {
         Tree::Num {
@@ -99,7 +106,8 @@ fn alone(
     width_s: u64,
 ) -> Result<Same, AllocError>
     requires { IsSound width_r width_s (formula_of tree.now) }
-    ensures { IfOk result (λ same. agreement_of same ≡ alone side (formula_of tree.now)) }
+    ensures says { IfOk result (λ same. agreement_of same ≡ alone side (formula_of tree.now)) }
+    ensures widths { IfOk result (IsOver width_r width_s) }
 {
     let copy = copy_of(alloc, tree)?;
     Ok(Same::Alone(Alone {
@@ -118,8 +126,10 @@ fn add_own(
     sames: &mut Vec<Same>,
 ) -> Result<(), AllocError>
     requires { IsSound width_r width_s (formula_of tree.now) }
-    ensures { OnOk result (map agreement_of sames.new.items
+    ensures says { OnOk result (map agreement_of sames.new.items
         ≡ map agreement_of sames.old.items ++ option_to_list (own_in side (formula_of tree.now))) }
+    ensures widths { OnOk result (AreOver width_r width_s sames.old.items
+        → AreOver width_r width_s sames.new.items) }
 {
     if !names(tree, other_of(side)) {
         sames.push(alone(alloc, side, tree, width_r, width_s)?)?;
@@ -136,8 +146,10 @@ fn add_member(
     sames: &mut Vec<Same>,
 ) -> Result<(), AllocError>
     requires { IsSound width_r width_s (formula_of tree.now) }
-    ensures { OnOk result (map agreement_of sames.new.items
+    ensures says { OnOk result (map agreement_of sames.new.items
         ≡ map agreement_of sames.old.items ++ agreements_at (formula_of tree.now)) }
+    ensures widths { OnOk result (AreOver width_r width_s sames.old.items
+        → AreOver width_r width_s sames.new.items) }
 {
     add_equality(alloc, tree, width_r, width_s, sames)?;
     add_own(alloc, Side::R, tree, width_r, width_s, sames)?;
@@ -153,8 +165,10 @@ fn add_sames(
     sames: &mut Vec<Same>,
 ) -> Result<(), AllocError>
     requires { IsSound width_r width_s (formula_of tree.now) }
-    ensures { OnOk result (map agreement_of sames.new.items
+    ensures says { OnOk result (map agreement_of sames.new.items
         ≡ map agreement_of sames.old.items ++ agreements_of (formula_of tree.now)) }
+    ensures widths { OnOk result (AreOver width_r width_s sames.old.items
+        → AreOver width_r width_s sames.new.items) }
 {
     match tree {
         Tree::And(members) => {
@@ -215,7 +229,8 @@ fn add_spans(
 // All agreements of a tree.
 fn sames_of(alloc: Global, tree: &Tree, width_r: u64, width_s: u64) -> Result<Sames, AllocError>
     requires { IsSound width_r width_s (formula_of tree.now) }
-    ensures { IfOk result (λ sames. map agreement_of sames ≡ agreements_of (formula_of tree.now)) }
+    ensures says { IfOk result (λ sames. map agreement_of sames ≡ agreements_of (formula_of tree.now)) }
+    ensures widths { IfOk result (AreOver width_r width_s) }
 {
     let mut sames = Vec::new(alloc);
     add_sames(alloc, tree, width_r, width_s, &mut sames)?;
@@ -241,7 +256,8 @@ fn spans_of(
 // All that a tree says by agreements and a range.
 fn all_of(alloc: Global, tree: &Tree, width_r: u64, width_s: u64) -> Result<Access, AllocError>
     requires { IsSound width_r width_s (formula_of tree.now) }
-    ensures { IfOk result (λ access. terms_of access ≡ all_terms (formula_of tree.now)) }
+    ensures says { IfOk result (λ access. terms_of access ≡ all_terms (formula_of tree.now)) }
+    ensures widths { IfOk result (λ access. AreOver width_r width_s access.sames) }
 {
     let sames = sames_of(alloc, tree, width_r, width_s)?;
     let spans = spans_of(alloc, tree, width_r, width_s)?;
@@ -283,8 +299,10 @@ pub(crate) fn access_of(
     width_s: u64,
 ) -> Result<Option<Access>, AllocError>
     requires { IsSound width_r width_s (formula_of tree.now) }
-    ensures { IfOk result (λ access.
+    ensures says { IfOk result (λ access.
         option_map terms_of access ≡ access_of (formula_of tree.now)) }
+    ensures widths { IfOk result (IsOverRows
+        (record { formula = formula_of tree.now; width_r = width_r; width_s = width_s })) }
 {
     let access = all_of(alloc, tree, width_r, width_s)?;
     if tells_more_of(alloc, tree, width_r, width_s, &access)? {
@@ -299,4 +317,12 @@ pub(crate) fn access_law(tree: &Tree, width_r: u64, width_s: u64)
     ensures { (terms : Terms) → access_of (formula_of tree.now) ≡ Some terms
         → IsAccessOf
         (record { formula = formula_of tree.now; width_r = width_r; width_s = width_s }) terms }
+{}
+
+/// Two keys that say the same are one. So are two accesses, whose tests of one side read rows of one predicate's widths.
+/// It has no code.
+pub fn ways_are_one()
+    ensures keys { (a b : Option KeyAtom') → option_map atom_of a ≡ option_map atom_of b → a ≡ b }
+    ensures accesses { (theta : Meaning) (a b : Option Access') → IsOverRows theta a → IsOverRows theta b
+        → option_map terms_of a ≡ option_map terms_of b → a ≡ b }
 {}

@@ -23,6 +23,7 @@ mod theta;
 mod tree;
 mod truth;
 
+pub use access::ways_are_one;
 pub use agree::{Access, Alone, Interval, Range, Same, Sames, SumPair};
 pub use atom::{KeyAtom, Linear, Part, Parts};
 pub use fault::ResolveFault;

@@ -1,7 +1,7 @@
 // A predicate over the places of columns.
 
 ghost use Rattle.std.specs.Prelude.{◌≡◌, IfOk, option_map, Some};
-ghost use Rattle.theta_pred.specs.Accesses.{access_of, terms_of, IsAccessOf, Terms};
+ghost use Rattle.theta_pred.specs.Accesses.{access_of, terms_of, IsAccessOf, IsOverRows, Terms};
 ghost use Rattle.theta_pred.specs.Formula.{formula_of};
 ghost use Rattle.theta_pred.specs.Keys.{atom_of, key_of, Atom, IsKeyOf};
 ghost use Rattle.theta_pred.specs.Numeric.{AreNumeric};
@@ -135,8 +135,10 @@ impl Theta {
     /// same sum of one side from the other side, the range is the interval between the two. None where
     /// there is no such member and the range says no more than the key atom, whose index serves then.
     pub fn access(&self) -> Result<Option<Access>, AllocError>
-        ensures { IfOk result (λ access.
+        ensures says { IfOk result (λ access.
             option_map terms_of access ≡ access_of self.now.formula) }
+        // its tests of one side read rows of the predicate's own widths
+        ensures widths { IfOk result (IsOverRows self.now) }
     {
         access_of(self.alloc, &self.tree, self.width_r, self.width_s)
     }
