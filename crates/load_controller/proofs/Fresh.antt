@@ -1,7 +1,8 @@
 -- A machine that has just begun.
 use Rattle.std.proofs.Common.{◌≡◌, ℕ, ◌^◌, ◌≤◌, inl, inr, refl, sym, ◌∙◌, ap, subst, arith, false, not, ◌&&◌, Option}
 use Rattle.std.proofs.Common.{[], ◌∷◌, length}
-use Rattle.std.specs.Prelude.{reverse, ◌==◌, All, unwrap_or, ◌/◌}
+use Rattle.std.specs.Prelude.{reverse, replicate, ◌<◌, ◌==◌, All, unwrap_or, ◌/◌}
+use Rattle.std.proofs.lemmas.List.{ext_get_or, get_or-replicate, length-replicate}
 use Rattle.std.specs.Option.{ForSome}
 use Rattle.std.specs.List.{list_all}
 use Rattle.std.proofs.lemmas.Bool.{cases_eq, ne_eqb, or_from, and_right}
@@ -20,7 +21,7 @@ use Rattle.load_controller.specs.Law.{is_over}
 use Rattle.grid_map.specs.declared.cost.Weights.{Weights}
 use Rattle.grid_map.specs.Load.{AreWeights}
 use Rattle.load_controller.specs.Standing.{ControllerState, IsFresh, StandsFor, IsNearWhereStill, nothing_yet}
-use Rattle.load_controller.specs.Standing.{rules_with}
+use Rattle.load_controller.specs.Standing.{just_begun, rules_with}
 use Rattle.load_controller.specs.Machine.{Begins, rules_of, state_of}
 use Rattle.load_controller.proofs.Bound.{fixed_within}
 use Rattle.load_controller.proofs.Numbers.{first_bounded, first_guided, near_line}
@@ -120,6 +121,21 @@ stands_first rules first state began journal held = record {
   held = λ j low. held j;
 }
 
+-- a ledger that has just begun holds no message of any joiner
+held_first : (rules : Rules) (first : TurnLine) (c : Ledger) → Begins rules first c
+    → c.held ≡ replicate (2 ^ rules.k) []
+held_first rules first c b =
+    let all : length c.held ≡ 2 ^ rules.k = b.sound.queues ∙ ap (λ (r : Rules). 2 ^ r.k) b.rules_are in
+    ext_get_or [] c.held (replicate (2 ^ rules.k) []) (all ∙ sym (length-replicate (2 ^ rules.k) []))
+    (λ j low. b.held j ∙ sym (get_or-replicate (2 ^ rules.k) j [] [] (subst (λ n. j < n) all low)))
+
+-- so all that it holds is determined
+whole_first : (rules : Rules) (first : TurnLine) (c : Ledger) → Begins rules first c
+    → state_of c false ≡ just_begun rules first
+whole_first rules first c b =
+    let held = held_first rules first c b in
+    λ i. record { rules = b.rules_are i; journal = b.journal i; held = held i; spent = false }
+
 -- a ledger that has just begun stands for empty lists
 pub fresh : (rules : Rules) (first : TurnLine) (c : Ledger) → Begins rules first c
     → IsFresh rules first (state_of c false)
@@ -128,6 +144,7 @@ fresh rules first c b = record {
   journal = b.journal;
   stands = stands_first rules first (state_of c false) b.rules_are b.journal b.held;
   at_work = refl;
+  whole = whole_first rules first c b;
 }
 
 -- the first line of a run fits

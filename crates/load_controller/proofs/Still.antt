@@ -1,5 +1,5 @@
 -- Where a journal isn't moving and no shift is fixed, its shift is near the best.
-use Rattle.std.proofs.Common.{◌≡◌, ℕ, ◌+◌, ◌*◌, ◌≤◌, inl, inr, refl, sym, ◌∙◌, ap, subst, arith, Bool, true, false, not}
+use Rattle.std.proofs.Common.{◌≡◌, ℕ, ◌+◌, ◌*◌, ◌≤◌, inl, inr, refl, sym, ap, subst, arith, Bool, true, false, not}
 use Rattle.std.proofs.Common.{◌||◌, ◌&&◌, cond, List, [], ◌∷◌, None}
 use Rattle.std.specs.Prelude.{◌==◌, nat_lt, nat_le, is_none}
 use Rattle.std.proofs.lemmas.Bool.{or_parts, and_cases, ltb-false, leb-false, eqb-true, false≢true, true≢false}

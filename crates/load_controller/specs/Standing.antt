@@ -1,6 +1,6 @@
 -- What a controller's machine holds, and the lists for which it stands. Of those it stores its journal alone.
 use Rattle.std.specs.Prelude.{◌≡◌, ℕ, zero, suc, ◌+◌, ◌*◌, ◌^◌, ◌<◌, ◌==◌, nat_lt, nat_le, ⊤, Bool, false, not, ◌&&◌}
-use Rattle.std.specs.Prelude.{None, Some, Option, List, [], ◌∷◌, ◌++◌, drop, length, map, reverse, sum_by, slice_set}
+use Rattle.std.specs.Prelude.{None, Some, Option, List, [], ◌∷◌, ◌++◌, drop, length, map, reverse, replicate, sum_by, slice_set}
 use Rattle.std.specs.Prelude.{if◌then◌else◌}
 use Rattle.std.specs.List.{find}
 use Rattle.join_rows.specs.Lists.{IsPrefix, counting_from}
@@ -209,12 +209,18 @@ IsNearWhereStill rules line =
     rules.fixed ≡ None → line.moving ≡ false
     → IsNear rules.k line.shift (rules.weights.r * line.rows_r) (rules.weights.s * line.rows_s)
 
+-- what it holds when it has just begun at this line
+abbrev pub just_begun : Rules → TurnLine → ControllerState
+just_begun rules first =
+    record { rules = rules; journal = first ∷ []; held = replicate (2 ^ rules.k) []; spent = false }
+
 -- a machine that has just begun at this line stands for empty lists
 pub record IsFresh (rules : Rules) (first : TurnLine) (state : ControllerState) : Type 0 where
   pub rules_are : state.rules ≡ rules
   pub journal : state.journal ≡ first ∷ []
   pub stands : StandsFor (record { rules = rules; first = first }) (nothing_yet first) state
   pub at_work : state.spent ≡ false
+  pub whole : state ≡ just_begun rules first
 
 -- the rules of a grid of 2 ^ k joiners, with a shift that is fixed or none
 abbrev pub rules_with : ℕ → ℕ → Option ℕ → Weights → Rules
