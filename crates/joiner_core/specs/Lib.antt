@@ -5,3 +5,4 @@ pub mod Taking
 pub mod Calls
 pub mod Machine
 pub mod Standing
+pub mod Beginnings

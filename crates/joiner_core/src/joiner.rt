@@ -7,6 +7,8 @@ ghost use Rattle.epoch_tags.specs.declared.actor.Actor.TheVariants.{Joiner as Jo
 ghost use Rattle.epoch_tags.specs.declared.tuple.Tuple.{Tuple};
 ghost use Rattle.epoch_tags.specs.Links.{HasLink};
 ghost use Rattle.joiner_law.specs.Law.{JoinerStart, JoinerLists, IsFinished, store};
+ghost use Rattle.theta_pred.specs.Accesses.{IsOverRows};
+ghost use Rattle.joiner_core.specs.Beginnings.{HasBegun, BeginningsAreOne};
 ghost use Rattle.joiner_core.specs.Machine.{start_of, nothing_yet};
 ghost use Rattle.joiner_core.specs.State.{tuples_of, IsAccessOf, IsKeyOf, AreRows, HasRow, DifferInOneBit};
 ghost use Rattle.joiner_core.specs.Standing.{IsSpent, IsJoiner, theta_of, StandsFor, held_number, k_of, id_of, feeders_of, TakesMessage};
@@ -58,6 +60,7 @@ fn accessed(theta: &Theta, base: Store) -> Result<Store, AllocError>
     ensures tuples { IfOk result (λ store. tuples_of store ≡ tuples_of base) }
     ensures key { IfOk result (λ store. store.key ≡ base.key) }
     ensures access { IfOk result (λ store. IsAccessOf theta.now store.access) }
+    ensures widths { IfOk result (λ store. IsOverRows theta.now store.access) }
 {
     match theta.access() {
         Ok(access) => base.with_access(access),
@@ -141,6 +144,8 @@ impl<'a> Joiner<'a> {
         ensures at_work { IfOk result (λ joiner. ¬ IsSpent joiner) }
         ensures fresh { IfOk result (λ joiner.
             StandsFor (start_of k id shift 0 feeders theta.now []) nothing_yet joiner) }
+        // all that it holds is determined by these words
+        ensures begun { IfOk result (λ joiner. HasBegun k id shift 0 feeders theta.now [] joiner) }
     {
         Joiner::start_at(
             alloc,
@@ -177,6 +182,8 @@ impl<'a> Joiner<'a> {
         ensures at_work { IfOk result (λ joiner. ¬ IsSpent joiner) }
         ensures fresh { IfOk result (λ joiner. StandsFor
             (start_of k id shift epoch feeders theta.now (tuples_of base)) nothing_yet joiner) }
+        ensures begun { IfOk result (λ joiner.
+            HasBegun k id shift epoch feeders theta.now (tuples_of base) joiner) }
     {
         let store = accessed(theta, base)?;
         let machine = Machine::start_at(
@@ -292,3 +299,8 @@ impl<'a> Joiner<'a> {
         Ok(())
     }
 }
+
+/// Two joiners that have begun alike, with the same tuples, are one. It has no code.
+pub fn beginnings_are_one()
+    ensures { BeginningsAreOne }
+{}

@@ -13,4 +13,4 @@ mod stock;
 mod tup;
 mod turn;
 
-pub use joiner::{Joiner, first_store};
+pub use joiner::{Joiner, beginnings_are_one, first_store};
