@@ -6,7 +6,7 @@ use Rattle.std.proofs.lemmas.Bool.{eqb-true, false≢true}
 use Rattle.join_rows.specs.Lists.{counting_from}
 use Rattle.epoch_tags.specs.declared.tuple.Tuple.{Tuple}
 use Rattle.epoch_tags.specs.declared.message.ToJoiner.{ToJoiner}
-use Rattle.epoch_tags.specs.declared.message.ToJoiner.TheVariants.{Tup, Turn, End, Moved, MovedEnd}
+use Rattle.epoch_tags.specs.declared.message.ToJoiner.TheVariants.{Tup}
 use Rattle.epoch_tags.specs.declared.message.ToFeeder.{ToFeeder}
 use Rattle.epoch_tags.specs.declared.message.ToFeeder.TheVariants.{Order, Grant, Stop}
 use Rattle.epoch_tags.specs.Messages.{tups_of, order_epochs}

@@ -52,6 +52,20 @@ pub record StandsFor (start : FeederStart) (lists : FeederLists) (state : Feeder
   pub stopped : IsTrue state.stopped ↔ (0 < stops taken)
   pub held : state.held ≡ law.held
 
+-- what it holds when it has just begun so
+abbrev pub just_begun : FeederStart → FeederState
+just_begun start = record {
+  start = start;
+  epoch = start.epoch;
+  shift = start.shift;
+  to_come = start.batches;
+  asked = false;
+  drained = false;
+  stopped = false;
+  held = [];
+  spent = false;
+}
+
 -- a new machine stands for empty lists
 abbrev pub nothing_yet : FeederLists
 nothing_yet = record { received = []; to_controller = []; to_joiner = λ j. [] }

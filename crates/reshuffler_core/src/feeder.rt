@@ -6,7 +6,7 @@ ghost use Rattle.std.specs.Prelude.{◌≡◌, ◌+◌, ◌<◌, ◌≤◌, ◌+
 ghost use Rattle.epoch_tags.specs.Messages.{grants, stops, asks, draineds};
 ghost use Rattle.reshuffler_core.specs.Batches.{cut};
 ghost use Rattle.reshuffler_core.specs.Law.{FeederLists, FeederStart};
-ghost use Rattle.reshuffler_core.specs.Standing.{StandsFor, TakesMessage, Begins, IsWaiting, nothing_yet};
+ghost use Rattle.reshuffler_core.specs.Standing.{StandsFor, TakesMessage, Begins, IsWaiting, just_begun, nothing_yet};
 
 use epoch_tags::{Sends, ToFeeder, Tuples};
 use std::alloc::{AllocError, Global};
@@ -77,6 +77,7 @@ impl Feeder {
         ensures fresh { StandsFor result.start nothing_yet result }
         ensures to_come { result.to_come ≡ cut batch load }
         ensures at_work { result.spent ≡ false }
+        ensures begun { result ≡ just_begun result.start }
     {
         Feeder::start_at(alloc, k, shift, 0, id, load, batch)
     }
@@ -106,6 +107,7 @@ impl Feeder {
         ensures fresh { StandsFor result.start nothing_yet result }
         ensures to_come { result.to_come ≡ cut batch load }
         ensures at_work { result.spent ≡ false }
+        ensures begun { result ≡ just_begun result.start }
     {
         let _ = id;
         Feeder {
