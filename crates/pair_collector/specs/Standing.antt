@@ -1,6 +1,6 @@
 -- What the collector's machine holds, and the lists for which it stands. It stores none of them.
-use Rattle.std.specs.Prelude.{◌≡◌, ℕ, ◌==◌, Bool, true, ◌++◌, ◌∷◌, [], ⊤, List, Option, Some, None, is_some, length}
-use Rattle.std.specs.Prelude.{flat_map, slice_get, slice_index, slice_index_or, slice_set, if◌then◌else◌}
+use Rattle.std.specs.Prelude.{◌≡◌, ℕ, ◌==◌, Bool, true, false, ◌++◌, ◌∷◌, [], ⊤, List, Option, Some, None, is_some}
+use Rattle.std.specs.Prelude.{flat_map, length, replicate, slice_get, slice_index, slice_index_or, slice_set, if◌then◌else◌}
 use Rattle.std.specs.List.{list_all}
 use Rattle.join_rows.specs.Lists.{greatest, total}
 use Rattle.epoch_tags.specs.declared.actor.Actor.{Actor}
@@ -75,6 +75,10 @@ pub record StandsFor (joiners : ℕ) (lists : CollectorLists) (state : Collector
   pub began : length state.joiners ≡ joiners
   pub each : (j : ℕ) (kept : Kept) → slice_get state.joiners j ≡ Some kept → kept ≡ kept_of (lists.from_joiner j)
   pub law : CollectorLaw joiners (pairs_kept state) lists
+
+-- what it holds when it has just begun with so many joiners
+abbrev pub just_begun : ℕ → CollectorState
+just_begun joiners = record { joiners = replicate joiners nothing_kept; given = []; spent = false }
 
 -- a new machine stands for empty lists
 abbrev pub nothing_yet : CollectorLists

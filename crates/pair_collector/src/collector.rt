@@ -3,7 +3,7 @@
 ghost use Rattle.std.specs.Prelude.{◌≡◌, ◌↔◌, IsTrue, true, false, ℕ, Err, IfOk, OnOk, OnErr, length, is_some, alloc_error, IsPermutation};
 ghost use Rattle.std.specs.List.{list_all};
 ghost use Rattle.pair_collector.specs.Law.{CollectorLists, IsComplete};
-ghost use Rattle.pair_collector.specs.Standing.{StandsFor, TakesMessage, IsPassedOver, is_complete, nothing_yet, state_after};
+ghost use Rattle.pair_collector.specs.Standing.{StandsFor, TakesMessage, IsPassedOver, is_complete, just_begun, nothing_yet, state_after};
 ghost use Rattle.pair_collector.specs.Fresh.{HasGiven, pairs_since};
 ghost use Rattle.pair_collector.specs.Order.{InOrder};
 ghost use Rattle.pair_collector.specs.Answer.{Collects};
@@ -48,6 +48,7 @@ impl Collector {
         ensures fresh { IfOk result (λ c. StandsFor joiners nothing_yet c) }
         ensures given { IfOk result (λ c. HasGiven joiners nothing_yet c) }
         ensures at_work { IfOk result (λ c. c.spent ≡ false) }
+        ensures begun { IfOk result (λ c. c ≡ just_begun joiners) }
     {
         let mut parts = Vec::with_capacity(alloc, joiners as usize)?;
         for _ in 0..joiners {
