@@ -25,3 +25,4 @@ pub mod LeftStores
 pub mod NextRest
 pub mod LastLines
 pub mod LaterEnds
+pub mod OneFirstCore

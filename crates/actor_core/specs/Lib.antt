@@ -9,3 +9,4 @@ pub mod Counts
 pub mod Players
 pub mod Rests
 pub mod Leavings
+pub mod FirstCores

@@ -1,6 +1,7 @@
 // Laws of a run's lists. Each is the contract of a function that does nothing, so that calls above can cite it.
 
 ghost use Rattle.actor_core.specs.Counts.{EventsFit, EventsFitInWave};
+ghost use Rattle.actor_core.specs.FirstCores.{FirstCoresAreOne};
 ghost use Rattle.actor_core.specs.Rests.{StandsBeyond, StandsUpto};
 
 use trace_law::{keeps_a_lawful_journal, lawful_is_bounded};
@@ -29,4 +30,9 @@ pub fn stands_upto()
 /// A rest that stands for an input up to an end stands for all of it.
 pub fn stands_beyond()
     ensures { StandsBeyond }
+{}
+
+/// Two machines that have just begun alike are one.
+pub fn first_cores_are_one()
+    ensures { FirstCoresAreOne }
 {}

@@ -19,7 +19,7 @@ mod waves;
 pub use answers::answer;
 pub use crossing::shares_predicates;
 pub use endings::last_machines;
-pub use laws::{events_fit, stands_beyond, stands_upto, wave_events_fit};
+pub use laws::{events_fit, first_cores_are_one, stands_beyond, stands_upto, wave_events_fit};
 pub use leavings::machines_left;
 pub use links::has_link;
 pub use machines::Core;

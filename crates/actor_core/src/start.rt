@@ -4,13 +4,17 @@ ghost use Rattle.std.specs.Prelude.{◌≡◌, ◌<◌, ◌≤◌, ◌+◌, ◌^
 ghost use Rattle.row_tickets.specs.Share.{share as share'};
 ghost use Rattle.join_rows.specs.declared.table.Side.TheVariants.{R as R', S as S'};
 ghost use Rattle.load_controller.specs.Journal.{begun};
+ghost use Rattle.load_controller.specs.Standing.{just_begun as controller_begun};
+ghost use Rattle.pair_collector.specs.Standing.{just_begun as collector_begun};
 ghost use Rattle.trace_law.specs.Join.{row_count};
 ghost use Rattle.trace_law.specs.Validity.{IsValidInput, IsValidSetting};
 ghost use Rattle.trace_law.specs.Family.{tuple_of, feeder_start, joiner_start, rules_of, first_rest};
+ghost use Rattle.actor_core.specs.FirstCores.{IsFirst, IsFirstAt};
 ghost use Rattle.actor_core.specs.Lists.{no_lists};
 ghost use Rattle.actor_core.specs.Standing.{Stands, HasGivenNone, IsLive, OfFeeder, OfJoiner, OfController, OfCollector};
 ghost use Rattle.actor_core.specs.Families.{start_for};
 ghost use Rattle.actor_core.specs.Numbers.{actor_at};
+ghost use Rattle.actor_core.specs.declared.machines.Core.TheVariants.{Controller as TheController, Collector as TheCollector};
 
 use crate::machines::Core;
 use epoch_tags::{Tuple, Tuples};
@@ -103,6 +107,8 @@ fn feeder<'a>(
         (feeder_start input.now setting.now (first_rest setting.now) p)) no_lists core) }
     ensures live { IfOk result IsLive }
     ensures given { IfOk result (HasGivenNone (2 ^ setting.now.k)) }
+    ensures first { IfOk result (IsFirst input.now.theta (OfFeeder p setting.now.feeders
+        (feeder_start input.now setting.now (first_rest setting.now) p))) }
 {
     let load = load(alloc, input, setting, p)?;
     let shift = first_shift(setting);
@@ -121,6 +127,8 @@ fn joiner<'a>(
         (OfJoiner (joiner_start input.now setting.now (first_rest setting.now) j)) no_lists core) }
     ensures live { IfOk result IsLive }
     ensures given { IfOk result (HasGivenNone (2 ^ setting.now.k)) }
+    ensures first { IfOk result (IsFirst input.now.theta
+        (OfJoiner (joiner_start input.now setting.now (first_rest setting.now) j))) }
 {
     let shift = first_shift(setting);
     let joiner = Joiner::start(alloc, setting.k, j, shift, setting.feeders, &input.theta)?;
@@ -135,6 +143,8 @@ fn controller<'a>(alloc: Global, setting: &Setting) -> Result<Core<'a>, AllocErr
     })) no_lists core) }
     ensures live { IfOk result IsLive }
     ensures given { IfOk result (HasGivenNone (2 ^ setting.now.k)) }
+    ensures first { IfOk result (λ core. core ≡ TheController
+        (controller_begun (rules_of setting.now) (begun (first_rest setting.now).line))) }
 {
     Ok(Core::Controller(Controller::start(
         alloc,
@@ -150,6 +160,7 @@ pub(crate) fn collector<'a>(alloc: Global, setting: &Setting) -> Result<Core<'a>
     ensures stands { IfOk result (λ core. Stands (OfCollector (2 ^ setting.now.k)) no_lists core) }
     ensures live { IfOk result IsLive }
     ensures given { IfOk result (HasGivenNone (2 ^ setting.now.k)) }
+    ensures first { IfOk result (λ core. core ≡ TheCollector (collector_begun (2 ^ setting.now.k))) }
 {
     Ok(Core::Collector(Collector::start(alloc, joiners_of(setting))?))
 }
@@ -167,6 +178,8 @@ pub fn core_at<'a>(
         (actor_at (2 ^ setting.now.k) setting.now.feeders n)) no_lists core) }
     ensures live { IfOk result IsLive }
     ensures given { IfOk result (HasGivenNone (2 ^ setting.now.k)) }
+    // all that it holds is determined by the input, the setting and its number
+    ensures first { IfOk result (IsFirstAt input.now setting.now n) }
 {
     let joiners = joiners_of(setting);
     if n < setting.feeders {
