@@ -3,7 +3,7 @@ use Rattle.std.proofs.Common.{◌≡◌, ◌≢◌, ℕ, ◌+◌, ◌==◌, ◌<
 use Rattle.std.proofs.Common.{true, false, Option, Some, None, List, [], ◌∷◌, ◌++◌, get_or, set, length, arith}
 use borrow.Author.Tests.{eqb-false}
 use Rattle.std.specs.Prelude.{IsSome, Contains}
-use Rattle.std.proofs.lemmas.List.{length-set, get_or-set_same, get_or-set_other}
+use Rattle.std.proofs.lemmas.List.{length-set, get_or_default, get_or-set_same, get_or-set_other}
 use Rattle.std.proofs.lemmas.List.Elements.{Contains-push, Contains-append_left, Contains-push_cases}
 use Rattle.ruled_links.specs.Ends.{Sending}
 use Rattle.actor_core.specs.Numbers.{number}
@@ -11,7 +11,7 @@ use Rattle.actor_core.proofs.OwnNumbers.{none_some, some_is}
 use Rattle.join_runtime.specs.Views.{SeatView}
 use Rattle.join_runtime.specs.Joins.{slot_of}
 use Rattle.actor_core.proofs.Beginnings.{there}
-use Rattle.join_runtime.specs.Seating.{Puts, IsOneOf, Places, AreFilled}
+use Rattle.join_runtime.specs.Seating.{HasSeat, HavePlaces, Puts, IsOneOf, Places, AreFilled}
 
 -- ---- one mouth
 
@@ -47,6 +47,18 @@ module _ (joiners feeders receiver : ℕ) (mouth : Sending) (old new : List Seat
       go false e = subst (λ (s : SeatView). s ≡ record (get_or old n d) { mouths = s.mouths })
           (sym (elsewhere n d (eqb-false n puts.sender e))) refl
 
+  same_many : (n : ℕ) (d : SeatView) → length (get_or new n d).mouths ≡ length (get_or old n d).mouths
+  unfolding put_at
+  same_many n d = go (n == puts.sender) refl
+    where
+      go : (b : Bool) → (n == puts.sender) ≡ b → length (get_or new n d).mouths ≡ length (get_or old n d).mouths
+      go true e =
+          subst (λ z. length (get_or new z d).mouths ≡ length (get_or old z d).mouths)
+          (sym (eqb-true n puts.sender e))
+          (ap (λ (s : SeatView). length s.mouths) (at_sender d)
+          ∙ length-set (get_or old puts.sender d).mouths receiver (Some mouth))
+      go false e = ap (λ (s : SeatView). length s.mouths) (elsewhere n d (eqb-false n puts.sender e))
+
   slot_here : (d : SeatView) → slot_of new d puts.sender receiver ≡ Some mouth
   unfolding put_at
   slot_here d = ap (λ (s : SeatView). get_or s.mouths receiver None) (at_sender d)
@@ -66,6 +78,25 @@ module _ (joiners feeders receiver : ℕ) (mouth : Sending) (old new : List Seat
   slot_elsewhere : (n r : ℕ) (d : SeatView) → n ≢ puts.sender → slot_of new d n r ≡ slot_of old d n r
   slot_elsewhere n r d other = ap (λ (s : SeatView). get_or s.mouths r None) (elsewhere n d other)
 
+-- where a mouth comes to a place of its sender's seat, it has come to its sender
+pub puts_there : (joiners feeders receiver : ℕ) (mouth : Sending) (sender : ℕ) (seat : SeatView)
+    (old new : List SeatView) → number joiners feeders mouth.from ≡ Some sender
+    → HasSeat joiners feeders (length old) mouth.from → HavePlaces receiver old → seat ≡ get_or old sender seat
+    → new ≡ set old sender (record seat { mouths = set seat.mouths receiver (Some mouth) })
+    → Puts joiners feeders receiver mouth old new
+puts_there joiners feeders receiver mouth sender seat old new is has places here now =
+    let same : has.place ≡ sender = some_is has.place sender (sym has.is ∙ is) in
+    let low : sender < length old = omega (arith, same, has.there) in
+    record {
+      sender = sender;
+      is = is;
+      there = low;
+      room = λ d. places sender d low;
+      now = λ d.
+          let own : seat ≡ get_or old sender d = here ∙ get_or_default old sender seat d low in
+          now ∙ ap (λ (s : SeatView). set old sender (record s { mouths = set s.mouths receiver (Some mouth) })) own;
+    }
+
 -- ---- several
 
 one_more : (joiners feeders n : ℕ) (mouths : List Sending) (last mouth : Sending)
@@ -84,6 +115,7 @@ pub places_none : (joiners feeders receiver : ℕ) (seats : List SeatView)
 places_none joiners feeders receiver seats = record {
   all = refl;
   same = λ n d low. refl;
+  many = λ n d low. refl;
   others = λ n r d low other. refl;
   own = λ n d mouth low is. inl is;
   has = λ n d mouth is. let one = is.one in absurd (omega (arith, one.1));
@@ -97,6 +129,7 @@ pub places_more : (joiners feeders receiver : ℕ) (mouths : List Sending) (mout
 places_more joiners feeders receiver mouths mouth first old new before puts = record {
   all = long joiners feeders receiver mouth old new puts ∙ before.all;
   same = same;
+  many = λ n d low. same_many joiners feeders receiver mouth old new puts n d ∙ before.many n d low;
   others = λ n r d low other. slot_other joiners feeders receiver mouth old new puts n r d other
       ∙ before.others n r d low other;
   own = own;
@@ -166,6 +199,7 @@ pub filled_none : (joiners feeders : ℕ) (mouths : List (List Sending)) (seats 
 filled_none joiners feeders mouths seats none = record {
   all = refl;
   same = λ n d low. refl;
+  many = λ n d low. refl;
   own = λ n r d mouth low is. absurd (none_some mouth (sym (none n r d low) ∙ is));
   has = λ n r d mouth low is. absurd (omega arith);
 }
@@ -180,6 +214,7 @@ filled_more joiners feeders below mouths first old new before places = record {
   all = places.all ∙ before.all;
   same = λ n d low. places.same n d (subst (λ z. n < z) (sym before.all) low)
       ∙ ap (λ (s : SeatView). record s { mouths = (get_or new n d).mouths }) (before.same n d low);
+  many = λ n d low. places.many n d (subst (λ z. n < z) (sym before.all) low) ∙ before.many n d low;
   own = own;
   has = has;
 }

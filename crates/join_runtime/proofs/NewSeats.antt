@@ -1,16 +1,20 @@
 -- Seats as they are made, one after another.
 use Rattle.std.proofs.Common.{◌≡◌, ℕ, ◌+◌, ◌<◌, inl, inr, refl, sym, ap, subst, ◌∙◌, false, Option, List, [], ◌∷◌, ◌++◌}
-use Rattle.std.proofs.Common.{get_or, length, arith}
+use Rattle.std.proofs.Common.{get_or, length, arith, Some}
+use Rattle.std.specs.Prelude.{Contains}
 use Rattle.std.proofs.lemmas.Bool.{cases_lt}
 use Rattle.std.proofs.Math.Seq.{get_or-append_seam}
 use Rattle.std.proofs.lemmas.List.{length-append, get_or_append_left}
 use Rattle.epoch_tags.specs.declared.actor.Actor.{Actor}
 use Rattle.ruled_links.specs.Ends.{Sending}
-use Rattle.ruled_links.specs.Inboxes.{InboxView}
-use Rattle.actor_core.specs.Numbers.{actor_at}
+use Rattle.ruled_links.specs.Inboxes.{InboxView, opened}
+use Rattle.actor_core.specs.Numbers.{actor_at, number}
 use Rattle.actor_core.specs.declared.machines.Core.{Core}
+use Rattle.actor_core.proofs.Beginnings.{there}
+use Rattle.actor_core.proofs.Seated.{number_low}
 use Rattle.join_runtime.specs.Views.{SeatView}
-use Rattle.join_runtime.specs.Seating.{AreNew, IsNewSeat, IsRoom}
+use Rattle.join_runtime.specs.Seating.{AreNew, HasSeat, HavePlaces, IsNewSeat, IsRoom}
+use Rattle.join_runtime.proofs.FreshSenders.{contains_map}
 
 -- a machine with a room as it was made is a seat as it was made
 pub room_seat : (joiners feeders n : ℕ) (core : Core) (actor : Actor) (inbox : InboxView) (mouths : List Sending)
@@ -38,6 +42,7 @@ room_seat joiners feeders n core actor inbox mouths places is room = record {
   links = room.links;
   senders = room.senders;
   mouths_are = room.mouths_are;
+  many = room.many;
   no_mouth = room.no_mouth;
 }
 
@@ -87,3 +92,28 @@ new_more joiners feeders cores core seats mouths seat own old one =
           (subst (IsNewSeat joiners feeders n core seat) (sym right)
           (subst (λ z. IsNewSeat joiners feeders z core seat own) is one)))
     ]
+
+module _ (joiners feeders count : ℕ) (cores : List Core) (seats : List SeatView) (mouths : List (List Sending))
+    (new : AreNew joiners feeders count cores seats mouths) (all : count ≡ feeders + joiners + 2) where
+  -- where there is a new seat for each actor, the sender of each mouth has one
+  pub new_senders : (r : ℕ) (mouth : Sending) → r < length mouths → Contains (get_or mouths r []) mouth
+      → HasSeat joiners feeders (length seats) mouth.from
+  new_senders r mouth low has =
+      let low' : r < length seats = omega (arith, new.all, new.each) in
+      let d = (there seats r low').0 in
+      let one = new.new r d (omega (arith, new.each)) in
+      let inbox = (get_or seats r d).inbox in
+      let found = contains_map (opened inbox.link inbox.to) one.names mouth
+      (subst (λ ms. Contains ms mouth) one.mouths_are has) in
+      let is_from : found.0 ≡ mouth.from = ap (λ (m : Sending). m.from) found.2 in
+      let own = one.numbers.each found.1.0 found.0 found.1.1 in
+      let is : number joiners feeders mouth.from ≡ Some own.0 =
+      subst (λ a. number joiners feeders a ≡ Some own.0) (found.1.2 ∙ is_from) own.1 in
+      let within = number_low joiners feeders mouth.from own.0 is in
+      record { place = own.0; is = is; there = omega (arith, within, all, new.all) }
+
+  -- and each seat has a place for each actor
+  pub new_places : (r : ℕ) → r < length mouths → HavePlaces r seats
+  new_places r low n d low' =
+      let one = new.new n d (omega (arith, new.all)) in
+      omega (arith, one.many, all, new.each)

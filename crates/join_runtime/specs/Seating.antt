@@ -40,7 +40,7 @@ pub record AreFresh (input : Input) (setting : Setting) (rest : Rest) (count : �
   pub all : length cores ≡ count
   pub each : (n : ℕ) (core : Core) → slice_get cores n ≡ Some core → IsFresh input setting rest n core
 
--- an inbox of the actor with this number as it was made, its mouths, and places with no mouth
+-- an inbox of the actor with this number as it was made, its mouths, and a place with no mouth for each actor
 pub record IsRoom (joiners feeders n : ℕ) (inbox : InboxView) (mouths : List Sending) (places : List (Option Sending))
     : Type 0 where
   pub to : inbox.to ≡ actor_at joiners feeders n
@@ -51,6 +51,7 @@ pub record IsRoom (joiners feeders n : ℕ) (inbox : InboxView) (mouths : List S
   pub links : AreLinked joiners feeders (feeders + joiners + 2) (actor_at joiners feeders n) names
   pub senders : inbox.senders ≡ map fresh names
   pub mouths_are : mouths ≡ map (opened inbox.link inbox.to) names
+  pub many : length places ≡ feeders + joiners + 2
   pub no_mouth : (r : ℕ) → slice_index_or places r None ≡ None
 
 -- the seat of the actor with this number as it was made for this machine, and the mouths of its inbox
@@ -67,6 +68,7 @@ pub record IsNewSeat (joiners feeders n : ℕ) (core : Core) (seat : SeatView) (
   pub links : AreLinked joiners feeders (feeders + joiners + 2) (actor_at joiners feeders n) names
   pub senders : seat.inbox.senders ≡ map fresh names
   pub mouths_are : mouths ≡ map (opened seat.inbox.link seat.inbox.to) names
+  pub many : length seat.mouths ≡ feeders + joiners + 2
   pub no_mouth : (r : ℕ) → slice_index_or seat.mouths r None ≡ None
 
 -- so many seats for these machines, with the mouths of their inboxes
@@ -76,6 +78,17 @@ pub record AreNew (joiners feeders count : ℕ) (cores : List Core) (seats : Lis
   pub each : length mouths ≡ count
   pub new : (n : ℕ) (d : SeatView) → n < count → IsNewSeat joiners feeders n (slice_index_or cores n d.core)
       (slice_index_or seats n d) (slice_index_or mouths n [])
+
+-- the actor has one of so many seats
+pub record HasSeat (joiners feeders count : ℕ) (a : Actor) : Type 0 where
+  pub place : ℕ
+  pub is : number joiners feeders a ≡ Some place
+  pub there : place < count
+
+-- each seat has a place for a mouth to the actor with this number
+abbrev pub HavePlaces : ℕ → List SeatView → Type 0
+HavePlaces receiver seats = (n : ℕ) (d : SeatView) → n < length seats
+    → receiver < length (slice_index_or seats n d).mouths
 
 -- the mouth came to its sender, as that one's to the actor with the number `receiver`
 pub record Puts (joiners feeders receiver : ℕ) (mouth : Sending) (old new : List SeatView) : Type 0 where
@@ -96,6 +109,8 @@ pub record Places (joiners feeders receiver : ℕ) (mouths : List Sending) (old 
   pub all : length new ≡ length old
   pub same : (n : ℕ) (d : SeatView) → n < length old → slice_index_or new n d
       ≡ record (slice_index_or old n d) { mouths = (slice_index_or new n d).mouths }
+  pub many : (n : ℕ) (d : SeatView) → n < length old
+      → length (slice_index_or new n d).mouths ≡ length (slice_index_or old n d).mouths
   pub others : (n r : ℕ) (d : SeatView) → n < length old → r ≢ receiver → slot_of new d n r ≡ slot_of old d n r
   pub own : (n : ℕ) (d : SeatView) (mouth : Sending) → n < length old → slot_of new d n receiver ≡ Some mouth
       → (slot_of old d n receiver ≡ Some mouth) ⊎ IsOneOf joiners feeders n mouths mouth
@@ -107,6 +122,8 @@ pub record AreFilled (joiners feeders below : ℕ) (mouths : List (List Sending)
   pub all : length new ≡ length old
   pub same : (n : ℕ) (d : SeatView) → n < length old → slice_index_or new n d
       ≡ record (slice_index_or old n d) { mouths = (slice_index_or new n d).mouths }
+  pub many : (n : ℕ) (d : SeatView) → n < length old
+      → length (slice_index_or new n d).mouths ≡ length (slice_index_or old n d).mouths
   pub own : (n r : ℕ) (d : SeatView) (mouth : Sending) → n < length old → slot_of new d n r ≡ Some mouth
       → (r < below) × IsOneOf joiners feeders n (slice_index_or mouths r []) mouth
   pub has : (n r : ℕ) (d : SeatView) (mouth : Sending) → r < below

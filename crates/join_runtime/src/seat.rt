@@ -90,7 +90,8 @@ fn open<R: Wait>(
 
 // So many places for mouths.
 pub(crate) fn no_mouths(alloc: Global, count: u32) -> Result<Vec<Option<Mouth>>, AllocError>
-    ensures { IfOk result (λ mouths. (n : ℕ) → slice_index_or mouths.items n None ≡ None) }
+    ensures many { IfOk result (λ mouths. length mouths.items ≡ count) }
+    ensures none { IfOk result (λ mouths. (n : ℕ) → slice_index_or mouths.items n None ≡ None) }
 {
     let mut mouths = Vec::new(alloc);
     for _ in 0..count {
@@ -134,18 +135,13 @@ impl<'a> Seat<'a> {
         }
     }
 
-    // Takes a mouth to the actor with this number.
-    pub(crate) fn put_mouth(&mut self, receiver: usize, mouth: Mouth) -> Result<(), AllocError>
-        ensures { OnOk result ((receiver < length self.old.mouths)
-            × (self.new
-            ≡ record self.old { mouths = slice_set self.old.mouths receiver (Some mouth) })) }
+    // Takes a mouth to the actor with this number, for which it has a place.
+    pub(crate) fn put_mouth(&mut self, receiver: usize, mouth: Mouth)
+        requires { receiver < length self.old.mouths }
+        ensures { self.new
+            ≡ record self.old { mouths = slice_set self.old.mouths receiver (Some mouth) } }
     {
-        if receiver < self.mouths.len() {
-            self.mouths[receiver] = Some(mouth);
-            Ok(())
-        } else {
-            Err(AllocError)
-        }
+        self.mouths[receiver] = Some(mouth);
     }
 
     /// Passes the gate, and makes one event: takes one message, or where there is none and the machine is a feeder's,

@@ -1,16 +1,17 @@
 // The seats of a run and of a wave at their beginning.
 
-ghost use Rattle.std.specs.Prelude.{◌≡◌, ◌<◌, ◌≤◌, ◌+◌, ◌^◌, ◌↔◌, ◌++◌, ◌∷◌, [], ℕ, true, false, None, Some, IsSome, IfOk, OnOk, length, map, slice_set, slice_index_or};
+ghost use Rattle.std.specs.Prelude.{◌≡◌, ◌<◌, ◌≤◌, ◌+◌, ◌^◌, ◌↔◌, ◌++◌, ◌∷◌, [], ℕ, true, false, None, Some, Contains, IsSome, IfOk, OnOk, length, map, slice_set, slice_index_or};
 ghost use Rattle.epoch_tags.specs.declared.actor.Actor.{Actor as Actor'};
 ghost use Rattle.trace_law.specs.Validity.{IsValidInput, IsValidSetting};
 ghost use Rattle.trace_law.specs.Family.{first_rest};
 ghost use Rattle.actor_core.specs.Numbers.{actor_at};
 ghost use Rattle.actor_core.specs.Rests.{IsRestOf, IsUpto, rest_of, upto};
+ghost use Rattle.ruled_links.specs.Ends.{Sending};
 ghost use Rattle.ruled_links.specs.Inboxes.{Differ};
 ghost use Rattle.actor_core.specs.Lists.{no_lists};
 ghost use Rattle.join_runtime.specs.Views.{SeatView};
 ghost use Rattle.join_runtime.specs.Joins.{slot_of};
-ghost use Rattle.join_runtime.specs.Seating.{AreBelow, AreFilled, AreFresh, AreLinked, AreNew, AreSeated, IsNewSeat, IsRoom, Puts, Places};
+ghost use Rattle.join_runtime.specs.Seating.{AreBelow, AreFilled, AreFresh, AreLinked, AreNew, AreSeated, HasSeat, HavePlaces, IsNewSeat, IsRoom, Puts, Places};
 ghost use Rattle.join_runtime.specs.Bouts.{AllJoinBy, StandsFor, StandsInWave, lists_in, mouth_of};
 ghost use Rattle.join_runtime.specs.Early.{AreGiven, given_in};
 ghost use Rattle.epoch_tags.specs.Links.{HasLink};
@@ -107,41 +108,27 @@ fn seat_at<'a>(
     }
 }
 
-// Gives a mouth that leads to the actor with this number to its sender.
-fn place(
-    seats: &mut Vec<Seat>,
-    joiners: u32,
-    feeders: u32,
-    receiver: usize,
-    mouth: Mouth,
-) -> Result<(), AllocError>
-    ensures { OnOk result (Puts joiners feeders receiver mouth seats.old.items seats.new.items) }
+// Gives a mouth that leads to the actor with this number to its sender, whose seat has a place for it.
+fn place(seats: &mut Vec<Seat>, joiners: u32, feeders: u32, receiver: usize, mouth: Mouth)
+    requires sender { HasSeat joiners feeders (length seats.old.items) mouth.from }
+    requires places { HavePlaces receiver seats.old.items }
+    ensures { Puts joiners feeders receiver mouth seats.old.items seats.new.items }
 {
-    match number(joiners, feeders, mouth.sender()) {
-        Some(sender) => {
-            if sender < seats.len() {
-                seats[sender].put_mouth(receiver, mouth)
-            } else {
-                Err(AllocError)
-            }
-        }
-        None => Err(AllocError),
-    }
+    let Some(sender) = number(joiners, feeders, mouth.sender()) else {
+        unreachable!();
+    };
+    seats[sender].put_mouth(receiver, mouth);
 }
 
-fn place_all(
-    seats: &mut Vec<Seat>,
-    joiners: u32,
-    feeders: u32,
-    receiver: usize,
-    mouths: Mouths,
-) -> Result<(), AllocError>
-    ensures { OnOk result (Places joiners feeders receiver mouths seats.old.items seats.new.items) }
+fn place_all(seats: &mut Vec<Seat>, joiners: u32, feeders: u32, receiver: usize, mouths: Mouths)
+    requires senders { (mouth : Sending) → Contains mouths mouth
+        → HasSeat joiners feeders (length seats.old.items) mouth.from }
+    requires places { HavePlaces receiver seats.old.items }
+    ensures { Places joiners feeders receiver mouths seats.old.items seats.new.items }
 {
     for mouth in mouths.into_vec() {
-        place(seats, joiners, feeders, receiver, mouth)?;
+        place(seats, joiners, feeders, receiver, mouth);
     }
-    Ok(())
 }
 
 // Each mouth goes to its sender. The places of the list are the numbers of the receivers.
@@ -151,17 +138,20 @@ fn give_all(
     joiners: u32,
     feeders: u32,
     mut mouths: Vec<Mouths>,
-) -> Result<(), AllocError>
-    requires { (n r : ℕ) (d : SeatView) → n < length seats.old.items
+)
+    requires none { (n r : ℕ) (d : SeatView) → n < length seats.old.items
         → slot_of seats.old.items d n r ≡ None }
-    ensures { OnOk result (AreFilled joiners feeders
-        (length mouths.items) mouths.items seats.old.items seats.new.items) }
+    requires senders { (r : ℕ) (mouth : Sending) → r < length mouths.items
+        → Contains (slice_index_or mouths.items r []) mouth
+        → HasSeat joiners feeders (length seats.old.items) mouth.from }
+    requires places { (r : ℕ) → r < length mouths.items → HavePlaces r seats.old.items }
+    ensures { AreFilled joiners feeders
+        (length mouths.items) mouths.items seats.old.items seats.new.items }
 {
     for receiver in 0..mouths.len() {
         let own = mem::replace(&mut mouths[receiver], Mouths::new(alloc));
-        place_all(seats, joiners, feeders, receiver, own)?;
+        place_all(seats, joiners, feeders, receiver, own);
     }
-    Ok(())
 }
 
 // Appends a seat, and the mouths of its inbox.
@@ -241,7 +231,7 @@ fn seats_of<'a>(
     ensures { IfOk result (λ seats. AreSeated joiners feeders cores.entry.items seats.items) }
 {
     let (mut seats, mouths) = new_seats(alloc, joiners, feeders, cores)?;
-    give_all(alloc, &mut seats, joiners, feeders, mouths)?;
+    give_all(alloc, &mut seats, joiners, feeders, mouths);
     Ok(seats)
 }
 

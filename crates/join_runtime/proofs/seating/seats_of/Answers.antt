@@ -1,9 +1,19 @@
+use Rattle.std.proofs.Common.{length}
+use Rattle.join_runtime.proofs.NewSeats.{new_places, new_senders}
 use Rattle.join_runtime.proofs.seating.seats_of.Goals as goal
+
+pub give_all-requires-clause-senders : goal.give_all-requires-clause-senders
+give_all-requires-clause-senders c = new_senders c.args.joiners c.args.feeders (length c.args.cores.items)
+    c.args.cores.items c.in_ok-seats.seats.items c.in_ok-seats.mouths.items c.in_ok-seats.ensures c.requires.all
+
+pub give_all-requires-clause-places : goal.give_all-requires-clause-places
+give_all-requires-clause-places c = new_places c.args.joiners c.args.feeders (length c.args.cores.items)
+    c.args.cores.items c.in_ok-seats.seats.items c.in_ok-seats.mouths.items c.in_ok-seats.ensures c.requires.all
 
 pub returns : goal.returns
 returns c = record {
   first = c.in_ok-seats.seats.items;
   mouths = c.in_ok-seats.mouths.items;
   new = c.in_ok-seats.ensures;
-  filled = c.in_ok-give_all.ensures;
+  filled = c.give_all.ensures;
 }
