@@ -18,15 +18,17 @@ use Rattle.actor_core.specs.declared.machines.Core.{Core}
 use Rattle.actor_core.specs.Lists.{no_lists}
 use Rattle.actor_core.specs.Standing.{JoinsBy, Stands, IsLive, given_by}
 use Rattle.actor_core.specs.Families.{start_in_wave}
-use Rattle.actor_core.specs.Numbers.{number, at_number}
+use Rattle.actor_core.specs.Numbers.{actor_at, number, at_number}
 use Rattle.actor_core.specs.Players.{lists_among, lists_at}
 use Rattle.actor_core.proofs.OwnNumbers.{number_actor, some_is}
 use Rattle.join_runtime.specs.Views.{SeatView, Frame, frame_of, lists_of, address_of, contents, sent_by, sent_at}
+use Rattle.join_runtime.specs.Kinds.{IsMachineOf}
 use Rattle.join_runtime.specs.Joins.{AreJoined, AreSettled, IsPlaced, Leads, HasMouthTo, IsGathered, Knows, slot_of}
 use Rattle.join_runtime.specs.Bouts.{StandsInWave, lists_in}
 use Rattle.join_runtime.specs.Seating.{IsFresh, AreFresh, IsNewSeat, AreNew, AreFilled}
 use Rattle.join_runtime.specs.Early.{AreGiven, given_at, given_in}
 use Rattle.join_runtime.proofs.KnownCounts.{is_sender-named}
+use Rattle.join_runtime.proofs.OwnMachines.{begins_own}
 use Rattle.join_runtime.proofs.FramePlaces.{address_at, some_address, lead_frames}
 use Rattle.join_runtime.proofs.FreshSenders.{contains_map, map_contains, named, is_named, knows_fresh}
 use Rattle.actor_core.proofs.Beginnings.{has_number, there}
@@ -223,10 +225,20 @@ module _ (setting : Setting) (count : ℕ) (cores : List Core) (first seats : Li
         (fresh.each n (get_or cores n d.core)
         (slice_get-get_or cores n d.core (subst (λ z. n < z) (sym fresh.all) low)))
 
-    -- these seats heard senders alone, none of their machines is spent, and what is left on each link is known
+    -- these seats heard senders alone, each machine is one for its seat's actor, none is spent, and what is left on
+    -- each link is known
     pub all_settled : AreSettled seats
     all_settled = record {
       hear = λ n d low from none. ap (λ xs. contents (messages_of from xs)) (nothing_received n d (low_of n low));
+      own = λ n d low.
+          let same = still n d (low_of n low) in
+          let one = machine n d (low_of n low) in
+          let a = actor_at (2 ^ setting.k) setting.feeders n in
+          let actor_is : (get_or seats n d).actor ≡ a =
+          ap (λ (s : SeatView). s.actor) same ∙ (made n d (low_of n low)).actor in
+          subst (IsMachineOf (get_or seats n d).core) (sym actor_is)
+          (subst (λ core. IsMachineOf core a) (sym (ap (λ (s : SeatView). s.core) same))
+          (begins_own input setting rest a no_lists (get_or first n d).core one.stands));
       live = λ n d low. subst IsLive (sym (ap (λ (s : SeatView). s.core) (still n d (low_of n low))))
           (machine n d (low_of n low)).live;
       gathered = gathered;

@@ -22,6 +22,7 @@ use Rattle.actor_core.proofs.OwnNumbers.{some_is}
 use Rattle.actor_core.proofs.Runs.{runs_given}
 use Rattle.actor_core.proofs.Seated.{AllRelate, HasRun, all_relate, core_at, of_lists, related_at, still_stand}
 use Rattle.join_runtime.specs.Views.{SeatView, frame_of, lists_of}
+use Rattle.join_runtime.specs.Kinds.{IsMachineOf}
 use Rattle.join_runtime.specs.Joins.{AreGathered, AreJoined, AreSettled, HearsSenders, IsGathered, slot_of}
 use Rattle.join_runtime.specs.Bouts.{AllAdvance, SeatsView, StandsFor, cores_in, lists_in}
 use Rattle.join_runtime.specs.Early.{AreGiven, Gives, collected_in, given_at, given_in}
@@ -60,15 +61,26 @@ pub record IsKin (s t : SeatView) : Type 0 where
   pub rest : t ≡ record s { core = t.core }
   pub stands : (start : Start) (ls : ActorLists) → Stands start ls s.core → Stands start ls t.core
   pub live : IsLive s.core → IsLive t.core
+  pub own : (a : Actor) → IsMachineOf s.core a → IsMachineOf t.core a
 
 kin_self : (s : SeatView) → IsKin s s
-kin_self s = record { rest = refl; stands = λ start ls st. st; live = λ live. live }
+kin_self s = record {
+  rest = refl;
+  stands = λ start ls st. st;
+  live = λ live. live;
+  own = λ a own. own;
+}
 
 -- where only the machine changed, by a call that gave pairs if it succeeded and changed nothing if it failed, the seat
 -- is the same and its machine stands for what it stood for
 pub kin_by : (result : Result (List Pair) AllocError) (s t : SeatView) → t ≡ record s { core = t.core }
     → IfOk result (λ pairs. Gives s.core t.core pairs) → OnErr result (t ≡ s) → IsKin s t
-kin_by (Ok pairs) s t rest gives fails = record { rest = rest; stands = gives.stands; live = gives.live }
+kin_by (Ok pairs) s t rest gives fails = record {
+  rest = rest;
+  stands = gives.stands;
+  live = gives.live;
+  own = gives.own;
+}
 kin_by (Err e) s t rest gives fails = subst (IsKin s) (sym fails) (kin_self s)
 
 -- where a clause holds of a result's value, and something follows from it of each value, that holds where the result is
@@ -156,6 +168,9 @@ module _ (v : SeatsView) (joined : AreJoined v.joiners v.feeders (map frame_of v
   settled_kept settled = record {
     hear = λ n d low'. let same = all_kin n d (omega (arith, low', long)) in
         subst HearsSenders (sym same.rest) (settled.hear n d (omega (arith, low', long)));
+    own = λ n d low'. let same = all_kin n d (omega (arith, low', long)) in
+        subst (IsMachineOf (get_or changed n d).core) (sym (ap (λ (z : SeatView). z.actor) same.rest))
+        (same.own (get_or v.seats n d).actor (settled.own n d (omega (arith, low', long))));
     live = λ n d low'. let same = all_kin n d (omega (arith, low', long)) in
         same.live (settled.live n d (omega (arith, low', long)));
     gathered = gathered_kept settled.gathered;

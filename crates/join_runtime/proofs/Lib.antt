@@ -20,3 +20,5 @@ pub mod UnderWay
 pub mod GivenPairs
 pub mod Lines
 pub mod WorkedBouts
+pub mod OwnMachines
+pub mod LastMachines

@@ -19,12 +19,14 @@ use Rattle.actor_core.proofs.EventsCounted.{still_linked_in_wave}
 use Rattle.actor_core.proofs.Runs.{runs_live}
 use Rattle.actor_core.proofs.Seated.{AllRelate, HasRun, all_relate, extends, join_after, journal_grows}
 use Rattle.actor_core.proofs.Seated.{stand_after_in_wave}
-use Rattle.join_runtime.specs.Views.{SeatView, frame_of, lists_of, player}
+use Rattle.join_runtime.specs.Kinds.{IsMachineOf}
+use Rattle.join_runtime.specs.Views.{Frame, SeatView, frame_of, lists_of, player}
 use Rattle.join_runtime.specs.Turns.{Advances, AllStep, AllWork, IsAlike, Steps, Works}
 use Rattle.join_runtime.specs.Joins.{AreGathered, AreSettled}
 use Rattle.join_runtime.specs.Bouts.{AllAdvance, NoneSpent}
 use Rattle.join_runtime.proofs.SeatTurns.{advances_after, advances_alike, ends_hear, steps_joined, steps_none}
 use Rattle.join_runtime.proofs.FramePlaces.{frames_same}
+use Rattle.join_runtime.proofs.OwnMachines.{runs_own}
 
 -- ---- one seat
 
@@ -115,6 +117,11 @@ still_settled old new long advance gathered settled = record {
   hear = λ n d low.
       let a = advance n d (omega (arith, long)) in
       ends_hear (get_or old n d) (get_or new n d) a.ends (settled.hear n d (omega (arith, long)));
+  own = λ n d low.
+      let a = advance n d (omega (arith, long)) in
+      let own = settled.own n d (omega (arith, long)) in
+      subst (IsMachineOf (get_or new n d).core) (sym (ap (λ (f : Frame). f.actor) a.ends.frame))
+      (runs_own a.count (player (get_or old n d)) (player (get_or new n d)) a.runs (get_or old n d).actor own);
   live = λ n d low.
       let a = advance n d (omega (arith, long)) in
       let live = settled.live n d (omega (arith, long)) in

@@ -4,6 +4,7 @@ use Rattle.std.specs.Io.KnownBytes.{append_known}
 use Rattle.join_rows.specs.Lists.{IsWithinBag}
 use Rattle.join_rows.specs.Sinks.{AppendsFront}
 use Rattle.epoch_tags.specs.declared.tuple.Pair.{Pair}
+use Rattle.epoch_tags.specs.declared.actor.Actor.{Actor}
 use Rattle.epoch_tags.specs.declared.actor.Actor.TheVariants.{Collector}
 use Rattle.epoch_tags.specs.Messages.{found_before_fin}
 use Rattle.pair_collector.specs.Law.{CollectorLists}
@@ -15,6 +16,7 @@ use Rattle.actor_core.specs.Standing.{OfCollector, Start, Stands, IsLive, given_
 use Rattle.actor_core.specs.Families.{core_in}
 use Rattle.actor_core.specs.declared.machines.Core.{Core}
 use Rattle.join_report.specs.PairLines.{pair_lines}
+use Rattle.join_runtime.specs.Kinds.{IsMachineOf}
 use Rattle.join_runtime.specs.Bouts.{SeatsView, cores_in, lists_in}
 
 -- ---- what was written
@@ -60,3 +62,4 @@ pub record Gives (old new : Core) (pairs : List Pair) : Type 0 where
       → AreGiven joiners (collector_lists ls) (given_by new)
   pub stands : (start : Start) (ls : ActorLists) → Stands start ls old → Stands start ls new
   pub live : IsLive old → IsLive new
+  pub own : (a : Actor) → IsMachineOf old a → IsMachineOf new a

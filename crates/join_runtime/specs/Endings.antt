@@ -2,10 +2,14 @@
 use Rattle.std.specs.Prelude.{ℕ, Bool, Option, List}
 use Rattle.epoch_tags.specs.declared.actor.Actor.{Actor}
 use Rattle.load_controller.specs.declared.line.TurnLine.{TurnLine}
+use Rattle.load_controller.specs.Standing.{ControllerState}
+use Rattle.pair_collector.specs.Standing.{CollectorState}
 use Rattle.ruled_links.specs.Ends.{Sending}
 use Rattle.ruled_links.specs.Inboxes.{InboxView}
 use Rattle.trace_law.specs.Family.{Family}
 use Rattle.actor_core.specs.Lists.{ActorLists}
+use Rattle.actor_core.specs.declared.machines.Core.{Core}
+use Rattle.actor_core.specs.Endings.{AreLast}
 use Rattle.actor_core.specs.Families.{family_of}
 use Rattle.actor_core.specs.Players.{is_complete_among, journal_among, lists_among}
 use Rattle.join_runtime.specs.Views.{SeatView, received_of, sent_through}
@@ -46,6 +50,12 @@ journal_in v = journal_among v.joiners v.feeders (cores_in v)
 -- the typed lists of all actors, with that journal
 abbrev pub family_in : SeatsView → Family
 family_in v = family_of (journal_in v) (lists_in v)
+
+-- the last two machines are a controller's and a collector's
+pub record HaveLastTwo (cores : List Core) : Type 0 where
+  pub controller : ControllerState
+  pub collector : CollectorState
+  pub last : AreLast cores controller collector
 
 -- the collector of these seats is complete
 abbrev pub is_collected : SeatsView → Bool

@@ -7,6 +7,7 @@ use Rattle.ruled_links.specs.Delivery.{number_of}
 use Rattle.ruled_links.specs.Inboxes.{InboxView, OfSender, IsMouthOf, messages_of, is_sender, fresh, told}
 use Rattle.actor_core.specs.Standing.{IsLive}
 use Rattle.actor_core.specs.Numbers.{number, actor_at}
+use Rattle.join_runtime.specs.Kinds.{IsMachineOf}
 use Rattle.join_runtime.specs.Views.{SeatView, Frame, Address, lists_of}
 
 -- the seat at this number is that actor's
@@ -105,8 +106,11 @@ AreGatheredBelow below seats = (n r : ℕ) (d : SeatView) → n < below → r < 
 abbrev pub AreGathered : List SeatView → Type 0
 AreGathered seats = AreGatheredBelow (length seats) seats
 
--- the seats that are not spent: they heard senders alone, no machine is spent, and what is left on each link is known
+-- the seats that are not spent: they heard senders alone, each machine is one for its seat's actor, no machine is
+-- spent, and what is left on each link is known
 pub record AreSettled (seats : List SeatView) : Type 0 where
   pub hear : (n : ℕ) (d : SeatView) → n < length seats → HearsSenders (slice_index_or seats n d)
+  pub own : (n : ℕ) (d : SeatView) → n < length seats
+      → IsMachineOf (slice_index_or seats n d).core (slice_index_or seats n d).actor
   pub live : (n : ℕ) (d : SeatView) → n < length seats → IsLive (slice_index_or seats n d).core
   pub gathered : AreGathered seats

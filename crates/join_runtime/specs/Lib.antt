@@ -1,6 +1,7 @@
 pub mod Views
 pub mod Turns
 pub mod Joins
+pub mod Kinds
 pub mod Bouts
 pub mod Seating
 pub mod Endings

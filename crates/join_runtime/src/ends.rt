@@ -14,11 +14,11 @@ ghost use Rattle.actor_core.specs.Rests.{IsRestOf};
 ghost use Rattle.load_controller.specs.Journal.{last_line};
 ghost use Rattle.load_controller.specs.declared.line.TurnLine.{TurnLine as TurnLine'};
 ghost use Rattle.join_runtime.specs.Bouts.{AllJoinBy, StandsFor, StandsInWave, lists_in};
-ghost use Rattle.join_runtime.specs.Endings.{end_of, is_collected, journal_in, lists_left};
+ghost use Rattle.join_runtime.specs.Endings.{HaveLastTwo, end_of, is_collected, journal_in, lists_left};
 
 use crate::bouts::Seats;
 use crate::seat::Seat;
-use actor_core::{Core, WaveRun, answer, last_machines, machines_left, wave_run};
+use actor_core::{Core, WaveRun, answer, machines_left, wave_run};
 use join_rows::Items;
 use load_controller::Controller;
 use pair_collector::Collector;
@@ -122,14 +122,25 @@ fn parts<'a>(alloc: Global, seats: Vec<Seat<'a>>) -> Result<(Vec<Core<'a>>, Vec<
     Ok((cores, ends))
 }
 
-// The controller's machine and the collector's, or an error where they aren't the last two.
-fn last_two<'a>(cores: Vec<Core<'a>>) -> Result<(Controller, Collector), AllocError>
-    ensures { IfOk result (λ last. AreLast cores.entry.items last.0 last.1) }
+// The controller's machine and the collector's, which are the last two.
+fn last_two<'a>(cores: Vec<Core<'a>>) -> (Controller, Collector)
+    requires { HaveLastTwo cores.items }
+    ensures { AreLast cores.entry.items result.0 result.1 }
 {
-    match last_machines(cores) {
-        Some(last) => Ok(last),
-        None => Err(AllocError),
-    }
+    let mut cores = cores;
+    let Some(last) = cores.pop() else {
+        unreachable!();
+    };
+    let Some(before) = cores.pop() else {
+        unreachable!();
+    };
+    let Some(collector) = last.into_collector() else {
+        unreachable!();
+    };
+    let Some(controller) = before.into_controller() else {
+        unreachable!();
+    };
+    (controller, collector)
 }
 
 impl<'a> Seats<'a> {
@@ -143,8 +154,8 @@ impl<'a> Seats<'a> {
         }
     }
 
-    /// The answer of seats whose collector is complete, with so many bouts, and what they leave. After `AllocError` the
-    /// seats are gone.
+    /// The answer of seats whose collector is complete, with so many bouts, and what they leave. Spent seats answer
+    /// `AllocError` too, and after it the seats are gone.
     pub fn finish(self, bouts: u64) -> Result<Told, AllocError>
         requires { is_collected self ≡ true }
         ensures family { IfOk result (λ told.
@@ -167,10 +178,14 @@ impl<'a> Seats<'a> {
             joiners,
             feeders,
             seats,
-            ..
+            spent,
         } = self;
+        if spent {
+            drop(seats);
+            return Err(AllocError);
+        }
         let (cores, ends) = parts(alloc, seats)?;
-        let (controller, collector) = last_two(cores)?;
+        let (controller, collector) = last_two(cores);
         let run = answer(alloc, &controller, collector, bouts)?;
         Ok(Told {
             run,

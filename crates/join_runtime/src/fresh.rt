@@ -1,6 +1,6 @@
 // The pairs that came since the collector last gave some.
 
-ghost use Rattle.std.specs.Prelude.{◌≡◌, ◌^◌, IfOk, OnErr, OnOk, IsPermutation};
+ghost use Rattle.std.specs.Prelude.{◌≡◌, ◌^◌, false, IfOk, OnErr, OnOk, IsPermutation};
 ghost use Rattle.epoch_tags.specs.declared.actor.Actor.{Actor as Actor'};
 ghost use Rattle.pair_collector.specs.Law.{CollectorLists};
 ghost use Rattle.pair_collector.specs.Fresh.{pairs_since};
@@ -16,6 +16,7 @@ use std::alloc::AllocError;
 impl<'a> Seats<'a> {
     // The pairs that the collector took since the last call of this that answered `Ok`. No list changes.
     pub(crate) fn fresh(&mut self) -> Result<Pairs, AllocError>
+        requires { self.old.spent ≡ false }
         ensures gives { IfOk result (λ pairs.
             (input : Input') (setting : Setting') (earlier : CollectorLists)
             → StandsFor input setting self.old
@@ -30,9 +31,6 @@ impl<'a> Seats<'a> {
         ensures fails { OnErr result (self.new ≡ self.old) }
     {
         let count = self.seats.len();
-        if count == 0 {
-            return Err(AllocError);
-        }
         self.seats[count - 1].fresh()
     }
 }

@@ -7,6 +7,8 @@ ghost use Rattle.actor_core.specs.declared.step.Step.TheVariants.{Took as Took',
 ghost use Rattle.actor_core.specs.Standing.{Waits, IsLive};
 ghost use Rattle.actor_core.specs.Players.{is_complete_core};
 ghost use Rattle.ruled_links.specs.Inboxes.{IsSameInbox, all_known};
+ghost use Rattle.epoch_tags.specs.declared.actor.Actor.TheVariants.{Collector as Collector'};
+ghost use Rattle.join_runtime.specs.Kinds.{IsMachineOf};
 ghost use Rattle.join_runtime.specs.Views.{frame_of};
 ghost use Rattle.join_runtime.specs.Turns.{MakesTurn, Opens, Rests};
 ghost use Rattle.join_runtime.specs.Joins.{IsSlotOf, Tells};
@@ -199,16 +201,16 @@ impl<'a> Seat<'a> {
         }
     }
 
-    // The pairs that its collector took since the last call of this that answered `Ok`; an error too where it is
-    // another actor's.
+    // The pairs that its collector took since the last call of this that answered `Ok`.
     pub(crate) fn fresh(&mut self) -> Result<Pairs, AllocError>
+        requires { IsMachineOf self.old.core Collector' }
         ensures gives { IfOk result (λ pairs. Gives self.old.core self.new.core pairs) }
         ensures rest { self.new ≡ record self.old { core = self.new.core } }
         ensures fails { OnErr result (self.new ≡ self.old) }
     {
         match &mut self.core {
             Core::Collector(collector) => collector.fresh(),
-            _ => Err(AllocError),
+            _ => unreachable!(),
         }
     }
 

@@ -1,9 +1,22 @@
 use Rattle.std.proofs.Common.{◌≡◌, subst, sym, true}
 use Rattle.actor_core.specs.Endings.{AreLast}
 use Rattle.join_runtime.specs.Bouts.{SeatsView, lists_in}
-use Rattle.join_runtime.specs.Endings.{EndsView, is_collected, lists_left}
+use Rattle.join_runtime.specs.Endings.{EndsView, HaveLastTwo, is_collected, lists_left}
 use Rattle.join_runtime.proofs.Ended.{complete_there, ends_keep, told_family, told_journal, told_run}
+use Rattle.join_runtime.proofs.LastMachines.{have_last_two}
 use Rattle.join_runtime.proofs.bouts.Seats.finish.Goals as goal
+
+pub last_two-controller-requires : goal.last_two-controller-requires
+last_two-controller-requires c =
+    let own = c.self.inside in
+    let v : SeatsView = record {
+      joiners = own.joiners;
+      feeders = own.feeders;
+      seats = own.seats.items;
+      spent = own.spent;
+    } in
+    subst HaveLastTwo (sym c.in_ok-cores.ensures.cores)
+    (have_last_two v c.self.invariant.0 (c.self.invariant.1 c.if-spent.false))
 
 pub answer-requires : goal.answer-requires
 answer-requires c =
@@ -14,10 +27,10 @@ answer-requires c =
       seats = own.seats.items;
       spent = own.spent;
     } in
-    let two = c.in_ok-controller in
-    let last = subst (λ cores. AreLast cores two.controller two.collector) c.in_ok-cores.ensures.cores two.ensures in
+    let two = c.last_two-controller.result in
+    let last = subst (λ cores. AreLast cores two.0 two.1) c.in_ok-cores.ensures.cores c.last_two-controller.ensures in
     let done : is_collected v ≡ true = rw (← c.self.view_is) at c.requires in
-    complete_there v c.self.invariant.0 two.controller two.collector last done
+    complete_there v c.self.invariant.0 two.0 two.1 last done
 
 pub returns-clause-family : goal.returns-clause-family
 returns-clause-family c =
@@ -28,13 +41,13 @@ returns-clause-family c =
       seats = own.seats.items;
       spent = own.spent;
     } in
-    let two = c.in_ok-controller in
-    let last = subst (λ cores. AreLast cores two.controller two.collector) c.in_ok-cores.ensures.cores two.ensures in
+    let two = c.last_two-controller.result in
+    let last = subst (λ cores. AreLast cores two.0 two.1) c.in_ok-cores.ensures.cores c.last_two-controller.ensures in
     let done : is_collected v ≡ true = rw (← c.self.view_is) at c.requires in
     let e : EndsView = record { joiners = own.joiners; feeders = own.feeders; ends = c.in_ok-cores.ends.items } in
     rw (← c.self.view_is)
     (λ input setting valid stands fronts.
-    told_family v c.self.invariant.0 two.controller two.collector last c.complete_is_finished.ensures done input setting
+    told_family v c.self.invariant.0 two.0 two.1 last c.complete_is_finished.ensures done input setting
     valid stands fronts c.in_ok-run.run' c.in_ok-run.ensures.journal e
     (λ a. subst (λ es. lists_left (record { joiners = own.joiners; feeders = own.feeders; ends = es }) a ≡ lists_in v a)
     (sym c.in_ok-cores.ensures.ends) (ends_keep v a)))
@@ -48,12 +61,12 @@ returns-clause-run c =
       seats = own.seats.items;
       spent = own.spent;
     } in
-    let two = c.in_ok-controller in
-    let last = subst (λ cores. AreLast cores two.controller two.collector) c.in_ok-cores.ensures.cores two.ensures in
+    let two = c.last_two-controller.result in
+    let last = subst (λ cores. AreLast cores two.0 two.1) c.in_ok-cores.ensures.cores c.last_two-controller.ensures in
     let done : is_collected v ≡ true = rw (← c.self.view_is) at c.requires in
     rw (← c.self.view_is)
     (λ input setting valid stands fronts.
-    told_run v c.self.invariant.0 two.controller two.collector last c.complete_is_finished.ensures done input setting
+    told_run v c.self.invariant.0 two.0 two.1 last c.complete_is_finished.ensures done input setting
     valid stands fronts c.in_ok-run.run' c.finished_answers.ensures c.args.bouts c.in_ok-run.ensures.run)
 
 pub returns-clause-journal : goal.returns-clause-journal
@@ -65,10 +78,10 @@ returns-clause-journal c =
       seats = own.seats.items;
       spent = own.spent;
     } in
-    let two = c.in_ok-controller in
-    let last = subst (λ cores. AreLast cores two.controller two.collector) c.in_ok-cores.ensures.cores two.ensures in
+    let two = c.last_two-controller.result in
+    let last = subst (λ cores. AreLast cores two.0 two.1) c.in_ok-cores.ensures.cores c.last_two-controller.ensures in
     rw (← c.self.view_is)
-    (told_journal v c.self.invariant.0 two.controller two.collector last c.in_ok-run.run' c.in_ok-run.ensures.journal)
+    (told_journal v c.self.invariant.0 two.0 two.1 last c.in_ok-run.run' c.in_ok-run.ensures.journal)
 
 pub returns-clause-ends : goal.returns-clause-ends
 returns-clause-ends c =

@@ -1,9 +1,33 @@
-use Rattle.std.proofs.Common.{◌≡◌, ◌-◌, ◌<◌, length, arith}
+use Rattle.std.proofs.Common.{◌≡◌, ◌+◌, ◌-◌, ◌<◌, Some, ap, arith, false, length, subst, sym}
 use Rattle.std.proofs.lemmas.Result.{IfOk-weaker}
+use Rattle.epoch_tags.specs.declared.actor.Actor.TheVariants.{Collector}
 use Rattle.join_runtime.specs.Bouts.{SeatsView}
+use Rattle.join_runtime.specs.Kinds.{IsMachineOf}
+use Rattle.join_runtime.specs.Views.{SeatView}
 use Rattle.join_runtime.proofs.GivenPairs.{all_given, gives_since, joined_still, kin_by, lists_kept, on_ok_by}
 use Rattle.join_runtime.proofs.GivenPairs.{settled_kept, stands_kept}
+use Rattle.join_runtime.proofs.Ended.{many_seats}
+use Rattle.join_runtime.proofs.LastMachines.{own_machine}
 use Rattle.join_runtime.proofs.bouts.Seats.fresh.Goals as goal
+
+pub fresh-requires : goal.fresh-requires
+fresh-requires c =
+    let own = c.self.inside in
+    let v : SeatsView = record {
+      joiners = own.joiners;
+      feeders = own.feeders;
+      seats = own.seats.items;
+      spent = own.spent;
+    } in
+    let size = c.len-count.ensures in
+    let some = many_seats v c.self.invariant.0 in
+    let place = c.len-count.result - 1 in
+    let low : place < length v.seats = omega (arith, size, some) in
+    let is : v.feeders + v.joiners + 1 ≡ place = omega (arith, size, some) in
+    let at_work : v.spent ≡ false = subst (λ (x : SeatsView). x.spent ≡ false) (sym c.self.view_is) c.requires in
+    subst (λ (s : SeatView). IsMachineOf s.core Collector) (sym c.index_mut.ensures.value)
+    (own_machine v c.self.invariant.0 (c.self.invariant.1 at_work) place c.index_mut.result.now Collector low
+    (ap Some is))
 
 pub invariant_of-self : goal.invariant_of-self
 invariant_of-self c =
@@ -15,7 +39,7 @@ invariant_of-self c =
       spent = own.spent;
     } in
     let size = c.len-count.ensures in
-    let some = c.if-count-eq0.false in
+    let some = many_seats v c.self.invariant.0 in
     let place = c.len-count.result - 1 in
     let last : place ≡ length v.seats - 1 = omega (arith, size) in
     let low : place < length v.seats = omega (arith, size, some) in
@@ -37,7 +61,7 @@ returns-clause-gives c =
       spent = own.spent;
     } in
     let size = c.len-count.ensures in
-    let some = c.if-count-eq0.false in
+    let some = many_seats v c.self.invariant.0 in
     let place = c.len-count.result - 1 in
     let last : place ≡ length v.seats - 1 = omega (arith, size) in
     let low : place < length v.seats = omega (arith, size, some) in
@@ -60,7 +84,7 @@ returns-clause-given c =
       spent = own.spent;
     } in
     let size = c.len-count.ensures in
-    let some = c.if-count-eq0.false in
+    let some = many_seats v c.self.invariant.0 in
     let place = c.len-count.result - 1 in
     let last : place ≡ length v.seats - 1 = omega (arith, size) in
     let low : place < length v.seats = omega (arith, size, some) in
@@ -81,7 +105,7 @@ returns-clause-stands c =
       spent = own.spent;
     } in
     let size = c.len-count.ensures in
-    let some = c.if-count-eq0.false in
+    let some = many_seats v c.self.invariant.0 in
     let place = c.len-count.result - 1 in
     let last : place ≡ length v.seats - 1 = omega (arith, size) in
     let low : place < length v.seats = omega (arith, size, some) in
@@ -101,7 +125,7 @@ returns-clause-lists c =
       spent = own.spent;
     } in
     let size = c.len-count.ensures in
-    let some = c.if-count-eq0.false in
+    let some = many_seats v c.self.invariant.0 in
     let place = c.len-count.result - 1 in
     let last : place ≡ length v.seats - 1 = omega (arith, size) in
     let low : place < length v.seats = omega (arith, size, some) in
