@@ -49,8 +49,16 @@ module _ (setting : Setting) (count : ℕ) (cores : List Core) (first seats : Li
   made n d low = new.new n d low
 
   still : (n : ℕ) (d : SeatView) → n < count → get_or seats n d
-      ≡ record (get_or first n d) { mouths = (get_or seats n d).mouths }
+      ≡ record (get_or first n d) { mouths = (get_or seats n d).mouths; spent = (get_or seats n d).spent }
   still n d low = filled.same n d (subst (λ z. n < z) (sym new.all) low)
+
+  -- each seat has the numbers of joiners and feeders
+  pub seat_numbers : (n : ℕ) (d : SeatView) → n < count
+      → ((get_or seats n d).joiners ≡ 2 ^ setting.k) × ((get_or seats n d).feeders ≡ setting.feeders)
+  seat_numbers n d low = (
+    ap (λ (s : SeatView). s.joiners) (still n d low) ∙ (made n d low).joiners_are,
+    ap (λ (s : SeatView). s.feeders) (still n d low) ∙ (made n d low).feeders_are,
+  )
 
   inbox_is : (n : ℕ) (d : SeatView) → n < count → (get_or seats n d).inbox ≡ (get_or first n d).inbox
   inbox_is n d low = ap (λ (s : SeatView). s.inbox) (still n d low)
@@ -243,6 +251,14 @@ module _ (setting : Setting) (count : ℕ) (cores : List Core) (first seats : Li
           (machine n d (low_of n low)).live;
       gathered = gathered;
     }
+
+    -- each machine began as its actor begins, and stands for empty lists
+    pub machine_there : (n : ℕ) (d : SeatView) → n < count
+        → Stands (start_in_wave input setting rest (actor_at (2 ^ setting.k) setting.feeders n)) no_lists
+        (get_or seats n d).core
+    machine_there n d low =
+        subst (Stands (start_in_wave input setting rest (actor_at (2 ^ setting.k) setting.feeders n)) no_lists)
+        (sym (ap (λ (s : SeatView). s.core) (still n d low))) (machine n d low).stands
 
     -- there is a machine for each actor, which began as input, setting and rest say and stands for the lists of its
     -- seat

@@ -1,16 +1,11 @@
 -- The last two machines of settled seats are the controller's and the collector's.
-use Rattle.std.proofs.Common.{◌≡◌, ◌∙◌, ℕ, ◌+◌, ◌<◌, List, [], ◌∷◌, ◌++◌, Some, ap, arith, get_or, length, map, refl}
-use Rattle.std.proofs.Common.{subst, sym}
-use Rattle.std.specs.Prelude.{slice_get}
-use Rattle.std.proofs.lemmas.List.{length-append, length-map}
+use Rattle.std.proofs.Common.{◌≡◌, ◌∙◌, ℕ, ◌+◌, ◌<◌, Some, ap, arith, get_or, length, map, refl, subst, sym}
+use Rattle.std.proofs.lemmas.List.{length-map}
 use Rattle.epoch_tags.specs.declared.actor.Actor.{Actor}
 use Rattle.epoch_tags.specs.declared.actor.Actor.TheVariants.{Controller, Collector}
-use Rattle.actor_core.specs.Numbers.{actor_at, number}
-use Rattle.actor_core.specs.declared.machines.Core.{Core}
-use Rattle.actor_core.specs.declared.machines.Core.TheVariants.{Controller as TheController, Collector as TheCollector}
+use Rattle.actor_core.specs.Numbers.{number}
 use Rattle.actor_core.proofs.Beginnings.{there}
-use Rattle.actor_core.proofs.LastTwo.{before_last, last_of}
-use Rattle.actor_core.proofs.OwnNumbers.{number_actor, some_is}
+use Rattle.actor_core.proofs.OwnNumbers.{number_actor}
 use Rattle.actor_core.proofs.Seated.{core_at}
 use Rattle.join_runtime.specs.Views.{Frame, SeatView, frame_of}
 use Rattle.join_runtime.specs.Kinds.{IsMachineOf}

@@ -22,3 +22,7 @@ pub mod Lines
 pub mod WorkedBouts
 pub mod OwnMachines
 pub mod LastMachines
+pub mod Served
+pub mod FirstServed
+pub mod Awake
+pub mod TakenMouths

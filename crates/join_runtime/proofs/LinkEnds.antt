@@ -34,6 +34,11 @@ pub tells_mouths : (slot : Option Sending) (old new : SeatView) → Tells slot o
 tells_mouths None old new is = ap (λ (s : SeatView). s.mouths) is
 tells_mouths (Some mouth) old new is = ap (λ (s : SeatView). s.mouths) is.now
 
+-- and is spent only if it was
+pub tells_spent : (slot : Option Sending) (old new : SeatView) → Tells slot old new → new.spent ≡ old.spent
+tells_spent None old new is = ap (λ (s : SeatView). s.spent) is
+tells_spent (Some mouth) old new is = ap (λ (s : SeatView). s.spent) is.now
+
 -- it is known of this mouth
 pub gathers : (slot : Option Sending) (old new : SeatView) → Tells slot old new → IsGathered slot new.inbox
 gathers None old new is = tt

@@ -102,27 +102,33 @@ module _ (setting : Setting) (count : ℕ) (cores : List Core) (first seats : Li
             (number (2 ^ setting.k) setting.feeders to)) is) some)))
         go (Some n) is = to_there n is (number (2 ^ setting.k) setting.feeders to) refl
 
-    has_mouth : (from to : Actor) → HasLink setting.k setting.feeders from to → IsSome (mouth_of v from to)
-    has_mouth from to link =
+    -- at the seat of the one stands the mouth, at the number of the other
+    pub slot_there : (from to : Actor) (n : ℕ) (d : SeatView) → HasLink setting.k setting.feeders from to
+        → number (2 ^ setting.k) setting.feeders from ≡ Some n
+        → (r : ℕ) × (number (2 ^ setting.k) setting.feeders to ≡ Some r) × IsSome (slot_of seats d n r)
+    slot_there from to n d link is =
         let ends = actors_linked setting from to link in
-        let num = has_number setting from ends.0 in
         let num' = has_number setting to ends.1 in
         let low = low_number to num'.0 num'.1 in
-        let low_from = low_number from num.0 num.1 in
-        let low_seat = subst (λ z. num.0 < z) (sym long) low_from in
-        let d = (there seats num.0 low_seat).0 in
+        let low_from = low_number from n is in
         let one = new.new num'.0 d low in
         let inbox = (get_or first num'.0 d).inbox in
-        let name = one.links.whole setting.k refl from num.0 num.1 (subst (λ z. num.0 < z) many low_from)
+        let name = one.links.whole setting.k refl from n is (subst (λ z. n < z) many low_from)
         (subst (HasLink setting.k setting.feeders from)
         (sym (number_actor (2 ^ setting.k) setting.feeders to num'.0 num'.1)) link) in
         let has = subst (λ ms. Contains ms (opened inbox.link inbox.to from)) (sym one.mouths_are)
         (map_contains (opened inbox.link inbox.to) one.names from name) in
-        let given = filled.has num.0 num'.0 d (opened inbox.link inbox.to from) low (record {
-          one = has;
-          sender = num.1;
-        }) in
-        subst IsSome (sym (mouth_is from to num.0 num'.0 d num.1 num'.1 low_seat)) given.1
+        let given = filled.has n num'.0 d (opened inbox.link inbox.to from) low (record { one = has; sender = is }) in
+        (num'.0, num'.1, given.1)
+
+    has_mouth : (from to : Actor) → HasLink setting.k setting.feeders from to → IsSome (mouth_of v from to)
+    has_mouth from to link =
+        let ends = actors_linked setting from to link in
+        let num = has_number setting from ends.0 in
+        let low_seat = subst (λ z. num.0 < z) (sym long) (low_number from num.0 num.1) in
+        let d = (there seats num.0 low_seat).0 in
+        let slot = slot_there from to num.0 d link num.1 in
+        subst IsSome (sym (mouth_is from to num.0 slot.0 d num.1 slot.1 low_seat)) slot.2
 
     -- one actor has a mouth to another exactly where there is a link
     pub all_linked : (from to : Actor) → (IsSome (mouth_of v from to) ↔ HasLink setting.k setting.feeders from to)

@@ -11,7 +11,7 @@ use Rattle.actor_core.proofs.OwnNumbers.{none_some, some_is}
 use Rattle.join_runtime.specs.Views.{SeatView}
 use Rattle.join_runtime.specs.Joins.{slot_of}
 use Rattle.actor_core.proofs.Beginnings.{there}
-use Rattle.join_runtime.specs.Seating.{HasSeat, HavePlaces, Puts, IsOneOf, Places, AreFilled}
+use Rattle.join_runtime.specs.Seating.{AreAwake, AreFilled, HasSeat, HavePlaces, IsOneOf, Places, Puts}
 
 -- ---- one mouth
 
@@ -212,13 +212,21 @@ pub filled_more : (joiners feeders below : ℕ) (mouths : List (List Sending)) (
     → AreFilled joiners feeders (below + 1) mouths first new
 filled_more joiners feeders below mouths first old new before places = record {
   all = places.all ∙ before.all;
-  same = λ n d low. places.same n d (subst (λ z. n < z) (sym before.all) low)
-      ∙ ap (λ (s : SeatView). record s { mouths = (get_or new n d).mouths }) (before.same n d low);
+  same = same;
   many = λ n d low. places.many n d (subst (λ z. n < z) (sym before.all) low) ∙ before.many n d low;
   own = own;
   has = has;
 }
   where
+    same : (n : ℕ) (d : SeatView) → n < length first → get_or new n d
+        ≡ record (get_or first n d) { mouths = (get_or new n d).mouths; spent = (get_or new n d).spent }
+    same n d low =
+        let last = places.same n d (subst (λ z. n < z) (sym before.all) low) in
+        last
+        ∙ ap (λ (s : SeatView). record s { mouths = (get_or new n d).mouths }) (before.same n d low)
+        ∙ ap (λ b. record (get_or first n d) { mouths = (get_or new n d).mouths; spent = b })
+        (sym (ap (λ (s : SeatView). s.spent) last))
+
     own : (n r : ℕ) (d : SeatView) (m : Sending) → n < length first → slot_of new d n r ≡ Some m → (r < below + 1)
         × IsOneOf joiners feeders n (get_or mouths r []) m
     own n r d m low is = go (r == below) refl
@@ -250,3 +258,28 @@ filled_more joiners feeders below mouths first old new before places = record {
             let other = eqb-false r below e in
             let past = before.has n r d m (omega arith) is in
             (past.0, subst IsSome (sym (places.others n r d (subst (λ z. n < z) (sym before.all) past.0) other)) past.1)
+
+-- where each mouth came to its sender, and then all seats are awake, each mouth came to its sender
+pub filled_awake : (joiners feeders below : ℕ) (mouths : List (List Sending)) (first old new : List SeatView)
+    → AreFilled joiners feeders below mouths first old → AreAwake old new
+    → AreFilled joiners feeders below mouths first new
+filled_awake joiners feeders below mouths first old new filled awake = record {
+  all = awake.all ∙ filled.all;
+  same = λ n d low.
+      let is = awake.each n d (within n low) in
+      is ∙ ap (λ (s : SeatView). record s { spent = false }) (filled.same n d low)
+      ∙ (ap (λ ms. record (get_or first n d) { mouths = ms; spent = false }) (sym (ap (λ (s : SeatView). s.mouths) is))
+      ∙ ap (λ b. record (get_or first n d) { mouths = (get_or new n d).mouths; spent = b })
+      (sym (ap (λ (s : SeatView). s.spent) is)));
+  many = λ n d low. ap (λ (s : SeatView). length s.mouths) (awake.each n d (within n low)) ∙ filled.many n d low;
+  own = λ n r d mouth low is. filled.own n r d mouth low (sym (slot_still n r d low) ∙ is);
+  has = λ n r d mouth low is.
+      let one = filled.has n r d mouth low is in
+      (one.0, subst IsSome (sym (slot_still n r d one.0)) one.1);
+}
+  where
+    within : (n : ℕ) → n < length first → n < length old
+    within n low = subst (λ z. n < z) (sym filled.all) low
+
+    slot_still : (n r : ℕ) (d : SeatView) → n < length first → slot_of new d n r ≡ slot_of old d n r
+    slot_still n r d low = ap (λ (s : SeatView). get_or s.mouths r None) (awake.each n d (within n low))

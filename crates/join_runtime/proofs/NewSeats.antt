@@ -1,5 +1,5 @@
 -- Seats as they are made, one after another.
-use Rattle.std.proofs.Common.{◌≡◌, ℕ, ◌+◌, ◌<◌, inl, inr, refl, sym, ap, subst, ◌∙◌, false, Option, List, [], ◌∷◌, ◌++◌}
+use Rattle.std.proofs.Common.{◌≡◌, ℕ, ◌+◌, ◌<◌, inl, inr, refl, sym, ap, subst, ◌∙◌, true, Option, List, [], ◌∷◌, ◌++◌}
 use Rattle.std.proofs.Common.{get_or, length, arith, Some}
 use Rattle.std.specs.Prelude.{Contains}
 use Rattle.std.proofs.lemmas.Bool.{cases_lt}
@@ -27,7 +27,7 @@ pub room_seat : (joiners feeders n : ℕ) (core : Core) (actor : Actor) (inbox :
       core = core;
       inbox = inbox;
       mouths = places;
-      spent = false;
+      spent = true;
     }) mouths
 room_seat joiners feeders n core actor inbox mouths places is room = record {
   joiners_are = refl;

@@ -4,6 +4,7 @@ pub mod Joins
 pub mod Kinds
 pub mod Bouts
 pub mod Seating
+pub mod Serving
 pub mod Endings
 pub mod Early
 pub mod Runs

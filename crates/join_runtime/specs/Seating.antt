@@ -1,5 +1,5 @@
 -- The seats of a run at its beginning, and how mouths come to their senders.
-use Rattle.std.specs.Prelude.{◌≡◌, ◌≢◌, ◌<◌, ◌+◌, ◌^◌, ◌⊎◌, ℕ, Option, Some, None, IsSome}
+use Rattle.std.specs.Prelude.{◌≡◌, ◌≢◌, ◌<◌, ◌+◌, ◌^◌, ◌⊎◌, ℕ, false, Option, Some, None, IsSome}
 use Rattle.std.specs.Prelude.{Contains, List, [], map, length}
 use Rattle.std.specs.Prelude.{slice_get, slice_set, slice_index_or}
 use Rattle.epoch_tags.specs.declared.actor.Actor.{Actor}
@@ -117,11 +117,14 @@ pub record Places (joiners feeders receiver : ℕ) (mouths : List Sending) (old 
   pub has : (n : ℕ) (d : SeatView) (mouth : Sending) → IsOneOf joiners feeders n mouths mouth → (n < length old)
       × IsSome (slot_of new d n receiver)
 
--- of the receivers below this number, each mouth came to its sender
+-- of the receivers below this number, each mouth came to its sender; nothing else changed, but whether seats are spent
 pub record AreFilled (joiners feeders below : ℕ) (mouths : List (List Sending)) (old new : List SeatView) : Type 0 where
   pub all : length new ≡ length old
   pub same : (n : ℕ) (d : SeatView) → n < length old → slice_index_or new n d
-      ≡ record (slice_index_or old n d) { mouths = (slice_index_or new n d).mouths }
+      ≡ record (slice_index_or old n d) {
+        mouths = (slice_index_or new n d).mouths;
+        spent = (slice_index_or new n d).spent;
+      }
   pub many : (n : ℕ) (d : SeatView) → n < length old
       → length (slice_index_or new n d).mouths ≡ length (slice_index_or old n d).mouths
   pub own : (n r : ℕ) (d : SeatView) (mouth : Sending) → n < length old → slot_of new d n r ≡ Some mouth
@@ -129,6 +132,21 @@ pub record AreFilled (joiners feeders below : ℕ) (mouths : List (List Sending)
   pub has : (n r : ℕ) (d : SeatView) (mouth : Sending) → r < below
       → IsOneOf joiners feeders n (slice_index_or mouths r []) mouth
       → (n < length old) × IsSome (slot_of new d n r)
+
+-- each seat is the same, and not spent
+pub record AreAwake (old new : List SeatView) : Type 0 where
+  pub all : length new ≡ length old
+  pub each : (n : ℕ) (d : SeatView) → n < length old
+      → slice_index_or new n d ≡ record (slice_index_or old n d) { spent = false }
+
+-- these are the first machines of a wave of some input, by the numbers of actors
+pub record AreFirst (joiners feeders : ℕ) (cores : List Core) : Type 0 where
+  pub input : Input
+  pub setting : Setting
+  pub rest : Rest
+  pub joiners_are : joiners ≡ 2 ^ setting.k
+  pub feeders_are : setting.feeders ≡ feeders
+  pub fresh : AreFresh input setting rest (length cores) cores
 
 -- the seats for these machines, of which each mouth came to its sender
 pub record AreSeated (joiners feeders : ℕ) (cores : List Core) (seats : List SeatView) : Type 0 where

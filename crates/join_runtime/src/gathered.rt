@@ -4,6 +4,7 @@ ghost use Rattle.std.specs.Prelude.{◌≡◌, ◌<◌, ℕ, None, length, map, 
 ghost use Rattle.join_runtime.specs.Views.{SeatView, frame_of};
 ghost use Rattle.join_runtime.specs.Turns.{IsAlike};
 ghost use Rattle.join_runtime.specs.Joins.{ActorsDiffer, AllLead, AreGathered, IsSlotOf, Tells, slot_of};
+ghost use Rattle.join_runtime.specs.Bouts.{NoneSpent};
 
 use crate::seat::Seat;
 use ruled_links::Mouth;
@@ -27,6 +28,7 @@ fn gather_row<R: Wait>(rt: &R, mouths: &mut Vec<Option<Mouth>>, seats: &mut [Sea
 
 fn gather_from<R: Wait>(rt: &R, seats: &mut [Seat], sender: usize)
     requires sender { sender < length seats.old }
+    requires none_spent { NoneSpent seats.old }
     requires joined { (r : ℕ) (d : SeatView) → r < length seats.old
         → IsSlotOf (slot_of seats.old d sender r) (slice_index_or seats.old r d).inbox }
     ensures told { (r : ℕ) (d : SeatView) → r < length seats.old
@@ -42,6 +44,7 @@ fn gather_from<R: Wait>(rt: &R, seats: &mut [Seat], sender: usize)
 pub(crate) fn gather_all<R: Wait>(rt: &R, seats: &mut [Seat])
     requires leads { AllLead (map frame_of seats.old) }
     requires differ { ActorsDiffer (map frame_of seats.old) }
+    requires none_spent { NoneSpent seats.old }
     ensures frames { map frame_of seats.new ≡ map frame_of seats.old }
     ensures alike { (n : ℕ) (d : SeatView) → n < length seats.old
         → IsAlike (slice_index_or seats.old n d) (slice_index_or seats.new n d) }

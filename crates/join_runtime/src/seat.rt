@@ -11,6 +11,7 @@ ghost use Rattle.epoch_tags.specs.declared.actor.Actor.TheVariants.{Collector as
 ghost use Rattle.join_runtime.specs.Kinds.{IsMachineOf};
 ghost use Rattle.join_runtime.specs.Views.{frame_of};
 ghost use Rattle.join_runtime.specs.Turns.{MakesTurn, Opens, Rests};
+ghost use Rattle.join_runtime.specs.Serving.{IsServed};
 ghost use Rattle.join_runtime.specs.Joins.{IsSlotOf, Tells};
 ghost use Rattle.join_runtime.specs.Bouts.{IsReady};
 ghost use Rattle.join_runtime.specs.Endings.{end_of};
@@ -40,12 +41,15 @@ pub struct Seat<'a> {
     // How many turns it has had, and how many of them before this bout.
     turns: u64,
     turns_before: u64,
+    // While it isn't, there is a mouth for each actor to which the machine may send.
     spent: bool,
     alloc: Global,
 }
 
 impl<'a> Model for Seat<'a> {
+    ghost use Rattle.std.specs.Prelude.{◌≡◌, false};
     ghost use Rattle.join_runtime.specs.Views.{SeatView};
+    ghost use Rattle.join_runtime.specs.Serving.{IsServed};
     ghost use Rattle.std.specs.Coded.{codes};
     ghost use Rattle.theta_pred.specs.FormulaCode.{formula_code};
 
@@ -62,6 +66,9 @@ impl<'a> Model for Seat<'a> {
       mouths = seat.mouths.items;
       spent = seat.spent;
     } };
+
+    ghost invariant = { λ seat. seat.spent ≡ false
+        → IsServed seat.joiners seat.feeders seat.mouths.items seat.core };
 }
 
 // Takes a message, or begins where there is none, and calls the machine.
@@ -103,7 +110,7 @@ pub(crate) fn no_mouths(alloc: Global, count: u32) -> Result<Vec<Option<Mouth>>,
 }
 
 impl<'a> Seat<'a> {
-    // A seat that has had no turn.
+    // A seat that has had no turn, and that has none before it is awake.
     pub(crate) fn new(
         alloc: Global,
         joiners: u32,
@@ -120,7 +127,7 @@ impl<'a> Seat<'a> {
           core = core.entry;
           inbox = inbox;
           mouths = mouths.items;
-          spent = false;
+          spent = true;
         } }
     {
         Seat {
@@ -132,9 +139,17 @@ impl<'a> Seat<'a> {
             mouths,
             turns: 0,
             turns_before: 0,
-            spent: false,
+            spent: true,
             alloc,
         }
+    }
+
+    // It has its mouths, and may have turns.
+    pub(crate) fn wake(&mut self)
+        requires { IsServed self.old.joiners self.old.feeders self.old.mouths self.old.core }
+        ensures { self.new ≡ record self.old { spent = false } }
+    {
+        self.spent = false;
     }
 
     // Takes a mouth to the actor with this number, for which it has a place.
@@ -173,13 +188,18 @@ impl<'a> Seat<'a> {
         Ok(step)
     }
 
+    // The event of a turn, in which the seat is spent.
     fn event<R: Wait>(&mut self, rt: &R) -> Result<Step, AllocError>
+        requires spent { self.old.spent ≡ true }
+        requires served { IsServed self.old.joiners self.old.feeders self.old.mouths self.old.core }
         ensures took { result ≡ Ok Took' → MakesTurn self.old self.new }
         ensures idle { result ≡ Ok Idle' → self.new ≡ self.old }
         ensures none_known { result ≡ Ok Idle' → all_known self.old.inbox.senders ≡ 0 }
         ensures waits { result ≡ Ok Idle' → Waits self.old.core }
         ensures frame { frame_of self.new ≡ frame_of self.old }
         ensures spent { self.new.spent ≡ self.old.spent }
+        ensures served { OnOk result
+            (IsServed self.new.joiners self.new.feeders self.new.mouths self.new.core) }
     {
         let mut sends = Sends::new(self.alloc);
         match open(rt, &mut self.core, &mut self.inbox, &mut sends)? {
@@ -260,17 +280,24 @@ impl<'a> Seat<'a> {
         self.spent
     }
 
+    // As long as its mouths are away it is spent.
     pub(crate) fn take_mouths(&mut self) -> Vec<Option<Mouth>>
         ensures mouths { result.items ≡ self.old.mouths }
-        ensures rest { self.new ≡ record self.old { mouths = [] } }
+        ensures rest { self.new ≡ record self.old { mouths = []; spent = true } }
+        ensures served { self.old.spent ≡ false
+            → IsServed self.old.joiners self.old.feeders self.old.mouths self.old.core }
     {
+        self.spent = true;
         mem::replace(&mut self.mouths, Vec::new(self.alloc))
     }
 
+    // Takes its mouths back, and isn't spent.
     pub(crate) fn give_mouths(&mut self, mouths: Vec<Option<Mouth>>)
-        ensures { self.new ≡ record self.old { mouths = mouths.items } }
+        requires { IsServed self.old.joiners self.old.feeders mouths.items self.old.core }
+        ensures { self.new ≡ record self.old { mouths = mouths.items; spent = false } }
     {
         self.mouths = mouths;
+        self.spent = false;
     }
 
     // Holds its inbox and a mouth that leads there together, where there is one.

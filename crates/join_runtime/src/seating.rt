@@ -11,7 +11,8 @@ ghost use Rattle.ruled_links.specs.Inboxes.{Differ};
 ghost use Rattle.actor_core.specs.Lists.{no_lists};
 ghost use Rattle.join_runtime.specs.Views.{SeatView};
 ghost use Rattle.join_runtime.specs.Joins.{slot_of};
-ghost use Rattle.join_runtime.specs.Seating.{AreBelow, AreFilled, AreFresh, AreLinked, AreNew, AreSeated, HasSeat, HavePlaces, IsNewSeat, IsRoom, Puts, Places};
+ghost use Rattle.join_runtime.specs.Seating.{AreAwake, AreBelow, AreFilled, AreFirst, AreFresh, AreLinked, AreNew, AreSeated, HasSeat, HavePlaces, IsNewSeat, IsRoom, Puts, Places};
+ghost use Rattle.join_runtime.specs.Serving.{AllServed};
 ghost use Rattle.join_runtime.specs.Bouts.{AllJoinBy, StandsFor, StandsInWave, lists_in, mouth_of};
 ghost use Rattle.join_runtime.specs.Early.{AreGiven, given_in};
 ghost use Rattle.epoch_tags.specs.Links.{HasLink};
@@ -219,6 +220,16 @@ fn first_cores<'a>(
     Ok(cores)
 }
 
+// From now on all seats may have turns.
+fn wake_all(seats: &mut Vec<Seat>)
+    requires { AllServed seats.old.items }
+    ensures { AreAwake seats.old.items seats.new.items }
+{
+    for place in 0..seats.len() {
+        seats[place].wake();
+    }
+}
+
 // The seats for these machines, in their order and joined by all links.
 fn seats_of<'a>(
     alloc: Global,
@@ -228,10 +239,12 @@ fn seats_of<'a>(
 ) -> Result<Vec<Seat<'a>>, AllocError>
     requires few { feeders + joiners + 2 < 2 ^ 32 }
     requires all { length cores.items ≡ feeders + joiners + 2 }
+    requires first { AreFirst joiners feeders cores.items }
     ensures { IfOk result (λ seats. AreSeated joiners feeders cores.entry.items seats.items) }
 {
     let (mut seats, mouths) = new_seats(alloc, joiners, feeders, cores)?;
     give_all(alloc, &mut seats, joiners, feeders, mouths);
+    wake_all(&mut seats);
     Ok(seats)
 }
 

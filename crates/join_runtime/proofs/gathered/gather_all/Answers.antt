@@ -1,6 +1,6 @@
 use Rattle.std.proofs.Common.{◌≡◌, ◌∙◌, sym, subst, length, arith, slice_index_or}
 use Rattle.join_runtime.specs.Joins.{AllLead, ActorsDiffer, slot_of}
-use Rattle.join_runtime.proofs.LinkEnds.{alike_more, gathered_more, slots_lead, tells_frames}
+use Rattle.join_runtime.proofs.LinkEnds.{alike_more, gathered_more, slots_lead, tells_frames, tells_spent}
 use Rattle.join_runtime.proofs.gathered.gather_all.Goals as goal
 
 pub gather_from-requires-clause-joined : goal.gather_from-requires-clause-joined
@@ -24,5 +24,7 @@ loop-sender-preserved g c =
       alike = λ r d low. alike_more (slice_index_or c.args.seats.now r d) (slice_index_or seats r d)
           (slice_index_or new r d) (slot_of seats d n r) (c.loop-sender.invariant.alike r d low)
           (told r d (omega arith));
+      none_spent = λ r d low. tells_spent (slot_of seats d n r) (slice_index_or seats r d) (slice_index_or new r d)
+          (told r d (omega (arith, low, long))) ∙ c.loop-sender.invariant.none_spent r d (omega (arith, low, long));
       gathered = gathered_more seats leads differ n new (omega arith) long told c.loop-sender.invariant.gathered;
     }

@@ -1,6 +1,6 @@
 use Rattle.join_runtime.proofs.MouthPosts.{addresses-set}
 use Rattle.join_runtime.proofs.mouths.put_at.Goals as goal
 
-pub returns-then-place-len-clause-same : goal.returns-then-place-len-clause-same
-returns-then-place-len-clause-same g c = addresses-set c.args.mouths.now.items c.args.place c.index_mut.result.now
+pub returns-clause-same : goal.returns-clause-same
+returns-clause-same g c = addresses-set c.args.mouths.now.items c.args.place c.index_mut.result.now
     c.put_into.new.slot c.index_mut.ensures.value c.put_into.ensures.same

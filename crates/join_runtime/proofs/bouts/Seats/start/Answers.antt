@@ -1,9 +1,23 @@
-use Rattle.std.proofs.Common.{◌∙◌, false, sym, subst}
+use Rattle.std.proofs.Common.{◌∙◌, false, refl, sym, subst}
 use Rattle.trace_law.specs.Family.{first_rest}
 use Rattle.join_runtime.specs.Seating.{AreFresh}
 use Rattle.join_runtime.proofs.Starts.{start_empty, start_given, start_joined, start_linked, start_settled}
 use Rattle.join_runtime.proofs.Starts.{start_stands}
 use Rattle.join_runtime.proofs.bouts.Seats.start.Goals as goal
+
+pub seats_of-requires-clause-first : goal.seats_of-requires-clause-first
+seats_of-requires-clause-first c =
+    let setting = c.args.setting.now in
+    let cores = c.in_ok-cores.cores.items in
+    let fresh = c.in_ok-cores.ensures in
+    record {
+      input = c.args.input.now;
+      setting = setting;
+      rest = first_rest setting;
+      joiners_are = c.joiners_of-joiners.ensures.value;
+      feeders_are = refl;
+      fresh = subst (λ n. AreFresh c.args.input.now setting (first_rest setting) n cores) (sym fresh.all) fresh;
+    }
 
 pub invariant_of-result : goal.invariant_of-result
 invariant_of-result c =

@@ -1,4 +1,4 @@
-use Rattle.std.proofs.Common.{◌≡◌, ◌+◌, ◌^◌, ◌∙◌, ap, false, length, sym, subst}
+use Rattle.std.proofs.Common.{◌≡◌, ◌+◌, ◌^◌, ◌∙◌, ap, false, length, refl, sym, subst}
 use Rattle.actor_core.specs.Rests.{rest_of, upto}
 use Rattle.actor_core.proofs.LaterEnds.{stands_upto}
 use Rattle.join_runtime.specs.Seating.{AreFresh}
@@ -17,6 +17,22 @@ pub seats_of-requires-clause-all : goal.seats_of-requires-clause-all
 seats_of-requires-clause-all c =
     c.in_ok-cores.ensures.made.all ∙ ap (λ n. c.args.setting.now.feeders + n + 2)
     (sym c.joiners_of-joiners.ensures.value)
+
+pub seats_of-requires-clause-first : goal.seats_of-requires-clause-first
+seats_of-requires-clause-first c =
+    let input = upto c.args.end c.args.input.now in
+    let setting = c.args.setting.now in
+    let rest = rest_of c.args.rest in
+    let cores = c.in_ok-cores.cores.items in
+    record {
+      input = input;
+      setting = setting;
+      rest = rest;
+      joiners_are = c.joiners_of-joiners.ensures.value;
+      feeders_are = refl;
+      fresh = subst (λ n. AreFresh input setting rest n cores) (sym c.in_ok-cores.ensures.made.all)
+          (made_fresh input setting rest (setting.feeders + 2 ^ setting.k + 2) cores c.in_ok-cores.ensures.made);
+    }
 
 pub invariant_of-result : goal.invariant_of-result
 invariant_of-result c =

@@ -1,7 +1,25 @@
 use Rattle.std.proofs.Common.{rules}
 use Rattle.join_runtime.specs.Views.{SeatView}
 use Rattle.join_runtime.proofs.SeatTurns.{made_turn}
+use Rattle.join_runtime.proofs.Served.{posts_served, served_after}
 use Rattle.join_runtime.proofs.seat.Seat.event.Goals as goal
+
+pub put_all-requires : goal.put_all-requires
+put_all-requires g c =
+    let own = c.self.inside in
+    let caused = rw c.in-Took.is at c.in_ok-open.ensures.opens in
+    let served = rw (← c.self.view_is) at c.requires.served in
+    posts_served own.joiners own.feeders own.mouths.items caused.cause own.core c.open.new.core caused.occurs.added
+    c.new-sends.result c.open.new.sends c.new-sends.ensures caused.occurs.sends caused.occurs.event served
+
+pub returns-in_ok-put_all-in-Took-clause-served : goal.returns-in_ok-put_all-in-Took-clause-served
+returns-in_ok-put_all-in-Took-clause-served g c =
+    let own = c.self.inside in
+    let caused = rw c.in-Took.is at c.in_ok-open.ensures.opens in
+    let served = rw (← c.self.view_is) at c.requires.served in
+    served_after own.joiners own.feeders own.mouths.items c.put_all.new.mouths.items
+    c.in_ok-put_all-in-Took.ensures.same
+    caused.cause own.core c.open.new.core caused.occurs.added caused.occurs.event served
 
 pub returns-in_ok-put_all-in-Took-clause-took : goal.returns-in_ok-put_all-in-Took-clause-took
 returns-in_ok-put_all-in-Took-clause-took g c is =
