@@ -44,19 +44,17 @@ module _ {Q : Type 0} (items : Q → List Msg) (queues : List Q) (i : ℕ) (queu
   )
 
   -- where a message was pushed to one queue, the list of what the queues hold has it as the last one there
-  pub pushed : (m : Msg) → items new ≡ items queue ++ m ∷ [] → (i < length (map items queues))
-      × (map items (set queues i new) ≡ set (map items queues) i (get_or (map items queues) i [] ++ m ∷ []))
-  pushed m e = (
-    subst (λ n. i < n) (sym (length-map queues items)) low,
-    map-set items queues i new ∙ ap (set (map items queues) i)
-        (e ∙ ap (λ ms. ms ++ m ∷ []) (sym (map_at items queues i queue is low []))),
-  )
+  pub pushed : (m : Msg) → items new ≡ items queue ++ m ∷ []
+      → map items (set queues i new) ≡ set (map items queues) i (get_or (map items queues) i [] ++ m ∷ [])
+  pushed m e = map-set items queues i new ∙ ap (set (map items queues) i)
+      (e ∙ ap (λ ms. ms ++ m ∷ []) (sym (map_at items queues i queue is low [])))
 
 -- ---- one place
 
 module _ (places : List Place) (at : ℕ) (place new : Place) (is : place ≡ get_or places at place)
     (low : at < length places) where
-  row : get_or (waiting_of places) at [] ≡ waiting_at place
+  -- what waits at one place is what waits at its number
+  pub row : get_or (waiting_of places) at [] ≡ waiting_at place
   row = map_at waiting_at places at place is low []
 
   room : (sender : ℕ) → sender < length (waiting_at place) → HasRoom (waiting_of places) at sender
@@ -88,12 +86,12 @@ module _ (places : List Place) (at : ℕ) (place new : Place) (is : place ≡ ge
   }
 
   -- where a message of a sender was put behind what waits at one place, one message more waits there of that sender
-  pub puts_on : (sender : ℕ) (m : Msg) → (sender < length (waiting_at place))
-      × (waiting_at new ≡ set (waiting_at place) sender (get_or (waiting_at place) sender [] ++ m ∷ []))
+  pub puts_on : (sender : ℕ) (m : Msg) → HasRoom (waiting_of places) at sender
+      → waiting_at new ≡ set (waiting_at place) sender (get_or (waiting_at place) sender [] ++ m ∷ [])
       → PutsOn at sender m (waiting_of places) (waiting_of (set places at new))
-  puts_on sender m e = record {
-    room = room sender e.0;
-    left = with_row sender _ e.1 ∙ ap (λ r. with_waiting (waiting_of places) at sender (get_or r sender [] ++ m ∷ []))
+  puts_on sender m there e = record {
+    room = there;
+    left = with_row sender _ e ∙ ap (λ r. with_waiting (waiting_of places) at sender (get_or r sender [] ++ m ∷ []))
         (sym row);
   }
 

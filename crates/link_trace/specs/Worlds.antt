@@ -1,10 +1,12 @@
 -- A world: its machines, and what is left on each link.
-use Rattle.std.specs.Prelude.{◌≡◌, ℕ, ◌<◌, ◌^◌, Option, Some, List, [], ◌∷◌, ◌++◌, map, slice_get, slice_index_or}
-use Rattle.std.specs.Prelude.{slice_set, length, drop, ◌&&◌, false, None, if◌then◌else◌}
+use Rattle.std.specs.Prelude.{◌≡◌, ℕ, ◌+◌, ◌<◌, ◌^◌, All, Option, Some, List, [], ◌∷◌, ◌++◌, map, slice_get}
+use Rattle.std.specs.Prelude.{slice_index_or, slice_set, length, drop, ◌&&◌, false, None, if◌then◌else◌}
 use Rattle.epoch_tags.specs.declared.actor.Actor.{Actor}
 use Rattle.epoch_tags.specs.declared.actor.Actor.TheVariants.{Feeder}
 use Rattle.epoch_tags.specs.Links.{HasLink}
+use Rattle.load_controller.specs.Standing.{ControllerState}
 use Rattle.load_controller.specs.declared.line.TurnLine.{TurnLine}
+use Rattle.pair_collector.specs.Standing.{CollectorState}
 use Rattle.epoch_tags.specs.declared.message.Msg.{Msg}
 use Rattle.epoch_tags.specs.declared.message.Post.{Post}
 use Rattle.trace_law.specs.Family.{IsAgreeing, Rest, first_rest}
@@ -15,12 +17,12 @@ use Rattle.actor_core.specs.Lists.{ActorLists, Cause, Took, Began, same_actor, n
 use Rattle.actor_core.specs.Effects.{core_after, core_posts}
 use Rattle.actor_core.specs.Players.{AllStandInWave, journal_among}
 use Rattle.actor_core.specs.Elements.{IsAllAt}
+use Rattle.actor_core.specs.Endings.{AreLast}
 use Rattle.actor_core.specs.Standing.{Stands, Occurs, GoOut, Asks, JoinsBy, Waits}
 use Rattle.actor_core.specs.Families.{start_for, start_in_wave, IsActor, IsBalanced, after_event, core_in, family_of}
 use Rattle.actor_core.specs.Numbers.{number, actor_at, at_number}
 use Rattle.actor_core.specs.declared.machines.Core.{Core}
 use Rattle.link_trace.specs.declared.places.Place.{Place}
-use Rattle.link_trace.specs.declared.world.World.{World}
 
 -- ---- what is kept, by the numbers of actors
 
@@ -50,6 +52,11 @@ pub record HasRoom (waiting : List (List (List Msg))) (receiver sender : ℕ) : 
   pub receiver_is : receiver < length waiting
   pub sender_is : sender < length (slice_index_or waiting receiver [])
 
+-- as many lists wait at each of so many actors
+pub record IsSquare (count : ℕ) (waiting : List (List (List Msg))) : Type 0 where
+  pub tall : length waiting ≡ count
+  pub wide : All (λ queues. length queues ≡ count) waiting
+
 -- the first message that waits there was taken off
 pub record TakesOff (receiver sender : ℕ) (m : Msg) (old new : List (List (List Msg))) : Type 0 where
   pub room : HasRoom old receiver sender
@@ -72,6 +79,10 @@ pub record OccursAt (at : ℕ) (cause : Cause) (old new : List Core) (before aft
 
 -- ---- the same by actors
 
+-- the actor is one of so many joiners and feeders, or the controller or the collector
+abbrev pub HasNumber : ℕ → ℕ → Actor → Type 0
+HasNumber joiners feeders a = ¬ (number joiners feeders a ≡ None)
+
 -- how many joiners and feeders there are, the machines, and what waits
 pub record WorldState : Type 0 where
   pub joiners : ℕ
@@ -93,13 +104,13 @@ core_of w a = core_in w.joiners w.feeders w.cores a
 abbrev pub left_of : WorldState → Actor → Actor → List Msg
 left_of w from to = left_in w.joiners w.feeders w.waiting from to
 
--- what contracts see of a world
-abbrev pub state_of : World → WorldState
-state_of w = record {
-  joiners = w.joiners;
-  feeders = w.feeders;
-  cores = cores_of w.places.items;
-  waiting = waiting_of w.places.items;
+-- a world with so many joiners and feeders, and these places
+abbrev pub state_among : ℕ → ℕ → List Place → WorldState
+state_among joiners feeders places = record {
+  joiners = joiners;
+  feeders = feeders;
+  cores = cores_of places;
+  waiting = waiting_of places;
 }
 
 -- one message more on the link between them
@@ -117,6 +128,20 @@ pub record StandsInWave (input : Input) (setting : Setting) (rest : Rest) (w : W
 -- the same of a run, that is of the wave that begins with no rows
 abbrev pub StandsFor : Input → Setting → WorldState → (Actor → ActorLists) → Type 0
 StandsFor input setting w f = StandsInWave input setting (first_rest setting) w f
+
+-- it is a world of some wave
+pub record StandsForSome (w : WorldState) : Type 0 where
+  pub input : Input
+  pub setting : Setting
+  pub rest : Rest
+  pub lists : Actor → ActorLists
+  pub stands : StandsInWave input setting rest w lists
+
+-- the last two of these machines are a controller's and a collector's
+pub record HaveLast (cores : List Core) : Type 0 where
+  pub controller : ControllerState
+  pub collector : CollectorState
+  pub are : AreLast cores controller collector
 
 -- each joiner's machine joins by this predicate
 abbrev pub AllJoinBy : Meaning → WorldState → Type 0

@@ -5,7 +5,7 @@ ghost use Rattle.actor_core.specs.declared.step.Step.TheVariants.{Took as Took',
 ghost use Rattle.actor_core.specs.Lists.{same_actor};
 ghost use Rattle.actor_core.specs.Elements.{IsAllAt};
 ghost use Rattle.link_trace.specs.declared.slots.Slot.{Slot as Slot'};
-ghost use Rattle.link_trace.specs.Worlds.{state_of};
+ghost use Rattle.link_trace.specs.States.{state_of};
 ghost use Rattle.link_trace.specs.Order.{IsIdle, Happens, MakesFirst};
 ghost use Rattle.link_trace.specs.Marks.{AreMarked, IsMarkedFor};
 ghost use Rattle.link_trace.specs.Marks as marked;

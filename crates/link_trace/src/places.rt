@@ -5,7 +5,7 @@ ghost use Rattle.trace_law.specs.Validity.{IsValidInput, IsValidSetting};
 ghost use Rattle.actor_core.specs.Lists.{Took, Began};
 ghost use Rattle.actor_core.specs.Standing.{Occurs, Waits, IsOver, GoesOn};
 ghost use Rattle.actor_core.specs.Elements.{IsAt, IsAllAt, IsSomeAt};
-ghost use Rattle.link_trace.specs.Worlds.{waiting_at, waiting_of, cores_of, waits, TakesOff, PutsOn, OccursAt, AreNew, HaveNothing};
+ghost use Rattle.link_trace.specs.Worlds.{waiting_at, waiting_of, cores_of, waits, HasRoom, TakesOff, PutsOn, OccursAt, AreNew, HaveNothing};
 
 use actor_core::{Core, core_at};
 use epoch_tags::{Actor, Msg, Sends};
@@ -57,17 +57,13 @@ fn pop_first(queue: &mut VecDeque<Msg>) -> Option<Msg>
 
 impl<'a> Place<'a> {
     fn push(&mut self, sender: usize, msg: Msg) -> Result<(), AllocError>
+        requires { sender < length (waiting_at self.old) }
         ensures core { self.new.core ≡ self.old.core }
-        ensures waiting { OnOk result ((sender < length (waiting_at self.old))
-            × (waiting_at self.new
+        ensures waiting { OnOk result (waiting_at self.new
             ≡ slice_set (waiting_at self.old) sender
-            (slice_index_or (waiting_at self.old) sender [] ++ msg ∷ []))) }
+            (slice_index_or (waiting_at self.old) sender [] ++ msg ∷ [])) }
     {
-        if sender < self.waiting.len() {
-            push_behind(&mut self.waiting[sender], msg)
-        } else {
-            Err(AllocError)
-        }
+        push_behind(&mut self.waiting[sender], msg)
     }
 }
 
@@ -107,15 +103,12 @@ pub(crate) fn put(
     sender: usize,
     msg: Msg,
 ) -> Result<(), AllocError>
+    requires { HasRoom (waiting_of places.old.items) receiver sender }
     ensures cores { cores_of places.new.items ≡ cores_of places.old.items }
     ensures waiting { OnOk result
         (PutsOn receiver sender msg (waiting_of places.old.items) (waiting_of places.new.items)) }
 {
-    if receiver < places.len() {
-        places[receiver].push(sender, msg)
-    } else {
-        Err(AllocError)
-    }
+    places[receiver].push(sender, msg)
 }
 
 // Hands a message to a machine.
@@ -126,15 +119,12 @@ pub(crate) fn hand(
     msg: Msg,
     sends: &mut Sends,
 ) -> Result<(), AllocError>
+    requires { receiver < length places.old.items }
     ensures waiting { waiting_of places.new.items ≡ waiting_of places.old.items }
     ensures occurs { OnOk result (OccursAt receiver (Took from msg) (cores_of places.old.items)
         (cores_of places.new.items) sends.old sends.new) }
 {
-    if receiver < places.len() {
-        places[receiver].core.on(from, msg, sends)
-    } else {
-        Err(AllocError)
-    }
+    places[receiver].core.on(from, msg, sends)
 }
 
 // Lets a machine begin. `Ok(false)`: it did nothing.
@@ -143,6 +133,7 @@ pub(crate) fn begin(
     at: usize,
     sends: &mut Sends,
 ) -> Result<bool, AllocError>
+    requires { at < length places.old.items }
     ensures waiting { waiting_of places.new.items ≡ waiting_of places.old.items }
     ensures occurs { IfOk result (λ begun. MatchBool begun
         (OccursAt at Began (cores_of places.old.items)
@@ -151,16 +142,13 @@ pub(crate) fn begin(
     ensures idle { result ≡ Ok false → IsAt Waits at (cores_of places.old.items) }
     ensures free { result ≡ Ok true → IsAt (λ core. ¬ Waits core) at (cores_of places.old.items) }
 {
-    if at < places.len() {
-        places[at].begin(sends)
-    } else {
-        Err(AllocError)
-    }
+    places[at].begin(sends)
 }
 
 // No messages, from each of so many senders.
 fn no_messages(alloc: Global, senders: u32) -> Result<Vec<VecDeque<Msg>>, AllocError>
-    ensures { IfOk result (λ waiting. All (λ queue. queue.items ≡ []) waiting.items) }
+    ensures empty { IfOk result (λ waiting. All (λ queue. queue.items ≡ []) waiting.items) }
+    ensures each { IfOk result (λ waiting. length waiting.items ≡ senders) }
 {
     let mut waiting = Vec::new(alloc);
     for _ in 0..senders {
@@ -174,6 +162,7 @@ fn place_of<'a>(alloc: Global, core: Core<'a>, count: u32) -> Result<Place<'a>, 
     ensures core { IfOk result (λ place. place.core ≡ core.entry) }
     ensures empty { IfOk result
         (λ place. All (λ queue. queue.items ≡ []) place.waiting.items) }
+    ensures wide { IfOk result (λ place. length place.waiting.items ≡ count) }
 {
     match no_messages(alloc, count) {
         Ok(waiting) => Ok(Place { core, waiting }),
@@ -193,7 +182,9 @@ pub(crate) fn new_places<'a>(
 ) -> Result<Vec<Place<'a>>, AllocError>
     requires input { IsValidInput input.now }
     requires setting { IsValidSetting setting.now }
-    ensures { IfOk result (λ places. AreNew input.now setting.now count places.items) }
+    ensures fresh { IfOk result (λ places. AreNew input.now setting.now count places.items) }
+    ensures wide { IfOk result (λ places.
+        All (λ queues. length queues ≡ count) (waiting_of places.items)) }
 {
     let mut places = Vec::new(alloc);
     for n in 0..count {
@@ -212,6 +203,8 @@ pub(crate) fn places_of<'a>(
 ) -> Result<Vec<Place<'a>>, AllocError>
     ensures cores { IfOk result (λ places. cores_of places.items ≡ cores.entry.items) }
     ensures empty { IfOk result (λ places. HaveNothing places.items) }
+    ensures wide { IfOk result (λ places.
+        All (λ queues. length queues ≡ count) (waiting_of places.items)) }
 {
     let mut places = Vec::new(alloc);
     for core in cores {

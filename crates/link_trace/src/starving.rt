@@ -8,7 +8,7 @@ ghost use Rattle.trace_law.specs.Runs.{IsRunOf};
 ghost use Rattle.actor_core.specs.Elements.{IsAllAt};
 ghost use Rattle.trace_law.specs.Counts.{most_events};
 ghost use Rattle.link_trace.specs.declared.slots.Slot.{Slot as Slot'};
-ghost use Rattle.link_trace.specs.Worlds.{state_of};
+ghost use Rattle.link_trace.specs.States.{state_of};
 ghost use Rattle.link_trace.specs.Order.{IsIdle, Happens};
 ghost use Rattle.link_trace.specs.Marks.{AreMarked};
 ghost use Rattle.link_trace.specs.Starving.{AreIdleBelow, MakesLeast, MakesStarving, IsStarvingReplay};

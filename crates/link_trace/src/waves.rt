@@ -18,7 +18,8 @@ ghost use Rattle.actor_core.specs.Lists.{ActorLists};
 ghost use Rattle.actor_core.specs.Rests.{IsRestOf, IsUpto, rest_of, upto};
 ghost use Rattle.actor_core.specs.Standing.{IsOver};
 ghost use Rattle.link_trace.specs.Order.{IsWaveReplay};
-ghost use Rattle.link_trace.specs.Worlds.{state_of, core_of, AllJoinBy, StandsInWave};
+ghost use Rattle.link_trace.specs.States.{state_of};
+ghost use Rattle.link_trace.specs.Worlds.{core_of, AllJoinBy, StandsInWave};
 
 use crate::places::machines;
 use crate::replays::{STREAM, all_marked, make_next};

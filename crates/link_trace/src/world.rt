@@ -1,6 +1,6 @@
 // All machines of a run on one thread, and what is under way between them.
 
-ghost use Rattle.std.specs.Prelude.{◌≡◌, ◌≤◌, ◌^◌, ℕ, [], Ok, Some, None, IfOk, IfSome, OnOk, OnErr, IsTrue, ◌↔◌, true, false};
+ghost use Rattle.std.specs.Prelude.{◌≡◌, ◌+◌, ◌≤◌, ◌^◌, ℕ, [], Ok, Some, None, IfOk, IfSome, OnOk, OnErr, IsTrue, ◌↔◌, true, false};
 ghost use Rattle.epoch_tags.specs.Links.{HasLink};
 ghost use Rattle.epoch_tags.specs.declared.actor.Actor.TheVariants.{Feeder as Feeder', Controller as Controller'};
 ghost use Rattle.epoch_tags.specs.declared.actor.Actor.{Actor as Actor'};
@@ -17,18 +17,18 @@ ghost use Rattle.actor_core.specs.declared.machines.Core.{Core as Core'};
 ghost use Rattle.actor_core.specs.Numbers.{number as number'};
 ghost use Rattle.actor_core.specs.Rests.{upto, rest_of, IsRestOf, IsUpto};
 ghost use Rattle.actor_core.specs.Elements.{IsAllAt, IsSomeAt};
-ghost use Rattle.link_trace.specs.Worlds.{state_of, left_of, core_of, StandsFor, StandsInWave, AllJoinBy, IsStill, Delivers, MakesEvent};
+ghost use Rattle.link_trace.specs.Worlds.{state_among, waiting_of, left_of, core_of, StandsFor, StandsForSome, StandsInWave, AllJoinBy, IsSquare, IsStill, Delivers, MakesEvent};
 
+use crate::endings::last_two;
 use crate::places::{Place, all_are_over, begin, hand, machines, new_places, places_of, take};
 use crate::sending::send_all;
-use actor_core::{
-    Core, Rest, Step, Upto, answer, cores_in_wave, has_link, joiners_of, last_machines, number,
-};
+use actor_core::{Core, Rest, Step, Upto, answer, cores_in_wave, has_link, joiners_of, number};
 use epoch_tags::{Actor, Sends};
 use std::alloc::{AllocError, Global};
 use trace_law::{Input, Run, Setting, finished_answers, quiet_is_finished};
 
-/// The machines of all actors of a run, and the messages that are left on each link.
+/// The machines of all actors of a run, and the messages that are left on each link. As long as it isn't spent, a
+/// list waits at each actor for each, and it is a world of some wave.
 #[derive(Drop)]
 pub struct World<'a> {
     pub(crate) alloc: Global,
@@ -36,9 +36,13 @@ pub struct World<'a> {
     pub(crate) feeders: u32,
     pub(crate) places: Vec<Place<'a>>,
     pub(crate) spent: bool,
+    ghost square: { spent ≡ false → IsSquare (feeders + joiners + 2) (waiting_of places.items) },
+    ghost stands: { spent ≡ false → ∥ StandsForSome (state_among joiners feeders places.items) ∥₁ },
 }
 
 impl<'a> World<'a> {
+    ghost use Rattle.link_trace.specs.States.{state_of};
+
     /// All actors of a run before its first event. The world borrows the input.
     pub fn start(
         alloc: Global,
@@ -134,7 +138,8 @@ impl<'a> World<'a> {
         all_are_over(&self.places)
     }
 
-    /// The answer of a run that is done, with so many rounds. After `AllocError` the world is gone.
+    /// The answer of a run that is done, with so many rounds. After `AllocError` the world is gone; a spent world
+    /// answers it too.
     pub fn finish(self, bouts: u64) -> Result<Run, AllocError>
         requires { IsAllAt IsOver (state_of self).cores }
         ensures run { IfOk result (λ run.
@@ -147,13 +152,15 @@ impl<'a> World<'a> {
             → core_of (state_of self.entry) Controller' ≡ Some core
             → run.journal ≡ journal_of core) }
         ensures bouts { IfOk result (λ run. run.bouts ≡ bouts) }
+        ensures at_work { OnOk result (self.entry.spent ≡ false) }
     {
         finished_answers();
+        if self.spent {
+            return Err(AllocError);
+        }
         let World { alloc, places, .. } = self;
         let cores = machines(alloc, places)?;
-        let Some((controller, collector)) = last_machines(cores) else {
-            return Err(AllocError);
-        };
+        let (controller, collector) = last_two(cores);
         answer(alloc, &controller, collector, bouts)
     }
 

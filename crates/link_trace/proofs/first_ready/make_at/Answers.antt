@@ -1,7 +1,7 @@
 use Rattle.std.proofs.Common.{◌∙◌, sym, subst, slice_index_or}
 use Rattle.std.proofs.lemmas.Option.{slice_get-get_or}
 use Rattle.link_trace.specs.declared.slots.Slot.TheVariants.{Begin}
-use Rattle.link_trace.specs.Worlds.{state_of}
+use Rattle.link_trace.specs.States.{state_of}
 use Rattle.link_trace.specs.Order.{Happens}
 use Rattle.link_trace.specs.Marks.{IsMarkedFor}
 use Rattle.actor_core.proofs.OwnNumbers.{some_is}

@@ -3,7 +3,7 @@ use Rattle.std.specs.Prelude.{slice_get}
 use Rattle.std.proofs.lemmas.Nat.{mod_below}
 use Rattle.std.proofs.lemmas.Option.{slice_get-get_or}
 use Rattle.link_trace.specs.declared.slots.Slot.TheVariants.{Begin}
-use Rattle.link_trace.specs.Worlds.{state_of}
+use Rattle.link_trace.specs.States.{state_of}
 use Rattle.link_trace.specs.Order.{Happens}
 use Rattle.link_trace.proofs.AllSlots.{idle_round}
 use Rattle.link_trace.proofs.first_ready.make_first.Goals as goal

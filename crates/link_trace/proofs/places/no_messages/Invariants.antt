@@ -1,5 +1,8 @@
-use Rattle.std.proofs.Common.{◌≡◌, All, []}
+use Rattle.std.proofs.Common.{◌≡◌, All, [], length}
 use Rattle.link_trace.proofs.places.no_messages.Given as goal
 
 abbrev pub invariant-loop : goal.invariant-loop
-invariant-loop l = All (λ queue. queue.items ≡ []) l.waiting.items
+invariant-loop l = record {
+  empty : All (λ queue. queue.items ≡ []) l.waiting.items;
+  each : length l.waiting.items ≡ l.counter;
+}

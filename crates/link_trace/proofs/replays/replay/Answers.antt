@@ -1,5 +1,5 @@
 use Rattle.std.proofs.Common.{◌≡◌, ◌∙◌, true, false}
-use Rattle.link_trace.specs.Worlds.{state_of}
+use Rattle.link_trace.specs.States.{state_of}
 use Rattle.link_trace.proofs.Bounds.{counts_on, run_answers, run_bounded}
 use Rattle.trace_law.specs.Family.{first_rest}
 use Rattle.trace_law.proofs.Validity.{within_limits}

@@ -1,5 +1,5 @@
 use Rattle.trace_law.specs.Family.{first_rest}
-use Rattle.link_trace.specs.Worlds.{state_of}
+use Rattle.link_trace.specs.States.{state_of}
 use Rattle.link_trace.proofs.ReplayLoop.{IsUnderWay}
 use Rattle.link_trace.proofs.replays.replay.Given as goal
 

@@ -2,7 +2,7 @@ use Rattle.std.proofs.Common.{◌≡◌, subst, slice_index_or, Some}
 use Rattle.std.specs.Prelude.{slice_get}
 use Rattle.std.proofs.lemmas.Option.{slice_get-get_or}
 use Rattle.link_trace.specs.declared.slots.Slot.TheVariants.{Begin}
-use Rattle.link_trace.specs.Worlds.{state_of}
+use Rattle.link_trace.specs.States.{state_of}
 use Rattle.link_trace.specs.Order.{Happens}
 use Rattle.link_trace.proofs.starving.make_least.Goals as goal
 

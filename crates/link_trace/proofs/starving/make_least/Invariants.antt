@@ -1,5 +1,5 @@
 use Rattle.std.proofs.Common.{◌≡◌}
-use Rattle.link_trace.specs.Worlds.{state_of}
+use Rattle.link_trace.specs.States.{state_of}
 use Rattle.link_trace.specs.Marks.{AreMarked}
 use Rattle.link_trace.specs.Starving.{AreIdleBelow}
 use Rattle.link_trace.proofs.starving.make_least.Given as goal

@@ -1,6 +1,6 @@
 use Rattle.std.proofs.Common.{subst}
 use Rattle.actor_core.specs.Elements.{IsAllAt}
-use Rattle.link_trace.specs.Worlds.{state_of}
+use Rattle.link_trace.specs.States.{state_of}
 use Rattle.link_trace.specs.Order.{IsIdle}
 use Rattle.link_trace.proofs.AllSlots.{idle_below}
 use Rattle.link_trace.proofs.starving.make_starving.Goals as goal

@@ -1,4 +1,4 @@
-use Rattle.link_trace.specs.Worlds.{state_of}
+use Rattle.link_trace.specs.States.{state_of}
 use Rattle.link_trace.proofs.ServedLast.{IsServedSo}
 use Rattle.link_trace.proofs.starving.replay_starving.Given as goal
 

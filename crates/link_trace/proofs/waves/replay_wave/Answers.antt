@@ -4,7 +4,7 @@ use Rattle.trace_law.proofs.Validity.{within_limits}
 use Rattle.actor_core.specs.Rests.{rest_of, upto}
 use Rattle.actor_core.proofs.LaterEnds.{stands_beyond, stands_upto}
 use Rattle.actor_core.proofs.UptoEnd.{valid_upto}
-use Rattle.link_trace.specs.Worlds.{state_of}
+use Rattle.link_trace.specs.States.{state_of}
 use Rattle.link_trace.proofs.AllSlots.{some_has_one_in_wave}
 use Rattle.link_trace.proofs.Bounds.{counts_on_in_wave, slot_joins, wave_bounded}
 use Rattle.link_trace.proofs.ReplayLoop.{begins, goes_on, wave_replayed}

@@ -1,5 +1,6 @@
 use Rattle.actor_core.specs.Rests.{rest_of, upto}
-use Rattle.link_trace.specs.Worlds.{AllJoinBy, state_of}
+use Rattle.link_trace.specs.States.{state_of}
+use Rattle.link_trace.specs.Worlds.{AllJoinBy}
 use Rattle.link_trace.proofs.ReplayLoop.{IsUnderWay}
 use Rattle.link_trace.proofs.waves.replay_wave.Given as goal
 

@@ -3,7 +3,8 @@ use Rattle.trace_law.specs.Family.{first_rest}
 use Rattle.trace_law.proofs.First.{stands as first_stands}
 use Rattle.actor_core.specs.Standing.{GoesOn}
 use Rattle.actor_core.specs.Elements.{IsSomeAt}
-use Rattle.link_trace.specs.Worlds.{state_of, cores_of}
+use Rattle.link_trace.specs.States.{state_of}
+use Rattle.link_trace.specs.Worlds.{cores_of}
 use Rattle.link_trace.proofs.WorldAnswer.{still_is_done}
 use Rattle.link_trace.proofs.world.World.done.Goals as goal
 

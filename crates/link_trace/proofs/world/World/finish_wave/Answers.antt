@@ -4,7 +4,7 @@ use Rattle.actor_core.specs.Leavings.{AreLeft}
 use Rattle.actor_core.specs.declared.machines.Core.TheVariants.{Collector as TheCollector}
 use Rattle.actor_core.proofs.LastLines.{from_three}
 use Rattle.actor_core.proofs.LastTwo.{last_two}
-use Rattle.link_trace.specs.Worlds.{state_of}
+use Rattle.link_trace.specs.States.{state_of}
 use Rattle.link_trace.proofs.WorldAnswer.{ends, journal_there, leaves}
 use Rattle.link_trace.proofs.world.World.finish_wave.Goals as goal
 
