@@ -26,8 +26,9 @@ use Rattle.actor_core.proofs.OwnNumbers.{number_actor, some_is}
 
 -- ---- one more place
 
-last_is : {X : Type 0} (xs : List X) (x y : X) (n : ℕ) → slice_get (xs ++ x ∷ []) n ≡ Some y → (slice_get xs n ≡ Some y)
-    ⊎ ((n ≡ length xs) × (x ≡ y))
+-- what is found in a list with one more is found in the list, or is the last
+pub last_is : {X : Type 0} (xs : List X) (x y : X) (n : ℕ) → slice_get (xs ++ x ∷ []) n ≡ Some y
+    → (slice_get xs n ≡ Some y) ⊎ ((n ≡ length xs) × (x ≡ y))
 last_is [] x y zero is = inr (refl, some_is x y is)
 last_is [] x y (suc n) is = inl is
 last_is (z ∷ xs) x y zero is = inl is

@@ -24,6 +24,7 @@ use Rattle.link_trace.specs.declared.slots.Slot.TheVariants.{Begin, Link}
 use Rattle.link_trace.specs.Worlds.{WorldState, MakesEvent, StandsInWave, core_of}
 use Rattle.link_trace.specs.Order.{Happens, IsIdle, MakesFirst, Replays, ReplaysAreOne, RunsAreOne, WaveRunsAreOne}
 use Rattle.link_trace.specs.Order.{event, slots_of, start, word_of}
+use Rattle.link_trace.proofs.FirstWorlds.{one_world}
 use Rattle.link_trace.proofs.WorldEvents.{full}
 
 -- ---- what a slot's event leaves
@@ -204,9 +205,9 @@ one_wave_run input setting rest seed run other one two same =
           other.journal one.journal two.journal,
     )
 
--- and so have two of a run, that is of the wave that begins with no rows
+-- and so have two of a run, that is of the wave that begins with no rows, since their first worlds are one
 pub one_run : RunsAreOne
-one_run input setting seed run other one two same =
+one_run input setting seed run other one two =
     one_wave_run input setting (first_rest setting) seed run other
     (record {
       first = one.first;
@@ -224,4 +225,4 @@ one_run input setting seed run other one two same =
       over = two.over;
       journal = two.journal;
     })
-    same
+    (one_world input setting one.first two.first one.begun two.begun)

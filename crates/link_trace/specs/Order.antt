@@ -17,6 +17,7 @@ use Rattle.actor_core.specs.Families.{journal_of}
 use Rattle.actor_core.specs.Elements.{IsAllAt, IsSomeAt}
 use Rattle.link_trace.specs.declared.slots.Slot.{Slot}
 use Rattle.link_trace.specs.declared.slots.Slot.TheVariants.{Begin, Link}
+use Rattle.link_trace.specs.FirstWorlds.{IsFirstWorld}
 use Rattle.link_trace.specs.Worlds.{WorldState, StandsFor, StandsInWave, MakesEvent, Delivers, core_of, left_of}
 
 -- ---- slots
@@ -87,12 +88,13 @@ pub data Replays (slots : List Slot) (seed : ℕ) (first : WorldState) : ℕ →
   event : {events : ℕ} {old new : WorldState} → Replays slots seed first events old → IsSomeAt GoesOn old.cores
       → MakesFirst slots (word_of seed events) old new → Replays slots seed first (events + 1) new
 
--- the run is that of a world of this input and setting which was driven to its end in the order of this seed; `bouts`
--- is the number of its events
+-- the run is that of the first world of this input and setting, which was driven to its end in the order of this seed;
+-- `bouts` is the number of its events
 pub record IsReplay (input : Input) (setting : Setting) (seed : ℕ) (run : Run) : Type 0 where
   pub first : WorldState
   pub last : WorldState
   pub fresh : StandsFor input setting first (λ actor. no_lists)
+  pub begun : IsFirstWorld input setting first
   pub replays : Replays (slots_of setting) seed first run.bouts last
   pub over : IsAllAt IsOver last.cores
   pub journal : (core : Core) → core_of last Controller ≡ Some core → run.journal ≡ journal_of core
@@ -118,14 +120,13 @@ ReplaysAreOne = (input : Input) (setting : Setting) (rest : Rest) (lists : Actor
     → Replays slots seed first m v → IsAllAt IsOver v.cores
     → (n ≡ m) × (w ≡ v)
 
--- so two runs of one input and setting that began with one world, in the order of one seed, have as many bouts and one
--- journal
+-- so two runs of one input and setting in the order of one seed have as many bouts and one journal, since they began
+-- with one world
 abbrev pub RunsAreOne : Type 0
-RunsAreOne = (input : Input) (setting : Setting) (seed : ℕ) (run other : Run) (one : IsReplay input setting seed run)
-    (two : IsReplay input setting seed other)
-    → one.first ≡ two.first → (run.bouts ≡ other.bouts) × (run.journal ≡ other.journal)
+RunsAreOne = (input : Input) (setting : Setting) (seed : ℕ) (run other : Run) → IsReplay input setting seed run
+    → IsReplay input setting seed other → (run.bouts ≡ other.bouts) × (run.journal ≡ other.journal)
 
--- and so have two of a wave
+-- and so have two of a wave that began with one world
 abbrev pub WaveRunsAreOne : Type 0
 WaveRunsAreOne = (input : Input) (setting : Setting) (rest : Rest) (seed : ℕ) (run other : Run)
     (one : IsWaveReplay input setting rest seed run) (two : IsWaveReplay input setting rest seed other)

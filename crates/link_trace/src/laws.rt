@@ -1,5 +1,6 @@
 // Laws of worlds. Each is the contract of a function that does nothing, so that calls above can cite it.
 
+ghost use Rattle.link_trace.specs.FirstWorlds.{FirstWorldsAreOne};
 ghost use Rattle.link_trace.specs.Worlds.{WorldAgrees, WorldAgreesInWave};
 ghost use Rattle.link_trace.specs.Order.{ReplaysAreOne, RunsAreOne, WaveRunsAreOne};
 
@@ -19,12 +20,17 @@ pub fn replays_are_one()
     ensures { ReplaysAreOne }
 {}
 
-/// So two runs that are replays of one input, setting, seed and first world have as many bouts and one journal.
+/// Two worlds that `World::start` makes of one input and setting are one.
+pub fn first_worlds_are_one()
+    ensures { FirstWorldsAreOne }
+{}
+
+/// So two runs that are replays of one input, setting and seed have as many bouts and one journal.
 pub fn runs_are_one()
     ensures { RunsAreOne }
 {}
 
-/// And so have two of a wave.
+/// And so have two of a wave that began with one world.
 pub fn wave_runs_are_one()
     ensures { WaveRunsAreOne }
 {}

@@ -1,10 +1,11 @@
 // An actor's machine, and what waits for it; the places of all actors, as they are made and taken apart.
 
-ghost use Rattle.std.specs.Prelude.{◌≡◌, ◌++◌, ◌∷◌, [], List, ◌<◌, MatchOption, OnOk, IfOk, MatchBool, Ok, true, false, length, slice_set, slice_index_or, None, All};
+ghost use Rattle.std.specs.Prelude.{◌≡◌, ◌++◌, ◌∷◌, [], List, ◌<◌, MatchOption, OnOk, IfOk, MatchBool, Ok, true, false, length, map, replicate, slice_set, slice_index_or, None, All};
 ghost use Rattle.trace_law.specs.Validity.{IsValidInput, IsValidSetting};
 ghost use Rattle.actor_core.specs.Lists.{Took, Began};
 ghost use Rattle.actor_core.specs.Standing.{Occurs, Waits, IsOver, GoesOn};
 ghost use Rattle.actor_core.specs.Elements.{IsAt, IsAllAt, IsSomeAt};
+ghost use Rattle.link_trace.specs.FirstWorlds.{HaveBegun, none_waits};
 ghost use Rattle.link_trace.specs.Worlds.{waiting_at, waiting_of, cores_of, waits, HasRoom, TakesOff, PutsOn, OccursAt, AreNew, HaveNothing};
 
 use actor_core::{Core, core_at};
@@ -149,6 +150,7 @@ pub(crate) fn begin(
 fn no_messages(alloc: Global, senders: u32) -> Result<Vec<VecDeque<Msg>>, AllocError>
     ensures empty { IfOk result (λ waiting. All (λ queue. queue.items ≡ []) waiting.items) }
     ensures each { IfOk result (λ waiting. length waiting.items ≡ senders) }
+    ensures none { IfOk result (λ waiting. map (λ queue. queue.items) waiting.items ≡ replicate senders []) }
 {
     let mut waiting = Vec::new(alloc);
     for _ in 0..senders {
@@ -163,6 +165,7 @@ fn place_of<'a>(alloc: Global, core: Core<'a>, count: u32) -> Result<Place<'a>, 
     ensures empty { IfOk result
         (λ place. All (λ queue. queue.items ≡ []) place.waiting.items) }
     ensures wide { IfOk result (λ place. length place.waiting.items ≡ count) }
+    ensures each { IfOk result (λ place. waiting_at place ≡ replicate count []) }
 {
     match no_messages(alloc, count) {
         Ok(waiting) => Ok(Place { core, waiting }),
@@ -185,6 +188,9 @@ pub(crate) fn new_places<'a>(
     ensures fresh { IfOk result (λ places. AreNew input.now setting.now count places.items) }
     ensures wide { IfOk result (λ places.
         All (λ queues. length queues ≡ count) (waiting_of places.items)) }
+    ensures begun { IfOk result
+        (λ places. HaveBegun input.now setting.now count (cores_of places.items)) }
+    ensures waiting { IfOk result (λ places. waiting_of places.items ≡ none_waits count) }
 {
     let mut places = Vec::new(alloc);
     for n in 0..count {

@@ -17,6 +17,7 @@ ghost use Rattle.actor_core.specs.declared.machines.Core.{Core as Core'};
 ghost use Rattle.actor_core.specs.Numbers.{number as number'};
 ghost use Rattle.actor_core.specs.Rests.{upto, rest_of, IsRestOf, IsUpto};
 ghost use Rattle.actor_core.specs.Elements.{IsAllAt, IsSomeAt};
+ghost use Rattle.link_trace.specs.FirstWorlds.{IsFirstWorld};
 ghost use Rattle.link_trace.specs.Worlds.{state_among, waiting_of, left_of, core_of, StandsFor, StandsForSome, StandsInWave, AllJoinBy, IsSquare, IsStill, Delivers, MakesEvent};
 
 use crate::endings::last_two;
@@ -54,6 +55,8 @@ impl<'a> World<'a> {
         ensures fresh { IfOk result (λ world.
             StandsFor input.now setting.now (state_of world) (λ actor. no_lists)) }
         ensures at_work { IfOk result (λ world. world.spent ≡ false) }
+        // all of it is determined by the input and the setting
+        ensures first { IfOk result (λ world. IsFirstWorld input.now setting.now (state_of world)) }
     {
         let joiners = joiners_of(setting);
         let count = setting.feeders + joiners + 2;

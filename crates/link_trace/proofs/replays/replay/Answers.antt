@@ -1,4 +1,5 @@
 use Rattle.std.proofs.Common.{◌≡◌, ◌∙◌, true, false}
+use Rattle.link_trace.specs.FirstWorlds.{IsFirstWorld}
 use Rattle.link_trace.specs.States.{state_of}
 use Rattle.link_trace.proofs.Bounds.{counts_on, run_answers, run_bounded}
 use Rattle.trace_law.specs.Family.{first_rest}
@@ -14,8 +15,8 @@ differ e = cc
 pub loop-init : goal.loop-init
 loop-init g c =
     begins c.args.input.now c.args.setting.now (first_rest c.args.setting.now)
-    c.args.seed c.in_ok-marks.marks.items c.new-draws.result
-    c.in_ok-slots.slots.items (state_of c.in_ok-world.world)
+    c.args.seed (IsFirstWorld c.args.input.now c.args.setting.now) c.in_ok-marks.marks.items c.new-draws.result
+    c.in_ok-slots.slots.items (state_of c.in_ok-world.world) c.in_ok-world.ensures.first
     c.in_ok-world.ensures.fresh c.new-draws.ensures c.in_ok-slots.ensures
     (c.in_ok-marks.ensures.each ∙ (c.len.ensures ∙ c.in_ok-slots.slots.ok.0)) c.in_ok-marks.ensures.marked
 
@@ -36,7 +37,8 @@ make_next-requires-clause-few g c =
 pub loop-preserved : goal.loop-preserved
 loop-preserved g c =
     goes_on c.args.input.now c.args.setting.now (first_rest c.args.setting.now)
-    c.args.seed c.loop.marks.items c.make_next.new.marks.items c.loop.draws
+    c.args.seed (IsFirstWorld c.args.input.now c.args.setting.now) c.loop.marks.items c.make_next.new.marks.items
+    c.loop.draws
     c.make_next.new.draws c.loop.events c.make_next.new.events
     (state_of c.loop.world) (state_of c.make_next.new.world) c.loop.invariant c.deref.result.now
     (c.deref.ensures.value ∙ c.in_ok-slots.ensures) (c.done.ensures.goes_on c.if-done.false)

@@ -1,3 +1,4 @@
+use Rattle.std.specs.Prelude.{⊤}
 use Rattle.std.proofs.Common.{◌≡◌, ◌∙◌, true, false}
 use Rattle.std.proofs.lemmas.Result.{IfOk-weaker}
 use Rattle.trace_law.proofs.Validity.{within_limits}
@@ -18,8 +19,8 @@ pub loop-init : goal.loop-init
 loop-init g c = record {
   under =
       begins (upto c.args.end c.args.input.now) c.args.setting.now (rest_of c.args.rest) c.args.seed
-      c.in_ok-marks.marks.items c.new-draws.result c.in_ok-slots.slots.items (state_of c.in_ok-world.world)
-      c.in_ok-world.ensures.fresh c.new-draws.ensures c.in_ok-slots.ensures
+      (λ first. ⊤) c.in_ok-marks.marks.items c.new-draws.result c.in_ok-slots.slots.items
+      (state_of c.in_ok-world.world) tt c.in_ok-world.ensures.fresh c.new-draws.ensures c.in_ok-slots.ensures
       (c.in_ok-marks.ensures.each ∙ (c.len.ensures ∙ c.in_ok-slots.slots.ok.0)) c.in_ok-marks.ensures.marked;
   joins = c.in_ok-world.ensures.joins;
 }
@@ -48,7 +49,7 @@ pub loop-preserved : goal.loop-preserved
 loop-preserved g c = record {
   under =
       goes_on (upto c.args.end c.args.input.now) c.args.setting.now (rest_of c.args.rest) c.args.seed
-      c.loop.marks.items c.make_next.new.marks.items c.loop.draws
+      (λ first. ⊤) c.loop.marks.items c.make_next.new.marks.items c.loop.draws
       c.make_next.new.draws c.loop.events c.make_next.new.events
       (state_of c.loop.world) (state_of c.make_next.new.world) c.loop.invariant.under c.deref.result.now
       (c.deref.ensures.value ∙ c.in_ok-slots.ensures) (c.done.ensures.goes_on c.if-done.false)
