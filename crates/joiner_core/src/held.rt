@@ -49,9 +49,11 @@ impl<'a> Machine<'a> {
         ensures none { IfOk result (λ more. more ≡ false → state_of self.new ≡ state_of self.old) }
         ensures stuck { IfOk result (λ more. more ≡ false → IsStuck (state_of self.new)) }
         ensures does { IfOk result (λ more. more ≡ true
-            → DoesNext (state_of self.old) (state_of self.new) found.old found.new sends.old sends.new) }
+            → DoesNext (state_of self.old) (state_of self.new)
+            found.old found.new sends.old sends.new) }
         ensures rests { IfOk result (λ more. more ≡ false
-            → Does (takes_all_held (state_of self.old)) (state_of self.new) found.old found.new sends.old sends.new) }
+            → Does (takes_all_held (state_of self.old)) (state_of self.new)
+            found.old found.new sends.old sends.new) }
     {
         match self.ready_feeder() {
             Some(p) => {
