@@ -2,10 +2,12 @@
 //! tuples, `store` probes it by a band with as many, `beyond` by an inequality, `texts` by an equality of texts and
 //! `texts_beyond` by both; `inbox1`, `inbox8` and `inbox72` put and take 7.2 million messages in turn, of so many
 //! senders; `replay4` replays the join of 65,536 rows by as many over 4 joiners, and `replay64` of 20,000 by as many
-//! over 64 joiners with 8 feeders, and both print the number of events.
+//! over 64 joiners with 8 feeders, and both print the number of events; `rounds1`, `rounds2`, `rounds4`, `rounds8` and
+//! `rounds16` have so many threads do next to nothing in each of 20,000 rounds.
 #![tactic(auto)]
 
 mod replays;
+mod rounds;
 
 ghost use Rattle.std.specs.Prelude.{◌≡◌, ◌<◌, length, All, IfOk};
 ghost use Rattle.ruled_links.specs.Inboxes.{Differ};
@@ -232,11 +234,14 @@ fn exchange<R: Wait>(rt: &R, alloc: Global, count: u32, rounds: u32) -> Result<u
     Ok(taken)
 }
 
+// How many rounds.
+const ROUNDS: u32 = 20_000;
+
 fn main(rt: HostRuntime) -> io::Result<()> {
     let alloc = rt.alloc();
     let Some(word) = env::args(&rt)?.nth(1) else {
         println!(rt;
-            "holds, add, store, beyond, texts, texts_beyond, inbox1, inbox8, inbox72, replay4 or replay64"
+            "holds, add, store, beyond, texts, texts_beyond, inbox1, inbox8, inbox72, replay4, replay64, rounds1, rounds2, rounds4, rounds8 or rounds16"
         )?;
         return Ok(());
     };
@@ -252,6 +257,11 @@ fn main(rt: HostRuntime) -> io::Result<()> {
         "inbox72" => println!(rt; "{}", exchange(&rt, alloc, 72, 100_000)?)?,
         "replay4" => println!(rt; "{}", replays::events(&rt, alloc, 65_536, 2, 2)?)?,
         "replay64" => println!(rt; "{}", replays::events(&rt, alloc, 20_000, 6, 8)?)?,
+        "rounds1" => println!(rt; "{}", rounds::added(&rt, alloc, 1, ROUNDS)?)?,
+        "rounds2" => println!(rt; "{}", rounds::added(&rt, alloc, 2, ROUNDS)?)?,
+        "rounds4" => println!(rt; "{}", rounds::added(&rt, alloc, 4, ROUNDS)?)?,
+        "rounds8" => println!(rt; "{}", rounds::added(&rt, alloc, 8, ROUNDS)?)?,
+        "rounds16" => println!(rt; "{}", rounds::added(&rt, alloc, 16, ROUNDS)?)?,
         _ => println!(rt; "no such word")?,
     }
     Ok(())
