@@ -1,5 +1,7 @@
 pub mod Arguments
+pub mod Askable
 pub mod NumberReads
+pub mod Passed
 pub mod Powers
 pub mod RangeLemmas
 pub mod ReadLemmas

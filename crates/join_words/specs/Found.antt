@@ -51,6 +51,14 @@ weights_at rows = record {
 abbrev pub make_at : List Row → Option ℕ
 make_at rows = number_at (codes "make") rows
 
+-- the seed of the order of a replay, where one is asked for
+abbrev pub replay_at : List Row → Option ℕ
+replay_at rows = number_at (codes "replay") rows
+
+-- whether pairs are wanted early
+abbrev pub early_at : List Row → Bool
+early_at rows = flag_at (codes "early") rows
+
 -- whether the joiners are to form groups
 abbrev pub groups_at : List Row → Bool
 groups_at rows = flag_at (codes "groups") rows

@@ -16,14 +16,18 @@ use Rattle.clap.specs.Faults.{fault_of}
 use Rattle.clap.specs.Kinds.{Kinds}
 use Rattle.join_words.specs.Apart.{any_of, apart}
 use Rattle.join_words.specs.Command.{jm_command}
-use Rattle.join_words.specs.Found.{batch_at, feeders_at, flag_at, groups_at, grow_at, joiners_at, make_at, names_given}
-use Rattle.join_words.specs.Found.{number_at, rings_at, text_at, then_at, weights_at, workers_at}
+use Rattle.join_words.specs.Found.{batch_at, early_at, feeders_at, flag_at, groups_at, grow_at, joiners_at, make_at}
+use Rattle.join_words.specs.Found.{names_given, number_at, replay_at, rings_at, text_at, then_at, weights_at}
+use Rattle.join_words.specs.Found.{workers_at}
 use Rattle.join_words.specs.declared.apart.Given.{Given}
 use Rattle.join_words.specs.declared.checks.Begun.{Begun}
 use Rattle.join_words.specs.declared.names.Named.{Named}
-use Rattle.join_words.specs.declared.options.Chain.{Chain}
+use Rattle.join_words.specs.declared.kind.Chain.{Chain}
+use Rattle.join_words.specs.declared.kind.Grid.{Grid}
+use Rattle.join_words.specs.declared.kind.Kind.{Kind}
+use Rattle.join_words.specs.declared.kind.Kind.TheVariants as runs
+use Rattle.join_words.specs.declared.kind.Wave.{Wave}
 use Rattle.join_words.specs.declared.options.Options.{Options}
-use Rattle.join_words.specs.declared.options.Wave.{Wave}
 use Rattle.join_words.specs.declared.options.WordsError.{WordsError}
 use Rattle.join_words.specs.declared.options.WordsError.TheVariants.{Fault, Memory}
 use Rattle.join_words.specs.declared.options.WordsFault.{WordsFault}
@@ -47,62 +51,125 @@ pub record AskedWave : Type 0 where
 abbrev pub asked_wave : Wave → AskedWave
 asked_wave wave = record { name_r = wave.name_r.now; name_s = wave.name_s.now }
 
--- what the words ask for: the predicate's text; 2^k joiners, or how many there are where they form groups; whether
--- messages go over rings; the feeders; the workers, which are the threads of a run that isn't a replay; how many rows
--- each feeder asks for at once and in which order; the shift at which the grid stays, where one is given; what a row of
--- each side weighs in a grid's load; the seed of the tickets; the seed of the order of a replay, where one is given;
--- how many rows a side has, where tables are to be made; whether the pairs of each bout are wanted early; whether a
--- report is wanted; whether joined rows are; the names of the first wave's two files, empty where there are none; the
--- later waves; after how many waves each joiner splits into four, where they are to; and the second join, where one is
--- asked for
+-- how the tables are joined: in waves, on a grid, in the order of this seed where they are a replay, with the later
+-- waves and after how many waves each joiner splits into four, where they are to; early, the pairs as they are found;
+-- by so many joiners in groups; over rings; or in a chain with a second join
+pub data AskedKind : Type 0 where
+  in_waves : Grid → Option ℕ → List AskedWave → Option ℕ → AskedKind
+  early : Grid → AskedKind
+  in_groups : ℕ → AskedKind
+  over_rings : Grid → AskedKind
+  in_chain : Grid → AskedChain → AskedKind
+
+-- what such a kind of the code says
+abbrev pub asked_kind : Kind → AskedKind
+asked_kind (runs.Waves grid replay later grow) = in_waves grid replay (map asked_wave later.items) grow
+asked_kind (runs.Early grid) = early grid
+asked_kind (runs.Groups joiners) = in_groups joiners
+asked_kind (runs.Rings grid) = over_rings grid
+asked_kind (runs.Chain grid chain) = in_chain grid (asked_chain chain)
+
+-- the grid; groups have one each, so theirs is that of a single joiner
+abbrev pub grid_of : AskedKind → Grid
+grid_of (in_waves grid replay later grow) = grid
+grid_of (early grid) = grid
+grid_of (in_groups joiners) = record { k = 0; fixed = None }
+grid_of (over_rings grid) = grid
+grid_of (in_chain grid chain) = grid
+
+-- the later waves
+abbrev pub later_of : AskedKind → List AskedWave
+later_of (in_waves grid replay later grow) = later
+later_of _ = []
+
+-- the seed of the order of a replay, where one is asked for
+abbrev pub replay_of : AskedKind → Option ℕ
+replay_of (in_waves grid replay later grow) = replay
+replay_of _ = None
+
+-- after how many waves each joiner splits into four, where they are to
+abbrev pub grow_of : AskedKind → Option ℕ
+grow_of (in_waves grid replay later grow) = grow
+grow_of _ = None
+
+-- whether the pairs of each bout are wanted early
+abbrev pub is_early : AskedKind → Bool
+is_early (early grid) = true
+is_early _ = false
+
+-- how many joiners there are, where they form groups
+abbrev pub members_of : AskedKind → Option ℕ
+members_of (in_groups joiners) = Some joiners
+members_of _ = None
+
+-- whether messages go over rings
+abbrev pub is_over_rings : AskedKind → Bool
+is_over_rings (over_rings grid) = true
+is_over_rings _ = false
+
+-- the second join, where one is asked for
+abbrev pub chain_of : AskedKind → Option AskedChain
+chain_of (in_chain grid chain) = Some chain
+chain_of _ = None
+
+-- what the words ask for: the predicate's text; how the tables are joined; the feeders; the workers, which are the
+-- threads of a run that isn't a replay; how many rows each feeder asks for at once and in which order; what a row of
+-- each side weighs in a grid's load; the seed of the tickets; how many rows a side has, where tables are to be made;
+-- whether a report is wanted; whether joined rows are; and the names of the first wave's two files, empty where there
+-- are none
 pub record Asked : Type 0 where
   pub on : List ℕ
-  pub k : ℕ
-  pub groups : Option ℕ
-  pub rings : Bool
+  pub kind : AskedKind
   pub feeders : ℕ
   pub workers : ℕ
   pub batch : ℕ
   pub feed : Feed
-  pub fixed : Option ℕ
   pub weights : Weights
   pub seed : ℕ
-  pub replay : Option ℕ
   pub make : Option ℕ
-  pub early : Bool
   pub report : Bool
   pub rows : Bool
   pub name_r : List ℕ
   pub name_s : List ℕ
-  pub later : List AskedWave
-  pub grow : Option ℕ
-  pub chain : Option AskedChain
 
 -- what these options say
 abbrev pub asked : Options → Asked
 asked options = record {
   on = options.on.now;
-  k = options.k;
-  groups = options.groups;
-  rings = options.rings;
+  kind = asked_kind options.kind;
   feeders = options.feeders;
   workers = options.workers;
   batch = options.batch;
   feed = options.feed;
-  fixed = options.fixed;
   weights = options.weights;
   seed = options.seed;
-  replay = options.replay;
   make = options.make;
-  early = options.early;
   report = options.report;
   rows = options.rows;
   name_r = options.name_r.now;
   name_s = options.name_s.now;
-  later = map asked_wave options.later.items;
-  grow = options.grow;
-  chain = option_map asked_chain options.chain;
 }
+
+-- of what is asked for at once: the bounds of each number; a fixed shift is one of the grid; joiners split behind a
+-- wave that isn't the last and with no fixed shift; made tables stand without later waves, early pairs, a second join
+-- and joined rows; early pairs and a second join stand without joined rows too
+pub record AreOptions (asked : Asked) : Type 0 where
+  pub feeders : (1 ≤ asked.feeders) × (asked.feeders ≤ 8)
+  pub workers : (1 ≤ asked.workers) × (asked.workers ≤ 16)
+  pub batch : (1 ≤ asked.batch) × (asked.batch ≤ 4096)
+  pub weights : AreWeights asked.weights
+  pub small : (grid_of asked.kind).k ≤ 6
+  pub fits : IfSome (grid_of asked.kind).fixed (λ fixed. fixed ≤ (grid_of asked.kind).k)
+  pub groups : IfSome (members_of asked.kind) (λ joiners. (1 ≤ joiners) × (joiners ≤ 64))
+  pub later : length (later_of asked.kind) ≤ 3
+  pub grow : IfSome (grow_of asked.kind) (λ wave. (1 ≤ wave) × (wave ≤ length (later_of asked.kind)))
+  pub free : IfSome (grow_of asked.kind) (λ _. (grid_of asked.kind).fixed ≡ None)
+  pub make : IfSome asked.make (λ count. (1 ≤ count) × (count ≤ 65536))
+  pub made_once : IfSome asked.make (λ _. later_of asked.kind ≡ [])
+  pub made_whole : IfSome asked.make (λ _. is_early asked.kind ≡ false)
+  pub made_rows : IfSome asked.make (λ _. asked.rows ≡ false)
+  pub early : is_early asked.kind ≡ true → (asked.make ≡ None) × (asked.rows ≡ false)
+  pub chained : IfSome (chain_of asked.kind) (λ _. (asked.make ≡ None) × (asked.rows ≡ false))
 
 -- whether no wave is behind so many: twice their number isn't below this number of names
 abbrev pub no_wave_behind : Option ℕ → ℕ → Bool
@@ -113,9 +180,9 @@ no_wave_behind (Some wave) names = nat_le names (2 * wave)
 abbrev pub given_by : List Row → Given
 given_by rows = record {
   fixed = is_some (number_at (codes "fixed") rows);
-  replay = is_some (number_at (codes "replay") rows);
+  replay = is_some (replay_at rows);
   make = is_some (make_at rows);
-  early = flag_at (codes "early") rows;
+  early = early_at rows;
   rows = flag_at (codes "rows") rows;
   groups = groups_at rows;
   chain = is_some (then_at rows);
@@ -149,20 +216,12 @@ abbrev pub fixed_within : ℕ → Option ℕ → Result (Option ℕ) WordsFault
 fixed_within k None = Ok None
 fixed_within k (Some fixed) = if nat_le fixed k then Ok (Some fixed) else Err Fixed
 
--- k of the joiners' number; groups have theirs each
-abbrev pub grid_of : Bool → ℕ → Result ℕ WordsFault
-grid_of false joiners = exponent_of joiners
-grid_of true joiners = Ok 0
-
--- the shift at which the grid stays, where one is given; with groups it isn't looked at here
-abbrev pub staying_of : Bool → ℕ → Option ℕ → Result (Option ℕ) WordsFault
-staying_of false k fixed = fixed_within k fixed
-staying_of true k fixed = Ok None
-
--- how many joiners there are, where they form groups
-abbrev pub members_of : Bool → ℕ → Option ℕ
-members_of false joiners = None
-members_of true joiners = Some joiners
+-- the grid of the joiners' number, and of the shift at which it stays, where one is given; groups have one each, and
+-- neither is looked at here
+abbrev pub grid_by : Bool → ℕ → Option ℕ → Result Grid WordsFault
+grid_by true joiners fixed = Ok (record { k = 0; fixed = None })
+grid_by false joiners fixed = then_of (exponent_of joiners) (λ k.
+    then_of (fixed_within k fixed) (λ fixed. Ok (record { k = k; fixed = fixed })))
 
 -- no two words are given that don't stand together
 abbrev pub unless_apart : {A : Type 0} → Given → Result A WordsFault → Result A WordsFault
@@ -217,37 +276,46 @@ names_by None (Some on) names = three_names on names
 abbrev pub begun_by : List Row → Result Begun WordsFault
 begun_by rows =
     then_of (feed_named (text_at (codes "feed") rows)) (λ feed.
-    then_of (grid_of (groups_at rows) (joiners_at rows)) (λ k.
-    then_of (staying_of (groups_at rows) k (number_at (codes "fixed") rows)) (λ fixed.
-    unless_apart (given_by rows) (Ok (record { feed = feed; k = k; fixed = fixed })))))
+    then_of (grid_by (groups_at rows) (joiners_at rows) (number_at (codes "fixed") rows)) (λ grid.
+    unless_apart (given_by rows) (Ok (record { feed = feed; grid = grid }))))
+
+-- how the tables are joined where there is no second join: by groups, over rings or early, of which no two are given
+-- at once, and else in waves
+abbrev pub single_kind : List Row → Grid → List AskedWave → AskedKind
+single_kind rows grid later =
+    if groups_at rows then in_groups (joiners_at rows)
+    else (if rings_at rows then over_rings grid
+    else (if early_at rows then early grid
+    else in_waves grid (replay_at rows) later (grow_at rows)))
+
+-- how the tables are joined, by a match that passed the checks
+abbrev pub kind_by : List Row → Grid → List AskedWave → Option AskedChain → AskedKind
+kind_by rows grid later (Some chain) = in_chain grid chain
+kind_by rows grid later None = single_kind rows grid later
+
+-- what a match asks for that passed the checks, with what these found
+abbrev pub asked_with : List Row → Begun → Names → Asked
+asked_with rows begun names = record {
+  on = text_at (codes "on") rows;
+  kind = kind_by rows begun.grid names.later names.chain;
+  feeders = feeders_at rows;
+  workers = workers_at rows;
+  batch = batch_at rows;
+  feed = begun.feed;
+  weights = weights_at rows;
+  seed = unwrap_or (number_at (codes "seed") rows) 1;
+  make = make_at rows;
+  report = flag_at (codes "report") rows;
+  rows = flag_at (codes "rows") rows;
+  name_r = names.name_r;
+  name_s = names.name_s;
+}
 
 -- what a match asks for, or the first check that it fails
 abbrev pub asked_by : List Row → Result Asked WordsFault
 asked_by rows =
     then_of (begun_by rows) (λ begun.
-    then_of (names_by (make_at rows) (then_at rows) (names_given rows)) (λ names. Ok (record {
-      on = text_at (codes "on") rows;
-      k = begun.k;
-      groups = members_of (groups_at rows) (joiners_at rows);
-      rings = rings_at rows;
-      feeders = feeders_at rows;
-      workers = workers_at rows;
-      batch = batch_at rows;
-      feed = begun.feed;
-      fixed = begun.fixed;
-      weights = weights_at rows;
-      seed = unwrap_or (number_at (codes "seed") rows) 1;
-      replay = number_at (codes "replay") rows;
-      make = make_at rows;
-      early = flag_at (codes "early") rows;
-      report = flag_at (codes "report") rows;
-      rows = flag_at (codes "rows") rows;
-      name_r = names.name_r;
-      name_s = names.name_s;
-      later = names.later;
-      grow = grow_at rows;
-      chain = names.chain;
-    })))
+    then_of (names_by (make_at rows) (then_at rows) (names_given rows)) (λ names. Ok (asked_with rows begun names)))
 
 -- ---- the words
 

@@ -1,16 +1,17 @@
 // The checks of a match, in the order of their faults.
 
-ghost use Rattle.std.specs.Prelude.{◌≡◌, ◌≤◌, ◌<◌, ◌^◌, [], IfOk, IfSome, None, true, false, codes, is_some, length, unwrap_or};
+ghost use Rattle.std.specs.Prelude.{◌≡◌, ◌<◌, ◌^◌, IfSome, is_some, map, option_map, true, unwrap_or};
 ghost use Rattle.clap.specs.Matches.{found_of};
 ghost use Rattle.clap.specs.Walk.{rows_of};
-ghost use Rattle.grid_map.specs.Load.{AreWeights};
 ghost use Rattle.join_words.specs.Apart.{any_of, apart, are_apart};
-ghost use Rattle.join_words.specs.Found.{groups_at, number_at, weights_at};
-ghost use Rattle.join_words.specs.Words.{AreBounded, Gives, asked_by, begun_by, exponent_of, feed_named, fixed_within};
-ghost use Rattle.join_words.specs.Words.{given_by, grid_of, members_of, no_wave_behind, staying_of};
+ghost use Rattle.join_words.specs.Found.{number_at, weights_at};
+ghost use Rattle.join_words.specs.Words.{AreBounded, Gives, asked_by, asked_chain, asked_kind, asked_wave, begun_by};
+ghost use Rattle.join_words.specs.Words.{exponent_of, feed_named, fixed_within, given_by, grid_by, kind_by, no_wave_behind};
+ghost use Rattle.join_words.specs.Words.{single_kind};
 
 use crate::apart::{Given, Word};
 use crate::found::{flag, is_given, number, text};
+use crate::kind::{Chain, Grid, Kind, Wave};
 use crate::names::{Named, count, read_names};
 use crate::options::{Options, WordsError, WordsFault};
 use clap::ArgMatches;
@@ -20,8 +21,7 @@ use std::alloc::Global;
 
 /// k of 2^k joiners.
 fn exponent(joiners: u64) -> Result<u32, WordsFault>
-    ensures exact { result ≡ exponent_of joiners }
-    ensures small { joiners ≤ 64 → IfOk result (λ k. k ≤ 6) }
+    ensures { result ≡ exponent_of joiners }
 {
     if joiners.is_power_of_two() {
         Ok(joiners.trailing_zeros())
@@ -32,9 +32,7 @@ fn exponent(joiners: u64) -> Result<u32, WordsFault>
 
 /// A grid that stays is one of the 2^k joiners.
 fn within(k: u32, fixed: Option<u64>) -> Result<Option<u32>, WordsFault>
-    ensures exact { result ≡ fixed_within k fixed }
-    ensures fits { IfOk result (λ fixed. IfSome fixed (λ fixed. fixed ≤ k)) }
-    ensures free { is_some fixed ≡ false → IfOk result (λ fixed. fixed ≡ None) }
+    ensures { result ≡ fixed_within k fixed }
 {
     match fixed {
         None => Ok(None),
@@ -75,31 +73,17 @@ fn feed(name: &str) -> Result<Feed, WordsFault>
     }
 }
 
-/// k of the joiners' number; groups have theirs each.
-fn grid(groups: bool, joiners: u64) -> Result<u32, WordsFault>
-    ensures exact { result ≡ grid_of groups joiners }
-    ensures small { joiners ≤ 64 → IfOk result (λ k. k ≤ 6) }
+/// The grid of the joiners' number, and of the shift at which it stays, where one is given. Groups have one each, and
+/// neither is looked at here.
+fn grid(groups: bool, joiners: u64, fixed: Option<u64>) -> Result<Grid, WordsFault>
+    ensures { result ≡ grid_by groups joiners fixed }
 {
-    if groups { Ok(0) } else { exponent(joiners) }
-}
-
-/// The shift at which the grid stays, where one is given. With groups it isn't looked at here.
-fn staying(groups: bool, k: u32, fixed: Option<u64>) -> Result<Option<u32>, WordsFault>
-    ensures exact { result ≡ staying_of groups k fixed }
-    ensures fits { IfOk result (λ fixed. IfSome fixed (λ fixed. fixed ≤ k)) }
-    ensures none { groups ≡ true → IfOk result (λ fixed. fixed ≡ None) }
-    ensures free { is_some fixed ≡ false → IfOk result (λ fixed. fixed ≡ None) }
-{
-    if groups { Ok(None) } else { within(k, fixed) }
-}
-
-/// How many joiners there are, where they form groups.
-fn members(groups: bool, joiners: u64) -> Option<u32>
-    requires { joiners ≤ 64 }
-    ensures exact { result ≡ members_of groups joiners }
-    ensures same { IfSome result (λ members. (members ≡ joiners) × (groups ≡ true)) }
-{
-    if groups { Some(joiners as u32) } else { None }
+    if groups {
+        return Ok(Grid { k: 0, fixed: None });
+    }
+    let k = exponent(joiners)?;
+    let fixed = within(k, fixed)?;
+    Ok(Grid { k, fixed })
 }
 
 /// Whether no wave is behind so many: twice their number isn't below this number of names.
@@ -146,32 +130,21 @@ pub fn words_apart(matches: &ArgMatches<'_>) -> Option<(Word, Word)>
 #[derive(Clone, Copy, Debug)]
 pub(crate) struct Begun {
     pub(crate) feed: Feed,
-    pub(crate) k: u32,
-    pub(crate) fixed: Option<u32>,
+    pub(crate) grid: Grid,
 }
 
 /// What the checks before that of the names find, or the first of them that a match fails.
 fn begin(matches: &ArgMatches<'_>) -> Result<Begun, WordsFault>
-    requires bounded { AreBounded (rows_of (found_of matches.now)) }
-    ensures exact { result ≡ begun_by (rows_of (found_of matches.now)) }
-    ensures small { IfOk result (λ begun. begun.k ≤ 6) }
-    ensures fits { IfOk result (λ begun. IfSome begun.fixed (λ fixed. fixed ≤ begun.k)) }
-    ensures grouped { IfOk result (λ begun. groups_at (rows_of (found_of matches.now)) ≡ true
-        → begun.fixed ≡ None) }
-    ensures unfixed { is_some (number_at (codes "fixed") (rows_of (found_of matches.now))) ≡ false
-        → IfOk result (λ begun. begun.fixed ≡ None) }
-    ensures together { IfOk result (λ _.
-        any_of (given_by (rows_of (found_of matches.now))) apart ≡ false) }
+    ensures { result ≡ begun_by (rows_of (found_of matches.now)) }
 {
     let feed = feed(text(matches, "feed"))?;
     let groups = flag(matches, "groups");
     let joiners = number(matches, "joiners").unwrap_or(4);
-    let k = grid(groups, joiners)?;
-    let fixed = staying(groups, k, number(matches, "fixed"))?;
+    let grid = grid(groups, joiners, number(matches, "fixed"))?;
     if given(matches).clash().is_some() {
         return Err(WordsFault::Together);
     }
-    Ok(Begun { feed, k, fixed })
+    Ok(Begun { feed, grid })
 }
 
 /// The number of an option that is given and less than 2^32.
@@ -185,53 +158,59 @@ fn small_option(matches: &ArgMatches<'_>, id: &str) -> Option<u32>
     }
 }
 
+/// How the tables are joined where there is no second join.
+fn single<'a>(matches: &ArgMatches<'_>, grid: Grid, later: Vec<Wave<'a>>) -> Kind<'a>
+    requires { AreBounded (rows_of (found_of matches.now)) }
+    ensures { asked_kind result
+        ≡ single_kind (rows_of (found_of matches.now)) grid (map asked_wave later.entry.items) }
+{
+    if flag(matches, "groups") {
+        let joiners = small_number(matches, "joiners", 4);
+        return Kind::Groups { joiners };
+    }
+    if flag(matches, "rings") {
+        return Kind::Rings { grid };
+    }
+    if flag(matches, "early") {
+        return Kind::Early { grid };
+    }
+    Kind::Waves {
+        grid,
+        replay: number(matches, "replay"),
+        later,
+        grow: small_option(matches, "grow"),
+    }
+}
+
+/// How the tables are joined, by a match that passed the checks.
+fn kind<'a>(
+    matches: &ArgMatches<'_>,
+    grid: Grid,
+    later: Vec<Wave<'a>>,
+    chain: Option<Chain<'a>>,
+) -> Kind<'a>
+    requires { AreBounded (rows_of (found_of matches.now)) }
+    ensures { asked_kind result ≡ kind_by (rows_of (found_of matches.now)) grid
+        (map asked_wave later.entry.items) (option_map asked_chain chain.entry) }
+{
+    match chain {
+        Some(chain) => Kind::Chain { grid, chain },
+        None => single(matches, grid, later),
+    }
+}
+
 /// What a match asks for, or the first check that it fails; or memory is wanting for the later waves.
 pub(crate) fn checked<'a>(
     alloc: Global,
     matches: &ArgMatches<'a>,
 ) -> Result<Options<'a>, WordsError>
-    requires bounded { AreBounded (rows_of (found_of matches.now)) }
-    ensures exact { Gives (asked_by (rows_of (found_of matches.now))) result }
-    ensures small { IfOk result (λ options. options.k ≤ 6) }
-    ensures fits { IfOk result (λ options. IfSome options.fixed (λ fixed. fixed ≤ options.k)) }
-    ensures feeders { IfOk result (λ options. (1 ≤ options.feeders) × (options.feeders ≤ 8)) }
-    ensures workers { IfOk result (λ options. (1 ≤ options.workers) × (options.workers ≤ 16)) }
-    ensures batch { IfOk result (λ options. (1 ≤ options.batch) × (options.batch ≤ 4096)) }
-    ensures weights { IfOk result (λ options. AreWeights options.weights) }
-    ensures make { IfOk result (λ options.
-        IfSome options.make (λ count. (1 ≤ count) × (count ≤ 65536))) }
-    ensures apart { IfOk result (λ options. IfSome options.make (λ _. options.rows ≡ false)) }
-    ensures alone { IfOk result (λ options. options.early ≡ true
-        → (options.replay ≡ None) × (options.make ≡ None) × (options.rows ≡ false)) }
-    ensures groups { IfOk result (λ options.
-        IfSome options.groups (λ joiners. (1 ≤ joiners) × (joiners ≤ 64))) }
-    ensures grouped { IfOk result (λ options. IfSome options.groups (λ _.
-        (options.fixed ≡ None) × (options.early ≡ false) × (options.replay ≡ None))) }
-    ensures chained { IfOk result (λ options. IfSome options.chain (λ _.
-        (options.groups ≡ None) × (options.early ≡ false) × (options.replay ≡ None)
-        × (options.make ≡ None) × (options.rows ≡ false))) }
-    ensures ringed { IfOk result (λ options. options.rings ≡ true
-        → (options.groups ≡ None) × (options.chain ≡ None) × (options.early ≡ false)
-        × (options.replay ≡ None)) }
-    ensures later { IfOk result (λ options. length options.later.items ≤ 3) }
-    ensures made_once { IfOk result (λ options.
-        IfSome options.make (λ _. options.later.items ≡ [])) }
-    ensures early_once { IfOk result (λ options. options.early ≡ true → options.later.items ≡ []) }
-    ensures grouped_once { IfOk result (λ options.
-        IfSome options.groups (λ _. options.later.items ≡ [])) }
-    ensures chained_once { IfOk result (λ options.
-        IfSome options.chain (λ _. options.later.items ≡ [])) }
-    ensures ringed_once { IfOk result (λ options. options.rings ≡ true → options.later.items ≡ []) }
-    ensures grow { IfOk result (λ options. IfSome options.grow (λ wave.
-        (1 ≤ wave) × (wave ≤ length options.later.items) × (options.fixed ≡ None)
-        × (options.groups ≡ None) × (options.chain ≡ None) × (options.rings ≡ false))) }
+    requires { AreBounded (rows_of (found_of matches.now)) }
+    ensures { Gives (asked_by (rows_of (found_of matches.now))) result }
 {
     let begun = match begin(matches) {
         Ok(begun) => begun,
         Err(fault) => return Err(WordsError::Fault(fault)),
     };
-    let groups = flag(matches, "groups");
-    let joiners = number(matches, "joiners").unwrap_or(4);
     let make = number(matches, "make");
     match read_names(alloc, matches, make) {
         Ok(
@@ -243,26 +222,18 @@ pub(crate) fn checked<'a>(
             },
         ) => Ok(Options {
             on: text(matches, "on"),
-            k: begun.k,
-            groups: members(groups, joiners),
-            rings: flag(matches, "rings"),
+            kind: kind(matches, begun.grid, later, chain),
             feeders: small_number(matches, "feeders", 2),
             workers: small_number(matches, "workers", 4),
             batch: small_number(matches, "batch", 64),
             feed: begun.feed,
-            fixed: begun.fixed,
             weights: weights(matches),
             seed: number(matches, "seed").unwrap_or(1),
-            replay: number(matches, "replay"),
             make,
-            early: flag(matches, "early"),
             report: flag(matches, "report"),
             rows: flag(matches, "rows"),
             name_r,
             name_s,
-            later,
-            grow: small_option(matches, "grow"),
-            chain,
         }),
         Err(error) => Err(error),
     }

@@ -4,6 +4,7 @@
 mod apart;
 mod checks;
 mod found;
+mod kind;
 mod laws;
 mod names;
 mod options;
@@ -13,8 +14,9 @@ mod syntax;
 
 pub use apart::Word;
 pub use checks::words_apart;
+pub use kind::{Chain, Grid, Kind, Wave};
 pub use laws::requests_have_no_match;
-pub use options::{Chain, Options, Wave, WordsError, WordsFault};
+pub use options::{Options, WordsError, WordsFault};
 pub use process::command_words;
 pub use reading::read_words;
 pub use syntax::command;

@@ -1,6 +1,6 @@
 // The names of the files, and the join that a third one is for.
 
-ghost use Rattle.std.specs.Prelude.{◌≡◌, ◌≤◌, ◌*◌, ◌+◌, [], IfOk, IfErr, IfSome, IsSome, None, length, option_map};
+ghost use Rattle.std.specs.Prelude.{◌≡◌, IfOk, IfErr, length, option_map};
 ghost use Rattle.clap.specs.Matches.{found_of};
 ghost use Rattle.clap.specs.Walk.{rows_of, texts};
 ghost use Rattle.join_words.specs.Found.{names_given, then_at};
@@ -8,7 +8,8 @@ ghost use Rattle.join_words.specs.Words.{GivesFiles, GivesWaves, asked_wave, lat
 ghost use Rattle.join_words.specs.Words.{wave_named, wave_names};
 
 use crate::found::given;
-use crate::options::{Chain, Wave, WordsError, WordsFault};
+use crate::kind::{Chain, Wave};
+use crate::options::{WordsError, WordsFault};
 use clap::ArgMatches;
 use std::alloc::{AllocError, Global};
 
@@ -45,9 +46,7 @@ fn wave<'a>(name_r: &'a str, name_s: &'a str) -> Wave<'a>
 
 /// The later waves of these names, two each, at most three waves.
 fn later<'a>(alloc: Global, names: &[&'a str]) -> Result<Vec<Wave<'a>>, WordsError>
-    ensures exact { GivesWaves (later_names (texts names.now)) result }
-    ensures few { IfOk result (λ later. length later.items ≤ 3) }
-    ensures half { IfOk result (λ later. 2 * length later.items ≡ length names.now) }
+    ensures { GivesWaves (later_names (texts names.now)) result }
 {
     match names {
         [] => kept(alloc, &[]),
@@ -60,10 +59,7 @@ fn later<'a>(alloc: Global, names: &[&'a str]) -> Result<Vec<Wave<'a>>, WordsErr
 
 /// Two, four, six or eight names, two for each wave.
 fn waves<'a>(alloc: Global, names: &[&'a str]) -> Result<Named<'a>, WordsError>
-    ensures exact { GivesFiles (wave_names (texts names.now)) result }
-    ensures few { IfOk result (λ named. length named.later.items ≤ 3) }
-    ensures half { IfOk result (λ named. 2 * length named.later.items + 2 ≡ length names.now) }
-    ensures single { IfOk result (λ named. named.chain ≡ None) }
+    ensures { GivesFiles (wave_names (texts names.now)) result }
 {
     match names {
         [name_r, name_s, rest @ ..] => match later(alloc, rest) {
@@ -81,9 +77,7 @@ fn waves<'a>(alloc: Global, names: &[&'a str]) -> Result<Named<'a>, WordsError>
 
 /// Just three names, the third of a second join with this predicate.
 fn three<'a>(alloc: Global, names: &[&'a str], on: &'a str) -> Result<Named<'a>, WordsError>
-    ensures exact { GivesFiles (three_names on.now (texts names.now)) result }
-    ensures alone { IfOk result (λ named. named.later.items ≡ []) }
-    ensures chained { IfOk result (λ named. IsSome named.chain) }
+    ensures { GivesFiles (three_names on.now (texts names.now)) result }
 {
     match names {
         [name_r, name_s, name] => Ok(Named {
@@ -98,10 +92,7 @@ fn three<'a>(alloc: Global, names: &[&'a str], on: &'a str) -> Result<Named<'a>,
 
 /// No name.
 fn none<'a>(alloc: Global, names: &[&'a str]) -> Result<Named<'a>, WordsError>
-    ensures exact { GivesFiles (no_names (texts names.now)) result }
-    ensures alone { IfOk result (λ named. named.later.items ≡ []) }
-    ensures empty { IfOk result (λ named. length names.now ≡ 0) }
-    ensures single { IfOk result (λ named. named.chain ≡ None) }
+    ensures { GivesFiles (no_names (texts names.now)) result }
 {
     match names {
         [] => Ok(Named {
@@ -131,15 +122,8 @@ fn checked<'a>(
     make: Option<u64>,
     on: Option<&'a str>,
 ) -> Result<Named<'a>, WordsError>
-    ensures exact { GivesFiles
+    ensures { GivesFiles
         (names_by make (option_map (λ text. text.now) on.entry) (texts names.now)) result }
-    ensures few { IfOk result (λ named. length named.later.items ≤ 3) }
-    ensures half { IfOk result (λ named. named.chain ≡ None
-        → length names.now ≤ 2 * length named.later.items + 2) }
-    ensures two { IfOk result (λ named. length names.now ≤ 2 → named.later.items ≡ []) }
-    ensures made { IfOk result (λ named. IfSome make (λ _. named.later.items ≡ [])) }
-    ensures chained { IfOk result (λ named. IfSome named.chain
-        (λ _. IsSome on.entry × (named.later.items ≡ []))) }
 {
     match make {
         Some(_) => none(alloc, names),
@@ -156,17 +140,8 @@ pub(crate) fn read_names<'a>(
     matches: &ArgMatches<'a>,
     make: Option<u64>,
 ) -> Result<Named<'a>, WordsError>
-    ensures exact { GivesFiles (names_by make (then_at (rows_of (found_of matches.now)))
+    ensures { GivesFiles (names_by make (then_at (rows_of (found_of matches.now)))
         (names_given (rows_of (found_of matches.now)))) result }
-    ensures few { IfOk result (λ named. length named.later.items ≤ 3) }
-    ensures half { IfOk result (λ named. named.chain ≡ None
-        → length (names_given (rows_of (found_of matches.now)))
-        ≤ 2 * length named.later.items + 2) }
-    ensures two { IfOk result (λ named.
-        length (names_given (rows_of (found_of matches.now))) ≤ 2 → named.later.items ≡ []) }
-    ensures made { IfOk result (λ named. IfSome make (λ _. named.later.items ≡ [])) }
-    ensures chained { IfOk result (λ named. IfSome named.chain
-        (λ _. IsSome (then_at (rows_of (found_of matches.now))) × (named.later.items ≡ []))) }
 {
     let on = given(matches, "then");
     match matches.get_strs("files") {
