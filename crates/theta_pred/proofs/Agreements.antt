@@ -116,7 +116,7 @@ mutual
       (agreements_in-law r s fs (and_right (is_true r s f) (each_is_true r s fs) is))
 
 -- the access that a predicate has is all its terms
-own_terms : (b : Bool) (own terms : Terms) → cond b (Some own) None ≡ Some terms → own ≡ terms
+pub own_terms : (b : Bool) (own terms : Terms) → cond b (Some own) None ≡ Some terms → own ≡ terms
 own_terms true own terms is = some-injective own terms is
 own_terms false own terms is = absurd (none-some terms is)
 

@@ -44,7 +44,8 @@ ge_from x y Greater h e = omega (arith, ints)
 both : (p q : Bool) → p ≡ true → q ≡ true → (p && q) ≡ true
 both p q is_p is_q = cc
 
-at_most : (x y : ℤ) → x ≤ℤ y → int_le x y ≡ true
+-- a number that is at most another is found to be so
+pub at_most : (x y : ℤ) → x ≤ℤ y → int_le x y ≡ true
 at_most x y h = grind (arith, ints)
 
 -- where a comparison of two sums is true, the difference of their columns lies between the bounds that it gives

@@ -34,7 +34,8 @@ plus_more (Some x) None q = refl
 plus_more (Some x) (Some y) None = refl
 plus_more (Some x) (Some y) (Some z) = ap Some (omega (arith, ints))
 
-value_of-append : (xs ys : List Part) (row : List Cell) → value_of (xs ++ ys) row
+-- the value of two sums end to end is that of both together
+pub value_of-append : (xs ys : List Part) (row : List Cell) → value_of (xs ++ ys) row
     ≡ plus (value_of xs row) (value_of ys row)
 value_of-append [] ys row = sym (plus_nil (value_of ys row))
 value_of-append (x ∷ xs) ys row =

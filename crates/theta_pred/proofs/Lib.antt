@@ -9,6 +9,7 @@ pub mod NumericPlaces
 pub mod OneSidedLaws
 pub mod OneWay
 pub mod SpanLaws
+pub mod Sufficing
 pub mod SumSteps
 pub mod SumTests
 pub mod TextEqualities

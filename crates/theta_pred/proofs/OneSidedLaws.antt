@@ -109,3 +109,9 @@ pub true_alone : (side : Side) (r s : List Cell) (f : Formula) → names (of_sid
     → is_true r s f ≡ true → is_true_alone side (of_side r s side) f ≡ true
 true_alone R r s f names_none is = sym (true_kept S r s r [] (keeps_r r s) f names_none) ∙ is
 true_alone S r s f names_none is = sym (true_kept R r s [] s (keeps_s r s) f names_none) ∙ is
+
+-- and true of two rows, where it is of that row alone
+pub alone_true : (side : Side) (r s : List Cell) (f : Formula) → names (of_side S R side) f ≡ false
+    → is_true_alone side (of_side r s side) f ≡ true → is_true r s f ≡ true
+alone_true R r s f names_none is = true_kept S r s r [] (keeps_r r s) f names_none ∙ is
+alone_true S r s f names_none is = true_kept R r s [] s (keeps_s r s) f names_none ∙ is

@@ -222,3 +222,7 @@ IsOverRows theta (Some access) = AreOver theta.width_r theta.width_s access.same
 -- rows agree in all of an access where the predicate is true of them
 abbrev pub IsAccessOf : Meaning → Terms → Type 0
 IsAccessOf theta terms = (r s : List Cell) → IsTrue (holds theta r s) → IsTrue (do_agree terms r s)
+
+-- a predicate is true of rows that agree in all of an access
+abbrev pub Suffices : Meaning → Terms → Type 0
+Suffices theta terms = (r s : List Cell) → IsTrue (do_agree terms r s) → IsTrue (holds theta r s)

@@ -11,6 +11,7 @@ pub mod Spans
 pub mod Standing
 pub mod Sizes
 pub mod Sound
+pub mod Sufficing
 pub mod Sums
 pub mod TextAtoms
 pub mod Truth

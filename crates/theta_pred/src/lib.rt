@@ -16,6 +16,7 @@ mod range;
 mod resolver;
 mod short;
 mod spans;
+mod suffice;
 mod sums;
 mod terms;
 mod text_atom;

@@ -1,12 +1,13 @@
 // A predicate over the places of columns.
 
-ghost use Rattle.std.specs.Prelude.{◌≡◌, IfOk, option_map, Some};
-ghost use Rattle.theta_pred.specs.Accesses.{access_of, terms_of, IsAccessOf, IsOverRows, Terms};
+ghost use Rattle.std.specs.Prelude.{◌≡◌, IfOk, IsTrue, option_map, Some};
+ghost use Rattle.theta_pred.specs.Accesses.{access_of, terms_of, IsAccessOf, IsOverRows, Suffices, Terms};
 ghost use Rattle.theta_pred.specs.Formula.{formula_of};
 ghost use Rattle.theta_pred.specs.Keys.{atom_of, key_of, Atom, IsKeyOf};
 ghost use Rattle.theta_pred.specs.Numeric.{AreNumeric};
 ghost use Rattle.theta_pred.specs.OneSided.{is_true_alone};
 ghost use Rattle.theta_pred.specs.Sound.{IsSound};
+ghost use Rattle.theta_pred.specs.Sufficing.{agreements_suffice};
 ghost use Rattle.theta_pred.specs.Truth.{holds, width_of, IsRowOf};
 
 use crate::access::{access_law, access_of};
@@ -15,6 +16,7 @@ use crate::atom::KeyAtom;
 use crate::copies::copy_of;
 use crate::key::{key_law, key_of};
 use crate::numeric::numeric_places;
+use crate::suffice::{agreements_suffice, suffice_law};
 use crate::tree::{Columns, Tree};
 use crate::truth::is_true;
 use join_rows::{Cells, Side};
@@ -30,13 +32,16 @@ pub struct Theta {
     width_s: u64,
     numeric_r: Columns,
     numeric_s: Columns,
+    enough: bool,
 }
 
 impl Model for Theta {
     ghost use Rattle.std.specs.Coded.{codes};
+    ghost use Rattle.std.specs.Prelude.{◌≡◌};
     ghost use Rattle.theta_pred.specs.Formula.{Meaning, formula_of};
     ghost use Rattle.theta_pred.specs.FormulaCode.{formula_code};
     ghost use Rattle.theta_pred.specs.Numeric.{IsWhole};
+    ghost use Rattle.theta_pred.specs.Sufficing.{agreements_suffice};
 
     ghost Value = { Meaning };
 
@@ -49,7 +54,8 @@ impl Model for Theta {
     } };
 
     ghost invariant = { λ theta. IsWhole (formula_of theta.tree) theta.width_r theta.width_s
-        theta.numeric_r theta.numeric_s };
+        theta.numeric_r theta.numeric_s
+        × (theta.enough ≡ agreements_suffice (formula_of theta.tree)) };
 }
 
 impl Theta {
@@ -66,6 +72,7 @@ impl Theta {
     {
         let numeric_r = numeric_places(alloc, &tree, Side::R, width_r, width_s)?;
         let numeric_s = numeric_places(alloc, &tree, Side::S, width_r, width_s)?;
+        let enough = agreements_suffice(&tree);
         Ok(Theta {
             alloc,
             tree,
@@ -73,6 +80,7 @@ impl Theta {
             width_s,
             numeric_r,
             numeric_s,
+            enough,
         })
     }
 
@@ -149,6 +157,23 @@ impl Theta {
             → IsAccessOf self.now terms }
     {
         access_law(&self.tree, self.width_r, self.width_s);
+    }
+
+    /// Whether the predicate says no more than the agreements of its access: each member of the top conjunction,
+    /// and of the conjunctions within it however deep, is an equality of both sides or names columns of one side
+    /// at most. It was found out when the predicate was made.
+    pub fn agreements_suffice(&self) -> bool
+        ensures { result ≡ agreements_suffice self.now.formula }
+    {
+        self.enough
+    }
+
+    /// What follows for the access: rows that agree in all of it make such a predicate true. It has no code.
+    pub fn suffice_law(&self)
+        ensures { (terms : Terms) → IsTrue (agreements_suffice self.now.formula)
+            → access_of self.now.formula ≡ Some terms → Suffices self.now terms }
+    {
+        suffice_law(&self.tree, self.width_r, self.width_s);
     }
 
     /// Whether the predicate is true of a row of R and a row of S. It takes no memory.

@@ -272,3 +272,41 @@ fn predicates_without_an_access(rt: HostRuntime) -> Result<(), Fail> {
     tells_accesses(&rt, rt.alloc(), &lines)?;
     Ok(())
 }
+
+// Whether agreeing is all that a predicate says.
+fn is_agreeing_enough(alloc: Global, text: &str) -> Result<bool, AllocError> {
+    let theta = over_x_and_a(alloc, text)?;
+    let enough = theta.agreements_suffice();
+    drop(theta);
+    Ok(enough)
+}
+
+#[test]
+fn agreeing_is_enough_where_each_member_is_an_agreement(rt: HostRuntime) -> Result<(), Fail> {
+    let lines = [
+        "r.x = s.x",
+        "text(r.x) = text(s.a) and (r.a + 1 = s.x and r.x > 5)",
+        "not (text(s.x) = 'u' or s.a = 1) and (1 = 1 and s.x - r.x = 3)",
+    ];
+    for line in lines {
+        let enough = is_agreeing_enough(rt.alloc(), line)?;
+        assert!(&rt; enough, "{line}");
+    }
+    Ok(())
+}
+
+#[test]
+fn it_is_not_where_one_is_none(rt: HostRuntime) -> Result<(), Fail> {
+    let lines = [
+        "r.x = s.x and text(r.a) != text(s.a)",
+        "(r.x = s.x and (r.a = s.a or r.x > 5)) and 1 = 1",
+        "r.x = s.x and not r.a = s.a",
+        "r.x = s.x and abs(r.a - s.a) <= 2",
+        "r.x = s.x or r.a = s.a",
+    ];
+    for line in lines {
+        let enough = is_agreeing_enough(rt.alloc(), line)?;
+        assert!(&rt; !enough, "{line}");
+    }
+    Ok(())
+}
