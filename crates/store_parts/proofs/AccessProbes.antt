@@ -8,12 +8,12 @@ use Rattle.std.specs.Prelude.{IfOk, map, filter, count_by}
 use Rattle.smallvec.specs.SmallVec.{SmallVec}
 use Rattle.std.specs.List.{All}
 use Rattle.std.proofs.lemmas.List.{length-map}
-use Rattle.std.proofs.lemmas.List.Elements.{filter-append}
+use Rattle.std.proofs.lemmas.List.Elements.{All-cons, All-nil, filter-append}
 use Rattle.join_rows.specs.declared.table.Side.{Side}
 use Rattle.join_rows.specs.declared.table.Side.TheVariants.{R, S}
 use Rattle.epoch_tags.specs.declared.tuple.Tuple.{Tuple}
 use Rattle.theta_pred.specs.declared.agree.Access.{Access}
-use Rattle.theta_pred.specs.Accesses.{terms_of, IsAccessOf}
+use Rattle.theta_pred.specs.Accesses.{terms_of, IsAccessOf, Suffices}
 use Rattle.theta_pred.specs.Formula.{Meaning}
 use Rattle.theta_pred.proofs.KeyMembers.{and_left}
 use Rattle.store_parts.specs.Accessed.{asked, is_admitted_at, is_admitted, number_at}
@@ -24,7 +24,7 @@ use Rattle.store_parts.specs.declared.places.Window.{Window}
 use Rattle.store_parts.specs.Places.{lies_in, places_by, AreApart, IsMapOf}
 use Rattle.store_parts.specs.Keyed.{at_places}
 use Rattle.store_parts.specs.Matches.{other_side, admitted, does_stand, is_named, is_found, does_match, does_match_at}
-use Rattle.store_parts.specs.Matches.{looked_at, pair_of, matches, stands_by}
+use Rattle.store_parts.specs.Matches.{looked_at, pair_of, matches, stands_by, DoMatch}
 use Rattle.store_parts.proofs.Keys.{at_places_by}
 use Rattle.store_parts.proofs.KeyProbes.{filter_of_filter, count_of_filter, places_below, at_places-append}
 use Rattle.store_parts.proofs.KeyProbes.{at_places_more, at_place}
@@ -140,6 +140,27 @@ pub count_by_access : (access : Access) (t : Tuple) (which : Which) (others : Li
     → count_by (is_named which) (filter (is_admitted access t) others) ≡ admitted access t which others
 count_by_access access t which others = count_of_filter (is_named which) (is_admitted access t) (is_admitted access t)
     (λ x. refl) others
+
+-- ---- where agreeing is all that the predicate says
+
+matched_at : (side : Side) (theta : Meaning) (access : Access) (t other : Tuple) → Suffices theta (terms_of access)
+    → is_admitted_at side access t other ≡ true → does_match_at side theta t other ≡ true
+matched_at R theta access t other law agree = law t.cells other.cells agree
+matched_at S theta access t other law agree = law other.cells t.cells agree
+
+match_of_pass : (theta : Meaning) (t x : Tuple) (xs : List Tuple) (b : Bool)
+    → (b ≡ true → does_match theta t x ≡ true) → DoMatch theta t xs → DoMatch theta t (cond b (x ∷ xs) xs)
+match_of_pass theta t x xs true matched rest =
+    All-cons (λ (other : Tuple). does_match theta t other ≡ true) x xs (matched refl) rest
+match_of_pass theta t x xs false matched rest = rest
+
+-- all that agree with a tuple in the access of such a predicate match it
+pub admitted_match : (theta : Meaning) (access : Access) (t : Tuple) (others : List Tuple)
+    → Suffices theta (terms_of access) → DoMatch theta t (filter (is_admitted access t) others)
+admitted_match theta access t [] law = All-nil (λ (other : Tuple). does_match theta t other ≡ true)
+admitted_match theta access t (x ∷ xs) law =
+    match_of_pass theta t x (filter (is_admitted access t) xs) (is_admitted access t x)
+    (matched_at t.side theta access t x law) (admitted_match theta access t xs law)
 
 -- ---- a store's own access
 

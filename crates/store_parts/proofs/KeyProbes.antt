@@ -5,11 +5,12 @@ use Rattle.std.proofs.Common.{Err, inl, inr, suc}
 use Rattle.std.specs.Prelude.{IfOk}
 use Rattle.smallvec.specs.SmallVec.{SmallVec}
 use Rattle.std.specs.Prelude.{map, filter, count_by}
-use Rattle.std.specs.List.{sum_by, All, cons_option}
+use Rattle.std.specs.List.{sum_by, All, Contains, cons_option}
 use Rattle.std.proofs.lemmas.Bool.{false≢true}
 use Rattle.std.proofs.lemmas.List.{take-append-drop, length-map}
 use Rattle.std.proofs.lemmas.List.Sums.{length-filter, sum_by-cons}
-use Rattle.std.proofs.lemmas.List.Elements.{All-cons, All-tail, filter_map-append}
+use Rattle.std.proofs.lemmas.List.Elements.{All-cons, All-contains, All-tail, Contains-append_left, Contains-push}
+use Rattle.std.proofs.lemmas.List.Elements.{filter_map-append}
 use Rattle.std.proofs.lemmas.Option.{slice_get_cases, slice_get_within, get_or_from_slice_get}
 use Rattle.join_rows.specs.declared.table.Side.{Side}
 use Rattle.join_rows.specs.declared.table.Side.TheVariants.{R, S}
@@ -180,6 +181,20 @@ pub at_places_more : {X : Type 0} (xs : List X) (places : List ℕ) (i p : ℕ) 
 at_places_more xs places i p x place here =
     ap (at_places xs) (take_at places i p place) ∙ at_places-append xs (take i places) (p ∷ [])
     ∙ ap (λ l. at_places xs (take i places) ++ l) (at_place xs p x here)
+
+-- what holds of each element at some places holds of the one at one of them
+pub holds_at_place : {X : Type 0} (P : X → Type 0) (xs : List X) (places : List ℕ) (i p : ℕ) (x : X)
+    → All P (at_places xs places) → slice_get places i ≡ Some p → slice_get xs p ≡ Some x → P x
+holds_at_place P xs places i p x all place here =
+    let front = at_places xs (take (i + 1) places) in
+    let back = at_places xs (drop (i + 1) places) in
+    let whole : at_places xs places ≡ front ++ back =
+    ap (at_places xs) (sym (take-append-drop (i + 1) places))
+    ∙ at_places-append xs (take (i + 1) places) (drop (i + 1) places) in
+    let in_front = subst (λ ys. Contains ys x) (sym (at_places_more xs places i p x place here))
+    (Contains-push (at_places xs (take i places)) x) in
+    All-contains P (at_places xs places) x all (subst (λ ys. Contains ys x) (sym whole)
+    (Contains-append_left front back x in_front))
 
 -- it adds the pair of the tuple that stands there, if the probe finds that
 pub matches_at_more : (theta : Meaning) (t : Tuple) (which : Which) (xs : List Tuple) (places : List ℕ) (i p : ℕ)

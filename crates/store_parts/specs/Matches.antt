@@ -1,5 +1,7 @@
 -- What a probe finds, and how many tuples it evaluates.
 use Rattle.std.specs.Prelude.{◌≡◌, ℕ, ◌==◌, Bool, true, ◌&&◌, Option, Some, None, List, ◌++◌, map, filter, count_by}
+use Rattle.std.specs.Prelude.{IsTrue}
+use Rattle.std.specs.List as lists
 use Rattle.join_rows.specs.declared.table.Side.{Side}
 use Rattle.join_rows.specs.declared.table.Side.TheVariants.{R, S}
 use Rattle.join_rows.specs.Lists.{IsPrefix}
@@ -37,6 +39,10 @@ does_match_at S theta t other = holds theta other.cells t.cells
 -- whether the predicate is true of two tuples of different sides
 abbrev pub does_match : Meaning → Tuple → Tuple → Bool
 does_match theta t other = does_match_at t.side theta t other
+
+-- the predicate is true of a tuple and each of these of the other side
+abbrev pub DoMatch : Meaning → Tuple → List Tuple → Type 0
+DoMatch theta t others = lists.All (λ other. IsTrue (does_match theta t other)) others
 
 -- the pair of a tuple of this side and one of the other
 abbrev pub pair_at : Side → Tuple → Tuple → Pair

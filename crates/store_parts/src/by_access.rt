@@ -62,7 +62,8 @@ fn places_asked(
     index.within(alloc, windows.as_slice())
 }
 
-// The tuples of the other side that agree with the tuple.
+// The tuples of the other side that agree with the tuple. Where that is all that the predicate says, it isn't
+// evaluated.
 pub(crate) fn seek_by<L: Ledger, M: Ledger>(
     alloc: Global,
     tuple: &Tuple,
@@ -90,8 +91,19 @@ pub(crate) fn seek_by<L: Ledger, M: Ledger>(
         (looks.new ≡ looks.old + count_by (does_stand access.now tuple.now) others.now) }
 {
     theta.access_law();
+    theta.suffice_law();
+    let sure = theta.agreements_suffice();
     let places = places_asked(alloc, tuple, others, index, access)?;
     looks.note(places.as_slice());
     let kept = places_of_admitted(alloc, tuple, others, access, places.as_slice())?;
-    try_places(tuple, others, kept.as_slice(), theta, which, found, steps)
+    try_places(
+        tuple,
+        others,
+        kept.as_slice(),
+        theta,
+        which,
+        sure,
+        found,
+        steps,
+    )
 }

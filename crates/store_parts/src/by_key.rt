@@ -69,7 +69,7 @@ fn try_keyed<L: Ledger>(
         (steps.new ≡ steps.old + evaluated (Some key.now) tuple.now which others.now) }
 {
     theta.key_law();
-    try_places(tuple, others, places, theta, which, found, steps)
+    try_places(tuple, others, places, theta, which, false, found, steps)
 }
 
 // The tuples of the other side with which the key atom is true.
@@ -181,7 +181,7 @@ fn sift_each<L: Ledger>(
 {
     for other in others {
         if is_key_true(key, tuple, other) {
-            try_one(tuple, other, theta, which, found, steps)?;
+            try_one(tuple, other, theta, which, false, found, steps)?;
         }
     }
     Ok(())

@@ -1,7 +1,7 @@
 // The pairs of a tuple with stored ones: with one, with all, with those at some places.
 
 ghost use Rattle.std.specs.Prelude.{◌≡◌, ◌+◌, ◌<◌, [], ◌∷◌, ◌++◌, length, All, count_by, slice_get, Some, None};
-ghost use Rattle.std.specs.Prelude.{OnOk, OnErr};
+ghost use Rattle.std.specs.Prelude.{IsTrue, OnOk, OnErr};
 ghost use Rattle.store_parts.specs.Keyed.{at_places};
 ghost use Rattle.store_parts.specs.Matches.{
   does_match,
@@ -11,6 +11,7 @@ ghost use Rattle.store_parts.specs.Matches.{
   pair_of,
   stands_by,
   AppendsFront,
+  DoMatch,
   HasWidth,
 };
 
@@ -51,17 +52,29 @@ fn does_match(theta: &Theta, tuple: &Tuple, other: &Tuple) -> bool
     }
 }
 
-// One stored tuple.
+// The same, where it may be sure that it is.
+fn is_match(theta: &Theta, tuple: &Tuple, other: &Tuple, sure: bool) -> bool
+    requires width { HasWidth theta.now tuple.now.side tuple.now }
+    requires other_width { HasWidth theta.now (other_side tuple.now.side) other.now }
+    requires sure { IsTrue sure → IsTrue (does_match theta.now tuple.now other.now) }
+    ensures { result ≡ does_match theta.now tuple.now other.now }
+{
+    sure || does_match(theta, tuple, other)
+}
+
+// One stored tuple. Where it is sure that the two match, the predicate isn't evaluated.
 pub(crate) fn try_one<L: Ledger>(
     tuple: &Tuple,
     other: &Tuple,
     theta: &Theta,
     which: Which,
+    sure: bool,
     found: &mut Pairs,
     steps: &mut Steps<L>,
 ) -> Result<(), AllocError>
     requires width { HasWidth theta.now tuple.now.side tuple.now }
     requires other_width { HasWidth theta.now (other_side tuple.now.side) other.now }
+    requires sure { IsTrue sure → IsTrue (does_match theta.now tuple.now other.now) }
     ensures ok { OnOk result
         (found.new ≡ found.old ++ matches theta.now tuple.now which (other.now ∷ [])) }
     ensures err { OnErr result (found.new ≡ found.old) }
@@ -71,7 +84,7 @@ pub(crate) fn try_one<L: Ledger>(
         return Ok(());
     }
     steps.tick();
-    if does_match(theta, tuple, other) {
+    if is_match(theta, tuple, other, sure) {
         found.push(pair_of(tuple, other))?;
     }
     Ok(())
@@ -95,7 +108,7 @@ pub(crate) fn scan<L: Ledger>(
     ensures steps { OnOk result (steps.new ≡ steps.old + count_by (is_named which) others.now) }
 {
     for other in others {
-        try_one(tuple, other, theta, which, found, steps)?;
+        try_one(tuple, other, theta, which, false, found, steps)?;
     }
     Ok(())
 }
@@ -108,19 +121,21 @@ pub(crate) fn at(others: &[Tuple], place: u64) -> &Tuple
     &others[place as usize]
 }
 
-// The stored tuples at these places.
+// The stored tuples at these places. Where it is sure that all of them match, the predicate isn't evaluated.
 pub(crate) fn try_places<L: Ledger>(
     tuple: &Tuple,
     others: &[Tuple],
     places: &[u64],
     theta: &Theta,
     which: Which,
+    sure: bool,
     found: &mut Pairs,
     steps: &mut Steps<L>,
 ) -> Result<(), AllocError>
     requires width { HasWidth theta.now tuple.now.side tuple.now }
     requires other_widths { All (HasWidth theta.now (other_side tuple.now.side)) others.now }
     requires places { All (λ place. place < length others.now) places.now }
+    requires sure { IsTrue sure → DoMatch theta.now tuple.now (at_places others.now places.now) }
     ensures ok { OnOk result (found.new ≡ found.old
         ++ matches theta.now tuple.now which (at_places others.now places.now)) }
     ensures err { OnErr result (AppendsFront found.old found.new
@@ -129,7 +144,7 @@ pub(crate) fn try_places<L: Ledger>(
         + count_by (is_named which) (at_places others.now places.now)) }
 {
     for place in places {
-        try_one(tuple, at(others, *place), theta, which, found, steps)?;
+        try_one(tuple, at(others, *place), theta, which, sure, found, steps)?;
     }
     Ok(())
 }

@@ -1,11 +1,12 @@
-// Counted evaluations.
+// Counted tuples that are tried.
 
 ghost use Rattle.std.specs.Prelude.{◌≡◌, ◌+◌, ◌<◌};
 
 use std::marker::Model;
 use std::sync::ledger::{Blank, Book, Ledger, Share};
 
-/// How many evaluations of a predicate were made. It takes no bytes.
+/// How many stored tuples were tried: the predicate was evaluated for each, or agreeing is all that it says. It takes
+/// no bytes.
 #[derive(Drop)]
 pub struct Steps<L: Ledger> {
     book: Book<L>,

@@ -178,10 +178,11 @@ impl Store {
         }
     }
 
-    /// Appends the same pairs, found by the store's access where it has one. It evaluates the predicate for just the
-    /// stored tuples that `which` names and that agree with this one in all of the access, and looks at just those
-    /// whose number lies between those that this one asks for; others that agree in nothing may have such a number.
-    /// A look is one stored tuple whose place the index gave. Nothing is said of either number after want of memory.
+    /// Appends the same pairs, found by the store's access where it has one. It tries just the stored tuples that
+    /// `which` names and that agree with this one in all of the access, and evaluates the predicate for them where
+    /// agreeing isn't all that it says. It looks at just those whose number lies between those that this one asks
+    /// for; others that agree in nothing may have such a number. A look is one stored tuple whose place the index
+    /// gave. Nothing is said of either number after want of memory.
     pub fn find<L: Ledger, M: Ledger>(
         &self,
         tuple: &Tuple,

@@ -113,3 +113,22 @@ fn sums_of_several_columns_are_equal_with_their_constants(rt: HostRuntime) -> Re
     )?;
     Ok(())
 }
+
+#[test]
+fn a_member_that_is_no_agreement_is_evaluated(rt: HostRuntime) -> Result<(), Fail> {
+    probed(
+        &rt,
+        rt.alloc(),
+        "r.x = s.x and text(r.a) != text(s.a)",
+        true,
+        true,
+        &["S 0 0 5 u", "S 1 0 5 v", "R 0 0 5 v", "S 2 1 4 v"],
+        &[
+            "R 9 0 5 u among all finds [9 1]",
+            "R 9 0 4 u among all finds [9 2]",
+            "S 9 0 05 u among all finds [0 9]",
+            "S 9 0 5 v among all finds ",
+        ],
+    )?;
+    Ok(())
+}

@@ -1,13 +1,23 @@
-use Rattle.std.proofs.Common.{rules, ◌≡◌, ◌++◌, ◌+◌, ◌∙◌, List, ℕ, ap, subst, count_by, filter}
+use Rattle.std.proofs.Common.{rules, ◌≡◌, ◌++◌, ◌+◌, ◌∙◌, List, ℕ, ap, sym, subst, count_by, filter}
 use Rattle.std.specs.Result.{OnOk, OnErr}
 use Rattle.epoch_tags.specs.declared.tuple.Pair.{Pair}
 use Rattle.theta_pred.specs.Accesses.{terms_of}
 use Rattle.store_parts.specs.Accessed.{is_admitted}
 use Rattle.store_parts.specs.Keyed.{at_places}
-use Rattle.store_parts.specs.Matches.{does_stand, matches, is_named, AppendsFront}
-use Rattle.store_parts.proofs.AccessProbes.{admitted_of_stands, matches_by_access, count_by_access}
+use Rattle.store_parts.specs.Matches.{does_stand, matches, is_named, AppendsFront, DoMatch}
+use Rattle.store_parts.proofs.AccessProbes.{admitted_match, admitted_of_stands, matches_by_access, count_by_access}
 use Rattle.store_parts.proofs.KeyProbes.{seen}
 use Rattle.store_parts.proofs.by_access.seek_by.Goals as goal
+
+pub try_places-requires-clause-sure : goal.try_places-requires-clause-sure
+try_places-requires-clause-sure g c = λ is.
+    let admit = filter (is_admitted c.args.access.now c.args.tuple.now) in
+    let stood = ap (at_places c.args.others.now) c.as_slice-2.ensures ∙ c.in_ok-places.ensures.stands in
+    let at = ap (at_places c.args.others.now) c.as_slice-3.ensures ∙ c.in_ok-kept.ensures.same ∙ ap admit stood
+    ∙ admitted_of_stands c.args.access.now c.args.tuple.now c.args.others.now in
+    subst (DoMatch c.args.theta.now c.args.tuple.now) (sym at)
+    (admitted_match c.args.theta.now c.args.access.now c.args.tuple.now c.args.others.now
+    (c.suffice_law.ensures (terms_of c.args.access.now) (sym c.agreements_suffice-sure.ensures ∙ is) c.requires.own))
 
 pub returns-clause-ok : goal.returns-clause-ok
 returns-clause-ok g c =
