@@ -1,4 +1,4 @@
-// What the words ask for, made ready.
+// The stages in which what the words ask for is made ready, in the order of their refusals.
 
 ghost use Rattle.std.specs.Prelude.{◌≡◌, ◌⊎◌, ◌<◌, ◌≤◌, ℕ, List, [], length, None, Option, Some, Err};
 ghost use Rattle.std.specs.Prelude.{IfErr, IfOk, IfSome};
