@@ -3,12 +3,12 @@ use Rattle.std.proofs.Common.{◌≡◌, ◌<◌, ◌≤◌, ◌+◌, ◌-◌, �
 use Rattle.std.proofs.Common.{drop}
 use Rattle.std.proofs.Common.{get_or, map, arith, Option, None, Some, Result, Ok, Err, refl, sym, ap, subst}
 use Rattle.std.specs.Prelude.{IfOk, IfSome, MatchResult}
-use Rattle.std.proofs.lemmas.List.{take_all}
+use Rattle.std.proofs.lemmas.List.{length-map, take_all}
 use Rattle.std.proofs.lemmas.List.Elements.{Contains-append_left, Contains-append_right}
 use Rattle.join_rows.specs.Shelves.{Spot, Told}
 use Rattle.join_rows.specs.declared.table.Table.{Table}
-use Rattle.join_words.specs.Words.{Asked, asked_wave}
-use Rattle.join_words.specs.declared.options.Wave.{Wave}
+use Rattle.join_words.specs.Words.{Asked, AskedWave, asked_wave, chain_of, later_of}
+use Rattle.join_words.specs.declared.kind.Wave.{Wave}
 use Rattle.join_plan.specs.declared.fault.Refusal.{Refusal}
 use Rattle.join_plan.specs.declared.fault.Refusal.TheVariants as refusals
 use Rattle.join_plan.specs.declared.waves.InWaves.{InWaves}
@@ -129,23 +129,29 @@ seen_out told last spot waves (source ∷ front) back refusal is = (
 -- ---- what is asked for
 
 -- the files of the later waves are asked for
-later_asked : (asked : Asked) → asked.make ≡ None → AreAsked asked (later_sources 2 asked.later)
+later_asked : (asked : Asked) → asked.make ≡ None → AreAsked asked (later_sources 2 (later_of asked.kind))
 later_asked asked none source among = record {
   files = none;
-  among = Contains-append_right (_ ∷ _ ∷ []) (later_sources 2 asked.later ++ third_source asked.chain) source
-      (Contains-append_left (later_sources 2 asked.later) (third_source asked.chain) source among);
+  among = Contains-append_right (_ ∷ _ ∷ []) (later_sources 2 (later_of asked.kind)
+      ++ third_source (chain_of asked.kind)) source
+      (Contains-append_left (later_sources 2 (later_of asked.kind)) (third_source (chain_of asked.kind)) source among);
 }
 
 -- and where tables are made there is none
-pub waves_asked : (asked : Asked) (waves : List Wave) → asked.later ≡ map asked_wave waves
-    → IfSome asked.make (λ _. waves ≡ []) → AreAsked asked (later_sources 2 (map asked_wave waves))
-waves_asked asked waves is none = by asked.make refl
+pub waves_asked : (asked : Asked) → IfSome asked.make (λ _. later_of asked.kind ≡ [])
+    → AreAsked asked (later_sources 2 (later_of asked.kind))
+waves_asked asked none = by asked.make refl
   where
-    by : (make : Option ℕ) → asked.make ≡ make → AreAsked asked (later_sources 2 (map asked_wave waves))
-    by None here = subst (λ all. AreAsked asked (later_sources 2 all)) is (later_asked asked here)
+    by : (make : Option ℕ) → asked.make ≡ make → AreAsked asked (later_sources 2 (later_of asked.kind))
+    by None here = later_asked asked here
     by (Some count) here = λ source among.
-        let alone : waves ≡ [] = rw here at none in
+        let alone : later_of asked.kind ≡ [] = rw here at none in
         let within : among.0 < 0 = (rw alone at among).1 in absurd (omega (arith, within))
+
+-- there are as many waves of the code as are asked for
+pub waves_count : (waves : List Wave) (later : List AskedWave) → map asked_wave waves ≡ later
+    → length waves ≡ length later
+waves_count waves later are = sym (length-map waves asked_wave) ∙ ap length are
 
 -- ---- a slice of waves: its first, and those behind it
 

@@ -4,8 +4,7 @@ use Rattle.std.proofs.Common.{◌+◌, ℕ, List, length, Option, None, Some, Re
 use Rattle.std.specs.Prelude.{IfOk, is_some, option_map}
 use Rattle.join_rows.specs.Shelves.{Spot, Told}
 use Rattle.theta_text.specs.Grammar.{Tree}
-use Rattle.join_words.specs.Words.{Asked, AskedChain, asked_chain}
-use Rattle.join_words.specs.declared.options.Chain.{Chain}
+use Rattle.join_words.specs.Words.{Asked, AskedChain, chain_of, later_of}
 use Rattle.join_plan.specs.declared.fault.Refusal.{Refusal}
 use Rattle.join_plan.specs.declared.fault.Refusal.TheVariants as refusals
 use Rattle.join_plan.specs.declared.files.Gathered.{Gathered}
@@ -28,23 +27,18 @@ pub refused_seen : (told : Told) (spot : Spot) (asked : Asked) (trees : Trees) (
     → GatheredSeen told spot asked (none_gathered refusal) → PlanSeen told spot asked trees (Err refusal)
 refused_seen told spot asked trees refusal seen = record { found = none_gathered refusal; seen = seen; answer = refl }
 
--- what is asked for has a second join just where the options have one
-pub chain_there : (chain : Option Chain) → is_some (option_map asked_chain chain) ≡ is_some chain
-chain_there None = refl
-chain_there (Some chain) = refl
-
 -- what is planned of what was gathered was asked for
 pub is_asked : (told : Told) (asked : Asked) (trees : Trees) (found : Gathered) (result : Result Planned Refusal)
     → HaveTrees asked trees
     → ((files : List ℕ → Option (List ℕ)) → told ≡ Some files → gathered_by asked files ≡ Ok found)
     → ((count : ℕ) → asked.make ≡ Some count → found.tables ≡ made_tables count)
-    → is_some found.third ≡ is_some asked.chain → length found.ends ≡ length asked.later + 1
+    → is_some found.third ≡ is_some (chain_of asked.kind) → length found.ends ≡ length (later_of asked.kind) + 1
     → IfOk result (λ planned. fitted trees found ≡ Ok planned) → IfOk result IsFit
     → IfOk result (λ planned. is_some planned.third ≡ is_some found.third)
     → IfOk result (λ planned. planned.ends ≡ found.ends) → IfOk result (IsAsked told asked)
 is_asked told asked trees found (Err refusal) have files made chained waves fits fit third ends = tt
 is_asked told asked trees found (Ok planned) have files made chained waves fits fit third ends =
-    let all : length planned.ends ≡ length asked.later + 1 = ap length ends ∙ waves in
+    let all : length planned.ends ≡ length (later_of asked.kind) + 1 = ap length ends ∙ waves in
     record {
       trees = trees;
       have = have;
@@ -61,7 +55,7 @@ is_asked told asked trees found (Ok planned) have files made chained waves fits 
 
 -- they read so
 pub are_read : (asked : Asked) (trees : Trees) → HaveTrees asked trees → AreRead asked (read_so trees)
-are_read asked trees have = record { on = have.on; further = by asked.chain trees.further have.further }
+are_read asked trees have = record { on = have.on; further = by (chain_of asked.kind) trees.further have.further }
   where
     by : (chain : Option AskedChain) (further : Option Tree) → HasFurther chain further
         → IsReadFurther chain (option_map (λ tree. Ok tree) further)

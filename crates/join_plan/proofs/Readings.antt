@@ -4,7 +4,7 @@ use Rattle.theta_text.specs.Grammar.{Tree}
 use Rattle.theta_text.specs.Texts.{limits}
 use Rattle.theta_text.specs.declared.fault.PredFault.{PredFault}
 use Rattle.text_readings.proofs.Readings.{every_text, one_reading}
-use Rattle.join_words.specs.Words.{Asked, AskedChain}
+use Rattle.join_words.specs.Words.{Asked, AskedChain, chain_of}
 use Rattle.join_plan.specs.declared.fault.Refusal.{Refusal}
 use Rattle.join_plan.specs.declared.fitting.Planned.{Planned}
 use Rattle.join_plan.specs.Plan.{IsPlanOf, plan_of}
@@ -14,7 +14,7 @@ use Rattle.join_plan.specs.Texts.{AreRead, IsReadFurther, Readings}
 pub every_request : (asked : Asked) → (readings : Readings) × AreRead asked readings
 every_request asked =
     let on = every_text limits asked.on in
-    let further = by asked.chain in
+    let further = by (chain_of asked.kind) in
     (record { on = on.reading; further = further.0 }, record { on = on.is; further = further.1 })
   where
     by : (chain : Option AskedChain) → (further : Option (Result Tree PredFault)) × IsReadFurther chain further
@@ -38,7 +38,7 @@ one_request asked one other read read' =
     ap₂ {A = Result Tree PredFault} {B = Option (Result Tree PredFault)}
     (λ on further. record { on = on; further = further })
     (one_reading limits asked.on one.on other.on read.on read'.on)
-    (one_further asked.chain one.further other.further read.further read'.further)
+    (one_further (chain_of asked.kind) one.further other.further read.further read'.further)
 
 -- so a plan is the one of each reading
 pub plan_read : (asked : Asked) (files : List ℕ → Option (List ℕ)) (plan : Result Planned Refusal) (readings : Readings)

@@ -1,7 +1,7 @@
 -- What is told where nothing was carried out is so.
 use Rattle.std.proofs.Common.{◌≡◌, ◌≤◌, inl, inr, ℕ, List, Option, None, Some, Result, Ok, Err, true, refl, sym, subst}
 use Rattle.std.proofs.Common.{arith}
-use Rattle.std.specs.Prelude.{IfErr, is_some}
+use Rattle.std.specs.Prelude.{IfErr, IsSomeAnd, is_some}
 use Rattle.join_rows.specs.Shelves.{Spot, Told}
 use Rattle.theta_text.specs.Texts.{IsDeepAt, IsLiteralAt, IsSyntaxAt, IsWideAt, limits}
 use Rattle.theta_text.specs.declared.tree.Pred.{Pred}
@@ -9,7 +9,7 @@ use Rattle.theta_text.specs.declared.fault.PredFault.{PredFault}
 use Rattle.theta_text.specs.declared.fault.PredFault.TheVariants as texts
 use Rattle.theta_pred.specs.declared.fault.ResolveFault.{ResolveFault}
 use Rattle.theta_pred.specs.declared.fault.ResolveFault.TheVariants as columns
-use Rattle.join_words.specs.Words.{Asked, AskedChain}
+use Rattle.join_words.specs.Words.{Asked, AskedChain, chain_of}
 use Rattle.join_plan.specs.declared.fault.Refusal.{Refusal}
 use Rattle.join_plan.specs.declared.fault.Refusal.TheVariants as refusals
 use Rattle.join_plan.specs.declared.fault.LimitFault.TheVariants.{Between, TooLong, TooMany, Total}
@@ -33,9 +33,9 @@ told_refuses : (which : Which) (text : List ℕ) (fault : TextFault) → IsTrueO
     → (old new : ℕ) (told : Told) (spot : Spot) (asked : Asked) → IsTextOf which text asked
     → Refuses old new told spot asked (told_by which fault)
 told_refuses On text fault is old new told spot asked same = subst (λ t. IsTrueOf t fault) (sym same) is
-told_refuses Then text fault is old new told spot asked same = by asked.chain same
+told_refuses Then text fault is old new told spot asked same = by (chain_of asked.kind) same
   where
-    by : (chain : Option AskedChain) → IsTextOf Then text (record asked { chain = chain }) → IsTrueFurther chain fault
+    by : (chain : Option AskedChain) → IsSomeAnd chain (λ chain. chain.on ≡ text) → IsTrueFurther chain fault
     by None same = absurd same
     by (Some chain) same = subst (λ t. IsTrueOf t fault) (sym same) is
 
@@ -64,7 +64,7 @@ free_refuses : (which : Which) (fault : TextFault) → ((text : List ℕ) → Is
     → (old new : ℕ) (told : Told) (spot : Spot) (asked : Asked) → HasText which asked
     → Refuses old new told spot asked (told_by which fault)
 free_refuses On fault free old new told spot asked has = free asked.on
-free_refuses Then fault free old new told spot asked has = by asked.chain has
+free_refuses Then fault free old new told spot asked has = by (chain_of asked.kind) has
   where
     by : (chain : Option AskedChain) → is_some chain ≡ true → IsTrueFurther chain fault
     by None has = absurd (cc has)

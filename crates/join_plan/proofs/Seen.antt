@@ -10,7 +10,7 @@ use Rattle.join_rows.specs.declared.fault.TableFault.{TableFault}
 use Rattle.join_rows.specs.declared.fault.TableFault.TheVariants as files
 use Rattle.join_rows.specs.declared.table.Side.TheVariants.{R, S}
 use Rattle.join_rows.specs.declared.table.Table.{Table}
-use Rattle.join_words.specs.Words.{Asked, AskedChain}
+use Rattle.join_words.specs.Words.{Asked, AskedChain, chain_of, later_of}
 use Rattle.join_plan.specs.declared.fault.Refusal.{Refusal}
 use Rattle.join_plan.specs.declared.fault.Refusal.TheVariants as refusals
 use Rattle.join_plan.specs.declared.files.Gathered.{Gathered}
@@ -220,10 +220,10 @@ seen_both told middle spot name_r name_s table_r second is_r is_s = record {
 -- ---- the third
 
 -- it is among the files that are asked for
-pub third_among : (asked : Asked) (chain : AskedChain) → asked.chain ≡ Some chain
+pub third_among : (asked : Asked) (chain : AskedChain) → chain_of asked.kind ≡ Some chain
     → Contains (sources asked) (record { side = S; wave = 2; name = chain.name })
 third_among asked chain is =
-    Contains-append_right (_ ∷ _ ∷ later_sources 2 asked.later) (third_source asked.chain) _
+    Contains-append_right (_ ∷ _ ∷ later_sources 2 (later_of asked.kind)) (third_source (chain_of asked.kind)) _
     (rw is (0, omega arith, refl))
 
 -- ---- all of them

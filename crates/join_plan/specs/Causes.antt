@@ -3,7 +3,7 @@ use Rattle.std.specs.Prelude.{◌≡◌, ◌⊎◌, ◌≤◌, ◌<◌, ◌+◌,
 use Rattle.std.specs.List.{Contains}
 use Rattle.join_rows.specs.declared.table.Side.{Side}
 use Rattle.join_rows.specs.Shelves.{Told, Lacks, Spot}
-use Rattle.join_words.specs.Words.{Asked, AskedChain}
+use Rattle.join_words.specs.Words.{Asked, AskedChain, chain_of}
 use Rattle.join_plan.specs.declared.fault.Refusal.{Refusal}
 use Rattle.join_plan.specs.declared.fault.Refusal.TheVariants.{Input, Limit, Memory, Predicate, Read, Then}
 use Rattle.join_plan.specs.declared.fault.LimitFault.TheVariants.{Between, TooLong, TooMany, Total}
@@ -38,7 +38,7 @@ IsTrueFurther (Some chain) fault = IsTrueOf chain.on fault
 -- this is the text of that predicate
 abbrev pub IsTextOf : Which → List ℕ → Asked → Type 0
 IsTextOf On text asked = asked.on ≡ text
-IsTextOf Further text asked = IsSomeAnd asked.chain (λ chain. chain.on ≡ text)
+IsTextOf Further text asked = IsSomeAnd (chain_of asked.kind) (λ chain. chain.on ≡ text)
 
 -- no tables are made, and the file is one of those that are asked for
 pub record IsSourceOf (asked : Asked) (source : Source) : Type 0 where
@@ -52,14 +52,14 @@ AreAsked asked files = (source : Source) → Contains files source → IsSourceO
 -- this predicate is asked for
 abbrev pub HasText : Which → Asked → Type 0
 HasText On asked = ⊤
-HasText Further asked = is_some asked.chain ≡ true
+HasText Further asked = is_some (chain_of asked.kind) ≡ true
 
 -- what is told where nothing was carried out is so: of the texts; of the shelf, whose count rose from the one to the
 -- other or
 -- which lacks one of the files, where files are asked for; and of the place in the file that is picked
 abbrev pub Refuses : ℕ → ℕ → Told → Spot → Asked → Refusal → Type 0
 Refuses old new told spot asked (Predicate fault) = IsTrueOf asked.on fault
-Refuses old new told spot asked (Then fault) = IsTrueFurther asked.chain fault
+Refuses old new told spot asked (Then fault) = IsTrueFurther (chain_of asked.kind) fault
 Refuses old new told spot asked (Input fault) = ⊤
 Refuses old new told spot asked (Limit (TooLong side wave)) = StandsPast spot side wave (sources asked)
 Refuses old new told spot asked (Limit (TooMany side wave)) = ⊤

@@ -6,7 +6,7 @@ use Rattle.join_rows.specs.declared.table.Table.{Table}
 use Rattle.join_rows.specs.declared.fault.TableFault.{TableFault}
 use Rattle.join_rows.specs.Made.{made_table}
 use Rattle.join_rows.specs.Records.{table_of}
-use Rattle.join_words.specs.Words.{Asked, AskedChain, AskedWave}
+use Rattle.join_words.specs.Words.{Asked, AskedChain, AskedWave, chain_of, later_of}
 use Rattle.join_plan.specs.declared.fault.Refusal.{Refusal}
 use Rattle.join_plan.specs.declared.fault.Refusal.TheVariants.{Read}
 use Rattle.join_plan.specs.declared.files.Tables.{Tables}
@@ -49,7 +49,7 @@ sources asked =
       side = S;
       wave = 1;
       name = asked.name_s;
-    } ∷ (later_sources 2 asked.later ++ third_source asked.chain)
+    } ∷ (later_sources 2 (later_of asked.kind) ++ third_source (chain_of asked.kind))
 
 -- the table of a side's file in a wave, or the refusal that its fault is
 abbrev pub or_refused : Side → ℕ → Result Table TableFault → Result Table Refusal

@@ -4,7 +4,7 @@ use Rattle.join_rows.specs.declared.table.Side.{Side}
 use Rattle.join_rows.specs.declared.table.Side.TheVariants.{R, S}
 use Rattle.join_rows.specs.declared.table.Table.{Table}
 use Rattle.join_rows.specs.Records.{most_rows}
-use Rattle.join_words.specs.Words.{Asked}
+use Rattle.join_words.specs.Words.{Asked, chain_of, later_of}
 use Rattle.join_plan.specs.declared.fault.Refusal.{Refusal}
 use Rattle.join_plan.specs.declared.fault.Refusal.TheVariants.{Input, Limit}
 use Rattle.join_plan.specs.declared.fault.InputFault.TheVariants.{Header}
@@ -75,7 +75,7 @@ gathered files waves (source ∷ sources) =
 
 -- the tables of the first wave, and behind them the rows of the later ones
 abbrev pub waves_by : Asked → (List ℕ → Option (List ℕ)) → Tables → Result InWaves Refusal
-waves_by asked files tables = gathered files (first_wave tables) (later_sources 2 asked.later)
+waves_by asked files tables = gathered files (first_wave tables) (later_sources 2 (later_of asked.kind))
 
 -- the tables of all waves, and then the third
 abbrev pub with_third : InWaves → Result (Option Table) Refusal → Result Gathered Refusal
@@ -85,7 +85,7 @@ with_third waves third =
 -- behind two tables the later files, and then the third
 abbrev pub gathered_behind : Asked → (List ℕ → Option (List ℕ)) → Tables → Result Gathered Refusal
 gathered_behind asked files tables =
-    then_of (waves_by asked files tables) (λ waves. with_third waves (third_by asked.chain files))
+    then_of (waves_by asked files tables) (λ waves. with_third waves (third_by (chain_of asked.kind) files))
 
 -- all tables that are asked for, or the first refusal
 abbrev pub gathered_by : Asked → (List ℕ → Option (List ℕ)) → Result Gathered Refusal

@@ -6,7 +6,7 @@ use Rattle.join_rows.specs.Shelves.{Told}
 use Rattle.joined_rows.specs.Joined.{joined_names}
 use Rattle.theta_text.specs.Grammar.{Tree}
 use Rattle.theta_pred.specs.Formula.{Meaning}
-use Rattle.join_words.specs.Words.{Asked}
+use Rattle.join_words.specs.Words.{Asked, chain_of, later_of}
 use Rattle.join_plan.specs.declared.fault.InputFault.{InputFault}
 use Rattle.join_plan.specs.declared.fault.Refusal.{Refusal}
 use Rattle.join_plan.specs.declared.fault.Refusal.TheVariants.{Input}
@@ -104,6 +104,6 @@ pub record IsAsked (told : Told) (asked : Asked) (planned : Planned) : Type 0 wh
   pub fits : fitted trees found ≡ Ok planned
   pub files : (files : List ℕ → Option (List ℕ)) → told ≡ Some files → gathered_by asked files ≡ Ok found
   pub made : (count : ℕ) → asked.make ≡ Some count → found.tables ≡ made_tables count
-  pub chained : is_some planned.third ≡ is_some asked.chain
-  pub waves : length planned.ends ≡ length asked.later + 1
-  pub single : asked.later ≡ [] → planned.ends ≡ end_of planned.tables ∷ []
+  pub chained : is_some planned.third ≡ is_some (chain_of asked.kind)
+  pub waves : length planned.ends ≡ length (later_of asked.kind) + 1
+  pub single : later_of asked.kind ≡ [] → planned.ends ≡ end_of planned.tables ∷ []

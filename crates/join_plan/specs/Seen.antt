@@ -5,7 +5,7 @@ use Rattle.join_rows.specs.Records.{table_of}
 use Rattle.join_rows.specs.Shelves.{Spot, Tells, Told}
 use Rattle.join_rows.specs.declared.table.Side.TheVariants.{S}
 use Rattle.join_rows.specs.declared.table.Table.{Table}
-use Rattle.join_words.specs.Words.{Asked, AskedChain}
+use Rattle.join_words.specs.Words.{Asked, AskedChain, chain_of, later_of}
 use Rattle.join_plan.specs.declared.fault.Refusal.{Refusal}
 use Rattle.join_plan.specs.declared.files.Gathered.{Gathered}
 use Rattle.join_plan.specs.declared.files.Tables.{Tables}
@@ -71,7 +71,7 @@ SeenFrom told last spot waves (source ∷ sources) result =
 abbrev pub LaterSeen : Told → Spot → Spot → Asked → Result Tables Refusal → Result InWaves Refusal → Type 0
 LaterSeen told middle spot asked (Err refusal) result = (spot ≡ middle) × (result ≡ Err refusal)
 LaterSeen told middle spot asked (Ok tables) result =
-    SeenFrom told middle spot (first_wave tables) (later_sources 2 asked.later) result
+    SeenFrom told middle spot (first_wave tables) (later_sources 2 (later_of asked.kind)) result
 
 -- a third table is that of bytes which were read of the third file; where there is none, the shelf stands as it stood
 abbrev pub ThirdSeen : Told → Spot → Spot → Option AskedChain → Result (Option Table) Refusal → Type 0
@@ -93,7 +93,7 @@ pub record BehindSeen (told : Told) (begun spot : Spot) (asked : Asked) (tables 
   pub middle : Spot
   pub waves : Result InWaves Refusal
   pub later : LaterSeen told begun middle asked tables waves
-  pub third : AllSeen told middle spot asked.chain waves result
+  pub third : AllSeen told middle spot (chain_of asked.kind) waves result
 
 -- the answer is that of bytes which were read of the files, one after the other, or of made tables
 pub record GatheredSeen (told : Told) (spot : Spot) (asked : Asked) (result : Result Gathered Refusal) : Type 0 where

@@ -8,7 +8,7 @@ use Rattle.theta_text.specs.declared.tree.Pred.{Pred}
 use Rattle.theta_text.specs.declared.fault.PredFault.{PredFault}
 use Rattle.theta_text.specs.declared.fault.PredFault.TheVariants as texts
 use Rattle.text_readings.specs.Readings.{IsReading}
-use Rattle.join_words.specs.Words.{Asked, AskedChain}
+use Rattle.join_words.specs.Words.{Asked, AskedChain, chain_of}
 use Rattle.join_plan.specs.declared.fault.TextFault.{TextFault}
 use Rattle.join_plan.specs.declared.fault.TextFault.TheVariants.{Syntax, Deep, Wide, Literal}
 use Rattle.join_plan.specs.declared.fault.Refusal.{Refusal}
@@ -59,7 +59,7 @@ IsReadFurther _ _ = ⊥
 -- the texts that are asked for read so
 pub record AreRead (asked : Asked) (readings : Readings) : Type 0 where
   pub on : IsReading limits asked.on readings.on
-  pub further : IsReadFurther asked.chain readings.further
+  pub further : IsReadFurther (chain_of asked.kind) readings.further
 
 -- the tree of the predicate, and that of a second join's
 pub record Trees : Type 0 where
@@ -75,7 +75,7 @@ HasFurther _ _ = ⊥
 -- the texts that are asked for have these trees
 pub record HaveTrees (asked : Asked) (trees : Trees) : Type 0 where
   pub on : TextReads limits asked.on trees.on
-  pub further : HasFurther asked.chain trees.further
+  pub further : HasFurther (chain_of asked.kind) trees.further
 
 -- the second tree, where there is one, or the refusal of its text
 abbrev pub further_tree : Option (Result Tree PredFault) → Result (Option Tree) Refusal

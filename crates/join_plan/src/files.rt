@@ -4,7 +4,7 @@ ghost use Rattle.std.specs.Prelude.{◌≡◌, ◌⊎◌, ◌<◌, ◌≤◌, �
 ghost use Rattle.std.specs.Prelude.{Ok, Err, IfErr, IfOk, IfSome, is_some};
 ghost use Rattle.join_rows.specs.Shelves.{last_fault};
 ghost use Rattle.join_rows.specs.Records.{IsTable};
-ghost use Rattle.join_words.specs.Words.{asked};
+ghost use Rattle.join_words.specs.Words.{AreOptions, asked, chain_of, later_of};
 ghost use Rattle.join_plan.specs.Causes.{Refuses};
 ghost use Rattle.join_plan.specs.Files.{made_tables, tables_by, third_by};
 ghost use Rattle.join_plan.specs.Later;
@@ -58,7 +58,7 @@ fn two_tables<R: Threads, H: Shelf>(
     shelf: &mut H,
 ) -> Result<Tables, Refusal>
     requires faults { H.faults shelf.old < last_fault }
-    requires make { IfSome options.now.make (λ count. (1 ≤ count) × (count ≤ 65536)) }
+    requires options { AreOptions (asked options.now) }
     ensures told { H.told shelf.new ≡ H.told shelf.old }
     ensures rises { H.faults shelf.old ≤ H.faults shelf.new }
     ensures answer { (files : List ℕ → Option (List ℕ)) → H.told shelf.old ≡ Some files
@@ -99,8 +99,7 @@ fn all_waves<H: Shelf>(
     shelf: &mut H,
 ) -> Result<InWaves, Refusal>
     requires faults { H.faults shelf.old < last_fault }
-    requires few { length options.now.later.items ≤ 3 }
-    requires later { IfSome options.now.make (λ _. options.now.later.items ≡ []) }
+    requires options { AreOptions (asked options.now) }
     requires table_r { IsTable tables.of_r }
     requires table_s { IsTable tables.of_s }
     ensures told { H.told shelf.new ≡ H.told shelf.old }
@@ -111,7 +110,7 @@ fn all_waves<H: Shelf>(
     ensures found { IfOk result
         (λ waves. (files : List ℕ → Option (List ℕ)) → H.told shelf.old ≡ Some files
         → waves_by (asked options.now) files tables ≡ Ok waves) }
-    ensures alone { options.now.later.items ≡ [] → (shelf.new ≡ shelf.old)
+    ensures alone { later_of (asked options.now).kind ≡ [] → (shelf.new ≡ shelf.old)
         × IfOk result (λ waves. waves ≡ first_wave' tables) }
     ensures seen { (result ≡ Err Refusal.Read → ⊥) → (result ≡ Err Refusal.Memory → ⊥)
         → LaterSeen (H.told shelf.old) (H.picked shelf.old) (H.picked shelf.new)
@@ -125,10 +124,10 @@ fn all_waves<H: Shelf>(
     ensures whole_s { IfOk result (λ waves. IsTable waves.tables.of_s) }
     ensures ends { IfOk result (λ waves. AreEnds waves.tables waves.ends) }
     ensures waves { IfOk result (λ waves.
-        length waves.ends ≡ length options.now.later.items + 1) }
+        length waves.ends ≡ length (later_of (asked options.now).kind) + 1) }
 {
     match first_wave(alloc, tables) {
-        Ok(waves) => read_later(alloc, shelf, 2, options.later.as_slice(), waves),
+        Ok(waves) => read_later(alloc, shelf, 2, options.kind.later(), waves),
         Err(AllocError) => Err(Refusal::Memory),
     }
 }
@@ -141,19 +140,19 @@ fn with_third<H: Shelf>(
     shelf: &mut H,
 ) -> Result<Gathered, Refusal>
     requires faults { H.faults shelf.old < last_fault }
-    requires chained { IfSome options.now.chain (λ _. options.now.make ≡ None) }
+    requires options { AreOptions (asked options.now) }
     ensures told { H.told shelf.new ≡ H.told shelf.old }
     ensures rises { H.faults shelf.old ≤ H.faults shelf.new }
     ensures answer { (files : List ℕ → Option (List ℕ)) → H.told shelf.old ≡ Some files
         → H.faults shelf.new ≡ H.faults shelf.old → (result ≡ Err Refusal.Memory)
-        ⊎ (result ≡ Later.with_third waves (third_by (asked options.now).chain files)) }
+        ⊎ (result ≡ Later.with_third waves (third_by (chain_of (asked options.now).kind) files)) }
     ensures found { IfOk result
         (λ found. (files : List ℕ → Option (List ℕ)) → H.told shelf.old ≡ Some files
-        → Later.with_third waves (third_by (asked options.now).chain files) ≡ Ok found) }
-    ensures alone { options.now.chain ≡ None → shelf.new ≡ shelf.old }
+        → Later.with_third waves (third_by (chain_of (asked options.now).kind) files) ≡ Ok found) }
+    ensures alone { chain_of (asked options.now).kind ≡ None → shelf.new ≡ shelf.old }
     ensures seen { (result ≡ Err Refusal.Read → ⊥) → (result ≡ Err Refusal.Memory → ⊥)
         → AllSeen (H.told shelf.old) (H.picked shelf.old) (H.picked shelf.new)
-        (asked options.now).chain (Ok waves) result }
+        (chain_of (asked options.now).kind) (Ok waves) result }
     ensures sound { H.sound shelf.old
         → H.sound shelf.new × (H.faults shelf.new ≡ H.faults shelf.old) }
     ensures counts { (result ≡ Err Refusal.Read → ⊥) → H.faults shelf.new ≡ H.faults shelf.old }
@@ -162,7 +161,8 @@ fn with_third<H: Shelf>(
     ensures tables { IfOk result (λ found. found.tables ≡ waves.tables) }
     ensures ends { IfOk result (λ found. found.ends ≡ waves.ends) }
     ensures whole { IfOk result (λ found. IfSome found.third IsTable) }
-    ensures chained { IfOk result (λ found. is_some found.third ≡ is_some options.now.chain) }
+    ensures chained { IfOk result (λ found.
+        is_some found.third ≡ is_some (chain_of (asked options.now).kind)) }
 {
     let InWaves { tables, ends } = waves;
     match third_table(alloc, options, shelf) {
@@ -183,9 +183,7 @@ fn with_others<H: Shelf>(
     shelf: &mut H,
 ) -> Result<Gathered, Refusal>
     requires faults { H.faults shelf.old < last_fault }
-    requires few { length options.now.later.items ≤ 3 }
-    requires later { IfSome options.now.make (λ _. options.now.later.items ≡ []) }
-    requires chained { IfSome options.now.chain (λ _. options.now.make ≡ None) }
+    requires options { AreOptions (asked options.now) }
     requires table_r { IsTable tables.of_r }
     requires table_s { IsTable tables.of_s }
     ensures told { H.told shelf.new ≡ H.told shelf.old }
@@ -196,7 +194,7 @@ fn with_others<H: Shelf>(
     ensures found { IfOk result
         (λ found. (files : List ℕ → Option (List ℕ)) → H.told shelf.old ≡ Some files
         → gathered_behind (asked options.now) files tables ≡ Ok found) }
-    ensures alone { options.now.later.items ≡ [] → options.now.chain ≡ None
+    ensures alone { later_of (asked options.now).kind ≡ [] → chain_of (asked options.now).kind ≡ None
         → (shelf.new ≡ shelf.old) × IfOk result (λ found. found.tables ≡ tables) }
     ensures seen { (result ≡ Err Refusal.Read → ⊥) → (result ≡ Err Refusal.Memory → ⊥)
         → BehindSeen (H.told shelf.old) (H.picked shelf.old) (H.picked shelf.new)
@@ -209,10 +207,11 @@ fn with_others<H: Shelf>(
     ensures whole_r { IfOk result (λ found. IsTable found.tables.of_r) }
     ensures whole_s { IfOk result (λ found. IsTable found.tables.of_s) }
     ensures whole { IfOk result (λ found. IfSome found.third IsTable) }
-    ensures chained { IfOk result (λ found. is_some found.third ≡ is_some options.now.chain) }
+    ensures chained { IfOk result (λ found.
+        is_some found.third ≡ is_some (chain_of (asked options.now).kind)) }
     ensures ends { IfOk result (λ found. AreEnds found.tables found.ends) }
     ensures waves { IfOk result (λ found.
-        length found.ends ≡ length options.now.later.items + 1) }
+        length found.ends ≡ length (later_of (asked options.now).kind) + 1) }
 {
     match all_waves(alloc, options, tables, shelf) {
         Ok(waves) => with_third(alloc, options, waves, shelf),
@@ -228,10 +227,7 @@ pub(crate) fn all_tables<R: Threads, H: Shelf>(
     shelf: &mut H,
 ) -> Result<Gathered, Refusal>
     requires faults { H.faults shelf.old < last_fault }
-    requires make { IfSome options.now.make (λ count. (1 ≤ count) × (count ≤ 65536)) }
-    requires few { length options.now.later.items ≤ 3 }
-    requires later { IfSome options.now.make (λ _. options.now.later.items ≡ []) }
-    requires chained { IfSome options.now.chain (λ _. options.now.make ≡ None) }
+    requires options { AreOptions (asked options.now) }
     ensures told { H.told shelf.new ≡ H.told shelf.old }
     ensures rises { H.faults shelf.old ≤ H.faults shelf.new }
     ensures answer { (files : List ℕ → Option (List ℕ)) → H.told shelf.old ≡ Some files
@@ -252,10 +248,11 @@ pub(crate) fn all_tables<R: Threads, H: Shelf>(
     ensures whole_r { IfOk result (λ found. IsTable found.tables.of_r) }
     ensures whole_s { IfOk result (λ found. IsTable found.tables.of_s) }
     ensures whole { IfOk result (λ found. IfSome found.third IsTable) }
-    ensures chained { IfOk result (λ found. is_some found.third ≡ is_some options.now.chain) }
+    ensures chained { IfOk result (λ found.
+        is_some found.third ≡ is_some (chain_of (asked options.now).kind)) }
     ensures ends { IfOk result (λ found. AreEnds found.tables found.ends) }
     ensures waves { IfOk result (λ found.
-        length found.ends ≡ length options.now.later.items + 1) }
+        length found.ends ≡ length (later_of (asked options.now).kind) + 1) }
 {
     match two_tables(rt, alloc, options, shelf) {
         Ok(tables) => with_others(alloc, options, tables, shelf),

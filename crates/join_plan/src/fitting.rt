@@ -5,7 +5,7 @@ ghost use Rattle.theta_text.specs.Sizes.{longest_sum};
 ghost use Rattle.theta_text.specs.Texts.{tree_of};
 ghost use Rattle.join_rows.specs.Records.{IsTable};
 ghost use Rattle.join_rows.specs.Shelves.{Spot, Told};
-ghost use Rattle.join_words.specs.Words.{Asked};
+ghost use Rattle.join_words.specs.Words.{Asked, chain_of};
 ghost use Rattle.join_plan.specs.Causes.{HasText, Refuses};
 ghost use Rattle.join_plan.specs.Plan;
 ghost use Rattle.join_plan.specs.Plan.{IsFit, IsThirdFit, fitted as fitted', planned_with, second_theta as second_theta', third_fitted, third_over};
@@ -115,7 +115,8 @@ fn fitted_third(
     ensures found { IfOk result (λ third.
         third_fitted tables.now (option_map tree_of further.now) table ≡ Ok third) }
     ensures refused { (old new : ℕ) (told : Told) (spot : Spot) (asked : Asked)
-        → is_some asked.chain ≡ is_some table → IfErr result (Refuses old new told spot asked) }
+        → is_some (chain_of asked.kind) ≡ is_some table
+        → IfErr result (Refuses old new told spot asked) }
     ensures fit { IfOk result (λ third. IfSome third (IsThirdFit tables.now)) }
     ensures third { IfOk result (λ third. is_some third ≡ is_some table) }
 {
@@ -156,7 +157,8 @@ fn planned_of(
     ensures third { IfOk result (λ planned. is_some planned.third ≡ is_some table) }
     ensures ends { IfOk result (λ planned. planned.ends ≡ ends) }
     ensures refused { (old new : ℕ) (told : Told) (spot : Spot) (asked : Asked)
-        → is_some asked.chain ≡ is_some table → IfErr result (Refuses old new told spot asked) }
+        → is_some (chain_of asked.kind) ≡ is_some table
+        → IfErr result (Refuses old new told spot asked) }
 {
     match fitted_third(alloc, &tables, further, table) {
         Ok(third) => checked(Planned {
@@ -184,7 +186,7 @@ pub(crate) fn fitted(alloc: Global, preds: &Preds, found: Gathered) -> Result<Pl
     ensures third { IfOk result (λ planned. is_some planned.third ≡ is_some found.third) }
     ensures ends { IfOk result (λ planned. planned.ends ≡ found.ends) }
     ensures refused { (old new : ℕ) (told : Told) (spot : Spot) (asked : Asked)
-        → is_some asked.chain ≡ is_some found.third
+        → is_some (chain_of asked.kind) ≡ is_some found.third
         → IfErr result (Refuses old new told spot asked) }
 {
     let Gathered {

@@ -8,7 +8,7 @@ ghost use Rattle.theta_text.specs.Texts.{IsFaultOf, TextReads, limits, tree_of};
 ghost use Rattle.theta_text.specs.declared.fault.PredFault.{PredFault};
 ghost use Rattle.text_readings.specs.Readings.{IsReading};
 ghost use Rattle.join_rows.specs.Shelves.{Spot, Told};
-ghost use Rattle.join_words.specs.Words.{Asked, AskedChain, asked};
+ghost use Rattle.join_words.specs.Words.{Asked, AskedChain, asked, chain_of};
 ghost use Rattle.join_plan.specs.Causes.{IsTextOf, Refuses};
 ghost use Rattle.join_plan.specs.Texts.{AreNarrow, AreRead, HasFurther, HaveTrees, IsReadFurther};
 ghost use Rattle.join_plan.specs.Texts.{ReadAll, Readings, Reads, ReadsFurther};
@@ -47,17 +47,17 @@ fn predicate(alloc: Global, which: Which, text: &str) -> Result<Pred, Refusal>
 /// The predicate of a second join, where one is asked for.
 fn further(alloc: Global, options: &Options<'_>) -> Result<Option<Pred>, Refusal>
     ensures answer { (reading : Option (Result Tree PredFault))
-        → IsReadFurther (asked options.now).chain reading → ReadsFurther reading result }
+        → IsReadFurther (chain_of (asked options.now).kind) reading → ReadsFurther reading result }
     ensures early { (chain : AskedChain) (fault : PredFault)
-        → (asked options.now).chain ≡ Some chain → IsFaultOf limits chain.on fault
+        → chain_of (asked options.now).kind ≡ Some chain → IsFaultOf limits chain.on fault
         → RefusesText Which.Then fault result }
     ensures reads { IfOk result (λ pred.
-        HasFurther (asked options.now).chain (option_map tree_of pred)) }
+        HasFurther (chain_of (asked options.now).kind) (option_map tree_of pred)) }
     ensures narrow { IfOk result (λ pred. IfSome pred (λ pred. longest_sum pred ≤ 16)) }
     ensures refused { (old new : ℕ) (told : Told) (spot : Spot)
         → IfErr result (Refuses old new told spot (asked options.now)) }
 {
-    let Some(chain) = options.chain else {
+    let Some(chain) = options.kind.chain() else {
         return Ok(None);
     };
     match predicate(alloc, Which::Then, chain.on) {
@@ -71,9 +71,9 @@ fn with_further(alloc: Global, options: &Options<'_>, on: Pred) -> Result<Preds,
     requires reads { TextReads limits options.now.on.now (tree_of on) }
     requires narrow { longest_sum on ≤ 16 }
     ensures answer { (readings : Readings) → readings.on ≡ Ok (tree_of on)
-        → IsReadFurther (asked options.now).chain readings.further → ReadAll readings result }
+        → IsReadFurther (chain_of (asked options.now).kind) readings.further → ReadAll readings result }
     ensures early { (chain : AskedChain) (fault : PredFault)
-        → (asked options.now).chain ≡ Some chain → IsFaultOf limits chain.on fault
+        → chain_of (asked options.now).kind ≡ Some chain → IsFaultOf limits chain.on fault
         → RefusesText Which.Then fault result }
     ensures have { IfOk result (λ preds. HaveTrees (asked options.now) (trees_in preds)) }
     ensures narrow { IfOk result AreNarrow }
@@ -94,7 +94,7 @@ pub(crate) fn predicates(alloc: Global, options: &Options<'_>) -> Result<Preds, 
         → RefusesText Which.On fault result }
     ensures further_early { (tree : Tree) (chain : AskedChain) (fault : PredFault)
         → TextReads limits options.now.on.now tree
-        → (asked options.now).chain ≡ Some chain → IsFaultOf limits chain.on fault
+        → chain_of (asked options.now).kind ≡ Some chain → IsFaultOf limits chain.on fault
         → RefusesText Which.Then fault result }
     ensures have { IfOk result (λ preds. HaveTrees (asked options.now) (trees_in preds)) }
     ensures narrow { IfOk result AreNarrow }

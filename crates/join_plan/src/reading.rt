@@ -1,11 +1,11 @@
 // The files, read one after the other, and their tables.
 
 ghost use Rattle.std.specs.Prelude.{◌≡◌, ◌⊎◌, ◌<◌, ◌≤◌, ℕ, List, Option, None, Some, Ok, Err};
-ghost use Rattle.std.specs.Prelude.{IfErr, IfOk, IfSome, OnOk, is_some};
+ghost use Rattle.std.specs.Prelude.{IfErr, IfOk, IfSome, is_some};
 ghost use Rattle.join_rows.specs.Shelves.{last_fault};
 ghost use Rattle.join_rows.specs.Records.{IsTable, table_of};
 ghost use Rattle.join_rows.specs.declared.table.Table.{Table};
-ghost use Rattle.join_words.specs.Words.{Asked, asked};
+ghost use Rattle.join_words.specs.Words.{AreOptions, Asked, asked, chain_of};
 ghost use Rattle.join_plan.specs.Causes.{IsSourceOf, Refuses};
 ghost use Rattle.join_plan.specs.Files.{both_found as both_found', bytes_found, source_of};
 ghost use Rattle.join_plan.specs.Files.{table_found, tables_in, tables_of, third_by};
@@ -205,7 +205,7 @@ pub(crate) fn read_tables<R: Threads, H: Shelf>(
         Ok(bytes) => bytes,
         Err(refusal) => return Err(refusal),
     };
-    let side_by_side = options.workers > 1 && options.replay.is_none();
+    let side_by_side = options.workers > 1 && options.kind.replay().is_none();
     tables_from(rt, alloc, of_r.as_slice(), of_s.as_slice(), side_by_side)
 }
 
@@ -216,28 +216,29 @@ pub(crate) fn third_table<H: Shelf>(
     shelf: &mut H,
 ) -> Result<Option<Table>, Refusal>
     requires faults { H.faults shelf.old < last_fault }
-    requires chained { IfSome options.now.chain (λ _. options.now.make ≡ None) }
+    requires options { AreOptions (asked options.now) }
     ensures told { H.told shelf.new ≡ H.told shelf.old }
     ensures rises { H.faults shelf.old ≤ H.faults shelf.new }
     ensures answer { (files : List ℕ → Option (List ℕ)) → H.told shelf.old ≡ Some files
         → H.faults shelf.new ≡ H.faults shelf.old → (result ≡ Err Refusal.Memory)
-        ⊎ (result ≡ third_by (asked options.now).chain files) }
+        ⊎ (result ≡ third_by (chain_of (asked options.now).kind) files) }
     ensures found { IfOk result
         (λ third. (files : List ℕ → Option (List ℕ)) → H.told shelf.old ≡ Some files
-        → third_by (asked options.now).chain files ≡ Ok third) }
-    ensures alone { options.now.chain ≡ None → shelf.new ≡ shelf.old }
+        → third_by (chain_of (asked options.now).kind) files ≡ Ok third) }
+    ensures alone { chain_of (asked options.now).kind ≡ None → shelf.new ≡ shelf.old }
     ensures seen { (result ≡ Err Refusal.Read → ⊥) → (result ≡ Err Refusal.Memory → ⊥)
         → ThirdSeen (H.told shelf.old) (H.picked shelf.old) (H.picked shelf.new)
-        (asked options.now).chain result }
+        (chain_of (asked options.now).kind) result }
     ensures sound { H.sound shelf.old
         → H.sound shelf.new × (H.faults shelf.new ≡ H.faults shelf.old) }
     ensures counts { (result ≡ Err Refusal.Read → ⊥) → H.faults shelf.new ≡ H.faults shelf.old }
     ensures refused { IfErr result (Refuses (H.faults shelf.old) (H.faults shelf.new)
         (H.told shelf.old) (H.picked shelf.new) (asked options.now)) }
     ensures whole { IfOk result (λ third. IfSome third IsTable) }
-    ensures chained { IfOk result (λ third. is_some third ≡ is_some options.now.chain) }
+    ensures chained { IfOk result (λ third.
+        is_some third ≡ is_some (chain_of (asked options.now).kind)) }
 {
-    let Some(chain) = options.chain else {
+    let Some(chain) = options.kind.chain() else {
         return Ok(None);
     };
     let file = File {

@@ -1,12 +1,11 @@
 // The stages in which what the words ask for is made ready, in the order of their refusals.
 
-ghost use Rattle.std.specs.Prelude.{◌≡◌, ◌⊎◌, ◌<◌, ◌≤◌, ℕ, List, [], length, None, Option, Some, Err};
-ghost use Rattle.std.specs.Prelude.{IfErr, IfOk, IfSome};
+ghost use Rattle.std.specs.Prelude.{◌≡◌, ◌⊎◌, ◌<◌, ◌≤◌, ℕ, List, Option, Some, Err, IfErr, IfOk};
 ghost use Rattle.join_rows.specs.Shelves.{last_fault};
 ghost use Rattle.theta_text.specs.Grammar.{Tree};
 ghost use Rattle.theta_text.specs.Texts.{IsFaultOf, TextReads, limits};
 ghost use Rattle.theta_text.specs.declared.fault.PredFault.{PredFault};
-ghost use Rattle.join_words.specs.Words.{AskedChain, asked};
+ghost use Rattle.join_words.specs.Words.{AreOptions, AskedChain, asked, chain_of};
 ghost use Rattle.join_plan.specs.Causes.{Refuses};
 ghost use Rattle.join_plan.specs.Later.{gathered_by};
 ghost use Rattle.join_plan.specs.Plan.{IsAsked, IsFit, IsPlanOf, fitted as fitted'};
@@ -34,10 +33,7 @@ fn prepare_over<R: Threads, H: Shelf>(
     shelf: &mut H,
 ) -> Result<Planned, Refusal>
     requires faults { H.faults shelf.old < last_fault }
-    requires make { IfSome options.now.make (λ count. (1 ≤ count) × (count ≤ 65536)) }
-    requires few { length options.now.later.items ≤ 3 }
-    requires later { IfSome options.now.make (λ _. options.now.later.items ≡ []) }
-    requires chained { IfSome options.now.chain (λ _. options.now.make ≡ None) }
+    requires options { AreOptions (asked options.now) }
     requires have { HaveTrees (asked options.now) (trees_in preds.now) }
     requires narrow { AreNarrow preds.now }
     ensures told { H.told shelf.new ≡ H.told shelf.old }
@@ -67,8 +63,7 @@ fn prepare_over<R: Threads, H: Shelf>(
 /// What the options ask for, or the first refusal: of the text of the predicate, of that of the
 /// second, of the file of R, of that of S, of those of the later waves, of the third, of the columns,
 /// of those of the second predicate, of the numbers, of those of the second predicate. A refusal of a
-/// text comes before any call of the shelf, and where tables are made there is none. There are no
-/// more than three later waves, and none where tables are made.
+/// text comes before any call of the shelf, and where tables are made there is none.
 pub fn prepare<R: Threads, H: Shelf>(
     rt: &R,
     alloc: Global,
@@ -76,10 +71,7 @@ pub fn prepare<R: Threads, H: Shelf>(
     shelf: &mut H,
 ) -> Result<Planned, Refusal>
     requires faults { H.faults shelf.old < last_fault }
-    requires make { IfSome options.now.make (λ count. (1 ≤ count) × (count ≤ 65536)) }
-    requires few { length options.now.later.items ≤ 3 }
-    requires later { IfSome options.now.make (λ _. options.now.later.items ≡ []) }
-    requires chained { IfSome options.now.chain (λ _. options.now.make ≡ None) }
+    requires options { AreOptions (asked options.now) }
     ensures told { H.told shelf.new ≡ H.told shelf.old }
     ensures rises { H.faults shelf.old ≤ H.faults shelf.new }
     ensures answer { (files : List ℕ → Option (List ℕ)) → H.told shelf.old ≡ Some files
@@ -94,7 +86,7 @@ pub fn prepare<R: Threads, H: Shelf>(
         → RefusesText On fault result × (shelf.new ≡ shelf.old) }
     ensures further_early { (tree : Tree) (chain : AskedChain) (fault : PredFault)
         → TextReads limits options.now.on.now tree
-        → (asked options.now).chain ≡ Some chain → IsFaultOf limits chain.on fault
+        → chain_of (asked options.now).kind ≡ Some chain → IsFaultOf limits chain.on fault
         → RefusesText Then fault result × (shelf.new ≡ shelf.old) }
     ensures asked { IfOk result (IsAsked (H.told shelf.old) (asked options.now)) }
     ensures fit { IfOk result IsFit }

@@ -1,9 +1,8 @@
-use Rattle.std.proofs.Common.{◌+◌, ◌∙◌, ap, sym}
-use Rattle.std.proofs.lemmas.List.{length-map}
-use Rattle.join_words.specs.Words.{asked, asked_wave}
+use Rattle.std.proofs.Common.{sym}
+use Rattle.join_words.specs.Words.{asked}
 use Rattle.join_plan.specs.Texts.{trees_in}
 use Rattle.join_plan.specs.declared.fault.Refusal.TheVariants as refusals
-use Rattle.join_plan.proofs.Prepared.{chain_there, is_asked, refused_seen}
+use Rattle.join_plan.proofs.Prepared.{is_asked, refused_seen}
 use Rattle.join_plan.proofs.Seen.{other_refusal}
 use Rattle.join_plan.proofs.stages.prepare_over.Goals as goal
 
@@ -11,9 +10,8 @@ pub returns-in-Ok-clause-asked : goal.returns-in-Ok-clause-asked
 returns-in-Ok-clause-asked g c =
     is_asked (g.H.Shelf.told c.args.shelf.now) (asked c.args.options.now) (trees_in c.args.preds.now) c.in-Ok.found
     c.fitted.result c.requires.have c.in-Ok.ensures.found (λ count is. (c.in-Ok.ensures.made count is).1)
-    (c.in-Ok.ensures.chained ∙ sym (chain_there c.args.options.now.chain))
-    (c.in-Ok.ensures.waves ∙ ap (λ n. n + 1) (sym (length-map c.args.options.now.later.items asked_wave)))
-    c.fitted.ensures.found c.fitted.ensures.fit c.fitted.ensures.third c.fitted.ensures.ends
+    c.in-Ok.ensures.chained c.in-Ok.ensures.waves c.fitted.ensures.found c.fitted.ensures.fit c.fitted.ensures.third
+    c.fitted.ensures.ends
 
 pub returns-in-Err-clause-seen : goal.returns-in-Err-clause-seen
 returns-in-Err-clause-seen g c read memory =
@@ -26,4 +24,4 @@ pub returns-in-Ok-clause-refused : goal.returns-in-Ok-clause-refused
 returns-in-Ok-clause-refused g c =
     c.fitted.ensures.refused (g.H.Shelf.faults c.args.shelf.now) (g.H.Shelf.faults c.all_tables.new.shelf)
     (g.H.Shelf.told c.args.shelf.now) (g.H.Shelf.picked c.all_tables.new.shelf) (asked c.args.options.now)
-    (chain_there c.args.options.now.chain ∙ sym c.in-Ok.ensures.chained)
+    (sym c.in-Ok.ensures.chained)
