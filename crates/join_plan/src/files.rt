@@ -194,7 +194,8 @@ fn with_others<H: Shelf>(
     ensures found { IfOk result
         (λ found. (files : List ℕ → Option (List ℕ)) → H.told shelf.old ≡ Some files
         → gathered_behind (asked options.now) files tables ≡ Ok found) }
-    ensures alone { later_of (asked options.now).kind ≡ [] → chain_of (asked options.now).kind ≡ None
+    ensures alone { later_of (asked options.now).kind ≡ []
+        → chain_of (asked options.now).kind ≡ None
         → (shelf.new ≡ shelf.old) × IfOk result (λ found. found.tables ≡ tables) }
     ensures seen { (result ≡ Err Refusal.Read → ⊥) → (result ≡ Err Refusal.Memory → ⊥)
         → BehindSeen (H.told shelf.old) (H.picked shelf.old) (H.picked shelf.new)

@@ -71,7 +71,8 @@ fn with_further(alloc: Global, options: &Options<'_>, on: Pred) -> Result<Preds,
     requires reads { TextReads limits options.now.on.now (tree_of on) }
     requires narrow { longest_sum on ≤ 16 }
     ensures answer { (readings : Readings) → readings.on ≡ Ok (tree_of on)
-        → IsReadFurther (chain_of (asked options.now).kind) readings.further → ReadAll readings result }
+        → IsReadFurther (chain_of (asked options.now).kind) readings.further
+        → ReadAll readings result }
     ensures early { (chain : AskedChain) (fault : PredFault)
         → chain_of (asked options.now).kind ≡ Some chain → IsFaultOf limits chain.on fault
         → RefusesText Which.Then fault result }

@@ -140,26 +140,25 @@ fn both_found(made_r: Made, made_s: Made) -> Result<Tables, Refusal>
     }
 }
 
-/// The tables that the bytes of two files are, made side by side or one after the other, or the first refusal.
+/// The tables that the bytes of two files are, made side by side, or the first refusal.
 fn tables_from<R: Threads>(
     rt: &R,
     alloc: Global,
     of_r: &[u8],
     of_s: &[u8],
-    side_by_side: bool,
 ) -> Result<Tables, Refusal>
     ensures answer { (result ≡ Err Refusal.Memory)
         ⊎ (result ≡ tables_in (Some of_r.now) (Some of_s.now)) }
     ensures whole_r { IfOk result (λ tables. IsTable tables.of_r) }
     ensures whole_s { IfOk result (λ tables. IsTable tables.of_s) }
 {
-    let (made_r, made_s) = both_tables(rt, alloc, of_r, of_s, side_by_side);
+    let (made_r, made_s) = both_tables(rt, alloc, of_r, of_s, true);
     both_found(made_r, made_s)
 }
 
-/// The tables of both sides, R before S, or the first refusal. Where R's file is no table, S's isn't read. With more
-/// than one worker the two tables are made side by side, unless a replay is asked for.
-pub(crate) fn read_tables<R: Threads, H: Shelf>(
+/// The tables of both sides, R before S, or the first refusal: both files are read, and then the two tables made side by
+/// side. Where R's file is no table, S's isn't read: R's bytes are judged before.
+fn side_by_side<R: Threads, H: Shelf>(
     rt: &R,
     alloc: Global,
     shelf: &mut H,
@@ -205,8 +204,91 @@ pub(crate) fn read_tables<R: Threads, H: Shelf>(
         Ok(bytes) => bytes,
         Err(refusal) => return Err(refusal),
     };
-    let side_by_side = options.workers > 1 && options.kind.replay().is_none();
-    tables_from(rt, alloc, of_r.as_slice(), of_s.as_slice(), side_by_side)
+    tables_from(rt, alloc, of_r.as_slice(), of_s.as_slice())
+}
+
+/// The same, each file read and its table made before the next one.
+fn one_by_one<H: Shelf>(
+    alloc: Global,
+    shelf: &mut H,
+    options: &Options<'_>,
+) -> Result<Tables, Refusal>
+    requires faults { H.faults shelf.old < last_fault }
+    requires files { options.now.make ≡ None }
+    ensures told { H.told shelf.new ≡ H.told shelf.old }
+    ensures rises { H.faults shelf.old ≤ H.faults shelf.new }
+    ensures answer { (files : List ℕ → Option (List ℕ)) → H.told shelf.old ≡ Some files
+        → H.faults shelf.new ≡ H.faults shelf.old
+        → (result ≡ Err Refusal.Memory)
+        ⊎ (result ≡ tables_of files options.now.name_r.now options.now.name_s.now) }
+    ensures found { IfOk result
+        (λ tables. (files : List ℕ → Option (List ℕ)) → H.told shelf.old ≡ Some files
+        → tables_of files options.now.name_r.now options.now.name_s.now ≡ Ok tables) }
+    ensures seen { (result ≡ Err Refusal.Read → ⊥) → (result ≡ Err Refusal.Memory → ⊥)
+        → TablesSeen (H.told shelf.old) (H.picked shelf.new)
+        options.now.name_r.now options.now.name_s.now result }
+    ensures sound { H.sound shelf.old
+        → H.sound shelf.new × (H.faults shelf.new ≡ H.faults shelf.old) }
+    ensures counts { (result ≡ Err Refusal.Read → ⊥) → H.faults shelf.new ≡ H.faults shelf.old }
+    ensures refused { IfErr result (Refuses (H.faults shelf.old) (H.faults shelf.new)
+        (H.told shelf.old) (H.picked shelf.new) (asked options.now)) }
+    ensures whole_r { IfOk result (λ tables. IsTable tables.of_r) }
+    ensures whole_s { IfOk result (λ tables. IsTable tables.of_s) }
+{
+    let file_r = File {
+        side: Side::R,
+        wave: 1,
+        name: options.name_r,
+    };
+    let file_s = File {
+        side: Side::S,
+        wave: 1,
+        name: options.name_s,
+    };
+    match table(alloc, shelf, &file_r) {
+        Ok(of_r) => match table(alloc, shelf, &file_s) {
+            Ok(of_s) => Ok(Tables { of_r, of_s }),
+            Err(refusal) => Err(refusal),
+        },
+        Err(refusal) => Err(refusal),
+    }
+}
+
+/// The tables of both sides, R before S, or the first refusal. Where R's file is no table, S's isn't read. With more
+/// than one worker the two tables are made side by side, unless a replay is asked for.
+pub(crate) fn read_tables<R: Threads, H: Shelf>(
+    rt: &R,
+    alloc: Global,
+    shelf: &mut H,
+    options: &Options<'_>,
+) -> Result<Tables, Refusal>
+    requires faults { H.faults shelf.old < last_fault }
+    requires files { options.now.make ≡ None }
+    ensures told { H.told shelf.new ≡ H.told shelf.old }
+    ensures rises { H.faults shelf.old ≤ H.faults shelf.new }
+    ensures answer { (files : List ℕ → Option (List ℕ)) → H.told shelf.old ≡ Some files
+        → H.faults shelf.new ≡ H.faults shelf.old
+        → (result ≡ Err Refusal.Memory)
+        ⊎ (result ≡ tables_of files options.now.name_r.now options.now.name_s.now) }
+    ensures found { IfOk result
+        (λ tables. (files : List ℕ → Option (List ℕ)) → H.told shelf.old ≡ Some files
+        → tables_of files options.now.name_r.now options.now.name_s.now ≡ Ok tables) }
+    ensures seen { (result ≡ Err Refusal.Read → ⊥) → (result ≡ Err Refusal.Memory → ⊥)
+        → TablesSeen (H.told shelf.old) (H.picked shelf.new)
+        options.now.name_r.now options.now.name_s.now result }
+    ensures sound { H.sound shelf.old
+        → H.sound shelf.new × (H.faults shelf.new ≡ H.faults shelf.old) }
+    ensures counts { (result ≡ Err Refusal.Read → ⊥) → H.faults shelf.new ≡ H.faults shelf.old }
+    ensures refused { IfErr result (Refuses (H.faults shelf.old) (H.faults shelf.new)
+        (H.told shelf.old) (H.picked shelf.new) (asked options.now)) }
+    ensures whole_r { IfOk result (λ tables. IsTable tables.of_r) }
+    ensures whole_s { IfOk result (λ tables. IsTable tables.of_s) }
+{
+    if options.workers > 1 && options.kind.replay().is_none() {
+        side_by_side(rt, alloc, shelf, options)
+    } else {
+        one_by_one(alloc, shelf, options)
+    }
 }
 
 /// The third table of a second join, where one is asked for, or its refusal.

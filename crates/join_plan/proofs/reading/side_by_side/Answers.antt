@@ -9,7 +9,7 @@ use Rattle.join_plan.proofs.BothFiles.{both-behind, both-other, both-refused, se
 use Rattle.join_plan.proofs.Refusals.{later_refuses, later_refuses_if}
 use Rattle.join_plan.proofs.Seen.{other_refusal, seen_one}
 use Rattle.join_plan.specs.declared.fault.Refusal.TheVariants as refusals
-use Rattle.join_plan.proofs.reading.read_tables.Goals as goal
+use Rattle.join_plan.proofs.reading.side_by_side.Goals as goal
 
 -- ---- R's file is no table
 
