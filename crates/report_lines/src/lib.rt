@@ -1,0 +1,10 @@
+//! The report of a run as a value, and its text.
+#![tactic(auto)]
+
+mod report;
+mod text;
+
+pub use report::{Growth, Joiner, Joiners, Report, Step, Steps};
+
+#[cfg(test)]
+mod tests;
