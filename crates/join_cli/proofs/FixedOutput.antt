@@ -1,6 +1,6 @@
 -- With a fixed shift the numbers of a run are those of that shift, whatever the journal.
-use Rattle.std.proofs.Common.{◌≡◌, ◌∙◌, ◌-◌, ◌/◌, ◌^◌, ◌==◌, ℕ, Bool, true, false, List, [], ◌∷◌, ◌++◌, Some, map, refl}
-use Rattle.std.proofs.Common.{sym, ap}
+use Rattle.std.proofs.Common.{◌≡◌, ◌∙◌, ◌-◌, ◌/◌, ◌^◌, ◌==◌, ℕ, Bool, true, false, List, [], ◌∷◌, ◌++◌, None, Some, map}
+use Rattle.std.proofs.Common.{refl, sym, ap}
 use Rattle.std.specs.Prelude.{All, if◌then◌else◌, unwrap_or}
 use Rattle.std.specs.List.{AllByRecursion, range_with_len}
 use Rattle.std.proofs.lemmas.List.Elements.{recursion_from_All}
@@ -15,7 +15,9 @@ use Rattle.grid_map.specs.declared.cost.Weights.{Weights}
 use Rattle.trace_law.specs.Family.{first_rest, migrations, shift_by, stamp_by}
 use Rattle.trace_law.specs.Join.{held, made, row_count}
 use Rattle.trace_law.specs.Runs.{StaysAt, load_over, made_over, moved_over}
-use Rattle.join_report.specs.Report.{final_line, grid_lines, input_line, joiner_lines}
+use Rattle.report_lines.specs.declared.report.Step.{Step}
+use Rattle.report_lines.specs.Lines.{report_lines}
+use Rattle.join_report.specs.Report.{first_shift, joiners_told, steps_told, told_at}
 use Rattle.join_words.specs.Words.{Asked}
 use Rattle.join_plan.specs.declared.fitting.Planned.{Planned}
 use Rattle.join_cli.specs.Plan.{IsJournalOf, answer_of, input_of, output_of, report_over, setting_of, text_of}
@@ -58,25 +60,23 @@ load_stays : (input : Input) (setting : Setting) (b : ℕ) (journal : List TurnL
 unfolding load_at
 load_stays input setting b journal each j = ap (λ shift. load_at input setting.k shift j) (each (last_epoch journal))
 
--- the report of a run that stays at shift b, with the lines of no step
+-- the report of a run that stays at shift b, without a step
 abbrev report_at : Input → Setting → ℕ → List ℕ
 report_at input setting b =
-    let x = row_count input R in
-    let y = row_count input S in
-    input_line x y ++ [] ++ final_line setting.k setting.weights b x y
-    ++ joiner_lines (map (load_at input setting.k b) (range_with_len 0 (2 ^ setting.k)))
-    (map (made_at input setting b) (range_with_len 0 (2 ^ setting.k)))
+    report_lines (told_at setting.weights (row_count input R) (row_count input S) [] None [] setting.k b
+    (joiners_told (map (load_at input setting.k b) (range_with_len 0 (2 ^ setting.k)))
+    (map (made_at input setting b) (range_with_len 0 (2 ^ setting.k)))))
 
-same_parts : (k : ℕ) (w : Weights) (x y : ℕ) (grids : List ℕ) (one other : ℕ) (loads_one loads_other : List Held)
+same_parts : (k : ℕ) (w : Weights) (x y : ℕ) (steps : List Step) (one other : ℕ) (loads_one loads_other : List Held)
     (made_one made_other : List ℕ)
-    → grids ≡ [] → one ≡ other → loads_one ≡ loads_other → made_one ≡ made_other
-    → input_line x y ++ grids ++ final_line k w one x y ++ joiner_lines loads_one made_one ≡ input_line x y ++ []
-    ++ final_line k w other x y ++ joiner_lines loads_other made_other
-same_parts k w x y grids one other loads_one loads_other made_one made_other no_grids same_shift same_loads same_made =
-    ap (λ g. input_line x y ++ g ++ final_line k w one x y ++ joiner_lines loads_one made_one) no_grids
-    ∙ ap (λ b. input_line x y ++ [] ++ final_line k w b x y ++ joiner_lines loads_one made_one) same_shift
-    ∙ ap (λ ls. input_line x y ++ [] ++ final_line k w other x y ++ joiner_lines ls made_one) same_loads
-    ∙ ap (λ ms. input_line x y ++ [] ++ final_line k w other x y ++ joiner_lines loads_other ms) same_made
+    → steps ≡ [] → one ≡ other → loads_one ≡ loads_other → made_one ≡ made_other
+    → told_at w x y steps None [] k one (joiners_told loads_one made_one)
+    ≡ told_at w x y [] None [] k other (joiners_told loads_other made_other)
+same_parts k w x y steps one other loads_one loads_other made_one made_other no_steps same_shift same_loads same_made =
+    ap (λ (s : List Step). told_at w x y s None [] k one (joiners_told loads_one made_one)) no_steps
+    ∙ ap (λ (b : ℕ). told_at w x y [] None [] k b (joiners_told loads_one made_one)) same_shift
+    ∙ ap (λ (ls : List Held). told_at w x y [] None [] k other (joiners_told ls made_one)) same_loads
+    ∙ ap (λ (ms : List ℕ). told_at w x y [] None [] k other (joiners_told loads_other ms)) same_made
 
 report_stays : (input : Input) (setting : Setting) (b : ℕ) (journal : List TurnLine)
     → ((e : ℕ) → shift_by (first_rest setting).line journal e ≡ b) → last_epoch journal ≡ 0
@@ -84,17 +84,18 @@ report_stays : (input : Input) (setting : Setting) (b : ℕ) (journal : List Tur
 report_stays input setting b journal each none =
     let ids = range_with_len 0 (2 ^ setting.k) in
     let first = (first_rest setting).line in
-    same_parts setting.k setting.weights (row_count input R) (row_count input S)
-    (grid_lines setting journal (map (moved_over input setting first journal)
+    let k = setting.k in
+    ap report_lines (same_parts k setting.weights (row_count input R) (row_count input S)
+    (steps_told k (first_shift setting) 0 journal (map (moved_over input setting first journal)
     (range_with_len 0 (migrations first journal))))
     (shift_by first journal (last_epoch journal)) b
-    (map (load_over input setting first journal) ids) (map (load_at input setting.k b) ids)
+    (map (load_over input setting first journal) ids) (map (load_at input k b) ids)
     (map (made_over input setting first journal) ids) (map (made_at input setting b) ids)
-    (ap (λ n. grid_lines setting journal (map (moved_over input setting first journal) (range_with_len 0 (n - 0))))
-    none)
+    (ap (λ n. steps_told k (first_shift setting) 0 journal (map (moved_over input setting first journal)
+    (range_with_len 0 (n - 0)))) none)
     (each (last_epoch journal))
     (ap (λ f. map f ids) (fun_ext (load_stays input setting b journal each)))
-    (ap (λ f. map f ids) (fun_ext (made_stays input setting b journal each)))
+    (ap (λ f. map f ids) (fun_ext (made_stays input setting b journal each))))
 
 abbrev text_at : Asked → Input → Setting → ℕ → List ℕ
 text_at asked input setting b = answer_of asked.make asked.rows input ++ (if asked.report then report_at input setting b

@@ -1,5 +1,5 @@
 -- What a report asks of a run.
-use Rattle.std.proofs.Common.{◌≡◌, ◌∙◌, ◌<◌, ◌≤◌, ◌*◌, ◌+◌, ◌^◌, ◌++◌, ℕ, List, [], ◌∷◌, length, map, refl, sym, ap}
+use Rattle.std.proofs.Common.{◌≡◌, ◌∙◌, ◌<◌, ◌≤◌, ◌*◌, ◌+◌, ◌^◌, ℕ, List, [], ◌∷◌, length, map, refl, sym, ap}
 use Rattle.std.proofs.Common.{subst, arith}
 use Rattle.std.specs.Prelude.{All, reverse}
 use Rattle.std.specs.List.{AllByRecursion}
@@ -24,7 +24,7 @@ use Rattle.trace_law.proofs.Begun.{fits_begun}
 use Rattle.trace_law.proofs.Bounds.{bounded}
 use Rattle.trace_law.proofs.First.{stands as first_stands}
 use Rattle.trace_law.proofs.Validity.{within_limits}
-use Rattle.join_report.specs.Report.{AreWithin, final_line, grid_lines, input_line, joiner_lines, last_shift, report_of}
+use Rattle.join_report.specs.Report.{AreWithin, report_of}
 use Rattle.group_split.specs.Parts.{input_of_part, part, setting_of_group}
 use Rattle.group_split.specs.Sizes.{digits, has_digit}
 use Rattle.join_rows.proofs.Totals.{filter_fewer}
@@ -77,11 +77,11 @@ few_steps input setting journal run of_input valid is =
     let small : setting.k ≤ 8 = valid.joiners in
     omega arith
 
--- a report by its parts
+-- the report of a run by what it tells of it
 abbrev report_by : Setting → List TurnLine → ℕ → ℕ → List ℕ → List Held → List ℕ → List ℕ
 report_by setting journal x y moved loads made =
-    input_line x y ++ grid_lines setting journal moved
-    ++ final_line setting.k setting.weights (last_shift setting journal) x y ++ joiner_lines loads made
+    report_of setting x y
+    (record { pairs = []; made = made; loads = loads; moved = moved; journal = journal; bouts = 0 })
 
 -- the report of a run is the one over its journal
 pub report_is : (input : Input) (setting : Setting) (run : Run) (x y : ℕ)

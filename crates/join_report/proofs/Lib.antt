@@ -1,9 +1,9 @@
 mod Journals
 pub mod LoopSums
-mod Numbered
 pub mod Pieces
 pub mod Puts
 mod RowSteps
 mod RowsRead
 mod Sums
+pub mod Told
 mod Worked

@@ -1,7 +1,7 @@
 -- The report of a run of this setting, with x rows of R and y of S, and of one whose joiners have split.
-use Rattle.std.specs.Prelude.{ℕ, ◌+◌, ◌*◌, ◌≤◌, All, List, ◌++◌, flat_map, zip, codes, length}
+use Rattle.std.specs.Prelude.{ℕ, ◌+◌, ◌*◌, ◌≤◌, All, List, [], Option, None, Some, length, map}
 use Rattle.std.specs.List.{enumerate_from}
-use Rattle.std.specs.Fmt.{decimal}
+use Rattle.std.specs.Simd.Lanes.{zip2}
 use Rattle.grid_map.specs.Grid.{rows, columns}
 use Rattle.grid_map.specs.declared.cost.Weights.{Weights}
 use Rattle.grid_map.specs.declared.shape.Shape.{Shape}
@@ -11,57 +11,22 @@ use Rattle.load_controller.specs.Journal.{last_epoch, shift_at}
 use Rattle.pair_collector.specs.declared.collected.Held.{Held}
 use Rattle.trace_law.specs.declared.setting.Setting.{Setting}
 use Rattle.trace_law.specs.declared.run.Run.{Run}
-use Rattle.trace_law.specs.Family.{first_rest, shift_by}
+use Rattle.trace_law.specs.Family.{first_rest}
+use Rattle.report_lines.specs.declared.report.Growth.{Growth}
+use Rattle.report_lines.specs.declared.report.Joiner.{Joiner}
+use Rattle.report_lines.specs.declared.report.Report.{Report}
+use Rattle.report_lines.specs.declared.report.Step.{Step}
+use Rattle.report_lines.specs.Lines.{report_lines}
 
 -- the shifts of a journal are those of a grid of 2 ^ k joiners
 abbrev pub AreWithin : ℕ → List TurnLine → Type 0
 AreWithin k journal = All (λ line. line.shift ≤ k) journal
 
--- the numbers of rows
-abbrev pub input_line : ℕ → ℕ → List ℕ
-input_line x y = codes "input " ++ decimal x ++ codes " " ++ decimal y ++ codes "\n"
+-- ---- what is told
 
--- the rows and columns of the grid of an epoch at shift b, and how many rows moved in the step to it
-abbrev pub grid_line : ℕ → ℕ → ℕ → ℕ → List ℕ
-grid_line k epoch b moved =
-    codes "grid " ++ decimal epoch ++ codes " " ++ decimal (rows k b) ++ codes " " ++ decimal (columns b)
-    ++ codes " moved " ++ decimal moved ++ codes "\n"
-
--- the shift of an epoch
-abbrev pub epoch_shift : Setting → List TurnLine → ℕ → ℕ
-epoch_shift setting journal e = shift_by (first_rest setting).line journal e
-
--- the lines of the steps of waves that begin at this shift and behind so many steps
-abbrev pub grid_lines_from : ℕ → ℕ → ℕ → List TurnLine → List ℕ → List ℕ
-grid_lines_from k first before journal moved =
-    flat_map (λ step. grid_line k (step.0 + 1) (shift_at first (step.0 + 1) journal) step.1)
-    (enumerate_from before moved)
-
--- the lines of all steps, the first of which leads to epoch 1
-abbrev pub grid_lines : Setting → List TurnLine → List ℕ → List ℕ
-grid_lines setting journal moved = grid_lines_from setting.k (first_rest setting).line.shift 0 journal moved
-
--- the fewest copies that the joiners can hold at any shift, x and y being the weights of all rows
-abbrev pub least_copies : ℕ → ℕ → ℕ → ℕ → ℕ
-least_copies k b x y = copies k (best_shift k b x y) x y
-
--- the rows and columns of the grid, its copies, and the fewest, each copy counting the weight of its side
-abbrev pub final_line : ℕ → Weights → ℕ → ℕ → ℕ → List ℕ
-final_line k weights b x y =
-    codes "final " ++ decimal (rows k b) ++ codes " " ++ decimal (columns b)
-    ++ codes " copies " ++ decimal (copies k b (weights.r * x) (weights.s * y))
-    ++ codes " best " ++ decimal (least_copies k b (weights.r * x) (weights.s * y)) ++ codes "\n"
-
--- the rows that a joiner holds, and the pairs that it made
-abbrev pub joiner_line : ℕ → Held → ℕ → List ℕ
-joiner_line id held made =
-    codes "joiner " ++ decimal id ++ codes " held " ++ decimal held.rows_r ++ codes " " ++ decimal held.rows_s
-    ++ codes " made " ++ decimal made ++ codes "\n"
-
--- the lines of all joiners, numbered from 0
-abbrev pub joiner_lines : List Held → List ℕ → List ℕ
-joiner_lines loads made =
-    flat_map (λ joiner. joiner_line joiner.0 joiner.1.0 joiner.1.1) (enumerate_from 0 (zip loads made))
+-- the shift of the first epoch
+abbrev pub first_shift : Setting → ℕ
+first_shift setting = (first_rest setting).line.shift
 
 -- the shift of the last epoch of waves that begin at this one
 abbrev pub last_shift_from : ℕ → List TurnLine → ℕ
@@ -69,25 +34,69 @@ last_shift_from first journal = shift_at first (last_epoch journal) journal
 
 -- the shift of the last epoch
 abbrev pub last_shift : Setting → List TurnLine → ℕ
-last_shift setting journal = epoch_shift setting journal (last_epoch journal)
+last_shift setting journal = last_shift_from (first_shift setting) journal
 
--- the numbers of rows, the steps, the last grid, and the joiners
+-- the step to an epoch: its grid, that of 2 ^ k joiners at this shift, and how many rows moved
+abbrev pub step_at : ℕ → ℕ → ℕ → Step
+step_at k b moved = record { n = rows k b; m = columns b; moved = moved }
+
+-- the steps of waves that begin at this shift and behind so many steps
+abbrev pub steps_told : ℕ → ℕ → ℕ → List TurnLine → List ℕ → List Step
+steps_told k first before journal moved =
+    map (λ step. step_at k (shift_at first (step.0 + 1) journal) step.1) (enumerate_from before moved)
+
+-- the grid that joiners have split into, and how many tuples the new ones were given
+abbrev pub growth_told : Shape → ℕ → Growth
+growth_told shape placed = record { n = rows shape.k shape.shift; m = columns shape.shift; placed = placed }
+
+-- what a joiner holds, and how many pairs it made
+abbrev pub joiner_told : Held → ℕ → Joiner
+joiner_told held made = record { rows_r = held.rows_r; rows_s = held.rows_s; made = made }
+
+-- all joiners, by their ids
+abbrev pub joiners_told : List Held → List ℕ → List Joiner
+joiners_told loads made = zip2 joiner_told loads made
+
+-- the fewest copies that the joiners can hold at any shift, x and y being the weights of all rows
+abbrev pub least_copies : ℕ → ℕ → ℕ → ℕ → ℕ
+least_copies k b x y = copies k (best_shift k b x y) x y
+
+-- what is told of these steps, a growth and the steps since, which end in the grid of 2 ^ k joiners at shift b: its
+-- copies, each counting the weight of its side, the fewest, and its joiners
+abbrev pub told_at : Weights → (x y : ℕ) → List Step → Option Growth → List Step → (k b : ℕ) → List Joiner → Report
+told_at weights x y steps growth later k b joiners = record {
+  x = x;
+  y = y;
+  steps = steps;
+  growth = growth;
+  later = later;
+  n = rows k b;
+  m = columns b;
+  copies = copies k b (weights.r * x) (weights.s * y);
+  best = least_copies k b (weights.r * x) (weights.s * y);
+  joiners = joiners;
+}
+
+-- what the report of a run tells: the rows of both sides, the steps, the last grid, and the joiners
+abbrev pub told : Setting → ℕ → ℕ → Run → Report
+told setting x y run =
+    told_at setting.weights x y (steps_told setting.k (first_shift setting) 0 run.journal run.moved) None []
+    setting.k (last_shift setting run.journal) (joiners_told run.loads run.made)
+
+-- the same of a run whose joiners have split: the steps before, the grid that they split into, and the steps since
+abbrev pub grown_told : Setting → ℕ → ℕ → Run → Shape → ℕ → Run → Report
+grown_told setting x y before shape placed after =
+    told_at setting.weights x y (steps_told setting.k (first_shift setting) 0 before.journal before.moved)
+    (Some (growth_told shape placed))
+    (steps_told shape.k shape.shift (length before.moved) after.journal after.moved)
+    shape.k (last_shift_from shape.shift after.journal) (joiners_told after.loads after.made)
+
+-- ---- its lines
+
+-- those of a run
 abbrev pub report_of : Setting → ℕ → ℕ → Run → List ℕ
-report_of setting x y run =
-    input_line x y ++ grid_lines setting run.journal run.moved
-    ++ final_line setting.k setting.weights (last_shift setting run.journal) x y ++ joiner_lines run.loads run.made
+report_of setting x y run = report_lines (told setting x y run)
 
--- the rows and columns of the grid after each joiner has split into four, and how many tuples the new ones hold
-abbrev pub grow_line : ℕ → ℕ → ℕ → List ℕ
-grow_line n m placed =
-    codes "grow " ++ decimal n ++ codes " " ++ decimal m ++ codes " placed " ++ decimal placed ++ codes "\n"
-
--- the numbers of rows, the steps of the waves before the joiners split, the grid that they split into, the steps since,
--- numbered on, the last grid, and the joiners since
+-- those of a run whose joiners have split
 abbrev pub grown_report_of : Setting → ℕ → ℕ → Run → Shape → ℕ → Run → List ℕ
-grown_report_of setting x y before shape placed after =
-    input_line x y ++ grid_lines setting before.journal before.moved
-    ++ grow_line (rows shape.k shape.shift) (columns shape.shift) placed
-    ++ grid_lines_from shape.k shape.shift (length before.moved) after.journal after.moved
-    ++ final_line shape.k setting.weights (last_shift_from shape.shift after.journal) x y
-    ++ joiner_lines after.loads after.made
+grown_report_of setting x y before shape placed after = report_lines (grown_told setting x y before shape placed after)

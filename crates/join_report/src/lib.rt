@@ -2,16 +2,19 @@
 //! that grew; the numbers of its waves, added up; and a text put into a sink piece by piece.
 #![tactic(auto)]
 
+mod grids;
 mod pairs;
 mod put;
 mod report;
+mod report_texts;
 mod rows;
 mod summary;
 mod waves;
 
 pub use pairs::pairs_text;
 pub use put::put_all;
-pub use report::{grown_report_text, report_text};
+pub use report::{report_of_grown_run, report_of_run};
+pub use report_texts::{grown_report_text, report_text};
 pub use rows::rows_text;
 pub use summary::summary_text;
 pub use waves::sum_counts;

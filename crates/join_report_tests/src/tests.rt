@@ -7,7 +7,10 @@ mod joined;
 use crate::runs::{push_counts, run_of};
 use epoch_tags::{Counts, Pair};
 use grid_map::{Shape, Weights};
-use join_report::{grown_report_text, pairs_text, report_text, sum_counts};
+use join_report::{
+    grown_report_text, pairs_text, report_of_grown_run, report_of_run, report_text, sum_counts,
+};
+use report_lines::Report;
 use row_tickets::Feed;
 use std::alloc::{AllocError, Global};
 use std::process::Abort;
@@ -167,6 +170,35 @@ fn a_fixed_grid_has_no_steps(rt: HostRuntime) -> Result<(), Fail> {
     Ok(())
 }
 
+// What the report of the same grid tells, as a value.
+fn told_of_fixed(alloc: Global) -> Result<Report, AllocError> {
+    let setting = Setting {
+        k: 2,
+        feeders: 2,
+        workers: 4,
+        batch: 64,
+        feed: Feed::Alternate,
+        fixed: Some(0),
+        weights: Weights { r: 1, s: 1 },
+    };
+    let run = fixed_run(alloc)?;
+    let report = report_of_run(alloc, &setting, 3, 3, &run);
+    drop(run);
+    report
+}
+
+#[test]
+fn a_report_is_a_value(rt: HostRuntime) -> Result<(), Fail> {
+    let report = told_of_fixed(rt.alloc())?;
+    assert!(rt; report.x == 3 && report.y == 3);
+    assert!(rt; report.n == 4 && report.m == 1);
+    assert!(rt; report.copies == 15 && report.best == 12);
+    assert!(rt; report.steps.len() == 0 && report.growth.is_none());
+    assert!(rt; report.joiners.len() == 4);
+    drop(report);
+    Ok(())
+}
+
 // Eight rows a side, those of R twice as heavy, in a grid that goes to shift 0 and stays there.
 fn report_of_weights(alloc: Global) -> Result<String, AllocError> {
     let setting = Setting {
@@ -295,6 +327,47 @@ fn a_grid_grows_without_a_step(rt: HostRuntime) -> Result<(), Fail> {
         "input 2 2\ngrow 2 2 placed 8\nfinal 2 2 copies 8 best 8\njoiner 0 held 1 1 made 1\njoiner 1 held 1 1 made 0\njoiner 2 held 1 1 made 0\njoiner 3 held 1 1 made 1\n";
     has_text(&rt, text.as_str(), wanted);
     drop(text);
+    Ok(())
+}
+
+// What is told of one joiner that splits into four, which hold nothing.
+fn told_from_one(alloc: Global, run: &Run) -> Result<Report, AllocError>
+    requires moved { length run.now.moved ≤ 1 }
+    requires journal { AreWithin 0 run.now.journal }
+{
+    let setting = Setting {
+        k: 0,
+        feeders: 1,
+        workers: 1,
+        batch: 64,
+        feed: Feed::Alternate,
+        fixed: None,
+        weights: Weights { r: 1, s: 1 },
+    };
+    let after = run_of(alloc, &[0], &[(0, 0)], &[], 2, &[(0, 1)])?;
+    let shape = Shape { k: 2, shift: 1 };
+    let report = report_of_grown_run(alloc, &setting, 2, 2, run, shape, 8, &after);
+    drop(after);
+    report
+}
+
+fn told_of_one(alloc: Global) -> Result<Report, AllocError> {
+    let before = run_of(alloc, &[1], &[(2, 2)], &[], 0, &[(0, 0)])?;
+    let report = told_from_one(alloc, &before);
+    drop(before);
+    report
+}
+
+#[test]
+fn a_grown_report_is_a_value(rt: HostRuntime) -> Result<(), Fail> {
+    let report = told_of_one(rt.alloc())?;
+    let placed = match report.growth {
+        None => 0,
+        Some(growth) => growth.placed,
+    };
+    assert!(rt; placed == 8);
+    assert!(rt; report.later.len() == 0 && report.copies == 8);
+    drop(report);
     Ok(())
 }
 

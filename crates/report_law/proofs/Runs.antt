@@ -30,7 +30,7 @@ use Rattle.trace_law.proofs.Bounds.{bounded}
 use Rattle.trace_law.proofs.First.{stands as first_stands}
 use Rattle.trace_law.proofs.Validity.{within_limits}
 use Rattle.join_report.specs.Report.{AreWithin}
-use Rattle.report_law.specs.Told.{CountFits, IsReportable, LoadFits, ReportsAreRead}
+use Rattle.report_law.specs.Readable.{CountFits, IsReportable, LoadFits, ReportsAreRead}
 use Rattle.report_law.proofs.Made.{first_within, reportable}
 use Rattle.report_law.proofs.Steps.{shift_within}
 
@@ -193,6 +193,6 @@ run_reportable input setting run of_input valid is =
 
 -- so its report can be read back
 pub reports_read : ReportsAreRead
-reports_read alloc input setting run of_input valid is =
-    reportable alloc setting (row_count input R) (row_count input S) run
+reports_read input setting run of_input valid is =
+    reportable setting (row_count input R) (row_count input S) run
     (run_reportable input setting run of_input valid is)

@@ -1,8 +1,7 @@
--- The steps and joiners that a report tells: their lines are those of the picture's report, and they fit it.
-use Rattle.std.proofs.Common.{◌≡◌, ◌≤◌, ◌+◌, ◌-◌, ◌*◌, ◌^◌, ◌++◌, ℕ, suc, List, [], ◌∷◌, Bool, true, false, All}
-use Rattle.std.proofs.Common.{refl, ◌∙◌, ap, arith, length, flat_map}
-use Rattle.std.specs.Prelude.{◌==◌, map, zip, if◌then◌else◌}
-use Rattle.std.specs.List.{enumerate_from}
+-- The steps and joiners that a report tells: their grids have sides, and their numbers fit 64 bits.
+use Rattle.std.proofs.Common.{◌≡◌, ◌≤◌, ◌+◌, ◌-◌, ◌*◌, ◌^◌, ℕ, suc, List, [], ◌∷◌, Bool, true, false, All}
+use Rattle.std.proofs.Common.{refl, ◌∙◌, ap, arith, length}
+use Rattle.std.specs.Prelude.{◌==◌, if◌then◌else◌}
 use Rattle.std.proofs.Math.Pow.{pow_mono}
 use Rattle.std.proofs.lemmas.Nat.{pow_pos, pow-add}
 use Rattle.std.proofs.lemmas.List.Elements.{All-nil, All-cons, All-head, All-tail}
@@ -10,11 +9,10 @@ use Rattle.grid_map.specs.Grid.{rows, columns}
 use Rattle.load_controller.specs.declared.line.TurnLine.{TurnLine}
 use Rattle.load_controller.specs.Journal.{shift_at}
 use Rattle.pair_collector.specs.declared.collected.Held.{Held}
-use Rattle.join_report.specs.Report.{AreWithin, grid_lines_from, joiner_lines, joiner_line}
-use Rattle.report_picture.specs.Lines as picture
-use Rattle.report_picture.specs.Lines.{HasSides, IsSide}
+use Rattle.join_report.specs.Report.{AreWithin, joiner_told, joiners_told, step_at, steps_told}
+use Rattle.report_lines.specs.Grids.{HasSides, IsSide}
 use Rattle.report_picture.specs.Reading.{HeldFits, MovedFits}
-use Rattle.report_law.specs.Told.{CountFits, LoadFits, joiner_told, joiners_told, step_at, steps_told}
+use Rattle.report_law.specs.Readable.{CountFits, LoadFits}
 
 -- a shift of a journal is within the grid
 pub shift_within : (k first e : ℕ) (journal : List TurnLine) → first ≤ k → AreWithin k journal
@@ -66,34 +64,6 @@ moved_told k first before journal (count ∷ moved) fit =
     (steps_told k first (before + 1) journal moved) (All-head CountFits count moved fit)
     (moved_told k first (before + 1) journal moved (All-tail CountFits count moved fit))
 
--- there are as many as in the run
-pub steps_length : (k first before : ℕ) (journal : List TurnLine) (moved : List ℕ)
-    → length (steps_told k first before journal moved) ≡ length moved
-steps_length k first before journal [] = refl
-steps_length k first before journal (count ∷ moved) = ap suc (steps_length k first (before + 1) journal moved)
-
--- their lines
-pub steps_lines : (k first before : ℕ) (journal : List TurnLine) (moved : List ℕ)
-    → picture.grid_lines before (steps_told k first before journal moved)
-    ≡ grid_lines_from k first before journal moved
-steps_lines k first before journal [] = refl
-steps_lines k first before journal (count ∷ moved) =
-    ap (λ lines. picture.grid_line (before + 1) (step_at k (shift_at first (before + 1) journal) count) ++ lines)
-    (steps_lines k first (before + 1) journal moved)
-
--- the lines of joiners from an id on
-joiners_from : (id : ℕ) (joiners : List (Held × ℕ))
-    → flat_map (λ joiner. picture.joiner_line joiner.0 joiner.1) (enumerate_from id (map joiner_told joiners))
-    ≡ flat_map (λ joiner. joiner_line joiner.0 joiner.1.0 joiner.1.1) (enumerate_from id joiners)
-joiners_from id [] = refl
-joiners_from id (joiner ∷ joiners) =
-    ap (λ lines. picture.joiner_line id (joiner_told joiner) ++ lines) (joiners_from (id + 1) joiners)
-
--- those of all joiners
-pub joiners_lines : (loads : List Held) (made : List ℕ)
-    → picture.joiner_lines (joiners_told loads made) ≡ joiner_lines loads made
-joiners_lines loads made = joiners_from 0 (zip loads made)
-
 -- there are as many as loads
 pub joiners_length : (loads : List Held) (made : List ℕ) → length loads ≡ length made
     → length (joiners_told loads made) ≡ length loads
@@ -108,6 +78,6 @@ joiners_fit [] made held fit = All-nil HeldFits
 joiners_fit (load ∷ loads) [] held fit = All-nil HeldFits
 joiners_fit (load ∷ loads) (count ∷ made) held fit =
     let here = All-head LoadFits load loads held in
-    All-cons HeldFits (joiner_told (load, count)) (joiners_told loads made)
+    All-cons HeldFits (joiner_told load count) (joiners_told loads made)
     (here.0, here.1, All-head CountFits count made fit)
     (joiners_fit loads made (All-tail LoadFits load loads held) (All-tail CountFits count made fit))

@@ -7,10 +7,11 @@ use Rattle.pair_collector.specs.declared.collected.Held.{Held}
 use Rattle.row_tickets.specs.declared.place.Feed.TheVariants.{RFirst}
 use Rattle.trace_law.specs.declared.run.Run.{Run}
 use Rattle.trace_law.specs.declared.setting.Setting.{Setting}
-use Rattle.report_picture.specs.declared.report.Joiner.{Joiner}
-use Rattle.report_picture.specs.declared.report.Step.{Step}
-use Rattle.report_picture.specs.Reading.{numbers_with}
-use Rattle.report_law.specs.Told.{CountFits, IsReportable, LoadFits, told}
+use Rattle.report_lines.specs.declared.report.Joiner.{Joiner}
+use Rattle.report_lines.specs.declared.report.Report.{Report}
+use Rattle.report_lines.specs.declared.report.Step.{Step}
+use Rattle.join_report.specs.Report.{told}
+use Rattle.report_law.specs.Readable.{CountFits, IsReportable, LoadFits}
 
 -- eight rows of R and six of S in a grid of four that goes to shift 0
 abbrev four_joiners : Setting
@@ -56,9 +57,22 @@ joiner = record { rows_r = 2; rows_s = 6; made = 12 }
 abbrev step : Step
 step = record { n = 4; m = 1; moved = 3 }
 
+abbrev of_one_step : Report
+of_one_step = record {
+  x = 8;
+  y = 6;
+  steps = step ∷ [];
+  growth = None;
+  later = [];
+  n = 4;
+  m = 1;
+  copies = 32;
+  best = 28;
+  joiners = joiner ∷ joiner ∷ joiner ∷ joiner ∷ [];
+}
+
 -- what the report of such a run tells
-pub told_of_one_step : told four_joiners 8 6 one_step
-    ≡ numbers_with 8 6 (step ∷ []) None [] 4 1 32 28 (joiner ∷ joiner ∷ joiner ∷ joiner ∷ [])
+pub told_of_one_step : told four_joiners 8 6 one_step ≡ of_one_step
 told_of_one_step = refl
 
 four_times : {X : Type 0} (P : X → Type 0) (x : X) → P x → All P (x ∷ x ∷ x ∷ x ∷ [])

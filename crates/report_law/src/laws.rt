@@ -1,7 +1,7 @@
 // What `join_report` writes of a run is read by `report_picture`, each law as the contract of a function with an
 // empty body.
 
-ghost use Rattle.report_law.specs.Told.{GrownReportableIsRead, ReportableIsRead, ReportsAreRead};
+ghost use Rattle.report_law.specs.Readable.{GrownReportableIsRead, ReportableIsRead, ReportsAreRead};
 
 /// The report of a run of a valid input and setting is the lines of a whole report with the run's numbers, which fit
 /// 64 bits. So, by its clauses, `read_report` takes each text of lines that ends with it, and reads those numbers,

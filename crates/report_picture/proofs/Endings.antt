@@ -1,7 +1,7 @@
 -- A text that ends with another.
 use Rattle.std.proofs.Common.{◌≡◌, ℕ, sym, ◌∙◌, ap, List, ◌++◌, take, drop}
 use Rattle.std.proofs.lemmas.List.{take-append-drop}
-use Rattle.report_picture.specs.Lines.{AreLines, EndsWith}
+use Rattle.report_picture.specs.Texts.{AreLines, EndsWith}
 
 -- a text with nothing but lines before a place ends with what stands from there on
 pub ends : (text end : List ℕ) (place : ℕ) → AreLines (take place text) → drop place text ≡ end → EndsWith text end

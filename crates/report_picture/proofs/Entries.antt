@@ -4,12 +4,13 @@ use Rattle.std.proofs.Common.{refl, ◌∙◌}
 use Rattle.std.proofs.Common.{ap, arith, length, append_assoc, mul-le-mul, flat_map}
 use Rattle.std.specs.List.{enumerate_from}
 use Rattle.std.proofs.lemmas.List.Elements.{All-nil, All-cons, All-append, All-head, All-tail, All-weaker}
-use Rattle.report_picture.specs.declared.report.Step.{Step}
-use Rattle.report_picture.specs.declared.report.Growth.{Growth}
-use Rattle.report_picture.specs.declared.report.Joiner.{Joiner}
-use Rattle.report_picture.specs.declared.report.Report.{Report}
-use Rattle.report_picture.specs.Lines.{input_line, grid_line, grid_lines, grow_line, growth_lines, final_line}
-use Rattle.report_picture.specs.Lines.{joiner_line, joiner_lines, report_lines, HasSides, HasGrownSides, IsWhole}
+use Rattle.report_lines.specs.declared.report.Step.{Step}
+use Rattle.report_lines.specs.declared.report.Growth.{Growth}
+use Rattle.report_lines.specs.declared.report.Joiner.{Joiner}
+use Rattle.report_lines.specs.declared.report.Report.{Report}
+use Rattle.report_lines.specs.Lines.{input_line, grid_line, grid_lines, grow_line, growth_lines, final_line}
+use Rattle.report_lines.specs.Grids.{HasSides, HasGrownSides, IsWhole}
+use Rattle.report_lines.specs.Lines.{joiner_line, joiner_lines, report_lines}
 use Rattle.report_picture.specs.Reading.{Entry, Input, Grid, Grow, Final, Held, Blank}
 use Rattle.report_picture.specs.Reading.{line_of, text_of, IsReadable, MovedFits, PlacedFits, HeldFits, NumbersFit}
 use Rattle.report_picture.proofs.Folded.{grids_from, growths, helds_from, entries_behind, entries_of}
@@ -65,11 +66,11 @@ regroup a b c d e f = simp append_assoc
 -- the lines of a report are those of its entries
 pub report_text : (report : Report) → report_lines report ≡ text_of (entries_of report)
 report_text report =
-    let steps = report.steps.items in
-    let later = report.later.items in
-    let joiners = report.joiners.items in
+    let steps = report.steps in
+    let later = report.later in
+    let joiners = report.joiners in
     let last = final_line report.n report.m report.copies report.best in
-    let helds = helds_from 0 report.joiners.items in
+    let helds = helds_from 0 report.joiners in
     let behind = Final report.n report.m report.copies report.best ∷ helds in
     regroup (input_line report.x report.y) (grid_lines 0 steps) (growth_lines report.growth)
     (grid_lines (length steps) later) last (joiner_lines joiners)
@@ -130,13 +131,13 @@ helds_behind id (joiner ∷ joiners) small fit =
 
 -- each line of a whole report behind its first is such
 pub report_behind : (report : Report) → IsWhole report → NumbersFit report
-    → All IsBehind (entries_behind report.steps.items report.growth report.later.items report.n report.m report.copies
-    report.best report.joiners.items)
+    → All IsBehind (entries_behind report.steps report.growth report.later report.n report.m report.copies
+    report.best report.joiners)
 report_behind report whole fit =
     let grids = whole.grids in
-    let steps = report.steps.items in
-    let later = report.later.items in
-    let joiners = report.joiners.items in
+    let steps = report.steps in
+    let later = report.later in
+    let joiners = report.joiners in
     let last = Final report.n report.m report.copies report.best in
     let places : report.n * report.m ≤ 256 * 256 = mul-le-mul grids.n.1 grids.m.1 in
     All-append IsBehind (grids_from 0 steps)
@@ -153,7 +154,7 @@ report_behind report whole fit =
 pub report_readable : (report : Report) → IsWhole report → NumbersFit report → All IsReadable (entries_of report)
 report_readable report whole fit =
     let behind =
-    entries_behind report.steps.items report.growth report.later.items report.n report.m report.copies report.best
-    report.joiners.items in
+    entries_behind report.steps report.growth report.later report.n report.m report.copies report.best
+    report.joiners in
     All-cons IsReadable (Input report.x report.y) behind (fit.x, fit.y)
     (All-weaker IsBehind IsReadable behind_readable behind (report_behind report whole fit))

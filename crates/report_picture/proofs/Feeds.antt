@@ -3,7 +3,7 @@ use Rattle.std.proofs.Common.{◌≤◌, ℕ, List, subst, take}
 use Rattle.std.specs.Prelude.{◌==◌, cond}
 use Rattle.std.proofs.lemmas.List.{take-take}
 use Rattle.std.proofs.lemmas.List.Sums.{sum_by-take-le}
-use Rattle.report_picture.specs.Lines.{feeds_in}
+use Rattle.report_picture.specs.Texts.{feeds_in}
 
 -- a shorter front has no more of them
 pub feeds_more : (text : List ℕ) (before place : ℕ) → before ≤ place

@@ -1,19 +1,35 @@
 -- What the lines of a report give, one after the other.
-use Rattle.std.proofs.Common.{◌≡◌, ◌≤◌, ◌<◌, ◌+◌, ◌*◌, ◌^◌, ◌++◌, ℕ, List, [], ◌∷◌, Option, None, Some, All, refl}
+use Rattle.std.proofs.Common.{◌≡◌, ◌≤◌, ◌<◌, ◌+◌, ◌^◌, ◌++◌, ℕ, List, [], ◌∷◌, Option, None, Some, All, refl}
 use Rattle.std.proofs.Common.{sym}
 use Rattle.std.proofs.Common.{◌∙◌, ap, arith, cond, fold, map, length, append_assoc, append-nil, length-append}
 use Rattle.std.proofs.Common.{lt-ltb}
 use Rattle.std.specs.List.{enumerate_from}
 use Rattle.std.proofs.lemmas.List.Elements.{All-nil, All-cons, All-head, All-tail}
 use Rattle.std.proofs.lemmas.List.Sums.{fold_push, fold-append}
-use Rattle.report_picture.specs.declared.report.Step.{Step}
-use Rattle.report_picture.specs.declared.report.Growth.{Growth}
-use Rattle.report_picture.specs.declared.report.Joiner.{Joiner}
-use Rattle.report_picture.specs.declared.report.Report.{Report}
+use Rattle.report_lines.specs.declared.report.Step.{Step}
+use Rattle.report_lines.specs.declared.report.Growth.{Growth}
+use Rattle.report_lines.specs.declared.report.Joiner.{Joiner}
+use Rattle.report_lines.specs.declared.report.Report.{Report}
 use Rattle.report_picture.specs.Reading.{Entry, Input, Grid, Grow, Final, Held, Blank}
-use Rattle.report_picture.specs.Lines.{IsWhole}
-use Rattle.report_picture.specs.Reading.{Numbers, numbers_with, numbers_of, line_of, IsReadable, with_step, taken}
+use Rattle.report_lines.specs.Grids.{IsWhole}
+use Rattle.report_picture.specs.Reading.{line_of, IsReadable, with_step, taken}
 use Rattle.report_picture.specs.Reading.{nothing_yet}
+
+-- the report with these numbers
+abbrev pub report_with : (x y : ℕ) (steps : List Step) (growth : Option Growth) (later : List Step)
+    (n m copies best : ℕ) (joiners : List Joiner) → Report
+report_with x y steps growth later n m copies best joiners = record {
+  x = x;
+  y = y;
+  steps = steps;
+  growth = growth;
+  later = later;
+  n = n;
+  m = m;
+  copies = copies;
+  best = best;
+  joiners = joiners;
+}
 
 -- the entries of the steps behind so many
 abbrev pub grids_from : ℕ → List Step → List Entry
@@ -39,86 +55,78 @@ entries_behind steps growth later n m copies best joiners =
 abbrev pub entries_of : Report → List Entry
 entries_of report =
     Input report.x report.y
-    ∷ entries_behind report.steps.items report.growth report.later.items report.n report.m report.copies report.best
-    report.joiners.items
+    ∷ entries_behind report.steps report.growth report.later report.n report.m report.copies report.best
+    report.joiners
 
 step_more : (steps : List Step) (step : Step) → length steps < 2 ^ 16 → with_step steps step ≡ steps ++ step ∷ []
 step_more steps step few = ap (λ b. cond b (steps ++ step ∷ []) steps) (lt-ltb (length steps) (2 ^ 16) few)
 
-grids_taken : (put : List Step → Numbers)
+grids_taken : (put : List Step → Report)
     → ((front : List Step) (epoch : ℕ) (step : Step) → taken (put front) (Grid epoch step) ≡ put (with_step front step))
     → (before : ℕ) (front steps : List Step) → length front + length steps ≤ 2 ^ 16
     → fold taken (put front) (grids_from before steps) ≡ put (front ++ steps)
 grids_taken put takes before front [] few = ap put (sym (append-nil front))
 grids_taken put takes before front (step ∷ steps) few =
     let one = length-append front (step ∷ []) in
-    ap (λ numbers. fold taken numbers (grids_from (before + 1) steps))
+    ap (λ report. fold taken report (grids_from (before + 1) steps))
     (takes front (before + 1) step ∙ ap put (step_more front step (omega arith)))
     ∙ grids_taken put takes (before + 1) (front ++ step ∷ []) steps (omega (arith, one))
     ∙ ap put (append_assoc front (step ∷ []) steps)
 
-helds_taken : (put : List Joiner → Numbers)
+helds_taken : (put : List Joiner → Report)
     → ((front : List Joiner) (id : ℕ) (joiner : Joiner)
     → taken (put front) (Held id joiner) ≡ put (front ++ joiner ∷ []))
     → (id : ℕ) (front joiners : List Joiner)
     → fold taken (put front) (helds_from id joiners) ≡ put (front ++ joiners)
 helds_taken put takes id front [] = ap put (sym (append-nil front))
 helds_taken put takes id front (joiner ∷ joiners) =
-    ap (λ numbers. fold taken numbers (helds_from (id + 1) joiners)) (takes front id joiner)
+    ap (λ report. fold taken report (helds_from (id + 1) joiners)) (takes front id joiner)
     ∙ helds_taken put takes (id + 1) (front ++ joiner ∷ []) joiners
     ∙ ap put (append_assoc front (joiner ∷ []) joiners)
 
--- the lines of a report give its numbers
+-- the lines of a report give what it has
 pub all_taken : (x y : ℕ) (steps : List Step) (growth : Option Growth) (later : List Step) (n m copies best : ℕ)
     (joiners : List Joiner) → length steps ≤ 2 ^ 16 → length later ≤ 2 ^ 16 → (growth ≡ None → later ≡ [])
     → fold taken nothing_yet (Input x y ∷ entries_behind steps growth later n m copies best joiners)
-    ≡ numbers_with x y steps growth later n m copies best joiners
+    ≡ report_with x y steps growth later n m copies best joiners
 all_taken x y steps None later n m copies best joiners few few_later since =
     let nothing : later ≡ [] = since refl in
     let rest : List Step → List Entry =
     λ behind. grids_from (length steps) behind ++ (Final n m copies best ∷ helds_from 0 joiners) in
-    fold-append taken (numbers_with x y [] None [] 1 1 0 0 []) (grids_from 0 steps) (rest later)
-    ∙ ap (λ numbers. fold taken numbers (rest later))
-    (grids_taken (λ front. numbers_with x y front None [] 1 1 0 0 []) (λ front epoch step. refl) 0 [] steps
+    fold-append taken (report_with x y [] None [] 1 1 0 0 []) (grids_from 0 steps) (rest later)
+    ∙ ap (λ report. fold taken report (rest later))
+    (grids_taken (λ front. report_with x y front None [] 1 1 0 0 []) (λ front epoch step. refl) 0 [] steps
     (omega (arith, few)))
-    ∙ ap (λ behind. fold taken (numbers_with x y steps None [] 1 1 0 0 []) (rest behind)) nothing
-    ∙ helds_taken (λ front. numbers_with x y steps None [] n m copies best front) (λ front id joiner. refl) 0 [] joiners
-    ∙ ap (λ behind. numbers_with x y steps None behind n m copies best joiners) (sym nothing)
+    ∙ ap (λ behind. fold taken (report_with x y steps None [] 1 1 0 0 []) (rest behind)) nothing
+    ∙ helds_taken (λ front. report_with x y steps None [] n m copies best front) (λ front id joiner. refl) 0 [] joiners
+    ∙ ap (λ behind. report_with x y steps None behind n m copies best joiners) (sym nothing)
 all_taken x y steps (Some growth) later n m copies best joiners few few_later since =
     let last : List Entry = Final n m copies best ∷ helds_from 0 joiners in
     let rest : List Entry = Grow growth ∷ (grids_from (length steps) later ++ last) in
-    fold-append taken (numbers_with x y [] None [] 1 1 0 0 []) (grids_from 0 steps) rest
-    ∙ ap (λ numbers. fold taken numbers rest)
-    (grids_taken (λ front. numbers_with x y front None [] 1 1 0 0 []) (λ front epoch step. refl) 0 [] steps
+    fold-append taken (report_with x y [] None [] 1 1 0 0 []) (grids_from 0 steps) rest
+    ∙ ap (λ report. fold taken report rest)
+    (grids_taken (λ front. report_with x y front None [] 1 1 0 0 []) (λ front epoch step. refl) 0 [] steps
     (omega (arith, few)))
-    ∙ fold-append taken (numbers_with x y steps (Some growth) [] 1 1 0 0 []) (grids_from (length steps) later) last
-    ∙ ap (λ numbers. fold taken numbers last)
-    (grids_taken (λ front. numbers_with x y steps (Some growth) front 1 1 0 0 []) (λ front epoch step. refl)
+    ∙ fold-append taken (report_with x y steps (Some growth) [] 1 1 0 0 []) (grids_from (length steps) later) last
+    ∙ ap (λ report. fold taken report last)
+    (grids_taken (λ front. report_with x y steps (Some growth) front 1 1 0 0 []) (λ front epoch step. refl)
     (length steps) [] later (omega (arith, few_later)))
-    ∙ helds_taken (λ front. numbers_with x y steps (Some growth) later n m copies best front)
+    ∙ helds_taken (λ front. report_with x y steps (Some growth) later n m copies best front)
     (λ front id joiner. refl) 0 [] joiners
 
--- those of a whole report give what it has
-pub report_taken : (report : Report) → IsWhole report → fold taken nothing_yet (entries_of report) ≡ numbers_of report
+-- those of a whole report give it
+pub report_taken : (report : Report) → IsWhole report → fold taken nothing_yet (entries_of report) ≡ report
 report_taken report whole =
-    all_taken report.x report.y report.steps.items report.growth report.later.items report.n report.m report.copies
-    report.best report.joiners.items whole.grids.few whole.grids.few_later whole.grids.since
-
--- numbers that are those of another have as many joiners as their last grid where those have
-pub joiners_fit : (numbers wanted : Numbers) → numbers ≡ wanted → length wanted.joiners ≡ wanted.n * wanted.m
-    → length numbers.joiners ≡ numbers.n * numbers.m
-joiners_fit numbers wanted same fit =
-    let counted : Numbers → ℕ = λ k. length k.joiners in
-    let places : Numbers → ℕ = λ k. k.n * k.m in
-    ap counted same ∙ fit ∙ sym (ap places same)
+    all_taken report.x report.y report.steps report.growth report.later report.n report.m report.copies
+    report.best report.joiners whole.grids.few whole.grids.few_later whole.grids.since
 
 -- no line gives nothing more
-pub none_taken : (first : Numbers) (entries : List Entry) → [] ≡ map line_of entries → first ≡ fold taken first entries
+pub none_taken : (first : Report) (entries : List Entry) → [] ≡ map line_of entries → first ≡ fold taken first entries
 none_taken first [] none = refl
 none_taken first (entry ∷ entries) none = absurd (cc)
 
 -- a line that says nothing adds nothing
-pub blank_taken : (first : Numbers) (entries : List Entry)
+pub blank_taken : (first : Report) (entries : List Entry)
     → fold taken first (entries ++ Blank ∷ []) ≡ fold taken first entries
 blank_taken first entries = fold_push taken first entries Blank
 
@@ -166,7 +174,7 @@ last_parted (first ∷ lines) line (entry ∷ entries) fit same =
     (last_parted lines line entries (All-tail IsReadable entry entries fit) behind)
 
 -- what the lines so far gave, and one line more
-pub one_line_more : (first before after : Numbers) (lines : List (List ℕ)) (line : List ℕ)
+pub one_line_more : (first before after : Report) (lines : List (List ℕ)) (line : List ℕ)
     → ((entries : List Entry) → All IsReadable entries → lines ≡ map line_of entries
     → before ≡ fold taken first entries)
     → ((entry : Entry) → IsReadable entry → line ≡ line_of entry → after ≡ taken before entry)
@@ -175,6 +183,6 @@ pub one_line_more : (first before after : Numbers) (lines : List (List ℕ)) (li
 one_line_more first before after lines line so_far next entries fit same =
     let last = last_parted lines line entries fit same in
     next last.entry last.fits last.is
-    ∙ ap (λ numbers. taken numbers last.entry) (so_far last.front last.fit last.before)
+    ∙ ap (λ report. taken report last.entry) (so_far last.front last.fit last.before)
     ∙ sym (fold_push taken first last.front last.entry)
     ∙ ap (λ es. fold taken first es) (sym last.parted)

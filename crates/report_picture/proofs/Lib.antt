@@ -4,7 +4,6 @@ mod Feeds
 mod Folded
 mod Made
 mod Named
-mod Numbered
 mod Parted
 mod Quiet
 mod Starts

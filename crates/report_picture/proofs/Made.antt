@@ -1,14 +1,12 @@
 -- Steps, growths, joiners and reports that are made of numbers which are those wanted.
-use Rattle.std.proofs.Common.{◌≡◌, ◌-◌, ◌++◌, ◌∙◌, ℕ, List, Option, Some, None, Result, Ok, Err, OnOk, Bool, true}
+use Rattle.std.proofs.Common.{◌≡◌, ◌∙◌, ℕ, Option, Some, None, true}
 use Rattle.std.proofs.Common.{false}
-use Rattle.std.proofs.Common.{refl, ap, sym, arith, cond, is_some, length, take, replicate, append-nil, take_all}
+use Rattle.std.proofs.Common.{refl, ap, sym, is_some}
 use Rattle.std.proofs.lemmas.Bool.{false≢true}
-use Rattle.report_picture.specs.declared.report.Step.{Step}
-use Rattle.report_picture.specs.declared.report.Growth.{Growth}
-use Rattle.report_picture.specs.declared.report.Joiner.{Joiner}
-use Rattle.report_picture.specs.declared.report.Report.{Report}
-use Rattle.report_picture.specs.Lines.{input_line, grid_lines, growth_lines, final_line, joiner_lines, report_lines}
-use Rattle.report_picture.specs.Reading.{Numbers, numbers_of}
+use Rattle.report_lines.specs.declared.report.Step.{Step}
+use Rattle.report_lines.specs.declared.report.Growth.{Growth}
+use Rattle.report_lines.specs.declared.report.Joiner.{Joiner}
+use Rattle.report_lines.specs.declared.report.Report.{Report}
 use Rattle.report_picture.specs.Reading.{Input, Final, taken, with_step, with_grid_by}
 
 -- a step with the numbers of another is that one
@@ -40,52 +38,29 @@ same_joiner rows_r rows_s made wanted same_r same_s same_made =
     ap by_r same_r ∙ ap by_s same_s ∙ ap by_made same_made
 
 -- numbers of rows that are those wanted leave what these do
-pub same_input : (numbers : Numbers) (x y wanted_x wanted_y : ℕ) → x ≡ wanted_x → y ≡ wanted_y
-    → taken numbers (Input x y) ≡ taken numbers (Input wanted_x wanted_y)
-same_input numbers x y wanted_x wanted_y same_x same_y =
-    ap (λ k. taken numbers (Input k y)) same_x ∙ ap (λ k. taken numbers (Input wanted_x k)) same_y
+pub same_input : (report : Report) (x y wanted_x wanted_y : ℕ) → x ≡ wanted_x → y ≡ wanted_y
+    → taken report (Input x y) ≡ taken report (Input wanted_x wanted_y)
+same_input report x y wanted_x wanted_y same_x same_y =
+    ap (λ k. taken report (Input k y)) same_x ∙ ap (λ k. taken report (Input wanted_x k)) same_y
 
 -- and so do those of the last grid
-pub same_final : (numbers : Numbers) (n m copies best wanted_n wanted_m wanted_copies wanted_best : ℕ)
+pub same_final : (report : Report) (n m copies best wanted_n wanted_m wanted_copies wanted_best : ℕ)
     → n ≡ wanted_n → m ≡ wanted_m → copies ≡ wanted_copies → best ≡ wanted_best
-    → taken numbers (Final n m copies best) ≡ taken numbers (Final wanted_n wanted_m wanted_copies wanted_best)
-same_final numbers n m copies best wanted_n wanted_m wanted_copies wanted_best same_n same_m same_copies same_best =
-    ap (λ k. taken numbers (Final k m copies best)) same_n
-    ∙ ap (λ k. taken numbers (Final wanted_n k copies best)) same_m
-    ∙ ap (λ k. taken numbers (Final wanted_n wanted_m k best)) same_copies
-    ∙ ap (λ k. taken numbers (Final wanted_n wanted_m wanted_copies k)) same_best
+    → taken report (Final n m copies best) ≡ taken report (Final wanted_n wanted_m wanted_copies wanted_best)
+same_final report n m copies best wanted_n wanted_m wanted_copies wanted_best same_n same_m same_copies same_best =
+    ap (λ k. taken report (Final k m copies best)) same_n
+    ∙ ap (λ k. taken report (Final wanted_n k copies best)) same_m
+    ∙ ap (λ k. taken report (Final wanted_n wanted_m k best)) same_copies
+    ∙ ap (λ k. taken report (Final wanted_n wanted_m wanted_copies k)) same_best
 
 -- one step more behind a growth
-pub grid_behind : (growth : Option Growth) (numbers : Numbers) (step : Step) → is_some growth ≡ true
-    → with_grid_by growth numbers step ≡ record numbers { later = with_step numbers.later step }
-grid_behind None numbers step some = absurd (false≢true some)
-grid_behind (Some growth) numbers step some = refl
+pub grid_behind : (growth : Option Growth) (report : Report) (step : Step) → is_some growth ≡ true
+    → with_grid_by growth report step ≡ record report { later = with_step report.later step }
+grid_behind None report step some = absurd (false≢true some)
+grid_behind (Some growth) report step some = refl
 
 -- one step more where there was none
-pub grid_before : (growth : Option Growth) (numbers : Numbers) (step : Step) → is_some growth ≡ false
-    → with_grid_by growth numbers step ≡ record numbers { steps = with_step numbers.steps step }
-grid_before None numbers step none = refl
-grid_before (Some growth) numbers step none = absurd (false≢true (sym none))
-
--- joiners that are as many as they are to be stay as they are
-pub resized : (fits : Bool) (old new : List Joiner) (n len : ℕ) (joiner : Joiner) → length old ≡ n → len ≡ n
-    → new ≡ cond fits (take n old ++ replicate (n - len) joiner) old → new ≡ old
-resized false old new n len joiner long same is = is
-resized true old new n len joiner long same is =
-    let none : n - len ≡ 0 = omega (arith, same) in
-    is ∙ ap (λ k. take n old ++ replicate k joiner) none ∙ append-nil (take n old)
-    ∙ take_all n old (omega (arith, long))
-
--- what holds in any case holds where a call succeeds
-pub in_any_case : {T E P : Type 0} (r : Result T E) → P → OnOk r P
-in_any_case (Ok x) holds = holds
-in_any_case (Err e) holds = tt
-
--- two reports of the same numbers have the same lines
-pub same_lines : (report other : Report) → numbers_of report ≡ numbers_of other
-    → report_lines report ≡ report_lines other
-same_lines report other same =
-    let written : Numbers → List ℕ =
-    λ k. input_line k.x k.y ++ grid_lines 0 k.steps ++ growth_lines k.growth ++ grid_lines (length k.steps) k.later
-    ++ final_line k.n k.m k.copies k.best ++ joiner_lines k.joiners in
-    ap written same
+pub grid_before : (growth : Option Growth) (report : Report) (step : Step) → is_some growth ≡ false
+    → with_grid_by growth report step ≡ record report { steps = with_step report.steps step }
+grid_before None report step none = refl
+grid_before (Some growth) report step none = absurd (false≢true (sym none))

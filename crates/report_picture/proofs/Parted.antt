@@ -7,7 +7,8 @@ use Rattle.std.proofs.lemmas.Bool.{and_parts}
 use Rattle.std.proofs.lemmas.Fmt.{decimal_by_steps}
 use Rattle.std.proofs.lemmas.List.Elements.{All-nil, All-cons, All-push, All-append, All-weaker, All-head, All-tail}
 use Rattle.std.proofs.lemmas.List.Splits.{slice_split_none, slice_split_at}
-use Rattle.report_picture.specs.Lines.{IsSide, words_in}
+use Rattle.report_lines.specs.Grids.{IsSide}
+use Rattle.report_picture.specs.Texts.{words_in}
 use Rattle.report_picture.specs.Reading.{Entry, Input, Grid, Grow, Final, Held, Blank}
 use Rattle.report_picture.specs.Reading.{words_of, line_of, text_of, IsReadable}
 

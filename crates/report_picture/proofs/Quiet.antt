@@ -8,8 +8,10 @@ use Rattle.std.specs.List.{starts_with}
 use Rattle.std.proofs.lemmas.Bool.{false≢true, and_parts, cases_lt}
 use Rattle.std.proofs.lemmas.List.{get_or_at, get_or-append_right}
 use Rattle.std.proofs.lemmas.List.Elements.{All-head, All-tail}
-use Rattle.report_picture.specs.declared.report.Report.{Report}
-use Rattle.report_picture.specs.Lines.{AreLines, BeginsLine, MayBegin, IsWhole, EndsWithReport, report_lines}
+use Rattle.report_lines.specs.declared.report.Report.{Report}
+use Rattle.report_lines.specs.Grids.{IsWhole}
+use Rattle.report_lines.specs.Lines.{report_lines}
+use Rattle.report_picture.specs.Texts.{AreLines, BeginsLine, MayBegin, EndsWithReport}
 use Rattle.report_picture.specs.Reading.{Entry, Input, Grid, Grow, Final, Held, Blank, NumbersFit}
 use Rattle.report_picture.specs.Reading.{line_of, text_of, IsReadable}
 use Rattle.report_picture.proofs.Parted.{IsPlain, entry_plain}
@@ -112,8 +114,8 @@ pub begins_there : (text : List ℕ) (start : ℕ) (report : Report) → IsWhole
 begins_there text start report whole fit ends last found there =
     let before = ends.before in
     let entries =
-    entries_behind report.steps.items report.growth report.later.items report.n report.m report.copies report.best
-    report.joiners.items in
+    entries_behind report.steps report.growth report.later report.n report.m report.copies report.best
+    report.joiners in
     let whole_text : text ≡ before ++ text_of (entries_of report) =
     ends.joined ∙ ap (λ lines. before ++ lines) (report_text report) in
     let first : MayBegin text (length before) =

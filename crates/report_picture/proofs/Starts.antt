@@ -5,7 +5,7 @@ use Rattle.std.specs.Prelude.{nat_lt}
 use Rattle.std.specs.List.{starts_with}
 use Rattle.std.proofs.lemmas.Bool.{false≢true, cases_eq, cases_lt, ltb-true, ltb-false, cond_both}
 use Rattle.std.proofs.lemmas.List.{get_or-drop, length-drop}
-use Rattle.report_picture.specs.Lines.{BeginsLine, MayBegin}
+use Rattle.report_picture.specs.Texts.{BeginsLine, MayBegin}
 
 -- a line begins behind the feed that ends one
 pub behind_line : (text rest : List ℕ) (place len : ℕ) → rest ≡ drop place text

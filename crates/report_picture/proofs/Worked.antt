@@ -1,7 +1,7 @@
 -- Worked examples of where a report may begin, and of shades, ratios and bars, by computation.
 use Rattle.std.proofs.Common.{◌≡◌, refl, arith}
 use Rattle.std.specs.Prelude.{codes}
-use Rattle.report_picture.specs.Lines.{BeginsLine, MayBegin}
+use Rattle.report_picture.specs.Texts.{BeginsLine, MayBegin}
 use Rattle.report_picture.specs.Drawing.{hundredths_of, bar_of}
 
 -- behind a line that ends

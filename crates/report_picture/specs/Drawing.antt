@@ -1,13 +1,14 @@
 -- The picture of a report, an SVG. What isn't the report's own in it is a total, a ratio, a place, a width or a shade.
 use Rattle.std.specs.Prelude.{◌+◌, ◌-◌, ◌*◌, ◌/◌, ◌%◌, ◌==◌, ◌++◌, ℕ, List, flat_map, length, min, max}
-use Rattle.std.specs.Prelude.{[], Bool, ◌||◌, not, Option, None, Some, is_some, option_map, unwrap_or, nat_le, nat_lt, if◌then◌else◌, codes}
+use Rattle.std.specs.Prelude.{[], Bool, ◌||◌, not, Option, None, Some, is_some, option_map, unwrap_or, nat_le, nat_lt}
+use Rattle.std.specs.Prelude.{if◌then◌else◌, codes}
 use Rattle.std.specs.List.{enumerate_from}
 use Rattle.std.specs.Fmt.{decimal}
 use Rattle.report_picture.specs.Totals.{held_by, most_held, all_rows_r, all_rows_s, all_made}
-use Rattle.report_picture.specs.declared.report.Step.{Step}
-use Rattle.report_picture.specs.declared.report.Growth.{Growth}
-use Rattle.report_picture.specs.declared.report.Joiner.{Joiner}
-use Rattle.report_picture.specs.declared.report.Report.{Report}
+use Rattle.report_lines.specs.declared.report.Step.{Step}
+use Rattle.report_lines.specs.declared.report.Growth.{Growth}
+use Rattle.report_lines.specs.declared.report.Joiner.{Joiner}
+use Rattle.report_lines.specs.declared.report.Report.{Report}
 
 -- the size of the picture, and what all its elements share
 unfoldable pub head_of : ℕ → ℕ → List ℕ
@@ -30,7 +31,7 @@ counts_of x y made steps =
 
 -- how many changes of the grid there were in all, before a growth and since
 abbrev pub changes_of : Report → ℕ
-changes_of report = length report.steps.items + length report.later.items
+changes_of report = length report.steps + length report.later
 
 -- a growth in words
 unfoldable pub grown_words_of : Growth → List ℕ
@@ -66,7 +67,7 @@ hundredths_of copies best = if best == 0 then 100 else (copies * 100 + best / 2)
 abbrev pub words_of : Report → List ℕ
 words_of report =
     name_of (report.n * report.m)
-    ++ counts_of report.x report.y (all_made report.joiners.items) (changes_of report)
+    ++ counts_of report.x report.y (all_made report.joiners) (changes_of report)
     ++ growth_words_of report.growth ++ shape_of report.n report.m ++ ratio_of (hundredths_of report.copies report.best)
     ++ ground
 
@@ -112,7 +113,7 @@ first_joiners report =
 
 -- whether the grid has changed or grown
 abbrev pub is_changed : Report → Bool
-is_changed report = is_some report.growth || not (length report.steps.items == 0)
+is_changed report = is_some report.growth || not (length report.steps == 0)
 
 -- the columns of the first grid, which is the last where it never changed
 abbrev pub first_columns : Report → ℕ
@@ -182,8 +183,8 @@ growth_of place (Some growth) = grown_of place growth
 -- the grids behind the first: those of the steps, of the growth, and of the steps since, one place further behind
 abbrev pub grids_of : Report → List ℕ
 grids_of report =
-    steps_of 0 0 report.steps.items ++ growth_of (length report.steps.items + 1) report.growth
-    ++ steps_of 1 (length report.steps.items) report.later.items
+    steps_of 0 0 report.steps ++ growth_of (length report.steps + 1) report.growth
+    ++ steps_of 1 (length report.steps) report.later
 
 -- the load
 unfoldable pub load_name_of : ℕ → List ℕ
@@ -280,6 +281,6 @@ height_of report = 416 + 72 * report.n
 abbrev pub picture_of : Report → List ℕ
 picture_of report =
     head_of (width_of report) (height_of report) ++ words_of report
-    ++ title_of report.x report.y (all_made report.joiners.items)
+    ++ title_of report.x report.y (all_made report.joiners)
     ++ first_of report ++ grids_of report ++ load_of report.copies report.best
-    ++ field_of report.n report.m report.joiners.items ++ codes "</svg>\n"
+    ++ field_of report.n report.m report.joiners ++ codes "</svg>\n"

@@ -1,4 +1,4 @@
 pub mod Drawing
-pub mod Lines
 pub mod Reading
+pub mod Texts
 pub mod Totals

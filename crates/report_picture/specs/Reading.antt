@@ -3,46 +3,11 @@ use Rattle.std.specs.Prelude.{◌<◌, ◌^◌, ◌++◌, ℕ, All, List, [], �
 use Rattle.std.specs.Prelude.{cond, nat_lt, length, codes, flat_map}
 use Rattle.std.specs.List.{join_with_byte}
 use Rattle.std.specs.Fmt.{decimal}
-use Rattle.report_picture.specs.declared.report.Step.{Step}
-use Rattle.report_picture.specs.declared.report.Growth.{Growth}
-use Rattle.report_picture.specs.declared.report.Joiner.{Joiner}
-use Rattle.report_picture.specs.declared.report.Report.{Report}
-use Rattle.report_picture.specs.Lines.{IsSide, HasSides, HasGrownSides}
-
--- the numbers of a report
-pub record Numbers : Type 0 where
-  pub x : ℕ
-  pub y : ℕ
-  pub steps : List Step
-  pub growth : Option Growth
-  pub later : List Step
-  pub n : ℕ
-  pub m : ℕ
-  pub copies : ℕ
-  pub best : ℕ
-  pub joiners : List Joiner
-
--- these numbers
-abbrev pub numbers_with : (x y : ℕ) (steps : List Step) (growth : Option Growth) (later : List Step)
-    (n m copies best : ℕ) (joiners : List Joiner) → Numbers
-numbers_with x y steps growth later n m copies best joiners = record {
-  x = x;
-  y = y;
-  steps = steps;
-  growth = growth;
-  later = later;
-  n = n;
-  m = m;
-  copies = copies;
-  best = best;
-  joiners = joiners;
-}
-
--- those of this report
-abbrev pub numbers_of : Report → Numbers
-numbers_of report =
-    numbers_with report.x report.y report.steps.items report.growth report.later.items report.n report.m report.copies
-    report.best report.joiners.items
+use Rattle.report_lines.specs.declared.report.Step.{Step}
+use Rattle.report_lines.specs.declared.report.Growth.{Growth}
+use Rattle.report_lines.specs.declared.report.Joiner.{Joiner}
+use Rattle.report_lines.specs.declared.report.Report.{Report}
+use Rattle.report_lines.specs.Grids.{IsSide, HasSides, HasGrownSides}
 
 -- a step's number of rows fits 64 bits
 abbrev pub MovedFits : Step → Type 0
@@ -60,12 +25,12 @@ HeldFits joiner = (joiner.rows_r < 2 ^ 64) × (joiner.rows_s < 2 ^ 64) × (joine
 pub record NumbersFit (report : Report) : Type 0 where
   pub x : report.x < 2 ^ 64
   pub y : report.y < 2 ^ 64
-  pub steps : All MovedFits report.steps.items
+  pub steps : All MovedFits report.steps
   pub growth : IfSome report.growth PlacedFits
-  pub later : All MovedFits report.later.items
+  pub later : All MovedFits report.later
   pub copies : report.copies < 2 ^ 64
   pub best : report.best < 2 ^ 64
-  pub joiners : All HeldFits report.joiners.items
+  pub joiners : All HeldFits report.joiners
 
 -- what a line says: the numbers of rows, the grid of an epoch, a growth, the last grid, what the joiner of an id holds
 -- and made, or nothing
@@ -113,23 +78,34 @@ abbrev pub with_step : List Step → Step → List Step
 with_step steps step = cond (nat_lt (length steps) (2 ^ 16)) (steps ++ step ∷ []) steps
 
 -- a step stands before the growth as long as there was none, and else behind it
-abbrev pub with_grid_by : Option Growth → Numbers → Step → Numbers
-with_grid_by None numbers step = record numbers { steps = with_step numbers.steps step }
-with_grid_by (Some growth) numbers step = record numbers { later = with_step numbers.later step }
+abbrev pub with_grid_by : Option Growth → Report → Step → Report
+with_grid_by None report step = record report { steps = with_step report.steps step }
+with_grid_by (Some growth) report step = record report { later = with_step report.later step }
 
 -- the grid of one more step
-abbrev pub with_grid : Numbers → Step → Numbers
-with_grid numbers step = with_grid_by numbers.growth numbers step
+abbrev pub with_grid : Report → Step → Report
+with_grid report step = with_grid_by report.growth report step
 
 -- what a reader begins with
-abbrev pub nothing_yet : Numbers
-nothing_yet = numbers_with 0 0 [] None [] 1 1 0 0 []
+abbrev pub nothing_yet : Report
+nothing_yet = record {
+  x = 0;
+  y = 0;
+  steps = [];
+  growth = None;
+  later = [];
+  n = 1;
+  m = 1;
+  copies = 0;
+  best = 0;
+  joiners = [];
+}
 
 -- what a line adds
-abbrev pub taken : Numbers → Entry → Numbers
-taken numbers (Input x y) = record numbers { x = x; y = y }
-taken numbers (Grid epoch step) = with_grid numbers step
-taken numbers (Grow growth) = record numbers { growth = Some growth }
-taken numbers (Final n m copies best) = record numbers { n = n; m = m; copies = copies; best = best }
-taken numbers (Held id joiner) = record numbers { joiners = numbers.joiners ++ joiner ∷ [] }
-taken numbers Blank = numbers
+abbrev pub taken : Report → Entry → Report
+taken report (Input x y) = record report { x = x; y = y }
+taken report (Grid epoch step) = with_grid report step
+taken report (Grow growth) = record report { growth = Some growth }
+taken report (Final n m copies best) = record report { n = n; m = m; copies = copies; best = best }
+taken report (Held id joiner) = record report { joiners = report.joiners ++ joiner ∷ [] }
+taken report Blank = report

@@ -1,12 +1,12 @@
 // The last grid's joiners.
 
 ghost use Rattle.std.specs.Prelude.{◌≡◌, ◌<◌, ◌≤◌, ◌*◌, ◌^◌, ◌++◌, length, OnOk, string_bytes};
-ghost use Rattle.report_picture.specs.Lines.{IsSide};
+ghost use Rattle.report_lines.specs.Grids.{IsSide};
 ghost use Rattle.report_picture.specs.Drawing as drawing;
 ghost use Rattle.report_picture.specs.Totals as of;
 
-use crate::report::Joiner;
 use crate::totals::{Totals, held};
+use report_lines::Joiner;
 use std::alloc::AllocError;
 
 fn write_last(

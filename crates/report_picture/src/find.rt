@@ -1,7 +1,7 @@
 // Where a report begins in a text, whether it ends there, and which line a place is in.
 
 ghost use Rattle.std.specs.Prelude.{◌≡◌, ◌≢◌, ◌≤◌, ◌<◌, ◌+◌, ◌⊎◌, ℕ, IsTrue, drop, get_or, length, take};
-ghost use Rattle.report_picture.specs.Lines.{AreLines, BeginsLine, EndsWith, MayBegin, feeds_in};
+ghost use Rattle.report_picture.specs.Texts.{AreLines, BeginsLine, EndsWith, MayBegin, feeds_in};
 
 // How many bytes a line has without its line feed.
 fn line_len(text: &[u8]) -> usize

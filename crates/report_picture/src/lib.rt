@@ -5,16 +5,13 @@ mod error;
 mod field;
 mod find;
 mod life;
-mod lines;
 mod load;
 mod nearest;
 mod read;
-mod report;
 mod svg;
 mod totals;
 mod words;
 
 pub use error::ReportError;
 pub use read::read_report;
-pub use report::{Growth, Joiner, Report, Step};
 pub use svg::picture;

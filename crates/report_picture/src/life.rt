@@ -1,10 +1,10 @@
 // The grid's life: its first shape, and that behind each step.
 
 ghost use Rattle.std.specs.Prelude.{◌≡◌, ◌≤◌, ◌<◌, ◌*◌, ◌/◌, ◌^◌, ◌++◌, All, length, IfSome, OnOk, string_bytes};
-ghost use Rattle.report_picture.specs.Lines.{HasGrownSides, HasSides, IsWhole};
+ghost use Rattle.report_lines.specs.Grids.{HasGrownSides, HasSides, IsWhole};
 ghost use Rattle.report_picture.specs.Drawing as drawing;
 
-use crate::report::{Growth, Report, Step};
+use report_lines::{Growth, Report, Step};
 use std::alloc::AllocError;
 
 // How wide or high each of so many cells of a square is.
@@ -215,8 +215,8 @@ pub(crate) fn write_grids(text: &mut String, report: &Report) -> Result<(), Allo
     ensures { OnOk result
         (string_bytes text.new ≡ string_bytes text.old ++ drawing.grids_of report.now) }
 {
-    let steps = report.steps.len() as u64;
-    write_steps(text, 0, 0, &report.steps)?;
+    let steps = report.steps.len();
+    write_steps(text, 0, 0, report.steps.as_slice())?;
     write_growth(text, steps + 1, report.growth)?;
-    write_steps(text, 1, steps, &report.later)
+    write_steps(text, 1, steps, report.later.as_slice())
 }

@@ -4,19 +4,21 @@
 ghost use Rattle.std.specs.Prelude.{◌≡◌, ◌≤◌, ◌<◌, ◌*◌, ◌^◌, ℕ, [], All, List, IfOk, OnOk, Some, fold};
 ghost use Rattle.std.specs.Prelude.{length, slice_get, unwrap_or};
 ghost use Rattle.std.specs.Fmt.{decimal};
-ghost use Rattle.report_picture.specs.declared.report.Growth.{Growth as TheGrowth};
-ghost use Rattle.report_picture.specs.declared.report.Joiner.{Joiner as TheJoiner};
-ghost use Rattle.report_picture.specs.declared.report.Report.{Report as TheReport};
-ghost use Rattle.report_picture.specs.declared.report.Step.{Step as TheStep};
-ghost use Rattle.report_picture.specs.Lines.{HasGrids, HasGrownSides, HasSides, IsSide, IsWhole};
-ghost use Rattle.report_picture.specs.Lines.{report_lines, words_in};
+ghost use Rattle.report_lines.specs.declared.report.Growth.{Growth as TheGrowth};
+ghost use Rattle.report_lines.specs.declared.report.Joiner.{Joiner as TheJoiner};
+ghost use Rattle.report_lines.specs.declared.report.Report.{Report as TheReport};
+ghost use Rattle.report_lines.specs.declared.report.Step.{Step as TheStep};
+ghost use Rattle.report_lines.specs.Grids.{HasGrids, HasGrownSides, HasSides, IsSide, IsWhole};
+ghost use Rattle.report_lines.specs.Lines.{report_lines};
+ghost use Rattle.report_picture.specs.Texts.{words_in};
 ghost use Rattle.report_picture.specs.Reading.{Entry, Final, Grid, Grow, Held, Input, IsReadable, NumbersFit};
-ghost use Rattle.report_picture.specs.Reading.{line_of, nothing_yet as blank, numbers_of, taken, text_of};
+ghost use Rattle.report_picture.specs.Reading.{line_of, nothing_yet as blank, taken, text_of};
 ghost use Rattle.report_picture.specs.Reading.{with_grid, with_step, words_of};
 
-use crate::report::{Growth, Joiner, Report, Step};
+use join_rows::Items;
+use report_lines::{Growth, Joiner, Joiners, Report, Step, Steps};
 use std::alloc::{AllocError, Global};
-use std::str;
+use std::{mem, str};
 
 // A word of a line, the words parted by spaces; the empty one where there is none.
 fn word(line: &[u8], place: usize) -> &[u8]
@@ -92,15 +94,15 @@ fn read_joiner(line: &[u8]) -> Joiner
 }
 
 // As many steps as a report has at most, and as many since a growth.
-const MOST_STEPS: usize = 65536;
+const MOST_STEPS: u64 = 65536;
 
-fn push_step(steps: &mut Vec<Step>, step: Step) -> Result<(), AllocError>
-    requires few { length steps.old.items ≤ 2 ^ 16 }
-    requires sides { All HasSides steps.old.items }
+fn push_step(steps: &mut Steps, step: Step) -> Result<(), AllocError>
+    requires few { length steps.old ≤ 2 ^ 16 }
+    requires sides { All HasSides steps.old }
     requires step { HasSides step }
-    ensures few { length steps.new.items ≤ 2 ^ 16 }
-    ensures sides { All HasSides steps.new.items }
-    ensures exact { OnOk result (steps.new.items ≡ with_step steps.old.items step) }
+    ensures few { length steps.new ≤ 2 ^ 16 }
+    ensures sides { All HasSides steps.new }
+    ensures exact { OnOk result (steps.new ≡ with_step steps.old step) }
 {
     if steps.len() < MOST_STEPS {
         steps.push(step)?;
@@ -112,7 +114,7 @@ fn take_input(report: &mut Report, line: &[u8])
     requires { HasGrids report.old }
     ensures grids { HasGrids report.new }
     ensures exact { (x y : ℕ) → IsReadable (Input x y) → words_in line.now ≡ words_of (Input x y)
-        → numbers_of report.new ≡ taken (numbers_of report.old) (Input x y) }
+        → report.new ≡ taken report.old (Input x y) }
 {
     let x = number(line, 1);
     let y = number(line, 2);
@@ -124,7 +126,7 @@ fn take_grid(report: &mut Report, step: Step) -> Result<(), AllocError>
     requires grids { HasGrids report.old }
     requires step { HasSides step }
     ensures grids { HasGrids report.new }
-    ensures exact { OnOk result (numbers_of report.new ≡ with_grid (numbers_of report.old) step) }
+    ensures exact { OnOk result (report.new ≡ with_grid report.old step) }
 {
     if report.growth.is_some() {
         push_step(&mut report.later, step)
@@ -137,7 +139,7 @@ fn take_growth(report: &mut Report, growth: Growth)
     requires grids { HasGrids report.old }
     requires growth { HasGrownSides growth }
     ensures grids { HasGrids report.new }
-    ensures exact { numbers_of report.new ≡ taken (numbers_of report.old) (Grow growth) }
+    ensures exact { report.new ≡ taken report.old (Grow growth) }
 {
     report.growth = Some(growth);
 }
@@ -147,7 +149,7 @@ fn take_final(report: &mut Report, line: &[u8])
     ensures grids { HasGrids report.new }
     ensures exact { (n m copies best : ℕ) → IsReadable (Final n m copies best)
         → words_in line.now ≡ words_of (Final n m copies best)
-        → numbers_of report.new ≡ taken (numbers_of report.old) (Final n m copies best) }
+        → report.new ≡ taken report.old (Final n m copies best) }
 {
     let n = side(line, 1);
     let m = side(line, 2);
@@ -162,8 +164,7 @@ fn take_final(report: &mut Report, line: &[u8])
 fn take_joiner(report: &mut Report, joiner: Joiner) -> Result<(), AllocError>
     requires { HasGrids report.old }
     ensures grids { HasGrids report.new }
-    ensures exact { (id : ℕ)
-        → OnOk result (numbers_of report.new ≡ taken (numbers_of report.old) (Held id joiner)) }
+    ensures exact { (id : ℕ) → OnOk result (report.new ≡ taken report.old (Held id joiner)) }
 {
     report.joiners.push(joiner)?;
     Ok(())
@@ -173,7 +174,7 @@ fn take_line(report: &mut Report, line: &[u8]) -> Result<(), AllocError>
     requires { HasGrids report.old }
     ensures grids { HasGrids report.new }
     ensures exact { (entry : Entry) → IsReadable entry → line.now ≡ line_of entry
-        → OnOk result (numbers_of report.new ≡ taken (numbers_of report.old) entry) }
+        → OnOk result (report.new ≡ taken report.old entry) }
 {
     if line.starts_with(b"input ") {
         take_input(report, line);
@@ -197,7 +198,7 @@ fn take_lines(report: &mut Report, text: &[u8]) -> Result<(), AllocError>
     requires { HasGrids report.old }
     ensures grids { HasGrids report.new }
     ensures exact { (entries : List Entry) → All IsReadable entries → text.now ≡ text_of entries
-        → OnOk result (numbers_of report.new ≡ fold taken (numbers_of report.old) entries) }
+        → OnOk result (report.new ≡ fold taken report.old entries) }
 {
     for line in text.split(|byte| *byte == b'\n') {
         take_line(report, line)?;
@@ -205,38 +206,50 @@ fn take_lines(report: &mut Report, text: &[u8]) -> Result<(), AllocError>
     Ok(())
 }
 
-// As many joiners as the last grid has: what is too much goes, what is missing holds nothing.
-fn fit_joiners(report: &mut Report) -> Result<(), AllocError>
-    requires { HasGrids report.old }
-    ensures whole { OnOk result (IsWhole report.new) }
-    ensures same { length report.old.joiners.items ≡ report.old.n * report.old.m
-        → OnOk result (numbers_of report.new ≡ numbers_of report.old) }
+// So many of the joiners: what is too much goes, what is missing holds nothing.
+fn so_many(joiners: Joiners, places: usize) -> Result<Joiners, AllocError>
+    ensures many { IfOk result (λ fitted. length fitted ≡ places) }
+    ensures same { length joiners ≡ places → IfOk result (λ fitted. fitted ≡ joiners) }
 {
     let nothing = Joiner {
         rows_r: 0,
         rows_s: 0,
         made: 0,
     };
-    let joiners = (report.n * report.m) as usize;
-    report.joiners.resize(joiners, nothing)
+    let mut held = joiners.into_vec();
+    held.resize(places, nothing)?;
+    Ok(Items::from_vec(held))
+}
+
+// As many joiners as the last grid has.
+fn fit_joiners(report: &mut Report) -> Result<(), AllocError>
+    requires { HasGrids report.old }
+    ensures whole { OnOk result (IsWhole report.new) }
+    ensures same { length report.old.joiners ≡ report.old.n * report.old.m
+        → OnOk result (report.new ≡ report.old) }
+{
+    let none = Items::new(report.joiners.allocator());
+    let joiners = mem::replace(&mut report.joiners, none);
+    report.joiners = so_many(joiners, (report.n * report.m) as usize)?;
+    Ok(())
 }
 
 // What a reader begins with.
 fn nothing_yet(alloc: Global) -> Report
     ensures grids { HasGrids result }
-    ensures nothing { numbers_of result ≡ blank }
+    ensures nothing { result ≡ blank }
 {
     Report {
         x: 0,
         y: 0,
-        steps: Vec::new(alloc),
+        steps: Items::new(alloc),
         growth: None,
-        later: Vec::new(alloc),
+        later: Items::new(alloc),
         n: 1,
         m: 1,
         copies: 0,
         best: 0,
-        joiners: Vec::new(alloc),
+        joiners: Items::new(alloc),
     }
 }
 
@@ -244,7 +257,7 @@ fn nothing_yet(alloc: Global) -> Report
 pub(crate) fn nearest(alloc: Global, text: &[u8]) -> Result<Report, AllocError>
     ensures whole { IfOk result IsWhole }
     ensures exact { (wanted : TheReport) → IsWhole wanted → NumbersFit wanted
-        → text.now ≡ report_lines wanted → IfOk result (λ read. numbers_of read ≡ numbers_of wanted) }
+        → text.now ≡ report_lines wanted → IfOk result (λ read. read ≡ wanted) }
 {
     let mut report = nothing_yet(alloc);
     take_lines(&mut report, text)?;

@@ -1,16 +1,16 @@
 // A report's numbers, read back from its text: the text of the report that it comes nearest to is compared with it.
 
 ghost use Rattle.std.specs.Prelude.{◌≡◌, ◌≢◌, ◌≤◌, ◌<◌, ◌+◌, ℕ, Err, IfOk, take};
-ghost use Rattle.report_picture.specs.declared.report.Report.{Report as TheReport};
-ghost use Rattle.report_picture.specs.Lines.{EndsWithReport, IsWhole, MayBegin, feeds_in};
-ghost use Rattle.report_picture.specs.Reading.{NumbersFit, numbers_of};
+ghost use Rattle.report_lines.specs.declared.report.Report.{Report as TheReport};
+ghost use Rattle.report_lines.specs.Grids.{IsWhole};
+ghost use Rattle.report_picture.specs.Texts.{EndsWithReport, MayBegin, feeds_in};
+ghost use Rattle.report_picture.specs.Reading.{NumbersFit};
 ghost use Rattle.report_picture.specs.declared.error.ReportError.TheVariants.{Line};
 
 use crate::error::ReportError;
 use crate::find::{alike, ends_with, line_at, report_start};
-use crate::lines::lines_text;
 use crate::nearest::nearest;
-use crate::report::Report;
+use report_lines::Report;
 use std::alloc::Global;
 
 /// The report that a text ends with. Lines before it are passed over: it begins at the last line
@@ -27,12 +27,12 @@ pub fn read_report(alloc: Global, text: &[u8]) -> Result<Report, ReportError>
     ensures complete { (report : TheReport) (line : ℕ) → IsWhole report → NumbersFit report
         → EndsWithReport text.now report → result ≢ Err (Line line) }
     ensures same { (report : TheReport) → IsWhole report → NumbersFit report
-        → EndsWithReport text.now report → IfOk result (λ read. numbers_of read ≡ numbers_of report) }
+        → EndsWithReport text.now report → IfOk result (λ read. read ≡ report) }
 {
     let start = report_start(text);
     let rest = &text[start..];
     let report = nearest(alloc, rest)?;
-    let wanted = lines_text(alloc, &report)?;
+    let wanted = report.text(alloc)?;
     if ends_with(text, start, wanted.as_bytes()) {
         return Ok(report);
     }

@@ -1,15 +1,15 @@
 // The picture of a report.
 
 ghost use Rattle.std.specs.Prelude.{◌≡◌, ◌≤◌, ◌^◌, ◌++◌, IfOk, OnOk, string_bytes};
-ghost use Rattle.report_picture.specs.Lines.{IsSide, IsWhole};
+ghost use Rattle.report_lines.specs.Grids.{IsSide, IsWhole};
 ghost use Rattle.report_picture.specs.Drawing as drawing;
 
 use crate::field::write_field;
 use crate::life::{write_first, write_grids};
 use crate::load::write_load;
-use crate::report::Report;
 use crate::totals::sum_up;
 use crate::words::{changes, write_words};
+use report_lines::Report;
 use std::alloc::{AllocError, Global};
 
 fn write_head(text: &mut String, width: u64, height: u64) -> Result<(), AllocError>
@@ -68,14 +68,20 @@ pub fn picture(alloc: Global, report: &Report) -> Result<String, AllocError>
     ensures { IfOk result (λ text. string_bytes text ≡ drawing.picture_of report.now) }
 {
     let mut text = String::new(alloc);
-    let all = sum_up(&report.joiners);
+    let all = sum_up(report.joiners.as_slice());
     write_head(&mut text, width(report), height(report))?;
     write_words(&mut text, report, all.made)?;
     write_title(&mut text, report.x, report.y, all.made)?;
     write_first(&mut text, report)?;
     write_grids(&mut text, report)?;
     write_load(&mut text, report.copies, report.best)?;
-    write_field(&mut text, report.n, report.m, &report.joiners, all)?;
+    write_field(
+        &mut text,
+        report.n,
+        report.m,
+        report.joiners.as_slice(),
+        all,
+    )?;
     text.push_str("</svg>\n")?;
     Ok(text)
 }

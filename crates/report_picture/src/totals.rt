@@ -3,7 +3,7 @@
 ghost use Rattle.std.specs.Prelude.{◌≡◌, ◌≤◌, ◌+◌, ◌^◌, length};
 ghost use Rattle.report_picture.specs.Totals as of;
 
-use crate::report::Joiner;
+use report_lines::Joiner;
 
 /// The rows and the pairs of all joiners, and the most rows that one joiner holds.
 #[derive(Clone, Copy)]

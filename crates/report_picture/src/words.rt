@@ -1,12 +1,12 @@
 // The picture in words, for those who don't see it.
 
 ghost use Rattle.std.specs.Prelude.{◌≡◌, ◌≤◌, ◌^◌, ◌++◌, OnOk, string_bytes};
-ghost use Rattle.report_picture.specs.Lines.{IsWhole};
+ghost use Rattle.report_lines.specs.Grids.{IsWhole};
 ghost use Rattle.report_picture.specs.Drawing as drawing;
 ghost use Rattle.report_picture.specs.Totals as of;
 
 use crate::load::{hundredths, write_ratio};
-use crate::report::{Growth, Report};
+use report_lines::{Growth, Report};
 use std::alloc::AllocError;
 
 fn write_name(text: &mut String, joiners: u64) -> Result<(), AllocError>
@@ -32,7 +32,7 @@ pub(crate) fn changes(report: &Report) -> u64
     ensures changes { result ≡ drawing.changes_of report.now }
     ensures few { result ≤ 2 ^ 17 }
 {
-    report.steps.len() as u64 + report.later.len() as u64
+    report.steps.len() + report.later.len()
 }
 
 fn write_grown(text: &mut String, growth: Growth) -> Result<(), AllocError>
@@ -75,7 +75,7 @@ fn write_ground(text: &mut String) -> Result<(), AllocError>
 /// Adds the picture in words, and a white ground.
 pub(crate) fn write_words(text: &mut String, report: &Report, made: u128) -> Result<(), AllocError>
     requires whole { IsWhole report.now }
-    requires made { made ≡ of.all_made report.now.joiners.items }
+    requires made { made ≡ of.all_made report.now.joiners }
     ensures { OnOk result
         (string_bytes text.new ≡ string_bytes text.old ++ drawing.words_of report.now) }
 {

@@ -1,7 +1,7 @@
 use Rattle.std.proofs.Common.{string_bytes, arith}
 use Rattle.std.proofs.lemmas.Option.{slice_get-get_or}
 use Rattle.report_picture.specs.Drawing.{joiner_of}
-use Rattle.report_picture.proofs.Numbered.{lines_more}
+use Rattle.report_lines.proofs.Numbered.{lines_more}
 use Rattle.report_picture.proofs.field.write_joiners.Goals as goal
 
 pub loop-id-preserved : goal.loop-id-preserved

@@ -1,5 +1,5 @@
 use Rattle.std.proofs.Common.{◌≤◌, ◌<◌, ◌-◌, ℕ, length}
-use Rattle.report_picture.specs.Lines.{BeginsLine, MayBegin}
+use Rattle.report_picture.specs.Texts.{BeginsLine, MayBegin}
 use Rattle.report_picture.proofs.find.report_start.Given as goal
 
 abbrev pub invariant-loop-place : goal.invariant-loop-place

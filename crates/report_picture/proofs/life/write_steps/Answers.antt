@@ -1,7 +1,7 @@
 use Rattle.std.proofs.Common.{◌+◌, string_bytes, arith}
 use Rattle.std.proofs.lemmas.Option.{slice_get-get_or}
 use Rattle.report_picture.specs.Drawing.{step_of}
-use Rattle.report_picture.proofs.Numbered.{lines_more_from}
+use Rattle.report_lines.proofs.Numbered.{lines_more_from}
 use Rattle.report_picture.proofs.life.write_steps.Goals as goal
 
 pub loop-index-preserved : goal.loop-index-preserved

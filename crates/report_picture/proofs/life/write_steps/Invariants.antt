@@ -1,7 +1,7 @@
 use Rattle.std.proofs.Common.{◌≡◌, ◌+◌, ◌++◌, take}
 use Rattle.std.specs.Prelude.{string_bytes}
 use Rattle.report_picture.specs.Drawing.{step_of}
-use Rattle.report_picture.proofs.Numbered.{lines_from}
+use Rattle.report_lines.proofs.Numbered.{lines_from}
 use Rattle.report_picture.proofs.life.write_steps.Given as goal
 
 abbrev pub invariant-loop-index : goal.invariant-loop-index

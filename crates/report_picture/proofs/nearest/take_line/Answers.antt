@@ -1,10 +1,11 @@
 use Rattle.std.proofs.Common.{◌≡◌, ◌∙◌, OnOk, ap, codes, true}
 use Rattle.std.proofs.lemmas.Result.{on_ok_weaker}
-use Rattle.report_picture.specs.declared.report.Step.{Step}
-use Rattle.report_picture.specs.declared.report.Growth.{Growth}
-use Rattle.report_picture.specs.declared.report.Joiner.{Joiner}
-use Rattle.report_picture.specs.Lines.{words_in}
-use Rattle.report_picture.specs.Reading.{Numbers, Grow, Held, IsReadable, numbers_of, taken, with_grid, words_of}
+use Rattle.report_lines.specs.declared.report.Report.{Report}
+use Rattle.report_lines.specs.declared.report.Step.{Step}
+use Rattle.report_lines.specs.declared.report.Growth.{Growth}
+use Rattle.report_lines.specs.declared.report.Joiner.{Joiner}
+use Rattle.report_picture.specs.Texts.{words_in}
+use Rattle.report_picture.specs.Reading.{Grow, Held, IsReadable, taken, with_grid, words_of}
 use Rattle.report_picture.proofs.Named.{on_input, on_grid, on_grow, on_final, on_joiner, tested}
 use Rattle.report_picture.proofs.Parted.{entry_words}
 use Rattle.report_picture.proofs.nearest.take_line.Goals as goal
@@ -13,16 +14,16 @@ pub returns-then-starts_with-clause-exact : goal.returns-then-starts_with-clause
 returns-then-starts_with-clause-exact c entry fits is =
     on_input
     (λ e. IsReadable e → words_in c.args.line.now ≡ words_of e
-    → numbers_of c.take_input.new.report ≡ taken (numbers_of c.args.report.now) e)
+    → c.take_input.new.report ≡ taken c.args.report.now e)
     entry (tested c.args.line.now (codes "input ") entry _ true is c.starts_with.ensures.value c.if-starts_with.true)
     c.take_input.ensures.exact fits (entry_words entry c.args.line.now fits is)
 
 pub returns-then-starts_with-2-clause-exact : goal.returns-then-starts_with-2-clause-exact
 returns-then-starts_with-2-clause-exact c entry fits is =
-    let put : Step → Numbers = λ step. with_grid (numbers_of c.args.report.now) step in
+    let put : Step → Report = λ step. with_grid c.args.report.now step in
     on_grid
     (λ e. IsReadable e → words_in c.args.line.now ≡ words_of e
-    → OnOk c.take_grid.result (numbers_of c.take_grid.new.report ≡ taken (numbers_of c.args.report.now) e))
+    → OnOk c.take_grid.result (c.take_grid.new.report ≡ taken c.args.report.now e))
     entry
     (tested c.args.line.now (codes "grid ") entry _ true is c.starts_with-else-starts_with.ensures.value
     c.if-starts_with-2.true)
@@ -33,10 +34,10 @@ returns-then-starts_with-2-clause-exact c entry fits is =
 
 pub returns-then-starts_with-3-clause-exact : goal.returns-then-starts_with-3-clause-exact
 returns-then-starts_with-3-clause-exact c entry fits is =
-    let put : Growth → Numbers = λ growth. taken (numbers_of c.args.report.now) (Grow growth) in
+    let put : Growth → Report = λ growth. taken c.args.report.now (Grow growth) in
     on_grow
     (λ e. IsReadable e → words_in c.args.line.now ≡ words_of e
-    → numbers_of c.take_growth.new.report ≡ taken (numbers_of c.args.report.now) e)
+    → c.take_growth.new.report ≡ taken c.args.report.now e)
     entry
     (tested c.args.line.now (codes "grow ") entry _ true is c.starts_with-else-starts_with-2.ensures.value
     c.if-starts_with-3.true)
@@ -47,7 +48,7 @@ pub returns-then-starts_with-4-clause-exact : goal.returns-then-starts_with-4-cl
 returns-then-starts_with-4-clause-exact c entry fits is =
     on_final
     (λ e. IsReadable e → words_in c.args.line.now ≡ words_of e
-    → numbers_of c.take_final.new.report ≡ taken (numbers_of c.args.report.now) e)
+    → c.take_final.new.report ≡ taken c.args.report.now e)
     entry
     (tested c.args.line.now (codes "final ") entry _ true is c.starts_with-else-starts_with-3.ensures.value
     c.if-starts_with-4.true)
@@ -57,12 +58,12 @@ pub returns-then-starts_with-5-clause-exact : goal.returns-then-starts_with-5-cl
 returns-then-starts_with-5-clause-exact c entry fits is =
     on_joiner
     (λ e. IsReadable e → words_in c.args.line.now ≡ words_of e
-    → OnOk c.take_joiner.result (numbers_of c.take_joiner.new.report ≡ taken (numbers_of c.args.report.now) e))
+    → OnOk c.take_joiner.result (c.take_joiner.new.report ≡ taken c.args.report.now e))
     entry
     (tested c.args.line.now (codes "joiner ") entry _ true is c.starts_with-else-starts_with-4.ensures.value
     c.if-starts_with-5.true)
     (λ id joiner fit words.
-    let put : Joiner → Numbers = λ held. taken (numbers_of c.args.report.now) (Held id held) in
+    let put : Joiner → Report = λ held. taken c.args.report.now (Held id held) in
     on_ok_weaker c.take_joiner.result (λ more. more ∙ ap put (c.read_joiner.ensures id joiner fit words))
     (c.take_joiner.ensures.exact id))
     fits (entry_words entry c.args.line.now fits is)

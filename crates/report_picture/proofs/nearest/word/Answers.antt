@@ -2,7 +2,7 @@ use Rattle.std.proofs.Common.{◌≡◌, ◌∙◌, sym, ap, rules, tests, [], s
 use Rattle.std.specs.Prelude.{◌==◌, option_map}
 use Rattle.std.proofs.lemmas.Iterator.Consumers.{nth_from_yields_List}
 use Rattle.std.proofs.lemmas.Iterator.Splits.{YieldsList-from_slice_split}
-use Rattle.report_picture.specs.Lines.{words_in}
+use Rattle.report_picture.specs.Texts.{words_in}
 use Rattle.report_picture.proofs.nearest.word.Goals as goal
 
 pub returns-in_default : goal.returns-in_default

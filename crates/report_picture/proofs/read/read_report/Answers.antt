@@ -1,8 +1,8 @@
-use Rattle.std.proofs.Common.{◌≡◌, ◌≤◌, ◌+◌, ◌∙◌, sym, length, arith}
+use Rattle.std.proofs.Common.{◌≡◌, ◌≤◌, ◌+◌, ◌∙◌, ap, sym, length, arith}
 use Rattle.std.proofs.lemmas.Bool.{false≢true}
 use Rattle.std.proofs.lemmas.Slice.{between_to_end}
+use Rattle.report_lines.specs.Lines.{report_lines}
 use Rattle.report_picture.proofs.Feeds.{feeds_more}
-use Rattle.report_picture.proofs.Made.{same_lines}
 use Rattle.report_picture.proofs.Quiet.{begins_there}
 use Rattle.report_picture.proofs.read.read_report.Goals as goal
 
@@ -24,7 +24,7 @@ returns-clause-complete c report line whole fit ends refused =
     let rest =
     between_to_end c.args.text.now c.report_start-start.result (length c.args.text.now) (omega arith) ∙ there.rest in
     let same = c.in_ok-report.ensures.exact report whole fit rest in
-    let lines = c.as_bytes.ensures.value ∙ c.in_ok-wanted.ensures ∙ same_lines c.in_ok-report.report report same in
+    let lines = c.as_bytes.ensures.value ∙ c.in_ok-wanted.ensures ∙ ap report_lines same in
     false≢true (sym c.if-ends_with.false ∙ c.ends_with.ensures.found there.line (there.rest ∙ sym lines))
 
 pub returns-then-ends_with-clause-same : goal.returns-then-ends_with-clause-same

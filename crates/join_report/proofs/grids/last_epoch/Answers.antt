@@ -1,7 +1,7 @@
 use Rattle.std.proofs.Common.{◌∙◌, take, ap, ◌+◌}
 use Rattle.load_controller.specs.Journal.{last_epoch}
 use Rattle.join_report.proofs.Journals.{read_at}
-use Rattle.join_report.proofs.report.last_epoch.Goals as goal
+use Rattle.join_report.proofs.grids.last_epoch.Goals as goal
 
 pub loop-line-preserved : goal.loop-line-preserved
 loop-line-preserved c =
