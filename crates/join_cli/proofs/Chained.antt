@@ -14,8 +14,7 @@ use Rattle.load_controller.specs.declared.line.TurnLine.{TurnLine}
 use Rattle.chain_join.specs.declared.chain.ChainRun.{ChainRun}
 use Rattle.chain_join.specs.declared.second.Third.{Third as ChainThird}
 use Rattle.chain_join.specs.Chains.{IsToldOf, joined_row, nested3, second_input}
-use Rattle.join_words.specs.Words.{Asked}
-use Rattle.join_words.specs.declared.options.Chain.{Chain}
+use Rattle.join_words.specs.Words.{Asked, chain_of}
 use Rattle.join_plan.specs.declared.fitting.Planned.{Planned}
 use Rattle.join_plan.specs.declared.fitting.Third.{Third}
 use Rattle.join_plan.specs.Plan.{IsFit, IsThirdFit}
@@ -25,15 +24,12 @@ use Rattle.join_plan.specs.declared.fault.LimitFault.TheVariants.{Between, TooLo
 use Rattle.join_cli.specs.Chain.{IsChainOver, IsStopped, IsThirdOver, bare_text, chain_text, third_of, triple_lines}
 use Rattle.join_cli.specs.Courses.{by_chain}
 use Rattle.join_cli.specs.Ends.{IsHalted, IsMade}
+use Rattle.join_cli.specs.Tasks.{IsTaskOf}
+use Rattle.join_cli.specs.declared.task.Task.{Task}
 use Rattle.join_cli.specs.Plan.{bare_report_of, input_of, report_asked, setting_of}
 use Rattle.join_cli.proofs.Inputs.{journal_over}
+use Rattle.join_cli.proofs.Made.{made_in_chain}
 use Rattle.join_cli.proofs.Reports.{report_is}
-
--- where there is no third table no second join is asked for
-pub none_asked : (third : Option Third) (chain : Option Chain) → third ≡ None → is_some third ≡ is_some chain
-    → chain ≡ None
-none_asked third None none same = refl
-none_asked third (Some chain) none same = cc (sym (ap is_some none) ∙ same)
 
 -- a third table that fits the tables fits their input
 pub third_over : (seed : ℕ) (planned : Planned) (input : Input) → input ≡ input_of seed planned → IsFit planned
@@ -105,26 +101,28 @@ module _ (input : Input) (third : ChainThird) (seed : ℕ) (setting : Setting) (
 
 -- ---- what is asked for
 
--- the output over a chain's runs is the one that is asked for
-pub chain_made : (asked : Asked) (planned : Planned) (input : Input) (setting : Setting) (third : Third) (text : List ℕ)
-    (first second : List TurnLine) (trail : List EndsView)
-    → input ≡ input_of asked.seed planned → setting ≡ setting_of asked → planned.third ≡ Some third
-    → IsChainOver input (third_of third) asked.seed setting first second trail
-    → text ≡ chain_text asked.report input (third_of third) asked.seed setting first second
-    → IsMade asked planned text (Some (by_chain first second trail))
-chain_made asked planned input setting third text first second trail input_is setting_is third_is over text_is = (
-  record {
-    third = third;
-    chained = third_is;
-    over = subst (λ i. IsChainOver i (third_of third) asked.seed (setting_of asked) first second trail) input_is
-        (subst (λ s. IsChainOver input (third_of third) asked.seed s first second trail) setting_is over);
-  },
-  text_is
-      ∙ ap (λ i. chain_text asked.report i (third_of third) asked.seed setting first second) input_is
-      ∙ ap (λ s. chain_text asked.report (input_of asked.seed planned) (third_of third) asked.seed s first second)
-      setting_is
-      ∙ rw third_is refl,
-)
+module _ (asked : Asked) (planned : Planned) (task : Task) (third : Third) (first second : List TurnLine) where
+  -- the output over a chain's runs is the one that is asked for
+  pub chain_made : (text : List ℕ) (trail : List EndsView) → is_some (chain_of asked.kind) ≡ true
+      → task.input.now ≡ input_of asked.seed planned → IsTaskOf asked task → planned.third ≡ Some third
+      → IsChainOver task.input.now (third_of third) asked.seed task.setting.now first second trail
+      → text ≡ chain_text asked.report task.input.now (third_of third) asked.seed task.setting.now first second
+      → IsMade asked planned text (Some (by_chain first second trail))
+  chain_made text trail is input_is of third_is over text_is =
+      made_in_chain asked planned text (Some (by_chain first second trail)) is (λ grid chain. (
+        record {
+          third = third;
+          chained = third_is;
+          over = subst (λ i. IsChainOver i (third_of third) asked.seed (setting_of asked) first second trail) input_is
+              (subst (λ s. IsChainOver task.input.now (third_of third) asked.seed s first second trail) of.setting
+              over);
+        },
+        text_is
+            ∙ ap (λ i. chain_text asked.report i (third_of third) asked.seed task.setting.now first second) input_is
+            ∙ ap (λ s. chain_text asked.report (input_of asked.seed planned) (third_of third) asked.seed s first second)
+            of.setting
+            ∙ rw third_is refl,
+      ))
 
 -- and why there is none is so of what is asked for
 pub chain_halted : (asked : Asked) (planned : Planned) (input : Input) (third : Third) (outcome : Outcome)

@@ -1,13 +1,10 @@
 -- A run of well-formed files ends well.
-use Rattle.std.proofs.Common.{◌≡◌, ◌∙◌, ◌⊎◌, ◌+◌, ◌≤◌, ◌<◌, ◌^◌, inl, inr, ℕ, List, [], ◌∷◌, Option, None, Some, Result}
-use Rattle.std.proofs.Common.{Ok}
-use Rattle.std.proofs.Common.{Err, refl, sym, ap, subst, length, arith}
-use Rattle.std.specs.Prelude.{IfSome, is_some, true, false}
+use Rattle.std.proofs.Common.{◌≡◌, ◌⊎◌, ◌+◌, ◌≤◌, ◌<◌, ◌^◌, inl, inr, ℕ, List, Option, None, Some, Result, Ok, Err}
+use Rattle.std.proofs.Common.{ap, arith, length, refl, subst}
+use Rattle.std.specs.Prelude.{IfSome, is_some, true}
 use Rattle.join_rows.specs.Shelves.{Told}
 use Rattle.trace_law.specs.Join.{nested_loop}
-use Rattle.load_controller.specs.declared.line.TurnLine.{TurnLine}
-use Rattle.join_runtime.specs.Endings.{EndsView}
-use Rattle.join_words.specs.Words.{Asked, AskedWave}
+use Rattle.join_words.specs.Words.{Asked, is_early}
 use Rattle.join_plan.specs.declared.fault.LimitFault.TheVariants.{Between, TooLong, TooMany, Total}
 use Rattle.join_plan.specs.declared.fault.Refusal.{Refusal}
 use Rattle.join_plan.specs.declared.fault.Refusal.TheVariants as refusals
@@ -18,12 +15,12 @@ use Rattle.join_plan.proofs.Readings.{one_plan}
 use Rattle.join_cli.specs.declared.outcome.Outcome.{Outcome}
 use Rattle.join_cli.specs.declared.outcome.Outcome.TheVariants as outcomes
 use Rattle.join_cli.specs.Chain.{IsFewBetween}
-use Rattle.join_cli.specs.Courses.{Course, WentInWaves, WentSo, by_chain, by_groups, by_rings, by_run}
-use Rattle.join_cli.specs.Courses.{output_in_waves, output_over}
+use Rattle.join_cli.specs.Courses.{Course}
 use Rattle.join_cli.specs.Ends.{Concludes, ConcludesBy, EndsAs, IsDone, IsEndOf, IsHalted, IsMade, IsSomeCourse}
 use Rattle.join_cli.specs.Ends.{TakesEach, Wrote, WroteFront, WroteSoFar, course_of}
 use Rattle.join_cli.specs.Outcomes.{outcome_of}
 use Rattle.join_cli.specs.Plan.{input_of}
+use Rattle.join_cli.proofs.EarlyOutput.{nothing_written}
 use Rattle.join_cli.proofs.Seen.{no_plan}
 
 -- a plan that was carried out has an end of it, unless a put failed or memory ran out
@@ -137,33 +134,13 @@ complete_made asked files made planned found is = elim found [
   | inr of ↦ cc (one_plan asked files (Ok made) (Ok planned) of is)
 ]
 
--- a sink that takes each output takes the one over a run in one wave or in several
-takes_in_waves : (takes : ℕ → Type 0) (asked : Asked) (planned : Planned) (journal : List TurnLine)
-    (trail : List EndsView) (later : List AskedWave) → asked.later ≡ later
-    → WentInWaves later asked planned journal trail
-    → TakesEach takes asked planned → takes (length (output_in_waves later asked planned journal))
-takes_in_waves takes asked planned journal trail [] once course each =
-    each.each once course.single course.whole journal course.lawful
-takes_in_waves takes asked planned journal trail (wave ∷ later) some are each =
-    each.waves (λ none. cc (sym some ∙ none)) journal trail are
-
--- and the one over how any run went
-takes_over : (takes : ℕ → Type 0) (asked : Asked) (planned : Planned) (way : Course) → WentSo asked planned way
-    → TakesEach takes asked planned → takes (length (output_over asked planned way))
-takes_over takes asked planned (by_run journal trail) course each =
-    takes_in_waves takes asked planned journal trail asked.later refl course each
-takes_over takes asked planned (by_groups journals trail) course each = each.groups journals trail course
-takes_over takes asked planned (by_chain first second trail) course each = each.chain first second trail course
-takes_over takes asked planned (by_rings journal ends back) course each =
-    each.each course.once course.single course.whole journal course.lawful
-
--- and so the bytes that were made
+-- a sink that takes each output takes the bytes that were made
 pub takes_made : (takes : ℕ → Type 0) (asked : Asked) (planned : Planned) (bytes : List ℕ) (way : Option Course)
     → IsMade asked planned bytes way → TakesEach takes asked planned → takes (length bytes + 0)
 takes_made takes asked planned bytes None made each = absurd made
 takes_made takes asked planned bytes (Some way) made each =
     let none : length bytes ≡ length bytes + 0 = omega arith in
-    subst takes none (subst takes (ap length (sym made.1)) (takes_over takes asked planned way made.0 each))
+    subst takes none (each.each way bytes made.0 made.1)
 
 -- where a text was made it is done
 pub made_done : (asked : Asked) (planned : Planned) (bytes : List ℕ) (way : Option Course)
@@ -175,23 +152,23 @@ made_done asked planned bytes (Some way) made = tt
 
 -- nothing is written then, and the plan ends so
 pub halted_concludes : (asked : Asked) (planned : Planned) (written : Option (List ℕ)) (outcome : Outcome)
-    → asked.early ≡ false
     → IsHalted asked planned outcome → Concludes asked planned written written outcome
-halted_concludes asked planned written outcomes.Memory whole halted = rw whole refl
-halted_concludes asked planned written (outcomes.Limit (Between pairs)) whole halted = (halted, refl)
-halted_concludes asked planned written (outcomes.Limit (TooLong side wave)) whole halted = elim halted [ ]
-halted_concludes asked planned written (outcomes.Limit (TooMany side wave)) whole halted = elim halted [ ]
-halted_concludes asked planned written (outcomes.Limit (Total side wave rows)) whole halted = elim halted [ ]
-halted_concludes asked planned written (outcomes.Done _ _) whole halted = elim halted [ ]
-halted_concludes asked planned written (outcomes.DoneGroups _ _) whole halted = elim halted [ ]
-halted_concludes asked planned written (outcomes.DoneChain _ _ _) whole halted = elim halted [ ]
-halted_concludes asked planned written (outcomes.DoneRings _ _ _) whole halted = elim halted [ ]
-halted_concludes asked planned written (outcomes.Words _) whole halted = elim halted [ ]
-halted_concludes asked planned written (outcomes.Predicate _) whole halted = elim halted [ ]
-halted_concludes asked planned written (outcomes.Then _) whole halted = elim halted [ ]
-halted_concludes asked planned written (outcomes.Input _) whole halted = elim halted [ ]
-halted_concludes asked planned written outcomes.Read whole halted = elim halted [ ]
-halted_concludes asked planned written outcomes.Write whole halted = elim halted [ ]
+halted_concludes asked planned written outcomes.Memory halted =
+    nothing_written (is_early asked.kind) asked planned written
+halted_concludes asked planned written (outcomes.Limit (Between pairs)) halted = (halted, refl)
+halted_concludes asked planned written (outcomes.Limit (TooLong side wave)) halted = elim halted [ ]
+halted_concludes asked planned written (outcomes.Limit (TooMany side wave)) halted = elim halted [ ]
+halted_concludes asked planned written (outcomes.Limit (Total side wave rows)) halted = elim halted [ ]
+halted_concludes asked planned written (outcomes.Done _ _) halted = elim halted [ ]
+halted_concludes asked planned written (outcomes.DoneGroups _ _) halted = elim halted [ ]
+halted_concludes asked planned written (outcomes.DoneChain _ _ _) halted = elim halted [ ]
+halted_concludes asked planned written (outcomes.DoneRings _ _ _) halted = elim halted [ ]
+halted_concludes asked planned written (outcomes.Words _) halted = elim halted [ ]
+halted_concludes asked planned written (outcomes.Predicate _) halted = elim halted [ ]
+halted_concludes asked planned written (outcomes.Then _) halted = elim halted [ ]
+halted_concludes asked planned written (outcomes.Input _) halted = elim halted [ ]
+halted_concludes asked planned written outcomes.Read halted = elim halted [ ]
+halted_concludes asked planned written outcomes.Write halted = elim halted [ ]
 
 -- it isn't for a put
 pub halted_no_write : (asked : Asked) (planned : Planned) (outcome : Outcome) → IsHalted asked planned outcome

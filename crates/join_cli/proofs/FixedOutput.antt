@@ -18,7 +18,7 @@ use Rattle.trace_law.specs.Runs.{StaysAt, load_over, made_over, moved_over}
 use Rattle.report_lines.specs.declared.report.Step.{Step}
 use Rattle.report_lines.specs.Lines.{report_lines}
 use Rattle.join_report.specs.Report.{first_shift, joiners_told, steps_told, told_at}
-use Rattle.join_words.specs.Words.{Asked}
+use Rattle.join_words.specs.Words.{Asked, grid_of}
 use Rattle.join_plan.specs.declared.fitting.Planned.{Planned}
 use Rattle.join_cli.specs.Plan.{IsJournalOf, answer_of, input_of, output_of, report_over, setting_of, text_of}
 
@@ -109,7 +109,8 @@ text_stays asked input setting b journal fixed stays none =
     (report_stays input setting b journal (each_shift setting b journal fixed stays) none)
 
 -- with a fixed shift two such journals have one output
-pub one_output : (asked : Asked) (planned : Planned) (shift : ℕ) (one other : List TurnLine) → asked.fixed ≡ Some shift
+pub one_output : (asked : Asked) (planned : Planned) (shift : ℕ) (one other : List TurnLine)
+    → (grid_of asked.kind).fixed ≡ Some shift
     → IsJournalOf asked planned one → IsJournalOf asked planned other
     → output_of asked planned one ≡ output_of asked planned other
 one_output asked planned shift one other fixed is_one is_other =

@@ -1,13 +1,11 @@
 -- What was run and made of several waves with a growth is what is asked for.
-use Rattle.std.proofs.Common.{◌≡◌, ◌∙◌, ℕ, Bool, true, false, List, [], ◌∷◌, ◌++◌, None, drop, refl, sym, ap, ap₂}
+use Rattle.std.proofs.Common.{◌≡◌, ◌∙◌, ℕ, Bool, true, false, List, ◌++◌, None, Option, drop, sym, ap, ap₂}
 use Rattle.std.proofs.Common.{subst, take}
 use Rattle.std.proofs.lemmas.Grind.{flat_map-append}
 use Rattle.std.specs.Prelude.{flat_map}
 use Rattle.join_rows.specs.declared.table.Side.TheVariants.{R, S}
 use Rattle.epoch_tags.specs.declared.tuple.Pair.{Pair}
-use Rattle.load_controller.specs.declared.line.TurnLine.{TurnLine}
 use Rattle.trace_law.specs.declared.input.Input.{Input}
-use Rattle.trace_law.specs.declared.run.Run.{Run}
 use Rattle.trace_law.specs.declared.setting.Setting.{Setting}
 use Rattle.trace_law.specs.Family.{first_rest}
 use Rattle.trace_law.specs.Join.{row_count}
@@ -20,11 +18,13 @@ use Rattle.join_words.specs.Words.{Asked}
 use Rattle.join_plan.specs.declared.waves.WaveEnd.{WaveEnd}
 use Rattle.join_plan.specs.declared.fitting.Planned.{Planned}
 use Rattle.join_cli.specs.declared.growth.Grown.{Grown}
+use Rattle.join_cli.specs.declared.task.Task.{Task}
 use Rattle.join_cli.specs.Grown.{AreGrownWavesOf, WentGrown, bare_grown_report_of, grown_from, grown_output_of}
 use Rattle.join_cli.specs.Grown.{grown_text, grown_waves_report, waves_since}
 use Rattle.join_cli.specs.GrownSteps.{AreGrownWaves}
 use Rattle.join_cli.specs.Journals.{waves_in}
-use Rattle.join_cli.specs.Plan.{input_of, setting_of}
+use Rattle.join_cli.specs.Plan.{input_of}
+use Rattle.join_cli.specs.Tasks.{IsTaskOf}
 use Rattle.join_cli.specs.WaveTexts.{lines_of, run_of_waves}
 use Rattle.join_cli.specs.Waves.{WentThrough, no_rows, waves_pairs}
 use Rattle.join_cli.proofs.GrownFacts.{early_journals, later_journals}
@@ -36,83 +36,77 @@ lines_of_both false input pairs more = sym (flat_map-append pair_line pairs more
 lines_of_both true input pairs more =
     sym (flat_map-append (row_line input.table_r.rows input.table_s.rows) pairs more)
 
--- they went through the waves of the journal, with the growth
-went_grown : (asked : Asked) (input : Input) (setting : Setting) (wave : ℕ) (ends : List WaveEnd) (grown : Grown)
-    → IsValidSetting setting → (are : AreGrownWaves asked.replay input setting wave ends grown)
-    → WentGrown asked.replay input setting wave ends (waves_in (grown.before.journal ++ grown.since.journal))
-    are.first.trails are.trails
-went_grown asked input setting wave ends grown of_setting are =
-    let early = early_journals asked.replay input setting wave ends grown of_setting are in
-    let later = later_journals asked.replay input setting wave ends grown of_setting are in
-    record {
-      up_to = subst (λ js. WentThrough asked.replay input setting (first_rest setting) (take wave ends) js
-          are.first.trails) (sym early) are.first.went;
-      grown = are.rest;
-      line_is = are.from ∙ are.line_is ∙ ap (grown_from setting) (sym early);
-      stands = are.stands;
-      onward = subst (λ js. WentThrough asked.replay input (grown_setting setting) are.rest (drop wave ends) js
-          are.trails) (sym later) are.onward;
-    }
+module _ (number : Option ℕ) (input : Input) (setting : Setting) (wave : ℕ) (ends : List WaveEnd) (grown : Grown)
+    (of_setting : IsValidSetting setting) (are : AreGrownWaves number input setting wave ends grown) where
+  abbrev early : take wave (waves_in (grown.before.journal ++ grown.since.journal)) ≡ are.first.journals
+  early = early_journals number input setting wave ends grown of_setting are
 
--- the text over both is that over their journals
-grown_text_is : (asked : Asked) (input : Input) (setting : Setting) (wave : ℕ) (ends : List WaveEnd) (grown : Grown)
-    (text : List ℕ) → IsValidSetting setting → AreGrownWaves asked.replay input setting wave ends grown
-    → text ≡ (lines_of asked.rows input grown.before.pairs ++ lines_of asked.rows input grown.since.pairs)
-    ++ bare_grown_report_of asked.report setting (row_count input R) (row_count input S) grown.before grown.line
-    grown.since
-    → text ≡ grown_text asked input setting wave ends (waves_in (grown.before.journal ++ grown.since.journal))
-grown_text_is asked input setting wave ends grown text of_setting are is =
-    let x = row_count input R in
-    let y = row_count input S in
-    let early = early_journals asked.replay input setting wave ends grown of_setting are in
-    let later = later_journals asked.replay input setting wave ends grown of_setting are in
-    let pairs = lines_of asked.rows input (waves_pairs input no_rows ends) in
-    let first = run_of_waves input setting (take wave ends) are.first.journals in
-    let rows : lines_of asked.rows input grown.before.pairs ++ lines_of asked.rows input grown.since.pairs ≡ pairs =
-    lines_of_both asked.rows input grown.before.pairs grown.since.pairs ∙ ap (lines_of asked.rows input) are.pairs in
-    is
-    ∙ ap (λ ls. ls ++ bare_grown_report_of asked.report setting x y grown.before grown.line grown.since) rows
-    ∙ ap (λ r. pairs ++ bare_grown_report_of asked.report setting x y r grown.line grown.since) are.first.run_is
-    ∙ ap (λ r. pairs ++ bare_grown_report_of asked.report setting x y first grown.line r) are.since_is
-    ∙ ap (λ l. pairs ++ bare_grown_report_of asked.report setting x y first l
-    (waves_since input setting l (drop wave ends) are.journals)) are.line_is
-    ∙ ap₂ (λ js more. pairs ++ grown_waves_report asked.report input setting (take wave ends) js (drop wave ends) more)
-    (sym early) (sym later)
+  abbrev later : drop wave (waves_in (grown.before.journal ++ grown.since.journal)) ≡ are.journals
+  later = later_journals number input setting wave ends grown of_setting are
 
--- so they are the waves of what was asked for, and the text is their output
-pub grown_are_asked : (asked : Asked) (planned : Planned) (input : Input) (setting : Setting) (wave : ℕ)
-    (ends : List WaveEnd) (grown : Grown) (text : List ℕ)
-    → input ≡ input_of asked.seed planned → setting ≡ setting_of asked → planned.ends ≡ ends
-    → asked.groups ≡ None → asked.chain ≡ None → asked.rings ≡ false → asked.fixed ≡ None → IsValidSetting setting
-    → AreGrownWaves asked.replay input setting wave ends grown
-    → text ≡ (lines_of asked.rows input grown.before.pairs ++ lines_of asked.rows input grown.since.pairs)
-    ++ bare_grown_report_of asked.report setting (row_count input R) (row_count input S) grown.before grown.line
-    grown.since
-    → AreGrownWavesOf wave asked planned (grown.before.journal ++ grown.since.journal) grown.trail
-    × (text ≡ grown_output_of wave asked planned (grown.before.journal ++ grown.since.journal))
-grown_are_asked asked planned input setting wave ends grown text input_is setting_is ends_is single whole queued free
-    of_setting are is =
-    let went = went_grown asked input setting wave ends grown of_setting are in
-    let own = input_of asked.seed planned in
-    let journals = waves_in (grown.before.journal ++ grown.since.journal) in (
-      record {
-        single = single;
-        whole = whole;
-        queued = queued;
-        free = free;
-        before = are.first.trails;
-        since = are.trails;
-        trail_is = are.trail_is ∙ ap (λ t. t ++ flat_map (λ left. left) are.trails) are.first.trail_is
-            ∙ sym (flat_map-append (λ (left : List EndsView). left) are.first.trails are.trails);
-        went =
-            subst (λ es. WentGrown asked.replay own (setting_of asked) wave es journals are.first.trails are.trails)
-            (sym ends_is)
-            (subst (λ s. WentGrown asked.replay own s wave ends journals are.first.trails are.trails) setting_is
-            (subst (λ i. WentGrown asked.replay i setting wave ends journals are.first.trails are.trails) input_is
-            went));
-      },
-      grown_text_is asked input setting wave ends grown text of_setting are is
-          ∙ ap (λ i. grown_text asked i setting wave ends journals) input_is
-          ∙ ap (λ s. grown_text asked own s wave ends journals) setting_is
-          ∙ ap (λ es. grown_text asked own (setting_of asked) wave es journals) (sym ends_is),
-    )
+  -- they went through the waves of the journal, with the growth
+  went_grown : WentGrown number input setting wave ends (waves_in (grown.before.journal ++ grown.since.journal))
+      are.first.trails are.trails
+  went_grown = record {
+    up_to = subst (λ js. WentThrough number input setting (first_rest setting) (take wave ends) js are.first.trails)
+        (sym early) are.first.went;
+    grown = are.rest;
+    line_is = are.from ∙ are.line_is ∙ ap (grown_from setting) (sym early);
+    stands = are.stands;
+    onward = subst (λ js. WentThrough number input (grown_setting setting) are.rest (drop wave ends) js are.trails)
+        (sym later) are.onward;
+  }
+
+  -- the text over both is that over their journals
+  grown_text_is : (asked : Asked) (text : List ℕ)
+      → text ≡ (lines_of asked.rows input grown.before.pairs ++ lines_of asked.rows input grown.since.pairs)
+      ++ bare_grown_report_of asked.report setting (row_count input R) (row_count input S) grown.before grown.line
+      grown.since
+      → text ≡ grown_text asked input setting wave ends (waves_in (grown.before.journal ++ grown.since.journal))
+  grown_text_is asked text is =
+      let x = row_count input R in
+      let y = row_count input S in
+      let pairs = lines_of asked.rows input (waves_pairs input no_rows ends) in
+      let first = run_of_waves input setting (take wave ends) are.first.journals in
+      let rows : lines_of asked.rows input grown.before.pairs ++ lines_of asked.rows input grown.since.pairs ≡ pairs =
+      lines_of_both asked.rows input grown.before.pairs grown.since.pairs ∙ ap (lines_of asked.rows input) are.pairs in
+      is
+      ∙ ap (λ ls. ls ++ bare_grown_report_of asked.report setting x y grown.before grown.line grown.since) rows
+      ∙ ap (λ r. pairs ++ bare_grown_report_of asked.report setting x y r grown.line grown.since) are.first.run_is
+      ∙ ap (λ r. pairs ++ bare_grown_report_of asked.report setting x y first grown.line r) are.since_is
+      ∙ ap (λ l. pairs ++ bare_grown_report_of asked.report setting x y first l
+      (waves_since input setting l (drop wave ends) are.journals)) are.line_is
+      ∙ ap₂ (λ js more. pairs ++ grown_waves_report asked.report input setting (take wave ends) js (drop wave ends)
+      more) (sym early) (sym later)
+
+module _ (asked : Asked) (planned : Planned) (task : Task) (wave : ℕ) (grown : Grown) (text : List ℕ) where
+  -- so they are the waves of what was asked for, and the text is their output
+  pub grown_are_asked : task.input.now ≡ input_of asked.seed planned → IsTaskOf asked task
+      → task.setting.now.fixed ≡ None
+      → AreGrownWaves task.number task.input.now task.setting.now wave planned.ends grown
+      → text ≡ (lines_of asked.rows task.input.now grown.before.pairs
+      ++ lines_of asked.rows task.input.now grown.since.pairs)
+      ++ bare_grown_report_of asked.report task.setting.now (row_count task.input.now R) (row_count task.input.now S)
+      grown.before grown.line grown.since
+      → AreGrownWavesOf task.number wave asked planned (grown.before.journal ++ grown.since.journal) grown.trail
+      × (text ≡ grown_output_of wave asked planned (grown.before.journal ++ grown.since.journal))
+  grown_are_asked input_is of free are is =
+      let went = went_grown task.number task.input.now task.setting.now wave planned.ends grown of.valid.setting are in
+      let own = input_of asked.seed planned in
+      let journals = waves_in (grown.before.journal ++ grown.since.journal) in (
+        record {
+          free = subst (λ s. s.fixed ≡ None) of.setting free;
+          before = are.first.trails;
+          since = are.trails;
+          trail_is = are.trail_is ∙ ap (λ t. t ++ flat_map (λ left. left) are.trails) are.first.trail_is
+              ∙ sym (flat_map-append (λ (left : List EndsView). left) are.first.trails are.trails);
+          went =
+              subst (λ s. WentGrown task.number own s wave planned.ends journals are.first.trails are.trails) of.setting
+              (subst (λ i. WentGrown task.number i task.setting.now wave planned.ends journals are.first.trails
+              are.trails) input_is went);
+        },
+        grown_text_is task.number task.input.now task.setting.now wave planned.ends grown of.valid.setting are asked
+            text is
+            ∙ ap (λ i. grown_text asked i task.setting.now wave planned.ends journals) input_is
+            ∙ ap (λ s. grown_text asked own s wave planned.ends journals) of.setting,
+      )

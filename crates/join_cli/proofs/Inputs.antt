@@ -1,5 +1,5 @@
 -- What is joined is a valid input, and the journal of its run one of a lawful controller.
-use Rattle.std.proofs.Common.{◌≡◌, ◌<◌, ◌^◌, ℕ, Bool, true, false, None, List, [], All, length, sym, ◌∙◌, ap, subst}
+use Rattle.std.proofs.Common.{◌≡◌, ◌<◌, ◌^◌, ℕ, false, List, Option, All, length, sym, ◌∙◌, ap, subst}
 use Rattle.std.proofs.lemmas.List.FromFn.{length-map-range_with_len}
 use Rattle.join_rows.specs.Records.{IsTable}
 use Rattle.join_rows.specs.declared.table.Side.{Side}
@@ -21,10 +21,13 @@ use Rattle.trace_law.proofs.Validity.{both_sides, within_limits}
 use Rattle.join_words.specs.Words.{Asked}
 use Rattle.join_plan.specs.declared.fitting.Planned.{Planned}
 use Rattle.join_runtime.specs.Endings.{EndsView}
-use Rattle.ring_runtime.specs.Endings.{RingEndsView, lists_left}
+use Rattle.ring_runtime.specs.Endings.{lists_left}
+use Rattle.ring_runtime.specs.declared.ends.RingRun.{RingRun}
 use Rattle.actor_core.specs.Players.{IsFinishedFamily}
-use Rattle.join_cli.specs.Courses.{IsCourseOf, IsOverRings, IsRunInThreads, WentAs}
+use Rattle.join_cli.specs.declared.task.Task.{Task}
+use Rattle.join_cli.specs.Courses.{IsCourseOf, IsOverRings, WentAs}
 use Rattle.join_cli.specs.Plan.{IsJournalOf, IsJournalOver, input_of, output_of, setting_of, text_of}
+use Rattle.join_cli.specs.Tasks.{IsTaskOf}
 use Rattle.load_controller.specs.declared.line.TurnLine.{TurnLine}
 
 fits : (seed : ℕ) (side : Side) (table : Table) (tickets : List ℕ) (width : ℕ) → IsTable table
@@ -77,69 +80,47 @@ journal_over input setting run of_input of_setting is =
     }
 
 -- where it is of what was asked for
-pub journal_of_run : (asked : Asked) (planned : Planned) (input : Input) (setting : Setting) (run : Run)
-    → input ≡ input_of asked.seed planned → setting ≡ setting_of asked → IsValidInput input → IsValidSetting setting
-    → IsRunOf input setting (first_rest setting).line run.journal run → IsJournalOf asked planned run.journal
-journal_of_run asked planned input setting run input_is setting_is of_input of_setting is =
+pub journal_of_run : (asked : Asked) (planned : Planned) (task : Task) (run : Run)
+    → task.input.now ≡ input_of asked.seed planned → IsTaskOf asked task
+    → IsRunOf task.input.now task.setting.now (first_rest task.setting.now).line run.journal run
+    → IsJournalOf asked planned run.journal
+journal_of_run asked planned task run input_is of is =
     subst (λ i. IsJournalOver i (setting_of asked) run.journal) input_is
-    (subst (λ s. IsJournalOver input s run.journal) setting_is (journal_over input setting run of_input of_setting is))
+    (subst (λ s. IsJournalOver task.input.now s run.journal) of.setting
+    (journal_over task.input.now task.setting.now run of.valid.input of.valid.setting is))
 
--- and what shows how it went
-pub course_of_run : (asked : Asked) (planned : Planned) (input : Input) (setting : Setting) (run : Run)
-    (trail : List EndsView)
-    → input ≡ input_of asked.seed planned → setting ≡ setting_of asked → IsValidInput input → IsValidSetting setting
-    → asked.groups ≡ None → asked.chain ≡ None → asked.rings ≡ false
-    → IsRunOf input setting (first_rest setting).line run.journal run
-    → WentAs asked.replay input setting run.journal trail → IsCourseOf asked planned run.journal trail
-course_of_run asked planned input setting run trail input_is setting_is of_input of_setting single whole queued is
-    went =
+-- and what shows how it went, as a replay where it has a number
+pub course_of_run : (number : Option ℕ) (asked : Asked) (planned : Planned) (task : Task) (run : Run)
+    (trail : List EndsView) → task.input.now ≡ input_of asked.seed planned → IsTaskOf asked task
+    → IsRunOf task.input.now task.setting.now (first_rest task.setting.now).line run.journal run
+    → WentAs number task.input.now task.setting.now run.journal trail
+    → IsCourseOf number asked planned run.journal trail
+course_of_run number asked planned task run trail input_is of is went =
     record {
-      single = single;
-      whole = whole;
-      queued = queued;
-      lawful = journal_of_run asked planned input setting run input_is setting_is of_input of_setting is;
-      went = subst (λ i. WentAs asked.replay i (setting_of asked) run.journal trail) input_is
-          (subst (λ s. WentAs asked.replay input s run.journal trail) setting_is went);
+      lawful = journal_of_run asked planned task run input_is of is;
+      went = subst (λ i. WentAs number i (setting_of asked) run.journal trail) input_is
+          (subst (λ s. WentAs number task.input.now s run.journal trail) of.setting went);
     }
 
--- of a run in threads
-pub course_in_threads : (asked : Asked) (planned : Planned) (input : Input) (setting : Setting) (run : Run)
-    (trail : List EndsView)
-    → input ≡ input_of asked.seed planned → setting ≡ setting_of asked → IsValidInput input → IsValidSetting setting
-    → asked.replay ≡ None
-    → asked.groups ≡ None → asked.chain ≡ None → asked.rings ≡ false
-    → IsRunOf input setting (first_rest setting).line run.journal run
-    → IsRunInThreads input setting run.journal trail → IsCourseOf asked planned run.journal trail
-course_in_threads asked planned input setting run trail input_is setting_is of_input of_setting threads single whole
-    queued is went =
-    course_of_run asked planned input setting run trail input_is setting_is of_input of_setting single whole queued is
-    (rw threads went)
-
--- and of one over rings
-pub course_over_rings : (asked : Asked) (planned : Planned) (input : Input) (setting : Setting) (run : Run)
-    (ends : RingEndsView) (back : Bool)
-    → input ≡ input_of asked.seed planned → setting ≡ setting_of asked → IsValidInput input → IsValidSetting setting
-    → asked.rings ≡ true → asked.later ≡ [] → asked.groups ≡ None → asked.chain ≡ None
-    → IsRunOf input setting (first_rest setting).line run.journal run → back ≡ false
-    → IsFinishedFamily input setting run.journal (lists_left ends)
-    → IsOverRings asked planned run.journal ends back
-course_over_rings asked planned input setting run ends back input_is setting_is of_input of_setting ringed once single
-    whole is kept family =
+-- of a run over rings, which has fallen back or hasn't
+pub course_over_rings : (asked : Asked) (planned : Planned) (task : Task) (told : RingRun)
+    → task.input.now ≡ input_of asked.seed planned → IsTaskOf asked task
+    → IsRunOf task.input.now task.setting.now (first_rest task.setting.now).line told.run.journal told.run
+    → told.fallen ≡ false
+    → IsFinishedFamily task.input.now task.setting.now told.run.journal (lists_left told.ends)
+    → IsOverRings asked planned told.run.journal told.ends told.fallen
+course_over_rings asked planned task told input_is of is kept family =
     record {
-      ringed = ringed;
-      once = once;
-      single = single;
-      whole = whole;
-      lawful = journal_of_run asked planned input setting run input_is setting_is of_input of_setting is;
+      lawful = journal_of_run asked planned task told.run input_is of is;
       kept = kept;
-      family = subst (λ i. IsFinishedFamily i (setting_of asked) run.journal (lists_left ends)) input_is
-          (subst (λ s. IsFinishedFamily input s run.journal (lists_left ends)) setting_is family);
+      family = subst (λ i. IsFinishedFamily i (setting_of asked) told.run.journal (lists_left told.ends)) input_is
+          (subst (λ s. IsFinishedFamily task.input.now s told.run.journal (lists_left told.ends)) of.setting family);
     }
 
 -- the text over an input is the output over a plan that it is of
-pub output_is : (asked : Asked) (planned : Planned) (input : Input) (setting : Setting) (journal : List TurnLine)
-    (text : List ℕ) → input ≡ input_of asked.seed planned → setting ≡ setting_of asked
-    → text ≡ text_of asked input setting journal → text ≡ output_of asked planned journal
-output_is asked planned input setting journal text input_is setting_is is =
-    is ∙ ap (λ i. text_of asked i setting journal) input_is
-    ∙ ap (λ s. text_of asked (input_of asked.seed planned) s journal) setting_is
+pub output_is : (asked : Asked) (planned : Planned) (task : Task) (journal : List TurnLine) (text : List ℕ)
+    → task.input.now ≡ input_of asked.seed planned → IsTaskOf asked task
+    → text ≡ text_of asked task.input.now task.setting.now journal → text ≡ output_of asked planned journal
+output_is asked planned task journal text input_is of is =
+    is ∙ ap (λ i. text_of asked i task.setting.now journal) input_is
+    ∙ ap (λ s. text_of asked (input_of asked.seed planned) s journal) of.setting

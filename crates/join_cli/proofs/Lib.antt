@@ -19,4 +19,5 @@ pub mod WaveOutput
 pub mod GrownFacts
 pub mod GrownRuns
 pub mod GrownOutput
-pub mod InWaves
+pub mod EndsAhead
+pub mod Made

@@ -9,7 +9,7 @@ use Rattle.join_rows.specs.declared.fault.TableFault.{TableFault}
 use Rattle.join_rows.specs.declared.fault.TableFault.TheVariants as files
 use Rattle.join_rows.specs.declared.table.Side.TheVariants.{R, S}
 use Rattle.join_rows.specs.declared.table.Table.{Table}
-use Rattle.join_words.specs.Words.{Asked, AskedChain}
+use Rattle.join_words.specs.Words.{Asked, AskedChain, chain_of, later_of}
 use Rattle.join_plan.specs.declared.fault.LimitFault.TheVariants.{TooLong}
 use Rattle.join_plan.specs.declared.fault.Refusal.{Refusal}
 use Rattle.join_plan.specs.declared.fault.Refusal.TheVariants as refusals
@@ -190,13 +190,13 @@ later_long told last spot waves (source ∷ more) result name place seen near is
         }
 
 -- a later file is one that is asked for
-later_among : (asked : Asked) (source : Source) → Contains (later_sources 2 asked.later) source
+later_among : (asked : Asked) (source : Source) → Contains (later_sources 2 (later_of asked.kind)) source
     → Contains (sources asked) source
 later_among asked source among =
     Contains-append_right
     (record { side = R; wave = 1; name = asked.name_r } ∷ record { side = S; wave = 1; name = asked.name_s } ∷ [])
-    (later_sources 2 asked.later ++ third_source asked.chain) source
-    (Contains-append_left (later_sources 2 asked.later) (third_source asked.chain) source among)
+    (later_sources 2 (later_of asked.kind) ++ third_source (chain_of asked.kind)) source
+    (Contains-append_left (later_sources 2 (later_of asked.kind)) (third_source (chain_of asked.kind)) source among)
 
 -- ---- all files
 
@@ -215,12 +215,14 @@ module _ (told : Told) (spot : Spot) (asked : Asked) (trees : Trees) (old new : 
     (ends : Ends asked old new (then_of found (fitted trees)) outcome)
     (is : spot ≡ Some (name, place)) (past : 2 ^ 24 < place) where
   -- behind two tables and the later files, the third file
-  third : (chain : Option AskedChain) (begun middle : Spot) (tables : Tables) (waves : InWaves) → asked.chain ≡ chain
+  third : (chain : Option AskedChain) (begun middle : Spot) (tables : Tables) (waves : InWaves)
+      → chain_of asked.kind ≡ chain
       → TablesSeen told begun asked.name_r asked.name_s (Ok tables)
-      → SeenFrom told begun middle (first_wave tables) (later_sources 2 asked.later) (Ok waves)
+      → SeenFrom told begun middle (first_wave tables) (later_sources 2 (later_of asked.kind)) (Ok waves)
       → AllSeen told middle spot chain (Ok waves) found → IsTooLong asked name outcome
   third None begun middle tables waves here seen later all =
-      let long = later_long told begun middle (first_wave tables) (later_sources 2 asked.later) (Ok waves) name place
+      let long = later_long told begun middle (first_wave tables) (later_sources 2 (later_of asked.kind)) (Ok waves)
+      name place
       later (near_two told begun asked tables name place seen) (sym all.1.0 ∙ is) past in
       absurd (cc long.told)
   third (Some chain) begun middle tables waves here seen later all =
@@ -239,12 +241,13 @@ module _ (told : Told) (spot : Spot) (asked : Asked) (trees : Trees) (old new : 
   -- behind two tables, the later files
   later_files : (waves : Result InWaves Refusal) (begun middle : Spot) (tables : Tables)
       → TablesSeen told begun asked.name_r asked.name_s (Ok tables)
-      → SeenFrom told begun middle (first_wave tables) (later_sources 2 asked.later) waves
-      → AllSeen told middle spot asked.chain waves found → IsTooLong asked name outcome
+      → SeenFrom told begun middle (first_wave tables) (later_sources 2 (later_of asked.kind)) waves
+      → AllSeen told middle spot (chain_of asked.kind) waves found → IsTooLong asked name outcome
   later_files (Ok waves) begun middle tables seen later all =
-      third asked.chain begun middle tables waves refl seen later all
+      third (chain_of asked.kind) begun middle tables waves refl seen later all
   later_files (Err refusal) begun middle tables seen later all =
-      let long = later_long told begun middle (first_wave tables) (later_sources 2 asked.later) (no_waves refusal) name
+      let long = later_long told begun middle (first_wave tables) (later_sources 2 (later_of asked.kind))
+      (no_waves refusal) name
       place later (near_two told begun asked tables name place seen) (sym all.0 ∙ is) past in
       let same : refusal ≡ refusals.Limit (TooLong long.source.side long.source.wave) = cc long.told in
       record {
@@ -263,7 +266,7 @@ module _ (told : Told) (spot : Spot) (asked : Asked) (trees : Trees) (old new : 
       later_files behind.waves begun behind.middle tables seen behind.later behind.third
   two_files (Err refusal) begun seen behind =
       let after = behind.later in
-      let all = subst (λ w. AllSeen told behind.middle spot asked.chain w found) after.1 behind.third in
+      let all = subst (λ w. AllSeen told behind.middle spot (chain_of asked.kind) w found) after.1 behind.third in
       let two = two_long told begun asked (no_tables refusal) name place seen (sym after.0 ∙ sym all.0 ∙ is) past in
       let same : refusal ≡ refusals.Limit (TooLong two.0.side two.0.wave) = cc two.3 in
       record {

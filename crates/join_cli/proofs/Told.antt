@@ -1,10 +1,6 @@
 -- An outcome that tells a refusal tells that one.
 use Rattle.std.proofs.Common.{◌≡◌, ◌⊎◌, ◌∙◌, inl, inr, ℕ, Option, None, Some, refl, sym, ap}
-use Rattle.std.specs.Prelude.{IfSome, option_map}
 use Rattle.theta_text.specs.declared.fault.PredFault.{PredFault}
-use Rattle.join_words.specs.Words.{asked_chain}
-use Rattle.join_words.specs.declared.options.Chain.{Chain}
-use Rattle.join_words.specs.declared.options.Options.{Options}
 use Rattle.join_words.specs.declared.options.WordsFault.{WordsFault}
 use Rattle.join_plan.specs.declared.fault.Refusal.{Refusal}
 use Rattle.join_plan.specs.declared.fault.Refusal.TheVariants as refusals
@@ -15,7 +11,6 @@ use Rattle.join_cli.specs.declared.outcome.Outcome.TheVariants as outcomes
 use Rattle.join_cli.specs.Courses.{Course}
 use Rattle.join_cli.specs.Ends.{EndsEarly, course_of}
 use Rattle.join_cli.specs.Outcomes.{outcome_of}
-use Rattle.join_cli.specs.Requests.{IsChained}
 
 -- the refusal that an outcome tells, if it tells one
 abbrev refusal_in : Outcome → Option Refusal
@@ -71,16 +66,6 @@ pub refused_early : (which : Which) (fault : PredFault) (refusal : Refusal)
     → (refusal ≡ refusals.Memory) ⊎ (refusal ≡ text_refusal which fault) → EndsEarly which fault (outcome_of refusal)
 refused_early which fault refusal (inl memory) = inl (ap outcome_of memory)
 refused_early which fault refusal (inr is) = inr (ap outcome_of is)
-
--- a second join stands without made tables
-pub chained_files : (options : Options) (chain : Option Chain) → IfSome chain (IsChained options)
-    → IfSome chain (λ _. options.make ≡ None)
-chained_files options None alone = tt
-chained_files options (Some chain) alone = alone.3
-
--- options without a second join ask for none
-pub not_chained : (chain : Option Chain) → chain ≡ None → option_map asked_chain chain ≡ None
-not_chained chain none = ap (option_map asked_chain) none
 
 -- what isn't asked for has no number
 pub none_is_some : {make : Option ℕ} (count : ℕ) → make ≡ Some count → make ≡ None → ⊥

@@ -11,7 +11,8 @@ use Rattle.theta_text.specs.Grammar.{Tree, txt}
 use Rattle.theta_text.specs.declared.tree.Op.TheVariants.{Eq}
 use Rattle.theta_text.specs.declared.tree.TextSide.TheVariants.{Col}
 use Rattle.row_tickets.specs.declared.place.Feed.TheVariants.{Alternate}
-use Rattle.join_words.specs.Words.{Asked}
+use Rattle.join_words.specs.Words.{Asked, in_chain, in_waves}
+use Rattle.join_words.specs.declared.kind.Grid.{Grid}
 use Rattle.join_plan.specs.declared.fault.Refusal.{Refusal}
 use Rattle.join_plan.specs.declared.fault.Refusal.TheVariants.{Input, Predicate, Then}
 use Rattle.join_plan.specs.declared.fault.TextFault.TheVariants.{NoColumn, TwoColumns}
@@ -30,30 +31,26 @@ equal_keys : Tree
 equal_keys = txt (Col (record { side = sides.R; word = codes "k" })) Eq
     (Col (record { side = sides.S; word = codes "k" }))
 
+-- the grid of four joiners
+abbrev by_four : Grid
+by_four = record { k = 2; fixed = None }
+
 -- the files `r` and `s` are joined by four joiners, without a report
 four : Asked
 four = record {
   on = [];
-  k = 2;
-  groups = None;
-  rings = false;
+  kind = in_waves by_four None [] None;
   feeders = 2;
   workers = 4;
   batch = 64;
   feed = Alternate;
-  fixed = None;
   weights = record { r = 1; s = 1 };
   seed = 1;
-  replay = None;
   make = None;
-  early = false;
   report = false;
   rows = false;
   name_r = codes "r";
   name_s = codes "s";
-  later = [];
-  grow = None;
-  chain = None;
 }
 
 -- the output of two files by a tree, or the refusal
@@ -111,7 +108,7 @@ texts_of name = txt (Col (record { side = sides.R; word = name })) Eq
 -- the output of three files by two trees, or the refusal
 chained : Tree → Tree → List ℕ → List ℕ → List ℕ → Result (List ℕ) Refusal
 chained tree further of_r of_s of_q =
-    let asked : Asked = record four { chain = Some (record { on = []; name = codes "q" }) } in
+    let asked : Asked = record four { kind = in_chain by_four (record { on = []; name = codes "q" }) } in
     then_of (plan_of asked (record { on = Ok tree; further = Some (Ok further) })
     (λ name. if bytes_eq name (codes "r") then Some of_r else (if bytes_eq name (codes "s") then Some of_s
     else (if bytes_eq name (codes "q") then Some of_q else None))))

@@ -1,12 +1,10 @@
 -- How a run ends, and what it leaves.
-use Rattle.std.specs.Prelude.{◌≡◌, ◌≢◌, ◌⊎◌, ℕ, ⊤, true, List, [], length, Option, None, Some, Result, Ok, Err}
+use Rattle.std.specs.Prelude.{◌≡◌, ◌⊎◌, ℕ, ⊤, true, List, length, Option, None, Some, Result, Ok, Err}
 use Rattle.join_rows.specs.Shelves.{Told}
 use Rattle.theta_text.specs.declared.fault.PredFault.{PredFault}
-use Rattle.load_controller.specs.declared.line.TurnLine.{TurnLine}
 use Rattle.trace_law.specs.Join.{nested_loop}
 use Rattle.join_report.specs.PairLines.{pair_lines}
-use Rattle.join_runtime.specs.Endings.{EndsView}
-use Rattle.join_words.specs.Words.{Asked}
+use Rattle.join_words.specs.Words.{Asked, AskedKind, is_early}
 use Rattle.join_plan.specs.declared.fault.LimitFault.TheVariants.{Between}
 use Rattle.join_plan.specs.declared.fault.Refusal.{Refusal}
 use Rattle.join_plan.specs.declared.fitting.Planned.{Planned}
@@ -16,12 +14,11 @@ use Rattle.join_plan.specs.Refusals.{text_refusal}
 use Rattle.join_cli.specs.declared.outcome.Outcome.{Outcome}
 use Rattle.join_cli.specs.declared.outcome.Outcome.TheVariants.{Done, DoneGroups, DoneChain, DoneRings, Input}
 use Rattle.join_cli.specs.declared.outcome.Outcome.TheVariants.{Limit, Memory, Predicate, Read, Then, Words, Write}
-use Rattle.join_cli.specs.Chain.{IsBetween, IsChainOf, IsFewBetween}
-use Rattle.join_cli.specs.Courses.{AreGroupsOf, Course, WentSo, by_chain, by_groups, by_rings, by_run}
-use Rattle.join_cli.specs.Courses.{WentOnward, output_onward, output_over}
-use Rattle.join_cli.specs.Early.{StoppedAt, WroteLines, WroteOutput}
+use Rattle.join_cli.specs.Chain.{IsBetween, IsFewBetween}
+use Rattle.join_cli.specs.Courses.{Course, WentBy, WentSo, by_chain, by_groups, by_rings, by_run}
+use Rattle.join_cli.specs.Early.{IsOutput, StoppedAt, WroteLines, WroteOutput}
 use Rattle.join_cli.specs.Outcomes.{outcome_of}
-use Rattle.join_cli.specs.Plan.{IsJournalOf, input_of, output_of}
+use Rattle.join_cli.specs.Plan.{input_of}
 
 -- how the run of an outcome went, where its output was written whole
 abbrev pub course_of : Outcome → Option Course
@@ -84,19 +81,19 @@ pub record Wrote (told : Told) (asked : Asked) (way : Course) (old new : Option 
 pub record WroteFront (told : Told) (asked : Asked) (old new : Option (List ℕ)) : Type 0 where
   pub planned : Planned
   pub found : IsAsked told asked planned
-  pub front : StoppedAt asked.early asked planned old new
+  pub front : StoppedAt (is_early asked.kind) asked planned old new
 
 -- nothing was written, or early output had begun
 pub record WroteSoFar (told : Told) (asked : Asked) (old new : Option (List ℕ)) : Type 0 where
   pub planned : Planned
   pub found : IsAsked told asked planned
-  pub lines : WroteLines asked.early asked planned old new
+  pub lines : WroteLines (is_early asked.kind) asked planned old new
 
 -- what is left of a plan whose output wasn't written whole: a put failed, or memory ran out, or there are too many
 -- pairs for a second join
 abbrev pub Stops : Asked → Planned → Option (List ℕ) → Option (List ℕ) → Outcome → Type 0
-Stops asked planned old new Write = StoppedAt asked.early asked planned old new
-Stops asked planned old new Memory = WroteLines asked.early asked planned old new
+Stops asked planned old new Write = StoppedAt (is_early asked.kind) asked planned old new
+Stops asked planned old new Memory = WroteLines (is_early asked.kind) asked planned old new
 Stops asked planned old new (Limit (Between pairs)) = IsBetween asked planned pairs × (new ≡ old)
 Stops asked planned old new outcome = ⊥
 
@@ -110,10 +107,14 @@ ConcludesBy asked planned old new outcome None = Stops asked planned old new out
 abbrev pub Concludes : Asked → Planned → Option (List ℕ) → Option (List ℕ) → Outcome → Type 0
 Concludes asked planned old new outcome = ConcludesBy asked planned old new outcome (course_of outcome)
 
--- a text was made of a plan, over how its run went
+-- a text was made of a plan, over how its run of this kind went
+abbrev pub IsMadeBy : AskedKind → Asked → Planned → List ℕ → Option Course → Type 0
+IsMadeBy kind asked planned text None = ⊥
+IsMadeBy kind asked planned text (Some way) = WentBy kind asked planned way × IsOutput kind asked planned way text
+
+-- over how the run went that is asked for
 abbrev pub IsMade : Asked → Planned → List ℕ → Option Course → Type 0
-IsMade asked planned text None = ⊥
-IsMade asked planned text (Some way) = WentSo asked planned way × (text ≡ output_over asked planned way)
+IsMade asked planned text way = IsMadeBy asked.kind asked planned text way
 
 -- no text was made: memory ran out, or there are too many pairs for a second join
 abbrev pub IsHalted : Asked → Planned → Outcome → Type 0
@@ -121,19 +122,11 @@ IsHalted asked planned Memory = ⊤
 IsHalted asked planned (Limit (Between pairs)) = IsBetween asked planned pairs
 IsHalted asked planned outcome = ⊥
 
--- the output over each such journal is taken, or, where there are later waves, over those of several, over the journals
--- of groups, or those of a second join, and early the lines of all pairs alone
+-- the output over each run that goes as is asked for is taken, and early the lines of all pairs alone
 pub record TakesEach (takes : ℕ → Type 0) (asked : Asked) (planned : Planned) : Type 0 where
-  pub each : asked.later ≡ [] → asked.groups ≡ None → asked.chain ≡ None → (journal : List TurnLine)
-      → IsJournalOf asked planned journal → takes (length (output_of asked planned journal))
-  pub waves : asked.later ≢ [] → (journal : List TurnLine) (trail : List EndsView)
-      → WentOnward asked.grow asked planned journal trail
-      → takes (length (output_onward asked.grow asked planned journal))
-  pub groups : (journals : List (List TurnLine)) (trail : List EndsView) → AreGroupsOf asked planned journals trail
-      → takes (length (output_over asked planned (by_groups journals trail)))
-  pub chain : (first second : List TurnLine) (trail : List EndsView) → IsChainOf asked planned first second trail
-      → takes (length (output_over asked planned (by_chain first second trail)))
-  pub early : asked.early ≡ true → takes (length (pair_lines (nested_loop (input_of asked.seed planned))))
+  pub each : (way : Course) (text : List ℕ) → WentSo asked planned way → IsOutput asked.kind asked planned way text
+      → takes (length text)
+  pub early : is_early asked.kind ≡ true → takes (length (pair_lines (nested_loop (input_of asked.seed planned))))
 
 -- files and sink do for what is asked: nothing of it is refused over the told files, a second join takes the pairs of
 -- the first, and the sink takes the output

@@ -1,5 +1,5 @@
 -- A run of several waves in which the joiners split into four behind one of them, and its output.
-use Rattle.std.specs.Prelude.{◌≡◌, ◌++◌, ◌+◌, ℕ, Bool, false, List, [], Option, None, drop, flat_map, if◌then◌else◌}
+use Rattle.std.specs.Prelude.{◌≡◌, ◌++◌, ◌+◌, ℕ, Bool, List, [], Option, None, drop, flat_map, if◌then◌else◌}
 use Rattle.std.specs.Prelude.{take}
 use Rattle.join_rows.specs.declared.table.Side.TheVariants.{R, S}
 use Rattle.grid_map.specs.declared.shape.Shape.{Shape}
@@ -38,18 +38,15 @@ pub record WentGrown (number : Option ℕ) (input : Input) (setting : Setting) (
   pub stands : IsRestFor input (grown_setting setting) grown
   pub onward : WentThrough number input (grown_setting setting) grown (drop wave ends) (drop wave journals) since
 
--- what is answered of a run of several waves with a growth behind so many of them: the journals of all waves one after
--- the other, and what shows how each went
-pub record AreGrownWavesOf (wave : ℕ) (asked : Asked) (planned : Planned) (journal : List TurnLine)
-    (trail : List EndsView) : Type 0 where
-  pub single : asked.groups ≡ None
-  pub whole : asked.chain ≡ None
-  pub queued : asked.rings ≡ false
-  pub free : asked.fixed ≡ None
+-- what is answered of a run of several waves with a growth behind so many of them, as a replay where it has a number:
+-- no shift is fixed, the journals of all waves one after the other, and what shows how each went
+pub record AreGrownWavesOf (number : Option ℕ) (wave : ℕ) (asked : Asked) (planned : Planned)
+    (journal : List TurnLine) (trail : List EndsView) : Type 0 where
+  pub free : (setting_of asked).fixed ≡ None
   pub before : List (List EndsView)
   pub since : List (List EndsView)
   pub trail_is : trail ≡ flat_map (λ left. left) (before ++ since)
-  pub went : WentGrown asked.replay (input_of asked.seed planned) (setting_of asked) wave planned.ends
+  pub went : WentGrown number (input_of asked.seed planned) (setting_of asked) wave planned.ends
       (waves_in journal) before since
 
 -- ---- the output

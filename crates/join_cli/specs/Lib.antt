@@ -11,7 +11,8 @@ pub mod Lines
 pub mod Promises
 pub mod Statuses
 pub mod Dealt
-pub mod Requests
+pub mod Kinds
+pub mod Tasks
 pub mod Journals
 pub mod Waves
 pub mod WaveTexts

@@ -17,7 +17,7 @@ use Rattle.join_report.specs.Report.{report_of}
 use Rattle.join_report.specs.RowLines.{row_lines}
 use Rattle.join_report.specs.Summary.{summary_of}
 use Rattle.chain_join.specs.Chains.{tickets_of}
-use Rattle.join_words.specs.Words.{Asked}
+use Rattle.join_words.specs.Words.{Asked, grid_of}
 use Rattle.theta_pred.specs.Formula.{Meaning}
 use Rattle.join_plan.specs.declared.files.Tables.{Tables}
 use Rattle.join_plan.specs.declared.fitting.Planned.{Planned}
@@ -41,12 +41,12 @@ input_of seed planned = input_with seed planned.tables planned.theta
 -- the setting that the words ask for
 abbrev pub setting_of : Asked → Setting
 setting_of asked = record {
-  k = asked.k;
+  k = (grid_of asked.kind).k;
   feeders = asked.feeders;
   workers = asked.workers;
   batch = asked.batch;
   feed = asked.feed;
-  fixed = asked.fixed;
+  fixed = (grid_of asked.kind).fixed;
   weights = asked.weights;
 }
 
@@ -57,8 +57,7 @@ IsLawfulFor input setting journal =
     IsLawful (rules_of setting) (begun first) (λ p. map size_of (batches input setting first p)) journal
 
 -- the journal of a lawful controller of this run; each line that isn't moving is near the best grid for its counts and
--- for what
--- rows weigh, and where the shift is fixed there is one epoch, whose lines all have it
+-- for what rows weigh, and where the shift is fixed there is one epoch, whose lines all have it
 pub record IsJournalOver (input : Input) (setting : Setting) (journal : List TurnLine) : Type 0 where
   pub lawful : IsLawfulFor input setting journal
   pub near : setting.fixed ≡ None → AreNear setting.k setting.weights journal
@@ -114,6 +113,6 @@ output_of asked planned journal = text_of asked (input_of asked.seed planned) (s
 -- with a fixed shift the output is the same over each such journal
 abbrev pub FixedOutputIsOne : Type 0
 FixedOutputIsOne = (asked : Asked) (planned : Planned) (shift : ℕ) (one other : List TurnLine)
-    → asked.fixed ≡ Some shift
+    → (grid_of asked.kind).fixed ≡ Some shift
     → IsJournalOf asked planned one → IsJournalOf asked planned other
     → output_of asked planned one ≡ output_of asked planned other

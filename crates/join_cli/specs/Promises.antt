@@ -7,7 +7,7 @@ use Rattle.join_rows.specs.declared.table.Side.{Side}
 use Rattle.theta_text.specs.Grammar.{Tree}
 use Rattle.theta_text.specs.declared.fault.PredFault.{PredFault}
 use Rattle.theta_text.specs.Texts.{IsFaultOf, TextReads, limits}
-use Rattle.join_words.specs.Words.{Asked, AskedChain, asked_of}
+use Rattle.join_words.specs.Words.{Asked, AskedChain, asked_of, chain_of, is_early}
 use Rattle.join_words.specs.declared.options.WordsFault.{WordsFault}
 use Rattle.join_cli.specs.declared.outcome.Outcome.{Outcome}
 use Rattle.join_cli.specs.declared.outcome.Outcome.TheVariants.{Limit, Memory, Predicate, Read, Then, Words, Write}
@@ -30,7 +30,8 @@ pub record Answers {H K : Type 0} (h : ShelfGhosts H) (k : SinkGhosts K) (asked 
   pub early : (fault : PredFault) → IsFaultOf limits asked.on fault → EndsEarly texts.On fault outcome × (new ≡ old)
   -- and of a second text behind one that is a predicate
   pub further_early : (tree : Tree) (chain : AskedChain) (fault : PredFault) → TextReads limits asked.on tree
-      → asked.chain ≡ Some chain → IsFaultOf limits chain.on fault → EndsEarly texts.Then fault outcome × (new ≡ old)
+      → chain_of asked.kind ≡ Some chain → IsFaultOf limits chain.on fault → EndsEarly texts.Then fault outcome
+      × (new ≡ old)
   -- where no call failed, that of the plan
   pub answer : h.faults new ≡ h.faults old → k.faults after ≡ k.faults before → EndsAs (h.told old) asked outcome
   -- and over each shelf that of the texts, and behind them of what was read, or of the made tables
@@ -47,7 +48,7 @@ pub record Causes {H K : Type 0} (h : ShelfGhosts H) (k : SinkGhosts K) (asked :
   -- a fault of the text is the text's
   pub text : (fault : TextFault) → outcome ≡ Predicate fault → IsTrueOf asked.on fault
   -- and one of the second text is that text's
-  pub further_text : (fault : TextFault) → outcome ≡ Then fault → IsTrueFurther asked.chain fault
+  pub further_text : (fault : TextFault) → outcome ≡ Then fault → IsTrueFurther (chain_of asked.kind) fault
   -- of a file that is too long the place is past the limit
   pub long : (side : Side) (wave : ℕ) → outcome ≡ Limit (TooLong side wave)
       → StandsPast (h.picked new) side wave (sources asked)
@@ -57,7 +58,7 @@ pub record Causes {H K : Type 0} (h : ShelfGhosts H) (k : SinkGhosts K) (asked :
   pub memory : outcome ≡ Memory
       → (k.written after ≡ k.written before) ⊎ WroteSoFar (h.told old) asked (k.written before) (k.written after)
   -- and without early output nothing was
-  pub spared : asked.early ≡ false → outcome ≡ Memory → after ≡ before
+  pub spared : is_early asked.kind ≡ false → outcome ≡ Memory → after ≡ before
 
 -- what it leaves of shelf and sink, whatever is asked for
 pub record Leaves {H K : Type 0} (h : ShelfGhosts H) (k : SinkGhosts K)

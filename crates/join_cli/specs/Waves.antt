@@ -1,5 +1,5 @@
 -- A run of several waves: its pairs, wave after wave, and how it went.
-use Rattle.std.specs.Prelude.{◌≡◌, ◌++◌, ℕ, ⊤, Bool, ◌&&◌, not, nat_lt, false, filter, flat_map, All, List, [], ◌∷◌}
+use Rattle.std.specs.Prelude.{◌≡◌, ◌++◌, ℕ, ⊤, Bool, ◌&&◌, not, nat_lt, filter, flat_map, All, List, [], ◌∷◌}
 use Rattle.std.specs.Prelude.{Option, None, Some}
 use Rattle.epoch_tags.specs.declared.tuple.Pair.{Pair}
 use Rattle.load_controller.specs.declared.line.TurnLine.{TurnLine}
@@ -93,14 +93,11 @@ WentThrough number input setting rest (end ∷ ends) (journal ∷ journals) (tra
     × WentThrough number input setting next ends journals trails)
 WentThrough number input setting rest _ _ _ = ⊥
 
--- what is answered of a run of several waves, of joiners in one grid, and not over rings: the journals of all waves one
--- after the other, and what shows how each went. The first wave goes on from no rows
-pub record AreWavesOf (asked : Asked) (planned : Planned) (journal : List TurnLine)
+-- what is answered of a run of several waves, as a replay where it has a number: the journals of all waves one after
+-- the other, and what shows how each went. The first wave goes on from no rows
+pub record AreWavesOf (number : Option ℕ) (asked : Asked) (planned : Planned) (journal : List TurnLine)
     (trail : List EndsView) : Type 0 where
-  pub single : asked.groups ≡ None
-  pub whole : asked.chain ≡ None
-  pub queued : asked.rings ≡ false
   pub trails : List (List EndsView)
   pub trail_is : trail ≡ flat_map (λ left. left) trails
-  pub went : WentThrough asked.replay (input_of asked.seed planned) (setting_of asked) (first_rest (setting_of asked))
+  pub went : WentThrough number (input_of asked.seed planned) (setting_of asked) (first_rest (setting_of asked))
       planned.ends (waves_in journal) trails

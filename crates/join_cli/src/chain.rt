@@ -1,19 +1,21 @@
 // The output of a second join, of the joined rows with a third table.
 
 ghost use Rattle.std.specs.Prelude.{◌≡◌, ◌++◌, ◌<◌, ◌≤◌, ◌^◌, Some, IfErr, IfOk, OnOk};
-ghost use Rattle.std.specs.Prelude.{[], ◌∷◌, length, string_bytes};
+ghost use Rattle.std.specs.Prelude.{[], ◌∷◌, is_some, length, string_bytes, true};
 ghost use Rattle.trace_law.specs.Validity.{IsValidInput, IsValidSetting};
 ghost use Rattle.join_report.specs.Report.{AreWithin};
 ghost use Rattle.chain_join.specs.Chains.{IsToldOf};
-ghost use Rattle.join_words.specs.Words.{asked};
+ghost use Rattle.join_words.specs.Words.{asked, chain_of};
 ghost use Rattle.join_plan.specs.declared.fitting.Planned.{Planned as Planned'};
 ghost use Rattle.join_cli.specs.Chain.{IsChainOver, IsStopped, IsThirdOver, bare_text, chain_text};
 ghost use Rattle.join_cli.specs.Chain.{third_of, triple_line, triple_lines};
 ghost use Rattle.join_cli.specs.Ends.{IsHalted, IsMade, course_of};
-ghost use Rattle.join_cli.specs.Plan.{bare_report_of, input_of, report_asked, setting_of};
+ghost use Rattle.join_cli.specs.Plan.{bare_report_of, input_of, report_asked};
+ghost use Rattle.join_cli.specs.Tasks.{IsTaskOf};
 
 use crate::outcome::Outcome;
 use crate::output::Joined;
+use crate::task::Task;
 use crate::texts::{add, bare_report, bytes_of, journal_of, report};
 use chain_join::{ChainFault, ChainRun, Triple, run_chain};
 use join_plan::{LimitFault, Third};
@@ -253,29 +255,26 @@ fn run_both<R: Threads + Wait + Sync, G: Gate + Sync>(
     }
 }
 
-/// The output that the options ask for of a second join behind this input, or why there is none.
+/// The output that the options ask for of a second join, with this third table, or why there is none.
 pub(crate) fn chain_output<R: Threads + Wait + Sync, G: Gate + Sync>(
     rt: &R,
     alloc: Global,
     options: &Options<'_>,
-    input: &Input,
+    task: &Task<'_>,
     third: Third,
-    setting: &Setting,
     gate: &G,
 ) -> Result<Joined, Outcome>
-    requires input { IsValidInput input.now }
-    requires setting { IsValidSetting setting.now }
-    requires is { setting.now ≡ setting_of (asked options.now) }
-    requires third { IsThirdOver input.now third }
-    ensures made { IfOk result
-        (λ joined. (planned : Planned') → input.now ≡ input_of options.now.seed planned
-        → planned.third ≡ Some third
+    requires kind { is_some (chain_of (asked options.now).kind) ≡ true }
+    requires task { IsTaskOf (asked options.now) task.now }
+    requires third { IsThirdOver task.now.input.now third }
+    ensures made { IfOk result (λ joined. (planned : Planned')
+        → task.now.input.now ≡ input_of options.now.seed planned → planned.third ≡ Some third
         → IsMade (asked options.now) planned joined.text (course_of joined.done)) }
-    ensures halted { IfErr result
-        (λ outcome. (planned : Planned') → input.now ≡ input_of options.now.seed planned
+    ensures halted { IfErr result (λ outcome. (planned : Planned')
+        → task.now.input.now ≡ input_of options.now.seed planned
         → planned.third ≡ Some third → IsHalted (asked options.now) planned outcome) }
 {
-    match run_both(rt, alloc, options, input, third, setting, gate) {
+    match run_both(rt, alloc, options, task.input, third, task.setting, gate) {
         Ok(chained) => Ok(Joined {
             text: chained.text,
             done: Outcome::DoneChain {

@@ -4,18 +4,19 @@ ghost use Rattle.std.specs.Prelude.{◌≡◌, ◌<◌, ◌≤◌, ◌+◌, None
 ghost use Rattle.trace_law.specs.Family.{first_rest};
 ghost use Rattle.trace_law.specs.Join.{nested_loop};
 ghost use Rattle.trace_law.specs.Runs.{IsRunOf};
-ghost use Rattle.trace_law.specs.Validity.{IsValidInput, IsValidSetting};
 ghost use Rattle.group_split.specs.Parts.{input_of_part, part as part', setting_of_group};
 ghost use Rattle.group_split.specs.Sizes.{digits as digits'};
-ghost use Rattle.join_words.specs.Words.{asked};
-ghost use Rattle.join_cli.specs.Plan.{input_of, setting_of};
+ghost use Rattle.join_words.specs.Words.{asked, members_of};
+ghost use Rattle.join_cli.specs.Plan.{input_of};
 ghost use Rattle.join_plan.specs.declared.fitting.Planned.{Planned as Planned'};
 ghost use Rattle.join_cli.specs.Courses.{AreRunsFrom, group_report, group_reports, groups_text};
 ghost use Rattle.join_cli.specs.Dealt.{IsDealt};
 ghost use Rattle.join_cli.specs.Ends.{IsMade, course_of};
+ghost use Rattle.join_cli.specs.Tasks.{IsTaskOf};
 
 use crate::outcome::{Journals, Outcome};
 use crate::output::Joined;
+use crate::task::Task;
 use crate::texts::{answer, bytes_of};
 use epoch_tags::{Counts, Pair};
 use group_split::{GroupsRun, Runs, digits, numbers, part, run_groups};
@@ -145,34 +146,38 @@ fn text_of_groups(
     Ok(text)
 }
 
-/// The output that the options ask for of an input, with this setting, of so many joiners in groups.
+/// The output that the options ask for of so many joiners in groups.
 pub(crate) fn groups_output<R: Threads + Wait + Sync, G: Gate + Sync>(
     rt: &R,
     alloc: Global,
     options: &Options<'_>,
     joiners: u32,
-    input: &Input,
-    setting: &Setting,
+    task: &Task<'_>,
     gate: &G,
 ) -> Result<Joined, AllocError>
-    requires input { IsValidInput input.now }
-    requires setting { IsValidSetting setting.now }
-    requires is { setting.now ≡ setting_of (asked options.now) }
-    requires free { setting.now.fixed ≡ None }
+    requires kind { members_of (asked options.now).kind ≡ Some joiners }
+    requires task { IsTaskOf (asked options.now) task.now }
+    requires free { task.now.setting.now.fixed ≡ None }
     requires some { 1 ≤ joiners }
     requires few { joiners ≤ 64 }
-    requires grouped { options.now.groups ≡ Some joiners }
-    ensures { IfOk result
-        (λ joined. (planned : Planned') → input.now ≡ input_of options.now.seed planned
+    ensures { IfOk result (λ joined. (planned : Planned')
+        → task.now.input.now ≡ input_of options.now.seed planned
         → IsMade (asked options.now) planned joined.text (course_of joined.done)) }
 {
-    let numbers = numbers(alloc, options.seed, joiners, input.table_r.rows.len())?;
+    let rows = task.input.table_r.rows.len();
+    let numbers = numbers(alloc, options.seed, joiners, rows)?;
     let GroupsRun { pairs, runs, trail } = run_groups(
-        rt, alloc, input, joiners, &numbers, setting, gate,
+        rt,
+        alloc,
+        task.input,
+        joiners,
+        &numbers,
+        task.setting,
+        gate,
     )?;
     let dealt = Dealt {
-        input,
-        setting,
+        input: task.input,
+        setting: task.setting,
         joiners,
         numbers: &numbers,
     };

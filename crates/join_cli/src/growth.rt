@@ -1,16 +1,18 @@
 // A run of several waves in which each joiner splits into four behind one of them.
 
 ghost use Rattle.std.specs.Prelude.{◌≡◌, ◌+◌, ◌*◌, ◌≤◌, ◌^◌, IfOk, None, length};
-ghost use Rattle.trace_law.specs.Validity.{IsValidInput, IsValidSetting};
+ghost use Rattle.trace_law.specs.Validity.{IsValidSetting};
 ghost use Rattle.actor_core.specs.Rests.{IsRestOf};
 ghost use Rattle.elastic_grow.specs.Growth.{grown_line, grown_setting as grown_setting'};
 ghost use Rattle.join_cli.specs.GrownSteps.{AreFirstWaves, AreGrownWaves, AreWavesGrown};
 ghost use Rattle.join_cli.specs.Left.{counted};
+ghost use Rattle.join_cli.specs.Tasks.{IsTask};
 ghost use Rattle.join_cli.specs.WaveSteps.{AreAhead, AreWavesBehind};
 ghost use Rattle.join_cli.specs.WaveTexts.{no_waves as no_waves'};
 ghost use Rattle.join_cli.specs.Waves.{no_rows};
 
 use crate::in_one::no_waves;
+use crate::task::Task;
 use crate::waves::{Waved, through};
 use elastic_grow::grow;
 use join_plan::WaveEnd;
@@ -65,49 +67,44 @@ fn grown_rest(
 fn first_waves<R: Threads + Wait + Sync, G: Gate + Sync>(
     rt: &R,
     alloc: Global,
-    number: Option<u64>,
-    input: &Input,
-    setting: &Setting,
+    task: &Task<'_>,
     ends: &[WaveEnd],
     gate: &G,
 ) -> Result<Waved, AllocError>
-    requires input { IsValidInput input.now }
-    requires setting { IsValidSetting setting.now }
-    requires ends { AreAhead input.now no_rows ends.now }
+    requires task { IsTask task.now }
+    requires ends { AreAhead task.now.input.now no_rows ends.now }
     requires few { length ends.now ≤ 4 }
-    ensures { IfOk result (AreFirstWaves number input.now setting.now ends.now) }
+    ensures { IfOk result
+        (AreFirstWaves task.now.number task.now.input.now task.now.setting.now ends.now) }
 {
-    let rest = Rest::empty(alloc, setting.k, setting.fixed, &input.theta)?;
-    let run = no_waves(alloc, setting)?;
+    let rest = Rest::empty(alloc, task.setting.k, task.setting.fixed, &task.input.theta)?;
+    let run = no_waves(alloc, task.setting)?;
     let trail = Trail::new(alloc);
     let none = Waved { run, trail, rest };
-    through(rt, alloc, number, none, input, setting, ends, gate)
+    through(rt, alloc, task, none, ends, gate)
 }
 
 /// The waves up to these ends, which go on from this rest, behind a run that left this.
 fn waves_from<R: Threads + Wait + Sync, G: Gate + Sync>(
     rt: &R,
     alloc: Global,
-    number: Option<u64>,
+    task: &Task<'_>,
     trail: Trail,
     rest: Rest,
-    input: &Input,
-    setting: &Setting,
     ends: &[WaveEnd],
     gate: &G,
 ) -> Result<Waved, AllocError>
-    requires input { IsValidInput input.now }
-    requires setting { IsValidSetting setting.now }
-    requires ends { AreAhead input.now (counted rest.line) ends.now }
-    requires rest { IsRestOf input.now setting.now rest }
+    requires task { IsTask task.now }
+    requires ends { AreAhead task.now.input.now (counted rest.line) ends.now }
+    requires rest { IsRestOf task.now.input.now task.now.setting.now rest }
     requires epoch { rest.line.epoch + 304 * length ends.now ≤ 2 ^ 31 }
-    ensures { IfOk result (AreWavesBehind number input.now setting.now
-        (record { run = no_waves' setting.now; trail = trail; rest = rest }) ends.now) }
+    ensures { IfOk result (AreWavesBehind task.now.number task.now.input.now task.now.setting.now
+        (record { run = no_waves' task.now.setting.now; trail = trail; rest = rest }) ends.now) }
 {
-    match no_waves(alloc, setting) {
+    match no_waves(alloc, task.setting) {
         Ok(run) => {
             let none = Waved { run, trail, rest };
-            through(rt, alloc, number, none, input, setting, ends, gate)
+            through(rt, alloc, task, none, ends, gate)
         }
         Err(refused) => {
             drop(trail);
@@ -121,29 +118,31 @@ fn waves_from<R: Threads + Wait + Sync, G: Gate + Sync>(
 fn waves_grown<R: Threads + Wait + Sync, G: Gate + Sync>(
     rt: &R,
     alloc: Global,
-    number: Option<u64>,
+    task: &Task<'_>,
     trail: Trail,
     rest: Rest,
-    input: &Input,
-    setting: &Setting,
     ends: &[WaveEnd],
     gate: &G,
 ) -> Result<(TurnLine, Waved), AllocError>
-    requires input { IsValidInput input.now }
-    requires setting { IsValidSetting setting.now }
-    requires k { setting.now.k ≤ 6 }
-    requires free { setting.now.fixed ≡ None }
-    requires ends { AreAhead input.now (counted rest.line) ends.now }
-    requires rest { IsRestOf input.now setting.now rest }
+    requires task { IsTask task.now }
+    requires k { task.now.setting.now.k ≤ 6 }
+    requires free { task.now.setting.now.fixed ≡ None }
+    requires ends { AreAhead task.now.input.now (counted rest.line) ends.now }
+    requires rest { IsRestOf task.now.input.now task.now.setting.now rest }
     requires epoch { rest.line.epoch + 304 * length ends.now ≤ 2 ^ 31 }
     ensures { IfOk result (λ since.
-        AreWavesGrown number input.now setting.now trail rest.line ends.now since.0 since.1) }
+        AreWavesGrown task.now.number task.now.input.now task.now.setting.now
+        trail rest.line ends.now since.0 since.1) }
 {
-    match grown_rest(alloc, rest, input, setting) {
+    match grown_rest(alloc, rest, task.input, task.setting) {
         Ok(rest) => {
             let line = rest.line;
-            let setting = grown_setting(setting);
-            let waves = waves_from(rt, alloc, number, trail, rest, input, &setting, ends, gate)?;
+            let setting = grown_setting(task.setting);
+            let grown = Task {
+                setting: &setting,
+                ..*task
+            };
+            let waves = waves_from(rt, alloc, &grown, trail, rest, ends, gate)?;
             Ok((line, waves))
         }
         Err(refused) => {
@@ -157,31 +156,29 @@ fn waves_grown<R: Threads + Wait + Sync, G: Gate + Sync>(
 pub(crate) fn grown_waves<R: Threads + Wait + Sync, G: Gate + Sync>(
     rt: &R,
     alloc: Global,
-    number: Option<u64>,
+    task: &Task<'_>,
     wave: u32,
-    input: &Input,
-    setting: &Setting,
     ends: &[WaveEnd],
     gate: &G,
 ) -> Result<Grown, AllocError>
-    requires input { IsValidInput input.now }
-    requires setting { IsValidSetting setting.now }
-    requires k { setting.now.k ≤ 6 }
-    requires free { setting.now.fixed ≡ None }
-    requires ends { AreAhead input.now no_rows ends.now }
+    requires task { IsTask task.now }
+    requires k { task.now.setting.now.k ≤ 6 }
+    requires free { task.now.setting.now.fixed ≡ None }
+    requires ends { AreAhead task.now.input.now no_rows ends.now }
     requires few { length ends.now ≤ 4 }
-    ensures { IfOk result (AreGrownWaves number input.now setting.now wave ends.now) }
+    ensures { IfOk result
+        (AreGrownWaves task.now.number task.now.input.now task.now.setting.now wave ends.now) }
 {
     let Some((early, later)) = ends.split_at_checked(wave as usize) else {
         return Err(AllocError);
     };
-    let first = first_waves(rt, alloc, number, input, setting, early, gate)?;
+    let first = first_waves(rt, alloc, task, early, gate)?;
     let Waved {
         run: before,
         trail,
         rest,
     } = first;
-    match waves_grown(rt, alloc, number, trail, rest, input, setting, later, gate) {
+    match waves_grown(rt, alloc, task, trail, rest, later, gate) {
         Ok((line, waves)) => {
             let Waved {
                 run: since,

@@ -1,6 +1,6 @@
 // The output of a run of several waves with a growth.
 
-ghost use Rattle.std.specs.Prelude.{◌≡◌, ◌≢◌, ◌+◌, ◌<◌, ◌≤◌, ◌++◌, ◌^◌, [], IfOk, OnOk, None, Some, false, length};
+ghost use Rattle.std.specs.Prelude.{◌≡◌, ◌+◌, ◌<◌, ◌≤◌, ◌++◌, ◌^◌, IfOk, OnOk, None, Some, length};
 ghost use Rattle.join_rows.specs.declared.table.Side.TheVariants.{R as R', S as S'};
 ghost use Rattle.trace_law.specs.Join.{row_count};
 ghost use Rattle.trace_law.specs.Validity.{IsValidInput, IsValidSetting};
@@ -9,8 +9,10 @@ ghost use Rattle.join_words.specs.Words.{asked};
 ghost use Rattle.join_plan.specs.declared.fitting.Planned.{Planned as Planned'};
 ghost use Rattle.join_cli.specs.Courses.{by_run};
 ghost use Rattle.join_cli.specs.Ends.{IsMade, course_of};
-ghost use Rattle.join_cli.specs.Grown.{bare_grown_report_of, grown_shape, placed_at};
-ghost use Rattle.join_cli.specs.Plan.{input_of, setting_of};
+ghost use Rattle.join_cli.specs.Kinds.{AreSeveralWaves};
+ghost use Rattle.join_cli.specs.Grown.{bare_grown_report_of, placed_at};
+ghost use Rattle.join_cli.specs.Plan.{input_of};
+ghost use Rattle.join_cli.specs.Tasks.{IsTaskOf};
 ghost use Rattle.join_cli.specs.WaveSteps.{AreAhead};
 ghost use Rattle.join_cli.specs.WaveTexts.{lines_of};
 ghost use Rattle.join_cli.specs.Waves.{no_rows};
@@ -19,6 +21,7 @@ use crate::growth::{Grown, grown_waves};
 use crate::in_one::journal_of_both;
 use crate::outcome::Outcome;
 use crate::output::Joined;
+use crate::task::Task;
 use crate::texts::{add, bytes_of, journal_of};
 use crate::wave_output::lines;
 use grid_map::{Shape, Weights, copies};
@@ -180,37 +183,28 @@ fn joined_of(text: Bytes, grown: Grown) -> Result<Joined, AllocError>
     }
 }
 
-/// The output that the options ask for of an input, with this setting, whose waves end there, with a growth behind so
-/// many of them.
+/// The output that the options ask for of several waves that end there, with a growth behind so many of them.
 pub(crate) fn grown_output<R: Threads + Wait + Sync, G: Gate + Sync>(
     rt: &R,
     alloc: Global,
     options: &Options<'_>,
+    task: &Task<'_>,
     wave: u32,
-    input: &Input,
     ends: &[WaveEnd],
-    setting: &Setting,
     gate: &G,
 ) -> Result<Joined, AllocError>
-    requires input { IsValidInput input.now }
-    requires setting { IsValidSetting setting.now }
-    requires is { setting.now ≡ setting_of (asked options.now) }
-    requires ends { AreAhead input.now no_rows ends.now }
+    requires kind { AreSeveralWaves (Some wave) options.now.kind }
+    requires task { IsTaskOf (asked options.now) task.now }
+    requires k { task.now.setting.now.k ≤ 6 }
+    requires free { task.now.setting.now.fixed ≡ None }
+    requires ends { AreAhead task.now.input.now no_rows ends.now }
     requires few { length ends.now ≤ 4 }
-    requires later { options.now.later.items ≢ [] }
-    requires grow { options.now.grow ≡ Some wave }
-    requires k { options.now.k ≤ 6 }
-    requires free { options.now.fixed ≡ None }
-    requires single { options.now.groups ≡ None }
-    requires whole { options.now.chain ≡ None }
-    requires queued { options.now.rings ≡ false }
-    ensures { IfOk result
-        (λ joined. (planned : Planned') → input.now ≡ input_of options.now.seed planned
-        → planned.ends ≡ ends.now
+    ensures { IfOk result (λ joined. (planned : Planned')
+        → task.now.input.now ≡ input_of options.now.seed planned → planned.ends ≡ ends.now
         → IsMade (asked options.now) planned joined.text (course_of joined.done)) }
 {
-    let grown = grown_waves(rt, alloc, options.replay, wave, input, setting, ends, gate)?;
-    match text_of_both(alloc, options, input, setting, &grown) {
+    let grown = grown_waves(rt, alloc, task, wave, ends, gate)?;
+    match text_of_both(alloc, options, task.input, task.setting, &grown) {
         Ok(text) => joined_of(text, grown),
         Err(refused) => {
             drop(grown);

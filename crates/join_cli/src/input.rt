@@ -2,7 +2,7 @@
 
 ghost use Rattle.std.specs.Prelude.{◌≡◌, ◌<◌, ◌^◌, All, IfOk, length};
 ghost use Rattle.trace_law.specs.Validity.{IsValidInput, IsValidSetting};
-ghost use Rattle.join_words.specs.Words.{asked};
+ghost use Rattle.join_words.specs.Words.{AreOptions, asked};
 ghost use Rattle.chain_join.specs.Chains.{tickets_of};
 ghost use Rattle.join_rows.specs.Records.{IsTable};
 ghost use Rattle.join_rows.specs.declared.table.Side.TheVariants.{R as R', S as S'};
@@ -18,17 +18,18 @@ use theta_pred::Theta;
 
 /// The setting that the options ask for.
 pub(crate) fn setting(options: &Options<'_>) -> Setting
-    requires setting { IsValidSetting (setting_of (asked options.now)) }
+    requires options { AreOptions (asked options.now) }
     ensures is { result ≡ setting_of (asked options.now) }
     ensures valid { IsValidSetting result }
 {
+    let grid = options.kind.grid();
     Setting {
-        k: options.k,
+        k: grid.k,
         feeders: options.feeders,
         workers: options.workers,
         batch: options.batch,
         feed: options.feed,
-        fixed: options.fixed,
+        fixed: grid.fixed,
         weights: options.weights,
     }
 }

@@ -3,7 +3,7 @@
 
 mod chain;
 mod conclude;
-mod early_report;
+mod early;
 mod entry;
 mod groups;
 mod growth;
@@ -16,6 +16,7 @@ mod output;
 mod program;
 mod rings;
 mod run;
+mod task;
 mod text;
 mod texts;
 mod top;

@@ -1,13 +1,9 @@
 // The top call.
 
-ghost use Rattle.std.specs.Prelude.{◌≡◌, ◌≢◌, ◌<◌, ◌≤◌, None, Some, true, false, IfSome, map};
-ghost use Rattle.std.specs.Prelude.{length, string_bytes};
+ghost use Rattle.std.specs.Prelude.{◌≡◌, ◌≢◌, ◌<◌, Some, map, string_bytes};
 ghost use Rattle.join_rows.specs.Shelves.{last_fault};
-ghost use Rattle.trace_law.specs.Validity.{IsValidSetting};
-ghost use Rattle.join_words.specs.Words.{asked};
+ghost use Rattle.join_words.specs.Words.{AreOptions, asked};
 ghost use Rattle.join_words.specs.declared.options.WordsFault.{WordsFault};
-ghost use Rattle.join_cli.specs.Plan.{setting_of};
-ghost use Rattle.join_cli.specs.Requests.{AreLaterAlone, IsChained, IsRinged};
 ghost use Rattle.join_cli.specs.Courses.{Course};
 ghost use Rattle.join_cli.specs.Ends.{Wrote, WroteFront, course_of};
 ghost use Rattle.join_cli.specs.Programs.{WroteOver};
@@ -34,17 +30,7 @@ fn join_files<R: Threads + Wait + Sync, H: Shelf, K: Sink, G: Gate + Sync>(
 ) -> Outcome
     requires shelf { H.faults shelf.old < last_fault }
     requires sink { K.faults sink.old < last_fault }
-    requires setting { IsValidSetting (setting_of (asked options.now)) }
-    requires make { IfSome options.now.make (λ count. (1 ≤ count) × (count ≤ 65536)) }
-    requires alone { options.now.early ≡ true
-        → (options.now.replay ≡ None) × (options.now.make ≡ None) × (options.now.rows ≡ false) }
-    requires groups { IfSome options.now.groups (λ joiners. (1 ≤ joiners) × (joiners ≤ 64)) }
-    requires grouped { IfSome options.now.groups (λ _. (options.now.fixed ≡ None)
-        × (options.now.early ≡ false) × (options.now.replay ≡ None)) }
-    requires chained { IfSome options.now.chain (IsChained options.now) }
-    requires ringed { options.now.rings ≡ true → IsRinged options.now }
-    requires few { length options.now.later.items ≤ 3 }
-    requires later { AreLaterAlone options.now }
+    requires options { AreOptions (asked options.now) }
     ensures words { (fault : WordsFault) → result ≢ Outcome.Words fault }
     ensures answers { Answers H.Shelf K.Sink (asked options.now)
         shelf.old shelf.new sink.old sink.new result }

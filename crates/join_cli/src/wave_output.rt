@@ -1,6 +1,6 @@
 // The output of a run of several waves.
 
-ghost use Rattle.std.specs.Prelude.{◌≡◌, ◌≢◌, ◌<◌, ◌≤◌, ◌++◌, ◌^◌, [], IfOk, OnOk, None, false, length};
+ghost use Rattle.std.specs.Prelude.{◌≡◌, ◌<◌, ◌≤◌, ◌++◌, ◌^◌, IfOk, OnOk, None, length};
 ghost use Rattle.join_rows.specs.declared.table.Side.TheVariants.{R as R', S as S'};
 ghost use Rattle.trace_law.specs.Join.{row_count};
 ghost use Rattle.trace_law.specs.Validity.{IsValidInput, IsValidSetting};
@@ -8,13 +8,16 @@ ghost use Rattle.join_report.specs.Report.{AreWithin};
 ghost use Rattle.join_words.specs.Words.{asked};
 ghost use Rattle.join_plan.specs.declared.fitting.Planned.{Planned as Planned'};
 ghost use Rattle.join_cli.specs.Ends.{IsMade, course_of};
-ghost use Rattle.join_cli.specs.Plan.{bare_report_of, input_of, setting_of};
+ghost use Rattle.join_cli.specs.Kinds.{AreSeveralWaves};
+ghost use Rattle.join_cli.specs.Plan.{bare_report_of, input_of};
+ghost use Rattle.join_cli.specs.Tasks.{IsTaskOf};
 ghost use Rattle.join_cli.specs.WaveSteps.{AreAhead};
 ghost use Rattle.join_cli.specs.WaveTexts.{lines_of};
 ghost use Rattle.join_cli.specs.Waves.{no_rows};
 
 use crate::outcome::Outcome;
 use crate::output::Joined;
+use crate::task::Task;
 use crate::texts::{add, bare_report, bytes_of, journal_of};
 use crate::waves::{Waved, all_waves};
 use epoch_tags::Pair;
@@ -94,42 +97,26 @@ fn text_of_waves(
     }
 }
 
-/// The output that the options ask for of an input, with this setting, whose waves end there.
+/// The output that the options ask for of several waves that end there, without a growth.
 pub(crate) fn waves_output<R: Threads + Wait + Sync, G: Gate + Sync>(
     rt: &R,
     alloc: Global,
     options: &Options<'_>,
-    input: &Input,
+    task: &Task<'_>,
     ends: &[WaveEnd],
-    setting: &Setting,
     gate: &G,
 ) -> Result<Joined, AllocError>
-    requires input { IsValidInput input.now }
-    requires setting { IsValidSetting setting.now }
-    requires is { setting.now ≡ setting_of (asked options.now) }
-    requires ends { AreAhead input.now no_rows ends.now }
+    requires kind { AreSeveralWaves None options.now.kind }
+    requires task { IsTaskOf (asked options.now) task.now }
+    requires ends { AreAhead task.now.input.now no_rows ends.now }
     requires few { length ends.now ≤ 4 }
-    requires later { options.now.later.items ≢ [] }
-    requires single { options.now.groups ≡ None }
-    requires whole { options.now.chain ≡ None }
-    requires queued { options.now.rings ≡ false }
-    requires still { options.now.grow ≡ None }
-    ensures { IfOk result
-        (λ joined. (planned : Planned') → input.now ≡ input_of options.now.seed planned
-        → planned.ends ≡ ends.now
+    ensures { IfOk result (λ joined. (planned : Planned')
+        → task.now.input.now ≡ input_of options.now.seed planned → planned.ends ≡ ends.now
         → IsMade (asked options.now) planned joined.text (course_of joined.done)) }
 {
-    let Waved { run, trail, rest } = all_waves(
-        rt,
-        alloc,
-        options.replay,
-        input,
-        setting,
-        ends,
-        gate,
-    )?;
+    let Waved { run, trail, rest } = all_waves(rt, alloc, task, ends, gate)?;
     gate.let_go(rest);
-    match text_of_waves(alloc, options, input, setting, &run) {
+    match text_of_waves(alloc, options, task.input, task.setting, &run) {
         Ok(text) => {
             let journal = journal_of(run);
             let done = Outcome::Done { journal, trail };

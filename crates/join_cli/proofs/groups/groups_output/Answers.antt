@@ -1,7 +1,9 @@
-use Rattle.std.proofs.Common.{◌≡◌, List, subst, sym}
+use Rattle.std.proofs.Common.{◌≡◌, ◌∙◌, List, ap, subst, sym}
 use Rattle.trace_law.specs.declared.run.Run.{Run}
-use Rattle.group_split.specs.Sizes.{digits}
+use Rattle.group_split.specs.Sizes.{digits, numbers_of}
+use Rattle.join_words.specs.Words.{asked}
 use Rattle.join_cli.specs.Courses.{AreRunsFrom}
+use Rattle.join_cli.proofs.Made.{groups_made}
 use Rattle.join_cli.proofs.Reports.{runs_of_groups}
 use Rattle.join_cli.proofs.groups.groups_output.Goals as goal
 
@@ -9,8 +11,17 @@ pub text_of_groups-requires-clause-runs : goal.text_of_groups-requires-clause-ru
 text_of_groups-requires-clause-runs g c =
     let found = c.in_ok-pairs.field-0 in
     let same : c.as_slice-2.result.now ≡ found.runs = c.as_slice-2.ensures in
-    subst (λ (runs : List Run). AreRunsFrom c.args.input.now c.args.joiners c.in_ok-numbers.numbers c.args.setting.now 0
-    (digits c.args.joiners) runs)
+    subst (λ (runs : List Run). AreRunsFrom c.args.task.now.input.now c.args.joiners c.in_ok-numbers.numbers
+    c.args.task.now.setting.now 0 (digits c.args.joiners) runs)
     (sym same)
-    (runs_of_groups c.args.input.now c.args.joiners c.in_ok-numbers.numbers c.args.setting.now 0 (digits c.args.joiners)
-    found.runs found.trail c.in_ok-pairs.ensures.groups)
+    (runs_of_groups c.args.task.now.input.now c.args.joiners c.in_ok-numbers.numbers c.args.task.now.setting.now 0
+    (digits c.args.joiners) found.runs found.trail c.in_ok-pairs.ensures.groups)
+
+pub returns : goal.returns
+returns g c = λ planned is.
+    let found = c.in_ok-pairs.field-0 in
+    rw c.in_ok-journals.ensures
+    (groups_made (asked c.args.options.now) planned c.args.task.now c.args.joiners c.in_ok-numbers.numbers found
+    c.in_ok-text.text c.requires.kind is c.requires.task
+    (c.in_ok-numbers.ensures.are ∙ ap (numbers_of c.args.options.now.seed c.args.joiners) c.len-rows.ensures)
+    c.in_ok-pairs.ensures.groups (rw c.as_slice-2.ensures at c.in_ok-text.ensures))

@@ -4,22 +4,14 @@ use Rattle.join_plan.specs.declared.fault.Refusal.TheVariants as refusals
 use Rattle.join_plan.specs.declared.fault.LimitFault.TheVariants.{TooLong}
 use Rattle.join_plan.specs.Causes.{Refuses}
 use Rattle.join_plan.specs.declared.refusal.Which.TheVariants.{On, Then}
-use Rattle.join_plan.proofs.Prepared.{chain_there}
 use Rattle.join_cli.specs.Chain.{IsFewBetween}
 use Rattle.join_cli.specs.Ends.{Concludes, TakesEach}
 use Rattle.join_cli.proofs.Ends.{complete_made, complete_refused, concludes_well, ends_concluded, ends_refused, wrote}
 use Rattle.join_cli.proofs.Ends.{wrote_front, wrote_so_far}
 use Rattle.join_cli.proofs.Seen.{end_concluded, end_refused, other_outcome}
-use Rattle.join_cli.proofs.Told.{chained_files, no_course, no_words, no_write, none_is_some, refused_early, was}
+use Rattle.join_cli.proofs.Told.{no_course, no_words, no_write, none_is_some, refused_early, was}
 use Rattle.join_report.proofs.Puts.{PutsSome-refl}
 use Rattle.join_cli.proofs.top.join_files.Goals as goal
-
-pub prepare-requires-clause-chained : goal.prepare-requires-clause-chained
-prepare-requires-clause-chained g c = chained_files c.args.options.now c.args.options.now.chain c.requires.chained
-
-pub conclude-requires-clause-there : goal.conclude-requires-clause-there
-conclude-requires-clause-there g c lifetimes within =
-    c.in-Ok.ensures.asked.chained ∙ chain_there c.args.options.now.chain
 
 -- ---- a plan that was carried out
 

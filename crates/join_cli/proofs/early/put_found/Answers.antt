@@ -4,7 +4,7 @@ use Rattle.join_cli.specs.Courses.{IsRunInThreads}
 use Rattle.join_cli.specs.Plan.{report_asked}
 use Rattle.join_cli.proofs.EarlyOutput.{put_cut, put_whole}
 use Rattle.join_report.proofs.Puts.{PutsSome-trans}
-use Rattle.join_cli.proofs.early_report.put_found.Goals as goal
+use Rattle.join_cli.proofs.early.put_found.Goals as goal
 
 pub returns-in-Ok-clause-whole : goal.returns-in-Ok-clause-whole
 returns-in-Ok-clause-whole g c =
@@ -32,7 +32,11 @@ returns-in-Err-clause-takes g c takes is =
     let lines = report_asked c.args.options.now.report c.args.input.now c.args.setting.now
     c.in_ok-run.field-0.run.journal in
     c.in-Err.ensures.takes (c.in_ok-run.ensures.takes (length lines + 0)
-    (takes.each c.in_ok-run.field-0.run c.in_ok-run.ensures.run)).1 (ap Err same)
+    (takes.each c.in_ok-run.field-0.run c.in_ok-trail.trail c.in_ok-run.ensures.run (record {
+      ends = c.in_ok-run.field-0.ends;
+      family = c.in_ok-run.ensures.family;
+      only = c.in_ok-trail.ensures.only;
+    }))).1 (ap Err same)
 
 pub returns-in-Ok-clause-left : goal.returns-in-Ok-clause-left
 returns-in-Ok-clause-left g c =
