@@ -4,7 +4,7 @@ use Rattle.std.proofs.Common.{cond, List, [], ◌∷◌, ◌++◌, append_assoc}
 use Rattle.epoch_tags.specs.declared.actor.Actor.{Actor}
 use Rattle.epoch_tags.specs.declared.actor.Actor.TheVariants.{Feeder, Joiner, Controller, Collector}
 use Rattle.epoch_tags.specs.declared.message.Msg.{Msg}
-use Rattle.actor_core.specs.Lists.{ActorLists, Took, Began, same_actor, posted_to, with_event}
+use Rattle.actor_core.specs.Lists.{ActorLists, Took, Began, no_lists, same_actor, posted_to, with_event}
 use Rattle.actor_core.specs.Families.{IsBalanced, AreFronts, DeliveryBalances, BeginningBalances}
 
 -- names that are one actor's are equal
@@ -109,3 +109,10 @@ pub none_left : (f : Actor → ActorLists) (left : Actor → Actor → List Msg)
     → (from to : Actor) → left from to ≡ [] → (f to).received from ≡ (f from).sent to
 none_left f left balanced from to none =
     sym (append-nil ((f to).received from)) ∙ (ap (λ rest. (f to).received from ++ rest) (sym none) ∙ balanced from to)
+
+-- lists without a message are fronts of one another
+pub fronts_none : (f : Actor → ActorLists) → ((a : Actor) → f a ≡ no_lists) → AreFronts f
+fronts_none f empty from to = record {
+  rest = (f from).sent to;
+  joins = ap (λ (ls : ActorLists). ls.received from ++ (f from).sent to) (empty to);
+}

@@ -9,7 +9,7 @@ use Rattle.epoch_tags.specs.declared.actor.Actor.{Actor}
 use Rattle.epoch_tags.specs.declared.actor.Actor.TheVariants.{Feeder, Joiner, Controller, Collector}
 use Rattle.trace_law.specs.declared.setting.Setting.{Setting}
 use Rattle.actor_core.specs.Families.{IsActor}
-use Rattle.actor_core.specs.Numbers.{number}
+use Rattle.actor_core.specs.Numbers.{cast_of, count_of, number}
 
 -- ---- a feeder's batches
 
@@ -31,7 +31,7 @@ map-cut f size xs =
 
 -- each actor of a run has a number, which is below the number of all actors
 pub has_number : (setting : Setting) (a : Actor) → IsActor setting a
-    → (n : ℕ) × (number (2 ^ setting.k) setting.feeders a ≡ Some n) × (n < setting.feeders + 2 ^ setting.k + 2)
+    → (n : ℕ) × (number (cast_of setting) a ≡ Some n) × (n < count_of (cast_of setting))
 has_number setting (Feeder p) is = (p, ap (λ b. cond b (Some p) None) (lt-ltb p setting.feeders is), omega arith)
 has_number setting (Joiner j) is =
     (setting.feeders + j, ap (λ b. cond b (Some (setting.feeders + j)) None) (lt-ltb j (2 ^ setting.k) is), omega arith)

@@ -19,10 +19,11 @@ use Rattle.trace_law.specs.Runs.{IsRunOf, run_of}
 use Rattle.trace_law.specs.Laws.{CompleteIsFinished, FinishedAnswers}
 use Rattle.trace_law.specs.Family.{Rest, IsAgreeing, IsRestFor, first_rest, rest_after}
 use Rattle.trace_law.proofs.First.{stands as first_stands}
+use Rattle.actor_core.specs.declared.cast.Cast.{Cast}
 use Rattle.actor_core.specs.Lists.{ActorLists, collector_lists}
 use Rattle.actor_core.specs.Standing.{Stands, OfCollector, IsOver}
 use Rattle.actor_core.specs.Families.{AreFronts, IsActor, core_in, family_of, journal_of, start_in_wave}
-use Rattle.actor_core.specs.Numbers.{number, at_number}
+use Rattle.actor_core.specs.Numbers.{at_number, count_of, number}
 use Rattle.actor_core.specs.Elements.{IsAllAt}
 use Rattle.actor_core.specs.Endings.{AreLast, IsAnswerOf}
 use Rattle.actor_core.specs.Leavings.{Gives}
@@ -55,40 +56,40 @@ complete_core n ls (TheCollector c) st all = (complete_says n (collector_lists l
 
 -- ---- the last two machines are the controller's and the collector's
 
-module _ (joiners feeders : ℕ) (cores : List Core) (all : length cores ≡ feeders + joiners + 2)
+module _ (cast : Cast) (cores : List Core) (all : length cores ≡ count_of cast)
     (controller : ControllerState) (collector : CollectorState) (last : AreLast cores controller collector) where
-  place_is : last.before ≡ feeders + joiners
+  place_is : last.before ≡ cast.feeders + cast.joiners
   place_is = let whole = sym last.many ∙ all in omega arith
 
   -- where the last two of as many machines as the run has actors are a controller's and a collector's, the controller's
   -- stands under the number of the run's controller
-  pub controller_named : core_in joiners feeders cores Controller ≡ Some (TheController controller)
+  pub controller_named : core_in cast cores Controller ≡ Some (TheController controller)
   controller_named = subst (λ n. slice_get cores n ≡ Some (TheController controller)) place_is last.controller_is
 
   -- and the collector's under that of the run's collector
-  pub collector_named : core_in joiners feeders cores Collector ≡ Some (TheCollector collector)
+  pub collector_named : core_in cast cores Collector ≡ Some (TheCollector collector)
   collector_named = subst (λ n. slice_get cores (n + 1) ≡ Some (TheCollector collector)) place_is last.collector_is
 
   -- the journal is that controller's
-  pub journal_named : journal_among joiners feeders cores ≡ controller.journal
+  pub journal_named : journal_among cast cores ≡ controller.journal
   journal_named = ap journal_at controller_named
 
   -- the collector is complete, if that among the machines is
-  pub collector_complete : is_complete_among joiners feeders cores ≡ true → is_complete collector ≡ true
+  pub collector_complete : is_complete_among cast cores ≡ true → is_complete collector ≡ true
   collector_complete done = sym (ap is_complete_at collector_named) ∙ done
 
 -- ---- the family of a wave
 
 -- the family of a wave that is over, to which the stores belong that its joiners' machines give back
-pub record LeavesItsStores (input : Input) (setting : Setting) (rest : Rest) (joiners feeders : ℕ) (cores : List Core)
+pub record LeavesItsStores (input : Input) (setting : Setting) (rest : Rest) (cast : Cast) (cores : List Core)
     (f : Actor → ActorLists) (journal : List TurnLine) : Type 0 where
   pub family : IsFinishedWave input setting rest journal f
   pub stored : (j : ℕ) → j < 2 ^ setting.k → (core : Core) (given : Stored)
-      → core_in joiners feeders cores (Joiner j) ≡ Some core → Gives core given
+      → core_in cast cores (Joiner j) ≡ Some core → Gives core given
       → SameBag (tuples_of given) ((rest_after input setting rest (family_of journal f) family.agrees).stores j)
 
-module _ (input : Input) (setting : Setting) (rest : Rest) (joiners feeders : ℕ) (cores : List Core)
-    (f : Actor → ActorLists) (all : AllStandInWave input setting rest joiners feeders cores f)
+module _ (input : Input) (setting : Setting) (rest : Rest) (cast : Cast) (cores : List Core)
+    (f : Actor → ActorLists) (all : AllStandInWave input setting rest cast cores f)
     (fronts : AreFronts f) where
   -- each actor of the run has a machine that stands for the actor's lists
   abbrev pub machines_in_wave : (a : Actor) → IsActor setting a
@@ -96,7 +97,7 @@ module _ (input : Input) (setting : Setting) (rest : Rest) (joiners feeders : �
   machines_in_wave a is = ((all.stands a is).0, (all.stands a is).2)
 
   abbrev journal : List TurnLine
-  journal = journal_among joiners feeders cores
+  journal = journal_among cast cores
 
   -- the journal among the machines is that of the machine found for the controller
   pub journal_is : journal ≡ journal_of (all.stands Controller tt).0
@@ -110,7 +111,7 @@ module _ (input : Input) (setting : Setting) (rest : Rest) (joiners feeders : �
 
   -- where the collector is complete, they are finished
   pub complete_in_wave : CompleteIsFinished → IsValid input setting → IsRestFor input setting rest
-      → is_complete_among joiners feeders cores ≡ true → IsFinishedWave input setting rest journal f
+      → is_complete_among cast cores ≡ true → IsFinishedWave input setting rest journal f
   complete_in_wave law valid begins done =
       let own = all.stands Collector tt in
       let collected = core_says (2 ^ setting.k) (f Collector) own.0 own.2 (sym (ap is_complete_at own.1) ∙ done) in
@@ -125,7 +126,7 @@ module _ (input : Input) (setting : Setting) (rest : Rest) (joiners feeders : �
   found over (Some n) core is = over n core is
 
   all_over : IsAllAt IsOver cores → ⊤ → (a : Actor) (is : IsActor setting a) → IsOver (machines_in_wave a is).0
-  all_over over u a is = found over (number joiners feeders a) (all.stands a is).0 (all.stands a is).1
+  all_over over u a is = found over (number cast a) (all.stands a is).0 (all.stands a is).1
 
   -- and so they are where the work of all is over
   pub over_in_wave : IsAllAt IsOver cores → IsFinishedWave input setting rest journal f
@@ -138,10 +139,10 @@ module _ (input : Input) (setting : Setting) (rest : Rest) (joiners feeders : �
 
   -- then the stores that the joiners' machines give back are what the family leaves
   pub over_leaves : IsAllAt IsOver cores → 0 < setting.feeders
-      → LeavesItsStores input setting rest joiners feeders cores f journal
+      → LeavesItsStores input setting rest cast cores f journal
   over_leaves over some =
       let ended = is_finished input setting rest f machines_in_wave fronts ⊤ (all_over over) tt in
-      subst (LeavesItsStores input setting rest joiners feeders cores f) (sym journal_is)
+      subst (LeavesItsStores input setting rest cast cores f) (sym journal_is)
       (record {
         family = record {
           agrees = agreeing input setting rest f machines_in_wave fronts ⊤ (all_over over);
@@ -156,15 +157,15 @@ module _ (input : Input) (setting : Setting) (rest : Rest) (joiners feeders : �
 
   -- and so they are where the collector is complete
   pub complete_leaves : CompleteIsFinished → IsValid input setting → IsRestFor input setting rest
-      → is_complete_among joiners feeders cores ≡ true
-      → LeavesItsStores input setting rest joiners feeders cores f journal
+      → is_complete_among cast cores ≡ true
+      → LeavesItsStores input setting rest cast cores f journal
   complete_leaves law valid begins done =
       let last = all.stands Collector tt in
       let collected = core_says (2 ^ setting.k) (f Collector) last.0 last.2 (sym (ap is_complete_at last.1) ∙ done) in
       let agreed = agreeing input setting rest f machines_in_wave fronts ⊥ (λ w. absurd w) in
       let own = journal_of (all.stands Controller tt).0 in
       let ended = law input setting rest (family_of own f) valid begins agreed collected in
-      subst (LeavesItsStores input setting rest joiners feeders cores f) (sym journal_is)
+      subst (LeavesItsStores input setting rest cast cores f) (sym journal_is)
       (record {
         family = record { agrees = agreed; finished = ended };
         stored = λ j low core given there gives.
@@ -175,20 +176,20 @@ module _ (input : Input) (setting : Setting) (rest : Rest) (joiners feeders : �
       })
 
 -- the last two machines of a finished family of a wave answer its run
-module _ (law : FinishedAnswers) (input : Input) (setting : Setting) (rest : Rest) (joiners feeders : ℕ)
+module _ (law : FinishedAnswers) (input : Input) (setting : Setting) (rest : Rest) (cast : Cast)
     (cores : List Core) (f : Actor → ActorLists) (valid : IsValid input setting)
-    (begins : IsRestFor input setting rest) (all : AllStandInWave input setting rest joiners feeders cores f)
-    (family : IsFinishedWave input setting rest (journal_among joiners feeders cores) f)
+    (begins : IsRestFor input setting rest) (all : AllStandInWave input setting rest cast cores f)
+    (family : IsFinishedWave input setting rest (journal_among cast cores) f)
     (controller : ControllerState) (collector : CollectorState) (last : AreLast cores controller collector)
     (bouts : ℕ) (run : Run) (answers : (joiners' : ℕ) (ls : CollectorLists) → CollectorStands joiners' ls collector
     → IsAnswerOf joiners' ls controller.journal bouts run) where
   abbrev told : List TurnLine
-  told = journal_among joiners feeders cores
+  told = journal_among cast cores
 
   answer : IsAnswerOf (2 ^ setting.k) (collector_lists (f Collector)) controller.journal bouts run
   answer =
       let own = all.stands Collector tt in
-      let named = collector_named joiners feeders cores all.all controller collector last in
+      let named = collector_named cast cores all.all controller collector last in
       let is = some_is own.0 (TheCollector collector) (sym own.1 ∙ named) in
       let its = subst (λ core. Stands (OfCollector (2 ^ setting.k)) (f Collector) core) is own.2 in
       answers (2 ^ setting.k) (collector_lists (f Collector)) its
@@ -199,7 +200,7 @@ module _ (law : FinishedAnswers) (input : Input) (setting : Setting) (rest : Res
       let agreed = family.agrees in
       let is_run =
       law input setting rest (family_of told f) valid begins agreed family.finished collected answer.collects bouts in
-      let journal_is = journal_named joiners feeders cores all.all controller collector last in
+      let journal_is = journal_named cast cores all.all controller collector last in
       let run_is : run ≡ run_of collected told bouts =
       answer.run_is ∙ ap (λ js. run_of collected js bouts) (sym journal_is) in
       subst (IsRunOf input setting rest.line told) (sym run_is) is_run
@@ -211,28 +212,28 @@ module _ (law : FinishedAnswers) (input : Input) (setting : Setting) (rest : Res
 
 -- ---- the family of a run, that is of the wave that begins with no rows
 
-module _ (input : Input) (setting : Setting) (joiners feeders : ℕ) (cores : List Core) (f : Actor → ActorLists)
-    (all : AllStand input setting joiners feeders cores f) (fronts : AreFronts f) where
+module _ (input : Input) (setting : Setting) (cast : Cast) (cores : List Core) (f : Actor → ActorLists)
+    (all : AllStand input setting cast cores f) (fronts : AreFronts f) where
   -- its lists agree
-  pub agrees : IsAgreeing input setting (first_rest setting) (family_of (journal_among joiners feeders cores) f)
-  agrees = agrees_in_wave input setting (first_rest setting) joiners feeders cores f all fronts
+  pub agrees : IsAgreeing input setting (first_rest setting) (family_of (journal_among cast cores) f)
+  agrees = agrees_in_wave input setting (first_rest setting) cast cores f all fronts
 
   -- where the collector is complete, they are finished
-  pub complete_finished : CompleteIsFinished → IsValid input setting → is_complete_among joiners feeders cores ≡ true
-      → IsFinishedFamily input setting (journal_among joiners feeders cores) f
+  pub complete_finished : CompleteIsFinished → IsValid input setting → is_complete_among cast cores ≡ true
+      → IsFinishedFamily input setting (journal_among cast cores) f
   complete_finished law valid done =
-      complete_in_wave input setting (first_rest setting) joiners feeders cores f all fronts law valid
+      complete_in_wave input setting (first_rest setting) cast cores f all fronts law valid
       (first_stands input setting valid) done
 
 -- the last two machines of a finished family answer its run
-pub run_ends : (law : FinishedAnswers) (input : Input) (setting : Setting) (joiners feeders : ℕ) (cores : List Core)
-    (f : Actor → ActorLists) → IsValid input setting → AllStand input setting joiners feeders cores f
-    → IsFinishedFamily input setting (journal_among joiners feeders cores) f
+pub run_ends : (law : FinishedAnswers) (input : Input) (setting : Setting) (cast : Cast) (cores : List Core)
+    (f : Actor → ActorLists) → IsValid input setting → AllStand input setting cast cores f
+    → IsFinishedFamily input setting (journal_among cast cores) f
     → (controller : ControllerState) (collector : CollectorState) → AreLast cores controller collector
     → (bouts : ℕ) (run : Run)
     → ((joiners' : ℕ) (ls : CollectorLists) → CollectorStands joiners' ls collector
     → IsAnswerOf joiners' ls controller.journal bouts run)
     → IsRunOf input setting (first_rest setting).line run.journal run
-run_ends law input setting joiners feeders cores f valid all family controller collector last bouts run answers =
-    run_ends_in_wave law input setting (first_rest setting) joiners feeders cores f valid
+run_ends law input setting cast cores f valid all family controller collector last bouts run answers =
+    run_ends_in_wave law input setting (first_rest setting) cast cores f valid
     (first_stands input setting valid) all family controller collector last bouts run answers

@@ -17,6 +17,7 @@ use Rattle.trace_law.specs.Validity.{IsValid}
 use Rattle.trace_law.specs.Laws.{EventsAreFew}
 use Rattle.trace_law.specs.Family.{IsAgreeing, IsRestFor, Rest, first_rest, migrations}
 use Rattle.trace_law.proofs.First.{stands as first_stands}
+use Rattle.actor_core.specs.declared.cast.Cast.{Cast}
 use Rattle.actor_core.specs.Lists.{ActorLists, Cause, Took, Began, no_lists, posted_to, with_event}
 use Rattle.actor_core.specs.Standing.{Event, GoOut, Stands, Waits}
 use Rattle.actor_core.specs.Families.{AreFronts, IsActor, family_of, start_in_wave}
@@ -151,24 +152,24 @@ pub record HasMadeSome (old new : Player) : Type 0 where
   pub runs : Runs (suc before) old new
 
 -- each actor of a wave made some events
-module _ (input : Input) (setting : Setting) (rest : Rest) (joiners feeders : ℕ) (old new : List Core)
-    (f g : Actor → ActorLists) (stands : AllStandInWave input setting rest joiners feeders old f)
-    (all : AllRelate HasRun joiners feeders old new f g) where
+module _ (input : Input) (setting : Setting) (rest : Rest) (cast : Cast) (old new : List Core)
+    (f g : Actor → ActorLists) (stands : AllStandInWave input setting rest cast old f)
+    (all : AllRelate HasRun cast old new f g) where
   -- the machine that the actor of a number had
-  stood : (a : Actor) (n : ℕ) → number joiners feeders a ≡ Some n → (R : Player → Player → Type 0)
-      (own : Relates R joiners feeders old new f g a)
+  stood : (a : Actor) (n : ℕ) → number cast a ≡ Some n → (R : Player → Player → Type 0)
+      (own : Relates R cast old new f g a)
       → IsActor setting a × Stands (start_in_wave input setting rest a) (f a) own.before
   stood a n is R own =
-      let actor = is_actor setting joiners feeders a n stands.joiners_are stands.feeders_are is in
+      let actor = is_actor setting cast a n stands.cast_is is in
       let st = stands.stands a actor in
       let same = some_is st.0 own.before (sym st.1 ∙ own.was) in
       (actor, subst (λ core. Stands (start_in_wave input setting rest a) (f a) core) same st.2)
 
   -- what is sent goes over links still
   pub still_linked_in_wave : AreLinked setting f → AreLinked setting g
-  still_linked_in_wave linked from to = go (number joiners feeders from) refl
+  still_linked_in_wave linked from to = go (number cast from) refl
     where
-      go : (o : Option ℕ) → number joiners feeders from ≡ o
+      go : (o : Option ℕ) → number cast from ≡ o
           → AllByRecursion (IsLinked setting from to) ((g from).sent to)
       go None is =
           subst (λ (ls : ActorLists). AllByRecursion (IsLinked setting from to) (ls.sent to))
@@ -181,15 +182,15 @@ module _ (input : Input) (setting : Setting) (rest : Rest) (joiners feeders : �
           runs_linked input setting rest from st.0 own.holds.count before after own.holds.runs st.1 to (linked from to)
 
   -- where one of them made an event, the lists count one more
-  pub counted_more_in_wave : (a : Actor) (place : ℕ) → number joiners feeders a ≡ Some place
-      → Relates HasMadeSome joiners feeders old new f g a → AreFronts g
+  pub counted_more_in_wave : (a : Actor) (place : ℕ) → number cast a ≡ Some place
+      → Relates HasMadeSome cast old new f g a → AreFronts g
       → (n n' : ℕ) → n' ≤ n + 1 → IsCounted setting f n → IsCounted setting g n'
   counted_more_in_wave a place is own fronts n n' few counted =
       let st = stood a place is HasMadeSome own in
       let linked = still_linked_in_wave counted.linked in
       let before : Player = record { core = own.before; lists = f a } in
       let after : Player = record { core = own.after; lists = g a } in
-      let grow = all_grow joiners feeders old new f g all in
+      let grow = all_grow cast old new f g all in
       let made = own.holds in
       let more =
       runs_count input setting rest a st.0 made.before before after made.runs st.1 f g refl refl grow linked fronts in
@@ -197,17 +198,17 @@ module _ (input : Input) (setting : Setting) (rest : Rest) (joiners feeders : �
       record { linked = linked; enough = omega (arith, few, more, enough) }
 
 -- the same of a run, that is of the wave that begins with no rows
-module _ (input : Input) (setting : Setting) (joiners feeders : ℕ) (old new : List Core) (f g : Actor → ActorLists)
-    (stands : AllStand input setting joiners feeders old f) (all : AllRelate HasRun joiners feeders old new f g) where
+module _ (input : Input) (setting : Setting) (cast : Cast) (old new : List Core) (f g : Actor → ActorLists)
+    (stands : AllStand input setting cast old f) (all : AllRelate HasRun cast old new f g) where
   -- what is sent goes over links still
   pub still_linked : AreLinked setting f → AreLinked setting g
-  still_linked = still_linked_in_wave input setting (first_rest setting) joiners feeders old new f g stands all
+  still_linked = still_linked_in_wave input setting (first_rest setting) cast old new f g stands all
 
   -- where one of them made an event, the lists count one more
-  pub counted_more : (a : Actor) (place : ℕ) → number joiners feeders a ≡ Some place
-      → Relates HasMadeSome joiners feeders old new f g a → AreFronts g
+  pub counted_more : (a : Actor) (place : ℕ) → number cast a ≡ Some place
+      → Relates HasMadeSome cast old new f g a → AreFronts g
       → (n n' : ℕ) → n' ≤ n + 1 → IsCounted setting f n → IsCounted setting g n'
-  counted_more = counted_more_in_wave input setting (first_rest setting) joiners feeders old new f g stands all
+  counted_more = counted_more_in_wave input setting (first_rest setting) cast old new f g stands all
 
 -- ---- so they are few
 

@@ -26,3 +26,5 @@ pub mod NextRest
 pub mod LastLines
 pub mod LaterEnds
 pub mod OneFirstCore
+pub mod Seats
+pub mod Dealing

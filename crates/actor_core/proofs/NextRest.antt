@@ -21,6 +21,7 @@ use Rattle.trace_law.specs.Validity.{IsValid}
 use Rattle.trace_law.specs.Laws.{AnswersInTheEnd, CompleteIsFinished}
 use Rattle.trace_law.specs.Family.{IsRestFor, AnswersTheJoin, aged, rest_after}
 use Rattle.trace_law.specs.Family.{Rest as WaveRest}
+use Rattle.actor_core.specs.declared.cast.Cast.{Cast}
 use Rattle.actor_core.specs.declared.machines.Core.{Core}
 use Rattle.actor_core.specs.declared.machines.Core.TheVariants.{Feeder as TheFeeder, Joiner as TheJoiner}
 use Rattle.actor_core.specs.declared.machines.Core.TheVariants.{Controller as TheController, Collector as TheCollector}
@@ -48,15 +49,15 @@ key_given theta (TheCollector c) given joins gives = absurd gives
 heads : {X : Type 0} (x y : X) (xs ys : List X) → x ∷ xs ≡ y ∷ ys → x ≡ y
 heads x y xs ys same = cc
 
-module _ (law : AnswersInTheEnd) (input : Input) (setting : Setting) (rest : WaveRest) (joiners feeders : ℕ)
+module _ (law : AnswersInTheEnd) (input : Input) (setting : Setting) (rest : WaveRest) (cast : Cast)
     (cores : List Core) (f : Actor → ActorLists) (valid : IsValid input setting)
-    (begins : IsRestFor input setting rest) (all : AllStandInWave input setting rest joiners feeders cores f)
-    (leaves : LeavesItsStores input setting rest joiners feeders cores f (journal_among joiners feeders cores))
+    (begins : IsRestFor input setting rest) (all : AllStandInWave input setting rest cast cores f)
+    (leaves : LeavesItsStores input setting rest cast cores f (journal_among cast cores))
     (joins : IsAllAt (JoinsBy input.theta) cores)
     (stores : List Stored) (controller : ControllerState) (collector : CollectorState)
-    (left : AreLeft feeders cores stores controller collector) where
+    (left : AreLeft cast.feeders cores stores controller collector) where
   abbrev journal : List TurnLine
-  journal = journal_among joiners feeders cores
+  journal = journal_among cast cores
 
   answers : AnswersTheJoin input setting rest (family_of journal f) leaves.family.agrees
   answers = law input setting rest (family_of journal f) valid begins leaves.family.agrees leaves.family.finished
@@ -68,25 +69,26 @@ module _ (law : AnswersInTheEnd) (input : Input) (setting : Setting) (rest : Wav
       ∙ (length-append (left.front ++ TheController controller ∷ []) (TheCollector collector ∷ [])
       ∙ ap (λ n. n + 1) (length-append left.front (TheController controller ∷ []))) in
       let each = all.all in
-      let grid = all.joiners_are in
+      let grid = ap (λ c. c.joiners) all.cast_is in
       omega (arith, long, whole, each, grid)
 
   -- the machine that gives the store at a place
   giver : (k : ℕ) (given : Stored) → slice_get stores k ≡ Some given
-      → (core : Core) × (slice_get cores (feeders + k) ≡ Some core) × Gives core given
+      → (core : Core) × (slice_get cores (cast.feeders + k) ≡ Some core) × Gives core given
   giver k given is =
       let own = left.stores_are.each k given is in (
         own.0,
-        subst (λ cs. slice_get cs (feeders + k) ≡ Some own.0) (sym left.all)
-            (in_front (left.front ++ TheController controller ∷ []) (TheCollector collector ∷ []) (feeders + k) own.0
-            (in_front left.front (TheController controller ∷ []) (feeders + k) own.0 own.1)),
+        subst (λ cs. slice_get cs (cast.feeders + k) ≡ Some own.0) (sym left.all)
+            (in_front (left.front ++ TheController controller ∷ []) (TheCollector collector ∷ []) (cast.feeders + k)
+            own.0
+            (in_front left.front (TheController controller ∷ []) (cast.feeders + k) own.0 own.1)),
         own.2,
       )
 
   keys : All (λ store. IsKeyOf input.theta store.key) stores
   keys = λ i d low.
       let own = giver i (get_or stores i d) (slice_get-get_or stores i d low) in
-      key_given input.theta own.0 (get_or stores i d) (joins (feeders + i) own.0 own.1) own.2
+      key_given input.theta own.0 (get_or stores i d) (joins (cast.feeders + i) own.0 own.1) own.2
 
   stored : (j : ℕ) → j < 2 ^ setting.k
       → SameBag (tuples_at stores j)
@@ -95,9 +97,10 @@ module _ (law : AnswersInTheEnd) (input : Input) (setting : Setting) (rest : Wav
       let low' : j < length stores = subst (λ n. j < n) (sym many) low in
       let given = there stores j low' in
       let own = giver j given.0 given.1 in
-      let named : core_in joiners feeders cores (Joiner j) ≡ Some own.0 =
+      let named : core_in cast cores (Joiner j) ≡ Some own.0 =
       ap (λ (o : Option ℕ). at_number None o (λ n. slice_get cores n))
-      (ap (λ b. cond b (Some (feeders + j)) None) (lt-ltb j joiners (subst (λ n. j < n) (sym all.joiners_are) low)))
+      (ap (λ b. cond b (Some (cast.feeders + j)) None)
+      (lt-ltb j cast.joiners (subst (λ c. j < c.joiners) (sym all.cast_is) low)))
       ∙ own.1 in
       let tuples : tuples_at stores j ≡ tuples_of given.0 =
       get_or-map tuples_of stores j given.0 [] low'
@@ -123,30 +126,30 @@ module _ (law : AnswersInTheEnd) (input : Input) (setting : Setting) (rest : Wav
       })
 
 -- so it is of a wave in which the work of all is over
-pub next_rest : (law : AnswersInTheEnd) (input : Input) (setting : Setting) (rest : WaveRest) (joiners feeders : ℕ)
+pub next_rest : (law : AnswersInTheEnd) (input : Input) (setting : Setting) (rest : WaveRest) (cast : Cast)
     (cores : List Core) (f : Actor → ActorLists) (valid : IsValid input setting) → IsRestFor input setting rest
-    → (all : AllStandInWave input setting rest joiners feeders cores f) → AreFronts f → IsAllAt IsOver cores
+    → (all : AllStandInWave input setting rest cast cores f) → AreFronts f → IsAllAt IsOver cores
     → IsAllAt (JoinsBy input.theta) cores
     → (stores : List Stored) (controller : ControllerState) (collector : CollectorState)
-    → AreLeft feeders cores stores controller collector
+    → AreLeft cast.feeders cores stores controller collector
     → (k : ℕ) (line : TurnLine) (past : List TurnLine) → k ≡ setting.k
-    → reverse (journal_among joiners feeders cores) ≡ line ∷ past
+    → reverse (journal_among cast cores) ≡ line ∷ past
     → IsRestOf input setting (record { k = k; line = line; stores = stores })
-next_rest law input setting rest joiners feeders cores f valid begins all fronts over joins =
-    rest_left law input setting rest joiners feeders cores f valid begins all
-    (over_leaves input setting rest joiners feeders cores f all fronts over valid.some) joins
+next_rest law input setting rest cast cores f valid begins all fronts over joins =
+    rest_left law input setting rest cast cores f valid begins all
+    (over_leaves input setting rest cast cores f all fronts over valid.some) joins
 
 -- and of one whose collector is complete
 pub complete_rest : (law : AnswersInTheEnd) (done : CompleteIsFinished) (input : Input) (setting : Setting)
-    (rest : WaveRest) (joiners feeders : ℕ)
+    (rest : WaveRest) (cast : Cast)
     (cores : List Core) (f : Actor → ActorLists) (valid : IsValid input setting) → IsRestFor input setting rest
-    → (all : AllStandInWave input setting rest joiners feeders cores f) → AreFronts f
-    → is_complete_among joiners feeders cores ≡ true → IsAllAt (JoinsBy input.theta) cores
+    → (all : AllStandInWave input setting rest cast cores f) → AreFronts f
+    → is_complete_among cast cores ≡ true → IsAllAt (JoinsBy input.theta) cores
     → (stores : List Stored) (controller : ControllerState) (collector : CollectorState)
-    → AreLeft feeders cores stores controller collector
+    → AreLeft cast.feeders cores stores controller collector
     → (k : ℕ) (line : TurnLine) (past : List TurnLine) → k ≡ setting.k
-    → reverse (journal_among joiners feeders cores) ≡ line ∷ past
+    → reverse (journal_among cast cores) ≡ line ∷ past
     → IsRestOf input setting (record { k = k; line = line; stores = stores })
-complete_rest law done input setting rest joiners feeders cores f valid begins all fronts collected joins =
-    rest_left law input setting rest joiners feeders cores f valid begins all
-    (complete_leaves input setting rest joiners feeders cores f all fronts done valid begins collected) joins
+complete_rest law done input setting rest cast cores f valid begins all fronts collected joins =
+    rest_left law input setting rest cast cores f valid begins all
+    (complete_leaves input setting rest cast cores f all fronts done valid begins collected) joins

@@ -16,6 +16,7 @@ use Rattle.trace_law.specs.Validity.{IsValid}
 use Rattle.trace_law.specs.Laws.{QuietIsFinished}
 use Rattle.trace_law.specs.Family.{IsAgreeing, IsFinished, IsQuiet, IsRestFor, Rest, feeder_start, first_rest}
 use Rattle.trace_law.proofs.First.{stands as first_stands}
+use Rattle.actor_core.specs.declared.cast.Cast.{Cast}
 use Rattle.actor_core.specs.Lists.{ActorLists, feeder_lists}
 use Rattle.actor_core.specs.Standing.{GoesOn, Stands, Waits}
 use Rattle.actor_core.specs.Families.{AreFronts, IsActor, core_in, family_of, journal_of, start_in_wave}
@@ -28,18 +29,18 @@ use Rattle.actor_core.proofs.Families.{agrees as agreeing, none_goes}
 use Rattle.actor_core.proofs.OwnNumbers.{is_actor, number_there, some_is}
 use Rattle.actor_core.proofs.Waiting.{waits_says}
 
-module _ (input : Input) (setting : Setting) (rest : Rest) (joiners feeders : ℕ) (cores : List Core) (f : Actor
+module _ (input : Input) (setting : Setting) (rest : Rest) (cast : Cast) (cores : List Core) (f : Actor
     → ActorLists)
-    (all : AllStandInWave input setting rest joiners feeders cores f) (fronts : AreFronts f)
+    (all : AllStandInWave input setting rest cast cores f) (fronts : AreFronts f)
     (received : (from to : Actor) → HasLink setting.k setting.feeders from to → (f to).received from ≡ (f from).sent to)
-    (waits : (p : ℕ) → p < setting.feeders → (core : Core) → core_in joiners feeders cores (Feeder p) ≡ Some core
+    (waits : (p : ℕ) → p < setting.feeders → (core : Core) → core_in cast cores (Feeder p) ≡ Some core
     → Waits core) where
   abbrev journal : List TurnLine
   journal = journal_of (all.stands Controller tt).0
 
   abbrev cores_by_actor : (a : Actor) → IsActor setting a
       → (core : Core) × Stands (start_in_wave input setting rest a) (f a) core
-  cores_by_actor = machines_in_wave input setting rest joiners feeders cores f all fronts
+  cores_by_actor = machines_in_wave input setting rest cast cores f all fronts
 
   abbrev agrees : IsAgreeing input setting rest (family_of journal f)
   agrees = agreeing input setting rest f cores_by_actor fronts ⊥ (λ w. absurd w)
@@ -75,7 +76,7 @@ module _ (input : Input) (setting : Setting) (rest : Rest) (joiners feeders : �
     finished = law input setting rest (family_of journal f) valid begins agrees quiet
 
     -- the collector is complete
-    pub still_complete_in_wave : is_complete_among joiners feeders cores ≡ true
+    pub still_complete_in_wave : is_complete_among cast cores ≡ true
     still_complete_in_wave =
         let own = all.stands Collector tt in
         ap is_complete_at own.1 ∙ complete_core (2 ^ setting.k) (f Collector) own.0 own.2 finished.collector
@@ -83,11 +84,11 @@ module _ (input : Input) (setting : Setting) (rest : Rest) (joiners feeders : �
     none_at_work : IsSomeAt GoesOn cores → ⊥
     none_at_work some =
         let low = slice_get_within cores some.place some.there some.is in
-        let a = actor_at joiners feeders some.place in
-        let numbered = number_there joiners feeders some.place (subst (λ z. some.place < z) all.all low) in
-        let is = is_actor setting joiners feeders a some.place all.joiners_are all.feeders_are numbered in
+        let a = actor_at cast some.place in
+        let numbered = number_there cast some.place (subst (λ z. some.place < z) all.all low) in
+        let is = is_actor setting cast a some.place all.cast_is numbered in
         let own = all.stands a is in
-        let there : core_in joiners feeders cores a ≡ Some some.there =
+        let there : core_in cast cores a ≡ Some some.there =
         ap (λ (i : Option ℕ). at_number None i (λ n. slice_get cores n)) numbered ∙ some.is in
         let same = some_is some.there own.0 (sym there ∙ own.1) in
         none_goes input setting rest f cores_by_actor fronts ⊥ (λ w. absurd w) finished a is
@@ -99,19 +100,19 @@ module _ (input : Input) (setting : Setting) (rest : Rest) (joiners feeders : �
     still_is_done_in_wave false goes = absurd (none_at_work (goes refl))
 
 -- the same of a run, that is of the wave that begins with no rows
-module _ (input : Input) (setting : Setting) (joiners feeders : ℕ) (cores : List Core) (f : Actor → ActorLists)
-    (all : AllStand input setting joiners feeders cores f) (fronts : AreFronts f)
+module _ (input : Input) (setting : Setting) (cast : Cast) (cores : List Core) (f : Actor → ActorLists)
+    (all : AllStand input setting cast cores f) (fronts : AreFronts f)
     (received : (from to : Actor) → HasLink setting.k setting.feeders from to → (f to).received from ≡ (f from).sent to)
-    (waits : (p : ℕ) → p < setting.feeders → (core : Core) → core_in joiners feeders cores (Feeder p) ≡ Some core
+    (waits : (p : ℕ) → p < setting.feeders → (core : Core) → core_in cast cores (Feeder p) ≡ Some core
     → Waits core) (law : QuietIsFinished) (valid : IsValid input setting) where
   -- the collector is complete
-  pub still_complete : is_complete_among joiners feeders cores ≡ true
+  pub still_complete : is_complete_among cast cores ≡ true
   still_complete =
-      still_complete_in_wave input setting (first_rest setting) joiners feeders cores f all fronts received waits law
+      still_complete_in_wave input setting (first_rest setting) cast cores f all fronts received waits law
       valid (first_stands input setting valid)
 
   -- so who finds that some work goes on, or that none does, finds that none does
   pub still_is_done : (done : Bool) → (done ≡ false → IsSomeAt GoesOn cores) → done ≡ true
   still_is_done done goes =
-      still_is_done_in_wave input setting (first_rest setting) joiners feeders cores f all fronts received waits law
+      still_is_done_in_wave input setting (first_rest setting) cast cores f all fronts received waits law
       valid (first_stands input setting valid) done goes

@@ -18,7 +18,7 @@ use Rattle.trace_law.specs.Family.{Rest, rules_of}
 use Rattle.actor_core.specs.Lists.{ActorLists, no_lists}
 use Rattle.actor_core.specs.Standing.{OfController, OfCollector, Stands, HasGivenNone, IsLive, JoinsBy}
 use Rattle.actor_core.specs.Families.{start_in_wave, IsActor, core_in}
-use Rattle.actor_core.specs.Numbers.{number, at_number}
+use Rattle.actor_core.specs.Numbers.{actor_at, at_number, cast_of, count_of, number}
 use Rattle.actor_core.specs.Players.{AllStandInWave}
 use Rattle.actor_core.specs.Rests.{IsMade, AreMade, tuples_at}
 use Rattle.actor_core.specs.declared.machines.Core.{Core}
@@ -109,12 +109,12 @@ module _ (input : Input) (setting : Setting) (rest : Rest) where
   }
 
   -- a machine that begins as the actor with this number does
-  pub made_at : (a : Actor) (n : ℕ) (core : Core) → number (2 ^ setting.k) setting.feeders a ≡ Some n
+  pub made_at : (a : Actor) (n : ℕ) (core : Core) → number (cast_of setting) a ≡ Some n
       → Stands (start_in_wave input setting rest a) no_lists core → IsLive core
       → HasGivenNone (2 ^ setting.k) core → JoinsBy input.theta core → IsMade input setting rest n core
   made_at a n core at stands live given joins = record {
     stands = subst (λ z. Stands (start_in_wave input setting rest z) no_lists core)
-        (sym (number_actor (2 ^ setting.k) setting.feeders a n at)) stands;
+        (sym (number_actor (cast_of setting) a n at)) stands;
     live = live;
     given = given;
     joins = joins;
@@ -127,7 +127,7 @@ module _ (input : Input) (setting : Setting) (rest : Rest) where
       → HasGivenNone (2 ^ setting.k) controller
       → Stands (start_in_wave input setting rest Collector) no_lists collector → IsLive collector
       → HasGivenNone (2 ^ setting.k) collector
-      → AreMade input setting rest (setting.feeders + 2 ^ setting.k + 2)
+      → AreMade input setting rest (count_of (cast_of setting))
       ((cores ++ controller ∷ []) ++ collector ∷ [])
   whole_made cores controller collector made st live given st' live' given' =
       let n = setting.feeders + 2 ^ setting.k in
@@ -140,19 +140,26 @@ module _ (input : Input) (setting : Setting) (rest : Rest) where
       subst (λ m. AreMade input setting rest m ((cores ++ controller ∷ []) ++ collector ∷ [])) two
       (one_made (n + 1) (cores ++ controller ∷ []) collector (one_made n cores controller made one) other)
 
-  -- all of them stand for empty lists
-  pub made_stand : (cores : List Core) → AreMade input setting rest (setting.feeders + 2 ^ setting.k + 2) cores
-      → AllStandInWave input setting rest (2 ^ setting.k) setting.feeders cores (λ actor. no_lists)
-  made_stand cores made = record { joiners_are = refl; feeders_are = refl; all = made.all; stands = stands }
+  -- where the machine under each number stands for empty lists, all of them do
+  pub all_stand : (cores : List Core) → length cores ≡ count_of (cast_of setting)
+      → ((n : ℕ) (core : Core) → slice_get cores n ≡ Some core
+      → Stands (start_in_wave input setting rest (actor_at (cast_of setting) n)) no_lists core)
+      → AllStandInWave input setting rest (cast_of setting) cores (λ actor. no_lists)
+  all_stand cores many each = record { cast_is = refl; all = many; stands = stands }
     where
       stands : (a : Actor) → IsActor setting a → (core : Core)
-          × (core_in (2 ^ setting.k) setting.feeders cores a ≡ Some core)
+          × (core_in (cast_of setting) cores a ≡ Some core)
           × Stands (start_in_wave input setting rest a) no_lists core
       stands a is =
           let at = has_number setting a is in
-          let core = there cores at.0 (subst (λ z. at.0 < z) (sym made.all) at.2) in (
+          let core = there cores at.0 (subst (λ z. at.0 < z) (sym many) at.2) in (
             core.0,
             ap (λ (i : Option ℕ). at_number None i (λ k. slice_get cores k)) at.1 ∙ core.1,
             subst (λ z. Stands (start_in_wave input setting rest z) no_lists core.0)
-                (number_actor (2 ^ setting.k) setting.feeders a at.0 at.1) (made.each at.0 core.0 core.1).stands,
+                (number_actor (cast_of setting) a at.0 at.1) (each at.0 core.0 core.1),
           )
+
+  -- so do those of a wave before its first event
+  pub made_stand : (cores : List Core) → AreMade input setting rest (count_of (cast_of setting)) cores
+      → AllStandInWave input setting rest (cast_of setting) cores (λ actor. no_lists)
+  made_stand cores made = all_stand cores made.all (λ n core is. (made.each n core is).stands)

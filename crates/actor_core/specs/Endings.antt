@@ -18,6 +18,12 @@ pub record AreLast (cores : List Core) (controller : ControllerState) (collector
   pub controller_is : slice_get cores before ≡ Some (TheController controller)
   pub collector_is : slice_get cores (before + 1) ≡ Some (TheCollector collector)
 
+-- the last two machines are some controller's and some collector's
+pub record HaveLast (cores : List Core) : Type 0 where
+  pub controller : ControllerState
+  pub collector : CollectorState
+  pub are : AreLast cores controller collector
+
 -- the run that a collector with these lists answers, with this journal
 pub record IsAnswerOf (joiners : ℕ) (lists : CollectorLists) (journal : List TurnLine) (bouts : ℕ)
     (run : Run) : Type 0 where

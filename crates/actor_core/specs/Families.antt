@@ -1,5 +1,5 @@
 -- All actors of a run: their machines, their lists, and what is under way.
-use Rattle.std.specs.Prelude.{◌≡◌, ◌^◌, ◌<◌, ⊤, ◌&&◌, ℕ, Option, None, List, [], ◌∷◌, ◌++◌, slice_get, if◌then◌else◌}
+use Rattle.std.specs.Prelude.{◌≡◌, ◌^◌, ◌<◌, ⊤, ◌&&◌, Option, None, List, [], ◌∷◌, ◌++◌, slice_get, if◌then◌else◌}
 use Rattle.join_rows.specs.Lists.{IsPrefix}
 use Rattle.epoch_tags.specs.declared.actor.Actor.{Actor}
 use Rattle.epoch_tags.specs.declared.actor.Actor.TheVariants.{Feeder, Joiner, Controller, Collector}
@@ -10,6 +10,7 @@ use Rattle.load_controller.specs.declared.line.TurnLine.{TurnLine}
 use Rattle.trace_law.specs.declared.input.Input.{Input}
 use Rattle.trace_law.specs.declared.setting.Setting.{Setting}
 use Rattle.trace_law.specs.Family.{Family, Rest, feeder_start, joiner_start, rules_of, first_rest}
+use Rattle.actor_core.specs.declared.cast.Cast.{Cast}
 use Rattle.actor_core.specs.Lists.{ActorLists, Cause, Took, Began, same_actor, posted_to, feeder_lists, joiner_lists}
 use Rattle.actor_core.specs.Lists.{controller_lists, collector_lists, with_event}
 use Rattle.actor_core.specs.Numbers.{number, at_number}
@@ -39,9 +40,9 @@ IsActor setting (Joiner j) = j < 2 ^ setting.k
 IsActor setting Controller = ⊤
 IsActor setting Collector = ⊤
 
--- of a run with so many joiners and feeders, the machine of an actor, if it is one of the run
-abbrev pub core_in : ℕ → ℕ → List Core → Actor → Option Core
-core_in joiners feeders cores a = at_number None (number joiners feeders a) (λ n. slice_get cores n)
+-- the machine of an actor that takes part in the run
+abbrev pub core_in : Cast → List Core → Actor → Option Core
+core_in cast cores a = at_number None (number cast a) (λ n. slice_get cores n)
 
 -- the journal that the machine holds
 abbrev pub journal_of : Core → List TurnLine

@@ -1,5 +1,5 @@
 -- The machines before the first event of a run: all that they hold is determined by how they began.
-use Rattle.std.specs.Prelude.{◌≡◌, ℕ, ◌^◌}
+use Rattle.std.specs.Prelude.{◌≡◌, ℕ}
 use Rattle.theta_pred.specs.Formula.{Meaning}
 use Rattle.reshuffler_core.specs.Standing.{just_begun as feeder_begun}
 use Rattle.joiner_law.specs.Law.{JoinerStart}
@@ -10,7 +10,7 @@ use Rattle.pair_collector.specs.Standing.{just_begun as collector_begun}
 use Rattle.trace_law.specs.declared.input.Input.{Input}
 use Rattle.trace_law.specs.declared.setting.Setting.{Setting}
 use Rattle.actor_core.specs.Families.{start_for}
-use Rattle.actor_core.specs.Numbers.{actor_at}
+use Rattle.actor_core.specs.Numbers.{actor_at, cast_of}
 use Rattle.actor_core.specs.Standing.{Start, OfFeeder, OfJoiner, OfController, OfCollector}
 use Rattle.actor_core.specs.declared.machines.Core.{Core}
 use Rattle.actor_core.specs.declared.machines.Core.TheVariants.{Feeder as TheFeeder, Joiner as TheJoiner}
@@ -32,7 +32,7 @@ IsFirst theta (OfCollector joiners) core = core ≡ TheCollector (collector_begu
 -- the machine with this number, as a run of this input and setting begins with it
 abbrev pub IsFirstAt : Input → Setting → ℕ → Core → Type 0
 IsFirstAt input setting n core =
-    IsFirst input.theta (start_for input setting (actor_at (2 ^ setting.k) setting.feeders n)) core
+    IsFirst input.theta (start_for input setting (actor_at (cast_of setting) n)) core
 
 -- two machines that have begun so are one
 abbrev pub FirstCoresAreOne : Type 0

@@ -1,21 +1,31 @@
--- The numbers of a run's actors, what is found under them, and who sends to whom.
+-- Who takes part in a run, by numbers: what is found under them, and who sends to whom.
 use Rattle.std.specs.Prelude.{◌≡◌, ◌<◌, ◌^◌, ℕ, ◌+◌, ◌-◌, ◌==◌, nat_lt, bit_xor, Option, Some, None, if◌then◌else◌}
 use Rattle.epoch_tags.specs.declared.actor.Actor.{Actor}
 use Rattle.epoch_tags.specs.declared.actor.Actor.TheVariants.{Feeder, Joiner, Controller, Collector}
+use Rattle.trace_law.specs.declared.setting.Setting.{Setting}
+use Rattle.actor_core.specs.declared.cast.Cast.{Cast}
 
--- of a run with so many joiners and feeders: feeders first, then joiners, the controller, the collector
-abbrev pub number : ℕ → ℕ → Actor → Option ℕ
-number joiners feeders (Feeder p) = if nat_lt p feeders then Some p else None
-number joiners feeders (Joiner j) = if nat_lt j joiners then Some (feeders + j) else None
-number joiners feeders Controller = Some (feeders + joiners)
-number joiners feeders Collector = Some (feeders + joiners + 1)
+-- who takes part in a run of this setting
+abbrev pub cast_of : Setting → Cast
+cast_of setting = record { joiners = 2 ^ setting.k; feeders = setting.feeders }
+
+-- how many actors take part: the feeders and joiners, a controller and a collector
+abbrev pub count_of : Cast → ℕ
+count_of cast = cast.feeders + cast.joiners + 2
+
+-- the number of an actor, where it takes part: feeders first, then joiners, the controller, the collector
+abbrev pub number : Cast → Actor → Option ℕ
+number cast (Feeder p) = if nat_lt p cast.feeders then Some p else None
+number cast (Joiner j) = if nat_lt j cast.joiners then Some (cast.feeders + j) else None
+number cast Controller = Some (cast.feeders + cast.joiners)
+number cast Collector = Some (cast.feeders + cast.joiners + 1)
 
 -- the actor of a number
-abbrev pub actor_at : ℕ → ℕ → ℕ → Actor
-actor_at joiners feeders n =
-    if nat_lt n feeders then Feeder n
-    else if nat_lt n (feeders + joiners) then Joiner (n - feeders)
-    else if n == feeders + joiners then Controller
+abbrev pub actor_at : Cast → ℕ → Actor
+actor_at cast n =
+    if nat_lt n cast.feeders then Feeder n
+    else if nat_lt n (cast.feeders + cast.joiners) then Joiner (n - cast.feeders)
+    else if n == cast.feeders + cast.joiners then Controller
     else Collector
 
 -- what is found under a number, where there is one

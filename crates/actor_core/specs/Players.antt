@@ -1,5 +1,5 @@
 -- Actors at work: what the events of a run do to machines and lists, and how a run ends.
-use Rattle.std.specs.Prelude.{◌≡◌, ◌+◌, ◌^◌, ⊤, ℕ, zero, suc, Bool, false, Option, Some, None, List, [], length}
+use Rattle.std.specs.Prelude.{◌≡◌, ⊤, ℕ, zero, suc, Bool, false, Option, Some, None, List, [], length}
 use Rattle.std.specs.Prelude.{slice_get}
 use Rattle.std.specs.List.{AllByRecursion}
 use Rattle.join_rows.specs.Lists.{IsPrefix}
@@ -14,10 +14,11 @@ use Rattle.pair_collector.specs.Standing.{is_complete}
 use Rattle.trace_law.specs.declared.input.Input.{Input}
 use Rattle.trace_law.specs.declared.setting.Setting.{Setting}
 use Rattle.trace_law.specs.Family.{Rest, IsAgreeing, IsFinished, first_rest}
+use Rattle.actor_core.specs.declared.cast.Cast.{Cast}
 use Rattle.actor_core.specs.Lists.{ActorLists, Cause, Took, Began, no_lists, with_event}
 use Rattle.actor_core.specs.Standing.{Event, Stands, Waits, IsLive, given_by}
 use Rattle.actor_core.specs.Families.{AreFronts, IsActor, core_in, family_of, journal_of, start_in_wave}
-use Rattle.actor_core.specs.Numbers.{number, at_number}
+use Rattle.actor_core.specs.Numbers.{at_number, cast_of, count_of, number}
 use Rattle.actor_core.specs.declared.machines.Core.{Core}
 use Rattle.actor_core.specs.declared.machines.Core.TheVariants.{Feeder as TheFeeder, Joiner as TheJoiner}
 use Rattle.actor_core.specs.declared.machines.Core.TheVariants.{Controller as TheController, Collector as TheCollector}
@@ -55,18 +56,17 @@ Runs (suc n) old new = (middle : Player) × Runs n old middle × MakesEvent midd
 
 -- there is a machine for each actor; it began as this input, this setting and this rest say, and stands for the
 -- actor's lists
-pub record AllStandInWave (input : Input) (setting : Setting) (rest : Rest) (joiners feeders : ℕ) (cores : List Core)
+pub record AllStandInWave (input : Input) (setting : Setting) (rest : Rest) (cast : Cast) (cores : List Core)
     (f : Actor → ActorLists) : Type 0 where
-  pub joiners_are : joiners ≡ 2 ^ setting.k
-  pub feeders_are : feeders ≡ setting.feeders
-  pub all : length cores ≡ feeders + joiners + 2
-  pub stands : (a : Actor) → IsActor setting a → (core : Core) × (core_in joiners feeders cores a ≡ Some core)
+  pub cast_is : cast ≡ cast_of setting
+  pub all : length cores ≡ count_of cast
+  pub stands : (a : Actor) → IsActor setting a → (core : Core) × (core_in cast cores a ≡ Some core)
       × Stands (start_in_wave input setting rest a) (f a) core
 
 -- the same of a run, that is of the wave that begins with no rows
-abbrev pub AllStand : Input → Setting → ℕ → ℕ → List Core → (Actor → ActorLists) → Type 0
-AllStand input setting joiners feeders cores f =
-    AllStandInWave input setting (first_rest setting) joiners feeders cores f
+abbrev pub AllStand : Input → Setting → Cast → List Core → (Actor → ActorLists) → Type 0
+AllStand input setting cast cores f =
+    AllStandInWave input setting (first_rest setting) cast cores f
 
 -- each list is a front of the later one
 pub record Extends (old new : Actor → ActorLists) : Type 0 where
@@ -98,9 +98,9 @@ lists_at lists_of None = no_lists
 lists_at lists_of (Some seat) = lists_of seat
 
 -- what each actor has received and sent
-abbrev pub lists_among : {S : Type 0} → (S → ActorLists) → ℕ → ℕ → List S → Actor → ActorLists
-lists_among lists_of joiners feeders seats a =
-    lists_at lists_of (at_number None (number joiners feeders a) (λ n. slice_get seats n))
+abbrev pub lists_among : {S : Type 0} → (S → ActorLists) → Cast → List S → Actor → ActorLists
+lists_among lists_of cast seats a =
+    lists_at lists_of (at_number None (number cast a) (λ n. slice_get seats n))
 
 -- ---- the end of a run
 
@@ -110,8 +110,8 @@ journal_at None = []
 journal_at (Some core) = journal_of core
 
 -- the journal of the controller among these machines
-abbrev pub journal_among : ℕ → ℕ → List Core → List TurnLine
-journal_among joiners feeders cores = journal_at (core_in joiners feeders cores Controller)
+abbrev pub journal_among : Cast → List Core → List TurnLine
+journal_among cast cores = journal_at (core_in cast cores Controller)
 
 -- each joiner has ended, by this machine
 abbrev pub is_complete_core : Core → Bool
@@ -126,8 +126,8 @@ is_complete_at None = false
 is_complete_at (Some core) = is_complete_core core
 
 -- the collector among these machines is complete
-abbrev pub is_complete_among : ℕ → ℕ → List Core → Bool
-is_complete_among joiners feeders cores = is_complete_at (core_in joiners feeders cores Collector)
+abbrev pub is_complete_among : Cast → List Core → Bool
+is_complete_among cast cores = is_complete_at (core_in cast cores Collector)
 
 -- these lists and this journal are a family of the input, the setting and the rest that agrees and is finished
 pub record IsFinishedWave (input : Input) (setting : Setting) (rest : Rest) (journal : List TurnLine)

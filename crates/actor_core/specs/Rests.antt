@@ -16,7 +16,7 @@ use Rattle.actor_core.specs.declared.rests.Rest.{Rest}
 use Rattle.actor_core.specs.declared.rests.Upto.{Upto}
 use Rattle.actor_core.specs.Families.{start_in_wave}
 use Rattle.actor_core.specs.Lists.{no_lists}
-use Rattle.actor_core.specs.Numbers.{actor_at}
+use Rattle.actor_core.specs.Numbers.{actor_at, cast_of}
 use Rattle.actor_core.specs.Standing.{Stands, HasGivenNone, IsLive, JoinsBy}
 
 -- ---- where a wave ends
@@ -89,7 +89,7 @@ with_base line tuples = record { line = line; stores = λ j. tuples }
 
 -- the machine of the actor with this number, before the first event of a wave
 pub record IsMade (input : Input) (setting : Setting) (rest : WaveRest) (n : ℕ) (core : Core) : Type 0 where
-  pub stands : Stands (start_in_wave input setting rest (actor_at (2 ^ setting.k) setting.feeders n)) no_lists core
+  pub stands : Stands (start_in_wave input setting rest (actor_at (cast_of setting) n)) no_lists core
   pub live : IsLive core
   pub given : HasGivenNone (2 ^ setting.k) core
   pub joins : JoinsBy input.theta core

@@ -1,17 +1,27 @@
 // The last two of a run's machines.
 
-ghost use Rattle.std.specs.Prelude.{IfSome};
-ghost use Rattle.actor_core.specs.Endings.{AreLast};
+ghost use Rattle.actor_core.specs.Endings.{AreLast, HaveLast};
 
 use crate::machines::Core;
 use load_controller::Controller;
 use pair_collector::Collector;
 
-/// The last two machines, where these are a controller's and a collector's. It takes no memory.
-pub fn last_machines<'a>(mut cores: Vec<Core<'a>>) -> Option<(Controller, Collector)>
-    ensures { IfSome result (λ last. AreLast cores.entry.items last.0 last.1) }
+/// The controller's machine and the collector's, which are the last two of a run. It takes no memory.
+pub fn last_two<'a>(mut cores: Vec<Core<'a>>) -> (Controller, Collector)
+    requires { ∥ HaveLast cores.items ∥₁ }
+    ensures { AreLast cores.entry.items result.0 result.1 }
 {
-    let collector = cores.pop()?.into_collector()?;
-    let controller = cores.pop()?.into_controller()?;
-    Some((controller, collector))
+    let Some(last) = cores.pop() else {
+        unreachable!()
+    };
+    let Some(before) = cores.pop() else {
+        unreachable!()
+    };
+    let Some(collector) = last.into_collector() else {
+        unreachable!()
+    };
+    let Some(controller) = before.into_controller() else {
+        unreachable!()
+    };
+    (controller, collector)
 }

@@ -3,13 +3,13 @@
 #![tactic(auto)]
 
 mod answers;
+mod cast;
 mod crossing;
 mod endings;
 mod laws;
 mod leavings;
 mod links;
 mod machines;
-mod numbers;
 mod rests;
 mod start;
 mod step;
@@ -17,13 +17,12 @@ mod wave_runs;
 mod waves;
 
 pub use answers::answer;
+pub use cast::Cast;
 pub use crossing::shares_predicates;
-pub use endings::last_machines;
+pub use endings::last_two;
 pub use laws::{events_fit, first_cores_are_one, stands_beyond, stands_upto, wave_events_fit};
 pub use leavings::machines_left;
-pub use links::has_link;
 pub use machines::Core;
-pub use numbers::number;
 pub use rests::{Rest, Stores, Upto};
 pub use start::{core_at, joiners_of};
 pub use step::Step;

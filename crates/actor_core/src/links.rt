@@ -1,7 +1,6 @@
 // Which actors of a run are joined by a link.
 
-ghost use Rattle.std.specs.Prelude.{◌≡◌, ℕ, ◌^◌, ◌↔◌, IsTrue, true, false};
-ghost use Rattle.epoch_tags.specs.Links.{HasLink};
+ghost use Rattle.std.specs.Prelude.{◌≡◌, true, false};
 ghost use Rattle.actor_core.specs.Numbers.{DifferInOneBit, AreJoined};
 
 use epoch_tags::Actor;
@@ -21,7 +20,7 @@ fn differ_in_one_bit(joiners: u32, from: u32, to: u32) -> bool
 }
 
 // Whether an actor sends to another, in a run with so many joiners and feeders.
-fn are_joined(joiners: u32, feeders: u32, from: Actor, to: Actor) -> bool
+pub(crate) fn are_joined(joiners: u32, feeders: u32, from: Actor, to: Actor) -> bool
     ensures up { result ≡ true → AreJoined joiners feeders from to }
     ensures down { result ≡ false → ¬ AreJoined joiners feeders from to }
 {
@@ -46,11 +45,4 @@ fn are_joined(joiners: u32, feeders: u32, from: Actor, to: Actor) -> bool
         },
         Actor::Collector => false,
     }
-}
-
-/// Whether a run with so many joiners and feeders has a link from one actor to the other. It takes no memory.
-pub fn has_link(joiners: u32, feeders: u32, from: Actor, to: Actor) -> bool
-    ensures { (k : ℕ) → joiners ≡ 2 ^ k → (IsTrue result ↔ HasLink k feeders from to) }
-{
-    are_joined(joiners, feeders, from, to)
 }

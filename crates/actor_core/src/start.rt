@@ -13,7 +13,7 @@ ghost use Rattle.actor_core.specs.FirstCores.{IsFirst, IsFirstAt};
 ghost use Rattle.actor_core.specs.Lists.{no_lists};
 ghost use Rattle.actor_core.specs.Standing.{Stands, HasGivenNone, IsLive, OfFeeder, OfJoiner, OfController, OfCollector};
 ghost use Rattle.actor_core.specs.Families.{start_for};
-ghost use Rattle.actor_core.specs.Numbers.{actor_at};
+ghost use Rattle.actor_core.specs.Numbers.{actor_at, cast_of};
 ghost use Rattle.actor_core.specs.declared.machines.Core.TheVariants.{Controller as TheController, Collector as TheCollector};
 
 use crate::machines::Core;
@@ -175,7 +175,7 @@ pub fn core_at<'a>(
     requires input { IsValidInput input.now }
     requires setting { IsValidSetting setting.now }
     ensures stands { IfOk result (λ core. Stands (start_for input.now setting.now
-        (actor_at (2 ^ setting.now.k) setting.now.feeders n)) no_lists core) }
+        (actor_at (cast_of setting.now) n)) no_lists core) }
     ensures live { IfOk result IsLive }
     ensures given { IfOk result (HasGivenNone (2 ^ setting.now.k)) }
     // all that it holds is determined by the input, the setting and its number

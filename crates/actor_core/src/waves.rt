@@ -12,6 +12,7 @@ ghost use Rattle.trace_law.specs.Validity.{IsValidInput, IsValidSetting};
 ghost use Rattle.trace_law.specs.Family.{is_old, tuple_of, feeder_start, joiner_start, rules_of};
 ghost use Rattle.actor_core.specs.Lists.{no_lists};
 ghost use Rattle.actor_core.specs.Standing.{Stands, HasGivenNone, IsLive, JoinsBy, OfFeeder, OfJoiner, OfController};
+ghost use Rattle.actor_core.specs.Numbers.{cast_of, count_of};
 ghost use Rattle.actor_core.specs.Players.{AllStandInWave};
 ghost use Rattle.actor_core.specs.Rests.{upto, rest_of, at_line, with_base, IsWithin, IsRestOf, AreMade};
 
@@ -257,9 +258,9 @@ pub fn cores_in_wave<'a>(
     requires rest { IsRestOf (upto end input.now) setting.now rest }
     requires epoch { rest.line.epoch ≤ 2 ^ 31 }
     ensures made { IfOk result (λ cores. AreMade (upto end input.now) setting.now (rest_of rest)
-        (setting.now.feeders + 2 ^ setting.now.k + 2) cores.items) }
+        (count_of (cast_of setting.now)) cores.items) }
     ensures stands { IfOk result (λ cores. AllStandInWave (upto end input.now) setting.now
-        (rest_of rest) (2 ^ setting.now.k) setting.now.feeders cores.items (λ actor. no_lists)) }
+        (rest_of rest) (cast_of setting.now) cores.items (λ actor. no_lists)) }
 {
     let line = rest.line;
     let mut cores = joiners_in_wave(alloc, rest, input, setting, end)?;

@@ -18,7 +18,7 @@ use Rattle.actor_core.specs.declared.machines.Core.{Core}
 use Rattle.actor_core.specs.Lists.{no_lists}
 use Rattle.actor_core.specs.Standing.{JoinsBy, Stands, IsLive, given_by}
 use Rattle.actor_core.specs.Families.{start_in_wave}
-use Rattle.actor_core.specs.Numbers.{actor_at, number, at_number}
+use Rattle.actor_core.specs.Numbers.{actor_at, at_number, cast_of, count_of, number}
 use Rattle.actor_core.specs.Players.{lists_among, lists_at}
 use Rattle.actor_core.proofs.OwnNumbers.{number_actor, some_is}
 use Rattle.join_runtime.specs.Views.{SeatView, Frame, frame_of, lists_of, address_of, contents, sent_by, sent_at}
@@ -35,9 +35,9 @@ use Rattle.actor_core.proofs.Beginnings.{has_number, there}
 use Rattle.actor_core.proofs.Seated.{core_at, core_there, lists_there, number_low}
 
 module _ (setting : Setting) (count : ℕ) (cores : List Core) (first seats : List SeatView)
-    (mouths : List (List Sending)) (new : AreNew (2 ^ setting.k) setting.feeders count cores first mouths)
-    (filled : AreFilled (2 ^ setting.k) setting.feeders count mouths first seats)
-    (many : count ≡ setting.feeders + 2 ^ setting.k + 2) where
+    (mouths : List (List Sending)) (new : AreNew (cast_of setting) count cores first mouths)
+    (filled : AreFilled (cast_of setting) count mouths first seats)
+    (many : count ≡ count_of (cast_of setting)) where
   long : length seats ≡ count
   long = filled.all ∙ new.all
 
@@ -45,27 +45,23 @@ module _ (setting : Setting) (count : ℕ) (cores : List Core) (first seats : Li
   low_of n low = subst (λ z. n < z) long low
 
   made : (n : ℕ) (d : SeatView) → n < count
-      → IsNewSeat (2 ^ setting.k) setting.feeders n (get_or cores n d.core) (get_or first n d) (get_or mouths n [])
+      → IsNewSeat (cast_of setting) n (get_or cores n d.core) (get_or first n d) (get_or mouths n [])
   made n d low = new.new n d low
 
   still : (n : ℕ) (d : SeatView) → n < count → get_or seats n d
       ≡ record (get_or first n d) { mouths = (get_or seats n d).mouths; spent = (get_or seats n d).spent }
   still n d low = filled.same n d (subst (λ z. n < z) (sym new.all) low)
 
-  -- each seat has the numbers of joiners and feeders
-  pub seat_numbers : (n : ℕ) (d : SeatView) → n < count
-      → ((get_or seats n d).joiners ≡ 2 ^ setting.k) × ((get_or seats n d).feeders ≡ setting.feeders)
-  seat_numbers n d low = (
-    ap (λ (s : SeatView). s.joiners) (still n d low) ∙ (made n d low).joiners_are,
-    ap (λ (s : SeatView). s.feeders) (still n d low) ∙ (made n d low).feeders_are,
-  )
+  -- each seat says who takes part
+  pub seat_cast : (n : ℕ) (d : SeatView) → n < count → (get_or seats n d).cast ≡ cast_of setting
+  seat_cast n d low = ap (λ (s : SeatView). s.cast) (still n d low) ∙ (made n d low).cast_is
 
   inbox_is : (n : ℕ) (d : SeatView) → n < count → (get_or seats n d).inbox ≡ (get_or first n d).inbox
   inbox_is n d low = ap (λ (s : SeatView). s.inbox) (still n d low)
 
   -- a mouth of the seat n to the seat r is one that was opened for n
   opened_is : (n r : ℕ) (d : SeatView) (mouth : Sending) → n < count → slot_of seats d n r ≡ Some mouth
-      → (r < count) × (number (2 ^ setting.k) setting.feeders mouth.from ≡ Some n)
+      → (r < count) × (number (cast_of setting) mouth.from ≡ Some n)
       × ((names : List Actor) → (get_or first r d).inbox.senders ≡ map fresh names
       → is_sender mouth.from (map fresh names) ≡ true) × ((a : Actor)
       × (opened (get_or first r d).inbox.link (get_or first r d).inbox.to a ≡ mouth))
@@ -97,26 +93,25 @@ module _ (setting : Setting) (count : ℕ) (cores : List Core) (first seats : Li
           record {
             link = ap (λ (i : InboxView). i.link) inbox ∙ ap (λ (m : Sending). m.link) own.3.1;
             to = ap (λ (i : InboxView). i.to) inbox ∙ ap (λ (m : Sending). m.to) own.3.1;
-            from = sym (number_actor (2 ^ setting.k) setting.feeders mouth.from n own.1) ∙ sym actor;
+            from = sym (number_actor (cast_of setting) mouth.from n own.1) ∙ sym actor;
           }
 
   placed : (n : ℕ) (f : Frame) → n < length (map frame_of seats)
-      → IsPlaced (2 ^ setting.k) setting.feeders n (get_or (map frame_of seats) n f)
+      → IsPlaced (cast_of setting) n (get_or (map frame_of seats) n f)
   placed n f low =
       let here = subst (λ z. n < z) (length-map seats frame_of) low in
       let d = (there seats n here).0 in
       let same = still n d (low_of n here) in
       let one = made n d (low_of n here) in
-      subst (IsPlaced (2 ^ setting.k) setting.feeders n) (sym (get_or-map frame_of seats n d f here)) (record {
-        joiners_are = ap (λ (s : SeatView). s.joiners) same ∙ one.joiners_are;
-        feeders_are = ap (λ (s : SeatView). s.feeders) same ∙ one.feeders_are;
+      subst (IsPlaced (cast_of setting) n) (sym (get_or-map frame_of seats n d f here)) (record {
+        cast_is = ap (λ (s : SeatView). s.cast) same ∙ one.cast_is;
         actor = ap (λ (s : SeatView). s.actor) same ∙ one.actor;
         to = ap (λ (s : SeatView). s.inbox.to) same ∙ (one.to ∙ sym (ap (λ (s : SeatView). s.actor) same));
       })
 
   heard : (r : ℕ) (a : Actor) (f : Frame) → r < length (map frame_of seats)
       → is_sender a (map fresh (get_or (map frame_of seats) r f).senders) ≡ true
-      → HasMouthTo (2 ^ setting.k) setting.feeders (map frame_of seats) r a
+      → HasMouthTo (cast_of setting) (map frame_of seats) r a
   heard r a f low is =
       let here = subst (λ z. r < z) (length-map seats frame_of) low in
       let d = (there seats r here).0 in
@@ -126,9 +121,9 @@ module _ (setting : Setting) (count : ℕ) (cores : List Core) (first seats : Li
       ∙ subst (λ (x : Frame). is_sender a (map fresh x.senders) ≡ true) (get_or-map frame_of seats r d f here) is in
       let name = named a one.names (subst (λ (ss : List OfSender). is_sender a ss ≡ true) senders_are is_one) in
       let given_name = one.numbers.each name.0 a name.1 in
-      let num : (n : ℕ) × (number (2 ^ setting.k) setting.feeders a ≡ Some n) = (
+      let num : (n : ℕ) × (number (cast_of setting) a ≡ Some n) = (
         given_name.0,
-        subst (λ x. number (2 ^ setting.k) setting.feeders x ≡ Some given_name.0)
+        subst (λ x. number (cast_of setting) x ≡ Some given_name.0)
             name.2 given_name.1,
       ) in
       let inbox = (get_or first r d).inbox in
@@ -149,7 +144,7 @@ module _ (setting : Setting) (count : ℕ) (cores : List Core) (first seats : Li
 
   -- where each mouth of new seats came to its sender, there is a seat for each actor, each mouth leads to its
   -- receiver's inbox, and each sender of an inbox has a mouth
-  pub all_joined : AreJoined (2 ^ setting.k) setting.feeders (map frame_of seats)
+  pub all_joined : AreJoined (cast_of setting) (map frame_of seats)
   all_joined = record {
     all = length-map seats frame_of ∙ (long ∙ many);
     placed = placed;
@@ -200,7 +195,7 @@ module _ (setting : Setting) (count : ℕ) (cores : List Core) (first seats : Li
       none_of from = ap (λ xs. contents (messages_of from xs)) (nothing_received n d low)
 
       none_to : (to : Actor) → (lists_of (get_or seats n d)).sent to ≡ []
-      none_to to = go (number (get_or seats n d).joiners (get_or seats n d).feeders to)
+      none_to to = go (number (get_or seats n d).cast to)
         where
           go : (o : Option ℕ) → at_number [] o (sent_at (get_or seats n d).mouths) ≡ []
           go None = refl
@@ -208,21 +203,20 @@ module _ (setting : Setting) (count : ℕ) (cores : List Core) (first seats : Li
 
   -- no actor of these seats has received or sent anything
   pub all_empty : (spent : Bool) (a : Actor) → lists_in (record {
-    joiners = 2 ^ setting.k;
-    feeders = setting.feeders;
+    cast = cast_of setting;
     seats = seats;
     spent = spent;
   }) a ≡ no_lists
-  all_empty spent a = go (number (2 ^ setting.k) setting.feeders a) refl
+  all_empty spent a = go (number (cast_of setting) a) refl
     where
-      go : (o : Option ℕ) → number (2 ^ setting.k) setting.feeders a ≡ o
-          → lists_among lists_of (2 ^ setting.k) setting.feeders seats a ≡ no_lists
+      go : (o : Option ℕ) → number (cast_of setting) a ≡ o
+          → lists_among lists_of (cast_of setting) seats a ≡ no_lists
       go None is = ap (λ (o : Option ℕ). lists_at lists_of (at_number None o (λ k. slice_get seats k))) is
       go (Some n) is =
-          let low = subst (λ z. n < z) (sym many) (number_low (2 ^ setting.k) setting.feeders a n is) in
+          let low = subst (λ z. n < z) (sym many) (number_low (cast_of setting) a n is) in
           let low' = subst (λ z. n < z) (sym long) low in
           let d = (there seats n low').0 in
-          lists_there lists_of (2 ^ setting.k) setting.feeders seats a n d is low' ∙ empty_lists n d low
+          lists_there lists_of (cast_of setting) seats a n d is low' ∙ empty_lists n d low
 
   -- ---- the machines, which are as they were made
 
@@ -241,7 +235,7 @@ module _ (setting : Setting) (count : ℕ) (cores : List Core) (first seats : Li
       own = λ n d low.
           let same = still n d (low_of n low) in
           let one = machine n d (low_of n low) in
-          let a = actor_at (2 ^ setting.k) setting.feeders n in
+          let a = actor_at (cast_of setting) n in
           let actor_is : (get_or seats n d).actor ≡ a =
           ap (λ (s : SeatView). s.actor) same ∙ (made n d (low_of n low)).actor in
           subst (IsMachineOf (get_or seats n d).core) (sym actor_is)
@@ -254,51 +248,49 @@ module _ (setting : Setting) (count : ℕ) (cores : List Core) (first seats : Li
 
     -- each machine began as its actor begins, and stands for empty lists
     pub machine_there : (n : ℕ) (d : SeatView) → n < count
-        → Stands (start_in_wave input setting rest (actor_at (2 ^ setting.k) setting.feeders n)) no_lists
+        → Stands (start_in_wave input setting rest (actor_at (cast_of setting) n)) no_lists
         (get_or seats n d).core
     machine_there n d low =
-        subst (Stands (start_in_wave input setting rest (actor_at (2 ^ setting.k) setting.feeders n)) no_lists)
+        subst (Stands (start_in_wave input setting rest (actor_at (cast_of setting) n)) no_lists)
         (sym (ap (λ (s : SeatView). s.core) (still n d low))) (machine n d low).stands
 
     -- there is a machine for each actor, which began as input, setting and rest say and stands for the lists of its
     -- seat
     pub all_stand : (spent : Bool) → StandsInWave input setting rest (record {
-      joiners = 2 ^ setting.k;
-      feeders = setting.feeders;
+      cast = cast_of setting;
       seats = seats;
       spent = spent;
     })
     all_stand spent = record {
-      joiners_are = refl;
-      feeders_are = refl;
+      cast_is = refl;
       all = length-map seats (λ (s : SeatView). s.core) ∙ (long ∙ many);
       stands = λ a is.
           let num = has_number setting a is in
-          let low = subst (λ z. num.0 < z) (sym many) (number_low (2 ^ setting.k) setting.feeders a num.0 num.1) in
+          let low = subst (λ z. num.0 < z) (sym many) (number_low (cast_of setting) a num.0 num.1) in
           let low' = subst (λ z. num.0 < z) (sym long) low in
           let d = (there seats num.0 low').0 in (
             (get_or seats num.0 d).core,
-            core_there (λ (s : SeatView). s.core) (2 ^ setting.k) setting.feeders seats a num.0 d num.1 low',
+            core_there (λ (s : SeatView). s.core) (cast_of setting) seats a num.0 d num.1 low',
             subst (λ ls. Stands (start_in_wave input setting rest a) ls (get_or seats num.0 d).core)
-                (sym (lists_there lists_of (2 ^ setting.k) setting.feeders seats a num.0 d num.1 low'
+                (sym (lists_there lists_of (cast_of setting) seats a num.0 d num.1 low'
                 ∙ empty_lists num.0 d low))
                 (subst (λ c. Stands (start_in_wave input setting rest a) no_lists c)
                 (sym (ap (λ (s : SeatView). s.core) (still num.0 d low)))
                 (subst (λ z. Stands (start_in_wave input setting rest z) no_lists (get_or first num.0 d).core)
-                (number_actor (2 ^ setting.k) setting.feeders a num.0 num.1) (machine num.0 d low).stands)),
+                (number_actor (cast_of setting) a num.0 num.1) (machine num.0 d low).stands)),
           );
     }
 
     -- the collector's seat is the last
     pub none_given : (spent : Bool) → AreGiven (2 ^ setting.k) nothing_yet
-        (given_in (record { joiners = 2 ^ setting.k; feeders = setting.feeders; seats = seats; spent = spent }))
+        (given_in (record { cast = cast_of setting; seats = seats; spent = spent }))
     none_given spent j below =
         let place = setting.feeders + 2 ^ setting.k + 1 in
         let low : place < count = omega (arith, many) in
         let low' = subst (λ z. place < z) (sym long) low in
         let d = (there seats place low').0 in
-        ap (λ given. slice_index given j) (ap given_at (core_there (λ (s : SeatView). s.core) (2 ^ setting.k)
-        setting.feeders seats Collector place d refl low')
+        ap (λ given. slice_index given j) (ap given_at (core_there (λ (s : SeatView). s.core) (cast_of setting)
+        seats Collector place d refl low')
         ∙ ap (λ (s : SeatView). given_by s.core) (still place d low)) ∙ (machine place d low).given j below
 
   -- the joiners join by the predicate by which the machines did

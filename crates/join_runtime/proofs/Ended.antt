@@ -20,9 +20,10 @@ use Rattle.trace_law.specs.Runs.{IsRunOf}
 use Rattle.trace_law.specs.Laws.{AnswersInTheEnd, CompleteIsFinished, FinishedAnswers}
 use Rattle.trace_law.specs.Family.{IsRestFor, Rest, first_rest}
 use Rattle.trace_law.proofs.First.{stands as first_stands}
+use Rattle.actor_core.specs.declared.cast.Cast.{Cast}
 use Rattle.actor_core.specs.Endings.{AreLast, IsAnswerOf}
 use Rattle.actor_core.specs.Families.{AreFronts, core_in}
-use Rattle.actor_core.specs.Numbers.{number, at_number}
+use Rattle.actor_core.specs.Numbers.{at_number, count_of, number}
 use Rattle.actor_core.specs.Leavings.{AreLeft}
 use Rattle.actor_core.specs.Players.{IsFinishedFamily, IsFinishedWave, is_complete_at, is_complete_core, lists_at}
 use Rattle.actor_core.specs.Rests.{IsRestOf}
@@ -30,7 +31,7 @@ use Rattle.actor_core.specs.declared.rests.Rest.{Rest as NextRest}
 use Rattle.actor_core.proofs.CompleteAnswer.{agrees_in_wave, collector_complete, complete_in_wave, journal_named}
 use Rattle.actor_core.proofs.CompleteAnswer.{run_ends_in_wave}
 use Rattle.actor_core.proofs.NextRest.{complete_rest}
-use Rattle.actor_core.proofs.Seated.{core_at}
+use Rattle.actor_core.proofs.Seats.{same_among}
 use Rattle.join_runtime.specs.Views.{SeatView, frame_of, lists_of}
 use Rattle.join_runtime.specs.Joins.{AreJoined}
 use Rattle.join_runtime.specs.Bouts.{AllJoinBy, SeatsView, StandsFor, StandsInWave, cores_in, lists_in}
@@ -38,48 +39,21 @@ use Rattle.join_runtime.specs.Endings.{EndsView, end_of, is_collected, journal_i
 
 -- ---- what is left of seats
 
-at_ends : (seats : List SeatView) (n : ℕ)
-    → lists_at lists_of_end (slice_get (map end_of seats) n) ≡ lists_at lists_of (slice_get seats n)
-at_ends [] n = refl
-at_ends (s ∷ seats) zero = refl
-at_ends (s ∷ seats) (suc n) = at_ends seats n
-
 -- the ends of seats
 abbrev pub ends_in : SeatsView → EndsView
-ends_in v = record { joiners = v.joiners; feeders = v.feeders; ends = map end_of v.seats }
+ends_in v = record { cast = v.cast; ends = map end_of v.seats }
 
 -- they have the lists of their seats
 pub ends_keep : (v : SeatsView) (a : Actor) → lists_left (ends_in v) a ≡ lists_in v a
-ends_keep v a = go (number v.joiners v.feeders a)
-  where
-    go : (o : Option ℕ) → lists_at lists_of_end (at_number None o (λ n. slice_get (map end_of v.seats) n))
-        ≡ lists_at lists_of (at_number None o (λ n. slice_get v.seats n))
-    go None = refl
-    go (Some n) = at_ends v.seats n
+ends_keep v = same_among end_of lists_of lists_of_end (λ s. refl) v.cast v.seats
 
-module _ (v : SeatsView) (joined : AreJoined v.joiners v.feeders (map frame_of v.seats)) where
+module _ (v : SeatsView) (joined : AreJoined v.cast (map frame_of v.seats)) where
   -- there are as many seats as actors
-  pub many_seats : length v.seats ≡ v.feeders + v.joiners + 2
+  pub many_seats : length v.seats ≡ count_of v.cast
   many_seats = sym (length-map v.seats frame_of) ∙ joined.all
 
-  many_cores : length (cores_in v) ≡ v.feeders + v.joiners + 2
+  many_cores : length (cores_in v) ≡ count_of v.cast
   many_cores = length-map v.seats (λ (s : SeatView). s.core) ∙ many_seats
-
-  -- the last machine is the collector's
-  pub last_core : slice_get (cores_in v) (length v.seats - 1) ≡ core_in v.joiners v.feeders (cores_in v) Collector
-  last_core =
-      let all = many_seats in
-      let place : length v.seats - 1 ≡ v.feeders + v.joiners + 1 = omega (arith, all) in
-      ap (slice_get (cores_in v)) place
-
-  -- so it tells whether the collector is complete
-  pub last_complete : (seat : SeatView) → slice_get v.seats (length v.seats - 1) ≡ Some seat
-      → is_complete_core seat.core ≡ is_collected v
-  last_complete seat is =
-      let place = length v.seats - 1 in
-      let here = core_at (λ (s : SeatView). s.core) v.seats place seat (slice_get_within v.seats place seat is) in
-      let same = ap (λ (s : SeatView). Some s.core) (get_or_from_slice_get v.seats place seat seat is) in
-      ap is_complete_at (sym (here ∙ same) ∙ last_core)
 
   -- ---- the last two machines
 
@@ -87,12 +61,12 @@ module _ (v : SeatsView) (joined : AreJoined v.joiners v.feeders (map frame_of v
       (last : AreLast (cores_in v) controller collector) where
     -- the collector is complete
     pub complete_there : is_collected v ≡ true → is_complete collector ≡ true
-    complete_there = collector_complete v.joiners v.feeders (cores_in v) many_cores controller collector last
+    complete_there = collector_complete v.cast (cores_in v) many_cores controller collector last
 
     -- a run with that controller's journal has that of the seats
     pub told_journal : (run : Run) → run.journal ≡ controller.journal → run.journal ≡ journal_in v
     told_journal run is =
-        is ∙ sym (journal_named v.joiners v.feeders (cores_in v) many_cores controller collector last)
+        is ∙ sym (journal_named v.cast (cores_in v) many_cores controller collector last)
 
     -- a complete collector ends the wave
     module _ (law : CompleteIsFinished) (done : is_collected v ≡ true) (input : Input) (setting : Setting)
@@ -100,7 +74,7 @@ module _ (v : SeatsView) (joined : AreJoined v.joiners v.feeders (map frame_of v
         (stands : StandsInWave input setting rest v) (fronts : AreFronts (lists_in v)) where
       wave_ends : IsFinishedWave input setting rest (journal_in v) (lists_in v)
       wave_ends =
-          complete_in_wave input setting rest v.joiners v.feeders (cores_in v) (lists_in v) stands fronts law valid
+          complete_in_wave input setting rest v.cast (cores_in v) (lists_in v) stands fronts law valid
           begins done
 
       -- so what its seats leave is a finished family of the wave, with the journal of the run that is told
@@ -116,24 +90,24 @@ module _ (v : SeatsView) (joined : AreJoined v.joiners v.feeders (map frame_of v
           → IsAnswerOf joiners ls controller.journal bouts run)
           → IsRunOf input setting rest.line run.journal run
       told_wave_run run answers_law bouts answers =
-          run_ends_in_wave answers_law input setting rest v.joiners v.feeders (cores_in v) (lists_in v) valid begins
+          run_ends_in_wave answers_law input setting rest v.cast (cores_in v) (lists_in v) valid begins
           stands wave_ends controller collector last bouts run answers
 
       -- and what its machines leave stands for the input
       pub told_rest : AnswersInTheEnd → AllJoinBy input.theta v → (next : NextRest)
-          → AreLeft v.feeders (cores_in v) next.stores controller collector
-          → ((k : ℕ) → k ≤ 8 → v.joiners ≡ 2 ^ k → next.k ≡ k)
+          → AreLeft v.cast.feeders (cores_in v) next.stores controller collector
+          → ((k : ℕ) → k ≤ 8 → v.cast.joiners ≡ 2 ^ k → next.k ≡ k)
           → ((l : TurnLine) (past : List TurnLine) → reverse controller.journal ≡ l ∷ past → next.line ≡ l)
           → IsRestOf input setting next
       told_rest answers_law joins next left grid is_last =
-          let agreed = (agrees_in_wave input setting rest v.joiners v.feeders (cores_in v) (lists_in v) stands
+          let agreed = (agrees_in_wave input setting rest v.cast (cores_in v) (lists_in v) stands
           fronts).controller in
-          let named = journal_named v.joiners v.feeders (cores_in v) many_cores controller collector last in
+          let named = journal_named v.cast (cores_in v) many_cores controller collector last in
           let same : next.line ≡ agreed.line =
           is_last agreed.line agreed.past (ap reverse (sym named) ∙ agreed.journal) in
-          complete_rest answers_law law input setting rest v.joiners v.feeders (cores_in v) (lists_in v) valid begins
+          complete_rest answers_law law input setting rest v.cast (cores_in v) (lists_in v) valid begins
           stands fronts done joins next.stores controller collector left next.k next.line agreed.past
-          (grid setting.k valid.small stands.joiners_are)
+          (grid setting.k valid.small (ap (λ (cast : Cast). cast.joiners) stands.cast_is))
           (agreed.journal ∙ ap (λ l. l ∷ agreed.past) (sym same))
 
     -- and a run, that is the wave that begins with no rows

@@ -4,18 +4,19 @@ use Rattle.std.proofs.Common.{length, arith, subst, Some}
 use Rattle.std.specs.Prelude.{IsSome}
 use Rattle.std.proofs.lemmas.List.{get_or-map, length-map}
 use Rattle.ruled_links.specs.Ends.{Sending}
-use Rattle.actor_core.specs.Numbers.{number, actor_at}
+use Rattle.actor_core.specs.declared.cast.Cast.{Cast}
+use Rattle.actor_core.specs.Numbers.{actor_at, count_of, number}
 use Rattle.actor_core.proofs.OwnNumbers.{some_is, number_there}
 use Rattle.actor_core.proofs.Beginnings.{there}
 use Rattle.join_runtime.specs.Views.{SeatView, frame_of, address_of, Frame}
 use Rattle.join_runtime.specs.Joins.{AllLead, Leads, slot_of}
 
 -- so at two places stand two actors
-pub actors_differ : (joiners feeders i k : ℕ) → i < feeders + joiners + 2 → k < feeders + joiners + 2
-    → actor_at joiners feeders i ≡ actor_at joiners feeders k → i ≡ k
-actors_differ joiners feeders i k low low' e =
-    some_is i k (sym (number_there joiners feeders i low) ∙ (ap (number joiners feeders) e
-    ∙ number_there joiners feeders k low'))
+pub actors_differ : (cast : Cast) (i k : ℕ) → i < count_of cast → k < count_of cast
+    → actor_at cast i ≡ actor_at cast k → i ≡ k
+actors_differ cast i k low low' e =
+    some_is i k (sym (number_there cast i low) ∙ (ap (number cast) e
+    ∙ number_there cast k low'))
 
 -- ---- frames
 

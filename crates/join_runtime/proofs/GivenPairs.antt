@@ -14,6 +14,7 @@ use Rattle.pair_collector.specs.Law.{CollectorLists}
 use Rattle.pair_collector.specs.Fresh.{pairs_since}
 use Rattle.trace_law.specs.declared.input.Input.{Input}
 use Rattle.trace_law.specs.declared.setting.Setting.{Setting}
+use Rattle.trace_law.specs.Family.{first_rest}
 use Rattle.actor_core.specs.Lists.{ActorLists}
 use Rattle.actor_core.specs.Standing.{IsLive, OfCollector, Start, Stands}
 use Rattle.actor_core.specs.Families.{core_in}
@@ -27,9 +28,10 @@ use Rattle.join_runtime.specs.Joins.{AreGathered, AreJoined, AreSettled, HearsSe
 use Rattle.join_runtime.specs.Bouts.{AllAdvance, SeatsView, StandsFor, cores_in, lists_in}
 use Rattle.join_runtime.specs.Early.{AreGiven, Gives, collected_in, given_at, given_in}
 use Rattle.join_runtime.proofs.SeatBouts.{all_ran}
-use Rattle.join_runtime.proofs.Ended.{last_core, many_seats}
+use Rattle.actor_core.proofs.Seats.{last_core}
+use Rattle.join_runtime.proofs.Ended.{many_seats}
 use Rattle.join_runtime.proofs.FramePlaces.{frames_same}
-use Rattle.join_runtime.proofs.UnderWay.{many, same_feeders, same_joiners, same_long}
+use Rattle.join_runtime.proofs.UnderWay.{many, same_cast, same_long}
 
 -- ---- a bout gives nothing
 
@@ -37,18 +39,17 @@ use Rattle.join_runtime.proofs.UnderWay.{many, same_feeders, same_joiners, same_
 pub given_kept : (input : Input) (setting : Setting) (old new : SeatsView) → StandsFor input setting old
     → StandsFor input setting new → AllAdvance old.seats new.seats → given_in new ≡ given_in old
 given_kept input setting old new st st' advance =
-    let joiners = old.joiners in
-    let feeders = old.feeders in
+    let cast = old.cast in
     let cores = cores_in new in
-    let long = same_long input setting old new st st' in
-    let ran = all_ran joiners feeders old.seats new.seats long (many input setting old new st st') advance in
+    let long = same_long input setting (first_rest setting) old new st st' in
+    let ran = all_ran cast old.seats new.seats long (many input setting (first_rest setting) old new st st')
+    advance in
     let own = st.stands Collector tt in
     let before = lists_in old in
-    let after = lists_among lists_of joiners feeders new.seats in
-    let now = related_at HasRun joiners feeders (cores_in old) cores before after ran Collector own.0 own.1 in
-    let numbers : core_in new.joiners new.feeders cores Collector ≡ core_in joiners feeders cores Collector =
-    ap (λ j. core_in j new.feeders cores Collector) (same_joiners input setting old new st st')
-    ∙ ap (λ p. core_in joiners p cores Collector) (same_feeders input setting old new st st') in
+    let after = lists_among lists_of cast new.seats in
+    let now = related_at HasRun cast (cores_in old) cores before after ran Collector own.0 own.1 in
+    let numbers : core_in new.cast cores Collector ≡ core_in cast cores Collector =
+    ap (λ c. core_in c cores Collector) (same_cast input setting (first_rest setting) old new st st') in
     let one : Player = record { core = own.0; lists = before Collector } in
     let other : Player = record { core = now.0; lists = after Collector } in
     let given = runs_given now.2.count one other now.2.runs in
@@ -96,7 +97,7 @@ record StandsAs (old new : Player) : Type 0 where
   stands : (start : Start) (ls : ActorLists) → Stands start ls old.core → Stands start ls new.core
 
 -- the last seat is `s`, and then `t`
-module _ (v : SeatsView) (joined : AreJoined v.joiners v.feeders (map frame_of v.seats)) (place : ℕ)
+module _ (v : SeatsView) (joined : AreJoined v.cast (map frame_of v.seats)) (place : ℕ)
     (last : place ≡ length v.seats - 1) (low : place < length v.seats) (s t : SeatView)
     (is : s ≡ get_or v.seats place s) (kin : IsKin s t) where
   abbrev changed : List SeatView
@@ -131,25 +132,25 @@ module _ (v : SeatsView) (joined : AreJoined v.joiners v.feeders (map frame_of v
   frames_kept = frames_same v.seats changed long (λ n d low'. ap frame_of (all_kin n d low').rest)
 
   -- so they are joined still
-  pub joined_still : AreJoined v.joiners v.feeders (map frame_of changed)
-  joined_still = subst (AreJoined v.joiners v.feeders) (sym frames_kept) joined
+  pub joined_still : AreJoined v.cast (map frame_of changed)
+  joined_still = subst (AreJoined v.cast) (sym frames_kept) joined
 
-  all_as : AllRelate StandsAs v.joiners v.feeders (cores_in v) (cores_in after) (lists_in v) (lists_in after)
+  all_as : AllRelate StandsAs v.cast (cores_in v) (cores_in after) (lists_in v) (lists_in after)
   all_as =
-      all_relate (λ (x : SeatView). x.core) lists_of StandsAs v.joiners v.feeders v.seats changed long
+      all_relate (λ (x : SeatView). x.core) lists_of StandsAs v.cast v.seats changed long
       (many_seats v joined)
       (λ n d low'. let same = all_kin n d low' in record { lists = ap lists_of same.rest; stands = same.stands })
 
   -- each actor has received and sent what it had
   pub lists_kept : (a : Actor) → lists_in after a ≡ lists_in v a
   lists_kept =
-      of_lists StandsAs v.joiners v.feeders (cores_in v) (cores_in after) (lists_in v) (lists_in after) all_as
+      of_lists StandsAs v.cast (cores_in v) (cores_in after) (lists_in v) (lists_in after) all_as
       (λ ls ls'. ls' ≡ ls) (λ ls ls' is. is) (λ x y same. same.lists)
 
   -- seats that stood for a run of some input and setting stand for it still
   pub stands_kept : (input : Input) (setting : Setting) → StandsFor input setting v → StandsFor input setting after
   stands_kept =
-      still_stand StandsAs v.joiners v.feeders (cores_in v) (cores_in after) (lists_in v) (lists_in after) all_as
+      still_stand StandsAs v.cast (cores_in v) (cores_in after) (lists_in v) (lists_in after) all_as
       (λ x y same start st. subst (λ ls. Stands start ls y.core) (sym same.lists) (same.stands start x.lists st))
 
   gathered_kept : AreGathered v.seats → AreGathered changed
@@ -179,9 +180,9 @@ module _ (v : SeatsView) (joined : AreJoined v.joiners v.feeders (map frame_of v
   module _ (input : Input) (setting : Setting) (st : StandsFor input setting v) (pairs : List Pair)
       (gives : Gives s.core t.core pairs) where
     -- the collector's machine is that of the last seat
-    own : core_in v.joiners v.feeders (cores_in v) Collector ≡ Some s.core
+    own : core_in v.cast (cores_in v) Collector ≡ Some s.core
     own =
-        sym (last_core v joined)
+        sym (last_core (λ (s : SeatView). s.core) v.cast v.seats (many_seats v joined))
         ∙ (ap (slice_get (cores_in v)) (sym last) ∙ (core_at (λ (x : SeatView). x.core) v.seats place s low
         ∙ ap (λ (x : SeatView). Some x.core) (sym is)))
 
@@ -197,9 +198,9 @@ module _ (v : SeatsView) (joined : AreJoined v.joiners v.feeders (map frame_of v
     gives_since earlier gave = gives.gives (2 ^ setting.k) earlier (lists_in v Collector) stood
         (subst (AreGiven (2 ^ setting.k) earlier) (ap given_at own) gave)
 
-    own_after : core_in v.joiners v.feeders (cores_in after) Collector ≡ Some t.core
+    own_after : core_in v.cast (cores_in after) Collector ≡ Some t.core
     own_after =
-        sym (last_core after joined_still)
+        sym (last_core (λ (s : SeatView). s.core) after.cast after.seats (many_seats after joined_still))
         ∙ (ap (λ n. slice_get (cores_in after) (n - 1)) long ∙ (ap (slice_get (cores_in after)) (sym last)
         ∙ (core_at (λ (x : SeatView). x.core) changed place t (omega (arith, low, long))
         ∙ ap (λ (x : SeatView). Some x.core) (get_or-set_same v.seats place t t low))))

@@ -80,7 +80,7 @@ right : TakesNothingWrong → (input : Input) (setting : Setting) → IsValid in
 right law input setting valid v stands fronts =
     subst (IsWithinBag (taken_in setting v)) (all_pairs input setting)
     (law input setting (first_rest setting) (family_in v) valid (first_stands input setting valid)
-    (agrees input setting v.joiners v.feeders (cores_in v) (lists_in v) stands fronts))
+    (agrees input setting v.cast (cores_in v) (lists_in v) stands fronts))
 
 -- where a run of a valid input and setting has put the lines of the pairs taken so far, these are lines of the nested
 -- loop's pairs, none of them more often than it has it

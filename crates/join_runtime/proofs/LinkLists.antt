@@ -18,7 +18,7 @@ use Rattle.trace_law.specs.Family.{IsRestFor, Rest}
 use Rattle.actor_core.specs.Lists.{ActorLists, no_lists}
 use Rattle.actor_core.specs.Families.{AreFronts, core_in}
 use Rattle.actor_core.specs.Standing.{Waits}
-use Rattle.actor_core.specs.Numbers.{number, actor_at, at_number}
+use Rattle.actor_core.specs.Numbers.{actor_at, at_number, count_of, number}
 use Rattle.actor_core.specs.Players.{lists_at}
 use Rattle.actor_core.specs.declared.machines.Core.{Core}
 use Rattle.actor_core.proofs.OwnNumbers.{number_actor, none_some, some_is, number_there}
@@ -37,11 +37,11 @@ use Rattle.join_runtime.proofs.FramePlaces.{actors_differ, frame_at, address_at}
 use Rattle.join_runtime.proofs.LinkEnds.{within, leads_at}
 
 -- no two seats of a run are of one actor
-pub differ_of : (v : SeatsView) → AreJoined v.joiners v.feeders (map frame_of v.seats)
+pub differ_of : (v : SeatsView) → AreJoined v.cast (map frame_of v.seats)
     → ActorsDiffer (map frame_of v.seats)
 differ_of v joined k n d before low same =
     let frames = map frame_of v.seats in
-    let is : k ≡ n = actors_differ v.joiners v.feeders k n (omega (arith, joined.all)) (omega (arith, joined.all))
+    let is : k ≡ n = actors_differ v.cast k n (omega (arith, joined.all)) (omega (arith, joined.all))
     (sym (joined.placed k d (omega arith)).actor ∙ (same ∙ (joined.placed n d low).actor)) in
     omega arith
 
@@ -63,57 +63,51 @@ some_slot : (slot : Option Sending) → IsSome (address_of slot) → (mouth : Se
 some_slot None is = absurd (true≢false (sym is))
 some_slot (Some mouth) is = (mouth, refl)
 
-module _ (v : SeatsView) (joined : AreJoined v.joiners v.feeders (map frame_of v.seats))
+module _ (v : SeatsView) (joined : AreJoined v.cast (map frame_of v.seats))
     (settled : AreSettled v.seats) where
-  many : length v.seats ≡ v.feeders + v.joiners + 2
+  many : length v.seats ≡ count_of v.cast
   many = sym (length-map v.seats frame_of) ∙ joined.all
 
-  low_of : (a : Actor) (n : ℕ) → number v.joiners v.feeders a ≡ Some n → n < length v.seats
-  low_of a n is = subst (λ z. n < z) (sym many) (number_low v.joiners v.feeders a n is)
+  low_of : (a : Actor) (n : ℕ) → number v.cast a ≡ Some n → n < length v.seats
+  low_of a n is = subst (λ z. n < z) (sym many) (number_low v.cast a n is)
 
   -- of seats that are joined and settled, the lists of an actor are those of the seat at its number
-  pub lists_there : (a : Actor) (n : ℕ) (d : SeatView) → number v.joiners v.feeders a ≡ Some n
+  pub lists_there : (a : Actor) (n : ℕ) (d : SeatView) → number v.cast a ≡ Some n
       → lists_in v a ≡ lists_of (get_or v.seats n d)
-  lists_there a n d is = seat_lists lists_of v.joiners v.feeders v.seats a n d is (low_of a n is)
+  lists_there a n d is = seat_lists lists_of v.cast v.seats a n d is (low_of a n is)
 
   -- an actor that isn't of the run has received and sent nothing
-  pub lists_none : (a : Actor) → number v.joiners v.feeders a ≡ None → lists_in v a ≡ no_lists
+  pub lists_none : (a : Actor) → number v.cast a ≡ None → lists_in v a ≡ no_lists
   lists_none a is = ap (λ (o : Option ℕ). lists_at lists_of (at_number None o (λ k. slice_get v.seats k))) is
 
   module _ (d : SeatView) where
     -- a sender has a mouth
     heard_at : (r : ℕ) (from : Actor) → r < length v.seats → is_sender from (get_or v.seats r d).inbox.senders ≡ true
-        → HasMouthTo v.joiners v.feeders (map frame_of v.seats) r from
+        → HasMouthTo v.cast (map frame_of v.seats) r from
     heard_at r from low is =
         joined.heard r from (frame_of d) (within v.seats r low)
         (subst (λ (f : Frame). is_sender from (map fresh f.senders) ≡ true) (sym (frame_at v.seats r d low))
         (is_sender-named from (get_or v.seats r d).inbox.senders ∙ is))
 
-    sent_there : (n r : ℕ) (to : Actor) → n < length v.seats → number v.joiners v.feeders to ≡ Some r
-        → (lists_of (get_or v.seats n d)).sent to ≡ sent_by (slot_of v.seats d n r)
-    sent_there n r to low is =
+    sent_by_number : (n : ℕ) (to : Actor) (o : Option ℕ) → n < length v.seats → number v.cast to ≡ o
+        → (lists_of (get_or v.seats n d)).sent to ≡ at_number [] o (sent_at (get_or v.seats n d).mouths)
+    sent_by_number n to o low is =
         let s = get_or v.seats n d in
-        let placed = subst (λ (f : Frame). (f.joiners ≡ v.joiners)
-        × (f.feeders ≡ v.feeders)) (frame_at v.seats n d low) (let p =
-        joined.placed n (frame_of d) (within v.seats n low) in (p.joiners_are, p.feeders_are)) in
-        ap (λ k. sent_through k s.feeders s.mouths to) placed.0
-        ∙ (ap (λ k. sent_through v.joiners k s.mouths to) placed.1
-        ∙ ap (λ (o : Option ℕ). at_number [] o (sent_at s.mouths)) is)
+        let placed : s.cast ≡ v.cast = subst (λ (f : Frame). f.cast ≡ v.cast) (frame_at v.seats n d low)
+        (joined.placed n (frame_of d) (within v.seats n low)).cast_is in
+        ap (λ c. sent_through c s.mouths to) placed ∙ ap (λ (o : Option ℕ). at_number [] o (sent_at s.mouths)) is
+
+    sent_there : (n r : ℕ) (to : Actor) → n < length v.seats → number v.cast to ≡ Some r
+        → (lists_of (get_or v.seats n d)).sent to ≡ sent_by (slot_of v.seats d n r)
+    sent_there n r to = sent_by_number n to (Some r)
 
     -- to an actor that isn't there nothing was sent
-    pub sent_nowhere : (n : ℕ) (to : Actor) → n < length v.seats → number v.joiners v.feeders to ≡ None
+    pub sent_nowhere : (n : ℕ) (to : Actor) → n < length v.seats → number v.cast to ≡ None
         → (lists_of (get_or v.seats n d)).sent to ≡ []
-    sent_nowhere n to low is =
-        let s = get_or v.seats n d in
-        let placed = subst (λ (f : Frame). (f.joiners ≡ v.joiners)
-        × (f.feeders ≡ v.feeders)) (frame_at v.seats n d low) (let p =
-        joined.placed n (frame_of d) (within v.seats n low) in (p.joiners_are, p.feeders_are)) in
-        ap (λ k. sent_through k s.feeders s.mouths to) placed.0
-        ∙ (ap (λ k. sent_through v.joiners k s.mouths to) placed.1
-        ∙ ap (λ (o : Option ℕ). at_number [] o (sent_at s.mouths)) is)
+    sent_nowhere n to = sent_by_number n to None
 
     -- of an actor that isn't there nothing was received
-    pub received_of_none : (r : ℕ) (from : Actor) → r < length v.seats → number v.joiners v.feeders from ≡ None
+    pub received_of_none : (r : ℕ) (from : Actor) → r < length v.seats → number v.cast from ≡ None
         → (lists_of (get_or v.seats r d)).received from ≡ []
     received_of_none r from low is = go (is_sender from (get_or v.seats r d).inbox.senders) refl
       where
@@ -123,8 +117,8 @@ module _ (v : SeatsView) (joined : AreJoined v.joiners v.feeders (map frame_of v
         go false e = settled.hear r d low from e
 
     -- of two actors that are there, the one has a mouth to the other, or nothing goes from it to that one
-    pub between : (n r : ℕ) (from to : Actor) → number v.joiners v.feeders from ≡ Some n
-        → number v.joiners v.feeders to ≡ Some r
+    pub between : (n r : ℕ) (from to : Actor) → number v.cast from ≡ Some n
+        → number v.cast to ≡ Some r
         → HasNone (get_or v.seats n d) (get_or v.seats r d) from to
         ⊎ HasMouth (get_or v.seats n d) (get_or v.seats r d) from to
     between n r from to from_is to_is = go (slot_of v.seats d n r) refl
@@ -136,9 +130,9 @@ module _ (v : SeatsView) (joined : AreJoined v.joiners v.feeders (map frame_of v
         low' = low_of to r to_is
 
         actor_is : (get_or v.seats n d).actor ≡ from
-        actor_is = subst (λ (f : Frame). f.actor ≡ actor_at v.joiners v.feeders n) (frame_at v.seats n d low)
+        actor_is = subst (λ (f : Frame). f.actor ≡ actor_at v.cast n) (frame_at v.seats n d low)
             (joined.placed n (frame_of d) (within v.seats n low)).actor
-            ∙ number_actor v.joiners v.feeders from n from_is
+            ∙ number_actor v.cast from n from_is
 
         from_of : (mouth : Sending) → slot_of v.seats d n r ≡ Some mouth → mouth.from ≡ from
         from_of mouth is =
@@ -212,13 +206,13 @@ quiet_between s t from to rest (inr has) =
     has.received ∙ (ap contents (no_rest (messages_of has.mouth.from t.inbox.received)
     has.mouth.sent known.agrees.prefix.rest known.agrees.prefix.joins left) ∙ sym has.sent)
 
-module _ (v : SeatsView) (joined : AreJoined v.joiners v.feeders (map frame_of v.seats))
+module _ (v : SeatsView) (joined : AreJoined v.cast (map frame_of v.seats))
     (settled : AreSettled v.seats) where
   -- of seats that are joined and settled, what each actor received of another is a front of what that one sent to it
   pub fronts : AreFronts (lists_in v)
-  fronts from to = go (number v.joiners v.feeders from) (number v.joiners v.feeders to) refl refl
+  fronts from to = go (number v.cast from) (number v.cast to) refl refl
     where
-      go : (i k : Option ℕ) → number v.joiners v.feeders from ≡ i → number v.joiners v.feeders to ≡ k
+      go : (i k : Option ℕ) → number v.cast from ≡ i → number v.cast to ≡ k
           → IsPrefix ((lists_in v to).received from) ((lists_in v from).sent to)
       go i None from_is to_is = front_of_none _ _ (ap (λ (ls : ActorLists). ls.received from)
           (lists_none v joined settled to to_is))
@@ -237,9 +231,9 @@ module _ (v : SeatsView) (joined : AreJoined v.joiners v.feeders (map frame_of v
 
   -- and where all rest, it is all that was sent
   pub all_received : AllRest v.seats → (from to : Actor) → (lists_in v to).received from ≡ (lists_in v from).sent to
-  all_received rest from to = go (number v.joiners v.feeders from) (number v.joiners v.feeders to) refl refl
+  all_received rest from to = go (number v.cast from) (number v.cast to) refl refl
     where
-      go : (i k : Option ℕ) → number v.joiners v.feeders from ≡ i → number v.joiners v.feeders to ≡ k
+      go : (i k : Option ℕ) → number v.cast from ≡ i → number v.cast to ≡ k
           → (lists_in v to).received from ≡ (lists_in v from).sent to
       go None None from_is to_is =
           ap (λ (ls : ActorLists). ls.received from) (lists_none v joined settled to to_is)
@@ -279,21 +273,21 @@ left_between s t from to is some (inr has) same =
     let left = known.agrees.left in
     omega (arith, more, long, one, other, whole, left)
 
-module _ (v : SeatsView) (joined : AreJoined v.joiners v.feeders (map frame_of v.seats))
+module _ (v : SeatsView) (joined : AreJoined v.cast (map frame_of v.seats))
     (settled : AreSettled v.seats) where
   -- no actor's machine would begin
-  waits_there : AllRest v.seats → (a : Actor) (core : Core) → core_in v.joiners v.feeders (cores_in v) a ≡ Some core
+  waits_there : AllRest v.seats → (a : Actor) (core : Core) → core_in v.cast (cores_in v) a ≡ Some core
       → Waits core
-  waits_there rest a core is = go (number v.joiners v.feeders a) refl
+  waits_there rest a core is = go (number v.cast a) refl
     where
-      go : (o : Option ℕ) → number v.joiners v.feeders a ≡ o → Waits core
+      go : (o : Option ℕ) → number v.cast a ≡ o → Waits core
       go None num =
           let none = ap (λ (o : Option ℕ). at_number None o (λ k. slice_get (cores_in v) k)) num in
           absurd (none_some core (sym none ∙ is))
       go (Some n) num =
           let low = low_of v joined settled a n num in
           let d = (there v.seats n low).0 in
-          let here = core_there (λ (s : SeatView). s.core) v.joiners v.feeders v.seats a n d num low in
+          let here = core_there (λ (s : SeatView). s.core) v.cast v.seats a n d num low in
           let same = some_is (get_or v.seats n d).core core (sym here ∙ is) in
           subst Waits same (rest n d low).waits
 
@@ -302,7 +296,7 @@ module _ (v : SeatsView) (joined : AreJoined v.joiners v.feeders (map frame_of v
       → IsValid input setting → IsRestFor input setting from → StandsInWave input setting from v
       → is_collected v ≡ true
   rest_collected rest law input setting from valid begins stands =
-      still_complete_in_wave input setting from v.joiners v.feeders (cores_in v) (lists_in v) stands
+      still_complete_in_wave input setting from v.cast (cores_in v) (lists_in v) stands
       (fronts v joined settled) (λ from to link. all_received v joined settled rest from to)
       (λ p low core is. waits_there rest (Feeder p) core is) law valid begins
 
@@ -316,8 +310,8 @@ module _ (v : SeatsView) (joined : AreJoined v.joiners v.feeders (map frame_of v
       let found = knows_some (get_or v.seats r d).inbox.senders some in
       let from = found.0 in
       let has = heard_at v joined settled d r from low found.1 in
-      let to = actor_at v.joiners v.feeders r in
-      let to_is = number_there v.joiners v.feeders r (subst (λ z. r < z) (many v joined settled) low) in
+      let to = actor_at v.cast r in
+      let to_is = number_there v.cast r (subst (λ z. r < z) (many v joined settled) low) in
       let same = ap (λ (ls : ActorLists). ls.received from) (sym (lists_there v joined settled to r d to_is))
       ∙ (is.received from to ∙ ap (λ (ls : ActorLists). ls.sent to)
       (lists_there v joined settled from has.sender d has.is)) in

@@ -8,6 +8,7 @@ use Rattle.epoch_tags.specs.declared.actor.Actor.{Actor}
 use Rattle.epoch_tags.specs.declared.message.Msg.{Msg}
 use Rattle.epoch_tags.specs.declared.message.Post.{Post}
 use Rattle.ruled_links.specs.Ends.{Sending}
+use Rattle.actor_core.specs.declared.cast.Cast.{Cast}
 use Rattle.actor_core.specs.Lists.{same_actor, posted_to}
 use Rattle.join_runtime.specs.Views.{address_of, sent_through}
 
@@ -26,13 +27,13 @@ posted false true xs m e = absurd (true≢false (sym e))
 posted false false xs m e = sym (append-nil xs)
 
 -- of one post after others
-pub sent_through-more : (joiners feeders : ℕ) (first old new : List (Option Sending)) (posts : List Post) (post : Post)
-    → ((a : Actor) → sent_through joiners feeders old a ≡ sent_through joiners feeders first a ++ posted_to a posts)
-    → ((a : Actor) → sent_through joiners feeders new a ≡ sent_through joiners feeders old a ++ posted_to a (post ∷ []))
-    → (a : Actor) → sent_through joiners feeders new a ≡ sent_through joiners feeders first a
+pub sent_through-more : (cast : Cast) (first old new : List (Option Sending)) (posts : List Post) (post : Post)
+    → ((a : Actor) → sent_through cast old a ≡ sent_through cast first a ++ posted_to a posts)
+    → ((a : Actor) → sent_through cast new a ≡ sent_through cast old a ++ posted_to a (post ∷ []))
+    → (a : Actor) → sent_through cast new a ≡ sent_through cast first a
     ++ posted_to a (posts ++ post ∷ [])
-sent_through-more joiners feeders first old new posts post before last a =
+sent_through-more cast first old new posts post before last a =
     last a ∙ ap (λ ms. ms ++ posted_to a (post ∷ [])) (before a)
-    ∙ append_assoc (sent_through joiners feeders first a) (posted_to a posts) (posted_to a (post ∷ []))
-    ∙ ap (λ ms. sent_through joiners feeders first a ++ ms)
+    ∙ append_assoc (sent_through cast first a) (posted_to a posts) (posted_to a (post ∷ []))
+    ∙ ap (λ ms. sent_through cast first a ++ ms)
     (sym (filter_map-append (λ (p : Post). cond (same_actor p.to a) (Some p.msg) None) posts (post ∷ [])))

@@ -6,6 +6,7 @@ use Rattle.std.specs.Prelude.{IsSome, Contains}
 use Rattle.std.proofs.lemmas.List.{length-set, get_or_default, get_or-set_same, get_or-set_other}
 use Rattle.std.proofs.lemmas.List.Elements.{Contains-push, Contains-append_left, Contains-push_cases}
 use Rattle.ruled_links.specs.Ends.{Sending}
+use Rattle.actor_core.specs.declared.cast.Cast.{Cast}
 use Rattle.actor_core.specs.Numbers.{number}
 use Rattle.actor_core.proofs.OwnNumbers.{none_some, some_is}
 use Rattle.join_runtime.specs.Views.{SeatView}
@@ -15,8 +16,8 @@ use Rattle.join_runtime.specs.Seating.{AreAwake, AreFilled, HasSeat, HavePlaces,
 
 -- ---- one mouth
 
-module _ (joiners feeders receiver : ℕ) (mouth : Sending) (old new : List SeatView)
-    (puts : Puts joiners feeders receiver mouth old new) where
+module _ (cast : Cast) (receiver : ℕ) (mouth : Sending) (old new : List SeatView)
+    (puts : Puts cast receiver mouth old new) where
   put_at : SeatView → SeatView
   put_at d = record (get_or old puts.sender d) { mouths = set (get_or old puts.sender d).mouths receiver (Some mouth) }
 
@@ -79,12 +80,12 @@ module _ (joiners feeders receiver : ℕ) (mouth : Sending) (old new : List Seat
   slot_elsewhere n r d other = ap (λ (s : SeatView). get_or s.mouths r None) (elsewhere n d other)
 
 -- where a mouth comes to a place of its sender's seat, it has come to its sender
-pub puts_there : (joiners feeders receiver : ℕ) (mouth : Sending) (sender : ℕ) (seat : SeatView)
-    (old new : List SeatView) → number joiners feeders mouth.from ≡ Some sender
-    → HasSeat joiners feeders (length old) mouth.from → HavePlaces receiver old → seat ≡ get_or old sender seat
+pub puts_there : (cast : Cast) (receiver : ℕ) (mouth : Sending) (sender : ℕ) (seat : SeatView)
+    (old new : List SeatView) → number cast mouth.from ≡ Some sender
+    → HasSeat cast (length old) mouth.from → HavePlaces receiver old → seat ≡ get_or old sender seat
     → new ≡ set old sender (record seat { mouths = set seat.mouths receiver (Some mouth) })
-    → Puts joiners feeders receiver mouth old new
-puts_there joiners feeders receiver mouth sender seat old new is has places here now =
+    → Puts cast receiver mouth old new
+puts_there cast receiver mouth sender seat old new is has places here now =
     let same : has.place ≡ sender = some_is has.place sender (sym has.is ∙ is) in
     let low : sender < length old = omega (arith, same, has.there) in
     record {
@@ -99,9 +100,9 @@ puts_there joiners feeders receiver mouth sender seat old new is has places here
 
 -- ---- several
 
-one_more : (joiners feeders n : ℕ) (mouths : List Sending) (last mouth : Sending)
-    → IsOneOf joiners feeders n mouths mouth → IsOneOf joiners feeders n (mouths ++ last ∷ []) mouth
-one_more joiners feeders n mouths last mouth is = record {
+one_more : (cast : Cast) (n : ℕ) (mouths : List Sending) (last mouth : Sending)
+    → IsOneOf cast n mouths mouth → IsOneOf cast n (mouths ++ last ∷ []) mouth
+one_more cast n mouths last mouth is = record {
   one = Contains-append_left mouths (last ∷ []) mouth is.one;
   sender = is.sender;
 }
@@ -110,9 +111,9 @@ some_still : (o : Option Sending) (mouth : Sending) → o ≡ Some mouth → IsS
 some_still o mouth e = subst IsSome (sym e) refl
 
 -- where no mouth comes to its sender, nothing changes
-pub places_none : (joiners feeders receiver : ℕ) (seats : List SeatView)
-    → Places joiners feeders receiver [] seats seats
-places_none joiners feeders receiver seats = record {
+pub places_none : (cast : Cast) (receiver : ℕ) (seats : List SeatView)
+    → Places cast receiver [] seats seats
+places_none cast receiver seats = record {
   all = refl;
   same = λ n d low. refl;
   many = λ n d low. refl;
@@ -122,15 +123,15 @@ places_none joiners feeders receiver seats = record {
 }
 
 -- where some mouths came to their senders and then one more, those and that one did
-pub places_more : (joiners feeders receiver : ℕ) (mouths : List Sending) (mouth : Sending)
-    (first old new : List SeatView) → Places joiners feeders receiver mouths first old
-    → Puts joiners feeders receiver mouth old new
-    → Places joiners feeders receiver (mouths ++ mouth ∷ []) first new
-places_more joiners feeders receiver mouths mouth first old new before puts = record {
-  all = long joiners feeders receiver mouth old new puts ∙ before.all;
+pub places_more : (cast : Cast) (receiver : ℕ) (mouths : List Sending) (mouth : Sending)
+    (first old new : List SeatView) → Places cast receiver mouths first old
+    → Puts cast receiver mouth old new
+    → Places cast receiver (mouths ++ mouth ∷ []) first new
+places_more cast receiver mouths mouth first old new before puts = record {
+  all = long cast receiver mouth old new puts ∙ before.all;
   same = same;
-  many = λ n d low. same_many joiners feeders receiver mouth old new puts n d ∙ before.many n d low;
-  others = λ n r d low other. slot_other joiners feeders receiver mouth old new puts n r d other
+  many = λ n d low. same_many cast receiver mouth old new puts n d ∙ before.many n d low;
+  others = λ n r d low other. slot_other cast receiver mouth old new puts n r d other
       ∙ before.others n r d low other;
   own = own;
   has = has;
@@ -139,32 +140,32 @@ places_more joiners feeders receiver mouths mouth first old new before puts = re
     same : (n : ℕ) (d : SeatView) → n < length first → get_or new n d
         ≡ record (get_or first n d) { mouths = (get_or new n d).mouths }
     same n d low =
-        same_seat joiners feeders receiver mouth old new puts n d
+        same_seat cast receiver mouth old new puts n d
         ∙ ap (λ (s : SeatView). record s { mouths = (get_or new n d).mouths }) (before.same n d low)
 
     own : (n : ℕ) (d : SeatView) (m : Sending) → n < length first → slot_of new d n receiver ≡ Some m
-        → (slot_of first d n receiver ≡ Some m) ⊎ IsOneOf joiners feeders n (mouths ++ mouth ∷ []) m
+        → (slot_of first d n receiver ≡ Some m) ⊎ IsOneOf cast n (mouths ++ mouth ∷ []) m
     own n d m low is = go (n == puts.sender) refl
       where
         go : (b : Bool) → (n == puts.sender) ≡ b → (slot_of first d n receiver ≡ Some m)
-            ⊎ IsOneOf joiners feeders n (mouths ++ mouth ∷ []) m
+            ⊎ IsOneOf cast n (mouths ++ mouth ∷ []) m
         go true e =
             let here = eqb-true n puts.sender e in
-            let same : mouth ≡ m = some_is mouth m (sym (slot_here joiners feeders receiver mouth old new puts d)
+            let same : mouth ≡ m = some_is mouth m (sym (slot_here cast receiver mouth old new puts d)
             ∙ subst (λ z. slot_of new d z receiver ≡ Some m) here is) in
             inr (record {
               one = subst (Contains (mouths ++ mouth ∷ [])) same (Contains-push mouths mouth);
-              sender = subst (λ (x : Sending). number joiners feeders x.from ≡ Some n) same
+              sender = subst (λ (x : Sending). number cast x.from ≡ Some n) same
                   (puts.is ∙ ap Some (sym here));
             })
         go false e =
-            elim (before.own n d m low (sym (slot_elsewhere joiners feeders receiver mouth old new puts n receiver d
+            elim (before.own n d m low (sym (slot_elsewhere cast receiver mouth old new puts n receiver d
             (eqb-false n puts.sender e)) ∙ is)) [
               | inl first_is ↦ inl first_is
-              | inr one ↦ inr (one_more joiners feeders n mouths mouth m one)
+              | inr one ↦ inr (one_more cast n mouths mouth m one)
             ]
 
-    has : (n : ℕ) (d : SeatView) (m : Sending) → IsOneOf joiners feeders n (mouths ++ mouth ∷ []) m → (n < length first)
+    has : (n : ℕ) (d : SeatView) (m : Sending) → IsOneOf cast n (mouths ++ mouth ∷ []) m → (n < length first)
         × IsSome (slot_of new d n receiver)
     has n d m is = elim (Contains-push_cases mouths mouth m is.one) [
       | inl one ↦
@@ -172,11 +173,11 @@ places_more joiners feeders receiver mouths mouth first old new before puts = re
           (old_one.0, kept (n == puts.sender) refl old_one.1)
       | inr same ↦
           let here : puts.sender ≡ n = some_is puts.sender n
-          (sym puts.is ∙ subst (λ (x : Sending). number joiners feeders x.from ≡ Some n) (sym same) is.sender) in (
+          (sym puts.is ∙ subst (λ (x : Sending). number cast x.from ≡ Some n) (sym same) is.sender) in (
             subst (λ z. n < z) before.all (subst (λ z. z < length old) here puts.there),
             subst (λ z. IsSome (slot_of new d z receiver)) here
                 (some_still (slot_of new d puts.sender receiver) mouth
-                (slot_here joiners feeders receiver mouth old new puts d)),
+                (slot_here cast receiver mouth old new puts d)),
           )
     ]
       where
@@ -186,17 +187,17 @@ places_more joiners feeders receiver mouths mouth first old new before puts = re
             let here = eqb-true n puts.sender e in
             subst (λ z. IsSome (slot_of new d z receiver)) (sym here)
             (some_still (slot_of new d puts.sender receiver) mouth
-            (slot_here joiners feeders receiver mouth old new puts d))
-        kept false e some = subst IsSome (sym (slot_elsewhere joiners feeders receiver mouth old new puts n receiver d
+            (slot_here cast receiver mouth old new puts d))
+        kept false e some = subst IsSome (sym (slot_elsewhere cast receiver mouth old new puts n receiver d
             (eqb-false n puts.sender e))) some
 
 -- ---- all receivers
 
 -- where no seat has a mouth, the mouths of the receivers below 0 have come to their senders, and no other
-pub filled_none : (joiners feeders : ℕ) (mouths : List (List Sending)) (seats : List SeatView)
+pub filled_none : (cast : Cast) (mouths : List (List Sending)) (seats : List SeatView)
     → ((n r : ℕ) (d : SeatView) → n < length seats → slot_of seats d n r ≡ None)
-    → AreFilled joiners feeders 0 mouths seats seats
-filled_none joiners feeders mouths seats none = record {
+    → AreFilled cast 0 mouths seats seats
+filled_none cast mouths seats none = record {
   all = refl;
   same = λ n d low. refl;
   many = λ n d low. refl;
@@ -206,11 +207,11 @@ filled_none joiners feeders mouths seats none = record {
 
 -- where the mouths of the receivers below a number had come to their senders, and now those of that number, those of
 -- the receivers below the next have
-pub filled_more : (joiners feeders below : ℕ) (mouths : List (List Sending)) (first old new : List SeatView)
-    → AreFilled joiners feeders below mouths first old
-    → Places joiners feeders below (get_or mouths below []) old new
-    → AreFilled joiners feeders (below + 1) mouths first new
-filled_more joiners feeders below mouths first old new before places = record {
+pub filled_more : (cast : Cast) (below : ℕ) (mouths : List (List Sending)) (first old new : List SeatView)
+    → AreFilled cast below mouths first old
+    → Places cast below (get_or mouths below []) old new
+    → AreFilled cast (below + 1) mouths first new
+filled_more cast below mouths first old new before places = record {
   all = places.all ∙ before.all;
   same = same;
   many = λ n d low. places.many n d (subst (λ z. n < z) (sym before.all) low) ∙ before.many n d low;
@@ -228,31 +229,31 @@ filled_more joiners feeders below mouths first old new before places = record {
         (sym (ap (λ (s : SeatView). s.spent) last))
 
     own : (n r : ℕ) (d : SeatView) (m : Sending) → n < length first → slot_of new d n r ≡ Some m → (r < below + 1)
-        × IsOneOf joiners feeders n (get_or mouths r []) m
+        × IsOneOf cast n (get_or mouths r []) m
     own n r d m low is = go (r == below) refl
       where
         low' : n < length old
         low' = subst (λ z. n < z) (sym before.all) low
 
-        go : (b : Bool) → (r == below) ≡ b → (r < below + 1) × IsOneOf joiners feeders n (get_or mouths r []) m
+        go : (b : Bool) → (r == below) ≡ b → (r < below + 1) × IsOneOf cast n (get_or mouths r []) m
         go true e =
             let here = eqb-true r below e in
             elim (places.own n d m low' (subst (λ z. slot_of new d n z ≡ Some m) here is)) [
               | inl old_is ↦ let past = before.own n below d m low old_is in absurd (omega (arith, past.0))
-              | inr one ↦ (omega arith, subst (λ z. IsOneOf joiners feeders n (get_or mouths z []) m) (sym here) one)
+              | inr one ↦ (omega arith, subst (λ z. IsOneOf cast n (get_or mouths z []) m) (sym here) one)
             ]
         go false e =
             let past = before.own n r d m low (sym (places.others n r d low' (eqb-false r below e)) ∙ is) in
             (omega (arith, past.0), past.1)
 
-    has : (n r : ℕ) (d : SeatView) (m : Sending) → r < below + 1 → IsOneOf joiners feeders n (get_or mouths r []) m
+    has : (n r : ℕ) (d : SeatView) (m : Sending) → r < below + 1 → IsOneOf cast n (get_or mouths r []) m
         → (n < length first) × IsSome (slot_of new d n r)
     has n r d m low is = go (r == below) refl
       where
         go : (b : Bool) → (r == below) ≡ b → (n < length first) × IsSome (slot_of new d n r)
         go true e =
             let here = eqb-true r below e in
-            let now = places.has n d m (subst (λ z. IsOneOf joiners feeders n (get_or mouths z []) m) here is) in
+            let now = places.has n d m (subst (λ z. IsOneOf cast n (get_or mouths z []) m) here is) in
             (subst (λ z. n < z) before.all now.0, subst (λ z. IsSome (slot_of new d n z)) (sym here) now.1)
         go false e =
             let other = eqb-false r below e in
@@ -260,10 +261,10 @@ filled_more joiners feeders below mouths first old new before places = record {
             (past.0, subst IsSome (sym (places.others n r d (subst (λ z. n < z) (sym before.all) past.0) other)) past.1)
 
 -- where each mouth came to its sender, and then all seats are awake, each mouth came to its sender
-pub filled_awake : (joiners feeders below : ℕ) (mouths : List (List Sending)) (first old new : List SeatView)
-    → AreFilled joiners feeders below mouths first old → AreAwake old new
-    → AreFilled joiners feeders below mouths first new
-filled_awake joiners feeders below mouths first old new filled awake = record {
+pub filled_awake : (cast : Cast) (below : ℕ) (mouths : List (List Sending)) (first old new : List SeatView)
+    → AreFilled cast below mouths first old → AreAwake old new
+    → AreFilled cast below mouths first new
+filled_awake cast below mouths first old new filled awake = record {
   all = awake.all ∙ filled.all;
   same = λ n d low.
       let is = awake.each n d (within n low) in

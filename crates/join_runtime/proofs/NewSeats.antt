@@ -8,7 +8,8 @@ use Rattle.std.proofs.lemmas.List.{length-append, get_or_append_left}
 use Rattle.epoch_tags.specs.declared.actor.Actor.{Actor}
 use Rattle.ruled_links.specs.Ends.{Sending}
 use Rattle.ruled_links.specs.Inboxes.{InboxView, opened}
-use Rattle.actor_core.specs.Numbers.{actor_at, number}
+use Rattle.actor_core.specs.declared.cast.Cast.{Cast}
+use Rattle.actor_core.specs.Numbers.{actor_at, count_of, number}
 use Rattle.actor_core.specs.declared.machines.Core.{Core}
 use Rattle.actor_core.proofs.Beginnings.{there}
 use Rattle.actor_core.proofs.Seated.{number_low}
@@ -17,21 +18,19 @@ use Rattle.join_runtime.specs.Seating.{AreNew, HasSeat, HavePlaces, IsNewSeat, I
 use Rattle.join_runtime.proofs.FreshSenders.{contains_map}
 
 -- a machine with a room as it was made is a seat as it was made
-pub room_seat : (joiners feeders n : ℕ) (core : Core) (actor : Actor) (inbox : InboxView) (mouths : List Sending)
-    (places : List (Option Sending)) → actor ≡ actor_at joiners feeders n
-    → IsRoom joiners feeders n inbox mouths places
-    → IsNewSeat joiners feeders n core (record {
-      joiners = joiners;
-      feeders = feeders;
+pub room_seat : (cast : Cast) (n : ℕ) (core : Core) (actor : Actor) (inbox : InboxView) (mouths : List Sending)
+    (places : List (Option Sending)) → actor ≡ actor_at cast n
+    → IsRoom cast n inbox mouths places
+    → IsNewSeat cast n core (record {
+      cast = cast;
       actor = actor;
       core = core;
       inbox = inbox;
       mouths = places;
       spent = true;
     }) mouths
-room_seat joiners feeders n core actor inbox mouths places is room = record {
-  joiners_are = refl;
-  feeders_are = refl;
+room_seat cast n core actor inbox mouths places is room = record {
+  cast_is = refl;
   actor = is;
   core_is = refl;
   to = room.to ∙ sym is;
@@ -48,14 +47,14 @@ room_seat joiners feeders n core actor inbox mouths places is room = record {
 
 -- seats as they were made, and one more of the next number for one machine more, are seats as they were made, with the
 -- mouths of their inboxes
-pub new_more : (joiners feeders : ℕ) (cores : List Core) (core : Core) (seats : List SeatView)
+pub new_more : (cast : Cast) (cores : List Core) (core : Core) (seats : List SeatView)
     (mouths : List (List Sending)) (seat : SeatView) (own : List Sending)
-    → AreNew joiners feeders (length cores) cores seats mouths
-    → IsNewSeat joiners feeders (length cores) core seat own
-    → AreNew joiners feeders (length (cores ++ core ∷ [])) (cores ++ core ∷ []) (seats ++ seat ∷ [])
+    → AreNew cast (length cores) cores seats mouths
+    → IsNewSeat cast (length cores) core seat own
+    → AreNew cast (length (cores ++ core ∷ [])) (cores ++ core ∷ []) (seats ++ seat ∷ [])
     (mouths ++ own ∷ [])
-new_more joiners feeders cores core seats mouths seat own old one =
-    subst (λ n. AreNew joiners feeders n (cores ++ core ∷ []) (seats ++ seat ∷ []) (mouths ++ own ∷ []))
+new_more cast cores core seats mouths seat own old one =
+    subst (λ n. AreNew cast n (cores ++ core ∷ []) (seats ++ seat ∷ []) (mouths ++ own ∷ []))
     (sym (length-append cores (core ∷ [])))
     (record {
       all = length-append seats (seat ∷ []) ∙ ap (λ n. n + 1) old.all;
@@ -64,18 +63,18 @@ new_more joiners feeders cores core seats mouths seat own old one =
     })
   where
     new : (n : ℕ) (d : SeatView) → n < length cores + 1
-        → IsNewSeat joiners feeders n (get_or (cores ++ core ∷ []) n d.core) (get_or (seats ++ seat ∷ []) n d)
+        → IsNewSeat cast n (get_or (cores ++ core ∷ []) n d.core) (get_or (seats ++ seat ∷ []) n d)
         (get_or (mouths ++ own ∷ []) n [])
     new n d low = elim (cases_lt n (length cores)) [
       | inl less ↦
           let machine = get_or_append_left cores (core ∷ []) d.core n less in
           let left = get_or_append_left seats (seat ∷ []) d n (omega (arith, old.all)) in
           let right = get_or_append_left mouths (own ∷ []) [] n (omega (arith, old.each)) in
-          subst (λ c. IsNewSeat joiners feeders n c (get_or (seats ++ seat ∷ []) n d)
+          subst (λ c. IsNewSeat cast n c (get_or (seats ++ seat ∷ []) n d)
           (get_or (mouths ++ own ∷ []) n [])) (sym machine)
-          (subst (λ s. IsNewSeat joiners feeders n (get_or cores n d.core) s (get_or (mouths ++ own ∷ []) n []))
+          (subst (λ s. IsNewSeat cast n (get_or cores n d.core) s (get_or (mouths ++ own ∷ []) n []))
           (sym left)
-          (subst (IsNewSeat joiners feeders n (get_or cores n d.core) (get_or seats n d)) (sym right)
+          (subst (IsNewSeat cast n (get_or cores n d.core) (get_or seats n d)) (sym right)
           (old.new n d less)))
       | inr more ↦
           let is : length cores ≡ n = omega arith in
@@ -86,18 +85,18 @@ new_more joiners feeders cores core seats mouths seat own old one =
           let left = subst (λ z. get_or (seats ++ seat ∷ []) z d ≡ seat) here (get_or-append_seam seats seat [] d) in
           let right = subst (λ z. get_or (mouths ++ own ∷ []) z [] ≡ own) there'
           (get_or-append_seam mouths own [] []) in
-          subst (λ c. IsNewSeat joiners feeders n c (get_or (seats ++ seat ∷ []) n d)
+          subst (λ c. IsNewSeat cast n c (get_or (seats ++ seat ∷ []) n d)
           (get_or (mouths ++ own ∷ []) n [])) (sym machine)
-          (subst (λ s. IsNewSeat joiners feeders n core s (get_or (mouths ++ own ∷ []) n [])) (sym left)
-          (subst (IsNewSeat joiners feeders n core seat) (sym right)
-          (subst (λ z. IsNewSeat joiners feeders z core seat own) is one)))
+          (subst (λ s. IsNewSeat cast n core s (get_or (mouths ++ own ∷ []) n [])) (sym left)
+          (subst (IsNewSeat cast n core seat) (sym right)
+          (subst (λ z. IsNewSeat cast z core seat own) is one)))
     ]
 
-module _ (joiners feeders count : ℕ) (cores : List Core) (seats : List SeatView) (mouths : List (List Sending))
-    (new : AreNew joiners feeders count cores seats mouths) (all : count ≡ feeders + joiners + 2) where
+module _ (cast : Cast) (count : ℕ) (cores : List Core) (seats : List SeatView) (mouths : List (List Sending))
+    (new : AreNew cast count cores seats mouths) (all : count ≡ count_of cast) where
   -- where there is a new seat for each actor, the sender of each mouth has one
   pub new_senders : (r : ℕ) (mouth : Sending) → r < length mouths → Contains (get_or mouths r []) mouth
-      → HasSeat joiners feeders (length seats) mouth.from
+      → HasSeat cast (length seats) mouth.from
   new_senders r mouth low has =
       let low' : r < length seats = omega (arith, new.all, new.each) in
       let d = (there seats r low').0 in
@@ -107,9 +106,9 @@ module _ (joiners feeders count : ℕ) (cores : List Core) (seats : List SeatVie
       (subst (λ ms. Contains ms mouth) one.mouths_are has) in
       let is_from : found.0 ≡ mouth.from = ap (λ (m : Sending). m.from) found.2 in
       let own = one.numbers.each found.1.0 found.0 found.1.1 in
-      let is : number joiners feeders mouth.from ≡ Some own.0 =
-      subst (λ a. number joiners feeders a ≡ Some own.0) (found.1.2 ∙ is_from) own.1 in
-      let within = number_low joiners feeders mouth.from own.0 is in
+      let is : number cast mouth.from ≡ Some own.0 =
+      subst (λ a. number cast a ≡ Some own.0) (found.1.2 ∙ is_from) own.1 in
+      let within = number_low cast mouth.from own.0 is in
       record { place = own.0; is = is; there = omega (arith, within, all, new.all) }
 
   -- and each seat has a place for each actor

@@ -10,6 +10,8 @@ use Rattle.trace_law.specs.declared.input.Input.{Input}
 use Rattle.theta_pred.specs.Formula.{Meaning}
 use Rattle.trace_law.specs.declared.setting.Setting.{Setting}
 use Rattle.trace_law.specs.Family.{Rest}
+use Rattle.actor_core.specs.declared.cast.Cast.{Cast}
+use Rattle.actor_core.specs.Numbers.{count_of}
 use Rattle.actor_core.specs.Elements.{IsAllAt}
 use Rattle.actor_core.specs.Standing.{JoinsBy}
 use Rattle.actor_core.specs.Lists.{ActorLists}
@@ -85,26 +87,6 @@ all_advance_after old middle new long first then n d low =
     advances_after (get_or old n d) (get_or middle n d) (get_or new n d) (first n d low)
     (then n d (omega (arith, long, low)))
 
--- two seats changed places before the turns, and back behind them
-pub swapped_work : (old swapped worked new : List SeatView) (i j : ℕ) → length swapped ≡ length old → i < length old
-    → j < length old
-    → SwappedAt old swapped i j → AllWork swapped worked → SwappedAt worked new i j → AllWork old new
-swapped_work old swapped worked new i j long low_i low_j there works back n d low =
-    let moved = λ (a b : ℕ) (from : get_or swapped b d ≡ get_or old a d) (to : get_or new a d ≡ get_or worked b d)
-    (within : b < length swapped).
-    subst (λ u. Works u (get_or new a d)) from (subst (Works (get_or swapped b d)) (sym to) (works b d within)) in
-    elim (cases_eq n i) [
-      | inl is ↦
-          subst (λ k. Works (get_or old k d) (get_or new k d)) (sym is)
-          (moved i j (there.1 d) (back.0 d) (omega (arith, long, low_j)))
-      | inr other ↦ elim (cases_eq n j) [
-        | inl is ↦
-            subst (λ k. Works (get_or old k d) (get_or new k d)) (sym is)
-            (moved j i (there.0 d) (back.1 d) (omega (arith, long, low_i)))
-        | inr neither ↦ moved n n (there.2 n d other neither) (back.2 n d other neither) (omega (arith, long, low))
-      ]
-    ]
-
 -- the turns of all seats leave their frames as they were
 pub frames_worked : (old new : List SeatView) → length new ≡ length old → AllWork old new
     → map frame_of new ≡ map frame_of old
@@ -129,17 +111,17 @@ still_settled old new long advance gathered settled = record {
   gathered = gathered;
 }
 
--- so it is of each actor of a run with so many joiners and feeders, whose seats these were and are
-abbrev pub AllRan : ℕ → ℕ → List SeatView → List SeatView → Type 0
-AllRan joiners feeders old new =
-    AllRelate HasRun joiners feeders (map (λ (s : SeatView). s.core) old) (map (λ (s : SeatView). s.core) new)
-    (lists_among lists_of joiners feeders old) (lists_among lists_of joiners feeders new)
+-- so it is of each actor that takes part, whose seats these were and are
+abbrev pub AllRan : Cast → List SeatView → List SeatView → Type 0
+AllRan cast old new =
+    AllRelate HasRun cast (map (λ (s : SeatView). s.core) old) (map (λ (s : SeatView). s.core) new)
+    (lists_among lists_of cast old) (lists_among lists_of cast new)
 
 -- each actor made some events
-pub all_ran : (joiners feeders : ℕ) (old new : List SeatView) → length new ≡ length old
-    → length old ≡ feeders + joiners + 2 → AllAdvance old new → AllRan joiners feeders old new
-all_ran joiners feeders old new long all advance =
-    all_relate (λ (s : SeatView). s.core) lists_of HasRun joiners feeders old new long all
+pub all_ran : (cast : Cast) (old new : List SeatView) → length new ≡ length old
+    → length old ≡ count_of cast → AllAdvance old new → AllRan cast old new
+all_ran cast old new long all advance =
+    all_relate (λ (s : SeatView). s.core) lists_of HasRun cast old new long all
     (λ n d low. let a = advance n d low in record { count = a.count; runs = a.runs })
 
 -- ---- a bout by its answer
@@ -153,26 +135,26 @@ settled_after true old new long advance gathered same settled =
     still_settled old new long (advance refl) (gathered refl) settled
 settled_after false old new long advance gathered same settled = subst AreSettled (sym (same refl)) settled
 
--- the seats of a run with so many joiners and feeders, before a bout and after it
-module _ (went : Bool) (joiners feeders : ℕ) (old new : List SeatView) (long : length new ≡ length old)
-    (all : length old ≡ feeders + joiners + 2) (advance : went ≡ true → AllAdvance old new)
+-- the seats of a run, before a bout and after it
+module _ (went : Bool) (cast : Cast) (old new : List SeatView) (long : length new ≡ length old)
+    (all : length old ≡ count_of cast) (advance : went ≡ true → AllAdvance old new)
     (same : went ≡ false → new ≡ old) where
   abbrev cores_of : List SeatView → List Core
   cores_of seats = map (λ (s : SeatView). s.core) seats
 
   abbrev before : Actor → ActorLists
-  before = lists_among lists_of joiners feeders old
+  before = lists_among lists_of cast old
 
   abbrev after : Actor → ActorLists
-  after = lists_among lists_of joiners feeders new
+  after = lists_among lists_of cast new
 
-  ran : AllRan joiners feeders old new
+  ran : AllRan cast old new
   ran = go went refl
     where
-      go : (b : Bool) → went ≡ b → AllRan joiners feeders old new
-      go true e = all_ran joiners feeders old new long all (advance e)
+      go : (b : Bool) → went ≡ b → AllRan cast old new
+      go true e = all_ran cast old new long all (advance e)
       go false e =
-          all_relate (λ (s : SeatView). s.core) lists_of HasRun joiners feeders old new long all (λ n d low. record {
+          all_relate (λ (s : SeatView). s.core) lists_of HasRun cast old new long all (λ n d low. record {
             count = 0;
             runs = ap (λ (seats : List SeatView). player (get_or seats n d)) (same e);
           })
@@ -180,28 +162,28 @@ module _ (went : Bool) (joiners feeders : ℕ) (old new : List SeatView) (long :
   -- whether each seat advanced in a bout or nothing changed, as it answers, the lists of each actor before are fronts
   -- of those after
   pub extends_after : Extends before after
-  extends_after = extends joiners feeders (cores_of old) (cores_of new) before after ran
+  extends_after = extends cast (cores_of old) (cores_of new) before after ran
 
   -- so is the controller's journal
-  pub journal_after : IsPrefix (journal_among joiners feeders (cores_of old))
-      (journal_among joiners feeders (cores_of new))
-  journal_after = journal_grows joiners feeders (cores_of old) (cores_of new) before after ran
+  pub journal_after : IsPrefix (journal_among cast (cores_of old))
+      (journal_among cast (cores_of new))
+  journal_after = journal_grows cast (cores_of old) (cores_of new) before after ran
 
   -- the machines of all actors stand for the later lists, if they stood for the earlier
   pub stands_after : (input : Input) (setting : Setting) (rest : Rest)
-      → AllStandInWave input setting rest joiners feeders (cores_of old) before
-      → AllStandInWave input setting rest joiners feeders (cores_of new) after
-  stands_after = stand_after_in_wave joiners feeders (cores_of old) (cores_of new) before after ran
+      → AllStandInWave input setting rest cast (cores_of old) before
+      → AllStandInWave input setting rest cast (cores_of new) after
+  stands_after = stand_after_in_wave cast (cores_of old) (cores_of new) before after ran
 
   -- and what was sent goes over links of the run still
   pub linked_after : (input : Input) (setting : Setting) (rest : Rest)
-      → AllStandInWave input setting rest joiners feeders (cores_of old) before
+      → AllStandInWave input setting rest cast (cores_of old) before
       → AreLinked setting before → AreLinked setting after
   linked_after input setting rest stands =
-      still_linked_in_wave input setting rest joiners feeders (cores_of old) (cores_of new) before after stands ran
+      still_linked_in_wave input setting rest cast (cores_of old) (cores_of new) before after stands ran
 
   -- the joiners join by the predicate by which they did
   pub joins_after : (theta : Meaning) → IsAllAt (JoinsBy theta) (cores_of old) → IsAllAt (JoinsBy theta) (cores_of new)
   joins_after theta =
-      join_after joiners feeders (cores_of old) (cores_of new) before after ran theta
+      join_after cast (cores_of old) (cores_of new) before after ran theta
       (length-map old (λ (s : SeatView). s.core) ∙ all)

@@ -62,8 +62,8 @@ turn_ends s t turn = record {
 -- a seat whose machine was called, and whose mouths took what that sent
 module _ (old : SeatView) (core : Core) (inbox : InboxView) (mouths : List (Option Sending)) (none sends : List Post)
     (caused : IsCaused old.core core old.inbox inbox none sends) (empty : none ≡ [])
-    (sent : (a : Actor) → sent_through old.joiners old.feeders mouths a
-    ≡ sent_through old.joiners old.feeders old.mouths a ++ posted_to a sends) where
+    (sent : (a : Actor) → sent_through old.cast mouths a
+    ≡ sent_through old.cast old.mouths a ++ posted_to a sends) where
   abbrev after : SeatView
   after = record old { core = core; inbox = inbox; mouths = mouths }
 

@@ -12,6 +12,7 @@ use Rattle.epoch_tags.specs.declared.message.Post.{Post}
 use Rattle.ruled_links.specs.Ends.{Sending}
 use Rattle.pair_collector.specs.Law.{CollectorLists}
 use Rattle.pair_collector.specs.Standing.{CollectorState, StandsFor as CollectorStands}
+use Rattle.actor_core.specs.declared.cast.Cast.{Cast}
 use Rattle.actor_core.specs.Lists.{ActorLists, Cause, collector_lists, with_event}
 use Rattle.actor_core.specs.Standing.{Event, OfCollector, OfController, OfFeeder, OfJoiner, Start, Stands}
 use Rattle.actor_core.specs.declared.machines.Core.{Core}
@@ -26,7 +27,7 @@ some_mouth (Some mouth) is = refl
 
 -- ---- mouths of the same addresses
 
-module _ (joiners feeders : ℕ) (old new : List (Option Sending))
+module _ (cast : Cast) (old new : List (Option Sending))
     (same : map address_of new ≡ map address_of old) where
   mouth_still : (n : ℕ) → IsSome (get_or old n None) → IsSome (get_or new n None)
   mouth_still n there =
@@ -35,16 +36,16 @@ module _ (joiners feeders : ℕ) (old new : List (Option Sending))
       (some_address (get_or old n None) there))
 
   -- where an actor had a mouth, it has one
-  pub has_still : (to : Actor) → HasMouth joiners feeders old to → HasMouth joiners feeders new to
+  pub has_still : (to : Actor) → HasMouth cast old to → HasMouth cast new to
   has_still to has = record { place = has.place; is = has.is; there = mouth_still has.place has.there }
 
   -- so do the receivers of posts
-  pub have_still : (posts : List Post) → HaveMouths joiners feeders old posts → HaveMouths joiners feeders new posts
+  pub have_still : (posts : List Post) → HaveMouths cast old posts → HaveMouths cast new posts
   have_still posts have n d low = has_still (get_or posts n d).to (have n d low)
 
   -- a machine that is served, is served still after an event
   pub served_after : (cause : Cause) (core core' : Core) (posts : List Post) → Event cause core core' posts
-      → IsServed joiners feeders old core → IsServed joiners feeders new core'
+      → IsServed cast old core → IsServed cast new core'
   served_after cause core core' posts event served = record {
     start = served.start;
     lists = with_event cause posts served.lists;
@@ -53,19 +54,19 @@ module _ (joiners feeders : ℕ) (old new : List (Option Sending))
   }
 
 -- what a machine that is served posts has mouths
-pub posts_served : (joiners feeders : ℕ) (mouths : List (Option Sending)) (cause : Cause) (core core' : Core)
+pub posts_served : (cast : Cast) (mouths : List (Option Sending)) (cause : Cause) (core core' : Core)
     (posts none sends : List Post) → none ≡ [] → sends ≡ none ++ posts → Event cause core core' posts
-    → IsServed joiners feeders mouths core → HaveMouths joiners feeders mouths sends
-posts_served joiners feeders mouths cause core core' posts none sends empty are event served =
-    subst (HaveMouths joiners feeders mouths) (sym (are ∙ ap (λ ps. ps ++ posts) empty))
+    → IsServed cast mouths core → HaveMouths cast mouths sends
+posts_served cast mouths cause core core' posts none sends empty are event served =
+    subst (HaveMouths cast mouths) (sym (are ∙ ap (λ ps. ps ++ posts) empty))
     (served.go posts (event.over served.start served.lists served.stands))
 
 -- where the receivers of posts have mouths, the next one's has
-pub have_next : (joiners feeders : ℕ) (mouths : List (Option Sending)) (before : List Post) (post : Post)
-    (rest : List Post) → HaveMouths joiners feeders mouths (before ++ post ∷ rest)
-    → HasMouth joiners feeders mouths post.to
-have_next joiners feeders mouths before post rest have =
-    subst (λ (p : Post). HasMouth joiners feeders mouths p.to) (get_or-append_seam before post rest post)
+pub have_next : (cast : Cast) (mouths : List (Option Sending)) (before : List Post) (post : Post)
+    (rest : List Post) → HaveMouths cast mouths (before ++ post ∷ rest)
+    → HasMouth cast mouths post.to
+have_next cast mouths before post rest have =
+    subst (λ (p : Post). HasMouth cast mouths p.to) (get_or-append_seam before post rest post)
     (have (length before) post
     (subst (λ n. length before < n) (sym (length-append before (post ∷ rest))) (omega arith)))
 
@@ -81,10 +82,10 @@ some_put mouths place mouth n low there = go (n == place) refl
     go false e = subst IsSome (sym (get_or-set_other mouths place n (Some mouth) None (eqb-false n place e))) there
 
 -- a machine that is served is served with a mouth more
-pub served_put : (joiners feeders : ℕ) (mouths : List (Option Sending)) (place : ℕ) (mouth : Sending) (core : Core)
-    → place < length mouths → IsServed joiners feeders mouths core
-    → IsServed joiners feeders (set mouths place (Some mouth)) core
-served_put joiners feeders mouths place mouth core low served = record {
+pub served_put : (cast : Cast) (mouths : List (Option Sending)) (place : ℕ) (mouth : Sending) (core : Core)
+    → place < length mouths → IsServed cast mouths core
+    → IsServed cast (set mouths place (Some mouth)) core
+served_put cast mouths place mouth core low served = record {
   start = served.start;
   lists = served.lists;
   stands = served.stands;
@@ -104,10 +105,10 @@ collects (OfController s) ls c c' keeps st = absurd st
 collects (OfCollector joiners) ls c c' keeps st = keeps joiners (collector_lists ls) st
 
 -- a collector that stands for what it stood for is served still
-pub served_collector : (joiners feeders : ℕ) (mouths : List (Option Sending)) (c c' : CollectorState)
+pub served_collector : (cast : Cast) (mouths : List (Option Sending)) (c c' : CollectorState)
     → ((joiners' : ℕ) (lists : CollectorLists) → CollectorStands joiners' lists c → CollectorStands joiners' lists c')
-    → IsServed joiners feeders mouths (TheCollector c) → IsServed joiners feeders mouths (TheCollector c')
-served_collector joiners feeders mouths c c' keeps served = record {
+    → IsServed cast mouths (TheCollector c) → IsServed cast mouths (TheCollector c')
+served_collector cast mouths c c' keeps served = record {
   start = served.start;
   lists = served.lists;
   stands = collects served.start served.lists c c' keeps served.stands;

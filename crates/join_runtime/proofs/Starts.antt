@@ -11,6 +11,8 @@ use Rattle.trace_law.specs.declared.input.Input.{Input}
 use Rattle.theta_pred.specs.Formula.{Meaning}
 use Rattle.trace_law.specs.declared.setting.Setting.{Setting}
 use Rattle.trace_law.specs.Family.{Rest}
+use Rattle.actor_core.specs.declared.cast.Cast.{Cast}
+use Rattle.actor_core.specs.Numbers.{cast_of, count_of}
 use Rattle.actor_core.specs.Elements.{IsAllAt}
 use Rattle.actor_core.specs.declared.machines.Core.{Core}
 use Rattle.actor_core.specs.Lists.{no_lists}
@@ -20,7 +22,7 @@ use Rattle.actor_core.proofs.OwnNumbers.{none_some}
 use Rattle.actor_core.proofs.WaveBeginnings.{last_is}
 use Rattle.join_runtime.specs.Views.{SeatView, frame_of}
 use Rattle.join_runtime.specs.Joins.{AreJoined, AreSettled}
-use Rattle.join_runtime.specs.Bouts.{StandsInWave, lists_in, mouth_of}
+use Rattle.join_runtime.specs.Bouts.{SeatsView, StandsInWave, lists_in, mouth_of}
 use Rattle.join_runtime.specs.Seating.{IsFresh, AreFresh, AreNew, AreFilled, AreSeated}
 use Rattle.join_runtime.specs.Early.{AreGiven, given_in}
 use Rattle.join_runtime.proofs.Built.{all_joined, all_empty, all_join, all_settled, all_stand, none_given}
@@ -28,9 +30,9 @@ use Rattle.join_runtime.proofs.MouthLinks.{all_linked}
 
 -- the machines of a wave at its beginning are fresh
 pub made_fresh : (input : Input) (setting : Setting) (rest : Rest) (count : ℕ) (cores : List Core)
-    → AreMade input setting rest count cores → AreFresh input setting rest count cores
+    → AreMade input setting rest count cores → AreFresh input setting rest (length cores) cores
 made_fresh input setting rest count cores made = record {
-  all = made.all;
+  all = refl;
   each = λ n core is. let own = made.each n core is in
       record { stands = own.stands; live = own.live; given = own.given };
 }
@@ -53,96 +55,64 @@ module _ (input : Input) (setting : Setting) (rest : Rest) where
     ];
   }
 
-module _ (setting : Setting) (joiners : ℕ) (cores : List Core) (seats : List SeatView) (is : joiners ≡ 2 ^ setting.k)
-    (all : length cores ≡ setting.feeders + joiners + 2)
-    (seated : AreSeated joiners setting.feeders cores seats) where
+module _ (setting : Setting) (cast : Cast) (cores : List Core) (seats : List SeatView) (is : cast ≡ cast_of setting)
+    (all : length cores ≡ count_of cast) (seated : AreSeated cast cores seats) where
   abbrev first : List SeatView
   first = seated.first
 
   abbrev mouths : List (List Sending)
   mouths = seated.mouths
 
-  count_is : setting.feeders + joiners + 2 ≡ setting.feeders + 2 ^ setting.k + 2
-  count_is = ap (λ n. setting.feeders + n + 2) is
+  abbrev view : Bool → Cast → SeatsView
+  view spent c = record { cast = c; seats = seats; spent = spent }
 
-  all_new : AreNew (2 ^ setting.k) setting.feeders (setting.feeders + joiners + 2) cores first mouths
-  all_new = subst (λ j. AreNew j setting.feeders (setting.feeders + joiners + 2) cores first mouths) is
-      (subst (λ n. AreNew joiners setting.feeders n cores first mouths) all seated.new)
+  -- there are as many machines as actors of the setting
+  pub many : length cores ≡ count_of (cast_of setting)
+  many = all ∙ ap count_of is
 
-  all_filled : AreFilled (2 ^ setting.k) setting.feeders (setting.feeders + joiners + 2) mouths first seats
-  all_filled = subst (λ j. AreFilled j setting.feeders (setting.feeders + joiners + 2) mouths first seats) is
-      (subst (λ n. AreFilled joiners setting.feeders n mouths first seats) (seated.new.each ∙ all) seated.filled)
+  -- the seats as they were made are those of the setting
+  pub all_new : AreNew (cast_of setting) (length cores) cores first mouths
+  all_new = subst (λ c. AreNew c (length cores) cores first mouths) is seated.new
+
+  -- and so are they with each mouth at its sender
+  pub all_filled : AreFilled (cast_of setting) (length cores) mouths first seats
+  all_filled = subst (λ c. AreFilled c (length cores) mouths first seats) is
+      (subst (λ n. AreFilled cast n mouths first seats) seated.new.each seated.filled)
 
   -- as many new seats as the run has actors are joined once each mouth came to its sender
-  pub start_joined : AreJoined joiners setting.feeders (map frame_of seats)
-  start_joined = subst (λ j. AreJoined j setting.feeders (map frame_of seats)) (sym is)
-      (all_joined setting (setting.feeders + joiners + 2) cores first seats mouths all_new all_filled count_is)
+  pub start_joined : AreJoined cast (map frame_of seats)
+  start_joined = subst (λ c. AreJoined c (map frame_of seats)) (sym is)
+      (all_joined setting (length cores) cores first seats mouths all_new all_filled many)
 
   -- no actor of them has received or sent anything
-  pub start_empty : (spent : Bool) (a : Actor) → lists_in (record {
-    joiners = joiners;
-    feeders = setting.feeders;
-    seats = seats;
-    spent = spent;
-  }) a ≡ no_lists
-  start_empty spent a = subst (λ j. lists_in (record {
-    joiners = j;
-    feeders = setting.feeders;
-    seats = seats;
-    spent = spent;
-  }) a ≡ no_lists) (sym is) (all_empty setting (setting.feeders + joiners + 2)
-      cores first seats mouths all_new all_filled count_is spent a)
+  pub start_empty : (spent : Bool) (a : Actor) → lists_in (view spent cast) a ≡ no_lists
+  start_empty spent a = subst (λ c. lists_in (view spent c) a ≡ no_lists) (sym is)
+      (all_empty setting (length cores) cores first seats mouths all_new all_filled many spent a)
 
   -- an actor of them has a mouth to another exactly where there is a link between the two
   pub start_linked : (spent : Bool) (from to : Actor)
-      → (IsSome (mouth_of (record { joiners = joiners; feeders = setting.feeders; seats = seats; spent = spent })
-      from to) ↔ HasLink setting.k setting.feeders from to)
+      → (IsSome (mouth_of (view spent cast) from to) ↔ HasLink setting.k setting.feeders from to)
   start_linked spent from to =
-      subst (λ j. IsSome (mouth_of (record { joiners = j; feeders = setting.feeders; seats = seats; spent = spent })
-      from to) ↔ HasLink setting.k setting.feeders from to) (sym is)
-      (all_linked setting (setting.feeders + joiners + 2)
-      cores first seats mouths all_new all_filled count_is spent from to)
+      subst (λ c. IsSome (mouth_of (view spent c) from to) ↔ HasLink setting.k setting.feeders from to) (sym is)
+      (all_linked setting (length cores) cores first seats mouths all_new all_filled many spent from to)
 
   -- their joiners join by the predicate by which the machines did
   pub start_joins : (theta : Meaning) → IsAllAt (JoinsBy theta) cores
       → IsAllAt (JoinsBy theta) (map (λ (s : SeatView). s.core) seats)
-  start_joins theta =
-      all_join setting (setting.feeders + joiners + 2) cores first seats mouths all_new all_filled count_is theta all
+  start_joins theta = all_join setting (length cores) cores first seats mouths all_new all_filled many theta refl
 
   module _ (input : Input) (rest : Rest) (fresh : AreFresh input setting rest (length cores) cores) where
-    all_fresh : AreFresh input setting rest (setting.feeders + joiners + 2) cores
-    all_fresh = subst (λ n. AreFresh input setting rest n cores) all fresh
-
     -- they heard senders alone, none of their machines is spent, and what is left on each link is known
     pub start_settled : AreSettled seats
     start_settled =
-        all_settled setting (setting.feeders + joiners + 2) cores first seats mouths all_new all_filled count_is input
-        rest all_fresh
+        all_settled setting (length cores) cores first seats mouths all_new all_filled many input rest fresh
 
     -- each machine began as input, setting and rest say and stands for the lists of its seat
-    pub start_stands : (spent : Bool) → StandsInWave input setting rest (record {
-      joiners = joiners;
-      feeders = setting.feeders;
-      seats = seats;
-      spent = spent;
-    })
-    start_stands spent = subst (λ j. StandsInWave input setting rest (record {
-      joiners = j;
-      feeders = setting.feeders;
-      seats = seats;
-      spent = spent;
-    })) (sym is) (all_stand setting (setting.feeders + joiners + 2)
-        cores first seats mouths all_new all_filled count_is input rest all_fresh spent)
+    pub start_stands : (spent : Bool) → StandsInWave input setting rest (view spent cast)
+    start_stands spent = subst (λ c. StandsInWave input setting rest (view spent c)) (sym is)
+        (all_stand setting (length cores) cores first seats mouths all_new all_filled many input rest fresh spent)
 
     -- their collector has given no pair of any joiner
-    pub start_given : (spent : Bool) → AreGiven (2 ^ setting.k) nothing_yet
-        (given_in (record { joiners = joiners; feeders = setting.feeders; seats = seats; spent = spent }))
-    start_given spent =
-        subst (λ j. AreGiven (2 ^ setting.k) nothing_yet (given_in (record {
-          joiners = j;
-          feeders = setting.feeders;
-          seats = seats;
-          spent = spent;
-        }))) (sym is)
-        (none_given setting (setting.feeders + joiners + 2) cores first seats mouths all_new all_filled count_is input
-        rest all_fresh spent)
+    pub start_given : (spent : Bool) → AreGiven (2 ^ setting.k) nothing_yet (given_in (view spent cast))
+    start_given spent = subst (λ c. AreGiven (2 ^ setting.k) nothing_yet (given_in (view spent c))) (sym is)
+        (none_given setting (length cores) cores first seats mouths all_new all_filled many input rest fresh spent)

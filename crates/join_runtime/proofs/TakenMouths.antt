@@ -32,12 +32,12 @@ told_back (Some mouth) s last new awake is now = record {
 
 -- its machine is served by these mouths still
 told_served : (slot : Option Sending) (s last : SeatView) (mouths : List (Option Sending))
-    → Tells slot (without s) last → IsServed s.joiners s.feeders mouths s.core
-    → IsServed last.joiners last.feeders mouths last.core
+    → Tells slot (without s) last → IsServed s.cast mouths s.core
+    → IsServed last.cast mouths last.core
 told_served None s last mouths is served =
-    subst (λ (x : SeatView). IsServed x.joiners x.feeders mouths x.core) (sym is) served
+    subst (λ (x : SeatView). IsServed x.cast mouths x.core) (sym is) served
 told_served (Some mouth) s last mouths is served =
-    subst (λ (x : SeatView). IsServed x.joiners x.feeders mouths x.core) (sym is.now) served
+    subst (λ (x : SeatView). IsServed x.cast mouths x.core) (sym is.now) served
 
 -- the mouths of one of these seats were taken, and each seat was told what is left of the mouth to it
 module _ (seats after : List SeatView) (sender : ℕ) (s t last : SeatView) (mouths : List (Option Sending))
@@ -53,9 +53,9 @@ module _ (seats after : List SeatView) (sender : ℕ) (s t last : SeatView) (mou
       (get_or-set_same seats sender t last low ∙ away) (told_all sender last low)))
 
   -- so they serve its machine still
-  pub served_back : IsServed s.joiners s.feeders s.mouths s.core → IsServed last.joiners last.feeders mouths last.core
+  pub served_back : IsServed s.cast s.mouths s.core → IsServed last.cast mouths last.core
   served_back served =
-      subst (λ ms. IsServed last.joiners last.feeders ms last.core) (sym own)
+      subst (λ ms. IsServed last.cast ms last.core) (sym own)
       (told_served (get_or s.mouths sender None) s last s.mouths at_sender served)
 
   -- and once they are given back, each seat was told what is left of the mouth to it, and nothing else changed

@@ -21,9 +21,10 @@ use Rattle.actor_core.specs.Rests.{IsRestOf}
 use Rattle.trace_law.specs.Counts.{most_events}
 use Rattle.actor_core.specs.Lists.{ActorLists, no_lists}
 use Rattle.actor_core.specs.Families.{AreFronts}
-use Rattle.actor_core.specs.Numbers.{actor_at}
+use Rattle.actor_core.specs.Numbers.{actor_at, count_of}
 use Rattle.actor_core.specs.Players.{AgreesOnLinks, IsFinishedFamily, IsFinishedWave, Runs, lists_among}
 use Rattle.actor_core.proofs.OwnNumbers.{number_there}
+use Rattle.actor_core.proofs.Balances.{fronts_none}
 use Rattle.actor_core.proofs.Beginnings.{there}
 use Rattle.actor_core.proofs.EventsCounted.{HasMadeSome, IsCounted, counted_more_in_wave, few_events, few_in_wave}
 use Rattle.actor_core.proofs.EventsCounted.{none_counted}
@@ -47,11 +48,6 @@ pub record IsWaveUnderWay (input : Input) (setting : Setting) (rest : Rest) (v :
 abbrev pub IsUnderWay : Input → Setting → SeatsView → ℕ → Type 0
 IsUnderWay input setting v bouts = IsWaveUnderWay input setting (first_rest setting) v bouts
 
-fronts_none : (f : Actor → ActorLists) → ((a : Actor) → f a ≡ no_lists) → AreFronts f
-fronts_none f empty from to =
-    subst (λ ls. IsPrefix ls ((f from).sent to)) (sym (ap (λ (x : ActorLists). x.received from) (empty to)))
-    (subst (IsPrefix []) (sym (ap (λ (x : ActorLists). x.sent to) (empty from))) (record { rest = []; joins = refl }))
-
 -- before the first bout
 pub wave_begun : (input : Input) (setting : Setting) (rest : Rest) (v : SeatsView) → StandsInWave input setting rest v
     → ((a : Actor) → lists_in v a ≡ no_lists) → IsWaveUnderWay input setting rest v 0
@@ -66,50 +62,25 @@ begun input setting v = wave_begun input setting (first_rest setting) v
 
 -- ---- a bout that goes on
 
--- the seats of one wave, before a bout and after it, are of as many actors
+-- the seats of one wave, before a bout and after it
 module _ (input : Input) (setting : Setting) (rest : Rest) (old new : SeatsView)
     (stands : StandsInWave input setting rest old) (stands' : StandsInWave input setting rest new) where
-  joiners_in_wave : new.joiners ≡ old.joiners
-  joiners_in_wave = stands'.joiners_are ∙ sym stands.joiners_are
-
-  feeders_in_wave : new.feeders ≡ old.feeders
-  feeders_in_wave = stands'.feeders_are ∙ sym stands.feeders_are
+  -- the same take part
+  pub same_cast : new.cast ≡ old.cast
+  same_cast = stands'.cast_is ∙ sym stands.cast_is
 
   -- there is a seat for each feeder, each joiner, the controller and the collector
-  many_in_wave : length old.seats ≡ old.feeders + old.joiners + 2
-  many_in_wave = sym (length-map old.seats (λ (s : SeatView). s.core)) ∙ stands.all
-
-  -- the seats after a bout are as many as before it
-  same_long_in_wave : length new.seats ≡ length old.seats
-  same_long_in_wave =
-      let one = many_in_wave in
-      let two = sym (length-map new.seats (λ (s : SeatView). s.core)) ∙ stands'.all in
-      omega (arith, one, two, joiners_in_wave, feeders_in_wave)
-
-  -- their lists, found with the numbers of before
-  same_lists_in_wave : lists_among lists_of old.joiners old.feeders new.seats ≡ lists_in new
-  same_lists_in_wave =
-      ap (λ j. lists_among lists_of j old.feeders new.seats) (sym joiners_in_wave)
-      ∙ ap (λ p. lists_among lists_of new.joiners p new.seats) (sym feeders_in_wave)
-
--- and so they are of one run
-module _ (input : Input) (setting : Setting) (old new : SeatsView) (stands : StandsFor input setting old)
-    (stands' : StandsFor input setting new) where
-  -- the seats of a run, before a bout and after it, are of as many joiners
-  pub same_joiners : new.joiners ≡ old.joiners
-  same_joiners = joiners_in_wave input setting (first_rest setting) old new stands stands'
-
-  -- and of as many feeders
-  pub same_feeders : new.feeders ≡ old.feeders
-  same_feeders = feeders_in_wave input setting (first_rest setting) old new stands stands'
-
-  -- there is a seat for each feeder, each joiner, the controller and the collector
-  pub many : length old.seats ≡ old.feeders + old.joiners + 2
-  many = many_in_wave input setting (first_rest setting) old new stands stands'
+  pub many : length old.seats ≡ count_of old.cast
+  many = sym (length-map old.seats (λ (s : SeatView). s.core)) ∙ stands.all
 
   -- the seats after a bout are as many as before it
   pub same_long : length new.seats ≡ length old.seats
-  same_long = same_long_in_wave input setting (first_rest setting) old new stands stands'
+  same_long =
+      sym (length-map new.seats (λ (s : SeatView). s.core)) ∙ stands'.all ∙ ap count_of same_cast ∙ sym many
+
+  -- their lists, found with the numbers of before
+  lists_after : lists_among lists_of old.cast new.seats ≡ lists_in new
+  lists_after = ap (λ c. lists_among lists_of c new.seats) (sym same_cast)
 
 rested : (s : SeatView) → Rests s.core s.inbox → IsReady s → ⊥
 rested s rests (inl some) = let none = rests.none_known in omega (arith, some, none)
@@ -128,34 +99,33 @@ module _ (input : Input) (setting : Setting) (rest : Rest) (old new : SeatsView)
     (advance : AllAdvance old.seats new.seats) (some : SomeReady old.seats) (fronts : AreFronts (lists_in new))
     (keeps : StandsInWave input setting rest old → StandsInWave input setting rest new) (few : bouts' ≤ bouts + 1) where
   abbrev after : Actor → ActorLists
-  after = lists_among lists_of old.joiners old.feeders new.seats
+  after = lists_among lists_of old.cast new.seats
 
   counted_after : StandsInWave input setting rest old → IsCounted setting (lists_in old) bouts
       → IsCounted setting after bouts'
   counted_after stands counted =
-      let joiners = old.joiners in
-      let feeders = old.feeders in
+      let cast = old.cast in
       let place = some.place in
-      let all = many_in_wave input setting rest old new stands (keeps stands) in
-      let long = same_long_in_wave input setting rest old new stands (keeps stands) in
+      let all = many input setting rest old new stands (keeps stands) in
+      let long = same_long input setting rest old new stands (keeps stands) in
       let d = (there old.seats place some.there).0 in
       let moved = advance place d some.there in
       let made = some_made (get_or old.seats place d) (get_or new.seats place d) (some.ready d) moved in
-      let a = actor_at joiners feeders place in
-      let is = number_there joiners feeders place (subst (λ z. place < z) all some.there) in
+      let a = actor_at cast place in
+      let is = number_there cast place (subst (λ z. place < z) all some.there) in
       let one =
-      relate (λ (s : SeatView). s.core) lists_of HasMadeSome joiners feeders old.seats new.seats long a place d is
+      relate (λ (s : SeatView). s.core) lists_of HasMadeSome cast old.seats new.seats long a place d is
       some.there made in
-      let ran = all_ran joiners feeders old.seats new.seats long all advance in
-      let same = same_lists_in_wave input setting rest old new stands (keeps stands) in
-      counted_more_in_wave input setting rest joiners feeders (cores_in old) (cores_in new) (lists_in old) after stands
+      let ran = all_ran cast old.seats new.seats long all advance in
+      let same = lists_after input setting rest old new stands (keeps stands) in
+      counted_more_in_wave input setting rest cast (cores_in old) (cores_in new) (lists_in old) after stands
       ran a place is one (subst AreFronts (sym same) fronts) bouts bouts' few counted
 
   -- where a bout of a wave under way had some seat ready and each seat made events unless it rested, the wave is under
   -- way with one bout more
   pub one_more_in_wave : IsWaveUnderWay input setting rest old bouts → IsWaveUnderWay input setting rest new bouts'
   one_more_in_wave before =
-      let same = same_lists_in_wave input setting rest old new before.stands (keeps before.stands) in
+      let same = lists_after input setting rest old new before.stands (keeps before.stands) in
       record {
         stands = keeps before.stands;
         fronts = fronts;

@@ -8,6 +8,7 @@ use Rattle.trace_law.specs.declared.input.Input.{Input}
 use Rattle.theta_pred.specs.Formula.{Meaning}
 use Rattle.trace_law.specs.declared.setting.Setting.{Setting}
 use Rattle.trace_law.specs.Family.{Rest, first_rest}
+use Rattle.actor_core.specs.declared.cast.Cast.{Cast}
 use Rattle.actor_core.specs.Elements.{IsAllAt}
 use Rattle.actor_core.specs.Lists.{ActorLists}
 use Rattle.actor_core.specs.Standing.{JoinsBy, Waits, IsLive}
@@ -17,16 +18,15 @@ use Rattle.actor_core.specs.declared.machines.Core.{Core}
 use Rattle.join_runtime.specs.Views.{SeatView, lists_of}
 use Rattle.join_runtime.specs.Turns.{Rests, Advances}
 
--- the seats of a run with so many joiners and feeders, by the numbers of actors
+-- the seats of a run, by the numbers of actors
 pub record SeatsView : Type 0 where
-  pub joiners : ℕ
-  pub feeders : ℕ
+  pub cast : Cast
   pub seats : List SeatView
   pub spent : Bool
 
 -- the seat of an actor, where there is one
 abbrev pub seat_of : SeatsView → Actor → Option SeatView
-seat_of v a = at_number None (number v.joiners v.feeders a) (λ n. slice_get v.seats n)
+seat_of v a = at_number None (number v.cast a) (λ n. slice_get v.seats n)
 
 -- the mouth that leads to the actor of this number, where there is one
 abbrev pub mouth_at : Option SeatView → Option ℕ → Option Sending
@@ -35,7 +35,7 @@ mouth_at (Some seat) place = at_number None place (λ n. slice_index_or seat.mou
 
 -- the mouth of one actor to another
 abbrev pub mouth_of : SeatsView → Actor → Actor → Option Sending
-mouth_of v from to = mouth_at (seat_of v from) (number v.joiners v.feeders to)
+mouth_of v from to = mouth_at (seat_of v from) (number v.cast to)
 
 -- the machines of these seats, by the numbers of actors
 abbrev pub cores_in : SeatsView → List Core
@@ -43,12 +43,12 @@ cores_in v = map (λ seat. seat.core) v.seats
 
 -- what each actor has received and sent
 abbrev pub lists_in : SeatsView → Actor → ActorLists
-lists_in v = lists_among lists_of v.joiners v.feeders v.seats
+lists_in v = lists_among lists_of v.cast v.seats
 
 -- of a wave of this input and setting that goes on from this rest: there is a seat for each actor; its machine began as
 -- these say, and stands for the lists of the seat
 abbrev pub StandsInWave : Input → Setting → Rest → SeatsView → Type 0
-StandsInWave input setting rest v = AllStandInWave input setting rest v.joiners v.feeders (cores_in v) (lists_in v)
+StandsInWave input setting rest v = AllStandInWave input setting rest v.cast (cores_in v) (lists_in v)
 
 -- the same of a run, that is of the wave that begins with no rows
 abbrev pub StandsFor : Input → Setting → SeatsView → Type 0

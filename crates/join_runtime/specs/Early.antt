@@ -47,7 +47,7 @@ given_at (Some core) = given_by core
 
 -- how many pairs of each joiner it gave
 abbrev pub given_in : SeatsView → List ℕ
-given_in v = given_at (core_in v.joiners v.feeders (cores_in v) Collector)
+given_in v = given_at (core_in v.cast (cores_in v) Collector)
 
 -- of each joiner as many as these lists have
 abbrev pub AreGiven : ℕ → CollectorLists → List ℕ → Type 0

@@ -5,16 +5,16 @@ use Rattle.epoch_tags.specs.declared.actor.Actor.{Actor}
 use Rattle.ruled_links.specs.Ends.{Sending, AreLeft}
 use Rattle.ruled_links.specs.Delivery.{number_of}
 use Rattle.ruled_links.specs.Inboxes.{InboxView, OfSender, IsMouthOf, messages_of, is_sender, fresh, told}
+use Rattle.actor_core.specs.declared.cast.Cast.{Cast}
 use Rattle.actor_core.specs.Standing.{IsLive}
-use Rattle.actor_core.specs.Numbers.{number, actor_at}
+use Rattle.actor_core.specs.Numbers.{actor_at, count_of, number}
 use Rattle.join_runtime.specs.Kinds.{IsMachineOf}
 use Rattle.join_runtime.specs.Views.{SeatView, Frame, Address, lists_of}
 
 -- the seat at this number is that actor's
-pub record IsPlaced (joiners feeders n : ℕ) (frame : Frame) : Type 0 where
-  pub joiners_are : frame.joiners ≡ joiners
-  pub feeders_are : frame.feeders ≡ feeders
-  pub actor : frame.actor ≡ actor_at joiners feeders n
+pub record IsPlaced (cast : Cast) (n : ℕ) (frame : Frame) : Type 0 where
+  pub cast_is : frame.cast ≡ cast
+  pub actor : frame.actor ≡ actor_at cast n
   pub to : frame.to ≡ frame.actor
 
 -- this mouth of the one seat, if there is one, is of the other's inbox
@@ -40,20 +40,20 @@ ActorsDiffer frames = (k n : ℕ) (d : Frame) → k < n → n < length frames
     → (slice_index_or frames k d).actor ≢ (slice_index_or frames n d).actor
 
 -- an actor of the run with a mouth to the actor at this number
-pub record HasMouthTo (joiners feeders : ℕ) (frames : List Frame) (receiver : ℕ) (a : Actor) : Type 0 where
+pub record HasMouthTo (cast : Cast) (frames : List Frame) (receiver : ℕ) (a : Actor) : Type 0 where
   pub sender : ℕ
-  pub is : number joiners feeders a ≡ Some sender
+  pub is : number cast a ≡ Some sender
   pub there : sender < length frames
   pub mouth : (d : Frame) → IsSome (slice_index_or (slice_index_or frames sender d).addresses receiver None)
 
 -- there is a seat for each actor, each mouth leads to the inbox of its receiver, and each sender of an inbox has a
 -- mouth
-pub record AreJoined (joiners feeders : ℕ) (frames : List Frame) : Type 0 where
-  pub all : length frames ≡ feeders + joiners + 2
-  pub placed : (n : ℕ) (d : Frame) → n < length frames → IsPlaced joiners feeders n (slice_index_or frames n d)
+pub record AreJoined (cast : Cast) (frames : List Frame) : Type 0 where
+  pub all : length frames ≡ count_of cast
+  pub placed : (n : ℕ) (d : Frame) → n < length frames → IsPlaced cast n (slice_index_or frames n d)
   pub leads : AllLead frames
   pub heard : (r : ℕ) (a : Actor) (d : Frame) → r < length frames
-      → is_sender a (map fresh (slice_index_or frames r d).senders) ≡ true → HasMouthTo joiners feeders frames r a
+      → is_sender a (map fresh (slice_index_or frames r d).senders) ≡ true → HasMouthTo cast frames r a
 
 -- nothing was received of an actor that is no sender
 abbrev pub HearsSenders : SeatView → Type 0

@@ -5,16 +5,16 @@ use Rattle.epoch_tags.specs.declared.message.Msg.{Msg}
 use Rattle.epoch_tags.specs.declared.message.Envelope.{Envelope}
 use Rattle.ruled_links.specs.Ends.{LinkId, Sending}
 use Rattle.ruled_links.specs.Inboxes.{InboxView, messages_of, senders_of}
+use Rattle.actor_core.specs.declared.cast.Cast.{Cast}
 use Rattle.actor_core.specs.Lists.{ActorLists}
 use Rattle.actor_core.specs.Numbers.{number, at_number}
 use Rattle.actor_core.specs.Players.{Player}
 use Rattle.actor_core.specs.declared.machines.Core.{Core}
 
--- an actor of a run with so many joiners and feeders: its machine, its inbox, and by the numbers of actors a mouth for
+-- an actor of a run: its machine, its inbox, and by the numbers of actors a mouth for
 -- each to which it sends
 pub record SeatView : Type 0 where
-  pub joiners : ℕ
-  pub feeders : ℕ
+  pub cast : Cast
   pub actor : Actor
   pub core : Core
   pub inbox : InboxView
@@ -39,14 +39,14 @@ abbrev pub sent_at : List (Option Sending) → ℕ → List Msg
 sent_at mouths n = sent_by (slice_index_or mouths n None)
 
 -- what was sent to this actor
-abbrev pub sent_through : ℕ → ℕ → List (Option Sending) → Actor → List Msg
-sent_through joiners feeders mouths to = at_number [] (number joiners feeders to) (sent_at mouths)
+abbrev pub sent_through : Cast → List (Option Sending) → Actor → List Msg
+sent_through cast mouths to = at_number [] (number cast to) (sent_at mouths)
 
 -- what the actor of a seat has received and sent, link by link
 abbrev pub lists_of : SeatView → ActorLists
 lists_of seat = record {
   received = received_of seat.inbox.received;
-  sent = sent_through seat.joiners seat.feeders seat.mouths;
+  sent = sent_through seat.cast seat.mouths;
 }
 
 -- the actor of a seat at work: its machine and its lists
@@ -66,8 +66,7 @@ address_of (Some mouth) = Some (record { link = mouth.link; from = mouth.from; t
 
 -- whose seat it is, and the ends of which links it has: no turn changes this
 pub record Frame : Type 0 where
-  pub joiners : ℕ
-  pub feeders : ℕ
+  pub cast : Cast
   pub actor : Actor
   pub link : LinkId
   pub to : Actor
@@ -77,8 +76,7 @@ pub record Frame : Type 0 where
 -- the frame of a seat
 abbrev pub frame_of : SeatView → Frame
 frame_of seat = record {
-  joiners = seat.joiners;
-  feeders = seat.feeders;
+  cast = seat.cast;
   actor = seat.actor;
   link = seat.inbox.link;
   to = seat.inbox.to;

@@ -20,6 +20,7 @@ use crate::ahead::go_ahead;
 use crate::gathered::gather_all;
 use crate::seat::Seat;
 use crate::started::work_started;
+use actor_core::Cast;
 use std::alloc::{AllocError, Global};
 use std::marker::Model;
 use std::mem;
@@ -120,8 +121,7 @@ fn bout_of<'a, R: Wait, G: Gate, F: FnOnce(Vec<Seat<'a>>) -> Vec<Seat<'a>>>(
 #[derive(Drop)]
 pub struct Seats<'a> {
     pub(crate) alloc: Global,
-    pub(crate) joiners: u32,
-    pub(crate) feeders: u32,
+    pub(crate) cast: Cast,
     // By the numbers of actors.
     pub(crate) seats: Vec<Seat<'a>>,
     // Whether a bout found no memory.
@@ -141,13 +141,12 @@ impl<'a> Model for Seats<'a> {
     ghost coded = { Prim.hlevel (codes, formula_code (Prim.hlevel codes)) };
 
     ghost view = { λ s. record {
-      joiners = s.joiners;
-      feeders = s.feeders;
+      cast = s.cast;
       seats = s.seats.items;
       spent = s.spent;
     } };
 
-    ghost invariant = { λ s. AreJoined s.joiners s.feeders (map frame_of s.seats.items)
+    ghost invariant = { λ s. AreJoined s.cast (map frame_of s.seats.items)
         × (s.spent ≡ false → AreSettled s.seats.items) };
 }
 
@@ -190,8 +189,7 @@ pub(crate) fn bout_by<'a, R: Wait, G: Gate, F: FnOnce(Vec<Seat<'a>>) -> Vec<Seat
         → AgreesOnLinks setting (lists_in seats.new)) }
     ensures goes_on { OnOk result ((seats.old.spent ≡ false) × (seats.new.spent ≡ false)) }
     ensures fails { OnErr result (seats.new.spent ≡ true) }
-    ensures actors { (seats.new.joiners ≡ seats.old.joiners)
-        × (seats.new.feeders ≡ seats.old.feeders) }
+    ensures actors { seats.new.cast ≡ seats.old.cast }
 {
     quiet_is_finished();
     if seats.spent {
@@ -246,8 +244,7 @@ pub fn bout<R: Threads + Wait + Sync, G: Gate + Sync>(
         → AgreesOnLinks setting (lists_in seats.new)) }
     ensures goes_on { OnOk result ((seats.old.spent ≡ false) × (seats.new.spent ≡ false)) }
     ensures fails { OnErr result (seats.new.spent ≡ true) }
-    ensures actors { (seats.new.joiners ≡ seats.old.joiners)
-        × (seats.new.feeders ≡ seats.old.feeders) }
+    ensures actors { seats.new.cast ≡ seats.old.cast }
 {
     let alloc = seats.alloc;
     bout_by(rt, seats, gate, move |standing| {

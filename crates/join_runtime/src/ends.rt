@@ -7,21 +7,18 @@ ghost use Rattle.trace_law.specs.declared.setting.Setting.{Setting as Setting'};
 ghost use Rattle.trace_law.specs.Validity.{IsValid};
 ghost use Rattle.trace_law.specs.Family.{first_rest, IsRestFor, Rest as Rest'};
 ghost use Rattle.trace_law.specs.Runs.{IsRunOf};
-ghost use Rattle.actor_core.specs.Endings.{AreLast};
 ghost use Rattle.actor_core.specs.Families.{AreFronts};
 ghost use Rattle.actor_core.specs.Players.{IsFinishedFamily, IsFinishedWave};
 ghost use Rattle.actor_core.specs.Rests.{IsRestOf};
 ghost use Rattle.load_controller.specs.Journal.{last_line};
 ghost use Rattle.load_controller.specs.declared.line.TurnLine.{TurnLine as TurnLine'};
 ghost use Rattle.join_runtime.specs.Bouts.{AllJoinBy, StandsFor, StandsInWave, lists_in};
-ghost use Rattle.join_runtime.specs.Endings.{HaveLastTwo, end_of, is_collected, journal_in, lists_left};
+ghost use Rattle.join_runtime.specs.Endings.{end_of, is_collected, journal_in, lists_left};
 
 use crate::bouts::Seats;
 use crate::seat::Seat;
-use actor_core::{Core, WaveRun, answer, machines_left, wave_run};
+use actor_core::{Cast, Core, WaveRun, answer, last_two, machines_left, wave_run};
 use join_rows::Items;
-use load_controller::Controller;
-use pair_collector::Collector;
 use ruled_links::{Inbox, Mouth};
 use std::alloc::{AllocError, Global};
 use std::marker::Model;
@@ -30,8 +27,7 @@ use trace_law::{Run, answers_in_the_end, complete_is_finished, finished_answers}
 /// What an actor's finished seat leaves: its inbox and its mouths.
 #[derive(Drop)]
 pub struct End {
-    pub(crate) joiners: u32,
-    pub(crate) feeders: u32,
+    pub(crate) cast: Cast,
     pub(crate) inbox: Inbox,
     pub(crate) mouths: Vec<Option<Mouth>>,
 }
@@ -42,8 +38,7 @@ impl Model for End {
     ghost Value = { EndView };
 
     ghost view = { λ end. record {
-      joiners = end.joiners;
-      feeders = end.feeders;
+      cast = end.cast;
       inbox = end.inbox;
       mouths = end.mouths.items;
     } };
@@ -52,8 +47,7 @@ impl Model for End {
 /// What the finished seats of a run leave, by the numbers of actors.
 #[derive(Drop)]
 pub struct Ends {
-    joiners: u32,
-    feeders: u32,
+    cast: Cast,
     ends: Vec<End>,
 }
 
@@ -63,8 +57,7 @@ impl Model for Ends {
     ghost Value = { EndsView };
 
     ghost view = { λ ends. record {
-      joiners = ends.joiners;
-      feeders = ends.feeders;
+      cast = ends.cast;
       ends = ends.ends.items;
     } };
 }
@@ -122,27 +115,6 @@ fn parts<'a>(alloc: Global, seats: Vec<Seat<'a>>) -> Result<(Vec<Core<'a>>, Vec<
     Ok((cores, ends))
 }
 
-// The controller's machine and the collector's, which are the last two.
-fn last_two<'a>(cores: Vec<Core<'a>>) -> (Controller, Collector)
-    requires { HaveLastTwo cores.items }
-    ensures { AreLast cores.entry.items result.0 result.1 }
-{
-    let mut cores = cores;
-    let Some(last) = cores.pop() else {
-        unreachable!();
-    };
-    let Some(before) = cores.pop() else {
-        unreachable!();
-    };
-    let Some(collector) = last.into_collector() else {
-        unreachable!();
-    };
-    let Some(controller) = before.into_controller() else {
-        unreachable!();
-    };
-    (controller, collector)
-}
-
 impl<'a> Seats<'a> {
     /// Whether the collector is complete. It takes no memory.
     pub fn complete(&self) -> bool
@@ -175,8 +147,7 @@ impl<'a> Seats<'a> {
         finished_answers();
         let Seats {
             alloc,
-            joiners,
-            feeders,
+            cast,
             seats,
             spent,
         } = self;
@@ -189,11 +160,7 @@ impl<'a> Seats<'a> {
         let run = answer(alloc, &controller, collector, bouts)?;
         Ok(Told {
             run,
-            ends: Ends {
-                joiners,
-                feeders,
-                ends,
-            },
+            ends: Ends { cast, ends },
         })
     }
 
@@ -228,22 +195,17 @@ impl<'a> Seats<'a> {
         answers_in_the_end();
         let Seats {
             alloc,
-            joiners,
-            feeders,
+            cast,
             seats,
             ..
         } = self;
         let (cores, ends) = parts(alloc, seats)?;
-        let left = machines_left(alloc, feeders, cores)?;
+        let left = machines_left(alloc, cast.feeders, cores)?;
         let (stores, controller, collector) = left;
-        let wave = wave_run(alloc, joiners, stores, &controller, collector, bouts)?;
+        let wave = wave_run(alloc, cast.joiners, stores, &controller, collector, bouts)?;
         Ok(WaveTold {
             wave,
-            ends: Ends {
-                joiners,
-                feeders,
-                ends,
-            },
+            ends: Ends { cast, ends },
         })
     }
 }

@@ -6,7 +6,7 @@ ghost use Rattle.actor_core.specs.Lists.{posted_to};
 ghost use Rattle.join_runtime.specs.Serving.{HasMouth, HaveMouths};
 ghost use Rattle.join_runtime.specs.Views.{address_of, sent_by, sent_at, sent_through};
 
-use actor_core::number;
+use actor_core::Cast;
 use epoch_tags::{Envelope, Msg, Post, Sends};
 use ruled_links::Mouth;
 use std::alloc::AllocError;
@@ -47,17 +47,16 @@ fn put_at<R: Wait>(
 fn put_post<R: Wait>(
     rt: &R,
     mouths: &mut Vec<Option<Mouth>>,
-    joiners: u32,
-    feeders: u32,
+    cast: Cast,
     post: Post,
 ) -> Result<(), AllocError>
-    requires { HasMouth joiners feeders mouths.old.items post.to }
+    requires { HasMouth cast mouths.old.items post.to }
     ensures same { map address_of mouths.new.items ≡ map address_of mouths.old.items }
-    ensures sent { OnOk result ((a : Actor') → sent_through joiners feeders mouths.new.items a
-        ≡ sent_through joiners feeders mouths.old.items a ++ posted_to a (post ∷ [])) }
+    ensures sent { OnOk result ((a : Actor') → sent_through cast mouths.new.items a
+        ≡ sent_through cast mouths.old.items a ++ posted_to a (post ∷ [])) }
 {
     let Post { to, msg } = post;
-    match number(joiners, feeders, to) {
+    match cast.number(to) {
         Some(place) => put_at(rt, mouths, place, msg),
         None => unreachable!(),
     }
@@ -67,17 +66,16 @@ fn put_post<R: Wait>(
 pub(crate) fn put_all<R: Wait>(
     rt: &R,
     mouths: &mut Vec<Option<Mouth>>,
-    joiners: u32,
-    feeders: u32,
+    cast: Cast,
     sends: Sends,
 ) -> Result<(), AllocError>
-    requires { HaveMouths joiners feeders mouths.old.items sends }
+    requires { HaveMouths cast mouths.old.items sends }
     ensures same { map address_of mouths.new.items ≡ map address_of mouths.old.items }
-    ensures sent { OnOk result ((a : Actor') → sent_through joiners feeders mouths.new.items a
-        ≡ sent_through joiners feeders mouths.old.items a ++ posted_to a sends) }
+    ensures sent { OnOk result ((a : Actor') → sent_through cast mouths.new.items a
+        ≡ sent_through cast mouths.old.items a ++ posted_to a sends) }
 {
     for post in sends.into_vec() {
-        put_post(rt, mouths, joiners, feeders, post)?;
+        put_post(rt, mouths, cast, post)?;
     }
     Ok(())
 }

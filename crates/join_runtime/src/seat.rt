@@ -19,7 +19,7 @@ ghost use Rattle.join_runtime.specs.Early.{Gives};
 
 use crate::ends::End;
 use crate::mouths::put_all;
-use actor_core::{Core, Step};
+use actor_core::{Cast, Core, Step};
 use epoch_tags::{Actor, Envelope, Pairs, Sends};
 use ruled_links::{Inbox, Mouth, gather_mouth};
 use std::alloc::{AllocError, Global};
@@ -31,8 +31,7 @@ use worker_gate::{Gate, Spot};
 /// An actor's machine with its inbox, and a mouth for each actor to which it sends.
 #[derive(Drop)]
 pub struct Seat<'a> {
-    joiners: u32,
-    feeders: u32,
+    cast: Cast,
     actor: Actor,
     core: Core<'a>,
     inbox: Inbox,
@@ -58,8 +57,7 @@ impl<'a> Model for Seat<'a> {
     ghost coded = { Prim.hlevel (codes, formula_code (Prim.hlevel codes)) };
 
     ghost view = { λ seat. record {
-      joiners = seat.joiners;
-      feeders = seat.feeders;
+      cast = seat.cast;
       actor = seat.actor;
       core = seat.core;
       inbox = seat.inbox;
@@ -68,7 +66,7 @@ impl<'a> Model for Seat<'a> {
     } };
 
     ghost invariant = { λ seat. seat.spent ≡ false
-        → IsServed seat.joiners seat.feeders seat.mouths.items seat.core };
+        → IsServed seat.cast seat.mouths.items seat.core };
 }
 
 // Takes a message, or begins where there is none, and calls the machine.
@@ -113,16 +111,14 @@ impl<'a> Seat<'a> {
     // A seat that has had no turn, and that has none before it is awake.
     pub(crate) fn new(
         alloc: Global,
-        joiners: u32,
-        feeders: u32,
+        cast: Cast,
         actor: Actor,
         core: Core<'a>,
         inbox: Inbox,
         mouths: Vec<Option<Mouth>>,
     ) -> Seat<'a>
         ensures { result ≡ record {
-          joiners = joiners;
-          feeders = feeders;
+          cast = cast;
           actor = actor;
           core = core.entry;
           inbox = inbox;
@@ -131,8 +127,7 @@ impl<'a> Seat<'a> {
         } }
     {
         Seat {
-            joiners,
-            feeders,
+            cast,
             actor,
             core,
             inbox,
@@ -146,7 +141,7 @@ impl<'a> Seat<'a> {
 
     // It has its mouths, and may have turns.
     pub(crate) fn wake(&mut self)
-        requires { IsServed self.old.joiners self.old.feeders self.old.mouths self.old.core }
+        requires { IsServed self.old.cast self.old.mouths self.old.core }
         ensures { self.new ≡ record self.old { spent = false } }
     {
         self.spent = false;
@@ -191,7 +186,7 @@ impl<'a> Seat<'a> {
     // The event of a turn, in which the seat is spent.
     fn event<R: Wait>(&mut self, rt: &R) -> Result<Step, AllocError>
         requires spent { self.old.spent ≡ true }
-        requires served { IsServed self.old.joiners self.old.feeders self.old.mouths self.old.core }
+        requires served { IsServed self.old.cast self.old.mouths self.old.core }
         ensures took { result ≡ Ok Took' → MakesTurn self.old self.new }
         ensures idle { result ≡ Ok Idle' → self.new ≡ self.old }
         ensures none_known { result ≡ Ok Idle' → all_known self.old.inbox.senders ≡ 0 }
@@ -199,13 +194,13 @@ impl<'a> Seat<'a> {
         ensures frame { frame_of self.new ≡ frame_of self.old }
         ensures spent { self.new.spent ≡ self.old.spent }
         ensures served { OnOk result
-            (IsServed self.new.joiners self.new.feeders self.new.mouths self.new.core) }
+            (IsServed self.new.cast self.new.mouths self.new.core) }
     {
         let mut sends = Sends::new(self.alloc);
         match open(rt, &mut self.core, &mut self.inbox, &mut sends)? {
             Step::Idle => Ok(Step::Idle),
             Step::Took => {
-                put_all(rt, &mut self.mouths, self.joiners, self.feeders, sends)?;
+                put_all(rt, &mut self.mouths, self.cast, sends)?;
                 Ok(Step::Took)
             }
         }
@@ -248,8 +243,7 @@ impl<'a> Seat<'a> {
         ensures end { result.1 ≡ end_of self.entry }
     {
         let Seat {
-            joiners,
-            feeders,
+            cast,
             core,
             inbox,
             mouths,
@@ -258,8 +252,7 @@ impl<'a> Seat<'a> {
         (
             core,
             End {
-                joiners,
-                feeders,
+                cast,
                 inbox,
                 mouths,
             },
@@ -285,7 +278,7 @@ impl<'a> Seat<'a> {
         ensures mouths { result.items ≡ self.old.mouths }
         ensures rest { self.new ≡ record self.old { mouths = []; spent = true } }
         ensures served { self.old.spent ≡ false
-            → IsServed self.old.joiners self.old.feeders self.old.mouths self.old.core }
+            → IsServed self.old.cast self.old.mouths self.old.core }
     {
         self.spent = true;
         mem::replace(&mut self.mouths, Vec::new(self.alloc))
@@ -293,7 +286,7 @@ impl<'a> Seat<'a> {
 
     // Takes its mouths back, and isn't spent.
     pub(crate) fn give_mouths(&mut self, mouths: Vec<Option<Mouth>>)
-        requires { IsServed self.old.joiners self.old.feeders mouths.items self.old.core }
+        requires { IsServed self.old.cast mouths.items self.old.core }
         ensures { self.new ≡ record self.old { mouths = mouths.items; spent = false } }
     {
         self.mouths = mouths;

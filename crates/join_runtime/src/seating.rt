@@ -4,7 +4,7 @@ ghost use Rattle.std.specs.Prelude.{◌≡◌, ◌<◌, ◌≤◌, ◌+◌, ◌^
 ghost use Rattle.epoch_tags.specs.declared.actor.Actor.{Actor as Actor'};
 ghost use Rattle.trace_law.specs.Validity.{IsValidInput, IsValidSetting};
 ghost use Rattle.trace_law.specs.Family.{first_rest};
-ghost use Rattle.actor_core.specs.Numbers.{actor_at};
+ghost use Rattle.actor_core.specs.Numbers.{count_of};
 ghost use Rattle.actor_core.specs.Rests.{IsRestOf, IsUpto, rest_of, upto};
 ghost use Rattle.ruled_links.specs.Ends.{Sending};
 ghost use Rattle.ruled_links.specs.Inboxes.{Differ};
@@ -20,46 +20,24 @@ ghost use Rattle.pair_collector.specs.Standing.{nothing_yet};
 
 use crate::bouts::Seats;
 use crate::seat::{Seat, no_mouths};
-use actor_core::{Core, Rest, Upto, core_at, cores_in_wave, has_link, joiners_of, number};
+use actor_core::{Cast, Core, Rest, Upto, core_at, cores_in_wave};
 use epoch_tags::Actor;
 use ruled_links::{Actors, Inbox, Mouth, Mouths, inbox};
 use std::alloc::{AllocError, Global};
 use std::mem;
 use trace_law::{Input, Setting};
 
-// The actor of this number.
-fn actor_of(joiners: u32, feeders: u32, n: u32) -> Actor
-    requires { feeders + joiners < 2 ^ 32 }
-    ensures { result ≡ actor_at joiners feeders n }
-{
-    if n < feeders {
-        Actor::Feeder(n)
-    } else if n < feeders + joiners {
-        Actor::Joiner(n - feeders)
-    } else if n == feeders + joiners {
-        Actor::Controller
-    } else {
-        Actor::Collector
-    }
-}
-
 // Those of the first `count` actors that have a link to this one, their numbers rising.
-fn senders_of(
-    alloc: Global,
-    joiners: u32,
-    feeders: u32,
-    count: u32,
-    to: Actor,
-) -> Result<Actors, AllocError>
-    requires few { feeders + joiners < 2 ^ 32 }
-    requires all { count ≤ feeders + joiners + 2 }
-    ensures numbers { IfOk result (λ senders. AreBelow joiners feeders count senders) }
-    ensures links { IfOk result (λ senders. AreLinked joiners feeders count to senders) }
+fn senders_of(alloc: Global, cast: Cast, count: u32, to: Actor) -> Result<Actors, AllocError>
+    requires few { count_of cast < 2 ^ 32 }
+    requires all { count ≤ count_of cast }
+    ensures numbers { IfOk result (λ senders. AreBelow cast count senders) }
+    ensures links { IfOk result (λ senders. AreLinked cast count to senders) }
 {
     let mut senders = Actors::new(alloc);
     for n in 0..count {
-        let from = actor_of(joiners, feeders, n);
-        if has_link(joiners, feeders, from, to) {
+        let from = cast.actor_at(n);
+        if cast.has_link(from, to) {
             senders.push(from)?;
         }
     }
@@ -70,16 +48,15 @@ fn senders_of(
 // its own mouths.
 fn room_at(
     alloc: Global,
-    joiners: u32,
-    feeders: u32,
+    cast: Cast,
     n: u32,
 ) -> Result<(Inbox, Mouths, Vec<Option<Mouth>>), AllocError>
-    requires few { feeders + joiners + 2 < 2 ^ 32 }
-    ensures { IfOk result (λ room. IsRoom joiners feeders n room.0 room.1 room.2.items) }
+    requires few { count_of cast < 2 ^ 32 }
+    ensures { IfOk result (λ room. IsRoom cast n room.0 room.1 room.2.items) }
 {
-    let count = feeders + joiners + 2;
-    let actor = actor_of(joiners, feeders, n);
-    let senders = senders_of(alloc, joiners, feeders, count, actor)?;
+    let count = cast.count();
+    let actor = cast.actor_at(n);
+    let senders = senders_of(alloc, cast, count, actor)?;
     let places = no_mouths(alloc, count)?;
     let (inbox, mouths) = inbox(alloc, actor, &senders)?;
     Ok((inbox, mouths, places))
@@ -88,18 +65,17 @@ fn room_at(
 // The seat of the actor with this number and this machine, which has no mouth yet, and the mouths of its inbox.
 fn seat_at<'a>(
     alloc: Global,
-    joiners: u32,
-    feeders: u32,
+    cast: Cast,
     n: u32,
     core: Core<'a>,
 ) -> Result<(Seat<'a>, Mouths), AllocError>
-    requires few { feeders + joiners + 2 < 2 ^ 32 }
-    ensures { IfOk result (λ made. IsNewSeat joiners feeders n core.entry made.0 made.1) }
+    requires few { count_of cast < 2 ^ 32 }
+    ensures { IfOk result (λ made. IsNewSeat cast n core.entry made.0 made.1) }
 {
-    match room_at(alloc, joiners, feeders, n) {
+    match room_at(alloc, cast, n) {
         Ok((inbox, mouths, places)) => {
-            let actor = actor_of(joiners, feeders, n);
-            let seat = Seat::new(alloc, joiners, feeders, actor, core, inbox, places);
+            let actor = cast.actor_at(n);
+            let seat = Seat::new(alloc, cast, actor, core, inbox, places);
             Ok((seat, mouths))
         }
         Err(refused) => {
@@ -110,48 +86,42 @@ fn seat_at<'a>(
 }
 
 // Gives a mouth that leads to the actor with this number to its sender, whose seat has a place for it.
-fn place(seats: &mut Vec<Seat>, joiners: u32, feeders: u32, receiver: usize, mouth: Mouth)
-    requires sender { HasSeat joiners feeders (length seats.old.items) mouth.from }
+fn place(seats: &mut Vec<Seat>, cast: Cast, receiver: usize, mouth: Mouth)
+    requires sender { HasSeat cast (length seats.old.items) mouth.from }
     requires places { HavePlaces receiver seats.old.items }
-    ensures { Puts joiners feeders receiver mouth seats.old.items seats.new.items }
+    ensures { Puts cast receiver mouth seats.old.items seats.new.items }
 {
-    let Some(sender) = number(joiners, feeders, mouth.sender()) else {
+    let Some(sender) = cast.number(mouth.sender()) else {
         unreachable!();
     };
     seats[sender].put_mouth(receiver, mouth);
 }
 
-fn place_all(seats: &mut Vec<Seat>, joiners: u32, feeders: u32, receiver: usize, mouths: Mouths)
+fn place_all(seats: &mut Vec<Seat>, cast: Cast, receiver: usize, mouths: Mouths)
     requires senders { (mouth : Sending) → Contains mouths mouth
-        → HasSeat joiners feeders (length seats.old.items) mouth.from }
+        → HasSeat cast (length seats.old.items) mouth.from }
     requires places { HavePlaces receiver seats.old.items }
-    ensures { Places joiners feeders receiver mouths seats.old.items seats.new.items }
+    ensures { Places cast receiver mouths seats.old.items seats.new.items }
 {
     for mouth in mouths.into_vec() {
-        place(seats, joiners, feeders, receiver, mouth);
+        place(seats, cast, receiver, mouth);
     }
 }
 
 // Each mouth goes to its sender. The places of the list are the numbers of the receivers.
-fn give_all(
-    alloc: Global,
-    seats: &mut Vec<Seat>,
-    joiners: u32,
-    feeders: u32,
-    mut mouths: Vec<Mouths>,
-)
+fn give_all(alloc: Global, seats: &mut Vec<Seat>, cast: Cast, mut mouths: Vec<Mouths>)
     requires none { (n r : ℕ) (d : SeatView) → n < length seats.old.items
         → slot_of seats.old.items d n r ≡ None }
     requires senders { (r : ℕ) (mouth : Sending) → r < length mouths.items
         → Contains (slice_index_or mouths.items r []) mouth
-        → HasSeat joiners feeders (length seats.old.items) mouth.from }
+        → HasSeat cast (length seats.old.items) mouth.from }
     requires places { (r : ℕ) → r < length mouths.items → HavePlaces r seats.old.items }
-    ensures { AreFilled joiners feeders
+    ensures { AreFilled cast
         (length mouths.items) mouths.items seats.old.items seats.new.items }
 {
     for receiver in 0..mouths.len() {
         let own = mem::replace(&mut mouths[receiver], Mouths::new(alloc));
-        place_all(seats, joiners, feeders, receiver, own);
+        place_all(seats, cast, receiver, own);
     }
 }
 
@@ -181,20 +151,19 @@ fn add_seat<'a>(
 // The seats for these machines, in their order and without mouths, and the mouths of each one's inbox.
 fn new_seats<'a>(
     alloc: Global,
-    joiners: u32,
-    feeders: u32,
+    cast: Cast,
     cores: Vec<Core<'a>>,
 ) -> Result<(Vec<Seat<'a>>, Vec<Mouths>), AllocError>
-    requires few { feeders + joiners + 2 < 2 ^ 32 }
-    requires all { length cores.items ≡ feeders + joiners + 2 }
-    ensures { IfOk result (λ made. AreNew joiners feeders (length cores.entry.items)
+    requires few { count_of cast < 2 ^ 32 }
+    requires all { length cores.items ≡ count_of cast }
+    ensures { IfOk result (λ made. AreNew cast (length cores.entry.items)
         cores.entry.items made.0.items made.1.items) }
 {
     let mut seats = Vec::new(alloc);
     let mut all_mouths = Vec::new(alloc);
     let mut n = 0u32;
     for core in cores {
-        let (seat, mouths) = seat_at(alloc, joiners, feeders, n, core)?;
+        let (seat, mouths) = seat_at(alloc, cast, n, core)?;
         add_seat(seat, mouths, &mut seats, &mut all_mouths)?;
         n += 1;
     }
@@ -233,17 +202,16 @@ fn wake_all(seats: &mut Vec<Seat>)
 // The seats for these machines, in their order and joined by all links.
 fn seats_of<'a>(
     alloc: Global,
-    joiners: u32,
-    feeders: u32,
+    cast: Cast,
     cores: Vec<Core<'a>>,
 ) -> Result<Vec<Seat<'a>>, AllocError>
-    requires few { feeders + joiners + 2 < 2 ^ 32 }
-    requires all { length cores.items ≡ feeders + joiners + 2 }
-    requires first { AreFirst joiners feeders cores.items }
-    ensures { IfOk result (λ seats. AreSeated joiners feeders cores.entry.items seats.items) }
+    requires few { count_of cast < 2 ^ 32 }
+    requires all { length cores.items ≡ count_of cast }
+    requires first { AreFirst cast cores.items }
+    ensures { IfOk result (λ seats. AreSeated cast cores.entry.items seats.items) }
 {
-    let (mut seats, mouths) = new_seats(alloc, joiners, feeders, cores)?;
-    give_all(alloc, &mut seats, joiners, feeders, mouths);
+    let (mut seats, mouths) = new_seats(alloc, cast, cores)?;
+    give_all(alloc, &mut seats, cast, mouths);
     wake_all(&mut seats);
     Ok(seats)
 }
@@ -266,14 +234,12 @@ impl<'a> Seats<'a> {
             AreGiven (2 ^ setting.now.k) nothing_yet (given_in seats)) }
         ensures at_work { IfOk result (λ seats. seats.spent ≡ false) }
     {
-        let joiners = joiners_of(setting);
-        let feeders = setting.feeders;
-        let cores = first_cores(alloc, input, setting, feeders + joiners + 2)?;
-        let seats = seats_of(alloc, joiners, feeders, cores)?;
+        let cast = Cast::of(setting);
+        let cores = first_cores(alloc, input, setting, cast.count())?;
+        let seats = seats_of(alloc, cast, cores)?;
         Ok(Seats {
             alloc,
-            joiners,
-            feeders,
+            cast,
             seats,
             spent: false,
         })
@@ -303,14 +269,12 @@ impl<'a> Seats<'a> {
             AreGiven (2 ^ setting.now.k) nothing_yet (given_in seats)) }
         ensures at_work { IfOk result (λ seats. seats.spent ≡ false) }
     {
-        let joiners = joiners_of(setting);
-        let feeders = setting.feeders;
+        let cast = Cast::of(setting);
         let cores = cores_in_wave(alloc, rest, input, setting, end)?;
-        let seats = seats_of(alloc, joiners, feeders, cores)?;
+        let seats = seats_of(alloc, cast, cores)?;
         Ok(Seats {
             alloc,
-            joiners,
-            feeders,
+            cast,
             seats,
             spent: false,
         })

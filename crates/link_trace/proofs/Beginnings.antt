@@ -1,41 +1,29 @@
 -- All actors at the beginning of a run.
-use Rattle.std.proofs.Common.{◌≡◌, ℕ, zero, suc, ◌+◌, ◌<◌, ◌^◌, refl, sym, ap, subst, ◌∙◌, Option, Some, None, List, []}
-use Rattle.std.proofs.Common.{◌∷◌, ◌++◌, get_or, map, length, All, inl, inr, ◌⊎◌}
+use Rattle.std.proofs.Common.{◌≡◌, ℕ, zero, suc, ◌+◌, refl, sym, ap, subst, ◌∙◌, Option, Some, None, List, []}
+use Rattle.std.proofs.Common.{◌∷◌, ◌++◌, get_or, map, All, inl, inr}
 use Rattle.std.specs.List.{AllByRecursion}
 use Rattle.std.specs.declared.alloc.Global.{Global}
 use Rattle.std.specs.declared.collections.VecDeque.{VecDeque}
 use Rattle.std.proofs.lemmas.List.Elements.{recursion_from_All}
 use Rattle.std.specs.Prelude.{slice_get}
 use Rattle.std.proofs.lemmas.List.{length-map, map-append, length-append}
-use Rattle.epoch_tags.specs.declared.actor.Actor.{Actor}
 use Rattle.epoch_tags.specs.declared.message.Msg.{Msg}
 use Rattle.trace_law.specs.declared.input.Input.{Input}
 use Rattle.trace_law.specs.declared.setting.Setting.{Setting}
-use Rattle.trace_law.specs.Family.{Rest}
+use Rattle.trace_law.specs.Family.{Rest, first_rest}
+use Rattle.actor_core.specs.declared.cast.Cast.{Cast}
 use Rattle.actor_core.specs.Players.{AllStandInWave}
 use Rattle.actor_core.specs.Lists.{no_lists}
 use Rattle.actor_core.specs.Standing.{Stands}
-use Rattle.actor_core.specs.Families.{start_for, IsActor, core_in}
-use Rattle.actor_core.specs.Numbers.{number, actor_at, at_number}
+use Rattle.actor_core.specs.Families.{start_for}
+use Rattle.actor_core.specs.Numbers.{actor_at, at_number, cast_of, count_of, number}
 use Rattle.actor_core.specs.declared.machines.Core.{Core}
-use Rattle.link_trace.specs.Worlds.{StandsFor, StandsInWave, AreNew, HaveNothing, cores_of, waiting_at}
+use Rattle.link_trace.specs.Worlds.{StandsFor, StandsInWave, AreNew, HaveNothing, cores_of, state_among, waiting_at}
 use Rattle.link_trace.specs.Worlds.{waiting_of, waits}
 use Rattle.link_trace.specs.declared.places.Place.{Place}
-use Rattle.actor_core.proofs.Beginnings.{has_number, there}
-use Rattle.actor_core.proofs.OwnNumbers.{number_actor, some_is}
+use Rattle.actor_core.proofs.WaveBeginnings.{all_stand, last_is}
 
 -- ---- one more place
-
--- what is found in a list with one more is found in the list, or is the last
-pub last_is : {X : Type 0} (xs : List X) (x y : X) (n : ℕ) → slice_get (xs ++ x ∷ []) n ≡ Some y
-    → (slice_get xs n ≡ Some y) ⊎ ((n ≡ length xs) × (x ≡ y))
-last_is [] x y zero is = inr (refl, some_is x y is)
-last_is [] x y (suc n) is = inl is
-last_is (z ∷ xs) x y zero is = inl is
-last_is (z ∷ xs) x y (suc n) is = elim (last_is xs x y n is) [
-  | inl there ↦ inl there
-  | inr last ↦ inr (ap suc last.0, last.1)
-]
 
 rows_more : (ws : List (List (List Msg))) (row : List (List Msg)) → ((sender : ℕ) → get_or row sender [] ≡ [])
     → ((r s : ℕ) → waits ws r s ≡ []) → (r s : ℕ) → waits (ws ++ row ∷ []) r s ≡ []
@@ -51,18 +39,18 @@ empty_row (queue ∷ queues) all zero = all.0
 empty_row (queue ∷ queues) all (suc sender) = empty_row queues all.1 sender
 
 module _ (input : Input) (setting : Setting) (n : ℕ) (places : List Place) (new : AreNew input setting n places)
-    (place : Place) (stands : Stands (start_for input setting (actor_at (2 ^ setting.k) setting.feeders n))
+    (place : Place) (stands : Stands (start_for input setting (actor_at (cast_of setting) n))
     no_lists place.core) (empty : All (λ queue. queue.items ≡ []) place.waiting.items) where
   fresh : (m : ℕ) (core : Core) → slice_get (cores_of (places ++ place ∷ [])) m ≡ Some core
-      → Stands (start_for input setting (actor_at (2 ^ setting.k) setting.feeders m)) no_lists core
+      → Stands (start_for input setting (actor_at (cast_of setting) m)) no_lists core
   fresh m core is = elim (last_is (cores_of places) place.core core m
       (sym (ap (λ cs. slice_get cs m) (map-append (λ (p : Place). p.core) places (place ∷ []))) ∙ is)) [
         | inl there ↦ new.fresh m core there
         | inr last ↦
             let at_end : n ≡ m = sym new.all ∙ (sym (length-map places (λ (p : Place). p.core)) ∙ sym last.0) in
-            subst (λ z. Stands (start_for input setting (actor_at (2 ^ setting.k) setting.feeders z)) no_lists core)
+            subst (λ z. Stands (start_for input setting (actor_at (cast_of setting) z)) no_lists core)
             at_end
-            (subst (λ z. Stands (start_for input setting (actor_at (2 ^ setting.k) setting.feeders n)) no_lists z)
+            (subst (λ z. Stands (start_for input setting (actor_at (cast_of setting) n)) no_lists z)
             last.1 stands)
       ]
 
@@ -86,40 +74,16 @@ nothing_left ws empty (Some r) None = refl
 nothing_left ws empty (Some r) (Some s) = empty r s
 
 -- where as many actors as the run has are at the beginning, their world stands for empty lists
-pub all_new : (input : Input) (setting : Setting) (joiners count : ℕ) (places : List Place) → joiners ≡ 2 ^ setting.k
-    → count ≡ setting.feeders + joiners + 2 → AreNew input setting count places
-    → StandsFor input setting (record {
-      joiners = joiners;
-      feeders = setting.feeders;
-      cores = cores_of places;
-      waiting = waiting_of places;
-    }) (λ actor. no_lists)
-all_new input setting joiners count places grid many new = subst
-    (λ n. StandsFor input setting (record {
-      joiners = n;
-      feeders = setting.feeders;
-      cores = cores_of places;
-      waiting = waiting_of places;
-    }) (λ actor. no_lists)) (sym grid) (record {
-      machines = record { joiners_are = refl; feeders_are = refl; all = long; stands = stands };
-      balanced = λ from to. nothing_left (waiting_of places) new.empty (number (2 ^ setting.k) setting.feeders to)
-          (number (2 ^ setting.k) setting.feeders from);
+pub all_new : (input : Input) (setting : Setting) (cast : Cast) (count : ℕ) (places : List Place)
+    → cast ≡ cast_of setting → count ≡ count_of cast → AreNew input setting count places
+    → StandsFor input setting (state_among cast places) (λ actor. no_lists)
+all_new input setting cast count places is many new =
+    subst (λ c. StandsFor input setting (state_among c places) (λ actor. no_lists)) (sym is) (record {
+      machines = all_stand input setting (first_rest setting) (cores_of places)
+          (length-map places (λ (p : Place). p.core) ∙ (new.all ∙ (many ∙ ap count_of is))) new.fresh;
+      balanced = λ from to. nothing_left (waiting_of places) new.empty (number (cast_of setting) to)
+          (number (cast_of setting) from);
     })
-  where
-    long : length (cores_of places) ≡ setting.feeders + 2 ^ setting.k + 2
-    long = length-map places (λ (p : Place). p.core) ∙ (new.all ∙ (many ∙ ap (λ n. setting.feeders + n + 2) grid))
-
-    stands : (a : Actor) → IsActor setting a → (core : Core)
-        × (core_in (2 ^ setting.k) setting.feeders (cores_of places) a ≡ Some core)
-        × Stands (start_for input setting a) no_lists core
-    stands a is =
-        let at = has_number setting a is in
-        let core = there (cores_of places) at.0 (subst (λ z. at.0 < z) (sym long) at.2) in (
-          core.0,
-          ap (λ (i : Option ℕ). at_number None i (λ k. slice_get (cores_of places) k)) at.1 ∙ core.1,
-          subst (λ z. Stands (start_for input setting z) no_lists core.0)
-              (number_actor (2 ^ setting.k) setting.feeders a at.0 at.1) (new.fresh at.0 core.0 core.1),
-        )
 
 -- ---- machines that are there already
 
@@ -132,20 +96,13 @@ none_more places place old empty r s =
     (recursion_from_All (λ queue. queue.items ≡ []) place.waiting.items empty)) old r s
 
 -- a world of machines that stand for empty lists, where nothing waits
-pub wave_new : (input : Input) (setting : Setting) (rest : Rest) (joiners : ℕ) (places : List Place) (cores : List Core)
-    → joiners ≡ 2 ^ setting.k → cores_of places ≡ cores → HaveNothing places
-    → AllStandInWave input setting rest (2 ^ setting.k) setting.feeders cores (λ actor. no_lists)
-    → StandsInWave input setting rest (record {
-      joiners = joiners;
-      feeders = setting.feeders;
-      cores = cores_of places;
-      waiting = waiting_of places;
-    }) (λ actor. no_lists)
-wave_new input setting rest joiners places cores grid same empty stand = record {
+pub wave_new : (input : Input) (setting : Setting) (rest : Rest) (cast : Cast) (places : List Place) (cores : List Core)
+    → cast ≡ cast_of setting → cores_of places ≡ cores → HaveNothing places
+    → AllStandInWave input setting rest (cast_of setting) cores (λ actor. no_lists)
+    → StandsInWave input setting rest (state_among cast places) (λ actor. no_lists)
+wave_new input setting rest cast places cores is same empty stand = record {
   machines =
-      subst (λ n. AllStandInWave input setting rest n setting.feeders (cores_of places) (λ actor. no_lists)) (sym grid)
-      (subst (λ cs. AllStandInWave input setting rest (2 ^ setting.k) setting.feeders cs (λ actor. no_lists)) (sym same)
-      stand);
-  balanced = λ from to. nothing_left (waiting_of places) empty (number joiners setting.feeders to)
-      (number joiners setting.feeders from);
+      subst (λ c. AllStandInWave input setting rest c (cores_of places) (λ actor. no_lists)) (sym is)
+      (subst (λ cs. AllStandInWave input setting rest (cast_of setting) cs (λ actor. no_lists)) (sym same) stand);
+  balanced = λ from to. nothing_left (waiting_of places) empty (number cast to) (number cast from);
 }

@@ -1,22 +1,19 @@
 -- The worlds before the first event of a run are one.
-use Rattle.std.proofs.Common.{◌≡◌, ℕ, zero, suc, ◌+◌, ◌^◌, refl, sym, ap, subst, ◌∙◌, arith, List, [], ◌∷◌, ◌++◌, map}
-use Rattle.std.proofs.Common.{length, Some, All, inl, inr}
+use Rattle.std.proofs.Common.{◌≡◌, ℕ, suc, ◌+◌, refl, sym, ap, subst, ◌∙◌, arith, List, [], ◌∷◌, ◌++◌, map}
+use Rattle.std.proofs.Common.{length, Some, inl, inr}
 use Rattle.std.specs.Prelude.{replicate, slice_get}
-use Rattle.std.specs.declared.alloc.Global.{Global}
-use Rattle.std.specs.declared.collections.VecDeque.{VecDeque}
-use Rattle.std.proofs.lemmas.List.{length-append, length-map, map-append, replicate_more}
-use Rattle.epoch_tags.specs.declared.message.Msg.{Msg}
+use Rattle.std.proofs.lemmas.List.{length-append, map-append, replicate_more}
 use Rattle.trace_law.specs.declared.input.Input.{Input}
 use Rattle.trace_law.specs.declared.setting.Setting.{Setting}
+use Rattle.actor_core.specs.declared.cast.Cast.{Cast}
 use Rattle.actor_core.specs.Families.{start_for}
 use Rattle.actor_core.specs.FirstCores.{IsFirstAt}
-use Rattle.actor_core.specs.Numbers.{actor_at}
-use Rattle.actor_core.specs.declared.machines.Core.{Core}
+use Rattle.actor_core.specs.Numbers.{actor_at, cast_of, count_of}
 use Rattle.actor_core.proofs.OneFirstCore.{one_first}
 use Rattle.link_trace.specs.FirstWorlds.{FirstWorldsAreOne, HaveBegun, IsFirstWorld, none_waits}
-use Rattle.link_trace.specs.Worlds.{WorldState, cores_of, waiting_at, waiting_of}
+use Rattle.link_trace.specs.Worlds.{cores_of, state_among, waiting_of}
 use Rattle.link_trace.specs.declared.places.Place.{Place}
-use Rattle.link_trace.proofs.Beginnings.{last_is}
+use Rattle.actor_core.proofs.WaveBeginnings.{last_is}
 
 -- ---- one more
 
@@ -59,32 +56,25 @@ same_lists P one (x ∷ xs) (y ∷ ys) long is is' =
 -- two worlds before the first event of a run are one
 pub one_world : FirstWorldsAreOne
 one_world input setting one two is is' =
-    let same_joiners = is.joiners ∙ sym is'.joiners in
-    let same_feeders = is.feeders ∙ sym is'.feeders in
+    let same_cast = is.cast ∙ sym is'.cast in
     let same_cores = same_lists (IsFirstAt input setting)
-    (λ n. one_first input.theta (start_for input setting (actor_at (2 ^ setting.k) setting.feeders n)))
+    (λ n. one_first input.theta (start_for input setting (actor_at (cast_of setting) n)))
     one.cores two.cores (is.machines.all ∙ sym is'.machines.all) is.machines.each is'.machines.each in
     let same_waiting = is.waiting ∙ sym is'.waiting in
     λ i. record {
-      joiners = same_joiners i;
-      feeders = same_feeders i;
+      cast = same_cast i;
       cores = same_cores i;
       waiting = same_waiting i;
     }
 
 -- the world that begins with these places
-pub world_begun : (input : Input) (setting : Setting) (joiners : ℕ) (places : List Place) → joiners ≡ 2 ^ setting.k
-    → HaveBegun input setting (setting.feeders + joiners + 2) (cores_of places)
-    → waiting_of places ≡ none_waits (setting.feeders + joiners + 2)
-    → IsFirstWorld input setting (record {
-      joiners = joiners;
-      feeders = setting.feeders;
-      cores = cores_of places;
-      waiting = waiting_of places;
-    })
-world_begun input setting joiners places is begun none = record {
-  joiners = is;
-  feeders = refl;
-  machines = subst (λ j. HaveBegun input setting (setting.feeders + j + 2) (cores_of places)) is begun;
-  waiting = none ∙ ap (λ j. none_waits (setting.feeders + j + 2)) is;
-}
+pub world_begun : (input : Input) (setting : Setting) (cast : Cast) (count : ℕ) (places : List Place)
+    → cast ≡ cast_of setting → count ≡ count_of cast → HaveBegun input setting count (cores_of places)
+    → waiting_of places ≡ none_waits count → IsFirstWorld input setting (state_among cast places)
+world_begun input setting cast count places is many begun none =
+    let all : count ≡ count_of (cast_of setting) = many ∙ ap count_of is in
+    record {
+      cast = is;
+      machines = subst (λ n. HaveBegun input setting n (cores_of places)) all begun;
+      waiting = none ∙ ap none_waits all;
+    }

@@ -138,11 +138,11 @@ module _ (input : Input) (setting : Setting) (rest : Rest) where
   none_goes_on w stood over some =
       let all = stood.1.machines in
       let low = slice_get_within w.cores some.place some.there some.is in
-      let a = actor_at w.joiners w.feeders some.place in
-      let numbered = number_there w.joiners w.feeders some.place (subst (λ z. some.place < z) all.all low) in
-      let is = is_actor setting w.joiners w.feeders a some.place all.joiners_are all.feeders_are numbered in
+      let a = actor_at w.cast some.place in
+      let numbered = number_there w.cast some.place (subst (λ z. some.place < z) all.all low) in
+      let is = is_actor setting w.cast a some.place all.cast_is numbered in
       let own = all.stands a is in
-      let there : core_in w.joiners w.feeders w.cores a ≡ Some some.there =
+      let there : core_in w.cast w.cores a ≡ Some some.there =
       ap (λ (i : Option ℕ). at_number None i (λ n. slice_get w.cores n)) numbered ∙ some.is in
       let same = some_is own.0 some.there (sym own.1 ∙ there) in
       core_ends (start_in_wave input setting rest a) (stood.0 a) some.there

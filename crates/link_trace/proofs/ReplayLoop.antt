@@ -24,7 +24,7 @@ use Rattle.link_trace.specs.Order.{MakesFirst, Replays, IsReplay, IsWaveReplay, 
 use Rattle.link_trace.specs.Marks.{AreMarked}
 use Rattle.link_trace.proofs.Bounds.{IsReached, none_reached, slot_reached}
 
--- at first all slots are marked
+-- marks of which none is false are sound of every world
 pub all_unsure : (slots : List Slot) (marks : List Bool) (w : WorldState) → length marks ≡ length slots
     → ((n : ℕ) → ¬ (slice_get marks n ≡ Some false)) → AreMarked slots marks w
 all_unsure slots marks w long all = record { each = long; idle = λ n slot there none. absurd (all n none) }

@@ -1,8 +1,8 @@
 -- A world of some wave: its posts reach actors that are there, its last two machines are what they are, and after an
 -- event it is one again.
-use Rattle.std.proofs.Common.{◌≡◌, ℕ, zero, suc, ◌+◌, ◌<◌, ◌^◌, refl, sym, ap, ap₂, subst, ◌∙◌}
+use Rattle.std.proofs.Common.{◌≡◌, ℕ, zero, suc, ◌^◌, refl, sym, ap, ap₂, subst, ◌∙◌}
 use Rattle.std.proofs.Common.{Option, Some, None, List, []}
-use Rattle.std.proofs.Common.{◌∷◌, ◌++◌, length, All}
+use Rattle.std.proofs.Common.{◌∷◌, ◌++◌, length}
 use Rattle.std.specs.Prelude.{slice_get}
 use Rattle.std.specs.List.{AllByRecursion}
 use Rattle.std.proofs.Math.Logic.{∥∥₁_elim, ∥∥₁_map}
@@ -14,26 +14,25 @@ use Rattle.epoch_tags.specs.Links.{joiner_controller, joiner_joiner}
 use Rattle.epoch_tags.specs.Posts.{GoesOver}
 use Rattle.epoch_tags.specs.declared.actor.Actor.{Actor}
 use Rattle.epoch_tags.specs.declared.actor.Actor.TheVariants.{Feeder, Joiner, Controller, Collector}
-use Rattle.epoch_tags.specs.declared.message.Msg.{Msg}
 use Rattle.epoch_tags.specs.declared.message.Post.{Post}
-use Rattle.load_controller.specs.Standing.{ControllerStart, ControllerState}
-use Rattle.pair_collector.specs.Standing.{CollectorState}
 use Rattle.trace_law.specs.declared.input.Input.{Input}
 use Rattle.trace_law.specs.declared.setting.Setting.{Setting}
 use Rattle.trace_law.specs.Family.{Rest}
+use Rattle.actor_core.specs.declared.cast.Cast.{Cast}
 use Rattle.actor_core.specs.Lists.{ActorLists, Cause}
 use Rattle.actor_core.specs.Elements.{IsAllAt}
 use Rattle.actor_core.specs.Families.{IsActor, after_event, start_in_wave}
-use Rattle.actor_core.specs.Numbers.{at_number, number}
-use Rattle.actor_core.specs.Standing.{GoOut, OfCollector, OfController, Stands}
+use Rattle.actor_core.specs.Endings.{HaveLast}
+use Rattle.actor_core.specs.Numbers.{at_number, cast_of, number}
+use Rattle.actor_core.specs.Standing.{GoOut, Stands}
 use Rattle.actor_core.specs.declared.machines.Core.{Core}
-use Rattle.actor_core.specs.declared.machines.Core.TheVariants.{Feeder as TheFeeder, Joiner as TheJoiner}
-use Rattle.actor_core.specs.declared.machines.Core.TheVariants.{Controller as TheController, Collector as TheCollector}
 use Rattle.actor_core.proofs.Beginnings.{has_number}
+use Rattle.actor_core.proofs.LastTwo.{have_last}
 use Rattle.actor_core.proofs.OwnNumbers.{is_actor, none_some, some_is}
-use Rattle.link_trace.specs.Worlds.{HasNumber, HaveLast, MakesEvent, OccursAt, StandsForSome, StandsInWave}
+use Rattle.link_trace.specs.Worlds.{HasNumber, MakesEvent, OccursAt, StandsForSome, StandsInWave}
 use Rattle.link_trace.specs.Worlds.{WorldState, cores_of, state_among, waiting_of}
 use Rattle.link_trace.specs.declared.places.Place.{Place}
+use Rattle.link_trace.proofs.WorldAfter.{world_of}
 
 -- ---- to whom an actor's posts go
 
@@ -47,14 +46,11 @@ reaches setting _ _ (joiner_controller low) = tt
 reaches setting _ _ (joiner_collector low) = tt
 
 -- an actor of the run has a number
-is_there : (setting : Setting) (joiners feeders : ℕ) (a : Actor) → joiners ≡ 2 ^ setting.k
-    → feeders ≡ setting.feeders → IsActor setting a → HasNumber joiners feeders a
-is_there setting joiners feeders a grid many is none =
-    let at = has_number setting a is in
-    let same : number joiners feeders a ≡ Some at.0 =
-    subst (λ n. number n feeders a ≡ Some at.0) (sym grid)
-    (subst (λ n. number (2 ^ setting.k) n a ≡ Some at.0) (sym many) at.1) in
-    none_some at.0 (sym none ∙ same)
+is_there : (setting : Setting) (cast : Cast) (a : Actor) → cast ≡ cast_of setting → IsActor setting a
+    → HasNumber cast a
+is_there setting cast a is actor none =
+    let at = has_number setting a actor in
+    none_some at.0 (sym none ∙ subst (λ c. number c a ≡ Some at.0) (sym is) at.1)
 
 all_at : {X : Type 0} (P Q : X → Type 0) (xs : List X) → AllByRecursion P xs → ((x : X) → P x → Q x) → IsAllAt Q xs
 all_at P Q [] all gives n x there = absurd (none_some x there)
@@ -86,13 +82,13 @@ over_links input setting rest Collector posts is out =
 
 -- of an actor of a world of a wave whose machine made an event, the posts go to actors that are there
 posts_there : (input : Input) (setting : Setting) (rest : Rest) (w : WorldState) (lists : Actor → ActorLists)
-    → StandsInWave input setting rest w lists → (self : Actor) (n : ℕ) → number w.joiners w.feeders self ≡ Some n
+    → StandsInWave input setting rest w lists → (self : Actor) (n : ℕ) → number w.cast self ≡ Some n
     → (cause : Cause) (cores : List Core) (before sends : List Post) → before ≡ []
     → OccursAt n cause w.cores cores before sends
-    → IsAllAt (λ (post : Post). HasNumber w.joiners w.feeders post.to) sends
+    → IsAllAt (λ (post : Post). HasNumber w.cast post.to) sends
 posts_there input setting rest w lists stands self n at cause cores before sends none occurs =
     let machines = stands.machines in
-    let is = is_actor setting w.joiners w.feeders self n machines.joiners_are machines.feeders_are at in
+    let is = is_actor setting w.cast self n machines.cast_is at in
     let own = machines.stands self is in
     let found : Some own.0 ≡ Some occurs.core =
     sym own.1 ∙ (ap (λ (i : Option ℕ). at_number None i (λ k. slice_get w.cores k)) at ∙ occurs.was) in
@@ -101,18 +97,18 @@ posts_there input setting rest w lists stands self n at cause cores before sends
     (some_is own.0 occurs.core found) own.2) in
     let posts_are : occurs.occurs.added ≡ sends =
     sym (occurs.occurs.sends ∙ ap (λ (ps : List Post). ps ++ occurs.occurs.added) none) in
-    subst (IsAllAt (λ (post : Post). HasNumber w.joiners w.feeders post.to)) posts_are
-    (all_at (GoesOver setting.k setting.feeders self) (λ post. HasNumber w.joiners w.feeders post.to)
+    subst (IsAllAt (λ (post : Post). HasNumber w.cast post.to)) posts_are
+    (all_at (GoesOver setting.k setting.feeders self) (λ post. HasNumber w.cast post.to)
     occurs.occurs.added (over_links input setting rest self occurs.occurs.added is out)
-    (λ post goes. is_there setting w.joiners w.feeders post.to machines.joiners_are machines.feeders_are
+    (λ post goes. is_there setting w.cast post.to machines.cast_is
     (reaches setting self post.to goes.link)))
 
 -- so they do where the world is one of some wave
 pub sends_there : (w : WorldState) → ∥ StandsForSome w ∥₁ → (self : Actor) (n : ℕ)
-    → number w.joiners w.feeders self ≡ Some n
+    → number w.cast self ≡ Some n
     → (cause : Cause) (cores : List Core) (before sends : List Post) → before ≡ []
     → OccursAt n cause w.cores cores before sends
-    → IsAllAt (λ (post : Post). HasNumber w.joiners w.feeders post.to) sends
+    → IsAllAt (λ (post : Post). HasNumber w.cast post.to) sends
 sends_there w some self n at cause cores before sends none occurs place post there missing =
     ∥∥₁_elim some (λ x y. absurd x) (λ (is : StandsForSome w).
     posts_there is.input is.setting is.rest w is.lists is.stands self n at cause cores before sends none occurs
@@ -124,7 +120,13 @@ sends_there w some self n at cause cores before sends none occurs place post the
 pub of_wave : (input : Input) (setting : Setting) (rest : Rest) (w : WorldState) (lists : Actor → ActorLists)
     → StandsInWave input setting rest w lists → ∥ StandsForSome w ∥₁
 of_wave input setting rest w lists stands =
-    let some : StandsForSome w = record { input = input; setting = setting; rest = rest; lists = lists; stands = stands }
+    let some : StandsForSome w = record {
+      input = input;
+      setting = setting;
+      rest = rest;
+      lists = lists;
+      stands = stands;
+    }
     in
     ∣ some ∣₁
 
@@ -140,50 +142,14 @@ stands_still self cause w v made some = ∥∥₁_map some (λ is. record {
 })
 
 -- places with the same machines, at which the same waits, are those of one world
-pub same_state : (joiners feeders : ℕ) (places places' : List Place) → cores_of places' ≡ cores_of places
+pub same_state : (cast : Cast) (places places' : List Place) → cores_of places' ≡ cores_of places
     → waiting_of places' ≡ waiting_of places
-    → state_among joiners feeders places' ≡ state_among joiners feeders places
-same_state joiners feeders places places' = ap₂ (λ (cs : List Core) (ws : List (List (List Msg))). record {
-  joiners = joiners;
-  feeders = feeders;
-  cores = cs;
-  waiting = ws;
-})
+    → state_among cast places' ≡ state_among cast places
+same_state cast places places' = ap₂ (world_of cast)
 
 -- ---- its last two machines
 
-told : (s : ControllerStart) (ls : ActorLists) (core : Core) → Stands (OfController s) ls core
-    → (c : ControllerState) × (core ≡ TheController c)
-told s ls (TheFeeder f) stands = absurd stands
-told s ls (TheJoiner j) stands = absurd stands
-told s ls (TheController c) stands = (c, refl)
-told s ls (TheCollector c) stands = absurd stands
-
-kept : (joiners : ℕ) (ls : ActorLists) (core : Core) → Stands (OfCollector joiners) ls core
-    → (c : CollectorState) × (core ≡ TheCollector c)
-kept joiners ls (TheFeeder f) stands = absurd stands
-kept joiners ls (TheJoiner j) stands = absurd stands
-kept joiners ls (TheController c) stands = absurd stands
-kept joiners ls (TheCollector c) stands = (c, refl)
-
-have_last : (w : WorldState) → StandsForSome w → HaveLast w.cores
-have_last w some =
-    let machines = some.stands.machines in
-    let one = machines.stands Controller tt in
-    let other = machines.stands Collector tt in
-    let controller = told _ (some.lists Controller) one.0 one.2 in
-    let collector = kept _ (some.lists Collector) other.0 other.2 in
-    record {
-      controller = controller.0;
-      collector = collector.0;
-      are = record {
-        before = w.feeders + w.joiners;
-        many = machines.all;
-        controller_is = one.1 ∙ ap Some controller.1;
-        collector_is = other.1 ∙ ap Some collector.1;
-      };
-    }
-
 -- the last two machines of a world of some wave are a controller's and a collector's
 pub last_there : (w : WorldState) → ∥ StandsForSome w ∥₁ → ∥ HaveLast w.cores ∥₁
-last_there w some = ∥∥₁_map some (have_last w)
+last_there w some = ∥∥₁_map some (λ (is : StandsForSome w).
+    have_last is.input is.setting is.rest w.cast w.cores is.lists is.stands.machines)

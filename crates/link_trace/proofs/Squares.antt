@@ -1,18 +1,15 @@
 -- As many lists wait at each of so many actors, and still do when what waits has changed.
-use Rattle.std.proofs.Common.{◌≡◌, ℕ, zero, suc, ◌+◌, ◌<◌, ltb, refl, sym, ap, subst, ◌∙◌, Bool, true, false, cond}
+use Rattle.std.proofs.Common.{◌≡◌, ℕ, zero, suc, ◌<◌, sym, ap, subst, ◌∙◌}
 use Rattle.std.proofs.Common.{arith}
-use Rattle.std.proofs.Common.{Option, Some, None, List, [], ◌∷◌, ◌++◌, get_or, set, length, map, All}
+use Rattle.std.proofs.Common.{Option, Some, None, List, [], ◌∷◌, ◌++◌, get_or, set, length, All}
 use Rattle.std.specs.List.{AllByRecursion}
-use Rattle.std.proofs.lemmas.Bool.{ltb-true}
 use Rattle.std.proofs.lemmas.List.{length-map, length-set, map-append}
 use Rattle.std.proofs.lemmas.List.Elements.{All-from_recursion, All-push, recursion_from_All}
 use Rattle.epoch_tags.specs.declared.actor.Actor.{Actor}
-use Rattle.epoch_tags.specs.declared.actor.Actor.TheVariants.{Feeder, Joiner, Controller, Collector}
 use Rattle.epoch_tags.specs.declared.message.Msg.{Msg}
 use Rattle.epoch_tags.specs.declared.message.Post.{Post}
-use Rattle.actor_core.specs.Numbers.{number, at_number}
-use Rattle.actor_core.specs.declared.machines.Core.{Core}
-use Rattle.actor_core.proofs.OwnNumbers.{none_some, some_is}
+use Rattle.actor_core.specs.declared.cast.Cast.{Cast}
+use Rattle.actor_core.specs.Numbers.{at_number, number}
 use Rattle.link_trace.specs.Worlds.{HasRoom, IsSquare, TakesOff, cores_of, waiting_at, waiting_of, waits, with_left}
 use Rattle.link_trace.specs.Worlds.{with_post, with_posts, with_waiting}
 use Rattle.link_trace.specs.declared.places.Place.{Place}
@@ -35,10 +32,10 @@ square_with count ws r s ms square = record {
       (rows_with count ws r s ms (recursion_from_All (λ queues. length queues ≡ count) ws square.wide));
 }
 
-square_left : (joiners feeders count : ℕ) (from to : Actor) (change : List Msg → List Msg)
-    (ws : List (List (List Msg))) → IsSquare count ws → IsSquare count (with_left joiners feeders from to change ws)
-square_left joiners feeders count from to change ws square =
-    go (number joiners feeders from) (number joiners feeders to)
+square_left : (cast : Cast) (count : ℕ) (from to : Actor) (change : List Msg → List Msg)
+    (ws : List (List (List Msg))) → IsSquare count ws → IsSquare count (with_left cast from to change ws)
+square_left cast count from to change ws square =
+    go (number cast from) (number cast to)
   where
     go : (i k : Option ℕ) → IsSquare count (at_number ws i (λ sender. at_number ws k
         (λ receiver. with_waiting ws receiver sender (change (waits ws receiver sender)))))
@@ -47,12 +44,12 @@ square_left joiners feeders count from to change ws square =
     go (Some s) (Some r) = square_with count ws r s (change (waits ws r s)) square
 
 -- and where posts came on their links
-pub square_posts : (joiners feeders count : ℕ) (from : Actor) (posts : List Post) (ws : List (List (List Msg)))
-    → IsSquare count ws → IsSquare count (with_posts joiners feeders from posts ws)
-square_posts joiners feeders count from [] ws square = square
-square_posts joiners feeders count from (post ∷ posts) ws square =
-    square_posts joiners feeders count from posts (with_post joiners feeders from post ws)
-    (square_left joiners feeders count from post.to (λ ms. ms ++ post.msg ∷ []) ws square)
+pub square_posts : (cast : Cast) (count : ℕ) (from : Actor) (posts : List Post) (ws : List (List (List Msg)))
+    → IsSquare count ws → IsSquare count (with_posts cast from posts ws)
+square_posts cast count from [] ws square = square
+square_posts cast count from (post ∷ posts) ws square =
+    square_posts cast count from posts (with_post cast from post ws)
+    (square_left cast count from post.to (λ ms. ms ++ post.msg ∷ []) ws square)
 
 -- ---- there is room
 
@@ -69,32 +66,6 @@ has_room count ws r s square low low' =
     let within = subst (λ n. r < n) (sym square.tall) low in
     let long = row_long count ws r (recursion_from_All (λ queues. length queues ≡ count) ws square.wide) within in
     record { receiver_is = within; sender_is = subst (λ n. s < n) (sym long) low' }
-
--- the number of an actor is below that of all actors
-pub number_below : (joiners feeders : ℕ) (a : Actor) (n : ℕ) → number joiners feeders a ≡ Some n
-    → n < feeders + joiners + 2
-number_below joiners feeders (Feeder p) n e = go (ltb p feeders) refl e
-  where
-    go : (b : Bool) → ltb p feeders ≡ b → cond b (Some p) None ≡ Some n → n < feeders + joiners + 2
-    go true low e' =
-        let under = ltb-true p feeders low in
-        let is = some_is p n e' in
-        omega arith
-    go false low e' = absurd (none_some n e')
-number_below joiners feeders (Joiner j) n e = go (ltb j joiners) refl e
-  where
-    go : (b : Bool) → ltb j joiners ≡ b → cond b (Some (feeders + j)) None ≡ Some n → n < feeders + joiners + 2
-    go true low e' =
-        let under = ltb-true j joiners low in
-        let is = some_is (feeders + j) n e' in
-        omega arith
-    go false low e' = absurd (none_some n e')
-number_below joiners feeders Controller n e =
-    let is = some_is (feeders + joiners) n e in
-    omega arith
-number_below joiners feeders Collector n e =
-    let is = some_is (feeders + joiners + 1) n e in
-    omega arith
 
 -- ---- places
 

@@ -11,6 +11,7 @@ use Rattle.epoch_tags.specs.declared.actor.Actor.{Actor}
 use Rattle.epoch_tags.specs.declared.message.Msg.{Msg}
 use Rattle.epoch_tags.specs.declared.message.Post.{Post}
 use Rattle.theta_pred.proofs.KeyMembers.{and_left, and_right}
+use Rattle.actor_core.specs.declared.cast.Cast.{Cast}
 use Rattle.actor_core.specs.Lists.{same_actor, posted_to}
 use Rattle.actor_core.specs.Families.{taken_off, put_on}
 use Rattle.actor_core.specs.Numbers.{number, at_number}
@@ -46,19 +47,19 @@ and-swap true false = refl
 and-swap false true = refl
 and-swap false false = refl
 
-module _ (joiners feeders : ℕ) (ws : List (List (List Msg))) (from to : Actor) (s r : ℕ)
-    (from_is : number joiners feeders from ≡ Some s) (to_is : number joiners feeders to ≡ Some r)
+module _ (cast : Cast) (ws : List (List (List Msg))) (from to : Actor) (s r : ℕ)
+    (from_is : number cast from ≡ Some s) (to_is : number cast to ≡ Some r)
     (room : HasRoom ws r s) where
-  other : (a b : Actor) (n : ℕ) → number joiners feeders a ≡ Some n → number joiners feeders b ≡ None
+  other : (a b : Actor) (n : ℕ) → number cast a ≡ Some n → number cast b ≡ None
       → same_actor a b ≡ false
   other a b n at none = go (same_actor a b) refl
     where
       go : (z : Bool) → same_actor a b ≡ z → same_actor a b ≡ false
-      go true e = absurd (none_some n (sym none ∙ subst (λ z. number joiners feeders z ≡ Some n) (same_is a b e) at))
+      go true e = absurd (none_some n (sym none ∙ subst (λ z. number cast z ≡ Some n) (same_is a b e) at))
       go false e = e
 
   module _ (l : List Msg) (x y : Actor) where
-    both : (i k : Option ℕ) → number joiners feeders x ≡ i → number joiners feeders y ≡ k
+    both : (i k : Option ℕ) → number cast x ≡ i → number cast y ≡ k
         → at_number [] k (λ receiver. at_number [] i (λ sender. waits (with_waiting ws r s l) receiver sender))
         ≡ cond (same_actor from x && same_actor to y) l (at_number [] k
         (λ receiver. at_number [] i (λ sender. waits ws receiver sender)))
@@ -69,32 +70,32 @@ module _ (joiners feeders : ℕ) (ws : List (List (List Msg))) (from to : Actor)
     both (Some i) (Some k) x_is y_is =
         waits-with ws r s k i l room
         ∙ ap (λ b. cond b l (waits ws k i)) (and-swap (r == k) (s == i)
-        ∙ ap₂ (λ a b. a && b) (sym (same_number joiners feeders from x s i from_is x_is))
-        (sym (same_number joiners feeders to y r k to_is y_is)))
+        ∙ ap₂ (λ a b. a && b) (sym (same_number cast from x s i from_is x_is))
+        (sym (same_number cast to y r k to_is y_is)))
 
   -- where another list waits at a receiver of a sender, it is what is left on the link between the two, and the other
   -- links are as they were
-  pub left-with : (l : List Msg) → left_in joiners feeders (with_waiting ws r s l)
-      ≡ taken_off from to l (left_in joiners feeders ws)
-  left-with l = fun_ext (λ x. fun_ext (λ y. both l x y (number joiners feeders x) (number joiners feeders y) refl refl))
+  pub left-with : (l : List Msg) → left_in cast (with_waiting ws r s l)
+      ≡ taken_off from to l (left_in cast ws)
+  left-with l = fun_ext (λ x. fun_ext (λ y. both l x y (number cast x) (number cast y) refl refl))
 
   -- between the two stands what waits there
-  pub left_between : left_in joiners feeders ws from to ≡ waits ws r s
+  pub left_between : left_in cast ws from to ≡ waits ws r s
   left_between = rw (to_is, from_is) refl
 
   put_there : (m : Msg) (x y : Actor) (b : Bool) → (same_actor from x && same_actor to y) ≡ b
-      → cond b (waits ws r s ++ m ∷ []) (left_in joiners feeders ws x y)
-      ≡ cond b (left_in joiners feeders ws x y ++ m ∷ []) (left_in joiners feeders ws x y)
+      → cond b (waits ws r s ++ m ∷ []) (left_in cast ws x y)
+      ≡ cond b (left_in cast ws x y ++ m ∷ []) (left_in cast ws x y)
   put_there m x y true e =
       let is_from = same_is from x (and_left (same_actor from x) (same_actor to y) e) in
       let is_to = same_is to y (and_right (same_actor from x) (same_actor to y) e) in
-      ap (λ ms. ms ++ m ∷ []) (subst (λ z. waits ws r s ≡ left_in joiners feeders ws z y) is_from
-      (subst (λ z. waits ws r s ≡ left_in joiners feeders ws from z) is_to (sym left_between)))
+      ap (λ ms. ms ++ m ∷ []) (subst (λ z. waits ws r s ≡ left_in cast ws z y) is_from
+      (subst (λ z. waits ws r s ≡ left_in cast ws from z) is_to (sym left_between)))
   put_there m x y false e = refl
 
   -- where one message more waits there, one more is left on that link
-  pub left-put : (m : Msg) → left_in joiners feeders (with_waiting ws r s (waits ws r s ++ m ∷ []))
-      ≡ put_one from to m (left_in joiners feeders ws)
+  pub left-put : (m : Msg) → left_in cast (with_waiting ws r s (waits ws r s ++ m ∷ []))
+      ≡ put_one from to m (left_in cast ws)
   left-put m = left-with (waits ws r s ++ m ∷ []) ∙ fun_ext
       (λ x. fun_ext (λ y. put_there m x y (same_actor from x && same_actor to y) refl))
 
@@ -125,9 +126,9 @@ put_none from left = fun_ext (λ x. fun_ext (λ y. none_put (left x y) (same_act
 
 -- where a message was put on what waits at the receiver of the sender, what is left on the link between the two ends
 -- with it
-pub put_left : (joiners feeders : ℕ) (from to : Actor) (sender receiver : ℕ) → number joiners feeders from ≡ Some sender
-    → number joiners feeders to ≡ Some receiver
+pub put_left : (cast : Cast) (from to : Actor) (sender receiver : ℕ) → number cast from ≡ Some sender
+    → number cast to ≡ Some receiver
     → (m : Msg) (ws ws' : List (List (List Msg))) → PutsOn receiver sender m ws ws'
-    → left_in joiners feeders ws' ≡ put_one from to m (left_in joiners feeders ws)
-put_left joiners feeders from to sender receiver from_is to_is m ws ws' put =
-    ap (left_in joiners feeders) put.left ∙ left-put joiners feeders ws from to sender receiver from_is to_is put.room m
+    → left_in cast ws' ≡ put_one from to m (left_in cast ws)
+put_left cast from to sender receiver from_is to_is m ws ws' put =
+    ap (left_in cast) put.left ∙ left-put cast ws from to sender receiver from_is to_is put.room m

@@ -4,6 +4,7 @@ use Rattle.std.specs.Prelude.{slice_get, slice_set}
 use Rattle.epoch_tags.specs.declared.actor.Actor.{Actor}
 use Rattle.epoch_tags.specs.declared.message.Msg.{Msg}
 use Rattle.epoch_tags.specs.declared.message.Post.{Post}
+use Rattle.actor_core.specs.declared.cast.Cast.{Cast}
 use Rattle.actor_core.specs.Lists.{Cause}
 use Rattle.actor_core.specs.Numbers.{number, at_number}
 use Rattle.actor_core.specs.declared.machines.Core.{Core}
@@ -13,60 +14,59 @@ use Rattle.link_trace.specs.Worlds.{with_event_at, with_post, with_posts, world_
 -- ---- what waits
 
 -- where two actors have numbers, what waits at the one's of the other's is changed
-pub left_there : (joiners feeders : ℕ) (from to : Actor) (sender receiver : ℕ)
-    → number joiners feeders from ≡ Some sender → number joiners feeders to ≡ Some receiver
+pub left_there : (cast : Cast) (from to : Actor) (sender receiver : ℕ)
+    → number cast from ≡ Some sender → number cast to ≡ Some receiver
     → (change : List Msg → List Msg) (ws : List (List (List Msg)))
-    → with_left joiners feeders from to change ws ≡ with_waiting ws receiver sender (change (waits ws receiver sender))
-left_there joiners feeders from to sender receiver from_is to_is change ws =
-    ap (λ (i : Option ℕ). at_number ws i (λ s. at_number ws (number joiners feeders to)
+    → with_left cast from to change ws ≡ with_waiting ws receiver sender (change (waits ws receiver sender))
+left_there cast from to sender receiver from_is to_is change ws =
+    ap (λ (i : Option ℕ). at_number ws i (λ s. at_number ws (number cast to)
     (λ r. with_waiting ws r s (change (waits ws r s))))) from_is
     ∙ ap (λ (i : Option ℕ). at_number ws i (λ r. with_waiting ws r sender (change (waits ws r sender)))) to_is
 
 -- where a message was put on what waits at the receiver of the sender, its post came on its link
-pub post_put : (joiners feeders : ℕ) (from : Actor) (post : Post) (sender receiver : ℕ)
-    → number joiners feeders from ≡ Some sender → number joiners feeders post.to ≡ Some receiver
+pub post_put : (cast : Cast) (from : Actor) (post : Post) (sender receiver : ℕ)
+    → number cast from ≡ Some sender → number cast post.to ≡ Some receiver
     → (ws ws' : List (List (List Msg))) → PutsOn receiver sender post.msg ws ws'
-    → ws' ≡ with_post joiners feeders from post ws
-post_put joiners feeders from post sender receiver from_is to_is ws ws' put =
-    put.left ∙ sym (left_there joiners feeders from post.to sender receiver from_is to_is (λ ms. ms ++ post.msg ∷ [])
+    → ws' ≡ with_post cast from post ws
+post_put cast from post sender receiver from_is to_is ws ws' put =
+    put.left ∙ sym (left_there cast from post.to sender receiver from_is to_is (λ ms. ms ++ post.msg ∷ [])
     ws)
 
 -- posts put on their links, and one more then, are put on as if at once
-pub one_post_more : (joiners feeders : ℕ) (from : Actor) (posts : List Post) (post : Post)
+pub one_post_more : (cast : Cast) (from : Actor) (posts : List Post) (post : Post)
     (ws : List (List (List Msg)))
-    → with_posts joiners feeders from (posts ++ post ∷ []) ws
-    ≡ with_post joiners feeders from post (with_posts joiners feeders from posts ws)
-one_post_more joiners feeders from [] post ws = refl
-one_post_more joiners feeders from (p ∷ posts) post ws =
-    one_post_more joiners feeders from posts post (with_post joiners feeders from p ws)
+    → with_posts cast from (posts ++ post ∷ []) ws
+    ≡ with_post cast from post (with_posts cast from posts ws)
+one_post_more cast from [] post ws = refl
+one_post_more cast from (p ∷ posts) post ws =
+    one_post_more cast from posts post (with_post cast from p ws)
 
 -- where the first message was taken off what waits at the receiver of the sender, it is off the link between the two
-pub first_off : (joiners feeders : ℕ) (from to : Actor) (sender receiver : ℕ)
-    → number joiners feeders from ≡ Some sender → number joiners feeders to ≡ Some receiver
+pub first_off : (cast : Cast) (from to : Actor) (sender receiver : ℕ)
+    → number cast from ≡ Some sender → number cast to ≡ Some receiver
     → (m : Msg) (ws middle : List (List (List Msg))) → TakesOff receiver sender m ws middle
-    → with_left joiners feeders from to (drop 1) ws ≡ middle
-first_off joiners feeders from to sender receiver from_is to_is m ws middle took =
-    left_there joiners feeders from to sender receiver from_is to_is (drop 1) ws
+    → with_left cast from to (drop 1) ws ≡ middle
+first_off cast from to sender receiver from_is to_is m ws middle took =
+    left_there cast from to sender receiver from_is to_is (drop 1) ws
     ∙ ap (λ (ms : List Msg). with_waiting ws receiver sender (drop 1 ms)) took.first ∙ sym took.left
 
 -- ---- the world
 
+-- the world of these with these machines, where this waits
+abbrev pub world_of : Cast → List Core → List (List (List Msg)) → WorldState
+world_of cast cores waiting = record { cast = cast; cores = cores; waiting = waiting }
+
 -- where a machine made an event and its posts were put on their links, the world is that after the event
-pub after_is : (joiners feeders : ℕ) (self : Actor) (n : ℕ) → number joiners feeders self ≡ Some n
+pub after_is : (cast : Cast) (self : Actor) (n : ℕ) → number cast self ≡ Some n
     → (cause : Cause) (cores cores' : List Core) (middle ws' : List (List (List Msg))) (sends : List Post)
-    → OccursAt n cause cores cores' [] sends → ws' ≡ with_posts joiners feeders self sends middle
-    → world_after self cause (record { joiners = joiners; feeders = feeders; cores = cores; waiting = middle })
-    ≡ record { joiners = joiners; feeders = feeders; cores = cores'; waiting = ws' }
-after_is joiners feeders self n at cause cores cores' middle ws' sends occurs put =
-    let before : WorldState = record { joiners = joiners; feeders = feeders; cores = cores; waiting = middle } in
+    → OccursAt n cause cores cores' [] sends → ws' ≡ with_posts cast self sends middle
+    → world_after self cause (world_of cast cores middle)
+    ≡ world_of cast cores' ws'
+after_is cast self n at cause cores cores' middle ws' sends occurs put =
+    let before = world_of cast cores middle in
     ap (λ (i : Option ℕ). at_number before i (λ k. with_event_at self cause before k (slice_get cores k))) at
     ∙ ap (with_event_at self cause before n) occurs.was
-    ∙ ap₂ (λ (cs : List Core) (ws : List (List (List Msg))). record {
-      joiners = joiners;
-      feeders = feeders;
-      cores = cs;
-      waiting = ws;
-    })
+    ∙ ap₂ (world_of cast)
     (ap (slice_set cores n) (sym occurs.occurs.event.state) ∙ sym occurs.now)
-    (ap (λ (ps : List Post). with_posts joiners feeders self ps middle)
+    (ap (λ (ps : List Post). with_posts cast self ps middle)
     (sym occurs.occurs.event.posted ∙ sym occurs.occurs.sends) ∙ sym put)

@@ -35,7 +35,7 @@ use Rattle.actor_core.proofs.Stilled as stilled
 -- its lists agree
 pub agree_in_wave : WorldAgreesInWave
 agree_in_wave input setting rest w lists stands =
-    agrees_in_wave input setting rest w.joiners w.feeders w.cores lists stands.machines
+    agrees_in_wave input setting rest w.cast w.cores lists stands.machines
     (balanced_fronts lists (left_of w) stands.balanced)
 
 -- and so do those of a run, that is of the wave that begins with no rows
@@ -51,7 +51,7 @@ module _ (input : Input) (setting : Setting) (rest : Rest) (w : WorldState) (lis
   pub still_is_done : IsStill setting w → QuietIsFinished → IsValid input setting → IsRestFor input setting rest
       → (done : Bool) → (done ≡ false → IsSomeAt GoesOn w.cores) → done ≡ true
   still_is_done still law valid begins =
-      stilled.still_is_done_in_wave input setting rest w.joiners w.feeders w.cores lists stands.machines fronts
+      stilled.still_is_done_in_wave input setting rest w.cast w.cores lists stands.machines fronts
       (λ from to link. none_left lists (left_of w) stands.balanced from to (still.links from to link))
       still.waits law valid begins
 
@@ -64,28 +64,28 @@ module _ (input : Input) (setting : Setting) (rest : Rest) (w : WorldState) (lis
         → IsAnswerOf joiners ls controller.journal bouts run)
         → IsRunOf input setting rest.line run.journal run
     ends law valid begins over =
-        run_ends_in_wave law input setting rest w.joiners w.feeders w.cores lists valid begins stands.machines
-        (over_in_wave input setting rest w.joiners w.feeders w.cores lists stands.machines fronts over)
+        run_ends_in_wave law input setting rest w.cast w.cores lists valid begins stands.machines
+        (over_in_wave input setting rest w.cast w.cores lists stands.machines fronts over)
         controller collector last
 
     -- the controller's journal is that of the machine found under its name
     pub journal_there : (core : Core) → core_of w Controller ≡ Some core → controller.journal ≡ journal_of core
     journal_there core there =
-        sym (journal_named w.joiners w.feeders w.cores stands.machines.all controller collector last)
+        sym (journal_named w.cast w.cores stands.machines.all controller collector last)
         ∙ ap journal_at there
 
     -- and what the machines leave, with the last line of the journal, stands for the input
     pub leaves : AnswersInTheEnd → IsValid input setting → IsRestFor input setting rest → IsAllAt IsOver w.cores
         → AllJoinBy input.theta w → (k : ℕ) (line : TurnLine) (stores : List Stored)
-        → AreLeft w.feeders w.cores stores controller collector → k ≡ setting.k
+        → AreLeft w.cast.feeders w.cores stores controller collector → k ≡ setting.k
         → ((l : TurnLine) (past : List TurnLine) → reverse controller.journal ≡ l ∷ past → line ≡ l)
         → IsRestOf input setting (record { k = k; line = line; stores = stores })
     leaves law valid begins over joins k line stores left grid is_last =
         let agreed = (agree_in_wave input setting rest w lists stands).controller in
-        let named = journal_named w.joiners w.feeders w.cores stands.machines.all controller collector last in
+        let named = journal_named w.cast w.cores stands.machines.all controller collector last in
         let same : line ≡ agreed.line =
         is_last agreed.line agreed.past (ap reverse (sym named) ∙ agreed.journal) in
-        next_rest law input setting rest w.joiners w.feeders w.cores lists valid begins stands.machines fronts over
+        next_rest law input setting rest w.cast w.cores lists valid begins stands.machines fronts over
         joins
         stores controller collector left k line agreed.past grid
         (agreed.journal ∙ ap (λ l. l ∷ agreed.past) (sym same))

@@ -1,8 +1,9 @@
 -- The world before the first event of a run: all of it is determined by the input and the setting.
-use Rattle.std.specs.Prelude.{◌≡◌, ℕ, ◌+◌, ◌^◌, List, [], Some, length, replicate, slice_get}
+use Rattle.std.specs.Prelude.{◌≡◌, ℕ, List, [], Some, length, replicate, slice_get}
 use Rattle.epoch_tags.specs.declared.message.Msg.{Msg}
 use Rattle.trace_law.specs.declared.input.Input.{Input}
 use Rattle.trace_law.specs.declared.setting.Setting.{Setting}
+use Rattle.actor_core.specs.Numbers.{cast_of, count_of}
 use Rattle.actor_core.specs.FirstCores.{IsFirstAt}
 use Rattle.actor_core.specs.declared.machines.Core.{Core}
 use Rattle.link_trace.specs.Worlds.{WorldState}
@@ -18,10 +19,9 @@ pub record HaveBegun (input : Input) (setting : Setting) (count : ℕ) (cores : 
 
 -- the world has the machines of all actors of the run, each of which has just begun, and nothing waits
 pub record IsFirstWorld (input : Input) (setting : Setting) (w : WorldState) : Type 0 where
-  pub joiners : w.joiners ≡ 2 ^ setting.k
-  pub feeders : w.feeders ≡ setting.feeders
-  pub machines : HaveBegun input setting (setting.feeders + 2 ^ setting.k + 2) w.cores
-  pub waiting : w.waiting ≡ none_waits (setting.feeders + 2 ^ setting.k + 2)
+  pub cast : w.cast ≡ cast_of setting
+  pub machines : HaveBegun input setting (count_of (cast_of setting)) w.cores
+  pub waiting : w.waiting ≡ none_waits (count_of (cast_of setting))
 
 -- two such worlds of one input and setting are one
 abbrev pub FirstWorldsAreOne : Type 0

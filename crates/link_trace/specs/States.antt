@@ -2,6 +2,6 @@
 use Rattle.link_trace.specs.Worlds.{WorldState, state_among}
 use Rattle.link_trace.specs.declared.world.World.{World}
 
--- its joiners and feeders, the machines, and what waits
+-- who takes part, the machines, and what waits
 abbrev pub state_of : World → WorldState
-state_of w = state_among w.joiners w.feeders w.places.items
+state_of w = state_among w.cast w.places.items

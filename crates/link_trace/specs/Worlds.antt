@@ -1,26 +1,24 @@
 -- A world: its machines, and what is left on each link.
-use Rattle.std.specs.Prelude.{◌≡◌, ℕ, ◌+◌, ◌<◌, ◌^◌, All, Option, Some, List, [], ◌∷◌, ◌++◌, map, slice_get}
+use Rattle.std.specs.Prelude.{◌≡◌, ℕ, ◌<◌, All, Option, Some, List, [], ◌∷◌, ◌++◌, map, slice_get}
 use Rattle.std.specs.Prelude.{slice_index_or, slice_set, length, drop, ◌&&◌, false, None, if◌then◌else◌}
 use Rattle.epoch_tags.specs.declared.actor.Actor.{Actor}
 use Rattle.epoch_tags.specs.declared.actor.Actor.TheVariants.{Feeder}
 use Rattle.epoch_tags.specs.Links.{HasLink}
-use Rattle.load_controller.specs.Standing.{ControllerState}
 use Rattle.load_controller.specs.declared.line.TurnLine.{TurnLine}
-use Rattle.pair_collector.specs.Standing.{CollectorState}
 use Rattle.epoch_tags.specs.declared.message.Msg.{Msg}
 use Rattle.epoch_tags.specs.declared.message.Post.{Post}
 use Rattle.trace_law.specs.Family.{IsAgreeing, Rest, first_rest}
 use Rattle.theta_pred.specs.Formula.{Meaning}
 use Rattle.trace_law.specs.declared.input.Input.{Input}
 use Rattle.trace_law.specs.declared.setting.Setting.{Setting}
+use Rattle.actor_core.specs.declared.cast.Cast.{Cast}
 use Rattle.actor_core.specs.Lists.{ActorLists, Cause, Took, Began, same_actor, no_lists}
 use Rattle.actor_core.specs.Effects.{core_after, core_posts}
 use Rattle.actor_core.specs.Players.{AllStandInWave, journal_among}
 use Rattle.actor_core.specs.Elements.{IsAllAt}
-use Rattle.actor_core.specs.Endings.{AreLast}
 use Rattle.actor_core.specs.Standing.{Stands, Occurs, GoOut, Asks, JoinsBy, Waits}
 use Rattle.actor_core.specs.Families.{start_for, start_in_wave, IsActor, IsBalanced, after_event, core_in, family_of}
-use Rattle.actor_core.specs.Numbers.{number, actor_at, at_number}
+use Rattle.actor_core.specs.Numbers.{actor_at, at_number, cast_of, number}
 use Rattle.actor_core.specs.declared.machines.Core.{Core}
 use Rattle.link_trace.specs.declared.places.Place.{Place}
 
@@ -79,36 +77,34 @@ pub record OccursAt (at : ℕ) (cause : Cause) (old new : List Core) (before aft
 
 -- ---- the same by actors
 
--- the actor is one of so many joiners and feeders, or the controller or the collector
-abbrev pub HasNumber : ℕ → ℕ → Actor → Type 0
-HasNumber joiners feeders a = ¬ (number joiners feeders a ≡ None)
+-- the actor takes part
+abbrev pub HasNumber : Cast → Actor → Type 0
+HasNumber cast a = ¬ (number cast a ≡ None)
 
--- how many joiners and feeders there are, the machines, and what waits
+-- who takes part, the machines, and what waits
 pub record WorldState : Type 0 where
-  pub joiners : ℕ
-  pub feeders : ℕ
+  pub cast : Cast
   pub cores : List Core
   pub waiting : List (List (List Msg))
 
 -- what is left on the link from one actor to another
-abbrev pub left_in : ℕ → ℕ → List (List (List Msg)) → Actor → Actor → List Msg
-left_in joiners feeders waiting from to =
-    at_number [] (number joiners feeders to)
-    (λ receiver. at_number [] (number joiners feeders from) (λ sender. waits waiting receiver sender))
+abbrev pub left_in : Cast → List (List (List Msg)) → Actor → Actor → List Msg
+left_in cast waiting from to =
+    at_number [] (number cast to)
+    (λ receiver. at_number [] (number cast from) (λ sender. waits waiting receiver sender))
 
 -- the machine of an actor of the world
 abbrev pub core_of : WorldState → Actor → Option Core
-core_of w a = core_in w.joiners w.feeders w.cores a
+core_of w a = core_in w.cast w.cores a
 
 -- what is left on a link of the world
 abbrev pub left_of : WorldState → Actor → Actor → List Msg
-left_of w from to = left_in w.joiners w.feeders w.waiting from to
+left_of w from to = left_in w.cast w.waiting from to
 
--- a world with so many joiners and feeders, and these places
-abbrev pub state_among : ℕ → ℕ → List Place → WorldState
-state_among joiners feeders places = record {
-  joiners = joiners;
-  feeders = feeders;
+-- the world of these with these places
+abbrev pub state_among : Cast → List Place → WorldState
+state_among cast places = record {
+  cast = cast;
   cores = cores_of places;
   waiting = waiting_of places;
 }
@@ -122,7 +118,7 @@ put_one from to m left x y = if same_actor from x && same_actor to y then left x
 -- was sent
 pub record StandsInWave (input : Input) (setting : Setting) (rest : Rest) (w : WorldState)
     (f : Actor → ActorLists) : Type 0 where
-  pub machines : AllStandInWave input setting rest w.joiners w.feeders w.cores f
+  pub machines : AllStandInWave input setting rest w.cast w.cores f
   pub balanced : IsBalanced f (left_of w)
 
 -- the same of a run, that is of the wave that begins with no rows
@@ -137,12 +133,6 @@ pub record StandsForSome (w : WorldState) : Type 0 where
   pub lists : Actor → ActorLists
   pub stands : StandsInWave input setting rest w lists
 
--- the last two of these machines are a controller's and a collector's
-pub record HaveLast (cores : List Core) : Type 0 where
-  pub controller : ControllerState
-  pub collector : CollectorState
-  pub are : AreLast cores controller collector
-
 -- each joiner's machine joins by this predicate
 abbrev pub AllJoinBy : Meaning → WorldState → Type 0
 AllJoinBy theta w = IsAllAt (JoinsBy theta) w.cores
@@ -151,7 +141,7 @@ AllJoinBy theta w = IsAllAt (JoinsBy theta) w.cores
 pub record AreNew (input : Input) (setting : Setting) (count : ℕ) (places : List Place) : Type 0 where
   pub all : length places ≡ count
   pub fresh : (n : ℕ) (core : Core) → slice_get (cores_of places) n ≡ Some core
-      → Stands (start_for input setting (actor_at (2 ^ setting.k) setting.feeders n)) no_lists core
+      → Stands (start_for input setting (actor_at (cast_of setting) n)) no_lists core
   pub empty : (receiver sender : ℕ) → waits (waiting_of places) receiver sender ≡ []
 
 -- nothing waits at any of these places
@@ -162,41 +152,41 @@ HaveNothing places = (receiver sender : ℕ) → waits (waiting_of places) recei
 
 -- what waits, with what is left on the link from one actor to another changed so; the same where one of them isn't
 -- there
-abbrev pub with_left : ℕ → ℕ → Actor → Actor → (List Msg → List Msg) → List (List (List Msg)) → List (List (List Msg))
-with_left joiners feeders from to change waiting =
-    at_number waiting (number joiners feeders from)
-    (λ sender. at_number waiting (number joiners feeders to)
+abbrev pub with_left : Cast → Actor → Actor → (List Msg → List Msg) → List (List (List Msg)) → List (List (List Msg))
+with_left cast from to change waiting =
+    at_number waiting (number cast from)
+    (λ sender. at_number waiting (number cast to)
     (λ receiver. with_waiting waiting receiver sender (change (waits waiting receiver sender))))
 
 -- the post of an actor comes behind what is left on its link
-abbrev pub with_post : ℕ → ℕ → Actor → Post → List (List (List Msg)) → List (List (List Msg))
-with_post joiners feeders from post waiting =
-    with_left joiners feeders from post.to (λ ms. ms ++ post.msg ∷ []) waiting
+abbrev pub with_post : Cast → Actor → Post → List (List (List Msg)) → List (List (List Msg))
+with_post cast from post waiting =
+    with_left cast from post.to (λ ms. ms ++ post.msg ∷ []) waiting
 
 -- so do its posts, one after another
-abbrev pub with_posts : ℕ → ℕ → Actor → List Post → List (List (List Msg)) → List (List (List Msg))
-with_posts joiners feeders from [] waiting = waiting
-with_posts joiners feeders from (post ∷ posts) waiting =
-    with_posts joiners feeders from posts (with_post joiners feeders from post waiting)
+abbrev pub with_posts : Cast → Actor → List Post → List (List (List Msg)) → List (List (List Msg))
+with_posts cast from [] waiting = waiting
+with_posts cast from (post ∷ posts) waiting =
+    with_posts cast from posts (with_post cast from post waiting)
 
 -- the machine at this number is the one after the event, and what the event posts is on its links
 abbrev pub with_event_at : Actor → Cause → WorldState → ℕ → Option Core → WorldState
 with_event_at self cause w n None = w
 with_event_at self cause w n (Some core) = record w {
   cores = slice_set w.cores n (core_after cause core);
-  waiting = with_posts w.joiners w.feeders self (core_posts cause core) w.waiting;
+  waiting = with_posts w.cast self (core_posts cause core) w.waiting;
 }
 
 -- the world after this actor's event, which changes its machine and puts its posts on their links, in order; the same
 -- world where it has no machine. A message that the event took isn't taken off here
 abbrev pub world_after : Actor → Cause → WorldState → WorldState
 world_after self cause w =
-    at_number w (number w.joiners w.feeders self)
+    at_number w (number w.cast self)
     (λ n. with_event_at self cause w n (slice_get w.cores n))
 
 -- the world without the first message of a link
 abbrev pub without_first : Actor → Actor → WorldState → WorldState
-without_first from to w = record w { waiting = with_left w.joiners w.feeders from to (drop 1) w.waiting }
+without_first from to w = record w { waiting = with_left w.cast from to (drop 1) w.waiting }
 
 -- the world without what its actor acts on: a message that it took is the first of its link, and at a beginning there
 -- is none
@@ -251,7 +241,7 @@ pub record IsStill (setting : Setting) (w : WorldState) : Type 0 where
 
 -- the journal of the controller's machine
 abbrev pub journal_in : WorldState → List TurnLine
-journal_in w = journal_among w.joiners w.feeders w.cores
+journal_in w = journal_among w.cast w.cores
 
 -- the lists for which a world stands are an agreeing family
 abbrev pub WorldAgrees : Type 0

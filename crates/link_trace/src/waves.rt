@@ -59,15 +59,14 @@ impl<'a> World<'a> {
         answers_in_the_end();
         let World {
             alloc,
-            joiners,
-            feeders,
+            cast,
             places,
             ..
         } = self;
         let cores = machines(alloc, places)?;
-        let left = machines_left(alloc, feeders, cores)?;
+        let left = machines_left(alloc, cast.feeders, cores)?;
         let (stores, controller, collector) = left;
-        wave_run(alloc, joiners, stores, &controller, collector, bouts)
+        wave_run(alloc, cast.joiners, stores, &controller, collector, bouts)
     }
 }
 

@@ -1,6 +1,6 @@
 // All machines of a run on one thread, and what is under way between them.
 
-ghost use Rattle.std.specs.Prelude.{◌≡◌, ◌+◌, ◌≤◌, ◌^◌, ℕ, [], Ok, Some, None, IfOk, IfSome, OnOk, OnErr, IsTrue, ◌↔◌, true, false};
+ghost use Rattle.std.specs.Prelude.{◌≡◌, ◌≤◌, ◌^◌, ℕ, [], Ok, Some, None, IfOk, IfSome, OnOk, OnErr, IsTrue, ◌↔◌, true, false};
 ghost use Rattle.epoch_tags.specs.Links.{HasLink};
 ghost use Rattle.epoch_tags.specs.declared.actor.Actor.TheVariants.{Feeder as Feeder', Controller as Controller'};
 ghost use Rattle.epoch_tags.specs.declared.actor.Actor.{Actor as Actor'};
@@ -14,16 +14,15 @@ ghost use Rattle.actor_core.specs.Lists.{Began, ActorLists, no_lists};
 ghost use Rattle.actor_core.specs.Families.{journal_of};
 ghost use Rattle.actor_core.specs.Standing.{IsOver, GoesOn, Waits};
 ghost use Rattle.actor_core.specs.declared.machines.Core.{Core as Core'};
-ghost use Rattle.actor_core.specs.Numbers.{number as number'};
+ghost use Rattle.actor_core.specs.Numbers.{count_of, number as number'};
 ghost use Rattle.actor_core.specs.Rests.{upto, rest_of, IsRestOf, IsUpto};
 ghost use Rattle.actor_core.specs.Elements.{IsAllAt, IsSomeAt};
 ghost use Rattle.link_trace.specs.FirstWorlds.{IsFirstWorld};
 ghost use Rattle.link_trace.specs.Worlds.{state_among, waiting_of, left_of, core_of, StandsFor, StandsForSome, StandsInWave, AllJoinBy, IsSquare, IsStill, Delivers, MakesEvent};
 
-use crate::endings::last_two;
 use crate::places::{Place, all_are_over, begin, hand, machines, new_places, places_of, take};
 use crate::sending::send_all;
-use actor_core::{Core, Rest, Step, Upto, answer, cores_in_wave, has_link, joiners_of, number};
+use actor_core::{Cast, Core, Rest, Step, Upto, answer, cores_in_wave, last_two};
 use epoch_tags::{Actor, Sends};
 use std::alloc::{AllocError, Global};
 use trace_law::{Input, Run, Setting, finished_answers, quiet_is_finished};
@@ -33,12 +32,11 @@ use trace_law::{Input, Run, Setting, finished_answers, quiet_is_finished};
 #[derive(Drop)]
 pub struct World<'a> {
     pub(crate) alloc: Global,
-    pub(crate) joiners: u32,
-    pub(crate) feeders: u32,
+    pub(crate) cast: Cast,
     pub(crate) places: Vec<Place<'a>>,
     pub(crate) spent: bool,
-    ghost square: { spent ≡ false → IsSquare (feeders + joiners + 2) (waiting_of places.items) },
-    ghost stands: { spent ≡ false → ∥ StandsForSome (state_among joiners feeders places.items) ∥₁ },
+    ghost square: { spent ≡ false → IsSquare (count_of cast) (waiting_of places.items) },
+    ghost stands: { spent ≡ false → ∥ StandsForSome (state_among cast places.items) ∥₁ },
 }
 
 impl<'a> World<'a> {
@@ -58,13 +56,11 @@ impl<'a> World<'a> {
         // all of it is determined by the input and the setting
         ensures first { IfOk result (λ world. IsFirstWorld input.now setting.now (state_of world)) }
     {
-        let joiners = joiners_of(setting);
-        let count = setting.feeders + joiners + 2;
-        let places = new_places(alloc, input, setting, count)?;
+        let cast = Cast::of(setting);
+        let places = new_places(alloc, input, setting, cast.count())?;
         Ok(World {
             alloc,
-            joiners,
-            feeders: setting.feeders,
+            cast,
             places,
             spent: false,
         })
@@ -89,14 +85,12 @@ impl<'a> World<'a> {
         ensures joins { IfOk result (λ world. AllJoinBy input.now.theta (state_of world)) }
         ensures at_work { IfOk result (λ world. world.spent ≡ false) }
     {
-        let joiners = joiners_of(setting);
-        let count = setting.feeders + joiners + 2;
+        let cast = Cast::of(setting);
         let cores = cores_in_wave(alloc, rest, input, setting, end)?;
-        let places = places_of(alloc, cores, count)?;
+        let places = places_of(alloc, cores, cast.count())?;
         Ok(World {
             alloc,
-            joiners,
-            feeders: setting.feeders,
+            cast,
             places,
             spent: false,
         })
@@ -104,13 +98,13 @@ impl<'a> World<'a> {
 
     /// Whether the run has a link from one actor to the other, also after an error. It takes no memory.
     pub fn has(&self, from: Actor, to: Actor) -> bool
-        ensures of_actors { (k : ℕ) → (state_of self.now).joiners ≡ 2 ^ k
-            → (IsTrue result ↔ HasLink k (state_of self.now).feeders from to) }
+        ensures of_actors { (k : ℕ) → (state_of self.now).cast.joiners ≡ 2 ^ k
+            → (IsTrue result ↔ HasLink k (state_of self.now).cast.feeders from to) }
         ensures of_run { (input : Input') (setting : Setting') (lists : Actor' → ActorLists)
             → StandsFor input setting (state_of self.now) lists
             → (IsTrue result ↔ HasLink setting.k setting.feeders from to) }
     {
-        has_link(self.joiners, self.feeders, from, to)
+        self.cast.has_link(from, to)
     }
 
     /// The machine of an actor. It takes no memory.
@@ -119,7 +113,7 @@ impl<'a> World<'a> {
             (λ core. core_of (state_of self.now) actor ≡ Some core.now) }
         ensures none { result ≡ None → core_of (state_of self.now) actor ≡ None }
     {
-        let at = number(self.joiners, self.feeders, actor)?;
+        let at = self.cast.number(actor)?;
         let place = self.places.get(at)?;
         Some(&place.core)
     }
@@ -181,10 +175,7 @@ impl<'a> World<'a> {
         if self.spent {
             return Err(AllocError);
         }
-        match (
-            number(self.joiners, self.feeders, from),
-            number(self.joiners, self.feeders, to),
-        ) {
+        match (self.cast.number(from), self.cast.number(to)) {
             (Some(sender), Some(receiver)) => self.deliver_at(from, to, sender, receiver),
             _ => Ok(Step::Idle),
         }
@@ -197,8 +188,8 @@ impl<'a> World<'a> {
         sender: usize,
         receiver: usize,
     ) -> Result<Step, AllocError>
-        requires sender { number' self.old.joiners self.old.feeders from ≡ Some sender }
-        requires receiver { number' self.old.joiners self.old.feeders to ≡ Some receiver }
+        requires sender { number' self.old.cast from ≡ Some sender }
+        requires receiver { number' self.old.cast to ≡ Some receiver }
         requires going { self.old.spent ≡ false }
         ensures took { result ≡ Ok Took'
             → Delivers from to (state_of self.old) (state_of self.new) }
@@ -213,7 +204,7 @@ impl<'a> World<'a> {
         self.spent = true;
         let mut sends = Sends::new(self.alloc);
         hand(&mut self.places, receiver, from, msg, &mut sends)?;
-        send_all(&mut self.places, self.joiners, self.feeders, to, sends)?;
+        send_all(&mut self.places, self.cast, to, sends)?;
         self.spent = false;
         Ok(Step::Took)
     }
@@ -235,14 +226,14 @@ impl<'a> World<'a> {
         if self.spent {
             return Err(AllocError);
         }
-        match number(self.joiners, self.feeders, Actor::Feeder(p)) {
+        match self.cast.number(Actor::Feeder(p)) {
             Some(at) => self.begin_at(p, at),
             None => Ok(Step::Idle),
         }
     }
 
     fn begin_at(&mut self, p: u32, at: usize) -> Result<Step, AllocError>
-        requires at { number' self.old.joiners self.old.feeders (Feeder' p) ≡ Some at }
+        requires at { number' self.old.cast (Feeder' p) ≡ Some at }
         requires going { self.old.spent ≡ false }
         ensures took { result ≡ Ok Took'
             → MakesEvent (Feeder' p) Began (state_of self.old) (state_of self.new) }
@@ -261,13 +252,7 @@ impl<'a> World<'a> {
             self.spent = false;
             return Ok(Step::Idle);
         }
-        send_all(
-            &mut self.places,
-            self.joiners,
-            self.feeders,
-            Actor::Feeder(p),
-            sends,
-        )?;
+        send_all(&mut self.places, self.cast, Actor::Feeder(p), sends)?;
         self.spent = false;
         Ok(Step::Took)
     }

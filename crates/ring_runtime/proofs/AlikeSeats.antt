@@ -100,8 +100,8 @@ like : (s : RingSeatView) (ins : List (Option Receiving)) (outs : List (Option O
 like s ins outs received sent = λ i. record {
   core = s.core;
   lists = record {
-    received = λ a. at_number [] (number s.joiners s.feeders a) (λ n. received n i);
-    sent = λ a. at_number [] (number s.joiners s.feeders a) (λ n. sent n i);
+    received = λ a. at_number [] (number s.cast a) (λ n. received n i);
+    sent = λ a. at_number [] (number s.cast a) (λ n. sent n i);
   };
 }
 
@@ -123,16 +123,14 @@ module _ (s t : RingSeatView) (places : HasSamePlaces s t)
     frame =
         ap (λ (u : RingSeatView).
         record {
-          joiners = u.joiners;
-          feeders = u.feeders;
+          cast = u.cast;
           actor = u.actor;
           ins = map in_address t.ins;
           outs = map
               out_address t.outs;
         }) places.same
         ∙ (λ i. record {
-          joiners = s.joiners;
-          feeders = s.feeders;
+          cast = s.cast;
           actor = s.actor;
           ins = ins_same i;
           outs = outs_same

@@ -4,7 +4,6 @@ mod RowPosts
 mod SeatTurns
 mod NewRings
 mod HeldRows
-mod Dealing
 mod Sent
 mod AlikeSeats
 mod RingLists

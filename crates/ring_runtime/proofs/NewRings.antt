@@ -7,7 +7,8 @@ use Rattle.epoch_tags.specs.declared.actor.Actor.{Actor}
 use Rattle.epoch_tags.specs.Links.{HasLink}
 use Rattle.ring_links.specs.Rings.{Receiving}
 use Rattle.ring_links.specs.Outlets.{OutletView}
-use Rattle.actor_core.specs.Numbers.{actor_at}
+use Rattle.actor_core.specs.declared.cast.Cast.{Cast}
+use Rattle.actor_core.specs.Numbers.{actor_at, count_of}
 use Rattle.actor_core.proofs.Beginnings.{there}
 use Rattle.ring_runtime.specs.Seats.{RingSeatView}
 use Rattle.ring_runtime.specs.Wiring.{AreWiredBelow, GivesIn, GivesOut, HasSamePlaces, IsNewBetween, Wires, WiresRow}
@@ -163,29 +164,29 @@ module _ (from to : ℕ) (sender receiver : Actor) (old new : List RingSeatView)
       (out_places from to wires.out old middle wires.first n d)
       (in_places from to wires.inn middle new wires.second n d)
 
-module _ (joiners feeders : ℕ) (from to : Actor) where
+module _ (cast : Cast) (from to : Actor) where
   -- what is new between two actors, for the slots that are so
   between_is : (out out' : Option OutletView) (inn inn' : Option Receiving) → out' ≡ out → inn' ≡ inn
-      → IsNewBetween joiners feeders from to out inn → IsNewBetween joiners feeders from to out' inn'
+      → IsNewBetween cast from to out inn → IsNewBetween cast from to out' inn'
   between_is out out' inn inn' same same' new =
-      subst (λ o. IsNewBetween joiners feeders from to o inn') (sym same)
-      (subst (λ i. IsNewBetween joiners feeders from to out i) (sym same') new)
+      subst (λ o. IsNewBetween cast from to o inn') (sym same)
+      (subst (λ i. IsNewBetween cast from to out i) (sym same') new)
 
 -- ---- the rings of one sender
 
 -- no link to the next
-pub row_pass : (joiners feeders from below : ℕ) (first old : List RingSeatView)
-    → ((k : ℕ) → joiners ≡ 2 ^ k → ¬ HasLink k feeders (actor_at joiners feeders from) (actor_at joiners feeders below))
-    → WiresRow joiners feeders from below first old → WiresRow joiners feeders from (below + 1) first old
-row_pass joiners feeders from below first old apart before = record {
+pub row_pass : (cast : Cast) (from below : ℕ) (first old : List RingSeatView)
+    → ((k : ℕ) → cast.joiners ≡ 2 ^ k → ¬ HasLink k cast.feeders (actor_at cast from) (actor_at cast below))
+    → WiresRow cast from below first old → WiresRow cast from (below + 1) first old
+row_pass cast from below first old apart before = record {
   all = before.all;
   same = before.same;
   done = λ r d low none none'. elim (cases_eq r below) [
     | inl is ↦
         let past = before.rest from r d (λ e. omega (arith, is)) in
-        subst (λ z. IsNewBetween joiners feeders (actor_at joiners feeders from) (actor_at joiners feeders z)
+        subst (λ z. IsNewBetween cast (actor_at cast from) (actor_at cast z)
         (out_of old d from r) (in_of old d r from)) (sym is)
-        (between_is joiners feeders (actor_at joiners feeders from) (actor_at joiners feeders below) None
+        (between_is cast (actor_at cast from) (actor_at cast below) None
         (out_of old d from r) None (in_of old d r from) (past.0 ∙ none) (past.1 ∙ none') apart)
     | inr other ↦ before.done r d (omega (arith, low, other)) none none'
   ];
@@ -193,14 +194,14 @@ row_pass joiners feeders from below first old apart before = record {
 }
 
 -- a new ring to the next
-pub row_more : (joiners feeders from below : ℕ) (first old new : List RingSeatView)
-    → ((k : ℕ) → joiners ≡ 2 ^ k → HasLink k feeders (actor_at joiners feeders from) (actor_at joiners feeders below))
-    → WiresRow joiners feeders from below first old
-    → Wires from below (actor_at joiners feeders from) (actor_at joiners feeders below) old new
-    → WiresRow joiners feeders from (below + 1) first new
-row_more joiners feeders from below first old new linked before wires =
-    let sender = actor_at joiners feeders from in
-    let receiver = actor_at joiners feeders below in
+pub row_more : (cast : Cast) (from below : ℕ) (first old new : List RingSeatView)
+    → ((k : ℕ) → cast.joiners ≡ 2 ^ k → HasLink k cast.feeders (actor_at cast from) (actor_at cast below))
+    → WiresRow cast from below first old
+    → Wires from below (actor_at cast from) (actor_at cast below) old new
+    → WiresRow cast from (below + 1) first new
+row_more cast from below first old new linked before wires =
+    let sender = actor_at cast from in
+    let receiver = actor_at cast below in
     record {
       all = wired_long from below sender receiver old new wires (there old from wires.first.there).0 ∙ before.all;
       same = λ n d low.
@@ -208,15 +209,15 @@ row_more joiners feeders from below first old new linked before wires =
           (wired_places from below sender receiver old new wires n d);
       done = λ r d low none none'. elim (cases_eq r below) [
         | inl is ↦
-            subst (λ z. IsNewBetween joiners feeders sender (actor_at joiners feeders z) (out_of new d from z)
+            subst (λ z. IsNewBetween cast sender (actor_at cast z) (out_of new d from z)
             (in_of new d z from)) (sym is)
-            (between_is joiners feeders sender receiver (Some wires.out) (out_of new d from below) (Some wires.inn)
+            (between_is cast sender receiver (Some wires.out) (out_of new d from below) (Some wires.inn)
             (in_of new d below from)
             (wired_out from below sender receiver old new wires d)
             (wired_in from below sender receiver old new wires d) (linked, wires.are_new))
         | inr other ↦
             let past = wired_others from below sender receiver old new wires from r d (λ e. other) in
-            between_is joiners feeders sender (actor_at joiners feeders r) (out_of old d from r) (out_of new d from r)
+            between_is cast sender (actor_at cast r) (out_of old d from r) (out_of new d from r)
             (in_of old d r from) (in_of new d r from)
             past.0 past.1 (before.done r d (omega (arith, low, other)) none none')
       ];
@@ -227,41 +228,41 @@ row_more joiners feeders from below first old new linked before wires =
           (new_past.0 ∙ old_past.0, new_past.1 ∙ old_past.1);
     }
 
-module _ (joiners feeders from below : ℕ) (first old : List RingSeatView) where
+module _ (cast : Cast) (from below : ℕ) (first old : List RingSeatView) where
   -- a new ring to the next, by what is known of these two actors
   pub row_next : (sender receiver : Actor) (new : List RingSeatView)
-      → sender ≡ actor_at joiners feeders from → receiver ≡ actor_at joiners feeders below
-      → ((k : ℕ) → joiners ≡ 2 ^ k → HasLink k feeders sender receiver)
-      → WiresRow joiners feeders from below first old → Wires from below sender receiver old new
-      → WiresRow joiners feeders from (below + 1) first new
+      → sender ≡ actor_at cast from → receiver ≡ actor_at cast below
+      → ((k : ℕ) → cast.joiners ≡ 2 ^ k → HasLink k cast.feeders sender receiver)
+      → WiresRow cast from below first old → Wires from below sender receiver old new
+      → WiresRow cast from (below + 1) first new
   row_next sender receiver new is is' linked before wires =
-      let sender' = actor_at joiners feeders from in
-      row_more joiners feeders from below first old new
-      (λ k grid. subst (λ a. HasLink k feeders sender' a) is'
-      (subst (λ a. HasLink k feeders a receiver) is (linked k grid)))
+      let sender' = actor_at cast from in
+      row_more cast from below first old new
+      (λ k grid. subst (λ a. HasLink k cast.feeders sender' a) is'
+      (subst (λ a. HasLink k cast.feeders a receiver) is (linked k grid)))
       before
       (subst (λ a. Wires from below sender' a old new) is' (subst (λ a. Wires from below a receiver old new) is wires))
 
   -- and no link to it
   pub row_skip : (sender receiver : Actor)
-      → sender ≡ actor_at joiners feeders from → receiver ≡ actor_at joiners feeders below
-      → ((k : ℕ) → joiners ≡ 2 ^ k → ¬ HasLink k feeders sender receiver)
-      → WiresRow joiners feeders from below first old → WiresRow joiners feeders from (below + 1) first old
+      → sender ≡ actor_at cast from → receiver ≡ actor_at cast below
+      → ((k : ℕ) → cast.joiners ≡ 2 ^ k → ¬ HasLink k cast.feeders sender receiver)
+      → WiresRow cast from below first old → WiresRow cast from (below + 1) first old
   row_skip sender receiver is is' apart before =
-      let sender' = actor_at joiners feeders from in
-      row_pass joiners feeders from below first old
-      (λ k grid. subst (λ a. ¬ HasLink k feeders sender' a) is'
-      (subst (λ a. ¬ HasLink k feeders a receiver) is (apart k grid)))
+      let sender' = actor_at cast from in
+      row_pass cast from below first old
+      (λ k grid. subst (λ a. ¬ HasLink k cast.feeders sender' a) is'
+      (subst (λ a. ¬ HasLink k cast.feeders a receiver) is (apart k grid)))
       before
 
 -- ---- the rings of all senders
 
 -- the rings of the next sender
-pub all_more : (joiners feeders below : ℕ) (first old new : List RingSeatView)
-    → AreWiredBelow joiners feeders below first old
-    → WiresRow joiners feeders below (feeders + joiners + 2) old new
-    → AreWiredBelow joiners feeders (below + 1) first new
-all_more joiners feeders below first old new before row = record {
+pub all_more : (cast : Cast) (below : ℕ) (first old new : List RingSeatView)
+    → AreWiredBelow cast below first old
+    → WiresRow cast below (count_of cast) old new
+    → AreWiredBelow cast (below + 1) first new
+all_more cast below first old new before row = record {
   all = row.all ∙ before.all;
   same = λ n d low.
       places_then (get_or first n d) (get_or old n d) (get_or new n d) (before.same n d low)
@@ -269,13 +270,13 @@ all_more joiners feeders below first old new before row = record {
   done = λ n r d low low' none none'. elim (cases_eq n below) [
     | inl is ↦
         let past = before.rest n r d (omega (arith, is)) in
-        subst (λ z. IsNewBetween joiners feeders (actor_at joiners feeders z) (actor_at joiners feeders r)
+        subst (λ z. IsNewBetween cast (actor_at cast z) (actor_at cast r)
         (out_of new d z r) (in_of new d r z)) (sym is)
         (row.done r d low' (subst (λ z. out_of old d z r ≡ None) is (past.0 ∙ none))
         (subst (λ z. in_of old d r z ≡ None) is (past.1 ∙ none')))
     | inr other ↦
         let past = row.rest n r d (λ e. absurd (other e)) in
-        between_is joiners feeders (actor_at joiners feeders n) (actor_at joiners feeders r) (out_of old d n r)
+        between_is cast (actor_at cast n) (actor_at cast r) (out_of old d n r)
         (out_of new d n r) (in_of old d r n) (in_of new d r n)
         past.0 past.1 (before.done n r d (omega (arith, low, other)) low' none none')
   ];

@@ -11,7 +11,8 @@ use Rattle.ring_links.specs.Rings.{Receiving}
 use Rattle.ring_links.specs.Outlets.{OutletView}
 use Rattle.trace_law.specs.declared.input.Input.{Input}
 use Rattle.trace_law.specs.declared.setting.Setting.{Setting}
-use Rattle.actor_core.specs.Numbers.{actor_at}
+use Rattle.actor_core.specs.declared.cast.Cast.{Cast}
+use Rattle.actor_core.specs.Numbers.{actor_at, count_of}
 use Rattle.actor_core.specs.Players.{AllStand, AreLinked, Extends, Player, Runs, journal_among, lists_among}
 use Rattle.actor_core.specs.declared.machines.Core.{Core}
 use Rattle.actor_core.proofs.Beginnings.{there}
@@ -77,23 +78,23 @@ settled_after false old new long advance held same settled = subst AreSettled (s
 abbrev cores_of : List RingSeatView → List Core
 cores_of seats = map (λ s. s.core) seats
 
--- the seats of a run with so many joiners and feeders, before a bout and after it
-module _ (went : Bool) (joiners feeders : ℕ) (old new : List RingSeatView) (long : length new ≡ length old)
-    (all : length old ≡ feeders + joiners + 2) (advance : went ≡ true → AllAdvance old new)
+-- the seats of a run, before a bout and after it
+module _ (went : Bool) (cast : Cast) (old new : List RingSeatView) (long : length new ≡ length old)
+    (all : length old ≡ count_of cast) (advance : went ≡ true → AllAdvance old new)
     (same : went ≡ false → new ≡ old) where
   -- each actor has made some events or none
-  pub ran : AllRelate HasRun joiners feeders (cores_of old) (cores_of new)
-      (lists_among lists_of joiners feeders old) (lists_among lists_of joiners feeders new)
+  pub ran : AllRelate HasRun cast (cores_of old) (cores_of new)
+      (lists_among lists_of cast old) (lists_among lists_of cast new)
   ran = go went refl
     where
       go : (b : Bool) → went ≡ b
-          → AllRelate HasRun joiners feeders (cores_of old) (cores_of new)
-          (lists_among lists_of joiners feeders old) (lists_among lists_of joiners feeders new)
+          → AllRelate HasRun cast (cores_of old) (cores_of new)
+          (lists_among lists_of cast old) (lists_among lists_of cast new)
       go true e =
-          all_relate (λ (s : RingSeatView). s.core) lists_of HasRun joiners feeders old new long all
+          all_relate (λ (s : RingSeatView). s.core) lists_of HasRun cast old new long all
           (λ n d low. let a = advance e n d low in record { count = a.count; runs = a.runs })
       go false e =
-          all_relate (λ (s : RingSeatView). s.core) lists_of HasRun joiners feeders old new long all
+          all_relate (λ (s : RingSeatView). s.core) lists_of HasRun cast old new long all
           (λ n d low. record {
             count = 0;
             runs = ap (λ (seats : List RingSeatView). player_of (get_or seats n d))
@@ -101,26 +102,26 @@ module _ (went : Bool) (joiners feeders : ℕ) (old new : List RingSeatView) (lo
           })
 
   -- the lists extend those of before
-  pub extends_after : Extends (lists_among lists_of joiners feeders old) (lists_among lists_of joiners feeders new)
-  extends_after = extends joiners feeders _ _ _ _ ran
+  pub extends_after : Extends (lists_among lists_of cast old) (lists_among lists_of cast new)
+  extends_after = extends cast _ _ _ _ ran
 
   -- the controller's journal grows
-  pub journal_after : IsPrefix (journal_among joiners feeders (cores_of old))
-      (journal_among joiners feeders (cores_of new))
-  journal_after = journal_grows joiners feeders _ _ _ _ ran
+  pub journal_after : IsPrefix (journal_among cast (cores_of old))
+      (journal_among cast (cores_of new))
+  journal_after = journal_grows cast _ _ _ _ ran
 
   -- what was sent goes over links still
   pub linked_after : (input : Input) (setting : Setting)
-      → AllStand input setting joiners feeders (cores_of old) (lists_among lists_of joiners feeders old)
-      → AreLinked setting (lists_among lists_of joiners feeders old)
-      → AreLinked setting (lists_among lists_of joiners feeders new)
-  linked_after input setting stands = still_linked input setting joiners feeders _ _ _ _ stands ran
+      → AllStand input setting cast (cores_of old) (lists_among lists_of cast old)
+      → AreLinked setting (lists_among lists_of cast old)
+      → AreLinked setting (lists_among lists_of cast new)
+  linked_after input setting stands = still_linked input setting cast _ _ _ _ stands ran
 
   -- the machines stand for the lists still
   pub stands_after : (input : Input) (setting : Setting)
-      → AllStand input setting joiners feeders (cores_of old) (lists_among lists_of joiners feeders old)
-      → AllStand input setting joiners feeders (cores_of new) (lists_among lists_of joiners feeders new)
-  stands_after = stand_after joiners feeders _ _ _ _ ran
+      → AllStand input setting cast (cores_of old) (lists_among lists_of cast old)
+      → AllStand input setting cast (cores_of new) (lists_among lists_of cast new)
+  stands_after = stand_after cast _ _ _ _ ran
 
 -- ---- an event is made, or a message moves
 
@@ -175,7 +176,7 @@ stuck_known (Some out) (Some inn) held (inr full) some =
     let places = held.some in
     omega (arith, room, places, full)
 
-module _ (joiners feeders : ℕ) (old new : List RingSeatView) (long : length new ≡ length old)
+module _ (cast : Cast) (old new : List RingSeatView) (long : length new ≡ length old)
     (advance : AllAdvance old new) where
   -- seat m made an event, or made none
   made : (m : ℕ) (d : RingSeatView) → m < length old
@@ -225,13 +226,13 @@ module _ (joiners feeders : ℕ) (old new : List RingSeatView) (long : length ne
       ]
 
   -- and where no player changed, no list did
-  pub lists_same : length old ≡ feeders + joiners + 2 → StaySame old new (length old)
-      → lists_among lists_of joiners feeders new ≡ lists_among lists_of joiners feeders old
+  pub lists_same : length old ≡ count_of cast → StaySame old new (length old)
+      → lists_among lists_of cast new ≡ lists_among lists_of cast old
   lists_same all same =
       fun_ext
-      (of_lists IsSame joiners feeders (cores_of old) (cores_of new) (lists_among lists_of joiners feeders old)
-      (lists_among lists_of joiners feeders new)
-      (all_relate (λ (s : RingSeatView). s.core) lists_of IsSame joiners feeders old new long all same)
+      (of_lists IsSame cast (cores_of old) (cores_of new) (lists_among lists_of cast old)
+      (lists_among lists_of cast new)
+      (all_relate (λ (s : RingSeatView). s.core) lists_of IsSame cast old new long all same)
       (λ ls ls'. ls' ≡ ls) (λ ls ls' e. e) (λ s t e. ap (λ (p : Player). p.lists) e))
 
   -- where a seat was ready, an event was made
@@ -243,7 +244,7 @@ module _ (joiners feeders : ℕ) (old new : List RingSeatView) (long : length ne
         | inr none ↦ absurd (rested (get_or old some.place d) none.rests (some.holds d))
       ]
 
-  module _ (wired : AreWired joiners feeders (map frame_of old)) (wired' : AreWired joiners feeders (map frame_of new))
+  module _ (wired : AreWired cast (map frame_of old)) (wired' : AreWired cast (map frame_of new))
       (held : AreHeld old) (held' : AreHeld new) where
     ready : (seats : List RingSeatView) (r n : ℕ) (d : RingSeatView) → r < length seats
         → 0 < known_at (in_of seats d r n) → SomeSeat IsReady seats
@@ -260,20 +261,20 @@ module _ (joiners feeders : ℕ) (old new : List RingSeatView) (long : length ne
     left_outlet m p d low low' same less = elim (made p d low') [
       | inl event ↦ inl event
       | inr none ↦
-          let to = actor_at joiners feeders p in
-          let from = actor_at joiners feeders m in
-          let to_is = number_there joiners feeders p (subst (λ z. p < z) (many joiners feeders old wired) low') in
-          let from_is = number_there joiners feeders m (subst (λ z. m < z) (many joiners feeders old wired) low) in
+          let to = actor_at cast p in
+          let from = actor_at cast m in
+          let to_is = number_there cast p (subst (λ z. p < z) (many cast old wired) low') in
+          let from_is = number_there cast m (subst (λ z. m < z) (many cast old wired) low) in
           let up = subst (λ z. m < z) (sym long) low in
           let up' = subst (λ z. p < z) (sym long) low' in
           let sent : sent_at (out_of new d m p) ≡ sent_at (out_of old d m p) =
-          sym (sent_there joiners feeders new wired' m to (Some p) d up to_is)
+          sym (sent_there cast new wired' m to (Some p) d up to_is)
           ∙ (ap (λ (s : Player). s.lists.sent to) same
-          ∙ sent_there joiners feeders old wired m to (Some p) d low to_is) in
+          ∙ sent_there cast old wired m to (Some p) d low to_is) in
           let received : received_at (in_of new d p m) ≡ received_at (in_of old d p m) =
-          sym (received_there joiners feeders new wired' p from (Some m) d up' from_is)
+          sym (received_there cast new wired' p from (Some m) d up' from_is)
           ∙ (ap (λ (s : Player). s.lists.received from) none.same
-          ∙ received_there joiners feeders old wired p from (Some m) d low' from_is) in
+          ∙ received_there cast old wired p from (Some m) d low' from_is) in
           let one = lengths (out_of old d m p) (in_of old d p m) (held m p d low low') in
           let other = lengths (out_of new d m p) (in_of new d p m) (held' m p d up up') in
           let as_many = ap length sent in
@@ -288,13 +289,13 @@ module _ (joiners feeders : ℕ) (old new : List RingSeatView) (long : length ne
       | inl event ↦ inl event
       | inr none ↦ elim none.moves [
         | inl fewer ↦
-            let long' = outs_many joiners feeders new wired' m d (subst (λ z. m < z) (sym long) low)
-            ∙ (long ∙ sym (outs_many joiners feeders old wired m d low)) in
+            let long' = outs_many cast new wired' m d (subst (λ z. m < z) (sym long) low)
+            ∙ (long ∙ sym (outs_many cast old wired m d low)) in
             let at = some_less waiting_at (get_or old m d).outs (get_or new m d).outs None long' fewer in
-            left_outlet m at.0 d low (subst (λ z. at.0 < z) (outs_many joiners feeders old wired m d low) at.1)
+            left_outlet m at.0 d low (subst (λ z. at.0 < z) (outs_many cast old wired m d low) at.1)
             none.same at.2
         | inr stuck ↦
-            let within = waits_within joiners feeders old wired held m q d low some in
+            let within = waits_within cast old wired held m q d low some in
             inl (event_made (ready old q m d
             within (stuck_known (out_of old d m q) (in_of old d q m) (held m q d low within) (stuck q) some)))
       ]

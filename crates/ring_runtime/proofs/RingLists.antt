@@ -15,10 +15,11 @@ use Rattle.trace_law.specs.declared.input.Input.{Input}
 use Rattle.trace_law.specs.declared.setting.Setting.{Setting}
 use Rattle.trace_law.specs.Validity.{IsValid}
 use Rattle.trace_law.specs.Laws.{QuietIsFinished}
+use Rattle.actor_core.specs.declared.cast.Cast.{Cast}
 use Rattle.actor_core.specs.Lists.{ActorLists, no_lists}
 use Rattle.actor_core.specs.Standing.{Waits}
 use Rattle.actor_core.specs.Families.{AreFronts, core_in}
-use Rattle.actor_core.specs.Numbers.{actor_at, at_number, number}
+use Rattle.actor_core.specs.Numbers.{actor_at, at_number, count_of, number}
 use Rattle.actor_core.specs.Players.{AllReceived, lists_among, lists_at}
 use Rattle.actor_core.specs.declared.machines.Core.{Core}
 use Rattle.actor_core.proofs.Beginnings.{there}
@@ -105,9 +106,9 @@ slot_at f [] n d = refl
 slot_at f (x ∷ xs) zero d = refl
 slot_at f (x ∷ xs) (suc n) d = slot_at f xs n d
 
-module _ (joiners feeders : ℕ) (seats : List RingSeatView) (wired : AreWired joiners feeders (map frame_of seats)) where
+module _ (cast : Cast) (seats : List RingSeatView) (wired : AreWired cast (map frame_of seats)) where
   -- there is a seat for each actor
-  pub many : length seats ≡ feeders + joiners + 2
+  pub many : length seats ≡ count_of cast
   many = sym (length-map seats frame_of) ∙ wired.all
 
   within : (n : ℕ) → n < length seats → n < length (map frame_of seats)
@@ -117,8 +118,8 @@ module _ (joiners feeders : ℕ) (seats : List RingSeatView) (wired : AreWired j
       → get_or (map frame_of seats) n (frame_of d) ≡ frame_of (get_or seats n d)
   frame_at n d low = get_or-map frame_of seats n d (frame_of d) low
 
-  placed_at : (n : ℕ) (d : RingSeatView) → n < length seats → IsPlaced joiners feeders n (frame_of (get_or seats n d))
-  placed_at n d low = subst (IsPlaced joiners feeders n) (frame_at n d low) (wired.placed n (frame_of d) (within n low))
+  placed_at : (n : ℕ) (d : RingSeatView) → n < length seats → IsPlaced cast n (frame_of (get_or seats n d))
+  placed_at n d low = subst (IsPlaced cast n) (frame_at n d low) (wired.placed n (frame_of d) (within n low))
 
   -- and at each seat a place for an outlet to each
   pub outs_many : (n : ℕ) (d : RingSeatView) → n < length seats → length (get_or seats n d).outs ≡ length seats
@@ -132,8 +133,8 @@ module _ (joiners feeders : ℕ) (seats : List RingSeatView) (wired : AreWired j
   pub ends_at : (n r : ℕ) (d : RingSeatView) → n < length seats → r < length seats
       → AreEndsOf (out_of seats d n r) (in_of seats d r n)
   ends_at n r d low low' =
-      let from = actor_at joiners feeders n in
-      let to = actor_at joiners feeders r in
+      let from = actor_at cast n in
+      let to = actor_at cast r in
       let one = ap (λ (f : Frame). get_or f.outs r None) (frame_at n d low)
       ∙ slot_at out_address (get_or seats n d).outs r None in
       let other = ap (λ (f : Frame). get_or f.ins n None) (frame_at r d low')
@@ -145,49 +146,46 @@ module _ (joiners feeders : ℕ) (seats : List RingSeatView) (wired : AreWired j
 
   -- what the seat of a number has received and sent
   pub sent_there : (n : ℕ) (to : Actor) (o : Option ℕ) (d : RingSeatView) → n < length seats
-      → number joiners feeders to ≡ o
+      → number cast to ≡ o
       → (lists_of (get_or seats n d)).sent to ≡ at_number [] o (sent_to (get_or seats n d).outs)
   sent_there n to o d low is =
       let s = get_or seats n d in
       let p = placed_at n d low in
-      ap (λ k. sent_through k s.feeders s.outs to) p.joiners_are
-      ∙ (ap (λ k. sent_through joiners k s.outs to) p.feeders_are
-      ∙ ap (λ (i : Option ℕ). at_number [] i (sent_to s.outs)) is)
+      ap (λ c. sent_through c s.outs to) p.cast_is ∙ ap (λ (i : Option ℕ). at_number [] i (sent_to s.outs)) is
 
   -- and has received
   pub received_there : (r : ℕ) (from : Actor) (o : Option ℕ) (d : RingSeatView) → r < length seats
-      → number joiners feeders from ≡ o
+      → number cast from ≡ o
       → (lists_of (get_or seats r d)).received from ≡ at_number [] o (received_from (get_or seats r d).ins)
   received_there r from o d low is =
       let s = get_or seats r d in
       let p = placed_at r d low in
-      ap (λ k. received_through k s.feeders s.ins from) p.joiners_are
-      ∙ (ap (λ k. received_through joiners k s.ins from) p.feeders_are
-      ∙ ap (λ (i : Option ℕ). at_number [] i (received_from s.ins)) is)
+      ap (λ c. received_through c s.ins from) p.cast_is
+      ∙ ap (λ (i : Option ℕ). at_number [] i (received_from s.ins)) is
 
   abbrev lists : Actor → ActorLists
-  lists = lists_among lists_of joiners feeders seats
+  lists = lists_among lists_of cast seats
 
-  lists_none : (a : Actor) → number joiners feeders a ≡ None → lists a ≡ no_lists
+  lists_none : (a : Actor) → number cast a ≡ None → lists a ≡ no_lists
   lists_none a is = ap (λ (o : Option ℕ). lists_at lists_of (at_number None o (λ k. slice_get seats k))) is
 
-  low_of : (a : Actor) (n : ℕ) → number joiners feeders a ≡ Some n → n < length seats
-  low_of a n is = subst (λ z. n < z) (sym many) (number_low joiners feeders a n is)
+  low_of : (a : Actor) (n : ℕ) → number cast a ≡ Some n → n < length seats
+  low_of a n is = subst (λ z. n < z) (sym many) (number_low cast a n is)
 
   -- what was sent by one seat and received at another, by the actors' lists
   pub sent_is : (n r : ℕ) (from to : Actor) (d : RingSeatView) → n < length seats
-      → number joiners feeders from ≡ Some n → number joiners feeders to ≡ Some r
+      → number cast from ≡ Some n → number cast to ≡ Some r
       → (lists from).sent to ≡ sent_at (out_of seats d n r)
   sent_is n r from to d low is is' =
-      ap (λ (ls : ActorLists). ls.sent to) (lists_there lists_of joiners feeders seats from n d is low)
+      ap (λ (ls : ActorLists). ls.sent to) (lists_there lists_of cast seats from n d is low)
       ∙ sent_there n to (Some r) d low is'
 
   -- and received at another
   pub received_is : (n r : ℕ) (from to : Actor) (d : RingSeatView) → r < length seats
-      → number joiners feeders from ≡ Some n → number joiners feeders to ≡ Some r
+      → number cast from ≡ Some n → number cast to ≡ Some r
       → (lists to).received from ≡ received_at (in_of seats d r n)
   received_is n r from to d low is is' =
-      ap (λ (ls : ActorLists). ls.received from) (lists_there lists_of joiners feeders seats to r d is' low)
+      ap (λ (ls : ActorLists). ls.received from) (lists_there lists_of cast seats to r d is' low)
       ∙ received_there r from (Some n) d low is
 
   -- what holds of empty lists and at each two ends holds of all lists
@@ -199,9 +197,9 @@ module _ (joiners feeders : ℕ) (seats : List RingSeatView) (wired : AreWired j
 
     -- so it is from each actor to each
     pub between : (from to : Actor) → P ((lists to).received from) ((lists from).sent to)
-    between from to = go (number joiners feeders from) (number joiners feeders to) refl refl
+    between from to = go (number cast from) (number cast to) refl refl
       where
-        go : (i k : Option ℕ) → number joiners feeders from ≡ i → number joiners feeders to ≡ k
+        go : (i k : Option ℕ) → number cast from ≡ i → number cast to ≡ k
             → P ((lists to).received from) ((lists from).sent to)
         go None None is is' =
             both [] [] ((lists to).received from) ((lists from).sent to)
@@ -211,7 +209,7 @@ module _ (joiners feeders : ℕ) (seats : List RingSeatView) (wired : AreWired j
             let low = low_of to r is' in
             let d = (there seats r low).0 in
             both [] [] ((lists to).received from) ((lists from).sent to)
-            (ap (λ (ls : ActorLists). ls.received from) (lists_there lists_of joiners feeders seats to r d is' low)
+            (ap (λ (ls : ActorLists). ls.received from) (lists_there lists_of cast seats to r d is' low)
             ∙ received_there r from None d low is)
             (ap (λ (ls : ActorLists). ls.sent to) (lists_none from is)) none
         go (Some n) None is is' =
@@ -219,7 +217,7 @@ module _ (joiners feeders : ℕ) (seats : List RingSeatView) (wired : AreWired j
             let d = (there seats n low).0 in
             both [] [] ((lists to).received from) ((lists from).sent to)
             (ap (λ (ls : ActorLists). ls.received from) (lists_none to is'))
-            (ap (λ (ls : ActorLists). ls.sent to) (lists_there lists_of joiners feeders seats from n d is low)
+            (ap (λ (ls : ActorLists). ls.sent to) (lists_there lists_of cast seats from n d is low)
             ∙ sent_there n to None d low is') none
         go (Some n) (Some r) is is' =
             let low = low_of from n is in
@@ -231,12 +229,12 @@ module _ (joiners feeders : ℕ) (seats : List RingSeatView) (wired : AreWired j
 
   module _ (held : AreHeld seats) where
     -- what was received begins what was sent
-    pub fronts : AreFronts (lists_among lists_of joiners feeders seats)
+    pub fronts : AreFronts (lists_among lists_of cast seats)
     fronts = between IsPrefix (record { rest = []; joins = refl })
         (λ n r d low low'. front (out_of seats d n r) (in_of seats d r n) (held n r d low low'))
 
     -- where all seats rest, what was sent was received
-    pub all_received : EachSeat IsAtRest seats → AllReceived (lists_among lists_of joiners feeders seats)
+    pub all_received : EachSeat IsAtRest seats → AllReceived (lists_among lists_of cast seats)
     all_received rest =
         between (λ xs ys. xs ≡ ys) refl
         (λ n r d low low'.
@@ -246,12 +244,12 @@ module _ (joiners feeders : ℕ) (seats : List RingSeatView) (wired : AreWired j
     -- a message that is known to be left, or waits, was not received
     apart : (n r : ℕ) (d : RingSeatView) → n < length seats → r < length seats
         → 0 < known_at (in_of seats d r n) + waiting_at (out_of seats d n r)
-        → ¬ AllReceived (lists_among lists_of joiners feeders seats)
+        → ¬ AllReceived (lists_among lists_of cast seats)
     apart n r d low low' some all =
-        let from = actor_at joiners feeders n in
-        let to = actor_at joiners feeders r in
-        let is = number_there joiners feeders n (subst (λ z. n < z) many low) in
-        let is' = number_there joiners feeders r (subst (λ z. r < z) many low') in
+        let from = actor_at cast n in
+        let to = actor_at cast r in
+        let is = number_there cast n (subst (λ z. n < z) many low) in
+        let is' = number_there cast r (subst (λ z. r < z) many low') in
         let same = ap length
         (sym (received_is n r from to d low' is is') ∙ (all from to ∙ sent_is n r from to d low is is')) in
         let whole = lengths (out_of seats d n r) (in_of seats d r n) (held n r d low low') in
@@ -280,7 +278,7 @@ module _ (joiners feeders : ℕ) (seats : List RingSeatView) (wired : AreWired j
     ]
 
     busy_at : (m : ℕ) (d : RingSeatView) → m < length seats → IsBusy (get_or seats m d)
-        → AllReceived (lists_among lists_of joiners feeders seats)
+        → AllReceived (lists_among lists_of cast seats)
         → EachSeat (λ seat. Waits seat.core) seats → ⊥
     busy_at m d low (inl (inl known)) all waits =
         let some = known.some in
@@ -292,28 +290,28 @@ module _ (joiners feeders : ℕ) (seats : List RingSeatView) (wired : AreWired j
         let within' = waits_within m waiting.place d low some in
         apart m waiting.place d low within' (omega (arith, some)) all
 
-module _ (v : RingSeatsView) (wired : AreWired v.joiners v.feeders (map frame_of v.seats))
+module _ (v : RingSeatsView) (wired : AreWired v.cast (map frame_of v.seats))
     (held : AreHeld v.seats) where
   waits_there : EachSeat IsAtRest v.seats → (a : Actor) (core : Core)
-      → core_in v.joiners v.feeders (cores_in v) a ≡ Some core → Waits core
-  waits_there rest a core is = go (number v.joiners v.feeders a) refl
+      → core_in v.cast (cores_in v) a ≡ Some core → Waits core
+  waits_there rest a core is = go (number v.cast a) refl
     where
-      go : (o : Option ℕ) → number v.joiners v.feeders a ≡ o → Waits core
+      go : (o : Option ℕ) → number v.cast a ≡ o → Waits core
       go None at = absurd (none_some core
           (sym (ap (λ (o : Option ℕ). at_number None o (λ k. slice_get (cores_in v) k)) at) ∙ is))
       go (Some n) at =
-          let low = subst (λ z. n < z) (sym (many v.joiners v.feeders v.seats wired))
-          (number_low v.joiners v.feeders a n at) in
+          let low = subst (λ z. n < z) (sym (many v.cast v.seats wired))
+          (number_low v.cast a n at) in
           let d = (there v.seats n low).0 in
           subst Waits
           (some_is (get_or v.seats n d).core core
-          (sym (core_there (λ (s : RingSeatView). s.core) v.joiners v.feeders v.seats a n d at low) ∙ is))
+          (sym (core_there (λ (s : RingSeatView). s.core) v.cast v.seats a n d at low) ∙ is))
           (rest n d low).rests.waits
 
   -- where all rest, nothing is left to do
   pub still : EachSeat IsAtRest v.seats → IsStill v
   still rest = record {
-    received = all_received v.joiners v.feeders v.seats wired held rest;
+    received = all_received v.cast v.seats wired held rest;
     waits = λ n d low.
         (rest n d low).rests.waits;
   }
@@ -323,13 +321,13 @@ module _ (v : RingSeatsView) (wired : AreWired v.joiners v.feeders (map frame_of
       → IsValid input setting → StandsFor input setting v
       → is_collected v ≡ true
   rest_collected rest law input setting valid stands =
-      still_complete input setting v.joiners v.feeders (cores_in v) (lists_in v) stands
-      (fronts v.joiners v.feeders v.seats wired held)
-      (λ from to link. all_received v.joiners v.feeders v.seats wired held rest from to)
+      still_complete input setting v.cast (cores_in v) (lists_in v) stands
+      (fronts v.cast v.seats wired held)
+      (λ from to link. all_received v.cast v.seats wired held rest from to)
       (λ p low core is. waits_there rest (Feeder p) core is) law valid
 
   -- and where some seat is busy, something is
   pub busy : SomeSeat IsBusy v.seats → ¬ IsStill v
   busy some is =
       let d = (there v.seats some.place some.there).0 in
-      busy_at v.joiners v.feeders v.seats wired held some.place d some.there (some.holds d) is.received is.waits
+      busy_at v.cast v.seats wired held some.place d some.there (some.holds d) is.received is.waits

@@ -1,21 +1,23 @@
 -- The turns of one seat in a bout.
-use Rattle.std.proofs.Common.{◌≡◌, ℕ, zero, suc, ◌+◌, ◌<◌, inl, sym, subst, refl, ◌∙◌, true, arith, ap, Option, List, [], ◌++◌}
+use Rattle.std.proofs.Common.{◌≡◌, ℕ, zero, suc, ◌+◌, ◌<◌, inl, sym, subst, refl, ◌∙◌, true, arith, ap, Option, List}
+use Rattle.std.proofs.Common.{[], ◌++◌}
 use Rattle.epoch_tags.specs.declared.actor.Actor.{Actor}
 use Rattle.epoch_tags.specs.declared.message.Post.{Post}
 use Rattle.ring_links.specs.Rings.{Receiving}
 use Rattle.ring_links.specs.Outlets.{OutletView}
 use Rattle.actor_core.specs.Lists.{posted_to}
 use Rattle.actor_core.specs.Numbers.{number, at_number}
-use Rattle.actor_core.specs.Players.{MakesEvent, Player, Runs}
+use Rattle.actor_core.specs.Players.{MakesEvent, Runs}
 use Rattle.actor_core.specs.declared.machines.Core.{Core}
-use Rattle.ring_runtime.specs.Seats.{RingSeatView, frame_of, player_of, received_through, sent_through, sent_to, waiting_in}
+use Rattle.ring_runtime.specs.Seats.{RingSeatView, frame_of, player_of, received_through, sent_through, sent_to}
+use Rattle.ring_runtime.specs.Seats.{waiting_in}
 use Rattle.ring_runtime.specs.Turns.{IsCaused, MakesTurn, Moves, Rests, Works}
 
 -- a seat whose machine was called, and in whose outlets waits what that sent, made an event
 pub made_turn : (old : RingSeatView) (core : Core) (ins : List (Option Receiving)) (outs : List (Option OutletView))
-    (none sends : List Post) → IsCaused old.joiners old.feeders old.core core old.ins ins none sends → none ≡ []
-    → ((a : Actor) → sent_through old.joiners old.feeders outs a
-    ≡ sent_through old.joiners old.feeders old.outs a ++ posted_to a sends)
+    (none sends : List Post) → IsCaused old.cast old.core core old.ins ins none sends → none ≡ []
+    → ((a : Actor) → sent_through old.cast outs a
+    ≡ sent_through old.cast old.outs a ++ posted_to a sends)
     → MakesTurn old.ins (player_of old) (player_of (record old { core = core; ins = ins; outs = outs }))
 made_turn old core ins outs none sends caused empty sent =
     let posts : sends ≡ caused.occurs.added = caused.occurs.sends ∙ ap (λ ps. ps ++ caused.occurs.added) empty in
@@ -31,7 +33,7 @@ made_turn old core ins outs none sends caused empty sent =
         lists = λ i. record {
           received = λ from. caused.received from i;
           sent = λ to. (sent to
-              ∙ ap (λ ps. sent_through old.joiners old.feeders old.outs to ++ posted_to to ps) posts) i;
+              ∙ ap (λ ps. sent_through old.cast old.outs to ++ posted_to to ps) posts) i;
         };
       };
       looked = caused.looked;
@@ -43,8 +45,8 @@ pub flushed_player : (seat : RingSeatView) (outs : List (Option OutletView))
 flushed_player seat outs same = λ i. record {
   core = seat.core;
   lists = record {
-    received = received_through seat.joiners seat.feeders seat.ins;
-    sent = λ to. at_number [] (number seat.joiners seat.feeders to) (λ n. same n i);
+    received = received_through seat.cast seat.ins;
+    sent = λ to. at_number [] (number seat.cast to) (λ n. same n i);
   };
 }
 

@@ -1,6 +1,6 @@
 -- A run over rings between two bouts: two bouts have made an event at least, so bouts are few.
 use Rattle.std.proofs.Common.{◌≡◌, ℕ, ◌+◌, ◌-◌, ◌*◌, ◌^◌, ◌<◌, ◌≤◌, ◌⊎◌, inl, inr, refl, sym, ap, subst, ◌∙◌}
-use Rattle.std.proofs.Common.{Bool, true, false, true≢false, Some, List, [], get_or, length, Result, Ok}
+use Rattle.std.proofs.Common.{Bool, true, false, true≢false, Some, List, get_or, length, Result, Ok}
 use Rattle.std.proofs.Common.{Err, arith}
 use Rattle.std.specs.Prelude.{IfOk}
 use Rattle.std.specs.declared.alloc.AllocError.{AllocError}
@@ -8,7 +8,6 @@ use Rattle.std.proofs.Math.Nat.{mul_assoc}
 use Rattle.std.proofs.lemmas.Bool.{lt-ltb}
 use Rattle.std.proofs.lemmas.List.{length-map}
 use mathlib.Core.Path.{fun_ext}
-use Rattle.join_rows.specs.Lists.{IsPrefix}
 use Rattle.join_rows.specs.declared.table.Side.TheVariants.{R, S}
 use Rattle.epoch_tags.specs.Messages.{grants}
 use Rattle.epoch_tags.specs.declared.actor.Actor.{Actor}
@@ -23,14 +22,16 @@ use Rattle.trace_law.specs.Join.{row_count}
 use Rattle.trace_law.specs.Laws.{EventsAreFew, KeepsALawfulJournal, LawfulIsBounded}
 use Rattle.trace_law.specs.Validity.{IsValid, IsValidInput, IsValidSetting}
 use Rattle.trace_law.specs.Counts.{most_events}
+use Rattle.actor_core.specs.declared.cast.Cast.{Cast}
 use Rattle.actor_core.specs.Families.{AreFronts, family_of, start_for}
 use Rattle.actor_core.specs.Lists.{ActorLists, no_lists}
-use Rattle.actor_core.specs.Numbers.{actor_at, number}
+use Rattle.actor_core.specs.Numbers.{actor_at, count_of, number}
 use Rattle.actor_core.specs.Players.{AgreesOnLinks, IsFinishedFamily, lists_among}
 use Rattle.actor_core.specs.Standing.{OfFeeder, Stands, Waits}
 use Rattle.actor_core.specs.declared.machines.Core.{Core}
 use Rattle.actor_core.specs.declared.machines.Core.TheVariants.{Feeder as TheFeeder, Joiner as TheJoiner}
 use Rattle.actor_core.specs.declared.machines.Core.TheVariants.{Controller as TheController, Collector as TheCollector}
+use Rattle.actor_core.proofs.Balances.{fronts_none}
 use Rattle.actor_core.proofs.Beginnings.{there}
 use Rattle.actor_core.proofs.CompleteAnswer.{agrees as agreeing}
 use Rattle.actor_core.proofs.EventLimit.{under}
@@ -58,8 +59,8 @@ first_begins p feeders s (TheJoiner c) st waits = absurd st
 first_begins p feeders s (TheController c) st waits = absurd st
 first_begins p feeders s (TheCollector c) st waits = absurd st
 
-first_number : (joiners feeders : ℕ) → 0 < feeders → number joiners feeders (Feeder 0) ≡ Some 0
-first_number joiners feeders some = rw (lt-ltb 0 feeders some) refl
+first_number : (cast : Cast) → 0 < cast.feeders → number cast (Feeder 0) ≡ Some 0
+first_number cast some = rw (lt-ltb 0 cast.feeders some) refl
 
 module _ (input : Input) (setting : Setting) (some : 0 < setting.feeders) (v : RingSeatsView)
     (stands : StandsFor input setting v) (empty : (a : Actor) → lists_in v a ≡ no_lists) where
@@ -70,7 +71,7 @@ module _ (input : Input) (setting : Setting) (some : 0 < setting.feeders) (v : R
       let all = sym (length-map v.seats (λ (s : RingSeatView). s.core)) ∙ stands.all in
       let low : 0 < length v.seats = omega (arith, all) in
       let numbered =
-      first_number v.joiners v.feeders (subst (λ n. 0 < n) (sym stands.feeders_are) some) in
+      first_number v.cast (subst (λ c. 0 < c.feeders) (sym stands.cast_is) some) in
       let st = subst (λ ls. Stands (start_for input setting (Feeder 0)) ls own.0) (empty (Feeder 0)) own.2 in
       let free =
       first_begins 0 setting.feeders (feeder_start input setting (first_rest setting) 0) own.0 st in
@@ -79,15 +80,10 @@ module _ (input : Input) (setting : Setting) (some : 0 < setting.feeders) (v : R
         there = low;
         holds = λ d.
             let here =
-            core_there (λ (s : RingSeatView). s.core) v.joiners v.feeders v.seats (Feeder 0) 0 d numbered low in
+            core_there (λ (s : RingSeatView). s.core) v.cast v.seats (Feeder 0) 0 d numbered low in
             let same = some_is own.0 (get_or v.seats 0 d).core (sym own.1 ∙ here) in
             inr (subst (λ core. ¬ Waits core) same free);
       }
-
-fronts_none : (f : Actor → ActorLists) → ((a : Actor) → f a ≡ no_lists) → AreFronts f
-fronts_none f empty from to =
-    subst (λ ls. IsPrefix ls ((f from).sent to)) (sym (ap (λ (x : ActorLists). x.received from) (empty to)))
-    (subst (IsPrefix []) (sym (ap (λ (x : ActorLists). x.sent to) (empty from))) (record { rest = []; joins = refl }))
 
 -- ---- between two bouts
 
@@ -122,26 +118,19 @@ begun input setting v some stands empty = record {
 
 module _ (input : Input) (setting : Setting) (old new : RingSeatsView) (stands : StandsFor input setting old)
     (stands' : StandsFor input setting new) where
-  same_joiners : new.joiners ≡ old.joiners
-  same_joiners = stands'.joiners_are ∙ sym stands.joiners_are
+  same_cast : new.cast ≡ old.cast
+  same_cast = stands'.cast_is ∙ sym stands.cast_is
 
-  same_feeders : new.feeders ≡ old.feeders
-  same_feeders = stands'.feeders_are ∙ sym stands.feeders_are
-
-  many : length old.seats ≡ old.feeders + old.joiners + 2
+  many : length old.seats ≡ count_of old.cast
   many = sym (length-map old.seats (λ (s : RingSeatView). s.core)) ∙ stands.all
 
   same_long : length new.seats ≡ length old.seats
   same_long =
-      let one = many in
-      let two = sym (length-map new.seats (λ (s : RingSeatView). s.core)) ∙ stands'.all in
-      omega (arith, one, two, same_joiners, same_feeders)
+      sym (length-map new.seats (λ (s : RingSeatView). s.core)) ∙ stands'.all ∙ ap count_of same_cast ∙ sym many
 
   -- the lists of after, found with the numbers of before
-  same_lists_in : lists_among lists_of old.joiners old.feeders new.seats ≡ lists_in new
-  same_lists_in =
-      ap (λ j. lists_among lists_of j old.feeders new.seats) (sym same_joiners)
-      ∙ ap (λ p. lists_among lists_of new.joiners p new.seats) (sym same_feeders)
+  same_lists_in : lists_among lists_of old.cast new.seats ≡ lists_in new
+  same_lists_in = ap (λ c. lists_among lists_of c new.seats) (sym same_cast)
 
 module _ (input : Input) (setting : Setting) (old new : RingSeatsView) (bouts : ℕ)
     (advance : AllAdvance old.seats new.seats) (fronts : AreFronts (lists_in new))
@@ -151,12 +140,12 @@ module _ (input : Input) (setting : Setting) (old new : RingSeatsView) (bouts : 
   stands' = keeps before.stands
 
   abbrev after : Actor → ActorLists
-  after = lists_among lists_of old.joiners old.feeders new.seats
+  after = lists_among lists_of old.cast new.seats
 
   long : length new.seats ≡ length old.seats
   long = same_long input setting old new before.stands stands'
 
-  all : length old.seats ≡ old.feeders + old.joiners + 2
+  all : length old.seats ≡ count_of old.cast
   all = many input setting old new before.stands stands'
 
   same : after ≡ lists_in new
@@ -165,20 +154,19 @@ module _ (input : Input) (setting : Setting) (old new : RingSeatsView) (bouts : 
   -- where a seat made an event, the lists count one more
   counted_event : SomeEvent old.seats new.seats → IsCounted setting after (before.events + 1)
   counted_event some =
-      let joiners = old.joiners in
-      let feeders = old.feeders in
+      let cast = old.cast in
       let place = some.place in
       let d = (there old.seats place some.there).0 in
-      let a = actor_at joiners feeders place in
-      let is = number_there joiners feeders place (subst (λ z. place < z) all some.there) in
+      let a = actor_at cast place in
+      let is = number_there cast place (subst (λ z. place < z) all some.there) in
       let made : HasMadeSome (player_of (get_or old.seats place d)) (player_of (get_or new.seats place d)) =
       record { before = some.before; runs = some.runs d } in
       let one =
-      relate (λ (s : RingSeatView). s.core) lists_of HasMadeSome joiners feeders old.seats new.seats long a place d is
+      relate (λ (s : RingSeatView). s.core) lists_of HasMadeSome cast old.seats new.seats long a place d is
       some.there made in
-      let moved = ran true joiners feeders old.seats new.seats long all (λ e. advance)
+      let moved = ran true cast old.seats new.seats long all (λ e. advance)
       (λ e. absurd (true≢false e)) in
-      counted_more input setting joiners feeders (cores_in old) (cores_in new) (lists_in old) after before.stands moved
+      counted_more input setting cast (cores_in old) (cores_in new) (lists_in old) after before.stands moved
       a place is one (subst AreFronts (sym same) fronts) before.events (before.events + 1) (omega arith) before.counted
 
   with_event : SomeEvent old.seats new.seats → IsUnderWay input setting new (bouts + 1)
@@ -196,7 +184,7 @@ module _ (input : Input) (setting : Setting) (old new : RingSeatsView) (bouts : 
   without_event : StaySame old.seats new.seats (length old.seats) → SomeSeat IsReady new.seats
       → bouts + 1 ≤ 2 * before.events → IsUnderWay input setting new (bouts + 1)
   without_event stay ready few =
-      let kept = sym same ∙ lists_same old.joiners old.feeders old.seats new.seats long advance all stay in
+      let kept = sym same ∙ lists_same old.cast old.seats new.seats long advance all stay in
       record {
         stands = stands';
         fronts = fronts;
@@ -213,7 +201,7 @@ module _ (input : Input) (setting : Setting) (old new : RingSeatsView) (bouts : 
     | inl few ↦ elim moves [
       | inl some ↦ with_event some
       | inr ready ↦
-          let none = some_or_same old.joiners old.feeders old.seats new.seats long advance (length old.seats)
+          let none = some_or_same old.cast old.seats new.seats long advance (length old.seats)
           (omega arith) in
           elim none [
             | inl some ↦ with_event some
@@ -261,7 +249,7 @@ module _ (input : Input) (setting : Setting) (v : RingSeatsView) (bouts : ℕ) (
   counts_on keeps bounded of_input of_setting =
       let journal = journal_in v in
       let agrees =
-      agreeing input setting v.joiners v.feeders (cores_in v) (lists_in v) way.stands way.fronts in
+      agreeing input setting v.cast (cores_in v) (lists_in v) way.stands way.fronts in
       let fit = bouts_fit keeps bounded input setting journal (lists_in v) of_input of_setting agrees in
       under bouts (2 * most_events input setting (last_epoch journal)) (2 ^ 64 - 1) (few_by journal agrees) fit
 

@@ -8,6 +8,7 @@ use Rattle.ring_links.specs.Rings.{Receiving}
 use Rattle.ring_links.specs.Outlets.{OutletView}
 use Rattle.trace_law.specs.declared.input.Input.{Input}
 use Rattle.trace_law.specs.declared.setting.Setting.{Setting}
+use Rattle.actor_core.specs.declared.cast.Cast.{Cast}
 use Rattle.actor_core.specs.Lists.{ActorLists}
 use Rattle.actor_core.specs.Standing.{Waits, IsLive, given_by}
 use Rattle.actor_core.specs.Families.{core_in}
@@ -19,16 +20,15 @@ use Rattle.ring_runtime.specs.Turns.{Advances, Rests, Works}
 
 -- ---- all seats
 
--- the seats of a run with so many joiners and feeders, by the numbers of actors
+-- the seats of a run, by the numbers of actors
 pub record RingSeatsView : Type 0 where
-  pub joiners : ℕ
-  pub feeders : ℕ
+  pub cast : Cast
   pub seats : List RingSeatView
   pub spent : Bool
 
 -- the seat of an actor, where there is one
 abbrev pub seat_of : RingSeatsView → Actor → Option RingSeatView
-seat_of v a = at_number None (number v.joiners v.feeders a) (λ n. slice_get v.seats n)
+seat_of v a = at_number None (number v.cast a) (λ n. slice_get v.seats n)
 
 -- the outlet that leads to the actor of this number, where there is one
 abbrev pub outlet_at : Option RingSeatView → Option ℕ → Option OutletView
@@ -37,7 +37,7 @@ outlet_at (Some seat) place = at_number None place (λ n. slice_index_or seat.ou
 
 -- the outlet of one actor to another
 abbrev pub outlet_of : RingSeatsView → Actor → Actor → Option OutletView
-outlet_of v from to = outlet_at (seat_of v from) (number v.joiners v.feeders to)
+outlet_of v from to = outlet_at (seat_of v from) (number v.cast to)
 
 -- the machines of these seats, by the numbers of actors
 abbrev pub cores_in : RingSeatsView → List Core
@@ -45,15 +45,15 @@ cores_in v = map (λ seat. seat.core) v.seats
 
 -- what each actor has received and sent
 abbrev pub lists_in : RingSeatsView → Actor → ActorLists
-lists_in v = lists_among lists_of v.joiners v.feeders v.seats
+lists_in v = lists_among lists_of v.cast v.seats
 
 -- the journal of the controller among these seats
 abbrev pub journal_in : RingSeatsView → List TurnLine
-journal_in v = journal_among v.joiners v.feeders (cores_in v)
+journal_in v = journal_among v.cast (cores_in v)
 
 -- the collector of these seats is complete
 abbrev pub is_collected : RingSeatsView → Bool
-is_collected v = is_complete_among v.joiners v.feeders (cores_in v)
+is_collected v = is_complete_among v.cast (cores_in v)
 
 -- how many pairs of each joiner a machine gave, where there is one
 abbrev pub given_at : Option Core → List ℕ
@@ -62,11 +62,17 @@ given_at (Some core) = given_by core
 
 -- how many pairs of each joiner the collector of these seats gave
 abbrev pub given_in : RingSeatsView → List ℕ
-given_in v = given_at (core_in v.joiners v.feeders (cores_in v) Collector)
+given_in v = given_at (core_in v.cast (cores_in v) Collector)
 
 -- there is a seat for each actor; its machine began as this input and setting say, and stands for the lists of the seat
 abbrev pub StandsFor : Input → Setting → RingSeatsView → Type 0
-StandsFor input setting v = AllStand input setting v.joiners v.feeders (cores_in v) (lists_in v)
+StandsFor input setting v = AllStand input setting v.cast (cores_in v) (lists_in v)
+
+-- they are seats of some run
+pub record StandsForSome (v : RingSeatsView) : Type 0 where
+  pub input : Input
+  pub setting : Setting
+  pub stands : StandsFor input setting v
 
 -- ---- what is left to do
 

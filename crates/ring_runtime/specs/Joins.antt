@@ -3,20 +3,20 @@ use Rattle.std.specs.Prelude.{◌≡◌, ◌≢◌, ◌<◌, ◌≤◌, ◌+◌,
 use Rattle.epoch_tags.specs.declared.actor.Actor.{Actor}
 use Rattle.ring_links.specs.Rings.{Receiving, AreEnds, AreLeft}
 use Rattle.ring_links.specs.Outlets.{OutletView}
+use Rattle.actor_core.specs.declared.cast.Cast.{Cast}
 use Rattle.actor_core.specs.Standing.{IsLive}
-use Rattle.actor_core.specs.Numbers.{actor_at}
+use Rattle.actor_core.specs.Numbers.{actor_at, count_of}
 use Rattle.ring_runtime.specs.Seats.{RingSeatView, Address, Frame, frame_of, player_of, waiting_in}
 use Rattle.ring_runtime.specs.Wiring.{HasSamePlaces, in_of, out_of}
 
 -- ---- who has the ends of which rings
 
 -- the seat at this number is that actor's, with a place for each actor
-pub record IsPlaced (joiners feeders n : ℕ) (frame : Frame) : Type 0 where
-  pub joiners_are : frame.joiners ≡ joiners
-  pub feeders_are : frame.feeders ≡ feeders
-  pub actor : frame.actor ≡ actor_at joiners feeders n
-  pub ins : length frame.ins ≡ feeders + joiners + 2
-  pub outs : length frame.outs ≡ feeders + joiners + 2
+pub record IsPlaced (cast : Cast) (n : ℕ) (frame : Frame) : Type 0 where
+  pub cast_is : frame.cast ≡ cast
+  pub actor : frame.actor ≡ actor_at cast n
+  pub ins : length frame.ins ≡ count_of cast
+  pub outs : length frame.outs ≡ count_of cast
 
 -- the two are the ends of one ring, from the one actor to the other, with some room
 pub record AreOfOneRing (from to : Actor) (out inn : Address) : Type 0 where
@@ -32,11 +32,11 @@ Meet from to (Some out) (Some inn) = AreOfOneRing from to out inn
 Meet from to _ _ = ⊥
 
 -- there is a seat for each actor, and between two of them both ends of a ring, or none
-pub record AreWired (joiners feeders : ℕ) (frames : List Frame) : Type 0 where
-  pub all : length frames ≡ feeders + joiners + 2
-  pub placed : (n : ℕ) (d : Frame) → n < length frames → IsPlaced joiners feeders n (slice_index_or frames n d)
+pub record AreWired (cast : Cast) (frames : List Frame) : Type 0 where
+  pub all : length frames ≡ count_of cast
+  pub placed : (n : ℕ) (d : Frame) → n < length frames → IsPlaced cast n (slice_index_or frames n d)
   pub meet : (n r : ℕ) (d : Frame) → n < length frames → r < length frames
-      → Meet (actor_at joiners feeders n) (actor_at joiners feeders r)
+      → Meet (actor_at cast n) (actor_at cast r)
       (slice_index_or (slice_index_or frames n d).outs r None) (slice_index_or (slice_index_or frames r d).ins n None)
 
 -- ---- two ends that are held together

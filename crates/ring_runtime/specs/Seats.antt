@@ -4,16 +4,16 @@ use Rattle.epoch_tags.specs.declared.actor.Actor.{Actor}
 use Rattle.epoch_tags.specs.declared.message.Msg.{Msg}
 use Rattle.ring_links.specs.Rings.{Receiving, RingId}
 use Rattle.ring_links.specs.Outlets.{OutletView, IsStuck, contents, sent_on}
+use Rattle.actor_core.specs.declared.cast.Cast.{Cast}
 use Rattle.actor_core.specs.Lists.{ActorLists}
 use Rattle.actor_core.specs.Numbers.{number, at_number}
 use Rattle.actor_core.specs.Players.{Player}
 use Rattle.actor_core.specs.declared.machines.Core.{Core}
 
--- an actor of a run with so many joiners and feeders: its machine, and by the numbers of actors the end of a ring from
+-- an actor of a run: its machine, and by the numbers of actors the end of a ring from
 -- each that sends to it, and an outlet to each to which it sends
 pub record RingSeatView : Type 0 where
-  pub joiners : ℕ
-  pub feeders : ℕ
+  pub cast : Cast
   pub actor : Actor
   pub core : Core
   pub ins : List (Option Receiving)
@@ -32,8 +32,8 @@ abbrev pub received_from : List (Option Receiving) → ℕ → List Msg
 received_from ins n = received_at (slice_index_or ins n None)
 
 -- what was received of this actor
-abbrev pub received_through : ℕ → ℕ → List (Option Receiving) → Actor → List Msg
-received_through joiners feeders ins from = at_number [] (number joiners feeders from) (received_from ins)
+abbrev pub received_through : Cast → List (Option Receiving) → Actor → List Msg
+received_through cast ins from = at_number [] (number cast from) (received_from ins)
 
 -- what was sent through an outlet and what waits in it, where there is one
 abbrev pub sent_at : Option OutletView → List Msg
@@ -45,14 +45,14 @@ abbrev pub sent_to : List (Option OutletView) → ℕ → List Msg
 sent_to outs n = sent_at (slice_index_or outs n None)
 
 -- what was sent to this actor
-abbrev pub sent_through : ℕ → ℕ → List (Option OutletView) → Actor → List Msg
-sent_through joiners feeders outs to = at_number [] (number joiners feeders to) (sent_to outs)
+abbrev pub sent_through : Cast → List (Option OutletView) → Actor → List Msg
+sent_through cast outs to = at_number [] (number cast to) (sent_to outs)
 
 -- what the actor of a seat has received and sent, link by link
 abbrev pub lists_of : RingSeatView → ActorLists
 lists_of seat = record {
-  received = received_through seat.joiners seat.feeders seat.ins;
-  sent = sent_through seat.joiners seat.feeders seat.outs;
+  received = received_through seat.cast seat.ins;
+  sent = sent_through seat.cast seat.outs;
 }
 
 -- the actor of a seat at work
@@ -118,8 +118,7 @@ out_address (Some outlet) = Some (record {
 
 -- what no turn changes
 pub record Frame : Type 0 where
-  pub joiners : ℕ
-  pub feeders : ℕ
+  pub cast : Cast
   pub actor : Actor
   pub ins : List (Option Address)
   pub outs : List (Option Address)
@@ -127,8 +126,7 @@ pub record Frame : Type 0 where
 -- the frame of a seat
 abbrev pub frame_of : RingSeatView → Frame
 frame_of seat = record {
-  joiners = seat.joiners;
-  feeders = seat.feeders;
+  cast = seat.cast;
   actor = seat.actor;
   ins = map in_address seat.ins;
   outs = map out_address seat.outs;

@@ -5,6 +5,7 @@ use Rattle.epoch_tags.specs.declared.actor.Actor.{Actor}
 use Rattle.epoch_tags.specs.declared.message.Envelope.{Envelope}
 use Rattle.epoch_tags.specs.declared.message.Post.{Post}
 use Rattle.ring_links.specs.Rings.{Receiving}
+use Rattle.actor_core.specs.declared.cast.Cast.{Cast}
 use Rattle.actor_core.specs.Lists.{Cause, Took, Began, with_cause}
 use Rattle.actor_core.specs.Standing.{Occurs, Waits, IsLive, given_by}
 use Rattle.actor_core.specs.Families.{journal_of}
@@ -16,11 +17,11 @@ use Rattle.ring_runtime.specs.Seats.{waiting_in}
 -- ---- one turn
 
 -- by what was taken: the message came from its sender's ring, or nothing was known to be left in any
-abbrev pub Receives : ℕ → ℕ → Option Envelope → List (Option Receiving) → List (Option Receiving) → Type 0
-Receives joiners feeders None old new = (new ≡ old) × NoneKnown old
-Receives joiners feeders (Some m) old new = (from : Actor)
-    → received_through joiners feeders new from
-    ≡ with_cause (Took m.from m.msg) (received_through joiners feeders old) from
+abbrev pub Receives : Cast → Option Envelope → List (Option Receiving) → List (Option Receiving) → Type 0
+Receives cast None old new = (new ≡ old) × NoneKnown old
+Receives cast (Some m) old new = (from : Actor)
+    → received_through cast new from
+    ≡ with_cause (Took m.from m.msg) (received_through cast old) from
 
 -- where the actor began, nothing was known to be left for it
 abbrev pub HasLooked : Cause → List (Option Receiving) → Type 0
@@ -38,7 +39,7 @@ pub record Rests (core : Core) (ins : List (Option Receiving)) : Type 0 where
   pub waits : Waits core
 
 -- the first half of an event: the message or the beginning, and the machine's call
-pub record IsCaused (joiners feeders : ℕ) (old new : Core) (before after : List (Option Receiving))
+pub record IsCaused (cast : Cast) (old new : Core) (before after : List (Option Receiving))
     (none sends : List Post) : Type 0 where
   pub cause : Cause
   pub occurs : Occurs cause old new none sends
@@ -48,13 +49,13 @@ pub record IsCaused (joiners feeders : ℕ) (old new : Core) (before after : Lis
   pub given : given_by new ≡ given_by old
   pub grows : IsPrefix (journal_of old) (journal_of new)
   pub received : (from : Actor)
-      → received_through joiners feeders after from ≡ with_cause cause (received_through joiners feeders before) from
+      → received_through cast after from ≡ with_cause cause (received_through cast before) from
 
 -- by whether there was one: the first half of an event, or nothing was to be done
-abbrev pub Opens : Bool → ℕ → ℕ → Core → Core → List (Option Receiving) → List (Option Receiving) → List Post
+abbrev pub Opens : Bool → Cast → Core → Core → List (Option Receiving) → List (Option Receiving) → List Post
     → List Post → Type 0
-Opens true joiners feeders old new before after none sends = IsCaused joiners feeders old new before after none sends
-Opens false joiners feeders old new before after none sends = (new ≡ old) × (after ≡ before) × Rests old before
+Opens true cast old new before after none sends = IsCaused cast old new before after none sends
+Opens false cast old new before after none sends = (new ≡ old) × (after ≡ before) × Rests old before
 
 -- no event was made, and fewer messages wait
 pub record Moves (old new : RingSeatView) : Type 0 where

@@ -1,5 +1,5 @@
 -- How the rings of a run come to the seats of their actors.
-use Rattle.std.specs.Prelude.{◌≡◌, ◌<◌, ◌≤◌, ◌+◌, ◌^◌, ℕ, Option, Some, None, List, [], length, slice_set}
+use Rattle.std.specs.Prelude.{◌≡◌, ◌<◌, ◌≤◌, ◌^◌, ℕ, Option, Some, None, List, [], length, slice_set}
 use Rattle.std.specs.Prelude.{slice_index_or}
 use Rattle.epoch_tags.specs.declared.actor.Actor.{Actor}
 use Rattle.epoch_tags.specs.Links.{HasLink}
@@ -7,10 +7,11 @@ use Rattle.ring_links.specs.Rings.{Receiving, AreEnds}
 use Rattle.ring_links.specs.Outlets.{OutletView}
 use Rattle.trace_law.specs.declared.input.Input.{Input}
 use Rattle.trace_law.specs.declared.setting.Setting.{Setting}
+use Rattle.actor_core.specs.declared.cast.Cast.{Cast}
 use Rattle.actor_core.specs.Lists.{no_lists}
 use Rattle.actor_core.specs.Standing.{Stands, HasGivenNone, IsLive}
 use Rattle.actor_core.specs.Families.{start_for}
-use Rattle.actor_core.specs.Numbers.{actor_at}
+use Rattle.actor_core.specs.Numbers.{actor_at, cast_of, count_of}
 use Rattle.ring_runtime.specs.Seats.{RingSeatView}
 
 -- the two ends of a new ring, through which nothing went, and for which nothing waits
@@ -56,12 +57,12 @@ out_of seats d n r = slice_index_or (slice_index_or seats n d).outs r None
 abbrev pub in_of : List RingSeatView → RingSeatView → ℕ → ℕ → Option Receiving
 in_of seats d r n = slice_index_or (slice_index_or seats r d).ins n None
 
--- between two actors of a run with so many joiners and feeders there is a new ring, or no link and no ring
-abbrev pub IsNewBetween : ℕ → ℕ → Actor → Actor → Option OutletView → Option Receiving → Type 0
-IsNewBetween joiners feeders from to None None = (k : ℕ) → joiners ≡ 2 ^ k → ¬ HasLink k feeders from to
-IsNewBetween joiners feeders from to (Some out) (Some inn) =
-    ((k : ℕ) → joiners ≡ 2 ^ k → HasLink k feeders from to) × AreNew from to out inn
-IsNewBetween joiners feeders from to _ _ = ⊥
+-- between two actors of a run there is a new ring, or no link and no ring
+abbrev pub IsNewBetween : Cast → Actor → Actor → Option OutletView → Option Receiving → Type 0
+IsNewBetween cast from to None None = (k : ℕ) → cast.joiners ≡ 2 ^ k → ¬ HasLink k cast.feeders from to
+IsNewBetween cast from to (Some out) (Some inn) =
+    ((k : ℕ) → cast.joiners ≡ 2 ^ k → HasLink k cast.feeders from to) × AreNew from to out inn
+IsNewBetween cast from to _ _ = ⊥
 
 -- seats that differ from these at most in the ends of rings, of which they have as many places
 pub record HasSamePlaces (old new : RingSeatView) : Type 0 where
@@ -71,24 +72,24 @@ pub record HasSamePlaces (old new : RingSeatView) : Type 0 where
 
 -- where there was no ring, the seat of the number `from` has its new rings to those below this number, and no other
 -- changed
-pub record WiresRow (joiners feeders from below : ℕ) (old new : List RingSeatView) : Type 0 where
+pub record WiresRow (cast : Cast) (from below : ℕ) (old new : List RingSeatView) : Type 0 where
   pub all : length new ≡ length old
   pub same : (n : ℕ) (d : RingSeatView) → n < length old
       → HasSamePlaces (slice_index_or old n d) (slice_index_or new n d)
   pub done : (r : ℕ) (d : RingSeatView) → r < below → out_of old d from r ≡ None → in_of old d r from ≡ None
-      → IsNewBetween joiners feeders (actor_at joiners feeders from) (actor_at joiners feeders r)
+      → IsNewBetween cast (actor_at cast from) (actor_at cast r)
       (out_of new d from r) (in_of new d r from)
   pub rest : (n r : ℕ) (d : RingSeatView) → ((n ≡ from) → below ≤ r)
       → (out_of new d n r ≡ out_of old d n r) × (in_of new d r n ≡ in_of old d r n)
 
 -- where there was no ring, each of the seats below this number has its new rings to all
-pub record AreWiredBelow (joiners feeders below : ℕ) (old new : List RingSeatView) : Type 0 where
+pub record AreWiredBelow (cast : Cast) (below : ℕ) (old new : List RingSeatView) : Type 0 where
   pub all : length new ≡ length old
   pub same : (n : ℕ) (d : RingSeatView) → n < length old
       → HasSamePlaces (slice_index_or old n d) (slice_index_or new n d)
-  pub done : (n r : ℕ) (d : RingSeatView) → n < below → r < feeders + joiners + 2 → out_of old d n r ≡ None
+  pub done : (n r : ℕ) (d : RingSeatView) → n < below → r < count_of cast → out_of old d n r ≡ None
       → in_of old d r n ≡ None
-      → IsNewBetween joiners feeders (actor_at joiners feeders n) (actor_at joiners feeders r)
+      → IsNewBetween cast (actor_at cast n) (actor_at cast r)
       (out_of new d n r) (in_of new d r n)
   pub rest : (n r : ℕ) (d : RingSeatView) → below ≤ n
       → (out_of new d n r ≡ out_of old d n r) × (in_of new d r n ≡ in_of old d r n)
@@ -97,14 +98,13 @@ pub record AreWiredBelow (joiners feeders below : ℕ) (old new : List RingSeatV
 
 -- the seat of the actor with this number as it was made, with no end of any ring
 pub record IsNewSeat (input : Input) (setting : Setting) (n : ℕ) (seat : RingSeatView) : Type 0 where
-  pub joiners_are : seat.joiners ≡ 2 ^ setting.k
-  pub feeders_are : seat.feeders ≡ setting.feeders
-  pub actor : seat.actor ≡ actor_at (2 ^ setting.k) setting.feeders n
+  pub cast_is : seat.cast ≡ cast_of setting
+  pub actor : seat.actor ≡ actor_at (cast_of setting) n
   pub no_in : (r : ℕ) → slice_index_or seat.ins r None ≡ None
   pub no_out : (r : ℕ) → slice_index_or seat.outs r None ≡ None
-  pub ins : length seat.ins ≡ setting.feeders + 2 ^ setting.k + 2
-  pub outs : length seat.outs ≡ setting.feeders + 2 ^ setting.k + 2
-  pub stands : Stands (start_for input setting (actor_at (2 ^ setting.k) setting.feeders n)) no_lists seat.core
+  pub ins : length seat.ins ≡ count_of (cast_of setting)
+  pub outs : length seat.outs ≡ count_of (cast_of setting)
+  pub stands : Stands (start_for input setting (actor_at (cast_of setting) n)) no_lists seat.core
   pub live : IsLive seat.core
   pub given : HasGivenNone (2 ^ setting.k) seat.core
 

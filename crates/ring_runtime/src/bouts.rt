@@ -14,6 +14,7 @@ ghost use Rattle.ring_runtime.specs.Bouts.{AllAdvance, AllLive, EachSeat, IsAtRe
 use crate::dealt::work;
 use crate::holding::hold_all;
 use crate::seat::RingSeat;
+use actor_core::Cast;
 use std::alloc::{AllocError, Global};
 use std::marker::Model;
 use std::thread::Threads;
@@ -50,11 +51,10 @@ fn bout_of<R: Threads + Sync, G: Gate + Sync>(
     seats: &mut [RingSeat],
     workers: u32,
     gate: &G,
-    joiners: u32,
-    feeders: u32,
+    cast: Cast,
 ) -> Result<bool, AllocError>
     requires workers { 0 < workers }
-    requires wired { AreWired joiners feeders (map frame_of seats.old) }
+    requires wired { AreWired cast (map frame_of seats.old) }
     requires live { AllLive seats.old }
     ensures frames { map frame_of seats.new ≡ map frame_of seats.old }
     ensures went { result ≡ Ok true → AllAdvance seats.old seats.new }
@@ -78,8 +78,7 @@ fn bout_of<R: Threads + Sync, G: Gate + Sync>(
 #[derive(Drop)]
 pub struct RingSeats<'a> {
     pub(crate) alloc: Global,
-    pub(crate) joiners: u32,
-    pub(crate) feeders: u32,
+    pub(crate) cast: Cast,
     // By the numbers of actors.
     pub(crate) seats: Vec<RingSeat<'a>>,
     // Whether a bout found no memory.
@@ -90,7 +89,7 @@ impl<'a> Model for RingSeats<'a> {
     ghost use Rattle.std.specs.Prelude.{◌≡◌, false, map};
     ghost use Rattle.ring_runtime.specs.Seats.{frame_of};
     ghost use Rattle.ring_runtime.specs.Joins.{AreSettled, AreWired};
-    ghost use Rattle.ring_runtime.specs.Bouts.{RingSeatsView};
+    ghost use Rattle.ring_runtime.specs.Bouts.{RingSeatsView, StandsForSome};
     ghost use Rattle.std.specs.Coded.{codes};
     ghost use Rattle.theta_pred.specs.FormulaCode.{formula_code};
 
@@ -99,14 +98,18 @@ impl<'a> Model for RingSeats<'a> {
     ghost coded = { Prim.hlevel (codes, formula_code (Prim.hlevel codes)) };
 
     ghost view = { λ s. record {
-      joiners = s.joiners;
-      feeders = s.feeders;
+      cast = s.cast;
       seats = s.seats.items;
       spent = s.spent;
     } };
 
-    ghost invariant = { λ s. AreWired s.joiners s.feeders (map frame_of s.seats.items)
-        × (s.spent ≡ false → AreSettled s.seats.items) };
+    ghost invariant = { λ s. AreWired s.cast (map frame_of s.seats.items)
+        × (s.spent ≡ false → AreSettled s.seats.items)
+        × (s.spent ≡ false → ∥ StandsForSome (record {
+          cast = s.cast;
+          seats = s.seats.items;
+          spent = s.spent;
+        }) ∥₁) };
 }
 
 /// One bout. Each seat has turns until it is idle or has had 256, in as many chunks side by side as there are workers;
@@ -141,24 +144,15 @@ pub fn ring_bout<R: Threads + Sync, G: Gate + Sync>(
         → AgreesOnLinks setting (lists_in seats.new)) }
     ensures goes_on { OnOk result ((seats.old.spent ≡ false) × (seats.new.spent ≡ false)) }
     ensures fails { OnErr result (seats.new.spent ≡ true) }
-    ensures actors { (seats.new.joiners ≡ seats.old.joiners)
-        × (seats.new.feeders ≡ seats.old.feeders) }
+    ensures actors { seats.new.cast ≡ seats.old.cast }
 {
     quiet_is_finished();
     if seats.spent {
         return Err(AllocError);
     }
     seats.spent = true;
-    let joiners = seats.joiners;
-    let feeders = seats.feeders;
-    let went = bout_of(
-        rt,
-        seats.seats.as_mut_slice(),
-        workers,
-        gate,
-        joiners,
-        feeders,
-    )?;
+    let cast = seats.cast;
+    let went = bout_of(rt, seats.seats.as_mut_slice(), workers, gate, cast)?;
     seats.spent = false;
     Ok(went)
 }

@@ -7,7 +7,6 @@ ghost use Rattle.trace_law.specs.declared.setting.Setting.{Setting as Setting'};
 ghost use Rattle.trace_law.specs.Validity.{IsValid};
 ghost use Rattle.trace_law.specs.Family.{first_rest};
 ghost use Rattle.trace_law.specs.Runs.{IsRunOf};
-ghost use Rattle.actor_core.specs.Endings.{AreLast};
 ghost use Rattle.actor_core.specs.Families.{AreFronts};
 ghost use Rattle.actor_core.specs.Players.{IsFinishedFamily};
 ghost use Rattle.ring_runtime.specs.Bouts.{StandsFor, is_collected, journal_in, lists_in};
@@ -17,9 +16,7 @@ use crate::bouts::RingSeats;
 use crate::inlets::Inlets;
 use crate::outlets::Outlets;
 use crate::seat::RingSeat;
-use actor_core::{Core, answer, last_machines};
-use load_controller::Controller;
-use pair_collector::Collector;
+use actor_core::{Cast, Core, answer, last_two};
 use std::alloc::{AllocError, Global};
 use std::marker::Model;
 use trace_law::{Run, complete_is_finished, finished_answers};
@@ -27,8 +24,7 @@ use trace_law::{Run, complete_is_finished, finished_answers};
 /// What an actor's finished seat leaves: its ends of rings and its outlets.
 #[derive(Drop)]
 pub struct RingEnd {
-    pub(crate) joiners: u32,
-    pub(crate) feeders: u32,
+    pub(crate) cast: Cast,
     pub(crate) ins: Inlets,
     pub(crate) outs: Outlets,
 }
@@ -39,8 +35,7 @@ impl Model for RingEnd {
     ghost Value = { RingEndView };
 
     ghost view = { λ end. record {
-      joiners = end.joiners;
-      feeders = end.feeders;
+      cast = end.cast;
       ins = end.ins;
       outs = end.outs;
     } };
@@ -50,8 +45,7 @@ impl Model for RingEnd {
 /// in them.
 #[derive(Drop)]
 pub struct RingEnds {
-    joiners: u32,
-    feeders: u32,
+    cast: Cast,
     ends: Vec<RingEnd>,
 }
 
@@ -61,8 +55,7 @@ impl Model for RingEnds {
     ghost Value = { RingEndsView };
 
     ghost view = { λ ends. record {
-      joiners = ends.joiners;
-      feeders = ends.feeders;
+      cast = ends.cast;
       ends = ends.ends.items;
     } };
 }
@@ -94,16 +87,6 @@ fn parts<'a>(
     Ok((cores, ends))
 }
 
-// The controller's machine and the collector's, or an error where they aren't the last two.
-fn last_two<'a>(cores: Vec<Core<'a>>) -> Result<(Controller, Collector), AllocError>
-    ensures { IfOk result (λ last. AreLast cores.entry.items last.0 last.1) }
-{
-    match last_machines(cores) {
-        Some(last) => Ok(last),
-        None => Err(AllocError),
-    }
-}
-
 impl<'a> RingSeats<'a> {
     /// Whether the collector is complete. It takes no memory.
     pub fn complete(&self) -> bool
@@ -115,8 +98,8 @@ impl<'a> RingSeats<'a> {
         }
     }
 
-    /// The answer of seats whose collector is complete, with so many bouts, and what they leave. After `AllocError` the
-    /// seats are gone.
+    /// The answer of seats whose collector is complete, with so many bouts, and what they leave. Spent seats answer
+    /// `AllocError` too, and after it the seats are gone.
     pub fn finish(self, bouts: u64) -> Result<RingRun, AllocError>
         requires { is_collected self ≡ true }
         ensures family { IfOk result (λ told.
@@ -137,21 +120,20 @@ impl<'a> RingSeats<'a> {
         finished_answers();
         let RingSeats {
             alloc,
-            joiners,
-            feeders,
+            cast,
             seats,
-            ..
+            spent,
         } = self;
+        if spent {
+            drop(seats);
+            return Err(AllocError);
+        }
         let (cores, ends) = parts(alloc, seats)?;
-        let (controller, collector) = last_two(cores)?;
+        let (controller, collector) = last_two(cores);
         let run = answer(alloc, &controller, collector, bouts)?;
         Ok(RingRun {
             run,
-            ends: RingEnds {
-                joiners,
-                feeders,
-                ends,
-            },
+            ends: RingEnds { cast, ends },
             fallen: false,
         })
     }

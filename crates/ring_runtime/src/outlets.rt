@@ -8,7 +8,7 @@ ghost use Rattle.ring_runtime.specs.Bouts.{SomeWaits};
 ghost use Rattle.ring_runtime.specs.Seats.{AllStuck, IsStuckAt, NoneWaits, out_address, sent_at, sent_through, sent_to, waiting_at, waiting_in};
 
 use crate::slots::no_slots;
-use actor_core::number;
+use actor_core::Cast;
 use epoch_tags::{Msg, Post, Sends};
 use ring_links::Outlet;
 use std::alloc::{AllocError, Global};
@@ -163,31 +163,26 @@ impl Outlets {
         add_to(&mut self.slots, place, msg)
     }
 
-    fn post(&mut self, joiners: u32, feeders: u32, post: Post) -> Result<(), AllocError>
+    fn post(&mut self, cast: Cast, post: Post) -> Result<(), AllocError>
         ensures rings { map out_address self.new ≡ map out_address self.old }
-        ensures sent { OnOk result ((a : Actor') → sent_through joiners feeders self.new a
-            ≡ sent_through joiners feeders self.old a ++ posted_to a (post ∷ [])) }
+        ensures sent { OnOk result ((a : Actor') → sent_through cast self.new a
+            ≡ sent_through cast self.old a ++ posted_to a (post ∷ [])) }
     {
         let Post { to, msg } = post;
-        match number(joiners, feeders, to) {
+        match cast.number(to) {
             Some(place) => self.add(place, msg),
             None => Err(AllocError),
         }
     }
 
     // Lets all posts wait, in order.
-    pub(crate) fn post_all(
-        &mut self,
-        joiners: u32,
-        feeders: u32,
-        sends: Sends,
-    ) -> Result<(), AllocError>
+    pub(crate) fn post_all(&mut self, cast: Cast, sends: Sends) -> Result<(), AllocError>
         ensures rings { map out_address self.new ≡ map out_address self.old }
-        ensures sent { OnOk result ((a : Actor') → sent_through joiners feeders self.new a
-            ≡ sent_through joiners feeders self.old a ++ posted_to a sends) }
+        ensures sent { OnOk result ((a : Actor') → sent_through cast self.new a
+            ≡ sent_through cast self.old a ++ posted_to a sends) }
     {
         for post in sends.into_vec() {
-            self.post(joiners, feeders, post)?;
+            self.post(cast, post)?;
         }
         Ok(())
     }

@@ -17,7 +17,7 @@ ghost use Rattle.ring_runtime.specs.Turns.{IsIdle, MakesTurn, Moves, Opens, Rece
 use crate::ends::RingEnd;
 use crate::inlets::Inlets;
 use crate::outlets::Outlets;
-use actor_core::{Core, number};
+use actor_core::{Cast, Core};
 use epoch_tags::{Actor, Envelope, Sends};
 use ring_links::{Outlet, RingIn};
 use std::alloc::{AllocError, Global};
@@ -39,8 +39,7 @@ pub enum RingStep {
 /// sends.
 #[derive(Drop)]
 pub struct RingSeat<'a> {
-    joiners: u32,
-    feeders: u32,
+    cast: Cast,
     actor: Actor,
     core: Core<'a>,
     ins: Inlets,
@@ -61,8 +60,7 @@ impl<'a> Model for RingSeat<'a> {
     ghost coded = { Prim.hlevel (codes, formula_code (Prim.hlevel codes)) };
 
     ghost view = { λ seat. record {
-      joiners = seat.joiners;
-      feeders = seat.feeders;
+      cast = seat.cast;
       actor = seat.actor;
       core = seat.core;
       ins = seat.ins;
@@ -72,23 +70,23 @@ impl<'a> Model for RingSeat<'a> {
 }
 
 // Whether a message that was taken at this place names the actor with that number.
-fn is_from(joiners: u32, feeders: u32, m: &Envelope, place: usize) -> bool
-    ensures { result ≡ true → numbers.number joiners feeders m.now.from ≡ Some place }
+fn is_from(cast: Cast, m: &Envelope, place: usize) -> bool
+    ensures { result ≡ true → numbers.number cast m.now.from ≡ Some place }
 {
-    match number(joiners, feeders, m.from) {
+    match cast.number(m.from) {
         Some(sender) => sender == place,
         None => false,
     }
 }
 
 // Takes a message, where there is one. An error: it names another sender than that of its ring.
-fn receive(ins: &mut Inlets, joiners: u32, feeders: u32) -> Result<Option<Envelope>, AllocError>
-    ensures received { IfOk result (λ taken. Receives joiners feeders taken ins.old ins.new) }
+fn receive(ins: &mut Inlets, cast: Cast) -> Result<Option<Envelope>, AllocError>
+    ensures received { IfOk result (λ taken. Receives cast taken ins.old ins.new) }
     ensures rings { map in_address ins.new ≡ map in_address ins.old }
 {
     match ins.take() {
         Some((place, m)) => {
-            if is_from(joiners, feeders, &m, place) {
+            if is_from(cast, &m, place) {
                 Ok(Some(m))
             } else {
                 Err(AllocError)
@@ -102,15 +100,14 @@ fn receive(ins: &mut Inlets, joiners: u32, feeders: u32) -> Result<Option<Envelo
 fn open(
     core: &mut Core,
     ins: &mut Inlets,
-    joiners: u32,
-    feeders: u32,
+    cast: Cast,
     sends: &mut Sends,
 ) -> Result<bool, AllocError>
     ensures rings { map in_address ins.new ≡ map in_address ins.old }
-    ensures opens { IfOk result (λ took. Opens took joiners feeders core.old core.new
+    ensures opens { IfOk result (λ took. Opens took cast core.old core.new
         ins.old ins.new sends.old sends.new) }
 {
-    match receive(ins, joiners, feeders)? {
+    match receive(ins, cast)? {
         Some(Envelope { from, msg }) => {
             core.on(from, msg, sends)?;
             Ok(true)
@@ -120,19 +117,17 @@ fn open(
 }
 
 impl<'a> RingSeat<'a> {
-    /// A seat that has had no turn, of an actor of a run with so many joiners and feeders.
+    /// A seat that has had no turn, of an actor of a run.
     pub fn new(
         alloc: Global,
-        joiners: u32,
-        feeders: u32,
+        cast: Cast,
         actor: Actor,
         core: Core<'a>,
         ins: Inlets,
         outs: Outlets,
     ) -> RingSeat<'a>
         ensures { result ≡ record {
-          joiners = joiners;
-          feeders = feeders;
+          cast = cast;
           actor = actor;
           core = core.entry;
           ins = ins;
@@ -141,8 +136,7 @@ impl<'a> RingSeat<'a> {
         } }
     {
         RingSeat {
-            joiners,
-            feeders,
+            cast,
             actor,
             core,
             ins,
@@ -231,22 +225,13 @@ impl<'a> RingSeat<'a> {
         ensures end { result.1 ≡ end_of self.entry }
     {
         let RingSeat {
-            joiners,
-            feeders,
+            cast,
             core,
             ins,
             outs,
             ..
         } = self;
-        (
-            core,
-            RingEnd {
-                joiners,
-                feeders,
-                ins,
-                outs,
-            },
-        )
+        (core, RingEnd { cast, ins, outs })
     }
 
     // One event, if there is one to make: its posts wait behind the others.
@@ -260,15 +245,9 @@ impl<'a> RingSeat<'a> {
         ensures spent { self.new.spent ≡ self.old.spent }
     {
         let mut sends = Sends::new(self.alloc);
-        let took = open(
-            &mut self.core,
-            &mut self.ins,
-            self.joiners,
-            self.feeders,
-            &mut sends,
-        )?;
+        let took = open(&mut self.core, &mut self.ins, self.cast, &mut sends)?;
         if took {
-            self.outs.post_all(self.joiners, self.feeders, sends)?;
+            self.outs.post_all(self.cast, sends)?;
         }
         Ok(took)
     }

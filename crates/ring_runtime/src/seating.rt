@@ -5,6 +5,7 @@ ghost use Rattle.epoch_tags.specs.declared.actor.Actor.{Actor as Actor'};
 ghost use Rattle.epoch_tags.specs.Links.{HasLink};
 ghost use Rattle.trace_law.specs.Validity.{IsValidInput, IsValidSetting};
 ghost use Rattle.actor_core.specs.Lists.{no_lists};
+ghost use Rattle.actor_core.specs.Numbers.{cast_of, count_of};
 ghost use Rattle.ring_runtime.specs.Wiring.{AreNewSeats, IsNewSeat};
 ghost use Rattle.ring_runtime.specs.Bouts.{StandsFor, given_in, lists_in, outlet_of};
 
@@ -12,8 +13,8 @@ use crate::bouts::RingSeats;
 use crate::inlets::Inlets;
 use crate::outlets::Outlets;
 use crate::seat::RingSeat;
-use crate::wiring::{actor_of, wire_all};
-use actor_core::{core_at, joiners_of};
+use crate::wiring::wire_all;
+use actor_core::{Cast, core_at};
 use std::alloc::{AllocError, Global};
 use trace_law::{Input, Setting};
 
@@ -28,29 +29,28 @@ fn seat_at<'a>(
     requires setting { IsValidSetting setting.now }
     ensures { IfOk result (λ seat. IsNewSeat input.now setting.now n seat) }
 {
-    let joiners = joiners_of(setting);
-    let feeders = setting.feeders;
-    let count = feeders + joiners + 2;
-    let actor = actor_of(joiners, feeders, n);
+    let cast = Cast::of(setting);
+    let count = cast.count();
+    let actor = cast.actor_at(n);
     let ins = Inlets::new(alloc, count)?;
     let outs = Outlets::new(alloc, count)?;
     let core = core_at(alloc, input, setting, n)?;
-    Ok(RingSeat::new(alloc, joiners, feeders, actor, core, ins, outs))
+    Ok(RingSeat::new(alloc, cast, actor, core, ins, outs))
 }
 
-// The seats of so many actors, with no ring.
+// The seats of all actors, with no ring.
 fn new_seats<'a>(
     alloc: Global,
     input: &'a Input,
     setting: &Setting,
-    count: u32,
 ) -> Result<Vec<RingSeat<'a>>, AllocError>
     requires input { IsValidInput input.now }
     requires setting { IsValidSetting setting.now }
-    ensures { IfOk result (λ seats. AreNewSeats input.now setting.now count seats.items) }
+    ensures { IfOk result (λ seats. AreNewSeats input.now setting.now
+        (count_of (cast_of setting.now)) seats.items) }
 {
     let mut seats = Vec::new(alloc);
-    for n in 0..count {
+    for n in 0..Cast::of(setting).count() {
         seats.push(seat_at(alloc, input, setting, n)?)?;
     }
     Ok(seats)
@@ -75,14 +75,12 @@ impl<'a> RingSeats<'a> {
             → slice_index (given_in seats) j ≡ 0) }
         ensures at_work { IfOk result (λ seats. seats.spent ≡ false) }
     {
-        let joiners = joiners_of(setting);
-        let feeders = setting.feeders;
-        let mut seats = new_seats(alloc, input, setting, feeders + joiners + 2)?;
-        wire_all(alloc, &mut seats, joiners, feeders)?;
+        let cast = Cast::of(setting);
+        let mut seats = new_seats(alloc, input, setting)?;
+        wire_all(alloc, &mut seats, cast)?;
         Ok(RingSeats {
             alloc,
-            joiners,
-            feeders,
+            cast,
             seats,
             spent: false,
         })

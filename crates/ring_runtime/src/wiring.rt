@@ -1,33 +1,17 @@
 // The rings of a run: each is made for two actors, and its ends come to their seats.
 
 ghost use Rattle.std.specs.Prelude.{◌≡◌, ◌<◌, ◌≤◌, ◌+◌, ◌^◌, IfOk, OnOk};
-ghost use Rattle.actor_core.specs.Numbers.{actor_at};
+ghost use Rattle.actor_core.specs.Numbers.{count_of};
 ghost use Rattle.ring_runtime.specs.Wiring.{AreNew, AreWiredBelow, GivesIn, GivesOut, Wires, WiresRow};
 
 use crate::seat::RingSeat;
-use actor_core::has_link;
+use actor_core::Cast;
 use epoch_tags::Actor;
 use ring_links::{Outlet, RingIn, ring};
 use std::alloc::{AllocError, Global};
 
 // How many places the ring of a link has.
 const PLACES: u32 = 64;
-
-// The actor of this number.
-pub(crate) fn actor_of(joiners: u32, feeders: u32, n: u32) -> Actor
-    requires { feeders + joiners < 2 ^ 32 }
-    ensures { result ≡ actor_at joiners feeders n }
-{
-    if n < feeders {
-        Actor::Feeder(n)
-    } else if n < feeders + joiners {
-        Actor::Joiner(n - feeders)
-    } else if n == feeders + joiners {
-        Actor::Controller
-    } else {
-        Actor::Collector
-    }
-}
 
 // A new ring, with nothing waiting for it.
 fn new_ring(alloc: Global, sender: Actor, receiver: Actor) -> Result<(Outlet, RingIn), AllocError>
@@ -82,18 +66,17 @@ fn wire(
 fn wire_from(
     alloc: Global,
     seats: &mut Vec<RingSeat>,
-    joiners: u32,
-    feeders: u32,
+    cast: Cast,
     from: u32,
 ) -> Result<(), AllocError>
-    requires { feeders + joiners + 2 < 2 ^ 32 }
-    ensures { OnOk result (WiresRow joiners feeders from (feeders + joiners + 2)
+    requires { count_of cast < 2 ^ 32 }
+    ensures { OnOk result (WiresRow cast from (count_of cast)
         seats.old.items seats.new.items) }
 {
-    let sender = actor_of(joiners, feeders, from);
-    for to in 0..feeders + joiners + 2 {
-        let receiver = actor_of(joiners, feeders, to);
-        if has_link(joiners, feeders, sender, receiver) {
+    let sender = cast.actor_at(from);
+    for to in 0..cast.count() {
+        let receiver = cast.actor_at(to);
+        if cast.has_link(sender, receiver) {
             wire(alloc, seats, from as usize, to as usize, sender, receiver)?;
         }
     }
@@ -104,15 +87,14 @@ fn wire_from(
 pub(crate) fn wire_all(
     alloc: Global,
     seats: &mut Vec<RingSeat>,
-    joiners: u32,
-    feeders: u32,
+    cast: Cast,
 ) -> Result<(), AllocError>
-    requires { feeders + joiners + 2 < 2 ^ 32 }
-    ensures { OnOk result (AreWiredBelow joiners feeders (feeders + joiners + 2)
+    requires { count_of cast < 2 ^ 32 }
+    ensures { OnOk result (AreWiredBelow cast (count_of cast)
         seats.old.items seats.new.items) }
 {
-    for from in 0..feeders + joiners + 2 {
-        wire_from(alloc, seats, joiners, feeders, from)?;
+    for from in 0..cast.count() {
+        wire_from(alloc, seats, cast, from)?;
     }
     Ok(())
 }

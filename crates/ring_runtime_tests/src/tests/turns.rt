@@ -1,6 +1,6 @@
 // Two seats alone, turn by turn.
 
-use actor_core::Core;
+use actor_core::{Cast, Core};
 use epoch_tags::{Actor, Tuples};
 use grid_map::Weights;
 use load_controller::Controller;
@@ -20,7 +20,13 @@ fn ends(alloc: Global) -> Result<(Inlets, Outlets), AllocError> {
 // The seat of an actor of a run with one joiner and one feeder.
 fn seat<'a>(alloc: Global, actor: Actor, core: Core<'a>) -> Result<RingSeat<'a>, AllocError> {
     match ends(alloc) {
-        Ok((ins, outs)) => Ok(RingSeat::new(alloc, 1, 1, actor, core, ins, outs)),
+        Ok((ins, outs)) => {
+            let cast = Cast {
+                joiners: 1,
+                feeders: 1,
+            };
+            Ok(RingSeat::new(alloc, cast, actor, core, ins, outs))
+        }
         Err(refused) => {
             drop(core);
             Err(refused)

@@ -1,4 +1,5 @@
-use Rattle.std.proofs.Common.{◌+◌, ◌^◌, ◌++◌, ◌∷◌, [], ap, sym, subst, ◌∙◌}
+use Rattle.std.proofs.Common.{◌++◌, ◌∷◌, [], ap, sym, subst, ◌∙◌}
+use Rattle.actor_core.specs.Numbers.{cast_of, count_of}
 use Rattle.actor_core.specs.Rests.{AreMade, upto, rest_of}
 use Rattle.actor_core.proofs.WaveBeginnings.{made_stand, whole_made}
 use Rattle.actor_core.proofs.waves.cores_in_wave.Goals as goal
@@ -12,7 +13,7 @@ returns-clause-made c =
     let collector = c.in_ok-collector in
     let items = c.in_ok-push-2.ensures.items ∙ ap (λ cores. cores ++ collector.field-0 ∷ [])
     c.in_ok-push.ensures.items in
-    subst (AreMade input setting rest (setting.feeders + 2 ^ setting.k + 2)) (sym items)
+    subst (AreMade input setting rest (count_of (cast_of setting))) (sym items)
     (whole_made input setting rest c.in_ok-cores.cores.items controller.field-0 collector.field-0
     c.in_ok-cores.ensures controller.ensures.stands controller.ensures.live controller.ensures.given
     collector.ensures.stands collector.ensures.live collector.ensures.given)

@@ -16,7 +16,7 @@ invariant_of-seats-2 g c =
     let new = c.bout_of.new.seats.items in
     let long = c.bout_of.ensures.long in
     let said = c.in_ok-went.ensures in
-    let joined = subst (AreJoined c.seats.inside.joiners c.seats.inside.feeders) (sym c.bout_of.ensures.frames)
+    let joined = subst (AreJoined c.seats.inside.cast) (sym c.bout_of.ensures.frames)
     c.seats.invariant.0 in
     let settled = settled_after c.in_ok-went.went seats.items new long (λ is. said.went (ap Ok is))
     (λ is. said.gathered (ap Ok is)) (λ is. said.same (ap Ok is)) (c.seats.invariant.1 c.if-seats.false) in
@@ -28,11 +28,11 @@ returns-clause-agrees g c =
     let new = c.bout_of.new.seats.items in
     let long = c.bout_of.ensures.long in
     let said = c.in_ok-went.ensures in
-    let joined = subst (AreJoined c.seats.inside.joiners c.seats.inside.feeders) (sym c.bout_of.ensures.frames)
+    let joined = subst (AreJoined c.seats.inside.cast) (sym c.bout_of.ensures.frames)
     c.seats.invariant.0 in
     let settled = settled_after c.in_ok-went.went seats.items new long (λ is. said.went (ap Ok is))
     (λ is. said.gathered (ap Ok is)) (λ is. said.same (ap Ok is)) (c.seats.invariant.1 c.if-seats.false) in
-    (fronts (record { joiners = c.seats.inside.joiners; feeders = c.seats.inside.feeders; seats = new; spent = false })
+    (fronts (record { cast = c.seats.inside.cast; seats = new; spent = false })
     joined settled)
 
 pub returns-clause-still : goal.returns-clause-still
@@ -41,8 +41,7 @@ returns-clause-still g c =
     λ is.
     rw (← c.seats.view_is)
     (still (record {
-      joiners = c.seats.inside.joiners;
-      feeders = c.seats.inside.feeders;
+      cast = c.seats.inside.cast;
       seats = c.seats.inside.seats.items;
       spent = c.seats.inside.spent;
     }) c.seats.invariant.0
@@ -54,8 +53,7 @@ returns-clause-busy g c =
     λ is.
     rw (← c.seats.view_is)
     (busy (record {
-      joiners = c.seats.inside.joiners;
-      feeders = c.seats.inside.feeders;
+      cast = c.seats.inside.cast;
       seats = c.seats.inside.seats.items;
       spent = c.seats.inside.spent;
     }) c.seats.invariant.0
@@ -65,8 +63,7 @@ pub returns-clause-collected : goal.returns-clause-collected
 returns-clause-collected g c =
     let said = c.in_ok-went.ensures in
     let v : SeatsView = record {
-      joiners = c.seats.inside.joiners;
-      feeders = c.seats.inside.feeders;
+      cast = c.seats.inside.cast;
       seats = c.seats.inside.seats.items;
       spent = c.seats.inside.spent;
     } in
@@ -80,8 +77,7 @@ pub returns-clause-collected_in_wave : goal.returns-clause-collected_in_wave
 returns-clause-collected_in_wave g c =
     let said = c.in_ok-went.ensures in
     let v : SeatsView = record {
-      joiners = c.seats.inside.joiners;
-      feeders = c.seats.inside.feeders;
+      cast = c.seats.inside.cast;
       seats = c.seats.inside.seats.items;
       spent = c.seats.inside.spent;
     } in
@@ -98,7 +94,7 @@ returns-clause-extends g c =
     let said = c.in_ok-went.ensures in
     let all = sym (length-map seats.items frame_of) ∙ c.seats.invariant.0.all in
     rw (← c.seats.view_is)
-    (extends_after c.in_ok-went.went c.seats.inside.joiners c.seats.inside.feeders seats.items new long all
+    (extends_after c.in_ok-went.went c.seats.inside.cast seats.items new long all
     (λ is. said.went (ap Ok is)) (λ is. said.same (ap Ok is)))
 
 pub returns-clause-journal : goal.returns-clause-journal
@@ -109,7 +105,7 @@ returns-clause-journal g c =
     let said = c.in_ok-went.ensures in
     let all = sym (length-map seats.items frame_of) ∙ c.seats.invariant.0.all in
     rw (← c.seats.view_is)
-    (journal_after c.in_ok-went.went c.seats.inside.joiners c.seats.inside.feeders seats.items new long all
+    (journal_after c.in_ok-went.went c.seats.inside.cast seats.items new long all
     (λ is. said.went (ap Ok is)) (λ is. said.same (ap Ok is)))
 
 pub returns-clause-stands : goal.returns-clause-stands
@@ -120,7 +116,7 @@ returns-clause-stands g c =
     let said = c.in_ok-went.ensures in
     let all = sym (length-map seats.items frame_of) ∙ c.seats.invariant.0.all in
     rw (← c.seats.view_is)
-    (λ input setting. stands_after c.in_ok-went.went c.seats.inside.joiners c.seats.inside.feeders seats.items new long
+    (λ input setting. stands_after c.in_ok-went.went c.seats.inside.cast seats.items new long
     all (λ is. said.went (ap Ok is)) (λ is. said.same (ap Ok is)) input setting (first_rest setting))
 
 pub returns-clause-stands_in_wave : goal.returns-clause-stands_in_wave
@@ -131,7 +127,7 @@ returns-clause-stands_in_wave g c =
     let said = c.in_ok-went.ensures in
     let all = sym (length-map seats.items frame_of) ∙ c.seats.invariant.0.all in
     rw (← c.seats.view_is)
-    (stands_after c.in_ok-went.went c.seats.inside.joiners c.seats.inside.feeders seats.items new long all
+    (stands_after c.in_ok-went.went c.seats.inside.cast seats.items new long all
     (λ is. said.went (ap Ok is)) (λ is. said.same (ap Ok is)))
 
 pub returns-clause-joins : goal.returns-clause-joins
@@ -142,7 +138,7 @@ returns-clause-joins g c =
     let said = c.in_ok-went.ensures in
     let all = sym (length-map seats.items frame_of) ∙ c.seats.invariant.0.all in
     rw (← c.seats.view_is)
-    (joins_after c.in_ok-went.went c.seats.inside.joiners c.seats.inside.feeders seats.items new long all
+    (joins_after c.in_ok-went.went c.seats.inside.cast seats.items new long all
     (λ is. said.went (ap Ok is)) (λ is. said.same (ap Ok is)))
 
 pub returns-clause-linked : goal.returns-clause-linked
@@ -152,19 +148,18 @@ returns-clause-linked g c =
     let long = c.bout_of.ensures.long in
     let said = c.in_ok-went.ensures in
     let all = sym (length-map seats.items frame_of) ∙ c.seats.invariant.0.all in
-    let joined = subst (AreJoined c.seats.inside.joiners c.seats.inside.feeders) (sym c.bout_of.ensures.frames)
+    let joined = subst (AreJoined c.seats.inside.cast) (sym c.bout_of.ensures.frames)
     c.seats.invariant.0 in
     let settled = settled_after c.in_ok-went.went seats.items new long (λ is. said.went (ap Ok is))
     (λ is. said.gathered (ap Ok is)) (λ is. said.same (ap Ok is)) (c.seats.invariant.1 c.if-seats.false) in
     rw (← c.seats.view_is)
     (λ input setting stands before. record {
       fronts = fronts (record {
-        joiners = c.seats.inside.joiners;
-        feeders = c.seats.inside.feeders;
+        cast = c.seats.inside.cast;
         seats = new;
         spent = false;
       }) joined settled;
-      linked = linked_after c.in_ok-went.went c.seats.inside.joiners c.seats.inside.feeders seats.items new long all
+      linked = linked_after c.in_ok-went.went c.seats.inside.cast seats.items new long all
           (λ is. said.went (ap Ok is)) (λ is. said.same (ap Ok is)) input setting (first_rest setting) stands
           before.linked;
     })
@@ -176,18 +171,17 @@ returns-clause-linked_in_wave g c =
     let long = c.bout_of.ensures.long in
     let said = c.in_ok-went.ensures in
     let all = sym (length-map seats.items frame_of) ∙ c.seats.invariant.0.all in
-    let joined = subst (AreJoined c.seats.inside.joiners c.seats.inside.feeders) (sym c.bout_of.ensures.frames)
+    let joined = subst (AreJoined c.seats.inside.cast) (sym c.bout_of.ensures.frames)
     c.seats.invariant.0 in
     let settled = settled_after c.in_ok-went.went seats.items new long (λ is. said.went (ap Ok is))
     (λ is. said.gathered (ap Ok is)) (λ is. said.same (ap Ok is)) (c.seats.invariant.1 c.if-seats.false) in
     rw (← c.seats.view_is)
     (λ input setting rest stands before. record {
       fronts = fronts (record {
-        joiners = c.seats.inside.joiners;
-        feeders = c.seats.inside.feeders;
+        cast = c.seats.inside.cast;
         seats = new;
         spent = false;
       }) joined settled;
-      linked = linked_after c.in_ok-went.went c.seats.inside.joiners c.seats.inside.feeders seats.items new long all
+      linked = linked_after c.in_ok-went.went c.seats.inside.cast seats.items new long all
           (λ is. said.went (ap Ok is)) (λ is. said.same (ap Ok is)) input setting rest stands before.linked;
     })

@@ -1,5 +1,6 @@
 use Rattle.std.proofs.Common.{◌∙◌, arith}
-use Rattle.join_runtime.proofs.SeatBouts.{swapped_work}
+use Rattle.actor_core.proofs.Dealing.{swapped_back}
+use Rattle.join_runtime.specs.Turns.{Works}
 use Rattle.join_runtime.proofs.dealt.+work_dealt.Goals as goal
 
 pub returns-then-from-count : goal.returns-then-from-count
@@ -12,7 +13,7 @@ returns-then-from-count g t c =
     let worked = c.work_dealt-worked.ensures in
     record {
       len = c.swap-then-from-count.ensures.len ∙ worked.len ∙ c.swap.ensures.len;
-      each = swapped_work c.args.seats.items c.swap.new.seats.items c.work_dealt-worked.result.items
+      each = swapped_back Works c.args.seats.items c.swap.new.seats.items c.work_dealt-worked.result.items
           c.swap-then-from-count.new.seats.items _ c.standing_at-from.result
           c.swap.ensures.len (omega (arith, some, few, all, counted)) (omega (arith, within, all, counted))
           c.swap.ensures.swapped worked.each c.swap-then-from-count.ensures.swapped;

@@ -20,12 +20,12 @@ give_mouths-requires g c =
     let away : t ≡ without s = c.take_mouths-mouths.ensures.rest ∙ ap without (sym is) in
     let own : mouths ≡ s.mouths = c.take_mouths-mouths.ensures.mouths ∙ ap (λ (x : SeatView). x.mouths) (sym is) in
     let served = c.take_mouths-mouths.ensures.served (c.requires.none_spent sender s c.requires.sender) in
-    let mine = subst (λ (x : SeatView). IsServed x.joiners x.feeders x.mouths x.core) (sym is) served in
+    let mine = subst (λ (x : SeatView). IsServed x.cast x.mouths x.core) (sym is) served in
     let back = served_back seats after sender s t last mouths c.requires.sender long is away own is'
     (λ r d low. c.gather_row.ensures.told r d (omega (arith, low, length-set seats sender t))) mine in
-    subst (λ ms. IsServed (get_or after sender last).joiners (get_or after sender last).feeders ms
+    subst (λ ms. IsServed (get_or after sender last).cast ms
     (get_or after sender last).core) (sym c.gather_row.ensures.mouths)
-    (subst (λ (x : SeatView). IsServed x.joiners x.feeders mouths x.core) is' back)
+    (subst (λ (x : SeatView). IsServed x.cast mouths x.core) is' back)
 
 pub returns : goal.returns
 returns g c =

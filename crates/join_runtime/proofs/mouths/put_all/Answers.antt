@@ -11,9 +11,9 @@ put_post-requires g c =
     let rest = c.next.new.self.rest.items in
     let first : c.loop-post.post-iterator.rest.items ≡ post ∷ rest = c.in-Some.ensures.steps.0 in
     let all = ap (λ ps. c.loop-post.yielded ++ ps) (sym first) ∙ is.left in
-    let have = subst (HaveMouths c.args.joiners c.args.feeders c.args.mouths.now.items) (sym all) c.requires in
-    has_still c.args.joiners c.args.feeders c.args.mouths.now.items c.loop-post.mouths.items is.same post.to
-    (have_next c.args.joiners c.args.feeders c.args.mouths.now.items c.loop-post.yielded post rest have)
+    let have = subst (HaveMouths c.args.cast c.args.mouths.now.items) (sym all) c.requires in
+    has_still c.args.cast c.args.mouths.now.items c.loop-post.mouths.items is.same post.to
+    (have_next c.args.cast c.args.mouths.now.items c.loop-post.yielded post rest have)
 
 pub loop-post-preserved : goal.loop-post-preserved
 loop-post-preserved g c =
@@ -23,7 +23,7 @@ loop-post-preserved g c =
       left = append_assoc c.loop-post.yielded (post ∷ []) c.next.new.self.rest.items
           ∙ (ap (λ ps. c.loop-post.yielded ++ ps) (sym first) ∙ c.loop-post.invariant.left);
       same = c.put_post.ensures.same ∙ c.loop-post.invariant.same;
-      sent = sent_through-more c.args.joiners c.args.feeders c.args.mouths.now.items c.loop-post.mouths.items
+      sent = sent_through-more c.args.cast c.args.mouths.now.items c.loop-post.mouths.items
           c.put_post.new.mouths.items c.loop-post.yielded c.in-Some.post c.loop-post.invariant.sent
           c.in_ok-put_post.ensures.sent;
     }

@@ -8,6 +8,6 @@ abbrev pub invariant-loop-post : goal.invariant-loop-post
 invariant-loop-post g l = record {
   left : l.yielded ++ l.post-iterator.rest.items ≡ l.fn.sends;
   same : map address_of l.mouths.items ≡ map address_of l.initial.mouths.items;
-  sent : (a : Actor) → sent_through l.joiners l.feeders l.mouths.items a
-      ≡ sent_through l.joiners l.feeders l.initial.mouths.items a ++ posted_to a l.yielded;
+  sent : (a : Actor) → sent_through l.cast l.mouths.items a
+      ≡ sent_through l.cast l.initial.mouths.items a ++ posted_to a l.yielded;
 }

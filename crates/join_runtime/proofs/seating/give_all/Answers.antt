@@ -7,7 +7,7 @@ use Rattle.join_runtime.proofs.seating.give_all.Goals as goal
 
 pub loop-receiver-init : goal.loop-receiver-init
 loop-receiver-init c = record {
-  filled = filled_none c.args.joiners c.args.feeders c.args.mouths.items c.args.seats.now.items c.requires.none;
+  filled = filled_none c.args.cast c.args.mouths.items c.args.seats.now.items c.requires.none;
   long = refl;
   rest = λ r low. refl;
 }
@@ -22,7 +22,7 @@ place_all-requires-clause-senders c mouth has =
     let low : i < length mouths = omega arith in
     let own = c.replace-own.ensures.value ∙ (c.index_mut.ensures.value
     ∙ (get_or_default mouths i there [] low ∙ inv.rest i (omega arith))) in
-    subst (λ n. HasSeat c.args.joiners c.args.feeders n mouth.from) (sym inv.filled.all)
+    subst (λ n. HasSeat c.args.cast n mouth.from) (sym inv.filled.all)
     (c.requires.senders i mouth (omega (arith, low, inv.long)) (subst (λ ms. Contains ms mouth) own has))
 
 pub place_all-requires-clause-places : goal.place_all-requires-clause-places
@@ -44,9 +44,9 @@ loop-receiver-preserved c =
     let own = c.replace-own.ensures.value ∙ (c.index_mut.ensures.value
     ∙ (get_or_default mouths i there [] low ∙ inv.rest i (omega arith))) in
     record {
-      filled = filled_more c.args.joiners c.args.feeders i all c.args.seats.now.items c.loop-receiver.seats.items
+      filled = filled_more c.args.cast i all c.args.seats.now.items c.loop-receiver.seats.items
           c.place_all.new.seats.items inv.filled
-          (subst (λ ms. Places c.args.joiners c.args.feeders i ms c.loop-receiver.seats.items
+          (subst (λ ms. Places c.args.cast i ms c.loop-receiver.seats.items
           c.place_all.new.seats.items) own c.place_all.ensures);
       long = length-set mouths i c.replace-own.new.dest ∙ inv.long;
       rest = λ r more. get_or-set_other mouths i r c.replace-own.new.dest [] (λ same. absurd (omega arith))
@@ -56,5 +56,5 @@ loop-receiver-preserved c =
 pub returns : goal.returns
 returns c =
     let end : c.loop-receiver.receiver ≡ length c.args.mouths.items = omega arith in
-    subst (λ n. AreFilled c.args.joiners c.args.feeders n c.args.mouths.items c.args.seats.now.items
+    subst (λ n. AreFilled c.args.cast n c.args.mouths.items c.args.seats.now.items
     c.loop-receiver.seats.items) end c.loop-receiver.invariant.filled

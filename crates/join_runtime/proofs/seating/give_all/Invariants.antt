@@ -4,7 +4,7 @@ use Rattle.join_runtime.proofs.seating.give_all.Given as goal
 
 abbrev pub invariant-loop-receiver : goal.invariant-loop-receiver
 invariant-loop-receiver l = record {
-  filled : AreFilled l.joiners l.feeders l.receiver l.initial.mouths.items l.initial.seats.items l.seats.items;
+  filled : AreFilled l.cast l.receiver l.initial.mouths.items l.initial.seats.items l.seats.items;
   long : length l.mouths.items ≡ length l.initial.mouths.items;
   rest : (r : ℕ) → l.receiver ≤ r → slice_index_or l.mouths.items r [] ≡ slice_index_or l.initial.mouths.items r [];
 }

@@ -17,7 +17,7 @@ loop-core-preserved c =
       number = ap (λ n. n + 1) is.number ∙ sym (length-append c.loop-core.yielded (core ∷ []));
       new =
           rw (c.in_ok-add_seat.ensures.seats, c.in_ok-add_seat.ensures.mouths)
-          (new_more c.args.joiners c.args.feeders c.loop-core.yielded core c.loop-core.seats.items
+          (new_more c.args.cast c.loop-core.yielded core c.loop-core.seats.items
           c.loop-core.all_mouths.items seat mouths is.new
-          (subst (λ n. IsNewSeat c.args.joiners c.args.feeders n core seat mouths) is.number c.in_ok-seat.ensures));
+          (subst (λ n. IsNewSeat c.args.cast n core seat mouths) is.number c.in_ok-seat.ensures));
     }

@@ -6,5 +6,5 @@ abbrev pub invariant-loop-core : goal.invariant-loop-core
 invariant-loop-core l = record {
   left : l.yielded ++ l.core-iterator.rest.items ≡ l.fn.cores.items;
   number : l.n ≡ length l.yielded;
-  new : AreNew l.joiners l.feeders (length l.yielded) l.yielded l.seats.items l.all_mouths.items;
+  new : AreNew l.cast (length l.yielded) l.yielded l.seats.items l.all_mouths.items;
 }

@@ -8,7 +8,7 @@ use Rattle.join_runtime.proofs.seating.place_all.Goals as goal
 pub loop-mouth-init : goal.loop-mouth-init
 loop-mouth-init c = record {
   left = c.into_iter-mouth-iterator.ensures.into_iter_gives.0 ∙ c.into_vec-mouth-items.ensures;
-  placed = places_none c.args.joiners c.args.feeders c.args.receiver c.args.seats.now.items;
+  placed = places_none c.args.cast c.args.receiver c.args.seats.now.items;
 }
 
 pub place-requires-clause-sender : goal.place-requires-clause-sender
@@ -20,7 +20,7 @@ place-requires-clause-sender c =
     let has : Contains c.args.mouths mouth =
     subst (λ ms. Contains ms mouth) (ap (λ ms. c.loop-mouth.yielded ++ ms) (sym first) ∙ is.left)
     (Contains-append_right c.loop-mouth.yielded (mouth ∷ rest) mouth (0, omega arith, refl)) in
-    subst (λ n. HasSeat c.args.joiners c.args.feeders n mouth.from) (sym is.placed.all)
+    subst (λ n. HasSeat c.args.cast n mouth.from) (sym is.placed.all)
     (c.requires.senders mouth has)
 
 pub place-requires-clause-places : goal.place-requires-clause-places
@@ -40,6 +40,6 @@ loop-mouth-preserved c =
     record {
       left = append_assoc c.loop-mouth.yielded (mouth ∷ []) c.next.new.self.rest.items
           ∙ (ap (λ ms. c.loop-mouth.yielded ++ ms) (sym first) ∙ is.left);
-      placed = places_more c.args.joiners c.args.feeders c.args.receiver c.loop-mouth.yielded mouth
+      placed = places_more c.args.cast c.args.receiver c.loop-mouth.yielded mouth
           c.args.seats.now.items c.loop-mouth.seats.items c.place.new.seats.items is.placed c.place.ensures;
     }

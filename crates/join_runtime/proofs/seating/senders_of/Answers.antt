@@ -1,5 +1,6 @@
-use Rattle.std.proofs.Common.{◌≡◌, ◌<◌, ◌+◌, ◌∙◌, Some, ap, arith, sym, true≢false}
-use Rattle.actor_core.specs.Numbers.{number}
+use Rattle.std.proofs.Common.{◌≡◌, ◌<◌, ◌+◌, ◌∙◌, Some, ap, arith, subst, sym, true≢false}
+use Rattle.actor_core.specs.Numbers.{count_of, number}
+use Rattle.join_runtime.specs.Seating.{AreBelow}
 use Rattle.join_runtime.proofs.InboxSenders.{below_more, below_none, below_push, linked_more, linked_none, linked_push}
 use Rattle.join_runtime.proofs.seating.senders_of.Goals.{then-has_link+in_ok-push, else-has_link}
 use Rattle.join_runtime.proofs.seating.senders_of.Goals as goal
@@ -9,34 +10,38 @@ pub loop-n-init : goal.loop-n-init
 loop-n-init c =
     rw c.new-senders.ensures
     (record {
-      numbers = below_none c.args.joiners c.args.feeders;
-      links = linked_none c.args.joiners c.args.feeders c.args.to;
+      numbers = below_none c.args.cast;
+      links = linked_none c.args.cast c.args.to;
     })
 
 pub loop-n-preserved : goal.loop-n-preserved
 loop-n-preserved c =
-    let joiners = c.args.joiners in
-    let feeders = c.args.feeders in
+    let cast = c.args.cast in
     let n = c.loop-n.n in
-    let from = c.actor_of-from.result in
-    let low : n < feeders + joiners + 2 = omega arith in
-    let is : number joiners feeders from ≡ Some n = ap (number joiners feeders) c.actor_of-from.ensures
-    ∙ number_there joiners feeders n low in
+    let from = c.actor_at-from.result in
+    let low : n < count_of cast = omega arith in
+    let is : number cast from ≡ Some n = ap (number cast) c.actor_at-from.ensures
+    ∙ number_there cast n low in
     let before = c.loop-n.invariant in
     elim c.if-has_link.branch [
       | then-has_link+in_ok-push w ↦
           rw (w.senders-is, w.in_ok-push.ensures.ok)
           (record {
-            numbers = below_push joiners feeders n c.loop-n.senders from is before.numbers;
-            links = linked_push joiners feeders n c.args.to from c.loop-n.senders is
+            numbers = below_push cast n c.loop-n.senders from is before.numbers;
+            links = linked_push cast n c.args.to from c.loop-n.senders is
                 (λ k grid. (c.has_link.ensures k grid).0 w.if-has_link.true) before.links;
           })
       | else-has_link w ↦
           rw w.senders-is
           (record {
-            numbers = below_more joiners feeders n c.loop-n.senders before.numbers;
-            links = linked_more joiners feeders n c.args.to from c.loop-n.senders is
+            numbers = below_more cast n c.loop-n.senders before.numbers;
+            links = linked_more cast n c.args.to from c.loop-n.senders is
                 (λ k grid link. true≢false (sym ((c.has_link.ensures k grid).1 link) ∙ w.if-has_link.false))
                 before.links;
           })
     ]
+
+pub returns-clause-numbers : goal.returns-clause-numbers
+returns-clause-numbers c =
+    let end : c.loop-n.n ≡ c.args.count = omega arith in
+    subst (λ n. AreBelow c.args.cast n c.loop-n.senders) end c.loop-n.invariant.numbers

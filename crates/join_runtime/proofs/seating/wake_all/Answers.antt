@@ -15,7 +15,7 @@ wake-requires c =
     let low : place < length c.args.seats.now.items = omega (arith, is.all) in
     let own : seat ≡ get_or c.args.seats.now.items place seat =
     c.index_mut.ensures.value ∙ is.rest place seat (omega arith) in
-    subst (λ (s : SeatView). IsServed s.joiners s.feeders s.mouths s.core) (sym own) (c.requires place seat low)
+    subst (λ (s : SeatView). IsServed s.cast s.mouths s.core) (sym own) (c.requires place seat low)
 
 pub loop-place-preserved : goal.loop-place-preserved
 loop-place-preserved c = awake_more c.loop-place.place c.args.seats.now.items c.loop-place.seats.items

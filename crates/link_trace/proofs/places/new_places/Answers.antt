@@ -1,10 +1,10 @@
-use Rattle.std.proofs.Common.{◌≡◌, ◌+◌, ◌^◌, All, [], ap, length, sym, subst, ◌∙◌, List}
+use Rattle.std.proofs.Common.{◌≡◌, ◌+◌, All, [], ap, length, sym, subst, ◌∙◌, List}
 use Rattle.std.specs.Prelude.{replicate}
 use Rattle.actor_core.specs.FirstCores.{IsFirstAt}
 use Rattle.actor_core.specs.Lists.{no_lists}
 use Rattle.actor_core.specs.Standing.{Stands}
 use Rattle.actor_core.specs.Families.{start_for}
-use Rattle.actor_core.specs.Numbers.{actor_at}
+use Rattle.actor_core.specs.Numbers.{actor_at, cast_of}
 use Rattle.actor_core.specs.declared.machines.Core.{Core}
 use Rattle.link_trace.specs.FirstWorlds.{HaveBegun}
 use Rattle.link_trace.specs.Worlds.{AreNew, cores_of, waiting_at, waiting_of}
@@ -22,7 +22,7 @@ loop-n-preserved c =
     let before = c.loop-n.places.items in
     let items = c.in_ok-push.ensures.items in
     let IsFresh : Core → Type 0 =
-    λ core. Stands (start_for input setting (actor_at (2 ^ setting.k) setting.feeders c.loop-n.n)) no_lists core in
+    λ core. Stands (start_for input setting (actor_at (cast_of setting) c.loop-n.n)) no_lists core in
     record {
       fresh = subst (AreNew input setting (c.loop-n.n + 1)) (sym items)
           (one_new input setting c.loop-n.n before c.loop-n.invariant.fresh place

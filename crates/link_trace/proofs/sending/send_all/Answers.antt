@@ -1,4 +1,5 @@
-use Rattle.std.proofs.Common.{◌≡◌, ◌+◌, ◌∙◌, ◌++◌, ◌∷◌, [], ap, append_assoc, refl, subst, sym}
+use Rattle.actor_core.specs.Numbers.{count_of}
+use Rattle.std.proofs.Common.{◌≡◌, ◌∙◌, ◌++◌, ◌∷◌, [], ap, append_assoc, refl, subst, sym}
 use Rattle.epoch_tags.specs.declared.message.Post.{Post}
 use Rattle.link_trace.specs.Worlds.{HasNumber, IsSquare, waiting_of, left_in, put_one, with_post}
 use Rattle.link_trace.proofs.SomeWave.{at_seam}
@@ -11,22 +12,22 @@ pub loop-post-init : goal.loop-post-init
 loop-post-init c = record {
   rest = (search);
   cores = refl;
-  left = put_none c.args.from (left_in c.args.joiners c.args.feeders (waiting_of c.args.places.now.items));
+  left = put_none c.args.from (left_in c.args.cast (waiting_of c.args.places.now.items));
   waiting = refl;
 }
 
 pub send-requires-clause-square : goal.send-requires-clause-square
 send-requires-clause-square c =
-    let all = c.args.feeders + c.args.joiners + 2 in
+    let all = count_of c.args.cast in
     subst (IsSquare all) (sym c.loop-post.invariant.waiting)
-    (square_posts c.args.joiners c.args.feeders all c.args.from c.loop-post.yielded
+    (square_posts c.args.cast all c.args.from c.loop-post.yielded
     (waiting_of c.args.places.now.items) c.requires.square)
 
 pub send-requires-clause-receiver : goal.send-requires-clause-receiver
 send-requires-clause-receiver c =
     let post = c.in-Some.post in
     let first : c.loop-post.post-iterator.rest.items ≡ post ∷ c.next.new.self.rest.items = c.in-Some.ensures.steps.0 in
-    at_seam (λ (post : Post). HasNumber c.args.joiners c.args.feeders post.to) c.args.sends c.loop-post.yielded
+    at_seam (λ (post : Post). HasNumber c.args.cast post.to) c.args.sends c.loop-post.yielded
     c.loop-post.post-iterator.rest.items c.next.new.self.rest.items post
     c.loop-post.invariant.rest first c.requires.receivers
 
@@ -42,7 +43,7 @@ loop-post-preserved c =
       left = c.in_ok-send.ensures.left ∙ ap (put_one c.args.from post.to post.msg) is.left
           ∙ put_more c.args.from _ posts post;
       waiting = c.in_ok-send.ensures.waiting
-          ∙ ap (with_post c.args.joiners c.args.feeders c.args.from post) is.waiting
-          ∙ sym (one_post_more c.args.joiners c.args.feeders c.args.from posts post
+          ∙ ap (with_post c.args.cast c.args.from post) is.waiting
+          ∙ sym (one_post_more c.args.cast c.args.from posts post
           (waiting_of c.args.places.now.items));
     }

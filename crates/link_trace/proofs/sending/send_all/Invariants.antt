@@ -7,8 +7,8 @@ abbrev pub invariant-loop-post : goal.invariant-loop-post
 invariant-loop-post l = record {
   rest : l.yielded ++ l.post-iterator.rest.items ≡ l.fn.sends;
   cores : cores_of l.places.items ≡ cores_of l.initial.places.items;
-  left : left_in l.joiners l.feeders (waiting_of l.places.items)
-      ≡ put_on l.from l.yielded (left_in l.joiners l.feeders (waiting_of l.initial.places.items));
+  left : left_in l.cast (waiting_of l.places.items)
+      ≡ put_on l.from l.yielded (left_in l.cast (waiting_of l.initial.places.items));
   waiting : waiting_of l.places.items
-      ≡ with_posts l.joiners l.feeders l.from l.yielded (waiting_of l.initial.places.items);
+      ≡ with_posts l.cast l.from l.yielded (waiting_of l.initial.places.items);
 }

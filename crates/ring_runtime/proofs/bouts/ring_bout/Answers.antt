@@ -1,8 +1,9 @@
-use Rattle.std.proofs.Common.{◌≡◌, ◌∙◌, Ok, ap, length, map, subst, sym}
+use Rattle.std.proofs.Common.{◌≡◌, ◌∙◌, Ok, ap, false, length, map, subst, sym}
+use Rattle.std.proofs.Math.Logic.{∥∥₁_map}
 use Rattle.std.proofs.lemmas.List.{length-map, with_items_is}
 use Rattle.ring_runtime.specs.Seats.{frame_of}
 use Rattle.ring_runtime.specs.Joins.{AreWired}
-use Rattle.ring_runtime.specs.Bouts.{RingSeatsView}
+use Rattle.ring_runtime.specs.Bouts.{RingSeatsView, StandsForSome}
 use Rattle.ring_runtime.proofs.RingBouts.{event_made, extends_after, journal_after, linked_after, moves_on}
 use Rattle.ring_runtime.proofs.RingBouts.{settled_after, stands_after}
 use Rattle.ring_runtime.proofs.RingLists.{busy, fronts, rest_collected, still}
@@ -16,11 +17,19 @@ invariant_of-seats-2 g c =
     let long : length new ≡ length seats.items = c.bout_of.auto.seats ∙ ap length value in
     let items = with_items_is seats new (long ∙ sym seats.ok.0) in
     let said = rw value at c.in_ok-went.ensures in
-    let wired = subst (AreWired c.seats.inside.joiners c.seats.inside.feeders)
+    let wired = subst (AreWired c.seats.inside.cast)
     (sym (c.bout_of.ensures.frames ∙ ap (map frame_of) value)) c.seats.invariant.0 in
     let settled = settled_after c.in_ok-went.went seats.items new long (λ is. said.went (ap Ok is))
     (λ is. said.held (ap Ok is)) (λ is. said.same (ap Ok is)) (c.seats.invariant.1 c.if-seats.false) in
-    rw items (wired, λ z. settled)
+    let all = sym (length-map seats.items frame_of) ∙ c.seats.invariant.0.all in
+    let some : ∥ StandsForSome (record { cast = c.seats.inside.cast; seats = new; spent = false }) ∥₁ =
+    ∥∥₁_map (c.seats.invariant.2 c.if-seats.false) (λ is. record {
+      input = is.input;
+      setting = is.setting;
+      stands = stands_after c.in_ok-went.went c.seats.inside.cast seats.items new long all
+          (λ e. said.went (ap Ok e)) (λ e. said.same (ap Ok e)) is.input is.setting is.stands;
+    }) in
+    rw items (wired, λ z. settled, λ z. some)
 
 pub returns-clause-agrees : goal.returns-clause-agrees
 returns-clause-agrees g c =
@@ -30,11 +39,11 @@ returns-clause-agrees g c =
     let long : length new ≡ length seats.items = c.bout_of.auto.seats ∙ ap length value in
     let items = with_items_is seats new (long ∙ sym seats.ok.0) in
     let said = rw value at c.in_ok-went.ensures in
-    let wired = subst (AreWired c.seats.inside.joiners c.seats.inside.feeders)
+    let wired = subst (AreWired c.seats.inside.cast)
     (sym (c.bout_of.ensures.frames ∙ ap (map frame_of) value)) c.seats.invariant.0 in
     let settled = settled_after c.in_ok-went.went seats.items new long (λ is. said.went (ap Ok is))
     (λ is. said.held (ap Ok is)) (λ is. said.same (ap Ok is)) (c.seats.invariant.1 c.if-seats.false) in
-    rw items (fronts c.seats.inside.joiners c.seats.inside.feeders new wired settled.held)
+    rw items (fronts c.seats.inside.cast new wired settled.held)
 
 pub returns-clause-event : goal.returns-clause-event
 returns-clause-event g c =
@@ -45,7 +54,7 @@ returns-clause-event g c =
     let items = with_items_is seats new (long ∙ sym seats.ok.0) in
     let said = rw value at c.in_ok-went.ensures in
     λ is. rw (← c.seats.view_is, items)
-    (event_made c.seats.inside.joiners c.seats.inside.feeders seats.items new long (said.went is))
+    (event_made c.seats.inside.cast seats.items new long (said.went is))
 
 pub returns-clause-moves : goal.returns-clause-moves
 returns-clause-moves g c =
@@ -55,11 +64,11 @@ returns-clause-moves g c =
     let long : length new ≡ length seats.items = c.bout_of.auto.seats ∙ ap length value in
     let items = with_items_is seats new (long ∙ sym seats.ok.0) in
     let said = rw value at c.in_ok-went.ensures in
-    let wired = subst (AreWired c.seats.inside.joiners c.seats.inside.feeders)
+    let wired = subst (AreWired c.seats.inside.cast)
     (sym (c.bout_of.ensures.frames ∙ ap (map frame_of) value)) c.seats.invariant.0 in
     λ is.
     rw (← c.seats.view_is, items)
-    (moves_on c.seats.inside.joiners c.seats.inside.feeders seats.items new long (said.went is) c.seats.invariant.0
+    (moves_on c.seats.inside.cast seats.items new long (said.went is) c.seats.invariant.0
     wired (c.seats.invariant.1 c.if-seats.false).held (said.held is) (said.busy is))
 
 pub returns-clause-still : goal.returns-clause-still
@@ -68,8 +77,7 @@ returns-clause-still g c =
     λ is.
     rw (← c.seats.view_is)
     (still (record {
-      joiners = c.seats.inside.joiners;
-      feeders = c.seats.inside.feeders;
+      cast = c.seats.inside.cast;
       seats =
           c.seats.inside.seats.items;
       spent = c.seats.inside.spent;
@@ -82,8 +90,7 @@ returns-clause-busy g c =
     λ is.
     rw (← c.seats.view_is)
     (busy (record {
-      joiners = c.seats.inside.joiners;
-      feeders = c.seats.inside.feeders;
+      cast = c.seats.inside.cast;
       seats =
           c.seats.inside.seats.items;
       spent = c.seats.inside.spent;
@@ -95,8 +102,7 @@ returns-clause-collected g c =
     let said = rw c.as_mut_slice.ensures.value at c.in_ok-went.ensures in
     let v : RingSeatsView =
     record {
-      joiners = c.seats.inside.joiners;
-      feeders = c.seats.inside.feeders;
+      cast = c.seats.inside.cast;
       seats =
           c.seats.inside.seats.items;
       spent = c.seats.inside.spent;
@@ -116,7 +122,7 @@ returns-clause-extends g c =
     let said = rw value at c.in_ok-went.ensures in
     let all = sym (length-map seats.items frame_of) ∙ c.seats.invariant.0.all in
     rw (← c.seats.view_is, items)
-    (extends_after c.in_ok-went.went c.seats.inside.joiners c.seats.inside.feeders seats.items new long all
+    (extends_after c.in_ok-went.went c.seats.inside.cast seats.items new long all
     (λ is. said.went (ap Ok is)) (λ is. said.same (ap Ok is)))
 
 pub returns-clause-journal : goal.returns-clause-journal
@@ -129,7 +135,7 @@ returns-clause-journal g c =
     let said = rw value at c.in_ok-went.ensures in
     let all = sym (length-map seats.items frame_of) ∙ c.seats.invariant.0.all in
     rw (← c.seats.view_is, items)
-    (journal_after c.in_ok-went.went c.seats.inside.joiners c.seats.inside.feeders seats.items new long all
+    (journal_after c.in_ok-went.went c.seats.inside.cast seats.items new long all
     (λ is. said.went (ap Ok is)) (λ is. said.same (ap Ok is)))
 
 pub returns-clause-stands : goal.returns-clause-stands
@@ -142,7 +148,7 @@ returns-clause-stands g c =
     let said = rw value at c.in_ok-went.ensures in
     let all = sym (length-map seats.items frame_of) ∙ c.seats.invariant.0.all in
     rw (← c.seats.view_is, items)
-    (stands_after c.in_ok-went.went c.seats.inside.joiners c.seats.inside.feeders seats.items new long all
+    (stands_after c.in_ok-went.went c.seats.inside.cast seats.items new long all
     (λ is. said.went (ap Ok is)) (λ is. said.same (ap Ok is)))
 
 pub returns-clause-linked : goal.returns-clause-linked
@@ -154,13 +160,13 @@ returns-clause-linked g c =
     let items = with_items_is seats new (long ∙ sym seats.ok.0) in
     let said = rw value at c.in_ok-went.ensures in
     let all = sym (length-map seats.items frame_of) ∙ c.seats.invariant.0.all in
-    let wired = subst (AreWired c.seats.inside.joiners c.seats.inside.feeders)
+    let wired = subst (AreWired c.seats.inside.cast)
     (sym (c.bout_of.ensures.frames ∙ ap (map frame_of) value)) c.seats.invariant.0 in
     let settled = settled_after c.in_ok-went.went seats.items new long (λ is. said.went (ap Ok is))
     (λ is. said.held (ap Ok is)) (λ is. said.same (ap Ok is)) (c.seats.invariant.1 c.if-seats.false) in
     rw (← c.seats.view_is, items)
     (λ input setting stands before. record {
-      fronts = fronts c.seats.inside.joiners c.seats.inside.feeders new wired settled.held;
-      linked = linked_after c.in_ok-went.went c.seats.inside.joiners c.seats.inside.feeders seats.items new long all
+      fronts = fronts c.seats.inside.cast new wired settled.held;
+      linked = linked_after c.in_ok-went.went c.seats.inside.cast seats.items new long all
           (λ is. said.went (ap Ok is)) (λ is. said.same (ap Ok is)) input setting stands before.linked;
     })

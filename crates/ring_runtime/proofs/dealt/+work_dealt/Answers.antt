@@ -1,6 +1,6 @@
 use Rattle.std.proofs.Common.{arith}
 use Rattle.ring_runtime.specs.Turns.{Works}
-use Rattle.ring_runtime.proofs.Dealing.{swapped_back}
+use Rattle.actor_core.proofs.Dealing.{swapped_back}
 use Rattle.ring_runtime.proofs.dealt.+work_dealt.Goals as goal
 
 pub returns-then-from-count : goal.returns-then-from-count

@@ -4,4 +4,4 @@ use Rattle.seats_law.proofs.laws.ring_seats_agree.Goals as goal
 
 pub returns : goal.returns
 returns c = λ input setting v stands fronts.
-    agrees input setting v.joiners v.feeders (cores_in v) (lists_in v) stands fronts
+    agrees input setting v.cast (cores_in v) (lists_in v) stands fronts

@@ -4,4 +4,4 @@ use Rattle.seats_law.proofs.laws.seats_agree.Goals as goal
 
 pub returns : goal.returns
 returns c = λ input setting rest v stands fronts.
-    agrees_in_wave input setting rest v.joiners v.feeders (cores_in v) (lists_in v) stands fronts
+    agrees_in_wave input setting rest v.cast (cores_in v) (lists_in v) stands fronts

@@ -1,29 +1,27 @@
 use Rattle.std.proofs.Common.{◌≡◌, subst, sym, true}
-use Rattle.actor_core.specs.Endings.{AreLast}
+use Rattle.actor_core.specs.Endings.{AreLast, HaveLast}
 use Rattle.join_runtime.specs.Bouts.{SeatsView, lists_in}
-use Rattle.join_runtime.specs.Endings.{EndsView, HaveLastTwo, is_collected, lists_left}
+use Rattle.join_runtime.specs.Endings.{EndsView, is_collected, lists_left}
 use Rattle.join_runtime.proofs.Ended.{complete_there, ends_keep, told_family, told_journal, told_run}
-use Rattle.join_runtime.proofs.LastMachines.{have_last_two}
+use Rattle.join_runtime.proofs.LastMachines.{have_last}
 use Rattle.join_runtime.proofs.bouts.Seats.finish.Goals as goal
 
 pub last_two-controller-requires : goal.last_two-controller-requires
 last_two-controller-requires c =
     let own = c.self.inside in
     let v : SeatsView = record {
-      joiners = own.joiners;
-      feeders = own.feeders;
+      cast = own.cast;
       seats = own.seats.items;
       spent = own.spent;
     } in
-    subst HaveLastTwo (sym c.in_ok-cores.ensures.cores)
-    (have_last_two v c.self.invariant.0 (c.self.invariant.1 c.if-spent.false))
+    ∣ subst HaveLast (sym c.in_ok-cores.ensures.cores)
+    (have_last v c.self.invariant.0 (c.self.invariant.1 c.if-spent.false)) ∣₁
 
 pub answer-requires : goal.answer-requires
 answer-requires c =
     let own = c.self.inside in
     let v : SeatsView = record {
-      joiners = own.joiners;
-      feeders = own.feeders;
+      cast = own.cast;
       seats = own.seats.items;
       spent = own.spent;
     } in
@@ -36,28 +34,26 @@ pub returns-clause-family : goal.returns-clause-family
 returns-clause-family c =
     let own = c.self.inside in
     let v : SeatsView = record {
-      joiners = own.joiners;
-      feeders = own.feeders;
+      cast = own.cast;
       seats = own.seats.items;
       spent = own.spent;
     } in
     let two = c.last_two-controller.result in
     let last = subst (λ cores. AreLast cores two.0 two.1) c.in_ok-cores.ensures.cores c.last_two-controller.ensures in
     let done : is_collected v ≡ true = rw (← c.self.view_is) at c.requires in
-    let e : EndsView = record { joiners = own.joiners; feeders = own.feeders; ends = c.in_ok-cores.ends.items } in
+    let e : EndsView = record { cast = own.cast; ends = c.in_ok-cores.ends.items } in
     rw (← c.self.view_is)
     (λ input setting valid stands fronts.
     told_family v c.self.invariant.0 two.0 two.1 last c.complete_is_finished.ensures done input setting
     valid stands fronts c.in_ok-run.run' c.in_ok-run.ensures.journal e
-    (λ a. subst (λ es. lists_left (record { joiners = own.joiners; feeders = own.feeders; ends = es }) a ≡ lists_in v a)
+    (λ a. subst (λ es. lists_left (record { cast = own.cast; ends = es }) a ≡ lists_in v a)
     (sym c.in_ok-cores.ensures.ends) (ends_keep v a)))
 
 pub returns-clause-run : goal.returns-clause-run
 returns-clause-run c =
     let own = c.self.inside in
     let v : SeatsView = record {
-      joiners = own.joiners;
-      feeders = own.feeders;
+      cast = own.cast;
       seats = own.seats.items;
       spent = own.spent;
     } in
@@ -73,8 +69,7 @@ pub returns-clause-journal : goal.returns-clause-journal
 returns-clause-journal c =
     let own = c.self.inside in
     let v : SeatsView = record {
-      joiners = own.joiners;
-      feeders = own.feeders;
+      cast = own.cast;
       seats = own.seats.items;
       spent = own.spent;
     } in
@@ -87,11 +82,10 @@ pub returns-clause-ends : goal.returns-clause-ends
 returns-clause-ends c =
     let own = c.self.inside in
     let v : SeatsView = record {
-      joiners = own.joiners;
-      feeders = own.feeders;
+      cast = own.cast;
       seats = own.seats.items;
       spent = own.spent;
     } in
     rw (← c.self.view_is)
-    (λ a. subst (λ es. lists_left (record { joiners = own.joiners; feeders = own.feeders; ends = es }) a ≡ lists_in v a)
+    (λ a. subst (λ es. lists_left (record { cast = own.cast; ends = es }) a ≡ lists_in v a)
     (sym c.in_ok-cores.ensures.ends) (ends_keep v a))

@@ -10,13 +10,12 @@ pub wave_run-requires : goal.wave_run-requires
 wave_run-requires c =
     let own = c.self.inside in
     let v : SeatsView = record {
-      joiners = own.joiners;
-      feeders = own.feeders;
+      cast = own.cast;
       seats = own.seats.items;
       spent = own.spent;
     } in
     let left = c.in_ok-left.left in
-    let are = subst (λ cs. AreLeft own.feeders cs left.0 left.1 left.2) c.in_ok-cores.ensures.cores
+    let are = subst (λ cs. AreLeft own.cast.feeders cs left.0 left.1 left.2) c.in_ok-cores.ensures.cores
     c.in_ok-left.ensures in
     let last = last_two (cores_in v) are.front left.1 left.2 are.all in
     let done : is_collected v ≡ true = rw (← c.self.view_is) at c.requires in
@@ -26,35 +25,33 @@ pub returns-clause-family : goal.returns-clause-family
 returns-clause-family c =
     let own = c.self.inside in
     let v : SeatsView = record {
-      joiners = own.joiners;
-      feeders = own.feeders;
+      cast = own.cast;
       seats = own.seats.items;
       spent = own.spent;
     } in
     let left = c.in_ok-left.left in
-    let are = subst (λ cs. AreLeft own.feeders cs left.0 left.1 left.2) c.in_ok-cores.ensures.cores
+    let are = subst (λ cs. AreLeft own.cast.feeders cs left.0 left.1 left.2) c.in_ok-cores.ensures.cores
     c.in_ok-left.ensures in
     let last = last_two (cores_in v) are.front left.1 left.2 are.all in
     let done : is_collected v ≡ true = rw (← c.self.view_is) at c.requires in
-    let e : EndsView = record { joiners = own.joiners; feeders = own.feeders; ends = c.in_ok-cores.ends.items } in
+    let e : EndsView = record { cast = own.cast; ends = c.in_ok-cores.ends.items } in
     rw (← c.self.view_is)
     (λ input setting rest valid begins stands fronts.
     told_wave v c.self.invariant.0 left.1 left.2 last c.complete_is_finished.ensures done input setting rest
     valid begins stands fronts c.in_ok-wave.wave.run c.in_ok-wave.ensures.journal e
-    (λ a. subst (λ es. lists_left (record { joiners = own.joiners; feeders = own.feeders; ends = es }) a ≡ lists_in v a)
+    (λ a. subst (λ es. lists_left (record { cast = own.cast; ends = es }) a ≡ lists_in v a)
     (sym c.in_ok-cores.ensures.ends) (ends_keep v a)))
 
 pub returns-clause-run : goal.returns-clause-run
 returns-clause-run c =
     let own = c.self.inside in
     let v : SeatsView = record {
-      joiners = own.joiners;
-      feeders = own.feeders;
+      cast = own.cast;
       seats = own.seats.items;
       spent = own.spent;
     } in
     let left = c.in_ok-left.left in
-    let are = subst (λ cs. AreLeft own.feeders cs left.0 left.1 left.2) c.in_ok-cores.ensures.cores
+    let are = subst (λ cs. AreLeft own.cast.feeders cs left.0 left.1 left.2) c.in_ok-cores.ensures.cores
     c.in_ok-left.ensures in
     let last = last_two (cores_in v) are.front left.1 left.2 are.all in
     let done : is_collected v ≡ true = rw (← c.self.view_is) at c.requires in
@@ -67,19 +64,18 @@ pub returns-clause-rest : goal.returns-clause-rest
 returns-clause-rest c =
     let own = c.self.inside in
     let v : SeatsView = record {
-      joiners = own.joiners;
-      feeders = own.feeders;
+      cast = own.cast;
       seats = own.seats.items;
       spent = own.spent;
     } in
     let left = c.in_ok-left.left in
-    let are = subst (λ cs. AreLeft own.feeders cs left.0 left.1 left.2) c.in_ok-cores.ensures.cores
+    let are = subst (λ cs. AreLeft own.cast.feeders cs left.0 left.1 left.2) c.in_ok-cores.ensures.cores
     c.in_ok-left.ensures in
     let last = last_two (cores_in v) are.front left.1 left.2 are.all in
     let done : is_collected v ≡ true = rw (← c.self.view_is) at c.requires in
     let said = c.in_ok-wave.ensures in
     let next = c.in_ok-wave.wave.rest in
-    let kept = subst (λ stores. AreLeft own.feeders (cores_in v) stores left.1 left.2) (sym said.stores) are in
+    let kept = subst (λ stores. AreLeft own.cast.feeders (cores_in v) stores left.1 left.2) (sym said.stores) are in
     rw (← c.self.view_is)
     (λ input setting rest valid begins stands fronts joins.
     told_rest v c.self.invariant.0 left.1 left.2 last c.complete_is_finished.ensures done input setting rest
@@ -89,13 +85,12 @@ pub returns-clause-journal : goal.returns-clause-journal
 returns-clause-journal c =
     let own = c.self.inside in
     let v : SeatsView = record {
-      joiners = own.joiners;
-      feeders = own.feeders;
+      cast = own.cast;
       seats = own.seats.items;
       spent = own.spent;
     } in
     let left = c.in_ok-left.left in
-    let are = subst (λ cs. AreLeft own.feeders cs left.0 left.1 left.2) c.in_ok-cores.ensures.cores
+    let are = subst (λ cs. AreLeft own.cast.feeders cs left.0 left.1 left.2) c.in_ok-cores.ensures.cores
     c.in_ok-left.ensures in
     let last = last_two (cores_in v) are.front left.1 left.2 are.all in
     rw (← c.self.view_is)
@@ -105,11 +100,10 @@ pub returns-clause-ends : goal.returns-clause-ends
 returns-clause-ends c =
     let own = c.self.inside in
     let v : SeatsView = record {
-      joiners = own.joiners;
-      feeders = own.feeders;
+      cast = own.cast;
       seats = own.seats.items;
       spent = own.spent;
     } in
     rw (← c.self.view_is)
-    (λ a. subst (λ es. lists_left (record { joiners = own.joiners; feeders = own.feeders; ends = es }) a ≡ lists_in v a)
+    (λ a. subst (λ es. lists_left (record { cast = own.cast; ends = es }) a ≡ lists_in v a)
     (sym c.in_ok-cores.ensures.ends) (ends_keep v a))

@@ -14,8 +14,7 @@ pub fresh-requires : goal.fresh-requires
 fresh-requires c =
     let own = c.self.inside in
     let v : SeatsView = record {
-      joiners = own.joiners;
-      feeders = own.feeders;
+      cast = own.cast;
       seats = own.seats.items;
       spent = own.spent;
     } in
@@ -23,7 +22,7 @@ fresh-requires c =
     let some = many_seats v c.self.invariant.0 in
     let place = c.len-count.result - 1 in
     let low : place < length v.seats = omega (arith, size, some) in
-    let is : v.feeders + v.joiners + 1 ≡ place = omega (arith, size, some) in
+    let is : v.cast.feeders + v.cast.joiners + 1 ≡ place = omega (arith, size, some) in
     let at_work : v.spent ≡ false = subst (λ (x : SeatsView). x.spent ≡ false) (sym c.self.view_is) c.requires in
     subst (λ (s : SeatView). IsMachineOf s.core Collector) (sym c.index_mut.ensures.value)
     (own_machine v c.self.invariant.0 (c.self.invariant.1 at_work) place c.index_mut.result.now Collector low
@@ -33,8 +32,7 @@ pub invariant_of-self : goal.invariant_of-self
 invariant_of-self c =
     let own = c.self.inside in
     let v : SeatsView = record {
-      joiners = own.joiners;
-      feeders = own.feeders;
+      cast = own.cast;
       seats = own.seats.items;
       spent = own.spent;
     } in
@@ -55,8 +53,7 @@ pub returns-clause-gives : goal.returns-clause-gives
 returns-clause-gives c =
     let own = c.self.inside in
     let v : SeatsView = record {
-      joiners = own.joiners;
-      feeders = own.feeders;
+      cast = own.cast;
       seats = own.seats.items;
       spent = own.spent;
     } in
@@ -78,8 +75,7 @@ pub returns-clause-given : goal.returns-clause-given
 returns-clause-given c =
     let own = c.self.inside in
     let v : SeatsView = record {
-      joiners = own.joiners;
-      feeders = own.feeders;
+      cast = own.cast;
       seats = own.seats.items;
       spent = own.spent;
     } in
@@ -99,8 +95,7 @@ pub returns-clause-stands : goal.returns-clause-stands
 returns-clause-stands c =
     let own = c.self.inside in
     let v : SeatsView = record {
-      joiners = own.joiners;
-      feeders = own.feeders;
+      cast = own.cast;
       seats = own.seats.items;
       spent = own.spent;
     } in
@@ -119,8 +114,7 @@ pub returns-clause-lists : goal.returns-clause-lists
 returns-clause-lists c =
     let own = c.self.inside in
     let v : SeatsView = record {
-      joiners = own.joiners;
-      feeders = own.feeders;
+      cast = own.cast;
       seats = own.seats.items;
       spent = own.spent;
     } in

@@ -9,7 +9,7 @@ put_all-requires g c =
     let own = c.self.inside in
     let caused = rw c.in-Took.is at c.in_ok-open.ensures.opens in
     let served = rw (← c.self.view_is) at c.requires.served in
-    posts_served own.joiners own.feeders own.mouths.items caused.cause own.core c.open.new.core caused.occurs.added
+    posts_served own.cast own.mouths.items caused.cause own.core c.open.new.core caused.occurs.added
     c.new-sends.result c.open.new.sends c.new-sends.ensures caused.occurs.sends caused.occurs.event served
 
 pub returns-in_ok-put_all-in-Took-clause-served : goal.returns-in_ok-put_all-in-Took-clause-served
@@ -17,7 +17,7 @@ returns-in_ok-put_all-in-Took-clause-served g c =
     let own = c.self.inside in
     let caused = rw c.in-Took.is at c.in_ok-open.ensures.opens in
     let served = rw (← c.self.view_is) at c.requires.served in
-    served_after own.joiners own.feeders own.mouths.items c.put_all.new.mouths.items
+    served_after own.cast own.mouths.items c.put_all.new.mouths.items
     c.in_ok-put_all-in-Took.ensures.same
     caused.cause own.core c.open.new.core caused.occurs.added caused.occurs.event served
 
@@ -26,8 +26,7 @@ returns-in_ok-put_all-in-Took-clause-took g c is =
     let own = c.self.inside in
     let caused = rw c.in-Took.is at c.in_ok-open.ensures.opens in
     let v : SeatView = record {
-      joiners = own.joiners;
-      feeders = own.feeders;
+      cast = own.cast;
       actor = own.actor;
       core = own.core;
       inbox = own.inbox;

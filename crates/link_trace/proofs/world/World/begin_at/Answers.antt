@@ -1,10 +1,12 @@
-use Rattle.std.proofs.Common.{◌≡◌, ◌+◌, ◌<◌, ◌∙◌, sym, subst}
+use Rattle.std.proofs.Common.{◌<◌, ◌∙◌, sym, subst}
 use Rattle.epoch_tags.specs.declared.actor.Actor.TheVariants.{Feeder}
+use Rattle.actor_core.specs.Numbers.{count_of}
 use Rattle.actor_core.specs.Lists.{Began}
 use Rattle.actor_core.proofs.OwnNumbers.{none_some}
+use Rattle.actor_core.proofs.Seated.{number_low}
 use Rattle.link_trace.specs.Worlds.{IsSquare, cores_of, state_among, waiting_of}
 use Rattle.link_trace.proofs.SomeWave.{sends_there, stands_still}
-use Rattle.link_trace.proofs.Squares.{number_below, places_by_waiting, square_posts}
+use Rattle.link_trace.proofs.Squares.{places_by_waiting, square_posts}
 use Rattle.link_trace.proofs.WorldEvents.{begun, when_begun}
 use Rattle.link_trace.proofs.world.World.begin_at.Goals as goal
 
@@ -13,12 +15,12 @@ begin-requires c =
     let self = c.args.self.now in
     let square = self.square c.requires.going in
     subst (λ n. c.args.at < n) (sym square.tall ∙ places_by_waiting self.places.items)
-    (number_below self.joiners self.feeders (Feeder c.args.p) c.args.at c.requires.at)
+    (number_low self.cast (Feeder c.args.p) c.args.at c.requires.at)
 
 pub send_all-requires-clause-square : goal.send_all-requires-clause-square
 send_all-requires-clause-square c =
     let self = c.args.self.now in
-    subst (IsSquare (self.feeders + self.joiners + 2)) (sym c.begin.ensures.waiting) (self.square c.requires.going)
+    subst (IsSquare (count_of self.cast)) (sym c.begin.ensures.waiting) (self.square c.requires.going)
 
 pub send_all-requires-clause-sender : goal.send_all-requires-clause-sender
 send_all-requires-clause-sender c none = none_some c.args.at (sym none ∙ c.requires.at)
@@ -26,7 +28,7 @@ send_all-requires-clause-sender c none = none_some c.args.at (sym none ∙ c.req
 pub send_all-requires-clause-receivers : goal.send_all-requires-clause-receivers
 send_all-requires-clause-receivers c =
     let self = c.args.self.now in
-    sends_there (state_among self.joiners self.feeders self.places.items) (self.stands c.requires.going)
+    sends_there (state_among self.cast self.places.items) (self.stands c.requires.going)
     (Feeder c.args.p) c.args.at c.requires.at Began (cores_of c.begin.new.places.items) c.new-sends.result
     c.begin.new.sends c.new-sends.ensures
     (when_begun _ _ c.in_ok-begun.begun (search) c.in_ok-begun.ensures.occurs)
@@ -34,7 +36,7 @@ send_all-requires-clause-receivers c =
 pub returns-clause-took : goal.returns-clause-took
 returns-clause-took c is =
     let self = c.args.self.now in
-    begun self.joiners self.feeders (Feeder c.args.p) c.args.at c.requires.at
+    begun self.cast (Feeder c.args.p) c.args.at c.requires.at
     (cores_of self.places.items) (cores_of c.begin.new.places.items) (cores_of c.send_all.new.places.items)
     (waiting_of self.places.items) (waiting_of c.begin.new.places.items) (waiting_of c.send_all.new.places.items)
     c.new-sends.result c.begin.new.sends
@@ -44,9 +46,9 @@ returns-clause-took c is =
 pub invariant_of-self-2 : goal.invariant_of-self-2
 invariant_of-self-2 c =
     let self = c.args.self.now in
-    let all = self.feeders + self.joiners + 2 in
+    let all = count_of self.cast in
     let later = waiting_of c.begin.new.places.items in
-    let made = begun self.joiners self.feeders (Feeder c.args.p) c.args.at c.requires.at
+    let made = begun self.cast (Feeder c.args.p) c.args.at c.requires.at
     (cores_of self.places.items) (cores_of c.begin.new.places.items) (cores_of c.send_all.new.places.items)
     (waiting_of self.places.items) later (waiting_of c.send_all.new.places.items)
     c.new-sends.result c.begin.new.sends
@@ -54,9 +56,9 @@ invariant_of-self-2 c =
     c.new-sends.ensures c.send_all.ensures.cores c.in_ok-send_all.ensures.left c.in_ok-send_all.ensures.waiting in
     record {
       square = λ going. subst (IsSquare all) (sym c.in_ok-send_all.ensures.waiting)
-          (square_posts self.joiners self.feeders all (Feeder c.args.p) c.begin.new.sends later
+          (square_posts self.cast all (Feeder c.args.p) c.begin.new.sends later
           (subst (IsSquare all) (sym c.begin.ensures.waiting) (self.square c.requires.going)));
       stands = λ going. stands_still (Feeder c.args.p) Began
-          (state_among self.joiners self.feeders self.places.items)
-          (state_among self.joiners self.feeders c.send_all.new.places.items) made (self.stands c.requires.going);
+          (state_among self.cast self.places.items)
+          (state_among self.cast c.send_all.new.places.items) made (self.stands c.requires.going);
     }

@@ -1,4 +1,5 @@
-use Rattle.std.proofs.Common.{◌≡◌, ◌+◌, ◌∙◌, sym, subst}
+use Rattle.std.proofs.Common.{◌∙◌, sym, subst}
+use Rattle.actor_core.specs.Numbers.{count_of}
 use Rattle.actor_core.specs.Lists.{Took}
 use Rattle.actor_core.proofs.OwnNumbers.{none_some}
 use Rattle.link_trace.specs.Worlds.{IsSquare, OccursAt, cores_of, state_among, waiting_of}
@@ -16,7 +17,7 @@ pub send_all-requires-clause-square : goal.send_all-requires-clause-square
 send_all-requires-clause-square c =
     let self = c.args.self.now in
     let took = c.in-Some.ensures.waiting in
-    let all = self.feeders + self.joiners + 2 in
+    let all = count_of self.cast in
     subst (IsSquare all) (sym (c.hand.ensures.waiting ∙ took.left))
     (square_with all (waiting_of self.places.items) c.args.receiver c.args.sender took.rest
     (self.square c.requires.going))
@@ -29,7 +30,7 @@ send_all-requires-clause-receivers c =
     let self = c.args.self.now in
     let cause = Took c.args.from c.in-Some.msg in
     let later = cores_of c.hand.new.places.items in
-    sends_there (state_among self.joiners self.feeders self.places.items) (self.stands c.requires.going) c.args.to
+    sends_there (state_among self.cast self.places.items) (self.stands c.requires.going) c.args.to
     c.args.receiver c.requires.receiver cause later c.new-sends.result c.hand.new.sends c.new-sends.ensures
     (subst (λ cores. OccursAt c.args.receiver cause cores later c.new-sends.result c.hand.new.sends)
     c.take.ensures.cores c.in_ok-hand.ensures.occurs)
@@ -37,7 +38,7 @@ send_all-requires-clause-receivers c =
 pub returns-clause-took : goal.returns-clause-took
 returns-clause-took c is =
     let self = c.args.self.now in
-    delivered self.joiners self.feeders c.args.from c.args.to c.args.sender c.args.receiver c.requires.sender
+    delivered self.cast c.args.from c.args.to c.args.sender c.args.receiver c.requires.sender
     c.requires.receiver c.in-Some.msg
     (cores_of self.places.items) (cores_of c.take.new.places.items) (cores_of c.hand.new.places.items)
     (cores_of c.send_all.new.places.items)
@@ -51,11 +52,11 @@ pub invariant_of-self-2 : goal.invariant_of-self-2
 invariant_of-self-2 c =
     let self = c.args.self.now in
     let took = c.in-Some.ensures.waiting in
-    let all = self.feeders + self.joiners + 2 in
+    let all = count_of self.cast in
     let square = square_with all (waiting_of self.places.items) c.args.receiver c.args.sender took.rest
     (self.square c.requires.going) in
     let later = waiting_of c.hand.new.places.items in
-    let made = delivered self.joiners self.feeders c.args.from c.args.to c.args.sender c.args.receiver c.requires.sender
+    let made = delivered self.cast c.args.from c.args.to c.args.sender c.args.receiver c.requires.sender
     c.requires.receiver c.in-Some.msg
     (cores_of self.places.items) (cores_of c.take.new.places.items) (cores_of c.hand.new.places.items)
     (cores_of c.send_all.new.places.items)
@@ -66,10 +67,10 @@ invariant_of-self-2 c =
     c.new-sends.ensures c.send_all.ensures.cores c.in_ok-send_all.ensures.left c.in_ok-send_all.ensures.waiting in
     record {
       square = λ going. subst (IsSquare all) (sym c.in_ok-send_all.ensures.waiting)
-          (square_posts self.joiners self.feeders all c.args.to c.hand.new.sends later
+          (square_posts self.cast all c.args.to c.hand.new.sends later
           (subst (IsSquare all) (sym (c.hand.ensures.waiting ∙ took.left)) square));
       stands = λ going. stands_still c.args.to (Took c.args.from made.m)
-          (state_among self.joiners self.feeders self.places.items)
-          (state_among self.joiners self.feeders c.send_all.new.places.items) made.event
+          (state_among self.cast self.places.items)
+          (state_among self.cast c.send_all.new.places.items) made.event
           (self.stands c.requires.going);
     }

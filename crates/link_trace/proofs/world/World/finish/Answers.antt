@@ -2,10 +2,9 @@ use Rattle.std.proofs.Common.{◌∙◌, ◌+◌, subst, sym}
 use Rattle.std.proofs.lemmas.Result.{IfOk-weaker}
 use Rattle.trace_law.specs.Family.{first_rest}
 use Rattle.trace_law.proofs.First.{stands as first_stands}
-use Rattle.actor_core.specs.Endings.{AreLast}
+use Rattle.actor_core.specs.Endings.{AreLast, HaveLast}
 use Rattle.actor_core.specs.declared.machines.Core.TheVariants.{Collector as TheCollector}
 use Rattle.link_trace.specs.States.{state_of}
-use Rattle.link_trace.specs.Worlds.{HaveLast}
 use Rattle.link_trace.proofs.SomeWave.{last_there}
 use Rattle.link_trace.proofs.WorldAnswer.{ends, journal_there}
 use Rattle.link_trace.proofs.world.World.finish.Goals as goal

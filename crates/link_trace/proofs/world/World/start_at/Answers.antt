@@ -1,10 +1,10 @@
-use Rattle.std.proofs.Common.{◌∙◌, sym, subst}
+use Rattle.std.proofs.Common.{◌≡◌, ◌∙◌, All, length, sym, subst}
 use Rattle.actor_core.specs.Elements.{IsAllAt}
 use Rattle.actor_core.specs.Rests.{upto, rest_of}
 use Rattle.actor_core.specs.Standing.{JoinsBy}
 use Rattle.actor_core.proofs.LaterEnds.{stands_upto}
 use Rattle.actor_core.specs.Lists.{no_lists}
-use Rattle.link_trace.specs.Worlds.{state_among}
+use Rattle.link_trace.specs.Worlds.{state_among, waiting_of}
 use Rattle.link_trace.proofs.Beginnings.{wave_new}
 use Rattle.link_trace.proofs.SomeWave.{of_wave}
 use Rattle.link_trace.proofs.Squares.{places_by_cores, places_by_waiting}
@@ -21,24 +21,24 @@ pub invariant_of-result : goal.invariant_of-result
 invariant_of-result c =
     let input = upto c.args.end c.args.input.now in
     let setting = c.args.setting.now in
-    let joiners = c.joiners_of-joiners.result in
+    let cast = c.of-cast.result in
     let places = c.in_ok-places.places.items in
     let new = c.in_ok-places.ensures in
-    let stands = wave_new input setting (rest_of c.args.rest) joiners places c.in_ok-cores.cores.items
-    c.joiners_of-joiners.ensures.value new.cores new.empty c.in_ok-cores.ensures.stands in
+    let stands = wave_new input setting (rest_of c.args.rest) cast places c.in_ok-cores.cores.items
+    c.of-cast.ensures.of new.cores new.empty c.in_ok-cores.ensures.stands in
     record {
       square = λ going. record {
         tall = places_by_waiting places ∙ (sym (places_by_cores places) ∙ stands.machines.all);
-        wide = new.wide;
+        wide = subst (λ n. All (λ queues. length queues ≡ n) (waiting_of places)) c.count.ensures new.wide;
       };
-      stands = λ going. of_wave input setting (rest_of c.args.rest) (state_among joiners setting.feeders places)
-          (λ actor. no_lists) stands;
+      stands = λ going. of_wave input setting (rest_of c.args.rest) (state_among cast places) (λ actor. no_lists)
+          stands;
     }
 
 pub returns-clause-fresh : goal.returns-clause-fresh
 returns-clause-fresh c =
-    wave_new (upto c.args.end c.args.input.now) c.args.setting.now (rest_of c.args.rest) c.joiners_of-joiners.result
-    c.in_ok-places.places.items c.in_ok-cores.cores.items c.joiners_of-joiners.ensures.value
+    wave_new (upto c.args.end c.args.input.now) c.args.setting.now (rest_of c.args.rest) c.of-cast.result
+    c.in_ok-places.places.items c.in_ok-cores.cores.items c.of-cast.ensures.of
     c.in_ok-places.ensures.cores c.in_ok-places.ensures.empty c.in_ok-cores.ensures.stands
 
 pub returns-clause-joins : goal.returns-clause-joins

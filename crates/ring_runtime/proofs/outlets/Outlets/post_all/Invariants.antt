@@ -7,6 +7,6 @@ use Rattle.ring_runtime.proofs.outlets.Outlets.post_all.Given as goal
 abbrev pub invariant-loop-post : goal.invariant-loop-post
 invariant-loop-post l = record {
   same : map out_address l.self ≡ map out_address l.initial.self;
-  sent : (a : Actor) → sent_through l.joiners l.feeders l.self a
-      ≡ sent_through l.joiners l.feeders l.initial.self a ++ posted_to a l.yielded;
+  sent : (a : Actor) → sent_through l.cast l.self a
+      ≡ sent_through l.cast l.initial.self a ++ posted_to a l.yielded;
 }

@@ -1,11 +1,10 @@
-use Rattle.std.proofs.Common.{◌≡◌, ◌+◌, ◌∙◌, ◌++◌, ◌∷◌, [], ap, sym, arith, length, true≢false}
+use Rattle.std.proofs.Common.{◌∙◌, ◌++◌, ◌∷◌, [], ap, sym, arith, length, true≢false}
 use Rattle.std.proofs.Math.Logic.{∥∥₁_elim}
 use Rattle.std.proofs.lemmas.List.{length-append}
-use Rattle.actor_core.specs.declared.machines.Core.TheVariants.{Controller as TheController, Collector as TheCollector}
-use Rattle.actor_core.proofs.LastTwo.{last_two}
-use Rattle.link_trace.specs.Worlds.{HaveLast}
-use Rattle.link_trace.proofs.LastMachines.{collector_last, controller_before}
-use Rattle.link_trace.proofs.endings.last_two.Goals as goal
+use Rattle.actor_core.specs.Endings.{HaveLast}
+use Rattle.actor_core.specs.declared.machines.Core.TheVariants.{Controller as TheController}
+use Rattle.actor_core.proofs.LastTwo.{collector_last, controller_before, last_two}
+use Rattle.actor_core.proofs.endings.last_two.Goals as goal
 
 pub unreachable-requires : goal.unreachable-requires
 unreachable-requires c =
