@@ -2,7 +2,7 @@ mod together;
 mod waves;
 
 use grid_map::Weights;
-use join_words::{Chain, Options, Wave, WordsError, WordsFault, read_words};
+use join_words::{Chain, Grid, Kind, Options, Wave, WordsError, WordsFault, read_words};
 use row_tickets::Feed;
 use std::alloc::{AllocError, Global};
 use std::test::Fail;
@@ -18,80 +18,100 @@ fn words(alloc: Global, line: &str) -> Result<Vec<String>, AllocError> {
     Ok(words)
 }
 
-/// What is to be read: options whose later waves are a slice.
+/// A kind of run whose later waves are a slice.
+#[derive(Clone, Copy)]
+enum Run {
+    Waves(InWaves),
+    Early(Grid),
+    Groups(u32),
+    Rings(Grid),
+    Chain(Grid, Chain<'static>),
+}
+
+/// A run in waves.
+#[derive(Clone, Copy)]
+struct InWaves {
+    grid: Grid,
+    replay: Option<u64>,
+    later: &'static [Wave<'static>],
+    grow: Option<u32>,
+}
+
+/// What is to be read: options with such a kind of run.
 #[derive(Clone, Copy)]
 struct Wanted {
     on: &'static str,
-    k: u32,
-    groups: Option<u32>,
-    rings: bool,
+    run: Run,
     feeders: u32,
     workers: u32,
     batch: u32,
     feed: Feed,
-    fixed: Option<u32>,
     weights: Weights,
     seed: u64,
-    replay: Option<u64>,
     make: Option<u64>,
-    early: bool,
     report: bool,
     rows: bool,
     name_r: &'static str,
     name_s: &'static str,
-    later: &'static [Wave<'static>],
-    grow: Option<u32>,
-    chain: Option<Chain<'static>>,
 }
+
+const GRID: Grid = Grid { k: 2, fixed: None };
+
+const ONE_WAVE: InWaves = InWaves {
+    grid: GRID,
+    replay: None,
+    later: &[],
+    grow: None,
+};
 
 const PLAIN: Wanted = Wanted {
     on: "p",
-    k: 2,
-    groups: None,
-    rings: false,
+    run: Run::Waves(ONE_WAVE),
     feeders: 2,
     workers: 4,
     batch: 64,
     feed: Feed::Alternate,
-    fixed: None,
     weights: Weights { r: 1, s: 1 },
     seed: 1,
-    replay: None,
     make: None,
-    early: false,
     report: false,
     rows: false,
     name_r: "r",
     name_s: "s",
-    later: &[],
-    grow: None,
-    chain: None,
 };
+
+/// Such a kind of run, in the options.
+fn kind(alloc: Global, run: Run) -> Result<Kind<'static>, AllocError> {
+    match run {
+        Run::Waves(waves) => Ok(Kind::Waves {
+            grid: waves.grid,
+            replay: waves.replay,
+            later: Vec::from_slice(alloc, waves.later)?,
+            grow: waves.grow,
+        }),
+        Run::Early(grid) => Ok(Kind::Early { grid }),
+        Run::Groups(joiners) => Ok(Kind::Groups { joiners }),
+        Run::Rings(grid) => Ok(Kind::Rings { grid }),
+        Run::Chain(grid, chain) => Ok(Kind::Chain { grid, chain }),
+    }
+}
 
 /// Those options.
 fn options(alloc: Global, wanted: Wanted) -> Result<Options<'static>, AllocError> {
     Ok(Options {
         on: wanted.on,
-        k: wanted.k,
-        groups: wanted.groups,
-        rings: wanted.rings,
+        kind: kind(alloc, wanted.run)?,
         feeders: wanted.feeders,
         workers: wanted.workers,
         batch: wanted.batch,
         feed: wanted.feed,
-        fixed: wanted.fixed,
         weights: wanted.weights,
         seed: wanted.seed,
-        replay: wanted.replay,
         make: wanted.make,
-        early: wanted.early,
         report: wanted.report,
         rows: wanted.rows,
         name_r: wanted.name_r,
         name_s: wanted.name_s,
-        later: Vec::from_slice(alloc, wanted.later)?,
-        grow: wanted.grow,
-        chain: wanted.chain,
     })
 }
 
@@ -111,8 +131,16 @@ fn refusal(alloc: Global, line: &str) -> Result<Option<WordsError>, AllocError> 
     }
 }
 
+/// The plain options of such a run.
+fn of(run: Run) -> Wanted {
+    Wanted { run, ..PLAIN }
+}
+
 fn grid(k: u32, fixed: Option<u32>) -> Wanted {
-    Wanted { k, fixed, ..PLAIN }
+    of(Run::Waves(InWaves {
+        grid: Grid { k, fixed },
+        ..ONE_WAVE
+    }))
 }
 
 fn feeders(feeders: u32, batch: u32, feed: Feed) -> Wanted {
@@ -136,10 +164,10 @@ fn weights(r: u32, s: u32) -> Wanted {
 }
 
 fn replay(seed: u64) -> Wanted {
-    Wanted {
+    of(Run::Waves(InWaves {
         replay: Some(seed),
-        ..PLAIN
-    }
+        ..ONE_WAVE
+    }))
 }
 
 fn on(text: &'static str) -> Wanted {

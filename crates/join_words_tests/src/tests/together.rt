@@ -1,5 +1,5 @@
-use super::{PLAIN, Wanted, reads, refusal};
-use join_words::{Chain, WordsError, WordsFault};
+use super::{GRID, PLAIN, Run, Wanted, of, reads, refusal};
+use join_words::{Chain, Grid, WordsError, WordsFault};
 use std::test::Fail;
 
 fn made(count: u64) -> Wanted {
@@ -17,10 +17,7 @@ fn made_tables_joined_rows_and_early_pairs(rt: HostRuntime) -> Result<(), Fail> 
         rows: true,
         ..PLAIN
     };
-    let early = Wanted {
-        early: true,
-        ..PLAIN
-    };
+    let early = of(Run::Early(GRID));
     let cases = [
         ("jm|--on|p|--make|1", made(1)),
         ("jm|--make=65536|--on|p", made(65536)),
@@ -34,11 +31,7 @@ fn made_tables_joined_rows_and_early_pairs(rt: HostRuntime) -> Result<(), Fail> 
 }
 
 fn groups(joiners: u32) -> Wanted {
-    Wanted {
-        k: 0,
-        groups: Some(joiners),
-        ..PLAIN
-    }
+    of(Run::Groups(joiners))
 }
 
 #[test]
@@ -61,27 +54,31 @@ fn any_number_of_joiners_forms_groups(rt: HostRuntime) -> Result<(), Fail> {
     Ok(())
 }
 
-fn chain(on: &'static str, name: &'static str) -> Wanted {
-    Wanted {
-        chain: Some(Chain { on, name }),
-        ..PLAIN
+/// The grid of four joiners that stays at this shift.
+fn staying(shift: u32) -> Grid {
+    Grid {
+        fixed: Some(shift),
+        ..GRID
     }
+}
+
+fn chain(grid: Grid, on: &'static str, name: &'static str) -> Wanted {
+    of(Run::Chain(grid, Chain { on, name }))
 }
 
 #[test]
 fn a_second_join_has_a_third_file(rt: HostRuntime) -> Result<(), Fail> {
-    let fixed = Wanted {
-        fixed: Some(1),
-        ..chain("p2", "q")
-    };
     let report = Wanted {
         report: true,
-        ..chain("", "s")
+        ..chain(GRID, "", "s")
     };
     let cases = [
-        ("jm|--on|p|--then|p2|r|s|q", chain("p2", "q")),
-        ("jm|r|--then=p2|s|--on|p|q", chain("p2", "q")),
-        ("jm|--on|p|--fixed|1|--then|p2|r|s|q", fixed),
+        ("jm|--on|p|--then|p2|r|s|q", chain(GRID, "p2", "q")),
+        ("jm|r|--then=p2|s|--on|p|q", chain(GRID, "p2", "q")),
+        (
+            "jm|--on|p|--fixed|1|--then|p2|r|s|q",
+            chain(staying(1), "p2", "q"),
+        ),
         ("jm|--on|p|--then||--report|r|s|s", report),
     ];
     for (line, wanted) in cases {
@@ -92,13 +89,9 @@ fn a_second_join_has_a_third_file(rt: HostRuntime) -> Result<(), Fail> {
 
 #[test]
 fn messages_go_over_rings(rt: HostRuntime) -> Result<(), Fail> {
-    let plain = Wanted {
-        rings: true,
-        ..PLAIN
-    };
+    let plain = of(Run::Rings(GRID));
     let made = Wanted {
-        rings: true,
-        fixed: Some(0),
+        run: Run::Rings(staying(0)),
         report: true,
         ..made(7)
     };

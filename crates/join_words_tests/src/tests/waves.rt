@@ -1,5 +1,5 @@
-use super::{PLAIN, Wanted, reads, refusal};
-use join_words::{Wave, WordsError, WordsFault};
+use super::{GRID, InWaves, ONE_WAVE, PLAIN, Run, Wanted, of, reads, refusal};
+use join_words::{Grid, Wave, WordsError, WordsFault};
 use std::test::Fail;
 
 const SECOND: Wave<'static> = Wave {
@@ -17,35 +17,41 @@ const FOURTH: Wave<'static> = Wave {
     name_s: "s4",
 };
 
-const ONE: Wanted = Wanted {
+const ONE: InWaves = InWaves {
     later: &[SECOND],
-    ..PLAIN
+    ..ONE_WAVE
 };
 
-const TWO: Wanted = Wanted {
+const TWO: InWaves = InWaves {
     later: &[SECOND, THIRD],
-    ..PLAIN
+    ..ONE_WAVE
 };
 
-const THREE: Wanted = Wanted {
+const THREE: InWaves = InWaves {
     later: &[SECOND, THIRD, FOURTH],
-    ..PLAIN
+    ..ONE_WAVE
 };
 
 #[test]
 fn two_to_eight_files_are_one_to_four_waves(rt: HostRuntime) -> Result<(), Fail> {
-    let options_of_all = Wanted {
-        fixed: Some(1),
+    let replay = InWaves {
+        grid: Grid {
+            fixed: Some(1),
+            ..GRID
+        },
         replay: Some(7),
+        ..TWO
+    };
+    let options_of_all = Wanted {
         report: true,
         rows: true,
-        ..TWO
+        ..of(Run::Waves(replay))
     };
     let cases = [
         ("jm|--on|p|r|s", PLAIN),
-        ("jm|--on|p|r|s|r2|s2", ONE),
-        ("jm|r|s|--on|p|r2|s2|r3|s3", TWO),
-        ("jm|r|s|r2|s2|r3|s3|r4|s4|--on|p", THREE),
+        ("jm|--on|p|r|s|r2|s2", of(Run::Waves(ONE))),
+        ("jm|r|s|--on|p|r2|s2|r3|s3", of(Run::Waves(TWO))),
+        ("jm|r|s|r2|s2|r3|s3|r4|s4|--on|p", of(Run::Waves(THREE))),
         (
             "jm|--fixed|1|r|s|--replay|7|r2|s2|--rows|--on|p|r3|--report|s3",
             options_of_all,
@@ -57,25 +63,25 @@ fn two_to_eight_files_are_one_to_four_waves(rt: HostRuntime) -> Result<(), Fail>
     Ok(())
 }
 
-fn grown(wanted: Wanted, wave: u32) -> Wanted {
-    Wanted {
+fn grown(waves: InWaves, wave: u32) -> Wanted {
+    of(Run::Waves(InWaves {
         grow: Some(wave),
-        ..wanted
-    }
+        ..waves
+    }))
 }
 
 #[test]
 fn joiners_split_behind_a_wave(rt: HostRuntime) -> Result<(), Fail> {
-    let replay = Wanted {
+    let replay = InWaves {
         replay: Some(0),
-        ..grown(ONE, 1)
+        ..ONE
     };
     let cases = [
         ("jm|--on|p|--grow|1|r|s|r2|s2", grown(ONE, 1)),
         ("jm|--on|p|--grow=1|r|s|r2|s2|r3|s3", grown(TWO, 1)),
         ("jm|r|s|r2|s2|r3|s3|--grow|2|--on|p", grown(TWO, 2)),
         ("jm|--grow|3|--on|p|r|s|r2|s2|r3|s3|r4|s4", grown(THREE, 3)),
-        ("jm|--on|p|--replay|0|--grow|01|r|s|r2|s2", replay),
+        ("jm|--on|p|--replay|0|--grow|01|r|s|r2|s2", grown(replay, 1)),
     ];
     for (line, wanted) in cases {
         assert!(rt; reads(rt.alloc(), line, wanted)?, "{line}");
