@@ -4,7 +4,7 @@ use Rattle.join_rows.specs.declared.shelf.Shelf.{Ghosts as ShelfGhosts}
 use Rattle.theta_text.specs.Grammar.{Tree}
 use Rattle.theta_text.specs.declared.fault.PredFault.{PredFault}
 use Rattle.theta_text.specs.Texts.{IsFaultOf, TextReads, limits}
-use Rattle.join_words.specs.Words.{Asked, AskedChain, asked_of}
+use Rattle.join_words.specs.Words.{Asked, AskedChain, asked_of, chain_of}
 use Rattle.join_words.specs.declared.options.WordsFault.{WordsFault}
 use Rattle.join_plan.specs.declared.fault.Refusal.{Refusal}
 use Rattle.join_plan.specs.declared.fault.Refusal.TheVariants as refusals
@@ -57,7 +57,7 @@ pub record Tells {H : Type 0} (h : ShelfGhosts H) (asked : Asked) (old new : H) 
   pub early : (fault : PredFault) → IsFaultOf limits asked.on fault → TellsEarly On fault verdict × (new ≡ old)
   -- and of a second text behind one that is a predicate
   pub further_early : (tree : Tree) (chain : AskedChain) (fault : PredFault) → TextReads limits asked.on tree
-      → asked.chain ≡ Some chain → IsFaultOf limits chain.on fault → TellsEarly Then fault verdict × (new ≡ old)
+      → chain_of asked.kind ≡ Some chain → IsFaultOf limits chain.on fault → TellsEarly Then fault verdict × (new ≡ old)
   -- where no call failed, what the plan is, or its first refusal
   pub answer : (files : List ℕ → Option (List ℕ)) → h.told old ≡ Some files → h.faults new ≡ h.faults old
       → (verdict ≡ lacks_memory) ⊎ TellsPlan asked files verdict

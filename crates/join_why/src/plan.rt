@@ -2,13 +2,14 @@
 
 ghost use Rattle.std.specs.Prelude.{◌≤◌};
 ghost use Rattle.grid_map.specs.Load.{AreWeights};
+ghost use Rattle.join_words.specs.Words.{AreOptions, asked};
 
 use crate::lookup::{Headers, push_lookup};
 use crate::source::{label_of, name_of};
 use grid_map::{Shape, Weights, best_shift, copies};
 use join_plan::{Planned, Tables, Third, WaveEnd};
 use join_rows::{Side, Table};
-use join_words::Options;
+use join_words::{Grid, Kind, Options};
 use joined_rows::joined_names;
 use std::alloc::{AllocError, Global};
 
@@ -105,44 +106,44 @@ fn push_shape(text: &mut String, shape: Shape) -> Result<(), AllocError>
 }
 
 /// The grid with which a run begins.
-fn first_shape(options: &Options<'_>) -> Shape
-    requires { options.now.k ≤ 6 }
+fn first_shape(grid: Grid) -> Shape
+    requires { grid.k ≤ 6 }
     ensures k { result.k ≤ 6 }
     ensures shift { result.shift ≤ result.k }
 {
-    let k = options.k;
-    let shift = options.fixed.unwrap_or(k / 2).min(k);
+    let k = grid.k;
+    let shift = grid.fixed.unwrap_or(k / 2).min(k);
     Shape { k, shift }
 }
 
 /// The grid with the fewest copies of all rows, or the one that stays.
-fn last_shape(options: &Options<'_>, x: u64, y: u64) -> Shape
-    requires k { options.now.k ≤ 6 }
-    requires weights { AreWeights options.now.weights }
+fn last_shape(grid: Grid, weights: Weights, x: u64, y: u64) -> Shape
+    requires k { grid.k ≤ 6 }
+    requires weights { AreWeights weights }
     requires x { x ≤ 1048576 }
     requires y { y ≤ 1048576 }
     ensures k { result.k ≤ 6 }
     ensures shift { result.shift ≤ result.k }
 {
-    let first = first_shape(options);
-    if options.fixed.is_some() {
+    let first = first_shape(grid);
+    if grid.fixed.is_some() {
         return first;
     }
-    let shift = best_shift(first, options.weights, x, y).min(first.k);
+    let shift = best_shift(first, weights, x, y).min(first.k);
     Shape { k: first.k, shift }
 }
 
 /// Appends the grid, and what it takes with all rows.
 fn push_grid(text: &mut String, options: &Options<'_>, planned: &Planned) -> Result<(), AllocError>
-    requires k { options.now.k ≤ 6 }
-    requires weights { AreWeights options.now.weights }
+    requires { AreOptions (asked options.now) }
 {
     let x = rows_in(&planned.tables.of_r);
     let y = rows_in(&planned.tables.of_s);
-    let last = last_shape(options, x, y);
+    let grid = options.kind.grid();
+    let last = last_shape(grid, options.weights, x, y);
     let held = copies(last, Weights { r: 1, s: 1 }, x, y).min(1 << 40);
     text.push_str("grid: begins as ")?;
-    push_shape(text, first_shape(options))?;
+    push_shape(text, first_shape(grid))?;
     text.push_str(", and the best for all rows is ")?;
     push_shape(text, last)?;
     let tables = bytes_of(&planned.tables.of_r) + bytes_of(&planned.tables.of_s);
@@ -165,6 +166,35 @@ fn push_groups(text: &mut String, joiners: u32) -> Result<(), AllocError> {
     text.push('\n')
 }
 
+/// Appends after how many waves the joiners split, where they are to.
+fn push_growth(text: &mut String, grow: Option<u32>) -> Result<(), AllocError> {
+    match grow {
+        Some(wave) => write!(
+            text,
+            "growth: behind wave {wave} each joiner splits into four\n"
+        ),
+        None => Ok(()),
+    }
+}
+
+/// Appends how the joiners stand: in groups, or in a grid, which may grow.
+fn push_joiners(
+    text: &mut String,
+    options: &Options<'_>,
+    planned: &Planned,
+) -> Result<(), AllocError>
+    requires { AreOptions (asked options.now) }
+{
+    match &options.kind {
+        Kind::Groups { joiners } => push_groups(text, *joiners),
+        Kind::Waves { grow, .. } => {
+            push_grid(text, options, planned)?;
+            push_growth(text, *grow)
+        }
+        _ => push_grid(text, options, planned),
+    }
+}
+
 /// Appends how the second join finds its matches; how many rows it has shows only at the first.
 fn push_second(
     alloc: Global,
@@ -173,7 +203,7 @@ fn push_second(
     planned: &Planned,
     third: &Third,
 ) -> Result<(), AllocError> {
-    let name = options.chain.map_or("", |chain| chain.name);
+    let name = options.kind.chain().map_or("", |chain| chain.name);
     let rows = third.table.rows.len();
     push_table(text, "S2", name, rows, &third.table)?;
     let tables = &planned.tables;
@@ -195,8 +225,7 @@ pub(crate) fn explain_plan(
     options: &Options<'_>,
     planned: &Planned,
 ) -> Result<String, AllocError>
-    requires k { options.now.k ≤ 6 }
-    requires weights { AreWeights options.now.weights }
+    requires { AreOptions (asked options.now) }
 {
     let tables = &planned.tables;
     let mut text = format!(in alloc; "jm would join:\n")?;
@@ -213,16 +242,7 @@ pub(crate) fn explain_plan(
             "no key: {rows_r} times {rows_s} evaluations, since no member of the top `and` serves\n"
         )?;
     }
-    match options.groups {
-        Some(joiners) => push_groups(&mut text, joiners)?,
-        None => push_grid(&mut text, options, planned)?,
-    }
-    if let Some(wave) = options.grow {
-        write!(
-            text,
-            "growth: behind wave {wave} each joiner splits into four\n"
-        )?;
-    }
+    push_joiners(&mut text, options, planned)?;
     if let Some(third) = &planned.third {
         push_second(alloc, &mut text, options, planned, third)?;
     }

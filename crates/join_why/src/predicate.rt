@@ -26,7 +26,7 @@ fn option_of(which: Which) -> &'static str {
 fn text_of<'a>(options: &Options<'a>, which: Which) -> &'a str {
     match which {
         Which::On => options.on,
-        Which::Then => options.chain.map_or("", |chain| chain.on),
+        Which::Then => options.kind.chain().map_or("", |chain| chain.on),
     }
 }
 

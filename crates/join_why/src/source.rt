@@ -44,10 +44,13 @@ pub(crate) fn label_of(side: Side, wave: u32) -> &'static str {
 
 /// The name of a side's file in a later wave, or that of the third file of two joins; empty where there is none.
 fn later_name<'a>(options: &Options<'a>, side: Side, wave: u32) -> &'a str {
-    if let Some(chain) = options.chain {
+    if let Some(chain) = options.kind.chain() {
         return chain.name;
     }
-    match (side, options.later.get(wave.saturating_sub(2) as usize)) {
+    match (
+        side,
+        options.kind.later().get(wave.saturating_sub(2) as usize),
+    ) {
         (Side::R, Some(wave)) => wave.name_r,
         (Side::S, Some(wave)) => wave.name_s,
         (_, None) => "",
@@ -65,7 +68,7 @@ pub(crate) fn name_of<'a>(options: &Options<'a>, side: Side, wave: u32) -> &'a s
 
 /// The place of a side's file in a wave among those that are read, from 0.
 fn place_of(options: &Options<'_>, side: Side, wave: u32) -> usize {
-    if wave > 1 && options.chain.is_some() {
+    if wave > 1 && options.kind.chain().is_some() {
         return 2;
     }
     let earlier = wave.clamp(1, 4) - 1;
@@ -93,7 +96,7 @@ pub(crate) fn source_of<'a>(
 /// The file that was read last.
 pub(crate) fn last_source<'a>(options: &Options<'a>, files: &'a [KeptFile]) -> Source<'a> {
     let count = files.len().clamp(1, 8) as u32;
-    if count > 2 && options.chain.is_some() {
+    if count > 2 && options.kind.chain().is_some() {
         return source_of(options, files, Side::S, 2);
     }
     let side = if count % 2 == 1 { Side::R } else { Side::S };

@@ -1,8 +1,8 @@
 // What `jm` would make of its words and files, before it joins anything.
 
-ghost use Rattle.std.specs.Prelude.{◌≡◌, ◌≢◌, ◌<◌, ◌≤◌, [], length, Ok, IfSome, None, map, string_bytes};
+ghost use Rattle.std.specs.Prelude.{◌≡◌, ◌≢◌, ◌<◌, Ok, map, string_bytes};
 ghost use Rattle.join_rows.specs.Shelves.{last_fault};
-ghost use Rattle.join_words.specs.Words.{asked};
+ghost use Rattle.join_words.specs.Words.{AreOptions, asked};
 ghost use Rattle.join_words.specs.declared.options.WordsFault.{WordsFault};
 ghost use Rattle.join_why.specs.Verdicts.{Judges, Leaves, Tells, refusal_status, status_of};
 
@@ -57,10 +57,7 @@ fn judge_asked<R: Threads, H: Shelf>(
     shelf: &mut H,
 ) -> Verdict
     requires shelf { H.faults shelf.old < last_fault }
-    requires make { IfSome options.now.make (λ count. (1 ≤ count) × (count ≤ 65536)) }
-    requires few { length options.now.later.items ≤ 3 }
-    requires later { IfSome options.now.make (λ _. options.now.later.items ≡ []) }
-    requires chained { IfSome options.now.chain (λ _. options.now.make ≡ None) }
+    requires options { AreOptions (asked options.now) }
     ensures words { (fault : WordsFault) → result ≢ Verdict.Words fault }
     ensures tells { Tells H.Shelf (asked options.now) shelf.old shelf.new result }
     ensures leaves { Leaves H.Shelf shelf.old shelf.new result }
