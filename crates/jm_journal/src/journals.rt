@@ -2,11 +2,12 @@
 
 ghost use Rattle.std.specs.Prelude.{◌<◌, ◌≤◌, All, IfOk, IsNone, IsSome};
 ghost use Rattle.grid_map.specs.Load.{AreWeights};
+ghost use Rattle.join_words.specs.Words.{AreOptions, asked};
 ghost use Rattle.join_cli.specs.Ends.{IsDone};
 
 use group_split::digits;
 use join_cli::{Journals, Outcome};
-use join_words::Options;
+use join_words::{Kind, Options};
 use journal_picture::Drawing;
 use load_controller::{Cause, Journal, TurnLine};
 use std::alloc::{AllocError, Global};
@@ -123,6 +124,22 @@ fn begun(alloc: Global, lines: &[TurnLine]) -> Result<Journal, AllocError> {
     Ok(journal)
 }
 
+/// How many joiners form groups; 0 where none do.
+fn members(kind: &Kind<'_>) -> u32 {
+    match kind {
+        Kind::Groups { joiners } => *joiners,
+        _ => 0,
+    }
+}
+
+/// After how many waves each joiner splits into four, where they do.
+fn growth(kind: &Kind<'_>) -> Option<u32> {
+    match kind {
+        Kind::Waves { grow, .. } => *grow,
+        _ => None,
+    }
+}
+
 /// Adds the journal of joiners in one grid, in two parts where they split into four behind so many waves.
 fn add_grid(
     alloc: Global,
@@ -130,30 +147,23 @@ fn add_grid(
     options: &Options<'_>,
     lines: &[TurnLine],
 ) -> Result<(), AllocError>
-    requires k { options.now.k ≤ 6 }
-    requires weights { AreWeights options.now.weights }
+    requires { AreOptions (asked options.now) }
 {
-    let Some(waves) = options.grow else {
-        return add(alloc, drawing, options, "", options.k, lines);
+    let k = options.kind.grid().k;
+    let Some(waves) = growth(&options.kind) else {
+        return add(alloc, drawing, options, "", k, lines);
     };
     let Some((before, since)) = lines.split_at_checked(begin_of(lines, waves)) else {
         return Ok(());
     };
-    add(
-        alloc,
-        drawing,
-        options,
-        "before the growth, ",
-        options.k,
-        before,
-    )?;
+    add(alloc, drawing, options, "before the growth, ", k, before)?;
     let since = begun(alloc, since)?;
     add(
         alloc,
         drawing,
         options,
         "since the growth, ",
-        options.k + 2,
+        k + 2,
         since.as_slice(),
     )
 }
@@ -164,8 +174,7 @@ pub(crate) fn picture(
     options: &Options<'_>,
     outcome: &Outcome,
 ) -> Result<Option<String>, AllocError>
-    requires k { options.now.k ≤ 6 }
-    requires weights { AreWeights options.now.weights }
+    requires { AreOptions (asked options.now) }
     ensures done { IsDone outcome.now → IfOk result IsSome }
     ensures refused { (IsDone outcome.now → ⊥) → IfOk result IsNone }
 {
@@ -175,16 +184,17 @@ pub(crate) fn picture(
             add_grid(alloc, &mut drawing, options, journal.as_slice())?;
         }
         Outcome::DoneGroups { journals, .. } => {
-            let joiners = options.groups.unwrap_or(0);
+            let joiners = members(&options.kind);
             add_all_groups(alloc, &mut drawing, options, joiners, journals)?;
         }
         Outcome::DoneChain { first, second, .. } => {
+            let k = options.kind.grid().k;
             add(
                 alloc,
                 &mut drawing,
                 options,
                 "first join, ",
-                options.k,
+                k,
                 first.as_slice(),
             )?;
             add(
@@ -192,7 +202,7 @@ pub(crate) fn picture(
                 &mut drawing,
                 options,
                 "second join, ",
-                options.k,
+                k,
                 second.as_slice(),
             )?;
         }
