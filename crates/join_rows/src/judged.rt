@@ -5,8 +5,9 @@ ghost use Rattle.join_rows.specs.Records.{records_of, table_of, table_of_records
 ghost use Rattle.join_rows.specs.declared.fault.TableFault.TheVariants as fault;
 ghost use Rattle.join_rows.specs.declared.table.Table.{Table};
 
+use crate::byte_order_marks::without_marks;
 use crate::fault::TableFault;
-use crate::records::{MOST_BYTES, MOST_ROWS, reader_over, without_marks};
+use crate::records::{MOST_BYTES, MOST_ROWS, reader_over};
 use csv::ByteRecord;
 use std::alloc::Global;
 

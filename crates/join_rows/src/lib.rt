@@ -3,6 +3,7 @@
 #![tactic(auto)]
 
 mod both;
+mod byte_order_marks;
 mod bytes;
 mod cells;
 mod columns;

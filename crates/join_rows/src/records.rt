@@ -5,10 +5,10 @@ ghost use Rattle.csv.specs.Reading.{Ready, default_config, reader_config, reader
 ghost use Rattle.csv.specs.Records.{fields_of};
 ghost use Rattle.csv.specs.declared.parser.State.TheVariants as st;
 ghost use Rattle.csv.specs.declared.reader.Trim.TheVariants as trim;
-ghost use Rattle.join_rows.specs.Records.{IsTable, after_marks, cells_of, has_mark, records_of};
-ghost use Rattle.join_rows.specs.Records.{table_of, table_of_records};
+ghost use Rattle.join_rows.specs.Records.{IsTable, cells_of, records_of, table_of, table_of_records};
 ghost use Rattle.join_rows.specs.declared.fault.TableFault.TheVariants as fault;
 
+use crate::byte_order_marks::without_marks;
 use crate::bytes::Bytes;
 use crate::cells::rows_over;
 use crate::fault::TableFault;
@@ -22,27 +22,6 @@ pub(crate) const MOST_BYTES: usize = 1 << 24;
 
 /// How many rows a table may have under its header.
 pub(crate) const MOST_ROWS: u64 = 1 << 18;
-
-// Whether a text begins with a byte order mark.
-fn begins_with_mark(text: &[u8]) -> bool
-    ensures { result ≡ has_mark text.now }
-{
-    match text {
-        [a, b, c, ..] => *a == 0xEF && *b == 0xBB && *c == 0xBF,
-        _ => false,
-    }
-}
-
-// The text after each byte order mark at its beginning.
-pub(crate) fn without_marks(text: &[u8]) -> &[u8]
-    ensures { result.now ≡ after_marks text.now }
-{
-    let mut rest = text;
-    while begins_with_mark(rest) {
-        rest = &rest[3..];
-    }
-    rest
-}
 
 // The fields of a record.
 fn names_from(alloc: Global, row: &ByteRecord) -> Result<Names, AllocError>

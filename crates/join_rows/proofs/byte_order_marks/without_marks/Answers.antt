@@ -1,7 +1,7 @@
 use Rattle.std.proofs.Common.{◌≡◌, ◌∙◌, true, false, sym}
 use Rattle.join_rows.specs.Records.{has_mark}
 use Rattle.join_rows.proofs.Marks.{mark-cut, mark-none}
-use Rattle.join_rows.proofs.records.without_marks.Goals as goal
+use Rattle.join_rows.proofs.byte_order_marks.without_marks.Goals as goal
 
 pub loop-rest-preserved : goal.loop-rest-preserved
 loop-rest-preserved c =

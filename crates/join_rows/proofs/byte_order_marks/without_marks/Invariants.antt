@@ -1,6 +1,6 @@
 use Rattle.std.proofs.Common.{◌≡◌, length}
 use Rattle.join_rows.specs.Records.{after_marks}
-use Rattle.join_rows.proofs.records.without_marks.Given as goal
+use Rattle.join_rows.proofs.byte_order_marks.without_marks.Given as goal
 
 abbrev pub invariant-loop-rest : goal.invariant-loop-rest
 invariant-loop-rest l = after_marks l.rest ≡ after_marks l.fn.text
