@@ -15,21 +15,12 @@ use std::thread::Threads;
 pub type Made = Result<Table, TableFault>;
 
 /// The tables that the bytes of two files are, each as `table_in` makes it: side by side, the first in a thread of its
-/// own, or one after the other.
-pub fn both_tables<R: Threads>(
-    rt: &R,
-    alloc: Global,
-    of_r: &[u8],
-    of_s: &[u8],
-    side_by_side: bool,
-) -> (Made, Made)
+/// own, or after the second where no thread can be started.
+pub fn both_tables<R: Threads>(rt: &R, alloc: Global, of_r: &[u8], of_s: &[u8]) -> (Made, Made)
     ensures answer_r { (result.0 ≡ Err fault.Memory) ⊎ (result.0 ≡ table_of of_r.now) }
     ensures answer_s { (result.1 ≡ Err fault.Memory) ⊎ (result.1 ≡ table_of of_s.now) }
     ensures table_r { IfOk result.0 IsTable }
     ensures table_s { IfOk result.1 IsTable }
 {
-    if side_by_side {
-        return thread::join(rt, || table_in(alloc, of_r), || table_in(alloc, of_s));
-    }
-    (table_in(alloc, of_r), table_in(alloc, of_s))
+    thread::join(rt, || table_in(alloc, of_r), || table_in(alloc, of_s))
 }

@@ -1,4 +1,4 @@
-// Two files' tables, made side by side and one after the other, and bytes that are judged before.
+// Two files' tables, made side by side, and bytes that are judged before.
 
 use join_rows::{
     Bytes, Made, MapShelf, Table, TableFault, both_tables, judge, read_bytes, read_table, table_in,
@@ -62,11 +62,9 @@ fn agree<R: Threads + Abort>(
     of_r: &[u8],
     of_s: &[u8],
 ) -> Result<(), AllocError> {
-    for side_by_side in [true, false] {
-        let (r, s) = both_tables(rt, alloc, of_r, of_s, side_by_side);
-        assert!(rt; same(&r, &table_of(alloc, of_r)?));
-        assert!(rt; same(&s, &table_of(alloc, of_s)?));
-    }
+    let (r, s) = both_tables(rt, alloc, of_r, of_s);
+    assert!(rt; same(&r, &table_of(alloc, of_r)?));
+    assert!(rt; same(&s, &table_of(alloc, of_s)?));
     Ok(())
 }
 
