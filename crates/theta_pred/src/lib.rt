@@ -22,6 +22,8 @@ mod terms;
 mod text_atom;
 mod theta;
 mod tree;
+mod tree_agreements;
+mod tree_spans;
 mod truth;
 
 pub use access::ways_are_one;

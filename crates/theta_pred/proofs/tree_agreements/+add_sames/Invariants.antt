@@ -2,7 +2,7 @@ use Rattle.std.proofs.Common.{◌≡◌, ◌++◌, map, drop}
 use Rattle.theta_pred.specs.Accesses.{agreement_of, agreements_of, agreements_in, AreOver}
 use Rattle.theta_pred.specs.Formula.{formula_of, formulas}
 use Rattle.theta_pred.specs.Sound.{AreSound}
-use Rattle.theta_pred.proofs.access.+add_sames.Given as goal
+use Rattle.theta_pred.proofs.tree_agreements.+add_sames.Given as goal
 
 abbrev pub invariant-loop-member : goal.invariant-loop-member
 invariant-loop-member l =

@@ -3,7 +3,7 @@ use Rattle.theta_pred.specs.Accesses.{spans_of, spans_in}
 use Rattle.theta_pred.specs.Formula.{formula_of, formulas}
 use Rattle.theta_pred.specs.Keys.{atom_of}
 use Rattle.theta_pred.specs.Sound.{AreSound}
-use Rattle.theta_pred.proofs.access.+add_spans.Given as goal
+use Rattle.theta_pred.proofs.tree_spans.+add_spans.Given as goal
 
 abbrev pub invariant-loop-member : goal.invariant-loop-member
 invariant-loop-member l =
