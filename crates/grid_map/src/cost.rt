@@ -99,7 +99,8 @@ pub fn best_shift(shape: Shape, weights: Weights, x: u64, y: u64) -> u32
     requires y { y ≤ 2 ^ 32 }
     ensures value { result ≡ load.best_shift shape.k shape.shift (weights.r * x) (weights.s * y) }
     ensures fewest { HasFewest shape.k result (weights.r * x) (weights.s * y) }
-    ensures stays { HasFewest shape.k shape.shift (weights.r * x) (weights.s * y) → result ≡ shape.shift }
+    ensures stays { HasFewest shape.k shape.shift (weights.r * x) (weights.s * y)
+        → result ≡ shape.shift }
     ensures smallest { (result ≡ shape.shift)
         ⊎ IsSmallest shape.k result (weights.r * x) (weights.s * y) }
 {
