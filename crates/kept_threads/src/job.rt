@@ -103,7 +103,8 @@ pub(crate) fn answer<T: Drop, W: Task<T>>(job: Job<T, W>, task: &W) {
 impl<T: Drop, W: Task<T>> Awaited<T, W> {
     // The items, once they are back.
     pub(crate) fn back(self) -> Result<Vec<T>, Awaited<T, W>>
-        ensures ok { IfOk result (λ items. AllChanged W.changes self.asked.value.items items.items) }
+        ensures ok { IfOk result (λ items.
+            AllChanged W.changes self.asked.value.items items.items) }
         ensures not_yet { IfErr result (λ same. same.asked.value ≡ self.asked.value) }
     {
         let Awaited { asked, mut answers } = self;
