@@ -120,7 +120,7 @@ impl Controller {
     pub fn journal(&self) -> &Journal
         ensures value { result.now ≡ self.now.journal }
         ensures begun { 0 < length result.now }
-        // where no shift is fixed, four times the grid's copies are at most five times the best grid's
+        // where no shift is fixed, four times the grid's copies are at most five times the best's
         ensures near { All (IsNearWhereStill self.now.rules) result.now }
     {
         &self.ledger.journal
