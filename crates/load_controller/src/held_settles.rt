@@ -1,21 +1,13 @@
-// Held messages, which are tried again after each line.
+// `Settled` messages that are held, and tried again after each line.
 
-ghost use Rattle.std.specs.Prelude.{◌≡◌, ◌<◌, ◌≤◌, ◌^◌, ◌↔◌, ℕ, [], ◌∷◌, drop, IsTrue, true, false, MatchOption, IfOk, OnOk};
+ghost use Rattle.std.specs.Prelude.{◌≡◌, ◌<◌, ◌↔◌, ℕ, [], ◌∷◌, drop, IsTrue, true, false, MatchOption, IfOk, OnOk};
 ghost use Rattle.epoch_tags.specs.Held.{held_at};
 ghost use Rattle.load_controller.specs.Machine.{IsSound, IsReady, IsStuck, Advances, held_in_all};
 
-use crate::ledger::Ledger;
+use crate::ledger::{Ledger, joiners};
 use crate::line::Cause;
 use epoch_tags::Sends;
 use std::alloc::AllocError;
-
-// How many joiners there are.
-pub(crate) fn joiners(k: u32) -> u32
-    requires { k ≤ 8 }
-    ensures { result ≡ 2 ^ k }
-{
-    1 << k
-}
 
 impl Ledger {
     // The epoch held first of a joiner.

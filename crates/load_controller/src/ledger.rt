@@ -6,7 +6,6 @@ ghost use Rattle.load_controller.specs.Journal.{IsFirst, Fits};
 ghost use Rattle.load_controller.specs.Standing.{rules_with};
 ghost use Rattle.load_controller.specs.Machine.{Begins, IsSound, CauseFits, IsOfGrid, opens_of, Notes, CountsCause};
 
-use crate::held::joiners;
 use crate::line::{Cause, Journal, TurnLine};
 use crate::marks::{note_drain, note_settle};
 use crate::next::next_line;
@@ -15,6 +14,14 @@ use crate::stop::is_over;
 use epoch_tags::{Held, Sends, all_down};
 use grid_map::Weights;
 use std::alloc::{AllocError, Global};
+
+// How many joiners there are.
+pub(crate) fn joiners(k: u32) -> u32
+    requires { k ≤ 8 }
+    ensures { result ≡ 2 ^ k }
+{
+    1 << k
+}
 
 #[derive(Drop)]
 pub(crate) struct Ledger {

@@ -2,7 +2,7 @@
 #![tactic(auto)]
 
 mod controller;
-mod held;
+mod held_settles;
 mod laws;
 mod ledger;
 mod line;

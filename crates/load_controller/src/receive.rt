@@ -7,8 +7,7 @@ ghost use Rattle.load_controller.specs.Standing.{IsPassedOver, TakesMessage, Pas
 ghost use Rattle.load_controller.specs.Machine.{IsSound, HasPlace, rules_of, state_of};
 ghost use Rattle.load_controller.specs.declared.line.TurnLine.{TurnLine};
 
-use crate::held::joiners;
-use crate::ledger::Ledger;
+use crate::ledger::{Ledger, joiners};
 use crate::line::Cause;
 use epoch_tags::{Actor, Sends, ToController};
 use std::alloc::AllocError;
