@@ -48,84 +48,82 @@ pub record Bounded (e0 k rows_r rows_s base_r base_s epoch shift goal dues : ℕ
   pub shift_within : shift ≤ k
   pub goal_within : goal ≤ k
 
--- a decision at least doubles a side, and gives k steps
-decided : (e0 k rows_r rows_s base_r base_s epoch shift goal dues goal' : ℕ)
-    → Bounded e0 k rows_r rows_s base_r base_s epoch shift goal dues → goal' ≤ k
-    → (has_doubled base_r rows_r || has_doubled base_s rows_s) ≡ true
-    → Bounded e0 k rows_r rows_s rows_r rows_s epoch shift goal' (dues + 1)
-decided e0 k rows_r rows_s base_r base_s epoch shift goal dues goal' b within due =
-    elim (or_cases (has_doubled base_r rows_r) (has_doubled base_s rows_s) due) [
-      | inl of_r ↦
-          let parts = and_parts (nat_lt base_r rows_r) (nat_le (2 * base_r) rows_r) of_r in
-          let more = ltb-true base_r rows_r parts.0 in
-          let twice = leb-true (2 * base_r) rows_r parts.1 in
-          let double : 2 ^ (b.a + 1) ≡ 2 ^ b.a * 2 = pow-add 2 b.a 1 in
-          record {
-            a = b.a + 1;
-            c = b.c;
-            doubled_r = omega arith;
-            doubled_s = omega arith;
-            spent = omega arith;
-            few_dues = omega (arith, b.few_dues);
-            low_r = omega arith;
-            low_s = omega arith;
-            shift_within = b.shift_within;
-            goal_within = within;
-          }
-      | inr of_s ↦
-          let parts = and_parts (nat_lt base_s rows_s) (nat_le (2 * base_s) rows_s) of_s in
-          let more = ltb-true base_s rows_s parts.0 in
-          let twice = leb-true (2 * base_s) rows_s parts.1 in
-          let double : 2 ^ (b.c + 1) ≡ 2 ^ b.c * 2 = pow-add 2 b.c 1 in
-          record {
-            a = b.a;
-            c = b.c + 1;
-            doubled_r = omega arith;
-            doubled_s = omega arith;
-            spent = omega arith;
-            few_dues = omega (arith, b.few_dues);
-            low_r = omega arith;
-            low_s = omega arith;
-            shift_within = b.shift_within;
-            goal_within = within;
-          }
-    ]
+module _ (e0 k rows_r rows_s base_r base_s epoch shift goal dues : ℕ) where
+  -- a decision at least doubles a side, and gives k steps
+  decided : (goal' : ℕ) → Bounded e0 k rows_r rows_s base_r base_s epoch shift goal dues → goal' ≤ k
+      → (has_doubled base_r rows_r || has_doubled base_s rows_s) ≡ true
+      → Bounded e0 k rows_r rows_s rows_r rows_s epoch shift goal' (dues + 1)
+  decided goal' b within due =
+      elim (or_cases (has_doubled base_r rows_r) (has_doubled base_s rows_s) due) [
+        | inl of_r ↦
+            let parts = and_parts (nat_lt base_r rows_r) (nat_le (2 * base_r) rows_r) of_r in
+            let more = ltb-true base_r rows_r parts.0 in
+            let twice = leb-true (2 * base_r) rows_r parts.1 in
+            let double : 2 ^ (b.a + 1) ≡ 2 ^ b.a * 2 = pow-add 2 b.a 1 in
+            record {
+              a = b.a + 1;
+              c = b.c;
+              doubled_r = omega arith;
+              doubled_s = omega arith;
+              spent = omega arith;
+              few_dues = omega (arith, b.few_dues);
+              low_r = omega arith;
+              low_s = omega arith;
+              shift_within = b.shift_within;
+              goal_within = within;
+            }
+        | inr of_s ↦
+            let parts = and_parts (nat_lt base_s rows_s) (nat_le (2 * base_s) rows_s) of_s in
+            let more = ltb-true base_s rows_s parts.0 in
+            let twice = leb-true (2 * base_s) rows_s parts.1 in
+            let double : 2 ^ (b.c + 1) ≡ 2 ^ b.c * 2 = pow-add 2 b.c 1 in
+            record {
+              a = b.a;
+              c = b.c + 1;
+              doubled_r = omega arith;
+              doubled_s = omega arith;
+              spent = omega arith;
+              few_dues = omega (arith, b.few_dues);
+              low_r = omega arith;
+              low_s = omega arith;
+              shift_within = b.shift_within;
+              goal_within = within;
+            }
+      ]
 
--- a step that starts
-stepped : (e0 k rows_r rows_s base_r base_s epoch shift goal dues : ℕ)
-    → Bounded e0 k rows_r rows_s base_r base_s epoch shift goal dues → (shift ≡ goal → ⊥)
-    → Bounded e0 k rows_r rows_s base_r base_s (epoch + 1) (next_step shift goal) goal dues
-stepped e0 k rows_r rows_s base_r base_s epoch shift goal dues b differ =
-    let nearer = next_nearer shift goal differ in
-    record {
-      a = b.a;
-      c = b.c;
-      doubled_r = b.doubled_r;
-      doubled_s = b.doubled_s;
-      spent = omega (arith, nearer);
-      few_dues = b.few_dues;
-      low_r = b.low_r;
-      low_s = b.low_s;
-      shift_within = next_within k shift goal b.shift_within b.goal_within;
-      goal_within = b.goal_within;
-    }
+  -- a step that starts
+  stepped : Bounded e0 k rows_r rows_s base_r base_s epoch shift goal dues → (shift ≡ goal → ⊥)
+      → Bounded e0 k rows_r rows_s base_r base_s (epoch + 1) (next_step shift goal) goal dues
+  stepped b differ =
+      let nearer = next_nearer shift goal differ in
+      record {
+        a = b.a;
+        c = b.c;
+        doubled_r = b.doubled_r;
+        doubled_s = b.doubled_s;
+        spent = omega (arith, nearer);
+        few_dues = b.few_dues;
+        low_r = b.low_r;
+        low_s = b.low_s;
+        shift_within = next_within k shift goal b.shift_within b.goal_within;
+        goal_within = b.goal_within;
+      }
 
--- rows that are counted
-counted : (e0 k rows_r rows_s base_r base_s epoch shift goal dues : ℕ) (dr ds : ℕ)
-    → Bounded e0 k rows_r rows_s base_r base_s epoch shift goal dues
-    → Bounded e0 k (rows_r + dr) (rows_s + ds) base_r base_s epoch shift goal dues
-counted e0 k rows_r rows_s base_r base_s epoch shift goal dues dr ds b = record {
-  a = b.a;
-  c = b.c;
-  doubled_r = b.doubled_r;
-  doubled_s = b.doubled_s;
-  spent = b.spent;
-  few_dues = b.few_dues;
-  low_r = omega arith;
-  low_s = omega arith;
-  shift_within = b.shift_within;
-  goal_within = b.goal_within;
-}
+  -- rows that are counted
+  counted : (dr ds : ℕ) → Bounded e0 k rows_r rows_s base_r base_s epoch shift goal dues
+      → Bounded e0 k (rows_r + dr) (rows_s + ds) base_r base_s epoch shift goal dues
+  counted dr ds b = record {
+    a = b.a;
+    c = b.c;
+    doubled_r = b.doubled_r;
+    doubled_s = b.doubled_s;
+    spent = b.spent;
+    few_dues = b.few_dues;
+    low_r = omega arith;
+    low_s = omega arith;
+    shift_within = b.shift_within;
+    goal_within = b.goal_within;
+  }
 
 -- of a line
 abbrev pub OfLine : ℕ → ℕ → TurnLine → ℕ → Type 0

@@ -104,17 +104,16 @@ over_both r r' a b same one two =
     All-append (GoesOver r.k r.feeders Controller) a b one (subst (λ (q : Rules). AllGoOver q.k q.feeders Controller b)
     same two)
 
--- from lists with the first part's posts to those with both
-pub stands_both : (r r' : Rules) (first : TurnLine) (lists : ControllerLists) (a b : List Post) (j j' : List TurnLine)
-    (h h' : ℕ → List ℕ) → r' ≡ r
-    → StandsWithin r first (with_sent lists a j) j h
-    → (StandsWithin r' first (with_sent lists a j) j h → StandsWithin r' first (with_sent (with_sent lists a j) b j')
-    j' h')
-    → StandsWithin r first (with_sent lists (a ++ b) j') j' h'
-stands_both r r' first lists a b j j' h h' same w moves =
-    let moved = moves (subst (λ q. StandsWithin q first (with_sent lists a j) j h) (sym same) w) in
-    subst (λ ls. StandsWithin r first ls j' h') (sent_twice lists a b j j')
-    (subst (λ q. StandsWithin q first (with_sent (with_sent lists a j) b j') j' h') same moved)
+module _ (r r' : Rules) (first : TurnLine) (lists : ControllerLists) (a b : List Post) (j j' : List TurnLine)
+    (h h' : ℕ → List ℕ) where
+  -- from lists with the first part's posts to those with both
+  pub stands_both : r' ≡ r → StandsWithin r first (with_sent lists a j) j h
+      → (StandsWithin r' first (with_sent lists a j) j h → StandsWithin r' first (with_sent (with_sent lists a j) b j')
+      j' h') → StandsWithin r first (with_sent lists (a ++ b) j') j' h'
+  stands_both same w moves =
+      let moved = moves (subst (λ q. StandsWithin q first (with_sent lists a j) j h) (sym same) w) in
+      subst (λ ls. StandsWithin r first ls j' h') (sent_twice lists a b j j')
+      (subst (λ q. StandsWithin q first (with_sent (with_sent lists a j) b j') j' h') same moved)
 
 -- one part of a call and another after it are a part of the call
 pub advances_then : (a b c : Ledger) (pa pb pc : List Post) → Advances a b pa pb → Advances b c pb pc
@@ -200,39 +199,40 @@ over_line cause old new before after s fits c =
     line_over old new.line old.line s.past (subst (λ x. CauseFits old x) (sym (ap (λ (l : TurnLine). l.cause) c.line))
     fits)
 
--- lists that stand with the line that a past makes stand with the machine's
-pub stands_with : (r : Rules) (first : TurnLine) (lists : ControllerLists) (old new : TurnLine) (past : List TurnLine)
-    (cause : Cause) (journal journal' : List TurnLine) (held : ℕ → List ℕ)
-    → line_after r old past cause ≡ new → journal' ≡ journal ++ new ∷ []
-    → StandsWithin r first (with_sent lists (posts_for r (line_after r old past cause) old past)
-    (journal ++ line_after r old past cause ∷ [])) (journal ++ line_after r old past cause ∷ []) held
-    → StandsWithin r first (with_sent lists (posts_for r new old past) journal') journal' held
-stands_with r first lists old new past cause journal journal' held is grows w =
-    subst (λ js. StandsWithin r first (with_sent lists (posts_for r new old past) js) js held) (sym grows)
-    (subst (λ l. StandsWithin r first (with_sent lists (posts_for r l old past) (journal ++ l ∷ [])) (journal ++ l ∷ [])
-    held) is w)
+module _ (r : Rules) (first : TurnLine) (lists : ControllerLists) (old new : TurnLine) (past : List TurnLine)
+    (cause : Cause) (journal journal' : List TurnLine) (held : ℕ → List ℕ) where
+  -- lists that stand with the line that a past makes stand with the machine's
+  pub stands_with : line_after r old past cause ≡ new → journal' ≡ journal ++ new ∷ []
+      → StandsWithin r first (with_sent lists (posts_for r (line_after r old past cause) old past) (journal ++
+      line_after r old past cause ∷ [])) (journal ++ line_after r old past cause ∷ []) held
+      → StandsWithin r first (with_sent lists (posts_for r new old past) journal') journal' held
+  stands_with is grows w =
+      subst (λ js. StandsWithin r first (with_sent lists (posts_for r new old past) js) js held) (sym grows)
+      (subst (λ l. StandsWithin r first (with_sent lists (posts_for r l old past) (journal ++ l ∷ []))
+      (journal ++ l ∷ [])
+      held) is w)
 
--- the same, with the last line and the past as the machine has them
-abbrev pub recast : (r : Rules) (first : TurnLine) (lists : ControllerLists) (journal : List TurnLine) (held : ℕ
-    → List ℕ) (w : StandsWithin r first lists journal held)
-    (line : TurnLine) (past : List TurnLine) → reverse journal ≡ line ∷ past → line ≡ w.line → past ≡ w.past
-    → StandsWithin r first lists journal held
-recast r first lists journal held w line past newest same_line same_past = record {
-  line = line;
-  past = past;
-  newest = newest;
-  same = w.same;
-  follows = subst (λ l. Follows r first (l ∷ past)) (sym same_line)
-      (subst (λ ls. Follows r first (w.line ∷ ls)) (sym same_past) w.follows);
-  counts = subst (λ l. (q : ℕ) → q < r.feeders → CountsMessages q l past (lists.from_feeder q)) (sym same_line)
-      (subst (λ ls. (q : ℕ) → q < r.feeders → CountsMessages q w.line ls (lists.from_feeder q)) (sym same_past)
-      w.counts);
-  settles = subst (λ l. (j : ℕ) → j < 2 ^ r.k → HoldsSettled j l past (held j) (settled_epochs (lists.from_joiner j)))
-      (sym same_line) (subst (λ ls. (j : ℕ) → j < 2 ^ r.k → HoldsSettled j w.line ls (held j)
-      (settled_epochs (lists.from_joiner j))) (sym same_past) w.settles);
-  sends = subst (λ l. (q : ℕ) → q < r.feeders → lists.to_feeder q ≡ sent_by r q (l ∷ past)) (sym same_line)
-      (subst (λ ls. (q : ℕ) → q < r.feeders → lists.to_feeder q ≡ sent_by r q (w.line ∷ ls)) (sym same_past) w.sends);
-}
+module _ (r : Rules) (first : TurnLine) (lists : ControllerLists) (journal : List TurnLine) (held : ℕ → List ℕ)
+    (w : StandsWithin r first lists journal held) where
+  -- the same, with the last line and the past as the machine has them
+  abbrev pub recast : (line : TurnLine) (past : List TurnLine) → reverse journal ≡ line ∷ past → line ≡ w.line
+      → past ≡ w.past → StandsWithin r first lists journal held
+  recast line past newest same_line same_past = record {
+    line = line;
+    past = past;
+    newest = newest;
+    same = w.same;
+    follows = subst (λ l. Follows r first (l ∷ past)) (sym same_line)
+        (subst (λ ls. Follows r first (w.line ∷ ls)) (sym same_past) w.follows);
+    counts = subst (λ l. (q : ℕ) → q < r.feeders → CountsMessages q l past (lists.from_feeder q)) (sym same_line)
+        (subst (λ ls. (q : ℕ) → q < r.feeders → CountsMessages q w.line ls (lists.from_feeder q)) (sym same_past)
+        w.counts);
+    settles = subst (λ l. (j : ℕ) → j < 2 ^ r.k → HoldsSettled j l past (held j) (settled_epochs (lists.from_joiner j)))
+        (sym same_line) (subst (λ ls. (j : ℕ) → j < 2 ^ r.k → HoldsSettled j w.line ls (held j)
+        (settled_epochs (lists.from_joiner j))) (sym same_past) w.settles);
+    sends = subst (λ l. (q : ℕ) → q < r.feeders → lists.to_feeder q ≡ sent_by r q (l ∷ past)) (sym same_line)
+        (subst (λ ls. (q : ℕ) → q < r.feeders → lists.to_feeder q ≡ sent_by r q (w.line ∷ ls)) (sym same_past) w.sends);
+  }
 
 -- pasts that are one begin with the same line
 pub first_same : (a b : TurnLine) (xs ys : List TurnLine) → a ∷ xs ≡ b ∷ ys → a ≡ b

@@ -59,20 +59,20 @@ marks_count true n line since same = by_test (is_settle line.cause)
     by_test false = same
 marks_count false n line since same = refl
 
--- fewer than all have settled while a step is open
-few_after : (J e n : ℕ) (moves is ends differs : Bool) → 0 < J → (moves ≡ true → n < J) → (ends ≡ false → n + 1 ≡ J → ⊥)
-    → let opens = moves && not (is && ends) in
-    let steps = not opens && differs in
-    (opens || steps) ≡ true → cond (cond steps (e + 1) e == e) (cond is (n + 1) n) 0 < J
-few_after J e n false is ends true some few last moving = rw (ne_eqb (e + 1) e (λ same. absurd (omega arith))) some
-few_after J e n false is ends false some few last moving = absurd (false≢true moving)
-few_after J e n true true true true some few last moving = rw (ne_eqb (e + 1) e (λ same. absurd (omega arith))) some
-few_after J e n true true true false some few last moving = absurd (false≢true moving)
-few_after J e n true true false differs some few last moving =
-    let below = few refl in
-    let differ = last refl in
-    rw (eq-eqb e e refl) (omega arith)
-few_after J e n true false ends differs some few last moving = rw (eq-eqb e e refl) (few refl)
+module _ (J e n : ℕ) where
+  -- fewer than all have settled while a step is open
+  few_after : (moves is ends differs : Bool) → 0 < J → (moves ≡ true → n < J) → (ends ≡ false → n + 1 ≡ J → ⊥)
+      → let opens = moves && not (is && ends) in let steps = not opens && differs in (opens || steps) ≡ true
+      → cond (cond steps (e + 1) e == e) (cond is (n + 1) n) 0 < J
+  few_after false is ends true some few last moving = rw (ne_eqb (e + 1) e (λ same. absurd (omega arith))) some
+  few_after false is ends false some few last moving = absurd (false≢true moving)
+  few_after true true true true some few last moving = rw (ne_eqb (e + 1) e (λ same. absurd (omega arith))) some
+  few_after true true true false some few last moving = absurd (false≢true moving)
+  few_after true true false differs some few last moving =
+      let below = few refl in
+      let differ = last refl in
+      rw (eq-eqb e e refl) (omega arith)
+  few_after true false ends differs some few last moving = rw (eq-eqb e e refl) (few refl)
 
 most_after : (stays is : Bool) (n J : ℕ) → n ≤ J → (is ≡ true → n < J) → cond stays (cond is (n + 1) n) 0 ≤ J
 most_after true true n J most few = let below = few refl in omega arith

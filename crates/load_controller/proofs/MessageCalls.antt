@@ -154,13 +154,13 @@ held_took old new j before after s t ready lowest c =
           (λ i differ. get_or-set_other old.held j i (drop 1 (held_at old.held j)) [] (λ same. differ (sym same)))));
     }
 
--- the machine after the pop, as the code has it
-pub advances_held : (old mid new : Ledger) (j : ℕ) (before after : List Post) → IsSound old → IsSound new
-    → IsReady old j → ((i : ℕ) → i < j → ¬ IsReady old i)
-    → mid ≡ record old { held = without_first old j } → CountsCause (Settle j) mid new before after
-    → Advances old new before after
-advances_held old mid new j before after s t ready lowest is c =
-    held_took old new j before after s t ready lowest (subst (λ x. CountsCause (Settle j) x new before after) is c)
+module _ (old mid new : Ledger) (j : ℕ) (before after : List Post) where
+  -- the machine after the pop, as the code has it
+  pub advances_held : IsSound old → IsSound new → IsReady old j → ((i : ℕ) → i < j → ¬ IsReady old i)
+      → mid ≡ record old { held = without_first old j } → CountsCause (Settle j) mid new before after
+      → Advances old new before after
+  advances_held s t ready lowest is c =
+      held_took old new j before after s t ready lowest (subst (λ x. CountsCause (Settle j) x new before after) is c)
 
 -- ---- a joiner's message
 
@@ -225,26 +225,26 @@ takes_message from m old new before after s stuck took = record {
       stands_of first lists' (state_of new false) here (stuck_here new s stuck) start (took.rules ∙ stands.began) refl;
 }
 
--- a feeder's message in place, and then the held ones
-pub feeder_takes : (p : ℕ) (m : ToController) (old mid new : Ledger) (before between after : List Post) → IsSound old
-    → IsSound mid → IsSound new → HasPlace old p m
-    → CountsCause (cause_of p m) old mid before between → Advances mid new between after → IsStuck new
-    → TakesMessage (Feeder p) m (state_of old false) (state_of new false) before after
-feeder_takes p m old mid new before between after s t u place c advances stuck =
-    takes_message (Feeder p) m old new before after u stuck
-    (took_then (Feeder p) m old mid new before between after (feeder_took p m old mid before between s t place c)
-    advances)
+module _ (p : ℕ) (m : ToController) (old mid new : Ledger) (before between after : List Post) where
+  -- a feeder's message in place, and then the held ones
+  pub feeder_takes : IsSound old → IsSound mid → IsSound new → HasPlace old p m
+      → CountsCause (cause_of p m) old mid before between → Advances mid new between after → IsStuck new
+      → TakesMessage (Feeder p) m (state_of old false) (state_of new false) before after
+  feeder_takes s t u place c advances stuck =
+      takes_message (Feeder p) m old new before after u stuck
+      (took_then (Feeder p) m old mid new before between after (feeder_took p m old mid before between s t place c)
+      advances)
 
--- a joiner's word, and then the held ones
-pub joiner_takes : (j epoch : ℕ) (old mid new : Ledger) (before after : List Post) → IsSound old → IsSound new
-    → j < 2 ^ old.k
-    → mid ≡ record old { held = slice_set old.held j (held_at old.held j ++ epoch ∷ []) }
-    → Advances mid new before after → IsStuck new
-    → TakesMessage (Joiner j) (Settled epoch) (state_of old false) (state_of new false) before after
-joiner_takes j epoch old mid new before after s u low is advances stuck =
-    takes_message (Joiner j) (Settled epoch) old new before after u stuck
-    (took_then (Joiner j) (Settled epoch) old mid new before before after
-    (joiner_took j epoch old mid before s low is) advances)
+module _ (j epoch : ℕ) (old mid new : Ledger) (before after : List Post) where
+  -- a joiner's word, and then the held ones
+  pub joiner_takes : IsSound old → IsSound new → j < 2 ^ old.k
+      → mid ≡ record old { held = slice_set old.held j (held_at old.held j ++ epoch ∷ []) }
+      → Advances mid new before after → IsStuck new
+      → TakesMessage (Joiner j) (Settled epoch) (state_of old false) (state_of new false) before after
+  joiner_takes s u low is advances stuck =
+      takes_message (Joiner j) (Settled epoch) old new before after u stuck
+      (took_then (Joiner j) (Settled epoch) old mid new before before after
+      (joiner_took j epoch old mid before s low is) advances)
 
 -- ---- a message that is passed over
 
@@ -300,19 +300,19 @@ placed_not_passed c p m s place line past newest over =
 
 -- ---- as callers see it
 
--- what is passed over, in the words of the contract
-pub passes_view : (from : Actor) (m : ToController) (old new : Ledger) (spent : Bool) (state : ControllerState)
-    (before after : List Post) → state_of old spent ≡ state → spent ≡ false
-    → ((line : TurnLine) (past : List TurnLine) → reverse old.journal ≡ line ∷ past
-    → IsPassedOver (rules_of old) line past from m
-    → PassesOver (state_of old false) (state_of new false) before after)
-    → (line : TurnLine) (past : List TurnLine) → reverse state.journal ≡ line ∷ past
-    → IsPassedOver state.rules line past from m → PassesOver state (state_of new spent) before after
-passes_view from m old new spent state before after is ready passes =
-    subst
-    (λ (st : ControllerState). (line : TurnLine) (past : List TurnLine) → reverse st.journal ≡ line ∷ past
-    → IsPassedOver st.rules line past from m → PassesOver st (state_of new spent) before after) is
-    (subst
-    (λ (b : Bool). (line : TurnLine) (past : List TurnLine) → reverse old.journal ≡ line ∷ past
-    → IsPassedOver (rules_of old) line past from m → PassesOver (state_of old b) (state_of new b) before after)
-    (sym ready) passes)
+module _ (from : Actor) (m : ToController) (old new : Ledger) (spent : Bool) (state : ControllerState)
+    (before after : List Post) where
+  -- what is passed over, in the words of the contract
+  pub passes_view : state_of old spent ≡ state → spent ≡ false
+      → ((line : TurnLine) (past : List TurnLine) → reverse old.journal ≡ line ∷ past → IsPassedOver (rules_of old) line
+      past from m → PassesOver (state_of old false) (state_of new false) before after) → (line : TurnLine)
+      (past : List TurnLine) → reverse state.journal ≡ line ∷ past → IsPassedOver state.rules line past from m
+      → PassesOver state (state_of new spent) before after
+  passes_view is ready passes =
+      subst
+      (λ (st : ControllerState). (line : TurnLine) (past : List TurnLine) → reverse st.journal ≡ line ∷ past
+      → IsPassedOver st.rules line past from m → PassesOver st (state_of new spent) before after) is
+      (subst
+      (λ (b : Bool). (line : TurnLine) (past : List TurnLine) → reverse old.journal ≡ line ∷ past
+      → IsPassedOver (rules_of old) line past from m → PassesOver (state_of old b) (state_of new b) before after)
+      (sym ready) passes)

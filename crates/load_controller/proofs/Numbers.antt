@@ -47,80 +47,79 @@ more_digits k a a' c is = rw is (omega arith)
 more_digits_s : (k a c c' : ℕ) → c ≡ c' + 1 → k * (a + c) ≡ k * (a + c') + k
 more_digits_s k a c c' is = rw is (omega arith)
 
-decided : (k rows_r rows_s base_r base_s epoch shift goal goal' : ℕ)
-    → Ranged k rows_r rows_s base_r base_s epoch shift goal → goal' ≤ k
-    → (has_doubled base_r rows_r || has_doubled base_s rows_s) ≡ true
-    → Ranged k rows_r rows_s rows_r rows_s epoch shift goal'
-decided k rows_r rows_s base_r base_s epoch shift goal goal' b within due = record {
-  few_r = b.few_r;
-  few_s = b.few_s;
-  low_r = omega arith;
-  low_s = omega arith;
-  shift_within = b.shift_within;
-  goal_within = within;
-  paid = λ a c small_r small_s.
-      let near : gap shift goal' ≤ k = omega (arith, b.shift_within) in
-      let base_r_low = b.low_r in
-      let base_s_low = b.low_s in
-      elim (or_cases (has_doubled base_r rows_r) (has_doubled base_s rows_s) due) [
-        | inl of_r ↦
-            let parts = and_parts (nat_lt base_r rows_r) (nat_le (2 * base_r) rows_r) of_r in
-            let digits =
-            digit_more base_r rows_r a (ltb-true base_r rows_r parts.0) (leb-true (2 * base_r) rows_r parts.1)
-            small_r in
-            let old = b.paid digits.0 c digits.2 (omega arith) in
-            let grows = more_digits k a digits.0 c digits.1 in
-            omega arith
-        | inr of_s ↦
-            let parts = and_parts (nat_lt base_s rows_s) (nat_le (2 * base_s) rows_s) of_s in
-            let digits =
-            digit_more base_s rows_s c (ltb-true base_s rows_s parts.0) (leb-true (2 * base_s) rows_s parts.1)
-            small_s in
-            let old = b.paid a digits.0 (omega arith) digits.2 in
-            let grows = more_digits_s k a c digits.0 digits.1 in
-            omega arith
-      ];
-}
+module _ (k rows_r rows_s base_r base_s epoch shift goal : ℕ) where
+  decided : (goal' : ℕ) → Ranged k rows_r rows_s base_r base_s epoch shift goal → goal' ≤ k
+      → (has_doubled base_r rows_r || has_doubled base_s rows_s) ≡ true
+      → Ranged k rows_r rows_s rows_r rows_s epoch shift goal'
+  decided goal' b within due = record {
+    few_r = b.few_r;
+    few_s = b.few_s;
+    low_r = omega arith;
+    low_s = omega arith;
+    shift_within = b.shift_within;
+    goal_within = within;
+    paid = λ a c small_r small_s.
+        let near : gap shift goal' ≤ k = omega (arith, b.shift_within) in
+        let base_r_low = b.low_r in
+        let base_s_low = b.low_s in
+        elim (or_cases (has_doubled base_r rows_r) (has_doubled base_s rows_s) due) [
+          | inl of_r ↦
+              let parts = and_parts (nat_lt base_r rows_r) (nat_le (2 * base_r) rows_r) of_r in
+              let digits =
+              digit_more base_r rows_r a (ltb-true base_r rows_r parts.0) (leb-true (2 * base_r) rows_r parts.1)
+              small_r in
+              let old = b.paid digits.0 c digits.2 (omega arith) in
+              let grows = more_digits k a digits.0 c digits.1 in
+              omega arith
+          | inr of_s ↦
+              let parts = and_parts (nat_lt base_s rows_s) (nat_le (2 * base_s) rows_s) of_s in
+              let digits =
+              digit_more base_s rows_s c (ltb-true base_s rows_s parts.0) (leb-true (2 * base_s) rows_s parts.1)
+              small_s in
+              let old = b.paid a digits.0 (omega arith) digits.2 in
+              let grows = more_digits_s k a c digits.0 digits.1 in
+              omega arith
+        ];
+  }
 
-maybe_decided : (k rows_r rows_s base_r base_s epoch shift goal goal' : ℕ) (due : Bool)
-    → Ranged k rows_r rows_s base_r base_s epoch shift goal → goal' ≤ k
-    → (due ≡ true → (has_doubled base_r rows_r || has_doubled base_s rows_s) ≡ true)
-    → Ranged k rows_r rows_s (cond due rows_r base_r) (cond due rows_s base_s) epoch shift (cond due goal' goal)
-maybe_decided k rows_r rows_s base_r base_s epoch shift goal goal' true b within doubled =
-    decided k rows_r rows_s base_r base_s epoch shift goal goal' b within (doubled refl)
-maybe_decided k rows_r rows_s base_r base_s epoch shift goal goal' false b within doubled = b
+  maybe_decided : (goal' : ℕ) (due : Bool) → Ranged k rows_r rows_s base_r base_s epoch shift goal → goal' ≤ k
+      → (due ≡ true → (has_doubled base_r rows_r || has_doubled base_s rows_s) ≡ true)
+      → Ranged k rows_r rows_s (cond due rows_r base_r) (cond due rows_s base_s) epoch shift (cond due goal' goal)
+  maybe_decided goal' true b within doubled =
+      decided goal' b within (doubled refl)
+  maybe_decided goal' false b within doubled = b
 
-maybe_stepped : (k rows_r rows_s base_r base_s epoch shift goal : ℕ) (steps : Bool) → (steps ≡ true → shift ≡ goal → ⊥)
-    → Ranged k rows_r rows_s base_r base_s epoch shift goal
-    → Ranged k rows_r rows_s base_r base_s (cond steps (epoch + 1) epoch) (cond steps (next_step shift goal) shift) goal
-maybe_stepped k rows_r rows_s base_r base_s epoch shift goal true differ b =
-    let nearer = next_nearer shift goal (differ refl) in
-    record {
-      few_r = b.few_r;
-      few_s = b.few_s;
-      low_r = b.low_r;
-      low_s = b.low_s;
-      shift_within = next_within k shift goal b.shift_within b.goal_within;
-      goal_within = b.goal_within;
-      paid = λ a c small_r small_s. let old = b.paid a c small_r small_s in omega (arith, nearer, old);
-    }
-maybe_stepped k rows_r rows_s base_r base_s epoch shift goal false differ b = b
+  maybe_stepped : (steps : Bool) → (steps ≡ true → shift ≡ goal → ⊥)
+      → Ranged k rows_r rows_s base_r base_s epoch shift goal
+      → Ranged k rows_r rows_s base_r base_s (cond steps (epoch + 1) epoch) (cond steps (next_step shift goal) shift)
+      goal
+  maybe_stepped true differ b =
+      let nearer = next_nearer shift goal (differ refl) in
+      record {
+        few_r = b.few_r;
+        few_s = b.few_s;
+        low_r = b.low_r;
+        low_s = b.low_s;
+        shift_within = next_within k shift goal b.shift_within b.goal_within;
+        goal_within = b.goal_within;
+        paid = λ a c small_r small_s. let old = b.paid a c small_r small_s in omega (arith, nearer, old);
+      }
+  maybe_stepped false differ b = b
 
-counted : (k rows_r rows_s base_r base_s epoch shift goal dr ds : ℕ)
-    → Ranged k rows_r rows_s base_r base_s epoch shift goal → rows_r + dr ≤ 2 ^ 32 → rows_s + ds ≤ 2 ^ 32
-    → Ranged k (rows_r + dr) (rows_s + ds) base_r base_s epoch shift goal
-counted k rows_r rows_s base_r base_s epoch shift goal dr ds b few_r few_s =
-    let low_r = b.low_r in
-    let low_s = b.low_s in
-    record {
-      few_r = few_r;
-      few_s = few_s;
-      low_r = omega arith;
-      low_s = omega arith;
-      shift_within = b.shift_within;
-      goal_within = b.goal_within;
-      paid = b.paid;
-    }
+  counted : (dr ds : ℕ) → Ranged k rows_r rows_s base_r base_s epoch shift goal → rows_r + dr ≤ 2 ^ 32
+      → rows_s + ds ≤ 2 ^ 32 → Ranged k (rows_r + dr) (rows_s + ds) base_r base_s epoch shift goal
+  counted dr ds b few_r few_s =
+      let low_r = b.low_r in
+      let low_s = b.low_s in
+      record {
+        few_r = few_r;
+        few_s = few_s;
+        low_r = omega arith;
+        low_s = omega arith;
+        shift_within = b.shift_within;
+        goal_within = b.goal_within;
+        paid = b.paid;
+      }
 
 -- a line after one in range is in range
 pub bounded_after : (k : ℕ) (fixed : Option ℕ) (weights : Weights) (before : TurnLine) (opens : Bool) (cause : Cause)

@@ -248,14 +248,14 @@ lines_are_epochs j line (before ∷ past) epochs are =
 
 -- ---- the end
 
--- where no step is open, each joiner has a line for every epoch after the first
-pub each_settled : (rules : Rules) (first line : TurnLine) (past : List TurnLine) → first.moving ≡ false
-    → Follows rules first (line ∷ past) → line.moving ≡ false
-    → (j : ℕ) (epochs : List ℕ) → j < 2 ^ rules.k → AreSettled j (line ∷ past) epochs
-    → first.epoch + length epochs ≡ line.epoch
-each_settled rules first line past not_moving follows at_rest j epochs low are =
-    ap (λ n. first.epoch + n) (sym (lines_are_epochs j line past epochs are))
-    ∙ (steps_of rules first line past not_moving follows).still at_rest j low
+module _ (rules : Rules) (first line : TurnLine) (past : List TurnLine) (not_moving : first.moving ≡ false)
+    (follows : Follows rules first (line ∷ past)) (at_rest : line.moving ≡ false) where
+  -- where no step is open, each joiner has a line for every epoch after the first
+  pub each_settled : (j : ℕ) (epochs : List ℕ) → j < 2 ^ rules.k → AreSettled j (line ∷ past) epochs
+      → first.epoch + length epochs ≡ line.epoch
+  each_settled j epochs low are =
+      ap (λ n. first.epoch + n) (sym (lines_are_epochs j line past epochs are))
+      ∙ (steps_of rules first line past not_moving follows).still at_rest j low
 
 -- where each joiner has said of every epoch after the first that it has settled, no step is open
 pub ends_still : (rules : Rules) (first line : TurnLine) (past : List TurnLine) (n : ℕ) → line.epoch ≡ first.epoch + n

@@ -161,33 +161,32 @@ holds_more line past j epoch held epochs h = record {
 
 -- ---- a line more
 
--- whatever was received: where each link's part of the law holds after the line
-pub line_more : (rules : Rules) (first : TurnLine) (lists lists' : ControllerLists) (journal : List TurnLine)
-    (held held' : ℕ → List ℕ) (w : StandsWithin rules first lists journal held) (cause : Cause)
-    → lists'.to_feeder ≡ lists.to_feeder
-    → IsAllowed rules w.line w.past cause
-    → ((p : ℕ) → p < rules.feeders → CountsMessages p (line_after rules w.line w.past cause) (w.line ∷ w.past)
-    (lists'.from_feeder p))
-    → ((j : ℕ) → j < 2 ^ rules.k → HoldsSettled j (line_after rules w.line w.past cause) (w.line ∷ w.past) (held' j)
-    (settled_epochs (lists'.from_joiner j)))
-    → StandsWithin rules first (with_sent lists' (posts_for rules (line_after rules w.line w.past cause) w.line w.past)
-    (journal ++ line_after rules w.line w.past cause ∷ []))
-    (journal ++ line_after rules w.line w.past cause ∷ []) held'
-line_more rules first lists lists' journal held held' w cause same allowed counts settles =
-    let line = line_after rules w.line w.past cause in
-    record {
-      line = line;
-      past = w.line ∷ w.past;
-      newest = reverse-append journal (line ∷ []) ∙ ap (λ ls. line ∷ ls) w.newest;
-      same = refl;
-      follows = (refl, allowed, w.follows);
-      counts = counts;
-      settles = settles;
-      sends = λ p low.
-          ap (λ (f : ℕ → List _). f p ++ posted_to_feeder p (posts_for rules line w.line w.past)) same
-          ∙ ap (λ ms. ms ++ posted_to_feeder p (posts_for rules line w.line w.past)) (w.sends p low)
-          ∙ ap (λ ms. sent_by rules p (w.line ∷ w.past) ++ ms) (posted_for rules line w.line w.past p low);
-    }
+module _ (rules : Rules) (first : TurnLine) (lists lists' : ControllerLists) (journal : List TurnLine)
+    (held held' : ℕ → List ℕ) (w : StandsWithin rules first lists journal held) (cause : Cause) where
+  -- whatever was received: where each link's part of the law holds after the line
+  pub line_more : lists'.to_feeder ≡ lists.to_feeder → IsAllowed rules w.line w.past cause
+      → ((p : ℕ) → p < rules.feeders → CountsMessages p (line_after rules w.line w.past cause) (w.line ∷ w.past)
+      (lists'.from_feeder p))
+      → ((j : ℕ) → j < 2 ^ rules.k → HoldsSettled j (line_after rules w.line w.past cause) (w.line ∷ w.past) (held' j)
+      (settled_epochs (lists'.from_joiner j)))
+      → StandsWithin rules first (with_sent lists' (posts_for rules (line_after rules w.line w.past cause) w.line
+      w.past) (journal ++ line_after rules w.line w.past cause ∷ [])) (journal ++ line_after rules w.line w.past cause ∷
+      []) held'
+  line_more same allowed counts settles =
+      let line = line_after rules w.line w.past cause in
+      record {
+        line = line;
+        past = w.line ∷ w.past;
+        newest = reverse-append journal (line ∷ []) ∙ ap (λ ls. line ∷ ls) w.newest;
+        same = refl;
+        follows = (refl, allowed, w.follows);
+        counts = counts;
+        settles = settles;
+        sends = λ p low.
+            ap (λ (f : ℕ → List _). f p ++ posted_to_feeder p (posts_for rules line w.line w.past)) same
+            ∙ ap (λ ms. ms ++ posted_to_feeder p (posts_for rules line w.line w.past)) (w.sends p low)
+            ∙ ap (λ ms. sent_by rules p (w.line ∷ w.past) ++ ms) (posted_for rules line w.line w.past p low);
+      }
 
 -- a feeder's message is counted
 pub feeder_counted : (rules : Rules) (first : TurnLine) (lists : ControllerLists) (journal : List TurnLine) (held : ℕ
@@ -238,50 +237,50 @@ feeder_counted rules first lists journal held w p m low in_place =
     no_settle j Drained = refl
     no_settle j (Settled epoch) = refl
 
--- a held message is counted
-pub held_counted : (rules : Rules) (first : TurnLine) (lists : ControllerLists) (journal : List TurnLine)
-    (held held' : ℕ → List ℕ) (w : StandsWithin rules first lists journal held) (j epoch : ℕ)
-    → j < 2 ^ rules.k → SettlesInPlace w.line w.past j epoch → held j ≡ epoch ∷ held' j
-    → ((i : ℕ) → (j ≡ i → ⊥) → held' i ≡ held i)
-    → StandsWithin rules first (with_sent lists (posts_for rules (line_after rules w.line w.past (Settle j))
-    w.line w.past) (journal ++ line_after rules w.line w.past (Settle j) ∷ []))
-    (journal ++ line_after rules w.line w.past (Settle j) ∷ []) held'
-held_counted rules first lists journal held held' w j epoch low in_place first_is rest =
-    line_more rules first lists lists journal held held' w (Settle j) refl (low, in_place.0, in_place.2)
-    (λ q below. counts_other rules w.line w.past (Settle j) q (lists.from_feeder q) refl (w.counts q below))
-    (λ i below. elim (cases_eq j i) [
-      | inl same ↦
-          subst (λ (n : ℕ). HoldsSettled n (line_after rules w.line w.past (Settle j)) (w.line ∷ w.past) (held' n)
-          (settled_epochs (lists.from_joiner n))) same
-          (holds_own rules w.line w.past j epoch (held' j) (settled_epochs (lists.from_joiner j)) in_place
-          (subst (λ xs. HoldsSettled j w.line w.past xs (settled_epochs (lists.from_joiner j))) first_is
-          (w.settles j low)))
-      | inr differ ↦
-          subst (λ xs. HoldsSettled i (line_after rules w.line w.past (Settle j)) (w.line ∷ w.past) xs
-          (settled_epochs (lists.from_joiner i))) (sym (rest i differ))
-          (holds_other rules w.line w.past (Settle j) i (held i) (settled_epochs (lists.from_joiner i))
-          (ne_eqb j i differ) (w.settles i below))
-    ])
+module _ (rules : Rules) (first : TurnLine) (lists : ControllerLists) (journal : List TurnLine)
+    (held held' : ℕ → List ℕ) (w : StandsWithin rules first lists journal held) (j epoch : ℕ) where
+  -- a held message is counted
+  pub held_counted : j < 2 ^ rules.k → SettlesInPlace w.line w.past j epoch → held j ≡ epoch ∷ held' j
+      → ((i : ℕ) → (j ≡ i → ⊥) → held' i ≡ held i)
+      → StandsWithin rules first (with_sent lists (posts_for rules (line_after rules w.line w.past (Settle j)) w.line
+      w.past) (journal ++ line_after rules w.line w.past (Settle j) ∷ [])) (journal ++ line_after rules w.line w.past
+      (Settle j) ∷ []) held'
+  held_counted low in_place first_is rest =
+      line_more rules first lists lists journal held held' w (Settle j) refl (low, in_place.0, in_place.2)
+      (λ q below. counts_other rules w.line w.past (Settle j) q (lists.from_feeder q) refl (w.counts q below))
+      (λ i below. elim (cases_eq j i) [
+        | inl same ↦
+            subst (λ (n : ℕ). HoldsSettled n (line_after rules w.line w.past (Settle j)) (w.line ∷ w.past) (held' n)
+            (settled_epochs (lists.from_joiner n))) same
+            (holds_own rules w.line w.past j epoch (held' j) (settled_epochs (lists.from_joiner j)) in_place
+            (subst (λ xs. HoldsSettled j w.line w.past xs (settled_epochs (lists.from_joiner j))) first_is
+            (w.settles j low)))
+        | inr differ ↦
+            subst (λ xs. HoldsSettled i (line_after rules w.line w.past (Settle j)) (w.line ∷ w.past) xs
+            (settled_epochs (lists.from_joiner i))) (sym (rest i differ))
+            (holds_other rules w.line w.past (Settle j) i (held i) (settled_epochs (lists.from_joiner i))
+            (ne_eqb j i differ) (w.settles i below))
+      ])
 
 -- ---- no line more
 
--- with another list of a link, or another held
-pub same_line : (rules : Rules) (first : TurnLine) (lists lists' : ControllerLists) (journal : List TurnLine)
-    (held held' : ℕ → List ℕ) (w : StandsWithin rules first lists journal held)
-    → lists'.journal ≡ lists.journal → lists'.to_feeder ≡ lists.to_feeder
-    → ((p : ℕ) → p < rules.feeders → CountsMessages p w.line w.past (lists'.from_feeder p))
-    → ((j : ℕ) → j < 2 ^ rules.k → HoldsSettled j w.line w.past (held' j) (settled_epochs (lists'.from_joiner j)))
-    → StandsWithin rules first lists' journal held'
-same_line rules first lists lists' journal held held' w same_journal same counts settles = record {
-  line = w.line;
-  past = w.past;
-  newest = w.newest;
-  same = w.same ∙ sym same_journal;
-  follows = w.follows;
-  counts = counts;
-  settles = settles;
-  sends = λ p low. ap (λ (f : ℕ → List _). f p) same ∙ w.sends p low;
-}
+module _ (rules : Rules) (first : TurnLine) (lists lists' : ControllerLists) (journal : List TurnLine)
+    (held held' : ℕ → List ℕ) (w : StandsWithin rules first lists journal held) where
+  -- with another list of a link, or another held
+  pub same_line : lists'.journal ≡ lists.journal → lists'.to_feeder ≡ lists.to_feeder
+      → ((p : ℕ) → p < rules.feeders → CountsMessages p w.line w.past (lists'.from_feeder p))
+      → ((j : ℕ) → j < 2 ^ rules.k → HoldsSettled j w.line w.past (held' j) (settled_epochs (lists'.from_joiner j)))
+      → StandsWithin rules first lists' journal held'
+  same_line same_journal same counts settles = record {
+    line = w.line;
+    past = w.past;
+    newest = w.newest;
+    same = w.same ∙ sym same_journal;
+    follows = w.follows;
+    counts = counts;
+    settles = settles;
+    sends = λ p low. ap (λ (f : ℕ → List _). f p) same ∙ w.sends p low;
+  }
 
 -- a feeder's message is passed over
 feeder_passed : (rules : Rules) (first : TurnLine) (lists : ControllerLists) (journal : List TurnLine) (held : ℕ
@@ -321,32 +320,32 @@ joiner_passed rules first lists journal held w j m none =
           (sym (grown_other j m lists.from_joiner i differ)) (w.settles i below)
     ])
 
--- a joiner's message is held
-pub joiner_held : (rules : Rules) (first : TurnLine) (lists : ControllerLists) (journal : List TurnLine) (held held' : ℕ
-    → List ℕ) (w : StandsWithin rules first lists journal held) (j epoch : ℕ)
-    → held' j ≡ held j ++ epoch ∷ [] → ((i : ℕ) → (j ≡ i → ⊥) → held' i ≡ held i)
-    → StandsWithin rules first (with_message (Joiner j) (Settled epoch) lists) journal held'
-joiner_held rules first lists journal held held' w j epoch grows rest =
-    same_line rules first lists (with_message (Joiner j) (Settled epoch) lists) journal held held' w refl refl
-    (λ q below. w.counts q below)
-    (λ i below. elim (cases_eq j i) [
-      | inl same ↦
-          let more_epochs : settled_epochs (grown j (Settled epoch) lists.from_joiner i)
-          ≡ settled_epochs (lists.from_joiner i) ++ epoch ∷ [] =
-          ap settled_epochs (grown_same j (Settled epoch) lists.from_joiner i same)
-          ∙ settled_epochs-append (lists.from_joiner i) (Settled epoch ∷ []) in
-          let more_held : held' i ≡ held i ++ epoch ∷ [] = subst (λ (n : ℕ). held' n ≡ held n ++ epoch ∷ [])
-          same grows in
-          subst (λ es. HoldsSettled i w.line w.past (held' i) es) (sym more_epochs)
-          (subst (λ hs. HoldsSettled i w.line w.past hs (settled_epochs (lists.from_joiner i) ++ epoch ∷ []))
-          (sym more_held)
-          (holds_more w.line w.past i epoch (held i) (settled_epochs (lists.from_joiner i)) (w.settles i below)))
-      | inr differ ↦
-          subst (λ ms. HoldsSettled i w.line w.past (held' i) (settled_epochs ms))
-          (sym (grown_other j (Settled epoch) lists.from_joiner i differ))
-          (subst (λ hs. HoldsSettled i w.line w.past hs (settled_epochs (lists.from_joiner i))) (sym (rest i differ))
-          (w.settles i below))
-    ])
+module _ (rules : Rules) (first : TurnLine) (lists : ControllerLists) (journal : List TurnLine)
+    (held held' : ℕ → List ℕ) (w : StandsWithin rules first lists journal held) (j epoch : ℕ) where
+  -- a joiner's message is held
+  pub joiner_held : held' j ≡ held j ++ epoch ∷ [] → ((i : ℕ) → (j ≡ i → ⊥) → held' i ≡ held i)
+      → StandsWithin rules first (with_message (Joiner j) (Settled epoch) lists) journal held'
+  joiner_held grows rest =
+      same_line rules first lists (with_message (Joiner j) (Settled epoch) lists) journal held held' w refl refl
+      (λ q below. w.counts q below)
+      (λ i below. elim (cases_eq j i) [
+        | inl same ↦
+            let more_epochs : settled_epochs (grown j (Settled epoch) lists.from_joiner i)
+            ≡ settled_epochs (lists.from_joiner i) ++ epoch ∷ [] =
+            ap settled_epochs (grown_same j (Settled epoch) lists.from_joiner i same)
+            ∙ settled_epochs-append (lists.from_joiner i) (Settled epoch ∷ []) in
+            let more_held : held' i ≡ held i ++ epoch ∷ [] = subst (λ (n : ℕ). held' n ≡ held n ++ epoch ∷ [])
+            same grows in
+            subst (λ es. HoldsSettled i w.line w.past (held' i) es) (sym more_epochs)
+            (subst (λ hs. HoldsSettled i w.line w.past hs (settled_epochs (lists.from_joiner i) ++ epoch ∷ []))
+            (sym more_held)
+            (holds_more w.line w.past i epoch (held i) (settled_epochs (lists.from_joiner i)) (w.settles i below)))
+        | inr differ ↦
+            subst (λ ms. HoldsSettled i w.line w.past (held' i) (settled_epochs ms))
+            (sym (grown_other j (Settled epoch) lists.from_joiner i differ))
+            (subst (λ hs. HoldsSettled i w.line w.past hs (settled_epochs (lists.from_joiner i))) (sym (rest i differ))
+            (w.settles i below))
+      ])
 
 -- what is passed over leaves all else
 pub message_passed : (rules : Rules) (first : TurnLine) (lists : ControllerLists) (journal : List TurnLine) (held : ℕ

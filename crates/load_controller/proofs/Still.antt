@@ -34,59 +34,58 @@ OfLine rules line =
 none_doubled : (x y : ℕ) → (has_doubled x x || has_doubled y y) ≡ false
 none_doubled x y = grind (arith, nat_tests)
 
--- a step that starts where the shift isn't the goal
-arrives : (k r s rows_r rows_s base_r base_s shift goal : ℕ) → HasFewest k goal (r * base_r) (s * base_s)
-    → base_r ≤ rows_r → base_s ≤ rows_s → shift ≤ k
-    → (has_doubled base_r rows_r || has_doubled base_s rows_s) ≡ false
-    → (same : Bool) → (same ≡ true → shift ≡ goal)
-    → Sound k r s rows_r rows_s base_r base_s (cond (not same) (next_step shift goal) shift) goal (not same)
-arrives k r s rows_r rows_s base_r base_s shift goal best low_r low_s within not_due true is =
-    record {
-      best = best;
-      low_r = low_r;
-      low_s = low_s;
-      within = within;
-      reached = λ e. is refl;
-      not_due = λ e. not_due;
-    }
-arrives k r s rows_r rows_s base_r base_s shift goal best low_r low_s within not_due false is =
-    record {
-      best = best;
-      low_r = low_r;
-      low_s = low_s;
-      within = next_within k shift goal within best.within;
-      reached = λ e. absurd (true≢false e);
-      not_due = λ e. absurd (true≢false e);
-    }
+module _ (k r s rows_r rows_s base_r base_s shift goal : ℕ) (best : HasFewest k goal (r * base_r) (s * base_s))
+    (low_r : base_r ≤ rows_r) (low_s : base_s ≤ rows_s) (within : shift ≤ k) where
+  -- a step that starts where the shift isn't the goal
+  arrives : (has_doubled base_r rows_r || has_doubled base_s rows_s) ≡ false → (same : Bool)
+      → (same ≡ true → shift ≡ goal)
+      → Sound k r s rows_r rows_s base_r base_s (cond (not same) (next_step shift goal) shift) goal (not same)
+  arrives not_due true is =
+      record {
+        best = best;
+        low_r = low_r;
+        low_s = low_s;
+        within = within;
+        reached = λ e. is refl;
+        not_due = λ e. not_due;
+      }
+  arrives not_due false is =
+      record {
+        best = best;
+        low_r = low_r;
+        low_s = low_s;
+        within = next_within k shift goal within best.within;
+        reached = λ e. absurd (true≢false e);
+        not_due = λ e. absurd (true≢false e);
+      }
 
--- a decision that is due takes the best shift, and else the goal stays
-pub chosen : (k r s rows_r rows_s base_r base_s shift goal : ℕ) → HasFewest k goal (r * base_r) (s * base_s)
-    → base_r ≤ rows_r → base_s ≤ rows_s → shift ≤ k
-    → (is_open free doubled : Bool) → free ≡ true → doubled ≡ (has_doubled base_r rows_r || has_doubled base_s rows_s)
-    → let is_due = not is_open && free && doubled in
-    let next = cond is_due (best_shift k shift (r * rows_r) (s * rows_s)) goal in
-    let steps = not is_open && not (shift == next) in
-    Sound k r s rows_r rows_s (cond is_due rows_r base_r) (cond is_due rows_s base_s)
-    (cond steps (next_step shift next) shift) next (is_open || steps)
-chosen k r s rows_r rows_s base_r base_s shift goal best low_r low_s within true free doubled is_free is =
-    record {
-      best = best;
-      low_r = low_r;
-      low_s = low_s;
-      within = within;
-      reached = λ e. absurd (true≢false e);
-      not_due = λ e. absurd (true≢false e);
-    }
-chosen k r s rows_r rows_s base_r base_s shift goal best low_r low_s within false true true is_free is =
-    arrives k r s rows_r rows_s rows_r rows_s shift (best_shift k shift (r * rows_r) (s * rows_s))
-    (best_fewest k shift (r * rows_r) (s * rows_s) within) (omega arith) (omega arith) within
-    (none_doubled rows_r rows_s) (shift == best_shift k shift (r * rows_r) (s * rows_s))
-    (eqb-true shift (best_shift k shift (r * rows_r) (s * rows_s)))
-chosen k r s rows_r rows_s base_r base_s shift goal best low_r low_s within false true false is_free is =
-    arrives k r s rows_r rows_s base_r base_s shift goal best low_r low_s within (sym is) (shift == goal)
-    (eqb-true shift goal)
-chosen k r s rows_r rows_s base_r base_s shift goal best low_r low_s within false false doubled is_free is =
-    absurd (false≢true is_free)
+module _ (k r s rows_r rows_s base_r base_s shift goal : ℕ) (best : HasFewest k goal (r * base_r) (s * base_s))
+    (low_r : base_r ≤ rows_r) (low_s : base_s ≤ rows_s) (within : shift ≤ k) where
+  -- a decision that is due takes the best shift, and else the goal stays
+  pub chosen : (is_open free doubled : Bool) → free ≡ true
+      → doubled ≡ (has_doubled base_r rows_r || has_doubled base_s rows_s)
+      → let is_due = not is_open && free && doubled in let next = cond is_due (best_shift k shift (r * rows_r) (s *
+      rows_s)) goal in let steps = not is_open && not (shift == next) in Sound k r s rows_r rows_s (cond is_due rows_r
+      base_r) (cond is_due rows_s base_s) (cond steps (next_step shift next) shift) next (is_open || steps)
+  chosen true free doubled is_free is =
+      record {
+        best = best;
+        low_r = low_r;
+        low_s = low_s;
+        within = within;
+        reached = λ e. absurd (true≢false e);
+        not_due = λ e. absurd (true≢false e);
+      }
+  chosen false true true is_free is =
+      arrives k r s rows_r rows_s rows_r rows_s shift (best_shift k shift (r * rows_r) (s * rows_s))
+      (best_fewest k shift (r * rows_r) (s * rows_s) within) (omega arith) (omega arith) within
+      (none_doubled rows_r rows_s) (shift == best_shift k shift (r * rows_r) (s * rows_s))
+      (eqb-true shift (best_shift k shift (r * rows_r) (s * rows_s)))
+  chosen false true false is_free is =
+      arrives k r s rows_r rows_s base_r base_s shift goal best low_r low_s within (sym is) (shift == goal)
+      (eqb-true shift goal)
+  chosen false false doubled is_free is =
+      absurd (false≢true is_free)
 
 after : (rules : Rules) (before : TurnLine) (past : List TurnLine) (cause : Cause) → is_none rules.fixed ≡ true
     → OfLine rules before
