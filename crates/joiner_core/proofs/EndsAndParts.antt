@@ -31,66 +31,66 @@ use Rattle.joiner_core.proofs.Outcomes.{does-end, does-part}
 
 -- ---- a feeder's end
 
-same-ends-open : (s : JoinerStart) (t : Taken) (lists : JoinerLists) (waiting : List Pair) (turned ended ended' : ℕ
-    → Bool) (all_turned part_ended : Bool) (a b : List Tuple) (new cur : Step) (past : List Step)
-    → ((p : ℕ) → ended p ≡ ended' p)
-    → StandsOpen s t lists waiting turned ended all_turned part_ended a b new cur past
-    → StandsOpen s t lists waiting turned ended' all_turned part_ended a b new cur past
-same-ends-open s t lists waiting turned ended ended' all_turned part_ended a b new cur past same is =
-    let steps = is.steps in
-    record {
-      steps = record {
-        feeders = λ p low. subst (λ (b : Bool). IsOfFeeder s.epoch t.shift_at (length past) (turned p) b
-            (t.from_feeder p)) (same p) (steps.feeders p low);
-        history = steps.history;
-        by_one = steps.by_one;
-        in_time = steps.in_time;
-        pairs = steps.pairs;
-        sent = steps.sent;
-        parts = steps.parts;
-        told = steps.told;
-        first_shift = steps.first_shift;
-        from_partner = steps.from_partner;
-        to_partner = steps.to_partner;
-      };
-      store = is.store;
-      opened = is.opened;
-      links = is.links;
-      taken_up_to = is.taken_up_to;
-    }
+module _ (s : JoinerStart) (t : Taken) (lists : JoinerLists) (waiting : List Pair)
+    (turned ended ended' : ℕ → Bool) (all_turned part_ended : Bool) (a b : List Tuple) (new cur : Step)
+    (past : List Step) where
+  same-ends-open : ((p : ℕ) → ended p ≡ ended' p)
+      → StandsOpen s t lists waiting turned ended all_turned part_ended a b new cur past
+      → StandsOpen s t lists waiting turned ended' all_turned part_ended a b new cur past
+  same-ends-open same is =
+      let steps = is.steps in
+      record {
+        steps = record {
+          feeders = λ p low. subst (λ (b : Bool). IsOfFeeder s.epoch t.shift_at (length past) (turned p) b
+              (t.from_feeder p)) (same p) (steps.feeders p low);
+          history = steps.history;
+          by_one = steps.by_one;
+          in_time = steps.in_time;
+          pairs = steps.pairs;
+          sent = steps.sent;
+          parts = steps.parts;
+          told = steps.told;
+          first_shift = steps.first_shift;
+          from_partner = steps.from_partner;
+          to_partner = steps.to_partner;
+        };
+        store = is.store;
+        opened = is.opened;
+        links = is.links;
+        taken_up_to = is.taken_up_to;
+      }
 
-open-ended : (s : JoinerStart) (t : Taken) (lists : JoinerLists) (waiting : List Pair) (m m' : EpochState)
-    (o : OpenStep) (p : ℕ) → p < s.feeders → flag_at m.ended p ≡ false → m'.ended ≡ slice_set m.ended p true
-    → IsOpen s t lists waiting m o → IsOpen s (took_of_feeder p End t) lists waiting (record m { ended = m'.ended }) o
-open-ended s t lists waiting m m' o p low going flags is =
-    let within : p < length m.ended = let n = is.ended_count in omega arith in
-    let after = open-end s t lists waiting (flag_at o.turned) (flag_at m.ended)
-    is.all_turned o.partner_ended m.store.tuples o.store.tuples is.new is.cur is.past p low going is.stands in
-    record {
-      new = is.new;
-      cur = is.cur;
-      past = is.past;
-      all_turned = is.all_turned;
-      stands = same-ends-open s (took_of_feeder p End t) lists waiting (flag_at o.turned) _ (flag_at m'.ended)
-          is.all_turned o.partner_ended m.store.tuples o.store.tuples is.new is.cur is.past
-          (λ q. flag-set m.ended p q within ∙ ap (λ fs. flag_at fs q) (sym flags)) after;
-      epoch = is.epoch;
-      shift = is.shift;
-      step_epoch = is.step_epoch;
-      step_shift = is.step_shift;
-      ended_count = ap length flags ∙ length-set m.ended p true ∙ is.ended_count;
-      moved = is.moved;
-      count = is.count;
-      missing = is.missing;
-      all = is.all;
-    }
+module _ (s : JoinerStart) (t : Taken) (lists : JoinerLists) (waiting : List Pair) (m m' : EpochState) (p : ℕ)
+    (low : p < s.feeders) (going : flag_at m.ended p ≡ false) (flags : m'.ended ≡ slice_set m.ended p true) where
+  open-ended : (o : OpenStep) → IsOpen s t lists waiting m o
+      → IsOpen s (took_of_feeder p End t) lists waiting (record m { ended = m'.ended }) o
+  open-ended o is =
+      let within : p < length m.ended = let n = is.ended_count in omega arith in
+      let after = open-end s t lists waiting (flag_at o.turned) (flag_at m.ended)
+      is.all_turned o.partner_ended m.store.tuples o.store.tuples is.new is.cur is.past p low going is.stands in
+      record {
+        new = is.new;
+        cur = is.cur;
+        past = is.past;
+        all_turned = is.all_turned;
+        stands = same-ends-open s (took_of_feeder p End t) lists waiting (flag_at o.turned) _ (flag_at m'.ended)
+            is.all_turned o.partner_ended m.store.tuples o.store.tuples is.new is.cur is.past
+            (λ q. flag-set m.ended p q within ∙ ap (λ fs. flag_at fs q) (sym flags)) after;
+        epoch = is.epoch;
+        shift = is.shift;
+        step_epoch = is.step_epoch;
+        step_shift = is.step_shift;
+        ended_count = ap length flags ∙ length-set m.ended p true ∙ is.ended_count;
+        moved = is.moved;
+        count = is.count;
+        missing = is.missing;
+        all = is.all;
+      }
 
-end-by : (s : JoinerStart) (t : Taken) (lists : JoinerLists) (waiting : List Pair) (m m' : EpochState) (p : ℕ)
-    → p < s.feeders → flag_at m.ended p ≡ false → m'.ended ≡ slice_set m.ended p true
-    → (step : Option OpenStep) → StandsBy s t lists waiting m step
-    → StandsBy s (took_of_feeder p End t) lists waiting (record m { ended = m'.ended }) step
-end-by s t lists waiting m m' p low going flags None is = closed-end s t lists waiting m m' p low going flags is
-end-by s t lists waiting m m' p low going flags (Some o) is = open-ended s t lists waiting m m' o p low going flags is
+  end-by : (step : Option OpenStep) → StandsBy s t lists waiting m step
+      → StandsBy s (took_of_feeder p End t) lists waiting (record m { ended = m'.ended }) step
+  end-by None is = closed-end s t lists waiting m m' p low going flags is
+  end-by (Some o) is = open-ended o is
 
 -- where a feeder that hadn't ended is marked as ended, and nothing else changes, its `End` was taken, and nothing sent
 pub took-end : (m m' : EpochState) (p : ℕ) (waiting : List Pair) (before : List Post) → IsWithin m
@@ -143,73 +143,74 @@ took-end m m' p waiting before within going state flags = record {
 
 -- ---- a tuple that the partner moved here
 
-moved-by : (s : JoinerStart) (t : Taken) (lists : JoinerLists) (waiting : List Pair) (m : EpochState) (q epoch : ℕ)
-    (x : Tuple) → IsMachineOf s m
-    → (step : Option OpenStep) → PartFits m q epoch step → StandsBy s t lists waiting m step
-    → StandsBy s (took_of_joiner q (Moved epoch x) t) lists (waiting ++ moved_found m x step)
-    (record m { step = step_new x step }) (step_new x step)
-moved-by s t lists waiting m q epoch x fixed None fits is = absurd fits
-moved-by s t lists waiting m q epoch x fixed (Some o) fits is =
-    subst (λ (j : ℕ). IsOpen s (took_of_joiner j (Moved epoch x) t) lists (waiting ++ moved_found m x (Some o))
-    (record m { step = Some (with_new o x) }) (with_new o x)) (sym fits.2)
-    (subst (λ (e : ℕ). IsOpen s (took_of_joiner (partner_in_step m.shift o.shift m.id) (Moved e x) t) lists
-    (waiting ++ moved_found m x (Some o)) (record m { step = Some (with_new o x) }) (with_new o x)) (sym fits.0)
-    (open-part s t lists waiting m o x fixed is))
+module _ (s : JoinerStart) (t : Taken) (lists : JoinerLists) (waiting : List Pair) (m : EpochState)
+    (q epoch : ℕ) where
+  moved-by : (x : Tuple) → IsMachineOf s m → (step : Option OpenStep) → PartFits m q epoch step
+      → StandsBy s t lists waiting m step
+      → StandsBy s (took_of_joiner q (Moved epoch x) t) lists (waiting ++ moved_found m x step)
+      (record m { step = step_new x step }) (step_new x step)
+  moved-by x fixed None fits is = absurd fits
+  moved-by x fixed (Some o) fits is =
+      subst (λ (j : ℕ). IsOpen s (took_of_joiner j (Moved epoch x) t) lists (waiting ++ moved_found m x (Some o))
+      (record m { step = Some (with_new o x) }) (with_new o x)) (sym fits.2)
+      (subst (λ (e : ℕ). IsOpen s (took_of_joiner (partner_in_step m.shift o.shift m.id) (Moved e x) t) lists
+      (waiting ++ moved_found m x (Some o)) (record m { step = Some (with_new o x) }) (with_new o x)) (sym fits.0)
+      (open-part s t lists waiting m o x fixed is))
 
 fits-open : (m : EpochState) (q epoch : ℕ) (step : Option OpenStep) → PartFits m q epoch step → step ≡ None → ⊥
 fits-open m q epoch None fits is = fits
 fits-open m q epoch (Some o) fits is = absurd (cc)
 
--- where a tuple that fits the open step's part is stored in that step, and the pairs that it makes wait, a `Moved` of
--- the partner was taken, and nothing sent
-pub took-moved : (m m' : EpochState) (q epoch : ℕ) (x : Tuple) (w w' : List Pair) (before : List Post) → IsWithin m
-    → IsRow m.theta x → m' ≡ after_moved m x → w' ≡ w ++ found_moved m x → PartFits m q epoch m.step
-    → TookOfJoiner q (Moved epoch x) m m' w w' before before
-took-moved m m' q epoch x w w' before within row state more fits = rw (state, more) (record {
-  added = [];
-  sends = sym (append-nil before);
-  quiet = refl;
-  own = own-none m;
-  within = new-within m x within row;
-  k = refl;
-  id = refl;
-  feeders = refl;
-  theta = refl;
-  opened = fits-open m q epoch m.step fits;
-  stands = λ s t lists is.
-      let fixed = is.fixed in
-      let whole : Stands s (took_of_joiner q (Moved epoch x) t) lists (w ++ found_moved m x) (after_moved m x) =
-      record {
-        fixed = record {
-          k = fixed.k;
-          id = fixed.id;
-          feeders = fixed.feeders;
-          matches = fixed.matches;
-          small = fixed.small;
-        };
-        now = moved-by s t lists w m q epoch x fixed m.step fits is.now;
-      } in (
-        took_of_joiner q (Moved epoch x) t,
-        record { from_feeder = refl; from_joiner = refl },
-        subst (λ (ls : JoinerLists). Stands s (took_of_joiner q (Moved epoch x) t) ls (w ++ found_moved m x)
-            (after_moved m x)) (sym (with_sent-none lists)) whole,
-      );
-  does = record { left = refl; found = refl; posts = sym (append-nil before) };
-})
+module _ (m m' : EpochState) (q epoch : ℕ) (x : Tuple) (w w' : List Pair) (before : List Post) where
+  -- where a tuple that fits the open step's part is stored in that step, and the pairs that it makes wait, a `Moved` of
+  -- the partner was taken, and nothing sent
+  pub took-moved : IsWithin m → IsRow m.theta x → m' ≡ after_moved m x → w' ≡ w ++ found_moved m x
+      → PartFits m q epoch m.step → TookOfJoiner q (Moved epoch x) m m' w w' before before
+  took-moved within row state more fits = rw (state, more) (record {
+    added = [];
+    sends = sym (append-nil before);
+    quiet = refl;
+    own = own-none m;
+    within = new-within m x within row;
+    k = refl;
+    id = refl;
+    feeders = refl;
+    theta = refl;
+    opened = fits-open m q epoch m.step fits;
+    stands = λ s t lists is.
+        let fixed = is.fixed in
+        let whole : Stands s (took_of_joiner q (Moved epoch x) t) lists (w ++ found_moved m x) (after_moved m x) =
+        record {
+          fixed = record {
+            k = fixed.k;
+            id = fixed.id;
+            feeders = fixed.feeders;
+            matches = fixed.matches;
+            small = fixed.small;
+          };
+          now = moved-by s t lists w m q epoch x fixed m.step fits is.now;
+        } in (
+          took_of_joiner q (Moved epoch x) t,
+          record { from_feeder = refl; from_joiner = refl },
+          subst (λ (ls : JoinerLists). Stands s (took_of_joiner q (Moved epoch x) t) ls (w ++ found_moved m x)
+              (after_moved m x)) (sym (with_sent-none lists)) whole,
+        );
+    does = record { left = refl; found = refl; posts = sym (append-nil before) };
+  })
 
 -- ---- the end of the partner's part
 
-part-end-by : (s : JoinerStart) (t : Taken) (lists : JoinerLists) (waiting : List Pair) (m : EpochState) (q epoch : ℕ)
-    → IsMachineOf s m
-    → (step : Option OpenStep) → PartFits m q epoch step → StandsBy s t lists waiting m step
-    → StandsBy s (took_of_joiner q (MovedEnd epoch) t) lists waiting (record m { step = part_by step }) (part_by step)
-part-end-by s t lists waiting m q epoch fixed None fits is = absurd fits
-part-end-by s t lists waiting m q epoch fixed (Some o) fits is =
-    subst (λ (j : ℕ). IsOpen s (took_of_joiner j (MovedEnd epoch) t) lists waiting
-    (record m { step = part_by (Some o) }) (record o { partner_ended = true })) (sym fits.2)
-    (subst (λ (e : ℕ). IsOpen s (took_of_joiner (partner_in_step m.shift o.shift m.id) (MovedEnd e) t) lists waiting
-    (record m { step = part_by (Some o) }) (record o { partner_ended = true })) (sym fits.0)
-    (open-part_end s t lists waiting m o fixed fits.1 is))
+module _ (s : JoinerStart) (t : Taken) (lists : JoinerLists) (waiting : List Pair) (m : EpochState)
+    (q epoch : ℕ) (fixed : IsMachineOf s m) where
+  part-end-by : (step : Option OpenStep) → PartFits m q epoch step → StandsBy s t lists waiting m step
+      → StandsBy s (took_of_joiner q (MovedEnd epoch) t) lists waiting (record m { step = part_by step }) (part_by step)
+  part-end-by None fits is = absurd fits
+  part-end-by (Some o) fits is =
+      subst (λ (j : ℕ). IsOpen s (took_of_joiner j (MovedEnd epoch) t) lists waiting
+      (record m { step = part_by (Some o) }) (record o { partner_ended = true })) (sym fits.2)
+      (subst (λ (e : ℕ). IsOpen s (took_of_joiner (partner_in_step m.shift o.shift m.id) (MovedEnd e) t) lists waiting
+      (record m { step = part_by (Some o) }) (record o { partner_ended = true })) (sym fits.0)
+      (open-part_end s t lists waiting m o fixed fits.1 is))
 
 part-within : (k shift : ℕ) (step : Option OpenStep) → IsStepWithin k shift step → IsStepWithin k shift (part_by step)
 part-within k shift None is = tt
@@ -245,44 +246,44 @@ part-fixed m m1 part = subst (λ (z : EpochState). IsFixed m z) (sym part) (reco
   theta = refl;
 })
 
--- where a `MovedEnd` fits the open step, its partner's part is marked as over, and the step is settled if and only if
--- it is ready then, that message was taken
-pub took-moved_end : (m m1 m2 : EpochState) (q epoch : ℕ) (ready : Bool) (w : List Pair) (before after : List Post)
-    → IsWithin m → m1 ≡ after_part m → (ready ≡ true → IsReady m1.step) → (ready ≡ false → IsReady m1.step → ⊥)
-    → m2 ≡ after_settle ready m1 → after ≡ before ++ posts_settled ready m1 → PartFits m q epoch m.step
-    → TookOfJoiner q (MovedEnd epoch) m m2 w w before after
-took-moved_end m m1 m2 q epoch ready w before after within part settles not_yet state posts fits = record {
-  added = posts_settled ready m1;
-  sends = posts;
-  quiet = quiet-settled ready m1;
-  own = own-before m m1 (posts_settled ready m1) (part-fixed m m1 part)
-      (own-settled m1 ready (subst (λ (z : EpochState). z.id < 2 ^ z.k) (sym part) within.id));
-  within = subst (λ (z : EpochState). IsWithin z) (sym state) (ended-within m m1 ready within part settles not_yet);
-  k = ap (λ (z : EpochState). z.k) state ∙ settled-k m1 ready ∙ ap (λ (z : EpochState). z.k) part;
-  id = ap (λ (z : EpochState). z.id) state ∙ settled-id m1 ready ∙ ap (λ (z : EpochState). z.id) part;
-  feeders = ap (λ (z : EpochState). z.feeders) state ∙ settled-feeders m1 ready
-      ∙ ap (λ (z : EpochState). z.feeders) part;
-  theta = ap (λ (z : EpochState). z.theta) state ∙ settled-theta m1 ready ∙ ap (λ (z : EpochState). z.theta) part;
-  opened = fits-open m q epoch m.step fits;
-  stands = λ s t lists is.
-      let fixed = is.fixed in
-      let t' = took_of_joiner q (MovedEnd epoch) t in
-      let first : Stands s t' lists w (after_part m) =
-      record {
-        fixed = record {
-          k = fixed.k;
-          id = fixed.id;
-          feeders = fixed.feeders;
-          matches = fixed.matches;
-          small = fixed.small;
-        };
-        now = part-end-by s t lists w m q epoch fixed m.step fits is.now;
-      } in
-      let first' : Stands s t' lists w m1 = subst (λ (z : EpochState). Stands s t' lists w z) (sym part) first in (
-        t',
-        record { from_feeder = refl; from_joiner = refl },
-        subst (λ (z : EpochState). Stands s t' (with_sent lists (posts_settled ready m1)) w z) (sym state)
-            (stands-settled s t' lists w m1 ready settles first'),
-      );
-  does = does-part m m1 m2 ready w before after part settles not_yet state posts;
-}
+module _ (m m1 m2 : EpochState) (q epoch : ℕ) (ready : Bool) (w : List Pair) (before after : List Post) where
+  -- where a `MovedEnd` fits the open step, its partner's part is marked as over, and the step is settled if and only if
+  -- it is ready then, that message was taken
+  pub took-moved_end : IsWithin m → m1 ≡ after_part m → (ready ≡ true → IsReady m1.step)
+      → (ready ≡ false → IsReady m1.step → ⊥) → m2 ≡ after_settle ready m1 → after ≡ before ++ posts_settled ready m1
+      → PartFits m q epoch m.step → TookOfJoiner q (MovedEnd epoch) m m2 w w before after
+  took-moved_end within part settles not_yet state posts fits = record {
+    added = posts_settled ready m1;
+    sends = posts;
+    quiet = quiet-settled ready m1;
+    own = own-before m m1 (posts_settled ready m1) (part-fixed m m1 part)
+        (own-settled m1 ready (subst (λ (z : EpochState). z.id < 2 ^ z.k) (sym part) within.id));
+    within = subst (λ (z : EpochState). IsWithin z) (sym state) (ended-within m m1 ready within part settles not_yet);
+    k = ap (λ (z : EpochState). z.k) state ∙ settled-k m1 ready ∙ ap (λ (z : EpochState). z.k) part;
+    id = ap (λ (z : EpochState). z.id) state ∙ settled-id m1 ready ∙ ap (λ (z : EpochState). z.id) part;
+    feeders = ap (λ (z : EpochState). z.feeders) state ∙ settled-feeders m1 ready
+        ∙ ap (λ (z : EpochState). z.feeders) part;
+    theta = ap (λ (z : EpochState). z.theta) state ∙ settled-theta m1 ready ∙ ap (λ (z : EpochState). z.theta) part;
+    opened = fits-open m q epoch m.step fits;
+    stands = λ s t lists is.
+        let fixed = is.fixed in
+        let t' = took_of_joiner q (MovedEnd epoch) t in
+        let first : Stands s t' lists w (after_part m) =
+        record {
+          fixed = record {
+            k = fixed.k;
+            id = fixed.id;
+            feeders = fixed.feeders;
+            matches = fixed.matches;
+            small = fixed.small;
+          };
+          now = part-end-by s t lists w m q epoch fixed m.step fits is.now;
+        } in
+        let first' : Stands s t' lists w m1 = subst (λ (z : EpochState). Stands s t' lists w z) (sym part) first in (
+          t',
+          record { from_feeder = refl; from_joiner = refl },
+          subst (λ (z : EpochState). Stands s t' (with_sent lists (posts_settled ready m1)) w z) (sym state)
+              (stands-settled s t' lists w m1 ready settles first'),
+        );
+    does = does-part m m1 m2 ready w before after part settles not_yet state posts;
+  }

@@ -96,72 +96,73 @@ none-stuck : (queue : List ToJoiner) (x : ToJoiner) (rest : List ToJoiner) → q
 none-stuck queue x rest none is = let a = ap length none in let b : length queue ≡ length (x ∷ rest) = ap length is in
     absurd (omega arith)
 
--- a machine as the code makes it is sound, if k is at most 8, shift and id are of the grid, and the base is a store of
--- the predicate
-pub made-sound : (k id shift epoch feeders : ℕ) (theta : Meaning) (base : Stocked) (m : MachineState) → k ≤ 8
-    → shift ≤ k → id < 2 ^ k → IsStock theta base → IsMade k id shift epoch feeders theta base m → IsSound m
-made-sound k id shift epoch feeders theta base m small low few stock made =
-    let same_k = made.at_k in
-    let same_shift = made.at_shift in
-    record {
-      within = record {
-        small = omega arith;
-        shift = omega arith;
-        step = subst (λ (z : Option OpenStep). IsStepWithin m.epochs.k m.epochs.shift z) (sym made.step) tt;
-        ended = made.ended ∙ sym made.at_feeders;
-        count = subst (λ (z : Option OpenStep). IsCounted m.epochs.feeders z) (sym made.step) tt;
-        begun = subst (λ (z : Option OpenStep). HasSomeTurn m.epochs.feeders z) (sym made.step) tt;
-        rests = subst (λ (z : Option OpenStep). IsReady z → ⊥) (sym made.step) (λ never. never);
-        id = subst (λ (n : ℕ). m.epochs.id < 2 ^ n) (sym made.at_k) (subst (λ (n : ℕ). n < 2 ^ k) (sym made.at_id) few);
-        stock = subst (λ (th : Meaning). IsStock th m.epochs.store) (sym made.at_theta)
-            (subst (IsStock theta) (sym made.store) stock);
-        step_stock = subst (λ (z : Option OpenStep). IsStepStock m.epochs.theta z) (sym made.step) tt;
-      };
-      feeders = made.of_feeders ∙ sym made.at_feeders;
-      joiners = made.of_joiners ∙ ap (λ n. 2 ^ n) (sym made.at_k);
-      feeder_rows = rows-none m.epochs.theta m.of_feeders made.no_feeders;
-      joiner_rows = rows-none m.epochs.theta m.of_joiners made.no_joiners;
-    }
-
--- and with some feeder, and no stamp in the base above the first epoch, it stands for empty lists
-pub made-stands : (k id shift epoch feeders : ℕ) (theta : Meaning) (base : Stocked) (m : MachineState) → k ≤ 8
-    → shift ≤ k → id < 2 ^ k → 0 < feeders → AllByRecursion (λ (x : Tuple). x.stamp ≤ epoch) base.tuples
-    → IsStock theta base
-    → IsMade k id shift epoch feeders theta base m → StandsBetween (start_of k id shift epoch feeders theta base.tuples)
-    nothing_yet m
-made-stands k id shift epoch feeders theta base m small low few some older stock made =
-    let sound = made-sound k id shift epoch feeders theta base m small low few stock made in
-    let stuck : IsStuck m = record {
-      feeders = λ p less x rest is can. none-stuck _ x rest (made.no_feeders p) is;
-      joiners = λ q less x rest is can. none-stuck _ x rest (made.no_joiners q) is;
-    } in
-    stands-for (start_of k id shift epoch feeders theta base.tuples) nothing_yet m
-    (record { within = low; id = few; some = some; base = older })
-    sound stuck
-    (record {
-      founds = [];
-      last = [];
-      to_collector = refl;
-      none_empty = tt;
-      few = omega arith;
-      untold = λ no. refl;
-      told = λ yes. absurd (false≢true (sym made.told ∙ yes));
-      finishes = λ has. absurd (false≢true (sym (made.down 0) ∙ has.ended 0 (let n = made.ended in omega arith)));
-    })
-    (record {
-      taken = nothing_taken shift;
-      stands = record {
-        fixed = record {
-          k = made.at_k;
-          id = made.at_id;
-          feeders = made.at_feeders;
-          matches = ap (λ (th : Meaning). does_hold th) made.at_theta;
-          small = small;
+module _ (k id shift epoch feeders : ℕ) (theta : Meaning) (base : Stocked) (m : MachineState) where
+  -- a machine as the code makes it is sound, if k is at most 8, shift and id are of the grid, and the base is a store
+  -- of the predicate
+  pub made-sound : k ≤ 8 → shift ≤ k → id < 2 ^ k → IsStock theta base → IsMade k id shift epoch feeders theta base m
+      → IsSound m
+  made-sound small low few stock made =
+      let same_k = made.at_k in
+      let same_shift = made.at_shift in
+      record {
+        within = record {
+          small = omega arith;
+          shift = omega arith;
+          step = subst (λ (z : Option OpenStep). IsStepWithin m.epochs.k m.epochs.shift z) (sym made.step) tt;
+          ended = made.ended ∙ sym made.at_feeders;
+          count = subst (λ (z : Option OpenStep). IsCounted m.epochs.feeders z) (sym made.step) tt;
+          begun = subst (λ (z : Option OpenStep). HasSomeTurn m.epochs.feeders z) (sym made.step) tt;
+          rests = subst (λ (z : Option OpenStep). IsReady z → ⊥) (sym made.step) (λ never. never);
+          id = subst (λ (n : ℕ). m.epochs.id < 2 ^ n) (sym made.at_k)
+              (subst (λ (n : ℕ). n < 2 ^ k) (sym made.at_id) few);
+          stock = subst (λ (th : Meaning). IsStock th m.epochs.store) (sym made.at_theta)
+              (subst (IsStock theta) (sym made.store) stock);
+          step_stock = subst (λ (z : Option OpenStep). IsStepStock m.epochs.theta z) (sym made.step) tt;
         };
-        now = subst (λ (z : Option OpenStep). StandsBy (start_of k id shift epoch feeders theta base.tuples)
-            (nothing_taken shift) nothing_yet [] m.epochs z) (sym made.step)
-            (closed-start k id shift epoch feeders theta base m low made);
-      };
-      feeders = λ p less. made.no_feeders p;
-      joiners = λ q less. made.no_joiners q;
-    })
+        feeders = made.of_feeders ∙ sym made.at_feeders;
+        joiners = made.of_joiners ∙ ap (λ n. 2 ^ n) (sym made.at_k);
+        feeder_rows = rows-none m.epochs.theta m.of_feeders made.no_feeders;
+        joiner_rows = rows-none m.epochs.theta m.of_joiners made.no_joiners;
+      }
+
+  -- and with some feeder, and no stamp in the base above the first epoch, it stands for empty lists
+  pub made-stands : k ≤ 8 → shift ≤ k → id < 2 ^ k → 0 < feeders
+      → AllByRecursion (λ (x : Tuple). x.stamp ≤ epoch) base.tuples → IsStock theta base
+      → IsMade k id shift epoch feeders theta base m
+      → StandsBetween (start_of k id shift epoch feeders theta base.tuples) nothing_yet m
+  made-stands small low few some older stock made =
+      let sound = made-sound small low few stock made in
+      let stuck : IsStuck m = record {
+        feeders = λ p less x rest is can. none-stuck _ x rest (made.no_feeders p) is;
+        joiners = λ q less x rest is can. none-stuck _ x rest (made.no_joiners q) is;
+      } in
+      stands-for (start_of k id shift epoch feeders theta base.tuples) nothing_yet m
+      (record { within = low; id = few; some = some; base = older })
+      sound stuck
+      (record {
+        founds = [];
+        last = [];
+        to_collector = refl;
+        none_empty = tt;
+        few = omega arith;
+        untold = λ no. refl;
+        told = λ yes. absurd (false≢true (sym made.told ∙ yes));
+        finishes = λ has. absurd (false≢true (sym (made.down 0) ∙ has.ended 0 (let n = made.ended in omega arith)));
+      })
+      (record {
+        taken = nothing_taken shift;
+        stands = record {
+          fixed = record {
+            k = made.at_k;
+            id = made.at_id;
+            feeders = made.at_feeders;
+            matches = ap (λ (th : Meaning). does_hold th) made.at_theta;
+            small = small;
+          };
+          now = subst (λ (z : Option OpenStep). StandsBy (start_of k id shift epoch feeders theta base.tuples)
+              (nothing_taken shift) nothing_yet [] m.epochs z) (sym made.step)
+              (closed-start k id shift epoch feeders theta base m low made);
+        };
+        feeders = λ p less. made.no_feeders p;
+        joiners = λ q less. made.no_joiners q;
+      })

@@ -31,33 +31,33 @@ one_stock theta tuples one two is is' =
     in
     λ i. record { tuples = same_tuples i; key = same_key i; access = same_access i }
 
--- and so are the epochs at a beginning
-one_epochs : (k id shift epoch feeders : ℕ) (theta : Meaning) (one two : MachineState)
-    → IsMade k id shift epoch feeders theta one.epochs.store one
-    → IsMade k id shift epoch feeders theta two.epochs.store two → one.epochs.store ≡ two.epochs.store
-    → one.epochs ≡ two.epochs
-one_epochs k id shift epoch feeders theta one two is is' same_store =
-    let same_k = is.at_k ∙ sym is'.at_k in
-    let same_id = is.at_id ∙ sym is'.at_id in
-    let same_feeders = is.at_feeders ∙ sym is'.at_feeders in
-    let same_theta = is.at_theta ∙ sym is'.at_theta in
-    let same_epoch = is.at_epoch ∙ sym is'.at_epoch in
-    let same_shift = is.at_shift ∙ sym is'.at_shift in
-    let same_ended = same_flags one.epochs.ended two.epochs.ended (is.ended ∙ sym is'.ended) is.down is'.down in
-    let same_step = is.step ∙ sym is'.step in
-    let same_moved = is.moved ∙ sym is'.moved in
-    λ i. record {
-      k = same_k i;
-      id = same_id i;
-      feeders = same_feeders i;
-      theta = same_theta i;
-      epoch = same_epoch i;
-      shift = same_shift i;
-      store = same_store i;
-      ended = same_ended i;
-      step = same_step i;
-      moved = same_moved i;
-    }
+module _ (k id shift epoch feeders : ℕ) (theta : Meaning) where
+  -- and so are the epochs at a beginning
+  one_epochs : (one two : MachineState) → IsMade k id shift epoch feeders theta one.epochs.store one
+      → IsMade k id shift epoch feeders theta two.epochs.store two → one.epochs.store ≡ two.epochs.store
+      → one.epochs ≡ two.epochs
+  one_epochs one two is is' same_store =
+      let same_k = is.at_k ∙ sym is'.at_k in
+      let same_id = is.at_id ∙ sym is'.at_id in
+      let same_feeders = is.at_feeders ∙ sym is'.at_feeders in
+      let same_theta = is.at_theta ∙ sym is'.at_theta in
+      let same_epoch = is.at_epoch ∙ sym is'.at_epoch in
+      let same_shift = is.at_shift ∙ sym is'.at_shift in
+      let same_ended = same_flags one.epochs.ended two.epochs.ended (is.ended ∙ sym is'.ended) is.down is'.down in
+      let same_step = is.step ∙ sym is'.step in
+      let same_moved = is.moved ∙ sym is'.moved in
+      λ i. record {
+        k = same_k i;
+        id = same_id i;
+        feeders = same_feeders i;
+        theta = same_theta i;
+        epoch = same_epoch i;
+        shift = same_shift i;
+        store = same_store i;
+        ended = same_ended i;
+        step = same_step i;
+        moved = same_moved i;
+      }
 
 -- so joiners are
 pub one_beginning : BeginningsAreOne

@@ -21,43 +21,43 @@ abbrev pub IsSomeTurn : ℕ → ℕ → ℕ → Option OpenStep → Type 0
 IsSomeTurn p epoch shift None = ⊥
 IsSomeTurn p epoch shift (Some o) = (flag_at o.turned p ≡ false) × (epoch ≡ o.epoch) × (shift ≡ o.shift)
 
-closed-opened : (s : JoinerStart) (t : Taken) (lists : JoinerLists) (waiting : List Pair) (m : EpochState)
-    (o : OpenStep) (epoch shift : ℕ) → IsMachineOf s m → epoch ≡ m.epoch + 1 → shift ≤ m.k → AreNeighbours m.shift shift
-    → 0 < s.feeders
-    → IsOpened m epoch shift o → IsClosed s t lists waiting m
-    → IsOpen s (with_shift epoch shift t) (with_sent lists (posts_opened m epoch shift)) waiting
-    (record m { step = Some o }) o
-closed-opened s t lists waiting m o epoch shift fixed next within near some opened is =
-    let at = is.epoch in
-    let now : epoch ≡ s.epoch + length is.past + 1 = omega arith in
-    let near' : AreNeighbours is.cur.shift shift = subst (λ (b : ℕ). AreNeighbours b shift) is.shift near in
-    let within' : shift ≤ s.k = let k = fixed.k in omega arith in
-    let after = opened-step s t lists waiting (flag_at m.ended)
-    m.store.tuples is.cur is.past shift within' near' is.stands in
-    record {
-      new = new_step shift;
-      cur = is.cur;
-      past = is.past;
-      all_turned = false;
-      stands = rw (
-        opened.store,
-        opened.partner_ended,
-        fixed.k,
-        fixed.id,
-        is.shift,
-        now,
-      ) (same-flags s _ _ waiting (λ p. false) (flag_at o.turned) _ false false m.store.tuples _ _ is.cur is.past
-          (λ p. sym (opened.turned p)) after);
-      epoch = is.epoch;
-      shift = is.shift;
-      step_epoch = opened.epoch ∙ now;
-      step_shift = opened.shift;
-      ended_count = is.ended_count;
-      moved = is.moved;
-      count = opened.count ∙ fixed.feeders;
-      missing = λ same each. false≢true (sym (opened.turned 0) ∙ each 0 some);
-      all = λ never. absurd (false≢true never);
-    }
+module _ (s : JoinerStart) (t : Taken) (lists : JoinerLists) (waiting : List Pair) (m : EpochState)
+    (o : OpenStep) (epoch shift : ℕ) (fixed : IsMachineOf s m) where
+  closed-opened : epoch ≡ m.epoch + 1 → shift ≤ m.k → AreNeighbours m.shift shift → 0 < s.feeders
+      → IsOpened m epoch shift o → IsClosed s t lists waiting m
+      → IsOpen s (with_shift epoch shift t) (with_sent lists (posts_opened m epoch shift)) waiting
+      (record m { step = Some o }) o
+  closed-opened next within near some opened is =
+      let at = is.epoch in
+      let now : epoch ≡ s.epoch + length is.past + 1 = omega arith in
+      let near' : AreNeighbours is.cur.shift shift = subst (λ (b : ℕ). AreNeighbours b shift) is.shift near in
+      let within' : shift ≤ s.k = let k = fixed.k in omega arith in
+      let after = opened-step s t lists waiting (flag_at m.ended)
+      m.store.tuples is.cur is.past shift within' near' is.stands in
+      record {
+        new = new_step shift;
+        cur = is.cur;
+        past = is.past;
+        all_turned = false;
+        stands = rw (
+          opened.store,
+          opened.partner_ended,
+          fixed.k,
+          fixed.id,
+          is.shift,
+          now,
+        ) (same-flags s _ _ waiting (λ p. false) (flag_at o.turned) _ false false m.store.tuples _ _ is.cur is.past
+            (λ p. sym (opened.turned p)) after);
+        epoch = is.epoch;
+        shift = is.shift;
+        step_epoch = opened.epoch ∙ now;
+        step_shift = opened.shift;
+        ended_count = is.ended_count;
+        moved = is.moved;
+        count = opened.count ∙ fixed.feeders;
+        missing = λ same each. false≢true (sym (opened.turned 0) ∙ each 0 some);
+        all = λ never. absurd (false≢true never);
+      }
 
 -- what is said of the open step doesn't depend on the place where the machine keeps it
 same-open : (s : JoinerStart) (t : Taken) (lists : JoinerLists) (waiting : List Pair) (m : EpochState) (o : OpenStep)
@@ -79,30 +79,30 @@ same-open s t lists waiting m o step is = record {
   all = is.all;
 }
 
--- where feeder p may turn and the step was opened for it or was open, the machine stands with the posts of the opening
--- sent and nothing more taken, though the epoch may have got its shift, and p may turn in that step
-pub begun-by : (s : JoinerStart) (t : Taken) (lists : JoinerLists) (waiting : List Pair) (m : EpochState)
-    (p epoch shift : ℕ) → IsMachineOf s m → p < s.feeders
-    → (step step' : Option OpenStep) → TurnFits m p epoch shift step → HasBegun m epoch shift step step'
-    → StandsBy s t lists waiting m step
-    → (t' : Taken) × ((t'.from_feeder ≡ t.from_feeder) × (t'.from_joiner ≡ t.from_joiner))
-    × IsSomeTurn p epoch shift step' × StandsBy s t' (with_sent lists (begun_posts m epoch shift step)) waiting
-    (record m { step = step' }) step'
-begun-by s t lists waiting m p epoch shift fixed low None None fits has is = absurd has
-begun-by s t lists waiting m p epoch shift fixed low None (Some o) fits has is = (
-  with_shift epoch shift t,
-  (refl, refl),
-  (has.turned p, sym has.epoch, sym has.shift),
-  closed-opened s t lists waiting m o epoch shift fixed fits.0 fits.1 fits.2 (omega arith) has is,
-)
-begun-by s t lists waiting m p epoch shift fixed low (Some o) step' fits has is = (
-  t,
-  (refl, refl),
-  subst (λ (z : Option OpenStep). IsSomeTurn p epoch shift z) (sym has) fits,
-  subst (λ (z : Option OpenStep). StandsBy s t (with_sent lists []) waiting (record m { step = z }) z) (sym has)
-      (subst (λ (ls : JoinerLists). IsOpen s t ls waiting (record m { step = Some o }) o) (sym (with_sent-none lists))
-      (same-open s t lists waiting m o (Some o) is)),
-)
+module _ (s : JoinerStart) (t : Taken) (lists : JoinerLists) (waiting : List Pair) (m : EpochState)
+    (p epoch shift : ℕ) (fixed : IsMachineOf s m) (low : p < s.feeders) where
+  -- where feeder p may turn and the step was opened for it or was open, the machine stands with the posts of the
+  -- opening sent and nothing more taken, though the epoch may have got its shift, and p may turn in that step
+  pub begun-by : (step step' : Option OpenStep) → TurnFits m p epoch shift step → HasBegun m epoch shift step step'
+      → StandsBy s t lists waiting m step
+      → (t' : Taken) × ((t'.from_feeder ≡ t.from_feeder) × (t'.from_joiner ≡ t.from_joiner))
+      × IsSomeTurn p epoch shift step'
+      × StandsBy s t' (with_sent lists (begun_posts m epoch shift step)) waiting (record m { step = step' }) step'
+  begun-by None None fits has is = absurd has
+  begun-by None (Some o) fits has is = (
+    with_shift epoch shift t,
+    (refl, refl),
+    (has.turned p, sym has.epoch, sym has.shift),
+    closed-opened s t lists waiting m o epoch shift fixed fits.0 fits.1 fits.2 (omega arith) has is,
+  )
+  begun-by (Some o) step' fits has is = (
+    t,
+    (refl, refl),
+    subst (λ (z : Option OpenStep). IsSomeTurn p epoch shift z) (sym has) fits,
+    subst (λ (z : Option OpenStep). StandsBy s t (with_sent lists []) waiting (record m { step = z }) z) (sym has)
+        (subst (λ (ls : JoinerLists). IsOpen s t ls waiting (record m { step = Some o }) o) (sym (with_sent-none lists))
+        (same-open s t lists waiting m o (Some o) is)),
+  )
 
 -- the shifts stay within the grid
 pub begun-within : (m : EpochState) (p epoch shift : ℕ) (step step' : Option OpenStep) → TurnFits m p epoch shift step

@@ -74,15 +74,15 @@ does-begin m m1 epoch shift w before after rest begun posts =
     does-posting _ m1 w before after _
     (rest ∙ ap (λ s. record m { step = s }) (begun-is m epoch shift m.step m1.step begun)) posts
 
-does-turning : (m m1 : EpochState) (p : ℕ) (last : Bool) (w : List Pair) (before after : List Post)
-    → m1 ≡ record m { step = m1.step } → HasTurned p m.step m1.step → (last ≡ true → AreAllUp m1.step)
-    → (last ≡ false → AreAllUp m1.step → ⊥) → after ≡ before ++ posts_turned m last
-    → Does (turning p m) m1 w w before after
-does-turning m m1 p last w before after rest turned up down posts =
-    let step : m1.step ≡ turned_step p m.step = turned-is p m.step m1.step turned in
-    let is : last ≡ are_all_up (turned_step p m.step) = all-up-is last m1.step up down ∙ ap are_all_up step in
-    does-posting _ m1 w before after _ (rest ∙ ap (λ s. record m { step = s }) step)
-    (posts ∙ ap (λ b. before ++ posts_turned m b) is)
+module _ (m m1 : EpochState) (p : ℕ) (last : Bool) (w : List Pair) (before after : List Post) where
+  does-turning : m1 ≡ record m { step = m1.step } → HasTurned p m.step m1.step → (last ≡ true → AreAllUp m1.step)
+      → (last ≡ false → AreAllUp m1.step → ⊥) → after ≡ before ++ posts_turned m last
+      → Does (turning p m) m1 w w before after
+  does-turning rest turned up down posts =
+      let step : m1.step ≡ turned_step p m.step = turned-is p m.step m1.step turned in
+      let is : last ≡ are_all_up (turned_step p m.step) = all-up-is last m1.step up down ∙ ap are_all_up step in
+      does-posting _ m1 w before after _ (rest ∙ ap (λ s. record m { step = s }) step)
+      (posts ∙ ap (λ b. before ++ posts_turned m b) is)
 
 -- a step was settled if it was ready
 pub does-settle : (m m1 : EpochState) (ready : Bool) (w : List Pair) (before after : List Post)
@@ -140,10 +140,11 @@ does-end m m' p w before rest flags =
     does-nothing (record m { ended = slice_set m.ended p true }) m' w before
     (rest ∙ ap (λ fs. record m { ended = fs }) flags)
 
--- the end of the partner's part was taken
-pub does-part : (m m1 m2 : EpochState) (ready : Bool) (w : List Pair) (before after : List Post) → m1 ≡ after_part m
-    → (ready ≡ true → IsReady m1.step) → (ready ≡ false → IsReady m1.step → ⊥) → m2 ≡ after_settle ready m1
-    → after ≡ before ++ posts_settled ready m1 → Does (of_moved_end m) m2 w w before after
-does-part m m1 m2 ready w before after part up down state posts =
-    subst (λ (z : EpochState). Does (settling z) m2 w w before after) part
-    (does-settle m1 m2 ready w before after up down state posts)
+module _ (m m1 m2 : EpochState) (ready : Bool) (w : List Pair) (before after : List Post) where
+  -- the end of the partner's part was taken
+  pub does-part : m1 ≡ after_part m → (ready ≡ true → IsReady m1.step) → (ready ≡ false → IsReady m1.step → ⊥)
+      → m2 ≡ after_settle ready m1 → after ≡ before ++ posts_settled ready m1
+      → Does (of_moved_end m) m2 w w before after
+  does-part part up down state posts =
+      subst (λ (z : EpochState). Does (settling z) m2 w w before after) part
+      (does-settle m1 m2 ready w before after up down state posts)

@@ -101,13 +101,13 @@ own-none m = All-nil (IsOwnPost m.k m.feeders m.id m.theta)
 pub own-append : (m : EpochState) (xs ys : List Post) → AreOwnPosts m xs → AreOwnPosts m ys → AreOwnPosts m (xs ++ ys)
 own-append m xs ys one two = All-append (IsOwnPost m.k m.feeders m.id m.theta) xs ys one two
 
-own-by : (k k' n n' id id' : ℕ) (th th' : Meaning) (posts : List Post) → k' ≡ k → n' ≡ n → id' ≡ id → th' ≡ th
-    → All (IsOwnPost k' n' id' th') posts → All (IsOwnPost k n id th) posts
-own-by k k' n n' id id' th th' posts one two three four own =
-    subst (λ (i : ℕ). All (IsOwnPost i n id th) posts) one
-    (subst (λ (i : ℕ). All (IsOwnPost k' i id th) posts) two
-    (subst (λ (i : ℕ). All (IsOwnPost k' n' i th) posts) three
-    (subst (λ (z : Meaning). All (IsOwnPost k' n' id' z) posts) four own)))
+module _ (k k' n n' id id' : ℕ) (th th' : Meaning) (posts : List Post) where
+  own-by : k' ≡ k → n' ≡ n → id' ≡ id → th' ≡ th → All (IsOwnPost k' n' id' th') posts → All (IsOwnPost k n id th) posts
+  own-by one two three four own =
+      subst (λ (i : ℕ). All (IsOwnPost i n id th) posts) one
+      (subst (λ (i : ℕ). All (IsOwnPost k' i id th) posts) two
+      (subst (λ (i : ℕ). All (IsOwnPost k' n' i th) posts) three
+      (subst (λ (z : Meaning). All (IsOwnPost k' n' id' z) posts) four own)))
 
 -- a call doesn't change whose posts they are
 pub own-before : (old new : EpochState) (posts : List Post) → IsFixed old new → AreOwnPosts new posts

@@ -49,17 +49,17 @@ by-other : {S : Type 0} (test : Bool) (taken held : Outcome S) (new : S) (w w' :
 by-other test taken held new w w' before after is does =
     subst (λ (b : Bool). Does (cond b taken held) new w w' before after) (sym is) does
 
--- a feeder's message that can be taken was taken at once
-pub does-accept-feeder : (old new : MachineState) (p : ℕ) (x : ToJoiner) (w w' : List Pair) (before after : List Post)
-    → held_at old.of_feeders p ≡ [] → TakesOfFeeder old.epochs p x → new ≡ record old { epochs = new.epochs }
-    → Does (of_feeder old.epochs p x) new.epochs w w' before after
-    → Does (accepts (Feeder p) x old) new w w' before after
-does-accept-feeder old new p x w w' before after clear can rest does =
-    by-test (is_clear (held_at old.of_feeders p) && can_take_of_feeder old.epochs p x) (takes_of_feeder p x old)
-    (quiet (holds_of_feeder p x old)) new w w' before after
-    (and_from (is_clear (held_at old.of_feeders p)) (can_take_of_feeder old.epochs p x) (ap is_clear clear)
-    (feeder-test old.epochs p x can))
-    (does-epochs old new (of_feeder old.epochs p x) w w' before after rest does)
+module _ (old new : MachineState) (p : ℕ) (x : ToJoiner) (w w' : List Pair) (before after : List Post) where
+  -- a feeder's message that can be taken was taken at once
+  pub does-accept-feeder : held_at old.of_feeders p ≡ [] → TakesOfFeeder old.epochs p x
+      → new ≡ record old { epochs = new.epochs } → Does (of_feeder old.epochs p x) new.epochs w w' before after
+      → Does (accepts (Feeder p) x old) new w w' before after
+  does-accept-feeder clear can rest does =
+      by-test (is_clear (held_at old.of_feeders p) && can_take_of_feeder old.epochs p x) (takes_of_feeder p x old)
+      (quiet (holds_of_feeder p x old)) new w w' before after
+      (and_from (is_clear (held_at old.of_feeders p)) (can_take_of_feeder old.epochs p x) (ap is_clear clear)
+      (feeder-test old.epochs p x can))
+      (does-epochs old new (of_feeder old.epochs p x) w w' before after rest does)
 
 -- a message waits behind those that are held of its link
 pub waits-behind : (held : List ToJoiner) (can : Bool) → (held ≡ [] → ⊥) → (is_clear held && can) ≡ false
@@ -87,17 +87,17 @@ does-hold-feeder old new p x w before waits is =
     (quiet (holds_of_feeder p x old)) new w w before before waits
     (does-nothing (holds_of_feeder p x old) new w before is)
 
--- a joiner's message that can be taken was taken at once
-pub does-accept-joiner : (old new : MachineState) (q : ℕ) (x : ToJoiner) (w w' : List Pair) (before after : List Post)
-    → held_at old.of_joiners q ≡ [] → TakesOfJoiner old.epochs q x → new ≡ record old { epochs = new.epochs }
-    → Does (of_joiner old.epochs x) new.epochs w w' before after
-    → Does (accepts (Joiner' q) x old) new w w' before after
-does-accept-joiner old new q x w w' before after clear can rest does =
-    by-test (is_clear (held_at old.of_joiners q) && can_take_of_joiner old.epochs q x) (takes_of_joiner x old)
-    (quiet (holds_of_joiner q x old)) new w w' before after
-    (and_from (is_clear (held_at old.of_joiners q)) (can_take_of_joiner old.epochs q x) (ap is_clear clear)
-    (joiner-test old.epochs q x can))
-    (does-epochs old new (of_joiner old.epochs x) w w' before after rest does)
+module _ (old new : MachineState) (q : ℕ) (x : ToJoiner) (w w' : List Pair) (before after : List Post) where
+  -- a joiner's message that can be taken was taken at once
+  pub does-accept-joiner : held_at old.of_joiners q ≡ [] → TakesOfJoiner old.epochs q x
+      → new ≡ record old { epochs = new.epochs } → Does (of_joiner old.epochs x) new.epochs w w' before after
+      → Does (accepts (Joiner' q) x old) new w w' before after
+  does-accept-joiner clear can rest does =
+      by-test (is_clear (held_at old.of_joiners q) && can_take_of_joiner old.epochs q x) (takes_of_joiner x old)
+      (quiet (holds_of_joiner q x old)) new w w' before after
+      (and_from (is_clear (held_at old.of_joiners q)) (can_take_of_joiner old.epochs q x) (ap is_clear clear)
+      (joiner-test old.epochs q x can))
+      (does-epochs old new (of_joiner old.epochs x) w w' before after rest does)
 
 -- a joiner's message was held
 pub does-hold-joiner : (old new : MachineState) (q : ℕ) (x : ToJoiner) (w : List Pair) (before : List Post)
@@ -110,39 +110,41 @@ does-hold-joiner old new q x w before waits is =
 
 -- ---- a held message
 
--- the first that is held of a feeder was taken
-pub does-first-feeder : (old new : MachineState) (queues : List (List ToJoiner)) (p : ℕ) (x : ToJoiner)
-    (w w' : List Pair) (before after : List Post)
-    → held_at old.of_feeders p ≡ x ∷ held_at queues p → queues ≡ slice_set old.of_feeders p (held_at queues p)
-    → new ≡ record old { of_feeders = queues; epochs = new.epochs }
-    → Does (of_feeder old.epochs p x) new.epochs w w' before after
-    → Does (takes_first (Feeder p) old) new w w' before after
-does-first-feeder old new queues p x w w' before after first rest state does =
-    let set = slice_set old.of_feeders p (held_at queues p) in
-    subst (λ (held : List ToJoiner). Does (takes_next_of_feeder p old held) new w w' before after) (sym first)
-    (record {
-      left = state ∙ ap (λ qs. record old { of_feeders = qs; epochs = new.epochs }) rest
-          ∙ ap (λ e. record old { of_feeders = set; epochs = e }) does.left;
-      found = does.found;
-      posts = does.posts;
-    })
+module _ (old new : MachineState) (queues : List (List ToJoiner)) (p : ℕ) (x : ToJoiner) (w w' : List Pair)
+    (before after : List Post) where
+  -- the first that is held of a feeder was taken
+  pub does-first-feeder : held_at old.of_feeders p ≡ x ∷ held_at queues p
+      → queues ≡ slice_set old.of_feeders p (held_at queues p)
+      → new ≡ record old { of_feeders = queues; epochs = new.epochs }
+      → Does (of_feeder old.epochs p x) new.epochs w w' before after
+      → Does (takes_first (Feeder p) old) new w w' before after
+  does-first-feeder first rest state does =
+      let set = slice_set old.of_feeders p (held_at queues p) in
+      subst (λ (held : List ToJoiner). Does (takes_next_of_feeder p old held) new w w' before after) (sym first)
+      (record {
+        left = state ∙ ap (λ qs. record old { of_feeders = qs; epochs = new.epochs }) rest
+            ∙ ap (λ e. record old { of_feeders = set; epochs = e }) does.left;
+        found = does.found;
+        posts = does.posts;
+      })
 
--- the first that is held of a joiner was taken
-pub does-first-joiner : (old new : MachineState) (queues : List (List ToJoiner)) (q : ℕ) (x : ToJoiner)
-    (w w' : List Pair) (before after : List Post)
-    → held_at old.of_joiners q ≡ x ∷ held_at queues q → queues ≡ slice_set old.of_joiners q (held_at queues q)
-    → new ≡ record old { of_joiners = queues; epochs = new.epochs }
-    → Does (of_joiner old.epochs x) new.epochs w w' before after
-    → Does (takes_first (Joiner' q) old) new w w' before after
-does-first-joiner old new queues q x w w' before after first rest state does =
-    let set = slice_set old.of_joiners q (held_at queues q) in
-    subst (λ (held : List ToJoiner). Does (takes_next_of_joiner q old held) new w w' before after) (sym first)
-    (record {
-      left = state ∙ ap (λ qs. record old { of_joiners = qs; epochs = new.epochs }) rest
-          ∙ ap (λ e. record old { of_joiners = set; epochs = e }) does.left;
-      found = does.found;
-      posts = does.posts;
-    })
+module _ (old new : MachineState) (queues : List (List ToJoiner)) (q : ℕ) (x : ToJoiner) (w w' : List Pair)
+    (before after : List Post) where
+  -- the first that is held of a joiner was taken
+  pub does-first-joiner : held_at old.of_joiners q ≡ x ∷ held_at queues q
+      → queues ≡ slice_set old.of_joiners q (held_at queues q)
+      → new ≡ record old { of_joiners = queues; epochs = new.epochs }
+      → Does (of_joiner old.epochs x) new.epochs w w' before after
+      → Does (takes_first (Joiner' q) old) new w w' before after
+  does-first-joiner first rest state does =
+      let set = slice_set old.of_joiners q (held_at queues q) in
+      subst (λ (held : List ToJoiner). Does (takes_next_of_joiner q old held) new w w' before after) (sym first)
+      (record {
+        left = state ∙ ap (λ qs. record old { of_joiners = qs; epochs = new.epochs }) rest
+            ∙ ap (λ e. record old { of_joiners = set; epochs = e }) does.left;
+        found = does.found;
+        posts = does.posts;
+      })
 
 -- ---- the first link that is ready
 
@@ -216,27 +218,29 @@ one-fewer old new i low is =
     ap (λ qs. sum_by length qs) is.others in
     omega arith
 
--- the first link that was ready is that feeder, of which one message was taken
-pub next-feeder : (old new : MachineState) (p : ℕ) (w w' : List Pair) (before after : List Post) → IsSound old
-    → IsReadyOfFeeder old p → AreStuckOfFeeders p old → TookHeld (Feeder p) old new w w' before after
-    → DoesNext old new w w' before after
-next-feeder old new p w w' before after sound ready stuck took =
-    let count = sound.feeders in
-    let low = ready.low in
-    let fewer = one-fewer old.of_feeders new.of_feeders p (omega arith) took.given.0 in
-    let same : sum_by length new.of_joiners ≡ sum_by length old.of_joiners = ap (λ qs. sum_by length qs) took.given.1 in
-    record { from = Feeder p; first = first-feeder old p ready stuck; fewer = omega arith; does = took.does }
+module _ (old new : MachineState) (p : ℕ) (w w' : List Pair) (before after : List Post) where
+  -- the first link that was ready is that feeder, of which one message was taken
+  pub next-feeder : IsSound old → IsReadyOfFeeder old p → AreStuckOfFeeders p old
+      → TookHeld (Feeder p) old new w w' before after → DoesNext old new w w' before after
+  next-feeder sound ready stuck took =
+      let count = sound.feeders in
+      let low = ready.low in
+      let fewer = one-fewer old.of_feeders new.of_feeders p (omega arith) took.given.0 in
+      let same : sum_by length new.of_joiners ≡ sum_by length old.of_joiners = ap (λ qs. sum_by length qs)
+      took.given.1 in
+      record { from = Feeder p; first = first-feeder old p ready stuck; fewer = omega arith; does = took.does }
 
--- it is that joiner
-pub next-joiner : (old new : MachineState) (q : ℕ) (w w' : List Pair) (before after : List Post) → IsSound old
-    → AreStuckOfFeeders old.epochs.feeders old → IsReadyOfJoiner old q → AreStuckOfJoiners q old
-    → TookHeld (Joiner' q) old new w w' before after → DoesNext old new w w' before after
-next-joiner old new q w w' before after sound feeders ready stuck took =
-    let count = sound.joiners in
-    let low = ready.low in
-    let fewer = one-fewer old.of_joiners new.of_joiners q (omega arith) took.given.0 in
-    let same : sum_by length new.of_feeders ≡ sum_by length old.of_feeders = ap (λ qs. sum_by length qs) took.given.1 in
-    record { from = Joiner' q; first = first-joiner old q feeders ready stuck; fewer = omega arith; does = took.does }
+module _ (old new : MachineState) (q : ℕ) (w w' : List Pair) (before after : List Post) where
+  -- it is that joiner
+  pub next-joiner : IsSound old → AreStuckOfFeeders old.epochs.feeders old → IsReadyOfJoiner old q
+      → AreStuckOfJoiners q old → TookHeld (Joiner' q) old new w w' before after → DoesNext old new w w' before after
+  next-joiner sound feeders ready stuck took =
+      let count = sound.joiners in
+      let low = ready.low in
+      let fewer = one-fewer old.of_joiners new.of_joiners q (omega arith) took.given.0 in
+      let same : sum_by length new.of_feeders ≡ sum_by length old.of_feeders = ap (λ qs. sum_by length qs)
+      took.given.1 in
+      record { from = Joiner' q; first = first-joiner old q feeders ready stuck; fewer = omega arith; does = took.does }
 
 rests : (n : ℕ) (m : MachineState) → IsStuck m → takes_held n m ≡ quiet m
 rests zero m stuck = refl
@@ -249,15 +253,16 @@ does-no-held m w before stuck =
     subst (λ (o : Outcome MachineState). Does o m w w before before) (sym (rests (held_in_all m) m stuck))
     (does-nothing m m w before refl)
 
--- where the first one was taken, and then all that could be, all were
-pub does-held : (a b c : MachineState) (w0 w1 w2 : List Pair) (p0 p1 p2 : List Post) → DoesNext a b w0 w1 p0 p1
-    → Does (takes_all_held b) c w1 w2 p1 p2 → Does (takes_all_held a) c w0 w2 p0 p2
-does-held a b c w0 w1 w2 p0 p1 p2 next later =
-    let n = held_in_all b in
-    let is : takes_all_held a ≡ followed_by (takes_first next.from a) (takes_held n) =
-    ap (λ i. takes_held i a) next.fewer ∙ ap (λ r. takes_then (takes_held n) a r) next.first in
-    subst (λ (o : Outcome MachineState). Does o c w0 w2 p0 p2) (sym is)
-    (does-then (takes_first next.from a) (takes_held n) b c w0 w1 w2 p0 p1 p2 next.does later)
+module _ (a b c : MachineState) (w0 w1 w2 : List Pair) (p0 p1 p2 : List Post) where
+  -- where the first one was taken, and then all that could be, all were
+  pub does-held : DoesNext a b w0 w1 p0 p1 → Does (takes_all_held b) c w1 w2 p1 p2
+      → Does (takes_all_held a) c w0 w2 p0 p2
+  does-held next later =
+      let n = held_in_all b in
+      let is : takes_all_held a ≡ followed_by (takes_first next.from a) (takes_held n) =
+      ap (λ i. takes_held i a) next.fewer ∙ ap (λ r. takes_then (takes_held n) a r) next.first in
+      subst (λ (o : Outcome MachineState). Does o c w0 w2 p0 p2) (sym is)
+      (does-then (takes_first next.from a) (takes_held n) b c w0 w1 w2 p0 p1 p2 next.does later)
 
 -- ---- the end of a call
 

@@ -27,185 +27,166 @@ use Rattle.epoch_tags.specs.Flags.{flag_at}
 use Rattle.joiner_core.proofs.SentPosts.{with_sent-none, quiet-late}
 use Rattle.joiner_core.proofs.Outcomes.{does-old, does-new}
 
--- with no step open
-closed-old : (s : JoinerStart) (t : Taken) (lists : JoinerLists) (waiting : List Pair) (m : EpochState) (x : Tuple)
-    (p : ℕ) → IsMachineOf s m → p < s.feeders → flag_at m.ended p ≡ false → x.stamp ≡ m.epoch
-    → IsClosed s t lists waiting m
-    → IsClosed s (took_of_feeder p (Tup x) t) lists (waiting
-    ++ (probed (does_hold m.theta) all_tuples x m.store.tuples ++ [])) (record m {
-      store = with_placed x m.store;
-      step = None;
-    })
-closed-old s t lists waiting m x p fixed low going stamp is =
-    let at = is.epoch in
-    record {
-      cur = with_arrived x is.cur;
-      past = is.past;
-      stands = rw (
-        append-nil (probed (does_hold m.theta) all_tuples x m.store.tuples),
-        fixed.matches,
-      ) (settled-placed s _ lists _ _ m.store.tuples x _ is.past
-          (settled-tup s t lists waiting (flag_at m.ended) m.store.tuples is.cur is.past p x low going (omega arith)
-          is.stands));
-      epoch = is.epoch;
-      shift = is.shift;
-      ended_count = is.ended_count;
-      moved = is.moved ∙ sym (counts-arrived s.k s.id x is.cur is.past);
-    }
+-- what holds at an epoch, and at another, holds at the one that both are
+at_epoch : (P : ℕ → ℕ → Type 0) (e f epoch : ℕ) → epoch ≡ e → epoch ≡ f → P e f → P epoch epoch
+at_epoch P e f epoch one two is = subst (λ (i : ℕ). P i epoch) (sym one) (subst (λ (j : ℕ). P e j) (sym two) is)
 
--- the open step's epoch, as the machine keeps it
-at_epoch : (s : JoinerStart) (t : Taken) (lists : JoinerLists) (waiting : List Pair) (turned ended : ℕ
-    → Bool) (part_ended : Bool) (a a' b b' : List Tuple) (new cur cur' : Step) (past : List Step) (side : Side)
-    (who : ℕ) (x : Tuple) (kept : Bool) (e f oe : ℕ) → oe ≡ e → oe ≡ f
-    → StandsOpen s t (with_sent lists (posts_late side who e x))
-    (waiting ++ (probed s.matches all_tuples x a ++ cond kept (probed s.matches (only_stamp f) x b) []))
-    turned ended false part_ended a' b' new cur' past
-    → StandsOpen s t (with_sent lists (posts_late side who oe x))
-    (waiting ++ (probed s.matches all_tuples x a ++ cond kept (probed s.matches (only_stamp oe) x b) []))
-    turned ended false part_ended a' b' new cur' past
-at_epoch s t lists waiting turned ended part_ended a a' b b' new cur cur' past side who x kept e f oe one two stands =
-    subst (λ (i : ℕ). StandsOpen s t (with_sent lists (posts_late side who i x))
-    (waiting ++ (probed s.matches all_tuples x a ++ cond kept (probed s.matches (only_stamp oe) x b) []))
-    turned ended false part_ended a' b' new cur' past) (sym one)
-    (subst (λ (j : ℕ). StandsOpen s t (with_sent lists (posts_late side who e x))
-    (waiting ++ (probed s.matches all_tuples x a ++ cond kept (probed s.matches (only_stamp j) x b) []))
-    turned ended false part_ended a' b' new cur' past) (sym two) stands)
+module _ (s : JoinerStart) (t : Taken) (lists : JoinerLists) (waiting : List Pair) (m : EpochState) where
+  -- with no step open
+  closed-old : (x : Tuple) (p : ℕ) → IsMachineOf s m → p < s.feeders → flag_at m.ended p ≡ false → x.stamp ≡ m.epoch
+      → IsClosed s t lists waiting m
+      → IsClosed s (took_of_feeder p (Tup x) t) lists (waiting ++ (probed (does_hold m.theta) all_tuples x
+      m.store.tuples ++ [])) (record m { store = with_placed x m.store; step = None })
+  closed-old x p fixed low going stamp is =
+      let at = is.epoch in
+      record {
+        cur = with_arrived x is.cur;
+        past = is.past;
+        stands = rw (
+          append-nil (probed (does_hold m.theta) all_tuples x m.store.tuples),
+          fixed.matches,
+        ) (settled-placed s _ lists _ _ m.store.tuples x _ is.past
+            (settled-tup s t lists waiting (flag_at m.ended) m.store.tuples is.cur is.past p x low going (omega arith)
+            is.stands));
+        epoch = is.epoch;
+        shift = is.shift;
+        ended_count = is.ended_count;
+        moved = is.moved ∙ sym (counts-arrived s.k s.id x is.cur is.past);
+      }
 
--- under an open step
-open-old : (s : JoinerStart) (t : Taken) (lists : JoinerLists) (waiting : List Pair) (m : EpochState) (o : OpenStep)
-    (x : Tuple) (p : ℕ) → IsMachineOf s m → p < s.feeders → flag_at m.ended p ≡ false → flag_at o.turned p ≡ false
-    → x.stamp ≡ m.epoch
-    → IsOpen s t lists waiting m o
-    → IsOpen s (took_of_feeder p (Tup x) t)
-    (with_sent lists (posts_late (exchanged_side m.shift o.shift) (partner_in_step m.shift o.shift m.id) o.epoch x))
-    (waiting ++ (probed (does_hold m.theta) all_tuples x m.store.tuples ++ found_late (does_hold m.theta) m.k m.id o x))
-    (record m { store = with_placed x m.store; step = Some (opened_late m.k m.id o x) }) (opened_late m.k m.id o x)
-open-old s t lists waiting m o x p fixed low going still stamp is =
-    let at = is.epoch in
-    let not_all : is.all_turned ≡ false = false_from_ne_true is.all_turned
-    (λ yes. false≢true (sym still ∙ is.all yes p low)) in
-    let before : StandsOpen s t lists waiting (flag_at o.turned) (flag_at m.ended)
-    false o.partner_ended m.store.tuples o.store.tuples is.new is.cur is.past = rw not_all at is.stands in
-    let next : s.epoch + length is.past + 1 ≡ s.epoch + length (is.cur ∷ is.past) = omega arith in
-    let epoch : o.epoch ≡ s.epoch + length (is.cur ∷ is.past) = is.step_epoch ∙ next in
-    let posts_epoch = is.step_epoch in
-    let after = open-late s t lists waiting (flag_at o.turned) (flag_at m.ended)
-    o.partner_ended m.store.tuples o.store.tuples is.new is.cur is.past p x low going still (omega arith) before in
-    record {
-      new = is.new;
-      cur = with_arrived x is.cur;
-      past = is.past;
-      all_turned = false;
-      stands = rw (
-        fixed.matches,
-        fixed.k,
-        fixed.id,
-        is.shift,
-        is.step_shift,
-      ) (both-placed s _ _ _ _ _ _ _ m.store.tuples o.store.tuples x (holds s.k is.new.shift s.id x)
-          is.new _ is.past (at_epoch s (took_of_feeder p (Tup x) t)
-          lists waiting _ _ _ m.store.tuples _ o.store.tuples _ is.new is.cur _ is.past
-          (exchanged_side is.cur.shift is.new.shift) (partner_in_step is.cur.shift is.new.shift s.id) x
-          (holds s.k is.new.shift s.id x) (s.epoch + length is.past + 1) (s.epoch + length (is.cur ∷ is.past))
-          o.epoch is.step_epoch epoch after));
-      epoch = is.epoch;
-      shift = is.shift;
-      step_epoch = is.step_epoch;
-      step_shift = is.step_shift;
-      ended_count = is.ended_count;
-      moved = is.moved ∙ sym (counts-arrived s.k s.id x is.cur is.past);
-      count = is.count;
-      missing = λ same each. false≢true (sym still ∙ each p low);
-      all = λ never. absurd (false≢true never);
-    }
+  -- under an open step
+  open-old : (o : OpenStep) (x : Tuple) (p : ℕ) → IsMachineOf s m → p < s.feeders → flag_at m.ended p ≡ false
+      → flag_at o.turned p ≡ false → x.stamp ≡ m.epoch → IsOpen s t lists waiting m o
+      → IsOpen s (took_of_feeder p (Tup x) t)
+      (with_sent lists (posts_late (exchanged_side m.shift o.shift) (partner_in_step m.shift o.shift m.id) o.epoch x))
+      (waiting ++ (probed (does_hold m.theta) all_tuples x m.store.tuples
+      ++ found_late (does_hold m.theta) m.k m.id o x))
+      (record m { store = with_placed x m.store; step = Some (opened_late m.k m.id o x) })
+      (opened_late m.k m.id o x)
+  open-old o x p fixed low going still stamp is =
+      let at = is.epoch in
+      let not_all : is.all_turned ≡ false = false_from_ne_true is.all_turned
+      (λ yes. false≢true (sym still ∙ is.all yes p low)) in
+      let before : StandsOpen s t lists waiting (flag_at o.turned) (flag_at m.ended)
+      false o.partner_ended m.store.tuples o.store.tuples is.new is.cur is.past = rw not_all at is.stands in
+      let next : s.epoch + length is.past + 1 ≡ s.epoch + length (is.cur ∷ is.past) = omega arith in
+      let epoch : o.epoch ≡ s.epoch + length (is.cur ∷ is.past) = is.step_epoch ∙ next in
+      let after = open-late s t lists waiting (flag_at o.turned) (flag_at m.ended)
+      o.partner_ended m.store.tuples o.store.tuples is.new is.cur is.past p x low going still (omega arith) before in
+      record {
+        new = is.new;
+        cur = with_arrived x is.cur;
+        past = is.past;
+        all_turned = false;
+        stands = rw (
+          fixed.matches,
+          fixed.k,
+          fixed.id,
+          is.shift,
+          is.step_shift,
+        ) (both-placed s _ _ _ _ _ _ _ m.store.tuples o.store.tuples x (holds s.k is.new.shift s.id x)
+            is.new _ is.past (at_epoch (λ (i j : ℕ). StandsOpen s (took_of_feeder p (Tup x) t) (with_sent lists
+            (posts_late (exchanged_side is.cur.shift is.new.shift)
+            (partner_in_step is.cur.shift is.new.shift s.id) i x))
+            (waiting ++ (probed s.matches all_tuples x m.store.tuples
+            ++ cond (holds s.k is.new.shift s.id x) (probed s.matches (only_stamp j) x o.store.tuples) []))
+            (flag_at o.turned) (flag_at m.ended) false o.partner_ended (m.store.tuples ++ x ∷ [])
+            (cond (holds s.k is.new.shift s.id x) (o.store.tuples ++ x ∷ []) o.store.tuples)
+            is.new (with_arrived x is.cur) is.past)
+            (s.epoch + length is.past + 1) (s.epoch + length (is.cur ∷ is.past)) o.epoch is.step_epoch epoch after));
+        epoch = is.epoch;
+        shift = is.shift;
+        step_epoch = is.step_epoch;
+        step_shift = is.step_shift;
+        ended_count = is.ended_count;
+        moved = is.moved ∙ sym (counts-arrived s.k s.id x is.cur is.past);
+        count = is.count;
+        missing = λ same each. false≢true (sym still ∙ each p low);
+        all = λ never. absurd (false≢true never);
+      }
 
-old-by : (s : JoinerStart) (t : Taken) (lists : JoinerLists) (waiting : List Pair) (m : EpochState) (x : Tuple) (p : ℕ)
-    → IsMachineOf s m → p < s.feeders → flag_at m.ended p ≡ false → x.stamp ≡ m.epoch
-    → (step : Option OpenStep) → turned_in step p ≡ false → StandsBy s t lists waiting m step
-    → StandsBy s (took_of_feeder p (Tup x) t) (with_sent lists (late_posts m x step))
-    (waiting ++ (probed (does_hold m.theta) all_tuples x m.store.tuples ++ late_found m x step))
-    (record m { store = with_placed x m.store; step = open_old m x step }) (open_old m x step)
-old-by s t lists waiting m x p fixed low going stamp None still is =
-    subst (λ (ls : JoinerLists). IsClosed s (took_of_feeder p (Tup x) t) ls
-    (waiting ++ (probed (does_hold m.theta) all_tuples x m.store.tuples ++ []))
-    (record m { store = with_placed x m.store; step = None })) (sym (with_sent-none lists))
-    (closed-old s t lists waiting m x p fixed low going stamp is)
-old-by s t lists waiting m x p fixed low going stamp (Some o) still is =
-    open-old s t lists waiting m o x p fixed low going still stamp is
+  old-by : (x : Tuple) (p : ℕ) → IsMachineOf s m → p < s.feeders → flag_at m.ended p ≡ false → x.stamp ≡ m.epoch
+      → (step : Option OpenStep) → turned_in step p ≡ false → StandsBy s t lists waiting m step
+      → StandsBy s (took_of_feeder p (Tup x) t) (with_sent lists (late_posts m x step))
+      (waiting ++ (probed (does_hold m.theta) all_tuples x m.store.tuples ++ late_found m x step))
+      (record m { store = with_placed x m.store; step = open_old m x step }) (open_old m x step)
+  old-by x p fixed low going stamp None still is =
+      subst (λ (ls : JoinerLists). IsClosed s (took_of_feeder p (Tup x) t) ls
+      (waiting ++ (probed (does_hold m.theta) all_tuples x m.store.tuples ++ []))
+      (record m { store = with_placed x m.store; step = None })) (sym (with_sent-none lists))
+      (closed-old x p fixed low going stamp is)
+  old-by x p fixed low going stamp (Some o) still is =
+      open-old o x p fixed low going still stamp is
 
--- a tuple of the settled epoch
-pub stands-old : (s : JoinerStart) (t : Taken) (lists : JoinerLists) (waiting : List Pair) (m : EpochState) (x : Tuple)
-    (p : ℕ) → p < s.feeders → flag_at m.ended p ≡ false → turned_in m.step p ≡ false → x.stamp ≡ m.epoch
-    → Stands s t lists waiting m → Stands s (took_of_feeder p (Tup x) t) (with_sent lists (posts_old m x))
-    (waiting ++ found_old m x) (after_old m x)
-stands-old s t lists waiting m x p low going still stamp is =
-    let fixed = is.fixed in
-    record {
-      fixed = record {
-        k = fixed.k;
-        id = fixed.id;
-        feeders = fixed.feeders;
-        matches = fixed.matches;
-        small = fixed.small;
-      };
-      now = old-by s t lists waiting m x p fixed low going stamp m.step still is.now;
-    }
+  -- a tuple of the settled epoch
+  pub stands-old : (x : Tuple) (p : ℕ) → p < s.feeders → flag_at m.ended p ≡ false → turned_in m.step p ≡ false
+      → x.stamp ≡ m.epoch → Stands s t lists waiting m
+      → Stands s (took_of_feeder p (Tup x) t) (with_sent lists (posts_old m x)) (waiting ++ found_old m x)
+      (after_old m x)
+  stands-old x p low going still stamp is =
+      let fixed = is.fixed in
+      record {
+        fixed = record {
+          k = fixed.k;
+          id = fixed.id;
+          feeders = fixed.feeders;
+          matches = fixed.matches;
+          small = fixed.small;
+        };
+        now = old-by x p fixed low going stamp m.step still is.now;
+      }
 
-open-new : (s : JoinerStart) (t : Taken) (lists : JoinerLists) (waiting : List Pair) (m : EpochState) (o : OpenStep)
-    (x : Tuple) (p : ℕ) → IsMachineOf s m → p < s.feeders → flag_at m.ended p ≡ false → flag_at o.turned p ≡ true
-    → x.stamp ≡ o.epoch
-    → IsOpen s t lists waiting m o
-    → IsOpen s (took_of_feeder p (Tup x) t) lists (waiting ++ probed (does_hold m.theta) all_tuples x o.store.tuples)
-    (record m { step = Some (with_new o x) }) (with_new o x)
-open-new s t lists waiting m o x p fixed low going has stamp is =
-    let at = is.step_epoch in
-    record {
-      new = with_arrived x is.new;
-      cur = is.cur;
-      past = is.past;
-      all_turned = is.all_turned;
-      stands = rw fixed.matches (open-placed s _ _ _ _ _ _ _ m.store.tuples o.store.tuples x _ is.cur is.past
-          (open-tup s t lists waiting (flag_at o.turned) (flag_at m.ended)
-          is.all_turned o.partner_ended m.store.tuples o.store.tuples is.new is.cur is.past p x low going has
-          (omega arith) is.stands));
-      epoch = is.epoch;
-      shift = is.shift;
-      step_epoch = is.step_epoch;
-      step_shift = is.step_shift;
-      ended_count = is.ended_count;
-      moved = is.moved;
-      count = is.count;
-      missing = is.missing;
-      all = is.all;
-    }
+  open-new : (o : OpenStep) (x : Tuple) (p : ℕ) → IsMachineOf s m → p < s.feeders → flag_at m.ended p ≡ false
+      → flag_at o.turned p ≡ true → x.stamp ≡ o.epoch → IsOpen s t lists waiting m o
+      → IsOpen s (took_of_feeder p (Tup x) t) lists (waiting ++ probed (does_hold m.theta) all_tuples x o.store.tuples)
+      (record m { step = Some (with_new o x) }) (with_new o x)
+  open-new o x p fixed low going has stamp is =
+      let at = is.step_epoch in
+      record {
+        new = with_arrived x is.new;
+        cur = is.cur;
+        past = is.past;
+        all_turned = is.all_turned;
+        stands = rw fixed.matches (open-placed s _ _ _ _ _ _ _ m.store.tuples o.store.tuples x _ is.cur is.past
+            (open-tup s t lists waiting (flag_at o.turned) (flag_at m.ended)
+            is.all_turned o.partner_ended m.store.tuples o.store.tuples is.new is.cur is.past p x low going has
+            (omega arith) is.stands));
+        epoch = is.epoch;
+        shift = is.shift;
+        step_epoch = is.step_epoch;
+        step_shift = is.step_shift;
+        ended_count = is.ended_count;
+        moved = is.moved;
+        count = is.count;
+        missing = is.missing;
+        all = is.all;
+      }
 
-new-by : (s : JoinerStart) (t : Taken) (lists : JoinerLists) (waiting : List Pair) (m : EpochState) (x : Tuple) (p : ℕ)
-    → IsMachineOf s m → p < s.feeders → flag_at m.ended p ≡ false
-    → (step : Option OpenStep) → turned_in step p ≡ true → TupFits m p x.stamp step → StandsBy s t lists waiting m step
-    → StandsBy s (took_of_feeder p (Tup x) t) lists (waiting ++ new_found m x step)
-    (record m { step = step_new x step }) (step_new x step)
-new-by s t lists waiting m x p fixed low going None has fits is = absurd (false≢true has)
-new-by s t lists waiting m x p fixed low going (Some o) has fits is =
-    open-new s t lists waiting m o x p fixed low going has (fits.1 has) is
+  new-by : (x : Tuple) (p : ℕ) → IsMachineOf s m → p < s.feeders → flag_at m.ended p ≡ false → (step : Option OpenStep)
+      → turned_in step p ≡ true → TupFits m p x.stamp step → StandsBy s t lists waiting m step
+      → StandsBy s (took_of_feeder p (Tup x) t) lists (waiting ++ new_found m x step)
+      (record m { step = step_new x step }) (step_new x step)
+  new-by x p fixed low going None has fits is = absurd (false≢true has)
+  new-by x p fixed low going (Some o) has fits is =
+      open-new o x p fixed low going has (fits.1 has) is
 
--- where a tuple comes of a feeder that has turned in the open step, the machine stands with it taken and stored there,
--- and with the pairs that it makes waiting
-pub stands-new : (s : JoinerStart) (t : Taken) (lists : JoinerLists) (waiting : List Pair) (m : EpochState) (x : Tuple)
-    (p : ℕ) → p < s.feeders → CanTakeTup m p x.stamp → turned_in m.step p ≡ true
-    → Stands s t lists waiting m → Stands s (took_of_feeder p (Tup x) t) lists (waiting ++ found_new m x)
-    (after_new m x)
-stands-new s t lists waiting m x p low can has is =
-    let fixed = is.fixed in
-    record {
-      fixed = record {
-        k = fixed.k;
-        id = fixed.id;
-        feeders = fixed.feeders;
-        matches = fixed.matches;
-        small = fixed.small;
-      };
-      now = new-by s t lists waiting m x p fixed low can.going m.step has can.fits is.now;
-    }
+  -- where a tuple comes of a feeder that has turned in the open step, the machine stands with it taken and stored
+  -- there, and with the pairs that it makes waiting
+  pub stands-new : (x : Tuple) (p : ℕ) → p < s.feeders → CanTakeTup m p x.stamp → turned_in m.step p ≡ true
+      → Stands s t lists waiting m
+      → Stands s (took_of_feeder p (Tup x) t) lists (waiting ++ found_new m x) (after_new m x)
+  stands-new x p low can has is =
+      let fixed = is.fixed in
+      record {
+        fixed = record {
+          k = fixed.k;
+          id = fixed.id;
+          feeders = fixed.feeders;
+          matches = fixed.matches;
+          small = fixed.small;
+        };
+        now = new-by x p fixed low can.going m.step has can.fits is.now;
+      }
 
 fits-old : (m : EpochState) (p stamp : ℕ) (step : Option OpenStep) → turned_in step p ≡ false → TupFits m p stamp step
     → stamp ≡ m.epoch
@@ -263,63 +244,63 @@ new-within m x within row = record {
   step_stock = stock-new m.theta x m.step within.step_stock row;
 }
 
--- a row that can be taken, of a feeder that hasn't turned in an open step, was taken where it is stored, perhaps kept
--- in the open step too and sent to the partner, and its pairs wait
-pub took-old : (m m' : EpochState) (x : Tuple) (p : ℕ) (found found' : List Pair) (before after : List Post)
-    → IsWithin m → CanTakeTup m p x.stamp → IsRow m.theta x → turned_in m.step p ≡ false
-    → m' ≡ after_old m x → found' ≡ found ++ found_old m x → after ≡ before ++ posts_old m x
-    → TookOfFeeder p (Tup x) m m' found found' before after
-took-old m m' x p found found' before after within can row still state more posts = rw (state, more, posts) (record {
-  added = posts_old m x;
-  sends = refl;
-  quiet = quiet-late m x m.step;
-  own = own-late m x m.step within.id within.shift within.step row;
-  within = record {
-    small = within.small;
-    shift = within.shift;
-    step = within-old m.k m.shift m x m.step within.step;
-    ended = within.ended;
-    count = count-old m.feeders m x m.step within.count;
-    begun = begun-old m.feeders m x m.step within.begun;
-    rests = rests-old m x m.step within.rests;
-    id = within.id;
-    stock = stock-placed m.theta x m.store within.stock row;
-    step_stock = stock-old m.theta m x m.step within.step_stock row;
-  };
-  k = refl;
-  id = refl;
-  feeders = refl;
-  theta = refl;
-  going = can.going;
-  stands = λ s t lists low is. (
-    took_of_feeder p (Tup x) t,
-    record { from_feeder = refl; from_joiner = refl },
-    stands-old s t lists found m x p low can.going still (fits-old m p x.stamp m.step still can.fits) is,
-  );
-  does = does-old m p x found before still;
-})
+module _ (m m' : EpochState) (x : Tuple) (p : ℕ) (found found' : List Pair) (before after : List Post) where
+  -- a row that can be taken, of a feeder that hasn't turned in an open step, was taken where it is stored, perhaps kept
+  -- in the open step too and sent to the partner, and its pairs wait
+  pub took-old : IsWithin m → CanTakeTup m p x.stamp → IsRow m.theta x → turned_in m.step p ≡ false → m' ≡ after_old m x
+      → found' ≡ found ++ found_old m x → after ≡ before ++ posts_old m x
+      → TookOfFeeder p (Tup x) m m' found found' before after
+  took-old within can row still state more posts = rw (state, more, posts) (record {
+    added = posts_old m x;
+    sends = refl;
+    quiet = quiet-late m x m.step;
+    own = own-late m x m.step within.id within.shift within.step row;
+    within = record {
+      small = within.small;
+      shift = within.shift;
+      step = within-old m.k m.shift m x m.step within.step;
+      ended = within.ended;
+      count = count-old m.feeders m x m.step within.count;
+      begun = begun-old m.feeders m x m.step within.begun;
+      rests = rests-old m x m.step within.rests;
+      id = within.id;
+      stock = stock-placed m.theta x m.store within.stock row;
+      step_stock = stock-old m.theta m x m.step within.step_stock row;
+    };
+    k = refl;
+    id = refl;
+    feeders = refl;
+    theta = refl;
+    going = can.going;
+    stands = λ s t lists low is. (
+      took_of_feeder p (Tup x) t,
+      record { from_feeder = refl; from_joiner = refl },
+      stands-old s t lists found m x p low can.going still (fits-old m p x.stamp m.step still can.fits) is,
+    );
+    does = does-old m p x found before still;
+  })
 
--- a row that can be taken, of a feeder that has turned in the open step, was taken where it is stored there and its
--- pairs wait, and nothing is sent
-pub took-new : (m m' : EpochState) (x : Tuple) (p : ℕ) (found found' : List Pair) (before : List Post) → IsWithin m
-    → CanTakeTup m p x.stamp → IsRow m.theta x → turned_in m.step p ≡ true
-    → m' ≡ after_new m x → found' ≡ found ++ found_new m x → TookOfFeeder p (Tup x) m m' found found' before before
-took-new m m' x p found found' before within can row has state more = rw (state, more) (record {
-  added = [];
-  sends = sym (append-nil before);
-  quiet = refl;
-  own = own-none m;
-  within = new-within m x within row;
-  k = refl;
-  id = refl;
-  feeders = refl;
-  theta = refl;
-  going = can.going;
-  stands = λ s t lists low is. (
-    took_of_feeder p (Tup x) t,
-    record { from_feeder = refl; from_joiner = refl },
-    subst (λ (ls : JoinerLists). Stands s (took_of_feeder p (Tup x) t) ls (found ++ found_new m x)
-        (after_new m x)) (sym (with_sent-none lists)) (stands-new s t lists found m x p low can has is),
-  );
-  does = does-new m p x found before has;
-})
+module _ (m m' : EpochState) (x : Tuple) (p : ℕ) (found found' : List Pair) (before : List Post) where
+  -- a row that can be taken, of a feeder that has turned in the open step, was taken where it is stored there and its
+  -- pairs wait, and nothing is sent
+  pub took-new : IsWithin m → CanTakeTup m p x.stamp → IsRow m.theta x → turned_in m.step p ≡ true → m' ≡ after_new m x
+      → found' ≡ found ++ found_new m x → TookOfFeeder p (Tup x) m m' found found' before before
+  took-new within can row has state more = rw (state, more) (record {
+    added = [];
+    sends = sym (append-nil before);
+    quiet = refl;
+    own = own-none m;
+    within = new-within m x within row;
+    k = refl;
+    id = refl;
+    feeders = refl;
+    theta = refl;
+    going = can.going;
+    stands = λ s t lists low is. (
+      took_of_feeder p (Tup x) t,
+      record { from_feeder = refl; from_joiner = refl },
+      subst (λ (ls : JoinerLists). Stands s (took_of_feeder p (Tup x) t) ls (found ++ found_new m x)
+          (after_new m x)) (sym (with_sent-none lists)) (stands-new s t lists found m x p low can has is),
+    );
+    does = does-new m p x found before has;
+  })

@@ -32,73 +32,73 @@ use Rattle.joiner_core.proofs.SettledSteps.{stands-settled, settled-within, sett
 use Rattle.joiner_core.proofs.SettledSteps.{settled-theta}
 use Rattle.joiner_core.proofs.Outcomes.{does-turn}
 
-by_last : (s : JoinerStart) (t : Taken) (lists : JoinerLists) (waiting : List Pair) (turned ended : ℕ
-    → Bool) (part_ended : Bool) (a b : List Tuple) (new cur : Step) (past : List Step) (last : Bool)
-    → StandsOpen s t lists waiting turned ended false part_ended a b new cur past
-    → StandsOpen s t (with_sent lists (cond last (moved_end_post (partner_in_step cur.shift new.shift s.id)
-    (s.epoch + length past + 1) ∷ []) [])) waiting turned ended last part_ended a b new cur past
-by_last s t lists waiting turned ended part_ended a b new cur past true is =
-    all-turned s t lists waiting turned ended part_ended a b new cur past is
-by_last s t lists waiting turned ended part_ended a b new cur past false is =
-    subst (λ (ls : JoinerLists). StandsOpen s t ls waiting turned ended false part_ended a b new cur past)
-    (sym (with_sent-none lists)) is
+module _ (s : JoinerStart) (t : Taken) (lists : JoinerLists) (waiting : List Pair) (turned ended : ℕ → Bool)
+    (part_ended : Bool) (a b : List Tuple) (new cur : Step) (past : List Step) where
+  by_last : (last : Bool) → StandsOpen s t lists waiting turned ended false part_ended a b new cur past
+      → StandsOpen s t (with_sent lists (cond last (moved_end_post (partner_in_step cur.shift new.shift s.id) (s.epoch +
+      length past + 1) ∷ []) [])) waiting turned ended last part_ended a b new cur past
+  by_last true is =
+      all-turned s t lists waiting turned ended part_ended a b new cur past is
+  by_last false is =
+      subst (λ (ls : JoinerLists). StandsOpen s t ls waiting turned ended false part_ended a b new cur past)
+      (sym (with_sent-none lists)) is
 
-open-turned : (s : JoinerStart) (t : Taken) (lists : JoinerLists) (waiting : List Pair) (m : EpochState)
-    (o o' : OpenStep) (p epoch shift : ℕ) (last : Bool) → IsMachineOf s m → p < s.feeders → flag_at m.ended p ≡ false
-    → flag_at o.turned p ≡ false
-    → epoch ≡ o.epoch → shift ≡ o.shift → o'.turned ≡ slice_set o.turned p true → (last ≡ true → IsEachUp o'.turned)
-    → (last ≡ false → IsEachUp o'.turned → ⊥)
-    → IsOpen s t lists waiting m o
-    → IsOpen s (took_of_feeder p (Turn epoch shift) t) (with_sent lists
-    (cond last (moved_end_post (partner_in_step m.shift o.shift m.id) o.epoch ∷ []) [])) waiting
-    (record m { step = Some (record o { turned = o'.turned }) }) (record o { turned = o'.turned })
-open-turned s t lists waiting m o o' p epoch shift last fixed low going still now same flags up down is =
-    let not_all : is.all_turned ≡ false = false_from_ne_true is.all_turned
-    (λ all. false≢true (sym still ∙ is.all all p low)) in
-    let before : StandsOpen s t lists waiting (flag_at o.turned) (flag_at m.ended)
-    false o.partner_ended m.store.tuples o.store.tuples is.new is.cur is.past = rw not_all at is.stands in
-    let within : p < length o.turned = let n = is.count in omega arith in
-    let turned = open-turn s t lists waiting (flag_at o.turned) (flag_at m.ended)
-    o.partner_ended m.store.tuples o.store.tuples is.new is.cur is.past p epoch shift low going still
-    (now ∙ is.step_epoch) (same ∙ is.step_shift) before in
-    let known : StandsOpen s (took_of_feeder p (Turn epoch shift) t) lists waiting (flag_at o'.turned) (flag_at m.ended)
-    false o.partner_ended m.store.tuples o.store.tuples is.new is.cur is.past =
-    same-flags s (took_of_feeder p (Turn epoch shift) t) lists waiting _ (flag_at o'.turned)
-    _ false o.partner_ended m.store.tuples o.store.tuples is.new is.cur is.past
-    (λ q. flag-set o.turned p q within ∙ ap (λ fs. flag_at fs q) (sym flags)) turned in
-    let many : length o'.turned ≡ s.feeders = ap length flags ∙ length-set o.turned p true ∙ is.count in
-    record {
-      new = is.new;
-      cur = is.cur;
-      past = is.past;
-      all_turned = last;
-      stands = rw (fixed.id, is.shift, is.step_shift, is.step_epoch)
-          (by_last s (took_of_feeder p (Turn epoch shift) t) lists waiting (flag_at o'.turned) (flag_at m.ended)
-          o.partner_ended m.store.tuples o.store.tuples is.new is.cur is.past last known);
-      epoch = is.epoch;
-      shift = is.shift;
-      step_epoch = is.step_epoch;
-      step_shift = is.step_shift;
-      ended_count = is.ended_count;
-      moved = is.moved;
-      count = many;
-      missing = λ never each. down never (λ q less. each q (omega arith));
-      all = λ all q less. up all q (omega arith);
-    }
+module _ (s : JoinerStart) (t : Taken) (lists : JoinerLists) (waiting : List Pair) (m : EpochState)
+    (p epoch shift : ℕ) (last : Bool) (fixed : IsMachineOf s m) (low : p < s.feeders)
+    (going : flag_at m.ended p ≡ false) where
+  open-turned : (o o' : OpenStep) → flag_at o.turned p ≡ false → epoch ≡ o.epoch → shift ≡ o.shift
+      → o'.turned ≡ slice_set o.turned p true → (last ≡ true → IsEachUp o'.turned)
+      → (last ≡ false → IsEachUp o'.turned → ⊥) → IsOpen s t lists waiting m o
+      → IsOpen s (took_of_feeder p (Turn epoch shift) t) (with_sent lists
+      (cond last (moved_end_post (partner_in_step m.shift o.shift m.id) o.epoch ∷ []) [])) waiting
+      (record m { step = Some (record o { turned = o'.turned }) })
+      (record o { turned = o'.turned })
+  open-turned o o' still now same flags up down is =
+      let not_all : is.all_turned ≡ false = false_from_ne_true is.all_turned
+      (λ all. false≢true (sym still ∙ is.all all p low)) in
+      let before : StandsOpen s t lists waiting (flag_at o.turned) (flag_at m.ended)
+      false o.partner_ended m.store.tuples o.store.tuples is.new is.cur is.past = rw not_all at is.stands in
+      let within : p < length o.turned = let n = is.count in omega arith in
+      let turned = open-turn s t lists waiting (flag_at o.turned) (flag_at m.ended)
+      o.partner_ended m.store.tuples o.store.tuples is.new is.cur is.past p epoch shift low going still
+      (now ∙ is.step_epoch) (same ∙ is.step_shift) before in
+      let known : StandsOpen s (took_of_feeder p (Turn epoch shift) t) lists waiting (flag_at o'.turned)
+      (flag_at m.ended)
+      false o.partner_ended m.store.tuples o.store.tuples is.new is.cur is.past =
+      same-flags s (took_of_feeder p (Turn epoch shift) t) lists waiting _ (flag_at o'.turned)
+      _ false o.partner_ended m.store.tuples o.store.tuples is.new is.cur is.past
+      (λ q. flag-set o.turned p q within ∙ ap (λ fs. flag_at fs q) (sym flags)) turned in
+      let many : length o'.turned ≡ s.feeders = ap length flags ∙ length-set o.turned p true ∙ is.count in
+      record {
+        new = is.new;
+        cur = is.cur;
+        past = is.past;
+        all_turned = last;
+        stands = rw (fixed.id, is.shift, is.step_shift, is.step_epoch)
+            (by_last s (took_of_feeder p (Turn epoch shift) t) lists waiting (flag_at o'.turned) (flag_at m.ended)
+            o.partner_ended m.store.tuples o.store.tuples is.new is.cur is.past last known);
+        epoch = is.epoch;
+        shift = is.shift;
+        step_epoch = is.step_epoch;
+        step_shift = is.step_shift;
+        ended_count = is.ended_count;
+        moved = is.moved;
+        count = many;
+        missing = λ never each. down never (λ q less. each q (omega arith));
+        all = λ all q less. up all q (omega arith);
+      }
 
-turned-by : (s : JoinerStart) (t : Taken) (lists : JoinerLists) (waiting : List Pair) (m : EpochState)
-    (p epoch shift : ℕ) (last : Bool) → IsMachineOf s m → p < s.feeders → flag_at m.ended p ≡ false
-    → (step step' : Option OpenStep) → IsSomeTurn p epoch shift step → HasTurned p step step'
-    → (last ≡ true → AreAllUp step') → (last ≡ false → AreAllUp step' → ⊥) → StandsBy s t lists waiting m step
-    → StandsBy s (took_of_feeder p (Turn epoch shift) t) (with_sent lists (cond last (end_posts m step) [])) waiting
-    (record m { step = step' }) step'
-turned-by s t lists waiting m p epoch shift last fixed low going None step' fits has up down is = absurd fits
-turned-by s t lists waiting m p epoch shift last fixed low going (Some o) None fits has up down is = absurd has
-turned-by s t lists waiting m p epoch shift last fixed low going (Some o) (Some o') fits has up down is =
-    subst (λ (z : OpenStep). IsOpen s (took_of_feeder p (Turn epoch shift) t)
-    (with_sent lists (cond last (moved_end_post (partner_in_step m.shift o.shift m.id) o.epoch ∷ []) [])) waiting
-    (record m { step = Some z }) z) (sym has.0)
-    (open-turned s t lists waiting m o o' p epoch shift last fixed low going fits.0 fits.1 fits.2 has.1 up down is)
+  turned-by : (step step' : Option OpenStep) → IsSomeTurn p epoch shift step → HasTurned p step step'
+      → (last ≡ true → AreAllUp step') → (last ≡ false → AreAllUp step' → ⊥) → StandsBy s t lists waiting m step
+      → StandsBy s (took_of_feeder p (Turn epoch shift) t) (with_sent lists (cond last (end_posts m step) [])) waiting
+      (record m { step = step' }) step'
+  turned-by None step' fits has up down is = absurd fits
+  turned-by (Some o) None fits has up down is = absurd has
+  turned-by (Some o) (Some o') fits has up down is =
+      subst (λ (z : OpenStep). IsOpen s (took_of_feeder p (Turn epoch shift) t)
+      (with_sent lists (cond last (moved_end_post (partner_in_step m.shift o.shift m.id) o.epoch ∷ []) [])) waiting
+      (record m { step = Some z }) z) (sym has.0)
+      (open-turned o o' fits.0 fits.1 fits.2 has.1 up down is)
 
 turned-within : (k shift p : ℕ) (step step' : Option OpenStep) → HasTurned p step step' → IsStepWithin k shift step
     → IsStepWithin k shift step'

@@ -206,54 +206,53 @@ not-now : (now : Bool) (b : Bool) → (now ≡ true → b ≡ false) → b ≡ t
 not-now true b first was = absurd (false≢true (sym (first refl) ∙ was))
 not-now false b first was = refl
 
-collects-more : (s : JoinerStart) (lists lists' : JoinerLists) (old b new : MachineState) (w : List Pair) (now : Bool)
-    → Collects s lists old
-    → lists'.to_collector ≡ lists.to_collector ++ (map Found (founds_of w) ++ fins_if now b)
-    → received_count s lists' ≡ received_count s lists + 1 → b.told ≡ old.told → new.epochs ≡ b.epochs
-    → (IsResting old.epochs → (b.epochs ≡ old.epochs) × (w ≡ []))
-    → (now ≡ true → (b.told ≡ false) × HasFinished b × (new.told ≡ true)) → (now ≡ false → new.told ≡ b.told)
-    → (HasFinished new → new.told ≡ true)
-    → (told : Bool) → old.told ≡ told → Collects s lists' new
-collects-more s lists lists' old b new w now was is more keeps same rests first other finishes false low =
-    let none = was.untold low in
-    let few = was.few in
-    let one = one_at_most w in
-    record {
-      founds = was.founds ++ founds_of w;
-      last = fins_if now b;
-      to_collector = is
-          ∙ ap (λ zs. zs ++ (map Found (founds_of w) ++ fins_if now b))
-          (was.to_collector ∙ ap (λ zs. map Found was.founds ++ zs) none ∙ append-nil (map Found was.founds))
-          ∙ sym (append_assoc (map Found was.founds) (map Found (founds_of w)) (fins_if now b))
-          ∙ ap (λ zs. zs ++ fins_if now b) (sym (map-append Found was.founds (founds_of w)));
-      none_empty = all-append _ was.founds (founds_of w) was.none_empty (not_empty w);
-      few = let size = length-append was.founds (founds_of w) in omega arith;
-      untold = untold-by now b new (λ yes. (first yes).2);
-      told = told-by now b new (keeps ∙ low) same (λ yes. (first yes).1) other;
-      finishes = finishes;
-    }
-collects-more s lists lists' old b new w now was is more keeps same rests first other finishes true high =
-    let before = was.told high in
-    let quiet = rests before.1 in
-    let still : now ≡ false = not-now now b.told (λ on. (first on).0) (keeps ∙ high) in
-    let nothing : map Found (founds_of w) ++ fins_if now b ≡ [] =
-    ap (λ ps. map Found (founds_of ps) ++ fins_if now b) quiet.1 ∙ ap (λ t. fins_if t b) still in
-    let epochs : old.epochs ≡ new.epochs = sym (same ∙ quiet.0) in
-    let few = was.few in
-    record {
-      founds = was.founds;
-      last = was.last;
-      to_collector = is ∙ ap (λ zs. lists.to_collector ++ zs) nothing ∙ append-nil lists.to_collector
-          ∙ was.to_collector;
-      none_empty = was.none_empty;
-      few = omega arith;
-      untold = λ no. absurd (false≢true (sym no ∙ other still ∙ keeps ∙ high));
-      told = λ has. (
-        before.0 ∙ ap (λ (z : EpochState). fin_of z ∷ []) epochs,
-        subst (λ (z : EpochState). IsResting z) epochs before.1,
-      );
-      finishes = finishes;
-    }
+module _ (s : JoinerStart) (lists lists' : JoinerLists) (old b new : MachineState) (w : List Pair) (now : Bool)
+    (was : Collects s lists old)
+    (is : lists'.to_collector ≡ lists.to_collector ++ (map Found (founds_of w) ++ fins_if now b))
+    (more : received_count s lists' ≡ received_count s lists + 1) (keeps : b.told ≡ old.told) where
+  collects-more : new.epochs ≡ b.epochs → (IsResting old.epochs → (b.epochs ≡ old.epochs) × (w ≡ []))
+      → (now ≡ true → (b.told ≡ false) × HasFinished b × (new.told ≡ true)) → (now ≡ false → new.told ≡ b.told)
+      → (HasFinished new → new.told ≡ true) → (told : Bool) → old.told ≡ told → Collects s lists' new
+  collects-more same rests first other finishes false low =
+      let none = was.untold low in
+      let few = was.few in
+      let one = one_at_most w in
+      record {
+        founds = was.founds ++ founds_of w;
+        last = fins_if now b;
+        to_collector = is
+            ∙ ap (λ zs. zs ++ (map Found (founds_of w) ++ fins_if now b))
+            (was.to_collector ∙ ap (λ zs. map Found was.founds ++ zs) none ∙ append-nil (map Found was.founds))
+            ∙ sym (append_assoc (map Found was.founds) (map Found (founds_of w)) (fins_if now b))
+            ∙ ap (λ zs. zs ++ fins_if now b) (sym (map-append Found was.founds (founds_of w)));
+        none_empty = all-append _ was.founds (founds_of w) was.none_empty (not_empty w);
+        few = let size = length-append was.founds (founds_of w) in omega arith;
+        untold = untold-by now b new (λ yes. (first yes).2);
+        told = told-by now b new (keeps ∙ low) same (λ yes. (first yes).1) other;
+        finishes = finishes;
+      }
+  collects-more same rests first other finishes true high =
+      let before = was.told high in
+      let quiet = rests before.1 in
+      let still : now ≡ false = not-now now b.told (λ on. (first on).0) (keeps ∙ high) in
+      let nothing : map Found (founds_of w) ++ fins_if now b ≡ [] =
+      ap (λ ps. map Found (founds_of ps) ++ fins_if now b) quiet.1 ∙ ap (λ t. fins_if t b) still in
+      let epochs : old.epochs ≡ new.epochs = sym (same ∙ quiet.0) in
+      let few = was.few in
+      record {
+        founds = was.founds;
+        last = was.last;
+        to_collector = is ∙ ap (λ zs. lists.to_collector ++ zs) nothing ∙ append-nil lists.to_collector
+            ∙ was.to_collector;
+        none_empty = was.none_empty;
+        few = omega arith;
+        untold = λ no. absurd (false≢true (sym no ∙ other still ∙ keeps ∙ high));
+        told = λ has. (
+          before.0 ∙ ap (λ (z : EpochState). fin_of z ∷ []) epochs,
+          subst (λ (z : EpochState). IsResting z) epochs before.1,
+        );
+        finishes = finishes;
+      }
 
 -- one message more was received
 received-more : (s : JoinerStart) (from : Actor) (m : ToJoiner) (lists : JoinerLists) (posts : List Post)

@@ -163,58 +163,57 @@ closed-count s t lists w m some is =
     let above = greatest_above s.feeders (λ p. turns (t.from_feeder p)) 0 some in
     same-number _ _ (closed-few s t lists w m is) (omega arith)
 
-law-by : (s : JoinerStart) (t : Taken) (lists : JoinerLists) (m : EpochState) (done : ℕ) → IsStart s
-    → m.epoch ≡ s.epoch + done
-    → ((p : ℕ) → p < s.feeders → IsTakenOf (CanTakeOfFeeder s t done p) (t.from_feeder p) (lists.from_feeder p))
-    → ((q : ℕ) → q < 2 ^ s.k → IsTakenOf (CanTakeOfJoiner s t done q) (t.from_joiner q) (lists.from_joiner q))
-    → IsTold s lists t
-    → (step : Option OpenStep) → HasSomeTurn s.feeders step → (IsReady step → ⊥) → StandsBy s t lists [] m step
-    → JoinerLaw s lists t
-law-by s t lists m done start epoch feeders joiners told None begun rests is =
-    let at = is.epoch in
-    let some = start.some in
-    let same : length is.past ≡ done = omega arith in
-    let count = closed-count s t lists [] m some is in
-    let first = (is.stands.steps.feeders 0 some).turns in
-    let st = is.stands in
-    let turned : (n : ℕ) → n < length is.past → AllTurned s t n =
-    λ n less p low. let many = (st.steps.feeders p low).turns in omega arith in
-    subst (λ (n : ℕ). ((p : ℕ) → p < s.feeders → IsTakenOf (CanTakeOfFeeder s t n p) (t.from_feeder p)
-    (lists.from_feeder p))
-    → ((q : ℕ) → q < 2 ^ s.k → IsTakenOf (CanTakeOfJoiner s t n q) (t.from_joiner q) (lists.from_joiner q))
-    → JoinerLaw s lists t) same
-    (λ fs js. law s t lists (length is.past) _ _ _ _ is.cur is.past start fs js st.steps count (omega arith)
-    (λ n less. (turned n less, parts-at s t (is.cur ∷ is.past) n st.steps.parts (omega arith)))
-    (λ is_settled. let more = is_settled.0 0 some in absurd (omega arith))
-    _ _ st.links (λ n less. turned n (omega arith)) (λ n last all. turned n (omega arith)) (λ n last all. refl) told)
-    feeders joiners
-law-by s t lists m done start epoch feeders joiners told (Some o) begun rests is =
-    let at = is.epoch in
-    let same : length is.past ≡ done = omega arith in
-    let less_than = open-begun s t lists [] m o begun is in
-    let st = is.stands in
-    let most_turns : opened s t ≤ length is.past + 1 = greatest_most s.feeders (length is.past + 1)
-    (λ p. turns (t.from_feeder p)) (λ p low. at-most _ _ _ (st.steps.feeders p low).turns) in
-    let turned : (n : ℕ) → n < length is.past → AllTurned s t n =
-    λ n less p low. let many = at-least _ _ _ (st.steps.feeders p low).turns in omega arith in
-    subst (λ (n : ℕ). ((p : ℕ) → p < s.feeders → IsTakenOf (CanTakeOfFeeder s t n p) (t.from_feeder p)
-    (lists.from_feeder p))
-    → ((q : ℕ) → q < 2 ^ s.k → IsTakenOf (CanTakeOfJoiner s t n q) (t.from_joiner q) (lists.from_joiner q))
-    → JoinerLaw s lists t) same
-    (λ fs js. law s t lists (length is.past) _ _ _ _ is.new (is.cur ∷ is.past) start fs js st.steps
-    (same-number _ _ (omega arith) (omega arith)) most_turns
-    (λ n less. (turned n less, parts-at s t (is.cur ∷ is.past) n st.steps.parts.1 (omega arith)))
-    (λ is_settled. rests (
-      some-up _ _ st.steps.parts.0 is_settled.1,
-      λ p less. let n = is.count in let low : p < s.feeders = omega arith in
-          more-up _ _ _ (st.steps.feeders p low).turns (is_settled.0 p low),
-    ))
-    _ _ st.links (λ n less. turned n (omega arith))
-    (λ n last all p low. let up = up-turns _ _ _ (st.steps.feeders p low).turns (is.all all p low) in omega arith)
-    (λ n last all. cases-true is.all_turned (λ never. is.missing never (λ p low. let more = all p low in
-    more-up _ _ _ (st.steps.feeders p low).turns (omega arith))))
-    told)
-    feeders joiners
+module _ (s : JoinerStart) (t : Taken) (lists : JoinerLists) (m : EpochState) (done : ℕ) (start : IsStart s)
+    (epoch : m.epoch ≡ s.epoch + done) where
+  law-by : ((p : ℕ) → p < s.feeders → IsTakenOf (CanTakeOfFeeder s t done p) (t.from_feeder p) (lists.from_feeder p))
+      → ((q : ℕ) → q < 2 ^ s.k → IsTakenOf (CanTakeOfJoiner s t done q) (t.from_joiner q) (lists.from_joiner q))
+      → IsTold s lists t → (step : Option OpenStep) → HasSomeTurn s.feeders step → (IsReady step → ⊥)
+      → StandsBy s t lists [] m step → JoinerLaw s lists t
+  law-by feeders joiners told None begun rests is =
+      let at = is.epoch in
+      let some = start.some in
+      let same : length is.past ≡ done = omega arith in
+      let count = closed-count s t lists [] m some is in
+      let first = (is.stands.steps.feeders 0 some).turns in
+      let st = is.stands in
+      let turned : (n : ℕ) → n < length is.past → AllTurned s t n =
+      λ n less p low. let many = (st.steps.feeders p low).turns in omega arith in
+      subst (λ (n : ℕ). ((p : ℕ) → p < s.feeders → IsTakenOf (CanTakeOfFeeder s t n p) (t.from_feeder p)
+      (lists.from_feeder p))
+      → ((q : ℕ) → q < 2 ^ s.k → IsTakenOf (CanTakeOfJoiner s t n q) (t.from_joiner q) (lists.from_joiner q))
+      → JoinerLaw s lists t) same
+      (λ fs js. law s t lists (length is.past) _ _ _ _ is.cur is.past start fs js st.steps count (omega arith)
+      (λ n less. (turned n less, parts-at s t (is.cur ∷ is.past) n st.steps.parts (omega arith)))
+      (λ is_settled. let more = is_settled.0 0 some in absurd (omega arith))
+      _ _ st.links (λ n less. turned n (omega arith)) (λ n last all. turned n (omega arith)) (λ n last all. refl) told)
+      feeders joiners
+  law-by feeders joiners told (Some o) begun rests is =
+      let at = is.epoch in
+      let same : length is.past ≡ done = omega arith in
+      let less_than = open-begun s t lists [] m o begun is in
+      let st = is.stands in
+      let most_turns : opened s t ≤ length is.past + 1 = greatest_most s.feeders (length is.past + 1)
+      (λ p. turns (t.from_feeder p)) (λ p low. at-most _ _ _ (st.steps.feeders p low).turns) in
+      let turned : (n : ℕ) → n < length is.past → AllTurned s t n =
+      λ n less p low. let many = at-least _ _ _ (st.steps.feeders p low).turns in omega arith in
+      subst (λ (n : ℕ). ((p : ℕ) → p < s.feeders → IsTakenOf (CanTakeOfFeeder s t n p) (t.from_feeder p)
+      (lists.from_feeder p))
+      → ((q : ℕ) → q < 2 ^ s.k → IsTakenOf (CanTakeOfJoiner s t n q) (t.from_joiner q) (lists.from_joiner q))
+      → JoinerLaw s lists t) same
+      (λ fs js. law s t lists (length is.past) _ _ _ _ is.new (is.cur ∷ is.past) start fs js st.steps
+      (same-number _ _ (omega arith) (omega arith)) most_turns
+      (λ n less. (turned n less, parts-at s t (is.cur ∷ is.past) n st.steps.parts.1 (omega arith)))
+      (λ is_settled. rests (
+        some-up _ _ st.steps.parts.0 is_settled.1,
+        λ p less. let n = is.count in let low : p < s.feeders = omega arith in
+            more-up _ _ _ (st.steps.feeders p low).turns (is_settled.0 p low),
+      ))
+      _ _ st.links (λ n less. turned n (omega arith))
+      (λ n last all p low. let up = up-turns _ _ _ (st.steps.feeders p low).turns (is.all all p low) in omega arith)
+      (λ n last all. cases-true is.all_turned (λ never. is.missing never (λ p low. let more = all p low in
+      more-up _ _ _ (st.steps.feeders p low).turns (omega arith))))
+      told)
+      feeders joiners
 
 -- ---- the last message
 
