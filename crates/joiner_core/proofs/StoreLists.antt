@@ -14,8 +14,8 @@ use Rattle.theta_pred.specs.declared.atom.KeyAtom.{KeyAtom}
 use Rattle.theta_pred.specs.Formula.{Meaning}
 use Rattle.theta_pred.specs.Keys.{Atom}
 use Rattle.theta_pred.specs.Truth.{holds as is_true}
-use Rattle.store_parts.specs.declared.which.Which.{Which}
-use Rattle.store_parts.specs.declared.which.Which.TheVariants.{All as All', OnlyStamp}
+use Rattle.store_parts.specs.declared.by_stamp.Which.{Which}
+use Rattle.store_parts.specs.declared.by_stamp.Which.TheVariants.{All as All', OnlyStamp}
 use Rattle.store_parts.specs.Keyed.{IsOwn}
 use Rattle.store_parts.specs.Matches.{is_named, matches, HasWidth}
 use Rattle.store_parts.specs.Stored.{Stored, side_of, others_of, with_tuple_at, with_tuple, kept_of, AreSided}

@@ -3,8 +3,8 @@ use Rattle.std.specs.Prelude.{Bool, ◌≡◌, ℕ, ◌<◌, ◌^◌, bit_xor, L
 use Rattle.epoch_tags.specs.declared.tuple.Tuple.{Tuple}
 use Rattle.theta_pred.specs.Formula.{Meaning}
 use Rattle.theta_pred.specs.Truth.{holds as is_true}
-use Rattle.store_parts.specs.declared.which.Which.{Which}
-use Rattle.store_parts.specs.declared.which.Which.TheVariants.{All as All', OnlyStamp}
+use Rattle.store_parts.specs.declared.by_stamp.Which.{Which}
+use Rattle.store_parts.specs.declared.by_stamp.Which.TheVariants.{All as All', OnlyStamp}
 use Rattle.joiner_law.specs.History.{all_tuples, only_stamp}
 use Rattle.epoch_tags.specs.declared.message.ToJoiner.{ToJoiner}
 use Rattle.join_rows.specs.declared.table.Side.TheVariants.{R, S}

@@ -19,7 +19,7 @@ use Rattle.theta_pred.proofs.KeyMembers.{and_left}
 use Rattle.store_parts.specs.Accessed.{asked, is_admitted_at, is_admitted, number_at}
 use Rattle.store_parts.specs.Indexed.{indexed_at, numbers_at}
 use Rattle.theta_pred.specs.declared.atom.KeyAtom.{KeyAtom}
-use Rattle.store_parts.specs.declared.which.Which.{Which}
+use Rattle.store_parts.specs.declared.by_stamp.Which.{Which}
 use Rattle.store_parts.specs.declared.places.Window.{Window}
 use Rattle.store_parts.specs.Places.{lies_in, places_by, AreApart, IsMapOf}
 use Rattle.store_parts.specs.Keyed.{at_places}

@@ -20,7 +20,7 @@ use Rattle.theta_pred.specs.declared.atom.KeyAtom.{KeyAtom}
 use Rattle.theta_pred.specs.Formula.{Meaning}
 use Rattle.theta_pred.specs.Keys.{Atom, atom_of, key_of, IsKeyOf}
 use Rattle.theta_pred.specs.Truth.{holds}
-use Rattle.store_parts.specs.declared.which.Which.{Which}
+use Rattle.store_parts.specs.declared.by_stamp.Which.{Which}
 use Rattle.store_parts.specs.Places.{lies, places_between, places_by, IsMapOf}
 use Rattle.store_parts.specs.Keyed.{at_places, is_key_true, is_key_true_at, value_at, values_at, least_at, greatest_at}
 use Rattle.store_parts.specs.Matches.{other_side, evaluated, is_named, is_found, does_match, does_match_at, pair_of}

@@ -7,7 +7,7 @@ use Rattle.std.proofs.lemmas.List.Sums.{sum_by-append}
 use Rattle.epoch_tags.specs.declared.tuple.Tuple.{Tuple}
 use Rattle.epoch_tags.specs.declared.tuple.Pair.{Pair}
 use Rattle.theta_pred.specs.Formula.{Meaning}
-use Rattle.store_parts.specs.declared.which.Which.{Which}
+use Rattle.store_parts.specs.declared.by_stamp.Which.{Which}
 use Rattle.store_parts.specs.Matches.{matches, is_found, pair_of, AppendsFront}
 
 -- one more element taken of a list is its next one, behind those before

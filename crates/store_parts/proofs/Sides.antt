@@ -9,7 +9,7 @@ use Rattle.epoch_tags.specs.declared.tuple.Pair.{Pair}
 use Rattle.migration_plan.specs.Steps.{same_side, is_of}
 use Rattle.theta_pred.specs.Formula.{Meaning}
 use Rattle.theta_pred.specs.Truth.{holds}
-use Rattle.store_parts.specs.declared.which.Which.{Which}
+use Rattle.store_parts.specs.declared.by_stamp.Which.{Which}
 use Rattle.store_parts.specs.Matches.{other_side, is_named, does_match_at, pair_at, matches}
 use Rattle.store_parts.specs.Stored.{Stored, side_of, others_of, AreSided}
 

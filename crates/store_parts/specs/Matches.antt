@@ -14,8 +14,8 @@ use Rattle.theta_pred.specs.declared.agree.Access.{Access}
 use Rattle.store_parts.specs.Keyed.{is_key_true}
 use Rattle.store_parts.specs.Accessed.{asked, is_admitted, number_at}
 use Rattle.store_parts.specs.Places.{lies_in}
-use Rattle.store_parts.specs.declared.which.Which.{Which}
-use Rattle.store_parts.specs.declared.which.Which.TheVariants.{All, OnlyStamp}
+use Rattle.store_parts.specs.declared.by_stamp.Which.{Which}
+use Rattle.store_parts.specs.declared.by_stamp.Which.TheVariants.{All, OnlyStamp}
 
 -- the side that isn't this one
 abbrev pub other_side : Side → Side

@@ -2,26 +2,24 @@
 #![tactic(auto)]
 
 mod band;
-mod by_access;
-mod by_key;
+mod by_stamp;
 mod copies;
-mod evaluate;
+mod counted_looks;
+mod counted_steps;
 mod hashed;
 mod index;
 mod kept_side;
 mod length_classes;
-mod looks;
 mod numbers;
 mod ordered;
 mod places;
+mod probe;
 mod stands;
-mod steps;
 mod store;
 mod value_windows;
-mod which;
 
-pub use looks::Looks;
-pub use steps::Steps;
+pub use by_stamp::Which;
+pub use counted_looks::Looks;
+pub use counted_steps::Steps;
 pub use store::Store;
 pub use theta_pred::{Access, KeyAtom};
-pub use which::Which;

@@ -17,13 +17,13 @@ ghost use Rattle.store_parts.specs.Matches.{
 };
 ghost use Rattle.store_parts.specs.Stored.{others_of, side_of, HaveWidths};
 
-use crate::by_access::seek_by;
-use crate::by_key::{find_keyed, seek, sift};
-use crate::evaluate::{find_each, scan};
+use crate::by_stamp::Which;
+use crate::counted_looks::Looks;
+use crate::counted_steps::Steps;
 use crate::index::Index;
-use crate::looks::Looks;
-use crate::steps::Steps;
-use crate::which::Which;
+use crate::probe::by_access::seek_by;
+use crate::probe::by_key::{find_keyed, seek, sift};
+use crate::probe::evaluate::{find_each, scan};
 use epoch_tags::{Pairs, Tuple, Tuples};
 use join_rows::Side;
 use std::alloc::{AllocError, Global};

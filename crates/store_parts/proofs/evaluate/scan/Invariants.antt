@@ -1,9 +1,0 @@
-use Rattle.std.proofs.Common.{◌≡◌, ◌+◌, ◌++◌, take, count_by}
-use Rattle.store_parts.specs.Matches.{is_named, matches}
-use Rattle.store_parts.proofs.evaluate.scan.Given as goal
-
-abbrev pub invariant-loop-other : goal.invariant-loop-other
-invariant-loop-other g l = record {
-  found : l.found ≡ l.fn.found ++ matches l.theta l.tuple l.which (take l.other-index l.others);
-  steps : l.steps ≡ l.fn.steps + count_by (is_named l.which) (take l.other-index l.others);
-}

@@ -1,0 +1,10 @@
+use Rattle.std.proofs.Common.{◌≡◌, ◌+◌, ◌++◌, take, count_by}
+use Rattle.store_parts.specs.Matches.{is_named, matches}
+use Rattle.store_parts.specs.Keyed.{at_places}
+use Rattle.store_parts.proofs.probe.evaluate.try_places.Given as goal
+
+abbrev pub invariant-loop-place : goal.invariant-loop-place
+invariant-loop-place g l = record {
+  found : l.found ≡ l.fn.found ++ matches l.theta l.tuple l.which (at_places l.others (take l.place-index l.places));
+  steps : l.steps ≡ l.fn.steps + count_by (is_named l.which) (at_places l.others (take l.place-index l.places));
+}

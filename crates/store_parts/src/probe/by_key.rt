@@ -1,0 +1,212 @@
+// The pairs of a tuple with the stored ones with which the key atom is true.
+
+ghost use Rattle.std.specs.Prelude.{◌≡◌, ◌+◌, ◌<◌, ◌++◌, length, All, count_by, filter, Some, IfOk, OnOk, OnErr};
+ghost use Rattle.store_parts.specs.Keyed.{at_places, is_key_true, values_at};
+ghost use Rattle.store_parts.specs.Matches.{evaluated, is_named, matches, other_side, AppendsFront, HasWidth};
+ghost use Rattle.store_parts.specs.Places.{IsMapOf};
+ghost use Rattle.theta_pred.specs.Keys.{atom_of, key_of};
+
+use crate::band::{greatest, is_true_of, least, value_of};
+use crate::by_stamp::Which;
+use crate::counted_looks::Looks;
+use crate::counted_steps::Steps;
+use crate::index::Index;
+use crate::places::Found;
+use crate::probe::evaluate::{try_one, try_places};
+use epoch_tags::{Pairs, Tuple};
+use join_rows::Side;
+use smallvec::SmallVec;
+use std::alloc::{AllocError, Global};
+use std::sync::ledger::Ledger;
+use theta_pred::{KeyAtom, Theta};
+
+// The places, rising, of the stored tuples with which the key atom is true.
+fn candidates(
+    alloc: Global,
+    tuple: &Tuple,
+    others: &[Tuple],
+    index: &Index,
+    key: &KeyAtom,
+) -> Result<Found, AllocError>
+    requires { IsMapOf
+        (values_at key.now (other_side tuple.now.side) others.now) index.now }
+    ensures keyed { IfOk result (λ places.
+        at_places others.now places.items ≡ filter (is_key_true key.now tuple.now) others.now) }
+    ensures below { IfOk result (λ places. All (λ place. place < length others.now) places.items) }
+{
+    let Some(value) = value_of(key, tuple.side, tuple) else {
+        return Ok(SmallVec::new(alloc));
+    };
+    index.between(
+        alloc,
+        least(key, tuple.side, value),
+        greatest(key, tuple.side, value),
+    )
+}
+
+// The stored tuples at these places, with which the key atom is true.
+fn try_keyed<L: Ledger>(
+    tuple: &Tuple,
+    others: &[Tuple],
+    places: &[u64],
+    key: &KeyAtom,
+    theta: &Theta,
+    which: Which,
+    found: &mut Pairs,
+    steps: &mut Steps<L>,
+) -> Result<(), AllocError>
+    requires width { HasWidth theta.now tuple.now.side tuple.now }
+    requires other_widths { All (HasWidth theta.now (other_side tuple.now.side)) others.now }
+    requires own { key_of theta.now.formula ≡ Some (atom_of key.now) }
+    requires keyed { at_places others.now places.now
+        ≡ filter (is_key_true key.now tuple.now) others.now }
+    requires below { All (λ place. place < length others.now) places.now }
+    ensures ok { OnOk result
+        (found.new ≡ found.old ++ matches theta.now tuple.now which others.now) }
+    ensures err { OnErr result
+        (AppendsFront found.old found.new (matches theta.now tuple.now which others.now)) }
+    ensures steps { OnOk result
+        (steps.new ≡ steps.old + evaluated (Some key.now) tuple.now which others.now) }
+{
+    theta.key_law();
+    try_places(tuple, others, places, theta, which, false, found, steps)
+}
+
+// The tuples of the other side with which the key atom is true.
+pub(crate) fn seek<L: Ledger>(
+    alloc: Global,
+    tuple: &Tuple,
+    others: &[Tuple],
+    index: &Index,
+    key: &KeyAtom,
+    theta: &Theta,
+    which: Which,
+    found: &mut Pairs,
+    steps: &mut Steps<L>,
+) -> Result<(), AllocError>
+    requires width { HasWidth theta.now tuple.now.side tuple.now }
+    requires other_widths { All (HasWidth theta.now (other_side tuple.now.side)) others.now }
+    requires own { key_of theta.now.formula ≡ Some (atom_of key.now) }
+    requires index { IsMapOf
+        (values_at key.now (other_side tuple.now.side) others.now) index.now }
+    ensures ok { OnOk result
+        (found.new ≡ found.old ++ matches theta.now tuple.now which others.now) }
+    ensures err { OnErr result
+        (AppendsFront found.old found.new (matches theta.now tuple.now which others.now)) }
+    ensures steps { OnOk result
+        (steps.new ≡ steps.old + evaluated (Some key.now) tuple.now which others.now) }
+{
+    let places = candidates(alloc, tuple, others, index, key)?;
+    try_keyed(
+        tuple,
+        others,
+        places.as_slice(),
+        key,
+        theta,
+        which,
+        found,
+        steps,
+    )
+}
+
+// The same, where looks are counted.
+pub(crate) fn find_keyed<L: Ledger, M: Ledger>(
+    alloc: Global,
+    tuple: &Tuple,
+    others: &[Tuple],
+    index: &Index,
+    key: &KeyAtom,
+    theta: &Theta,
+    which: Which,
+    found: &mut Pairs,
+    steps: &mut Steps<L>,
+    looks: &mut Looks<M>,
+) -> Result<(), AllocError>
+    requires width { HasWidth theta.now tuple.now.side tuple.now }
+    requires other_widths { All (HasWidth theta.now (other_side tuple.now.side)) others.now }
+    requires own { key_of theta.now.formula ≡ Some (atom_of key.now) }
+    requires index { IsMapOf
+        (values_at key.now (other_side tuple.now.side) others.now) index.now }
+    ensures ok { OnOk result
+        (found.new ≡ found.old ++ matches theta.now tuple.now which others.now) }
+    ensures err { OnErr result
+        (AppendsFront found.old found.new (matches theta.now tuple.now which others.now)) }
+    ensures steps { OnOk result
+        (steps.new ≡ steps.old + evaluated (Some key.now) tuple.now which others.now) }
+    ensures looks { OnOk result
+        (looks.new ≡ looks.old + count_by (is_key_true key.now tuple.now) others.now) }
+{
+    let places = candidates(alloc, tuple, others, index, key)?;
+    looks.note(places.as_slice());
+    try_keyed(
+        tuple,
+        others,
+        places.as_slice(),
+        key,
+        theta,
+        which,
+        found,
+        steps,
+    )
+}
+
+// Whether the key atom is true of a tuple that probes and a stored one.
+fn is_key_true(key: &KeyAtom, tuple: &Tuple, other: &Tuple) -> bool
+    ensures { result ≡ is_key_true key.now tuple.now other.now }
+{
+    match tuple.side {
+        Side::R => is_true_of(key, &tuple.cells, &other.cells),
+        Side::S => is_true_of(key, &other.cells, &tuple.cells),
+    }
+}
+
+// Those of the stored tuples with which the key atom is true, where each is looked at.
+fn sift_each<L: Ledger>(
+    tuple: &Tuple,
+    others: &[Tuple],
+    key: &KeyAtom,
+    theta: &Theta,
+    which: Which,
+    found: &mut Pairs,
+    steps: &mut Steps<L>,
+) -> Result<(), AllocError>
+    requires width { HasWidth theta.now tuple.now.side tuple.now }
+    requires other_widths { All (HasWidth theta.now (other_side tuple.now.side)) others.now }
+    ensures ok { OnOk result (found.new ≡ found.old
+        ++ matches theta.now tuple.now which (filter (is_key_true key.now tuple.now) others.now)) }
+    ensures err { OnErr result (AppendsFront found.old found.new
+        (matches theta.now tuple.now which (filter (is_key_true key.now tuple.now) others.now))) }
+    ensures steps { OnOk result (steps.new ≡ steps.old
+        + count_by (is_named which) (filter (is_key_true key.now tuple.now) others.now)) }
+{
+    for other in others {
+        if is_key_true(key, tuple, other) {
+            try_one(tuple, other, theta, which, false, found, steps)?;
+        }
+    }
+    Ok(())
+}
+
+// The tuples of the other side with which the key atom is true, without an index of its values.
+pub(crate) fn sift<L: Ledger>(
+    tuple: &Tuple,
+    others: &[Tuple],
+    key: &KeyAtom,
+    theta: &Theta,
+    which: Which,
+    found: &mut Pairs,
+    steps: &mut Steps<L>,
+) -> Result<(), AllocError>
+    requires width { HasWidth theta.now tuple.now.side tuple.now }
+    requires other_widths { All (HasWidth theta.now (other_side tuple.now.side)) others.now }
+    requires own { key_of theta.now.formula ≡ Some (atom_of key.now) }
+    ensures ok { OnOk result
+        (found.new ≡ found.old ++ matches theta.now tuple.now which others.now) }
+    ensures err { OnErr result
+        (AppendsFront found.old found.new (matches theta.now tuple.now which others.now)) }
+    ensures steps { OnOk result
+        (steps.new ≡ steps.old + evaluated (Some key.now) tuple.now which others.now) }
+{
+    theta.key_law();
+    sift_each(tuple, others, key, theta, which, found, steps)
+}
