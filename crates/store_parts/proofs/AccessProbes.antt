@@ -86,6 +86,15 @@ pub admitted_of_stands : (access : Access) (t : Tuple) (others : List Tuple)
 admitted_of_stands access t others =
     filter_of_filter (is_admitted access t) (does_stand access t) (admitted_stands access t) others
 
+-- the places that are kept of those that the index gave are of the tuples that agree
+pub those_kept : (access : Access) (t : Tuple) (others seen : List Tuple) (given looked kept : List ℕ)
+    → seen ≡ others → looked ≡ given → at_places others given ≡ filter (does_stand access t) others
+    → at_places seen kept ≡ filter (is_admitted access t) (at_places seen looked)
+    → at_places seen kept ≡ filter (is_admitted access t) others
+those_kept access t others seen given looked kept same read stood sifted =
+    let stands = ap (λ (xs : List Tuple). at_places xs looked) same ∙ ap (at_places others) read ∙ stood in
+    sifted ∙ ap (filter (is_admitted access t)) stands ∙ admitted_of_stands access t others
+
 -- ---- one more place
 
 filter_more : (p : Tuple → Bool) (others : List Tuple) (places : List ℕ) (i place : ℕ) (other : Tuple)
@@ -166,11 +175,10 @@ admitted_match theta access t (x ∷ xs) law =
 
 -- where a store has an access, its index is one of the numbers that the access gives to its tuples
 pub index_of_access : (key : Option KeyAtom) (stored : Option Access) (access : Access) (side : Side)
-    (ts others : List Tuple) (entries : List (ℤ × SmallVec ℕ)) → stored ≡ Some access → others ≡ ts
-    → IsMapOf (map (indexed_at key stored side) ts) entries → IsMapOf (numbers_at access side others) entries
-index_of_access key stored access side ts others entries is same indexed =
-    let P : Option Access → Type 0 = λ o. IsMapOf (map (indexed_at key o side) ts) entries in
-    subst (λ xs. IsMapOf (numbers_at access side xs) entries) (sym same) (subst P is indexed)
+    (ts : List Tuple) (entries : List (ℤ × SmallVec ℕ)) → stored ≡ Some access
+    → IsMapOf (map (indexed_at key stored side) ts) entries → IsMapOf (numbers_at access side ts) entries
+index_of_access key stored access side ts entries is indexed =
+    let P : Option Access → Type 0 = λ o. IsMapOf (map (indexed_at key o side) ts) entries in subst P is indexed
 
 -- a probe of it evaluates as many tuples as are named and agree in the access
 pub looked_is : (key : Option KeyAtom) (stored : Option Access) (access : Access) (t : Tuple) (which : Which)

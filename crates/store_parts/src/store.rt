@@ -20,7 +20,8 @@ ghost use Rattle.store_parts.specs.Stored.{others_of, side_of, HaveWidths};
 use crate::by_stamp::Which;
 use crate::counted_looks::Looks;
 use crate::counted_steps::Steps;
-use crate::index::Index;
+use crate::half::Half;
+use crate::probe::Query;
 use crate::probe::by_access::seek_by;
 use crate::probe::by_key::{find_keyed, seek, sift};
 use crate::probe::evaluate::{find_each, scan};
@@ -36,10 +37,8 @@ use theta_pred::{Access, KeyAtom, Theta};
 pub struct Store {
     key: Option<KeyAtom>,
     access: Option<Access>,
-    r: Tuples,
-    r_index: Index,
-    s: Tuples,
-    s_index: Index,
+    r: Half,
+    s: Half,
     alloc: Global,
 }
 
@@ -54,11 +53,16 @@ impl Model for Store {
 
     ghost coded = { Prim.hlevel (codes, formula_code (Prim.hlevel codes)) };
 
-    ghost view = { λ store. record { key = store.key; access = store.access; r = store.r; s = store.s } };
+    ghost view = { λ store. record {
+      key = store.key;
+      access = store.access;
+      r = store.r.tuples;
+      s = store.s.tuples;
+    } };
 
-    ghost invariant = { λ store. AreSided store.r store.s
-        × IsIndexed store.key store.access R store.r store.r_index
-        × IsIndexed store.key store.access S store.s store.s_index };
+    ghost invariant = { λ store. AreSided store.r.tuples store.s.tuples
+        × IsIndexed store.key store.access R store.r.tuples store.r.index
+        × IsIndexed store.key store.access S store.s.tuples store.s.index };
 }
 
 // A joiner's probe whose looks are counted from this blank on.
@@ -119,29 +123,20 @@ impl Store {
         ensures own { All (λ tuple. tuple.side ≡ side) result.now }
     {
         match side {
-            Side::R => &self.r,
-            Side::S => &self.s,
+            Side::R => &self.r.tuples,
+            Side::S => &self.s.tuples,
         }
     }
 
-    // The tuples that a probe with one of this side may find.
-    fn others(&self, side: Side) -> &[Tuple]
-        ensures { result.now ≡ side_of self.now (other_side side) }
+    // The tuples that a probe with one of this side may find, and their index.
+    fn others(&self, side: Side) -> &Half
+        ensures tuples { result.now.tuples ≡ side_of self.now (other_side side) }
+        ensures indexed { IsIndexed self.now.key self.now.access (other_side side)
+            result.now.tuples result.now.index }
     {
         match side {
-            Side::R => self.s.as_slice(),
-            Side::S => self.r.as_slice(),
-        }
-    }
-
-    // Their index.
-    fn others_index(&self, side: Side) -> &Index
-        ensures { let others = side_of self.now (other_side side) in
-            IsIndexed self.now.key self.now.access (other_side side) others result.now }
-    {
-        match side {
-            Side::R => &self.s_index,
-            Side::S => &self.r_index,
+            Side::R => &self.s,
+            Side::S => &self.r,
         }
     }
 
@@ -167,14 +162,16 @@ impl Store {
         ensures steps { let others = others_of self.now tuple.now in
             OnOk result (steps.new ≡ steps.old + evaluated self.now.key tuple.now which others) }
     {
+        let query = Query {
+            tuple,
+            theta,
+            which,
+        };
         let others = self.others(tuple.side);
-        let index = self.others_index(tuple.side);
         match (&self.key, &self.access) {
-            (Some(key), None) => seek(
-                self.alloc, tuple, others, index, key, theta, which, found, steps,
-            ),
-            (Some(key), Some(_)) => sift(tuple, others, key, theta, which, found, steps),
-            (None, _) => scan(tuple, others, theta, which, found, steps),
+            (Some(key), None) => seek(self.alloc, &query, others, key, found, steps),
+            (Some(key), Some(_)) => sift(&query, others.tuples.as_slice(), key, found, steps),
+            (None, _) => scan(&query, others.tuples.as_slice(), found, steps),
         }
     }
 
@@ -202,22 +199,22 @@ impl Store {
             OnErr result
             (AppendsFront found.old found.new (matches theta.now tuple.now which others)) }
         ensures steps { let others = others_of self.now tuple.now in
-            OnOk result
-            (steps.new ≡ steps.old + looked_at self.now.key self.now.access tuple.now which others) }
+            OnOk result (steps.new ≡ steps.old
+            + looked_at self.now.key self.now.access tuple.now which others) }
         ensures looks { let others = others_of self.now tuple.now in
             OnOk result (looks.new ≡ looks.old
             + count_by (stands_by self.now.key self.now.access tuple.now) others) }
     {
+        let query = Query {
+            tuple,
+            theta,
+            which,
+        };
         let others = self.others(tuple.side);
-        let index = self.others_index(tuple.side);
         match (&self.access, &self.key) {
-            (Some(access), _) => seek_by(
-                self.alloc, tuple, others, index, access, theta, which, found, steps, looks,
-            ),
-            (None, Some(key)) => find_keyed(
-                self.alloc, tuple, others, index, key, theta, which, found, steps, looks,
-            ),
-            (None, None) => find_each(tuple, others, theta, which, found, steps, looks),
+            (Some(access), _) => seek_by(self.alloc, &query, others, access, found, steps, looks),
+            (None, Some(key)) => find_keyed(self.alloc, &query, others, key, found, steps, looks),
+            (None, None) => find_each(&query, others.tuples.as_slice(), found, steps, looks),
         }
     }
 

@@ -8,19 +8,19 @@ ghost use Rattle.store_parts.specs.Matches.{admitted, does_stand, matches, other
 ghost use Rattle.store_parts.specs.Places.{IsMapOf};
 ghost use Rattle.theta_pred.specs.Accesses.{access_of, terms_of};
 
-use crate::by_stamp::Which;
 use crate::counted_looks::Looks;
 use crate::counted_steps::Steps;
-use crate::index::Index;
+use crate::half::Half;
 use crate::numbers::is_admitted;
 use crate::places::Found;
+use crate::probe::Query;
 use crate::probe::evaluate::{at, try_places};
 use crate::stands::asked;
 use epoch_tags::{Pairs, Tuple};
 use smallvec::SmallVec;
 use std::alloc::{AllocError, Global};
 use std::sync::ledger::Ledger;
-use theta_pred::{Access, Theta};
+use theta_pred::Access;
 
 // Of these places those of the stored tuples that agree with the tuple.
 fn places_of_admitted(
@@ -48,62 +48,53 @@ fn places_of_admitted(
 fn places_asked(
     alloc: Global,
     tuple: &Tuple,
-    others: &[Tuple],
-    index: &Index,
+    others: &Half,
     access: &Access,
 ) -> Result<Found, AllocError>
     requires { IsMapOf
-        (numbers_at access.now (other_side tuple.now.side) others.now) index.now }
-    ensures stands { IfOk result (λ places.
-        at_places others.now places.items ≡ filter (does_stand access.now tuple.now) others.now) }
-    ensures below { IfOk result (λ places. All (λ place. place < length others.now) places.items) }
+        (numbers_at access.now (other_side tuple.now.side) others.now.tuples) others.now.index }
+    ensures stands { IfOk result (λ places. at_places others.now.tuples places.items
+        ≡ filter (does_stand access.now tuple.now) others.now.tuples) }
+    ensures below { IfOk result (λ places.
+        All (λ place. place < length others.now.tuples) places.items) }
 {
     let windows = asked(alloc, access, tuple)?;
-    index.within(alloc, windows.as_slice())
+    others.index.within(alloc, windows.as_slice())
 }
 
 // The tuples of the other side that agree with the tuple. Where that is all that the predicate says, it isn't
 // evaluated.
 pub(crate) fn seek_by<L: Ledger, M: Ledger>(
     alloc: Global,
-    tuple: &Tuple,
-    others: &[Tuple],
-    index: &Index,
+    query: &Query<'_>,
+    others: &Half,
     access: &Access,
-    theta: &Theta,
-    which: Which,
     found: &mut Pairs,
     steps: &mut Steps<L>,
     looks: &mut Looks<M>,
 ) -> Result<(), AllocError>
-    requires width { HasWidth theta.now tuple.now.side tuple.now }
-    requires other_widths { All (HasWidth theta.now (other_side tuple.now.side)) others.now }
-    requires own { access_of theta.now.formula ≡ Some (terms_of access.now) }
+    requires width { HasWidth query.now.theta.now query.now.tuple.now.side query.now.tuple.now }
+    requires other_widths { All
+        (HasWidth query.now.theta.now (other_side query.now.tuple.now.side)) others.now.tuples }
+    requires own { access_of query.now.theta.now.formula ≡ Some (terms_of access.now) }
     requires index { IsMapOf
-        (numbers_at access.now (other_side tuple.now.side) others.now) index.now }
-    ensures ok { OnOk result
-        (found.new ≡ found.old ++ matches theta.now tuple.now which others.now) }
-    ensures err { OnErr result
-        (AppendsFront found.old found.new (matches theta.now tuple.now which others.now)) }
-    ensures steps { OnOk result
-        (steps.new ≡ steps.old + admitted access.now tuple.now which others.now) }
-    ensures looks { OnOk result
-        (looks.new ≡ looks.old + count_by (does_stand access.now tuple.now) others.now) }
+        (numbers_at access.now (other_side query.now.tuple.now.side) others.now.tuples)
+        others.now.index }
+    ensures ok { OnOk result (found.new ≡ found.old
+        ++ matches query.now.theta.now query.now.tuple.now query.now.which others.now.tuples) }
+    ensures err { OnErr result (AppendsFront found.old found.new
+        (matches query.now.theta.now query.now.tuple.now query.now.which others.now.tuples)) }
+    ensures steps { OnOk result (steps.new ≡ steps.old
+        + admitted access.now query.now.tuple.now query.now.which others.now.tuples) }
+    ensures looks { OnOk result (looks.new ≡ looks.old
+        + count_by (does_stand access.now query.now.tuple.now) others.now.tuples) }
 {
-    theta.access_law();
-    theta.suffice_law();
-    let sure = theta.agreements_suffice();
-    let places = places_asked(alloc, tuple, others, index, access)?;
+    query.theta.access_law();
+    query.theta.suffice_law();
+    let sure = query.theta.agreements_suffice();
+    let tuples = others.tuples.as_slice();
+    let places = places_asked(alloc, query.tuple, others, access)?;
     looks.note(places.as_slice());
-    let kept = places_of_admitted(alloc, tuple, others, access, places.as_slice())?;
-    try_places(
-        tuple,
-        others,
-        kept.as_slice(),
-        theta,
-        which,
-        sure,
-        found,
-        steps,
-    )
+    let kept = places_of_admitted(alloc, query.tuple, tuples, access, places.as_slice())?;
+    try_places(query, tuples, kept.as_slice(), sure, found, steps)
 }

@@ -7,37 +7,37 @@ ghost use Rattle.store_parts.specs.Places.{IsMapOf};
 ghost use Rattle.theta_pred.specs.Keys.{atom_of, key_of};
 
 use crate::band::{greatest, is_true_of, least, value_of};
-use crate::by_stamp::Which;
 use crate::counted_looks::Looks;
 use crate::counted_steps::Steps;
-use crate::index::Index;
+use crate::half::Half;
 use crate::places::Found;
+use crate::probe::Query;
 use crate::probe::evaluate::{try_one, try_places};
 use epoch_tags::{Pairs, Tuple};
 use join_rows::Side;
 use smallvec::SmallVec;
 use std::alloc::{AllocError, Global};
 use std::sync::ledger::Ledger;
-use theta_pred::{KeyAtom, Theta};
+use theta_pred::KeyAtom;
 
 // The places, rising, of the stored tuples with which the key atom is true.
 fn candidates(
     alloc: Global,
     tuple: &Tuple,
-    others: &[Tuple],
-    index: &Index,
+    others: &Half,
     key: &KeyAtom,
 ) -> Result<Found, AllocError>
     requires { IsMapOf
-        (values_at key.now (other_side tuple.now.side) others.now) index.now }
-    ensures keyed { IfOk result (λ places.
-        at_places others.now places.items ≡ filter (is_key_true key.now tuple.now) others.now) }
-    ensures below { IfOk result (λ places. All (λ place. place < length others.now) places.items) }
+        (values_at key.now (other_side tuple.now.side) others.now.tuples) others.now.index }
+    ensures keyed { IfOk result (λ places. at_places others.now.tuples places.items
+        ≡ filter (is_key_true key.now tuple.now) others.now.tuples) }
+    ensures below { IfOk result (λ places.
+        All (λ place. place < length others.now.tuples) places.items) }
 {
     let Some(value) = value_of(key, tuple.side, tuple) else {
         return Ok(SmallVec::new(alloc));
     };
-    index.between(
+    others.index.between(
         alloc,
         least(key, tuple.side, value),
         greatest(key, tuple.side, value),
@@ -46,64 +46,60 @@ fn candidates(
 
 // The stored tuples at these places, with which the key atom is true.
 fn try_keyed<L: Ledger>(
-    tuple: &Tuple,
+    query: &Query<'_>,
     others: &[Tuple],
     places: &[u64],
     key: &KeyAtom,
-    theta: &Theta,
-    which: Which,
     found: &mut Pairs,
     steps: &mut Steps<L>,
 ) -> Result<(), AllocError>
-    requires width { HasWidth theta.now tuple.now.side tuple.now }
-    requires other_widths { All (HasWidth theta.now (other_side tuple.now.side)) others.now }
-    requires own { key_of theta.now.formula ≡ Some (atom_of key.now) }
+    requires width { HasWidth query.now.theta.now query.now.tuple.now.side query.now.tuple.now }
+    requires other_widths { All
+        (HasWidth query.now.theta.now (other_side query.now.tuple.now.side)) others.now }
+    requires own { key_of query.now.theta.now.formula ≡ Some (atom_of key.now) }
     requires keyed { at_places others.now places.now
-        ≡ filter (is_key_true key.now tuple.now) others.now }
+        ≡ filter (is_key_true key.now query.now.tuple.now) others.now }
     requires below { All (λ place. place < length others.now) places.now }
-    ensures ok { OnOk result
-        (found.new ≡ found.old ++ matches theta.now tuple.now which others.now) }
-    ensures err { OnErr result
-        (AppendsFront found.old found.new (matches theta.now tuple.now which others.now)) }
-    ensures steps { OnOk result
-        (steps.new ≡ steps.old + evaluated (Some key.now) tuple.now which others.now) }
+    ensures ok { OnOk result (found.new ≡ found.old
+        ++ matches query.now.theta.now query.now.tuple.now query.now.which others.now) }
+    ensures err { OnErr result (AppendsFront found.old found.new
+        (matches query.now.theta.now query.now.tuple.now query.now.which others.now)) }
+    ensures steps { OnOk result (steps.new ≡ steps.old
+        + evaluated (Some key.now) query.now.tuple.now query.now.which others.now) }
 {
-    theta.key_law();
-    try_places(tuple, others, places, theta, which, false, found, steps)
+    query.theta.key_law();
+    try_places(query, others, places, false, found, steps)
 }
 
 // The tuples of the other side with which the key atom is true.
 pub(crate) fn seek<L: Ledger>(
     alloc: Global,
-    tuple: &Tuple,
-    others: &[Tuple],
-    index: &Index,
+    query: &Query<'_>,
+    others: &Half,
     key: &KeyAtom,
-    theta: &Theta,
-    which: Which,
     found: &mut Pairs,
     steps: &mut Steps<L>,
 ) -> Result<(), AllocError>
-    requires width { HasWidth theta.now tuple.now.side tuple.now }
-    requires other_widths { All (HasWidth theta.now (other_side tuple.now.side)) others.now }
-    requires own { key_of theta.now.formula ≡ Some (atom_of key.now) }
+    requires width { HasWidth query.now.theta.now query.now.tuple.now.side query.now.tuple.now }
+    requires other_widths { All
+        (HasWidth query.now.theta.now (other_side query.now.tuple.now.side)) others.now.tuples }
+    requires own { key_of query.now.theta.now.formula ≡ Some (atom_of key.now) }
     requires index { IsMapOf
-        (values_at key.now (other_side tuple.now.side) others.now) index.now }
-    ensures ok { OnOk result
-        (found.new ≡ found.old ++ matches theta.now tuple.now which others.now) }
-    ensures err { OnErr result
-        (AppendsFront found.old found.new (matches theta.now tuple.now which others.now)) }
-    ensures steps { OnOk result
-        (steps.new ≡ steps.old + evaluated (Some key.now) tuple.now which others.now) }
+        (values_at key.now (other_side query.now.tuple.now.side) others.now.tuples)
+        others.now.index }
+    ensures ok { OnOk result (found.new ≡ found.old
+        ++ matches query.now.theta.now query.now.tuple.now query.now.which others.now.tuples) }
+    ensures err { OnErr result (AppendsFront found.old found.new
+        (matches query.now.theta.now query.now.tuple.now query.now.which others.now.tuples)) }
+    ensures steps { OnOk result (steps.new ≡ steps.old
+        + evaluated (Some key.now) query.now.tuple.now query.now.which others.now.tuples) }
 {
-    let places = candidates(alloc, tuple, others, index, key)?;
+    let places = candidates(alloc, query.tuple, others, key)?;
     try_keyed(
-        tuple,
-        others,
+        query,
+        others.tuples.as_slice(),
         places.as_slice(),
         key,
-        theta,
-        which,
         found,
         steps,
     )
@@ -112,39 +108,36 @@ pub(crate) fn seek<L: Ledger>(
 // The same, where looks are counted.
 pub(crate) fn find_keyed<L: Ledger, M: Ledger>(
     alloc: Global,
-    tuple: &Tuple,
-    others: &[Tuple],
-    index: &Index,
+    query: &Query<'_>,
+    others: &Half,
     key: &KeyAtom,
-    theta: &Theta,
-    which: Which,
     found: &mut Pairs,
     steps: &mut Steps<L>,
     looks: &mut Looks<M>,
 ) -> Result<(), AllocError>
-    requires width { HasWidth theta.now tuple.now.side tuple.now }
-    requires other_widths { All (HasWidth theta.now (other_side tuple.now.side)) others.now }
-    requires own { key_of theta.now.formula ≡ Some (atom_of key.now) }
+    requires width { HasWidth query.now.theta.now query.now.tuple.now.side query.now.tuple.now }
+    requires other_widths { All
+        (HasWidth query.now.theta.now (other_side query.now.tuple.now.side)) others.now.tuples }
+    requires own { key_of query.now.theta.now.formula ≡ Some (atom_of key.now) }
     requires index { IsMapOf
-        (values_at key.now (other_side tuple.now.side) others.now) index.now }
-    ensures ok { OnOk result
-        (found.new ≡ found.old ++ matches theta.now tuple.now which others.now) }
-    ensures err { OnErr result
-        (AppendsFront found.old found.new (matches theta.now tuple.now which others.now)) }
-    ensures steps { OnOk result
-        (steps.new ≡ steps.old + evaluated (Some key.now) tuple.now which others.now) }
-    ensures looks { OnOk result
-        (looks.new ≡ looks.old + count_by (is_key_true key.now tuple.now) others.now) }
+        (values_at key.now (other_side query.now.tuple.now.side) others.now.tuples)
+        others.now.index }
+    ensures ok { OnOk result (found.new ≡ found.old
+        ++ matches query.now.theta.now query.now.tuple.now query.now.which others.now.tuples) }
+    ensures err { OnErr result (AppendsFront found.old found.new
+        (matches query.now.theta.now query.now.tuple.now query.now.which others.now.tuples)) }
+    ensures steps { OnOk result (steps.new ≡ steps.old
+        + evaluated (Some key.now) query.now.tuple.now query.now.which others.now.tuples) }
+    ensures looks { OnOk result (looks.new ≡ looks.old
+        + count_by (is_key_true key.now query.now.tuple.now) others.now.tuples) }
 {
-    let places = candidates(alloc, tuple, others, index, key)?;
+    let places = candidates(alloc, query.tuple, others, key)?;
     looks.note(places.as_slice());
     try_keyed(
-        tuple,
-        others,
+        query,
+        others.tuples.as_slice(),
         places.as_slice(),
         key,
-        theta,
-        which,
         found,
         steps,
     )
@@ -162,26 +155,27 @@ fn is_key_true(key: &KeyAtom, tuple: &Tuple, other: &Tuple) -> bool
 
 // Those of the stored tuples with which the key atom is true, where each is looked at.
 fn sift_each<L: Ledger>(
-    tuple: &Tuple,
+    query: &Query<'_>,
     others: &[Tuple],
     key: &KeyAtom,
-    theta: &Theta,
-    which: Which,
     found: &mut Pairs,
     steps: &mut Steps<L>,
 ) -> Result<(), AllocError>
-    requires width { HasWidth theta.now tuple.now.side tuple.now }
-    requires other_widths { All (HasWidth theta.now (other_side tuple.now.side)) others.now }
-    ensures ok { OnOk result (found.new ≡ found.old
-        ++ matches theta.now tuple.now which (filter (is_key_true key.now tuple.now) others.now)) }
-    ensures err { OnErr result (AppendsFront found.old found.new
-        (matches theta.now tuple.now which (filter (is_key_true key.now tuple.now) others.now))) }
-    ensures steps { OnOk result (steps.new ≡ steps.old
-        + count_by (is_named which) (filter (is_key_true key.now tuple.now) others.now)) }
+    requires width { HasWidth query.now.theta.now query.now.tuple.now.side query.now.tuple.now }
+    requires other_widths { All
+        (HasWidth query.now.theta.now (other_side query.now.tuple.now.side)) others.now }
+    ensures ok { let keyed = filter (is_key_true key.now query.now.tuple.now) others.now in
+        OnOk result (found.new ≡ found.old
+        ++ matches query.now.theta.now query.now.tuple.now query.now.which keyed) }
+    ensures err { let keyed = filter (is_key_true key.now query.now.tuple.now) others.now in
+        OnErr result (AppendsFront found.old found.new
+        (matches query.now.theta.now query.now.tuple.now query.now.which keyed)) }
+    ensures steps { let keyed = filter (is_key_true key.now query.now.tuple.now) others.now in
+        OnOk result (steps.new ≡ steps.old + count_by (is_named query.now.which) keyed) }
 {
     for other in others {
-        if is_key_true(key, tuple, other) {
-            try_one(tuple, other, theta, which, false, found, steps)?;
+        if is_key_true(key, query.tuple, other) {
+            try_one(query, other, false, found, steps)?;
         }
     }
     Ok(())
@@ -189,24 +183,23 @@ fn sift_each<L: Ledger>(
 
 // The tuples of the other side with which the key atom is true, without an index of its values.
 pub(crate) fn sift<L: Ledger>(
-    tuple: &Tuple,
+    query: &Query<'_>,
     others: &[Tuple],
     key: &KeyAtom,
-    theta: &Theta,
-    which: Which,
     found: &mut Pairs,
     steps: &mut Steps<L>,
 ) -> Result<(), AllocError>
-    requires width { HasWidth theta.now tuple.now.side tuple.now }
-    requires other_widths { All (HasWidth theta.now (other_side tuple.now.side)) others.now }
-    requires own { key_of theta.now.formula ≡ Some (atom_of key.now) }
-    ensures ok { OnOk result
-        (found.new ≡ found.old ++ matches theta.now tuple.now which others.now) }
-    ensures err { OnErr result
-        (AppendsFront found.old found.new (matches theta.now tuple.now which others.now)) }
-    ensures steps { OnOk result
-        (steps.new ≡ steps.old + evaluated (Some key.now) tuple.now which others.now) }
+    requires width { HasWidth query.now.theta.now query.now.tuple.now.side query.now.tuple.now }
+    requires other_widths { All
+        (HasWidth query.now.theta.now (other_side query.now.tuple.now.side)) others.now }
+    requires own { key_of query.now.theta.now.formula ≡ Some (atom_of key.now) }
+    ensures ok { OnOk result (found.new ≡ found.old
+        ++ matches query.now.theta.now query.now.tuple.now query.now.which others.now) }
+    ensures err { OnErr result (AppendsFront found.old found.new
+        (matches query.now.theta.now query.now.tuple.now query.now.which others.now)) }
+    ensures steps { OnOk result (steps.new ≡ steps.old
+        + evaluated (Some key.now) query.now.tuple.now query.now.which others.now) }
 {
-    theta.key_law();
-    sift_each(tuple, others, key, theta, which, found, steps)
+    query.theta.key_law();
+    sift_each(query, others, key, found, steps)
 }

@@ -15,9 +15,9 @@ ghost use Rattle.store_parts.specs.Matches.{
   HasWidth,
 };
 
-use crate::by_stamp::Which;
 use crate::counted_looks::Looks;
 use crate::counted_steps::Steps;
+use crate::probe::Query;
 use epoch_tags::{Pair, Pairs, Tuple};
 use join_rows::Side;
 use std::alloc::AllocError;
@@ -64,51 +64,51 @@ fn is_match(theta: &Theta, tuple: &Tuple, other: &Tuple, sure: bool) -> bool
 
 // One stored tuple. Where it is sure that the two match, the predicate isn't evaluated.
 pub(crate) fn try_one<L: Ledger>(
-    tuple: &Tuple,
+    query: &Query<'_>,
     other: &Tuple,
-    theta: &Theta,
-    which: Which,
     sure: bool,
     found: &mut Pairs,
     steps: &mut Steps<L>,
 ) -> Result<(), AllocError>
-    requires width { HasWidth theta.now tuple.now.side tuple.now }
-    requires other_width { HasWidth theta.now (other_side tuple.now.side) other.now }
-    requires sure { IsTrue sure → IsTrue (does_match theta.now tuple.now other.now) }
-    ensures ok { OnOk result
-        (found.new ≡ found.old ++ matches theta.now tuple.now which (other.now ∷ [])) }
+    requires width { HasWidth query.now.theta.now query.now.tuple.now.side query.now.tuple.now }
+    requires other_width { HasWidth
+        query.now.theta.now (other_side query.now.tuple.now.side) other.now }
+    requires sure { IsTrue sure
+        → IsTrue (does_match query.now.theta.now query.now.tuple.now other.now) }
+    ensures ok { OnOk result (found.new ≡ found.old
+        ++ matches query.now.theta.now query.now.tuple.now query.now.which (other.now ∷ [])) }
     ensures err { OnErr result (found.new ≡ found.old) }
-    ensures steps { steps.new ≡ steps.old + count_by (is_named which) (other.now ∷ []) }
+    ensures steps { steps.new ≡ steps.old + count_by (is_named query.now.which) (other.now ∷ []) }
 {
-    if !which.names(other) {
+    if !query.which.names(other) {
         return Ok(());
     }
     steps.tick();
-    if is_match(theta, tuple, other, sure) {
-        found.push(pair_of(tuple, other))?;
+    if is_match(query.theta, query.tuple, other, sure) {
+        found.push(pair_of(query.tuple, other))?;
     }
     Ok(())
 }
 
 // All tuples of the other side.
 pub(crate) fn scan<L: Ledger>(
-    tuple: &Tuple,
+    query: &Query<'_>,
     others: &[Tuple],
-    theta: &Theta,
-    which: Which,
     found: &mut Pairs,
     steps: &mut Steps<L>,
 ) -> Result<(), AllocError>
-    requires width { HasWidth theta.now tuple.now.side tuple.now }
-    requires other_widths { All (HasWidth theta.now (other_side tuple.now.side)) others.now }
-    ensures ok { OnOk result
-        (found.new ≡ found.old ++ matches theta.now tuple.now which others.now) }
-    ensures err { OnErr result
-        (AppendsFront found.old found.new (matches theta.now tuple.now which others.now)) }
-    ensures steps { OnOk result (steps.new ≡ steps.old + count_by (is_named which) others.now) }
+    requires width { HasWidth query.now.theta.now query.now.tuple.now.side query.now.tuple.now }
+    requires other_widths { All
+        (HasWidth query.now.theta.now (other_side query.now.tuple.now.side)) others.now }
+    ensures ok { OnOk result (found.new ≡ found.old
+        ++ matches query.now.theta.now query.now.tuple.now query.now.which others.now) }
+    ensures err { OnErr result (AppendsFront found.old found.new
+        (matches query.now.theta.now query.now.tuple.now query.now.which others.now)) }
+    ensures steps { OnOk result
+        (steps.new ≡ steps.old + count_by (is_named query.now.which) others.now) }
 {
     for other in others {
-        try_one(tuple, other, theta, which, false, found, steps)?;
+        try_one(query, other, false, found, steps)?;
     }
     Ok(())
 }
@@ -123,52 +123,54 @@ pub(crate) fn at(others: &[Tuple], place: u64) -> &Tuple
 
 // The stored tuples at these places. Where it is sure that all of them match, the predicate isn't evaluated.
 pub(crate) fn try_places<L: Ledger>(
-    tuple: &Tuple,
+    query: &Query<'_>,
     others: &[Tuple],
     places: &[u64],
-    theta: &Theta,
-    which: Which,
     sure: bool,
     found: &mut Pairs,
     steps: &mut Steps<L>,
 ) -> Result<(), AllocError>
-    requires width { HasWidth theta.now tuple.now.side tuple.now }
-    requires other_widths { All (HasWidth theta.now (other_side tuple.now.side)) others.now }
+    requires width { HasWidth query.now.theta.now query.now.tuple.now.side query.now.tuple.now }
+    requires other_widths { All
+        (HasWidth query.now.theta.now (other_side query.now.tuple.now.side)) others.now }
     requires places { All (λ place. place < length others.now) places.now }
-    requires sure { IsTrue sure → DoMatch theta.now tuple.now (at_places others.now places.now) }
+    requires sure { IsTrue sure
+        → DoMatch query.now.theta.now query.now.tuple.now (at_places others.now places.now) }
     ensures ok { OnOk result (found.new ≡ found.old
-        ++ matches theta.now tuple.now which (at_places others.now places.now)) }
+        ++ matches query.now.theta.now query.now.tuple.now query.now.which
+        (at_places others.now places.now)) }
     ensures err { OnErr result (AppendsFront found.old found.new
-        (matches theta.now tuple.now which (at_places others.now places.now))) }
+        (matches query.now.theta.now query.now.tuple.now query.now.which
+        (at_places others.now places.now))) }
     ensures steps { OnOk result (steps.new ≡ steps.old
-        + count_by (is_named which) (at_places others.now places.now)) }
+        + count_by (is_named query.now.which) (at_places others.now places.now)) }
 {
     for place in places {
-        try_one(tuple, at(others, *place), theta, which, sure, found, steps)?;
+        try_one(query, at(others, *place), sure, found, steps)?;
     }
     Ok(())
 }
 
 // All tuples of the other side, where looks are counted.
 pub(crate) fn find_each<L: Ledger, M: Ledger>(
-    tuple: &Tuple,
+    query: &Query<'_>,
     others: &[Tuple],
-    theta: &Theta,
-    which: Which,
     found: &mut Pairs,
     steps: &mut Steps<L>,
     looks: &mut Looks<M>,
 ) -> Result<(), AllocError>
-    requires width { HasWidth theta.now tuple.now.side tuple.now }
-    requires other_widths { All (HasWidth theta.now (other_side tuple.now.side)) others.now }
-    ensures ok { OnOk result
-        (found.new ≡ found.old ++ matches theta.now tuple.now which others.now) }
-    ensures err { OnErr result
-        (AppendsFront found.old found.new (matches theta.now tuple.now which others.now)) }
-    ensures steps { OnOk result (steps.new ≡ steps.old + count_by (is_named which) others.now) }
+    requires width { HasWidth query.now.theta.now query.now.tuple.now.side query.now.tuple.now }
+    requires other_widths { All
+        (HasWidth query.now.theta.now (other_side query.now.tuple.now.side)) others.now }
+    ensures ok { OnOk result (found.new ≡ found.old
+        ++ matches query.now.theta.now query.now.tuple.now query.now.which others.now) }
+    ensures err { OnErr result (AppendsFront found.old found.new
+        (matches query.now.theta.now query.now.tuple.now query.now.which others.now)) }
+    ensures steps { OnOk result
+        (steps.new ≡ steps.old + count_by (is_named query.now.which) others.now) }
     ensures looks { OnOk result
-        (looks.new ≡ looks.old + count_by (stands_by None None tuple.now) others.now) }
+        (looks.new ≡ looks.old + count_by (stands_by None None query.now.tuple.now) others.now) }
 {
     looks.note_all(others.len() as u64);
-    scan(tuple, others, theta, which, found, steps)
+    scan(query, others, found, steps)
 }

@@ -5,13 +5,13 @@ ghost use Rattle.join_rows.specs.declared.table.Side.TheVariants.{R as R', S as 
 ghost use Rattle.store_parts.specs.Indexed.{IsIndexed};
 ghost use Rattle.store_parts.specs.Keyed.{FitsKey, IsOwn};
 ghost use Rattle.store_parts.specs.Matches.{HasWidth};
-ghost use Rattle.store_parts.specs.Stored.{kept_of, side_of, with_tuple};
+ghost use Rattle.store_parts.specs.Stored.{kept_of, with_tuple};
 
 use crate::copies::{access_copy, key_copy};
-use crate::index::{Index, index_by};
-use crate::kept_side::{add_to, index_of, kept_side};
+use crate::half::{Half, index_of};
+use crate::index::Index;
 use crate::store::Store;
-use epoch_tags::{Tuple, Tuples};
+use epoch_tags::Tuple;
 use grid_map::Shape;
 use join_rows::Side;
 use std::alloc::{AllocError, Global};
@@ -23,15 +23,13 @@ impl Store {
     pub fn new(alloc: Global, key: Option<KeyAtom>) -> Store
         ensures { result ≡ record { key = key; access = None; r = []; s = [] } }
     {
-        let r_index = index_by(alloc, &key, &None);
-        let s_index = index_by(alloc, &key, &None);
+        let r = Half::new(alloc, &key, &None);
+        let s = Half::new(alloc, &key, &None);
         Store {
             key,
             access: None,
-            r: Tuples::new(alloc),
-            r_index,
-            s: Tuples::new(alloc),
-            s_index,
+            r,
+            s,
             alloc,
         }
     }
@@ -43,8 +41,8 @@ impl Store {
         match self.indexes_by(&access) {
             Ok((r_index, s_index)) => {
                 drop(mem::replace(&mut self.access, access));
-                drop(mem::replace(&mut self.r_index, r_index));
-                drop(mem::replace(&mut self.s_index, s_index));
+                drop(mem::replace(&mut self.r.index, r_index));
+                drop(mem::replace(&mut self.s.index, s_index));
                 Ok(self)
             }
             Err(refused) => {
@@ -61,8 +59,8 @@ impl Store {
         ensures s { IfOk result (λ both. IsIndexed self.now.key access.now S' self.now.s both.1) }
     {
         let alloc = self.alloc;
-        let r_index = index_of(alloc, self.r.as_slice(), &self.key, access, Side::R)?;
-        let s_index = index_of(alloc, self.s.as_slice(), &self.key, access, Side::S)?;
+        let r_index = index_of(alloc, self.r.tuples.as_slice(), &self.key, access, Side::R)?;
+        let s_index = index_of(alloc, self.s.tuples.as_slice(), &self.key, access, Side::S)?;
         Ok((r_index, s_index))
     }
 
@@ -74,24 +72,8 @@ impl Store {
     {
         let alloc = self.alloc;
         match tuple.side {
-            Side::R => add_to(
-                alloc,
-                &mut self.r,
-                &mut self.r_index,
-                &self.key,
-                &self.access,
-                Side::R,
-                tuple,
-            ),
-            Side::S => add_to(
-                alloc,
-                &mut self.s,
-                &mut self.s_index,
-                &self.key,
-                &self.access,
-                Side::S,
-                tuple,
-            ),
+            Side::R => self.r.add(alloc, &self.key, &self.access, Side::R, tuple),
+            Side::S => self.s.add(alloc, &self.key, &self.access, Side::S, tuple),
         }
     }
 
@@ -119,49 +101,26 @@ impl Store {
         }
     }
 
-    // Copies of the tuples of a side that the joiner holds in a grid of this shape, with their index.
-    fn kept_at(&self, side: Side, shape: Shape, id: u32) -> Result<(Tuples, Index), AllocError>
+    // Of both halves what the joiner holds in a grid of this shape.
+    fn kept_halves(&self, shape: Shape, id: u32) -> Result<(Half, Half), AllocError>
         requires shift { shape.shift ≤ shape.k }
         requires k { shape.k ≤ 8 }
         requires id { id < 2 ^ shape.k }
-        ensures kept { IfOk result (λ kept. kept.0 ≡ side_of (kept_of shape id self.now) side) }
-        ensures indexed { IfOk result (λ kept.
-            IsIndexed self.now.key self.now.access side kept.0 kept.1) }
+        ensures r { IfOk result (λ both. both.0.tuples ≡ (kept_of shape id self.now).r) }
+        ensures r_indexed { IfOk result (λ both.
+            IsIndexed self.now.key self.now.access R' both.0.tuples both.0.index) }
+        ensures s { IfOk result (λ both. both.1.tuples ≡ (kept_of shape id self.now).s) }
+        ensures s_indexed { IfOk result (λ both.
+            IsIndexed self.now.key self.now.access S' both.1.tuples both.1.index) }
     {
-        let (tuples, index) = match side {
-            Side::R => (self.r.as_slice(), &self.r_index),
-            Side::S => (self.s.as_slice(), &self.s_index),
-        };
-        kept_side(
-            self.alloc,
-            tuples,
-            index,
-            &self.key,
-            &self.access,
-            side,
-            shape,
-            id,
-        )
-    }
-
-    // The same of both sides.
-    fn kept_sides(
-        &self,
-        shape: Shape,
-        id: u32,
-    ) -> Result<((Tuples, Index), (Tuples, Index)), AllocError>
-        requires shift { shape.shift ≤ shape.k }
-        requires k { shape.k ≤ 8 }
-        requires id { id < 2 ^ shape.k }
-        ensures r { IfOk result (λ both. both.0.0 ≡ (kept_of shape id self.now).r) }
-        ensures r_indexed { IfOk result
-            (λ both. IsIndexed self.now.key self.now.access R' both.0.0 both.0.1) }
-        ensures s { IfOk result (λ both. both.1.0 ≡ (kept_of shape id self.now).s) }
-        ensures s_indexed { IfOk result
-            (λ both. IsIndexed self.now.key self.now.access S' both.1.0 both.1.1) }
-    {
-        let r = self.kept_at(Side::R, shape, id)?;
-        match self.kept_at(Side::S, shape, id) {
+        let alloc = self.alloc;
+        let r = self
+            .r
+            .kept(alloc, &self.key, &self.access, Side::R, shape, id)?;
+        match self
+            .s
+            .kept(alloc, &self.key, &self.access, Side::S, shape, id)
+        {
             Ok(s) => Ok((r, s)),
             Err(refused) => {
                 drop(r);
@@ -178,14 +137,12 @@ impl Store {
         ensures { IfOk result (λ kept. kept ≡ kept_of shape id self.now) }
     {
         let (key, access) = self.ways()?;
-        match self.kept_sides(shape, id) {
-            Ok(((r, r_index), (s, s_index))) => Ok(Store {
+        match self.kept_halves(shape, id) {
+            Ok((r, s)) => Ok(Store {
                 key,
                 access,
                 r,
-                r_index,
                 s,
-                s_index,
                 alloc: self.alloc,
             }),
             Err(refused) => {

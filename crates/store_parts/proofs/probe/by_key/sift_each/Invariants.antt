@@ -5,8 +5,8 @@ use Rattle.store_parts.proofs.probe.by_key.sift_each.Given as goal
 
 abbrev pub invariant-loop-other : goal.invariant-loop-other
 invariant-loop-other g l = record {
-  found : l.found ≡ l.fn.found ++ matches l.theta l.tuple l.which
-      (filter (is_key_true l.key l.tuple) (take l.other-index l.others));
-  steps : l.steps ≡ l.fn.steps + count_by (is_named l.which)
-      (filter (is_key_true l.key l.tuple) (take l.other-index l.others));
+  found : l.found ≡ l.fn.found ++ matches l.query.theta.now l.query.tuple.now l.query.which
+      (filter (is_key_true l.key l.query.tuple.now) (take l.other-index l.others));
+  steps : l.steps ≡ l.fn.steps + count_by (is_named l.query.which)
+      (filter (is_key_true l.key l.query.tuple.now) (take l.other-index l.others));
 }

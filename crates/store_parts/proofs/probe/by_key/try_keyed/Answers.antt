@@ -8,8 +8,9 @@ use Rattle.store_parts.proofs.probe.by_key.try_keyed.Goals as goal
 pub returns-clause-ok : goal.returns-clause-ok
 returns-clause-ok g c =
     let at = c.requires.keyed in
-    let found = ap (matches c.args.theta.now c.args.tuple.now c.args.which) at
-    ∙ matches_by_key c.args.theta.now c.args.key.now c.args.tuple.now c.args.which c.args.others.now
+    let found = ap (matches c.args.query.now.theta.now c.args.query.now.tuple.now c.args.query.now.which) at
+    ∙ matches_by_key c.args.query.now.theta.now c.args.key.now c.args.query.now.tuple.now c.args.query.now.which
+    c.args.others.now
     c.key_law.ensures c.requires.own in
     let P : List Pair → Type 0 = λ pairs. OnOk c.try_places.result (c.try_places.new.found ≡ c.args.found.now
     ++ pairs) in
@@ -18,8 +19,9 @@ returns-clause-ok g c =
 pub returns-clause-err : goal.returns-clause-err
 returns-clause-err g c =
     let at = c.requires.keyed in
-    let found = ap (matches c.args.theta.now c.args.tuple.now c.args.which) at
-    ∙ matches_by_key c.args.theta.now c.args.key.now c.args.tuple.now c.args.which c.args.others.now
+    let found = ap (matches c.args.query.now.theta.now c.args.query.now.tuple.now c.args.query.now.which) at
+    ∙ matches_by_key c.args.query.now.theta.now c.args.key.now c.args.query.now.tuple.now c.args.query.now.which
+    c.args.others.now
     c.key_law.ensures c.requires.own in
     let P : List Pair → Type 0 = λ pairs. OnErr c.try_places.result
     (AppendsFront c.args.found.now c.try_places.new.found pairs) in
@@ -28,7 +30,8 @@ returns-clause-err g c =
 pub returns-clause-steps : goal.returns-clause-steps
 returns-clause-steps g c =
     let at = c.requires.keyed in
-    let counted = ap (count_by (is_named c.args.which)) at ∙ count_by_key c.args.key.now c.args.tuple.now c.args.which
+    let counted = ap (count_by (is_named c.args.query.now.which)) at
+    ∙ count_by_key c.args.key.now c.args.query.now.tuple.now c.args.query.now.which
     c.args.others.now in
     let P : ℕ → Type 0 = λ n. OnOk c.try_places.result (c.try_places.new.steps ≡ c.args.steps.now + n) in
     subst P counted c.try_places.ensures.steps

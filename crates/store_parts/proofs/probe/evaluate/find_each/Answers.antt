@@ -4,5 +4,5 @@ use Rattle.store_parts.proofs.probe.evaluate.find_each.Goals as goal
 
 pub returns-clause-looks : goal.returns-clause-looks
 returns-clause-looks g c =
-    let count = all_seen c.args.tuple.now c.args.others.now in
+    let count = all_seen c.args.query.now.tuple.now c.args.others.now in
     search (rules, count)

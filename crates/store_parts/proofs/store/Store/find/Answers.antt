@@ -9,15 +9,15 @@ pub seek_by-requires-clause-index : goal.seek_by-requires-clause-index
 seek_by-requires-clause-index g c =
     let is : c.args.self.now.access ≡ Some c.in-Some-default.access = search rules in
     index_of_access c.args.self.now.key c.args.self.now.access c.in-Some-default.access
-    (other_side c.args.tuple.now.side)
-    (others_of c.args.self.now c.args.tuple.now) c.others-others.result.now c.others_index-index.result.now is
-    c.others-others.ensures c.others_index-index.ensures.index
+    (other_side c.args.tuple.now.side) c.others-others.result.now.tuples c.others-others.result.now.index is
+    c.others-others.ensures.indexed.index
 
 pub returns-in-Some-default-clause-steps : goal.returns-in-Some-default-clause-steps
 returns-in-Some-default-clause-steps g c =
     let is : c.args.self.now.access ≡ Some c.in-Some-default.access = search rules in
     let count = looked_is c.args.self.now.key c.args.self.now.access c.in-Some-default.access c.args.tuple.now
-    c.args.which (others_of c.args.self.now c.args.tuple.now) c.others-others.result.now is c.others-others.ensures in
+    c.args.which (others_of c.args.self.now c.args.tuple.now)
+    c.others-others.result.now.tuples is c.others-others.ensures.tuples in
     let P : ℕ → Type 0 = λ n. OnOk c.seek_by.result (c.seek_by.new.steps ≡ c.args.steps.now + n) in
     subst P count c.seek_by.ensures.steps
 
@@ -25,6 +25,6 @@ pub returns-in-Some-default-clause-looks : goal.returns-in-Some-default-clause-l
 returns-in-Some-default-clause-looks g c =
     let is : c.args.self.now.access ≡ Some c.in-Some-default.access = search rules in
     let count = stood_is c.args.self.now.key c.args.self.now.access c.in-Some-default.access c.args.tuple.now
-    (others_of c.args.self.now c.args.tuple.now) c.others-others.result.now is c.others-others.ensures in
+    (others_of c.args.self.now c.args.tuple.now) c.others-others.result.now.tuples is c.others-others.ensures.tuples in
     let P : ℕ → Type 0 = λ n. OnOk c.seek_by.result (c.seek_by.new.looks ≡ c.args.looks.now + n) in
     subst P count c.seek_by.ensures.looks

@@ -1,6 +1,6 @@
 use Rattle.std.proofs.Common.{◌≡◌, take}
 use Rattle.store_parts.specs.Indexed.{IsIndexed}
-use Rattle.store_parts.proofs.kept_side.index_of.Given as goal
+use Rattle.store_parts.proofs.half.index_of.Given as goal
 
 abbrev pub invariant-loop-tuple : goal.invariant-loop-tuple
 invariant-loop-tuple l = record {
