@@ -5,7 +5,7 @@ ghost use Rattle.store_parts.specs.Accessed.{IsOwnAccess};
 ghost use Rattle.store_parts.specs.Keyed.{IsOwn};
 ghost use Rattle.store_parts.specs.Stored.{HaveWidths};
 
-use super::probes::finds;
+use super::probes::{Probe, finds};
 use super::rows::{add, cell, row};
 use super::{accessed, key, no_key, over_x_and_a};
 use epoch_tags::Tuple;
@@ -69,16 +69,18 @@ fn find_two(rt: &impl Abort, alloc: Global, theta: &Theta, store: &Store) -> Res
     requires access { IsOwnAccess theta.now store.now.access }
 {
     assert_eq!(rt; store.side(Side::S).len(), 5000);
-    finds(
-        rt,
-        alloc,
-        store,
-        theta,
-        "R 9 0 999 -",
-        Which::All,
-        "[9 999][9 1999][9 2999][9 3999][9 4999]",
-    )?;
-    finds(rt, alloc, store, theta, "R 9 0 1000 -", Which::All, "")
+    let five = Probe {
+        line: "R 9 0 999 -",
+        which: Which::All,
+        wanted: "[9 999][9 1999][9 2999][9 3999][9 4999]",
+    };
+    finds(rt, alloc, store, theta, five)?;
+    let none = Probe {
+        line: "R 9 0 1000 -",
+        which: Which::All,
+        wanted: "",
+    };
+    finds(rt, alloc, store, theta, none)
 }
 
 fn fill_and_find(

@@ -16,6 +16,14 @@ use std::test::*;
 use store_parts::{Steps, Store, Which};
 use theta_pred::Theta;
 
+// What a probe is to find: a row, the stored tuples that it looks at, and the pairs as a text.
+#[derive(Clone, Copy)]
+pub(super) struct Probe<'a> {
+    pub(super) line: &'a str,
+    pub(super) which: Which,
+    pub(super) wanted: &'a str,
+}
+
 // How many tuples a probe evaluates can't be read: a step has no code.
 fn counted<L: Ledger>(
     alloc: Global,
@@ -106,21 +114,21 @@ fn text(alloc: Global, pairs: Pairs) -> Result<String, AllocError> {
 }
 
 // That the pairs that a row finds are told so.
-fn is_told(rt: &impl Abort, told: &str, wanted: &str, line: &str, which: Which, how: &str) {
-    assert_eq!(rt; told, wanted, "{line}, {which:?}{how}");
+fn is_told(rt: &impl Abort, told: &str, probe: Probe<'_>, how: &str) {
+    let line = probe.line;
+    let which = probe.which;
+    assert_eq!(rt; told, probe.wanted, "{line}, {which:?}{how}");
 }
 
 fn tells(
     rt: &impl Abort,
     alloc: Global,
     pairs: Pairs,
-    line: &str,
-    which: Which,
-    wanted: &str,
+    probe: Probe<'_>,
     how: &str,
 ) -> Result<(), AllocError> {
     let told = text(alloc, pairs)?;
-    is_told(rt, told.as_str(), wanted, line, which, how);
+    is_told(rt, told.as_str(), probe, how);
     drop(told);
     Ok(())
 }
@@ -132,27 +140,17 @@ fn finds_both_ways(
     store: &Store,
     theta: &Theta,
     tuple: &Tuple,
-    line: &str,
-    which: Which,
-    wanted: &str,
+    probe: Probe<'_>,
 ) -> Result<(), AllocError>
     requires width { HasWidth theta.now tuple.now.side tuple.now }
     requires widths { HaveWidths theta.now store.now }
     requires own { IsOwn theta.now store.now.key }
     requires access { IsOwnAccess theta.now store.now.access }
 {
-    let first = found(alloc, store, tuple, theta, which)?;
-    tells(rt, alloc, first, line, which, wanted, "")?;
-    let second = found_uncounted(alloc, store, tuple, theta, which)?;
-    tells(
-        rt,
-        alloc,
-        second,
-        line,
-        which,
-        wanted,
-        ", as a joiner finds them",
-    )
+    let first = found(alloc, store, tuple, theta, probe.which)?;
+    tells(rt, alloc, first, probe, "")?;
+    let second = found_uncounted(alloc, store, tuple, theta, probe.which)?;
+    tells(rt, alloc, second, probe, ", as a joiner finds them")
 }
 
 // That a row finds them.
@@ -161,9 +159,7 @@ pub(super) fn finds(
     alloc: Global,
     store: &Store,
     theta: &Theta,
-    line: &str,
-    which: Which,
-    wanted: &str,
+    probe: Probe<'_>,
 ) -> Result<(), AllocError>
     requires r { theta.now.width_r ≡ 2 }
     requires s { theta.now.width_s ≡ 2 }
@@ -171,8 +167,8 @@ pub(super) fn finds(
     requires own { IsOwn theta.now store.now.key }
     requires access { IsOwnAccess theta.now store.now.access }
 {
-    let tuple = tuple(alloc, line)?;
-    let outcome = finds_both_ways(rt, alloc, store, theta, &tuple, line, which, wanted);
+    let tuple = tuple(alloc, probe.line)?;
+    let outcome = finds_both_ways(rt, alloc, store, theta, &tuple, probe);
     drop(tuple);
     outcome
 }
@@ -204,7 +200,13 @@ fn find_one(
     let Some((word, wanted)) = rest.split_once(" finds ") else {
         return Err(AllocError);
     };
-    finds(rt, alloc, store, theta, line, named(word), wanted)
+    let which = named(word);
+    let probe = Probe {
+        line,
+        which,
+        wanted,
+    };
+    finds(rt, alloc, store, theta, probe)
 }
 
 // That each of these does.
