@@ -1,8 +1,8 @@
 //! The report of a run as a value, and its text.
 #![tactic(auto)]
 
+mod lines;
 mod report;
-mod text;
 
 pub use report::{Growth, Joiner, Joiners, Report, Step, Steps};
 
