@@ -4,6 +4,6 @@ pub mod Pieces
 pub mod Puts
 mod RowSteps
 mod RowsRead
+pub mod StepsTold
 mod Sums
-pub mod Told
 mod Worked

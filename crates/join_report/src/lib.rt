@@ -5,16 +5,16 @@
 mod grids;
 mod pairs;
 mod put;
-mod report;
 mod report_texts;
 mod rows;
 mod summary;
+mod told;
 mod waves;
 
 pub use pairs::pairs_text;
 pub use put::put_all;
-pub use report::{report_of_grown_run, report_of_run};
 pub use report_texts::{grown_report_text, report_text};
 pub use rows::rows_text;
 pub use summary::summary_text;
+pub use told::{report_of_grown_run, report_of_run};
 pub use waves::sum_counts;

@@ -4,7 +4,7 @@ ghost use Rattle.std.specs.Prelude.{◌≡◌, ◌<◌, ◌≤◌, ◌+◌, ◌^
 ghost use Rattle.trace_law.specs.Validity.{IsValidSetting};
 ghost use Rattle.join_report.specs.Report.{AreWithin, grown_report_of, report_of};
 
-use crate::report::{report_of_grown_run, report_of_run};
+use crate::told::{report_of_grown_run, report_of_run};
 use grid_map::Shape;
 use std::alloc::{AllocError, Global};
 use trace_law::{Run, Setting};

@@ -13,7 +13,7 @@ use Rattle.trace_law.specs.Validity.{IsValidSetting}
 use Rattle.report_lines.specs.declared.report.Step.{Step}
 use Rattle.report_lines.specs.Grids.{HasSides}
 use Rattle.join_report.specs.Report.{first_shift, joiners_told, last_shift, last_shift_from, steps_told}
-use Rattle.join_report.proofs.Told.{steps_length}
+use Rattle.join_report.proofs.StepsTold.{steps_length}
 use Rattle.report_picture.specs.Reading.{MovedFits}
 use Rattle.report_law.specs.Readable.{GrownReportableIsRead, ReportableIsRead}
 use Rattle.report_law.proofs.Steps.{all_joiners, columns_side, joiners_fit, joiners_length, moved_told}

@@ -2,7 +2,7 @@ use Rattle.std.proofs.Common.{◌≤◌, ◌∙◌, List, [], ◌∷◌, ◌++�
 use Rattle.report_lines.specs.declared.report.Joiner.{Joiner}
 use Rattle.join_report.specs.Report.{joiner_told, joiners_told}
 use Rattle.join_report.proofs.Sums.{zip2_more, zip2_whole}
-use Rattle.join_report.proofs.report.joiners_of.Goals as goal
+use Rattle.join_report.proofs.told.joiners_of.Goals as goal
 
 pub loop-id-preserved : goal.loop-id-preserved
 loop-id-preserved c =

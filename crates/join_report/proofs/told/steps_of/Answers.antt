@@ -2,8 +2,8 @@ use Rattle.std.proofs.Common.{◌≡◌, ◌∙◌, ◌++◌, ℕ, List, [], ◌
 use Rattle.std.proofs.lemmas.List.{take_all}
 use Rattle.report_lines.specs.declared.report.Step.{Step}
 use Rattle.join_report.specs.Report.{step_at, steps_told}
-use Rattle.join_report.proofs.Told.{steps_length, steps_more}
-use Rattle.join_report.proofs.report.steps_of.Goals as goal
+use Rattle.join_report.proofs.StepsTold.{steps_length, steps_more}
+use Rattle.join_report.proofs.told.steps_of.Goals as goal
 
 pub loop-place-preserved : goal.loop-place-preserved
 loop-place-preserved c =

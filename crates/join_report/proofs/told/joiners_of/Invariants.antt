@@ -1,6 +1,6 @@
 use Rattle.std.proofs.Common.{◌≡◌, length, take, min}
 use Rattle.join_report.specs.Report.{joiners_told}
-use Rattle.join_report.proofs.report.joiners_of.Given as goal
+use Rattle.join_report.proofs.told.joiners_of.Given as goal
 
 abbrev pub invariant-loop-id : goal.invariant-loop-id
 invariant-loop-id l = record {
