@@ -1,5 +1,5 @@
 -- Worked rows.
-use Rattle.std.specs.Prelude.{◌≡◌, ℕ, List, [], ◌∷◌, Some, None, false, codes, refl}
+use Rattle.std.specs.Prelude.{◌≡◌, ◌++◌, ℕ, List, [], ◌∷◌, Some, None, false, codes, refl}
 use Rattle.std.specs.Fmt.{digits}
 use Rattle.epoch_tags.specs.declared.tuple.Pair.{Pair}
 use Rattle.load_controller.specs.declared.line.Cause.TheVariants.{Start}
@@ -60,7 +60,9 @@ two_steps = record {
 
 -- the report of a run of two steps, from shift 1 to 0 and back, of 8 rows a side
 pub report_of_two_steps : report_of four_joiners 8 8 two_steps
-    ≡ codes "input 8 8\ngrid 1 4 1 moved 0\ngrid 2 2 2 moved 8\nfinal 2 2 copies 32 best 32\njoiner 0 held 4 4 made 16\njoiner 1 held 4 4 made 16\njoiner 2 held 4 4 made 16\njoiner 3 held 4 4 made 16\n"
+    ≡ codes "input 8 8\ngrid 1 4 1 moved 0\ngrid 2 2 2 moved 8\nfinal 2 2 copies 32 best 32\n"
+    ++ codes "joiner 0 held 4 4 made 16\njoiner 1 held 4 4 made 16\njoiner 2 held 4 4 made 16\n"
+    ++ codes "joiner 3 held 4 4 made 16\n"
 unfolding digits
 report_of_two_steps = refl
 
@@ -92,13 +94,15 @@ no_steps = record {
 
 -- the report of a grid that stays as it is
 pub report_of_no_steps : report_of (fixed_at_0 1) 3 3 no_steps
-    ≡ codes "input 3 3\nfinal 4 1 copies 15 best 12\njoiner 0 held 0 3 made 0\njoiner 1 held 1 3 made 2\njoiner 2 held 2 3 made 1\njoiner 3 held 0 3 made 0\n"
+    ≡ codes "input 3 3\nfinal 4 1 copies 15 best 12\njoiner 0 held 0 3 made 0\n"
+    ++ codes "joiner 1 held 1 3 made 2\njoiner 2 held 2 3 made 1\njoiner 3 held 0 3 made 0\n"
 unfolding digits
 report_of_no_steps = refl
 
 -- with a row of R that weighs 4, no shift is better
 pub report_of_heavy_rows : report_of (fixed_at_0 4) 3 3 no_steps
-    ≡ codes "input 3 3\nfinal 4 1 copies 24 best 24\njoiner 0 held 0 3 made 0\njoiner 1 held 1 3 made 2\njoiner 2 held 2 3 made 1\njoiner 3 held 0 3 made 0\n"
+    ≡ codes "input 3 3\nfinal 4 1 copies 24 best 24\njoiner 0 held 0 3 made 0\n"
+    ++ codes "joiner 1 held 1 3 made 2\njoiner 2 held 2 3 made 1\njoiner 3 held 0 3 made 0\n"
 unfolding digits
 report_of_heavy_rows = refl
 
@@ -130,7 +134,8 @@ one_step = record {
 
 -- the report of a run with one step, where a row of R weighs as much as two of S
 pub report_of_one_step : report_of twice_as_heavy 8 8 one_step
-    ≡ codes "input 8 8\ngrid 1 4 1 moved 0\nfinal 4 1 copies 48 best 48\njoiner 0 held 2 8 made 16\njoiner 1 held 2 8 made 16\njoiner 2 held 2 8 made 16\njoiner 3 held 2 8 made 16\n"
+    ≡ codes "input 8 8\ngrid 1 4 1 moved 0\nfinal 4 1 copies 48 best 48\njoiner 0 held 2 8 made 16\n"
+    ++ codes "joiner 1 held 2 8 made 16\njoiner 2 held 2 8 made 16\njoiner 3 held 2 8 made 16\n"
 unfolding digits
 report_of_one_step = refl
 
@@ -171,7 +176,8 @@ split = record {
 
 -- the report of a run that grew without a step
 pub report_of_growth : grown_report_of one_joiner 2 2 alone (record { k = 2; shift = 1 }) 8 split
-    ≡ codes "input 2 2\ngrow 2 2 placed 8\nfinal 2 2 copies 8 best 8\njoiner 0 held 1 1 made 1\njoiner 1 held 1 1 made 0\njoiner 2 held 1 1 made 0\njoiner 3 held 1 1 made 1\n"
+    ≡ codes "input 2 2\ngrow 2 2 placed 8\nfinal 2 2 copies 8 best 8\njoiner 0 held 1 1 made 1\n"
+    ++ codes "joiner 1 held 1 1 made 0\njoiner 2 held 1 1 made 0\njoiner 3 held 1 1 made 1\n"
 unfolding digits
 report_of_growth = refl
 
@@ -209,7 +215,8 @@ row_of_eight = record {
 
 -- the steps since the growth are counted on
 pub report_of_growth_and_steps : grown_report_of two_joiners 1 9 widened (record { k = 3; shift = 2 }) 22 row_of_eight
-    ≡ codes "input 1 9\ngrid 1 1 2 moved 2\ngrow 2 4 placed 22\ngrid 2 1 8 moved 8\nfinal 1 8 copies 17 best 17\njoiner 0 held 1 2 made 3\njoiner 1 held 1 1 made 4\n"
+    ≡ codes "input 1 9\ngrid 1 1 2 moved 2\ngrow 2 4 placed 22\ngrid 2 1 8 moved 8\n"
+    ++ codes "final 1 8 copies 17 best 17\njoiner 0 held 1 2 made 3\njoiner 1 held 1 1 made 4\n"
 unfolding digits
 report_of_growth_and_steps = refl
 
