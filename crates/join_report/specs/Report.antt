@@ -1,5 +1,5 @@
 -- The report of a run of this setting, with x rows of R and y of S, and of one whose joiners have split.
-use Rattle.std.specs.Prelude.{ℕ, ◌+◌, ◌*◌, ◌≤◌, All, List, [], Option, None, Some, length, map}
+use Rattle.std.specs.Prelude.{ℕ, ◌+◌, ◌*◌, ◌^◌, ◌≤◌, ◌<◌, All, List, [], Option, None, Some, length, map}
 use Rattle.std.specs.List.{enumerate_from}
 use Rattle.std.specs.Simd.Lanes.{zip2}
 use Rattle.grid_map.specs.Grid.{rows, columns}
@@ -17,10 +17,20 @@ use Rattle.report_lines.specs.declared.report.Joiner.{Joiner}
 use Rattle.report_lines.specs.declared.report.Report.{Report}
 use Rattle.report_lines.specs.declared.report.Step.{Step}
 use Rattle.report_lines.specs.Lines.{report_lines}
+use Rattle.join_report.specs.declared.told.GrownRun.{GrownRun}
 
 -- the shifts of a journal are those of a grid of 2 ^ k joiners
 abbrev pub AreWithin : ℕ → List TurnLine → Type 0
 AreWithin k journal = All (λ line. line.shift ≤ k) journal
+
+-- what is asked of a run whose joiners have split: no shift past its grid, of 2 ^ k joiners before the growth and at
+-- most 2 ^ 8 since, and few steps
+pub record IsGrownWithin (k : ℕ) (grown : GrownRun) : Type 0 where
+  pub before : AreWithin k grown.before.now.journal
+  pub shift : grown.shape.shift ≤ grown.shape.k
+  pub size : grown.shape.k ≤ 8
+  pub after : AreWithin grown.shape.k grown.after.now.journal
+  pub steps : length grown.before.now.moved + length grown.after.now.moved < 2 ^ 32
 
 -- ---- what is told
 

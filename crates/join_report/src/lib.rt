@@ -16,5 +16,5 @@ pub use put::put_all;
 pub use report_texts::{grown_report_text, report_text};
 pub use rows::rows_text;
 pub use summary::summary_text;
-pub use told::{report_of_grown_run, report_of_run};
+pub use told::{GrownRun, report_of_grown_run, report_of_run};
 pub use waves::sum_counts;

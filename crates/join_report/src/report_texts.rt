@@ -1,11 +1,10 @@
 // The text of the report of a run, and of one whose joiners have split.
 
-ghost use Rattle.std.specs.Prelude.{◌≡◌, ◌<◌, ◌≤◌, ◌+◌, ◌^◌, IfOk, length, string_bytes};
+ghost use Rattle.std.specs.Prelude.{◌≡◌, ◌<◌, ◌≤◌, ◌^◌, IfOk, length, string_bytes};
 ghost use Rattle.trace_law.specs.Validity.{IsValidSetting};
-ghost use Rattle.join_report.specs.Report.{AreWithin, grown_report_of, report_of};
+ghost use Rattle.join_report.specs.Report.{AreWithin, IsGrownWithin, grown_report_of, report_of};
 
-use crate::told::{report_of_grown_run, report_of_run};
-use grid_map::Shape;
+use crate::told::{GrownRun, report_of_grown_run, report_of_run};
 use std::alloc::{AllocError, Global};
 use trace_law::{Run, Setting};
 
@@ -30,29 +29,21 @@ pub fn report_text(
     report.text(alloc)
 }
 
-/// The report of a run in several waves, between two of which each joiner split into four: the lines of what
-/// `report_of_grown_run` tells. Of `before` only the steps are told.
+/// The report of a grown run: the lines of what `report_of_grown_run` tells.
 pub fn grown_report_text(
     alloc: Global,
     setting: &Setting,
     rows_r: u64,
     rows_s: u64,
-    before: &Run,
-    shape: Shape,
-    placed: u64,
-    after: &Run,
+    grown: &GrownRun<'_>,
 ) -> Result<String, AllocError>
     requires setting { IsValidSetting setting.now }
-    requires before { AreWithin setting.now.k before.now.journal }
-    requires shift { shape.shift ≤ shape.k }
-    requires k { shape.k ≤ 8 }
-    requires after { AreWithin shape.k after.now.journal }
-    requires steps { length before.now.moved + length after.now.moved < 2 ^ 32 }
+    requires grown { IsGrownWithin setting.now.k grown.now }
     requires rows_r { rows_r ≤ 2 ^ 32 }
     requires rows_s { rows_s ≤ 2 ^ 32 }
-    ensures { IfOk result (λ text. string_bytes text
-        ≡ grown_report_of setting.now rows_r rows_s before.now shape placed after.now) }
+    ensures { IfOk result (λ text. string_bytes text ≡ grown_report_of setting.now rows_r rows_s
+        grown.now.before.now grown.now.shape grown.now.placed grown.now.after.now) }
 {
-    let report = report_of_grown_run(alloc, setting, rows_r, rows_s, before, shape, placed, after)?;
+    let report = report_of_grown_run(alloc, setting, rows_r, rows_s, grown)?;
     report.text(alloc)
 }

@@ -3,8 +3,8 @@
 ghost use Rattle.std.specs.Prelude.{◌≡◌, ◌<◌, ◌≤◌, ◌+◌, ◌^◌, [], None as None', Some as Some', IfOk, length};
 ghost use Rattle.grid_map.specs.Load.{AreWeights};
 ghost use Rattle.trace_law.specs.Validity.{IsValidSetting};
-ghost use Rattle.join_report.specs.Report.{AreWithin, grown_told, growth_told, joiner_told, joiners_told};
-ghost use Rattle.join_report.specs.Report.{step_at as step_at', steps_told, told, told_at};
+ghost use Rattle.join_report.specs.Report.{AreWithin, IsGrownWithin, grown_told, growth_told, joiner_told};
+ghost use Rattle.join_report.specs.Report.{joiners_told, step_at as step_at', steps_told, told, told_at};
 
 use crate::grids::{columns, first_grid, last_grid, least_copies, rows, shift_at};
 use epoch_tags::Counts;
@@ -86,25 +86,36 @@ fn joiners_of(alloc: Global, loads: &Loads, made: &Counts) -> Result<Joiners, Al
     Ok(joiners)
 }
 
-/// What is told of these steps, which end in this grid.
-fn report_at(
-    weights: Weights,
-    rows_r: u64,
-    rows_s: u64,
+/// How the grid changed, as far as to its last shape.
+struct Changes {
     steps: Steps,
     growth: Option<Growth>,
     later: Steps,
     last: Shape,
+}
+
+/// What is told of these changes.
+fn report_at(
+    weights: Weights,
+    rows_r: u64,
+    rows_s: u64,
+    changes: Changes,
     joiners: Joiners,
 ) -> Report
     requires weights { AreWeights weights }
     requires rows_r { rows_r ≤ 2 ^ 32 }
     requires rows_s { rows_s ≤ 2 ^ 32 }
-    requires shift { last.shift ≤ last.k }
-    requires k { last.k ≤ 8 }
-    ensures { result
-        ≡ told_at weights rows_r rows_s steps growth later last.k last.shift joiners }
+    requires shift { changes.last.shift ≤ changes.last.k }
+    requires k { changes.last.k ≤ 8 }
+    ensures { result ≡ told_at weights rows_r rows_s
+        changes.steps changes.growth changes.later changes.last.k changes.last.shift joiners }
 {
+    let Changes {
+        steps,
+        growth,
+        later,
+        last,
+    } = changes;
     Report {
         x: rows_r,
         y: rows_s,
@@ -142,60 +153,63 @@ pub fn report_of_run(
     let steps = steps_of(alloc, first, 0, &run.journal, &run.moved)?;
     let last = last_grid(first, &run.journal);
     let joiners = joiners_of(alloc, &run.loads, &run.made)?;
-    let later = Steps::new(alloc);
-    Ok(report_at(
-        setting.weights,
-        rows_r,
-        rows_s,
+    let changes = Changes {
         steps,
-        None,
-        later,
+        growth: None,
+        later: Steps::new(alloc),
         last,
-        joiners,
-    ))
+    };
+    Ok(report_at(setting.weights, rows_r, rows_s, changes, joiners))
 }
 
-/// What the report of a run in several waves tells, between two of which each joiner split into four: the steps of
-/// `before`, the waves that the setting's own grid ran; the grid of this shape, that they split into, and how many
-/// tuples the new joiners were given; and of `after`, the waves since, the steps, the last grid and the joiners. Each
-/// is as in `report_of_run`.
+/// A run in several waves, between two of which each joiner split into four.
+#[derive(Clone, Copy)]
+pub struct GrownRun<'a> {
+    /// The waves that the setting's own grid ran.
+    pub before: &'a Run,
+    /// The grid that the joiners split into.
+    pub shape: Shape,
+    /// How many tuples the new joiners were given.
+    pub placed: u64,
+    /// The waves since.
+    pub after: &'a Run,
+}
+
+/// What the report of a grown run tells: the steps before the growth, and nothing else of the waves before it; the grid
+/// that the joiners split into, and how many tuples the new ones were given; and of the waves since, the steps, the
+/// last grid and the joiners. Each is as in `report_of_run`.
 pub fn report_of_grown_run(
     alloc: Global,
     setting: &Setting,
     rows_r: u64,
     rows_s: u64,
-    before: &Run,
-    shape: Shape,
-    placed: u64,
-    after: &Run,
+    grown: &GrownRun<'_>,
 ) -> Result<Report, AllocError>
     requires setting { IsValidSetting setting.now }
-    requires before { AreWithin setting.now.k before.now.journal }
-    requires shift { shape.shift ≤ shape.k }
-    requires k { shape.k ≤ 8 }
-    requires after { AreWithin shape.k after.now.journal }
-    requires steps { length before.now.moved + length after.now.moved < 2 ^ 32 }
+    requires grown { IsGrownWithin setting.now.k grown.now }
     requires rows_r { rows_r ≤ 2 ^ 32 }
     requires rows_s { rows_s ≤ 2 ^ 32 }
-    ensures told { IfOk result (λ report. report
-        ≡ grown_told setting.now rows_r rows_s before.now shape placed after.now) }
+    ensures told { IfOk result (λ report. report ≡ grown_told setting.now rows_r rows_s
+        grown.now.before.now grown.now.shape grown.now.placed grown.now.after.now) }
     ensures few { IfOk result (λ report. length report.steps + length report.later < 2 ^ 32) }
 {
+    let GrownRun {
+        before,
+        shape,
+        placed,
+        after,
+    } = *grown;
     let first = first_grid(setting);
     let steps = steps_of(alloc, first, 0, &before.journal, &before.moved)?;
     let earlier = before.moved.len();
     let later = steps_of(alloc, shape, earlier, &after.journal, &after.moved)?;
     let last = last_grid(shape, &after.journal);
     let joiners = joiners_of(alloc, &after.loads, &after.made)?;
-    let growth = growth_of(shape, placed);
-    Ok(report_at(
-        setting.weights,
-        rows_r,
-        rows_s,
+    let changes = Changes {
         steps,
-        Some(growth),
+        growth: Some(growth_of(shape, placed)),
         later,
         last,
-        joiners,
-    ))
+    };
+    Ok(report_at(setting.weights, rows_r, rows_s, changes, joiners))
 }

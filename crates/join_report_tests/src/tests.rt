@@ -8,7 +8,8 @@ use crate::runs::{push_counts, run_of};
 use epoch_tags::{Counts, Pair};
 use grid_map::{Shape, Weights};
 use join_report::{
-    grown_report_text, pairs_text, report_of_grown_run, report_of_run, report_text, sum_counts,
+    GrownRun, grown_report_text, pairs_text, report_of_grown_run, report_of_run, report_text,
+    sum_counts,
 };
 use report_lines::Report;
 use row_tickets::Feed;
@@ -254,7 +255,13 @@ fn report_from_two(alloc: Global, before: &Run) -> Result<String, AllocError>
         &[(1, 2), (2, 3), (2, 3)],
     )?;
     let shape = Shape { k: 3, shift: 2 };
-    let text = grown_report_text(alloc, &setting, 1, 9, before, shape, 22, &after);
+    let grown = GrownRun {
+        before,
+        shape,
+        placed: 22,
+        after: &after,
+    };
+    let text = grown_report_text(alloc, &setting, 1, 9, &grown);
     drop(after);
     text
 }
@@ -307,7 +314,13 @@ fn report_from_one(alloc: Global, before: &Run) -> Result<String, AllocError>
         &[(0, 1), (0, 1)],
     )?;
     let shape = Shape { k: 2, shift: 1 };
-    let text = grown_report_text(alloc, &setting, 2, 2, before, shape, 8, &after);
+    let grown = GrownRun {
+        before,
+        shape,
+        placed: 8,
+        after: &after,
+    };
+    let text = grown_report_text(alloc, &setting, 2, 2, &grown);
     drop(after);
     text
 }
@@ -346,7 +359,13 @@ fn told_from_one(alloc: Global, run: &Run) -> Result<Report, AllocError>
     };
     let after = run_of(alloc, &[0], &[(0, 0)], &[], 2, &[(0, 1)])?;
     let shape = Shape { k: 2, shift: 1 };
-    let report = report_of_grown_run(alloc, &setting, 2, 2, run, shape, 8, &after);
+    let grown = GrownRun {
+        before: run,
+        shape,
+        placed: 8,
+        after: &after,
+    };
+    let report = report_of_grown_run(alloc, &setting, 2, 2, &grown);
     drop(after);
     report
 }
