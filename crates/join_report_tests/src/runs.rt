@@ -1,6 +1,6 @@
 // What runs answer, for the tests.
 
-ghost use Rattle.std.specs.Prelude.{◌≡◌, ◌<◌, ◌^◌, ◌++◌, IfOk, OnOk};
+ghost use Rattle.std.specs.Prelude.{◌≡◌, ◌++◌, IfOk, OnOk};
 ghost use Rattle.join_report.specs.Report.{AreWithin};
 
 use epoch_tags::{Counts, Pairs};
