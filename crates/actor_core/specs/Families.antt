@@ -7,31 +7,27 @@ use Rattle.epoch_tags.specs.declared.message.Msg.{Msg}
 use Rattle.epoch_tags.specs.declared.message.Post.{Post}
 use Rattle.load_controller.specs.Journal.{begun}
 use Rattle.load_controller.specs.declared.line.TurnLine.{TurnLine}
-use Rattle.trace_law.specs.declared.input.Input.{Input}
 use Rattle.trace_law.specs.declared.setting.Setting.{Setting}
-use Rattle.trace_law.specs.Family.{Family, Rest, feeder_start, joiner_start, rules_of, first_rest}
+use Rattle.trace_law.specs.Family.{Family, feeder_start, joiner_start, rules_of}
 use Rattle.actor_core.specs.declared.cast.Cast.{Cast}
 use Rattle.actor_core.specs.Lists.{ActorLists, Cause, Took, Began, same_actor, posted_to, feeder_lists, joiner_lists}
 use Rattle.actor_core.specs.Lists.{controller_lists, collector_lists, with_event}
 use Rattle.actor_core.specs.Numbers.{number, at_number}
 use Rattle.actor_core.specs.Standing.{Start, OfFeeder, OfJoiner, OfController, OfCollector}
+use Rattle.actor_core.specs.Tasks.{Task}
 use Rattle.actor_core.specs.declared.machines.Core.{Core}
 use Rattle.actor_core.specs.declared.machines.Core.TheVariants.{Feeder as TheFeeder, Joiner as TheJoiner}
 use Rattle.actor_core.specs.declared.machines.Core.TheVariants.{Controller as TheController, Collector as TheCollector}
 
--- how each actor of a wave begins that goes on from this rest
-abbrev pub start_in_wave : Input → Setting → Rest → Actor → Start
-start_in_wave input setting rest (Feeder p) = OfFeeder p setting.feeders (feeder_start input setting rest p)
-start_in_wave input setting rest (Joiner j) = OfJoiner (joiner_start input setting rest j)
-start_in_wave input setting rest Controller = OfController (record {
-  rules = rules_of setting;
-  first = begun rest.line;
+-- how each actor begins
+abbrev pub start_for : Task → Actor → Start
+start_for task (Feeder p) = OfFeeder p task.setting.feeders (feeder_start task.input task.setting task.rest p)
+start_for task (Joiner j) = OfJoiner (joiner_start task.input task.setting task.rest j)
+start_for task Controller = OfController (record {
+  rules = rules_of task.setting;
+  first = begun task.rest.line;
 })
-start_in_wave input setting rest Collector = OfCollector (2 ^ setting.k)
-
--- how each actor of a run begins, that is of the wave that begins with no rows
-abbrev pub start_for : Input → Setting → Actor → Start
-start_for input setting a = start_in_wave input setting (first_rest setting) a
+start_for task Collector = OfCollector (2 ^ task.setting.k)
 
 -- the actor is one of the run
 abbrev pub IsActor : Setting → Actor → Type 0

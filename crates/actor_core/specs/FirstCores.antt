@@ -7,11 +7,10 @@ use Rattle.joiner_core.specs.Beginnings.{HasBegun}
 use Rattle.joiner_core.specs.Standing.{JoinerState}
 use Rattle.load_controller.specs.Standing.{just_begun as controller_begun}
 use Rattle.pair_collector.specs.Standing.{just_begun as collector_begun}
-use Rattle.trace_law.specs.declared.input.Input.{Input}
-use Rattle.trace_law.specs.declared.setting.Setting.{Setting}
 use Rattle.actor_core.specs.Families.{start_for}
 use Rattle.actor_core.specs.Numbers.{actor_at, cast_of}
 use Rattle.actor_core.specs.Standing.{Start, OfFeeder, OfJoiner, OfController, OfCollector}
+use Rattle.actor_core.specs.Tasks.{Task}
 use Rattle.actor_core.specs.declared.machines.Core.{Core}
 use Rattle.actor_core.specs.declared.machines.Core.TheVariants.{Feeder as TheFeeder, Joiner as TheJoiner}
 use Rattle.actor_core.specs.declared.machines.Core.TheVariants.{Controller as TheController, Collector as TheCollector}
@@ -29,10 +28,9 @@ IsFirst theta (OfJoiner start) core = IsFirstJoiner theta start core
 IsFirst theta (OfController start) core = core ≡ TheController (controller_begun start.rules start.first)
 IsFirst theta (OfCollector joiners) core = core ≡ TheCollector (collector_begun joiners)
 
--- the machine with this number, as a run of this input and setting begins with it
-abbrev pub IsFirstAt : Input → Setting → ℕ → Core → Type 0
-IsFirstAt input setting n core =
-    IsFirst input.theta (start_for input setting (actor_at (cast_of setting) n)) core
+-- the machine with this number, as the task begins with it
+abbrev pub IsFirstAt : Task → ℕ → Core → Type 0
+IsFirstAt task n core = IsFirst task.input.theta (start_for task (actor_at (cast_of task.setting) n)) core
 
 -- two machines that have begun so are one
 abbrev pub FirstCoresAreOne : Type 0

@@ -2,6 +2,7 @@ pub mod Lists
 pub mod Effects
 pub mod Standing
 pub mod Numbers
+pub mod Tasks
 pub mod Families
 pub mod Elements
 pub mod Endings

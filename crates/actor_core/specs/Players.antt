@@ -11,14 +11,14 @@ use Rattle.epoch_tags.specs.declared.message.Msg.{Msg}
 use Rattle.epoch_tags.specs.declared.message.Post.{Post}
 use Rattle.load_controller.specs.declared.line.TurnLine.{TurnLine}
 use Rattle.pair_collector.specs.Standing.{is_complete}
-use Rattle.trace_law.specs.declared.input.Input.{Input}
 use Rattle.trace_law.specs.declared.setting.Setting.{Setting}
-use Rattle.trace_law.specs.Family.{Rest, IsAgreeing, IsFinished, first_rest}
+use Rattle.trace_law.specs.Family.{IsFinished}
 use Rattle.actor_core.specs.declared.cast.Cast.{Cast}
 use Rattle.actor_core.specs.Lists.{ActorLists, Cause, Took, Began, no_lists, with_event}
 use Rattle.actor_core.specs.Standing.{Event, Stands, Waits, IsLive, given_by}
-use Rattle.actor_core.specs.Families.{AreFronts, IsActor, core_in, family_of, journal_of, start_in_wave}
+use Rattle.actor_core.specs.Families.{AreFronts, IsActor, core_in, family_of, journal_of, start_for}
 use Rattle.actor_core.specs.Numbers.{at_number, cast_of, count_of, number}
+use Rattle.actor_core.specs.Tasks.{Task, Agrees}
 use Rattle.actor_core.specs.declared.machines.Core.{Core}
 use Rattle.actor_core.specs.declared.machines.Core.TheVariants.{Feeder as TheFeeder, Joiner as TheJoiner}
 use Rattle.actor_core.specs.declared.machines.Core.TheVariants.{Controller as TheController, Collector as TheCollector}
@@ -54,19 +54,12 @@ Runs (suc n) old new = (middle : Player) × Runs n old middle × MakesEvent midd
 
 -- ---- all actors of a run: their machines by numbers, and their lists
 
--- there is a machine for each actor; it began as this input, this setting and this rest say, and stands for the
--- actor's lists
-pub record AllStandInWave (input : Input) (setting : Setting) (rest : Rest) (cast : Cast) (cores : List Core)
-    (f : Actor → ActorLists) : Type 0 where
-  pub cast_is : cast ≡ cast_of setting
+-- there is a machine for each actor; it began as the task says, and stands for the actor's lists
+pub record AllStand (task : Task) (cast : Cast) (cores : List Core) (f : Actor → ActorLists) : Type 0 where
+  pub cast_is : cast ≡ cast_of task.setting
   pub all : length cores ≡ count_of cast
-  pub stands : (a : Actor) → IsActor setting a → (core : Core) × (core_in cast cores a ≡ Some core)
-      × Stands (start_in_wave input setting rest a) (f a) core
-
--- the same of a run, that is of the wave that begins with no rows
-abbrev pub AllStand : Input → Setting → Cast → List Core → (Actor → ActorLists) → Type 0
-AllStand input setting cast cores f =
-    AllStandInWave input setting (first_rest setting) cast cores f
+  pub stands : (a : Actor) → IsActor task.setting a → (core : Core) × (core_in cast cores a ≡ Some core)
+      × Stands (start_for task a) (f a) core
 
 -- each list is a front of the later one
 pub record Extends (old new : Actor → ActorLists) : Type 0 where
@@ -129,12 +122,7 @@ is_complete_at (Some core) = is_complete_core core
 abbrev pub is_complete_among : Cast → List Core → Bool
 is_complete_among cast cores = is_complete_at (core_in cast cores Collector)
 
--- these lists and this journal are a family of the input, the setting and the rest that agrees and is finished
-pub record IsFinishedWave (input : Input) (setting : Setting) (rest : Rest) (journal : List TurnLine)
-    (lists : Actor → ActorLists) : Type 0 where
-  pub agrees : IsAgreeing input setting rest (family_of journal lists)
-  pub finished : IsFinished input setting rest (family_of journal lists) agrees
-
--- the same of a run, that is of the wave that begins with no rows
-abbrev pub IsFinishedFamily : Input → Setting → List TurnLine → (Actor → ActorLists) → Type 0
-IsFinishedFamily input setting journal lists = IsFinishedWave input setting (first_rest setting) journal lists
+-- these lists and this journal are a family of the task that agrees and is finished
+pub record IsFinishedFamily (task : Task) (journal : List TurnLine) (lists : Actor → ActorLists) : Type 0 where
+  pub agrees : Agrees task (family_of journal lists)
+  pub finished : IsFinished task.input task.setting task.rest (family_of journal lists) agrees

@@ -14,10 +14,11 @@ use Rattle.trace_law.specs.Family.{Rest as WaveRest}
 use Rattle.actor_core.specs.declared.machines.Core.{Core}
 use Rattle.actor_core.specs.declared.rests.Rest.{Rest}
 use Rattle.actor_core.specs.declared.rests.Upto.{Upto}
-use Rattle.actor_core.specs.Families.{start_in_wave}
+use Rattle.actor_core.specs.Families.{start_for}
 use Rattle.actor_core.specs.Lists.{no_lists}
 use Rattle.actor_core.specs.Numbers.{actor_at, cast_of}
 use Rattle.actor_core.specs.Standing.{Stands, HasGivenNone, IsLive, JoinsBy}
+use Rattle.actor_core.specs.Tasks.{Task}
 
 -- ---- where a wave ends
 
@@ -52,6 +53,10 @@ tuples_at stores j = slice_index_or (map tuples_of stores) j []
 -- the line and what each joiner has stored, as the laws of a wave have them
 abbrev pub rest_of : Rest → WaveRest
 rest_of rest = record { line = rest.line; stores = tuples_at rest.stores }
+
+-- the task of a wave that goes on from this rest and ends there
+abbrev pub task_upto : Upto → Input → Setting → Rest → Task
+task_upto end input setting rest = record { input = upto end input; setting = setting; rest = rest_of rest }
 
 -- the rest stands for the input: it has a store for each joiner, with the key of the input's predicate, and its line
 -- and what they store are a rest of the input
@@ -88,13 +93,13 @@ abbrev pub with_base : TurnLine → List Tuple → WaveRest
 with_base line tuples = record { line = line; stores = λ j. tuples }
 
 -- the machine of the actor with this number, before the first event of a wave
-pub record IsMade (input : Input) (setting : Setting) (rest : WaveRest) (n : ℕ) (core : Core) : Type 0 where
-  pub stands : Stands (start_in_wave input setting rest (actor_at (cast_of setting) n)) no_lists core
+pub record IsMade (task : Task) (n : ℕ) (core : Core) : Type 0 where
+  pub stands : Stands (start_for task (actor_at (cast_of task.setting) n)) no_lists core
   pub live : IsLive core
-  pub given : HasGivenNone (2 ^ setting.k) core
-  pub joins : JoinsBy input.theta core
+  pub given : HasGivenNone (2 ^ task.setting.k) core
+  pub joins : JoinsBy task.input.theta core
 
 -- the machines of the first so many actors, in the order of their numbers
-pub record AreMade (input : Input) (setting : Setting) (rest : WaveRest) (count : ℕ) (cores : List Core) : Type 0 where
+pub record AreMade (task : Task) (count : ℕ) (cores : List Core) : Type 0 where
   pub all : length cores ≡ count
-  pub each : (n : ℕ) (core : Core) → slice_get cores n ≡ Some core → IsMade input setting rest n core
+  pub each : (n : ℕ) (core : Core) → slice_get cores n ≡ Some core → IsMade task n core
