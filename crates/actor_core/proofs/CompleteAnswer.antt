@@ -11,28 +11,25 @@ use Rattle.load_controller.specs.Standing.{ControllerState}
 use Rattle.pair_collector.specs.Law.{CollectorLists, IsComplete}
 use Rattle.pair_collector.specs.Standing.{CollectorState, StandsFor as CollectorStands, is_complete}
 use Rattle.pair_collector.proofs.KeptMessages.{complete_says}
-use Rattle.trace_law.specs.declared.input.Input.{Input}
-use Rattle.trace_law.specs.declared.setting.Setting.{Setting}
 use Rattle.trace_law.specs.declared.run.Run.{Run}
-use Rattle.trace_law.specs.Validity.{IsValid}
-use Rattle.trace_law.specs.Runs.{IsRunOf, run_of}
+use Rattle.trace_law.specs.Runs.{run_of}
 use Rattle.trace_law.specs.Laws.{CompleteIsFinished, FinishedAnswers}
-use Rattle.trace_law.specs.Family.{Rest, IsAgreeing, IsRestFor, first_rest, rest_after}
-use Rattle.trace_law.proofs.First.{stands as first_stands}
+use Rattle.trace_law.specs.Family.{rest_after}
 use Rattle.actor_core.specs.declared.cast.Cast.{Cast}
 use Rattle.actor_core.specs.Lists.{ActorLists, collector_lists}
 use Rattle.actor_core.specs.Standing.{Stands, OfCollector, IsOver}
-use Rattle.actor_core.specs.Families.{AreFronts, IsActor, core_in, family_of, journal_of, start_in_wave}
+use Rattle.actor_core.specs.Families.{AreFronts, IsActor, core_in, family_of, journal_of, start_for}
 use Rattle.actor_core.specs.Numbers.{at_number, count_of, number}
 use Rattle.actor_core.specs.Elements.{IsAllAt}
 use Rattle.actor_core.specs.Endings.{AreLast, IsAnswerOf}
 use Rattle.actor_core.specs.Leavings.{Gives}
-use Rattle.actor_core.specs.Players.{AllStand, AllStandInWave, IsFinishedFamily, IsFinishedWave, is_complete_among}
+use Rattle.actor_core.specs.Players.{AllStand, IsFinishedFamily, is_complete_among}
 use Rattle.actor_core.specs.Players.{is_complete_at, is_complete_core}
 use Rattle.actor_core.specs.Players.{journal_among, journal_at}
 use Rattle.actor_core.specs.declared.machines.Core.{Core}
 use Rattle.actor_core.specs.declared.machines.Core.TheVariants.{Feeder as TheFeeder, Joiner as TheJoiner}
 use Rattle.actor_core.specs.declared.machines.Core.TheVariants.{Controller as TheController, Collector as TheCollector}
+use Rattle.actor_core.specs.Tasks.{Task, IsTask, Agrees, IsRun}
 use Rattle.actor_core.proofs.Families.{agrees as agreeing, is_finished, left_stores}
 use Rattle.actor_core.proofs.OwnNumbers.{none_some, some_is}
 
@@ -78,23 +75,23 @@ module _ (cast : Cast) (cores : List Core) (all : length cores ≡ count_of cast
   pub collector_complete : is_complete_among cast cores ≡ true → is_complete collector ≡ true
   collector_complete done = sym (ap is_complete_at collector_named) ∙ done
 
--- ---- the family of a wave
+-- ---- the family of a task
 
 -- the family of a wave that is over, to which the stores belong that its joiners' machines give back
-pub record LeavesItsStores (input : Input) (setting : Setting) (rest : Rest) (cast : Cast) (cores : List Core)
-    (f : Actor → ActorLists) (journal : List TurnLine) : Type 0 where
-  pub family : IsFinishedWave input setting rest journal f
-  pub stored : (j : ℕ) → j < 2 ^ setting.k → (core : Core) (given : Stored)
+pub record LeavesItsStores (task : Task) (cast : Cast) (cores : List Core) (f : Actor → ActorLists)
+    (journal : List TurnLine) : Type 0 where
+  pub family : IsFinishedFamily task journal f
+  pub stored : (j : ℕ) → j < 2 ^ task.setting.k → (core : Core) (given : Stored)
       → core_in cast cores (Joiner j) ≡ Some core → Gives core given
-      → SameBag (tuples_of given) ((rest_after input setting rest (family_of journal f) family.agrees).stores j)
+      → SameBag (tuples_of given)
+      ((rest_after task.input task.setting task.rest (family_of journal f) family.agrees).stores j)
 
-module _ (input : Input) (setting : Setting) (rest : Rest) (cast : Cast) (cores : List Core)
-    (f : Actor → ActorLists) (all : AllStandInWave input setting rest cast cores f)
-    (fronts : AreFronts f) where
+module _ (task : Task) (cast : Cast) (cores : List Core) (f : Actor → ActorLists)
+    (all : AllStand task cast cores f) (fronts : AreFronts f) where
   -- each actor of the run has a machine that stands for the actor's lists
-  abbrev pub machines_in_wave : (a : Actor) → IsActor setting a
-      → (core : Core) × Stands (start_in_wave input setting rest a) (f a) core
-  machines_in_wave a is = ((all.stands a is).0, (all.stands a is).2)
+  abbrev pub machines : (a : Actor) → IsActor task.setting a
+      → (core : Core) × Stands (start_for task a) (f a) core
+  machines a is = ((all.stands a is).0, (all.stands a is).2)
 
   abbrev journal : List TurnLine
   journal = journal_among cast cores
@@ -104,20 +101,21 @@ module _ (input : Input) (setting : Setting) (rest : Rest) (cast : Cast) (cores 
   journal_is = ap journal_at (all.stands Controller tt).1
 
   -- the lists agree
-  pub agrees_in_wave : IsAgreeing input setting rest (family_of journal f)
-  agrees_in_wave =
-      subst (λ js. IsAgreeing input setting rest (family_of js f)) (sym journal_is)
-      (agreeing input setting rest f machines_in_wave fronts ⊥ (λ w. absurd w))
+  pub agrees : Agrees task (family_of journal f)
+  agrees =
+      subst (λ js. Agrees task (family_of js f)) (sym journal_is)
+      (agreeing task f machines fronts ⊥ (λ w. absurd w))
 
   -- where the collector is complete, they are finished
-  pub complete_in_wave : CompleteIsFinished → IsValid input setting → IsRestFor input setting rest
-      → is_complete_among cast cores ≡ true → IsFinishedWave input setting rest journal f
-  complete_in_wave law valid begins done =
+  pub complete_finished : CompleteIsFinished → IsTask task → is_complete_among cast cores ≡ true
+      → IsFinishedFamily task journal f
+  complete_finished law is_task done =
       let own = all.stands Collector tt in
-      let collected = core_says (2 ^ setting.k) (f Collector) own.0 own.2 (sym (ap is_complete_at own.1) ∙ done) in
+      let collected = core_says (2 ^ task.setting.k) (f Collector) own.0 own.2 (sym (ap is_complete_at own.1) ∙ done) in
       record {
-        agrees = agrees_in_wave;
-        finished = law input setting rest (family_of journal f) valid begins agrees_in_wave collected;
+        agrees = agrees;
+        finished = law task.input task.setting task.rest (family_of journal f) is_task.valid is_task.begins agrees
+            collected;
       }
 
   found : IsAllAt IsOver cores → (n : Option ℕ) (core : Core)
@@ -125,115 +123,88 @@ module _ (input : Input) (setting : Setting) (rest : Rest) (cast : Cast) (cores 
   found over None core is = absurd (none_some core is)
   found over (Some n) core is = over n core is
 
-  all_over : IsAllAt IsOver cores → ⊤ → (a : Actor) (is : IsActor setting a) → IsOver (machines_in_wave a is).0
+  all_over : IsAllAt IsOver cores → ⊤ → (a : Actor) (is : IsActor task.setting a) → IsOver (machines a is).0
   all_over over u a is = found over (number cast a) (all.stands a is).0 (all.stands a is).1
 
   -- and so they are where the work of all is over
-  pub over_in_wave : IsAllAt IsOver cores → IsFinishedWave input setting rest journal f
-  over_in_wave over =
-      subst (λ js. IsFinishedWave input setting rest js f) (sym journal_is)
+  pub over_finished : IsAllAt IsOver cores → IsFinishedFamily task journal f
+  over_finished over =
+      subst (λ js. IsFinishedFamily task js f) (sym journal_is)
       (record {
-        agrees = agreeing input setting rest f machines_in_wave fronts ⊤ (all_over over);
-        finished = is_finished input setting rest f machines_in_wave fronts ⊤ (all_over over) tt;
+        agrees = agreeing task f machines fronts ⊤ (all_over over);
+        finished = is_finished task f machines fronts ⊤ (all_over over) tt;
       })
 
   -- then the stores that the joiners' machines give back are what the family leaves
-  pub over_leaves : IsAllAt IsOver cores → 0 < setting.feeders
-      → LeavesItsStores input setting rest cast cores f journal
+  pub over_leaves : IsAllAt IsOver cores → 0 < task.setting.feeders
+      → LeavesItsStores task cast cores f journal
   over_leaves over some =
-      let ended = is_finished input setting rest f machines_in_wave fronts ⊤ (all_over over) tt in
-      subst (LeavesItsStores input setting rest cast cores f) (sym journal_is)
+      let ended = is_finished task f machines fronts ⊤ (all_over over) tt in
+      subst (LeavesItsStores task cast cores f) (sym journal_is)
       (record {
         family = record {
-          agrees = agreeing input setting rest f machines_in_wave fronts ⊤ (all_over over);
+          agrees = agreeing task f machines fronts ⊤ (all_over over);
           finished = ended;
         };
         stored = λ j low core given there gives.
             let own = all.stands (Joiner j) low in
             let same = some_is own.0 core (sym own.1 ∙ there) in
-            left_stores input setting rest f machines_in_wave fronts ⊤ (all_over over) ended some j low given
+            left_stores task f machines fronts ⊤ (all_over over) ended some j low given
             (subst (λ c. Gives c given) (sym same) gives);
       })
 
   -- and so they are where the collector is complete
-  pub complete_leaves : CompleteIsFinished → IsValid input setting → IsRestFor input setting rest
-      → is_complete_among cast cores ≡ true
-      → LeavesItsStores input setting rest cast cores f journal
-  complete_leaves law valid begins done =
+  pub complete_leaves : CompleteIsFinished → IsTask task → is_complete_among cast cores ≡ true
+      → LeavesItsStores task cast cores f journal
+  complete_leaves law is_task done =
       let last = all.stands Collector tt in
-      let collected = core_says (2 ^ setting.k) (f Collector) last.0 last.2 (sym (ap is_complete_at last.1) ∙ done) in
-      let agreed = agreeing input setting rest f machines_in_wave fronts ⊥ (λ w. absurd w) in
+      let collected = core_says (2 ^ task.setting.k) (f Collector) last.0 last.2
+      (sym (ap is_complete_at last.1) ∙ done) in
+      let agreed = agreeing task f machines fronts ⊥ (λ w. absurd w) in
       let own = journal_of (all.stands Controller tt).0 in
-      let ended = law input setting rest (family_of own f) valid begins agreed collected in
-      subst (LeavesItsStores input setting rest cast cores f) (sym journal_is)
+      let ended = law task.input task.setting task.rest (family_of own f) is_task.valid is_task.begins agreed
+      collected in
+      subst (LeavesItsStores task cast cores f) (sym journal_is)
       (record {
         family = record { agrees = agreed; finished = ended };
         stored = λ j low core given there gives.
             let machine = all.stands (Joiner j) low in
             let same = some_is machine.0 core (sym machine.1 ∙ there) in
-            left_stores input setting rest f machines_in_wave fronts ⊥ (λ w. absurd w) ended valid.some j low given
+            left_stores task f machines fronts ⊥ (λ w. absurd w) ended is_task.valid.some j low given
             (subst (λ c. Gives c given) (sym same) gives);
       })
 
 -- the last two machines of a finished family of a wave answer its run
-module _ (law : FinishedAnswers) (input : Input) (setting : Setting) (rest : Rest) (cast : Cast)
-    (cores : List Core) (f : Actor → ActorLists) (valid : IsValid input setting)
-    (begins : IsRestFor input setting rest) (all : AllStandInWave input setting rest cast cores f)
-    (family : IsFinishedWave input setting rest (journal_among cast cores) f)
+module _ (law : FinishedAnswers) (task : Task) (cast : Cast) (cores : List Core) (f : Actor → ActorLists)
+    (is_task : IsTask task) (all : AllStand task cast cores f)
+    (family : IsFinishedFamily task (journal_among cast cores) f)
     (controller : ControllerState) (collector : CollectorState) (last : AreLast cores controller collector)
     (bouts : ℕ) (run : Run) (answers : (joiners' : ℕ) (ls : CollectorLists) → CollectorStands joiners' ls collector
     → IsAnswerOf joiners' ls controller.journal bouts run) where
   abbrev told : List TurnLine
   told = journal_among cast cores
 
-  answer : IsAnswerOf (2 ^ setting.k) (collector_lists (f Collector)) controller.journal bouts run
+  answer : IsAnswerOf (2 ^ task.setting.k) (collector_lists (f Collector)) controller.journal bouts run
   answer =
       let own = all.stands Collector tt in
       let named = collector_named cast cores all.all controller collector last in
       let is = some_is own.0 (TheCollector collector) (sym own.1 ∙ named) in
-      let its = subst (λ core. Stands (OfCollector (2 ^ setting.k)) (f Collector) core) is own.2 in
-      answers (2 ^ setting.k) (collector_lists (f Collector)) its
+      let its = subst (λ core. Stands (OfCollector (2 ^ task.setting.k)) (f Collector) core) is own.2 in
+      answers (2 ^ task.setting.k) (collector_lists (f Collector)) its
 
-  run_among : IsRunOf input setting rest.line told run
+  run_among : IsRun task told run
   run_among =
       let collected = answer.collected in
       let agreed = family.agrees in
       let is_run =
-      law input setting rest (family_of told f) valid begins agreed family.finished collected answer.collects bouts in
+      law task.input task.setting task.rest (family_of told f) is_task.valid is_task.begins agreed family.finished
+      collected answer.collects bouts in
       let journal_is = journal_named cast cores all.all controller collector last in
       let run_is : run ≡ run_of collected told bouts =
       answer.run_is ∙ ap (λ js. run_of collected js bouts) (sym journal_is) in
-      subst (IsRunOf input setting rest.line told) (sym run_is) is_run
+      subst (IsRun task told) (sym run_is) is_run
 
-  -- where the family is finished and the run is what its collector answers, the run is one of the input and setting,
-  -- with its own journal
-  pub run_ends_in_wave : IsRunOf input setting rest.line run.journal run
-  run_ends_in_wave = subst (λ js. IsRunOf input setting rest.line js run) (sym run_among.keeps) run_among
-
--- ---- the family of a run, that is of the wave that begins with no rows
-
-module _ (input : Input) (setting : Setting) (cast : Cast) (cores : List Core) (f : Actor → ActorLists)
-    (all : AllStand input setting cast cores f) (fronts : AreFronts f) where
-  -- its lists agree
-  pub agrees : IsAgreeing input setting (first_rest setting) (family_of (journal_among cast cores) f)
-  agrees = agrees_in_wave input setting (first_rest setting) cast cores f all fronts
-
-  -- where the collector is complete, they are finished
-  pub complete_finished : CompleteIsFinished → IsValid input setting → is_complete_among cast cores ≡ true
-      → IsFinishedFamily input setting (journal_among cast cores) f
-  complete_finished law valid done =
-      complete_in_wave input setting (first_rest setting) cast cores f all fronts law valid
-      (first_stands input setting valid) done
-
--- the last two machines of a finished family answer its run
-pub run_ends : (law : FinishedAnswers) (input : Input) (setting : Setting) (cast : Cast) (cores : List Core)
-    (f : Actor → ActorLists) → IsValid input setting → AllStand input setting cast cores f
-    → IsFinishedFamily input setting (journal_among cast cores) f
-    → (controller : ControllerState) (collector : CollectorState) → AreLast cores controller collector
-    → (bouts : ℕ) (run : Run)
-    → ((joiners' : ℕ) (ls : CollectorLists) → CollectorStands joiners' ls collector
-    → IsAnswerOf joiners' ls controller.journal bouts run)
-    → IsRunOf input setting (first_rest setting).line run.journal run
-run_ends law input setting cast cores f valid all family controller collector last bouts run answers =
-    run_ends_in_wave law input setting (first_rest setting) cast cores f valid
-    (first_stands input setting valid) all family controller collector last bouts run answers
+  -- where the family is finished and the run is what its collector answers, the run is one of the task, with its own
+  -- journal
+  pub run_ends : IsRun task run.journal run
+  run_ends = subst (λ js. IsRun task js run) (sym run_among.keeps) run_among

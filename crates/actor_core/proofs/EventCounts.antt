@@ -22,13 +22,12 @@ use Rattle.epoch_tags.specs.Links.{HasLink, feeder_joiner, joiner_joiner, contro
 use Rattle.epoch_tags.specs.Links.{joiner_controller, joiner_collector}
 use Rattle.epoch_tags.specs.Posts.{IsOfKind, GoesOver, joiner_msg, feeder_msg, controller_msg, collector_msg}
 use Rattle.epoch_tags.specs.Posts.{posted_to_controller}
-use Rattle.trace_law.specs.declared.input.Input.{Input}
 use Rattle.trace_law.specs.declared.setting.Setting.{Setting}
-use Rattle.trace_law.specs.Family.{Rest}
 use Rattle.actor_core.specs.Lists.{ActorLists, Cause, Took, Began, same_actor, posted_to, with_event}
 use Rattle.actor_core.specs.Standing.{GoOut}
 use Rattle.actor_core.specs.Players.{AreLinked, IsLinked}
-use Rattle.actor_core.specs.Families.{start_for, start_in_wave, IsActor, after_event}
+use Rattle.actor_core.specs.Families.{start_for, IsActor, after_event}
+use Rattle.actor_core.specs.Tasks.{Task}
 use Rattle.actor_core.proofs.Balances.{same_is}
 use Rattle.actor_core.proofs.OwnNumbers.{same_self}
 use Rattle.actor_core.proofs.Runs.{Grows, grows_same, prefix_self, with_event_grows}
@@ -285,40 +284,31 @@ posted_linked setting self to (post ∷ posts) all =
         (subst (λ z. IsLinked setting self z post.msg) (same_is post.to to e) (all.0.link, all.0.kind), rest)
     go false e rest = rest
 
-all_over : (input : Input) (setting : Setting) (self : Actor) (posts : List Post) → IsActor setting self
-    → GoOut (start_for input setting self) posts → AllByRecursion (GoesOver setting.k setting.feeders self) posts
-all_over input setting (Feeder p) posts is out =
-    recursion_from_All (GoesOver setting.k setting.feeders (Feeder p)) posts (out is)
-all_over input setting (Joiner j) posts is out =
-    recursion_from_All (GoesOver setting.k setting.feeders (Joiner j)) posts out
-all_over input setting Controller posts is out =
-    recursion_from_All (GoesOver setting.k setting.feeders Controller) posts out
-all_over input setting Collector posts is out =
-    subst (AllByRecursion (GoesOver setting.k setting.feeders Collector)) (sym out) tt
+-- the posts of an actor that began so go over its links
+pub over_links : (task : Task) (self : Actor) (posts : List Post) → IsActor task.setting self
+    → GoOut (start_for task self) posts → AllByRecursion (GoesOver task.setting.k task.setting.feeders self) posts
+over_links task (Feeder p) posts is out =
+    recursion_from_All (GoesOver task.setting.k task.setting.feeders (Feeder p)) posts (out is)
+over_links task (Joiner j) posts is out =
+    recursion_from_All (GoesOver task.setting.k task.setting.feeders (Joiner j)) posts out
+over_links task Controller posts is out =
+    recursion_from_All (GoesOver task.setting.k task.setting.feeders Controller) posts out
+over_links task Collector posts is out =
+    subst (AllByRecursion (GoesOver task.setting.k task.setting.feeders Collector)) (sym out) tt
 
 -- so it is after an event whose posts go over its actor's links
-pub linked_after : (input : Input) (setting : Setting) (self : Actor) (cause : Cause) (posts : List Post) (f : Actor
-    → ActorLists)
-    → AreLinked setting f
-    → IsActor setting self → GoOut (start_for input setting self) posts
-    → AreLinked setting (after_event self cause posts f)
-linked_after input setting self cause posts f linked is out from to = go (same_actor self from) refl
+pub linked_after : (task : Task) (self : Actor) (cause : Cause) (posts : List Post)
+    (f : Actor → ActorLists) → AreLinked task.setting f → IsActor task.setting self → GoOut (start_for task self) posts
+    → AreLinked task.setting (after_event self cause posts f)
+linked_after task self cause posts f linked is out from to = go (same_actor self from) refl
   where
     go : (b : Bool) → same_actor self from ≡ b
-        → AllByRecursion (IsLinked setting from to) ((cond b (with_event cause posts (f self)) (f from)).sent to)
-    go true e = subst (λ z. AllByRecursion (IsLinked setting z to) ((f self).sent to ++ posted_to to posts))
+        → AllByRecursion (IsLinked task.setting from to) ((cond b (with_event cause posts (f self)) (f from)).sent to)
+    go true e = subst (λ z. AllByRecursion (IsLinked task.setting z to) ((f self).sent to ++ posted_to to posts))
         (same_is self from e)
-        (all-append (IsLinked setting self to) ((f self).sent to) (posted_to to posts) (linked self to)
-        (posted_linked setting self to posts (all_over input setting self posts is out)))
+        (all-append (IsLinked task.setting self to) ((f self).sent to) (posted_to to posts) (linked self to)
+        (posted_linked task.setting self to posts (over_links task self posts is out)))
     go false e = linked from to
-
--- over which links an actor's posts go doesn't depend on the rest from which it began
-pub goes_out_in_run : (input : Input) (setting : Setting) (rest : Rest) (a : Actor) (posts : List Post)
-    → GoOut (start_in_wave input setting rest a) posts → GoOut (start_for input setting a) posts
-goes_out_in_run input setting rest (Feeder p) posts out = out
-goes_out_in_run input setting rest (Joiner j) posts out = out
-goes_out_in_run input setting rest Controller posts out = out
-goes_out_in_run input setting rest Collector posts out = out
 
 -- a message that is left on a link goes over it too
 pub left_linked : (setting : Setting) (from to : Actor) (received rest sent : List Msg) (m : Msg)

@@ -10,84 +10,78 @@ use Rattle.epoch_tags.specs.declared.message.Msg.{Msg}
 use Rattle.epoch_tags.specs.declared.message.Post.{Post}
 use Rattle.epoch_tags.specs.Posts.{posted_to_controller}
 use Rattle.load_controller.specs.declared.line.TurnLine.{TurnLine}
-use Rattle.load_controller.specs.Journal.{last_epoch}
-use Rattle.trace_law.specs.declared.input.Input.{Input}
 use Rattle.trace_law.specs.declared.setting.Setting.{Setting}
-use Rattle.trace_law.specs.Validity.{IsValid}
 use Rattle.trace_law.specs.Laws.{EventsAreFew}
-use Rattle.trace_law.specs.Family.{IsAgreeing, IsRestFor, Rest, first_rest, migrations}
-use Rattle.trace_law.proofs.First.{stands as first_stands}
+use Rattle.trace_law.specs.Family.{migrations}
 use Rattle.actor_core.specs.declared.cast.Cast.{Cast}
 use Rattle.actor_core.specs.Lists.{ActorLists, Cause, Took, Began, no_lists, posted_to, with_event}
 use Rattle.actor_core.specs.Standing.{Event, GoOut, Stands, Waits}
-use Rattle.actor_core.specs.Families.{AreFronts, IsActor, family_of, start_in_wave}
+use Rattle.actor_core.specs.Families.{AreFronts, IsActor, family_of, start_for}
 use Rattle.trace_law.specs.Counts.{most_events}
 use Rattle.actor_core.specs.Numbers.{number}
-use Rattle.actor_core.specs.Players.{AllStand, AllStandInWave, AreLinked, IsLinked, MayBegin, Player, Runs}
+use Rattle.actor_core.specs.Players.{AllStand, AreLinked, IsLinked, MayBegin, Player, Runs}
 use Rattle.actor_core.specs.declared.machines.Core.{Core}
 use Rattle.actor_core.specs.declared.machines.Core.TheVariants.{Feeder as TheFeeder, Joiner as TheJoiner}
 use Rattle.actor_core.specs.declared.machines.Core.TheVariants.{Controller as TheController, Collector as TheCollector}
+use Rattle.actor_core.specs.Tasks.{Task, IsTask, Agrees}
 use Rattle.actor_core.proofs.OwnNumbers.{is_actor, same_self, some_is}
-use Rattle.actor_core.proofs.EventCounts.{beginning_counts, count, goes_out_in_run, left_linked, linked_after}
+use Rattle.actor_core.proofs.EventCounts.{beginning_counts, count, left_linked, linked_after}
 use Rattle.actor_core.proofs.EventCounts.{taking_counts}
 use Rattle.actor_core.proofs.Runs.{Grows, prefix_self, runs_grow, runs_stand}
 use Rattle.actor_core.proofs.Seated.{AllRelate, HasRun, Relates, all_grow}
 
--- ---- one actor of a wave
+-- ---- one actor of a task
 
 -- an actor that begins is a feeder
-begins_feeder : (input : Input) (setting : Setting) (rest : Rest) (a : Actor) (ls : ActorLists) (core : Core)
-    → IsActor setting a
-    → Stands (start_in_wave input setting rest a) ls core → (¬ Waits core) → (p : ℕ) × (a ≡ Feeder p)
-    × (p < setting.feeders)
-begins_feeder input setting rest (Feeder p) ls core is st free = (p, refl, is)
-begins_feeder input setting rest (Joiner j) ls (TheFeeder f) is st free = absurd st
-begins_feeder input setting rest (Joiner j) ls (TheJoiner c) is st free = absurd (free tt)
-begins_feeder input setting rest (Joiner j) ls (TheController c) is st free = absurd (free tt)
-begins_feeder input setting rest (Joiner j) ls (TheCollector c) is st free = absurd (free tt)
-begins_feeder input setting rest Controller ls (TheFeeder f) is st free = absurd st
-begins_feeder input setting rest Controller ls (TheJoiner c) is st free = absurd (free tt)
-begins_feeder input setting rest Controller ls (TheController c) is st free = absurd (free tt)
-begins_feeder input setting rest Controller ls (TheCollector c) is st free = absurd (free tt)
-begins_feeder input setting rest Collector ls (TheFeeder f) is st free = absurd st
-begins_feeder input setting rest Collector ls (TheJoiner c) is st free = absurd (free tt)
-begins_feeder input setting rest Collector ls (TheController c) is st free = absurd (free tt)
-begins_feeder input setting rest Collector ls (TheCollector c) is st free = absurd (free tt)
+begins_feeder : (task : Task) (a : Actor) (ls : ActorLists) (core : Core) → IsActor task.setting a
+    → Stands (start_for task a) ls core → (¬ Waits core) → (p : ℕ) × (a ≡ Feeder p) × (p < task.setting.feeders)
+begins_feeder task (Feeder p) ls core is st free = (p, refl, is)
+begins_feeder task (Joiner j) ls (TheFeeder f) is st free = absurd st
+begins_feeder task (Joiner j) ls (TheJoiner c) is st free = absurd (free tt)
+begins_feeder task (Joiner j) ls (TheController c) is st free = absurd (free tt)
+begins_feeder task (Joiner j) ls (TheCollector c) is st free = absurd (free tt)
+begins_feeder task Controller ls (TheFeeder f) is st free = absurd st
+begins_feeder task Controller ls (TheJoiner c) is st free = absurd (free tt)
+begins_feeder task Controller ls (TheController c) is st free = absurd (free tt)
+begins_feeder task Controller ls (TheCollector c) is st free = absurd (free tt)
+begins_feeder task Collector ls (TheFeeder f) is st free = absurd st
+begins_feeder task Collector ls (TheJoiner c) is st free = absurd (free tt)
+begins_feeder task Collector ls (TheController c) is st free = absurd (free tt)
+begins_feeder task Collector ls (TheCollector c) is st free = absurd (free tt)
 
-module _ (input : Input) (setting : Setting) (rest : Rest) (a : Actor) (is : IsActor setting a) where
+module _ (task : Task) (a : Actor) (is : IsActor task.setting a) where
   -- ---- what it sends goes over links
 
-  posts_linked : (cause : Cause) (posts : List Post) → GoOut (start_in_wave input setting rest a) posts
-      → (to : Actor) → AllByRecursion (IsLinked setting a to) (posted_to to posts)
+  posts_linked : (cause : Cause) (posts : List Post) → GoOut (start_for task a) posts
+      → (to : Actor) → AllByRecursion (IsLinked task.setting a to) (posted_to to posts)
   posts_linked cause posts out to =
-      let all = linked_after input setting a cause posts (λ b. no_lists) (λ from to'. tt) is
-      (goes_out_in_run input setting rest a posts out) a to in
+      let all = linked_after task a cause posts (λ b. no_lists) (λ from to'. tt) is out a to in
       subst
-      (λ c. AllByRecursion (IsLinked setting a to) ((cond c (with_event cause posts no_lists) no_lists).sent to))
+      (λ c. AllByRecursion (IsLinked task.setting a to) ((cond c (with_event cause posts no_lists) no_lists).sent to))
       (same_self a) all
 
-  runs_linked : (n : ℕ) (s t : Player) → Runs n s t → Stands (start_in_wave input setting rest a) s.lists s.core
+  runs_linked : (n : ℕ) (s t : Player) → Runs n s t → Stands (start_for task a) s.lists s.core
       → (to : Actor)
-      → AllByRecursion (IsLinked setting a to) (s.lists.sent to)
-      → AllByRecursion (IsLinked setting a to) (t.lists.sent to)
+      → AllByRecursion (IsLinked task.setting a to) (s.lists.sent to)
+      → AllByRecursion (IsLinked task.setting a to) (t.lists.sent to)
   runs_linked zero s t runs st to linked =
-      subst (λ (p : Player). AllByRecursion (IsLinked setting a to) (p.lists.sent to)) (sym runs) linked
+      subst (λ (p : Player). AllByRecursion (IsLinked task.setting a to) (p.lists.sent to)) (sym runs) linked
   runs_linked (suc n) s t runs st to linked =
       let middle = runs.0 in
       let event = runs.2 in
-      let stood = runs_stand n s middle runs.1 (start_in_wave input setting rest a) st in
-      let out = event.event.over (start_in_wave input setting rest a) middle.lists stood in
-      subst (λ (ls : ActorLists). AllByRecursion (IsLinked setting a to) (ls.sent to)) (sym event.lists)
-      (all-append (IsLinked setting a to) (middle.lists.sent to) (posted_to to event.posts)
+      let stood = runs_stand n s middle runs.1 (start_for task a) st in
+      let out = event.event.over (start_for task a) middle.lists stood in
+      subst (λ (ls : ActorLists). AllByRecursion (IsLinked task.setting a to) (ls.sent to)) (sym event.lists)
+      (all-append (IsLinked task.setting a to) (middle.lists.sent to) (posted_to to event.posts)
       (runs_linked n s middle runs.1 st to linked) (posts_linked event.cause event.posts out to))
 
   -- ---- one event is one more
 
   -- it made some events and then one more, the others' lists growing
   module _ (n : ℕ) (s t : Player) (runs : Runs (suc n) s t)
-      (st : Stands (start_in_wave input setting rest a) s.lists s.core)
+      (st : Stands (start_for task a) s.lists s.core)
       (before after : Actor → ActorLists) (first : before a ≡ s.lists) (last : after a ≡ t.lists)
-      (grow : (b : Actor) → Grows (before b) (after b)) (linked : AreLinked setting after)
+      (grow : (b : Actor) → Grows (before b) (after b)) (linked : AreLinked task.setting after)
       (fronts : AreFronts after) where
     abbrev middle : Player
     middle = runs.0
@@ -96,7 +90,7 @@ module _ (input : Input) (setting : Setting) (rest : Rest) (a : Actor) (is : IsA
     up = subst (λ ls. Grows ls middle.lists) (sym first) (runs_grow n s middle runs.1)
 
     took_more : (from : Actor) (m : Msg) (posts : List Post) → t.lists ≡ with_event (Took from m) posts middle.lists
-        → count setting before + 1 ≤ count setting after
+        → count task.setting before + 1 ≤ count task.setting after
     took_more from m posts lists =
         let between = middle.lists.received from in
         let front = fronts from a in
@@ -105,29 +99,29 @@ module _ (input : Input) (setting : Setting) (rest : Rest) (a : Actor) (is : IsA
         ∙ ap (λ c. cond c (between ++ m ∷ []) between) (same_self from) in
         let whole : between ++ m ∷ front.rest ≡ (after from).sent a =
         sym (append_assoc between (m ∷ []) front.rest) ∙ (ap (λ ms. ms ++ front.rest) (sym got) ∙ front.joins) in
-        let link = left_linked setting from a between front.rest ((after from).sent a) m whole (linked from a) in
-        taking_counts setting before after grow from a m between link.0 is link.1 (up.received from)
+        let link = left_linked task.setting from a between front.rest ((after from).sent a) m whole (linked from a) in
+        taking_counts task.setting before after grow from a m between link.0 is link.1 (up.received from)
         (prefix_self (between ++ m ∷ []) ((after a).received from) got)
 
     began_more : (posts : List Post) → t.lists ≡ with_event Began posts middle.lists → (¬ Waits middle.core)
-        → length (posted_to_controller posts) ≡ 1 → count setting before + 1 ≤ count setting after
+        → length (posted_to_controller posts) ≡ 1 → count task.setting before + 1 ≤ count task.setting after
     began_more posts lists free asks =
-        let stood = runs_stand n s middle runs.1 (start_in_wave input setting rest a) st in
-        let feeder = begins_feeder input setting rest a middle.lists middle.core is stood free in
+        let stood = runs_stand n s middle runs.1 (start_for task a) st in
+        let feeder = begins_feeder task a middle.lists middle.core is stood free in
         let between = middle.lists.sent Controller in
         let sent = between ++ posted_to Controller posts in
         let same = ap (λ (ls : ActorLists). ls.sent Controller) (last ∙ lists) in
         let got = prefix_self sent ((after a).sent Controller) same in
-        beginning_counts setting before after grow feeder.0 posts between feeder.2 asks
+        beginning_counts task.setting before after grow feeder.0 posts between feeder.2 asks
         (subst (λ z. IsPrefix ((before z).sent Controller) between) feeder.1 (up.sent Controller))
         (subst (λ z. IsPrefix sent ((after z).sent Controller)) feeder.1 got)
 
     more : (cause : Cause) (posts : List Post) → Event cause middle.core t.core posts → MayBegin cause middle.core
-        → t.lists ≡ with_event cause posts middle.lists → count setting before + 1 ≤ count setting after
+        → t.lists ≡ with_event cause posts middle.lists → count task.setting before + 1 ≤ count task.setting after
     more (Took from m) posts event free lists = took_more from m posts lists
     more Began posts event free lists = began_more posts lists free event.asks
 
-    runs_count : count setting before + 1 ≤ count setting after
+    runs_count : count task.setting before + 1 ≤ count task.setting after
     runs_count =
         let event = runs.2 in more event.cause event.posts event.event event.free event.lists
 
@@ -151,87 +145,60 @@ pub record HasMadeSome (old new : Player) : Type 0 where
   pub before : ℕ
   pub runs : Runs (suc before) old new
 
--- each actor of a wave made some events
-module _ (input : Input) (setting : Setting) (rest : Rest) (cast : Cast) (old new : List Core)
-    (f g : Actor → ActorLists) (stands : AllStandInWave input setting rest cast old f)
+-- each actor of a task made some events
+module _ (task : Task) (cast : Cast) (old new : List Core) (f g : Actor → ActorLists)
+    (stands : AllStand task cast old f)
     (all : AllRelate HasRun cast old new f g) where
   -- the machine that the actor of a number had
   stood : (a : Actor) (n : ℕ) → number cast a ≡ Some n → (R : Player → Player → Type 0)
       (own : Relates R cast old new f g a)
-      → IsActor setting a × Stands (start_in_wave input setting rest a) (f a) own.before
+      → IsActor task.setting a × Stands (start_for task a) (f a) own.before
   stood a n is R own =
-      let actor = is_actor setting cast a n stands.cast_is is in
+      let actor = is_actor task.setting cast a n stands.cast_is is in
       let st = stands.stands a actor in
       let same = some_is st.0 own.before (sym st.1 ∙ own.was) in
-      (actor, subst (λ core. Stands (start_in_wave input setting rest a) (f a) core) same st.2)
+      (actor, subst (λ core. Stands (start_for task a) (f a) core) same st.2)
 
   -- what is sent goes over links still
-  pub still_linked_in_wave : AreLinked setting f → AreLinked setting g
-  still_linked_in_wave linked from to = go (number cast from) refl
+  pub still_linked : AreLinked task.setting f → AreLinked task.setting g
+  still_linked linked from to = go (number cast from) refl
     where
       go : (o : Option ℕ) → number cast from ≡ o
-          → AllByRecursion (IsLinked setting from to) ((g from).sent to)
+          → AllByRecursion (IsLinked task.setting from to) ((g from).sent to)
       go None is =
-          subst (λ (ls : ActorLists). AllByRecursion (IsLinked setting from to) (ls.sent to))
+          subst (λ (ls : ActorLists). AllByRecursion (IsLinked task.setting from to) (ls.sent to))
           (sym (all.others from is)) (linked from to)
       go (Some n) is =
           let own = all.each from n is in
           let st = stood from n is HasRun own in
           let before : Player = record { core = own.before; lists = f from } in
           let after : Player = record { core = own.after; lists = g from } in
-          runs_linked input setting rest from st.0 own.holds.count before after own.holds.runs st.1 to (linked from to)
+          runs_linked task from st.0 own.holds.count before after own.holds.runs st.1 to (linked from to)
 
   -- where one of them made an event, the lists count one more
-  pub counted_more_in_wave : (a : Actor) (place : ℕ) → number cast a ≡ Some place
+  pub counted_more : (a : Actor) (place : ℕ) → number cast a ≡ Some place
       → Relates HasMadeSome cast old new f g a → AreFronts g
-      → (n n' : ℕ) → n' ≤ n + 1 → IsCounted setting f n → IsCounted setting g n'
-  counted_more_in_wave a place is own fronts n n' few counted =
+      → (n n' : ℕ) → n' ≤ n + 1 → IsCounted task.setting f n → IsCounted task.setting g n'
+  counted_more a place is own fronts n n' few counted =
       let st = stood a place is HasMadeSome own in
-      let linked = still_linked_in_wave counted.linked in
+      let linked = still_linked counted.linked in
       let before : Player = record { core = own.before; lists = f a } in
       let after : Player = record { core = own.after; lists = g a } in
       let grow = all_grow cast old new f g all in
       let made = own.holds in
       let more =
-      runs_count input setting rest a st.0 made.before before after made.runs st.1 f g refl refl grow linked fronts in
+      runs_count task a st.0 made.before before after made.runs st.1 f g refl refl grow linked fronts in
       let enough = counted.enough in
       record { linked = linked; enough = omega (arith, few, more, enough) }
 
--- the same of a run, that is of the wave that begins with no rows
-module _ (input : Input) (setting : Setting) (cast : Cast) (old new : List Core) (f g : Actor → ActorLists)
-    (stands : AllStand input setting cast old f) (all : AllRelate HasRun cast old new f g) where
-  -- what is sent goes over links still
-  pub still_linked : AreLinked setting f → AreLinked setting g
-  still_linked = still_linked_in_wave input setting (first_rest setting) cast old new f g stands all
-
-  -- where one of them made an event, the lists count one more
-  pub counted_more : (a : Actor) (place : ℕ) → number cast a ≡ Some place
-      → Relates HasMadeSome cast old new f g a → AreFronts g
-      → (n n' : ℕ) → n' ≤ n + 1 → IsCounted setting f n → IsCounted setting g n'
-  counted_more = counted_more_in_wave input setting (first_rest setting) cast old new f g stands all
-
 -- ---- so they are few
 
--- the lists of an agreeing family of a wave count no more events than its journal allows
-pub few_in_wave : EventsAreFew → (input : Input) (setting : Setting) (rest : Rest) → IsValid input setting
-    → IsRestFor input setting rest → (journal : List TurnLine) (f : Actor → ActorLists)
-    → IsAgreeing input setting rest (family_of journal f)
-    → (n : ℕ) → IsCounted setting f n → n ≤ most_events input setting (migrations rest.line journal)
-few_in_wave few input setting rest valid begins journal f agrees n counted =
-    let most : count setting f ≤ most_events input setting (migrations rest.line journal) =
-    few input setting rest (family_of journal f) valid begins agrees in
+-- the lists of an agreeing family count no more events than its journal allows
+pub few_events : EventsAreFew → (task : Task) → IsTask task → (journal : List TurnLine) (f : Actor → ActorLists)
+    → Agrees task (family_of journal f)
+    → (n : ℕ) → IsCounted task.setting f n → n ≤ most_events task.input task.setting (migrations task.rest.line journal)
+few_events few task is_task journal f agrees n counted =
+    let most : count task.setting f ≤ most_events task.input task.setting (migrations task.rest.line journal) =
+    few task.input task.setting task.rest (family_of journal f) is_task.valid is_task.begins agrees in
     let enough = counted.enough in
     omega (arith, most, enough)
-
--- an agreeing family's lists count no more events than its journal allows
-pub few_events : EventsAreFew → (input : Input) (setting : Setting) → IsValid input setting → (journal : List TurnLine)
-    (f : Actor → ActorLists) → IsAgreeing input setting (first_rest setting) (family_of journal f)
-    → (n : ℕ) → IsCounted setting f n → n ≤ most_events input setting (last_epoch journal)
-few_events few input setting valid journal f agrees n counted =
-    let begins = first_stands input setting valid in
-    let most = few input setting (first_rest setting) (family_of journal f) valid begins agrees in
-    let from_none : last_epoch journal - 0 ≡ last_epoch journal = omega arith in
-    let most' : count setting f ≤ most_events input setting (last_epoch journal) =
-    subst (λ e. count setting f ≤ most_events input setting e) from_none most in
-    let enough = counted.enough in
-    omega (arith, most', enough)

@@ -22,17 +22,16 @@ use Rattle.load_controller.specs.Standing.{ControllerStart}
 use Rattle.load_controller.specs.Law.{ControllerLaw}
 use Rattle.pair_collector.specs.Law.{IsComplete}
 use Rattle.pair_collector.proofs.KeptMessages.{complete_says}
-use Rattle.trace_law.specs.declared.input.Input.{Input}
-use Rattle.trace_law.specs.declared.setting.Setting.{Setting}
-use Rattle.trace_law.specs.Family.{IsAgreeing, IsFinished, Rest, feeder_start, joiner_start, rest_after}
+use Rattle.trace_law.specs.Family.{Family, IsFinished, feeder_start, joiner_start, rest_after}
 use Rattle.trace_law.specs.Family.{rules_of}
 use Rattle.actor_core.specs.Lists.{ActorLists, feeder_lists, joiner_lists, controller_lists, collector_lists}
 use Rattle.actor_core.specs.Standing.{OfFeeder, OfJoiner, OfController, OfCollector, Stands, IsOver, GoesOn}
 use Rattle.actor_core.specs.Leavings.{Gives}
-use Rattle.actor_core.specs.Families.{AreFronts, IsActor, start_in_wave, family_of, journal_of}
+use Rattle.actor_core.specs.Families.{AreFronts, IsActor, start_for, family_of, journal_of}
 use Rattle.actor_core.specs.declared.machines.Core.{Core}
 use Rattle.actor_core.specs.declared.machines.Core.TheVariants.{Feeder as TheFeeder, Joiner as TheJoiner}
 use Rattle.actor_core.specs.declared.machines.Core.TheVariants.{Controller as TheController, Collector as TheCollector}
+use Rattle.actor_core.specs.Tasks.{Task, Agrees}
 
 -- ---- the laws, read off
 
@@ -143,70 +142,74 @@ read_front kind front whole prefix =
 -- ---- the family
 
 -- the machines of a wave, each standing for its actor's lists; where W holds, their work is over
-module _ (input : Input) (setting : Setting) (rest : Rest) (f : Actor → ActorLists)
-    (cores : (a : Actor) → IsActor setting a → (core : Core) × Stands (start_in_wave input setting rest a) (f a) core)
+module _ (task : Task) (f : Actor → ActorLists)
+    (cores : (a : Actor) → IsActor task.setting a → (core : Core) × Stands (start_for task a) (f a) core)
     (fronts : AreFronts f)
-    (W : Type 0) (over : W → (a : Actor) (is : IsActor setting a) → IsOver (cores a is).0) where
+    (W : Type 0) (over : W → (a : Actor) (is : IsActor task.setting a) → IsOver (cores a is).0) where
   abbrev feeder_took : ℕ → List ToFeeder → Type 0
   feeder_took p taken =
-      FeederLaw (feeder_start input setting rest p) (feeder_lists (f (Feeder p))) taken
+      FeederLaw (feeder_start task.input task.setting task.rest p) (feeder_lists (f (Feeder p))) taken
       × (W → 0 < stops taken)
-      × ((is : p < setting.feeders) → 0 < stops taken → ¬ GoesOn (cores (Feeder p) is).0)
+      × ((is : p < task.setting.feeders) → 0 < stops taken → ¬ GoesOn (cores (Feeder p) is).0)
 
-  feeders : (taken : ℕ → List ToFeeder) × ((p : ℕ) → p < setting.feeders → feeder_took p (taken p))
-  feeders = choice feeder_took setting.feeders [] (λ p low.
-      let law = feeder_law p setting.feeders (feeder_start input setting rest p) (f (Feeder p))
+  feeders : (taken : ℕ → List ToFeeder) × ((p : ℕ) → p < task.setting.feeders → feeder_took p (taken p))
+  feeders = choice feeder_took task.setting.feeders [] (λ p low.
+      let law = feeder_law p task.setting.feeders (feeder_start task.input task.setting task.rest p) (f (Feeder p))
       (cores (Feeder p) low).0 (cores (Feeder p) low).1 in (
         law.0,
         (
           law.1,
           (λ w. law.2 (over w (Feeder p) low)),
-          (λ is stopped. subst (λ (l : p < setting.feeders). ¬ GoesOn (cores (Feeder p) l).0) (le_prop low is)
+          (λ is stopped. subst (λ (l : p < task.setting.feeders). ¬ GoesOn (cores (Feeder p) l).0) (le_prop low is)
               (law.3 stopped)),
         ),
       ))
 
   abbrev joiner_took : ℕ → Taken → Type 0
   joiner_took j taken =
-      JoinerLaw (joiner_start input setting rest j) (joiner_lists (f (Joiner j))) taken
-      × (W → IsFinishedJoiner (joiner_start input setting rest j) (joiner_lists (f (Joiner j)))
+      JoinerLaw (joiner_start task.input task.setting task.rest j) (joiner_lists (f (Joiner j))) taken
+      × (W → IsFinishedJoiner (joiner_start task.input task.setting task.rest j) (joiner_lists (f (Joiner j)))
       taken)
-      × ((is : j < 2 ^ setting.k) → IsFinishedJoiner (joiner_start input setting rest j)
+      × ((is : j < 2 ^ task.setting.k) → IsFinishedJoiner (joiner_start task.input task.setting task.rest j)
       (joiner_lists (f (Joiner j))) taken → ¬ GoesOn (cores (Joiner j) is).0)
-      × ((is : j < 2 ^ setting.k) → 0 < setting.feeders
-      → IsFinishedJoiner (joiner_start input setting rest j) (joiner_lists (f (Joiner j))) taken
+      × ((is : j < 2 ^ task.setting.k) → 0 < task.setting.feeders
+      → IsFinishedJoiner (joiner_start task.input task.setting task.rest j) (joiner_lists (f (Joiner j))) taken
       → (given : Stored) → Gives (cores (Joiner j) is).0 given
-      → SameBag (tuples_of given) (store (joiner_start input setting rest j) taken
-      (opened (joiner_start input setting rest j) taken)))
+      → SameBag (tuples_of given) (store (joiner_start task.input task.setting task.rest j) taken
+      (opened (joiner_start task.input task.setting task.rest j) taken)))
 
-  joiners : (taken : ℕ → Taken) × ((j : ℕ) → j < 2 ^ setting.k → joiner_took j (taken j))
-  joiners = choice joiner_took (2 ^ setting.k) (record {
+  joiners : (taken : ℕ → Taken) × ((j : ℕ) → j < 2 ^ task.setting.k → joiner_took j (taken j))
+  joiners = choice joiner_took (2 ^ task.setting.k) (record {
     from_feeder = λ p. [];
     from_joiner = λ q. [];
     shift_at = λ e. 0;
   }) (λ j low.
-      let law = joiner_law (joiner_start input setting rest j) (f (Joiner j)) (cores (Joiner j) low).0
+      let law = joiner_law (joiner_start task.input task.setting task.rest j) (f (Joiner j)) (cores (Joiner j) low).0
       (cores (Joiner j) low).1 in (
         law.0,
         (
           law.1,
           (λ w. law.2 (over w (Joiner j) low)),
-          (λ is finished. subst (λ (l : j < 2 ^ setting.k). ¬ GoesOn (cores (Joiner j) l).0) (le_prop low is)
+          (λ is finished. subst (λ (l : j < 2 ^ task.setting.k). ¬ GoesOn (cores (Joiner j) l).0) (le_prop low is)
               (law.3 finished)),
           (λ is some finished given gives.
               law.4 some finished given
-              (subst (λ (l : j < 2 ^ setting.k). Gives (cores (Joiner j) l).0 given) (le_prop is low) gives)),
+              (subst (λ (l : j < 2 ^ task.setting.k). Gives (cores (Joiner j) l).0 given) (le_prop is low) gives)),
         ),
       ))
 
+  -- the lists of all, with the journal of the controller's machine
+  abbrev family : Family
+  family = family_of (journal_of (cores Controller tt).0) f
+
   -- the family agrees
-  pub agrees : IsAgreeing input setting rest (family_of (journal_of (cores Controller tt).0) f)
+  pub agrees : Agrees task family
   agrees = record {
     taken_by_feeder = feeders.0;
     taken_by_joiner = joiners.0;
     feeders = λ p low. (feeders.1 p low).0;
     joiners = λ j low. (joiners.1 j low).0;
-    controller = controller_law (record { rules = rules_of setting; first = begun rest.line })
+    controller = controller_law (record { rules = rules_of task.setting; first = begun task.rest.line })
         (f Controller) (cores Controller tt).0 (cores Controller tt).1;
     feeder_joiner = λ p j low low'. read_front joiner_msg _ _ (fronts (Feeder p) (Joiner j));
     joiner_joiner = λ i j low low'. read_front joiner_msg _ _ (fronts (Joiner i) (Joiner j));
@@ -218,33 +221,32 @@ module _ (input : Input) (setting : Setting) (rest : Rest) (f : Actor → ActorL
 
   -- it is finished where W holds
   pub is_finished : W
-      → IsFinished input setting rest (family_of (journal_of (cores Controller tt).0) f) agrees
+      → IsFinished task.input task.setting task.rest family agrees
   unfolding agrees
   is_finished w = record {
     feeders = λ p low. (feeders.1 p low).1 w;
     joiners = λ j low. (joiners.1 j low).1 w;
-    collector = collector_over (2 ^ setting.k) (f Collector) (cores Collector tt).0 (cores Collector tt).1
+    collector = collector_over (2 ^ task.setting.k) (f Collector) (cores Collector tt).0 (cores Collector tt).1
         (over w Collector tt);
   }
 
   -- where the family is finished, the work of none goes on
-  pub none_goes : IsFinished input setting rest (family_of (journal_of (cores Controller tt).0) f)
-      agrees
-      → (a : Actor) (is : IsActor setting a) → ¬ GoesOn (cores a is).0
+  pub none_goes : IsFinished task.input task.setting task.rest family agrees
+      → (a : Actor) (is : IsActor task.setting a) → ¬ GoesOn (cores a is).0
   unfolding agrees
   none_goes finished (Feeder p) is = (feeders.1 p is).2 is (finished.feeders p is)
   none_goes finished (Joiner j) is = (joiners.1 j is).2 is (finished.joiners j is)
   none_goes finished Controller is = controller_goes (record {
-    rules = rules_of setting;
-    first = begun rest.line;
+    rules = rules_of task.setting;
+    first = begun task.rest.line;
   }) (f Controller) (cores Controller is).0 (cores Controller is).1
   none_goes finished Collector is =
-      collector_goes (2 ^ setting.k) (f Collector) (cores Collector is).0 (cores Collector is).1 finished.collector
+      collector_goes (2 ^ task.setting.k) (f Collector) (cores Collector is).0 (cores Collector is).1 finished.collector
 
   -- the store that a joiner's machine gives back then is what the family leaves it
-  pub left_stores : IsFinished input setting rest (family_of (journal_of (cores Controller tt).0) f) agrees
-      → 0 < setting.feeders → (j : ℕ) (is : j < 2 ^ setting.k) (given : Stored) → Gives (cores (Joiner j) is).0 given
-      → SameBag (tuples_of given)
-      ((rest_after input setting rest (family_of (journal_of (cores Controller tt).0) f) agrees).stores j)
+  pub left_stores : IsFinished task.input task.setting task.rest family agrees
+      → 0 < task.setting.feeders → (j : ℕ) (is : j < 2 ^ task.setting.k) (given : Stored)
+      → Gives (cores (Joiner j) is).0 given
+      → SameBag (tuples_of given) ((rest_after task.input task.setting task.rest family agrees).stores j)
   unfolding agrees
   left_stores finished some j is given gives = (joiners.1 j is).3 is some (finished.joiners j is) given gives

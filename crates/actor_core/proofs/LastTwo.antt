@@ -6,17 +6,15 @@ use Rattle.epoch_tags.specs.declared.actor.Actor.{Actor}
 use Rattle.epoch_tags.specs.declared.actor.Actor.TheVariants.{Controller, Collector}
 use Rattle.load_controller.specs.Standing.{ControllerStart, ControllerState}
 use Rattle.pair_collector.specs.Standing.{CollectorState}
-use Rattle.trace_law.specs.declared.input.Input.{Input}
-use Rattle.trace_law.specs.declared.setting.Setting.{Setting}
-use Rattle.trace_law.specs.Family.{Rest}
 use Rattle.actor_core.specs.declared.cast.Cast.{Cast}
 use Rattle.actor_core.specs.Endings.{AreLast, HaveLast}
 use Rattle.actor_core.specs.Lists.{ActorLists}
-use Rattle.actor_core.specs.Players.{AllStandInWave}
+use Rattle.actor_core.specs.Players.{AllStand}
 use Rattle.actor_core.specs.Standing.{OfCollector, OfController, Stands}
 use Rattle.actor_core.specs.declared.machines.Core.{Core}
 use Rattle.actor_core.specs.declared.machines.Core.TheVariants.{Feeder as TheFeeder, Joiner as TheJoiner}
 use Rattle.actor_core.specs.declared.machines.Core.TheVariants.{Controller as TheController, Collector as TheCollector}
+use Rattle.actor_core.specs.Tasks.{Task}
 use Rattle.actor_core.proofs.OwnNumbers.{some_is}
 
 -- ---- the last two of a list
@@ -93,9 +91,9 @@ kept joiners ls (TheController c) stands = absurd stands
 kept joiners ls (TheCollector c) stands = (c, refl)
 
 -- the last two of machines that stand for lists of a wave are a controller's and a collector's
-pub have_last : (input : Input) (setting : Setting) (rest : Rest) (cast : Cast) (cores : List Core)
-    (f : Actor → ActorLists) → AllStandInWave input setting rest cast cores f → HaveLast cores
-have_last input setting rest cast cores f all =
+pub have_last : (task : Task) (cast : Cast) (cores : List Core) (f : Actor → ActorLists)
+    → AllStand task cast cores f → HaveLast cores
+have_last task cast cores f all =
     let one = all.stands Controller tt in
     let other = all.stands Collector tt in
     let controller = told _ (f Controller) one.0 one.2 in

@@ -18,6 +18,7 @@ pub mod CompleteAnswer
 pub mod Stilled
 pub mod EventsCounted
 pub mod UptoEnd
+pub mod Tasks
 pub mod EmptyRest
 pub mod Bases
 pub mod WaveBeginnings

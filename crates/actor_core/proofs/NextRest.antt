@@ -15,12 +15,8 @@ use Rattle.joiner_core.specs.State.{tuples_of, IsKeyOf}
 use Rattle.load_controller.specs.Standing.{ControllerState}
 use Rattle.load_controller.specs.declared.line.TurnLine.{TurnLine}
 use Rattle.pair_collector.specs.Standing.{CollectorState}
-use Rattle.trace_law.specs.declared.input.Input.{Input}
-use Rattle.trace_law.specs.declared.setting.Setting.{Setting}
-use Rattle.trace_law.specs.Validity.{IsValid}
 use Rattle.trace_law.specs.Laws.{AnswersInTheEnd, CompleteIsFinished}
-use Rattle.trace_law.specs.Family.{IsRestFor, AnswersTheJoin, aged, rest_after}
-use Rattle.trace_law.specs.Family.{Rest as WaveRest}
+use Rattle.trace_law.specs.Family.{Rest, AnswersTheJoin, aged, rest_after}
 use Rattle.actor_core.specs.declared.cast.Cast.{Cast}
 use Rattle.actor_core.specs.declared.machines.Core.{Core}
 use Rattle.actor_core.specs.declared.machines.Core.TheVariants.{Feeder as TheFeeder, Joiner as TheJoiner}
@@ -30,9 +26,10 @@ use Rattle.actor_core.specs.Families.{AreFronts, core_in, family_of}
 use Rattle.actor_core.specs.Leavings.{AreLeft, Gives}
 use Rattle.actor_core.specs.Lists.{ActorLists}
 use Rattle.actor_core.specs.Numbers.{at_number}
-use Rattle.actor_core.specs.Players.{AllStandInWave, is_complete_among, journal_among}
+use Rattle.actor_core.specs.Players.{AllStand, is_complete_among, journal_among}
 use Rattle.actor_core.specs.Rests.{IsRestOf, tuples_at}
 use Rattle.actor_core.specs.Standing.{IsOver, JoinsBy}
+use Rattle.actor_core.specs.Tasks.{Task, IsTask}
 use Rattle.actor_core.proofs.Beginnings.{there}
 use Rattle.actor_core.proofs.CompleteAnswer.{LeavesItsStores, complete_leaves, over_leaves}
 use Rattle.actor_core.proofs.LeftStores.{in_front}
@@ -49,20 +46,25 @@ key_given theta (TheCollector c) given joins gives = absurd gives
 heads : {X : Type 0} (x y : X) (xs ys : List X) → x ∷ xs ≡ y ∷ ys → x ≡ y
 heads x y xs ys same = cc
 
-module _ (law : AnswersInTheEnd) (input : Input) (setting : Setting) (rest : WaveRest) (cast : Cast)
-    (cores : List Core) (f : Actor → ActorLists) (valid : IsValid input setting)
-    (begins : IsRestFor input setting rest) (all : AllStandInWave input setting rest cast cores f)
-    (leaves : LeavesItsStores input setting rest cast cores f (journal_among cast cores))
-    (joins : IsAllAt (JoinsBy input.theta) cores)
+module _ (law : AnswersInTheEnd) (task : Task) (cast : Cast)
+    (cores : List Core) (f : Actor → ActorLists) (is_task : IsTask task) (all : AllStand task cast cores f)
+    (leaves : LeavesItsStores task cast cores f (journal_among cast cores))
+    (joins : IsAllAt (JoinsBy task.input.theta) cores)
     (stores : List Stored) (controller : ControllerState) (collector : CollectorState)
     (left : AreLeft cast.feeders cores stores controller collector) where
   abbrev journal : List TurnLine
   journal = journal_among cast cores
 
-  answers : AnswersTheJoin input setting rest (family_of journal f) leaves.family.agrees
-  answers = law input setting rest (family_of journal f) valid begins leaves.family.agrees leaves.family.finished
+  answers : AnswersTheJoin task.input task.setting task.rest (family_of journal f) leaves.family.agrees
+  answers =
+      law task.input task.setting task.rest (family_of journal f) is_task.valid is_task.begins leaves.family.agrees
+      leaves.family.finished
 
-  many : length stores ≡ 2 ^ setting.k
+  -- the rest that the family leaves
+  abbrev again : Rest
+  again = rest_after task.input task.setting task.rest (family_of journal f) leaves.family.agrees
+
+  many : length stores ≡ 2 ^ task.setting.k
   many =
       let long = left.stores_are.long in
       let whole = ap length left.all
@@ -85,14 +87,14 @@ module _ (law : AnswersInTheEnd) (input : Input) (setting : Setting) (rest : Wav
         own.2,
       )
 
-  keys : All (λ store. IsKeyOf input.theta store.key) stores
+  keys : All (λ store. IsKeyOf task.input.theta store.key) stores
   keys = λ i d low.
       let own = giver i (get_or stores i d) (slice_get-get_or stores i d low) in
-      key_given input.theta own.0 (get_or stores i d) (joins (cast.feeders + i) own.0 own.1) own.2
+      key_given task.input.theta own.0 (get_or stores i d) (joins (cast.feeders + i) own.0 own.1) own.2
 
-  stored : (j : ℕ) → j < 2 ^ setting.k
+  stored : (j : ℕ) → j < 2 ^ task.setting.k
       → SameBag (tuples_at stores j)
-      ((rest_after input setting rest (family_of journal f) leaves.family.agrees).stores j)
+      (again.stores j)
   stored j low =
       let low' : j < length stores = subst (λ n. j < n) (sym many) low in
       let given = there stores j low' in
@@ -105,16 +107,16 @@ module _ (law : AnswersInTheEnd) (input : Input) (setting : Setting) (rest : Wav
       let tuples : tuples_at stores j ≡ tuples_of given.0 =
       get_or-map tuples_of stores j given.0 [] low'
       ∙ ap tuples_of (get_or_from_slice_get stores j given.0 given.0 given.1) in
-      subst (λ ts. SameBag ts ((rest_after input setting rest (family_of journal f) leaves.family.agrees).stores j))
+      subst (λ ts. SameBag ts (again.stores j))
       (sym tuples) (leaves.stored j low own.0 given.0 named own.2)
 
   -- the stores that the machines of a finished wave give back, with the last line of the journal, stand for the input
-  pub rest_left : (k : ℕ) (line : TurnLine) (past : List TurnLine) → k ≡ setting.k → reverse journal ≡ line ∷ past
-      → IsRestOf input setting (record { k = k; line = line; stores = stores })
+  pub rest_left : (k : ℕ) (line : TurnLine) (past : List TurnLine) → k ≡ task.setting.k → reverse journal ≡ line ∷ past
+      → IsRestOf task.input task.setting (record { k = k; line = line; stores = stores })
   rest_left k line past grid last =
       let own = leaves.family.agrees.controller in
       let same : own.line ≡ line = heads own.line line own.past past (sym own.journal ∙ last) in
-      subst (λ l. IsRestOf input setting (record { k = k; line = l; stores = stores })) same
+      subst (λ l. IsRestOf task.input task.setting (record { k = k; line = l; stores = stores })) same
       (record {
         grid = grid;
         many = many;
@@ -125,31 +127,27 @@ module _ (law : AnswersInTheEnd) (input : Input) (setting : Setting) (rest : Wav
         };
       })
 
--- so it is of a wave in which the work of all is over
-pub next_rest : (law : AnswersInTheEnd) (input : Input) (setting : Setting) (rest : WaveRest) (cast : Cast)
-    (cores : List Core) (f : Actor → ActorLists) (valid : IsValid input setting) → IsRestFor input setting rest
-    → (all : AllStandInWave input setting rest cast cores f) → AreFronts f → IsAllAt IsOver cores
-    → IsAllAt (JoinsBy input.theta) cores
-    → (stores : List Stored) (controller : ControllerState) (collector : CollectorState)
-    → AreLeft cast.feeders cores stores controller collector
-    → (k : ℕ) (line : TurnLine) (past : List TurnLine) → k ≡ setting.k
-    → reverse (journal_among cast cores) ≡ line ∷ past
-    → IsRestOf input setting (record { k = k; line = line; stores = stores })
-next_rest law input setting rest cast cores f valid begins all fronts over joins =
-    rest_left law input setting rest cast cores f valid begins all
-    (over_leaves input setting rest cast cores f all fronts over valid.some) joins
+module _ (law : AnswersInTheEnd) (task : Task) (cast : Cast) (cores : List Core) (f : Actor → ActorLists)
+    (is_task : IsTask task) (all : AllStand task cast cores f) (fronts : AreFronts f) where
+  -- so it is of a wave in which the work of all is over
+  pub next_rest : IsAllAt IsOver cores → IsAllAt (JoinsBy task.input.theta) cores
+      → (stores : List Stored) (controller : ControllerState) (collector : CollectorState)
+      → AreLeft cast.feeders cores stores controller collector
+      → (k : ℕ) (line : TurnLine) (past : List TurnLine) → k ≡ task.setting.k
+      → reverse (journal_among cast cores) ≡ line ∷ past
+      → IsRestOf task.input task.setting (record { k = k; line = line; stores = stores })
+  next_rest over joins =
+      rest_left law task cast cores f is_task all
+      (over_leaves task cast cores f all fronts over is_task.valid.some) joins
 
--- and of one whose collector is complete
-pub complete_rest : (law : AnswersInTheEnd) (done : CompleteIsFinished) (input : Input) (setting : Setting)
-    (rest : WaveRest) (cast : Cast)
-    (cores : List Core) (f : Actor → ActorLists) (valid : IsValid input setting) → IsRestFor input setting rest
-    → (all : AllStandInWave input setting rest cast cores f) → AreFronts f
-    → is_complete_among cast cores ≡ true → IsAllAt (JoinsBy input.theta) cores
-    → (stores : List Stored) (controller : ControllerState) (collector : CollectorState)
-    → AreLeft cast.feeders cores stores controller collector
-    → (k : ℕ) (line : TurnLine) (past : List TurnLine) → k ≡ setting.k
-    → reverse (journal_among cast cores) ≡ line ∷ past
-    → IsRestOf input setting (record { k = k; line = line; stores = stores })
-complete_rest law done input setting rest cast cores f valid begins all fronts collected joins =
-    rest_left law input setting rest cast cores f valid begins all
-    (complete_leaves input setting rest cast cores f all fronts done valid begins collected) joins
+  -- and of one whose collector is complete
+  pub complete_rest : CompleteIsFinished → is_complete_among cast cores ≡ true
+      → IsAllAt (JoinsBy task.input.theta) cores
+      → (stores : List Stored) (controller : ControllerState) (collector : CollectorState)
+      → AreLeft cast.feeders cores stores controller collector
+      → (k : ℕ) (line : TurnLine) (past : List TurnLine) → k ≡ task.setting.k
+      → reverse (journal_among cast cores) ≡ line ∷ past
+      → IsRestOf task.input task.setting (record { k = k; line = line; stores = stores })
+  complete_rest done collected joins =
+      rest_left law task cast cores f is_task all
+      (complete_leaves task cast cores f all fronts done is_task collected) joins

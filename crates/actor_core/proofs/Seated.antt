@@ -7,19 +7,17 @@ use Rattle.std.proofs.lemmas.Option.{slice_get-get_or, slice_get_within}
 use Rattle.join_rows.specs.Lists.{IsPrefix}
 use Rattle.epoch_tags.specs.declared.actor.Actor.{Actor}
 use Rattle.epoch_tags.specs.declared.actor.Actor.TheVariants.{Feeder, Joiner, Controller, Collector}
-use Rattle.trace_law.specs.declared.input.Input.{Input}
-use Rattle.trace_law.specs.declared.setting.Setting.{Setting}
-use Rattle.trace_law.specs.Family.{Rest, first_rest}
 use Rattle.theta_pred.specs.Formula.{Meaning}
 use Rattle.actor_core.specs.declared.cast.Cast.{Cast}
 use Rattle.actor_core.specs.Elements.{IsAllAt}
 use Rattle.actor_core.specs.Lists.{ActorLists}
 use Rattle.actor_core.specs.Standing.{JoinsBy, Start, Stands}
-use Rattle.actor_core.specs.Families.{core_in, journal_of, start_in_wave}
+use Rattle.actor_core.specs.Families.{core_in, journal_of, start_for}
 use Rattle.actor_core.specs.Numbers.{actor_at, at_number, count_of, number}
-use Rattle.actor_core.specs.Players.{AllStand, AllStandInWave, Extends, Player, Runs, journal_among, journal_at}
+use Rattle.actor_core.specs.Players.{AllStand, Extends, Player, Runs, journal_among, journal_at}
 use Rattle.actor_core.specs.Players.{lists_among, lists_at}
 use Rattle.actor_core.specs.declared.machines.Core.{Core}
+use Rattle.actor_core.specs.Tasks.{Task}
 use Rattle.actor_core.proofs.Beginnings.{there}
 use Rattle.actor_core.proofs.OwnNumbers.{none_some, number_there, some_is}
 use Rattle.actor_core.proofs.Runs.{Grows, grows_same, runs_grow, runs_join, runs_journal, runs_stand}
@@ -162,11 +160,10 @@ module _ (R : Player → Player → Type 0) (cast : Cast) (old new : List Core) 
           some (record { core = own.before; lists = f a }) (record { core = own.after; lists = g a }) own.holds
 
   -- the machines stand for the lists still
-  pub still_stand_in_wave : ((s t : Player) → R s t → (start : Start) → Stands start s.lists s.core
+  pub still_stand : ((s t : Player) → R s t → (start : Start) → Stands start s.lists s.core
       → Stands start t.lists t.core)
-      → (input : Input) (setting : Setting) (rest : Rest) → AllStandInWave input setting rest cast old f
-      → AllStandInWave input setting rest cast new g
-  still_stand_in_wave keeps input setting rest st = record {
+      → (task : Task) → AllStand task cast old f → AllStand task cast new g
+  still_stand keeps task st = record {
     cast_is = st.cast_is;
     all = all.long ∙ st.all;
     stands = λ a is.
@@ -174,15 +171,8 @@ module _ (R : Player → Player → Type 0) (cast : Cast) (old new : List Core) 
         let now = related_at a own.0 own.1 in
         let one : Player = record { core = own.0; lists = f a } in
         let other : Player = record { core = now.0; lists = g a } in
-        (now.0, now.1, keeps one other now.2 (start_in_wave input setting rest a) own.2);
+        (now.0, now.1, keeps one other now.2 (start_for task a) own.2);
   }
-
-  -- and so do those of a run
-  pub still_stand : ((s t : Player) → R s t → (start : Start) → Stands start s.lists s.core
-      → Stands start t.lists t.core)
-      → (input : Input) (setting : Setting) → AllStand input setting cast old f
-      → AllStand input setting cast new g
-  still_stand keeps input setting = still_stand_in_wave keeps input setting (first_rest setting)
 
   -- what holds of the machine of each actor, and stays so, holds of the machine of each still
   pub still_all : (P : Core → Type 0) → ((s t : Player) → R s t → P s.core → P t.core)
@@ -230,16 +220,8 @@ module _ (cast : Cast) (old new : List Core) (f g : Actor → ActorLists)
       (subst (IsPrefix (journal_of own.before)) (sym (ap journal_at own.now)) front)
 
   -- the machines stand for the lists still
-  pub stand_after_in_wave : (input : Input) (setting : Setting) (rest : Rest)
-      → AllStandInWave input setting rest cast old f
-      → AllStandInWave input setting rest cast new g
-  stand_after_in_wave =
-      still_stand_in_wave HasRun cast old new f g all (λ s t ran. runs_stand ran.count s t ran.runs)
-
-  -- and so do those of a run
-  pub stand_after : (input : Input) (setting : Setting) → AllStand input setting cast old f
-      → AllStand input setting cast new g
-  stand_after input setting = stand_after_in_wave input setting (first_rest setting)
+  pub stand_after : (task : Task) → AllStand task cast old f → AllStand task cast new g
+  stand_after = still_stand HasRun cast old new f g all (λ s t ran. runs_stand ran.count s t ran.runs)
 
   -- the cast.joiners join by the predicate by which they did
   pub join_after : (theta : Meaning) → length old ≡ count_of cast → IsAllAt (JoinsBy theta) old

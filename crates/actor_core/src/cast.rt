@@ -83,7 +83,8 @@ impl Cast {
 
     /// Whether there is a link from one actor to the other. It takes no memory.
     pub fn has_link(self, from: Actor, to: Actor) -> bool
-        ensures { (k : ℕ) → self.joiners ≡ 2 ^ k → (IsTrue result ↔ HasLink k self.feeders from to) }
+        ensures { (k : ℕ) → self.joiners ≡ 2 ^ k
+            → (IsTrue result ↔ HasLink k self.feeders from to) }
     {
         are_joined(self.joiners, self.feeders, from, to)
     }

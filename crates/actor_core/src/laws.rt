@@ -1,22 +1,14 @@
 // Laws of a run's lists. Each is the contract of a function that does nothing, so that calls above can cite it.
 
-ghost use Rattle.actor_core.specs.Counts.{EventsFit, EventsFitInWave};
+ghost use Rattle.actor_core.specs.Counts.{EventsFit};
 ghost use Rattle.actor_core.specs.FirstCores.{FirstCoresAreOne};
 ghost use Rattle.actor_core.specs.Rests.{StandsBeyond, StandsUpto};
 
 use trace_law::{keeps_a_lawful_journal, lawful_is_bounded};
 
-/// A `u64` counts the events of a run, by the bound on them.
+/// A `u64` counts the events of a wave, by the bound on them over its migrations.
 pub fn events_fit()
     ensures { EventsFit }
-{
-    keeps_a_lawful_journal();
-    lawful_is_bounded();
-}
-
-/// A `u64` counts the events of a wave, by the same bound over the wave's migrations.
-pub fn wave_events_fit()
-    ensures { EventsFitInWave }
 {
     keeps_a_lawful_journal();
     lawful_is_bounded();

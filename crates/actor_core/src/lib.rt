@@ -20,7 +20,7 @@ pub use answers::answer;
 pub use cast::Cast;
 pub use crossing::shares_predicates;
 pub use endings::last_two;
-pub use laws::{events_fit, first_cores_are_one, stands_beyond, stands_upto, wave_events_fit};
+pub use laws::{events_fit, first_cores_are_one, stands_beyond, stands_upto};
 pub use leavings::machines_left;
 pub use machines::Core;
 pub use rests::{Rest, Stores, Upto};

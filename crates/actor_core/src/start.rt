@@ -14,6 +14,7 @@ ghost use Rattle.actor_core.specs.Lists.{no_lists};
 ghost use Rattle.actor_core.specs.Standing.{Stands, HasGivenNone, IsLive, OfFeeder, OfJoiner, OfController, OfCollector};
 ghost use Rattle.actor_core.specs.Families.{start_for};
 ghost use Rattle.actor_core.specs.Numbers.{actor_at, cast_of};
+ghost use Rattle.actor_core.specs.Tasks.{task_of};
 ghost use Rattle.actor_core.specs.declared.machines.Core.TheVariants.{Controller as TheController, Collector as TheCollector};
 
 use crate::machines::Core;
@@ -160,7 +161,8 @@ pub(crate) fn collector<'a>(alloc: Global, setting: &Setting) -> Result<Core<'a>
     ensures stands { IfOk result (λ core. Stands (OfCollector (2 ^ setting.now.k)) no_lists core) }
     ensures live { IfOk result IsLive }
     ensures given { IfOk result (HasGivenNone (2 ^ setting.now.k)) }
-    ensures first { IfOk result (λ core. core ≡ TheCollector (collector_begun (2 ^ setting.now.k))) }
+    ensures first { IfOk result (λ core. core
+        ≡ TheCollector (collector_begun (2 ^ setting.now.k))) }
 {
     Ok(Core::Collector(Collector::start(alloc, joiners_of(setting))?))
 }
@@ -174,12 +176,12 @@ pub fn core_at<'a>(
 ) -> Result<Core<'a>, AllocError>
     requires input { IsValidInput input.now }
     requires setting { IsValidSetting setting.now }
-    ensures stands { IfOk result (λ core. Stands (start_for input.now setting.now
+    ensures stands { IfOk result (λ core. Stands (start_for (task_of input.now setting.now)
         (actor_at (cast_of setting.now) n)) no_lists core) }
     ensures live { IfOk result IsLive }
     ensures given { IfOk result (HasGivenNone (2 ^ setting.now.k)) }
     // all that it holds is determined by the input, the setting and its number
-    ensures first { IfOk result (IsFirstAt input.now setting.now n) }
+    ensures first { IfOk result (IsFirstAt (task_of input.now setting.now) n) }
 {
     let joiners = joiners_of(setting);
     if n < setting.feeders {

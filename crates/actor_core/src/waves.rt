@@ -13,8 +13,8 @@ ghost use Rattle.trace_law.specs.Family.{is_old, tuple_of, feeder_start, joiner_
 ghost use Rattle.actor_core.specs.Lists.{no_lists};
 ghost use Rattle.actor_core.specs.Standing.{Stands, HasGivenNone, IsLive, JoinsBy, OfFeeder, OfJoiner, OfController};
 ghost use Rattle.actor_core.specs.Numbers.{cast_of, count_of};
-ghost use Rattle.actor_core.specs.Players.{AllStandInWave};
-ghost use Rattle.actor_core.specs.Rests.{upto, rest_of, at_line, with_base, IsWithin, IsRestOf, AreMade};
+ghost use Rattle.actor_core.specs.Players.{AllStand};
+ghost use Rattle.actor_core.specs.Rests.{upto, task_upto, at_line, with_base, IsWithin, IsRestOf, AreMade};
 
 use crate::machines::Core;
 use crate::rests::{Rest, Upto};
@@ -208,7 +208,7 @@ fn feeders_in_wave<'a>(
     requires setting { IsValidSetting setting.now }
     requires end { IsWithin end input.now }
     requires rest { IsRestOf (upto end input.now) setting.now rest.now }
-    ensures { IfOk result (λ cores. AreMade (upto end input.now) setting.now (rest_of rest.now)
+    ensures { IfOk result (λ cores. AreMade (task_upto end input.now setting.now rest.now)
         setting.now.feeders cores.items) }
 {
     let mut cores = Vec::new(alloc);
@@ -230,7 +230,7 @@ fn joiners_in_wave<'a>(
     requires setting { IsValidSetting setting.now }
     requires end { IsWithin end input.now }
     requires rest { IsRestOf (upto end input.now) setting.now rest }
-    ensures { IfOk result (λ cores. AreMade (upto end input.now) setting.now (rest_of rest)
+    ensures { IfOk result (λ cores. AreMade (task_upto end input.now setting.now rest)
         (setting.now.feeders + 2 ^ setting.now.k) cores.items) }
 {
     let mut cores = feeders_in_wave(alloc, &rest, input, setting, end)?;
@@ -257,10 +257,10 @@ pub fn cores_in_wave<'a>(
     requires end { IsWithin end input.now }
     requires rest { IsRestOf (upto end input.now) setting.now rest }
     requires epoch { rest.line.epoch ≤ 2 ^ 31 }
-    ensures made { IfOk result (λ cores. AreMade (upto end input.now) setting.now (rest_of rest)
+    ensures made { IfOk result (λ cores. AreMade (task_upto end input.now setting.now rest)
         (count_of (cast_of setting.now)) cores.items) }
-    ensures stands { IfOk result (λ cores. AllStandInWave (upto end input.now) setting.now
-        (rest_of rest) (cast_of setting.now) cores.items (λ actor. no_lists)) }
+    ensures stands { IfOk result (λ cores. AllStand (task_upto end input.now setting.now rest)
+        (cast_of setting.now) cores.items (λ actor. no_lists)) }
 {
     let line = rest.line;
     let mut cores = joiners_in_wave(alloc, rest, input, setting, end)?;

@@ -9,7 +9,7 @@ use Rattle.joiner_core.specs.State.{AreRows}
 use Rattle.trace_law.specs.Family.{joiner_start}
 use Rattle.actor_core.specs.Lists.{no_lists}
 use Rattle.actor_core.specs.Standing.{OfJoiner, Stands}
-use Rattle.actor_core.specs.Rests.{AreMade, upto, rest_of, with_base}
+use Rattle.actor_core.specs.Rests.{AreMade, upto, task_upto, with_base}
 use Rattle.actor_core.proofs.Bases.{base_rows, base_stamps}
 use Rattle.actor_core.proofs.UptoEnd.{valid_upto}
 use Rattle.actor_core.proofs.WaveBeginnings.{at_seam, below_all, made_at, one_made}
@@ -27,8 +27,8 @@ joiner_in_wave-requires-clause-stamps c =
     let at = at_seam rest.stores c.loop-store.yielded c.loop-store.store-iterator.rest.items c.next.new.self.rest.items
     c.in-Some.store c.loop-store.j is.left first is.number in
     subst (AllByRecursion (λ (x : Tuple). x.stamp ≤ rest.line.epoch)) at
-    (base_stamps (upto c.args.end c.args.input.now) c.args.setting.now
-    (valid_upto c.args.end c.args.input.now c.requires.end c.requires.input) (rest_of rest) c.requires.rest.stands
+    (base_stamps (task_upto c.args.end c.args.input.now c.args.setting.now rest)
+    (valid_upto c.args.end c.args.input.now c.requires.end c.requires.input) c.requires.rest.stands
     c.loop-store.j low)
 
 pub joiner_in_wave-requires-clause-rows : goal.joiner_in_wave-requires-clause-rows
@@ -43,8 +43,8 @@ joiner_in_wave-requires-clause-rows c =
     let at = at_seam rest.stores c.loop-store.yielded c.loop-store.store-iterator.rest.items c.next.new.self.rest.items
     c.in-Some.store c.loop-store.j is.left first is.number in
     subst (AreRows c.args.input.now.theta) at
-    (base_rows (upto c.args.end c.args.input.now) c.args.setting.now
-    (valid_upto c.args.end c.args.input.now c.requires.end c.requires.input) (rest_of rest) c.requires.rest.stands
+    (base_rows (task_upto c.args.end c.args.input.now c.args.setting.now rest)
+    (valid_upto c.args.end c.args.input.now c.requires.end c.requires.input) c.requires.rest.stands
     c.loop-store.j low)
 
 pub loop-store-preserved : goal.loop-store-preserved
@@ -52,6 +52,7 @@ loop-store-preserved c =
     let rest = c.args.rest in
     let setting = c.args.setting.now in
     let input = upto c.args.end c.args.input.now in
+    let task = task_upto c.args.end c.args.input.now setting rest in
     let is = c.loop-store.invariant in
     let j = c.loop-store.j in
     let core = c.in_ok-joiner_in_wave.field-0 in
@@ -67,13 +68,13 @@ loop-store-preserved c =
     no_lists core) (sym at) made.stands in
     let numbered = ap (λ b. cond b (Some (setting.feeders + j)) None) (lt-ltb j (2 ^ setting.k) low) in
     let next : setting.feeders + j + 1 ≡ setting.feeders + (j + 1) = omega arith in
-    let all = one_made input setting (rest_of rest) (setting.feeders + j) c.loop-store.cores.items core is.made
-    (made_at input setting (rest_of rest) (Joiner j) (setting.feeders + j) core numbered stands made.live made.given
+    let all = one_made task (setting.feeders + j) c.loop-store.cores.items core is.made
+    (made_at task (Joiner j) (setting.feeders + j) core numbered stands made.live made.given
     made.joins) in
     record {
       left = append_assoc c.loop-store.yielded (c.in-Some.store ∷ []) c.next.new.self.rest.items
           ∙ (ap (λ l. c.loop-store.yielded ++ l) (sym first) ∙ is.left);
       number = ap (λ n. n + 1) is.number ∙ sym (length-append c.loop-store.yielded (c.in-Some.store ∷ []));
-      made = subst (AreMade input setting (rest_of rest) (setting.feeders + (j + 1))) (sym c.in_ok-push.ensures.items)
-          (subst (λ n. AreMade input setting (rest_of rest) n (c.loop-store.cores.items ++ core ∷ [])) next all);
+      made = subst (AreMade task (setting.feeders + (j + 1))) (sym c.in_ok-push.ensures.items)
+          (subst (λ n. AreMade task n (c.loop-store.cores.items ++ core ∷ [])) next all);
     }
