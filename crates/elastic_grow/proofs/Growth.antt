@@ -68,16 +68,16 @@ at_place stores i own is =
     get_or-map tuples_of stores i own [] (slice_get_within stores i own is)
     ∙ ap tuples_of (get_or_from_slice_get stores i own own is)
 
--- the stores have the key that those have of which they are parts
-keys_of : (theta : Meaning) (k shift count : ℕ) (from : ℕ → Option Stored) (new : List Stored)
-    → AreKept (record { k = k; shift = shift }) from count new
-    → ((j : ℕ) (own : Stored) → from j ≡ Some own → IsKeyOf theta own.key)
-    → All (λ store. IsKeyOf theta store.key) new
-keys_of theta k shift count from new kept keys i d low =
-    let given = there new i low in
-    let own = kept.each i given.0 given.1 in
-    let is = get_or_from_slice_get new i given.0 d given.1 ∙ own.2 in
-    subst (λ (s : Stored). IsKeyOf theta s.key) (sym is) (keys i own.0 own.1)
+module _ (theta : Meaning) (k shift count : ℕ) (from : ℕ → Option Stored) (new : List Stored) where
+  -- the stores have the key that those have of which they are parts
+  keys_of : AreKept (record { k = k; shift = shift }) from count new
+      → ((j : ℕ) (own : Stored) → from j ≡ Some own → IsKeyOf theta own.key)
+      → All (λ store. IsKeyOf theta store.key) new
+  keys_of kept keys i d low =
+      let given = there new i low in
+      let own = kept.each i given.0 given.1 in
+      let is = get_or_from_slice_get new i given.0 d given.1 ∙ own.2 in
+      subst (λ (s : Stored). IsKeyOf theta s.key) (sym is) (keys i own.0 own.1)
 
 module _ (input : Input) (setting : Setting) (rest : Rest) (weights : Weights) (stands : IsRestOf input setting rest)
     (few : rest.k ≤ 6) (within : rest.line.shift ≤ rest.k) (free : setting.fixed ≡ None)

@@ -36,17 +36,17 @@ one_kept shape from n stores own store made named kept = record {
   ];
 }
 
--- parts of the parents' stores are kept copies, child by child
-pub are_copies : (k b : ℕ) (old new : List Stored) → b ≤ k → k ≤ 6 → length old ≡ 2 ^ k
-    → AreOfParents k b (b + 1) old new → AreKeptCopies k b old new
-are_copies k b old new within few many kept id a d store is low_a low_d =
-    let low : id < 2 ^ k = subst (λ n. id < n) many (slice_get_within old id store is) in
-    let c = child b id a d in
-    let below = (children_hold k b id a d 0 within few low_a low_d).below low in
-    let given = there new c (subst (λ n. c < n) (sym kept.all) below) in
-    let own = kept.each c given.0 given.1 in
-    let same = some_same own.0 store (sym own.1 ∙ ap (slice_get old) (parent_is b id a d low_a low_d) ∙ is) in
-    given.1 ∙ ap Some (own.2 ∙ ap (kept_of (record { k = k + 2; shift = b + 1 }) c) same)
+module _ (k b : ℕ) (old new : List Stored) (within : b ≤ k) (few : k ≤ 6) where
+  -- parts of the parents' stores are kept copies, child by child
+  pub are_copies : length old ≡ 2 ^ k → AreOfParents k b (b + 1) old new → AreKeptCopies k b old new
+  are_copies many kept id a d store is low_a low_d =
+      let low : id < 2 ^ k = subst (λ n. id < n) many (slice_get_within old id store is) in
+      let c = child b id a d in
+      let below = (children_hold k b id a d 0 within few low_a low_d).below low in
+      let given = there new c (subst (λ n. c < n) (sym kept.all) below) in
+      let own = kept.each c given.0 given.1 in
+      let same = some_same own.0 store (sym own.1 ∙ ap (slice_get old) (parent_is b id a d low_a low_d) ∙ is) in
+      given.1 ∙ ap Some (own.2 ∙ ap (kept_of (record { k = k + 2; shift = b + 1 }) c) same)
 
 -- parts of one store keep its order
 pub keep_order : (shape : Shape) (count : ℕ) (whole : Stored) (stores : List Stored) → IsByIndex whole

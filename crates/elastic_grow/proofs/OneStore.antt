@@ -60,30 +60,30 @@ back_nil : (xs ys : List Tuple) → xs ++ ys ≡ [] → ys ≡ []
 back_nil [] ys none = none
 back_nil (x ∷ xs) ys none = cc
 
--- an empty store with the predicate's key, to which all tuples are added by their numbers
-pub whole_is : (theta : Meaning) (k b : ℕ) (stores : List Stored) (first whole : Stored) (all sorted : List Tuple)
-    → tuples_of first ≡ [] → IsKeyOf theta first.key → all ≡ all_of k b stores → IsPermutation all sorted
-    → IsNonDecreasingBy (λ (t : Tuple). t.index) sorted → whole ≡ with_all first sorted
-    → IsWhole theta k b stores whole
-whole_is theta k b stores first whole all sorted empty key all_is moves order is =
-    let none_r = front_nil first.r first.s empty in
-    let none_s = back_nil first.r first.s empty in
-    let bag : SameBag sorted (all_of k b stores) =
-    SameBag-trans (SameBag-sym (SameBag-permutation all sorted moves))
-    (subst (SameBag all) all_is (SameBag-refl all)) in
-    subst (IsWhole theta k b stores) (sym is) (record {
-      tuples =
-          subst (λ ts. SameBag ts (all_of k b stores))
-          (sym (ap₂ (λ (us vs : List Tuple). (us ++ filter (is_of R) sorted) ++ (vs ++ filter (is_of S) sorted))
-          none_r none_s))
-          (SameBag-trans (by_side-bag sorted) bag);
-      order = record {
-        r = subst (λ (us : List Tuple). IsNonDecreasingBy (λ (t : Tuple). t.index) (us ++ filter (is_of R) sorted))
-            (sym none_r)
-            (IsNonDecreasingBy-filter (λ (t : Tuple). t.index) (is_of R) sorted order);
-        s = subst (λ (us : List Tuple). IsNonDecreasingBy (λ (t : Tuple). t.index) (us ++ filter (is_of S) sorted))
-            (sym none_s)
-            (IsNonDecreasingBy-filter (λ (t : Tuple). t.index) (is_of S) sorted order);
-      };
-      key = key;
-    })
+module _ (theta : Meaning) (k b : ℕ) (stores : List Stored) (first whole : Stored) (all sorted : List Tuple) where
+  -- an empty store with the predicate's key, to which all tuples are added by their numbers
+  pub whole_is : tuples_of first ≡ [] → IsKeyOf theta first.key → all ≡ all_of k b stores → IsPermutation all sorted
+      → IsNonDecreasingBy (λ (t : Tuple). t.index) sorted → whole ≡ with_all first sorted
+      → IsWhole theta k b stores whole
+  whole_is empty key all_is moves order is =
+      let none_r = front_nil first.r first.s empty in
+      let none_s = back_nil first.r first.s empty in
+      let bag : SameBag sorted (all_of k b stores) =
+      SameBag-trans (SameBag-sym (SameBag-permutation all sorted moves))
+      (subst (SameBag all) all_is (SameBag-refl all)) in
+      subst (IsWhole theta k b stores) (sym is) (record {
+        tuples =
+            subst (λ ts. SameBag ts (all_of k b stores))
+            (sym (ap₂ (λ (us vs : List Tuple). (us ++ filter (is_of R) sorted) ++ (vs ++ filter (is_of S) sorted))
+            none_r none_s))
+            (SameBag-trans (by_side-bag sorted) bag);
+        order = record {
+          r = subst (λ (us : List Tuple). IsNonDecreasingBy (λ (t : Tuple). t.index) (us ++ filter (is_of R) sorted))
+              (sym none_r)
+              (IsNonDecreasingBy-filter (λ (t : Tuple). t.index) (is_of R) sorted order);
+          s = subst (λ (us : List Tuple). IsNonDecreasingBy (λ (t : Tuple). t.index) (us ++ filter (is_of S) sorted))
+              (sym none_s)
+              (IsNonDecreasingBy-filter (λ (t : Tuple). t.index) (is_of S) sorted order);
+        };
+        key = key;
+      })

@@ -83,22 +83,23 @@ by_side k b R ticket c = omega arith
 by_side k b S ticket c =
     ap (λ n. n + c) (never (nat_lt (row_of k b ticket) (2 ^ (k - b)))) ∙ omega arith
 
--- what a joiner of the grown grid holds has a row of the old one
-pub there_if_held : (k b k' b' j : ℕ) → b ≤ k → k ≤ 8 → b' ≤ k' → k' ≤ 8 → j < 2 ^ k' → (side : Side) (ticket : ℕ)
-    → holds_ticket k' b' j side ticket ≡ true → is_there k b side ticket ≡ true
-there_if_held k b k' b' j within small within' small' low R ticket held =
-    let x = 8 - (k' - b') in
-    let same : j / 2 ^ b' ≡ ticket / 2 ^ x = eqb-true (j / 2 ^ b') (row_of k' b' ticket) held in
-    let exponent : (k' - b') + b' ≡ k' = omega arith in
-    let row : j / 2 ^ b' < 2 ^ (k' - b') = shr_below j (k' - b') b' (rw exponent low) in
-    let high : ticket / 2 ^ x < 2 ^ (k' - b') = subst (λ n. n < 2 ^ (k' - b')) same row in
-    let below = mul-add-lt (ticket / 2 ^ x) (2 ^ x) (ticket % 2 ^ x) (2 ^ (k' - b')) high
-    (mod_below ticket (2 ^ x) (pow_pos x)) in
-    let eight : x + (k' - b') ≡ 8 = omega arith in
-    let all : 2 ^ x * 2 ^ (k' - b') ≡ 2 ^ 8 = sym (pow-add 2 x (k' - b')) ∙ ap (λ n. 2 ^ n) eight in
-    let byte : ticket < 2 ^ 8 = subst (λ n. n < 2 ^ 8) (shr_split ticket x) (rw all at below) in
-    lt-ltb (row_of k b ticket) (2 ^ (k - b)) (high_row k b ticket within small byte)
-there_if_held k b k' b' j within small within' small' low S ticket held = refl
+module _ (k b k' b' j : ℕ) (within : b ≤ k) (small : k ≤ 8) (within' : b' ≤ k') (small' : k' ≤ 8) (low : j < 2 ^ k') where
+  -- what a joiner of the grown grid holds has a row of the old one
+  pub there_if_held : (side : Side) (ticket : ℕ) → holds_ticket k' b' j side ticket ≡ true
+      → is_there k b side ticket ≡ true
+  there_if_held R ticket held =
+      let x = 8 - (k' - b') in
+      let same : j / 2 ^ b' ≡ ticket / 2 ^ x = eqb-true (j / 2 ^ b') (row_of k' b' ticket) held in
+      let exponent : (k' - b') + b' ≡ k' = omega arith in
+      let row : j / 2 ^ b' < 2 ^ (k' - b') = shr_below j (k' - b') b' (rw exponent low) in
+      let high : ticket / 2 ^ x < 2 ^ (k' - b') = subst (λ n. n < 2 ^ (k' - b')) same row in
+      let below = mul-add-lt (ticket / 2 ^ x) (2 ^ x) (ticket % 2 ^ x) (2 ^ (k' - b')) high
+      (mod_below ticket (2 ^ x) (pow_pos x)) in
+      let eight : x + (k' - b') ≡ 8 = omega arith in
+      let all : 2 ^ x * 2 ^ (k' - b') ≡ 2 ^ 8 = sym (pow-add 2 x (k' - b')) ∙ ap (λ n. 2 ^ n) eight in
+      let byte : ticket < 2 ^ 8 = subst (λ n. n < 2 ^ 8) (shr_split ticket x) (rw all at below) in
+      lt-ltb (row_of k b ticket) (2 ^ (k - b)) (high_row k b ticket within small byte)
+  there_if_held S ticket held = refl
 
 -- ---- the stores of a grid
 
