@@ -12,6 +12,7 @@ use Rattle.load_controller.proofs.controller.Controller.TheSendSync as controlle
 use Rattle.pair_collector.proofs.collector.Collector.TheSendSync as collectors
 use Rattle.theta_pred.specs.contracts.agree.Access as access
 use Rattle.theta_pred.specs.contracts.theta.Theta as theta
+use Rattle.store_parts.specs.contracts.half.Half as half
 use Rattle.store_parts.specs.contracts.store.Store as store
 use Rattle.joiner_core.specs.contracts.stock.Stock as stock
 use Rattle.joiner_core.specs.contracts.epochs.Opened as opened
@@ -21,18 +22,14 @@ use Rattle.actor_core.specs.contracts.machines.Core as core
 
 -- part by part, since a `search` that goes down through a machine to its parts runs out of steps
 module _ (theta_sync : IsSync theta.the_row) (access_send : IsSend access.the_row) where
+  half_send : IsSend half.the_row
+  half_send =
+      search (sendable, declared_send, as_row_send, heap.crosses, indexes.the_send, tuples.the_send)
+      depth 40 fits 20000
+
   store_send : IsSend store.the_row
   store_send =
-      search (
-        view_send,
-        declared_send,
-        variants_send,
-        as_row_send,
-        heap.crosses,
-        keys.the_send,
-        indexes.the_send,
-        tuples.the_send,
-      )
+      search (view_send, declared_send, variants_send, as_row_send, heap.crosses, keys.the_send, half_send)
       depth 40 fits 20000
 
   stock_send : IsSend stock.the_row
