@@ -12,15 +12,13 @@ use Rattle.epoch_tags.specs.Links.{HasLink, feeder_joiner, joiner_joiner, contro
 use Rattle.epoch_tags.specs.Links.{joiner_controller, joiner_collector}
 use Rattle.epoch_tags.specs.declared.actor.Actor.{Actor}
 use Rattle.epoch_tags.specs.declared.actor.Actor.TheVariants.{Feeder, Joiner, Controller, Collector}
-use Rattle.trace_law.specs.declared.input.Input.{Input}
 use Rattle.trace_law.specs.declared.setting.Setting.{Setting}
-use Rattle.trace_law.specs.Validity.{IsValid}
-use Rattle.trace_law.specs.Family.{IsRestFor, Rest}
 use Rattle.actor_core.specs.Lists.{ActorLists}
 use Rattle.actor_core.specs.Elements.{IsAllAt}
+use Rattle.actor_core.specs.Tasks.{Task, IsTask}
 use Rattle.link_trace.specs.declared.slots.Slot.{Slot}
 use Rattle.link_trace.specs.declared.slots.Slot.TheVariants.{Begin, Link}
-use Rattle.link_trace.specs.Worlds.{WorldState, StandsFor, StandsInWave, IsStill, left_of}
+use Rattle.link_trace.specs.Worlds.{WorldState, StandsFor, IsStill, left_of}
 use Rattle.link_trace.specs.Order.{AreIdleFrom, IsIdle, from_joiners, slots_of, to_joiners, to_partners}
 use Rattle.link_trace.specs.Starving.{AreIdleBelow}
 use Rattle.actor_core.proofs.OwnNumbers.{none_some, some_is}
@@ -48,93 +46,79 @@ module _ {X : Type 0} (P : X → Type 0) where
       (all_front (g z) (flat_map g ys) all)
   all_flat g (z ∷ ys) all (suc n) y is = all_flat g ys (all_rest (g z) (flat_map g ys) all) n y is
 
--- so it holds of each number below n
-all_below : (P : ℕ → Type 0) (n p : ℕ) → p < n → IsAllAt P (range_with_len 0 n) → P p
-all_below P n p low all =
-    let there : 0 + p ≡ p = omega arith in
-    let within : p < length (range_with_len 0 n) = subst (λ m. p < m) (sym (length-range_with_len 0 n)) low in
-    all p p (slice_get-get_or (range_with_len 0 n) p 0 within ∙ ap Some (get_or-range_with_len 0 n p 0 low ∙ there))
+  -- so it holds at each number below n, where it holds of what comes of the numbers
+  all_below : (Q : ℕ → Type 0) (n p : ℕ) → p < n → IsAllAt Q (range_with_len 0 n) → Q p
+  all_below Q n p low all =
+      let there : 0 + p ≡ p = omega arith in
+      let within : p < length (range_with_len 0 n) = subst (λ m. p < m) (sym (length-range_with_len 0 n)) low in
+      all p p (slice_get-get_or (range_with_len 0 n) p 0 within ∙ ap Some (get_or-range_with_len 0 n p 0 low ∙ there))
+
+  each_mapped : (f : ℕ → X) (n p : ℕ) → p < n → IsAllAt P (map f (range_with_len 0 n)) → P (f p)
+  each_mapped f n p low all = all_below (λ i. P (f i)) n p low (all_mapped f (range_with_len 0 n) all)
+
+  each_flat : (g : ℕ → List X) (n p : ℕ) → p < n → IsAllAt P (flat_map g (range_with_len 0 n)) → IsAllAt P (g p)
+  each_flat g n p low all = all_below (λ i. IsAllAt P (g i)) n p low (all_flat g (range_with_len 0 n) all)
 
 -- ---- all slots of a run
 
 module _ (setting : Setting) (w : WorldState) (all : IsAllAt (IsIdle w) (slots_of setting)) where
+  -- the slots of a run up to those of each kind
   abbrev begins : List Slot
   begins = map Begin (range_with_len 0 setting.feeders)
 
   abbrev dealt : List Slot
-  dealt = flat_map (to_joiners (2 ^ setting.k)) (range_with_len 0 setting.feeders)
+  dealt = begins ++ flat_map (to_joiners (2 ^ setting.k)) (range_with_len 0 setting.feeders)
 
   abbrev exchanged : List Slot
-  exchanged = flat_map (to_partners setting.k) (range_with_len 0 (2 ^ setting.k))
+  exchanged = dealt ++ flat_map (to_partners setting.k) (range_with_len 0 (2 ^ setting.k))
 
   abbrev ordered : List Slot
-  ordered = map (λ p. Link Controller (Feeder p)) (range_with_len 0 setting.feeders)
+  ordered = exchanged ++ map (λ p. Link Controller (Feeder p)) (range_with_len 0 setting.feeders)
 
   abbrev asked : List Slot
-  asked = map (λ p. Link (Feeder p) Controller) (range_with_len 0 setting.feeders)
+  asked = ordered ++ map (λ p. Link (Feeder p) Controller) (range_with_len 0 setting.feeders)
 
   abbrev settled : List Slot
-  settled = from_joiners (2 ^ setting.k) Controller
+  settled = asked ++ from_joiners (2 ^ setting.k) Controller
 
-  abbrev found : List Slot
-  found = from_joiners (2 ^ setting.k) Collector
+  to_settled : IsAllAt (IsIdle w) settled
+  to_settled = all_front (IsIdle w) settled (from_joiners (2 ^ setting.k) Collector) all
 
-  to_settled : IsAllAt (IsIdle w) (begins ++ dealt ++ exchanged ++ ordered ++ asked ++ settled)
-  to_settled = all_front (IsIdle w) (begins ++ dealt ++ exchanged ++ ordered ++ asked ++ settled) found all
+  to_asked : IsAllAt (IsIdle w) asked
+  to_asked = all_front (IsIdle w) asked (from_joiners (2 ^ setting.k) Controller) to_settled
 
-  to_asked : IsAllAt (IsIdle w) (begins ++ dealt ++ exchanged ++ ordered ++ asked)
-  to_asked = all_front (IsIdle w) (begins ++ dealt ++ exchanged ++ ordered ++ asked) settled to_settled
+  to_ordered : IsAllAt (IsIdle w) ordered
+  to_ordered = all_front (IsIdle w) ordered _ to_asked
 
-  to_ordered : IsAllAt (IsIdle w) (begins ++ dealt ++ exchanged ++ ordered)
-  to_ordered = all_front (IsIdle w) (begins ++ dealt ++ exchanged ++ ordered) asked to_asked
+  to_exchanged : IsAllAt (IsIdle w) exchanged
+  to_exchanged = all_front (IsIdle w) exchanged _ to_ordered
 
-  to_exchanged : IsAllAt (IsIdle w) (begins ++ dealt ++ exchanged)
-  to_exchanged = all_front (IsIdle w) (begins ++ dealt ++ exchanged) ordered to_ordered
-
-  to_dealt : IsAllAt (IsIdle w) (begins ++ dealt)
-  to_dealt = all_front (IsIdle w) (begins ++ dealt) exchanged to_exchanged
+  to_dealt : IsAllAt (IsIdle w) dealt
+  to_dealt = all_front (IsIdle w) dealt _ to_exchanged
 
   waiting : (p : ℕ) → p < setting.feeders → IsIdle w (Begin p)
-  waiting p low =
-      all_below (λ p. IsIdle w (Begin p)) setting.feeders p low
-      (all_mapped (IsIdle w) Begin (range_with_len 0 setting.feeders) (all_front (IsIdle w) begins dealt to_dealt))
-
-  dealt_to : (p j : ℕ) → p < setting.feeders → j < 2 ^ setting.k → IsIdle w (Link (Feeder p) (Joiner j))
-  dealt_to p j low low' =
-      let row = all_below (λ p. IsAllAt (IsIdle w) (to_joiners (2 ^ setting.k) p)) setting.feeders p low
-      (all_flat (IsIdle w) (to_joiners (2 ^ setting.k)) (range_with_len 0 setting.feeders)
-      (all_rest (IsIdle w) begins dealt to_dealt)) in
-      all_below (λ j. IsIdle w (Link (Feeder p) (Joiner j))) (2 ^ setting.k) j low'
-      (all_mapped (IsIdle w) (λ j. Link (Feeder p) (Joiner j)) (range_with_len 0 (2 ^ setting.k)) row)
-
-  exchanged_with : (i bit : ℕ) → i < 2 ^ setting.k → bit < setting.k
-      → IsIdle w (Link (Joiner i) (Joiner (bit_xor i (2 ^ bit))))
-  exchanged_with i bit low low' =
-      let row = all_below (λ i. IsAllAt (IsIdle w) (to_partners setting.k i)) (2 ^ setting.k) i low
-      (all_flat (IsIdle w) (to_partners setting.k) (range_with_len 0 (2 ^ setting.k))
-      (all_rest (IsIdle w) (begins ++ dealt) exchanged to_exchanged)) in
-      all_below (λ bit. IsIdle w (Link (Joiner i) (Joiner (bit_xor i (2 ^ bit))))) setting.k bit low'
-      (all_mapped (IsIdle w) (λ bit. Link (Joiner i) (Joiner (bit_xor i (2 ^ bit)))) (range_with_len 0 setting.k) row)
+  waiting p low = each_mapped (IsIdle w) Begin setting.feeders p low (all_front (IsIdle w) begins _ to_dealt)
 
   nothing_left : (from to : Actor) → HasLink setting.k setting.feeders from to → left_of w from to ≡ []
-  nothing_left _ _ (feeder_joiner {p = p} {j = j} low high) = dealt_to p j low high
-  nothing_left _ _ (joiner_joiner {i = i} {low = bit} high within) = exchanged_with i bit high within
+  nothing_left _ _ (feeder_joiner {p = p} {j = j} low high) =
+      each_mapped (IsIdle w) (λ j. Link (Feeder p) (Joiner j)) (2 ^ setting.k) j high
+      (each_flat (IsIdle w) (to_joiners (2 ^ setting.k)) setting.feeders p low
+      (all_rest (IsIdle w) begins _ to_dealt))
+  nothing_left _ _ (joiner_joiner {i = i} {low = bit} high within) =
+      each_mapped (IsIdle w) (λ bit. Link (Joiner i) (Joiner (bit_xor i (2 ^ bit)))) setting.k bit within
+      (each_flat (IsIdle w) (to_partners setting.k) (2 ^ setting.k) i high (all_rest (IsIdle w) dealt _ to_exchanged))
   nothing_left _ _ (controller_feeder {p = p} low) =
-      all_below (λ p. IsIdle w (Link Controller (Feeder p))) setting.feeders p low
-      (all_mapped (IsIdle w) (λ p. Link Controller (Feeder p)) (range_with_len 0 setting.feeders)
-      (all_rest (IsIdle w) (begins ++ dealt ++ exchanged) ordered to_ordered))
+      each_mapped (IsIdle w) (λ p. Link Controller (Feeder p)) setting.feeders p low
+      (all_rest (IsIdle w) exchanged _ to_ordered)
   nothing_left _ _ (feeder_controller {p = p} low) =
-      all_below (λ p. IsIdle w (Link (Feeder p) Controller)) setting.feeders p low
-      (all_mapped (IsIdle w) (λ p. Link (Feeder p) Controller) (range_with_len 0 setting.feeders)
-      (all_rest (IsIdle w) (begins ++ dealt ++ exchanged ++ ordered) asked to_asked))
+      each_mapped (IsIdle w) (λ p. Link (Feeder p) Controller) setting.feeders p low
+      (all_rest (IsIdle w) ordered _ to_asked)
   nothing_left _ _ (joiner_controller {j = j} low) =
-      all_below (λ i. IsIdle w (Link (Joiner i) Controller)) (2 ^ setting.k) j low
-      (all_mapped (IsIdle w) (λ i. Link (Joiner i) Controller) (range_with_len 0 (2 ^ setting.k))
-      (all_rest (IsIdle w) (begins ++ dealt ++ exchanged ++ ordered ++ asked) settled to_settled))
+      each_mapped (IsIdle w) (λ i. Link (Joiner i) Controller) (2 ^ setting.k) j low
+      (all_rest (IsIdle w) asked _ to_settled)
   nothing_left _ _ (joiner_collector {j = j} low) =
-      all_below (λ i. IsIdle w (Link (Joiner i) Collector)) (2 ^ setting.k) j low
-      (all_mapped (IsIdle w) (λ i. Link (Joiner i) Collector) (range_with_len 0 (2 ^ setting.k))
-      (all_rest (IsIdle w) (begins ++ dealt ++ exchanged ++ ordered ++ asked ++ settled) found all))
+      each_mapped (IsIdle w) (λ i. Link (Joiner i) Collector) (2 ^ setting.k) j low
+      (all_rest (IsIdle w) settled _ all)
 
   -- where no slot of a run has an event, nothing is left on any of its links, and no feeder would begin
   pub idle_is_still : IsStill setting w
@@ -180,27 +164,14 @@ idle_below slots starved w idle n slot there = idle n slot (slice_get_within slo
 
 -- ---- what isn't done has a slot with an event
 
--- a world that stands for lists of a valid input and setting, and isn't done though it would be if it were still, has a
--- slot with an event
-pub some_has_one : (input : Input) (setting : Setting) (w : WorldState) (lists : Actor → ActorLists)
-    → IsValid input setting → StandsFor input setting w lists
-    → (slots : List Slot) → slots ≡ slots_of setting → (done : Bool)
-    → ((input' : Input) (setting' : Setting) (lists' : Actor → ActorLists) → IsValid input' setting'
-    → StandsFor input' setting' w lists' → IsStill setting' w → done ≡ true)
-    → done ≡ false → ¬ IsAllAt (IsIdle w) slots
-some_has_one input setting w lists valid stands slots is done still goes idle =
-    true≢false (sym (still input setting lists valid stands
-    (idle_is_still setting w (subst (λ s. IsAllAt (IsIdle w) s) is idle))) ∙ goes)
-
--- the same of a wave
-pub some_has_one_in_wave : (input : Input) (setting : Setting) (rest : Rest) (w : WorldState)
-    (lists : Actor → ActorLists)
-    → IsValid input setting → IsRestFor input setting rest → StandsInWave input setting rest w lists
-    → (slots : List Slot) → slots ≡ slots_of setting → (done : Bool)
-    → ((input' : Input) (setting' : Setting) (rest' : Rest) (lists' : Actor → ActorLists) → IsValid input' setting'
-    → IsRestFor input' setting' rest' → StandsInWave input' setting' rest' w lists' → IsStill setting' w
-    → done ≡ true)
-    → done ≡ false → ¬ IsAllAt (IsIdle w) slots
-some_has_one_in_wave input setting rest w lists valid begins stands slots is done still goes idle =
-    true≢false (sym (still input setting rest lists valid begins stands
-    (idle_is_still setting w (subst (λ s. IsAllAt (IsIdle w) s) is idle))) ∙ goes)
+module _ (task : Task) (w : WorldState) (lists : Actor → ActorLists) (is_task : IsTask task)
+    (stands : StandsFor task w lists) where
+  -- a world that stands for lists of a task, and isn't done though it would be if it were still, has a slot with an
+  -- event
+  pub some_has_one : (slots : List Slot) → slots ≡ slots_of task.setting → (done : Bool)
+      → ((task' : Task) (lists' : Actor → ActorLists) → IsTask task' → StandsFor task' w lists'
+      → IsStill task'.setting w → done ≡ true)
+      → done ≡ false → ¬ IsAllAt (IsIdle w) slots
+  some_has_one slots is done still goes idle =
+      true≢false (sym (still task lists is_task stands
+      (idle_is_still task.setting w (subst (λ s. IsAllAt (IsIdle w) s) is idle))) ∙ goes)

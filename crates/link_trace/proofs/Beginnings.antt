@@ -1,108 +1,92 @@
--- All actors at the beginning of a run.
-use Rattle.std.proofs.Common.{◌≡◌, ℕ, zero, suc, ◌+◌, refl, sym, ap, subst, ◌∙◌, Option, Some, None, List, []}
-use Rattle.std.proofs.Common.{◌∷◌, ◌++◌, get_or, map, All, inl, inr}
-use Rattle.std.specs.List.{AllByRecursion}
-use Rattle.std.specs.declared.alloc.Global.{Global}
-use Rattle.std.specs.declared.collections.VecDeque.{VecDeque}
-use Rattle.std.proofs.lemmas.List.Elements.{recursion_from_All}
-use Rattle.std.specs.Prelude.{slice_get}
-use Rattle.std.proofs.lemmas.List.{length-map, map-append, length-append}
-use Rattle.epoch_tags.specs.declared.message.Msg.{Msg}
-use Rattle.trace_law.specs.declared.input.Input.{Input}
-use Rattle.trace_law.specs.declared.setting.Setting.{Setting}
-use Rattle.trace_law.specs.Family.{Rest, first_rest}
+-- A world before its first event.
+use Rattle.std.proofs.Common.{◌≡◌, ℕ, zero, suc, ◌+◌, refl, sym, ap, ap₂, subst, ◌∙◌, Option, Some, None, List, []}
+use Rattle.std.proofs.Common.{◌∷◌, ◌++◌, get_or, length, map, inl, inr}
+use Rattle.std.specs.Prelude.{replicate}
+use Rattle.std.proofs.lemmas.List.{length-append, length-replicate, map-append, replicate_more}
+use Rattle.std.proofs.lemmas.List.Elements.{All-replicate}
 use Rattle.actor_core.specs.declared.cast.Cast.{Cast}
-use Rattle.actor_core.specs.Players.{AllStandInWave}
 use Rattle.actor_core.specs.Lists.{no_lists}
-use Rattle.actor_core.specs.Standing.{Stands}
-use Rattle.actor_core.specs.Families.{start_for}
-use Rattle.actor_core.specs.Numbers.{actor_at, at_number, cast_of, count_of, number}
+use Rattle.actor_core.specs.Numbers.{at_number, cast_of, count_of, number}
+use Rattle.actor_core.specs.Players.{AllStand}
+use Rattle.actor_core.specs.Tasks.{Task}
 use Rattle.actor_core.specs.declared.machines.Core.{Core}
-use Rattle.link_trace.specs.Worlds.{StandsFor, StandsInWave, AreNew, HaveNothing, cores_of, state_among, waiting_at}
-use Rattle.link_trace.specs.Worlds.{waiting_of, waits}
-use Rattle.link_trace.specs.declared.places.Place.{Place}
 use Rattle.actor_core.proofs.WaveBeginnings.{all_stand, last_is}
+use Rattle.link_trace.specs.FirstWorlds.{AreEach, AreNew, HaveBegun, IsFirstWorld, new_world, none_waits}
+use Rattle.link_trace.specs.Worlds.{IsSquare, StandsFor, cores_of, state_among, waiting_of, waits}
+use Rattle.link_trace.specs.declared.places.Place.{Place}
+use Rattle.link_trace.proofs.WorldAfter.{world_of}
 
--- ---- one more place
+-- ---- one more
 
-rows_more : (ws : List (List (List Msg))) (row : List (List Msg)) → ((sender : ℕ) → get_or row sender [] ≡ [])
-    → ((r s : ℕ) → waits ws r s ≡ []) → (r s : ℕ) → waits (ws ++ row ∷ []) r s ≡ []
-rows_more [] row empty old zero s = empty s
-rows_more [] row empty old (suc r) s = refl
-rows_more (w ∷ ws) row empty old zero s = old zero s
-rows_more (w ∷ ws) row empty old (suc r) s = rows_more ws row empty (λ r' s'. old (suc r') s') r s
+-- one more that looks like all before it
+pub one_more : {X Y : Type 0} (f : X → Y) (xs : List X) (x : X) (n : ℕ) (y : Y) → map f xs ≡ replicate n y → f x ≡ y
+    → map f (xs ++ x ∷ []) ≡ replicate (n + 1) y
+one_more f xs x n y is last = map-append f xs (x ∷ []) ∙ (λ i. is i ++ last i ∷ []) ∙ replicate_more n y
 
-empty_row : (queues : List (VecDeque Msg Global)) → AllByRecursion (λ queue. queue.items ≡ []) queues → (sender : ℕ)
-    → get_or (map (λ queue. queue.items) queues) sender [] ≡ []
-empty_row [] all sender = refl
-empty_row (queue ∷ queues) all zero = all.0
-empty_row (queue ∷ queues) all (suc sender) = empty_row queues all.1 sender
-
-module _ (input : Input) (setting : Setting) (n : ℕ) (places : List Place) (new : AreNew input setting n places)
-    (place : Place) (stands : Stands (start_for input setting (actor_at (cast_of setting) n))
-    no_lists place.core) (empty : All (λ queue. queue.items ≡ []) place.waiting.items) where
-  fresh : (m : ℕ) (core : Core) → slice_get (cores_of (places ++ place ∷ [])) m ≡ Some core
-      → Stands (start_for input setting (actor_at (cast_of setting) m)) no_lists core
-  fresh m core is = elim (last_is (cores_of places) place.core core m
-      (sym (ap (λ cs. slice_get cs m) (map-append (λ (p : Place). p.core) places (place ∷ []))) ∙ is)) [
-        | inl there ↦ new.fresh m core there
-        | inr last ↦
-            let at_end : n ≡ m = sym new.all ∙ (sym (length-map places (λ (p : Place). p.core)) ∙ sym last.0) in
-            subst (λ z. Stands (start_for input setting (actor_at (cast_of setting) z)) no_lists core)
-            at_end
-            (subst (λ z. Stands (start_for input setting (actor_at (cast_of setting) n)) no_lists z)
-            last.1 stands)
-      ]
-
-  -- where so many actors are at the beginning, the next number's machine stands for empty lists and nothing waits at
-  -- it, one actor more is
-  pub one_new : AreNew input setting (n + 1) (places ++ place ∷ [])
-  one_new = record {
-    all = length-append places (place ∷ []) ∙ ap (λ z. z + 1) new.all;
-    fresh = fresh;
-    empty = λ r s. ap (λ ws. waits ws r s) (map-append waiting_at places (place ∷ []))
-        ∙ rows_more (waiting_of places) (waiting_at place) (empty_row place.waiting.items
-        (recursion_from_All (λ queue. queue.items ≡ []) place.waiting.items empty)) new.empty r s;
-  }
-
--- ---- all of them
-
-nothing_left : (ws : List (List (List Msg))) → ((r s : ℕ) → waits ws r s ≡ []) → (i k : Option ℕ)
-    → at_number [] i (λ r. at_number [] k (λ s. waits ws r s)) ≡ []
-nothing_left ws empty None k = refl
-nothing_left ws empty (Some r) None = refl
-nothing_left ws empty (Some r) (Some s) = empty r s
-
--- where as many actors as the run has are at the beginning, their world stands for empty lists
-pub all_new : (input : Input) (setting : Setting) (cast : Cast) (count : ℕ) (places : List Place)
-    → cast ≡ cast_of setting → count ≡ count_of cast → AreNew input setting count places
-    → StandsFor input setting (state_among cast places) (λ actor. no_lists)
-all_new input setting cast count places is many new =
-    subst (λ c. StandsFor input setting (state_among c places) (λ actor. no_lists)) (sym is) (record {
-      machines = all_stand input setting (first_rest setting) (cores_of places)
-          (length-map places (λ (p : Place). p.core) ∙ (new.all ∙ (many ∙ ap count_of is))) new.fresh;
-      balanced = λ from to. nothing_left (waiting_of places) new.empty (number (cast_of setting) to)
-          (number (cast_of setting) from);
-    })
-
--- ---- machines that are there already
-
--- one place more, at which nothing waits
-pub none_more : (places : List Place) (place : Place) → HaveNothing places
-    → All (λ queue. queue.items ≡ []) place.waiting.items → HaveNothing (places ++ place ∷ [])
-none_more places place old empty r s =
-    ap (λ ws. waits ws r s) (map-append waiting_at places (place ∷ []))
-    ∙ rows_more (waiting_of places) (waiting_at place) (empty_row place.waiting.items
-    (recursion_from_All (λ queue. queue.items ≡ []) place.waiting.items empty)) old r s
-
--- a world of machines that stand for empty lists, where nothing waits
-pub wave_new : (input : Input) (setting : Setting) (rest : Rest) (cast : Cast) (places : List Place) (cores : List Core)
-    → cast ≡ cast_of setting → cores_of places ≡ cores → HaveNothing places
-    → AllStandInWave input setting rest (cast_of setting) cores (λ actor. no_lists)
-    → StandsInWave input setting rest (state_among cast places) (λ actor. no_lists)
-wave_new input setting rest cast places cores is same empty stand = record {
-  machines =
-      subst (λ c. AllStandInWave input setting rest c (cores_of places) (λ actor. no_lists)) (sym is)
-      (subst (λ cs. AllStandInWave input setting rest (cast_of setting) cs (λ actor. no_lists)) (sym same) stand);
-  balanced = λ from to. nothing_left (waiting_of places) empty (number cast to) (number cast from);
+-- one machine more
+pub one_each : (P : ℕ → Core → Type 0) (n : ℕ) (cores : List Core) (core : Core) → AreEach P n cores → P n core
+    → AreEach P (n + 1) (cores ++ core ∷ [])
+one_each P n cores core old own = record {
+  all = length-append cores (core ∷ []) ∙ ap (λ z. z + 1) old.all;
+  each = λ m other is. elim (last_is cores core other m is) [
+    | inl there ↦ old.each m other there
+    | inr last ↦ subst (λ z. P z other) (sym old.all ∙ sym last.0) (subst (P n) last.1 own)
+  ];
 }
+
+-- ---- nothing waits
+
+same_there : {X : Type 0} (x : X) (n i : ℕ) → get_or (replicate n x) i x ≡ x
+same_there x zero i = refl
+same_there x (suc n) zero = refl
+same_there x (suc n) (suc i) = same_there x n i
+
+none_there : (m n receiver sender : ℕ) → waits (replicate m (replicate n [])) receiver sender ≡ []
+none_there zero n receiver sender = refl
+none_there (suc m) n zero sender = same_there [] n sender
+none_there (suc m) n (suc receiver) sender = none_there m n receiver sender
+
+none_left : (n : ℕ) (i k : Option ℕ) → at_number [] i (λ r. at_number [] k (λ s. waits (none_waits n) r s)) ≡ []
+none_left n None k = refl
+none_left n (Some r) None = refl
+none_left n (Some r) (Some s) = none_there n n r s
+
+-- a list waits at each for each
+pub none_square : (n : ℕ) → IsSquare n (none_waits n)
+none_square n = record {
+  tall = length-replicate n (replicate n []);
+  wide = All-replicate (λ queues. length queues ≡ n) n (replicate n []) (length-replicate n []);
+}
+
+-- places with these machines, at each of which there is a queue for each and nothing waits, are those of this world
+pub is_new : (cast : Cast) (cores : List Core) (count : ℕ) (places : List Place) → length cores ≡ count_of cast
+    → count ≡ count_of cast → cores_of places ≡ cores
+    → waiting_of places ≡ replicate (length cores) (replicate count [])
+    → state_among cast places ≡ new_world cast cores
+is_new cast cores count places long many same none =
+    ap₂ (world_of cast) same (none ∙ ap₂ (λ m n. replicate m (replicate n [])) long many)
+
+-- ---- it stands for empty lists
+
+-- where its machines do
+pub new_stands : (task : Task) (cast : Cast) (cores : List Core) → AllStand task cast cores (λ actor. no_lists)
+    → StandsFor task (new_world cast cores) (λ actor. no_lists)
+new_stands task cast cores stand = record {
+  machines = stand;
+  balanced = λ from to. none_left (count_of cast) (number cast to) (number cast from);
+}
+
+module _ (task : Task) (cast : Cast) (count : ℕ) (cores : List Core) (is : cast ≡ cast_of task.setting)
+    (many : count ≡ count_of cast) where
+  -- so do those of all actors, by their numbers
+  pub new_stand : AreNew task count cores → AllStand task cast cores (λ actor. no_lists)
+  new_stand new = subst (λ c. AllStand task c cores (λ actor. no_lists)) (sym is)
+      (all_stand task cores (new.all ∙ (many ∙ ap count_of is)) new.each)
+
+  -- and where they have just begun it is the first of its task
+  pub world_begun : HaveBegun task count cores → IsFirstWorld task (new_world cast cores)
+  world_begun begun = record {
+    cast = is;
+    machines = subst (λ n. HaveBegun task n cores) (many ∙ ap count_of is) begun;
+    waiting = ap (λ c. none_waits (count_of c)) is;
+  }

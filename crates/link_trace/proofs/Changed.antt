@@ -8,7 +8,7 @@ use Rattle.std.proofs.lemmas.Option.{slice_get-get_or, get_or_from_slice_get}
 use Rattle.epoch_tags.specs.declared.message.Msg.{Msg}
 use Rattle.epoch_tags.specs.declared.message.Post.{Post}
 use Rattle.actor_core.specs.Lists.{Cause}
-use Rattle.actor_core.specs.Standing.{Occurs}
+use Rattle.actor_core.specs.Standing.{Event, Occurs}
 use Rattle.actor_core.specs.declared.machines.Core.{Core}
 use Rattle.link_trace.specs.Worlds.{cores_of, waiting_at, waiting_of, waits, with_waiting, HasRoom, TakesOff, PutsOn}
 use Rattle.link_trace.specs.Worlds.{OccursAt}
@@ -103,10 +103,12 @@ module _ (places : List Place) (at : ℕ) (place new : Place) (is : place ≡ ge
   pub same_cores : new.core ≡ place.core → cores_of (set places at new) ≡ cores_of places
   same_cores e = set_same (λ (p : Place). p.core) places at place is low new e
 
-  -- where an event occurred in the machine of one place, it occurred in that machine among those of all places
-  pub occurs_at : (cause : Cause) (before after : List Post) → Occurs cause place.core new.core before after
-      → OccursAt at cause (cores_of places) (cores_of (set places at new)) before after
-  occurs_at cause before after occurs = record {
+  -- where an event occurred in the machine of one place before which nothing was posted, it occurred in that machine
+  -- among those of all places
+  pub occurs_at : (cause : Cause) (before posts : List Post) → before ≡ []
+      → Occurs cause place.core new.core before posts
+      → OccursAt at cause (cores_of places) (cores_of (set places at new)) posts
+  occurs_at cause before posts none occurs = record {
     core = place.core;
     next = new.core;
     was =
@@ -114,16 +116,17 @@ module _ (places : List Place) (at : ℕ) (place new : Place) (is : place ≡ ge
         (sym (length-map places (λ (p : Place). p.core))) low)
         ∙ ap Some (map_at (λ (p : Place). p.core) places at place is low place.core);
     now = map-set (λ (p : Place). p.core) places at new;
-    occurs = occurs;
+    event = subst (Event cause place.core new.core)
+        (sym (occurs.sends ∙ ap (λ (ps : List Post). ps ++ occurs.added) none)) occurs.event;
   }
 
   -- where the flag is up, a beginning occurred so; where it isn't, no machine changed
-  pub begins_at : (cause : Cause) (b : Bool) (before after : List Post)
-      → MatchBool b (Occurs cause place.core new.core before after) (new.core ≡ place.core)
-      → MatchBool b (OccursAt at cause (cores_of places) (cores_of (set places at new)) before after)
+  pub begins_at : (cause : Cause) (b : Bool) (before posts : List Post) → before ≡ []
+      → MatchBool b (Occurs cause place.core new.core before posts) (new.core ≡ place.core)
+      → MatchBool b (OccursAt at cause (cores_of places) (cores_of (set places at new)) posts)
       (cores_of (set places at new) ≡ cores_of places)
-  begins_at cause true before after e = occurs_at cause before after e
-  begins_at cause false before after e = same_cores e
+  begins_at cause true before posts none e = occurs_at cause before posts none e
+  begins_at cause false before posts none e = same_cores e
 
 -- the machine at a number is that of the place there
 pub core_there : (places : List Place) (n : ℕ) (place : Place) (core : Core) → n < length places

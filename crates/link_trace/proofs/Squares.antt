@@ -1,10 +1,10 @@
 -- As many lists wait at each of so many actors, and still do when what waits has changed.
 use Rattle.std.proofs.Common.{◌≡◌, ℕ, zero, suc, ◌<◌, sym, ap, subst, ◌∙◌}
 use Rattle.std.proofs.Common.{arith}
-use Rattle.std.proofs.Common.{Option, Some, None, List, [], ◌∷◌, ◌++◌, get_or, set, length, All}
+use Rattle.std.proofs.Common.{Option, Some, None, List, [], ◌∷◌, ◌++◌, get_or, set, length}
 use Rattle.std.specs.List.{AllByRecursion}
-use Rattle.std.proofs.lemmas.List.{length-map, length-set, map-append}
-use Rattle.std.proofs.lemmas.List.Elements.{All-from_recursion, All-push, recursion_from_All}
+use Rattle.std.proofs.lemmas.List.{length-map, length-set}
+use Rattle.std.proofs.lemmas.List.Elements.{All-from_recursion, recursion_from_All}
 use Rattle.epoch_tags.specs.declared.actor.Actor.{Actor}
 use Rattle.epoch_tags.specs.declared.message.Msg.{Msg}
 use Rattle.epoch_tags.specs.declared.message.Post.{Post}
@@ -32,7 +32,8 @@ square_with count ws r s ms square = record {
       (rows_with count ws r s ms (recursion_from_All (λ queues. length queues ≡ count) ws square.wide));
 }
 
-square_left : (cast : Cast) (count : ℕ) (from to : Actor) (change : List Msg → List Msg)
+-- and where what is left on a link was changed
+pub square_left : (cast : Cast) (count : ℕ) (from to : Actor) (change : List Msg → List Msg)
     (ws : List (List (List Msg))) → IsSquare count ws → IsSquare count (with_left cast from to change ws)
 square_left cast count from to change ws square =
     go (number cast from) (number cast to)
@@ -77,6 +78,11 @@ places_by_cores places = length-map places (λ (p : Place). p.core)
 pub places_by_waiting : (places : List Place) → length (waiting_of places) ≡ length places
 places_by_waiting places = length-map places waiting_at
 
+-- so there are as many machines as actors
+pub machines_there : (count : ℕ) (places : List Place) → IsSquare count (waiting_of places)
+    → length (cores_of places) ≡ count
+machines_there count places square = places_by_cores places ∙ (sym (places_by_waiting places) ∙ square.tall)
+
 -- taking a message off leaves a place at its receiver's number
 pub receiver_there : (receiver sender : ℕ) (m : Msg) (places taken : List Place)
     → TakesOff receiver sender m (waiting_of places) (waiting_of taken)
@@ -85,12 +91,3 @@ receiver_there receiver sender m places taken took same =
     subst (λ n. receiver < n)
     (places_by_waiting places ∙ (sym (places_by_cores places) ∙ (sym (ap length same) ∙ places_by_cores taken)))
     took.room.receiver_is
-
--- one place more, at which so many lists wait
-pub one_wider : (count : ℕ) (places : List Place) (place : Place)
-    → All (λ queues. length queues ≡ count) (waiting_of places) → length place.waiting.items ≡ count
-    → All (λ queues. length queues ≡ count) (waiting_of (places ++ place ∷ []))
-one_wider count places place wide long =
-    subst (All (λ queues. length queues ≡ count)) (sym (map-append waiting_at places (place ∷ [])))
-    (All-push (λ queues. length queues ≡ count) (waiting_of places) (waiting_at place) wide
-    (length-map place.waiting.items (λ queue. queue.items) ∙ long))

@@ -1,10 +1,10 @@
 -- What waits, where one list of it changed.
-use Rattle.std.proofs.Common.{◌≡◌, ℕ, ◌==◌, ◌<◌, ◌&&◌, eqb-true, refl, sym, ap, ap₂, subst, ◌∙◌, Bool, true, false}
+use Rattle.std.proofs.Common.{◌≡◌, ℕ, zero, suc, ◌==◌, ◌<◌, ◌&&◌, eqb-true, refl, sym, ap, ap₂, subst, ◌∙◌, Bool, true}
+use Rattle.std.proofs.Common.{false}
 use Rattle.std.proofs.Common.{cond, Option, Some, None, List, [], ◌∷◌, ◌++◌, get_or, set, length, append-nil}
 use Rattle.std.proofs.Common.{append_assoc}
 use Rattle.std.specs.List.{cons_option}
 use Rattle.std.proofs.lemmas.List.{get_or-set_same, get_or-set_other}
-use Rattle.std.proofs.lemmas.List.Elements.{filter_map-append}
 use borrow.Author.Tests.{eqb-false}
 use mathlib.Core.Path.{fun_ext}
 use Rattle.epoch_tags.specs.declared.actor.Actor.{Actor}
@@ -14,10 +14,15 @@ use Rattle.theta_pred.proofs.KeyMembers.{and_left, and_right}
 use Rattle.actor_core.specs.declared.cast.Cast.{Cast}
 use Rattle.actor_core.specs.Lists.{same_actor, posted_to}
 use Rattle.actor_core.specs.Families.{taken_off, put_on}
-use Rattle.actor_core.specs.Numbers.{number, at_number}
-use Rattle.link_trace.specs.Worlds.{waits, with_waiting, HasRoom, PutsOn, left_in, put_one}
+use Rattle.actor_core.specs.Elements.{IsAllAt}
+use Rattle.actor_core.specs.Numbers.{number, at_number, count_of}
 use Rattle.actor_core.proofs.Balances.{same_is}
 use Rattle.actor_core.proofs.OwnNumbers.{same_number, none_some}
+use Rattle.actor_core.proofs.Seated.{number_low}
+use Rattle.link_trace.specs.Worlds.{waits, with_waiting, HasNumber, HasRoom, IsSquare, left_in, put_one, with_post}
+use Rattle.link_trace.specs.Worlds.{with_posts}
+use Rattle.link_trace.proofs.Squares.{has_room, square_left}
+use Rattle.link_trace.proofs.WorldAfter.{left_there}
 
 -- an element of a list in which one was set
 get-set : {X : Type 0} (xs : List X) (i k : ℕ) (x d : X) → i < length xs
@@ -101,34 +106,46 @@ module _ (cast : Cast) (ws : List (List (List Msg))) (from to : Actor) (s r : �
 
 -- ---- posts, one after another
 
-more_posts : (left posts : List Msg) (m : Msg) (a b : Bool)
-    → cond (a && b) (cond a (left ++ posts) left ++ m ∷ []) (cond a (left ++ posts) left)
-    ≡ cond a (left ++ (posts ++ cons_option (cond b (Some m) None) [])) left
-more_posts left posts m true true = append_assoc left posts (m ∷ [])
-more_posts left posts m true false = ap (λ l. left ++ l) (sym (append-nil posts))
-more_posts left posts m false b = refl
-
--- posts put on their links, and one more then, are put on as if at once
-pub put_more : (from : Actor) (left : Actor → Actor → List Msg) (posts : List Post) (post : Post)
-    → put_one from post.to post.msg (put_on from posts left) ≡ put_on from (posts ++ post ∷ []) left
-put_more from left posts post = fun_ext (λ x. fun_ext (λ y.
-    more_posts (left x y) (posted_to y posts) post.msg (same_actor from x) (same_actor post.to y)
-    ∙ ap (λ l. cond (same_actor from x) (left x y ++ l) (left x y))
-    (sym (filter_map-append (λ (p : Post). cond (same_actor p.to y) (Some p.msg) None) posts (post ∷ [])))))
-
 none_put : (left : List Msg) (a : Bool) → left ≡ cond a (left ++ []) left
 none_put left true = sym (append-nil left)
 none_put left false = refl
 
 -- no posts put on change nothing
-pub put_none : (from : Actor) (left : Actor → Actor → List Msg) → left ≡ put_on from [] left
+put_none : (from : Actor) (left : Actor → Actor → List Msg) → left ≡ put_on from [] left
 put_none from left = fun_ext (λ x. fun_ext (λ y. none_put (left x y) (same_actor from x)))
 
--- where a message was put on what waits at the receiver of the sender, what is left on the link between the two ends
--- with it
-pub put_left : (cast : Cast) (from to : Actor) (sender receiver : ℕ) → number cast from ≡ Some sender
-    → number cast to ≡ Some receiver
-    → (m : Msg) (ws ws' : List (List (List Msg))) → PutsOn receiver sender m ws ws'
-    → left_in cast ws' ≡ put_one from to m (left_in cast ws)
-put_left cast from to sender receiver from_is to_is m ws ws' put =
-    ap (left_in cast) put.left ∙ left-put cast ws from to sender receiver from_is to_is put.room m
+first_post : (left posts : List Msg) (m : Msg) (a b : Bool)
+    → cond a (cond (a && b) (left ++ m ∷ []) left ++ posts) (cond (a && b) (left ++ m ∷ []) left)
+    ≡ cond a (left ++ cons_option (cond b (Some m) None) posts) left
+first_post left posts m true true = append_assoc left (m ∷ []) posts
+first_post left posts m true false = refl
+first_post left posts m false b = refl
+
+-- where a post of an actor came on its link, one message more is left there
+left-post : (cast : Cast) (from : Actor) (post : Post) (ws : List (List (List Msg))) → IsSquare (count_of cast) ws
+    → HasNumber cast from → HasNumber cast post.to
+    → left_in cast (with_post cast from post ws) ≡ put_one from post.to post.msg (left_in cast ws)
+left-post cast from post ws square there there' = go (number cast from) (number cast post.to) refl refl
+  where
+    go : (i k : Option ℕ) → number cast from ≡ i → number cast post.to ≡ k
+        → left_in cast (with_post cast from post ws) ≡ put_one from post.to post.msg (left_in cast ws)
+    go None k from_is to_is = absurd (there from_is)
+    go (Some s) None from_is to_is = absurd (there' to_is)
+    go (Some s) (Some r) from_is to_is =
+        ap (left_in cast) (left_there cast from post.to s r from_is to_is (λ ms. ms ++ post.msg ∷ []) ws)
+        ∙ left-put cast ws from post.to s r from_is to_is (has_room (count_of cast) ws r s square
+        (number_low cast post.to r to_is) (number_low cast from s from_is)) post.msg
+
+-- where posts of an actor came on their links, they are put on what is left
+pub left-posts : (cast : Cast) (from : Actor) (posts : List Post) (ws : List (List (List Msg)))
+    → IsSquare (count_of cast) ws → HasNumber cast from → IsAllAt (λ (post : Post). HasNumber cast post.to) posts
+    → left_in cast (with_posts cast from posts ws) ≡ put_on from posts (left_in cast ws)
+left-posts cast from [] ws square there all = put_none from (left_in cast ws)
+left-posts cast from (post ∷ posts) ws square there all =
+    let left = left_in cast ws in
+    left-posts cast from posts (with_post cast from post ws)
+    (square_left cast (count_of cast) from post.to (λ ms. ms ++ post.msg ∷ []) ws square) there
+    (λ n x e. all (suc n) x e)
+    ∙ ap (put_on from posts) (left-post cast from post ws square there (all zero post refl))
+    ∙ fun_ext (λ x. fun_ext (λ y. first_post (left x y) (posted_to y posts) post.msg (same_actor from x)
+    (same_actor post.to y)))

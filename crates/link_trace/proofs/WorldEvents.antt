@@ -1,7 +1,7 @@
 -- One machine's event is one event of the world.
-use Rattle.std.proofs.Common.{◌≡◌, ℕ, zero, suc, ◌==◌, ◌<◌, refl, sym, ap, subst, ◌∙◌, Bool, true, false, cond, Option}
-use Rattle.std.proofs.Common.{Some, None, List, [], ◌∷◌, ◌++◌, set, length, ◌≢◌, ◌&&◌, eqb-true, true≢false, MatchBool}
-use Rattle.std.proofs.Common.{arith}
+use Rattle.std.proofs.Common.{◌≡◌, ℕ, zero, suc, ◌==◌, ◌<◌, refl, sym, ap, ap₂, subst, ◌∙◌, Bool, true, false, cond}
+use Rattle.std.proofs.Common.{Option, Some, None, List, [], ◌∷◌, ◌++◌, set, length, ◌&&◌, true≢false, MatchBool, arith}
+use Rattle.std.proofs.Common.{◌≢◌, eqb-true}
 use borrow.Author.Tests.{eqb-false}
 use Rattle.std.specs.Prelude.{slice_get}
 use Rattle.std.proofs.lemmas.Option.{slice_get_within}
@@ -10,22 +10,25 @@ use mathlib.Core.Path.{fun_ext}
 use Rattle.epoch_tags.specs.declared.actor.Actor.{Actor}
 use Rattle.epoch_tags.specs.declared.message.Msg.{Msg}
 use Rattle.epoch_tags.specs.declared.message.Post.{Post}
-use Rattle.trace_law.specs.declared.input.Input.{Input}
-use Rattle.trace_law.specs.declared.setting.Setting.{Setting}
-use Rattle.trace_law.specs.Family.{Rest}
 use Rattle.theta_pred.specs.Formula.{Meaning}
 use Rattle.actor_core.specs.declared.cast.Cast.{Cast}
 use Rattle.actor_core.specs.Lists.{ActorLists, Cause, Took, Began, same_actor, posted_to, with_event}
-use Rattle.actor_core.specs.Standing.{Stands, Event, GoOut, JoinsBy}
+use Rattle.actor_core.specs.Standing.{Stands, JoinsBy}
 use Rattle.actor_core.specs.Elements.{IsAllAt}
-use Rattle.actor_core.specs.Families.{start_in_wave, IsActor, changed, put_on, taken_off, after_event, core_in}
-use Rattle.actor_core.specs.Numbers.{number, at_number}
+use Rattle.actor_core.specs.Families.{IsActor, IsBalanced, after_event, changed, core_in, put_on, start_for, taken_off}
+use Rattle.actor_core.specs.Numbers.{number, at_number, count_of}
+use Rattle.actor_core.specs.Tasks.{Task}
 use Rattle.actor_core.specs.declared.machines.Core.{Core}
-use Rattle.link_trace.specs.Worlds.{MakesEvent, Delivers, OccursAt, TakesOff, KeepsOthers, left_in}
-use Rattle.link_trace.specs.Worlds.{delivered_first, with_posts, without_cause, world_after}
 use Rattle.actor_core.proofs.Balances.{same_is, delivery_balances, beginning_balances}
-use Rattle.actor_core.proofs.OwnNumbers.{same_number, none_some, some_is, is_actor}
-use Rattle.link_trace.proofs.WaitingMessages.{left-with, left_between}
+use Rattle.actor_core.proofs.OwnNumbers.{same_number, none_some, some_is}
+use Rattle.link_trace.specs.Worlds.{Delivers, HasNumber, IsSquare, KeepsOthers, MakesEvent, OccursAt, StandsFor}
+use Rattle.link_trace.specs.Worlds.{StandsForSome, TakesOff, WorldState, cores_of, delivered_first, left_in}
+use Rattle.link_trace.specs.Worlds.{state_among}
+use Rattle.link_trace.specs.Worlds.{waiting_of, with_posts, without_cause, world_after}
+use Rattle.link_trace.specs.declared.places.Place.{Place}
+use Rattle.link_trace.proofs.SomeTask.{machine_stands, sends_there}
+use Rattle.link_trace.proofs.Squares.{square_posts, square_with}
+use Rattle.link_trace.proofs.WaitingMessages.{left-posts, left-with, left_between}
 use Rattle.link_trace.proofs.WorldAfter.{after_is, first_off, world_of}
 
 -- ---- machines
@@ -69,124 +72,96 @@ module _ (cast : Cast) (cores : List Core) (self : Actor) (n : ℕ) (next : Core
 
 -- ---- events
 
-stands_after : (self : Actor) (cause : Cause) (core next : Core) (old new : Actor → Option Core) (posts : List Post)
-    → old self ≡ Some core → new ≡ changed self (Some next) old → Event cause core next posts
-    → (input : Input) (setting : Setting) (rest : Rest) (f : Actor → ActorLists)
-    → ((a : Actor) → IsActor setting a → (c : Core) × (old a ≡ Some c)
-    × Stands (start_in_wave input setting rest a) (f a) c)
-    → (a : Actor) → IsActor setting a → (c : Core) × (new a ≡ Some c)
-    × Stands (start_in_wave input setting rest a) (after_event self cause posts f a) c
-stands_after self cause core next old new posts was now event input setting rest f stands a is =
-    subst (λ z. (c : Core) × (z a ≡ Some c) × Stands (start_in_wave input setting rest a)
-    (after_event self cause posts f a) c)
-    (sym now) (go (same_actor self a) refl)
-  where
-    go : (b : Bool) → same_actor self a ≡ b → (c : Core) × (cond b (Some next) (old a) ≡ Some c)
-        × Stands (start_in_wave input setting rest a) (cond b (with_event cause posts (f self)) (f a)) c
-    go true e =
-        let old_one = stands a is in
-        let here = same_is self a e in
-        let core_is = some_is old_one.0 core (sym old_one.1 ∙ subst (λ z. old z ≡ Some core) here was) in
-        let stood = subst (λ c. Stands (start_in_wave input setting rest a) (f a) c) core_is old_one.2 in (
-          next,
-          refl,
-          event.stands (start_in_wave input setting rest a) (f self)
-              (subst (λ z. Stands (start_in_wave input setting rest a) (f z) core) (sym here) stood),
-        )
-    go false e = stands a is
-
-goes_out : (self : Actor) (cause : Cause) (core next : Core) (old : Actor → Option Core) (posts : List Post)
-    → old self ≡ Some core → Event cause core next posts
-    → (input : Input) (setting : Setting) (rest : Rest) (f : Actor → ActorLists) → IsActor setting self
-    → ((a : Actor) → IsActor setting a → (c : Core) × (old a ≡ Some c)
-    × Stands (start_in_wave input setting rest a) (f a) c)
-    → GoOut (start_in_wave input setting rest self) posts
-goes_out self cause core next old posts was event input setting rest f is stands =
-    let own = stands self is in
-    let core_is = some_is own.0 core (sym own.1 ∙ was) in
-    event.over (start_in_wave input setting rest self) (f self)
-    (subst (λ c. Stands (start_in_wave input setting rest self) (f self) c)
-    core_is own.2)
-
-joins_after : (theta : Meaning) (n : ℕ) (cores : List Core) (core next : Core) → slice_get cores n ≡ Some core
-    → (JoinsBy theta core → JoinsBy theta next) → IsAllAt (JoinsBy theta) cores
-    → IsAllAt (JoinsBy theta) (set cores n next)
-joins_after theta n cores core next was keeps all k other there = go (n == k) refl
-  where
-    there' : cond (n == k) (Some next) (slice_get cores k) ≡ Some other
-    there' = sym (slice_get-set cores n k next (slice_get_within cores n core was)) ∙ there
-
-    go : (b : Bool) → (n == k) ≡ b → JoinsBy theta other
-    go true e =
-        let same = some_is next other (sym (ap (λ c. cond c (Some next) (slice_get cores k)) e) ∙ there') in
-        subst (JoinsBy theta) same (keeps (all n core was))
-    go false e = all k other (sym (ap (λ c. cond c (Some next) (slice_get cores k)) e) ∙ there')
-
--- a machine made an event, and its posts were put on their links
+-- a machine made an event, after which its posts were put on their links
 module _ (cast : Cast) (self : Actor) (n : ℕ) (at : number cast self ≡ Some n) (cause : Cause)
-    (cores cores' : List Core) (ws middle ws' : List (List (List Msg))) (sends : List Post)
-    (occurs : OccursAt n cause cores cores' [] sends) (put : left_in cast ws'
-    ≡ put_on self sends (left_in cast middle)) (posted : ws' ≡ with_posts cast self sends middle)
+    (cores cores' : List Core) (ws middle : List (List (List Msg))) (posts : List Post)
+    (occurs : OccursAt n cause cores cores' posts) (square : IsSquare (count_of cast) middle)
+    (receivers : IsAllAt (λ (post : Post). HasNumber cast post.to) posts)
     (empties : (x y : Actor) → left_in cast ws x y ≡ [] → left_in cast middle x y ≡ [])
-    (taken : without_cause self cause (world_of cast cores ws)
-    ≡ record { cast = cast; cores = cores; waiting = middle }) where
-  was : core_in cast cores self ≡ Some occurs.core
-  was = ap (λ (i : Option ℕ). at_number None i (λ k. slice_get cores k)) at ∙ occurs.was
+    (taken : without_cause self cause (world_of cast cores ws) ≡ world_of cast cores middle) where
+  -- the world before
+  abbrev old : WorldState
+  old = world_of cast cores ws
+
+  -- and after it
+  abbrev new : WorldState
+  new = world_of cast cores' (with_posts cast self posts middle)
+
+  low : n < length cores
+  low = slice_get_within cores n occurs.core occurs.was
 
   now : core_in cast cores' ≡ changed self (Some occurs.next) (core_in cast cores)
-  now = ap (core_in cast) occurs.now ∙ core-set cast cores self n occurs.next at
-      (slice_get_within cores n occurs.core occurs.was)
+  now = ap (core_in cast) occurs.now ∙ core-set cast cores self n occurs.next at low
 
-  others : KeepsOthers self (world_of cast cores ws)
-      (world_of cast cores' ws')
+  put : left_in cast new.waiting ≡ put_on self posts (left_in cast middle)
+  put = left-posts cast self posts middle square (λ none. none_some n (sym none ∙ at)) receivers
+
+  module _ (task : Task) (f : Actor → ActorLists) (w : StandsFor task old f) where
+    own : IsActor task.setting self × Stands (start_for task self) (f self) occurs.core
+    own = machine_stands task old f w self n at occurs.core occurs.was
+
+    stand : (a : Actor) → IsActor task.setting a → (c : Core) × (core_in cast cores' a ≡ Some c)
+        × Stands (start_for task a) (after_event self cause posts f a) c
+    stand a is =
+        subst (λ z. (c : Core) × (z a ≡ Some c) × Stands (start_for task a) (after_event self cause posts f a) c)
+        (sym now) (go (same_actor self a) refl)
+      where
+        go : (b : Bool) → same_actor self a ≡ b → (c : Core)
+            × (cond b (Some occurs.next) (core_in cast cores a) ≡ Some c)
+            × Stands (start_for task a) (cond b (with_event cause posts (f self)) (f a)) c
+        go true e = (
+          occurs.next,
+          refl,
+          subst (λ z. Stands (start_for task z) (with_event cause posts (f self)) occurs.next) (same_is self a e)
+              (occurs.event.stands (start_for task self) (f self) own.1),
+        )
+        go false e = w.machines.stands a is
+
+  others : KeepsOthers self old new
   others = record {
     machines = λ a other. ap (λ (f : Actor → Option Core). f a) now
         ∙ ap (λ (b : Bool). cond b (Some occurs.next) (core_in cast cores a)) other;
     links = λ from to other none.
         ap (λ (l : Actor → Actor → List Msg). l from to) put
-        ∙ ap (λ (b : Bool). cond b (left_in cast middle from to ++ posted_to to sends)
+        ∙ ap (λ (b : Bool). cond b (left_in cast middle from to ++ posted_to to posts)
         (left_in cast middle from to)) other
         ∙ empties from to none;
   }
 
+  join : (theta : Meaning) → IsAllAt (JoinsBy theta) cores → IsAllAt (JoinsBy theta) cores'
+  join theta all k other there = go (n == k) refl
+    where
+      found : cond (n == k) (Some occurs.next) (slice_get cores k) ≡ Some other
+      found = sym (slice_get-set cores n k occurs.next low) ∙ ap (λ cs. slice_get cs k) (sym occurs.now) ∙ there
+
+      go : (b : Bool) → (n == k) ≡ b → JoinsBy theta other
+      go true e =
+          let same = some_is occurs.next other
+          (sym (ap (λ c. cond c (Some occurs.next) (slice_get cores k)) e) ∙ found) in
+          subst (JoinsBy theta) same (occurs.event.joins theta (all n occurs.core occurs.was))
+      go false e = all k other (sym (ap (λ c. cond c (Some occurs.next) (slice_get cores k)) e) ∙ found)
+
   -- where the event keeps, for whatever lists, the balance of what was sent with what was received and is left, the
   -- actor made it
-  pub makes_event : ((f : Actor → ActorLists) → ((x y : Actor)
-      → (f y).received x ++ left_in cast ws x y ≡ (f x).sent y)
-      → (x y : Actor) → (after_event self cause occurs.occurs.added f y).received x
-      ++ put_on self occurs.occurs.added (left_in cast middle) x y
-      ≡ (after_event self cause occurs.occurs.added f x).sent y)
-      → MakesEvent self cause (world_of cast cores ws)
-      (world_of cast cores' ws')
+  pub makes_event : ((f : Actor → ActorLists) → IsBalanced f (left_in cast ws)
+      → IsBalanced (after_event self cause posts f) (put_on self posts (left_in cast middle)))
+      → MakesEvent self cause old new
   makes_event balances = record {
-    posts = occurs.occurs.added;
-    stands = λ input setting rest f w. record {
+    posts = posts;
+    stands = λ task f w. record {
       machines = record {
         cast_is = w.machines.cast_is;
         all = ap length occurs.now ∙ length-set cores n occurs.next ∙ w.machines.all;
-        stands = stands_after self cause occurs.core occurs.next (core_in cast cores)
-            (core_in cast cores') occurs.occurs.added was now occurs.occurs.event input setting rest f
-            w.machines.stands;
+        stands = stand task f w;
       };
-      balanced =
-          subst (λ l. (x y : Actor) → (after_event self cause occurs.occurs.added f y).received x ++ l x y
-          ≡ (after_event self cause occurs.occurs.added f x).sent y)
-          (ap (λ ps. put_on self ps (left_in cast middle)) (sym occurs.occurs.sends) ∙ sym put)
-          (balances f w.balanced);
+      balanced = subst (IsBalanced (after_event self cause posts f)) (sym put) (balances f w.balanced);
     };
-    over = λ input setting rest f w.
-        let is = is_actor setting cast self n w.machines.cast_is at in (
-          is,
-          goes_out self cause occurs.core occurs.next (core_in cast cores)
-              occurs.occurs.added was occurs.occurs.event input setting rest f is w.machines.stands,
-        );
-    asks = occurs.occurs.event.asks;
-    joins = λ theta all.
-        subst (IsAllAt (JoinsBy theta)) (sym occurs.now)
-        (joins_after theta n cores occurs.core occurs.next occurs.was (occurs.occurs.event.joins theta) all);
+    over = λ task f w. ((own task f w).0, occurs.event.over (start_for task self) (f self) (own task f w).1);
+    asks = occurs.event.asks;
+    joins = join;
     others = others;
     after = sym (ap (world_after self cause) taken
-        ∙ after_is cast self n at cause cores cores' middle ws' sends occurs posted);
+        ∙ after_is cast self n at cause cores cores' middle posts occurs);
   }
 
 is_full : List Msg → Bool
@@ -211,95 +186,96 @@ emptied from to m rest left first x y none = go (same_actor from x) (same_actor 
     go true false e d = none
     go false c e d = none
 
--- where a machine's beginning occurred and its posts were put on the links, the actor at its number made that event
-pub begins : (cast : Cast) (self : Actor) (n : ℕ) → number cast self ≡ Some n
-    → (cores cores' : List Core) (ws ws' : List (List (List Msg))) (sends : List Post)
-    → OccursAt n Began cores cores' [] sends
-    → left_in cast ws' ≡ put_on self sends (left_in cast ws)
-    → ws' ≡ with_posts cast self sends ws
-    → MakesEvent self Began (world_of cast cores ws)
-    (world_of cast cores' ws')
-begins cast self n at cores cores' ws ws' sends occurs put posted =
-    makes_event cast self n at Began cores cores' ws ws ws' sends occurs put posted (λ x y none. none) refl
-    (λ f balanced. beginning_balances self occurs.occurs.added f (left_in cast ws) balanced)
-
--- where a message was taken off a link, its receiver's event occurred and its posts were put on the links, the message
--- was delivered
-pub delivers : (cast : Cast) (from to : Actor) (sender receiver : ℕ) → number cast from ≡ Some sender
-    → number cast to ≡ Some receiver
-    → (m : Msg) (cores cores' : List Core) (ws middle ws' : List (List (List Msg))) (sends : List Post)
-    → TakesOff receiver sender m ws middle → OccursAt receiver (Took from m) cores cores' [] sends
-    → left_in cast ws' ≡ put_on to sends (left_in cast middle)
-    → ws' ≡ with_posts cast to sends middle
-    → Delivers from to (world_of cast cores ws)
-    (world_of cast cores' ws')
-delivers cast from to sender receiver from_is to_is m cores cores' ws middle ws' sends took occurs put
-    posted =
-    let first = left_between cast ws from to sender receiver from_is to_is took.room ∙ took.first in
-    let off = ap (left_in cast) took.left ∙ left-with cast ws from to sender receiver from_is
-    to_is took.room took.rest in
-    let event = makes_event cast to receiver to_is (Took from m) cores cores' ws middle ws' sends occurs put
-    posted
-    (λ x y none. ap (λ (l : Actor → Actor → List Msg). l x y) off
-    ∙ emptied from to m took.rest (left_in cast ws) first x y none)
-    (ap (world_of cast cores)
-    (first_off cast from to sender receiver from_is to_is m ws middle took))
-    (λ f balanced. subst (λ l. (x y : Actor) → (after_event to (Took from m) occurs.occurs.added f y).received x
-    ++ put_on to occurs.occurs.added l x y ≡ (after_event to (Took from m) occurs.occurs.added f x).sent y)
-    (sym off)
-    (delivery_balances from to m took.rest occurs.occurs.added f (left_in cast ws) balanced first)) in
-    record {
-      m = m;
-      rest = took.rest;
-      first = first;
-      event = event;
-      after = event.after
-          ∙ sym (ap (λ (ms : List Msg). delivered_first from to ms (world_of cast cores ws)) first);
-    }
-
 -- where the flag is up, what is said of that case holds
 pub when_begun : (P Q : Type 0) (b : Bool) → b ≡ true → MatchBool b P Q → P
 when_begun P Q true is p = p
 when_begun P Q false is q = absurd (true≢false (sym is))
 
--- ---- the same from what each call of a turn says
+-- ---- a turn of a world, from what each of its calls says
 
-recast : (at : ℕ) (cause : Cause) (cores cores' one other : List Core) (before sends : List Post) → one ≡ cores
-    → cores' ≡ other → before ≡ [] → OccursAt at cause one other before sends → OccursAt at cause cores cores' [] sends
-recast at cause cores cores' one other before sends e d none occurs =
-    subst (λ cs. OccursAt at cause cs cores' [] sends) e (subst (λ cs. OccursAt at cause one cs [] sends) (sym d)
-    (subst (λ ps. OccursAt at cause one other ps sends) none occurs))
+-- the actor at this number began, which left what waits as it was, and its posts were put on their links
+module _ (cast : Cast) (self : Actor) (n : ℕ) (at : number cast self ≡ Some n) (old begun new : List Place)
+    (posts : List Post) (square : IsSquare (count_of cast) (waiting_of old))
+    (some : ∥ StandsForSome (state_among cast old) ∥₁) (same : waiting_of begun ≡ waiting_of old)
+    (occurs : OccursAt n Began (cores_of old) (cores_of begun) posts) where
+  -- they go to actors that are there
+  pub begun_posts_there : IsAllAt (λ (post : Post). HasNumber cast post.to) posts
+  begun_posts_there = sends_there (state_among cast old) self n at Began (cores_of begun) posts occurs some
 
--- so it is from what each call of a turn says: nothing was taken off, the beginning occurred with no post before it,
--- and posting changed no machine
-pub begun : (cast : Cast) (self : Actor) (n : ℕ) → number cast self ≡ Some n
-    → (cores one cores' : List Core) (ws middle ws' : List (List (List Msg))) (before sends : List Post)
-    → middle ≡ ws → OccursAt n Began cores one before sends → before ≡ [] → cores' ≡ one
-    → left_in cast ws' ≡ put_on self sends (left_in cast middle)
-    → ws' ≡ with_posts cast self sends middle
-    → MakesEvent self Began (world_of cast cores ws)
-    (world_of cast cores' ws')
-begun cast self n at cores one cores' ws middle ws' before sends same occurs none d put posted =
-    begins cast self n at cores cores' ws ws' sends
-    (recast n Began cores cores' cores one before sends refl d none occurs)
-    (put ∙ ap (λ w. put_on self sends (left_in cast w)) same)
-    (posted ∙ ap (with_posts cast self sends) same)
+  module _ (kept : cores_of new ≡ cores_of begun)
+      (posted : waiting_of new ≡ with_posts cast self posts (waiting_of begun)) where
+    -- it is the beginning of that actor
+    pub began : MakesEvent self Began (state_among cast old) (state_among cast new)
+    began =
+        let ws = waiting_of old in
+        subst (MakesEvent self Began (state_among cast old))
+        (ap₂ (world_of cast) (sym kept) (sym (posted ∙ ap (with_posts cast self posts) same)))
+        (makes_event cast self n at Began (cores_of old) (cores_of begun) ws ws posts occurs square begun_posts_there
+        (λ x y none. none) refl (λ f balanced. beginning_balances self posts f (left_in cast ws) balanced))
 
--- so it is from what each call of a turn says: taking the message off changed no machine, the event occurred with no
--- post before it and took nothing else off, and posting changed no machine
-pub delivered : (cast : Cast) (from to : Actor) (sender receiver : ℕ)
-    → number cast from ≡ Some sender → number cast to ≡ Some receiver
-    → (m : Msg) (cores one other cores' : List Core) (ws middle later ws' : List (List (List Msg)))
-    (before sends : List Post)
-    → one ≡ cores → TakesOff receiver sender m ws middle → later ≡ middle
-    → OccursAt receiver (Took from m) one other before sends → before ≡ [] → cores' ≡ other
-    → left_in cast ws' ≡ put_on to sends (left_in cast later)
-    → ws' ≡ with_posts cast to sends later
-    → Delivers from to (world_of cast cores ws)
-    (world_of cast cores' ws')
-delivered cast from to sender receiver from_is to_is m cores one other cores' ws middle later ws'
-    before sends e took same occurs none d put posted =
-    delivers cast from to sender receiver from_is to_is m cores cores' ws middle ws' sends took
-    (recast receiver (Took from m) cores cores' one other before sends e d none occurs)
-    (put ∙ ap (λ w. put_on to sends (left_in cast w)) same)
-    (posted ∙ ap (with_posts cast to sends) same)
+    -- what waits is a square still
+    pub begun_square : IsSquare (count_of cast) (waiting_of new)
+    begun_square = subst (IsSquare (count_of cast)) (sym (posted ∙ ap (with_posts cast self posts) same))
+        (square_posts cast (count_of cast) self posts (waiting_of old) square)
+
+-- a message was taken off a link, its receiver's event left what waits as it was, and its posts were put on their links
+module _ (cast : Cast) (from to : Actor) (sender receiver : ℕ) (from_is : number cast from ≡ Some sender)
+    (to_is : number cast to ≡ Some receiver) (m : Msg) (old taken handed new : List Place) (posts : List Post)
+    (square : IsSquare (count_of cast) (waiting_of old)) (some : ∥ StandsForSome (state_among cast old) ∥₁)
+    (kept : cores_of taken ≡ cores_of old) (took : TakesOff receiver sender m (waiting_of old) (waiting_of taken))
+    (same : waiting_of handed ≡ waiting_of taken)
+    (occurs : OccursAt receiver (Took from m) (cores_of taken) (cores_of handed) posts) where
+  event_is : OccursAt receiver (Took from m) (cores_of old) (cores_of handed) posts
+  event_is = subst (λ cores. OccursAt receiver (Took from m) cores (cores_of handed) posts) kept occurs
+
+  -- they go to actors that are there
+  pub handed_posts_there : IsAllAt (λ (post : Post). HasNumber cast post.to) posts
+  handed_posts_there =
+      sends_there (state_among cast old) to receiver to_is (Took from m) (cores_of handed) posts event_is some
+
+  -- what waits is a square still
+  pub handed_square : IsSquare (count_of cast) (waiting_of handed)
+  handed_square = subst (IsSquare (count_of cast)) (sym (same ∙ took.left))
+      (square_with (count_of cast) (waiting_of old) receiver sender took.rest square)
+
+  first : left_in cast (waiting_of old) from to ≡ m ∷ took.rest
+  first = left_between cast (waiting_of old) from to sender receiver from_is to_is took.room ∙ took.first
+
+  off : left_in cast (waiting_of handed) ≡ taken_off from to took.rest (left_in cast (waiting_of old))
+  off =
+      ap (left_in cast) (same ∙ took.left)
+      ∙ left-with cast (waiting_of old) from to sender receiver from_is to_is took.room took.rest
+
+  taken_is : without_cause to (Took from m) (state_among cast old) ≡ world_of cast (cores_of old) (waiting_of handed)
+  taken_is = ap (world_of cast (cores_of old))
+      (first_off cast from to sender receiver from_is to_is m (waiting_of old) (waiting_of taken) took ∙ sym same)
+
+  module _ (put : cores_of new ≡ cores_of handed)
+      (posted : waiting_of new ≡ with_posts cast to posts (waiting_of handed)) where
+    -- it is an event of the receiver
+    pub received : MakesEvent to (Took from m) (state_among cast old) (state_among cast new)
+    received =
+        subst (MakesEvent to (Took from m) (state_among cast old)) (ap₂ (world_of cast) (sym put) (sym posted))
+        (makes_event cast to receiver to_is (Took from m) (cores_of old) (cores_of handed) (waiting_of old)
+        (waiting_of handed) posts event_is handed_square handed_posts_there
+        (λ x y none. ap (λ (l : Actor → Actor → List Msg). l x y) off
+        ∙ emptied from to m took.rest (left_in cast (waiting_of old)) first x y none)
+        taken_is
+        (λ f balanced. subst (λ l. IsBalanced (after_event to (Took from m) posts f) (put_on to posts l)) (sym off)
+        (delivery_balances from to m took.rest posts f (left_in cast (waiting_of old)) balanced first)))
+
+    -- and the message was delivered
+    pub delivered : Delivers from to (state_among cast old) (state_among cast new)
+    delivered = record {
+      m = m;
+      rest = took.rest;
+      first = first;
+      event = received;
+      after = received.after
+          ∙ sym (ap (λ (ms : List Msg). delivered_first from to ms (state_among cast old)) first);
+    }
+
+    -- what waits then is a square
+    pub delivered_square : IsSquare (count_of cast) (waiting_of new)
+    delivered_square = subst (IsSquare (count_of cast)) (sym posted)
+        (square_posts cast (count_of cast) to posts (waiting_of handed) handed_square)

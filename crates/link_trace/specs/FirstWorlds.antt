@@ -1,10 +1,14 @@
 -- The world before the first event of a run: all of it is determined by the input and the setting.
 use Rattle.std.specs.Prelude.{◌≡◌, ℕ, List, [], Some, length, replicate, slice_get}
 use Rattle.epoch_tags.specs.declared.message.Msg.{Msg}
-use Rattle.trace_law.specs.declared.input.Input.{Input}
-use Rattle.trace_law.specs.declared.setting.Setting.{Setting}
-use Rattle.actor_core.specs.Numbers.{cast_of, count_of}
+use Rattle.actor_core.specs.declared.cast.Cast.{Cast}
 use Rattle.actor_core.specs.FirstCores.{IsFirstAt}
+use Rattle.actor_core.specs.Families.{start_for}
+use Rattle.actor_core.specs.Lists.{no_lists}
+use Rattle.actor_core.specs.Numbers.{actor_at, cast_of, count_of}
+use Rattle.actor_core.specs.Players.{AllStand}
+use Rattle.actor_core.specs.Standing.{Stands}
+use Rattle.actor_core.specs.Tasks.{Task}
 use Rattle.actor_core.specs.declared.machines.Core.{Core}
 use Rattle.link_trace.specs.Worlds.{WorldState}
 
@@ -12,18 +16,35 @@ use Rattle.link_trace.specs.Worlds.{WorldState}
 abbrev pub none_waits : ℕ → List (List (List Msg))
 none_waits count = replicate count (replicate count [])
 
--- these are so many machines, in the order of their numbers, and each has just begun
-pub record HaveBegun (input : Input) (setting : Setting) (count : ℕ) (cores : List Core) : Type 0 where
+-- the world of these with these machines, where nothing waits
+abbrev pub new_world : Cast → List Core → WorldState
+new_world cast cores = record { cast = cast; cores = cores; waiting = none_waits (count_of cast) }
+
+-- the machines stand for empty lists of the actors of some task
+pub record AreNewForSome (cast : Cast) (cores : List Core) : Type 0 where
+  pub task : Task
+  pub stand : AllStand task cast cores (λ actor. no_lists)
+
+-- these are so many machines, and P holds of each by its number
+pub record AreEach (P : ℕ → Core → Type 0) (count : ℕ) (cores : List Core) : Type 0 where
   pub all : length cores ≡ count
-  pub each : (n : ℕ) (core : Core) → slice_get cores n ≡ Some core → IsFirstAt input setting n core
+  pub each : (n : ℕ) (core : Core) → slice_get cores n ≡ Some core → P n core
 
--- the world has the machines of all actors of the run, each of which has just begun, and nothing waits
-pub record IsFirstWorld (input : Input) (setting : Setting) (w : WorldState) : Type 0 where
-  pub cast : w.cast ≡ cast_of setting
-  pub machines : HaveBegun input setting (count_of (cast_of setting)) w.cores
-  pub waiting : w.waiting ≡ none_waits (count_of (cast_of setting))
+-- these are the machines of the first so many actors, each of which stands for empty lists
+abbrev pub AreNew : Task → ℕ → List Core → Type 0
+AreNew task count cores =
+    AreEach (λ n core. Stands (start_for task (actor_at (cast_of task.setting) n)) no_lists core) count cores
 
--- two such worlds of one input and setting are one
+-- they are, and each has just begun
+abbrev pub HaveBegun : Task → ℕ → List Core → Type 0
+HaveBegun task count cores = AreEach (IsFirstAt task) count cores
+
+-- the world has the machines of all actors of the task, each of which has just begun, and nothing waits
+pub record IsFirstWorld (task : Task) (w : WorldState) : Type 0 where
+  pub cast : w.cast ≡ cast_of task.setting
+  pub machines : HaveBegun task (count_of (cast_of task.setting)) w.cores
+  pub waiting : w.waiting ≡ none_waits (count_of (cast_of task.setting))
+
+-- two such worlds of one task are one
 abbrev pub FirstWorldsAreOne : Type 0
-FirstWorldsAreOne = (input : Input) (setting : Setting) (one two : WorldState) → IsFirstWorld input setting one
-    → IsFirstWorld input setting two → one ≡ two
+FirstWorldsAreOne = (task : Task) (one two : WorldState) → IsFirstWorld task one → IsFirstWorld task two → one ≡ two

@@ -1,5 +1,6 @@
 -- What can happen next in a world, and the order in which a replay makes it happen.
-use Rattle.std.specs.Prelude.{◌≡◌, ℕ, ◌+◌, ◌%◌, ◌^◌, ◌<◌, List, ◌++◌, length, [], map, flat_map, slice_get, Some}
+use Rattle.std.specs.Prelude.{◌≡◌, ℕ, zero, suc, ◌+◌, ◌%◌, ◌^◌, ◌<◌, List, ◌++◌, length, [], map, flat_map, slice_get}
+use Rattle.std.specs.Prelude.{Some}
 use Rattle.std.specs.Prelude.{bit_xor}
 use Rattle.std.specs.List.{range_with_len}
 use Rattle.epoch_tags.specs.declared.actor.Actor.{Actor}
@@ -9,16 +10,17 @@ use Rattle.rand_pcg.specs.Pcg.{multiplier_64, pcg32}
 use Rattle.trace_law.specs.declared.input.Input.{Input}
 use Rattle.trace_law.specs.declared.setting.Setting.{Setting}
 use Rattle.trace_law.specs.declared.run.Run.{Run}
-use Rattle.trace_law.specs.Family.{Rest}
+use Rattle.trace_law.specs.Family.{IsRestFor, Rest}
+use Rattle.trace_law.specs.Validity.{IsValidInput}
 use Rattle.actor_core.specs.declared.machines.Core.{Core}
 use Rattle.actor_core.specs.Lists.{ActorLists, Began, no_lists}
 use Rattle.actor_core.specs.Standing.{IsOver, GoesOn, Waits}
-use Rattle.actor_core.specs.Families.{journal_of}
 use Rattle.actor_core.specs.Elements.{IsAllAt, IsSomeAt}
+use Rattle.actor_core.specs.Tasks.{Task, task_of}
 use Rattle.link_trace.specs.declared.slots.Slot.{Slot}
 use Rattle.link_trace.specs.declared.slots.Slot.TheVariants.{Begin, Link}
 use Rattle.link_trace.specs.FirstWorlds.{IsFirstWorld}
-use Rattle.link_trace.specs.Worlds.{WorldState, StandsFor, StandsInWave, MakesEvent, Delivers, core_of, left_of}
+use Rattle.link_trace.specs.Worlds.{WorldState, StandsFor, MakesEvent, Delivers, core_of, journal_in, left_of}
 
 -- ---- slots
 
@@ -81,53 +83,61 @@ pub record MakesFirst (slots : List Slot) (word : ℕ) (old new : WorldState) : 
 abbrev pub word_of : ℕ → ℕ → ℕ
 word_of seed n = (pcg32 (advance 64 multiplier_64 n (started 64 multiplier_64 seed (increment_of 64 56)))).0
 
--- after so many events, from this world to that one: as long as the work of some goes on, a word is drawn, and the
--- first slot that has an event makes it
-pub data Replays (slots : List Slot) (seed : ℕ) (first : WorldState) : ℕ → WorldState → Type 0 where
-  start : Replays slots seed first 0 first
-  event : {events : ℕ} {old new : WorldState} → Replays slots seed first events old → IsSomeAt GoesOn old.cores
-      → MakesFirst slots (word_of seed events) old new → Replays slots seed first (events + 1) new
+-- event n of a replay: word n is drawn, and the first slot that has an event makes it
+abbrev pub MakesDrawn : List Slot → ℕ → ℕ → WorldState → WorldState → Type 0
+MakesDrawn slots seed n old new = MakesFirst slots (word_of seed n) old new
 
--- the run is that of the first world of this input and setting, which was driven to its end in the order of this seed;
--- `bouts` is the number of its events
-pub record IsReplay (input : Input) (setting : Setting) (seed : ℕ) (run : Run) : Type 0 where
+-- after so many events, from this world to that one: as long as the work of some goes on, event n is made so
+abbrev pub Drives : (ℕ → WorldState → WorldState → Type 0) → WorldState → ℕ → WorldState → Type 0
+Drives Makes first zero last = last ≡ first
+Drives Makes first (suc n) last =
+    (old : WorldState) × Drives Makes first n old × IsSomeAt GoesOn old.cores × Makes n old last
+
+-- the run is that of a world of the task which stood for empty lists and was driven to its end so; `bouts` is the
+-- number of its events
+pub record IsDriven (task : Task) (Makes : ℕ → WorldState → WorldState → Type 0) (run : Run) : Type 0 where
   pub first : WorldState
   pub last : WorldState
-  pub fresh : StandsFor input setting first (λ actor. no_lists)
-  pub begun : IsFirstWorld input setting first
-  pub replays : Replays (slots_of setting) seed first run.bouts last
+  pub fresh : StandsFor task first (λ actor. no_lists)
+  pub drives : Drives Makes first run.bouts last
   pub over : IsAllAt IsOver last.cores
-  pub journal : (core : Core) → core_of last Controller ≡ Some core → run.journal ≡ journal_of core
+  pub journal : run.journal ≡ journal_in last
 
--- the same of a wave that goes on from this rest
-pub record IsWaveReplay (input : Input) (setting : Setting) (rest : Rest) (seed : ℕ) (run : Run) : Type 0 where
-  pub first : WorldState
-  pub last : WorldState
-  pub fresh : StandsInWave input setting rest first (λ actor. no_lists)
-  pub replays : Replays (slots_of setting) seed first run.bouts last
-  pub over : IsAllAt IsOver last.cores
-  pub journal : (core : Core) → core_of last Controller ≡ Some core → run.journal ≡ journal_of core
+-- it was driven in the order of this seed
+abbrev pub IsReplay : Task → ℕ → Run → Type 0
+IsReplay task seed run = IsDriven task (MakesDrawn (slots_of task.setting) seed) run
+
+-- a replay of a run began with the first world of its input and setting
+pub record IsRunReplay (input : Input) (setting : Setting) (seed : ℕ) (run : Run) : Type 0 where
+  pub replay : IsReplay (task_of input setting) seed run
+  pub begun : IsFirstWorld (task_of input setting) replay.first
+
+-- the world stands for empty lists of a task of this setting that is within the limits
+pub record IsFreshWorld (setting : Setting) (w : WorldState) : Type 0 where
+  pub input : Input
+  pub rest : Rest
+  pub of_input : IsValidInput input
+  pub begins : IsRestFor input setting rest
+  pub stands : StandsFor (record { input = input; setting = setting; rest = rest }) w (λ actor. no_lists)
 
 -- ---- a replay is one run
 
 -- two replays in the order of one seed that begin with one world, which stands for some lists, and end where the work
 -- of all is over, have as many events and end with one world
 abbrev pub ReplaysAreOne : Type 0
-ReplaysAreOne = (input : Input) (setting : Setting) (rest : Rest) (lists : Actor → ActorLists) (slots : List Slot)
-    (seed n m : ℕ) (first w v : WorldState)
-    → StandsInWave input setting rest first lists
-    → Replays slots seed first n w → IsAllAt IsOver w.cores
-    → Replays slots seed first m v → IsAllAt IsOver v.cores
+ReplaysAreOne = (task : Task) (lists : Actor → ActorLists) (slots : List Slot) (seed n m : ℕ) (first w v : WorldState)
+    → StandsFor task first lists
+    → Drives (MakesDrawn slots seed) first n w → IsAllAt IsOver w.cores
+    → Drives (MakesDrawn slots seed) first m v → IsAllAt IsOver v.cores
     → (n ≡ m) × (w ≡ v)
 
--- so two runs of one input and setting in the order of one seed have as many bouts and one journal, since they began
--- with one world
-abbrev pub RunsAreOne : Type 0
-RunsAreOne = (input : Input) (setting : Setting) (seed : ℕ) (run other : Run) → IsReplay input setting seed run
-    → IsReplay input setting seed other → (run.bouts ≡ other.bouts) × (run.journal ≡ other.journal)
-
--- and so have two of a wave that began with one world
+-- so two replays of one task in the order of one seed that began with one world have as many bouts and one journal
 abbrev pub WaveRunsAreOne : Type 0
-WaveRunsAreOne = (input : Input) (setting : Setting) (rest : Rest) (seed : ℕ) (run other : Run)
-    (one : IsWaveReplay input setting rest seed run) (two : IsWaveReplay input setting rest seed other)
+WaveRunsAreOne = (task : Task) (seed : ℕ) (run other : Run) (one : IsReplay task seed run)
+    (two : IsReplay task seed other)
     → one.first ≡ two.first → (run.bouts ≡ other.bouts) × (run.journal ≡ other.journal)
+
+-- and so have two of one run, since they began with one world
+abbrev pub RunsAreOne : Type 0
+RunsAreOne = (input : Input) (setting : Setting) (seed : ℕ) (run other : Run) → IsRunReplay input setting seed run
+    → IsRunReplay input setting seed other → (run.bouts ≡ other.bouts) × (run.journal ≡ other.journal)

@@ -1,18 +1,12 @@
 -- A run in which one actor is served last.
-use Rattle.std.specs.Prelude.{◌≡◌, ℕ, ◌+◌, ◌<◌, ◌⊎◌, ◌||◌, Bool, true, false, not, List, length, slice_get, Some}
+use Rattle.std.specs.Prelude.{◌≡◌, ℕ, ◌<◌, ◌⊎◌, ◌||◌, Bool, true, false, not, List, length, slice_get, Some}
 use Rattle.epoch_tags.specs.declared.actor.Actor.{Actor}
-use Rattle.epoch_tags.specs.declared.actor.Actor.TheVariants.{Controller}
-use Rattle.trace_law.specs.declared.input.Input.{Input}
-use Rattle.trace_law.specs.declared.setting.Setting.{Setting}
 use Rattle.trace_law.specs.declared.run.Run.{Run}
-use Rattle.actor_core.specs.declared.machines.Core.{Core}
-use Rattle.actor_core.specs.Lists.{same_actor, no_lists}
-use Rattle.actor_core.specs.Standing.{IsOver, GoesOn}
-use Rattle.actor_core.specs.Families.{journal_of}
-use Rattle.actor_core.specs.Elements.{IsAllAt, IsSomeAt}
+use Rattle.actor_core.specs.Lists.{same_actor}
+use Rattle.actor_core.specs.Tasks.{Task}
 use Rattle.link_trace.specs.declared.slots.Slot.{Slot}
-use Rattle.link_trace.specs.Worlds.{WorldState, StandsFor, core_of}
-use Rattle.link_trace.specs.Order.{IsIdle, Happens, slots_of}
+use Rattle.link_trace.specs.Worlds.{WorldState}
+use Rattle.link_trace.specs.Order.{IsDriven, IsIdle, Happens, slots_of}
 use Rattle.link_trace.specs.Marks.{maker_of}
 
 -- the slot may be served: all may, or the starved actor doesn't make its event
@@ -39,18 +33,7 @@ MakesStarving starved slots old new =
     MakesLeast false starved slots old new
     ⊎ (AreIdleBelow false starved slots (length slots) old × MakesLeast true starved slots old new)
 
--- after so many events, from this world to that one: as long as the work of some goes on, an event is made
-pub data Starves (slots : List Slot) (starved : Actor) (first : WorldState) : ℕ → WorldState → Type 0 where
-  start : Starves slots starved first 0 first
-  event : {events : ℕ} {old new : WorldState} → Starves slots starved first events old → IsSomeAt GoesOn old.cores
-      → MakesStarving starved slots old new → Starves slots starved first (events + 1) new
-
--- the run is that of a world of this input and setting which was driven to its end so; `bouts` is the number of its
--- events
-pub record IsStarvingReplay (input : Input) (setting : Setting) (starved : Actor) (run : Run) : Type 0 where
-  pub first : WorldState
-  pub last : WorldState
-  pub fresh : StandsFor input setting first (λ actor. no_lists)
-  pub starves : Starves (slots_of setting) starved first run.bouts last
-  pub over : IsAllAt IsOver last.cores
-  pub journal : (core : Core) → core_of last Controller ≡ Some core → run.journal ≡ journal_of core
+-- the run is that of a world of the task which was driven to its end so
+abbrev pub IsStarvingReplay : Task → Actor → Run → Type 0
+IsStarvingReplay task starved run =
+    IsDriven task (λ n old new. MakesStarving starved (slots_of task.setting) old new) run

@@ -7,18 +7,17 @@ use Rattle.epoch_tags.specs.Links.{HasLink}
 use Rattle.load_controller.specs.declared.line.TurnLine.{TurnLine}
 use Rattle.epoch_tags.specs.declared.message.Msg.{Msg}
 use Rattle.epoch_tags.specs.declared.message.Post.{Post}
-use Rattle.trace_law.specs.Family.{IsAgreeing, Rest, first_rest}
 use Rattle.theta_pred.specs.Formula.{Meaning}
-use Rattle.trace_law.specs.declared.input.Input.{Input}
 use Rattle.trace_law.specs.declared.setting.Setting.{Setting}
 use Rattle.actor_core.specs.declared.cast.Cast.{Cast}
-use Rattle.actor_core.specs.Lists.{ActorLists, Cause, Took, Began, same_actor, no_lists}
+use Rattle.actor_core.specs.Lists.{ActorLists, Cause, Took, Began, same_actor}
 use Rattle.actor_core.specs.Effects.{core_after, core_posts}
-use Rattle.actor_core.specs.Players.{AllStandInWave, journal_among}
+use Rattle.actor_core.specs.Players.{AllStand, journal_among}
 use Rattle.actor_core.specs.Elements.{IsAllAt}
-use Rattle.actor_core.specs.Standing.{Stands, Occurs, GoOut, Asks, JoinsBy, Waits}
-use Rattle.actor_core.specs.Families.{start_for, start_in_wave, IsActor, IsBalanced, after_event, core_in, family_of}
-use Rattle.actor_core.specs.Numbers.{actor_at, at_number, cast_of, number}
+use Rattle.actor_core.specs.Standing.{Event, GoOut, Asks, JoinsBy, Waits}
+use Rattle.actor_core.specs.Families.{start_for, IsActor, IsBalanced, after_event, core_in, family_of}
+use Rattle.actor_core.specs.Numbers.{at_number, number}
+use Rattle.actor_core.specs.Tasks.{Task, Agrees}
 use Rattle.actor_core.specs.declared.machines.Core.{Core}
 use Rattle.link_trace.specs.declared.places.Place.{Place}
 
@@ -67,13 +66,13 @@ pub record PutsOn (receiver sender : ℕ) (m : Msg) (old new : List (List (List 
   pub room : HasRoom old receiver sender
   pub left : new ≡ with_waiting old receiver sender (waits old receiver sender ++ m ∷ [])
 
--- one machine made an event
-pub record OccursAt (at : ℕ) (cause : Cause) (old new : List Core) (before after : List Post) : Type 0 where
+-- one machine made an event, which had these posts
+pub record OccursAt (at : ℕ) (cause : Cause) (old new : List Core) (posts : List Post) : Type 0 where
   pub core : Core
   pub next : Core
   pub was : slice_get old at ≡ Some core
   pub now : new ≡ slice_set old at next
-  pub occurs : Occurs cause core next before after
+  pub event : Event cause core next posts
 
 -- ---- the same by actors
 
@@ -113,40 +112,21 @@ state_among cast places = record {
 abbrev pub put_one : Actor → Actor → Msg → (Actor → Actor → List Msg) → Actor → Actor → List Msg
 put_one from to m left x y = if same_actor from x && same_actor to y then left x y ++ m ∷ [] else left x y
 
--- of a wave of this input and setting that goes on from this rest: these lists are what its actors have received and
--- sent, each machine stands for those of its actor, and on each link what was received, and then what is left, is what
--- was sent
-pub record StandsInWave (input : Input) (setting : Setting) (rest : Rest) (w : WorldState)
-    (f : Actor → ActorLists) : Type 0 where
-  pub machines : AllStandInWave input setting rest w.cast w.cores f
+-- of the task: these lists are what its actors have received and sent, each machine stands for those of its actor, and
+-- on each link what was received, and then what is left, is what was sent
+pub record StandsFor (task : Task) (w : WorldState) (f : Actor → ActorLists) : Type 0 where
+  pub machines : AllStand task w.cast w.cores f
   pub balanced : IsBalanced f (left_of w)
 
--- the same of a run, that is of the wave that begins with no rows
-abbrev pub StandsFor : Input → Setting → WorldState → (Actor → ActorLists) → Type 0
-StandsFor input setting w f = StandsInWave input setting (first_rest setting) w f
-
--- it is a world of some wave
+-- it is a world of some task
 pub record StandsForSome (w : WorldState) : Type 0 where
-  pub input : Input
-  pub setting : Setting
-  pub rest : Rest
+  pub task : Task
   pub lists : Actor → ActorLists
-  pub stands : StandsInWave input setting rest w lists
+  pub stands : StandsFor task w lists
 
 -- each joiner's machine joins by this predicate
 abbrev pub AllJoinBy : Meaning → WorldState → Type 0
 AllJoinBy theta w = IsAllAt (JoinsBy theta) w.cores
-
--- so many actors at the beginning of a run: each machine stands for empty lists, and nothing waits
-pub record AreNew (input : Input) (setting : Setting) (count : ℕ) (places : List Place) : Type 0 where
-  pub all : length places ≡ count
-  pub fresh : (n : ℕ) (core : Core) → slice_get (cores_of places) n ≡ Some core
-      → Stands (start_for input setting (actor_at (cast_of setting) n)) no_lists core
-  pub empty : (receiver sender : ℕ) → waits (waiting_of places) receiver sender ≡ []
-
--- nothing waits at any of these places
-abbrev pub HaveNothing : List Place → Type 0
-HaveNothing places = (receiver sender : ℕ) → waits (waiting_of places) receiver sender ≡ []
 
 -- ---- what an event leaves, as a function of the world and of the cause
 
@@ -216,11 +196,10 @@ pub record KeepsOthers (self : Actor) (old new : WorldState) : Type 0 where
 -- joiners keep their predicate
 pub record MakesEvent (self : Actor) (cause : Cause) (old new : WorldState) : Type 0 where
   pub posts : List Post
-  pub stands : (input : Input) (setting : Setting) (rest : Rest) (f : Actor → ActorLists)
-      → StandsInWave input setting rest old f → StandsInWave input setting rest new (after_event self cause posts f)
-  pub over : (input : Input) (setting : Setting) (rest : Rest) (f : Actor → ActorLists)
-      → StandsInWave input setting rest old f
-      → IsActor setting self × GoOut (start_in_wave input setting rest self) posts
+  pub stands : (task : Task) (f : Actor → ActorLists) → StandsFor task old f
+      → StandsFor task new (after_event self cause posts f)
+  pub over : (task : Task) (f : Actor → ActorLists) → StandsFor task old f
+      → IsActor task.setting self × GoOut (start_for task self) posts
   pub joins : (theta : Meaning) → AllJoinBy theta old → AllJoinBy theta new
   pub asks : Asks cause posts
   pub others : KeepsOthers self old new
@@ -245,12 +224,5 @@ journal_in w = journal_among w.cast w.cores
 
 -- the lists for which a world stands are an agreeing family
 abbrev pub WorldAgrees : Type 0
-WorldAgrees = (input : Input) (setting : Setting) (w : WorldState) (lists : Actor → ActorLists)
-    → StandsFor input setting w lists
-    → IsAgreeing input setting (first_rest setting) (family_of (journal_in w) lists)
-
--- and so are those of a wave
-abbrev pub WorldAgreesInWave : Type 0
-WorldAgreesInWave = (input : Input) (setting : Setting) (rest : Rest) (w : WorldState) (lists : Actor → ActorLists)
-    → StandsInWave input setting rest w lists
-    → IsAgreeing input setting rest (family_of (journal_in w) lists)
+WorldAgrees = (task : Task) (w : WorldState) (lists : Actor → ActorLists) → StandsFor task w lists
+    → Agrees task (family_of (journal_in w) lists)

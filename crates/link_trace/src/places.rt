@@ -1,18 +1,15 @@
 // An actor's machine, and what waits for it; the places of all actors, as they are made and taken apart.
 
-ghost use Rattle.std.specs.Prelude.{◌≡◌, ◌++◌, ◌∷◌, [], List, ◌<◌, MatchOption, OnOk, IfOk, MatchBool, Ok, true, false, length, map, replicate, slice_set, slice_index_or, None, All};
-ghost use Rattle.trace_law.specs.Validity.{IsValidInput, IsValidSetting};
+ghost use Rattle.std.specs.Prelude.{◌≡◌, ◌++◌, ◌∷◌, [], List, ◌<◌, MatchOption, OnOk, IfOk, MatchBool, Ok, true, false, length, map, replicate, slice_set, slice_index_or, None};
 ghost use Rattle.actor_core.specs.Lists.{Took, Began};
 ghost use Rattle.actor_core.specs.Standing.{Occurs, Waits, IsOver, GoesOn};
 ghost use Rattle.actor_core.specs.Elements.{IsAt, IsAllAt, IsSomeAt};
-ghost use Rattle.link_trace.specs.FirstWorlds.{HaveBegun, none_waits};
-ghost use Rattle.link_trace.specs.Worlds.{waiting_at, waiting_of, cores_of, waits, HasRoom, TakesOff, PutsOn, OccursAt, AreNew, HaveNothing};
+ghost use Rattle.link_trace.specs.Worlds.{waiting_at, waiting_of, cores_of, waits, HasRoom, TakesOff, PutsOn, OccursAt};
 
-use actor_core::{Core, core_at};
+use actor_core::Core;
 use epoch_tags::{Actor, Msg, Sends};
 use std::alloc::{AllocError, Global};
 use std::collections::VecDeque;
-use trace_law::{Input, Setting};
 
 /// An actor's machine, and the messages on their way to it, by the numbers of their senders.
 #[derive(Drop)]
@@ -112,7 +109,7 @@ pub(crate) fn put(
     places[receiver].push(sender, msg)
 }
 
-// Hands a message to a machine.
+// Hands a message to a machine, which posts what it sends.
 pub(crate) fn hand(
     places: &mut Vec<Place>,
     receiver: usize,
@@ -120,10 +117,11 @@ pub(crate) fn hand(
     msg: Msg,
     sends: &mut Sends,
 ) -> Result<(), AllocError>
-    requires { receiver < length places.old.items }
+    requires place { receiver < length places.old.items }
+    requires none { sends.old ≡ [] }
     ensures waiting { waiting_of places.new.items ≡ waiting_of places.old.items }
     ensures occurs { OnOk result (OccursAt receiver (Took from msg) (cores_of places.old.items)
-        (cores_of places.new.items) sends.old sends.new) }
+        (cores_of places.new.items) sends.new) }
 {
     places[receiver].core.on(from, msg, sends)
 }
@@ -134,11 +132,11 @@ pub(crate) fn begin(
     at: usize,
     sends: &mut Sends,
 ) -> Result<bool, AllocError>
-    requires { at < length places.old.items }
+    requires place { at < length places.old.items }
+    requires none { sends.old ≡ [] }
     ensures waiting { waiting_of places.new.items ≡ waiting_of places.old.items }
     ensures occurs { IfOk result (λ begun. MatchBool begun
-        (OccursAt at Began (cores_of places.old.items)
-        (cores_of places.new.items) sends.old sends.new)
+        (OccursAt at Began (cores_of places.old.items) (cores_of places.new.items) sends.new)
         (cores_of places.new.items ≡ cores_of places.old.items)) }
     ensures idle { result ≡ Ok false → IsAt Waits at (cores_of places.old.items) }
     ensures free { result ≡ Ok true → IsAt (λ core. ¬ Waits core) at (cores_of places.old.items) }
@@ -148,9 +146,8 @@ pub(crate) fn begin(
 
 // No messages, from each of so many senders.
 fn no_messages(alloc: Global, senders: u32) -> Result<Vec<VecDeque<Msg>>, AllocError>
-    ensures empty { IfOk result (λ waiting. All (λ queue. queue.items ≡ []) waiting.items) }
-    ensures each { IfOk result (λ waiting. length waiting.items ≡ senders) }
-    ensures none { IfOk result (λ waiting. map (λ queue. queue.items) waiting.items ≡ replicate senders []) }
+    ensures { IfOk result (λ waiting.
+        map (λ queue. queue.items) waiting.items ≡ replicate senders []) }
 {
     let mut waiting = Vec::new(alloc);
     for _ in 0..senders {
@@ -162,10 +159,7 @@ fn no_messages(alloc: Global, senders: u32) -> Result<Vec<VecDeque<Msg>>, AllocE
 // A place for this machine, with nothing that waits there.
 fn place_of<'a>(alloc: Global, core: Core<'a>, count: u32) -> Result<Place<'a>, AllocError>
     ensures core { IfOk result (λ place. place.core ≡ core.entry) }
-    ensures empty { IfOk result
-        (λ place. All (λ queue. queue.items ≡ []) place.waiting.items) }
-    ensures wide { IfOk result (λ place. length place.waiting.items ≡ count) }
-    ensures each { IfOk result (λ place. waiting_at place ≡ replicate count []) }
+    ensures waiting { IfOk result (λ place. waiting_at place ≡ replicate count []) }
 {
     match no_messages(alloc, count) {
         Ok(waiting) => Ok(Place { core, waiting }),
@@ -176,31 +170,6 @@ fn place_of<'a>(alloc: Global, core: Core<'a>, count: u32) -> Result<Place<'a>, 
     }
 }
 
-// All actors of a run at its beginning, by their numbers.
-pub(crate) fn new_places<'a>(
-    alloc: Global,
-    input: &'a Input,
-    setting: &Setting,
-    count: u32,
-) -> Result<Vec<Place<'a>>, AllocError>
-    requires input { IsValidInput input.now }
-    requires setting { IsValidSetting setting.now }
-    ensures fresh { IfOk result (λ places. AreNew input.now setting.now count places.items) }
-    ensures wide { IfOk result (λ places.
-        All (λ queues. length queues ≡ count) (waiting_of places.items)) }
-    ensures begun { IfOk result
-        (λ places. HaveBegun input.now setting.now count (cores_of places.items)) }
-    ensures waiting { IfOk result (λ places. waiting_of places.items ≡ none_waits count) }
-{
-    let mut places = Vec::new(alloc);
-    for n in 0..count {
-        let core = core_at(alloc, input, setting, n)?;
-        let place = place_of(alloc, core, count)?;
-        places.push(place)?;
-    }
-    Ok(places)
-}
-
 // Places for these machines, in their order, with nothing that waits there.
 pub(crate) fn places_of<'a>(
     alloc: Global,
@@ -208,9 +177,8 @@ pub(crate) fn places_of<'a>(
     count: u32,
 ) -> Result<Vec<Place<'a>>, AllocError>
     ensures cores { IfOk result (λ places. cores_of places.items ≡ cores.entry.items) }
-    ensures empty { IfOk result (λ places. HaveNothing places.items) }
-    ensures wide { IfOk result (λ places.
-        All (λ queues. length queues ≡ count) (waiting_of places.items)) }
+    ensures waiting { IfOk result (λ places. waiting_of places.items
+        ≡ replicate (length cores.entry.items) (replicate count [])) }
 {
     let mut places = Vec::new(alloc);
     for core in cores {

@@ -7,10 +7,12 @@ ghost use Rattle.trace_law.specs.Family.{first_rest};
 ghost use Rattle.trace_law.specs.Runs.{IsRunOf};
 ghost use Rattle.load_controller.specs.Journal.{last_epoch};
 ghost use Rattle.actor_core.specs.Elements.{IsAllAt};
+ghost use Rattle.actor_core.specs.Standing.{IsOver};
 ghost use Rattle.trace_law.specs.Counts.{most_events};
 ghost use Rattle.link_trace.specs.States.{state_of};
 ghost use Rattle.link_trace.specs.Marks.{AreMarked};
-ghost use Rattle.link_trace.specs.Order.{IsIdle, IsReplay, MakesFirst};
+ghost use Rattle.link_trace.specs.Order.{Drives, IsFreshWorld, IsIdle, IsRunReplay, MakesDrawn, MakesFirst};
+ghost use Rattle.link_trace.specs.Order as order;
 
 use crate::first_ready::make_first;
 use crate::slots::{Slot, slots_of};
@@ -57,6 +59,35 @@ pub(crate) fn make_next(
     Ok(())
 }
 
+// Makes events of a fresh world until the work of all is over, in the order of this seed, and counts them.
+pub(crate) fn drive<R: Wait>(
+    rt: &R,
+    alloc: Global,
+    world: &mut World,
+    setting: &Setting,
+    seed: u64,
+) -> Result<u64, AllocError>
+    requires setting { IsValidSetting setting.now }
+    requires fresh { IsFreshWorld setting.now (state_of world.old) }
+    ensures drives { IfOk result (λ events. Drives (MakesDrawn (order.slots_of setting.now) seed)
+        (state_of world.old) events (state_of world.new)) }
+    ensures over { OnOk result (IsAllAt IsOver (state_of world.new).cores) }
+{
+    events_are_few();
+    events_fit();
+    let slots = slots_of(alloc, setting)?;
+    let mut marks = all_marked(alloc, slots.len())?;
+    let mut draws = Lcg64Xsh32::new(seed, STREAM);
+    let mut events = 0u64;
+    for _ in rt.forever() {
+        if world.done() {
+            break;
+        }
+        make_next(world, &slots, &mut marks, &mut draws, &mut events)?;
+    }
+    Ok(events)
+}
+
 /// Runs a world of this input and setting until it is done. As long as it isn't, one word of the generator with this
 /// seed is drawn, and the first slot from `word mod count` on that has an event makes it, going round; `bouts` is the
 /// number of events. What it promises holds if it returns.
@@ -71,22 +102,12 @@ pub fn replay<R: Wait>(
     requires setting { IsValidSetting setting.now }
     ensures run { IfOk result (λ run. IsRunOf input.now setting.now
         (first_rest setting.now).line run.journal run) }
-    ensures order { IfOk result (λ run. IsReplay input.now setting.now seed run) }
+    ensures order { IfOk result (λ run. IsRunReplay input.now setting.now seed run) }
     ensures bound { IfOk result (λ run. run.bouts
         ≤ most_events input.now setting.now (last_epoch run.journal)) }
 {
     events_are_few();
-    events_fit();
-    let slots = slots_of(alloc, setting)?;
-    let mut marks = all_marked(alloc, slots.len())?;
-    let mut draws = Lcg64Xsh32::new(seed, STREAM);
     let mut world = World::start(alloc, input, setting)?;
-    let mut events = 0u64;
-    for _ in rt.forever() {
-        if world.done() {
-            break;
-        }
-        make_next(&mut world, &slots, &mut marks, &mut draws, &mut events)?;
-    }
+    let events = drive(rt, alloc, &mut world, setting, seed)?;
     world.finish(events)
 }

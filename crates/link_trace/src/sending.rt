@@ -2,9 +2,8 @@
 
 ghost use Rattle.std.specs.Prelude.{◌≡◌, Some, OnOk};
 ghost use Rattle.actor_core.specs.Elements.{IsAllAt};
-ghost use Rattle.actor_core.specs.Families.{put_on};
 ghost use Rattle.actor_core.specs.Numbers.{count_of, number as number'};
-ghost use Rattle.link_trace.specs.Worlds.{waiting_of, cores_of, left_in, put_one, with_post, with_posts, HasNumber, IsSquare};
+ghost use Rattle.link_trace.specs.Worlds.{waiting_of, cores_of, with_post, with_posts, HasNumber, IsSquare};
 
 use crate::places::{Place, put};
 use actor_core::Cast;
@@ -28,8 +27,6 @@ fn send(places: &mut Vec<Place>, cast: Cast, from: Actor, post: Post) -> Result<
     requires sender { HasNumber cast from }
     requires receiver { HasNumber cast post.to }
     ensures cores { cores_of places.new.items ≡ cores_of places.old.items }
-    ensures left { OnOk result (left_in cast (waiting_of places.new.items)
-        ≡ put_one from post.to post.msg (left_in cast (waiting_of places.old.items))) }
     ensures waiting { OnOk result (waiting_of places.new.items
         ≡ with_post cast from post (waiting_of places.old.items)) }
 {
@@ -50,8 +47,6 @@ pub(crate) fn send_all(
     requires sender { HasNumber cast from }
     requires receivers { IsAllAt (λ post. HasNumber cast post.to) sends }
     ensures cores { cores_of places.new.items ≡ cores_of places.old.items }
-    ensures left { OnOk result (left_in cast (waiting_of places.new.items)
-        ≡ put_on from sends (left_in cast (waiting_of places.old.items))) }
     ensures waiting { OnOk result (waiting_of places.new.items
         ≡ with_posts cast from sends (waiting_of places.old.items)) }
 {

@@ -6,6 +6,7 @@ ghost use Rattle.trace_law.specs.Validity.{IsValidInput, IsValidSetting};
 ghost use Rattle.trace_law.specs.Family.{first_rest};
 ghost use Rattle.trace_law.specs.Runs.{IsRunOf};
 ghost use Rattle.actor_core.specs.Elements.{IsAllAt};
+ghost use Rattle.actor_core.specs.Tasks.{task_of};
 ghost use Rattle.trace_law.specs.Counts.{most_events};
 ghost use Rattle.link_trace.specs.declared.slots.Slot.{Slot as Slot'};
 ghost use Rattle.link_trace.specs.States.{state_of};
@@ -116,7 +117,8 @@ pub fn replay_starving(
     requires setting { IsValidSetting setting.now }
     ensures run { IfOk result (λ run. IsRunOf input.now setting.now
         (first_rest setting.now).line run.journal run) }
-    ensures order { IfOk result (λ run. IsStarvingReplay input.now setting.now starved run) }
+    ensures order { IfOk result (λ run.
+        IsStarvingReplay (task_of input.now setting.now) starved run) }
     ensures bound { IfOk result (λ run. run.bouts
         ≤ most_events input.now setting.now (last_epoch run.journal)) }
 {

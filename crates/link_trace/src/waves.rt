@@ -1,62 +1,54 @@
 // A wave on one thread: the end of its world, and what it leaves for the next.
 
-ghost use Rattle.std.specs.Prelude.{◌≡◌, ◌≤◌, ℕ, ◌^◌, IfOk, Some};
-ghost use Rattle.epoch_tags.specs.declared.actor.Actor.TheVariants.{Controller as Controller'};
+ghost use Rattle.std.specs.Prelude.{◌≡◌, ◌≤◌, ◌^◌, IfOk, OnOk, false};
 ghost use Rattle.epoch_tags.specs.declared.actor.Actor.{Actor as Actor'};
 ghost use Rattle.load_controller.specs.Journal.{last_line};
 ghost use Rattle.load_controller.specs.declared.line.TurnLine.{TurnLine as TurnLine'};
-ghost use Rattle.trace_law.specs.declared.input.Input.{Input as Input'};
-ghost use Rattle.trace_law.specs.declared.setting.Setting.{Setting as Setting'};
-ghost use Rattle.trace_law.specs.Validity.{IsValidInput, IsValidSetting, IsValid};
-ghost use Rattle.trace_law.specs.Family.{IsRestFor, Rest as Rest', migrations};
+ghost use Rattle.trace_law.specs.Validity.{IsValidInput, IsValidSetting};
+ghost use Rattle.trace_law.specs.Family.{migrations};
 ghost use Rattle.trace_law.specs.Runs.{IsRunOf};
 ghost use Rattle.trace_law.specs.Counts.{most_events};
-ghost use Rattle.actor_core.specs.declared.machines.Core.{Core as Core'};
 ghost use Rattle.actor_core.specs.Elements.{IsAllAt};
-ghost use Rattle.actor_core.specs.Families.{journal_of};
 ghost use Rattle.actor_core.specs.Lists.{ActorLists};
-ghost use Rattle.actor_core.specs.Rests.{IsRestOf, IsUpto, rest_of, upto};
+ghost use Rattle.actor_core.specs.Rests.{IsRestOf, IsUpto, task_upto, upto};
 ghost use Rattle.actor_core.specs.Standing.{IsOver};
-ghost use Rattle.link_trace.specs.Order.{IsWaveReplay};
+ghost use Rattle.actor_core.specs.Tasks.{Task, IsTask, IsRun};
+ghost use Rattle.link_trace.specs.Order.{IsReplay};
 ghost use Rattle.link_trace.specs.States.{state_of};
-ghost use Rattle.link_trace.specs.Worlds.{core_of, AllJoinBy, StandsInWave};
+ghost use Rattle.link_trace.specs.Worlds.{AllJoinBy, StandsFor, journal_in};
 
 use crate::places::machines;
-use crate::replays::{STREAM, all_marked, make_next};
-use crate::slots::slots_of;
+use crate::replays::drive;
 use crate::world::World;
-use actor_core::{Rest, Upto, WaveRun, machines_left, wave_events_fit, wave_run};
-use rand_pcg::Lcg64Xsh32;
+use actor_core::{Rest, Upto, WaveRun, machines_left, wave_run};
 use std::alloc::{AllocError, Global};
 use std::sync::Wait;
 use trace_law::{Input, Run, Setting, answers_in_the_end, events_are_few, finished_answers};
 
 impl<'a> World<'a> {
     /// The answer of a wave that is done, with so many rounds, and what it leaves for the next. After `AllocError` the
-    /// world is gone.
+    /// world is gone; a spent world answers it too.
     pub fn finish_wave(self, bouts: u64) -> Result<WaveRun, AllocError>
         requires { IsAllAt IsOver (state_of self).cores }
-        ensures run { IfOk result (λ wave.
-            (input : Input') (setting : Setting') (rest : Rest') (lists : Actor' → ActorLists)
-            → IsValid input setting → IsRestFor input setting rest
-            → StandsInWave input setting rest (state_of self.entry) lists
-            → IsRunOf input setting rest.line wave.run.journal wave.run) }
-        ensures rest { IfOk result (λ wave.
-            (input : Input') (setting : Setting') (rest : Rest') (lists : Actor' → ActorLists)
-            → IsValid input setting → IsRestFor input setting rest
-            → StandsInWave input setting rest (state_of self.entry) lists
-            → AllJoinBy input.theta (state_of self.entry) → IsRestOf input setting wave.rest) }
+        ensures run { IfOk result (λ wave. (task : Task) (lists : Actor' → ActorLists)
+            → IsTask task → StandsFor task (state_of self.entry) lists
+            → IsRun task wave.run.journal wave.run) }
+        ensures rest { IfOk result (λ wave. (task : Task) (lists : Actor' → ActorLists)
+            → IsTask task → StandsFor task (state_of self.entry) lists
+            → AllJoinBy task.input.theta (state_of self.entry)
+            → IsRestOf task.input task.setting wave.rest) }
         ensures journal { IfOk result (λ wave.
-            (input : Input') (setting : Setting') (rest : Rest') (lists : Actor' → ActorLists)
-            → StandsInWave input setting rest (state_of self.entry) lists → (core : Core')
-            → core_of (state_of self.entry) Controller' ≡ Some core
-            → wave.run.journal ≡ journal_of core) }
+            wave.run.journal ≡ journal_in (state_of self.entry)) }
         ensures line { IfOk result (λ wave. (first : TurnLine')
             → wave.rest.line ≡ last_line first wave.run.journal) }
         ensures bouts { IfOk result (λ wave. wave.run.bouts ≡ bouts) }
+        ensures at_work { OnOk result (self.entry.spent ≡ false) }
     {
         finished_answers();
         answers_in_the_end();
+        if self.spent {
+            return Err(AllocError);
+        }
         let World {
             alloc,
             cast,
@@ -91,22 +83,12 @@ pub fn replay_wave<R: Wait>(
     ensures rest { IfOk result (λ wave. IsRestOf input.now setting.now wave.rest) }
     ensures line { IfOk result (λ wave. wave.rest.line ≡ last_line rest.line wave.run.journal) }
     ensures order { IfOk result (λ wave.
-        IsWaveReplay (upto end input.now) setting.now (rest_of rest) seed wave.run) }
+        IsReplay (task_upto end input.now setting.now rest) seed wave.run) }
     ensures bound { IfOk result (λ wave. wave.run.bouts ≤ most_events (upto end input.now)
         setting.now (migrations rest.line wave.run.journal)) }
 {
     events_are_few();
-    wave_events_fit();
-    let slots = slots_of(alloc, setting)?;
-    let mut marks = all_marked(alloc, slots.len())?;
-    let mut draws = Lcg64Xsh32::new(seed, STREAM);
     let mut world = World::start_at(alloc, rest, input, setting, end)?;
-    let mut events = 0u64;
-    for _ in rt.forever() {
-        if world.done() {
-            break;
-        }
-        make_next(&mut world, &slots, &mut marks, &mut draws, &mut events)?;
-    }
+    let events = drive(rt, alloc, &mut world, setting, seed)?;
     world.finish_wave(events)
 }

@@ -2,25 +2,22 @@
 
 ghost use Rattle.std.specs.Prelude.{◌≡◌, ◌≤◌, ◌^◌, ℕ, [], Ok, Some, None, IfOk, IfSome, OnOk, OnErr, IsTrue, ◌↔◌, true, false};
 ghost use Rattle.epoch_tags.specs.Links.{HasLink};
-ghost use Rattle.epoch_tags.specs.declared.actor.Actor.TheVariants.{Feeder as Feeder', Controller as Controller'};
+ghost use Rattle.epoch_tags.specs.declared.actor.Actor.TheVariants.{Feeder as Feeder'};
 ghost use Rattle.epoch_tags.specs.declared.actor.Actor.{Actor as Actor'};
-ghost use Rattle.trace_law.specs.declared.input.Input.{Input as Input'};
-ghost use Rattle.trace_law.specs.declared.setting.Setting.{Setting as Setting'};
-ghost use Rattle.trace_law.specs.Validity.{IsValidInput, IsValidSetting, IsValid};
-ghost use Rattle.trace_law.specs.Family.{first_rest, IsRestFor, Rest as Rest'};
-ghost use Rattle.trace_law.specs.Runs.{IsRunOf};
+ghost use Rattle.trace_law.specs.Validity.{IsValidInput, IsValidSetting};
 ghost use Rattle.actor_core.specs.declared.step.Step.TheVariants.{Took as Took', Idle as Idle'};
 ghost use Rattle.actor_core.specs.Lists.{Began, ActorLists, no_lists};
-ghost use Rattle.actor_core.specs.Families.{journal_of};
 ghost use Rattle.actor_core.specs.Standing.{IsOver, GoesOn, Waits};
 ghost use Rattle.actor_core.specs.declared.machines.Core.{Core as Core'};
 ghost use Rattle.actor_core.specs.Numbers.{count_of, number as number'};
-ghost use Rattle.actor_core.specs.Rests.{upto, rest_of, IsRestOf, IsUpto};
+ghost use Rattle.actor_core.specs.Rests.{task_upto, IsRestOf, IsUpto};
+ghost use Rattle.actor_core.specs.Tasks.{Task, IsTask, IsRun, task_of};
 ghost use Rattle.actor_core.specs.Elements.{IsAllAt, IsSomeAt};
-ghost use Rattle.link_trace.specs.FirstWorlds.{IsFirstWorld};
-ghost use Rattle.link_trace.specs.Worlds.{state_among, waiting_of, left_of, core_of, StandsFor, StandsForSome, StandsInWave, AllJoinBy, IsSquare, IsStill, Delivers, MakesEvent};
+ghost use Rattle.link_trace.specs.FirstWorlds.{AreNewForSome, IsFirstWorld, new_world};
+ghost use Rattle.link_trace.specs.Worlds.{state_among, waiting_of, left_of, core_of, journal_in, StandsFor, StandsForSome, AllJoinBy, IsSquare, IsStill, Delivers, MakesEvent};
 
-use crate::places::{Place, all_are_over, begin, hand, machines, new_places, places_of, take};
+use crate::first_machines::first_cores;
+use crate::places::{Place, all_are_over, begin, hand, machines, places_of, take};
 use crate::sending::send_all;
 use actor_core::{Cast, Core, Rest, Step, Upto, answer, cores_in_wave, last_two};
 use epoch_tags::{Actor, Sends};
@@ -28,7 +25,7 @@ use std::alloc::{AllocError, Global};
 use trace_law::{Input, Run, Setting, finished_answers, quiet_is_finished};
 
 /// The machines of all actors of a run, and the messages that are left on each link. As long as it isn't spent, a
-/// list waits at each actor for each, and it is a world of some wave.
+/// list waits at each actor for each, and it is a world of some task.
 #[derive(Drop)]
 pub struct World<'a> {
     pub(crate) alloc: Global,
@@ -51,19 +48,16 @@ impl<'a> World<'a> {
         requires input { IsValidInput input.now }
         requires setting { IsValidSetting setting.now }
         ensures fresh { IfOk result (λ world.
-            StandsFor input.now setting.now (state_of world) (λ actor. no_lists)) }
+            StandsFor (task_of input.now setting.now) (state_of world) (λ actor. no_lists)) }
         ensures at_work { IfOk result (λ world. world.spent ≡ false) }
         // all of it is determined by the input and the setting
-        ensures first { IfOk result (λ world. IsFirstWorld input.now setting.now (state_of world)) }
+        ensures first { IfOk result (λ world.
+            IsFirstWorld (task_of input.now setting.now) (state_of world)) }
     {
         let cast = Cast::of(setting);
-        let places = new_places(alloc, input, setting, cast.count())?;
-        Ok(World {
-            alloc,
-            cast,
-            places,
-            spent: false,
-        })
+        let count = cast.count();
+        let cores = first_cores(alloc, input, setting, count)?;
+        World::of_cores(alloc, cast, count, cores)
     }
 
     /// All actors of a wave before its first event, which goes on from this rest and ends there. The world borrows the
@@ -80,14 +74,29 @@ impl<'a> World<'a> {
         requires end { IsUpto rest.line end input.now }
         requires rest { IsRestOf input.now setting.now rest }
         requires epoch { rest.line.epoch ≤ 2 ^ 31 }
-        ensures fresh { IfOk result (λ world. StandsInWave (upto end input.now) setting.now
-            (rest_of rest) (state_of world) (λ actor. no_lists)) }
+        ensures fresh { IfOk result (λ world. StandsFor
+            (task_upto end input.now setting.now rest) (state_of world) (λ actor. no_lists)) }
         ensures joins { IfOk result (λ world. AllJoinBy input.now.theta (state_of world)) }
         ensures at_work { IfOk result (λ world. world.spent ≡ false) }
     {
         let cast = Cast::of(setting);
         let cores = cores_in_wave(alloc, rest, input, setting, end)?;
-        let places = places_of(alloc, cores, cast.count())?;
+        World::of_cores(alloc, cast, cast.count(), cores)
+    }
+
+    // The world of these machines, where nothing waits.
+    fn of_cores(
+        alloc: Global,
+        cast: Cast,
+        count: u32,
+        cores: Vec<Core<'a>>,
+    ) -> Result<World<'a>, AllocError>
+        requires count { count ≡ count_of cast }
+        requires new { AreNewForSome cast cores.items }
+        ensures state { IfOk result (λ world. state_of world ≡ new_world cast cores.entry.items) }
+        ensures at_work { IfOk result (λ world. world.spent ≡ false) }
+    {
+        let places = places_of(alloc, cores, count)?;
         Ok(World {
             alloc,
             cast,
@@ -100,9 +109,9 @@ impl<'a> World<'a> {
     pub fn has(&self, from: Actor, to: Actor) -> bool
         ensures of_actors { (k : ℕ) → (state_of self.now).cast.joiners ≡ 2 ^ k
             → (IsTrue result ↔ HasLink k (state_of self.now).cast.feeders from to) }
-        ensures of_run { (input : Input') (setting : Setting') (lists : Actor' → ActorLists)
-            → StandsFor input setting (state_of self.now) lists
-            → (IsTrue result ↔ HasLink setting.k setting.feeders from to) }
+        ensures of_run { (task : Task) (lists : Actor' → ActorLists)
+            → StandsFor task (state_of self.now) lists
+            → (IsTrue result ↔ HasLink task.setting.k task.setting.feeders from to) }
     {
         self.cast.has_link(from, to)
     }
@@ -122,14 +131,9 @@ impl<'a> World<'a> {
     pub fn done(&self) -> bool
         ensures done { result ≡ true → IsAllAt IsOver (state_of self.now).cores }
         ensures goes_on { result ≡ false → IsSomeAt GoesOn (state_of self.now).cores }
-        ensures still { (input : Input') (setting : Setting') (lists : Actor' → ActorLists)
-            → IsValid input setting → StandsFor input setting (state_of self.now) lists
-            → IsStill setting (state_of self.now) → result ≡ true }
-        ensures still_in_wave { (input : Input') (setting : Setting') (rest : Rest')
-            (lists : Actor' → ActorLists)
-            → IsValid input setting → IsRestFor input setting rest
-            → StandsInWave input setting rest (state_of self.now) lists
-            → IsStill setting (state_of self.now) → result ≡ true }
+        ensures still { (task : Task) (lists : Actor' → ActorLists)
+            → IsTask task → StandsFor task (state_of self.now) lists
+            → IsStill task.setting (state_of self.now) → result ≡ true }
     {
         quiet_is_finished();
         all_are_over(&self.places)
@@ -139,15 +143,10 @@ impl<'a> World<'a> {
     /// answers it too.
     pub fn finish(self, bouts: u64) -> Result<Run, AllocError>
         requires { IsAllAt IsOver (state_of self).cores }
-        ensures run { IfOk result (λ run.
-            (input : Input') (setting : Setting') (lists : Actor' → ActorLists)
-            → IsValid input setting → StandsFor input setting (state_of self.entry) lists
-            → IsRunOf input setting (first_rest setting).line run.journal run) }
-        ensures journal { IfOk result (λ run.
-            (input : Input') (setting : Setting') (lists : Actor' → ActorLists)
-            → StandsFor input setting (state_of self.entry) lists → (core : Core')
-            → core_of (state_of self.entry) Controller' ≡ Some core
-            → run.journal ≡ journal_of core) }
+        ensures run { IfOk result (λ run. (task : Task) (lists : Actor' → ActorLists)
+            → IsTask task → StandsFor task (state_of self.entry) lists
+            → IsRun task run.journal run) }
+        ensures journal { IfOk result (λ run. run.journal ≡ journal_in (state_of self.entry)) }
         ensures bouts { IfOk result (λ run. run.bouts ≡ bouts) }
         ensures at_work { OnOk result (self.entry.spent ≡ false) }
     {

@@ -11,12 +11,13 @@ returns-clause-waiting c =
       core = c.on.new.self;
       waiting = place.waiting;
     }) c.index_mut.ensures.value
-    c.requires refl
+    c.requires.place refl
 
 pub returns-clause-occurs : goal.returns-clause-occurs
 returns-clause-occurs c =
     let place = c.index_mut.result.now in
     on_ok_weaker c.on.result
     (occurs_at c.args.places.now.items c.args.receiver place (record { core = c.on.new.self; waiting = place.waiting })
-    c.index_mut.ensures.value c.requires (Took c.args.from c.args.msg) c.args.sends.now c.on.new.sends)
+    c.index_mut.ensures.value c.requires.place (Took c.args.from c.args.msg) c.args.sends.now c.on.new.sends
+    c.requires.none)
     c.on.ensures.occurs

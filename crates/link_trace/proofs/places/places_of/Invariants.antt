@@ -1,10 +1,10 @@
-use Rattle.std.proofs.Common.{◌≡◌, All, length}
-use Rattle.link_trace.specs.Worlds.{HaveNothing, cores_of, waiting_of}
+use Rattle.std.proofs.Common.{◌≡◌, [], length}
+use Rattle.std.specs.Prelude.{replicate}
+use Rattle.link_trace.specs.Worlds.{cores_of, waiting_of}
 use Rattle.link_trace.proofs.places.places_of.Given as goal
 
 abbrev pub invariant-loop-core : goal.invariant-loop-core
 invariant-loop-core l = record {
   cores : cores_of l.places.items ≡ l.yielded;
-  empty : HaveNothing l.places.items;
-  wide : All (λ queues. length queues ≡ l.count) (waiting_of l.places.items);
+  waiting : waiting_of l.places.items ≡ replicate (length l.yielded) (replicate l.count []);
 }
