@@ -25,7 +25,7 @@ pub record AreNewForSome (cast : Cast) (cores : List Core) : Type 0 where
   pub task : Task
   pub stand : AllStand task cast cores (λ actor. no_lists)
 
--- these are so many machines, and P holds of each by its number
+-- these are so many machines, and P holds of each and its number
 pub record AreEach (P : ℕ → Core → Type 0) (count : ℕ) (cores : List Core) : Type 0 where
   pub all : length cores ≡ count
   pub each : (n : ℕ) (core : Core) → slice_get cores n ≡ Some core → P n core
@@ -35,7 +35,7 @@ abbrev pub AreNew : Task → ℕ → List Core → Type 0
 AreNew task count cores =
     AreEach (λ n core. Stands (start_for task (actor_at (cast_of task.setting) n)) no_lists core) count cores
 
--- they are, and each has just begun
+-- these are the machines of the first so many actors, each of which has just begun
 abbrev pub HaveBegun : Task → ℕ → List Core → Type 0
 HaveBegun task count cores = AreEach (IsFirstAt task) count cores
 

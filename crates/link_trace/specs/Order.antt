@@ -87,14 +87,15 @@ word_of seed n = (pcg32 (advance 64 multiplier_64 n (started 64 multiplier_64 se
 abbrev pub MakesDrawn : List Slot → ℕ → ℕ → WorldState → WorldState → Type 0
 MakesDrawn slots seed n old new = MakesFirst slots (word_of seed n) old new
 
--- after so many events, from this world to that one: as long as the work of some goes on, event n is made so
+-- after so many events, from this world to that one: each is made while the work of some goes on, event n as `Makes n`
+-- says
 abbrev pub Drives : (ℕ → WorldState → WorldState → Type 0) → WorldState → ℕ → WorldState → Type 0
 Drives Makes first zero last = last ≡ first
 Drives Makes first (suc n) last =
     (old : WorldState) × Drives Makes first n old × IsSomeAt GoesOn old.cores × Makes n old last
 
--- the run is that of a world of the task which stood for empty lists and was driven to its end so; `bouts` is the
--- number of its events
+-- the run is that of a world of the task which stood for empty lists and was driven to its end by such events; `bouts`
+-- is their number
 pub record IsDriven (task : Task) (Makes : ℕ → WorldState → WorldState → Type 0) (run : Run) : Type 0 where
   pub first : WorldState
   pub last : WorldState
@@ -103,16 +104,16 @@ pub record IsDriven (task : Task) (Makes : ℕ → WorldState → WorldState →
   pub over : IsAllAt IsOver last.cores
   pub journal : run.journal ≡ journal_in last
 
--- it was driven in the order of this seed
+-- the run is that of a world of the task which was driven to its end in the order of this seed
 abbrev pub IsReplay : Task → ℕ → Run → Type 0
 IsReplay task seed run = IsDriven task (MakesDrawn (slots_of task.setting) seed) run
 
--- a replay of a run began with the first world of its input and setting
+-- the run is such a replay of this input and setting, and it began with their first world
 pub record IsRunReplay (input : Input) (setting : Setting) (seed : ℕ) (run : Run) : Type 0 where
   pub replay : IsReplay (task_of input setting) seed run
   pub begun : IsFirstWorld (task_of input setting) replay.first
 
--- the world stands for empty lists of a task of this setting that is within the limits
+-- the world stands for empty lists of a task of this setting, whose input is within the limits
 pub record IsFreshWorld (setting : Setting) (w : WorldState) : Type 0 where
   pub input : Input
   pub rest : Rest

@@ -33,7 +33,7 @@ MakesStarving starved slots old new =
     MakesLeast false starved slots old new
     ⊎ (AreIdleBelow false starved slots (length slots) old × MakesLeast true starved slots old new)
 
--- the run is that of a world of the task which was driven to its end so
+-- the run is that of a world of the task which was driven to its end, and in which this actor was served last
 abbrev pub IsStarvingReplay : Task → Actor → Run → Type 0
 IsStarvingReplay task starved run =
     IsDriven task (λ n old new. MakesStarving starved (slots_of task.setting) old new) run
