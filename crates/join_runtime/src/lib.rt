@@ -5,12 +5,12 @@
 mod ahead;
 mod bouts;
 mod dealt;
-mod early;
 mod ends;
 mod fresh;
 mod gathered;
 mod kept;
 mod left;
+mod lines_by_bout;
 mod mouths;
 mod runs;
 mod seat;
@@ -19,7 +19,7 @@ mod started;
 
 pub use actor_core::{Rest, Upto, WaveRun};
 pub use bouts::{Seats, bout};
-pub use early::{EarlyFault, run_early};
 pub use ends::{End, Ends, Told, Trail, WaveTold};
+pub use lines_by_bout::{EarlyFault, run_early};
 pub use runs::{run, run_wave};
 pub use seat::Seat;

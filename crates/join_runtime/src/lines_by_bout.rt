@@ -12,7 +12,7 @@ ghost use Rattle.load_controller.specs.Journal.{last_epoch};
 ghost use Rattle.trace_law.specs.Counts.{most_events};
 ghost use Rattle.actor_core.specs.Players.{AgreesOnLinks, IsFinishedFamily};
 ghost use Rattle.join_report.specs.PairLines.{pair_lines};
-ghost use Rattle.join_runtime.specs.declared.early.EarlyFault.TheVariants.{Memory as Memory', Write as Write'};
+ghost use Rattle.join_runtime.specs.declared.lines_by_bout.EarlyFault.TheVariants.{Memory as Memory', Write as Write'};
 ghost use Rattle.join_runtime.specs.Endings.{lists_left};
 ghost use Rattle.join_runtime.specs.Early.{WroteEach, WroteSome};
 

@@ -1,7 +1,7 @@
 use Rattle.std.proofs.Common.{◌≡◌}
 use Rattle.join_rows.specs.Sinks.{PutsSome}
 use Rattle.join_runtime.proofs.Lines.{HasPut}
-use Rattle.join_runtime.proofs.early.run_early_by.Given as goal
+use Rattle.join_runtime.proofs.lines_by_bout.run_early_by.Given as goal
 
 abbrev pub invariant-loop : goal.invariant-loop
 invariant-loop g l = record {

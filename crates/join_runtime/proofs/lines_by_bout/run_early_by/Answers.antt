@@ -10,7 +10,7 @@ use Rattle.join_runtime.specs.Bouts.{lists_in}
 use Rattle.join_runtime.proofs.Lines.{each_put, fresh_cut, fresh_put, fresh_room, none_put, nothing_put, room_left}
 use Rattle.join_runtime.proofs.Lines.{some_put}
 use Rattle.join_runtime.proofs.UnderWay.{few_bouts, goes_on, left_linked, one_bout_more}
-use Rattle.join_runtime.proofs.early.run_early_by.Goals as goal
+use Rattle.join_runtime.proofs.lines_by_bout.run_early_by.Goals as goal
 
 pub loop-init : goal.loop-init
 loop-init g c =
