@@ -9,23 +9,22 @@ use Rattle.epoch_tags.specs.declared.actor.Actor.TheVariants.{Collector}
 use Rattle.ruled_links.specs.Ends.{Sending}
 use Rattle.ruled_links.specs.Inboxes.{InboxView, OfSender, is_sender, fresh, opened, messages_of}
 use Rattle.pair_collector.specs.Standing.{nothing_yet}
-use Rattle.trace_law.specs.declared.input.Input.{Input}
 use Rattle.theta_pred.specs.Formula.{Meaning}
-use Rattle.trace_law.specs.declared.setting.Setting.{Setting}
-use Rattle.trace_law.specs.Family.{Rest}
 use Rattle.actor_core.specs.Elements.{IsAllAt}
+use Rattle.actor_core.specs.declared.cast.Cast.{Cast}
 use Rattle.actor_core.specs.declared.machines.Core.{Core}
 use Rattle.actor_core.specs.Lists.{no_lists}
 use Rattle.actor_core.specs.Standing.{JoinsBy, Stands, IsLive, given_by}
-use Rattle.actor_core.specs.Families.{start_in_wave}
+use Rattle.actor_core.specs.Families.{start_for}
 use Rattle.actor_core.specs.Numbers.{actor_at, at_number, cast_of, count_of, number}
 use Rattle.actor_core.specs.Players.{lists_among, lists_at}
+use Rattle.actor_core.specs.Tasks.{Task}
 use Rattle.actor_core.proofs.OwnNumbers.{number_actor, some_is}
 use Rattle.join_runtime.specs.Views.{SeatView, Frame, frame_of, lists_of, address_of, contents, sent_by, sent_at}
 use Rattle.join_runtime.specs.Kinds.{IsMachineOf}
 use Rattle.join_runtime.specs.Joins.{AreJoined, AreSettled, IsPlaced, Leads, HasMouthTo, IsGathered, Knows, slot_of}
-use Rattle.join_runtime.specs.Bouts.{StandsInWave, lists_in}
-use Rattle.join_runtime.specs.Seating.{IsFresh, AreFresh, IsNewSeat, AreNew, AreFilled}
+use Rattle.join_runtime.specs.Bouts.{StandsFor, lists_in}
+use Rattle.join_runtime.specs.Seating.{IsFresh, AreFresh, IsNewSeat, AreNew, AreFilled, AreSeated}
 use Rattle.join_runtime.specs.Early.{AreGiven, given_at, given_in}
 use Rattle.join_runtime.proofs.KnownCounts.{is_sender-named}
 use Rattle.join_runtime.proofs.OwnMachines.{begins_own}
@@ -34,10 +33,28 @@ use Rattle.join_runtime.proofs.FreshSenders.{contains_map, map_contains, named, 
 use Rattle.actor_core.proofs.Beginnings.{has_number, there}
 use Rattle.actor_core.proofs.Seated.{core_at, core_there, lists_there, number_low}
 
-module _ (setting : Setting) (count : ℕ) (cores : List Core) (first seats : List SeatView)
-    (mouths : List (List Sending)) (new : AreNew (cast_of setting) count cores first mouths)
-    (filled : AreFilled (cast_of setting) count mouths first seats)
-    (many : count ≡ count_of (cast_of setting)) where
+-- the seats for the machines of a task's actors
+module _ (task : Task) (cores : List Core) (seats : List SeatView)
+    (seated : AreSeated (cast_of task.setting) cores seats)
+    (many : length cores ≡ count_of (cast_of task.setting)) where
+  abbrev cast : Cast
+  cast = cast_of task.setting
+
+  abbrev count : ℕ
+  count = length cores
+
+  abbrev first : List SeatView
+  first = seated.first
+
+  abbrev mouths : List (List Sending)
+  mouths = seated.mouths
+
+  abbrev new : AreNew cast count cores first mouths
+  new = seated.new
+
+  filled : AreFilled cast count mouths first seats
+  filled = subst (λ n. AreFilled cast n mouths first seats) new.each seated.filled
+
   long : length seats ≡ count
   long = filled.all ∙ new.all
 
@@ -45,7 +62,7 @@ module _ (setting : Setting) (count : ℕ) (cores : List Core) (first seats : Li
   low_of n low = subst (λ z. n < z) long low
 
   made : (n : ℕ) (d : SeatView) → n < count
-      → IsNewSeat (cast_of setting) n (get_or cores n d.core) (get_or first n d) (get_or mouths n [])
+      → IsNewSeat cast n (get_or cores n d.core) (get_or first n d) (get_or mouths n [])
   made n d low = new.new n d low
 
   still : (n : ℕ) (d : SeatView) → n < count → get_or seats n d
@@ -53,7 +70,7 @@ module _ (setting : Setting) (count : ℕ) (cores : List Core) (first seats : Li
   still n d low = filled.same n d (subst (λ z. n < z) (sym new.all) low)
 
   -- each seat says who takes part
-  pub seat_cast : (n : ℕ) (d : SeatView) → n < count → (get_or seats n d).cast ≡ cast_of setting
+  pub seat_cast : (n : ℕ) (d : SeatView) → n < count → (get_or seats n d).cast ≡ cast
   seat_cast n d low = ap (λ (s : SeatView). s.cast) (still n d low) ∙ (made n d low).cast_is
 
   inbox_is : (n : ℕ) (d : SeatView) → n < count → (get_or seats n d).inbox ≡ (get_or first n d).inbox
@@ -61,7 +78,7 @@ module _ (setting : Setting) (count : ℕ) (cores : List Core) (first seats : Li
 
   -- a mouth of the seat n to the seat r is one that was opened for n
   opened_is : (n r : ℕ) (d : SeatView) (mouth : Sending) → n < count → slot_of seats d n r ≡ Some mouth
-      → (r < count) × (number (cast_of setting) mouth.from ≡ Some n)
+      → (r < count) × (number cast mouth.from ≡ Some n)
       × ((names : List Actor) → (get_or first r d).inbox.senders ≡ map fresh names
       → is_sender mouth.from (map fresh names) ≡ true) × ((a : Actor)
       × (opened (get_or first r d).inbox.link (get_or first r d).inbox.to a ≡ mouth))
@@ -93,17 +110,17 @@ module _ (setting : Setting) (count : ℕ) (cores : List Core) (first seats : Li
           record {
             link = ap (λ (i : InboxView). i.link) inbox ∙ ap (λ (m : Sending). m.link) own.3.1;
             to = ap (λ (i : InboxView). i.to) inbox ∙ ap (λ (m : Sending). m.to) own.3.1;
-            from = sym (number_actor (cast_of setting) mouth.from n own.1) ∙ sym actor;
+            from = sym (number_actor cast mouth.from n own.1) ∙ sym actor;
           }
 
   placed : (n : ℕ) (f : Frame) → n < length (map frame_of seats)
-      → IsPlaced (cast_of setting) n (get_or (map frame_of seats) n f)
+      → IsPlaced cast n (get_or (map frame_of seats) n f)
   placed n f low =
       let here = subst (λ z. n < z) (length-map seats frame_of) low in
       let d = (there seats n here).0 in
       let same = still n d (low_of n here) in
       let one = made n d (low_of n here) in
-      subst (IsPlaced (cast_of setting) n) (sym (get_or-map frame_of seats n d f here)) (record {
+      subst (IsPlaced cast n) (sym (get_or-map frame_of seats n d f here)) (record {
         cast_is = ap (λ (s : SeatView). s.cast) same ∙ one.cast_is;
         actor = ap (λ (s : SeatView). s.actor) same ∙ one.actor;
         to = ap (λ (s : SeatView). s.inbox.to) same ∙ (one.to ∙ sym (ap (λ (s : SeatView). s.actor) same));
@@ -111,7 +128,7 @@ module _ (setting : Setting) (count : ℕ) (cores : List Core) (first seats : Li
 
   heard : (r : ℕ) (a : Actor) (f : Frame) → r < length (map frame_of seats)
       → is_sender a (map fresh (get_or (map frame_of seats) r f).senders) ≡ true
-      → HasMouthTo (cast_of setting) (map frame_of seats) r a
+      → HasMouthTo cast (map frame_of seats) r a
   heard r a f low is =
       let here = subst (λ z. r < z) (length-map seats frame_of) low in
       let d = (there seats r here).0 in
@@ -121,9 +138,9 @@ module _ (setting : Setting) (count : ℕ) (cores : List Core) (first seats : Li
       ∙ subst (λ (x : Frame). is_sender a (map fresh x.senders) ≡ true) (get_or-map frame_of seats r d f here) is in
       let name = named a one.names (subst (λ (ss : List OfSender). is_sender a ss ≡ true) senders_are is_one) in
       let given_name = one.numbers.each name.0 a name.1 in
-      let num : (n : ℕ) × (number (cast_of setting) a ≡ Some n) = (
+      let num : (n : ℕ) × (number cast a ≡ Some n) = (
         given_name.0,
-        subst (λ x. number (cast_of setting) x ≡ Some given_name.0)
+        subst (λ x. number cast x ≡ Some given_name.0)
             name.2 given_name.1,
       ) in
       let inbox = (get_or first r d).inbox in
@@ -144,7 +161,7 @@ module _ (setting : Setting) (count : ℕ) (cores : List Core) (first seats : Li
 
   -- where each mouth of new seats came to its sender, there is a seat for each actor, each mouth leads to its
   -- receiver's inbox, and each sender of an inbox has a mouth
-  pub all_joined : AreJoined (cast_of setting) (map frame_of seats)
+  pub all_joined : AreJoined cast (map frame_of seats)
   all_joined = record {
     all = length-map seats frame_of ∙ (long ∙ many);
     placed = placed;
@@ -203,27 +220,27 @@ module _ (setting : Setting) (count : ℕ) (cores : List Core) (first seats : Li
 
   -- no actor of these seats has received or sent anything
   pub all_empty : (spent : Bool) (a : Actor) → lists_in (record {
-    cast = cast_of setting;
+    cast = cast;
     seats = seats;
     spent = spent;
   }) a ≡ no_lists
-  all_empty spent a = go (number (cast_of setting) a) refl
+  all_empty spent a = go (number cast a) refl
     where
-      go : (o : Option ℕ) → number (cast_of setting) a ≡ o
-          → lists_among lists_of (cast_of setting) seats a ≡ no_lists
+      go : (o : Option ℕ) → number cast a ≡ o
+          → lists_among lists_of cast seats a ≡ no_lists
       go None is = ap (λ (o : Option ℕ). lists_at lists_of (at_number None o (λ k. slice_get seats k))) is
       go (Some n) is =
-          let low = subst (λ z. n < z) (sym many) (number_low (cast_of setting) a n is) in
+          let low = subst (λ z. n < z) (sym many) (number_low cast a n is) in
           let low' = subst (λ z. n < z) (sym long) low in
           let d = (there seats n low').0 in
-          lists_there lists_of (cast_of setting) seats a n d is low' ∙ empty_lists n d low
+          lists_there lists_of cast seats a n d is low' ∙ empty_lists n d low
 
   -- ---- the machines, which are as they were made
 
-  module _ (input : Input) (rest : Rest) (fresh : AreFresh input setting rest count cores) where
-    machine : (n : ℕ) (d : SeatView) → n < count → IsFresh input setting rest n (get_or first n d).core
+  module _ (fresh : AreFresh task count cores) where
+    machine : (n : ℕ) (d : SeatView) → n < count → IsFresh task n (get_or first n d).core
     machine n d low =
-        subst (IsFresh input setting rest n) (sym (made n d low).core_is)
+        subst (IsFresh task n) (sym (made n d low).core_is)
         (fresh.each n (get_or cores n d.core)
         (slice_get-get_or cores n d.core (subst (λ z. n < z) (sym fresh.all) low)))
 
@@ -235,12 +252,12 @@ module _ (setting : Setting) (count : ℕ) (cores : List Core) (first seats : Li
       own = λ n d low.
           let same = still n d (low_of n low) in
           let one = machine n d (low_of n low) in
-          let a = actor_at (cast_of setting) n in
+          let a = actor_at cast n in
           let actor_is : (get_or seats n d).actor ≡ a =
           ap (λ (s : SeatView). s.actor) same ∙ (made n d (low_of n low)).actor in
           subst (IsMachineOf (get_or seats n d).core) (sym actor_is)
           (subst (λ core. IsMachineOf core a) (sym (ap (λ (s : SeatView). s.core) same))
-          (begins_own input setting rest a no_lists (get_or first n d).core one.stands));
+          (begins_own task a no_lists (get_or first n d).core one.stands));
       live = λ n d low. subst IsLive (sym (ap (λ (s : SeatView). s.core) (still n d (low_of n low))))
           (machine n d (low_of n low)).live;
       gathered = gathered;
@@ -248,16 +265,15 @@ module _ (setting : Setting) (count : ℕ) (cores : List Core) (first seats : Li
 
     -- each machine began as its actor begins, and stands for empty lists
     pub machine_there : (n : ℕ) (d : SeatView) → n < count
-        → Stands (start_in_wave input setting rest (actor_at (cast_of setting) n)) no_lists
+        → Stands (start_for task (actor_at cast n)) no_lists
         (get_or seats n d).core
     machine_there n d low =
-        subst (Stands (start_in_wave input setting rest (actor_at (cast_of setting) n)) no_lists)
+        subst (Stands (start_for task (actor_at cast n)) no_lists)
         (sym (ap (λ (s : SeatView). s.core) (still n d low))) (machine n d low).stands
 
-    -- there is a machine for each actor, which began as input, setting and rest say and stands for the lists of its
-    -- seat
-    pub all_stand : (spent : Bool) → StandsInWave input setting rest (record {
-      cast = cast_of setting;
+    -- there is a machine for each actor, which began as the task says and stands for the lists of its seat
+    pub all_stand : (spent : Bool) → StandsFor task (record {
+      cast = cast;
       seats = seats;
       spent = spent;
     })
@@ -265,38 +281,38 @@ module _ (setting : Setting) (count : ℕ) (cores : List Core) (first seats : Li
       cast_is = refl;
       all = length-map seats (λ (s : SeatView). s.core) ∙ (long ∙ many);
       stands = λ a is.
-          let num = has_number setting a is in
-          let low = subst (λ z. num.0 < z) (sym many) (number_low (cast_of setting) a num.0 num.1) in
+          let num = has_number task.setting a is in
+          let low = subst (λ z. num.0 < z) (sym many) (number_low cast a num.0 num.1) in
           let low' = subst (λ z. num.0 < z) (sym long) low in
           let d = (there seats num.0 low').0 in (
             (get_or seats num.0 d).core,
-            core_there (λ (s : SeatView). s.core) (cast_of setting) seats a num.0 d num.1 low',
-            subst (λ ls. Stands (start_in_wave input setting rest a) ls (get_or seats num.0 d).core)
-                (sym (lists_there lists_of (cast_of setting) seats a num.0 d num.1 low'
+            core_there (λ (s : SeatView). s.core) cast seats a num.0 d num.1 low',
+            subst (λ ls. Stands (start_for task a) ls (get_or seats num.0 d).core)
+                (sym (lists_there lists_of cast seats a num.0 d num.1 low'
                 ∙ empty_lists num.0 d low))
-                (subst (λ c. Stands (start_in_wave input setting rest a) no_lists c)
+                (subst (λ c. Stands (start_for task a) no_lists c)
                 (sym (ap (λ (s : SeatView). s.core) (still num.0 d low)))
-                (subst (λ z. Stands (start_in_wave input setting rest z) no_lists (get_or first num.0 d).core)
-                (number_actor (cast_of setting) a num.0 num.1) (machine num.0 d low).stands)),
+                (subst (λ z. Stands (start_for task z) no_lists (get_or first num.0 d).core)
+                (number_actor cast a num.0 num.1) (machine num.0 d low).stands)),
           );
     }
 
     -- the collector's seat is the last
-    pub none_given : (spent : Bool) → AreGiven (2 ^ setting.k) nothing_yet
-        (given_in (record { cast = cast_of setting; seats = seats; spent = spent }))
+    pub none_given : (spent : Bool) → AreGiven (2 ^ task.setting.k) nothing_yet
+        (given_in (record { cast = cast; seats = seats; spent = spent }))
     none_given spent j below =
-        let place = setting.feeders + 2 ^ setting.k + 1 in
+        let place = task.setting.feeders + 2 ^ task.setting.k + 1 in
         let low : place < count = omega (arith, many) in
         let low' = subst (λ z. place < z) (sym long) low in
         let d = (there seats place low').0 in
-        ap (λ given. slice_index given j) (ap given_at (core_there (λ (s : SeatView). s.core) (cast_of setting)
+        ap (λ given. slice_index given j) (ap given_at (core_there (λ (s : SeatView). s.core) cast
         seats Collector place d refl low')
         ∙ ap (λ (s : SeatView). given_by s.core) (still place d low)) ∙ (machine place d low).given j below
 
   -- the joiners join by the predicate by which the machines did
-  pub all_join : (theta : Meaning) → length cores ≡ count → IsAllAt (JoinsBy theta) cores
+  pub all_join : (theta : Meaning) → IsAllAt (JoinsBy theta) cores
       → IsAllAt (JoinsBy theta) (map (λ (s : SeatView). s.core) seats)
-  all_join theta each joins n core is =
+  all_join theta joins n core is =
       let core_of = λ (s : SeatView). s.core in
       let low : n < length seats =
       subst (λ z. n < z) (length-map seats core_of) (slice_get_within (map core_of seats) n core is) in
@@ -308,4 +324,4 @@ module _ (setting : Setting) (count : ℕ) (cores : List Core) (first seats : Li
       ∙ some_is (get_or seats n d).core core (sym here ∙ is) in
       subst (JoinsBy theta) own
       (joins n (get_or cores n d.core)
-      (slice_get-get_or cores n d.core (subst (λ z. n < z) (sym each) low')))
+      (slice_get-get_or cores n d.core low'))

@@ -1,40 +1,32 @@
 -- What finished seats leave and answer.
-use Rattle.std.proofs.Common.{◌≡◌, ℕ, zero, suc, ◌+◌, ◌-◌, ◌≤◌, ◌^◌, refl, sym, ap, subst, ◌∙◌, true, Option, Some}
-use Rattle.std.proofs.Common.{None, List}
-use Rattle.std.proofs.Common.{[], ◌∷◌, map, length, arith}
-use Rattle.std.specs.Prelude.{reverse, slice_get}
+use Rattle.std.proofs.Common.{◌≡◌, ℕ, ◌≤◌, ◌^◌, refl, sym, ap, subst, ◌∙◌, true}
+use Rattle.std.proofs.Common.{List}
+use Rattle.std.proofs.Common.{◌∷◌, map, length}
+use Rattle.std.specs.Prelude.{reverse}
 use Rattle.std.proofs.lemmas.List.{length-map}
-use Rattle.std.proofs.lemmas.Option.{get_or_from_slice_get, slice_get_within}
 use mathlib.Core.Path.{fun_ext}
 use Rattle.epoch_tags.specs.declared.actor.Actor.{Actor}
-use Rattle.epoch_tags.specs.declared.actor.Actor.TheVariants.{Collector}
 use Rattle.load_controller.specs.Standing.{ControllerState}
 use Rattle.load_controller.specs.declared.line.TurnLine.{TurnLine}
 use Rattle.pair_collector.specs.Law.{CollectorLists}
 use Rattle.pair_collector.specs.Standing.{CollectorState, StandsFor as CollectorStands, is_complete}
-use Rattle.trace_law.specs.declared.input.Input.{Input}
-use Rattle.trace_law.specs.declared.setting.Setting.{Setting}
 use Rattle.trace_law.specs.declared.run.Run.{Run}
-use Rattle.trace_law.specs.Validity.{IsValid}
-use Rattle.trace_law.specs.Runs.{IsRunOf}
 use Rattle.trace_law.specs.Laws.{AnswersInTheEnd, CompleteIsFinished, FinishedAnswers}
-use Rattle.trace_law.specs.Family.{IsRestFor, Rest, first_rest}
-use Rattle.trace_law.proofs.First.{stands as first_stands}
 use Rattle.actor_core.specs.declared.cast.Cast.{Cast}
 use Rattle.actor_core.specs.Endings.{AreLast, IsAnswerOf}
-use Rattle.actor_core.specs.Families.{AreFronts, core_in}
-use Rattle.actor_core.specs.Numbers.{at_number, count_of, number}
+use Rattle.actor_core.specs.Families.{AreFronts}
+use Rattle.actor_core.specs.Numbers.{count_of}
 use Rattle.actor_core.specs.Leavings.{AreLeft}
-use Rattle.actor_core.specs.Players.{IsFinishedFamily, IsFinishedWave, is_complete_at, is_complete_core, lists_at}
+use Rattle.actor_core.specs.Players.{IsFinishedFamily}
 use Rattle.actor_core.specs.Rests.{IsRestOf}
+use Rattle.actor_core.specs.Tasks.{IsRun, IsTask, Task}
 use Rattle.actor_core.specs.declared.rests.Rest.{Rest as NextRest}
-use Rattle.actor_core.proofs.CompleteAnswer.{agrees_in_wave, collector_complete, complete_in_wave, journal_named}
-use Rattle.actor_core.proofs.CompleteAnswer.{run_ends_in_wave}
+use Rattle.actor_core.proofs.CompleteAnswer.{agrees, collector_complete, complete_finished, journal_named, run_ends}
 use Rattle.actor_core.proofs.NextRest.{complete_rest}
 use Rattle.actor_core.proofs.Seats.{same_among}
 use Rattle.join_runtime.specs.Views.{SeatView, frame_of, lists_of}
 use Rattle.join_runtime.specs.Joins.{AreJoined}
-use Rattle.join_runtime.specs.Bouts.{AllJoinBy, SeatsView, StandsFor, StandsInWave, cores_in, lists_in}
+use Rattle.join_runtime.specs.Bouts.{AllJoinBy, SeatsView, StandsFor, cores_in, lists_in}
 use Rattle.join_runtime.specs.Endings.{EndsView, end_of, is_collected, journal_in, lists_left, lists_of_end}
 
 -- ---- what is left of seats
@@ -68,64 +60,40 @@ module _ (v : SeatsView) (joined : AreJoined v.cast (map frame_of v.seats)) wher
     told_journal run is =
         is ∙ sym (journal_named v.cast (cores_in v) many_cores controller collector last)
 
-    -- a complete collector ends the wave
-    module _ (law : CompleteIsFinished) (done : is_collected v ≡ true) (input : Input) (setting : Setting)
-        (rest : Rest) (valid : IsValid input setting) (begins : IsRestFor input setting rest)
-        (stands : StandsInWave input setting rest v) (fronts : AreFronts (lists_in v)) where
-      wave_ends : IsFinishedWave input setting rest (journal_in v) (lists_in v)
-      wave_ends =
-          complete_in_wave input setting rest v.cast (cores_in v) (lists_in v) stands fronts law valid
-          begins done
+    -- a complete collector ends the task
+    module _ (law : CompleteIsFinished) (done : is_collected v ≡ true) (task : Task) (is_task : IsTask task)
+        (stands : StandsFor task v) (fronts : AreFronts (lists_in v)) where
+      task_ends : IsFinishedFamily task (journal_in v) (lists_in v)
+      task_ends = complete_finished task v.cast (cores_in v) (lists_in v) stands fronts law is_task done
 
-      -- so what its seats leave is a finished family of the wave, with the journal of the run that is told
-      pub told_wave : (run : Run) → run.journal ≡ controller.journal → (e : EndsView)
-          → ((a : Actor) → lists_left e a ≡ lists_in v a) → IsFinishedWave input setting rest run.journal (lists_left e)
-      told_wave run is e same =
-          subst (λ js. IsFinishedWave input setting rest js (lists_left e)) (sym (told_journal run is))
-          (subst (IsFinishedWave input setting rest (journal_in v)) (sym (fun_ext same)) wave_ends)
+      -- so what its seats leave is a finished family of the task, with the journal of the run that is told
+      pub told_family : (run : Run) → run.journal ≡ controller.journal → (e : EndsView)
+          → ((a : Actor) → lists_left e a ≡ lists_in v a) → IsFinishedFamily task run.journal (lists_left e)
+      told_family run is e same =
+          subst (λ js. IsFinishedFamily task js (lists_left e)) (sym (told_journal run is))
+          (subst (IsFinishedFamily task (journal_in v)) (sym (fun_ext same)) task_ends)
 
-      -- and what its controller and its collector answer is a run of the wave
-      pub told_wave_run : (run : Run) → FinishedAnswers → (bouts : ℕ)
+      -- and what its controller and its collector answer is a run of the task
+      pub told_run : (run : Run) → FinishedAnswers → (bouts : ℕ)
           → ((joiners : ℕ) (ls : CollectorLists) → CollectorStands joiners ls collector
           → IsAnswerOf joiners ls controller.journal bouts run)
-          → IsRunOf input setting rest.line run.journal run
-      told_wave_run run answers_law bouts answers =
-          run_ends_in_wave answers_law input setting rest v.cast (cores_in v) (lists_in v) valid begins
-          stands wave_ends controller collector last bouts run answers
+          → IsRun task run.journal run
+      told_run run answers_law bouts answers =
+          run_ends answers_law task v.cast (cores_in v) (lists_in v) is_task stands task_ends controller collector
+          last bouts run answers
 
       -- and what its machines leave stands for the input
-      pub told_rest : AnswersInTheEnd → AllJoinBy input.theta v → (next : NextRest)
+      pub told_rest : AnswersInTheEnd → AllJoinBy task.input.theta v → (next : NextRest)
           → AreLeft v.cast.feeders (cores_in v) next.stores controller collector
           → ((k : ℕ) → k ≤ 8 → v.cast.joiners ≡ 2 ^ k → next.k ≡ k)
           → ((l : TurnLine) (past : List TurnLine) → reverse controller.journal ≡ l ∷ past → next.line ≡ l)
-          → IsRestOf input setting next
+          → IsRestOf task.input task.setting next
       told_rest answers_law joins next left grid is_last =
-          let agreed = (agrees_in_wave input setting rest v.cast (cores_in v) (lists_in v) stands
-          fronts).controller in
+          let agreed = (agrees task v.cast (cores_in v) (lists_in v) stands fronts).controller in
           let named = journal_named v.cast (cores_in v) many_cores controller collector last in
           let same : next.line ≡ agreed.line =
           is_last agreed.line agreed.past (ap reverse (sym named) ∙ agreed.journal) in
-          complete_rest answers_law law input setting rest v.cast (cores_in v) (lists_in v) valid begins
-          stands fronts done joins next.stores controller collector left next.k next.line agreed.past
-          (grid setting.k valid.small (ap (λ (cast : Cast). cast.joiners) stands.cast_is))
+          complete_rest answers_law task v.cast (cores_in v) (lists_in v) is_task stands fronts law done joins
+          next.stores controller collector left next.k next.line agreed.past
+          (grid task.setting.k is_task.valid.small (ap (λ (cast : Cast). cast.joiners) stands.cast_is))
           (agreed.journal ∙ ap (λ l. l ∷ agreed.past) (sym same))
-
-    -- and a run, that is the wave that begins with no rows
-    module _ (law : CompleteIsFinished) (done : is_collected v ≡ true) (input : Input) (setting : Setting)
-        (valid : IsValid input setting) (stands : StandsFor input setting v) (fronts : AreFronts (lists_in v))
-        (run : Run) where
-      -- what its seats leave is a finished family, with the journal of the run that is told
-      pub told_family : run.journal ≡ controller.journal → (e : EndsView)
-          → ((a : Actor) → lists_left e a ≡ lists_in v a) → IsFinishedFamily input setting run.journal (lists_left e)
-      told_family =
-          told_wave law done input setting (first_rest setting) valid (first_stands input setting valid) stands fronts
-          run
-
-      -- and what its controller and its collector answer is a run of this input and setting
-      pub told_run : FinishedAnswers → (bouts : ℕ)
-          → ((joiners : ℕ) (ls : CollectorLists) → CollectorStands joiners ls collector
-          → IsAnswerOf joiners ls controller.journal bouts run)
-          → IsRunOf input setting (first_rest setting).line run.journal run
-      told_run =
-          told_wave_run law done input setting (first_rest setting) valid (first_stands input setting valid) stands
-          fronts run

@@ -1,5 +1,5 @@
 -- The numbers of actors, and frames at their places.
-use Rattle.std.proofs.Common.{◌≡◌, ℕ, zero, suc, ◌+◌, ◌<◌, refl, sym, ap, ◌∙◌, Option, None, List, [], ◌∷◌, get_or, map}
+use Rattle.std.proofs.Common.{◌≡◌, ℕ, zero, suc, ◌<◌, refl, sym, ap, ◌∙◌, Option, None, List, [], ◌∷◌, get_or, map}
 use Rattle.std.proofs.Common.{length, arith, subst, Some}
 use Rattle.std.specs.Prelude.{IsSome}
 use Rattle.std.proofs.lemmas.List.{get_or-map, length-map}

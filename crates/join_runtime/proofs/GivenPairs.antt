@@ -12,13 +12,11 @@ use Rattle.epoch_tags.specs.declared.actor.Actor.TheVariants.{Collector}
 use Rattle.epoch_tags.specs.declared.tuple.Pair.{Pair}
 use Rattle.pair_collector.specs.Law.{CollectorLists}
 use Rattle.pair_collector.specs.Fresh.{pairs_since}
-use Rattle.trace_law.specs.declared.input.Input.{Input}
-use Rattle.trace_law.specs.declared.setting.Setting.{Setting}
-use Rattle.trace_law.specs.Family.{first_rest}
 use Rattle.actor_core.specs.Lists.{ActorLists}
 use Rattle.actor_core.specs.Standing.{IsLive, OfCollector, Start, Stands}
 use Rattle.actor_core.specs.Families.{core_in}
 use Rattle.actor_core.specs.Players.{Player, lists_among}
+use Rattle.actor_core.specs.Tasks.{Task}
 use Rattle.actor_core.proofs.OwnNumbers.{some_is}
 use Rattle.actor_core.proofs.Runs.{runs_given}
 use Rattle.actor_core.proofs.Seated.{AllRelate, HasRun, all_relate, core_at, of_lists, related_at, still_stand}
@@ -36,20 +34,19 @@ use Rattle.join_runtime.proofs.UnderWay.{many, same_cast, same_long}
 -- ---- a bout gives nothing
 
 -- the collector has given what it had
-pub given_kept : (input : Input) (setting : Setting) (old new : SeatsView) → StandsFor input setting old
-    → StandsFor input setting new → AllAdvance old.seats new.seats → given_in new ≡ given_in old
-given_kept input setting old new st st' advance =
+pub given_kept : (task : Task) (old new : SeatsView) → StandsFor task old → StandsFor task new
+    → AllAdvance old.seats new.seats → given_in new ≡ given_in old
+given_kept task old new st st' advance =
     let cast = old.cast in
     let cores = cores_in new in
-    let long = same_long input setting (first_rest setting) old new st st' in
-    let ran = all_ran cast old.seats new.seats long (many input setting (first_rest setting) old new st st')
-    advance in
+    let long = same_long task old new st st' in
+    let ran = all_ran cast old.seats new.seats long (many task old new st st') advance in
     let own = st.stands Collector tt in
     let before = lists_in old in
     let after = lists_among lists_of cast new.seats in
     let now = related_at HasRun cast (cores_in old) cores before after ran Collector own.0 own.1 in
     let numbers : core_in new.cast cores Collector ≡ core_in cast cores Collector =
-    ap (λ c. core_in c cores Collector) (same_cast input setting (first_rest setting) old new st st') in
+    ap (λ c. core_in c cores Collector) (same_cast task old new st st') in
     let one : Player = record { core = own.0; lists = before Collector } in
     let other : Player = record { core = now.0; lists = after Collector } in
     let given = runs_given now.2.count one other now.2.runs in
@@ -147,8 +144,8 @@ module _ (v : SeatsView) (joined : AreJoined v.cast (map frame_of v.seats)) (pla
       of_lists StandsAs v.cast (cores_in v) (cores_in after) (lists_in v) (lists_in after) all_as
       (λ ls ls'. ls' ≡ ls) (λ ls ls' is. is) (λ x y same. same.lists)
 
-  -- seats that stood for a run of some input and setting stand for it still
-  pub stands_kept : (input : Input) (setting : Setting) → StandsFor input setting v → StandsFor input setting after
+  -- seats that stood for a task stand for it still
+  pub stands_kept : (task : Task) → StandsFor task v → StandsFor task after
   stands_kept =
       still_stand StandsAs v.cast (cores_in v) (cores_in after) (lists_in v) (lists_in after) all_as
       (λ x y same start st. subst (λ ls. Stands start ls y.core) (sym same.lists) (same.stands start x.lists st))
@@ -177,7 +174,7 @@ module _ (v : SeatsView) (joined : AreJoined v.cast (map frame_of v.seats)) (pla
     gathered = gathered_kept settled.gathered;
   }
 
-  module _ (input : Input) (setting : Setting) (st : StandsFor input setting v) (pairs : List Pair)
+  module _ (task : Task) (st : StandsFor task v) (pairs : List Pair)
       (gives : Gives s.core t.core pairs) where
     -- the collector's machine is that of the last seat
     own : core_in v.cast (cores_in v) Collector ≡ Some s.core
@@ -186,17 +183,18 @@ module _ (v : SeatsView) (joined : AreJoined v.cast (map frame_of v.seats)) (pla
         ∙ (ap (slice_get (cores_in v)) (sym last) ∙ (core_at (λ (x : SeatView). x.core) v.seats place s low
         ∙ ap (λ (x : SeatView). Some x.core) (sym is)))
 
-    stood : Stands (OfCollector (2 ^ setting.k)) (lists_in v Collector) s.core
+    stood : Stands (OfCollector (2 ^ task.setting.k)) (lists_in v Collector) s.core
     stood =
         let one = st.stands Collector tt in
-        subst (Stands (OfCollector (2 ^ setting.k)) (lists_in v Collector)) (some_is one.0 s.core (sym one.1 ∙ own))
+        subst (Stands (OfCollector (2 ^ task.setting.k)) (lists_in v Collector))
+        (some_is one.0 s.core (sym one.1 ∙ own))
         one.2
 
     -- where the pairs of earlier lists were given and no others, the collector gives those since, in some order
-    pub gives_since : (earlier : CollectorLists) → AreGiven (2 ^ setting.k) earlier (given_in v)
-        → IsPermutation (pairs_since (2 ^ setting.k) earlier (collected_in v)) pairs
-    gives_since earlier gave = gives.gives (2 ^ setting.k) earlier (lists_in v Collector) stood
-        (subst (AreGiven (2 ^ setting.k) earlier) (ap given_at own) gave)
+    pub gives_since : (earlier : CollectorLists) → AreGiven (2 ^ task.setting.k) earlier (given_in v)
+        → IsPermutation (pairs_since (2 ^ task.setting.k) earlier (collected_in v)) pairs
+    gives_since earlier gave = gives.gives (2 ^ task.setting.k) earlier (lists_in v Collector) stood
+        (subst (AreGiven (2 ^ task.setting.k) earlier) (ap given_at own) gave)
 
     own_after : core_in v.cast (cores_in after) Collector ≡ Some t.core
     own_after =
@@ -206,6 +204,6 @@ module _ (v : SeatsView) (joined : AreJoined v.cast (map frame_of v.seats)) (pla
         ∙ ap (λ (x : SeatView). Some x.core) (get_or-set_same v.seats place t t low))))
 
     -- and then all pairs that it took are given
-    pub all_given : AreGiven (2 ^ setting.k) (collected_in v) (given_in after)
-    all_given = subst (AreGiven (2 ^ setting.k) (collected_in v)) (sym (ap given_at own_after))
-        (gives.given (2 ^ setting.k) (lists_in v Collector) stood)
+    pub all_given : AreGiven (2 ^ task.setting.k) (collected_in v) (given_in after)
+    all_given = subst (AreGiven (2 ^ task.setting.k) (collected_in v)) (sym (ap given_at own_after))
+        (gives.given (2 ^ task.setting.k) (lists_in v Collector) stood)

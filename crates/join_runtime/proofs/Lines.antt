@@ -20,15 +20,16 @@ use Rattle.pair_collector.proofs.Fresh.{since_joins}
 use Rattle.trace_law.specs.declared.input.Input.{Input}
 use Rattle.trace_law.specs.declared.setting.Setting.{Setting}
 use Rattle.trace_law.specs.Join.{nested_loop, wave_pairs}
-use Rattle.trace_law.specs.Family.{first_rest}
-use Rattle.trace_law.proofs.First.{all_pairs, stands as first_stands}
+use Rattle.trace_law.proofs.First.{all_pairs}
 use Rattle.trace_law.specs.Laws.{AnswersInTheEnd, TakesNothingWrong}
 use Rattle.trace_law.specs.Validity.{IsValid}
-use Rattle.actor_core.specs.Families.{AreFronts, family_of}
+use Rattle.actor_core.specs.Families.{family_of}
 use Rattle.actor_core.specs.Lists.{ActorLists, collector_lists, no_lists}
 use Rattle.join_report.specs.PairLines.{pair_lines}
 use Rattle.actor_core.specs.Players.{Extends, IsFinishedFamily}
+use Rattle.actor_core.specs.Tasks.{IsTask, Task, task_of}
 use Rattle.actor_core.proofs.CompleteAnswer.{agrees}
+use Rattle.actor_core.proofs.Tasks.{first_is_task}
 use Rattle.join_runtime.specs.Bouts.{AllAdvance, SeatsView, StandsFor, cores_in, lists_in}
 use Rattle.join_runtime.specs.Endings.{family_in}
 use Rattle.join_runtime.specs.Early.{AreGiven, WroteEach, WroteSome, collected_in, given_in}
@@ -41,13 +42,16 @@ use Rattle.join_runtime.proofs.Written.{room_within, same_long, some_written, wr
 abbrev pub taken_in : Setting → SeatsView → List Pair
 taken_in setting v = pairs_taken (2 ^ setting.k) (collected_in v)
 
--- each of them was given, and its line put; what had room for the lines has room for what comes behind them
-pub record HasPut (input : Input) (setting : Setting) (v : SeatsView) (bouts : ℕ) (old new : Option (List ℕ))
+-- of a task whose pairs are those of the nested loop: each of them was given, and its line put; what had room for the
+-- lines has room for what comes behind them
+pub record HasPut (task : Task) (v : SeatsView) (bouts : ℕ) (old new : Option (List ℕ))
     (room room' : ℕ → Type 0) : Type 0 where
-  pub way : IsUnderWay input setting v bouts
-  pub given : AreGiven (2 ^ setting.k) (collected_in v) (given_in v)
-  pub written : HasWritten (taken_in setting v) old new
-  pub takes : (more : ℕ) → room (length (pair_lines (taken_in setting v)) + more) → room' more
+  pub is_task : IsTask task
+  pub whole : wave_pairs task.input task.rest.line ≡ nested_loop task.input
+  pub way : IsUnderWay task v bouts
+  pub given : AreGiven (2 ^ task.setting.k) (collected_in v) (given_in v)
+  pub written : HasWritten (taken_in task.setting v) old new
+  pub takes : (more : ℕ) → room (length (pair_lines (taken_in task.setting v)) + more) → room' more
 
 -- ---- at the beginning
 
@@ -55,17 +59,21 @@ gather_none : {X : Type 0} (n : ℕ) (xs : ℕ → List X) → ((j : ℕ) → xs
 gather_none zero xs none = refl
 gather_none (suc n) xs none = ap (λ ys. ys ++ xs n) (gather_none n xs none) ∙ none n
 
--- before the first bout, seats that stand for empty lists and gave nothing have put no line, and the room is the same
-pub nothing_put : (input : Input) (setting : Setting) (v : SeatsView) (old : Option (List ℕ)) (room : ℕ → Type 0)
-    → StandsFor input setting v → ((a : Actor) → lists_in v a ≡ no_lists)
-    → AreGiven (2 ^ setting.k) nothing_yet (given_in v) → HasPut input setting v 0 old old room room
-nothing_put input setting v old room stands empty given =
+-- before the first bout of a run, seats that stand for empty lists and gave nothing have put no line, and the room is
+-- the same
+pub nothing_put : (input : Input) (setting : Setting) → IsValid input setting → (v : SeatsView)
+    (old : Option (List ℕ)) (room : ℕ → Type 0)
+    → StandsFor (task_of input setting) v → ((a : Actor) → lists_in v a ≡ no_lists)
+    → AreGiven (2 ^ setting.k) nothing_yet (given_in v) → HasPut (task_of input setting) v 0 old old room room
+nothing_put input setting valid v old room stands empty given =
     let none : taken_in setting v ≡ [] =
     ap (λ (ls : ActorLists). pairs_taken (2 ^ setting.k) (collector_lists ls)) (empty Collector)
     ∙ gather_none (2 ^ setting.k) (λ j. []) (λ j. refl) in
     let short : length (pair_lines (taken_in setting v)) ≡ 0 = ap (λ ps. length (pair_lines ps)) none in
     record {
-      way = begun input setting v stands empty;
+      is_task = first_is_task input setting valid;
+      whole = all_pairs input setting;
+      way = begun (task_of input setting) v stands empty;
       given = subst (λ (ls : ActorLists). AreGiven (2 ^ setting.k) (collector_lists ls) (given_in v))
           (sym (empty Collector)) given;
       written = nothing_written (taken_in setting v) old old none refl;
@@ -75,21 +83,21 @@ nothing_put input setting v old room stands empty given =
 
 -- ---- a front of the lines
 
-right : TakesNothingWrong → (input : Input) (setting : Setting) → IsValid input setting → (v : SeatsView)
-    → StandsFor input setting v → AreFronts (lists_in v) → IsWithinBag (taken_in setting v) (nested_loop input)
-right law input setting valid v stands fronts =
-    subst (IsWithinBag (taken_in setting v)) (all_pairs input setting)
-    (law input setting (first_rest setting) (family_in v) valid (first_stands input setting valid)
-    (agrees input setting v.cast (cores_in v) (lists_in v) stands fronts))
+right : TakesNothingWrong → (task : Task) → IsTask task → wave_pairs task.input task.rest.line ≡ nested_loop task.input
+    → (v : SeatsView) (bouts : ℕ) → IsUnderWay task v bouts
+    → IsWithinBag (taken_in task.setting v) (nested_loop task.input)
+right law task is_task whole v bouts way =
+    subst (IsWithinBag (taken_in task.setting v)) whole
+    (law task.input task.setting task.rest (family_in v) is_task.valid is_task.begins
+    (agrees task v.cast (cores_in v) (lists_in v) way.stands way.fronts))
 
--- where a run of a valid input and setting has put the lines of the pairs taken so far, these are lines of the nested
--- loop's pairs, none of them more often than it has it
-pub some_put : TakesNothingWrong → (input : Input) (setting : Setting) → IsValid input setting
-    → (v : SeatsView) (bouts : ℕ) (old new : Option (List ℕ)) (room room' : ℕ → Type 0)
-    → HasPut input setting v bouts old new room room' → WroteSome input old new
-some_put law input setting valid v bouts old new room room' put =
-    some_written input (taken_in setting v) old new (right law input setting valid v put.way.stands put.way.fronts)
-    put.written
+-- where the lines of the pairs taken so far were put, these are lines of the nested loop's pairs, none of them more
+-- often than it has it
+pub some_put : TakesNothingWrong → (task : Task) (v : SeatsView) (bouts : ℕ) (old new : Option (List ℕ))
+    (room room' : ℕ → Type 0) → HasPut task v bouts old new room room' → WroteSome task.input old new
+some_put law task v bouts old new room room' put =
+    some_written task.input (taken_in task.setting v) old new
+    (right law task put.is_task put.whole v bouts put.way) put.written
 
 -- where nothing was put, a front of the lines of no pairs was
 pub none_put : (input : Input) (old new : Option (List ℕ)) → new ≡ old → WroteSome input old new
@@ -106,94 +114,108 @@ typed_front kind xs ys front = record {
 }
 
 -- a bout leads from `v` to `middle`, whose collector gives these pairs
-module _ (input : Input) (setting : Setting) (v middle : SeatsView) (bouts bouts' : ℕ) (old now : Option (List ℕ))
-    (room room' : ℕ → Type 0) (before : HasPut input setting v bouts old now room room')
-    (way : IsUnderWay input setting middle bouts') (advance : AllAdvance v.seats middle.seats)
+module _ (task : Task) (v middle : SeatsView) (bouts bouts' : ℕ) (old now : Option (List ℕ))
+    (room room' : ℕ → Type 0) (before : HasPut task v bouts old now room room')
+    (way : IsUnderWay task middle bouts') (advance : AllAdvance v.seats middle.seats)
     (extends : Extends (lists_in v) (lists_in middle)) (fresh : List Pair)
-    (gives : (earlier : CollectorLists) → StandsFor input setting middle
-    → AreGiven (2 ^ setting.k) earlier (given_in middle)
-    → IsPermutation (pairs_since (2 ^ setting.k) earlier (collected_in middle)) fresh) where
-  moved : IsPermutation (pairs_since (2 ^ setting.k) (collected_in v) (collected_in middle)) fresh
-  moved = gives (collected_in v) way.stands (subst (AreGiven (2 ^ setting.k) (collected_in v))
-      (sym (given_kept input setting v middle before.way.stands way.stands advance)) before.given)
+    (gives : (earlier : CollectorLists) → StandsFor task middle
+    → AreGiven (2 ^ task.setting.k) earlier (given_in middle)
+    → IsPermutation (pairs_since (2 ^ task.setting.k) earlier (collected_in middle)) fresh) where
+  abbrev taken : List Pair
+  taken = taken_in task.setting v
 
-  all : SameBag (taken_in setting v ++ pairs_since (2 ^ setting.k) (collected_in v) (collected_in middle))
-      (taken_in setting middle)
-  all = since_joins (2 ^ setting.k) (collected_in v) (collected_in middle)
+  abbrev taken' : List Pair
+  taken' = taken_in task.setting middle
+
+  abbrev since : List Pair
+  since = pairs_since (2 ^ task.setting.k) (collected_in v) (collected_in middle)
+
+  moved : IsPermutation since fresh
+  moved = gives (collected_in v) way.stands (subst (AreGiven (2 ^ task.setting.k) (collected_in v))
+      (sym (given_kept task v middle before.way.stands way.stands advance)) before.given)
+
+  all : SameBag (taken ++ since)
+      taken'
+  all = since_joins (2 ^ task.setting.k) (collected_in v) (collected_in middle)
       (λ j low. typed_front collector_msg ((lists_in v Collector).received (Joiner j))
       ((lists_in middle Collector).received (Joiner j)) (extends.received (Joiner j) Collector))
 
+  within : TakesNothingWrong → IsWithinBag taken' (nested_loop task.input)
+  within law = right law task before.is_task before.whole middle bouts' way
+
   -- where of the lines of the pairs given in a bout a front was put, what was put in all is a front of the lines of
   -- pairs of the nested loop
-  pub fresh_cut : TakesNothingWrong → IsValid input setting → (new : Option (List ℕ))
-      → AppendsFront now new (pair_lines fresh) → WroteSome input old new
-  fresh_cut law valid new front =
-      cut_written (taken_in setting v) (pairs_since (2 ^ setting.k) (collected_in v) (collected_in middle))
-      (taken_in setting middle) fresh moved all old now before.written input new
-      (right law input setting valid middle way.stands way.fronts) front
+  pub fresh_cut : TakesNothingWrong → (new : Option (List ℕ)) → AppendsFront now new (pair_lines fresh)
+      → WroteSome task.input old new
+  fresh_cut law new front =
+      cut_written taken since
+      taken' fresh moved all old now before.written task.input new
+      (within law) front
 
   -- what had room for the lines of the nested loop and more still has room, after the lines of earlier bouts, for those
   -- of this one, for those of the nested loop's pairs still to come, and for the same more
-  pub fresh_room : TakesNothingWrong → IsValid input setting → (more : ℕ)
-      → room (length (pair_lines (nested_loop input)) + more)
-      → room' (length (pair_lines fresh) + (length (pair_lines (nested_loop input))
-      - length (pair_lines (taken_in setting middle)) + more))
-  fresh_room law valid more has =
-      before.takes (length (pair_lines fresh) + (length (pair_lines (nested_loop input))
-      - length (pair_lines (taken_in setting middle)) + more))
-      (room_within (taken_in setting v) (pairs_since (2 ^ setting.k) (collected_in v) (collected_in middle))
-      (taken_in setting middle) fresh moved all room (nested_loop input) more
-      (right law input setting valid middle way.stands way.fronts) has)
+  pub fresh_room : TakesNothingWrong → (more : ℕ)
+      → room (length (pair_lines (nested_loop task.input)) + more)
+      → room' (length (pair_lines fresh) + (length (pair_lines (nested_loop task.input))
+      - length (pair_lines taken') + more))
+  fresh_room law more has =
+      before.takes (length (pair_lines fresh) + (length (pair_lines (nested_loop task.input))
+      - length (pair_lines taken') + more))
+      (room_within taken since
+      taken' fresh moved all room (nested_loop task.input) more
+      (within law) has)
 
   -- where all lines of the pairs given in a bout were put, and the seats have the same lists after the giving, the run
   -- has put the line of each pair taken so far
   pub fresh_put : (after : SeatsView) → ((a : Actor) → lists_in after a ≡ lists_in middle a)
-      → (StandsFor input setting middle → StandsFor input setting after)
-      → (StandsFor input setting middle → AreGiven (2 ^ setting.k) (collected_in middle) (given_in after))
+      → (StandsFor task middle → StandsFor task after)
+      → (StandsFor task middle → AreGiven (2 ^ task.setting.k) (collected_in middle) (given_in after))
       → (new : Option (List ℕ)) → new ≡ append_known now (pair_lines fresh)
       → (room'' : ℕ → Type 0) → ((more : ℕ) → room' (length (pair_lines fresh) + more) → room'' more)
-      → HasPut input setting after bouts' old new room room''
+      → HasPut task after bouts' old new room room''
   fresh_put after same keeps given new is room'' takes =
       let alike : lists_in middle Collector ≡ lists_in after Collector = sym (same Collector) in
       record {
-        way = same_lists input setting middle after bouts' same keeps way;
-        given = subst (λ (ls : ActorLists). AreGiven (2 ^ setting.k) (collector_lists ls) (given_in after)) alike
+        is_task = before.is_task;
+        whole = before.whole;
+        way = same_lists task middle after bouts' same keeps way;
+        given = subst (λ (ls : ActorLists). AreGiven (2 ^ task.setting.k) (collector_lists ls) (given_in after)) alike
             (given way.stands);
-        written = subst (λ (ls : ActorLists). HasWritten (pairs_taken (2 ^ setting.k) (collector_lists ls)) old new)
+        written = subst (λ (ls : ActorLists). HasWritten (pairs_taken (2 ^ task.setting.k) (collector_lists ls))
+            old new)
             alike
-            (written_more (taken_in setting v) (pairs_since (2 ^ setting.k) (collected_in v) (collected_in middle))
-            (taken_in setting middle) fresh moved all old now before.written new is);
+            (written_more taken since
+            taken' fresh moved all old now before.written new is);
         takes = λ more has.
-            let long : length (pair_lines (taken_in setting after)) ≡ length (pair_lines (taken_in setting middle)) =
-            ap (λ (ls : ActorLists). length (pair_lines (pairs_taken (2 ^ setting.k) (collector_lists ls))))
+            let long : length (pair_lines (taken_in task.setting after)) ≡ length (pair_lines taken') =
+            ap (λ (ls : ActorLists). length (pair_lines (pairs_taken (2 ^ task.setting.k) (collector_lists ls))))
             (sym alike) in
             takes more (before.takes (length (pair_lines fresh) + more)
-            (room_behind (taken_in setting v) (pairs_since (2 ^ setting.k) (collected_in v) (collected_in middle))
-            (taken_in setting middle) fresh moved all room more (subst (λ n. room (n + more)) long has)));
+            (room_behind taken since
+            taken' fresh moved all room more (subst (λ n. room (n + more)) long has)));
       }
 
 -- ---- at the end
 
-module _ (law : AnswersInTheEnd) (input : Input) (setting : Setting) (valid : IsValid input setting) (v : SeatsView)
-    (bouts : ℕ) (old new : Option (List ℕ)) (room room' : ℕ
-    → Type 0) (put : HasPut input setting v bouts old new room room')
-    (journal : List TurnLine) (lists : Actor → ActorLists) (same : (a : Actor)
-    → lists a ≡ lists_in v a) (family : IsFinishedFamily input setting journal lists) where
-  all_taken : SameBag (taken_in setting v) (nested_loop input)
+-- the lists that are left are a finished family
+module _ (law : AnswersInTheEnd) (task : Task) (v : SeatsView) (bouts : ℕ) (old new : Option (List ℕ))
+    (room room' : ℕ → Type 0) (put : HasPut task v bouts old new room room')
+    (journal : List TurnLine) (lists : Actor → ActorLists) (same : (a : Actor) → lists a ≡ lists_in v a)
+    (family : IsFinishedFamily task journal lists) where
+  all_taken : SameBag (taken_in task.setting v) (nested_loop task.input)
   all_taken =
-      let answer = law input setting (first_rest setting) (family_of journal lists) valid
-      (first_stands input setting valid) family.agrees family.finished in
-      subst (λ (ls : ActorLists). SameBag (pairs_taken (2 ^ setting.k) (collector_lists ls)) (nested_loop input))
-      (same Collector)
-      (subst (SameBag (pairs_taken (2 ^ setting.k) (collector_lists (lists Collector)))) (all_pairs input setting)
-      answer.pairs)
+      let answer = law task.input task.setting task.rest (family_of journal lists) put.is_task.valid
+      put.is_task.begins family.agrees family.finished in
+      subst (λ (ls : ActorLists). SameBag (pairs_taken (2 ^ task.setting.k) (collector_lists ls))
+      (nested_loop task.input)) (same Collector)
+      (subst (SameBag (pairs_taken (2 ^ task.setting.k) (collector_lists (lists Collector)))) put.whole answer.pairs)
 
-  -- at the end, the lines of all pairs of the run were put, each whole, in some order
-  pub each_put : (pairs : List Pair) → pairs ≡ wave_pairs input (first_rest setting).line → WroteEach pairs old new
-  each_put pairs are = each_written input (taken_in setting v) pairs old new all_taken (are ∙ all_pairs input setting)
+  -- the lines of all pairs of the run were put, each whole, in some order
+  pub each_put : (pairs : List Pair) → pairs ≡ wave_pairs task.input task.rest.line → WroteEach pairs old new
+  each_put pairs are = each_written task.input (taken_in task.setting v) pairs old new all_taken (are ∙ put.whole)
       put.written
 
-  -- at the end, what had room for the lines of the nested loop and more has room for the same more
-  pub room_left : (more : ℕ) → room (length (pair_lines (nested_loop input)) + more) → room' more
+  -- what had room for the lines of the nested loop and more has room for the same more
+  pub room_left : (more : ℕ) → room (length (pair_lines (nested_loop task.input)) + more) → room' more
   room_left more has = put.takes more (subst (λ n. room (n + more))
-      (same_long (nested_loop input) (taken_in setting v) (SameBag-sym all_taken)) has)
+      (same_long (nested_loop task.input) (taken_in task.setting v) (SameBag-sym all_taken)) has)

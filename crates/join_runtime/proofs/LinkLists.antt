@@ -1,5 +1,5 @@
 -- What was received and sent between two actors of a run, once the two ends of each link were held together.
-use Rattle.std.proofs.Common.{◌≡◌, ◌≢◌, ℕ, ◌+◌, ◌<◌, ◌⊎◌, inl, inr, true≢false, refl, sym, ap, subst, ◌∙◌, Bool, true}
+use Rattle.std.proofs.Common.{◌≡◌, ◌≢◌, ℕ, ◌<◌, ◌⊎◌, inl, inr, true≢false, refl, sym, ap, subst, ◌∙◌, Bool, true}
 use Rattle.std.proofs.Common.{false, Option, Some, None, List, [], ◌∷◌, ◌++◌, get_or, map, length, append-nil, arith}
 use Rattle.std.specs.Prelude.{slice_get, IsSome}
 use Rattle.std.proofs.lemmas.List.{length-map, length-append, map-append}
@@ -10,26 +10,23 @@ use Rattle.epoch_tags.specs.declared.message.Msg.{Msg}
 use Rattle.epoch_tags.specs.declared.message.Envelope.{Envelope}
 use Rattle.ruled_links.specs.Ends.{Sending}
 use Rattle.ruled_links.specs.Inboxes.{messages_of, is_sender, fresh, all_known}
-use Rattle.trace_law.specs.declared.input.Input.{Input}
-use Rattle.trace_law.specs.declared.setting.Setting.{Setting}
-use Rattle.trace_law.specs.Validity.{IsValid}
 use Rattle.trace_law.specs.Laws.{QuietIsFinished}
-use Rattle.trace_law.specs.Family.{IsRestFor, Rest}
 use Rattle.actor_core.specs.Lists.{ActorLists, no_lists}
 use Rattle.actor_core.specs.Families.{AreFronts, core_in}
 use Rattle.actor_core.specs.Standing.{Waits}
 use Rattle.actor_core.specs.Numbers.{actor_at, at_number, count_of, number}
 use Rattle.actor_core.specs.Players.{lists_at}
 use Rattle.actor_core.specs.declared.machines.Core.{Core}
+use Rattle.actor_core.specs.Tasks.{IsTask, Task}
 use Rattle.actor_core.proofs.OwnNumbers.{number_actor, none_some, some_is, number_there}
 use Rattle.actor_core.proofs.Beginnings.{there}
 use Rattle.actor_core.proofs.Seated.{core_there, number_low, lists_there as seat_lists}
-use Rattle.actor_core.proofs.Stilled.{still_complete_in_wave}
+use Rattle.actor_core.proofs.Stilled.{still_complete}
 use Rattle.join_runtime.specs.Views.{SeatView, Frame, lists_of, frame_of, address_of, contents, received_of, sent_by}
 use Rattle.join_runtime.specs.Views.{sent_at, sent_through}
 use Rattle.join_runtime.specs.Joins.{AreJoined, ActorsDiffer, Leads, AreSettled, HasMouthTo, IsKnown, IsGathered, Knows}
 use Rattle.join_runtime.specs.Joins.{slot_of}
-use Rattle.join_runtime.specs.Bouts.{SeatsView, StandsInWave, cores_in, lists_in, AllRest, IsReady, IsStill}
+use Rattle.join_runtime.specs.Bouts.{SeatsView, StandsFor, cores_in, lists_in, AllRest, IsReady, IsStill}
 use Rattle.join_runtime.specs.Bouts.{SomeReady}
 use Rattle.join_runtime.specs.Endings.{is_collected}
 use Rattle.join_runtime.proofs.KnownCounts.{is_sender-named, knows_none, knows_some}
@@ -292,13 +289,12 @@ module _ (v : SeatsView) (joined : AreJoined v.cast (map frame_of v.seats))
           subst Waits same (rest n d low).waits
 
   -- so the collector is complete
-  pub rest_collected : AllRest v.seats → QuietIsFinished → (input : Input) (setting : Setting) (from : Rest)
-      → IsValid input setting → IsRestFor input setting from → StandsInWave input setting from v
+  pub rest_collected : AllRest v.seats → QuietIsFinished → (task : Task) → IsTask task → StandsFor task v
       → is_collected v ≡ true
-  rest_collected rest law input setting from valid begins stands =
-      still_complete_in_wave input setting from v.cast (cores_in v) (lists_in v) stands
+  rest_collected rest law task is_task stands =
+      still_complete task v.cast (cores_in v) (lists_in v) stands
       (fronts v joined settled) (λ from to link. all_received v joined settled rest from to)
-      (λ p low core is. waits_there rest (Feeder p) core is) law valid begins
+      (λ p low core is. waits_there rest (Feeder p) core is) law is_task
 
   -- where all rest, nothing is left on any link, and no machine would begin
   pub still : AllRest v.seats → IsStill v

@@ -1,5 +1,5 @@
 -- Where mouths all came to their senders, one stands exactly where there is a link.
-use Rattle.std.proofs.Common.{◌≡◌, ℕ, ◌+◌, ◌<◌, ◌^◌, ◌↔◌, refl, sym, ap, subst, ◌∙◌, Bool, Option, Some, None, List}
+use Rattle.std.proofs.Common.{◌≡◌, ℕ, ◌<◌, ◌^◌, ◌↔◌, refl, sym, ap, subst, ◌∙◌, Bool, Option, Some, None, List}
 use Rattle.std.proofs.Common.{get_or, length, true≢false}
 use Rattle.std.specs.Prelude.{slice_get, IsSome, Contains}
 use Rattle.std.proofs.Math.Pow.{pow-lt}
@@ -11,6 +11,7 @@ use Rattle.epoch_tags.specs.Links.{joiner_controller, joiner_collector}
 use Rattle.ruled_links.specs.Ends.{Sending}
 use Rattle.ruled_links.specs.Inboxes.{opened}
 use Rattle.trace_law.specs.declared.setting.Setting.{Setting}
+use Rattle.actor_core.specs.declared.cast.Cast.{Cast}
 use Rattle.actor_core.specs.declared.machines.Core.{Core}
 use Rattle.actor_core.specs.Families.{IsActor}
 use Rattle.actor_core.specs.Numbers.{at_number, cast_of, count_of, number}
@@ -18,7 +19,7 @@ use Rattle.actor_core.proofs.OwnNumbers.{number_actor}
 use Rattle.join_runtime.specs.Views.{SeatView}
 use Rattle.join_runtime.specs.Joins.{slot_of}
 use Rattle.join_runtime.specs.Bouts.{SeatsView, mouth_at, mouth_of, seat_of}
-use Rattle.join_runtime.specs.Seating.{AreNew, AreFilled}
+use Rattle.join_runtime.specs.Seating.{AreNew, AreFilled, AreSeated}
 use Rattle.join_runtime.proofs.FreshSenders.{contains_map, map_contains}
 use Rattle.actor_core.proofs.Beginnings.{has_number, there}
 use Rattle.actor_core.proofs.Seated.{number_low}
@@ -34,35 +35,49 @@ actors_linked setting _ _ (feeder_controller low) = (low, tt)
 actors_linked setting _ _ (joiner_controller low) = (low, tt)
 actors_linked setting _ _ (joiner_collector low) = (low, tt)
 
-module _ (setting : Setting) (count : ℕ) (cores : List Core) (first seats : List SeatView)
-    (mouths : List (List Sending)) (new : AreNew (cast_of setting) count cores first mouths)
-    (filled : AreFilled (cast_of setting) count mouths first seats)
-    (many : count ≡ count_of (cast_of setting)) where
+-- the seats for the machines of a run's actors
+module _ (setting : Setting) (cores : List Core) (seats : List SeatView)
+    (seated : AreSeated (cast_of setting) cores seats) (many : length cores ≡ count_of (cast_of setting)) where
+  abbrev cast : Cast
+  cast = cast_of setting
+
+  abbrev count : ℕ
+  count = length cores
+
+  abbrev first : List SeatView
+  first = seated.first
+
+  abbrev new : AreNew cast count cores first seated.mouths
+  new = seated.new
+
+  filled : AreFilled cast count seated.mouths first seats
+  filled = subst (λ n. AreFilled cast n seated.mouths first seats) new.each seated.filled
+
   long : length seats ≡ count
   long = filled.all ∙ new.all
 
   module _ (spent : Bool) where
     -- these seats as those of a run, spent or not
     abbrev pub v : SeatsView
-    v = record { cast = cast_of setting; seats = seats; spent = spent }
+    v = record { cast = cast; seats = seats; spent = spent }
 
-    mouth_is : (from to : Actor) (n r : ℕ) (d : SeatView) → number (cast_of setting) from ≡ Some n
-        → number (cast_of setting) to ≡ Some r → n < length seats
+    mouth_is : (from to : Actor) (n r : ℕ) (d : SeatView) → number cast from ≡ Some n
+        → number cast to ≡ Some r → n < length seats
         → mouth_of v from to ≡ slot_of seats d n r
     mouth_is from to n r d is is' low =
         ap (λ (o : Option ℕ). mouth_at (at_number None o (λ k. slice_get seats k))
-        (number (cast_of setting) to)) is
+        (number cast to)) is
         ∙ ap (mouth_at (slice_get seats n)) is'
         ∙ ap (λ (o : Option SeatView). mouth_at o (Some r)) (slice_get-get_or seats n d low)
 
-    low_number : (a : Actor) (n : ℕ) → number (cast_of setting) a ≡ Some n → n < count
-    low_number a n is = subst (λ z. n < z) (sym many) (number_low (cast_of setting) a n is)
+    low_number : (a : Actor) (n : ℕ) → number cast a ≡ Some n → n < count
+    low_number a n is = subst (λ z. n < z) (sym many) (number_low cast a n is)
 
     link_of : (from to : Actor) → IsSome (mouth_of v from to) → HasLink setting.k setting.feeders from to
-    link_of from to some = go (number (cast_of setting) from) refl
+    link_of from to some = go (number cast from) refl
       where
-        by_mouth : (n r : ℕ) (d : SeatView) → number (cast_of setting) from ≡ Some n
-            → number (cast_of setting) to ≡ Some r → n < count → (slot : Option Sending)
+        by_mouth : (n r : ℕ) (d : SeatView) → number cast from ≡ Some n
+            → number cast to ≡ Some r → n < count → (slot : Option Sending)
             → slot_of seats d n r ≡ slot → IsSome slot → HasLink setting.k setting.feeders from to
         by_mouth n r d is is' low None slot none = absurd (true≢false (sym none))
         by_mouth n r d is is' low (Some mouth) slot there' =
@@ -73,18 +88,18 @@ module _ (setting : Setting) (count : ℕ) (cores : List Core) (first seats : Li
             (subst (λ ms. Contains ms mouth) one.mouths_are own.1.one) in
             let from_is : found.0 ≡ from =
             ap (λ (m : Sending). m.from) found.2
-            ∙ (sym (number_actor (cast_of setting) mouth.from n own.1.sender)
-            ∙ number_actor (cast_of setting) from n is) in
+            ∙ (sym (number_actor cast mouth.from n own.1.sender)
+            ∙ number_actor cast from n is) in
             subst (λ a. HasLink setting.k setting.feeders a to) from_is
-            (subst (HasLink setting.k setting.feeders found.0) (number_actor (cast_of setting) to r is')
+            (subst (HasLink setting.k setting.feeders found.0) (number_actor cast to r is')
             (one.links.sound setting.k refl found.0 found.1))
 
         nowhere : (o : Option SeatView) → mouth_at o None ≡ None
         nowhere None = refl
         nowhere (Some seat) = refl
 
-        to_there : (n : ℕ) → number (cast_of setting) from ≡ Some n → (o : Option ℕ)
-            → number (cast_of setting) to ≡ o → HasLink setting.k setting.feeders from to
+        to_there : (n : ℕ) → number cast from ≡ Some n → (o : Option ℕ)
+            → number cast to ≡ o → HasLink setting.k setting.feeders from to
         to_there n is None is' =
             absurd (true≢false (sym (subst IsSome (ap (mouth_at (seat_of v from)) is' ∙ nowhere (seat_of v from))
             some)))
@@ -95,17 +110,17 @@ module _ (setting : Setting) (count : ℕ) (cores : List Core) (first seats : Li
             by_mouth n r d is is' low (slot_of seats d n r) refl
             (subst IsSome (mouth_is from to n r d is is' low') some)
 
-        go : (o : Option ℕ) → number (cast_of setting) from ≡ o
+        go : (o : Option ℕ) → number cast from ≡ o
             → HasLink setting.k setting.feeders from to
         go None is = absurd (true≢false
             (sym (subst IsSome (ap (λ (o : Option ℕ). mouth_at (at_number None o (λ k. slice_get seats k))
-            (number (cast_of setting) to)) is) some)))
-        go (Some n) is = to_there n is (number (cast_of setting) to) refl
+            (number cast to)) is) some)))
+        go (Some n) is = to_there n is (number cast to) refl
 
     -- at the seat of the one stands the mouth, at the number of the other
     pub slot_there : (from to : Actor) (n : ℕ) (d : SeatView) → HasLink setting.k setting.feeders from to
-        → number (cast_of setting) from ≡ Some n
-        → (r : ℕ) × (number (cast_of setting) to ≡ Some r) × IsSome (slot_of seats d n r)
+        → number cast from ≡ Some n
+        → (r : ℕ) × (number cast to ≡ Some r) × IsSome (slot_of seats d n r)
     slot_there from to n d link is =
         let ends = actors_linked setting from to link in
         let num' = has_number setting to ends.1 in
@@ -115,7 +130,7 @@ module _ (setting : Setting) (count : ℕ) (cores : List Core) (first seats : Li
         let inbox = (get_or first num'.0 d).inbox in
         let name = one.links.whole setting.k refl from n is (subst (λ z. n < z) many low_from)
         (subst (HasLink setting.k setting.feeders from)
-        (sym (number_actor (cast_of setting) to num'.0 num'.1)) link) in
+        (sym (number_actor cast to num'.0 num'.1)) link) in
         let has = subst (λ ms. Contains ms (opened inbox.link inbox.to from)) (sym one.mouths_are)
         (map_contains (opened inbox.link inbox.to) one.names from name) in
         let given = filled.has n num'.0 d (opened inbox.link inbox.to from) low (record { one = has; sender = is }) in

@@ -4,17 +4,15 @@ use Rattle.epoch_tags.specs.declared.actor.Actor.{Actor}
 use Rattle.epoch_tags.specs.declared.actor.Actor.TheVariants.{Feeder, Joiner, Controller, Collector}
 use Rattle.load_controller.specs.Standing.{ControllerState}
 use Rattle.pair_collector.specs.Standing.{CollectorState}
-use Rattle.trace_law.specs.declared.input.Input.{Input}
-use Rattle.trace_law.specs.declared.setting.Setting.{Setting}
-use Rattle.trace_law.specs.Family.{Rest}
 use Rattle.actor_core.specs.Effects.{core_after}
-use Rattle.actor_core.specs.Families.{start_in_wave}
+use Rattle.actor_core.specs.Families.{start_for}
 use Rattle.actor_core.specs.Lists.{ActorLists, Cause, Took, Began}
 use Rattle.actor_core.specs.Players.{Player, Runs}
 use Rattle.actor_core.specs.Standing.{Stands}
 use Rattle.actor_core.specs.declared.machines.Core.{Core}
 use Rattle.actor_core.specs.declared.machines.Core.TheVariants.{Feeder as TheFeeder, Joiner as TheJoiner}
 use Rattle.actor_core.specs.declared.machines.Core.TheVariants.{Controller as TheController, Collector as TheCollector}
+use Rattle.actor_core.specs.Tasks.{Task}
 use Rattle.join_runtime.specs.Kinds.{IsMachineOf}
 
 -- a machine for the controller is a controller's
@@ -32,24 +30,24 @@ collectors (TheController c) own = absurd own
 collectors (TheCollector c) own = (c, refl)
 
 -- a machine that began as this actor begins is one for it
-pub begins_own : (input : Input) (setting : Setting) (rest : Rest) (a : Actor) (ls : ActorLists) (core : Core)
-    → Stands (start_in_wave input setting rest a) ls core → IsMachineOf core a
-begins_own input setting rest (Feeder p) ls (TheFeeder f) st = tt
-begins_own input setting rest (Feeder p) ls (TheJoiner j) st = absurd st
-begins_own input setting rest (Feeder p) ls (TheController c) st = absurd st
-begins_own input setting rest (Feeder p) ls (TheCollector c) st = absurd st
-begins_own input setting rest (Joiner j) ls (TheFeeder f) st = absurd st
-begins_own input setting rest (Joiner j) ls (TheJoiner i) st = tt
-begins_own input setting rest (Joiner j) ls (TheController c) st = absurd st
-begins_own input setting rest (Joiner j) ls (TheCollector c) st = absurd st
-begins_own input setting rest Controller ls (TheFeeder f) st = absurd st
-begins_own input setting rest Controller ls (TheJoiner j) st = absurd st
-begins_own input setting rest Controller ls (TheController c) st = tt
-begins_own input setting rest Controller ls (TheCollector c) st = absurd st
-begins_own input setting rest Collector ls (TheFeeder f) st = absurd st
-begins_own input setting rest Collector ls (TheJoiner j) st = absurd st
-begins_own input setting rest Collector ls (TheController c) st = absurd st
-begins_own input setting rest Collector ls (TheCollector c) st = tt
+pub begins_own : (task : Task) (a : Actor) (ls : ActorLists) (core : Core)
+    → Stands (start_for task a) ls core → IsMachineOf core a
+begins_own task (Feeder p) ls (TheFeeder f) st = tt
+begins_own task (Feeder p) ls (TheJoiner j) st = absurd st
+begins_own task (Feeder p) ls (TheController c) st = absurd st
+begins_own task (Feeder p) ls (TheCollector c) st = absurd st
+begins_own task (Joiner j) ls (TheFeeder f) st = absurd st
+begins_own task (Joiner j) ls (TheJoiner i) st = tt
+begins_own task (Joiner j) ls (TheController c) st = absurd st
+begins_own task (Joiner j) ls (TheCollector c) st = absurd st
+begins_own task Controller ls (TheFeeder f) st = absurd st
+begins_own task Controller ls (TheJoiner j) st = absurd st
+begins_own task Controller ls (TheController c) st = tt
+begins_own task Controller ls (TheCollector c) st = absurd st
+begins_own task Collector ls (TheFeeder f) st = absurd st
+begins_own task Collector ls (TheJoiner j) st = absurd st
+begins_own task Collector ls (TheController c) st = absurd st
+begins_own task Collector ls (TheCollector c) st = tt
 
 -- an event leaves a machine of the kind that it was
 own_after : (cause : Cause) (core : Core) (a : Actor) → IsMachineOf core a → IsMachineOf (core_after cause core) a

@@ -1,30 +1,27 @@
 -- What a bout does to the seats of a run.
-use Rattle.std.proofs.Common.{◌≡◌, ℕ, ◌+◌, ◌<◌, inl, inr, refl, sym, ap, subst, ◌∙◌, Bool, true, false, true≢false}
-use Rattle.std.proofs.Common.{List, get_or, set, map, length, arith}
-use Rattle.std.specs.List.{SwappedAt}
+use Rattle.std.proofs.Common.{◌≡◌, ℕ, ◌<◌, inl, inr, refl, sym, ap, subst, ◌∙◌, Bool, true, false, true≢false}
+use Rattle.std.proofs.Common.{List, Ok, Result, get_or, set, map, length, arith}
+use Rattle.std.specs.declared.alloc.AllocError.{AllocError}
 use Rattle.std.proofs.lemmas.Bool.{cases_eq}
 use Rattle.std.proofs.lemmas.List.{get_or_default, get_or-set_other, get_or-set_same, length-map, length-set}
 use Rattle.join_rows.specs.Lists.{IsPrefix}
 use Rattle.epoch_tags.specs.declared.actor.Actor.{Actor}
-use Rattle.trace_law.specs.declared.input.Input.{Input}
 use Rattle.theta_pred.specs.Formula.{Meaning}
-use Rattle.trace_law.specs.declared.setting.Setting.{Setting}
-use Rattle.trace_law.specs.Family.{Rest}
 use Rattle.actor_core.specs.declared.cast.Cast.{Cast}
 use Rattle.actor_core.specs.Numbers.{count_of}
 use Rattle.actor_core.specs.Elements.{IsAllAt}
 use Rattle.actor_core.specs.Standing.{JoinsBy}
 use Rattle.actor_core.specs.Lists.{ActorLists}
 use Rattle.actor_core.specs.declared.machines.Core.{Core}
-use Rattle.actor_core.specs.Players.{AllStandInWave, AreLinked, Extends, journal_among, lists_among}
-use Rattle.actor_core.proofs.EventsCounted.{still_linked_in_wave}
+use Rattle.actor_core.specs.Players.{AllStand, AreLinked, Extends, journal_among, lists_among}
+use Rattle.actor_core.specs.Tasks.{Task}
+use Rattle.actor_core.proofs.EventsCounted.{still_linked}
 use Rattle.actor_core.proofs.Runs.{runs_live}
-use Rattle.actor_core.proofs.Seated.{AllRelate, HasRun, all_relate, extends, join_after, journal_grows}
-use Rattle.actor_core.proofs.Seated.{stand_after_in_wave}
+use Rattle.actor_core.proofs.Seated.{AllRelate, HasRun, all_relate, extends, join_after, journal_grows, stand_after}
 use Rattle.join_runtime.specs.Kinds.{IsMachineOf}
 use Rattle.join_runtime.specs.Views.{Frame, SeatView, frame_of, lists_of, player}
 use Rattle.join_runtime.specs.Turns.{Advances, AllStep, AllWork, IsAlike, Steps, Works}
-use Rattle.join_runtime.specs.Joins.{AreGathered, AreSettled}
+use Rattle.join_runtime.specs.Joins.{AreGathered, AreJoined, AreSettled}
 use Rattle.join_runtime.specs.Bouts.{AllAdvance, NoneSpent}
 use Rattle.join_runtime.proofs.SeatTurns.{advances_after, advances_alike, ends_hear, steps_joined, steps_none}
 use Rattle.join_runtime.proofs.FramePlaces.{frames_same}
@@ -126,19 +123,23 @@ all_ran cast old new long all advance =
 
 -- ---- a bout by its answer
 
+-- what a bout answers where it succeeds
+abbrev pub answer : Bool → Result Bool AllocError
+answer went = Ok went
+
 -- whether a bout's answer says that each seat advanced and the links are gathered, or that nothing changed, seats that
 -- were settled are settled still
 pub settled_after : (went : Bool) (old new : List SeatView) → length new ≡ length old
-    → (went ≡ true → AllAdvance old new) → (went ≡ true → AreGathered new) → (went ≡ false → new ≡ old) → AreSettled old
-    → AreSettled new
+    → (answer went ≡ answer true → AllAdvance old new) → (answer went ≡ answer true → AreGathered new)
+    → (answer went ≡ answer false → new ≡ old) → AreSettled old → AreSettled new
 settled_after true old new long advance gathered same settled =
     still_settled old new long (advance refl) (gathered refl) settled
 settled_after false old new long advance gathered same settled = subst AreSettled (sym (same refl)) settled
 
 -- the seats of a run, before a bout and after it
 module _ (went : Bool) (cast : Cast) (old new : List SeatView) (long : length new ≡ length old)
-    (all : length old ≡ count_of cast) (advance : went ≡ true → AllAdvance old new)
-    (same : went ≡ false → new ≡ old) where
+    (joined : AreJoined cast (map frame_of old)) (advance : answer went ≡ answer true → AllAdvance old new)
+    (same : answer went ≡ answer false → new ≡ old) where
   abbrev cores_of : List SeatView → List Core
   cores_of seats = map (λ (s : SeatView). s.core) seats
 
@@ -148,15 +149,18 @@ module _ (went : Bool) (cast : Cast) (old new : List SeatView) (long : length ne
   abbrev after : Actor → ActorLists
   after = lists_among lists_of cast new
 
+  all : length old ≡ count_of cast
+  all = sym (length-map old frame_of) ∙ joined.all
+
   ran : AllRan cast old new
   ran = go went refl
     where
       go : (b : Bool) → went ≡ b → AllRan cast old new
-      go true e = all_ran cast old new long all (advance e)
+      go true e = all_ran cast old new long all (advance (ap answer e))
       go false e =
           all_relate (λ (s : SeatView). s.core) lists_of HasRun cast old new long all (λ n d low. record {
             count = 0;
-            runs = ap (λ (seats : List SeatView). player (get_or seats n d)) (same e);
+            runs = ap (λ (seats : List SeatView). player (get_or seats n d)) (same (ap answer e));
           })
 
   -- whether each seat advanced in a bout or nothing changed, as it answers, the lists of each actor before are fronts
@@ -170,17 +174,15 @@ module _ (went : Bool) (cast : Cast) (old new : List SeatView) (long : length ne
   journal_after = journal_grows cast (cores_of old) (cores_of new) before after ran
 
   -- the machines of all actors stand for the later lists, if they stood for the earlier
-  pub stands_after : (input : Input) (setting : Setting) (rest : Rest)
-      → AllStandInWave input setting rest cast (cores_of old) before
-      → AllStandInWave input setting rest cast (cores_of new) after
-  stands_after = stand_after_in_wave cast (cores_of old) (cores_of new) before after ran
+  pub stands_after : (task : Task) → AllStand task cast (cores_of old) before
+      → AllStand task cast (cores_of new) after
+  stands_after = stand_after cast (cores_of old) (cores_of new) before after ran
 
   -- and what was sent goes over links of the run still
-  pub linked_after : (input : Input) (setting : Setting) (rest : Rest)
-      → AllStandInWave input setting rest cast (cores_of old) before
-      → AreLinked setting before → AreLinked setting after
-  linked_after input setting rest stands =
-      still_linked_in_wave input setting rest cast (cores_of old) (cores_of new) before after stands ran
+  pub linked_after : (task : Task) → AllStand task cast (cores_of old) before
+      → AreLinked task.setting before → AreLinked task.setting after
+  linked_after task stands =
+      still_linked task cast (cores_of old) (cores_of new) before after stands ran
 
   -- the joiners join by the predicate by which they did
   pub joins_after : (theta : Meaning) → IsAllAt (JoinsBy theta) (cores_of old) → IsAllAt (JoinsBy theta) (cores_of new)

@@ -4,16 +4,14 @@ use Rattle.std.specs.Prelude.{slice_index_or}
 use Rattle.epoch_tags.specs.declared.actor.Actor.{Actor}
 use Rattle.ruled_links.specs.Ends.{Sending}
 use Rattle.ruled_links.specs.Inboxes.{all_known}
-use Rattle.trace_law.specs.declared.input.Input.{Input}
 use Rattle.theta_pred.specs.Formula.{Meaning}
-use Rattle.trace_law.specs.declared.setting.Setting.{Setting}
-use Rattle.trace_law.specs.Family.{Rest, first_rest}
 use Rattle.actor_core.specs.declared.cast.Cast.{Cast}
 use Rattle.actor_core.specs.Elements.{IsAllAt}
 use Rattle.actor_core.specs.Lists.{ActorLists}
 use Rattle.actor_core.specs.Standing.{JoinsBy, Waits, IsLive}
 use Rattle.actor_core.specs.Numbers.{number, at_number}
-use Rattle.actor_core.specs.Players.{AllReceived, AllStandInWave, lists_among}
+use Rattle.actor_core.specs.Players.{AllReceived, AllStand, lists_among}
+use Rattle.actor_core.specs.Tasks.{Task}
 use Rattle.actor_core.specs.declared.machines.Core.{Core}
 use Rattle.join_runtime.specs.Views.{SeatView, lists_of}
 use Rattle.join_runtime.specs.Turns.{Rests, Advances}
@@ -45,14 +43,9 @@ cores_in v = map (λ seat. seat.core) v.seats
 abbrev pub lists_in : SeatsView → Actor → ActorLists
 lists_in v = lists_among lists_of v.cast v.seats
 
--- of a wave of this input and setting that goes on from this rest: there is a seat for each actor; its machine began as
--- these say, and stands for the lists of the seat
-abbrev pub StandsInWave : Input → Setting → Rest → SeatsView → Type 0
-StandsInWave input setting rest v = AllStandInWave input setting rest v.cast (cores_in v) (lists_in v)
-
--- the same of a run, that is of the wave that begins with no rows
-abbrev pub StandsFor : Input → Setting → SeatsView → Type 0
-StandsFor input setting v = StandsInWave input setting (first_rest setting) v
+-- there is a seat for each actor of this task; its machine began as the task says, and stands for the lists of the seat
+abbrev pub StandsFor : Task → SeatsView → Type 0
+StandsFor task v = AllStand task v.cast (cores_in v) (lists_in v)
 
 -- each joiner's machine joins by this predicate
 abbrev pub AllJoinBy : Meaning → SeatsView → Type 0

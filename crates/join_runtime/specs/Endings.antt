@@ -1,5 +1,5 @@
 -- What finished seats leave, and the families of lists.
-use Rattle.std.specs.Prelude.{ℕ, Bool, Option, List}
+use Rattle.std.specs.Prelude.{Bool, Option, List}
 use Rattle.epoch_tags.specs.declared.actor.Actor.{Actor}
 use Rattle.load_controller.specs.declared.line.TurnLine.{TurnLine}
 use Rattle.ruled_links.specs.Ends.{Sending}

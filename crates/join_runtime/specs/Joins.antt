@@ -1,5 +1,5 @@
 -- How the seats of a run are joined, and what is known of each link once its two ends were held together.
-use Rattle.std.specs.Prelude.{◌≡◌, ◌≢◌, ◌<◌, ◌+◌, ⊤, ℕ, true, false, Option, Some, None, IsSome, List, [], ◌∷◌, map}
+use Rattle.std.specs.Prelude.{◌≡◌, ◌≢◌, ◌<◌, ⊤, ℕ, true, false, Option, Some, None, IsSome, List, [], ◌∷◌, map}
 use Rattle.std.specs.Prelude.{length, slice_index_or}
 use Rattle.epoch_tags.specs.declared.actor.Actor.{Actor}
 use Rattle.ruled_links.specs.Ends.{Sending, AreLeft}

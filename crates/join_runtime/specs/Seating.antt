@@ -1,20 +1,18 @@
 -- The seats of a run at its beginning, and how mouths come to their senders.
-use Rattle.std.specs.Prelude.{◌≡◌, ◌≢◌, ◌<◌, ◌+◌, ◌^◌, ◌⊎◌, ℕ, false, Option, Some, None, IsSome}
+use Rattle.std.specs.Prelude.{◌≡◌, ◌≢◌, ◌<◌, ◌^◌, ◌⊎◌, ℕ, false, Option, Some, None, IsSome}
 use Rattle.std.specs.Prelude.{Contains, List, [], map, length}
 use Rattle.std.specs.Prelude.{slice_get, slice_set, slice_index_or}
 use Rattle.epoch_tags.specs.declared.actor.Actor.{Actor}
 use Rattle.epoch_tags.specs.Links.{HasLink}
 use Rattle.ruled_links.specs.Ends.{Sending}
 use Rattle.ruled_links.specs.Inboxes.{Differ, InboxView, fresh, opened}
-use Rattle.trace_law.specs.declared.input.Input.{Input}
-use Rattle.trace_law.specs.declared.setting.Setting.{Setting}
-use Rattle.trace_law.specs.Family.{Rest}
 use Rattle.actor_core.specs.declared.cast.Cast.{Cast}
 use Rattle.actor_core.specs.Lists.{no_lists}
 use Rattle.actor_core.specs.Standing.{Stands, HasGivenNone, IsLive}
-use Rattle.actor_core.specs.Families.{start_in_wave}
+use Rattle.actor_core.specs.Families.{start_for}
 use Rattle.actor_core.specs.declared.machines.Core.{Core}
 use Rattle.actor_core.specs.Numbers.{actor_at, cast_of, count_of, number}
+use Rattle.actor_core.specs.Tasks.{Task}
 use Rattle.join_runtime.specs.Views.{SeatView}
 use Rattle.join_runtime.specs.Joins.{slot_of}
 
@@ -30,16 +28,16 @@ pub record AreLinked (cast : Cast) (below : ℕ) (to : Actor) (actors : List Act
   pub whole : (k : ℕ) → cast.joiners ≡ 2 ^ k → (a : Actor) (n : ℕ) → number cast a ≡ Some n → n < below
       → HasLink k cast.feeders a to → Contains actors a
 
--- the machine of the actor with this number, before the first event of a wave that goes on from this rest
-pub record IsFresh (input : Input) (setting : Setting) (rest : Rest) (n : ℕ) (core : Core) : Type 0 where
-  pub stands : Stands (start_in_wave input setting rest (actor_at (cast_of setting) n)) no_lists core
+-- the machine of the actor with this number, before the first event of a task
+pub record IsFresh (task : Task) (n : ℕ) (core : Core) : Type 0 where
+  pub stands : Stands (start_for task (actor_at (cast_of task.setting) n)) no_lists core
   pub live : IsLive core
-  pub given : HasGivenNone (2 ^ setting.k) core
+  pub given : HasGivenNone (2 ^ task.setting.k) core
 
 -- the machines of the first so many actors, in the order of their numbers
-pub record AreFresh (input : Input) (setting : Setting) (rest : Rest) (count : ℕ) (cores : List Core) : Type 0 where
+pub record AreFresh (task : Task) (count : ℕ) (cores : List Core) : Type 0 where
   pub all : length cores ≡ count
-  pub each : (n : ℕ) (core : Core) → slice_get cores n ≡ Some core → IsFresh input setting rest n core
+  pub each : (n : ℕ) (core : Core) → slice_get cores n ≡ Some core → IsFresh task n core
 
 -- an inbox of the actor with this number as it was made, its mouths, and a place with no mouth for each actor
 pub record IsRoom (cast : Cast) (n : ℕ) (inbox : InboxView) (mouths : List Sending) (places : List (Option Sending))
@@ -139,13 +137,11 @@ pub record AreAwake (old new : List SeatView) : Type 0 where
   pub each : (n : ℕ) (d : SeatView) → n < length old
       → slice_index_or new n d ≡ record (slice_index_or old n d) { spent = false }
 
--- these are the first machines of a wave of some input, by the numbers of actors
+-- these are the first machines of some task, by the numbers of actors
 pub record AreFirst (cast : Cast) (cores : List Core) : Type 0 where
-  pub input : Input
-  pub setting : Setting
-  pub rest : Rest
-  pub cast_is : cast ≡ cast_of setting
-  pub fresh : AreFresh input setting rest (length cores) cores
+  pub task : Task
+  pub cast_is : cast ≡ cast_of task.setting
+  pub fresh : AreFresh task (length cores) cores
 
 -- the seats for these machines, of which each mouth came to its sender
 pub record AreSeated (cast : Cast) (cores : List Core) (seats : List SeatView) : Type 0 where

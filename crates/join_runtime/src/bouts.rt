@@ -2,18 +2,15 @@
 
 ghost use Rattle.std.specs.Prelude.{◌≡◌, ◌<◌, ℕ, true, false, Ok, OnOk, OnErr, length, map, slice_index_or};
 ghost use Rattle.join_rows.specs.Lists.{IsPrefix};
-ghost use Rattle.trace_law.specs.declared.input.Input.{Input as Input'};
-ghost use Rattle.trace_law.specs.declared.setting.Setting.{Setting as Setting'};
 ghost use Rattle.theta_pred.specs.Formula.{Meaning};
-ghost use Rattle.trace_law.specs.Family.{IsRestFor, Rest as Rest'};
-ghost use Rattle.trace_law.specs.Validity.{IsValid};
 ghost use Rattle.actor_core.specs.Families.{AreFronts};
 ghost use Rattle.actor_core.specs.Players.{AgreesOnLinks, Extends};
+ghost use Rattle.actor_core.specs.Tasks.{IsTask, Task};
 ghost use Rattle.join_runtime.specs.Views.{SeatView, frame_of};
 ghost use Rattle.join_runtime.specs.Turns.{AllStep, IsAlike};
 ghost use Rattle.join_runtime.specs.Workers.{AllWorked};
 ghost use Rattle.join_runtime.specs.Joins.{ActorsDiffer, AllLead, AreGathered};
-ghost use Rattle.join_runtime.specs.Bouts.{AllAdvance, AllJoinBy, AllLive, AllRest, IsStill, NoneSpent, SomeReady, StandsFor, StandsInWave, lists_in};
+ghost use Rattle.join_runtime.specs.Bouts.{AllAdvance, AllJoinBy, AllLive, AllRest, IsStill, NoneSpent, SomeReady, StandsFor, lists_in};
 ghost use Rattle.join_runtime.specs.Endings.{is_collected, journal_in};
 
 use crate::ahead::go_ahead;
@@ -165,28 +162,18 @@ pub(crate) fn bout_by<'a, R: Wait, G: Gate, F: FnOnce(Vec<Seat<'a>>) -> Vec<Seat
     ensures still { result ≡ Ok false → IsStill seats.old }
     ensures busy { result ≡ Ok true → ¬ IsStill seats.old }
     ensures ready { result ≡ Ok true → SomeReady seats.old.seats }
-    ensures collected { result ≡ Ok false → (input : Input') (setting : Setting')
-        → IsValid input setting → StandsFor input setting seats.old
-        → is_collected seats.old ≡ true }
-    ensures collected_in_wave { result ≡ Ok false
-        → (input : Input') (setting : Setting') (rest : Rest')
-        → IsValid input setting → IsRestFor input setting rest
-        → StandsInWave input setting rest seats.old → is_collected seats.old ≡ true }
+    ensures collected { result ≡ Ok false → (task : Task) → IsTask task
+        → StandsFor task seats.old → is_collected seats.old ≡ true }
     ensures agrees { OnOk result (AreFronts (lists_in seats.new)) }
     ensures extends { OnOk result (Extends (lists_in seats.old) (lists_in seats.new)) }
     ensures journal { OnOk result (IsPrefix (journal_in seats.old) (journal_in seats.new)) }
-    ensures stands { OnOk result ((input : Input') (setting : Setting')
-        → StandsFor input setting seats.old → StandsFor input setting seats.new) }
-    ensures stands_in_wave { OnOk result ((input : Input') (setting : Setting') (rest : Rest')
-        → StandsInWave input setting rest seats.old → StandsInWave input setting rest seats.new) }
+    ensures stands { OnOk result
+        ((task : Task) → StandsFor task seats.old → StandsFor task seats.new) }
     ensures joins { OnOk result
         ((theta : Meaning) → AllJoinBy theta seats.old → AllJoinBy theta seats.new) }
-    ensures linked { OnOk result ((input : Input') (setting : Setting')
-        → StandsFor input setting seats.old → AgreesOnLinks setting (lists_in seats.old)
-        → AgreesOnLinks setting (lists_in seats.new)) }
-    ensures linked_in_wave { OnOk result ((input : Input') (setting : Setting') (rest : Rest')
-        → StandsInWave input setting rest seats.old → AgreesOnLinks setting (lists_in seats.old)
-        → AgreesOnLinks setting (lists_in seats.new)) }
+    ensures linked { OnOk result ((task : Task) → StandsFor task seats.old
+        → AgreesOnLinks task.setting (lists_in seats.old)
+        → AgreesOnLinks task.setting (lists_in seats.new)) }
     ensures goes_on { OnOk result ((seats.old.spent ≡ false) × (seats.new.spent ≡ false)) }
     ensures fails { OnErr result (seats.new.spent ≡ true) }
     ensures actors { seats.new.cast ≡ seats.old.cast }
@@ -206,7 +193,7 @@ pub(crate) fn bout_by<'a, R: Wait, G: Gate, F: FnOnce(Vec<Seat<'a>>) -> Vec<Seat
 /// some seat has had no turn or knows of more messages than it can take. Then each seat has turns until it is idle or
 /// has had 256 in this bout, in as many chunks side by side as there are workers; then the two ends of each link are
 /// held together.
-/// `Ok(false)`: nothing was left on any link, and no feeder would begin; then nothing changed, and of a valid input the
+/// `Ok(false)`: nothing was left on any link, and no feeder would begin; then nothing changed, and of a valid task the
 /// collector is complete. After an error the seats are spent.
 pub fn bout<R: Threads + Wait + Sync, G: Gate + Sync>(
     rt: &R,
@@ -220,28 +207,18 @@ pub fn bout<R: Threads + Wait + Sync, G: Gate + Sync>(
     ensures still { result ≡ Ok false → IsStill seats.old }
     ensures busy { result ≡ Ok true → ¬ IsStill seats.old }
     ensures ready { result ≡ Ok true → SomeReady seats.old.seats }
-    ensures collected { result ≡ Ok false → (input : Input') (setting : Setting')
-        → IsValid input setting → StandsFor input setting seats.old
-        → is_collected seats.old ≡ true }
-    ensures collected_in_wave { result ≡ Ok false
-        → (input : Input') (setting : Setting') (rest : Rest')
-        → IsValid input setting → IsRestFor input setting rest
-        → StandsInWave input setting rest seats.old → is_collected seats.old ≡ true }
+    ensures collected { result ≡ Ok false → (task : Task) → IsTask task
+        → StandsFor task seats.old → is_collected seats.old ≡ true }
     ensures agrees { OnOk result (AreFronts (lists_in seats.new)) }
     ensures extends { OnOk result (Extends (lists_in seats.old) (lists_in seats.new)) }
     ensures journal { OnOk result (IsPrefix (journal_in seats.old) (journal_in seats.new)) }
-    ensures stands { OnOk result ((input : Input') (setting : Setting')
-        → StandsFor input setting seats.old → StandsFor input setting seats.new) }
-    ensures stands_in_wave { OnOk result ((input : Input') (setting : Setting') (rest : Rest')
-        → StandsInWave input setting rest seats.old → StandsInWave input setting rest seats.new) }
+    ensures stands { OnOk result
+        ((task : Task) → StandsFor task seats.old → StandsFor task seats.new) }
     ensures joins { OnOk result
         ((theta : Meaning) → AllJoinBy theta seats.old → AllJoinBy theta seats.new) }
-    ensures linked { OnOk result ((input : Input') (setting : Setting')
-        → StandsFor input setting seats.old → AgreesOnLinks setting (lists_in seats.old)
-        → AgreesOnLinks setting (lists_in seats.new)) }
-    ensures linked_in_wave { OnOk result ((input : Input') (setting : Setting') (rest : Rest')
-        → StandsInWave input setting rest seats.old → AgreesOnLinks setting (lists_in seats.old)
-        → AgreesOnLinks setting (lists_in seats.new)) }
+    ensures linked { OnOk result ((task : Task) → StandsFor task seats.old
+        → AgreesOnLinks task.setting (lists_in seats.old)
+        → AgreesOnLinks task.setting (lists_in seats.new)) }
     ensures goes_on { OnOk result ((seats.old.spent ≡ false) × (seats.new.spent ≡ false)) }
     ensures fails { OnErr result (seats.new.spent ≡ true) }
     ensures actors { seats.new.cast ≡ seats.old.cast }

@@ -2,17 +2,13 @@
 
 ghost use Rattle.std.specs.Prelude.{◌≡◌, ◌++◌, ◌∷◌, [], true, IfOk, OnOk, map};
 ghost use Rattle.epoch_tags.specs.declared.actor.Actor.{Actor as Actor'};
-ghost use Rattle.trace_law.specs.declared.input.Input.{Input as Input'};
-ghost use Rattle.trace_law.specs.declared.setting.Setting.{Setting as Setting'};
-ghost use Rattle.trace_law.specs.Validity.{IsValid};
-ghost use Rattle.trace_law.specs.Family.{first_rest, IsRestFor, Rest as Rest'};
-ghost use Rattle.trace_law.specs.Runs.{IsRunOf};
 ghost use Rattle.actor_core.specs.Families.{AreFronts};
-ghost use Rattle.actor_core.specs.Players.{IsFinishedFamily, IsFinishedWave};
+ghost use Rattle.actor_core.specs.Players.{IsFinishedFamily};
 ghost use Rattle.actor_core.specs.Rests.{IsRestOf};
+ghost use Rattle.actor_core.specs.Tasks.{IsRun, IsTask, Task};
 ghost use Rattle.load_controller.specs.Journal.{last_line};
 ghost use Rattle.load_controller.specs.declared.line.TurnLine.{TurnLine as TurnLine'};
-ghost use Rattle.join_runtime.specs.Bouts.{AllJoinBy, StandsFor, StandsInWave, lists_in};
+ghost use Rattle.join_runtime.specs.Bouts.{AllJoinBy, StandsFor, lists_in};
 ghost use Rattle.join_runtime.specs.Endings.{end_of, is_collected, journal_in, lists_left};
 
 use crate::bouts::Seats;
@@ -130,14 +126,12 @@ impl<'a> Seats<'a> {
     /// `AllocError` too, and after it the seats are gone.
     pub fn finish(self, bouts: u64) -> Result<Told, AllocError>
         requires { is_collected self ≡ true }
-        ensures family { IfOk result (λ told.
-            (input : Input') (setting : Setting') → IsValid input setting
-            → StandsFor input setting self.entry → AreFronts (lists_in self.entry)
-            → IsFinishedFamily input setting told.run.journal (lists_left told.ends)) }
-        ensures run { IfOk result (λ told.
-            (input : Input') (setting : Setting') → IsValid input setting
-            → StandsFor input setting self.entry → AreFronts (lists_in self.entry)
-            → IsRunOf input setting (first_rest setting).line told.run.journal told.run) }
+        ensures family { IfOk result (λ told. (task : Task) → IsTask task
+            → StandsFor task self.entry → AreFronts (lists_in self.entry)
+            → IsFinishedFamily task told.run.journal (lists_left told.ends)) }
+        ensures run { IfOk result (λ told. (task : Task) → IsTask task
+            → StandsFor task self.entry → AreFronts (lists_in self.entry)
+            → IsRun task told.run.journal told.run) }
         ensures ends { IfOk result (λ told.
             (a : Actor') → lists_left told.ends a ≡ lists_in self.entry a) }
         ensures journal { IfOk result (λ told. told.run.journal ≡ journal_in self.entry) }
@@ -168,21 +162,16 @@ impl<'a> Seats<'a> {
     /// seats leave. After `AllocError` the seats are gone.
     pub fn finish_wave(self, bouts: u64) -> Result<WaveTold, AllocError>
         requires { is_collected self ≡ true }
-        ensures family { IfOk result (λ told.
-            (input : Input') (setting : Setting') (rest : Rest') → IsValid input setting
-            → IsRestFor input setting rest → StandsInWave input setting rest self.entry
-            → AreFronts (lists_in self.entry)
-            → IsFinishedWave input setting rest told.wave.run.journal (lists_left told.ends)) }
-        ensures run { IfOk result (λ told.
-            (input : Input') (setting : Setting') (rest : Rest') → IsValid input setting
-            → IsRestFor input setting rest → StandsInWave input setting rest self.entry
-            → AreFronts (lists_in self.entry)
-            → IsRunOf input setting rest.line told.wave.run.journal told.wave.run) }
-        ensures rest { IfOk result (λ told.
-            (input : Input') (setting : Setting') (rest : Rest') → IsValid input setting
-            → IsRestFor input setting rest → StandsInWave input setting rest self.entry
-            → AreFronts (lists_in self.entry) → AllJoinBy input.theta self.entry
-            → IsRestOf input setting told.wave.rest) }
+        ensures family { IfOk result (λ told. (task : Task) → IsTask task
+            → StandsFor task self.entry → AreFronts (lists_in self.entry)
+            → IsFinishedFamily task told.wave.run.journal (lists_left told.ends)) }
+        ensures run { IfOk result (λ told. (task : Task) → IsTask task
+            → StandsFor task self.entry → AreFronts (lists_in self.entry)
+            → IsRun task told.wave.run.journal told.wave.run) }
+        ensures rest { IfOk result (λ told. (task : Task) → IsTask task
+            → StandsFor task self.entry → AreFronts (lists_in self.entry)
+            → AllJoinBy task.input.theta self.entry
+            → IsRestOf task.input task.setting told.wave.rest) }
         ensures line { IfOk result (λ told. (first : TurnLine')
             → told.wave.rest.line ≡ last_line first told.wave.run.journal) }
         ensures ends { IfOk result (λ told.

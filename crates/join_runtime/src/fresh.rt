@@ -4,8 +4,7 @@ ghost use Rattle.std.specs.Prelude.{◌≡◌, ◌^◌, false, IfOk, OnErr, OnOk
 ghost use Rattle.epoch_tags.specs.declared.actor.Actor.{Actor as Actor'};
 ghost use Rattle.pair_collector.specs.Law.{CollectorLists};
 ghost use Rattle.pair_collector.specs.Fresh.{pairs_since};
-ghost use Rattle.trace_law.specs.declared.input.Input.{Input as Input'};
-ghost use Rattle.trace_law.specs.declared.setting.Setting.{Setting as Setting'};
+ghost use Rattle.actor_core.specs.Tasks.{Task};
 ghost use Rattle.join_runtime.specs.Bouts.{StandsFor, lists_in};
 ghost use Rattle.join_runtime.specs.Early.{AreGiven, collected_in, given_in};
 
@@ -18,15 +17,13 @@ impl<'a> Seats<'a> {
     pub(crate) fn fresh(&mut self) -> Result<Pairs, AllocError>
         requires { self.old.spent ≡ false }
         ensures gives { IfOk result (λ pairs.
-            (input : Input') (setting : Setting') (earlier : CollectorLists)
-            → StandsFor input setting self.old
-            → AreGiven (2 ^ setting.k) earlier (given_in self.old)
-            → IsPermutation (pairs_since (2 ^ setting.k) earlier (collected_in self.old)) pairs) }
-        ensures given { OnOk result ((input : Input') (setting : Setting')
-            → StandsFor input setting self.old
-            → AreGiven (2 ^ setting.k) (collected_in self.old) (given_in self.new)) }
-        ensures stands { (input : Input') (setting : Setting') → StandsFor input setting self.old
-            → StandsFor input setting self.new }
+            (task : Task) (earlier : CollectorLists) → StandsFor task self.old
+            → AreGiven (2 ^ task.setting.k) earlier (given_in self.old)
+            → IsPermutation (pairs_since (2 ^ task.setting.k) earlier (collected_in self.old))
+            pairs) }
+        ensures given { OnOk result ((task : Task) → StandsFor task self.old
+            → AreGiven (2 ^ task.setting.k) (collected_in self.old) (given_in self.new)) }
+        ensures stands { (task : Task) → StandsFor task self.old → StandsFor task self.new }
         ensures lists { (a : Actor') → lists_in self.new a ≡ lists_in self.old a }
         ensures fails { OnErr result (self.new ≡ self.old) }
     {

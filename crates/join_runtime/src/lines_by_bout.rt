@@ -11,6 +11,7 @@ ghost use Rattle.trace_law.specs.Runs.{IsRunOf};
 ghost use Rattle.load_controller.specs.Journal.{last_epoch};
 ghost use Rattle.trace_law.specs.Counts.{most_events};
 ghost use Rattle.actor_core.specs.Players.{AgreesOnLinks, IsFinishedFamily};
+ghost use Rattle.actor_core.specs.Tasks.{task_of};
 ghost use Rattle.join_report.specs.PairLines.{pair_lines};
 ghost use Rattle.join_runtime.specs.declared.lines_by_bout.EarlyFault.TheVariants.{Memory as Memory', Write as Write'};
 ghost use Rattle.join_runtime.specs.Endings.{lists_left};
@@ -87,8 +88,8 @@ fn run_early_by<'a, R: Wait, G: Gate, K: Sink>(
     requires input { IsValidInput input.now }
     requires setting { IsValidSetting setting.now }
     requires sink { K.faults sink.old < last_fault }
-    ensures family { IfOk result
-        (λ told. IsFinishedFamily input.now setting.now told.run.journal (lists_left told.ends)) }
+    ensures family { IfOk result (λ told. IsFinishedFamily (task_of input.now setting.now)
+        told.run.journal (lists_left told.ends)) }
     ensures linked { IfOk result
         (λ told. AgreesOnLinks setting.now (lists_left told.ends)) }
     ensures run { IfOk result (λ told. IsRunOf input.now setting.now
@@ -149,8 +150,8 @@ pub fn run_early<R: Threads + Wait + Sync, G: Gate + Sync, K: Sink>(
     requires input { IsValidInput input.now }
     requires setting { IsValidSetting setting.now }
     requires sink { K.faults sink.old < last_fault }
-    ensures family { IfOk result
-        (λ told. IsFinishedFamily input.now setting.now told.run.journal (lists_left told.ends)) }
+    ensures family { IfOk result (λ told. IsFinishedFamily (task_of input.now setting.now)
+        told.run.journal (lists_left told.ends)) }
     ensures linked { IfOk result
         (λ told. AgreesOnLinks setting.now (lists_left told.ends)) }
     ensures run { IfOk result (λ told. IsRunOf input.now setting.now

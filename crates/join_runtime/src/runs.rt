@@ -6,8 +6,9 @@ ghost use Rattle.trace_law.specs.Family.{first_rest, migrations};
 ghost use Rattle.trace_law.specs.Runs.{IsRunOf};
 ghost use Rattle.load_controller.specs.Journal.{last_epoch, last_line};
 ghost use Rattle.trace_law.specs.Counts.{most_events};
-ghost use Rattle.actor_core.specs.Players.{AgreesOnLinks, IsFinishedFamily, IsFinishedWave};
-ghost use Rattle.actor_core.specs.Rests.{IsRestOf, IsUpto, rest_of, upto};
+ghost use Rattle.actor_core.specs.Players.{AgreesOnLinks, IsFinishedFamily};
+ghost use Rattle.actor_core.specs.Rests.{IsRestOf, IsUpto, task_upto, upto};
+ghost use Rattle.actor_core.specs.Tasks.{task_of};
 ghost use Rattle.join_runtime.specs.Endings.{lists_left};
 ghost use Rattle.join_runtime.specs.Runs.{TellsOf};
 
@@ -94,8 +95,8 @@ pub fn run<'a, R: Threads + Wait + Sync, G: Gate + Sync>(
 ) -> Result<Told, AllocError>
     requires input { IsValidInput input.now }
     requires setting { IsValidSetting setting.now }
-    ensures family { IfOk result
-        (λ told. IsFinishedFamily input.now setting.now told.run.journal (lists_left told.ends)) }
+    ensures family { IfOk result (λ told. IsFinishedFamily (task_of input.now setting.now)
+        told.run.journal (lists_left told.ends)) }
     ensures linked { IfOk result
         (λ told. AgreesOnLinks setting.now (lists_left told.ends)) }
     ensures run { IfOk result (λ told. IsRunOf input.now setting.now
@@ -128,8 +129,9 @@ pub fn run_wave<'a, R: Threads + Wait + Sync, G: Gate + Sync>(
     requires end { IsUpto rest.line end input.now }
     requires rest { IsRestOf input.now setting.now rest }
     requires epoch { rest.line.epoch ≤ 2 ^ 31 }
-    ensures family { IfOk result (λ told. IsFinishedWave (upto end input.now) setting.now
-        (rest_of rest) told.wave.run.journal (lists_left told.ends)) }
+    ensures family { IfOk result
+        (λ told. IsFinishedFamily (task_upto end input.now setting.now rest)
+        told.wave.run.journal (lists_left told.ends)) }
     ensures linked { IfOk result (λ told. AgreesOnLinks setting.now (lists_left told.ends)) }
     ensures run { IfOk result (λ told. IsRunOf (upto end input.now) setting.now rest.line
         told.wave.run.journal told.wave.run) }

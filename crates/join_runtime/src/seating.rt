@@ -3,9 +3,9 @@
 ghost use Rattle.std.specs.Prelude.{◌≡◌, ◌<◌, ◌≤◌, ◌+◌, ◌^◌, ◌↔◌, ◌++◌, ◌∷◌, [], ℕ, true, false, None, Some, Contains, IsSome, IfOk, OnOk, length, map, slice_set, slice_index_or};
 ghost use Rattle.epoch_tags.specs.declared.actor.Actor.{Actor as Actor'};
 ghost use Rattle.trace_law.specs.Validity.{IsValidInput, IsValidSetting};
-ghost use Rattle.trace_law.specs.Family.{first_rest};
 ghost use Rattle.actor_core.specs.Numbers.{count_of};
-ghost use Rattle.actor_core.specs.Rests.{IsRestOf, IsUpto, rest_of, upto};
+ghost use Rattle.actor_core.specs.Rests.{IsRestOf, IsUpto, task_upto};
+ghost use Rattle.actor_core.specs.Tasks.{task_of};
 ghost use Rattle.ruled_links.specs.Ends.{Sending};
 ghost use Rattle.ruled_links.specs.Inboxes.{Differ};
 ghost use Rattle.actor_core.specs.Lists.{no_lists};
@@ -13,7 +13,7 @@ ghost use Rattle.join_runtime.specs.Views.{SeatView};
 ghost use Rattle.join_runtime.specs.Joins.{slot_of};
 ghost use Rattle.join_runtime.specs.Seating.{AreAwake, AreBelow, AreFilled, AreFirst, AreFresh, AreLinked, AreNew, AreSeated, HasSeat, HavePlaces, IsNewSeat, IsRoom, Puts, Places};
 ghost use Rattle.join_runtime.specs.Serving.{AllServed};
-ghost use Rattle.join_runtime.specs.Bouts.{AllJoinBy, StandsFor, StandsInWave, lists_in, mouth_of};
+ghost use Rattle.join_runtime.specs.Bouts.{AllJoinBy, StandsFor, lists_in, mouth_of};
 ghost use Rattle.join_runtime.specs.Early.{AreGiven, given_in};
 ghost use Rattle.epoch_tags.specs.Links.{HasLink};
 ghost use Rattle.pair_collector.specs.Standing.{nothing_yet};
@@ -179,8 +179,8 @@ fn first_cores<'a>(
 ) -> Result<Vec<Core<'a>>, AllocError>
     requires input { IsValidInput input.now }
     requires setting { IsValidSetting setting.now }
-    ensures { IfOk result (λ cores.
-        AreFresh input.now setting.now (first_rest setting.now) count cores.items) }
+    ensures { IfOk result
+        (λ cores. AreFresh (task_of input.now setting.now) count cores.items) }
 {
     let mut cores = Vec::new(alloc);
     for n in 0..count {
@@ -226,7 +226,7 @@ impl<'a> Seats<'a> {
     ) -> Result<Seats<'a>, AllocError>
         requires input { IsValidInput input.now }
         requires setting { IsValidSetting setting.now }
-        ensures stands { IfOk result (StandsFor input.now setting.now) }
+        ensures stands { IfOk result (StandsFor (task_of input.now setting.now)) }
         ensures empty { IfOk result (λ seats. (a : Actor') → lists_in seats a ≡ no_lists) }
         ensures links { IfOk result (λ seats. (from to : Actor') → (IsSome (mouth_of seats from to)
             ↔ HasLink setting.now.k setting.now.feeders from to)) }
@@ -260,7 +260,7 @@ impl<'a> Seats<'a> {
         requires rest { IsRestOf input.now setting.now rest }
         requires epoch { rest.line.epoch ≤ 2 ^ 31 }
         ensures stands { IfOk result
-            (StandsInWave (upto end input.now) setting.now (rest_of rest)) }
+            (StandsFor (task_upto end input.now setting.now rest)) }
         ensures empty { IfOk result (λ seats. (a : Actor') → lists_in seats a ≡ no_lists) }
         ensures joins { IfOk result (AllJoinBy input.now.theta) }
         ensures links { IfOk result (λ seats. (from to : Actor') → (IsSome (mouth_of seats from to)

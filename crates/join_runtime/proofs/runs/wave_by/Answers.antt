@@ -1,10 +1,10 @@
 use Rattle.std.proofs.Common.{◌∙◌, sym, arith}
-use Rattle.join_runtime.proofs.UnderWay.{goes_on, one_more_in_wave, tells, wave_begun}
+use Rattle.join_runtime.proofs.UnderWay.{begun, goes_on, one_bout_more, tells}
 use Rattle.join_runtime.proofs.runs.wave_by.Goals as goal
 
 pub loop-init : goal.loop-init
 loop-init g c = record {
-  way = λ input setting rest begun. wave_begun input setting rest c.args.begun begun.stands begun.empty;
+  way = λ task is. begun task c.args.begun is.stands is.empty;
   joins = λ theta joins. joins;
 }
 
@@ -13,14 +13,14 @@ loop-preserved g c =
     let said = c.in_ok-bout_by.ensures in
     let sum = c.saturating_add-bouts.ensures in
     record {
-      way = λ input setting rest begun.
-          let before = c.loop.invariant.way input setting rest begun in
+      way = λ task is.
+          let before = c.loop.invariant.way task is in
           let went = goes_on c.in_ok-bout_by.field-0 _
-          (λ rested. said.collected_in_wave rested input setting rest begun.valid begun.begins before.stands)
+          (λ rested. said.collected rested task is.is_task before.stands)
           (sym c.complete.ensures ∙ c.if-complete.false) in
-          one_more_in_wave input setting rest c.loop.seats c.bout_by.new.seats c.loop.bouts
+          one_bout_more task c.loop.seats c.bout_by.new.seats c.loop.bouts
           c.saturating_add-bouts.result (said.went went) (said.ready went) said.agrees
-          (said.stands_in_wave input setting rest) (omega (arith, sum)) before;
+          (said.stands task) (omega (arith, sum)) before;
       joins = λ theta joins. said.joins theta (c.loop.invariant.joins theta joins);
     }
 

@@ -1,4 +1,4 @@
-use Rattle.std.proofs.Common.{◌≡◌, ◌+◌, ◌++◌, ◌∷◌, [], ◌∙◌, ap, append_assoc, length, sym, subst}
+use Rattle.std.proofs.Common.{◌≡◌, ◌+◌, ◌++◌, ◌∷◌, [], ◌∙◌, ap, append_assoc, sym, subst}
 use Rattle.std.proofs.lemmas.List.{length-append}
 use Rattle.join_runtime.specs.Seating.{IsNewSeat}
 use Rattle.join_runtime.proofs.NewSeats.{new_more}

@@ -1,4 +1,4 @@
-use Rattle.std.proofs.Common.{◌≡◌, ◌<◌, ◌+◌, ◌∙◌, Some, ap, arith, subst, sym, true≢false}
+use Rattle.std.proofs.Common.{◌≡◌, ◌<◌, ◌∙◌, Some, ap, arith, subst, sym, true≢false}
 use Rattle.actor_core.specs.Numbers.{count_of, number}
 use Rattle.join_runtime.specs.Seating.{AreBelow}
 use Rattle.join_runtime.proofs.InboxSenders.{below_more, below_none, below_push, linked_more, linked_none, linked_push}

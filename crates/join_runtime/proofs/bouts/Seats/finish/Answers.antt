@@ -30,62 +30,31 @@ answer-requires c =
     let done : is_collected v ≡ true = rw (← c.self.view_is) at c.requires in
     complete_there v c.self.invariant.0 two.0 two.1 last done
 
-pub returns-clause-family : goal.returns-clause-family
-returns-clause-family c =
+pub returns : goal.returns
+returns c =
     let own = c.self.inside in
     let v : SeatsView = record {
       cast = own.cast;
       seats = own.seats.items;
       spent = own.spent;
     } in
+    let joined = c.self.invariant.0 in
     let two = c.last_two-controller.result in
     let last = subst (λ cores. AreLast cores two.0 two.1) c.in_ok-cores.ensures.cores c.last_two-controller.ensures in
     let done : is_collected v ≡ true = rw (← c.self.view_is) at c.requires in
+    let law = c.complete_is_finished.ensures in
+    let said = c.in_ok-run.ensures in
     let e : EndsView = record { cast = own.cast; ends = c.in_ok-cores.ends.items } in
+    let ends : (a : _) → lists_left e a ≡ lists_in v a = λ a.
+    subst (λ es. lists_left (record { cast = own.cast; ends = es }) a ≡ lists_in v a)
+    (sym c.in_ok-cores.ensures.ends) (ends_keep v a) in
     rw (← c.self.view_is)
-    (λ input setting valid stands fronts.
-    told_family v c.self.invariant.0 two.0 two.1 last c.complete_is_finished.ensures done input setting
-    valid stands fronts c.in_ok-run.run' c.in_ok-run.ensures.journal e
-    (λ a. subst (λ es. lists_left (record { cast = own.cast; ends = es }) a ≡ lists_in v a)
-    (sym c.in_ok-cores.ensures.ends) (ends_keep v a)))
-
-pub returns-clause-run : goal.returns-clause-run
-returns-clause-run c =
-    let own = c.self.inside in
-    let v : SeatsView = record {
-      cast = own.cast;
-      seats = own.seats.items;
-      spent = own.spent;
-    } in
-    let two = c.last_two-controller.result in
-    let last = subst (λ cores. AreLast cores two.0 two.1) c.in_ok-cores.ensures.cores c.last_two-controller.ensures in
-    let done : is_collected v ≡ true = rw (← c.self.view_is) at c.requires in
-    rw (← c.self.view_is)
-    (λ input setting valid stands fronts.
-    told_run v c.self.invariant.0 two.0 two.1 last c.complete_is_finished.ensures done input setting
-    valid stands fronts c.in_ok-run.run' c.finished_answers.ensures c.args.bouts c.in_ok-run.ensures.run)
-
-pub returns-clause-journal : goal.returns-clause-journal
-returns-clause-journal c =
-    let own = c.self.inside in
-    let v : SeatsView = record {
-      cast = own.cast;
-      seats = own.seats.items;
-      spent = own.spent;
-    } in
-    let two = c.last_two-controller.result in
-    let last = subst (λ cores. AreLast cores two.0 two.1) c.in_ok-cores.ensures.cores c.last_two-controller.ensures in
-    rw (← c.self.view_is)
-    (told_journal v c.self.invariant.0 two.0 two.1 last c.in_ok-run.run' c.in_ok-run.ensures.journal)
-
-pub returns-clause-ends : goal.returns-clause-ends
-returns-clause-ends c =
-    let own = c.self.inside in
-    let v : SeatsView = record {
-      cast = own.cast;
-      seats = own.seats.items;
-      spent = own.spent;
-    } in
-    rw (← c.self.view_is)
-    (λ a. subst (λ es. lists_left (record { cast = own.cast; ends = es }) a ≡ lists_in v a)
-    (sym c.in_ok-cores.ensures.ends) (ends_keep v a))
+    (record {
+      family = λ task is_task stands fronts. told_family v joined two.0 two.1 last law done task is_task stands fronts
+          c.in_ok-run.run' said.journal e ends;
+      run = λ task is_task stands fronts. told_run v joined two.0 two.1 last law done task is_task stands fronts
+          c.in_ok-run.run' c.finished_answers.ensures c.args.bouts said.run;
+      ends = ends;
+      journal = told_journal v joined two.0 two.1 last c.in_ok-run.run' said.journal;
+      bouts = said.bouts;
+    })

@@ -1,6 +1,6 @@
-use Rattle.std.proofs.Common.{◌∙◌, ap, false, sym}
+use Rattle.std.proofs.Common.{◌∙◌, ap, false, refl, sym}
 use Rattle.actor_core.specs.Numbers.{count_of}
-use Rattle.actor_core.specs.Rests.{rest_of, upto}
+use Rattle.actor_core.specs.Rests.{task_upto}
 use Rattle.actor_core.proofs.LaterEnds.{stands_upto}
 use Rattle.join_runtime.proofs.Starts.{made_fresh, start_empty, start_given, start_joined, start_joins, start_linked}
 use Rattle.join_runtime.proofs.Starts.{start_settled, start_stands}
@@ -18,64 +18,41 @@ seats_of-requires-clause-all c = c.in_ok-cores.ensures.made.all ∙ ap count_of 
 
 pub seats_of-requires-clause-first : goal.seats_of-requires-clause-first
 seats_of-requires-clause-first c =
-    let input = upto c.args.end c.args.input.now in
-    let setting = c.args.setting.now in
-    let rest = rest_of c.args.rest in
+    let task = task_upto c.args.end c.args.input.now c.args.setting.now c.args.rest in
     record {
-      input = input;
-      setting = setting;
-      rest = rest;
+      task = task;
       cast_is = c.of-cast.ensures.of;
-      fresh = made_fresh input setting rest _ c.in_ok-cores.cores.items c.in_ok-cores.ensures.made;
+      fresh = made_fresh task _ c.in_ok-cores.cores.items c.in_ok-cores.ensures.made;
     }
 
 pub invariant_of-result : goal.invariant_of-result
 invariant_of-result c =
-    let input = upto c.args.end c.args.input.now in
-    let setting = c.args.setting.now in
-    let rest = rest_of c.args.rest in
+    let task = task_upto c.args.end c.args.input.now c.args.setting.now c.args.rest in
     let cores = c.in_ok-cores.cores.items in
     let all = c.in_ok-cores.ensures.made.all ∙ ap count_of (sym c.of-cast.ensures.of) in (
-      start_joined setting c.of-cast.result cores c.in_ok-seats.seats.items c.of-cast.ensures.of all
+      start_joined task c.of-cast.result cores c.in_ok-seats.seats.items c.of-cast.ensures.of all
           c.in_ok-seats.ensures,
-      λ z. start_settled setting c.of-cast.result cores c.in_ok-seats.seats.items c.of-cast.ensures.of all
-          c.in_ok-seats.ensures input rest (made_fresh input setting rest _ cores c.in_ok-cores.ensures.made),
+      λ z. start_settled task c.of-cast.result cores c.in_ok-seats.seats.items c.of-cast.ensures.of all
+          c.in_ok-seats.ensures (made_fresh task _ cores c.in_ok-cores.ensures.made),
     )
 
-pub returns-clause-stands : goal.returns-clause-stands
-returns-clause-stands c =
-    let input = upto c.args.end c.args.input.now in
-    let setting = c.args.setting.now in
-    let rest = rest_of c.args.rest in
+pub returns : goal.returns
+returns c =
+    let task = task_upto c.args.end c.args.input.now c.args.setting.now c.args.rest in
+    let cast = c.of-cast.result in
+    let is = c.of-cast.ensures.of in
     let cores = c.in_ok-cores.cores.items in
-    start_stands setting c.of-cast.result cores c.in_ok-seats.seats.items c.of-cast.ensures.of
-    (c.in_ok-cores.ensures.made.all ∙ ap count_of (sym c.of-cast.ensures.of)) c.in_ok-seats.ensures input rest
-    (made_fresh input setting rest _ cores c.in_ok-cores.ensures.made) false
-
-pub returns-clause-empty : goal.returns-clause-empty
-returns-clause-empty c =
-    start_empty c.args.setting.now c.of-cast.result c.in_ok-cores.cores.items c.in_ok-seats.seats.items
-    c.of-cast.ensures.of (c.in_ok-cores.ensures.made.all ∙ ap count_of (sym c.of-cast.ensures.of))
-    c.in_ok-seats.ensures false
-
-pub returns-clause-joins : goal.returns-clause-joins
-returns-clause-joins c =
-    start_joins c.args.setting.now c.of-cast.result c.in_ok-cores.cores.items c.in_ok-seats.seats.items
-    c.of-cast.ensures.of (c.in_ok-cores.ensures.made.all ∙ ap count_of (sym c.of-cast.ensures.of))
-    c.in_ok-seats.ensures c.args.input.now.theta (λ n core is. (c.in_ok-cores.ensures.made.each n core is).joins)
-
-pub returns-clause-links : goal.returns-clause-links
-returns-clause-links c =
-    start_linked c.args.setting.now c.of-cast.result c.in_ok-cores.cores.items c.in_ok-seats.seats.items
-    c.of-cast.ensures.of (c.in_ok-cores.ensures.made.all ∙ ap count_of (sym c.of-cast.ensures.of))
-    c.in_ok-seats.ensures false
-
-pub returns-clause-given : goal.returns-clause-given
-returns-clause-given c =
-    let input = upto c.args.end c.args.input.now in
-    let setting = c.args.setting.now in
-    let rest = rest_of c.args.rest in
-    let cores = c.in_ok-cores.cores.items in
-    start_given setting c.of-cast.result cores c.in_ok-seats.seats.items c.of-cast.ensures.of
-    (c.in_ok-cores.ensures.made.all ∙ ap count_of (sym c.of-cast.ensures.of)) c.in_ok-seats.ensures input rest
-    (made_fresh input setting rest _ cores c.in_ok-cores.ensures.made) false
+    let seats = c.in_ok-seats.seats.items in
+    let made = c.in_ok-cores.ensures.made in
+    let all = made.all ∙ ap count_of (sym is) in
+    let seated = c.in_ok-seats.ensures in
+    let fresh = made_fresh task _ cores made in
+    record {
+      stands = start_stands task cast cores seats is all seated fresh false;
+      empty = start_empty task cast cores seats is all seated false;
+      joins = start_joins task cast cores seats is all seated c.args.input.now.theta
+          (λ n core is. (made.each n core is).joins);
+      links = start_linked task cast cores seats is all seated false;
+      given = start_given task cast cores seats is all seated fresh false;
+      at_work = refl;
+    }
