@@ -1,7 +1,7 @@
 -- The answers of groups put together: group by group, and in the end all pairs.
 use Rattle.std.proofs.Common.{◌≡◌, ℕ, suc, ◌+◌, ◌<◌, ◌≤◌, ◌^◌, Bool, true, false, cond, Some, refl, sym, ◌∙◌, ap, subst}
 use Rattle.std.proofs.Common.{arith, add-one, List, [], ◌∷◌, ◌++◌, append_assoc, append-nil, length, map, drop}
-use Rattle.std.proofs.Common.{ltb-true, Result, OnOk}
+use Rattle.std.proofs.Common.{ltb-true}
 use Rattle.std.specs.Prelude.{All, sum_by, nat_lt, slice_get}
 use Rattle.std.specs.List.{AllByRecursion}
 use Rattle.std.specs.List.Sorted.{IsPermutation}
@@ -33,13 +33,13 @@ use Rattle.group_split.proofs.Parted.{part_within, part_few}
 use Rattle.group_split.proofs.PartRuns.{row_weight, part_sum, parts_sum, valid_part}
 
 -- a run of a group's input is one of its part
-pub adds_part : {A E : Type 0} (result : Result A E) (input : Input) (setting : Setting) (rows indices : List ℕ)
-    (its : Input) (old new : GroupsRun) → indices ≡ rows → its ≡ input_of_part input indices
-    → OnOk result (AddsRun its setting (map (pair_in indices) (nested_loop its)) old new)
-    → OnOk result (AddsRun (input_of_part input rows) setting (pairs_of_part input rows) old new)
-adds_part result input setting rows indices its old new are is adds =
-    subst (λ is. OnOk result (AddsRun (input_of_part input is) setting (pairs_of_part input is) old new)) are
-    (subst (λ made. OnOk result (AddsRun made setting (map (pair_in indices) (nested_loop made)) old new)) is adds)
+pub adds_part : (input : Input) (setting : Setting) (rows indices : List ℕ) (its : Input) (old new : GroupsRun)
+    → indices ≡ rows → its ≡ input_of_part input indices
+    → AddsRun its setting (map (pair_in indices) (nested_loop its)) old new
+    → AddsRun (input_of_part input rows) setting (pairs_of_part input rows) old new
+adds_part input setting rows indices its old new are is adds =
+    subst (λ is. AddsRun (input_of_part input is) setting (pairs_of_part input is) old new) are
+    (subst (λ made. AddsRun made setting (map (pair_in indices) (nested_loop made)) old new) is adds)
 
 -- ---- one group after the other
 

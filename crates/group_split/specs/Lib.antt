@@ -1,4 +1,5 @@
 pub mod Sizes
 pub mod Parts
+pub mod Dealt
 pub mod Groups
 pub mod Joining

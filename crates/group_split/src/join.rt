@@ -5,12 +5,13 @@ ghost use Rattle.pair_collector.specs.Order.{InOrder};
 ghost use Rattle.trace_law.specs.Join.{nested_loop};
 ghost use Rattle.trace_law.specs.Validity.{IsValidInput, IsValidSetting};
 ghost use Rattle.group_split.specs.Groups.{AreGroups};
-ghost use Rattle.group_split.specs.Joining.{AddsRun, HasJoined, pairs_of_part};
-ghost use Rattle.group_split.specs.Parts.{IsPartOf, input_of_part, pair_in, part, setting_of_group};
+ghost use Rattle.group_split.specs.Dealt.{IsDealt};
+ghost use Rattle.group_split.specs.Joining.{AddsRun, HasJoined};
+ghost use Rattle.group_split.specs.Parts.{IsPartOf, pair_in, setting_of_group};
 ghost use Rattle.group_split.specs.Sizes.{digits};
 
 use crate::pairing::add_pairs;
-use crate::parts::{no_part, part, put_rows};
+use crate::parts::{Dealt, give_part, no_part};
 use crate::sizing::digits;
 use epoch_tags::{Counts, Pairs};
 use join_rows::Items;
@@ -110,74 +111,30 @@ fn run_part<R: Threads + Wait + Sync, G: Gate + Sync>(
     add_told(found, indices, told)
 }
 
-// Joins one group, of which `group_input` has the rows then.
-fn join_group<R: Threads + Wait + Sync, G: Gate + Sync>(
-    rt: &R,
-    alloc: Global,
-    input: &Input,
-    joiners: u32,
-    numbers: &Counts,
-    group: u64,
-    setting: &Setting,
-    gate: &G,
-    group_input: &mut Input,
-    found: &mut GroupsRun,
-) -> Result<(), AllocError>
-    requires input { IsValidInput input.now }
-    requires setting { IsValidSetting setting.now }
-    requires few { joiners ≤ 64 }
-    requires many { length numbers.now ≡ length input.now.table_r.rows }
-    requires below { All (λ number. number < joiners) numbers.now }
-    requires part { IsPartOf input.now group_input.old }
-    ensures part { OnOk result (IsPartOf input.now group_input.new) }
-    ensures adds { OnOk result (AddsRun
-        (input_of_part input.now (part joiners numbers.now group)) setting.now
-        (pairs_of_part input.now (part joiners numbers.now group)) found.old found.new) }
-{
-    let indices = part(alloc, joiners, numbers, group)?;
-    put_rows(alloc, input, &indices, group_input)?;
-    run_part(rt, alloc, group_input, &indices, setting, gate, found)
-}
-
-// Joins all groups, whose digits these are, one after the other.
+// Joins all groups, whose digits these are, one after the other, each over `group_input` with its rows.
 fn join_all<R: Threads + Wait + Sync, G: Gate + Sync>(
     rt: &R,
     alloc: Global,
-    input: &Input,
-    joiners: u32,
-    numbers: &Counts,
+    dealt: &Dealt<'_>,
     places: &Counts,
     setting: &Setting,
     gate: &G,
     group_input: &mut Input,
 ) -> Result<GroupsRun, AllocError>
-    requires input { IsValidInput input.now }
+    requires dealt { IsDealt dealt.now }
     requires setting { IsValidSetting setting.now }
     requires free { setting.now.fixed ≡ None }
-    requires few { joiners ≤ 64 }
-    requires many { length numbers.now ≡ length input.now.table_r.rows }
-    requires below { All (λ number. number < joiners) numbers.now }
-    requires places { places.now ≡ digits joiners }
+    requires places { places.now ≡ digits dealt.now.joiners }
     requires small { All (λ place. place < 7) places.now }
-    requires part { IsPartOf input.now group_input.old }
-    ensures { IfOk result (λ found.
-        HasJoined input.now joiners numbers.now setting.now (length (digits joiners)) found) }
+    requires part { IsPartOf dealt.now.input.now group_input.old }
+    ensures { IfOk result (λ found. HasJoined dealt.now.input.now dealt.now.joiners
+        dealt.now.numbers.now setting.now (length (digits dealt.now.joiners)) found) }
 {
     let mut found = no_groups(alloc);
     for group in 0..places.len() {
         let its = setting_at(setting, *places.at(group));
-        join_group(
-            rt,
-            alloc,
-            input,
-            joiners,
-            numbers,
-            group,
-            &its,
-            gate,
-            group_input,
-            &mut found,
-        )?;
+        let indices = give_part(alloc, dealt, group, group_input)?;
+        run_part(rt, alloc, group_input, &indices, &its, gate, &mut found)?;
     }
     Ok(found)
 }
@@ -186,34 +143,19 @@ fn join_all<R: Threads + Wait + Sync, G: Gate + Sync>(
 fn join_parts<R: Threads + Wait + Sync, G: Gate + Sync>(
     rt: &R,
     alloc: Global,
-    input: &Input,
-    joiners: u32,
-    numbers: &Counts,
+    dealt: &Dealt<'_>,
     setting: &Setting,
     gate: &G,
 ) -> Result<GroupsRun, AllocError>
-    requires input { IsValidInput input.now }
+    requires dealt { IsDealt dealt.now }
     requires setting { IsValidSetting setting.now }
     requires free { setting.now.fixed ≡ None }
-    requires few { joiners ≤ 64 }
-    requires many { length numbers.now ≡ length input.now.table_r.rows }
-    requires below { All (λ number. number < joiners) numbers.now }
-    ensures { IfOk result (λ found.
-        HasJoined input.now joiners numbers.now setting.now (length (digits joiners)) found) }
+    ensures { IfOk result (λ found. HasJoined dealt.now.input.now dealt.now.joiners
+        dealt.now.numbers.now setting.now (length (digits dealt.now.joiners)) found) }
 {
-    let places = digits(alloc, joiners)?;
-    let mut group_input = no_part(alloc, input)?;
-    join_all(
-        rt,
-        alloc,
-        input,
-        joiners,
-        numbers,
-        &places,
-        setting,
-        gate,
-        &mut group_input,
-    )
+    let places = digits(alloc, dealt.joiners)?;
+    let mut group_input = no_part(alloc, dealt.input)?;
+    join_all(rt, alloc, dealt, &places, setting, gate, &mut group_input)
 }
 
 /// Joins in groups of joiners, so many in all: a run for each group, over the rows of R whose number is of the group
@@ -241,7 +183,12 @@ pub fn run_groups<R: Threads + Wait + Sync, G: Gate + Sync>(
     limits_suffice();
     begins_with_all();
     sorts_into_the_loop();
-    let found = join_parts(rt, alloc, input, joiners, numbers, setting, gate)?;
+    let dealt = Dealt {
+        input,
+        joiners,
+        numbers,
+    };
+    let found = join_parts(rt, alloc, &dealt, setting, gate)?;
     let all = ordered(found)?;
     Ok(all)
 }

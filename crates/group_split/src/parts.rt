@@ -1,7 +1,8 @@
 // The rows of R that a group has, and the input that it joins.
 
-ghost use Rattle.std.specs.Prelude.{◌≡◌, ◌<◌, ◌≤◌, [], All, IfOk, OnOk, length, map, slice_index, slice_index_or};
+ghost use Rattle.std.specs.Prelude.{◌≡◌, ◌<◌, ◌≤◌, ◌^◌, [], All, IfOk, OnOk, length, map, slice_index, slice_index_or};
 ghost use Rattle.trace_law.specs.Validity.{IsValidInput};
+ghost use Rattle.group_split.specs.Dealt.{IsDealt};
 ghost use Rattle.group_split.specs.Sizes.{is_of};
 ghost use Rattle.group_split.specs.Parts.{IsPartOf, input_of_part, part};
 
@@ -10,6 +11,14 @@ use epoch_tags::Counts;
 use join_rows::{Bytes, Names, Rows, Table};
 use std::alloc::{AllocError, Global};
 use trace_law::Input;
+
+/// What is joined in groups: an input, by so many joiners in all, with the number of each row of R.
+#[derive(Clone, Copy)]
+pub(crate) struct Dealt<'a> {
+    pub(crate) input: &'a Input,
+    pub(crate) joiners: u32,
+    pub(crate) numbers: &'a Counts,
+}
 
 // Whether a number is of this group.
 #[tactic(auto, using(crate::proofs::Parted::is_of_group))]
@@ -107,7 +116,7 @@ pub(crate) fn no_part(alloc: Global, input: &Input) -> Result<Input, AllocError>
 }
 
 // Gives a group's input R's rows of these indices, with their tickets, in the place of those that it has.
-pub(crate) fn put_rows(
+fn put_rows(
     alloc: Global,
     input: &Input,
     indices: &Counts,
@@ -123,4 +132,25 @@ pub(crate) fn put_rows(
     group_input.table_r.rows = rows;
     group_input.tickets_r = tickets;
     Ok(())
+}
+
+/// Gives a group's input the group's rows of R in the place of those that it has, and says which they are.
+pub(crate) fn give_part(
+    alloc: Global,
+    dealt: &Dealt<'_>,
+    group: u64,
+    group_input: &mut Input,
+) -> Result<Counts, AllocError>
+    requires dealt { IsDealt dealt.now }
+    requires part { IsPartOf dealt.now.input.now group_input.old }
+    ensures indices { IfOk result (λ indices.
+        indices ≡ part dealt.now.joiners dealt.now.numbers.now group) }
+    ensures input { IfOk result (λ indices.
+        group_input.new ≡ input_of_part dealt.now.input.now indices) }
+    ensures valid { OnOk result (IsValidInput group_input.new) }
+    ensures small { IfOk result (All (λ index. index < 2 ^ 32)) }
+{
+    let indices = part(alloc, dealt.joiners, dealt.numbers, group)?;
+    put_rows(alloc, dealt.input, &indices, group_input)?;
+    Ok(indices)
 }

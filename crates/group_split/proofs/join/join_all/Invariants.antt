@@ -4,6 +4,6 @@ use Rattle.group_split.proofs.join.join_all.Given as goal
 
 abbrev pub invariant-loop-group : goal.invariant-loop-group
 invariant-loop-group g l = record {
-  part : IsPartOf l.input l.group_input;
-  joined : HasJoined l.input l.joiners l.numbers l.setting l.group l.found;
+  part : IsPartOf l.dealt.input.now l.group_input;
+  joined : HasJoined l.dealt.input.now l.dealt.joiners l.dealt.numbers.now l.setting l.group l.found;
 }
