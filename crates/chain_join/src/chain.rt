@@ -63,60 +63,30 @@ fn whole_run<R: Threads + Wait + Sync, G: Gate + Sync>(
 }
 
 // The second run, over this input, behind the first.
-fn run_over<R: Threads + Wait + Sync, G: Gate + Sync>(
+fn run_second<R: Threads + Wait + Sync, G: Gate + Sync>(
     rt: &R,
     alloc: Global,
     first: Told,
-    second: &Input,
+    second: Input,
     setting: &Setting,
     gate: &G,
 ) -> Result<ChainRun, AllocError>
-    requires second { IsValidInput second.now }
+    requires second { IsValidInput second }
     requires setting { IsValidSetting setting.now }
-    requires places { All (λ pair. pair.i < length first.run.pairs) (nested_loop second.now) }
+    requires places { All (λ pair. pair.i < length first.run.pairs) (nested_loop second) }
     ensures triples { IfOk result (λ run. run.triples
-        ≡ map (triple_at first.run.pairs) (nested_loop second.now)) }
+        ≡ map (triple_at first.run.pairs) (nested_loop second)) }
     ensures first { IfOk result (λ run. run.first ≡ first) }
-    ensures second { IfOk result (λ run. IsToldOf second.now setting.now run.second) }
+    ensures second { IfOk result (λ run. IsToldOf second setting.now run.second) }
 {
-    let told = whole_run(rt, alloc, second, setting, gate)?;
+    let told = whole_run(rt, alloc, &second, setting, gate)?;
+    gate.let_go(second);
     let triples = triples_of(alloc, first.run.pairs.as_slice(), told.run.pairs.as_slice())?;
     Ok(ChainRun {
         triples,
         first,
         second: told,
     })
-}
-
-// The second run, behind the first.
-fn run_second<R: Threads + Wait + Sync, G: Gate + Sync>(
-    rt: &R,
-    alloc: Global,
-    first: &Input,
-    told: Told,
-    third: Third,
-    setting: &Setting,
-    seed: u64,
-    gate: &G,
-) -> Result<ChainRun, AllocError>
-    requires input { IsValidInput first.now }
-    requires setting { IsValidSetting setting.now }
-    requires told { told.run.pairs ≡ nested_loop first.now }
-    requires few { length (nested_loop first.now) ≤ 2 ^ 18 }
-    requires rows { length third.table.rows ≤ 2 ^ 18 }
-    requires width_r { third.theta.width_r
-        ≡ length first.now.table_r.names + length first.now.table_s.names }
-    requires width_s { IsWide third.table third.theta.width_s }
-    ensures triples { IfOk result (λ run. run.triples ≡ nested3 first.now third) }
-    ensures first { IfOk result (λ run. run.first ≡ told) }
-    ensures second { IfOk result (λ run.
-        IsToldOf (second_input' first.now third seed) setting.now run.second) }
-    ensures valid { IfOk result (λ _. IsValidInput (second_input' first.now third seed)) }
-{
-    let second = second_input(alloc, first, told.run.pairs.as_slice(), third, seed)?;
-    let both = run_over(rt, alloc, told, &second, setting, gate);
-    gate.let_go(second);
-    both
 }
 
 /// Joins R with S by a run, and then the joined rows, one for each pair of the first run and in their
@@ -152,5 +122,6 @@ pub fn run_chain<R: Threads + Wait + Sync, G: Gate + Sync>(
     if pairs > 1 << 18 {
         return Err(ChainFault::Between { pairs });
     }
-    Ok(run_second(rt, alloc, first, told, third, setting, seed, gate)?)
+    let second = second_input(alloc, first, told.run.pairs.as_slice(), third, seed)?;
+    Ok(run_second(rt, alloc, told, second, setting, gate)?)
 }
