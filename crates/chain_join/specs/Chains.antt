@@ -11,11 +11,10 @@ use Rattle.row_tickets.specs.Tickets.{ticket_of}
 use Rattle.joined_rows.specs.Joined.{joined_names, joined_row as joined_row_of}
 use Rattle.trace_law.specs.declared.input.Input.{Input}
 use Rattle.trace_law.specs.declared.setting.Setting.{Setting}
-use Rattle.trace_law.specs.Family.{first_rest}
 use Rattle.trace_law.specs.Join.{matches_of, nested_loop, rows_of}
-use Rattle.trace_law.specs.Runs.{IsRunOf}
 use Rattle.join_runtime.specs.declared.ends.Told.{Told}
 use Rattle.actor_core.specs.Players.{IsFinishedFamily}
+use Rattle.actor_core.specs.Tasks.{IsRun, task_of}
 use Rattle.join_runtime.specs.Endings.{lists_left}
 use Rattle.chain_join.specs.declared.second.Third.{Third}
 use Rattle.chain_join.specs.declared.triples.Triple.{Triple}
@@ -66,5 +65,5 @@ pub record IsWide (table : Table) (width : ℕ) : Type 0 where
 
 -- a run of this input and setting, and its ends, whose lists are a finished, agreeing family with the run's journal
 pub record IsToldOf (input : Input) (setting : Setting) (told : Told) : Type 0 where
-  pub run : IsRunOf input setting (first_rest setting).line told.run.journal told.run
-  pub family : IsFinishedFamily input setting told.run.journal (lists_left told.ends)
+  pub run : IsRun (task_of input setting) told.run.journal told.run
+  pub family : IsFinishedFamily (task_of input setting) told.run.journal (lists_left told.ends)

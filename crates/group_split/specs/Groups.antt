@@ -3,17 +3,16 @@ use Rattle.std.specs.Prelude.{ℕ, ◌+◌, ⊤, List, [], ◌∷◌}
 use Rattle.trace_law.specs.declared.input.Input.{Input}
 use Rattle.trace_law.specs.declared.setting.Setting.{Setting}
 use Rattle.trace_law.specs.declared.run.Run.{Run}
-use Rattle.trace_law.specs.Family.{first_rest}
-use Rattle.trace_law.specs.Runs.{IsRunOf}
 use Rattle.actor_core.specs.Players.{IsFinishedFamily}
+use Rattle.actor_core.specs.Tasks.{IsRun, task_of}
 use Rattle.join_runtime.specs.Endings.{EndsView, lists_left}
 pub use Rattle.group_split.specs.Sizes.{digits, sizes, before, IsGroupOf, is_of, word_of, numbers_of}
 pub use Rattle.group_split.specs.Parts.{part, input_of_part, setting_of_group, pair_in}
 
 -- the run of a group's input and setting, and what its actors leave, which is a finished family with the run's journal
 pub record IsGroupRun (input : Input) (setting : Setting) (answer : Run) (ends : EndsView) : Type 0 where
-  pub run : IsRunOf input setting (first_rest setting).line answer.journal answer
-  pub family : IsFinishedFamily input setting answer.journal (lists_left ends)
+  pub run : IsRun (task_of input setting) answer.journal answer
+  pub family : IsFinishedFamily (task_of input setting) answer.journal (lists_left ends)
 
 -- of the groups from g on, whose digits these are, each has its run and its ends, in their order
 abbrev pub AreGroupsFrom : Input → ℕ → List ℕ → Setting → ℕ → List ℕ → List Run → List EndsView → Type 0
