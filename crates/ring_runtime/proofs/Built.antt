@@ -14,7 +14,6 @@ use Rattle.epoch_tags.specs.Links.{HasLink, feeder_joiner, joiner_joiner, contro
 use Rattle.epoch_tags.specs.Links.{joiner_controller, joiner_collector}
 use Rattle.ring_links.specs.Rings.{Receiving}
 use Rattle.ring_links.specs.Outlets.{OutletView, contents}
-use Rattle.trace_law.specs.declared.input.Input.{Input}
 use Rattle.trace_law.specs.declared.setting.Setting.{Setting}
 use Rattle.actor_core.specs.declared.cast.Cast.{Cast}
 use Rattle.actor_core.specs.Lists.{no_lists}
@@ -22,6 +21,7 @@ use Rattle.actor_core.specs.Standing.{Stands, IsLive, given_by}
 use Rattle.actor_core.specs.Families.{IsActor, start_for}
 use Rattle.actor_core.specs.Numbers.{actor_at, at_number, cast_of, count_of, number}
 use Rattle.actor_core.specs.Players.{lists_among, lists_at}
+use Rattle.actor_core.specs.Tasks.{Task}
 use Rattle.actor_core.proofs.Beginnings.{has_number, there}
 use Rattle.actor_core.proofs.OwnNumbers.{number_actor}
 use Rattle.actor_core.proofs.Seated.{core_there, lists_there, number_low}
@@ -106,34 +106,34 @@ actors_linked setting _ _ (joiner_collector low) = (low, tt)
 -- ---- new seats, one after another
 
 -- one seat more
-pub new_more : (input : Input) (setting : Setting) (count : ℕ) (seats : List RingSeatView) (seat : RingSeatView)
-    → AreNewSeats input setting count seats
-    → IsNewSeat input setting count seat → AreNewSeats input setting (count + 1) (seats ++ seat ∷ [])
-new_more input setting count seats seat old one = record {
+pub new_more : (task : Task) (count : ℕ) (seats : List RingSeatView) (seat : RingSeatView)
+    → AreNewSeats task count seats
+    → IsNewSeat task count seat → AreNewSeats task (count + 1) (seats ++ seat ∷ [])
+new_more task count seats seat old one = record {
   all = length-append seats (seat ∷ []) ∙ ap (λ n. n + 1) old.all;
   new = λ n d low. elim (cases_lt n count) [
     | inl less ↦
-        subst (IsNewSeat input setting n) (sym (get_or_append_left seats (seat ∷ []) d n (omega (arith, old.all))))
+        subst (IsNewSeat task n) (sym (get_or_append_left seats (seat ∷ []) d n (omega (arith, old.all))))
         (old.new n d less)
     | inr more ↦
         let is : count ≡ n = omega arith in
         let here : length seats ≡ n = old.all ∙ is in
-        subst (IsNewSeat input setting n)
+        subst (IsNewSeat task n)
         (sym (subst (λ z. get_or (seats ++ seat ∷ []) z d ≡ seat) here (get_or-append_seam seats seat [] d)))
-        (subst (λ z. IsNewSeat input setting z seat) is one)
+        (subst (λ z. IsNewSeat task z seat) is one)
   ];
 }
 
 -- ---- all seats, with their rings
 
-module _ (input : Input) (setting : Setting) (cast : Cast) (first seats : List RingSeatView)
-    (is : cast ≡ cast_of setting) (made : AreNewSeats input setting (count_of (cast_of setting)) first)
+module _ (task : Task) (cast : Cast) (first seats : List RingSeatView)
+    (is : cast ≡ cast_of task.setting) (made : AreNewSeats task (count_of (cast_of task.setting)) first)
     (wired : AreWiredBelow cast (count_of cast) first seats) where
   abbrev count : ℕ
   count = count_of cast
 
-  new : AreNewSeats input setting count first
-  new = subst (λ c. AreNewSeats input setting (count_of c) first) (sym is) made
+  new : AreNewSeats task count first
+  new = subst (λ c. AreNewSeats task (count_of c) first) (sym is) made
 
   long : length seats ≡ count
   long = wired.all ∙ new.all
@@ -151,7 +151,7 @@ module _ (input : Input) (setting : Setting) (cast : Cast) (first seats : List R
       (out_of seats d n r) (in_of seats d r n)
   between n r d low low' = wired.done n r d low low' ((new.new n d low).no_out r) ((new.new r d low').no_in n)
 
-  actor_is : (n : ℕ) (a : Actor) → a ≡ actor_at (cast_of setting) n → a ≡ actor_at cast n
+  actor_is : (n : ℕ) (a : Actor) → a ≡ actor_at (cast_of task.setting) n → a ≡ actor_at cast n
   actor_is n a same = same ∙ ap (λ c. actor_at c n) (sym is)
 
   placed : (n : ℕ) (f : Frame) → n < length (map frame_of seats)
@@ -163,7 +163,7 @@ module _ (input : Input) (setting : Setting) (cast : Cast) (first seats : List R
       let same = still n d low' in
       let one = new.new n d low' in
       let places = wired.same n d (subst (λ z. n < z) (sym new.all) low') in
-      let all : count_of (cast_of setting) ≡ count = ap count_of (sym is) in
+      let all : count_of (cast_of task.setting) ≡ count = ap count_of (sym is) in
       subst (IsPlaced cast n) (sym (get_or-map frame_of seats n d f here)) (record {
         cast_is = ap (λ (s : RingSeatView). s.cast) same ∙ (one.cast_is ∙ sym is);
         actor = ap (λ (s : RingSeatView). s.actor) same ∙ actor_is n (get_or first n d).actor one.actor;
@@ -254,28 +254,28 @@ module _ (input : Input) (setting : Setting) (cast : Cast) (first seats : List R
             lists_there lists_of cast seats a n d at low ∙ empty_lists n d (low_of n low)
 
     -- each machine stands for empty lists, and these are its seat's
-    pub start_stands : StandsFor input setting v
+    pub start_stands : StandsFor task v
     start_stands = record {
       cast_is = is;
       all = length-map seats (λ (s : RingSeatView). s.core) ∙ long;
       stands = λ a actor.
-          let num = has_number setting a actor in
+          let num = has_number task.setting a actor in
           let at : number cast a ≡ Some num.0 = ap (λ c. number c a) is ∙ num.1 in
           let low = low_number a num.0 at in
           let d = (there seats num.0 low).0 in
           let one = new.new num.0 d (low_of num.0 low) in (
             (get_or seats num.0 d).core,
             core_there (λ (s : RingSeatView). s.core) cast seats a num.0 d at low,
-            subst (λ ls. Stands (start_for input setting a) ls (get_or seats num.0 d).core) (sym (start_empty a))
-                (subst (λ c. Stands (start_for input setting a) no_lists c)
+            subst (λ ls. Stands (start_for task a) ls (get_or seats num.0 d).core) (sym (start_empty a))
+                (subst (λ c. Stands (start_for task a) no_lists c)
                 (sym (ap (λ (s : RingSeatView). s.core) (still num.0 d (low_of num.0 low))))
-                (subst (λ z. Stands (start_for input setting z) no_lists (get_or first num.0 d).core)
-                (number_actor (cast_of setting) a num.0 num.1) one.stands)),
+                (subst (λ z. Stands (start_for task z) no_lists (get_or first num.0 d).core)
+                (number_actor (cast_of task.setting) a num.0 num.1) one.stands)),
           );
     }
 
     -- its collector gave no pair
-    pub start_given : (j : ℕ) → j < 2 ^ setting.k → slice_index (given_in v) j ≡ 0
+    pub start_given : (j : ℕ) → j < 2 ^ task.setting.k → slice_index (given_in v) j ≡ 0
     start_given j below =
         let place = cast.feeders + cast.joiners + 1 in
         let low : place < count = omega arith in
@@ -297,19 +297,19 @@ module _ (input : Input) (setting : Setting) (cast : Cast) (first seats : List R
         ∙ ap (λ (o : Option RingSeatView). outlet_at o (Some r)) (slice_get-get_or seats n d low))
 
     linked_at : (from to : Actor) (n r : ℕ) → number cast from ≡ Some n → number cast to ≡ Some r
-        → (IsSome (outlet_of v from to) ↔ HasLink setting.k setting.feeders from to)
+        → (IsSome (outlet_of v from to) ↔ HasLink task.setting.k task.setting.feeders from to)
     linked_at from to n r at at' =
         let low = low_number from n at in
         let low' = low_number to r at' in
         let d = (there seats n low).0 in
-        let both = new_linked setting.k cast (actor_at cast n) (actor_at cast r)
+        let both = new_linked task.setting.k cast (actor_at cast n) (actor_at cast r)
         (out_of seats d n r) (in_of seats d r n) (ap (λ (c : Cast). c.joiners) is)
         (between n r d (low_of n low) (low_of r low')) in
-        subst (λ (c : Cast). IsSome (outlet_of v from to) ↔ HasLink setting.k c.feeders from to) is
-        (subst (λ o. IsSome o ↔ HasLink setting.k cast.feeders from to) (sym (outlet_is from to n r d at at' low))
-        (subst (λ a. IsSome (out_of seats d n r) ↔ HasLink setting.k cast.feeders a to)
+        subst (λ (c : Cast). IsSome (outlet_of v from to) ↔ HasLink task.setting.k c.feeders from to) is
+        (subst (λ o. IsSome o ↔ HasLink task.setting.k cast.feeders from to) (sym (outlet_is from to n r d at at' low))
+        (subst (λ a. IsSome (out_of seats d n r) ↔ HasLink task.setting.k cast.feeders a to)
         (number_actor cast from n at)
-        (subst (λ a. IsSome (out_of seats d n r) ↔ HasLink setting.k cast.feeders (actor_at cast n) a)
+        (subst (λ a. IsSome (out_of seats d n r) ↔ HasLink task.setting.k cast.feeders (actor_at cast n) a)
         (number_actor cast to r at') both)))
 
     nowhere : (o : Option RingSeatView) → outlet_at o None ≡ None
@@ -317,29 +317,29 @@ module _ (input : Input) (setting : Setting) (cast : Cast) (first seats : List R
     nowhere (Some seat) = refl
 
     none_there : (from to : Actor) → outlet_of v from to ≡ None → IsSome (outlet_of v from to)
-        → HasLink setting.k setting.feeders from to
+        → HasLink task.setting.k task.setting.feeders from to
     none_there from to none some = absurd (true≢false (sym (subst IsSome none some)))
 
-    link_of : (from to : Actor) → IsSome (outlet_of v from to) → HasLink setting.k setting.feeders from to
+    link_of : (from to : Actor) → IsSome (outlet_of v from to) → HasLink task.setting.k task.setting.feeders from to
     link_of from to = go (number cast from) (number cast to) refl refl
       where
         go : (i k : Option ℕ) → number cast from ≡ i → number cast to ≡ k
-            → IsSome (outlet_of v from to) → HasLink setting.k setting.feeders from to
+            → IsSome (outlet_of v from to) → HasLink task.setting.k task.setting.feeders from to
         go None k at at' = none_there from to
             (ap (λ (o : Option ℕ). outlet_at (at_number None o (λ z. slice_get seats z)) (number cast to))
             at)
         go (Some n) None at at' = none_there from to (ap (outlet_at (seat_of v from)) at' ∙ nowhere (seat_of v from))
         go (Some n) (Some r) at at' = (linked_at from to n r at at').0
 
-    has_outlet : (from to : Actor) → HasLink setting.k setting.feeders from to → IsSome (outlet_of v from to)
+    has_outlet : (from to : Actor) → HasLink task.setting.k task.setting.feeders from to → IsSome (outlet_of v from to)
     has_outlet from to link =
-        let ends = actors_linked setting from to link in
-        let num = has_number setting from ends.0 in
-        let num' = has_number setting to ends.1 in
+        let ends = actors_linked task.setting from to link in
+        let num = has_number task.setting from ends.0 in
+        let num' = has_number task.setting to ends.1 in
         (linked_at from to num.0 num'.0 (ap (λ c. number c from) is ∙ num.1)
         (ap (λ c. number c to) is ∙ num'.1)).1 link
 
     -- so it is between any two
     pub start_linked : (from to : Actor)
-        → (IsSome (outlet_of v from to) ↔ HasLink setting.k setting.feeders from to)
+        → (IsSome (outlet_of v from to) ↔ HasLink task.setting.k task.setting.feeders from to)
     start_linked from to = (link_of from to, has_outlet from to)

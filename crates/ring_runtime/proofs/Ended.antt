@@ -7,17 +7,13 @@ use Rattle.epoch_tags.specs.declared.actor.Actor.{Actor}
 use Rattle.load_controller.specs.Standing.{ControllerState}
 use Rattle.pair_collector.specs.Law.{CollectorLists}
 use Rattle.pair_collector.specs.Standing.{CollectorState, StandsFor as CollectorStands, is_complete}
-use Rattle.trace_law.specs.declared.input.Input.{Input}
-use Rattle.trace_law.specs.declared.setting.Setting.{Setting}
 use Rattle.trace_law.specs.declared.run.Run.{Run}
-use Rattle.trace_law.specs.Validity.{IsValid}
-use Rattle.trace_law.specs.Runs.{IsRunOf}
 use Rattle.trace_law.specs.Laws.{CompleteIsFinished, FinishedAnswers}
-use Rattle.trace_law.specs.Family.{first_rest}
 use Rattle.actor_core.specs.Endings.{AreLast, IsAnswerOf}
 use Rattle.actor_core.specs.Families.{AreFronts}
 use Rattle.actor_core.specs.Numbers.{count_of}
 use Rattle.actor_core.specs.Players.{IsFinishedFamily}
+use Rattle.actor_core.specs.Tasks.{Task, IsTask, IsRun}
 use Rattle.actor_core.proofs.CompleteAnswer.{collector_complete, complete_finished, journal_named, run_ends}
 use Rattle.actor_core.proofs.Seats.{same_among}
 use Rattle.ring_runtime.specs.Seats.{RingSeatView, frame_of, lists_of}
@@ -54,25 +50,25 @@ module _ (v : RingSeatsView) (wired : AreWired v.cast (map frame_of v.seats)) wh
         is ∙ sym (journal_named v.cast (cores_in v) many_cores controller collector last)
 
     -- a complete collector ends the run
-    module _ (law : CompleteIsFinished) (done : is_collected v ≡ true) (input : Input) (setting : Setting)
-        (valid : IsValid input setting) (stands : StandsFor input setting v) (fronts : AreFronts (lists_in v))
+    module _ (law : CompleteIsFinished) (done : is_collected v ≡ true) (task : Task)
+        (is_task : IsTask task) (stands : StandsFor task v) (fronts : AreFronts (lists_in v))
         (run : Run) where
-      family_ends : IsFinishedFamily input setting (journal_in v) (lists_in v)
+      family_ends : IsFinishedFamily task (journal_in v) (lists_in v)
       family_ends =
-          complete_finished input setting v.cast (cores_in v) (lists_in v) stands fronts law valid done
+          complete_finished task v.cast (cores_in v) (lists_in v) stands fronts law is_task done
 
       -- so what the seats leave is a finished family, with the journal of the run that is told
       pub told_family : run.journal ≡ controller.journal → (e : RingEndsView)
-          → ((a : Actor) → lists_left e a ≡ lists_in v a) → IsFinishedFamily input setting run.journal (lists_left e)
+          → ((a : Actor) → lists_left e a ≡ lists_in v a) → IsFinishedFamily task run.journal (lists_left e)
       told_family is e same =
-          subst (λ js. IsFinishedFamily input setting js (lists_left e)) (sym (told_journal run is))
-          (subst (IsFinishedFamily input setting (journal_in v)) (sym (fun_ext same)) family_ends)
+          subst (λ js. IsFinishedFamily task js (lists_left e)) (sym (told_journal run is))
+          (subst (IsFinishedFamily task (journal_in v)) (sym (fun_ext same)) family_ends)
 
-      -- and what the controller and the collector answer is a run of this input and setting
+      -- and what the controller and the collector answer is a run of the task
       pub told_run : FinishedAnswers → (bouts : ℕ)
           → ((joiners : ℕ) (ls : CollectorLists) → CollectorStands joiners ls collector
           → IsAnswerOf joiners ls controller.journal bouts run)
-          → IsRunOf input setting (first_rest setting).line run.journal run
+          → IsRun task run.journal run
       told_run answers_law bouts answers =
-          run_ends answers_law input setting v.cast (cores_in v) (lists_in v) valid stands family_ends
+          run_ends answers_law task v.cast (cores_in v) (lists_in v) is_task stands family_ends
           controller collector last bouts run answers

@@ -9,12 +9,11 @@ use mathlib.Core.Path.{fun_ext}
 use Rattle.join_rows.specs.Lists.{IsPrefix}
 use Rattle.ring_links.specs.Rings.{Receiving}
 use Rattle.ring_links.specs.Outlets.{OutletView}
-use Rattle.trace_law.specs.declared.input.Input.{Input}
-use Rattle.trace_law.specs.declared.setting.Setting.{Setting}
 use Rattle.actor_core.specs.declared.cast.Cast.{Cast}
 use Rattle.actor_core.specs.Numbers.{actor_at, count_of}
 use Rattle.actor_core.specs.Players.{AllStand, AreLinked, Extends, Player, Runs, journal_among, lists_among}
 use Rattle.actor_core.specs.declared.machines.Core.{Core}
+use Rattle.actor_core.specs.Tasks.{Task}
 use Rattle.actor_core.proofs.Beginnings.{there}
 use Rattle.actor_core.proofs.EventsCounted.{still_linked}
 use Rattle.actor_core.proofs.OwnNumbers.{number_there}
@@ -111,16 +110,16 @@ module _ (went : Bool) (cast : Cast) (old new : List RingSeatView) (long : lengt
   journal_after = journal_grows cast _ _ _ _ ran
 
   -- what was sent goes over links still
-  pub linked_after : (input : Input) (setting : Setting)
-      → AllStand input setting cast (cores_of old) (lists_among lists_of cast old)
-      → AreLinked setting (lists_among lists_of cast old)
-      → AreLinked setting (lists_among lists_of cast new)
-  linked_after input setting stands = still_linked input setting cast _ _ _ _ stands ran
+  pub linked_after : (task : Task)
+      → AllStand task cast (cores_of old) (lists_among lists_of cast old)
+      → AreLinked task.setting (lists_among lists_of cast old)
+      → AreLinked task.setting (lists_among lists_of cast new)
+  linked_after task stands = still_linked task cast _ _ _ _ stands ran
 
   -- the machines stand for the lists still
-  pub stands_after : (input : Input) (setting : Setting)
-      → AllStand input setting cast (cores_of old) (lists_among lists_of cast old)
-      → AllStand input setting cast (cores_of new) (lists_among lists_of cast new)
+  pub stands_after : (task : Task)
+      → AllStand task cast (cores_of old) (lists_among lists_of cast old)
+      → AllStand task cast (cores_of new) (lists_among lists_of cast new)
   stands_after = stand_after cast _ _ _ _ ran
 
 -- ---- an event is made, or a message moves

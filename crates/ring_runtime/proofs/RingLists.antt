@@ -11,9 +11,6 @@ use Rattle.epoch_tags.specs.declared.message.Envelope.{Envelope}
 use Rattle.epoch_tags.specs.declared.message.Msg.{Msg}
 use Rattle.ring_links.specs.Rings.{Receiving}
 use Rattle.ring_links.specs.Outlets.{OutletView, contents}
-use Rattle.trace_law.specs.declared.input.Input.{Input}
-use Rattle.trace_law.specs.declared.setting.Setting.{Setting}
-use Rattle.trace_law.specs.Validity.{IsValid}
 use Rattle.trace_law.specs.Laws.{QuietIsFinished}
 use Rattle.actor_core.specs.declared.cast.Cast.{Cast}
 use Rattle.actor_core.specs.Lists.{ActorLists, no_lists}
@@ -22,6 +19,7 @@ use Rattle.actor_core.specs.Families.{AreFronts, core_in}
 use Rattle.actor_core.specs.Numbers.{actor_at, at_number, count_of, number}
 use Rattle.actor_core.specs.Players.{AllReceived, lists_among, lists_at}
 use Rattle.actor_core.specs.declared.machines.Core.{Core}
+use Rattle.actor_core.specs.Tasks.{Task, IsTask}
 use Rattle.actor_core.proofs.Beginnings.{there}
 use Rattle.actor_core.proofs.OwnNumbers.{none_some, number_there, some_is}
 use Rattle.actor_core.proofs.Seated.{core_there, lists_there, number_low}
@@ -316,15 +314,14 @@ module _ (v : RingSeatsView) (wired : AreWired v.cast (map frame_of v.seats))
         (rest n d low).rests.waits;
   }
 
-  -- so of a valid input the collector is complete
-  pub rest_collected : EachSeat IsAtRest v.seats → QuietIsFinished → (input : Input) (setting : Setting)
-      → IsValid input setting → StandsFor input setting v
-      → is_collected v ≡ true
-  rest_collected rest law input setting valid stands =
-      still_complete input setting v.cast (cores_in v) (lists_in v) stands
+  -- so of a task within the limits the collector is complete
+  pub rest_collected : EachSeat IsAtRest v.seats → QuietIsFinished → (task : Task) → IsTask task
+      → StandsFor task v → is_collected v ≡ true
+  rest_collected rest law task is_task stands =
+      still_complete task v.cast (cores_in v) (lists_in v) stands
       (fronts v.cast v.seats wired held)
       (λ from to link. all_received v.cast v.seats wired held rest from to)
-      (λ p low core is. waits_there rest (Feeder p) core is) law valid
+      (λ p low core is. waits_there rest (Feeder p) core is) law is_task
 
   -- and where some seat is busy, something is
   pub busy : SomeSeat IsBusy v.seats → ¬ IsStill v

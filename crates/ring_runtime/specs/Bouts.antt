@@ -6,8 +6,6 @@ use Rattle.epoch_tags.specs.declared.actor.Actor.TheVariants.{Collector}
 use Rattle.load_controller.specs.declared.line.TurnLine.{TurnLine}
 use Rattle.ring_links.specs.Rings.{Receiving}
 use Rattle.ring_links.specs.Outlets.{OutletView}
-use Rattle.trace_law.specs.declared.input.Input.{Input}
-use Rattle.trace_law.specs.declared.setting.Setting.{Setting}
 use Rattle.actor_core.specs.declared.cast.Cast.{Cast}
 use Rattle.actor_core.specs.Lists.{ActorLists}
 use Rattle.actor_core.specs.Standing.{Waits, IsLive, given_by}
@@ -15,6 +13,7 @@ use Rattle.actor_core.specs.Families.{core_in}
 use Rattle.actor_core.specs.Numbers.{number, at_number}
 use Rattle.actor_core.specs.Players.{AllReceived, AllStand, Runs, is_complete_among, journal_among, lists_among}
 use Rattle.actor_core.specs.declared.machines.Core.{Core}
+use Rattle.actor_core.specs.Tasks.{Task}
 use Rattle.ring_runtime.specs.Seats.{RingSeatView, NoneWaits, known_at, lists_of, player_of, waiting_at}
 use Rattle.ring_runtime.specs.Turns.{Advances, Rests, Works}
 
@@ -64,15 +63,14 @@ given_at (Some core) = given_by core
 abbrev pub given_in : RingSeatsView → List ℕ
 given_in v = given_at (core_in v.cast (cores_in v) Collector)
 
--- there is a seat for each actor; its machine began as this input and setting say, and stands for the lists of the seat
-abbrev pub StandsFor : Input → Setting → RingSeatsView → Type 0
-StandsFor input setting v = AllStand input setting v.cast (cores_in v) (lists_in v)
+-- there is a seat for each actor; its machine began as the task says, and stands for the lists of the seat
+abbrev pub StandsFor : Task → RingSeatsView → Type 0
+StandsFor task v = AllStand task v.cast (cores_in v) (lists_in v)
 
--- they are seats of some run
+-- they are seats of some task
 pub record StandsForSome (v : RingSeatsView) : Type 0 where
-  pub input : Input
-  pub setting : Setting
-  pub stands : StandsFor input setting v
+  pub task : Task
+  pub stands : StandsFor task v
 
 -- ---- what is left to do
 

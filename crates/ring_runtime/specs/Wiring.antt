@@ -5,13 +5,12 @@ use Rattle.epoch_tags.specs.declared.actor.Actor.{Actor}
 use Rattle.epoch_tags.specs.Links.{HasLink}
 use Rattle.ring_links.specs.Rings.{Receiving, AreEnds}
 use Rattle.ring_links.specs.Outlets.{OutletView}
-use Rattle.trace_law.specs.declared.input.Input.{Input}
-use Rattle.trace_law.specs.declared.setting.Setting.{Setting}
 use Rattle.actor_core.specs.declared.cast.Cast.{Cast}
 use Rattle.actor_core.specs.Lists.{no_lists}
 use Rattle.actor_core.specs.Standing.{Stands, HasGivenNone, IsLive}
 use Rattle.actor_core.specs.Families.{start_for}
 use Rattle.actor_core.specs.Numbers.{actor_at, cast_of, count_of}
+use Rattle.actor_core.specs.Tasks.{Task}
 use Rattle.ring_runtime.specs.Seats.{RingSeatView}
 
 -- the two ends of a new ring, through which nothing went, and for which nothing waits
@@ -97,18 +96,18 @@ pub record AreWiredBelow (cast : Cast) (below : ℕ) (old new : List RingSeatVie
 -- ---- the seats of a run at its beginning
 
 -- the seat of the actor with this number as it was made, with no end of any ring
-pub record IsNewSeat (input : Input) (setting : Setting) (n : ℕ) (seat : RingSeatView) : Type 0 where
-  pub cast_is : seat.cast ≡ cast_of setting
-  pub actor : seat.actor ≡ actor_at (cast_of setting) n
+pub record IsNewSeat (task : Task) (n : ℕ) (seat : RingSeatView) : Type 0 where
+  pub cast_is : seat.cast ≡ cast_of task.setting
+  pub actor : seat.actor ≡ actor_at (cast_of task.setting) n
   pub no_in : (r : ℕ) → slice_index_or seat.ins r None ≡ None
   pub no_out : (r : ℕ) → slice_index_or seat.outs r None ≡ None
-  pub ins : length seat.ins ≡ count_of (cast_of setting)
-  pub outs : length seat.outs ≡ count_of (cast_of setting)
-  pub stands : Stands (start_for input setting (actor_at (cast_of setting) n)) no_lists seat.core
+  pub ins : length seat.ins ≡ count_of (cast_of task.setting)
+  pub outs : length seat.outs ≡ count_of (cast_of task.setting)
+  pub stands : Stands (start_for task (actor_at (cast_of task.setting) n)) no_lists seat.core
   pub live : IsLive seat.core
-  pub given : HasGivenNone (2 ^ setting.k) seat.core
+  pub given : HasGivenNone (2 ^ task.setting.k) seat.core
 
 -- so many seats
-pub record AreNewSeats (input : Input) (setting : Setting) (count : ℕ) (seats : List RingSeatView) : Type 0 where
+pub record AreNewSeats (task : Task) (count : ℕ) (seats : List RingSeatView) : Type 0 where
   pub all : length seats ≡ count
-  pub new : (n : ℕ) (d : RingSeatView) → n < count → IsNewSeat input setting n (slice_index_or seats n d)
+  pub new : (n : ℕ) (d : RingSeatView) → n < count → IsNewSeat task n (slice_index_or seats n d)

@@ -2,11 +2,9 @@
 
 ghost use Rattle.std.specs.Prelude.{◌≡◌, ◌<◌, ◌⊎◌, ℕ, true, false, Ok, OnOk, OnErr, length, map, slice_index_or};
 ghost use Rattle.join_rows.specs.Lists.{IsPrefix};
-ghost use Rattle.trace_law.specs.declared.input.Input.{Input as Input'};
-ghost use Rattle.trace_law.specs.declared.setting.Setting.{Setting as Setting'};
-ghost use Rattle.trace_law.specs.Validity.{IsValid};
 ghost use Rattle.actor_core.specs.Families.{AreFronts};
 ghost use Rattle.actor_core.specs.Players.{AgreesOnLinks, Extends};
+ghost use Rattle.actor_core.specs.Tasks.{IsTask, Task};
 ghost use Rattle.ring_runtime.specs.Seats.{RingSeatView, frame_of};
 ghost use Rattle.ring_runtime.specs.Joins.{AreHeld, AreWired};
 ghost use Rattle.ring_runtime.specs.Bouts.{AllAdvance, AllLive, EachSeat, IsAtRest, IsBusy, IsReady, IsStill, NoneSpent, SomeEvent, SomeSeat, StandsFor, is_collected, journal_in, lists_in};
@@ -114,8 +112,8 @@ impl<'a> Model for RingSeats<'a> {
 
 /// One bout. Each seat has turns until it is idle or has had 256, in as many chunks side by side as there are workers;
 /// then the two ends of each ring are held together. No seat waits for another. `Ok(false)`: nothing was left on any
-/// link, and no feeder would begin; then nothing changed, and of a valid input the collector is complete. After an
-/// error the seats are spent.
+/// link, and no feeder would begin; then nothing changed, and of a task within the limits the collector is complete.
+/// After an error the seats are spent.
 pub fn ring_bout<R: Threads + Sync, G: Gate + Sync>(
     rt: &R,
     seats: &mut RingSeats,
@@ -131,17 +129,16 @@ pub fn ring_bout<R: Threads + Sync, G: Gate + Sync>(
     ensures same { result ≡ Ok false → seats.new ≡ seats.old }
     ensures still { result ≡ Ok false → IsStill seats.old }
     ensures busy { result ≡ Ok true → ¬ IsStill seats.old }
-    ensures collected { result ≡ Ok false → (input : Input') (setting : Setting')
-        → IsValid input setting → StandsFor input setting seats.old
-        → is_collected seats.old ≡ true }
+    ensures collected { result ≡ Ok false → (task : Task) → IsTask task
+        → StandsFor task seats.old → is_collected seats.old ≡ true }
     ensures agrees { OnOk result (AreFronts (lists_in seats.new)) }
     ensures extends { OnOk result (Extends (lists_in seats.old) (lists_in seats.new)) }
     ensures journal { OnOk result (IsPrefix (journal_in seats.old) (journal_in seats.new)) }
-    ensures stands { OnOk result ((input : Input') (setting : Setting')
-        → StandsFor input setting seats.old → StandsFor input setting seats.new) }
-    ensures linked { OnOk result ((input : Input') (setting : Setting')
-        → StandsFor input setting seats.old → AgreesOnLinks setting (lists_in seats.old)
-        → AgreesOnLinks setting (lists_in seats.new)) }
+    ensures stands { OnOk result ((task : Task)
+        → StandsFor task seats.old → StandsFor task seats.new) }
+    ensures linked { OnOk result ((task : Task) → StandsFor task seats.old
+        → AgreesOnLinks task.setting (lists_in seats.old)
+        → AgreesOnLinks task.setting (lists_in seats.new)) }
     ensures goes_on { OnOk result ((seats.old.spent ≡ false) × (seats.new.spent ≡ false)) }
     ensures fails { OnErr result (seats.new.spent ≡ true) }
     ensures actors { seats.new.cast ≡ seats.old.cast }

@@ -2,13 +2,9 @@
 
 ghost use Rattle.std.specs.Prelude.{◌≡◌, true, false, IfOk, map};
 ghost use Rattle.epoch_tags.specs.declared.actor.Actor.{Actor as Actor'};
-ghost use Rattle.trace_law.specs.declared.input.Input.{Input as Input'};
-ghost use Rattle.trace_law.specs.declared.setting.Setting.{Setting as Setting'};
-ghost use Rattle.trace_law.specs.Validity.{IsValid};
-ghost use Rattle.trace_law.specs.Family.{first_rest};
-ghost use Rattle.trace_law.specs.Runs.{IsRunOf};
 ghost use Rattle.actor_core.specs.Families.{AreFronts};
 ghost use Rattle.actor_core.specs.Players.{IsFinishedFamily};
+ghost use Rattle.actor_core.specs.Tasks.{IsRun, IsTask, Task};
 ghost use Rattle.ring_runtime.specs.Bouts.{StandsFor, is_collected, journal_in, lists_in};
 ghost use Rattle.ring_runtime.specs.Endings.{end_of, lists_left};
 
@@ -103,13 +99,13 @@ impl<'a> RingSeats<'a> {
     pub fn finish(self, bouts: u64) -> Result<RingRun, AllocError>
         requires { is_collected self ≡ true }
         ensures family { IfOk result (λ told.
-            (input : Input') (setting : Setting') → IsValid input setting
-            → StandsFor input setting self.entry → AreFronts (lists_in self.entry)
-            → IsFinishedFamily input setting told.run.journal (lists_left told.ends)) }
+            (task : Task) → IsTask task → StandsFor task self.entry
+            → AreFronts (lists_in self.entry)
+            → IsFinishedFamily task told.run.journal (lists_left told.ends)) }
         ensures run { IfOk result (λ told.
-            (input : Input') (setting : Setting') → IsValid input setting
-            → StandsFor input setting self.entry → AreFronts (lists_in self.entry)
-            → IsRunOf input setting (first_rest setting).line told.run.journal told.run) }
+            (task : Task) → IsTask task → StandsFor task self.entry
+            → AreFronts (lists_in self.entry)
+            → IsRun task told.run.journal told.run) }
         ensures ends { IfOk result (λ told.
             (a : Actor') → lists_left told.ends a ≡ lists_in self.entry a) }
         ensures journal { IfOk result (λ told. told.run.journal ≡ journal_in self.entry) }

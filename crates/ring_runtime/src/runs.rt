@@ -6,6 +6,7 @@ ghost use Rattle.trace_law.specs.Family.{first_rest};
 ghost use Rattle.trace_law.specs.Runs.{IsRunOf};
 ghost use Rattle.load_controller.specs.Journal.{last_epoch};
 ghost use Rattle.actor_core.specs.Players.{AgreesOnLinks, IsFinishedFamily};
+ghost use Rattle.actor_core.specs.Tasks.{task_of};
 ghost use Rattle.ring_runtime.specs.Endings.{lists_left};
 ghost use Rattle.ring_runtime.specs.Runs.{most_bouts, orders_in};
 
@@ -30,15 +31,15 @@ pub fn ring_run<R: Threads + Sync, G: Gate + Sync>(
 ) -> Result<RingRun, AllocError>
     requires input { IsValidInput input.now }
     requires setting { IsValidSetting setting.now }
-    ensures family { IfOk result
-        (λ told. IsFinishedFamily input.now setting.now told.run.journal (lists_left told.ends)) }
+    ensures family { IfOk result (λ told. IsFinishedFamily (task_of input.now setting.now)
+        told.run.journal (lists_left told.ends)) }
     ensures linked { IfOk result
         (λ told. AgreesOnLinks setting.now (lists_left told.ends)) }
     ensures run { IfOk result (λ told. IsRunOf input.now setting.now
         (first_rest setting.now).line told.run.journal told.run) }
     ensures fallen { IfOk result (λ told. told.fallen ≡ false) }
     ensures bound { IfOk result (λ told. told.run.bouts
-        ≤ most_bouts input.now setting.now (orders_in (lists_left told.ends))) }
+        ≤ most_bouts (task_of input.now setting.now) (orders_in (lists_left told.ends))) }
     ensures orders { IfOk result (λ told. orders_in (lists_left told.ends)
         ≡ last_epoch told.run.journal) }
 {

@@ -6,6 +6,7 @@ ghost use Rattle.epoch_tags.specs.Links.{HasLink};
 ghost use Rattle.trace_law.specs.Validity.{IsValidInput, IsValidSetting};
 ghost use Rattle.actor_core.specs.Lists.{no_lists};
 ghost use Rattle.actor_core.specs.Numbers.{cast_of, count_of};
+ghost use Rattle.actor_core.specs.Tasks.{task_of};
 ghost use Rattle.ring_runtime.specs.Wiring.{AreNewSeats, IsNewSeat};
 ghost use Rattle.ring_runtime.specs.Bouts.{StandsFor, given_in, lists_in, outlet_of};
 
@@ -27,7 +28,7 @@ fn seat_at<'a>(
 ) -> Result<RingSeat<'a>, AllocError>
     requires input { IsValidInput input.now }
     requires setting { IsValidSetting setting.now }
-    ensures { IfOk result (λ seat. IsNewSeat input.now setting.now n seat) }
+    ensures { IfOk result (λ seat. IsNewSeat (task_of input.now setting.now) n seat) }
 {
     let cast = Cast::of(setting);
     let count = cast.count();
@@ -46,7 +47,7 @@ fn new_seats<'a>(
 ) -> Result<Vec<RingSeat<'a>>, AllocError>
     requires input { IsValidInput input.now }
     requires setting { IsValidSetting setting.now }
-    ensures { IfOk result (λ seats. AreNewSeats input.now setting.now
+    ensures { IfOk result (λ seats. AreNewSeats (task_of input.now setting.now)
         (count_of (cast_of setting.now)) seats.items) }
 {
     let mut seats = Vec::new(alloc);
@@ -67,7 +68,7 @@ impl<'a> RingSeats<'a> {
     ) -> Result<RingSeats<'a>, AllocError>
         requires input { IsValidInput input.now }
         requires setting { IsValidSetting setting.now }
-        ensures stands { IfOk result (StandsFor input.now setting.now) }
+        ensures stands { IfOk result (StandsFor (task_of input.now setting.now)) }
         ensures empty { IfOk result (λ seats. (a : Actor') → lists_in seats a ≡ no_lists) }
         ensures links { IfOk result (λ seats. (from to : Actor') → (IsSome (outlet_of seats from to)
             ↔ HasLink setting.now.k setting.now.feeders from to)) }

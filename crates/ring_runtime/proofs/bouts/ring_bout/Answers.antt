@@ -24,10 +24,9 @@ invariant_of-seats-2 g c =
     let all = sym (length-map seats.items frame_of) ∙ c.seats.invariant.0.all in
     let some : ∥ StandsForSome (record { cast = c.seats.inside.cast; seats = new; spent = false }) ∥₁ =
     ∥∥₁_map (c.seats.invariant.2 c.if-seats.false) (λ is. record {
-      input = is.input;
-      setting = is.setting;
+      task = is.task;
       stands = stands_after c.in_ok-went.went c.seats.inside.cast seats.items new long all
-          (λ e. said.went (ap Ok e)) (λ e. said.same (ap Ok e)) is.input is.setting is.stands;
+          (λ e. said.went (ap Ok e)) (λ e. said.same (ap Ok e)) is.task is.stands;
     }) in
     rw items (wired, λ z. settled, λ z. some)
 
@@ -109,8 +108,8 @@ returns-clause-collected g c =
     } in
     λ is.
     rw (← c.seats.view_is)
-    (λ input setting valid stands. rest_collected v c.seats.invariant.0 (c.seats.invariant.1 c.if-seats.false).held
-    (said.rest is) c.quiet_is_finished.ensures input setting valid stands)
+    (λ task is_task stands. rest_collected v c.seats.invariant.0 (c.seats.invariant.1 c.if-seats.false).held
+    (said.rest is) c.quiet_is_finished.ensures task is_task stands)
 
 pub returns-clause-extends : goal.returns-clause-extends
 returns-clause-extends g c =
@@ -165,8 +164,8 @@ returns-clause-linked g c =
     let settled = settled_after c.in_ok-went.went seats.items new long (λ is. said.went (ap Ok is))
     (λ is. said.held (ap Ok is)) (λ is. said.same (ap Ok is)) (c.seats.invariant.1 c.if-seats.false) in
     rw (← c.seats.view_is, items)
-    (λ input setting stands before. record {
+    (λ task stands before. record {
       fronts = fronts c.seats.inside.cast new wired settled.held;
       linked = linked_after c.in_ok-went.went c.seats.inside.cast seats.items new long all
-          (λ is. said.went (ap Ok is)) (λ is. said.same (ap Ok is)) input setting stands before.linked;
+          (λ is. said.went (ap Ok is)) (λ is. said.same (ap Ok is)) task stands before.linked;
     })

@@ -1,6 +1,5 @@
 use Rattle.std.proofs.Common.{◌≡◌, subst, sym, true}
 use Rattle.std.proofs.Math.Logic.{∥∥₁_map}
-use Rattle.trace_law.specs.Family.{first_rest}
 use Rattle.actor_core.specs.Endings.{AreLast, HaveLast}
 use Rattle.actor_core.proofs.LastTwo.{have_last}
 use Rattle.ring_runtime.specs.Bouts.{RingSeatsView, StandsForSome, cores_in, is_collected, lists_in}
@@ -18,7 +17,7 @@ last_two-controller-requires c =
     } in
     subst (λ cs. ∥ HaveLast cs ∥₁) (sym c.in_ok-cores.ensures.cores)
     (∥∥₁_map (c.self.invariant.2 c.if-spent.false) (λ (is : StandsForSome v).
-    have_last is.input is.setting (first_rest is.setting) v.cast (cores_in v) (lists_in v) is.stands))
+    have_last is.task v.cast (cores_in v) (lists_in v) is.stands))
 
 pub answer-requires : goal.answer-requires
 answer-requires c =
@@ -46,9 +45,9 @@ returns-clause-family c =
     let done : is_collected v ≡ true = rw (← c.self.view_is) at c.requires in
     let e : RingEndsView = record { cast = own.cast; ends = c.in_ok-cores.ends.items } in
     rw (← c.self.view_is)
-    (λ input setting valid stands fronts.
-    told_family v c.self.invariant.0 two.0 two.1 last c.complete_is_finished.ensures done input setting
-    valid stands fronts c.in_ok-run.run' c.in_ok-run.ensures.journal e
+    (λ task is_task stands fronts.
+    told_family v c.self.invariant.0 two.0 two.1 last c.complete_is_finished.ensures done task
+    is_task stands fronts c.in_ok-run.run' c.in_ok-run.ensures.journal e
     (λ a. subst (λ es. lists_left (record { cast = own.cast; ends = es }) a ≡ lists_in v a)
     (sym c.in_ok-cores.ensures.ends) (ends_keep v a)))
 
@@ -64,9 +63,9 @@ returns-clause-run c =
     let last = subst (λ cores. AreLast cores two.0 two.1) c.in_ok-cores.ensures.cores c.last_two-controller.ensures in
     let done : is_collected v ≡ true = rw (← c.self.view_is) at c.requires in
     rw (← c.self.view_is)
-    (λ input setting valid stands fronts.
-    told_run v c.self.invariant.0 two.0 two.1 last c.complete_is_finished.ensures done input setting
-    valid stands fronts c.in_ok-run.run' c.finished_answers.ensures _ c.in_ok-run.ensures.run)
+    (λ task is_task stands fronts.
+    told_run v c.self.invariant.0 two.0 two.1 last c.complete_is_finished.ensures done task
+    is_task stands fronts c.in_ok-run.run' c.finished_answers.ensures _ c.in_ok-run.ensures.run)
 
 pub returns-clause-journal : goal.returns-clause-journal
 returns-clause-journal c =
