@@ -7,12 +7,13 @@ use Rattle.std.proofs.lemmas.Bool.{leb-false}
 use Rattle.clap.specs.Walk.{Row}
 use Rattle.join_words.specs.Apart.{any_of, apart}
 use Rattle.join_words.specs.Found.{early_at, groups_at, grow_at, joiners_at, make_at, names_given, number_at}
-use Rattle.join_words.specs.Found.{replay_at, rings_at, text_at, then_at}
-use Rattle.join_words.specs.Words.{AreBounded, AreOptions, Asked, AskedChain, AskedKind, AskedWave, Names, asked_by}
-use Rattle.join_words.specs.Words.{asked_with, begun_by, early, feed_named, given_by, grid_by, in_chain, in_groups}
-use Rattle.join_words.specs.Words.{in_waves, kind_by, names_by, no_wave_behind, over_rings, single_kind}
+use Rattle.join_words.specs.Found.{flag_at, replay_at, rings_at, text_at, then_at}
+use Rattle.join_words.specs.Words.{AreBounded, AreOptions, AskedChain, AskedKind, AskedWave, Names, StandTogether}
+use Rattle.join_words.specs.Words.{asked, asked_with, begun_by, early, feed_named, given_by, grid_by, in_chain}
+use Rattle.join_words.specs.Words.{in_groups, in_waves, kind_by, names_by, no_wave_behind, over_rings, single_kind}
 use Rattle.join_words.specs.declared.checks.Begun.{Begun}
 use Rattle.join_words.specs.declared.kind.Grid.{Grid}
+use Rattle.join_words.specs.declared.options.Options.{Options}
 use Rattle.join_words.proofs.Passed.{AreNames, IsGrid, both_passed, found_is, grid_found, names_found, not_apart}
 use Rattle.join_words.proofs.Together.{early_bare, early_unmade, growth_before, growth_free, made_bare, then_bare}
 
@@ -49,9 +50,9 @@ module _ (rows : List Row) (bounded : AreBounded rows) (begun : Begun) (names : 
     (none : any_of (given_by rows) apart ≡ false)
     (grid : IsGrid (number_at (codes "fixed") rows) begun.grid)
     (named : AreNames (make_at rows) (then_at rows) (names_given rows) names) where
-  -- the same of another kind
-  abbrev with_kind : AskedKind → Asked
-  with_kind kind = record (asked_with rows begun names) { kind = kind }
+  -- whether such a kind may be asked for with the rest of the words
+  abbrev MayBe : AskedKind → Type 0
+  MayBe kind = StandTogether kind (make_at rows) (flag_at (codes "rows") rows)
 
   -- a wave is behind the growth
   growth : (grow : Option ℕ) → grow_at rows ≡ grow → IfSome grow (λ wave. (1 ≤ wave) × (wave ≤ 3))
@@ -66,12 +67,8 @@ module _ (rows : List Row) (bounded : AreBounded rows) (begun : Begun) (names : 
       (within.0, omega (arith, more, half))
 
   waves_stand : names.chain ≡ None
-      → AreOptions (with_kind (in_waves begun.grid (replay_at rows) names.later (grow_at rows)))
+      → MayBe (in_waves begun.grid (replay_at rows) names.later (grow_at rows))
   waves_stand whole = record {
-    feeders = bounded.feeders;
-    workers = bounded.workers;
-    batch = bounded.batch;
-    weights = bounded.weights;
     small = grid.small;
     fits = grid.fits;
     groups = tt;
@@ -86,12 +83,8 @@ module _ (rows : List Row) (bounded : AreBounded rows) (begun : Begun) (names : 
     chained = tt;
   }
 
-  early_stand : early_at rows ≡ true → AreOptions (with_kind (early begun.grid))
+  early_stand : early_at rows ≡ true → MayBe (early begun.grid)
   early_stand soon = record {
-    feeders = bounded.feeders;
-    workers = bounded.workers;
-    batch = bounded.batch;
-    weights = bounded.weights;
     small = grid.small;
     fits = grid.fits;
     groups = tt;
@@ -107,12 +100,8 @@ module _ (rows : List Row) (bounded : AreBounded rows) (begun : Begun) (names : 
     chained = tt;
   }
 
-  groups_stand : AreOptions (with_kind (in_groups (joiners_at rows)))
+  groups_stand : MayBe (in_groups (joiners_at rows))
   groups_stand = record {
-    feeders = bounded.feeders;
-    workers = bounded.workers;
-    batch = bounded.batch;
-    weights = bounded.weights;
     small = omega arith;
     fits = tt;
     groups = bounded.joiners;
@@ -127,12 +116,8 @@ module _ (rows : List Row) (bounded : AreBounded rows) (begun : Begun) (names : 
     chained = tt;
   }
 
-  rings_stand : AreOptions (with_kind (over_rings begun.grid))
+  rings_stand : MayBe (over_rings begun.grid)
   rings_stand = record {
-    feeders = bounded.feeders;
-    workers = bounded.workers;
-    batch = bounded.batch;
-    weights = bounded.weights;
     small = grid.small;
     fits = grid.fits;
     groups = tt;
@@ -147,15 +132,11 @@ module _ (rows : List Row) (bounded : AreBounded rows) (begun : Begun) (names : 
     chained = tt;
   }
 
-  chain_stands : (chain : AskedChain) → names.chain ≡ Some chain → AreOptions (with_kind (in_chain begun.grid chain))
+  chain_stands : (chain : AskedChain) → names.chain ≡ Some chain → MayBe (in_chain begun.grid chain)
   chain_stands chain is =
       let there : (make_at rows ≡ None) × IsSome (then_at rows) =
       subst (λ (o : Option AskedChain). IfSome o (λ _. (make_at rows ≡ None) × IsSome (then_at rows))) is named.chained
       in record {
-        feeders = bounded.feeders;
-        workers = bounded.workers;
-        batch = bounded.batch;
-        weights = bounded.weights;
         small = grid.small;
         fits = grid.fits;
         groups = tt;
@@ -172,29 +153,35 @@ module _ (rows : List Row) (bounded : AreBounded rows) (begun : Begun) (names : 
 
   -- of each kind
   kinds_stand : (chain : Option AskedChain) → names.chain ≡ chain
-      → AreOptions (with_kind (kind_by rows begun.grid names.later chain))
+      → MayBe (kind_by rows begun.grid names.later chain)
   kinds_stand (Some chain) is = chain_stands chain is
   kinds_stand None is =
-      single_cases rows begun.grid names.later (λ kind. AreOptions (with_kind kind))
+      single_cases rows begun.grid names.later MayBe
       groups_stand rings_stand early_stand
       (waves_stand is)
 
   all_stand : AreOptions (asked_with rows begun names)
-  all_stand = kinds_stand names.chain refl
+  all_stand = record {
+    counted = record { feeders = bounded.feeders; workers = bounded.workers; batch = bounded.batch };
+    weighed = bounded.weights;
+    together = kinds_stand names.chain refl;
+  }
 
--- what a match asks for is what options may be
-pub options_stand : (rows : List Row) (asked : Asked) → AreBounded rows → asked_by rows ≡ Ok asked → AreOptions asked
-options_stand rows asked bounded is =
-    let first = both_passed (begun_by rows) _ asked is in
-    let second = both_passed (names_by (make_at rows) (then_at rows) (names_given rows)) _ asked first.2 in
-    let fed = both_passed (feed_named (text_at (codes "feed") rows)) _ first.0 first.1 in
-    let laid = both_passed (grid_by (groups_at rows) (joiners_at rows) (number_at (codes "fixed") rows)) _ first.0 fed.2
+-- what a match asks for is what may be asked for, where these are what the checks found
+pub options_stand : (rows : List Row) (begun : Begun) (names : Names) → AreBounded rows → Ok begun ≡ begun_by rows
+    → names_by (make_at rows) (then_at rows) (names_given rows) ≡ Ok names → AreOptions (asked_with rows begun names)
+options_stand rows begun names bounded begins named =
+    let fed = both_passed (feed_named (text_at (codes "feed") rows)) _ begun (sym begins) in
+    let laid = both_passed (grid_by (groups_at rows) (joiners_at rows) (number_at (codes "fixed") rows)) _ begun fed.2
     in
-    let stands = not_apart (given_by rows) _ first.0 laid.2 in
+    let stands = not_apart (given_by rows) _ begun laid.2 in
     let grid = grid_found (groups_at rows) (joiners_at rows) (number_at (codes "fixed") rows) laid.0 bounded.joiners.1
     laid.1 in
-    let begun : IsGrid (number_at (codes "fixed") rows) first.0.grid =
-    subst (λ (b : Begun). IsGrid (number_at (codes "fixed") rows) b.grid) (found_is _ first.0 stands.1) grid in
-    subst AreOptions (found_is (asked_with rows first.0 second.0) asked second.2)
-    (all_stand rows bounded first.0 second.0 stands.0 begun
-    (names_found (make_at rows) (then_at rows) (names_given rows) second.0 second.1))
+    let own : IsGrid (number_at (codes "fixed") rows) begun.grid =
+    subst (λ (b : Begun). IsGrid (number_at (codes "fixed") rows) b.grid) (found_is _ begun stands.1) grid in
+    all_stand rows bounded begun names stands.0 own
+    (names_found (make_at rows) (then_at rows) (names_given rows) names named)
+
+-- what options say is what may be asked for
+pub options_are : (options : Options) → AreOptions (asked options)
+options_are options = record { counted = options.counted; weighed = options.weighed; together = options.together }

@@ -4,10 +4,10 @@ ghost use Rattle.std.specs.Prelude.{◌≡◌, ◌<◌, ◌^◌, IfSome, is_some
 ghost use Rattle.clap.specs.Matches.{found_of};
 ghost use Rattle.clap.specs.Walk.{rows_of};
 ghost use Rattle.join_words.specs.Apart.{any_of, apart, are_apart};
-ghost use Rattle.join_words.specs.Found.{number_at, weights_at};
-ghost use Rattle.join_words.specs.Words.{AreBounded, Gives, asked_by, asked_chain, asked_kind, asked_wave, begun_by};
-ghost use Rattle.join_words.specs.Words.{exponent_of, feed_named, fixed_within, given_by, grid_by, kind_by, no_wave_behind};
-ghost use Rattle.join_words.specs.Words.{single_kind};
+ghost use Rattle.join_words.specs.Found.{make_at, number_at, weights_at};
+ghost use Rattle.join_words.specs.Words.{AreBounded, AreOptions, Gives, asked, asked_by, asked_chain, asked_kind, asked_wave};
+ghost use Rattle.join_words.specs.Words.{asked_with, begun_by, exponent_of, feed_named, fixed_within, given_by, grid_by};
+ghost use Rattle.join_words.specs.Words.{kind_by, names_of, no_wave_behind, single_kind};
 
 use crate::apart::{Given, Word};
 use crate::found::{flag, is_given, number, text};
@@ -199,6 +199,43 @@ fn kind<'a>(
     }
 }
 
+/// What a match asks for that passed the checks, with what these found.
+fn options<'a>(
+    matches: &ArgMatches<'a>,
+    begun: Begun,
+    make: Option<u64>,
+    named: Named<'a>,
+) -> Options<'a>
+    requires bounded { AreBounded (rows_of (found_of matches.now)) }
+    requires make { make ≡ make_at (rows_of (found_of matches.now)) }
+    requires together { AreOptions
+        (asked_with (rows_of (found_of matches.now)) begun (names_of named)) }
+    ensures { asked result
+        ≡ asked_with (rows_of (found_of matches.now)) begun (names_of named.entry) }
+{
+    let Named {
+        name_r,
+        name_s,
+        later,
+        chain,
+    } = named;
+    Options {
+        on: text(matches, "on"),
+        kind: kind(matches, begun.grid, later, chain),
+        feeders: small_number(matches, "feeders", 2),
+        workers: small_number(matches, "workers", 4),
+        batch: small_number(matches, "batch", 64),
+        feed: begun.feed,
+        weights: weights(matches),
+        seed: number(matches, "seed").unwrap_or(1),
+        make,
+        report: flag(matches, "report"),
+        rows: flag(matches, "rows"),
+        name_r,
+        name_s,
+    }
+}
+
 /// What a match asks for, or the first check that it fails; or memory is wanting for the later waves.
 pub(crate) fn checked<'a>(
     alloc: Global,
@@ -213,28 +250,7 @@ pub(crate) fn checked<'a>(
     };
     let make = number(matches, "make");
     match read_names(alloc, matches, make) {
-        Ok(
-            Named {
-                name_r,
-                name_s,
-                later,
-                chain,
-            },
-        ) => Ok(Options {
-            on: text(matches, "on"),
-            kind: kind(matches, begun.grid, later, chain),
-            feeders: small_number(matches, "feeders", 2),
-            workers: small_number(matches, "workers", 4),
-            batch: small_number(matches, "batch", 64),
-            feed: begun.feed,
-            weights: weights(matches),
-            seed: number(matches, "seed").unwrap_or(1),
-            make,
-            report: flag(matches, "report"),
-            rows: flag(matches, "rows"),
-            name_r,
-            name_s,
-        }),
+        Ok(named) => Ok(options(matches, begun, make, named)),
         Err(error) => Err(error),
     }
 }

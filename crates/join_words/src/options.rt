@@ -1,10 +1,15 @@
 // What the words ask for, and what may be wrong with them.
 
+ghost use Rattle.std.proofs.Props.{props};
+ghost use Rattle.grid_map.specs.Load.{AreWeights};
+ghost use Rattle.join_words.specs.Requests.{AreCounted, StandTogether, asked_kind};
+
 use crate::kind::Kind;
 use grid_map::Weights;
 use row_tickets::Feed;
 
-/// What the words ask for.
+/// What the words ask for, and can be asked for at once: each number is within the bounds that stand at its field, and
+/// nothing is said beside what it doesn't stand together with.
 #[derive(Debug, Drop, PartialEq, Eq)]
 pub struct Options<'a> {
     /// The text of the predicate.
@@ -35,6 +40,9 @@ pub struct Options<'a> {
     pub name_r: &'a str,
     /// The name of the first wave's file of S, empty where tables are made.
     pub name_s: &'a str,
+    pub ghost counted: { AreCounted feeders workers batch },
+    pub ghost weighed: { AreWeights weights },
+    pub ghost together: { StandTogether (asked_kind kind) make rows } by { Prim.hlevel props },
 }
 
 /// What is wrong with the words. Where several things are, the first in this order is told.

@@ -96,30 +96,30 @@ fn kind(alloc: Global, run: Run) -> Result<Kind<'static>, AllocError> {
     }
 }
 
-/// Those options.
-fn options(alloc: Global, wanted: Wanted) -> Result<Options<'static>, AllocError> {
-    Ok(Options {
-        on: wanted.on,
-        kind: kind(alloc, wanted.run)?,
-        feeders: wanted.feeders,
-        workers: wanted.workers,
-        batch: wanted.batch,
-        feed: wanted.feed,
-        weights: wanted.weights,
-        seed: wanted.seed,
-        make: wanted.make,
-        report: wanted.report,
-        rows: wanted.rows,
-        name_r: wanted.name_r,
-        name_s: wanted.name_s,
-    })
+/// Whether the options say so of all but the kind of run.
+fn agree(options: &Options<'_>, wanted: &Wanted) -> bool {
+    options.on == wanted.on
+        && options.feeders == wanted.feeders
+        && options.workers == wanted.workers
+        && options.batch == wanted.batch
+        && options.feed == wanted.feed
+        && options.weights == wanted.weights
+        && options.seed == wanted.seed
+        && options.make == wanted.make
+        && options.report == wanted.report
+        && options.rows == wanted.rows
+        && options.name_r == wanted.name_r
+        && options.name_s == wanted.name_s
 }
 
 /// Whether those options are read from a line.
 fn reads(alloc: Global, line: &str, wanted: Wanted) -> Result<bool, AllocError> {
     let words = words(alloc, line)?;
-    let wanted = options(alloc, wanted)?;
-    Ok(read_words(alloc, &words) == Ok(wanted))
+    let run = kind(alloc, wanted.run)?;
+    match read_words(alloc, &words) {
+        Ok(options) => Ok(options.kind == run && agree(&options, &wanted)),
+        Err(_) => Ok(false),
+    }
 }
 
 /// What is wrong with a line, if something is.
