@@ -71,7 +71,8 @@ impl fmt::Display for Expected {
 
 /// What is tried for a kind; for the end there is nothing to try.
 pub(crate) fn sample(kind: Expected) -> Option<&'static str>
-    ensures { MatchOption result (sample_of kind ≡ None) (λ token. sample_of kind ≡ Some token.now) }
+    ensures { MatchOption result (sample_of kind ≡ None)
+        (λ token. sample_of kind ≡ Some token.now) }
 {
     match kind {
         Expected::Column => Some("r.x"),
