@@ -4,7 +4,7 @@ ghost use Rattle.std.specs.Prelude.{◌≡◌, ◌⊎◌, ◌<◌, ◌≤◌, �
 ghost use Rattle.std.specs.Prelude.{Ok, Err, IfErr, IfOk, IfSome, is_some};
 ghost use Rattle.join_rows.specs.Shelves.{last_fault};
 ghost use Rattle.join_rows.specs.Records.{IsTable};
-ghost use Rattle.join_words.specs.Words.{AreOptions, asked, chain_of, later_of};
+ghost use Rattle.join_words.specs.Words.{asked, chain_of, later_of};
 ghost use Rattle.join_plan.specs.Causes.{Refuses};
 ghost use Rattle.join_plan.specs.Files.{made_tables, tables_by, third_by};
 ghost use Rattle.join_plan.specs.Later;
@@ -58,7 +58,6 @@ fn two_tables<R: Threads, H: Shelf>(
     shelf: &mut H,
 ) -> Result<Tables, Refusal>
     requires faults { H.faults shelf.old < last_fault }
-    requires options { AreOptions (asked options.now) }
     ensures told { H.told shelf.new ≡ H.told shelf.old }
     ensures rises { H.faults shelf.old ≤ H.faults shelf.new }
     ensures answer { (files : List ℕ → Option (List ℕ)) → H.told shelf.old ≡ Some files
@@ -99,7 +98,6 @@ fn all_waves<H: Shelf>(
     shelf: &mut H,
 ) -> Result<InWaves, Refusal>
     requires faults { H.faults shelf.old < last_fault }
-    requires options { AreOptions (asked options.now) }
     requires table_r { IsTable tables.of_r }
     requires table_s { IsTable tables.of_s }
     ensures told { H.told shelf.new ≡ H.told shelf.old }
@@ -140,7 +138,6 @@ fn with_third<H: Shelf>(
     shelf: &mut H,
 ) -> Result<Gathered, Refusal>
     requires faults { H.faults shelf.old < last_fault }
-    requires options { AreOptions (asked options.now) }
     ensures told { H.told shelf.new ≡ H.told shelf.old }
     ensures rises { H.faults shelf.old ≤ H.faults shelf.new }
     ensures answer { (files : List ℕ → Option (List ℕ)) → H.told shelf.old ≡ Some files
@@ -183,7 +180,6 @@ fn with_others<H: Shelf>(
     shelf: &mut H,
 ) -> Result<Gathered, Refusal>
     requires faults { H.faults shelf.old < last_fault }
-    requires options { AreOptions (asked options.now) }
     requires table_r { IsTable tables.of_r }
     requires table_s { IsTable tables.of_s }
     ensures told { H.told shelf.new ≡ H.told shelf.old }
@@ -228,7 +224,6 @@ pub(crate) fn all_tables<R: Threads, H: Shelf>(
     shelf: &mut H,
 ) -> Result<Gathered, Refusal>
     requires faults { H.faults shelf.old < last_fault }
-    requires options { AreOptions (asked options.now) }
     ensures told { H.told shelf.new ≡ H.told shelf.old }
     ensures rises { H.faults shelf.old ≤ H.faults shelf.new }
     ensures answer { (files : List ℕ → Option (List ℕ)) → H.told shelf.old ≡ Some files

@@ -5,7 +5,7 @@ ghost use Rattle.std.specs.Prelude.{IfErr, IfOk, IfSome, is_some};
 ghost use Rattle.join_rows.specs.Shelves.{last_fault};
 ghost use Rattle.join_rows.specs.Records.{IsTable, table_of};
 ghost use Rattle.join_rows.specs.declared.table.Table.{Table};
-ghost use Rattle.join_words.specs.Words.{AreOptions, Asked, asked, chain_of};
+ghost use Rattle.join_words.specs.Words.{Asked, asked, chain_of};
 ghost use Rattle.join_plan.specs.Causes.{IsSourceOf, Refuses};
 ghost use Rattle.join_plan.specs.Files.{both_found as both_found', bytes_found, source_of};
 ghost use Rattle.join_plan.specs.Files.{table_found, tables_in, tables_of, third_by};
@@ -298,7 +298,6 @@ pub(crate) fn third_table<H: Shelf>(
     shelf: &mut H,
 ) -> Result<Option<Table>, Refusal>
     requires faults { H.faults shelf.old < last_fault }
-    requires options { AreOptions (asked options.now) }
     ensures told { H.told shelf.new ≡ H.told shelf.old }
     ensures rises { H.faults shelf.old ≤ H.faults shelf.new }
     ensures answer { (files : List ℕ → Option (List ℕ)) → H.told shelf.old ≡ Some files

@@ -5,7 +5,7 @@ ghost use Rattle.join_rows.specs.Shelves.{last_fault};
 ghost use Rattle.theta_text.specs.Grammar.{Tree};
 ghost use Rattle.theta_text.specs.Texts.{IsFaultOf, TextReads, limits};
 ghost use Rattle.theta_text.specs.declared.fault.PredFault.{PredFault};
-ghost use Rattle.join_words.specs.Words.{AreOptions, AskedChain, asked, chain_of};
+ghost use Rattle.join_words.specs.Words.{AskedChain, asked, chain_of};
 ghost use Rattle.join_plan.specs.Causes.{Refuses};
 ghost use Rattle.join_plan.specs.Later.{gathered_by};
 ghost use Rattle.join_plan.specs.Plan.{IsAsked, IsFit, IsPlanOf, fitted as fitted'};
@@ -33,7 +33,6 @@ fn prepare_over<R: Threads, H: Shelf>(
     shelf: &mut H,
 ) -> Result<Planned, Refusal>
     requires faults { H.faults shelf.old < last_fault }
-    requires options { AreOptions (asked options.now) }
     requires have { HaveTrees (asked options.now) (trees_in preds.now) }
     requires narrow { AreNarrow preds.now }
     ensures told { H.told shelf.new ≡ H.told shelf.old }
@@ -71,7 +70,6 @@ pub fn prepare<R: Threads, H: Shelf>(
     shelf: &mut H,
 ) -> Result<Planned, Refusal>
     requires faults { H.faults shelf.old < last_fault }
-    requires options { AreOptions (asked options.now) }
     ensures told { H.told shelf.new ≡ H.told shelf.old }
     ensures rises { H.faults shelf.old ≤ H.faults shelf.new }
     ensures answer { (files : List ℕ → Option (List ℕ)) → H.told shelf.old ≡ Some files

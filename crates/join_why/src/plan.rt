@@ -2,7 +2,6 @@
 
 ghost use Rattle.std.specs.Prelude.{◌≤◌};
 ghost use Rattle.grid_map.specs.Load.{AreWeights};
-ghost use Rattle.join_words.specs.Words.{AreOptions, asked};
 
 use crate::lookup::{Headers, push_lookup};
 use crate::source::{label_of, name_of};
@@ -134,9 +133,11 @@ fn last_shape(grid: Grid, weights: Weights, x: u64, y: u64) -> Shape
 }
 
 /// Appends the grid, and what it takes with all rows.
-fn push_grid(text: &mut String, options: &Options<'_>, planned: &Planned) -> Result<(), AllocError>
-    requires { AreOptions (asked options.now) }
-{
+fn push_grid(
+    text: &mut String,
+    options: &Options<'_>,
+    planned: &Planned,
+) -> Result<(), AllocError> {
     let x = rows_in(&planned.tables.of_r);
     let y = rows_in(&planned.tables.of_s);
     let grid = options.kind.grid();
@@ -182,9 +183,7 @@ fn push_joiners(
     text: &mut String,
     options: &Options<'_>,
     planned: &Planned,
-) -> Result<(), AllocError>
-    requires { AreOptions (asked options.now) }
-{
+) -> Result<(), AllocError> {
     match &options.kind {
         Kind::Groups { joiners } => push_groups(text, *joiners),
         Kind::Waves { grow, .. } => {
@@ -224,9 +223,7 @@ pub(crate) fn explain_plan(
     alloc: Global,
     options: &Options<'_>,
     planned: &Planned,
-) -> Result<String, AllocError>
-    requires { AreOptions (asked options.now) }
-{
+) -> Result<String, AllocError> {
     let tables = &planned.tables;
     let mut text = format!(in alloc; "jm would join:\n")?;
     push_waves(&mut text, options, planned)?;

@@ -2,7 +2,7 @@
 
 ghost use Rattle.std.specs.Prelude.{◌≡◌, ◌≢◌, ◌<◌, Ok, map, string_bytes};
 ghost use Rattle.join_rows.specs.Shelves.{last_fault};
-ghost use Rattle.join_words.specs.Words.{AreOptions, asked};
+ghost use Rattle.join_words.specs.Words.{asked};
 ghost use Rattle.join_words.specs.declared.options.WordsFault.{WordsFault};
 ghost use Rattle.join_why.specs.Verdicts.{Judges, Leaves, Tells, refusal_status, status_of};
 
@@ -57,7 +57,6 @@ fn judge_asked<R: Threads, H: Shelf>(
     shelf: &mut H,
 ) -> Verdict
     requires shelf { H.faults shelf.old < last_fault }
-    requires options { AreOptions (asked options.now) }
     ensures words { (fault : WordsFault) → result ≢ Verdict.Words fault }
     ensures tells { Tells H.Shelf (asked options.now) shelf.old shelf.new result }
     ensures leaves { Leaves H.Shelf shelf.old shelf.new result }

@@ -5,4 +5,4 @@ use Rattle.join_plan.proofs.files.all_waves.Goals as goal
 pub returns-in-Ok-clause-refused : goal.returns-in-Ok-clause-refused
 returns-in-Ok-clause-refused g c =
     c.read_later.ensures.refused (asked c.args.options.now)
-    (rw c.later.ensures (waves_asked (asked c.args.options.now) c.requires.options.made_once))
+    (rw c.later.ensures (waves_asked (asked c.args.options.now) c.args.options.now.together.made_once))

@@ -10,6 +10,6 @@ returns-in-Err-clause-refused g c =
     let there : chain_of own.kind ≡ Some (asked_chain c.in-Some.chain) =
     sym c.chain.ensures ∙ ap (option_map asked_chain) c.in-Some.is in
     c.in-Err.ensures.refused own (record {
-      files = (rw there at c.requires.options.chained).0;
+      files = (rw there at c.args.options.now.together.chained).0;
       among = third_among own (asked_chain c.in-Some.chain) there;
     })
