@@ -9,8 +9,8 @@ use Rattle.join_plan.specs.declared.fault.Refusal.TheVariants.{Memory}
 use Rattle.join_plan.specs.Refusals.{text_refusal}
 use Rattle.text_readings.specs.Readings.{IsReading}
 use Rattle.join_plan.specs.declared.fault.Refusal.{Refusal}
-use Rattle.join_plan.specs.declared.refusal.Which.{Which}
-use Rattle.join_plan.specs.declared.refusal.Which.TheVariants.{On}
+use Rattle.join_plan.specs.declared.refusal_of_fault.Which.{Which}
+use Rattle.join_plan.specs.declared.refusal_of_fault.Which.TheVariants.{On}
 use Rattle.join_plan.specs.Texts.{tree_or_refused}
 
 -- a text with a predicate reads as its tree

@@ -15,8 +15,8 @@ use Rattle.join_plan.specs.declared.fault.Refusal.TheVariants as refusals
 use Rattle.join_plan.specs.declared.fault.LimitFault.TheVariants.{Between, TooLong, TooMany, Total}
 use Rattle.join_plan.specs.declared.fault.TextFault.{TextFault}
 use Rattle.join_plan.specs.declared.fault.TextFault.TheVariants.{Syntax, Deep, Wide, Literal, NoColumn, TwoColumns}
-use Rattle.join_plan.specs.declared.refusal.Which.{Which}
-use Rattle.join_plan.specs.declared.refusal.Which.TheVariants.{On, Then}
+use Rattle.join_plan.specs.declared.refusal_of_fault.Which.{Which}
+use Rattle.join_plan.specs.declared.refusal_of_fault.Which.TheVariants.{On, Then}
 use Rattle.join_plan.specs.Causes.{HasText, IsTextOf, IsTrueFurther, LacksOne, Refuses}
 use Rattle.join_plan.specs.Files.{sources}
 use Rattle.join_plan.specs.Refusals.{column_refusal, text_refusal, told_by}

@@ -13,7 +13,7 @@ use Rattle.join_plan.specs.declared.fault.TextFault.{TextFault}
 use Rattle.join_plan.specs.declared.fault.TextFault.TheVariants.{NoColumn, TwoColumns}
 use Rattle.join_plan.specs.declared.fault.Refusal.{Refusal}
 use Rattle.join_plan.specs.declared.fault.Refusal.TheVariants.{Memory}
-use Rattle.join_plan.specs.declared.refusal.Which.{Which}
+use Rattle.join_plan.specs.declared.refusal_of_fault.Which.{Which}
 use Rattle.join_plan.specs.Refusals.{column_refusal, told_by}
 use Rattle.join_plan.specs.Columns.{wrong_at, first_wrong, theta_over, tree_names}
 use Rattle.join_plan.proofs.Trees.{names_in-tree, resolved-tree}

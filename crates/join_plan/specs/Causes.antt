@@ -8,8 +8,8 @@ use Rattle.join_plan.specs.declared.fault.Refusal.{Refusal}
 use Rattle.join_plan.specs.declared.fault.Refusal.TheVariants.{Input, Limit, Memory, Predicate, Read, Then}
 use Rattle.join_plan.specs.declared.fault.LimitFault.TheVariants.{Between, TooLong, TooMany, Total}
 use Rattle.join_plan.specs.declared.fault.TextFault.{TextFault}
-use Rattle.join_plan.specs.declared.refusal.Which.{Which}
-use Rattle.join_plan.specs.declared.refusal.Which.TheVariants.{On, Then as Further}
+use Rattle.join_plan.specs.declared.refusal_of_fault.Which.{Which}
+use Rattle.join_plan.specs.declared.refusal_of_fault.Which.TheVariants.{On, Then as Further}
 use Rattle.join_plan.specs.Files.{Source, sources}
 use Rattle.join_plan.specs.Texts.{IsTrueOf}
 

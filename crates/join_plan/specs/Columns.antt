@@ -10,7 +10,7 @@ use Rattle.theta_pred.specs.Resolved.{resolved_sum, resolved_side}
 use Rattle.join_plan.specs.declared.fault.TextFault.{TextFault}
 use Rattle.join_plan.specs.declared.fault.TextFault.TheVariants.{NoColumn, TwoColumns}
 use Rattle.join_plan.specs.declared.fault.Refusal.{Refusal}
-use Rattle.join_plan.specs.declared.refusal.Which.{Which}
+use Rattle.join_plan.specs.declared.refusal_of_fault.Which.{Which}
 use Rattle.join_plan.specs.Refusals.{told_by}
 
 abbrev mutual

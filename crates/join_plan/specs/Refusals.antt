@@ -13,8 +13,8 @@ use Rattle.join_plan.specs.declared.fault.TextFault.{TextFault}
 use Rattle.join_plan.specs.declared.fault.TextFault.TheVariants.{Syntax, Deep, Wide, Literal, NoColumn, TwoColumns}
 use Rattle.join_plan.specs.declared.fault.InputFault.TheVariants.{NoHeader, Width}
 use Rattle.join_plan.specs.declared.fault.LimitFault.TheVariants.{TooLong, TooMany}
-use Rattle.join_plan.specs.declared.refusal.Which.{Which}
-use Rattle.join_plan.specs.declared.refusal.Which.TheVariants.{On, Then}
+use Rattle.join_plan.specs.declared.refusal_of_fault.Which.{Which}
+use Rattle.join_plan.specs.declared.refusal_of_fault.Which.TheVariants.{On, Then}
 
 -- one stage after another
 abbrev pub then_of : {A B : Type 0} → Result A Refusal → (A → Result B Refusal) → Result B Refusal

@@ -14,8 +14,8 @@ use Rattle.join_plan.specs.declared.fault.TextFault.TheVariants.{Syntax, Deep, W
 use Rattle.join_plan.specs.declared.fault.Refusal.{Refusal}
 use Rattle.join_plan.specs.declared.fault.Refusal.TheVariants.{Memory}
 use Rattle.join_plan.specs.declared.predicate.Preds.{Preds}
-use Rattle.join_plan.specs.declared.refusal.Which.{Which}
-use Rattle.join_plan.specs.declared.refusal.Which.TheVariants.{On, Then}
+use Rattle.join_plan.specs.declared.refusal_of_fault.Which.{Which}
+use Rattle.join_plan.specs.declared.refusal_of_fault.Which.TheVariants.{On, Then}
 use Rattle.join_plan.specs.Refusals.{text_refusal, then_of}
 
 -- ---- one text

@@ -9,7 +9,7 @@ ghost use Rattle.join_plan.specs.Causes.{HasText, Refuses};
 ghost use Rattle.join_plan.specs.Columns.{theta_over};
 
 use crate::fault::Refusal;
-use crate::refusal::{Which, columns_refused};
+use crate::refusal_of_fault::{Which, columns_refused};
 use join_rows::Names;
 use std::alloc::Global;
 use theta_pred::{Theta, resolve};

@@ -17,7 +17,7 @@ use crate::fault::Refusal;
 use crate::files::{Gathered, Tables};
 use crate::numbers::number_fault;
 use crate::predicate::Preds;
-use crate::refusal::Which;
+use crate::refusal_of_fault::Which;
 use crate::waves::WaveEnds;
 use join_rows::Table;
 use joined_rows::joined_names;

@@ -15,7 +15,7 @@ ghost use Rattle.join_plan.specs.Texts.{ReadAll, Readings, Reads, ReadsFurther};
 ghost use Rattle.join_plan.specs.Texts.{RefusesText, trees_in};
 
 use crate::fault::Refusal;
-use crate::refusal::{Which, text_refused};
+use crate::refusal_of_fault::{Which, text_refused};
 use join_words::Options;
 use std::alloc::Global;
 use theta_text::{Pred, parse};

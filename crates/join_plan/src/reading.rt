@@ -13,7 +13,7 @@ ghost use Rattle.join_plan.specs.Seen.{IsSeen, TablesSeen, ThirdSeen};
 
 use crate::fault::Refusal;
 use crate::files::Tables;
-use crate::refusal::file_refused;
+use crate::refusal_of_fault::file_refused;
 use join_rows::{Bytes, Made, Shelf, Side, Table, both_tables, judge, read_bytes, read_table};
 use join_words::Options;
 use std::alloc::Global;

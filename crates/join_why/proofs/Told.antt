@@ -6,7 +6,7 @@ use Rattle.join_plan.specs.Plan.{IsPlanOf}
 use Rattle.join_plan.specs.declared.fault.Refusal.{Refusal}
 use Rattle.join_plan.specs.declared.fault.Refusal.TheVariants as refusals
 use Rattle.join_plan.specs.declared.fitting.Planned.{Planned}
-use Rattle.join_plan.specs.declared.refusal.Which.{Which}
+use Rattle.join_plan.specs.declared.refusal_of_fault.Which.{Which}
 use Rattle.join_plan.specs.Texts.{RefusesText}
 use Rattle.join_why.specs.declared.verdict.Verdict.TheVariants.{Refuses}
 use Rattle.join_why.specs.Verdicts.{TellsEarly, TellsPlan, lacks_memory, verdict_of}

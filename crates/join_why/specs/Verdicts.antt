@@ -9,8 +9,8 @@ use Rattle.join_words.specs.declared.options.WordsFault.{WordsFault}
 use Rattle.join_plan.specs.declared.fault.Refusal.{Refusal}
 use Rattle.join_plan.specs.declared.fault.Refusal.TheVariants as refusals
 use Rattle.join_plan.specs.declared.fitting.Planned.{Planned}
-use Rattle.join_plan.specs.declared.refusal.Which.{Which}
-use Rattle.join_plan.specs.declared.refusal.Which.TheVariants.{On, Then}
+use Rattle.join_plan.specs.declared.refusal_of_fault.Which.{Which}
+use Rattle.join_plan.specs.declared.refusal_of_fault.Which.TheVariants.{On, Then}
 use Rattle.join_plan.specs.Plan.{IsPlanOf}
 use Rattle.join_plan.specs.Refusals.{text_refusal}
 use Rattle.join_plan.specs.Seen.{IsSeenPlan}

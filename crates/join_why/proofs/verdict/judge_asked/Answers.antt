@@ -1,6 +1,6 @@
 use Rattle.std.proofs.Common.{Ok, Err, refl, ap}
 use Rattle.join_words.specs.Words.{asked}
-use Rattle.join_plan.specs.declared.refusal.Which.TheVariants.{On, Then}
+use Rattle.join_plan.specs.declared.refusal_of_fault.Which.TheVariants.{On, Then}
 use Rattle.join_why.specs.Verdicts.{verdict_of}
 use Rattle.join_why.proofs.Told.{told_by, told_early}
 use Rattle.join_why.proofs.verdict.judge_asked.Goals as goal

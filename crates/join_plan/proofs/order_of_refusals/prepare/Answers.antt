@@ -2,7 +2,7 @@ use Rattle.std.proofs.Common.{refl}
 use Rattle.join_words.specs.Words.{asked}
 use Rattle.join_plan.specs.Texts.{trees_in}
 use Rattle.join_plan.proofs.Prepared.{planned_by, refused_by, refused_unread, seen_by}
-use Rattle.join_plan.proofs.stages.prepare.Goals as goal
+use Rattle.join_plan.proofs.order_of_refusals.prepare.Goals as goal
 
 pub returns-in-Ok-clause-answer : goal.returns-in-Ok-clause-answer
 returns-in-Ok-clause-answer g c files told same =

@@ -12,7 +12,7 @@ ghost use Rattle.join_plan.specs.Plan.{IsAsked, IsFit, IsPlanOf, fitted as fitte
 ghost use Rattle.join_plan.specs.Refusals.{then_of};
 ghost use Rattle.join_plan.specs.Seen.{IsSeenPlan, PlanSeen};
 ghost use Rattle.join_plan.specs.Texts.{AreNarrow, HaveTrees, RefusesText, trees_in};
-ghost use Rattle.join_plan.specs.declared.refusal.Which.TheVariants.{On, Then};
+ghost use Rattle.join_plan.specs.declared.refusal_of_fault.Which.TheVariants.{On, Then};
 
 use crate::fault::Refusal;
 use crate::files::all_tables;

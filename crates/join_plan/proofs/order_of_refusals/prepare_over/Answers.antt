@@ -4,7 +4,7 @@ use Rattle.join_plan.specs.Texts.{trees_in}
 use Rattle.join_plan.specs.declared.fault.Refusal.TheVariants as refusals
 use Rattle.join_plan.proofs.Prepared.{is_asked, refused_seen}
 use Rattle.join_plan.proofs.Seen.{other_refusal}
-use Rattle.join_plan.proofs.stages.prepare_over.Goals as goal
+use Rattle.join_plan.proofs.order_of_refusals.prepare_over.Goals as goal
 
 pub returns-in-Ok-clause-asked : goal.returns-in-Ok-clause-asked
 returns-in-Ok-clause-asked g c =
