@@ -11,3 +11,4 @@ pub mod Plan
 pub mod Seen
 pub mod Causes
 pub mod Lines
+pub mod BothFiles

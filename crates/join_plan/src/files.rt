@@ -12,9 +12,10 @@ ghost use Rattle.join_plan.specs.Later.{gathered_behind, gathered_by, waves_by};
 ghost use Rattle.join_plan.specs.Seen.{AllSeen, BehindSeen, GatheredSeen, LaterSeen, TablesAsked};
 ghost use Rattle.join_plan.specs.Waves.{AreEnds, first_wave as first_wave'};
 
+use crate::both_files::read_tables;
 use crate::fault::Refusal;
 use crate::later::read_later;
-use crate::reading::{read_tables, third_table};
+use crate::reading::third_table;
 use crate::waves::{InWaves, WaveEnds, first_wave};
 use join_rows::{Shelf, Side, Table, make_table};
 use join_words::Options;

@@ -2,6 +2,7 @@
 //! columns and the numbers, or the first refusal.
 #![tactic(auto)]
 
+mod both_files;
 mod columns;
 mod continued;
 mod fault;
