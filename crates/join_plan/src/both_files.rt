@@ -42,7 +42,7 @@ fn tables_from<R: Threads>(
     ensures whole_r { IfOk result (λ tables. IsTable tables.of_r) }
     ensures whole_s { IfOk result (λ tables. IsTable tables.of_s) }
 {
-    let (made_r, made_s) = both_tables(rt, alloc, of_r, of_s, true);
+    let (made_r, made_s) = both_tables(rt, alloc, of_r, of_s);
     both_found(made_r, made_s)
 }
 
