@@ -2,8 +2,8 @@
 
 ghost use Rattle.seats_law.specs.Agreement.{RingSeatsAgree, SeatsAgree};
 
-/// The lists of seats that stand for a wave, with what was received on each link a front of what was sent, are an
-/// agreeing family of its input, setting and rest. `join_runtime::bout` promises both after each bout.
+/// The lists of seats that stand for a task, with what was received on each link a front of what was sent, are an
+/// agreeing family of it. `join_runtime::bout` promises both after each bout.
 pub fn seats_agree()
     ensures { SeatsAgree }
 {}

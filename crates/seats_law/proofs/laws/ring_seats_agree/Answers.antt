@@ -3,5 +3,4 @@ use Rattle.actor_core.proofs.CompleteAnswer.{agrees}
 use Rattle.seats_law.proofs.laws.ring_seats_agree.Goals as goal
 
 pub returns : goal.returns
-returns c = λ input setting v stands fronts.
-    agrees input setting v.cast (cores_in v) (lists_in v) stands fronts
+returns c = λ task v stands fronts. agrees task v.cast (cores_in v) (lists_in v) stands fronts

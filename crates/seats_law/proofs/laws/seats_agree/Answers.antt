@@ -1,7 +1,6 @@
 use Rattle.join_runtime.specs.Bouts.{cores_in, lists_in}
-use Rattle.actor_core.proofs.CompleteAnswer.{agrees_in_wave}
+use Rattle.actor_core.proofs.CompleteAnswer.{agrees}
 use Rattle.seats_law.proofs.laws.seats_agree.Goals as goal
 
 pub returns : goal.returns
-returns c = λ input setting rest v stands fronts.
-    agrees_in_wave input setting rest v.cast (cores_in v) (lists_in v) stands fronts
+returns c = λ task v stands fronts. agrees task v.cast (cores_in v) (lists_in v) stands fronts
