@@ -9,7 +9,7 @@ ghost use Rattle.join_plan.specs.declared.fault.LimitFault.TheVariants.{Between}
 ghost use Rattle.join_cli.specs.Ends.{Concludes, IsDone, TakesEach};
 ghost use Rattle.join_cli.specs.Chain.{IsFewBetween};
 
-use crate::early::early_output;
+use crate::early_output::early_output;
 use crate::outcome::Outcome;
 use crate::output::{Joined, output};
 use join_plan::Planned;

@@ -3,7 +3,7 @@
 
 mod chain;
 mod conclude;
-mod early;
+mod early_output;
 mod entry;
 mod groups;
 mod growth;

@@ -1,7 +1,7 @@
 use Rattle.join_words.specs.Words.{asked, is_early}
 use Rattle.join_cli.proofs.EarlyOutput.{nothing_written}
 use Rattle.join_report.proofs.Puts.{PutsSome-refl}
-use Rattle.join_cli.proofs.early.early_output.Goals as goal
+use Rattle.join_cli.proofs.early_output.early_output.Goals as goal
 
 pub returns-in-Err-clause-ends : goal.returns-in-Err-clause-ends
 returns-in-Err-clause-ends g c =

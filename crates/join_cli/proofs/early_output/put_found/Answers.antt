@@ -4,7 +4,7 @@ use Rattle.join_cli.specs.Courses.{IsRunInThreads}
 use Rattle.join_cli.specs.Plan.{report_asked}
 use Rattle.join_cli.proofs.EarlyOutput.{put_cut, put_whole}
 use Rattle.join_report.proofs.Puts.{PutsSome-trans}
-use Rattle.join_cli.proofs.early.put_found.Goals as goal
+use Rattle.join_cli.proofs.early_output.put_found.Goals as goal
 
 pub returns-in-Ok-clause-whole : goal.returns-in-Ok-clause-whole
 returns-in-Ok-clause-whole g c =

@@ -1,5 +1,5 @@
 use Rattle.join_report.proofs.Puts.{PutsSome-front}
-use Rattle.join_cli.proofs.early.put_report.Goals as goal
+use Rattle.join_cli.proofs.early_output.put_report.Goals as goal
 
 pub returns-clause-left : goal.returns-clause-left
 returns-clause-left g c =

@@ -1,7 +1,7 @@
 use Rattle.std.proofs.Common.{Err, ap}
 use Rattle.join_words.specs.Words.{asked}
 use Rattle.join_cli.proofs.EarlyOutput.{early_stopped, early_takes, early_written, went_early}
-use Rattle.join_cli.proofs.early.put_early.Goals as goal
+use Rattle.join_cli.proofs.early_output.put_early.Goals as goal
 
 pub returns-in-Ok-clause-ends : goal.returns-in-Ok-clause-ends
 returns-in-Ok-clause-ends g c planned is =
