@@ -2,7 +2,6 @@
 
 ghost use Rattle.std.specs.Prelude.{◌≡◌, ◌≢◌, ◌<◌};
 ghost use Rattle.join_rows.specs.Shelves.{last_fault};
-ghost use Rattle.join_words.specs.Words.{AreOptions, asked};
 ghost use Rattle.join_cli.specs.Ends.{IsDone};
 
 use crate::journals::picture;
@@ -18,7 +17,6 @@ use worker_gate::Gate;
 /// Puts the picture of an outcome that is done, once it is made whole, and answers that outcome; or that memory ran
 /// out, or that the picture couldn't be put. Another outcome is answered as it is.
 fn drawn<K: Sink>(alloc: Global, options: &Options<'_>, outcome: Outcome, sink: &mut K) -> Outcome
-    requires { AreOptions (asked options.now) }
     ensures refused { (IsDone outcome → ⊥) → IsDone result → ⊥ }
     ensures nothing { (IsDone result → ⊥) → result ≢ Outcome.Write → sink.new ≡ sink.old }
 {

@@ -2,7 +2,6 @@
 
 ghost use Rattle.std.specs.Prelude.{◌<◌, ◌≤◌, All, IfOk, IsNone, IsSome};
 ghost use Rattle.grid_map.specs.Load.{AreWeights};
-ghost use Rattle.join_words.specs.Words.{AreOptions, asked};
 ghost use Rattle.join_cli.specs.Ends.{IsDone};
 
 use group_split::digits;
@@ -146,9 +145,7 @@ fn add_grid(
     drawing: &mut Drawing,
     options: &Options<'_>,
     lines: &[TurnLine],
-) -> Result<(), AllocError>
-    requires { AreOptions (asked options.now) }
-{
+) -> Result<(), AllocError> {
     let k = options.kind.grid().k;
     let Some(waves) = growth(&options.kind) else {
         return add(alloc, drawing, options, "", k, lines);
@@ -174,7 +171,6 @@ pub(crate) fn picture(
     options: &Options<'_>,
     outcome: &Outcome,
 ) -> Result<Option<String>, AllocError>
-    requires { AreOptions (asked options.now) }
     ensures done { IsDone outcome.now → IfOk result IsSome }
     ensures refused { (IsDone outcome.now → ⊥) → IfOk result IsNone }
 {
