@@ -9,10 +9,7 @@ use Rattle.epoch_tags.specs.declared.tuple.Pair.{Pair}
 use Rattle.join_rows.specs.Sinks.{AppendsFront}
 use Rattle.trace_law.specs.declared.input.Input.{Input}
 use Rattle.trace_law.specs.declared.run.Run.{Run}
-use Rattle.trace_law.specs.declared.setting.Setting.{Setting}
 use Rattle.trace_law.specs.Join.{nested_loop}
-use Rattle.trace_law.specs.Family.{first_rest}
-use Rattle.trace_law.specs.Runs.{IsRunOf}
 use Rattle.trace_law.proofs.First.{all_pairs}
 use Rattle.join_report.specs.PairLines.{pair_lines}
 use Rattle.load_controller.specs.declared.line.TurnLine.{TurnLine}
@@ -24,12 +21,16 @@ use Rattle.join_cli.specs.Early.{WroteCut, WroteLines, WroteOutput}
 use Rattle.join_cli.specs.Ends.{ConcludesBy, IsMade, TakesEach}
 use Rattle.join_cli.specs.declared.outcome.Outcome.{Outcome}
 use Rattle.join_cli.specs.Plan.{input_of, report_asked, setting_of}
-use Rattle.join_cli.specs.Tasks.{IsTaskOf}
-use Rattle.join_cli.specs.declared.task.Task.{Task}
+use Rattle.join_cli.specs.Works.{IsWorkOf}
+use Rattle.join_cli.specs.declared.work.Work.{Work}
 use Rattle.join_report.proofs.Pieces.{known-none}
 use Rattle.join_runtime.specs.Endings.{EndsView}
-use Rattle.join_cli.specs.Courses.{Course, IsCourseOf, IsRunInThreads, WentBy, WentSo, by_run}
+use Rattle.join_cli.specs.Courses.{Course, IsCourseOf, WentBy, WentSo, by_run}
+use Rattle.join_cli.specs.Threads.{IsRunInThreads}
 use Rattle.join_cli.proofs.Inputs.{course_of_run}
+use Rattle.join_cli.specs.Works.{IsWholeRun, WorkView}
+use Rattle.actor_core.specs.Tasks.{task_of}
+use Rattle.join_cli.proofs.Inputs.{view_is}
 
 -- bytes, and more behind them
 behind : (known : Option (List ℕ)) (xs ys : List ℕ) → append_known (append_known known xs) ys
@@ -46,41 +47,41 @@ front_behind old middle new xs ys is (n, front) = (
 )
 
 -- the lines of a run's pairs are those of the nested loop's, in another order
-reordered : (input : Input) (setting : Setting) (run : Run) (order : List Pair)
-    → IsRunOf input setting (first_rest setting).line run.journal run → IsPermutation run.pairs order
-    → IsPermutation (nested_loop input) order
-reordered input setting run order is each = subst (λ pairs. IsPermutation pairs order)
-    (is.pairs ∙ all_pairs input setting) each
+reordered : (work : Work) (run : Run) (order : List Pair) → IsWholeRun work run → IsPermutation run.pairs order
+    → IsPermutation (nested_loop work.input.now) order
+reordered work run order is each = subst (λ pairs. IsPermutation pairs order)
+    (is.pairs ∙ all_pairs work.input.now work.setting.now) each
 
--- the lines of all pairs, and the report behind them, are the whole
-pub put_whole : (report : Bool) (input : Input) (setting : Setting) (run : Run) (old middle new : Option (List ℕ))
-    → IsRunOf input setting (first_rest setting).line run.journal run
-    → WroteEach run.pairs old middle → new ≡ append_known middle (report_asked report input setting run.journal)
-    → PutFound report input setting run.journal old new
-put_whole report input setting run old middle new is_run wrote more =
-    let lines = report_asked report input setting run.journal in
-    record {
-      text = pair_lines wrote.order ++ lines;
-      is = record { found = wrote.order; all = reordered input setting run wrote.order is_run wrote.each; is = refl };
-      written = more ∙ ap (λ m. append_known m lines) wrote.written ∙ behind old (pair_lines wrote.order) lines;
-    }
+module _ (report : Bool) (work : Work) (run : Run) (is_run : IsWholeRun work run) (old middle new : Option (List ℕ))
+    (wrote : WroteEach run.pairs old middle) where
+  -- the report behind them
+  abbrev lines : List ℕ
+  lines = report_asked report work.input.now work.setting.now run.journal
 
--- the lines of all pairs, and a front of the report behind them, are a front of the whole
-pub put_cut : (report : Bool) (input : Input) (setting : Setting) (run : Run) (trail : List EndsView)
-    (old middle new : Option (List ℕ)) → IsRunOf input setting (first_rest setting).line run.journal run
-    → IsRunInThreads input setting run.journal trail → WroteEach run.pairs old middle
-    → AppendsFront middle new (report_asked report input setting run.journal) → CutFound report input setting old new
-put_cut report input setting run trail old middle new is_run went wrote front =
-    let lines = report_asked report input setting run.journal in
-    record {
-      run = run;
-      trail = trail;
-      is_run = is_run;
-      went = went;
-      text = pair_lines wrote.order ++ lines;
-      is = record { found = wrote.order; all = reordered input setting run wrote.order is_run wrote.each; is = refl };
-      front = front_behind old middle new (pair_lines wrote.order) lines wrote.written front;
-    }
+  found_text : IsFoundText report work.input.now work.setting.now run.journal (pair_lines wrote.order ++ lines)
+  found_text = record { found = wrote.order; all = reordered work run wrote.order is_run wrote.each; is = refl }
+
+  -- the lines of all pairs, and the report behind them, are the whole
+  pub put_whole : new ≡ append_known middle lines
+      → PutFound report work.input.now work.setting.now run.journal old new
+  put_whole more = record {
+    text = pair_lines wrote.order ++ lines;
+    is = found_text;
+    written = more ∙ ap (λ m. append_known m lines) wrote.written ∙ behind old (pair_lines wrote.order) lines;
+  }
+
+  -- and a front of the report behind them is a front of the whole
+  pub put_cut : (trail : List EndsView) → IsRunInThreads (task_of work.input.now work.setting.now) run.journal trail
+      → AppendsFront middle new lines → CutFound report work.input.now work.setting.now old new
+  put_cut trail went front = record {
+    run = run;
+    trail = trail;
+    is_run = is_run;
+    went = went;
+    text = pair_lines wrote.order ++ lines;
+    is = found_text;
+    front = front_behind old middle new (pair_lines wrote.order) lines wrote.written front;
+  }
 
 -- nothing was written
 pub none_written : (input : Input) (old : Option (List ℕ)) → WroteSome input old old
@@ -125,35 +126,34 @@ pub cut_stopped : (early : Bool) (asked : Asked) (planned : Planned) (old new : 
 cut_stopped false asked planned old new cut = cut
 cut_stopped true asked planned old new cut = inr cut
 
-module _ (asked : Asked) (planned : Planned) (task : Task) (input_is : task.input.now ≡ input_of asked.seed planned)
-    (of : IsTaskOf asked task) (wanted : is_early asked.kind ≡ true) where
+module _ (asked : Asked) (planned : Planned) (work : Work) (input_is : work.input.now ≡ input_of asked.seed planned)
+    (of : IsWorkOf asked work) (wanted : is_early asked.kind ≡ true) where
   -- a run in threads went so as was asked for
-  pub went_early : (run : Run) (trail : List EndsView)
-      → IsRunOf task.input.now task.setting.now (first_rest task.setting.now).line run.journal run
-      → IsRunInThreads task.input.now task.setting.now run.journal trail
+  pub went_early : (run : Run) (trail : List EndsView) → IsWholeRun work run
+      → IsRunInThreads (task_of work.input.now work.setting.now) run.journal trail
       → WentSo asked planned (by_run run.journal trail)
   went_early run trail is went =
       by_threads asked.kind asked planned run.journal trail wanted
-      (course_of_run None asked planned task run trail input_is of is went)
+      (course_of_run asked planned work input_is of None run trail is went)
 
   -- and what it found is the output that is asked for
   found_output : (journal : List TurnLine) (trail : List EndsView) (text : List ℕ)
-      → IsFoundText asked.report task.input.now task.setting.now journal text
+      → IsFoundText asked.report work.input.now work.setting.now journal text
       → IsOutput asked.kind asked planned (by_run journal trail) text
   found_output journal trail text is =
       by_found asked.kind asked planned journal trail text wanted
-      (subst (λ i. IsFoundText asked.report i (setting_of asked) journal text) input_is
-      (subst (λ s. IsFoundText asked.report task.input.now s journal text) of.setting is))
+      (subst (λ (w : WorkView). IsFoundText asked.report w.input w.setting journal text)
+      (view_is asked planned work input_is of) is)
 
   -- early output that was put whole is the output that is asked for
   pub early_written : (journal : List TurnLine) (trail : List EndsView) (old new : Option (List ℕ))
-      → PutFound asked.report task.input.now task.setting.now journal old new
+      → PutFound asked.report work.input.now work.setting.now journal old new
       → WroteOutput asked planned (by_run journal trail) old new
   early_written journal trail old new put =
       record { text = put.text; output = found_output journal trail put.text put.is; written = put.written }
 
   -- early output that stopped, of what is asked for
-  pub early_stopped : (old new : Option (List ℕ)) → PutPart asked.report task.input.now task.setting.now old new
+  pub early_stopped : (old new : Option (List ℕ)) → PutPart asked.report work.input.now work.setting.now old new
       → StoppedAt (is_early asked.kind) asked planned old new
   early_stopped old new put =
       subst (λ e. StoppedAt e asked planned old new) (sym wanted) (elim put [
@@ -169,17 +169,17 @@ module _ (asked : Asked) (planned : Planned) (task : Task) (input_is : task.inpu
 
   -- a sink that takes each output that is asked for takes the early one
   pub early_takes : (takes : ℕ → Type 0) → TakesEach takes asked planned
-      → TakesFound takes asked.report task.input.now task.setting.now
+      → TakesFound takes asked.report work.input.now work.setting.now
   early_takes takes each =
-      let pairs = nested_loop task.input.now in
+      let pairs = nested_loop work.input.now in
       record {
         lines = subst (λ i. takes (length (pair_lines (nested_loop i)) + 0)) (sym input_is)
             (subst takes (plus_none (length (pair_lines (nested_loop (input_of asked.seed planned)))))
             (each.early wanted));
         each = λ run trail is went.
-            let lines = report_asked asked.report task.input.now task.setting.now run.journal in
+            let lines = report_asked asked.report work.input.now work.setting.now run.journal in
             let text = pair_lines pairs ++ lines in
-            let found : IsFoundText asked.report task.input.now task.setting.now run.journal text =
+            let found : IsFoundText asked.report work.input.now work.setting.now run.journal text =
             record { found = pairs; all = IsPermutation-refl pairs; is = refl } in
             subst takes (two_parts (pair_lines pairs) lines)
             (each.each (by_run run.journal trail) text (went_early run trail is went)

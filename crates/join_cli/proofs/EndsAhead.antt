@@ -8,7 +8,7 @@ use Rattle.join_plan.specs.declared.waves.WaveEnd.{WaveEnd}
 use Rattle.join_plan.specs.declared.fitting.Planned.{Planned}
 use Rattle.join_plan.specs.Waves.{AreEnds, IsUpTo, end_of}
 use Rattle.join_cli.specs.Plan.{input_of}
-use Rattle.join_cli.specs.WaveSteps.{AreAhead}
+use Rattle.join_cli.specs.WaveSteps.{AreAhead, AreFewWaves}
 use Rattle.join_cli.specs.Waves.{no_rows, upto_of}
 
 ahead_of : (input : Input) (end : WaveEnd) (ends : List WaveEnd) → AllPairs IsUpTo (end ∷ ends)
@@ -31,7 +31,7 @@ all_within seed planned (end ∷ ends) (here, more) =
     (record { rows_r = here.rows_r; rows_s = here.rows_s }, all_within seed planned ends more)
 
 -- they are one behind the other in what is joined
-pub ends_ahead : (seed : ℕ) (planned : Planned) (input : Input) → input ≡ input_of seed planned
+ends_ahead : (seed : ℕ) (planned : Planned) (input : Input) → input ≡ input_of seed planned
     → AreEnds planned.tables planned.ends → AreAhead input no_rows planned.ends
 ends_ahead seed planned input is are =
     subst (λ i. AreAhead i no_rows planned.ends) (sym is)
@@ -45,3 +45,8 @@ ends_ahead seed planned input is are =
     by [] rising within = tt
     by (end ∷ ends) rising (here, more) =
         (omega arith, omega arith, here, ahead_of (input_of seed planned) end ends rising more)
+
+-- and there are few
+pub few_ends : (seed : ℕ) (planned : Planned) (input : Input) → input ≡ input_of seed planned
+    → AreEnds planned.tables planned.ends → AreFewWaves input planned.ends
+few_ends seed planned input is are = record { ahead = ends_ahead seed planned input is are; few = are.few }

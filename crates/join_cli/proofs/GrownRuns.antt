@@ -1,12 +1,8 @@
 -- The waves of a run with a growth are those of what was run.
-use Rattle.std.proofs.Common.{◌≡◌, ◌∙◌, ◌+◌, ◌≤◌, ℕ, List, [], ◌++◌, Option, ap₂, drop, length}
+use Rattle.std.proofs.Common.{◌≡◌, ◌∙◌, ◌+◌, ◌≤◌, ℕ, List, [], ◌++◌, ap₂, drop, length, arith}
 use Rattle.std.proofs.Common.{refl, sym, ap, subst, take}
 use Rattle.std.specs.List.{IsSplitAt}
-use Rattle.std.specs.Prelude.{flat_map}
 use Rattle.load_controller.specs.declared.line.TurnLine.{TurnLine}
-use Rattle.trace_law.specs.declared.input.Input.{Input}
-use Rattle.trace_law.specs.declared.run.Run.{Run}
-use Rattle.trace_law.specs.declared.setting.Setting.{Setting}
 use Rattle.trace_law.specs.Family.{first_rest}
 use Rattle.actor_core.specs.Rests.{IsRestOf, rest_of}
 use Rattle.elastic_grow.specs.Growth.{grown_line, grown_setting}
@@ -17,140 +13,133 @@ use Rattle.join_cli.specs.declared.waves.Waved.{Waved}
 use Rattle.join_cli.specs.GrownSteps.{AreFirstWaves, AreGrownWaves, AreWavesGrown}
 use Rattle.join_cli.specs.Left.{AreBehind, counted, end_behind}
 use Rattle.join_cli.specs.WaveSteps.{AreAhead, AreWavesBehind}
-use Rattle.join_cli.specs.WaveTexts.{no_waves, waves_over}
+use Rattle.join_cli.specs.WaveTexts.{no_waves}
 use Rattle.join_cli.specs.Waves.{no_rows, waves_pairs}
 use Rattle.join_cli.proofs.GrownFacts.{ahead_early, ahead_later, pairs_of_both}
 use Rattle.join_cli.proofs.WaveRuns.{from_none}
+use Rattle.join_cli.specs.Works.{WorkView, view_of, grown_work}
+use Rattle.join_cli.specs.declared.work.Work.{Work}
+use Rattle.join_cli.specs.WaveSteps.{AreFewWaves, MayGoThrough}
+use Rattle.join_cli.specs.Grown.{waves_since}
 
 -- from a first rest on they are the first waves
-pub first_are : (number : Option ℕ) (input : Input) (setting : Setting) (none first : Waved) (ends : List WaveEnd)
-    → rest_of none.rest ≡ first_rest setting → none.run ≡ no_waves setting → none.trail ≡ []
-    → IsRestOf input setting none.rest → AreWavesBehind number input setting none ends first
-    → AreFirstWaves number input setting ends first
-first_are number input setting none first ends rest_is run_is trail_is stands more =
+pub first_are : (work : WorkView) (none first : Waved) (ends : List WaveEnd)
+    → rest_of none.rest ≡ first_rest work.setting → none.run ≡ no_waves work.setting → none.trail ≡ []
+    → IsRestOf work.input work.setting none.rest → AreWavesBehind work none ends first
+    → AreFirstWaves work ends first
+first_are work none first ends rest_is run_is trail_is stands more =
     record {
-      all = from_none number input setting none first ends rest_is run_is trail_is more;
+      all = from_none work none first ends rest_is run_is trail_is more;
       behind = subst (λ l. AreBehind l ends more.journals first.rest.line) (ap (λ r. r.line) rest_is) more.behind;
       stands = more.stands stands;
     }
 
 -- the grown line has counted what the last before it has
-pub grown_counted : (number : Option ℕ) (input : Input) (setting : Setting) (ends : List WaveEnd) (first : Waved)
-    (line : TurnLine) → AreFirstWaves number input setting ends first
-    → line ≡ grown_line setting.weights setting.k first.rest.line → counted line ≡ end_behind no_rows ends
-grown_counted number input setting ends first line are is = ap counted is ∙ are.behind.counts
-
--- so the other waves end behind it
-pub ahead_since : (number : Option ℕ) (input : Input) (setting : Setting) (wave : ℕ) (ends : List WaveEnd)
-    (first : Waved) (line : TurnLine) → AreFirstWaves number input setting (take wave ends) first
-    → line ≡ grown_line setting.weights setting.k first.rest.line → AreAhead input no_rows ends
-    → AreAhead input (counted line) (drop wave ends)
-ahead_since number input setting wave ends first line are is ahead =
-    subst (λ e. AreAhead input e (drop wave ends))
-    (sym (grown_counted number input setting (take wave ends) first line are is))
-    (ahead_later wave input no_rows ends ahead)
+grown_counted : (work : WorkView) (ends : List WaveEnd) (first : Waved) (line : TurnLine)
+    → AreFirstWaves work ends first → line ≡ grown_line work.setting.weights work.setting.k first.rest.line
+    → counted line ≡ end_behind no_rows ends
+grown_counted work ends first line are is = ap counted is ∙ are.behind.counts
 
 -- the waves before and since are those of a run with a growth
-pub grown_are : (number : Option ℕ) (input : Input) (setting : Setting) (wave : ℕ) (ends : List WaveEnd)
-    (first none since : Waved) → wave ≤ length ends → AreFirstWaves number input setting (take wave ends) first
-    → none.rest.line ≡ grown_line setting.weights setting.k first.rest.line
-    → IsRestOf input (grown_setting setting) none.rest → none.run ≡ no_waves (grown_setting setting)
-    → none.trail ≡ first.trail → AreWavesBehind number input (grown_setting setting) none (drop wave ends) since
-    → AreGrownWaves number input setting wave ends
-    (record { before = first.run; line = none.rest.line; since = since.run; trail = since.trail })
-grown_are number input setting wave ends first none since split are line stands run_is trail_is more =
-    let here = waves_pairs input no_rows (take wave ends) in
-    let there = waves_pairs input (end_behind no_rows (take wave ends)) (drop wave ends) in
+grown_are : (work : WorkView) (wave : ℕ) (ends : List WaveEnd) (first : Waved) (line : TurnLine) (since : Waved)
+    → wave ≤ length ends → AreFirstWaves work (take wave ends) first
+    → AreWavesGrown work first.trail first.rest.line (drop wave ends) line since
+    → AreGrownWaves work wave ends
+    (record { before = first.run; line = line; since = since.run; trail = since.trail })
+grown_are work wave ends first line since split are grown =
+    let here = waves_pairs work.input no_rows (take wave ends) in
+    let there = waves_pairs work.input (end_behind no_rows (take wave ends)) (drop wave ends) in
+    let more = grown.waves in
     let pairs_since : since.run.pairs ≡ there =
-    more.pairs ∙ ap (λ (r : Run). r.pairs ++ waves_pairs input (counted none.rest.line) (drop wave ends)) run_is
-    ∙ ap (λ e. waves_pairs input e (drop wave ends))
-    (grown_counted number input setting (take wave ends) first none.rest.line are line) in
+    more.pairs ∙ ap (λ l. waves_pairs work.input (counted l) (drop wave ends)) grown.from
+    ∙ ap (λ e. waves_pairs work.input e (drop wave ends))
+    (grown_counted work (take wave ends) first line are grown.line_is) in
     record {
       split = split;
       left = first.trail;
       first = are.all;
-      line_is = line ∙ ap (grown_line setting.weights setting.k) are.behind.line_is;
-      rest = rest_of none.rest;
-      from = refl;
-      stands = stands.stands;
+      line_is = grown.line_is ∙ ap (grown_line work.setting.weights work.setting.k) are.behind.line_is;
+      rest = rest_of grown.rest;
+      from = grown.from;
+      stands = grown.stands.stands;
       journals = more.journals;
       trails = more.trails;
       onward = more.went;
-      since_is = more.run
-          ∙ ap (λ r. waves_over input (grown_setting setting) none.rest.line r (drop wave ends) more.journals) run_is;
-      pairs = ap₂ (λ p q. p ++ q) are.all.pairs pairs_since ∙ pairs_of_both wave input no_rows ends;
-      trail_is = more.trail ∙ ap (λ t. t ++ flat_map (λ left. left) more.trails) trail_is;
+      since_is = more.run ∙ ap (λ l. waves_since work.input work.setting l (drop wave ends) more.journals) grown.from;
+      pairs = ap₂ (λ p q. p ++ q) are.all.pairs pairs_since ∙ pairs_of_both wave work.input no_rows ends;
+      trail_is = more.trail;
     }
 
 -- waves that went on from the grown rest, by the setting as the code has it
-pub waves_since_growth : (number : Option ℕ) (input : Input) (setting grown : Setting) (trail : List EndsView)
-    (rest : Left) (last : TurnLine) (ends : List WaveEnd) (since : Waved)
-    → rest.line ≡ grown_line setting.weights setting.k last → IsRestOf input (grown_setting setting) rest
-    → grown ≡ grown_setting setting
-    → AreWavesBehind number input grown (record { run = no_waves grown; trail = trail; rest = rest }) ends since
-    → AreWavesGrown number input setting trail last ends rest.line since
-waves_since_growth number input setting grown trail rest last ends since line stands is waves = record {
+pub waves_since_growth : (work grown : WorkView) (trail : List EndsView) (rest : Left) (last : TurnLine)
+    (ends : List WaveEnd) (since : Waved) → rest.line ≡ grown_line work.setting.weights work.setting.k last
+    → IsRestOf work.input (grown_setting work.setting) rest → grown ≡ grown_work work
+    → AreWavesBehind grown (record { run = no_waves grown.setting; trail = trail; rest = rest }) ends since
+    → AreWavesGrown work trail last ends rest.line since
+waves_since_growth work grown trail rest last ends since line stands is waves = record {
   line_is = line;
   rest = rest;
   from = refl;
   stands = stands;
-  waves = subst (λ s.
-      AreWavesBehind number input s (record { run = no_waves s; trail = trail; rest = rest }) ends since) is waves;
+  waves = subst (λ w.
+      AreWavesBehind w (record { run = no_waves w.setting; trail = trail; rest = rest }) ends since) is waves;
 }
+
+-- and waves may go on from there
+pub may_go_on : (work grown : Work) (rest next : Left) (ends : List WaveEnd)
+    → next.line ≡ grown_line work.setting.now.weights work.setting.now.k rest.line
+    → IsRestOf work.input.now (grown_setting work.setting.now) next → view_of grown ≡ grown_work (view_of work)
+    → MayGoThrough work rest ends → MayGoThrough grown next ends
+may_go_on work grown rest next ends line stands is may =
+    let early = may.early in
+    let same : next.line.epoch ≡ rest.line.epoch = ap (λ (l : TurnLine). l.epoch) line in
+    record {
+      ahead = subst (λ (w : WorkView). AreAhead w.input (counted next.line) ends) (sym is)
+          (subst (λ e. AreAhead work.input.now e ends) (sym (ap counted line)) may.ahead);
+      stands = subst (λ (w : WorkView). IsRestOf w.input w.setting next) (sym is) stands;
+      early = omega (arith, early, same);
+    }
 
 -- ---- the ends, split
 
--- the first of them end one behind the other
-pub split_early : (input : Input) (wave : ℕ) (ends early later : List WaveEnd) → IsSplitAt ends wave early later
-    → AreAhead input no_rows ends → AreAhead input no_rows early
-split_early input wave ends early later (low, is_early, is_later, early_size, later_size) ahead =
-    subst (AreAhead input no_rows) (sym is_early) (ahead_early wave input no_rows ends ahead)
+module _ (work : Work) (wave : ℕ) (ends early later : List WaveEnd) (split : IsSplitAt ends wave early later) where
+  -- the first of them are few, one behind the other
+  pub split_early : AreFewWaves work.input.now ends → AreFewWaves work.input.now early
+  split_early waves =
+      let few = waves.few in
+      let low = split.0 in
+      let size = split.3 in
+      record {
+        ahead = subst (AreAhead work.input.now no_rows) (sym split.1)
+            (ahead_early wave work.input.now no_rows ends waves.ahead);
+        few = omega (arith, few, size, low);
+      }
 
--- the others do behind the growth
-pub split_later : (number : Option ℕ) (input : Input) (setting : Setting) (wave : ℕ) (ends early later : List WaveEnd)
-    (first : Waved) (line : TurnLine) → IsSplitAt ends wave early later
-    → AreFirstWaves number input setting early first → line ≡ grown_line setting.weights setting.k first.rest.line
-    → AreAhead input no_rows ends → AreAhead input (counted line) later
-split_later number input setting wave ends early later first line (low, is_early, is_later, early_size, later_size) are
-    is ahead =
-    subst (AreAhead input (counted line)) (sym is_later)
-    (ahead_since number input setting wave ends first line
-    (subst (λ es. AreFirstWaves number input setting es first) is_early are) is ahead)
+  module _ (first : Waved) (are : AreFirstWaves (view_of work) early first) where
+    abbrev of_first : AreFirstWaves (view_of work) (take wave ends) first
+    of_first = subst (λ es. AreFirstWaves (view_of work) es first) split.1 are
 
--- and so they do behind what the first have left
-pub split_behind : (number : Option ℕ) (input : Input) (setting : Setting) (wave : ℕ)
-    (ends early later : List WaveEnd) (first : Waved) → IsSplitAt ends wave early later
-    → AreFirstWaves number input setting early first → AreAhead input no_rows ends
-    → AreAhead input (counted first.rest.line) later
-split_behind number input setting wave ends early later first split are ahead =
-    split_later number input setting wave ends early later first
-    (grown_line setting.weights setting.k first.rest.line) split are refl ahead
+    -- the others may go on from what the first have left
+    pub split_behind : AreFewWaves work.input.now ends → MayGoThrough work first.rest later
+    split_behind waves =
+        let few = waves.few in
+        let epochs = are.behind.few in
+        let early_size = split.3 in
+        let later_size = split.4 in
+        let none : (first_rest work.setting.now).line.epoch ≡ 0 = refl in
+        record {
+          ahead = subst (λ e. AreAhead work.input.now e later) (sym of_first.behind.counts)
+              (subst (AreAhead work.input.now (end_behind no_rows (take wave ends))) (sym split.2)
+              (ahead_later wave work.input.now no_rows ends waves.ahead));
+          stands = are.stands;
+          early = omega (arith, epochs, none, few, early_size, later_size);
+        }
 
--- the waves before and since, with what those since began with as it was made
-split_are : (number : Option ℕ) (input : Input) (setting : Setting) (wave : ℕ) (ends early later : List WaveEnd)
-    (first none since : Waved) → IsSplitAt ends wave early later → AreFirstWaves number input setting early first
-    → none.rest.line ≡ grown_line setting.weights setting.k first.rest.line
-    → IsRestOf input (grown_setting setting) none.rest → none.run ≡ no_waves (grown_setting setting)
-    → none.trail ≡ first.trail → AreWavesBehind number input (grown_setting setting) none later since
-    → AreGrownWaves number input setting wave ends
-    (record { before = first.run; line = none.rest.line; since = since.run; trail = since.trail })
-split_are number input setting wave ends early later first none since
-    (low, is_early, is_later, early_size, later_size) are line stands run_is trail_is more =
-    grown_are number input setting wave ends first none since low
-    (subst (λ es. AreFirstWaves number input setting es first) is_early are) line stands run_is trail_is
-    (subst (λ es. AreWavesBehind number input (grown_setting setting) none es since) is_later more)
-
--- so both are the waves of a run with a growth
-pub split_grown : (number : Option ℕ) (input : Input) (setting : Setting) (wave : ℕ)
-    (ends early later : List WaveEnd) (first : Waved) (line : TurnLine) (since : Waved)
-    → IsSplitAt ends wave early later → AreFirstWaves number input setting early first
-    → AreWavesGrown number input setting first.trail first.rest.line later line since
-    → AreGrownWaves number input setting wave ends
-    (record { before = first.run; line = line; since = since.run; trail = since.trail })
-split_grown number input setting wave ends early later first line since split are grown =
-    let none : Waved =
-    record { run = no_waves (grown_setting setting); trail = first.trail; rest = grown.rest } in
-    subst (λ l. AreGrownWaves number input setting wave ends
-    (record { before = first.run; line = l; since = since.run; trail = since.trail })) grown.from
-    (split_are number input setting wave ends early later first none since split are (grown.from ∙ grown.line_is)
-    grown.stands refl refl grown.waves)
+    -- and with a growth between them all are the waves of a run
+    pub split_grown : (line : TurnLine) (since : Waved)
+        → AreWavesGrown (view_of work) first.trail first.rest.line later line since
+        → AreGrownWaves (view_of work) wave ends
+        (record { before = first.run; line = line; since = since.run; trail = since.trail })
+    split_grown line since grown =
+        grown_are (view_of work) wave ends first line since split.0 of_first
+        (subst (λ es. AreWavesGrown (view_of work) first.trail first.rest.line es line since) split.2 grown)

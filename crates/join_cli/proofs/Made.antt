@@ -19,45 +19,46 @@ use Rattle.join_words.specs.declared.kind.Kind.TheVariants as runs
 use Rattle.join_words.specs.declared.kind.Wave.{Wave}
 use Rattle.join_words.specs.declared.options.Options.{Options}
 use Rattle.join_plan.specs.declared.fitting.Planned.{Planned}
-use Rattle.join_cli.specs.declared.task.Task.{Task}
+use Rattle.join_cli.specs.declared.work.Work.{Work}
 use Rattle.join_cli.specs.Courses.{Course, IsCourseOf, WentInWaves, WentOnward, output_in_waves, output_onward}
 use Rattle.join_cli.specs.Courses.{by_groups, by_run, groups_drawn, groups_text}
 use Rattle.join_cli.specs.Ends.{IsMade, IsMadeBy}
 use Rattle.join_cli.specs.Kinds.{AreSeveralWaves, IsOneWave}
 use Rattle.join_cli.specs.Plan.{input_of, output_of, setting_of}
-use Rattle.join_cli.specs.Tasks.{IsTaskOf}
+use Rattle.join_cli.specs.Works.{IsWorkOf, WorkView}
+use Rattle.join_cli.proofs.Inputs.{view_is}
 
 -- the setting that is asked for is valid
 pub valid_asked : (asked : Asked) → AreOptions asked → IsValidSetting (setting_of asked)
 valid_asked asked are =
-    let small : (grid_of asked.kind).k ≤ 6 = are.small in
+    let small : (grid_of asked.kind).k ≤ 6 = are.together.small in
     record {
       joiners = omega (arith, small);
-      some_feeders = are.feeders.0;
-      few_feeders = are.feeders.1;
-      some_workers = are.workers.0;
-      few_workers = are.workers.1;
-      some_rows = are.batch.0;
-      few_rows = are.batch.1;
-      fixed = are.fits;
-      weights = are.weights;
+      some_feeders = are.counted.feeders.0;
+      few_feeders = are.counted.feeders.1;
+      some_workers = are.counted.workers.0;
+      few_workers = are.counted.workers.1;
+      some_rows = are.counted.batch.0;
+      few_rows = are.counted.batch.1;
+      fixed = are.together.fits;
+      weights = are.weighed;
     }
 
 -- ---- what was made by a run in waves
 
-module _ (options : Options) (planned : Planned) (task : Task) (journal : List TurnLine) (trail : List EndsView)
-    (text : List ℕ) (of : IsTaskOf (asked options) task) where
+module _ (options : Options) (planned : Planned) (work : Work) (journal : List TurnLine) (trail : List EndsView)
+    (text : List ℕ) (of : IsWorkOf (asked options) work) where
   -- of one wave
-  pub made_once : IsOneWave options.kind → IsCourseOf task.number (asked options) planned journal trail
+  pub made_once : IsOneWave options.kind → IsCourseOf work.number (asked options) planned journal trail
       → text ≡ output_of (asked options) planned journal
       → IsMade (asked options) planned text (Some (by_run journal trail))
   made_once once course is = by options.kind once of.number
     where
-      by : (kind : Kind) → IsOneWave kind → task.number ≡ replay_of (asked_kind kind)
+      by : (kind : Kind) → IsOneWave kind → work.number ≡ replay_of (asked_kind kind)
           → IsMadeBy (asked_kind kind) (asked options) planned text (Some (by_run journal trail))
       by (runs.Waves grid replay later grow) none number = (
         subst (λ n. WentInWaves n (map asked_wave later.items) grow (asked options) planned journal trail) number
-            (subst (λ waves. WentInWaves task.number (map asked_wave waves) grow (asked options) planned journal trail)
+            (subst (λ waves. WentInWaves work.number (map asked_wave waves) grow (asked options) planned journal trail)
             (sym none) course),
         subst (λ waves. text ≡ output_in_waves (map asked_wave waves) grow (asked options) planned journal) (sym none)
             is,
@@ -69,7 +70,7 @@ module _ (options : Options) (planned : Planned) (task : Task) (journal : List T
 
   -- of several, with a growth behind so many of them or without one
   pub made_onward : (growth : Option ℕ) → AreSeveralWaves growth options.kind
-      → WentOnward task.number growth (asked options) planned journal trail
+      → WentOnward work.number growth (asked options) planned journal trail
       → text ≡ output_onward growth (asked options) planned journal
       → IsMade (asked options) planned text (Some (by_run journal trail))
   made_onward growth several went is = by options.kind several of.number
@@ -82,12 +83,12 @@ module _ (options : Options) (planned : Planned) (task : Task) (journal : List T
       behind [] replay grow some went is = absurd (some refl)
       behind (wave ∷ waves) replay grow some went is = (went, is)
 
-      by : (kind : Kind) → AreSeveralWaves growth kind → task.number ≡ replay_of (asked_kind kind)
+      by : (kind : Kind) → AreSeveralWaves growth kind → work.number ≡ replay_of (asked_kind kind)
           → IsMadeBy (asked_kind kind) (asked options) planned text (Some (by_run journal trail))
       by (runs.Waves grid replay later grow) (some, same) number =
           behind later.items replay grow some
           (subst (λ n. WentOnward n grow (asked options) planned journal trail) number
-          (subst (λ g. WentOnward task.number g (asked options) planned journal trail) (sym same) went))
+          (subst (λ g. WentOnward work.number g (asked options) planned journal trail) (sym same) went))
           (subst (λ g. text ≡ output_onward g (asked options) planned journal) (sym same) is)
       by (runs.Early grid) several number = absurd several
       by (runs.Groups joiners) several number = absurd several
@@ -137,18 +138,18 @@ module _ (asked : Asked) (planned : Planned) (text : List ℕ) (way : Option Cou
       by (over_rings grid) is = absurd (cc is)
 
 -- of joiners in groups, each of which had its run
-module _ (asked : Asked) (planned : Planned) (task : Task) (joiners : ℕ) (numbers : List ℕ) (found : GroupsRun)
+module _ (asked : Asked) (planned : Planned) (work : Work) (joiners : ℕ) (numbers : List ℕ) (found : GroupsRun)
     (text : List ℕ) where
   abbrev journals : List (List TurnLine)
   journals = map (λ (run : Run). run.journal) found.runs
 
-  pub groups_made : members_of asked.kind ≡ Some joiners → task.input.now ≡ input_of asked.seed planned
-      → IsTaskOf asked task → numbers ≡ numbers_of asked.seed joiners (length task.input.now.table_r.rows)
-      → AreGroups task.input.now joiners numbers task.setting.now found.runs found.trail
-      → text ≡ groups_text asked task.input.now task.setting.now joiners numbers journals
+  pub groups_made : members_of asked.kind ≡ Some joiners → work.input.now ≡ input_of asked.seed planned
+      → IsWorkOf asked work → numbers ≡ numbers_of asked.seed joiners (length work.input.now.table_r.rows)
+      → AreGroups work.input.now joiners numbers work.setting.now found.runs found.trail
+      → text ≡ groups_text asked work.input.now work.setting.now joiners numbers journals
       → IsMade asked planned text (Some (by_groups journals found.trail))
   groups_made kind input_is of numbers_are are is =
-      let own = input_of asked.seed planned in
+      let same = view_is asked planned work input_is of in
       let all = groups_drawn asked planned joiners in
       let drawn : numbers ≡ all =
       numbers_are ∙ ap (λ (i : Input). numbers_of asked.seed joiners (length i.table_r.rows)) input_is in
@@ -156,12 +157,10 @@ module _ (asked : Asked) (planned : Planned) (task : Task) (joiners : ℕ) (numb
         record {
           runs = found.runs;
           are =
-              subst (λ i. AreGroups i joiners all (setting_of asked) found.runs found.trail) input_is
-              (subst (λ s. AreGroups task.input.now joiners all s found.runs found.trail) of.setting
-              (subst (λ ns. AreGroups task.input.now joiners ns task.setting.now found.runs found.trail) drawn are));
+              subst (λ (w : WorkView). AreGroups w.input joiners all w.setting found.runs found.trail) same
+              (subst (λ ns. AreGroups work.input.now joiners ns work.setting.now found.runs found.trail) drawn are);
           journals_are = refl;
         },
-        is ∙ ap (λ ns. groups_text asked task.input.now task.setting.now joiners ns journals) drawn
-            ∙ ap (λ i. groups_text asked i task.setting.now joiners all journals) input_is
-            ∙ ap (λ s. groups_text asked own s joiners all journals) of.setting,
+        is ∙ ap (λ ns. groups_text asked work.input.now work.setting.now joiners ns journals) drawn
+            ∙ ap (λ (w : WorkView). groups_text asked w.input w.setting joiners all journals) same,
       )

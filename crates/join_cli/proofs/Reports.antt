@@ -25,17 +25,19 @@ use Rattle.trace_law.proofs.Bounds.{bounded}
 use Rattle.trace_law.proofs.First.{stands as first_stands}
 use Rattle.trace_law.proofs.Validity.{within_limits}
 use Rattle.join_report.specs.Report.{AreWithin, report_of}
-use Rattle.group_split.specs.Parts.{input_of_part, part, setting_of_group}
+use Rattle.group_split.specs.Parts.{part}
 use Rattle.group_split.specs.Sizes.{digits, has_digit}
 use Rattle.join_rows.proofs.Totals.{filter_fewer}
 use Rattle.group_split.proofs.Parted.{part_few, part_within}
 use Rattle.group_split.proofs.PartRuns.{valid_part, valid_setting}
 use Rattle.group_split.specs.Groups.{AreGroupsFrom}
 use Rattle.join_runtime.specs.Endings.{EndsView}
-use Rattle.join_cli.specs.Courses.{AreRunsFrom}
-use Rattle.join_cli.specs.Dealt.{IsDealt}
+use Rattle.join_cli.specs.Dealt.{HaveRuns, group_input, group_setting}
 use Rattle.join_cli.specs.Plan.{report_over}
-use Rattle.join_cli.specs.declared.groups.Dealt.{Dealt}
+use Rattle.join_cli.specs.Steps.{IsReportable}
+use Rattle.join_cli.specs.Works.{IsWholeRun}
+use Rattle.join_cli.specs.declared.work.Work.{Work}
+use Rattle.join_cli.specs.declared.dealt.Dealt.{Dealt}
 
 -- no shift of a lawful journal is past the grid
 past_fits : (setting : Setting) (first : TurnLine) (journal past : List TurnLine) → Fits (rules_of setting) first
@@ -77,6 +79,15 @@ few_steps input setting journal run of_input valid is =
     let small : setting.k ≤ 8 = valid.joiners in
     omega arith
 
+-- so its report can be made, over the work's rows
+pub whole_fits : (work : Work) (run : Run) → IsWholeRun work run → IsReportable work run
+whole_fits work run is = record {
+  few_r = (work.valid_input.sides R).few;
+  few_s = (work.valid_input.sides S).few;
+  shifts = shifts_fit work.input.now work.setting.now run.journal run work.valid_input work.valid_setting is;
+  steps = few_steps work.input.now work.setting.now run.journal run work.valid_input work.valid_setting is;
+}
+
 -- the report of a run by what it tells of it
 abbrev report_by : Setting → List TurnLine → ℕ → ℕ → List ℕ → List Held → List ℕ → List ℕ
 report_by setting journal x y moved loads made =
@@ -100,17 +111,16 @@ report_is input setting run x y is of_r of_s =
     ∙ ap (λ n. report_by setting journal (row_count input R) n moved loads made) of_s
 
 -- what a group joins, and its setting, are valid
-pub valid_group : (dealt : Dealt) (g k : ℕ) → IsDealt dealt → k < 7
-    → IsValidInput (input_of_part dealt.input.now (part dealt.joiners dealt.numbers.now g))
-    × IsValidSetting (setting_of_group dealt.setting.now k)
-valid_group dealt g k is low =
+pub valid_group : (dealt : Dealt) (g k : ℕ) → k < 7
+    → IsValidInput (group_input dealt g) × IsValidSetting (group_setting dealt k)
+valid_group dealt g k low =
     let few = part_few dealt.joiners dealt.numbers.now g in
-    let many = is.many in (
-      valid_part dealt.input.now (part dealt.joiners dealt.numbers.now g) is.input
+    let many = dealt.many in (
+      valid_part dealt.work.input.now (part dealt.joiners dealt.numbers.now g) dealt.work.valid_input
           (subst (λ n. All (λ i. i < n) (part dealt.joiners dealt.numbers.now g)) many
           (part_within dealt.joiners dealt.numbers.now g))
           (omega arith),
-      valid_setting dealt.setting.now k is.setting is.free low,
+      valid_setting dealt.work.setting.now k dealt.work.valid_setting dealt.free low,
     )
 
 -- there are few groups
@@ -121,7 +131,7 @@ few_digits joiners = filter_fewer (has_digit joiners) (6 ∷ 5 ∷ 4 ∷ 3 ∷ 2
 -- of groups that have their runs and their ends, the runs
 pub runs_of_groups : (input : Input) (joiners : ℕ) (numbers : List ℕ) (setting : Setting) (g : ℕ) (digits : List ℕ)
     (runs : List Run) (trail : List EndsView) → AreGroupsFrom input joiners numbers setting g digits runs trail
-    → AreRunsFrom input joiners numbers setting g digits runs
+    → HaveRuns input joiners numbers setting g digits runs
 runs_of_groups input joiners numbers setting g [] [] [] are = tt
 runs_of_groups input joiners numbers setting g (k ∷ digits) (run ∷ runs) (ends ∷ trail) are =
     (are.0.run, runs_of_groups input joiners numbers setting (g + 1) digits runs trail are.1)

@@ -4,7 +4,7 @@ use Rattle.theta_text.specs.declared.fault.PredFault.{PredFault}
 use Rattle.join_words.specs.declared.options.WordsFault.{WordsFault}
 use Rattle.join_plan.specs.declared.fault.Refusal.{Refusal}
 use Rattle.join_plan.specs.declared.fault.Refusal.TheVariants as refusals
-use Rattle.join_plan.specs.declared.refusal.Which.{Which}
+use Rattle.join_plan.specs.declared.refusal_of_fault.Which.{Which}
 use Rattle.join_plan.specs.Refusals.{text_refusal}
 use Rattle.join_cli.specs.declared.outcome.Outcome.{Outcome}
 use Rattle.join_cli.specs.declared.outcome.Outcome.TheVariants as outcomes

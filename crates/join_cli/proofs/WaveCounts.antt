@@ -1,7 +1,6 @@
 -- What the journal of one wave has counted.
-use Rattle.std.proofs.Common.{◌≡◌, ◌∙◌, ◌+◌, ◌*◌, ◌<◌, ◌≤◌, ◌^◌, ℕ, arith, refl, sym, ap, subst, length, take, List, []}
+use Rattle.std.proofs.Common.{◌≡◌, ◌∙◌, ◌+◌, ◌*◌, ◌<◌, ◌≤◌, ℕ, arith, refl, sym, ap, subst, List, []}
 use Rattle.std.proofs.Common.{◌∷◌}
-use Rattle.std.proofs.Common.{◌++◌}
 use Rattle.std.specs.Prelude.{map, reverse, sum_by}
 use Rattle.std.proofs.lemmas.List.{length-take-le, reverse-append, reverse-reverse}
 use Rattle.join_rows.specs.declared.table.Side.TheVariants.{R, S}
@@ -27,7 +26,7 @@ use Rattle.actor_core.specs.declared.rests.Upto.{Upto}
 use Rattle.actor_core.specs.Rests.{IsWithin, upto}
 use Rattle.actor_core.proofs.UptoEnd.{valid_upto}
 use Rattle.join_cli.specs.Journals.{IsLawfulFrom}
-use Rattle.join_cli.proofs.WaveJournals.{Begins, lawful_begins}
+use Rattle.join_cli.proofs.WaveJournals.{lawful_begins}
 
 -- the line has counted all rows of the input
 abbrev pub CountsAll : Input → TurnLine → Type 0

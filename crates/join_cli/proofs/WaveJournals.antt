@@ -1,6 +1,6 @@
 -- The journals of waves one after the other are parted where they were joined.
 use Rattle.std.proofs.Common.{◌≡◌, ◌∙◌, ◌<◌, ℕ, Bool, true, false, refl, sym, ap, subst, cond, List, [], ◌∷◌, ◌++◌}
-use Rattle.std.specs.Prelude.{⊤, flat_map, map, reverse}
+use Rattle.std.specs.Prelude.{⊤, flat_map, reverse}
 use Rattle.std.specs.List.{AllByRecursion}
 use Rattle.std.proofs.lemmas.List.{reverse-append, reverse-reverse}
 use Rattle.join_rows.proofs.Everywhere.{all-append}

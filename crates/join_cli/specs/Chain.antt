@@ -8,6 +8,7 @@ use Rattle.trace_law.specs.declared.setting.Setting.{Setting}
 use Rattle.trace_law.specs.Join.{nested_loop}
 use Rattle.load_controller.specs.declared.line.TurnLine.{TurnLine}
 use Rattle.actor_core.specs.Players.{IsFinishedFamily}
+use Rattle.actor_core.specs.Tasks.{task_of}
 use Rattle.join_runtime.specs.Endings.{EndsView, lists_left}
 use Rattle.chain_join.specs.declared.chain.ChainRun.{ChainRun}
 use Rattle.chain_join.specs.declared.second.Third.{Third as ChainThird}
@@ -41,9 +42,10 @@ pub record IsChainOver (input : Input) (third : ChainThird) (seed : ℕ) (settin
   pub lawful_first : IsJournalOver input setting first
   pub lawful_second : IsJournalOver (second_input input third seed) setting second
   pub ends_first : EndsView
-  pub family_first : IsFinishedFamily input setting first (lists_left ends_first)
+  pub family_first : IsFinishedFamily (task_of input setting) first (lists_left ends_first)
   pub ends_second : EndsView
-  pub family_second : IsFinishedFamily (second_input input third seed) setting second (lists_left ends_second)
+  pub family_second : IsFinishedFamily (task_of (second_input input third seed) setting) second
+      (lists_left ends_second)
   pub only : trail ≡ ends_first ∷ ends_second ∷ []
 
 -- what is answered of a second join that was asked for

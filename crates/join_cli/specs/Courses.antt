@@ -1,25 +1,25 @@
 -- How a run went, and the output over it.
-use Rattle.std.specs.Prelude.{◌≡◌, ◌++◌, ◌+◌, ◌^◌, ⊤, ℕ, Bool, false, List, [], ◌∷◌, map, length, Option, None}
+use Rattle.std.specs.Prelude.{◌≡◌, ◌++◌, ◌+◌, ◌^◌, ℕ, Bool, false, List, [], ◌∷◌, map, length, Option, None}
 use Rattle.std.specs.Prelude.{Some, if◌then◌else◌, codes}
 use Rattle.std.specs.Fmt.{decimal}
 use Rattle.trace_law.specs.declared.input.Input.{Input}
 use Rattle.trace_law.specs.declared.run.Run.{Run}
 use Rattle.trace_law.specs.declared.setting.Setting.{Setting}
 use Rattle.load_controller.specs.declared.line.TurnLine.{TurnLine}
-use Rattle.link_trace.specs.Order.{IsReplay}
+use Rattle.link_trace.specs.Order.{IsRunReplay}
 use Rattle.actor_core.specs.Players.{IsFinishedFamily}
-use Rattle.join_runtime.specs.Endings.{EndsView, lists_left}
+use Rattle.actor_core.specs.Tasks.{task_of}
+use Rattle.join_runtime.specs.Endings.{EndsView}
 use Rattle.ring_runtime.specs.Endings.{RingEndsView, lists_left as lists_over_rings}
 use Rattle.group_split.specs.Groups.{AreGroups}
 use Rattle.group_split.specs.Parts.{input_of_part, part, setting_of_group}
 use Rattle.group_split.specs.Sizes.{digits, numbers_of}
-use Rattle.trace_law.specs.Family.{first_rest}
-use Rattle.trace_law.specs.Runs.{IsRunOf}
 use Rattle.join_words.specs.Words.{Asked, AskedKind, AskedWave, early, in_chain, in_groups, in_waves, over_rings}
 use Rattle.join_plan.specs.declared.fitting.Planned.{Planned}
 use Rattle.join_cli.specs.Chain.{IsChainOf}
 use Rattle.join_cli.specs.Plan.{IsJournalOf, answer_of, input_of, output_of, report_over, setting_of}
 use Rattle.join_cli.specs.Grown.{AreGrownWavesOf, grown_output_of}
+use Rattle.join_cli.specs.Threads.{IsRunInThreads}
 use Rattle.join_cli.specs.Waves.{AreWavesOf}
 use Rattle.join_cli.specs.WaveTexts.{waves_output_of}
 
@@ -27,22 +27,14 @@ use Rattle.join_cli.specs.WaveTexts.{waves_output_of}
 pub record IsReplayed (input : Input) (setting : Setting) (seed : ℕ) (journal : List TurnLine)
     (trail : List EndsView) : Type 0 where
   pub run : Run
-  pub order : IsReplay input setting seed run
+  pub order : IsRunReplay input setting seed run
   pub journal_is : run.journal ≡ journal
   pub nothing : trail ≡ []
-
--- a run in threads leaves its seats' ends: their lists are a finished, agreeing family, whose controller has this
--- journal
-pub record IsRunInThreads (input : Input) (setting : Setting) (journal : List TurnLine)
-    (trail : List EndsView) : Type 0 where
-  pub ends : EndsView
-  pub family : IsFinishedFamily input setting journal (lists_left ends)
-  pub only : trail ≡ ends ∷ []
 
 -- the one or the other, as a number of a replay was given or not
 abbrev pub WentAs : Option ℕ → Input → Setting → List TurnLine → List EndsView → Type 0
 WentAs (Some seed) input setting journal trail = IsReplayed input setting seed journal trail
-WentAs None input setting journal trail = IsRunInThreads input setting journal trail
+WentAs None input setting journal trail = IsRunInThreads (task_of input setting) journal trail
 
 -- what is answered of a run of two tables in one wave, as a replay where it has a number: the journal of a lawful
 -- controller, and what shows how the run went
@@ -64,22 +56,14 @@ pub record AreGroupsOf (joiners : ℕ) (asked : Asked) (planned : Planned) (jour
       runs trail
   pub journals_are : journals ≡ map (λ run. run.journal) runs
 
--- of the groups from g on, with these exponents: each has its run
-abbrev pub AreRunsFrom : Input → ℕ → List ℕ → Setting → ℕ → List ℕ → List Run → Type 0
-AreRunsFrom input joiners numbers setting g [] [] = ⊤
-AreRunsFrom input joiners numbers setting g (k ∷ digits) (run ∷ runs) =
-    IsRunOf (input_of_part input (part joiners numbers g)) (setting_of_group setting k)
-    (first_rest (setting_of_group setting k)).line run.journal run
-    × AreRunsFrom input joiners numbers setting (g + 1) digits runs
-AreRunsFrom input joiners numbers setting g _ _ = ⊥
-
 -- what is answered of a run over rings: the journal of a lawful controller; it didn't fall back; and the lists of what
 -- its seats left are a finished, agreeing family, whose controller has this journal
 pub record IsOverRings (asked : Asked) (planned : Planned) (journal : List TurnLine) (ends : RingEndsView)
     (fallen : Bool) : Type 0 where
   pub lawful : IsJournalOf asked planned journal
   pub kept : fallen ≡ false
-  pub family : IsFinishedFamily (input_of asked.seed planned) (setting_of asked) journal (lists_over_rings ends)
+  pub family : IsFinishedFamily (task_of (input_of asked.seed planned) (setting_of asked)) journal
+      (lists_over_rings ends)
 
 -- how a run went
 pub data Course : Type 0 where

@@ -16,7 +16,9 @@ use Rattle.join_words.specs.Words.{Asked, AskedKind, early, in_chain, in_groups,
 use Rattle.join_plan.specs.declared.fitting.Planned.{Planned}
 use Rattle.join_runtime.specs.Endings.{EndsView}
 use Rattle.join_cli.specs.Chain.{chain_output}
-use Rattle.join_cli.specs.Courses.{Course, IsRunInThreads, WentSo, by_chain, by_groups, by_rings, by_run}
+use Rattle.join_cli.specs.Courses.{Course, WentSo, by_chain, by_groups, by_rings, by_run}
+use Rattle.join_cli.specs.Threads.{IsRunInThreads}
+use Rattle.actor_core.specs.Tasks.{task_of}
 use Rattle.join_cli.specs.Courses.{groups_output_of, output_in_waves}
 use Rattle.join_cli.specs.Plan.{input_of, output_of, report_asked, setting_of}
 
@@ -40,7 +42,7 @@ pub record CutFound (report : Bool) (input : Input) (setting : Setting) (old new
   pub run : Run
   pub trail : List EndsView
   pub is_run : IsRunOf input setting (first_rest setting).line run.journal run
-  pub went : IsRunInThreads input setting run.journal trail
+  pub went : IsRunInThreads (task_of input setting) run.journal trail
   pub text : List ℕ
   pub is : IsFoundText report input setting run.journal text
   pub front : AppendsFront old new text
@@ -53,7 +55,7 @@ PutPart report input setting old new = WroteSome input old new ⊎ CutFound repo
 pub record TakesFound (takes : ℕ → Type 0) (report : Bool) (input : Input) (setting : Setting) : Type 0 where
   pub lines : takes (length (pair_lines (nested_loop input)) + 0)
   pub each : (run : Run) (trail : List EndsView) → IsRunOf input setting (first_rest setting).line run.journal run
-      → IsRunInThreads input setting run.journal trail
+      → IsRunInThreads (task_of input setting) run.journal trail
       → takes (length (pair_lines (nested_loop input)) + (length (report_asked report input setting run.journal) + 0))
 
 -- the text of an output over how a run of this kind went: the one that is asked for, and early of what was found

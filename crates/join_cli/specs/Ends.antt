@@ -8,7 +8,7 @@ use Rattle.join_words.specs.Words.{Asked, AskedKind, is_early}
 use Rattle.join_plan.specs.declared.fault.LimitFault.TheVariants.{Between}
 use Rattle.join_plan.specs.declared.fault.Refusal.{Refusal}
 use Rattle.join_plan.specs.declared.fitting.Planned.{Planned}
-use Rattle.join_plan.specs.declared.refusal.Which.{Which}
+use Rattle.join_plan.specs.declared.refusal_of_fault.Which.{Which}
 use Rattle.join_plan.specs.Plan.{IsAsked, IsPlanOf}
 use Rattle.join_plan.specs.Refusals.{text_refusal}
 use Rattle.join_cli.specs.declared.outcome.Outcome.{Outcome}

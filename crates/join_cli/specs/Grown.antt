@@ -19,6 +19,7 @@ use Rattle.join_plan.specs.declared.fitting.Planned.{Planned}
 use Rattle.join_cli.specs.Journals.{waves_in}
 use Rattle.join_cli.specs.Left.{line_behind}
 use Rattle.join_cli.specs.Plan.{input_of, setting_of}
+use Rattle.join_cli.specs.Works.{WorkView, grown_work, work_asked}
 use Rattle.join_cli.specs.WaveTexts.{lines_of, no_waves, run_of_waves, waves_over}
 use Rattle.join_cli.specs.Waves.{WentThrough, no_rows, waves_pairs}
 
@@ -30,13 +31,13 @@ grown_from setting journals = grown_line setting.weights setting.k (line_behind 
 
 -- so many waves went, then each joiner split into four, and then the others went: the first of them from a rest with
 -- the grown line of the last before, which stands for the input in the grown grid
-pub record WentGrown (number : Option ℕ) (input : Input) (setting : Setting) (wave : ℕ) (ends : List WaveEnd)
-    (journals : List (List TurnLine)) (before since : List (List EndsView)) : Type 0 where
-  pub up_to : WentThrough number input setting (first_rest setting) (take wave ends) (take wave journals) before
+pub record WentGrown (work : WorkView) (wave : ℕ) (ends : List WaveEnd) (journals : List (List TurnLine))
+    (before since : List (List EndsView)) : Type 0 where
+  pub early : WentThrough work (first_rest work.setting) (take wave ends) (take wave journals) before
   pub grown : Rest
-  pub line_is : grown.line ≡ grown_from setting (take wave journals)
-  pub stands : IsRestFor input (grown_setting setting) grown
-  pub onward : WentThrough number input (grown_setting setting) grown (drop wave ends) (drop wave journals) since
+  pub line_is : grown.line ≡ grown_from work.setting (take wave journals)
+  pub stands : IsRestFor work.input (grown_setting work.setting) grown
+  pub onward : WentThrough (grown_work work) grown (drop wave ends) (drop wave journals) since
 
 -- what is answered of a run of several waves with a growth behind so many of them, as a replay where it has a number:
 -- no shift is fixed, the journals of all waves one after the other, and what shows how each went
@@ -46,8 +47,7 @@ pub record AreGrownWavesOf (number : Option ℕ) (wave : ℕ) (asked : Asked) (p
   pub before : List (List EndsView)
   pub since : List (List EndsView)
   pub trail_is : trail ≡ flat_map (λ left. left) (before ++ since)
-  pub went : WentGrown number (input_of asked.seed planned) (setting_of asked) wave planned.ends
-      (waves_in journal) before since
+  pub went : WentGrown (work_asked number asked planned) wave planned.ends (waves_in journal) before since
 
 -- ---- the output
 

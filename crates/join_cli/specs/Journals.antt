@@ -1,5 +1,5 @@
 -- The journals of a run's waves, one after the other.
-use Rattle.std.specs.Prelude.{ℕ, Bool, true, false, List, [], ◌∷◌, map, if◌then◌else◌}
+use Rattle.std.specs.Prelude.{Bool, true, false, List, [], ◌∷◌, map, if◌then◌else◌}
 use Rattle.load_controller.specs.declared.line.Cause.{Cause}
 use Rattle.load_controller.specs.declared.line.Cause.TheVariants.{Count, Drain, Settle, Start, Wave}
 use Rattle.load_controller.specs.declared.line.TurnLine.{TurnLine}

@@ -12,7 +12,8 @@ pub mod Promises
 pub mod Statuses
 pub mod Dealt
 pub mod Kinds
-pub mod Tasks
+pub mod Works
+pub mod Threads
 pub mod Journals
 pub mod Waves
 pub mod WaveTexts
@@ -20,3 +21,5 @@ pub mod Left
 pub mod WaveSteps
 pub mod Grown
 pub mod GrownSteps
+pub mod Steps
+pub mod ChainSteps

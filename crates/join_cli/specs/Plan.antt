@@ -1,7 +1,8 @@
 -- What is run of a plan, and what is written of it.
-use Rattle.std.specs.Prelude.{◌≡◌, ◌^◌, ◌++◌, ℕ, Bool, true, false, All, List, [], map, Option, None, Some}
+use Rattle.std.specs.Prelude.{◌≡◌, ◌^◌, ◌++◌, ℕ, Bool, true, false, All, List, [], length, map, Option, None, Some}
 use Rattle.std.specs.Prelude.{if◌then◌else◌}
 use Rattle.std.specs.List.{range_with_len}
+use Rattle.join_rows.specs.Records.{IsTable}
 use Rattle.join_rows.specs.declared.table.Side.TheVariants.{R, S}
 use Rattle.trace_law.specs.declared.input.Input.{Input}
 use Rattle.trace_law.specs.declared.run.Run.{Run}
@@ -33,6 +34,13 @@ input_with seed tables theta = record {
   tickets_r = tickets_of seed R tables.of_r.rows;
   tickets_s = tickets_of seed S tables.of_s.rows;
 }
+
+-- tables with few rows, each as wide as its header, and a predicate over their headers
+pub record FitTables (tables : Tables) (theta : Meaning) : Type 0 where
+  pub table_r : IsTable tables.of_r
+  pub table_s : IsTable tables.of_s
+  pub width_r : theta.width_r ≡ length tables.of_r.names
+  pub width_s : theta.width_s ≡ length tables.of_s.names
 
 -- what is joined first of a plan
 abbrev pub input_of : ℕ → Planned → Input

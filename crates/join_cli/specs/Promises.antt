@@ -13,14 +13,14 @@ use Rattle.join_cli.specs.declared.outcome.Outcome.{Outcome}
 use Rattle.join_cli.specs.declared.outcome.Outcome.TheVariants.{Limit, Memory, Predicate, Read, Then, Words, Write}
 use Rattle.join_plan.specs.declared.fault.TextFault.{TextFault}
 use Rattle.join_plan.specs.declared.fault.LimitFault.TheVariants.{TooLong}
-use Rattle.join_plan.specs.declared.refusal.Which.TheVariants as texts
+use Rattle.join_plan.specs.declared.refusal_of_fault.Which.TheVariants as texts
 use Rattle.join_plan.specs.Causes.{IsTrueFurther, LacksOne, StandsPast}
 use Rattle.join_plan.specs.Files.{sources}
 use Rattle.join_plan.specs.Texts.{IsTrueOf}
 use Rattle.join_cli.specs.Outcomes.{status_of}
 use Rattle.join_cli.specs.Seen.{EndsSeen}
 use Rattle.join_cli.specs.Courses.{Course}
-use Rattle.join_cli.specs.Ends.{EndsAs, EndsEarly, IsDone, Suffices, WroteSoFar, course_of}
+use Rattle.join_cli.specs.Ends.{EndsAs, EndsEarly, IsDone, Suffices, Wrote, WroteFront, WroteSoFar, course_of}
 use Rattle.join_cli.specs.Programs.{WroteFrontBy, WroteOver}
 
 -- which outcome it is, of what is asked for
@@ -77,6 +77,23 @@ pub record Leaves {H K : Type 0} (h : ShelfGhosts H) (k : SinkGhosts K)
   pub left : PutsSome (k.written before) (k.written after) (k.takes before) (k.takes after)
   -- a refusal writes nothing
   pub nothing : (IsDone outcome → ⊥) → outcome ≢ Write → outcome ≢ Memory → after ≡ before
+
+-- all of it, of what is asked for
+pub record PromisesOf {H K : Type 0} (h : ShelfGhosts H) (k : SinkGhosts K) (asked : Asked)
+    (old new : H) (before after : K) (outcome : Outcome) : Type 0 where
+  -- it is no fault of words
+  pub words : (fault : WordsFault) → outcome ≢ Words fault
+  -- which outcome it is
+  pub answers : Answers h k asked old new before after outcome
+  -- why
+  pub causes : Causes h k asked old new before after outcome
+  -- and what it leaves
+  pub leaves : Leaves h k old new before after outcome
+  -- the output over a run that went so was written
+  pub done : (way : Course) → course_of outcome ≡ Some way
+      → Wrote (h.told old) asked way (k.written before) (k.written after)
+  -- and where a put failed, a front of such an output
+  pub front : outcome ≡ Write → WroteFront (h.told old) asked (k.written before) (k.written after)
 
 -- all of it, of words
 pub record Promises {H K : Type 0} (h : ShelfGhosts H) (k : SinkGhosts K) (words : List (List ℕ))

@@ -11,15 +11,17 @@ use Rattle.trace_law.specs.Family.{IsRestFor, Rest, first_rest}
 use Rattle.trace_law.specs.Join.{nested_loop}
 use Rattle.trace_law.specs.Runs.{AreNear, StaysAt}
 use Rattle.actor_core.specs.declared.rests.Upto.{Upto}
-use Rattle.actor_core.specs.Players.{IsFinishedWave}
+use Rattle.actor_core.specs.Tasks.{Task}
 use Rattle.actor_core.specs.Rests.{upto}
-use Rattle.link_trace.specs.Order.{IsWaveReplay}
-use Rattle.join_runtime.specs.Endings.{EndsView, lists_left}
+use Rattle.link_trace.specs.Order.{IsReplay}
+use Rattle.join_runtime.specs.Endings.{EndsView}
 use Rattle.join_words.specs.Words.{Asked}
 use Rattle.join_plan.specs.declared.waves.WaveEnd.{WaveEnd}
 use Rattle.join_plan.specs.declared.fitting.Planned.{Planned}
 use Rattle.join_cli.specs.Journals.{IsLawfulFrom, waves_in}
-use Rattle.join_cli.specs.Plan.{input_of, setting_of}
+use Rattle.join_cli.specs.Plan.{setting_of}
+use Rattle.join_cli.specs.Threads.{IsRunInThreads}
+use Rattle.join_cli.specs.Works.{WorkView, task_from, work_asked}
 
 -- ---- the pairs
 
@@ -54,44 +56,36 @@ pub record IsWaveJournal (input : Input) (setting : Setting) (line : TurnLine) (
   pub stays : (shift : ℕ) → setting.fixed ≡ Some shift → All (StaysAt line.epoch shift) journal
 
 -- a replay of the wave with this number, whose controller has this journal, leaves nothing
-pub record IsWaveReplayed (input : Input) (setting : Setting) (rest : Rest) (seed : ℕ) (journal : List TurnLine)
-    (trail : List EndsView) : Type 0 where
+pub record IsWaveReplayed (task : Task) (seed : ℕ) (journal : List TurnLine) (trail : List EndsView) : Type 0 where
   pub run : Run
-  pub order : IsWaveReplay input setting rest seed run
+  pub order : IsReplay task seed run
   pub journal_is : run.journal ≡ journal
   pub nothing : trail ≡ []
 
--- a run of the wave in threads leaves its seats' ends: their lists are a finished, agreeing family of the wave, whose
--- controller has this journal
-pub record IsWaveInThreads (input : Input) (setting : Setting) (rest : Rest) (journal : List TurnLine)
-    (trail : List EndsView) : Type 0 where
-  pub ends : EndsView
-  pub family : IsFinishedWave input setting rest journal (lists_left ends)
-  pub only : trail ≡ ends ∷ []
-
--- the one or the other, as a number of a replay was given or not
-abbrev pub WaveWentAs : Option ℕ → Input → Setting → Rest → List TurnLine → List EndsView → Type 0
-WaveWentAs (Some seed) input setting rest journal trail = IsWaveReplayed input setting rest seed journal trail
-WaveWentAs None input setting rest journal trail = IsWaveInThreads input setting rest journal trail
+-- it was replayed so, or run in threads, as a number of a replay was given or not
+abbrev pub WaveWentAs : Option ℕ → Task → List TurnLine → List EndsView → Type 0
+WaveWentAs (Some seed) task journal trail = IsWaveReplayed task seed journal trail
+WaveWentAs None task journal trail = IsRunInThreads task journal trail
 
 -- one wave, over the input up to its end: what the wave before left stands for the input, the journal is that of a
 -- lawful controller which goes on from its line, and what shows how the wave went
-pub record WentInWave (number : Option ℕ) (input : Input) (setting : Setting) (rest : Rest) (journal : List TurnLine)
-    (trail : List EndsView) : Type 0 where
-  pub stands : IsRestFor input setting rest
-  pub lawful : IsWaveJournal input setting rest.line journal
-  pub went : WaveWentAs number input setting rest journal trail
+pub record WentInWave (work : WorkView) (rest : Rest) (journal : List TurnLine) (trail : List EndsView) : Type 0 where
+  pub stands : IsRestFor work.input work.setting rest
+  pub lawful : IsWaveJournal work.input work.setting rest.line journal
+  pub went : WaveWentAs work.number (task_from work rest) journal trail
+
+-- what runs up to the end of a wave
+abbrev pub up_to : WaveEnd → WorkView → WorkView
+up_to end work = record work { input = upto (upto_of end) work.input }
 
 -- wave after wave, the first from this rest: each went so, and left a rest with the last line of its journal, from
 -- which the next goes on
-abbrev pub WentThrough : Option ℕ → Input → Setting → Rest → List WaveEnd → List (List TurnLine)
-    → List (List EndsView) → Type 0
-WentThrough number input setting rest [] [] [] = ⊤
-WentThrough number input setting rest (end ∷ ends) (journal ∷ journals) (trail ∷ trails) =
-    WentInWave number (upto (upto_of end) input) setting rest journal trail
-    × ((next : Rest) × (next.line ≡ last_line rest.line journal)
-    × WentThrough number input setting next ends journals trails)
-WentThrough number input setting rest _ _ _ = ⊥
+abbrev pub WentThrough : WorkView → Rest → List WaveEnd → List (List TurnLine) → List (List EndsView) → Type 0
+WentThrough work rest [] [] [] = ⊤
+WentThrough work rest (end ∷ ends) (journal ∷ journals) (trail ∷ trails) =
+    WentInWave (up_to end work) rest journal trail
+    × ((next : Rest) × (next.line ≡ last_line rest.line journal) × WentThrough work next ends journals trails)
+WentThrough work rest _ _ _ = ⊥
 
 -- what is answered of a run of several waves, as a replay where it has a number: the journals of all waves one after
 -- the other, and what shows how each went. The first wave goes on from no rows
@@ -99,5 +93,5 @@ pub record AreWavesOf (number : Option ℕ) (asked : Asked) (planned : Planned) 
     (trail : List EndsView) : Type 0 where
   pub trails : List (List EndsView)
   pub trail_is : trail ≡ flat_map (λ left. left) trails
-  pub went : WentThrough number (input_of asked.seed planned) (setting_of asked) (first_rest (setting_of asked))
-      planned.ends (waves_in journal) trails
+  pub went : WentThrough (work_asked number asked planned) (first_rest (setting_of asked)) planned.ends
+      (waves_in journal) trails

@@ -1,28 +1,24 @@
 // The output of a second join, of the joined rows with a third table.
 
-ghost use Rattle.std.specs.Prelude.{◌≡◌, ◌++◌, ◌<◌, ◌≤◌, ◌^◌, Some, IfErr, IfOk, OnOk};
-ghost use Rattle.std.specs.Prelude.{[], ◌∷◌, is_some, length, string_bytes, true};
-ghost use Rattle.trace_law.specs.Validity.{IsValidInput, IsValidSetting};
-ghost use Rattle.join_report.specs.Report.{AreWithin};
-ghost use Rattle.chain_join.specs.Chains.{IsToldOf};
+ghost use Rattle.std.specs.Prelude.{◌≡◌, ◌++◌, [], ◌∷◌, IfErr, IfOk, OnOk, is_some, length};
+ghost use Rattle.std.specs.Prelude.{string_bytes, true};
 ghost use Rattle.join_words.specs.Words.{asked, chain_of};
-ghost use Rattle.join_plan.specs.declared.fitting.Planned.{Planned as Planned'};
-ghost use Rattle.join_cli.specs.Chain.{IsChainOver, IsStopped, IsThirdOver, bare_text, chain_text};
-ghost use Rattle.join_cli.specs.Chain.{third_of, triple_line, triple_lines};
-ghost use Rattle.join_cli.specs.Ends.{IsHalted, IsMade, course_of};
-ghost use Rattle.join_cli.specs.Plan.{bare_report_of, input_of, report_asked};
-ghost use Rattle.join_cli.specs.Tasks.{IsTaskOf};
+ghost use Rattle.join_cli.specs.Chain.{IsStopped, IsThirdOver, bare_text, third_of};
+ghost use Rattle.join_cli.specs.Chain.{triple_line, triple_lines};
+ghost use Rattle.join_cli.specs.ChainSteps.{FitReports, HasParts, IsChainedOf};
+ghost use Rattle.join_cli.specs.Plan.{bare_report_of, report_asked};
+ghost use Rattle.join_cli.specs.Steps.{IsChained};
+ghost use Rattle.join_cli.specs.Works.{IsWorkOf};
 
 use crate::outcome::Outcome;
 use crate::output::Joined;
-use crate::task::Task;
 use crate::texts::{add, bare_report, bytes_of, journal_of, report};
+use crate::work::Work;
 use chain_join::{ChainFault, ChainRun, Triple, run_chain};
 use join_plan::{LimitFault, Third};
 use join_rows::Bytes;
 use join_runtime::{Ends, Told, Trail};
 use join_words::Options;
-use link_trace::{Input, Setting};
 use load_controller::Journal;
 use std::alloc::{AllocError, Global};
 use std::sync::Wait;
@@ -64,32 +60,22 @@ struct Chained {
 fn add_reports(
     alloc: Global,
     options: &Options<'_>,
-    input: &Input,
-    setting: &Setting,
+    work: &Work<'_>,
     run: &ChainRun,
     rows: u64,
     text: &mut Bytes,
 ) -> Result<(), AllocError>
-    requires input { IsValidInput input.now }
-    requires setting { IsValidSetting setting.now }
-    requires first { IsToldOf input.now setting.now run.now.first }
-    requires shifts { AreWithin setting.now.k run.now.second.run.journal }
-    requires steps { length run.now.second.run.moved < 2 ^ 32 }
-    requires joined { length run.now.first.run.pairs ≤ 2 ^ 18 }
-    requires rows { rows ≤ 2 ^ 18 }
-    ensures { OnOk result (text.new ≡ (text.old
-        ++ report_asked options.now.report input.now setting.now run.now.first.run.journal)
-        ++ bare_report_of options.now.report setting.now (length run.now.first.run.pairs) rows
-        run.now.second.run) }
+    requires { FitReports work.now rows run.now }
+    ensures { OnOk result (text.new ≡ (text.old ++ report_asked options.now.report
+        work.now.input.now work.now.setting.now run.now.first.run.journal)
+        ++ bare_report_of options.now.report work.now.setting.now
+        (length run.now.first.run.pairs) rows run.now.second.run) }
 {
-    add(
-        text,
-        report(alloc, options, input, setting, &run.first.run)?,
-    )?;
+    add(text, report(alloc, options, work, &run.first.run)?)?;
     let joined = run.first.run.pairs.len();
     add(
         text,
-        bare_report(alloc, options, setting, joined, rows, &run.second.run)?,
+        bare_report(alloc, options, work, joined, rows, &run.second.run)?,
     )
 }
 
@@ -98,23 +84,16 @@ fn add_reports(
 fn text_of_chain(
     alloc: Global,
     options: &Options<'_>,
-    input: &Input,
-    setting: &Setting,
+    work: &Work<'_>,
     run: &ChainRun,
     rows: u64,
 ) -> Result<Bytes, AllocError>
-    requires input { IsValidInput input.now }
-    requires setting { IsValidSetting setting.now }
-    requires first { IsToldOf input.now setting.now run.now.first }
-    requires shifts { AreWithin setting.now.k run.now.second.run.journal }
-    requires steps { length run.now.second.run.moved < 2 ^ 32 }
-    requires joined { length run.now.first.run.pairs ≤ 2 ^ 18 }
-    requires rows { rows ≤ 2 ^ 18 }
-    ensures { IfOk result
-        (λ text. text ≡ bare_text options.now.report input.now setting.now rows run.now) }
+    requires { FitReports work.now rows run.now }
+    ensures { IfOk result (λ text. text ≡ bare_text options.now.report
+        work.now.input.now work.now.setting.now rows run.now) }
 {
     let mut text = bytes_of(triples_text(alloc, run.triples.as_slice())?);
-    match add_reports(alloc, options, input, setting, run, rows, &mut text) {
+    match add_reports(alloc, options, work, run, rows, &mut text) {
         Ok(()) => Ok(text),
         Err(refused) => {
             drop(text);
@@ -161,10 +140,7 @@ fn parts(told: Told) -> (Journal, Ends)
 
 /// A chain's journals and trail, beside this text.
 fn with_text(alloc: Global, text: Bytes, run: ChainRun) -> Result<Chained, AllocError>
-    ensures text { IfOk result (λ chained. chained.text ≡ text) }
-    ensures first { IfOk result (λ chained. chained.first ≡ run.first.run.journal) }
-    ensures second { IfOk result (λ chained. chained.second ≡ run.second.run.journal) }
-    ensures trail { IfOk result (λ chained. chained.trail ≡ run.first.ends ∷ run.second.ends ∷ []) }
+    ensures { IfOk result (HasParts text run) }
 {
     let ChainRun {
         triples,
@@ -194,25 +170,15 @@ fn with_text(alloc: Global, text: Bytes, run: ChainRun) -> Result<Chained, Alloc
 fn chained_of(
     alloc: Global,
     options: &Options<'_>,
-    input: &Input,
-    setting: &Setting,
+    work: &Work<'_>,
     run: ChainRun,
     rows: u64,
 ) -> Result<Chained, AllocError>
-    requires input { IsValidInput input.now }
-    requires setting { IsValidSetting setting.now }
-    requires first { IsToldOf input.now setting.now run.first }
-    requires shifts { AreWithin setting.now.k run.second.run.journal }
-    requires steps { length run.second.run.moved < 2 ^ 32 }
-    requires joined { length run.first.run.pairs ≤ 2 ^ 18 }
-    requires rows { rows ≤ 2 ^ 18 }
-    ensures text { IfOk result (λ chained.
-        chained.text ≡ bare_text options.now.report input.now setting.now rows run) }
-    ensures first { IfOk result (λ chained. chained.first ≡ run.first.run.journal) }
-    ensures second { IfOk result (λ chained. chained.second ≡ run.second.run.journal) }
-    ensures trail { IfOk result (λ chained. chained.trail ≡ run.first.ends ∷ run.second.ends ∷ []) }
+    requires { FitReports work.now rows run }
+    ensures { IfOk result (HasParts (bare_text options.now.report
+        work.now.input.now work.now.setting.now rows run) run) }
 {
-    match text_of_chain(alloc, options, input, setting, &run, rows) {
+    match text_of_chain(alloc, options, work, &run, rows) {
         Ok(text) => with_text(alloc, text, run),
         Err(refused) => {
             drop(run);
@@ -226,27 +192,30 @@ fn run_both<R: Threads + Wait + Sync, G: Gate + Sync>(
     rt: &R,
     alloc: Global,
     options: &Options<'_>,
-    input: &Input,
+    work: &Work<'_>,
     third: Third,
-    setting: &Setting,
     gate: &G,
 ) -> Result<Chained, Outcome>
-    requires input { IsValidInput input.now }
-    requires setting { IsValidSetting setting.now }
-    requires third { IsThirdOver input.now third }
-    ensures over { IfOk result (λ chained. IsChainOver input.now (third_of third)
-        options.now.seed setting.now chained.first chained.second chained.trail) }
-    ensures text { IfOk result (λ chained. chained.text ≡ chain_text options.now.report
-        input.now (third_of third) options.now.seed setting.now chained.first chained.second) }
-    ensures stopped { IfErr result (IsStopped input.now) }
+    requires { IsThirdOver work.now.input.now third }
+    ensures chained { IfOk result
+        (IsChainedOf options.now.report options.now.seed work.now (third_of third)) }
+    ensures stopped { IfErr result (IsStopped work.now.input.now) }
 {
     let rows = third.table.rows.len();
     let third = chain_join::Third {
         table: third.table,
         theta: third.theta,
     };
-    match run_chain(rt, alloc, input, third, setting, options.seed, gate) {
-        Ok(run) => match chained_of(alloc, options, input, setting, run, rows) {
+    match run_chain(
+        rt,
+        alloc,
+        work.input,
+        third,
+        work.setting,
+        options.seed,
+        gate,
+    ) {
+        Ok(run) => match chained_of(alloc, options, work, run, rows) {
             Ok(chained) => Ok(chained),
             Err(AllocError) => Err(Outcome::Memory),
         },
@@ -260,21 +229,16 @@ pub(crate) fn chain_output<R: Threads + Wait + Sync, G: Gate + Sync>(
     rt: &R,
     alloc: Global,
     options: &Options<'_>,
-    task: &Task<'_>,
+    work: &Work<'_>,
     third: Third,
     gate: &G,
 ) -> Result<Joined, Outcome>
     requires kind { is_some (chain_of (asked options.now).kind) ≡ true }
-    requires task { IsTaskOf (asked options.now) task.now }
-    requires third { IsThirdOver task.now.input.now third }
-    ensures made { IfOk result (λ joined. (planned : Planned')
-        → task.now.input.now ≡ input_of options.now.seed planned → planned.third ≡ Some third
-        → IsMade (asked options.now) planned joined.text (course_of joined.done)) }
-    ensures halted { IfErr result (λ outcome. (planned : Planned')
-        → task.now.input.now ≡ input_of options.now.seed planned
-        → planned.third ≡ Some third → IsHalted (asked options.now) planned outcome) }
+    requires work { IsWorkOf (asked options.now) work.now }
+    requires third { IsThirdOver work.now.input.now third }
+    ensures { IsChained (asked options.now) work.now.input.now third result }
 {
-    match run_both(rt, alloc, options, task.input, third, task.setting, gate) {
+    match run_both(rt, alloc, options, work, third, gate) {
         Ok(chained) => Ok(Joined {
             text: chained.text,
             done: Outcome::DoneChain {

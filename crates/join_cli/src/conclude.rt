@@ -1,13 +1,10 @@
 // Carrying out a plan: its run, and the writing of the output.
 
-ghost use Rattle.std.specs.Prelude.{◌≡◌, ◌≢◌, ◌⊎◌, ◌<◌, ℕ, false, is_some};
+ghost use Rattle.std.specs.Prelude.{◌≡◌, ◌<◌, is_some};
 ghost use Rattle.join_rows.specs.Shelves.{last_fault};
-ghost use Rattle.join_rows.specs.Sinks.{PutsSome};
-ghost use Rattle.join_words.specs.Words.{AreOptions, asked, chain_of, is_early};
+ghost use Rattle.join_words.specs.Words.{asked, chain_of};
 ghost use Rattle.join_plan.specs.Plan.{IsFit};
-ghost use Rattle.join_plan.specs.declared.fault.LimitFault.TheVariants.{Between};
-ghost use Rattle.join_cli.specs.Ends.{Concludes, IsDone, TakesEach};
-ghost use Rattle.join_cli.specs.Chain.{IsFewBetween};
+ghost use Rattle.join_cli.specs.Steps.{CarriesOut};
 
 use crate::early_output::early_output;
 use crate::outcome::Outcome;
@@ -31,22 +28,10 @@ pub(crate) fn conclude<R: Threads + Wait + Sync, K: Sink, G: Gate + Sync>(
     sink: &mut K,
     gate: &G,
 ) -> Outcome
-    requires options { AreOptions (asked options.now) }
     requires fit { IsFit planned }
     requires there { is_some planned.third ≡ is_some (chain_of (asked options.now).kind) }
     requires sink { K.faults sink.old < last_fault }
-    ensures ends { Concludes (asked options.now) planned
-        (K.written sink.old) (K.written sink.new) result }
-    ensures nothing { is_early (asked options.now).kind ≡ false
-        → result ≡ Outcome.Memory → sink.new ≡ sink.old }
-    ensures counts { result ≢ Outcome.Write → K.faults sink.new ≡ K.faults sink.old }
-    ensures fails { result ≡ Outcome.Write → K.faults sink.old < K.faults sink.new }
-    ensures between { (pairs : ℕ) → result ≡ Outcome.Limit (Between pairs) → sink.new ≡ sink.old }
-    ensures complete { TakesEach (K.takes sink.old) (asked options.now) planned
-        → IsFewBetween (asked options.now) planned
-        → IsDone result ⊎ (result ≡ Outcome.Memory) }
-    ensures left { PutsSome (K.written sink.old) (K.written sink.new)
-        (K.takes sink.old) (K.takes sink.new) }
+    ensures { CarriesOut K.Sink (asked options.now) planned sink.old sink.new result }
 {
     if options.kind.is_early() {
         return early_output(rt, alloc, options, planned, sink, gate);

@@ -1,12 +1,11 @@
 // The input and the setting of a run.
 
-ghost use Rattle.std.specs.Prelude.{◌≡◌, ◌<◌, ◌^◌, All, IfOk, length};
+ghost use Rattle.std.specs.Prelude.{◌≡◌, ◌<◌, ◌^◌, All, IfOk};
 ghost use Rattle.trace_law.specs.Validity.{IsValidInput, IsValidSetting};
-ghost use Rattle.join_words.specs.Words.{AreOptions, asked};
+ghost use Rattle.join_words.specs.Words.{asked};
 ghost use Rattle.chain_join.specs.Chains.{tickets_of};
-ghost use Rattle.join_rows.specs.Records.{IsTable};
 ghost use Rattle.join_rows.specs.declared.table.Side.TheVariants.{R as R', S as S'};
-ghost use Rattle.join_cli.specs.Plan.{input_with, setting_of};
+ghost use Rattle.join_cli.specs.Plan.{FitTables, input_with, setting_of};
 
 use join_plan::Tables;
 use join_rows::{Bytes, Side, Table};
@@ -18,7 +17,6 @@ use theta_pred::Theta;
 
 /// The setting that the options ask for.
 pub(crate) fn setting(options: &Options<'_>) -> Setting
-    requires options { AreOptions (asked options.now) }
     ensures is { result ≡ setting_of (asked options.now) }
     ensures valid { IsValidSetting result }
 {
@@ -75,10 +73,7 @@ pub(crate) fn input(
     tables: Tables,
     theta: Theta,
 ) -> Result<Input, AllocError>
-    requires table_r { IsTable tables.of_r }
-    requires table_s { IsTable tables.of_s }
-    requires width_r { theta.width_r ≡ length tables.of_r.names }
-    requires width_s { theta.width_s ≡ length tables.of_s.names }
+    requires { FitTables tables theta }
     ensures is { IfOk result (λ input. input ≡ input_with seed tables theta) }
     ensures valid { IfOk result IsValidInput }
 {

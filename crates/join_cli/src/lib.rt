@@ -3,6 +3,7 @@
 
 mod chain;
 mod conclude;
+mod dealt;
 mod early_output;
 mod entry;
 mod groups;
@@ -16,12 +17,12 @@ mod output;
 mod program;
 mod rings;
 mod run;
-mod task;
 mod text;
 mod texts;
 mod top;
 mod wave_output;
 mod waves;
+mod work;
 
 pub use entry::{Ended, jm_program};
 pub use join_plan::{InputFault, LimitFault, TextFault};

@@ -1,15 +1,11 @@
 // The output that is asked for of a plan, made whole.
 
-ghost use Rattle.std.specs.Prelude.{◌≡◌, ◌≤◌, IfErr, IfOk, IfSome, false, is_some, length};
-ghost use Rattle.join_words.specs.Words.{AreOptions, asked, chain_of, is_early};
-ghost use Rattle.join_plan.specs.declared.fitting.Planned.{Planned as Planned'};
+ghost use Rattle.std.specs.Prelude.{◌≡◌, false, is_some};
+ghost use Rattle.join_words.specs.Words.{asked, chain_of, is_early};
 ghost use Rattle.join_plan.specs.Plan.{IsFit};
-ghost use Rattle.join_cli.specs.Chain.{IsThirdOver};
-ghost use Rattle.join_cli.specs.Ends.{IsHalted, IsMade, course_of};
-ghost use Rattle.join_cli.specs.Plan.{input_of};
-ghost use Rattle.join_cli.specs.Tasks.{IsTaskOf};
-ghost use Rattle.join_cli.specs.WaveSteps.{AreAhead};
-ghost use Rattle.join_cli.specs.Waves.{no_rows};
+ghost use Rattle.join_cli.specs.Steps.{IsAnswered, IsMadeOrHalted, IsThirdAsked};
+ghost use Rattle.join_cli.specs.Works.{IsWorkOf};
+ghost use Rattle.join_cli.specs.WaveSteps.{AreFewWaves};
 
 use crate::chain::chain_output;
 use crate::groups::groups_output;
@@ -18,8 +14,8 @@ use crate::input::{input, setting};
 use crate::outcome::Outcome;
 use crate::rings::rings_output;
 use crate::run::run_output;
-use crate::task::Task;
 use crate::wave_output::waves_output;
+use crate::work::Work;
 use join_plan::{Planned, Third, WaveEnd};
 use join_rows::Bytes;
 use join_words::{Kind, Options};
@@ -40,32 +36,23 @@ fn output_over<R: Threads + Wait + Sync, G: Gate + Sync>(
     rt: &R,
     alloc: Global,
     options: &Options<'_>,
-    task: &Task<'_>,
+    work: &Work<'_>,
     ends: &[WaveEnd],
     third: Option<Third>,
     gate: &G,
 ) -> Result<Joined, Outcome>
-    requires options { AreOptions (asked options.now) }
     requires whole { is_early (asked options.now).kind ≡ false }
-    requires task { IsTaskOf (asked options.now) task.now }
-    requires ends { AreAhead task.now.input.now no_rows ends.now }
-    requires few { length ends.now ≤ 4 }
-    requires third { IfSome third (IsThirdOver task.now.input.now) }
-    requires there { is_some third ≡ is_some (chain_of (asked options.now).kind) }
-    ensures made { IfOk result (λ joined. (planned : Planned')
-        → task.now.input.now ≡ input_of options.now.seed planned
-        → planned.third ≡ third → planned.ends ≡ ends.now
-        → IsMade (asked options.now) planned joined.text (course_of joined.done)) }
-    ensures halted { IfErr result (λ outcome. (planned : Planned')
-        → task.now.input.now ≡ input_of options.now.seed planned
-        → planned.third ≡ third → IsHalted (asked options.now) planned outcome) }
+    requires work { IsWorkOf (asked options.now) work.now }
+    requires ends { AreFewWaves work.now.input.now ends.now }
+    requires third { IsThirdAsked (asked options.now) work.now.input.now third }
+    ensures { IsAnswered (asked options.now) work.now.input.now ends.now third result }
 {
     if let Some(third) = third {
-        return chain_output(rt, alloc, options, task, third, gate);
+        return chain_output(rt, alloc, options, work, third, gate);
     }
     match &options.kind {
         Kind::Waves { later, .. } if later.is_empty() => {
-            match run_output(rt, alloc, options, task, gate) {
+            match run_output(rt, alloc, options, work, gate) {
                 Ok(joined) => Ok(joined),
                 Err(AllocError) => Err(Outcome::Memory),
             }
@@ -73,21 +60,21 @@ fn output_over<R: Threads + Wait + Sync, G: Gate + Sync>(
         Kind::Waves {
             grow: Some(wave),
             ..
-        } => match grown_output(rt, alloc, options, task, *wave, ends, gate) {
+        } => match grown_output(rt, alloc, options, work, *wave, ends, gate) {
             Ok(joined) => Ok(joined),
             Err(AllocError) => Err(Outcome::Memory),
         },
-        Kind::Waves { .. } => match waves_output(rt, alloc, options, task, ends, gate) {
+        Kind::Waves { .. } => match waves_output(rt, alloc, options, work, ends, gate) {
             Ok(joined) => Ok(joined),
             Err(AllocError) => Err(Outcome::Memory),
         },
         Kind::Groups { joiners } => {
-            match groups_output(rt, alloc, options, *joiners, task, gate) {
+            match groups_output(rt, alloc, options, *joiners, work, gate) {
                 Ok(joined) => Ok(joined),
                 Err(AllocError) => Err(Outcome::Memory),
             }
         }
-        Kind::Rings { .. } => match rings_output(rt, alloc, options, task, gate) {
+        Kind::Rings { .. } => match rings_output(rt, alloc, options, work, gate) {
             Ok(joined) => Ok(joined),
             Err(AllocError) => Err(Outcome::Memory),
         },
@@ -103,13 +90,10 @@ pub(crate) fn output<R: Threads + Wait + Sync, G: Gate + Sync>(
     planned: Planned,
     gate: &G,
 ) -> Result<Joined, Outcome>
-    requires options { AreOptions (asked options.now) }
     requires whole { is_early (asked options.now).kind ≡ false }
     requires fit { IsFit planned }
     requires there { is_some planned.third ≡ is_some (chain_of (asked options.now).kind) }
-    ensures made { IfOk result
-        (λ joined. IsMade (asked options.now) planned joined.text (course_of joined.done)) }
-    ensures halted { IfErr result (IsHalted (asked options.now) planned) }
+    ensures { IsMadeOrHalted (asked options.now) planned result }
 {
     let setting = setting(options);
     let Planned {
@@ -120,12 +104,12 @@ pub(crate) fn output<R: Threads + Wait + Sync, G: Gate + Sync>(
     } = planned;
     match input(alloc, options.seed, tables, theta) {
         Ok(input) => {
-            let task = Task {
+            let work = Work {
                 input: &input,
                 setting: &setting,
                 number: options.kind.replay(),
             };
-            let made = output_over(rt, alloc, options, &task, ends.as_slice(), third, gate);
+            let made = output_over(rt, alloc, options, &work, ends.as_slice(), third, gate);
             gate.let_go(input);
             drop(ends);
             made

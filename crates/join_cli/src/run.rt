@@ -1,20 +1,15 @@
 // The output of a run in one wave.
 
-ghost use Rattle.std.specs.Prelude.{◌≡◌, IfOk};
-ghost use Rattle.trace_law.specs.Family.{first_rest};
-ghost use Rattle.trace_law.specs.Runs.{IsRunOf};
+ghost use Rattle.std.specs.Prelude.{IfOk, None, Some};
 ghost use Rattle.join_words.specs.Words.{asked};
-ghost use Rattle.join_plan.specs.declared.fitting.Planned.{Planned as Planned'};
-ghost use Rattle.join_cli.specs.Courses.{IsReplayed, IsRunInThreads, WentAs};
-ghost use Rattle.join_cli.specs.Ends.{IsMade, course_of};
 ghost use Rattle.join_cli.specs.Kinds.{IsOneWave};
-ghost use Rattle.join_cli.specs.Plan.{input_of};
-ghost use Rattle.join_cli.specs.Tasks.{IsTask, IsTaskOf};
+ghost use Rattle.join_cli.specs.Steps.{IsCarriedOut, IsMadeOver};
+ghost use Rattle.join_cli.specs.Works.{IsWorkOf};
 
 use crate::outcome::Outcome;
 use crate::output::Joined;
-use crate::task::Task;
 use crate::texts::{journal_of, text};
+use crate::work::Work;
 use join_runtime::{Told, Trail, run};
 use join_words::Options;
 use link_trace::{Run, replay};
@@ -34,18 +29,12 @@ pub(crate) struct Course {
 fn replayed<R: Wait>(
     rt: &R,
     alloc: Global,
-    task: &Task<'_>,
+    work: &Work<'_>,
     seed: u64,
 ) -> Result<Course, AllocError>
-    requires task { IsTask task.now }
-    ensures run { IfOk result
-        (λ course. IsRunOf task.now.input.now task.now.setting.now
-        (first_rest task.now.setting.now).line course.run.journal course.run) }
-    ensures went { IfOk result
-        (λ course. IsReplayed task.now.input.now task.now.setting.now seed
-        course.run.journal course.trail) }
+    ensures { IfOk result (IsCarriedOut (Some seed) work.now) }
 {
-    let run = replay(rt, alloc, task.input, task.setting, seed)?;
+    let run = replay(rt, alloc, work.input, work.setting, seed)?;
     Ok(Course {
         run,
         trail: Trail::new(alloc),
@@ -56,41 +45,29 @@ fn replayed<R: Wait>(
 fn threaded<R: Threads + Wait + Sync, G: Gate + Sync>(
     rt: &R,
     alloc: Global,
-    task: &Task<'_>,
+    work: &Work<'_>,
     gate: &G,
 ) -> Result<Course, AllocError>
-    requires task { IsTask task.now }
-    ensures run { IfOk result
-        (λ course. IsRunOf task.now.input.now task.now.setting.now
-        (first_rest task.now.setting.now).line course.run.journal course.run) }
-    ensures went { IfOk result
-        (λ course. IsRunInThreads task.now.input.now task.now.setting.now
-        course.run.journal course.trail) }
+    ensures { IfOk result (IsCarriedOut None work.now) }
 {
-    let Told { run, ends } = run(rt, alloc, task.input, task.setting, gate)?;
+    let Told { run, ends } = run(rt, alloc, work.input, work.setting, gate)?;
     let mut trail = Trail::new(alloc);
     trail.push(ends)?;
     Ok(Course { run, trail })
 }
 
-/// The task's run: in threads, or as a replay where it has a number of one.
+/// The work's run: in threads, or as a replay where it has a number of one.
 fn carry_out<R: Threads + Wait + Sync, G: Gate + Sync>(
     rt: &R,
     alloc: Global,
-    task: &Task<'_>,
+    work: &Work<'_>,
     gate: &G,
 ) -> Result<Course, AllocError>
-    requires task { IsTask task.now }
-    ensures run { IfOk result
-        (λ course. IsRunOf task.now.input.now task.now.setting.now
-        (first_rest task.now.setting.now).line course.run.journal course.run) }
-    ensures went { IfOk result
-        (λ course. WentAs task.now.number task.now.input.now task.now.setting.now
-        course.run.journal course.trail) }
+    ensures { IfOk result (IsCarriedOut work.now.number work.now) }
 {
-    match task.number {
-        Some(seed) => replayed(rt, alloc, task, seed),
-        None => threaded(rt, alloc, task, gate),
+    match work.number {
+        Some(seed) => replayed(rt, alloc, work, seed),
+        None => threaded(rt, alloc, work, gate),
     }
 }
 
@@ -99,17 +76,15 @@ pub(crate) fn run_output<R: Threads + Wait + Sync, G: Gate + Sync>(
     rt: &R,
     alloc: Global,
     options: &Options<'_>,
-    task: &Task<'_>,
+    work: &Work<'_>,
     gate: &G,
 ) -> Result<Joined, AllocError>
     requires kind { IsOneWave options.now.kind }
-    requires task { IsTaskOf (asked options.now) task.now }
-    ensures { IfOk result (λ joined. (planned : Planned')
-        → task.now.input.now ≡ input_of options.now.seed planned
-        → IsMade (asked options.now) planned joined.text (course_of joined.done)) }
+    requires work { IsWorkOf (asked options.now) work.now }
+    ensures { IfOk result (IsMadeOver (asked options.now) work.now.input.now) }
 {
-    let Course { run, trail } = carry_out(rt, alloc, task, gate)?;
-    match text(alloc, options, task.input, task.setting, &run) {
+    let Course { run, trail } = carry_out(rt, alloc, work, gate)?;
+    match text(alloc, options, work, &run) {
         Ok(text) => {
             let journal = journal_of(run);
             let done = Outcome::Done { journal, trail };

@@ -1,19 +1,18 @@
 // The texts of a run: its pairs or the joined rows, and its report.
 
-ghost use Rattle.std.specs.Prelude.{◌≡◌, ◌++◌, ◌<◌, ◌≤◌, ◌^◌, IfOk, OnOk, None, length, string_bytes};
-ghost use Rattle.trace_law.specs.Validity.{IsValidInput, IsValidSetting};
+ghost use Rattle.std.specs.Prelude.{◌≡◌, ◌++◌, IfOk, OnOk, string_bytes};
 ghost use Rattle.join_words.specs.Words.{asked};
-ghost use Rattle.trace_law.specs.Family.{first_rest};
-ghost use Rattle.trace_law.specs.Runs.{IsRunOf};
 ghost use Rattle.trace_law.specs.Join.{nested_loop};
 ghost use Rattle.join_cli.specs.Plan.{answer_of, bare_report_of, report_asked, text_of};
-ghost use Rattle.join_report.specs.Report.{AreWithin};
+ghost use Rattle.join_cli.specs.Steps.{FitsReport};
+ghost use Rattle.join_cli.specs.Works.{IsWholeRun};
 
+use crate::work::Work;
 use epoch_tags::Pair;
 use join_report::{pairs_text, report_text, rows_text, summary_text};
 use join_rows::Bytes;
 use join_words::Options;
-use link_trace::{Input, Run, Setting};
+use link_trace::Run;
 use load_controller::Journal;
 use std::alloc::{AllocError, Global};
 
@@ -36,15 +35,15 @@ pub(crate) fn bytes_of(text: String) -> Bytes
 pub(crate) fn answer(
     alloc: Global,
     options: &Options<'_>,
-    input: &Input,
+    work: &Work<'_>,
     pairs: &[Pair],
 ) -> Result<Bytes, AllocError>
-    requires input { IsValidInput input.now }
-    requires pairs { pairs.now ≡ nested_loop input.now }
-    ensures { IfOk result (λ text. text ≡ answer_of options.now.make options.now.rows input.now) }
+    requires { pairs.now ≡ nested_loop work.now.input.now }
+    ensures { IfOk result (λ text.
+        text ≡ answer_of options.now.make options.now.rows work.now.input.now) }
 {
-    let rows_r = &input.table_r.rows;
-    let rows_s = &input.table_s.rows;
+    let rows_r = &work.input.table_r.rows;
+    let rows_s = &work.input.table_s.rows;
     match options.make {
         Some(_) => Ok(bytes_of(summary_text(alloc, rows_r.len(), rows_s.len(), pairs)?)),
         None if options.rows => rows_text(alloc, rows_r, rows_s, pairs),
@@ -56,43 +55,35 @@ pub(crate) fn answer(
 pub(crate) fn bare_report(
     alloc: Global,
     options: &Options<'_>,
-    setting: &Setting,
+    work: &Work<'_>,
     rows_r: u64,
     rows_s: u64,
     run: &Run,
 ) -> Result<Bytes, AllocError>
-    requires setting { IsValidSetting setting.now }
-    requires shifts { AreWithin setting.now.k run.now.journal }
-    requires steps { length run.now.moved < 2 ^ 32 }
-    requires rows_r { rows_r ≤ 2 ^ 18 }
-    requires rows_s { rows_s ≤ 2 ^ 18 }
+    requires { FitsReport work.now.setting.now rows_r rows_s run.now }
     ensures { IfOk result (λ lines.
-        lines ≡ bare_report_of options.now.report setting.now rows_r rows_s run.now) }
+        lines ≡ bare_report_of options.now.report work.now.setting.now rows_r rows_s run.now) }
 {
     if !options.report {
         return Ok(Bytes::new(alloc));
     }
-    Ok(bytes_of(report_text(alloc, setting, rows_r, rows_s, run)?))
+    Ok(bytes_of(report_text(alloc, work.setting, rows_r, rows_s, run)?))
 }
 
 /// The report where one is asked for, and else no bytes.
 pub(crate) fn report(
     alloc: Global,
     options: &Options<'_>,
-    input: &Input,
-    setting: &Setting,
+    work: &Work<'_>,
     run: &Run,
 ) -> Result<Bytes, AllocError>
-    requires input { IsValidInput input.now }
-    requires setting { IsValidSetting setting.now }
-    requires run { IsRunOf input.now setting.now (first_rest setting.now).line
-        run.now.journal run.now }
-    ensures { IfOk result
-        (λ lines. lines ≡ report_asked options.now.report input.now setting.now run.now.journal) }
+    requires { IsWholeRun work.now run.now }
+    ensures { IfOk result (λ lines. lines ≡ report_asked options.now.report work.now.input.now
+        work.now.setting.now run.now.journal) }
 {
-    let rows_r = input.table_r.rows.len();
-    let rows_s = input.table_s.rows.len();
-    bare_report(alloc, options, setting, rows_r, rows_s, run)
+    let rows_r = work.input.table_r.rows.len();
+    let rows_s = work.input.table_s.rows.len();
+    bare_report(alloc, options, work, rows_r, rows_s, run)
 }
 
 /// Appends a text.
@@ -108,38 +99,30 @@ pub(crate) fn add(text: &mut Bytes, more: Bytes) -> Result<(), AllocError>
 fn add_report(
     alloc: Global,
     options: &Options<'_>,
-    input: &Input,
-    setting: &Setting,
+    work: &Work<'_>,
     run: &Run,
     text: &mut Bytes,
 ) -> Result<(), AllocError>
-    requires input { IsValidInput input.now }
-    requires setting { IsValidSetting setting.now }
-    requires run { IsRunOf input.now setting.now (first_rest setting.now).line
-        run.now.journal run.now }
-    ensures { OnOk result (text.new ≡ text.old
-        ++ report_asked options.now.report input.now setting.now run.now.journal) }
+    requires { IsWholeRun work.now run.now }
+    ensures { OnOk result (text.new ≡ text.old ++ report_asked options.now.report
+        work.now.input.now work.now.setting.now run.now.journal) }
 {
-    add(text, report(alloc, options, input, setting, run)?)
+    add(text, report(alloc, options, work, run)?)
 }
 
 /// The text of the pairs, and then the report where one is asked for.
 pub(crate) fn text(
     alloc: Global,
     options: &Options<'_>,
-    input: &Input,
-    setting: &Setting,
+    work: &Work<'_>,
     run: &Run,
 ) -> Result<Bytes, AllocError>
-    requires input { IsValidInput input.now }
-    requires setting { IsValidSetting setting.now }
-    requires run { IsRunOf input.now setting.now (first_rest setting.now).line
-        run.now.journal run.now }
-    ensures { IfOk result
-        (λ text. text ≡ text_of (asked options.now) input.now setting.now run.now.journal) }
+    requires { IsWholeRun work.now run.now }
+    ensures { IfOk result (λ text. text ≡ text_of (asked options.now) work.now.input.now
+        work.now.setting.now run.now.journal) }
 {
-    let mut text = answer(alloc, options, input, run.pairs.as_slice())?;
-    match add_report(alloc, options, input, setting, run, &mut text) {
+    let mut text = answer(alloc, options, work, run.pairs.as_slice())?;
+    match add_report(alloc, options, work, run, &mut text) {
         Ok(()) => Ok(text),
         Err(refused) => {
             drop(text);

@@ -1,13 +1,12 @@
 // The top call.
 
-ghost use Rattle.std.specs.Prelude.{◌≡◌, ◌≢◌, ◌<◌, Some, map, string_bytes};
+ghost use Rattle.std.specs.Prelude.{◌≡◌, ◌<◌, Some, map, string_bytes};
 ghost use Rattle.join_rows.specs.Shelves.{last_fault};
-ghost use Rattle.join_words.specs.Words.{AreOptions, asked};
-ghost use Rattle.join_words.specs.declared.options.WordsFault.{WordsFault};
+ghost use Rattle.join_words.specs.Words.{asked};
 ghost use Rattle.join_cli.specs.Courses.{Course};
-ghost use Rattle.join_cli.specs.Ends.{Wrote, WroteFront, course_of};
+ghost use Rattle.join_cli.specs.Ends.{course_of};
 ghost use Rattle.join_cli.specs.Programs.{WroteOver};
-ghost use Rattle.join_cli.specs.Promises.{Answers, Causes, Leaves, Promises};
+ghost use Rattle.join_cli.specs.Promises.{Promises, PromisesOf};
 
 use crate::conclude::conclude;
 use crate::outcome::{Outcome, refused};
@@ -30,19 +29,8 @@ fn join_files<R: Threads + Wait + Sync, H: Shelf, K: Sink, G: Gate + Sync>(
 ) -> Outcome
     requires shelf { H.faults shelf.old < last_fault }
     requires sink { K.faults sink.old < last_fault }
-    requires options { AreOptions (asked options.now) }
-    ensures words { (fault : WordsFault) → result ≢ Outcome.Words fault }
-    ensures answers { Answers H.Shelf K.Sink (asked options.now)
+    ensures { PromisesOf H.Shelf K.Sink (asked options.now)
         shelf.old shelf.new sink.old sink.new result }
-    ensures causes { Causes H.Shelf K.Sink (asked options.now)
-        shelf.old shelf.new sink.old sink.new result }
-    ensures leaves { Leaves H.Shelf K.Sink shelf.old shelf.new sink.old sink.new result }
-    ensures done { (way : Course) → course_of result ≡ Some way
-        → Wrote (H.told shelf.old) (asked options.now) way
-        (K.written sink.old) (K.written sink.new) }
-    ensures front { result ≡ Outcome.Write
-        → WroteFront (H.told shelf.old) (asked options.now)
-        (K.written sink.old) (K.written sink.new) }
 {
     match prepare(rt, alloc, options, shelf) {
         Ok(planned) => conclude(rt, alloc, options, planned, sink, gate),

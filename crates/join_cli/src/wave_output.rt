@@ -1,31 +1,27 @@
 // The output of a run of several waves.
 
-ghost use Rattle.std.specs.Prelude.{◌≡◌, ◌<◌, ◌≤◌, ◌++◌, ◌^◌, IfOk, OnOk, None, length};
+ghost use Rattle.std.specs.Prelude.{◌≡◌, ◌++◌, IfOk, OnOk, None};
 ghost use Rattle.join_rows.specs.declared.table.Side.TheVariants.{R as R', S as S'};
 ghost use Rattle.trace_law.specs.Join.{row_count};
-ghost use Rattle.trace_law.specs.Validity.{IsValidInput, IsValidSetting};
-ghost use Rattle.join_report.specs.Report.{AreWithin};
 ghost use Rattle.join_words.specs.Words.{asked};
-ghost use Rattle.join_plan.specs.declared.fitting.Planned.{Planned as Planned'};
-ghost use Rattle.join_cli.specs.Ends.{IsMade, course_of};
 ghost use Rattle.join_cli.specs.Kinds.{AreSeveralWaves};
-ghost use Rattle.join_cli.specs.Plan.{bare_report_of, input_of};
-ghost use Rattle.join_cli.specs.Tasks.{IsTaskOf};
-ghost use Rattle.join_cli.specs.WaveSteps.{AreAhead};
+ghost use Rattle.join_cli.specs.Plan.{bare_report_of};
+ghost use Rattle.join_cli.specs.Steps.{IsMadeUpto, IsReportable};
+ghost use Rattle.join_cli.specs.Works.{IsWorkOf};
+ghost use Rattle.join_cli.specs.WaveSteps.{AreFewWaves};
 ghost use Rattle.join_cli.specs.WaveTexts.{lines_of};
-ghost use Rattle.join_cli.specs.Waves.{no_rows};
 
 use crate::outcome::Outcome;
 use crate::output::Joined;
-use crate::task::Task;
 use crate::texts::{add, bare_report, bytes_of, journal_of};
 use crate::waves::{Waved, all_waves};
+use crate::work::Work;
 use epoch_tags::Pair;
 use join_plan::WaveEnd;
 use join_report::{pairs_text, rows_text};
 use join_rows::Bytes;
 use join_words::Options;
-use link_trace::{Input, Run, Setting};
+use link_trace::{Input, Run};
 use std::alloc::{AllocError, Global};
 use std::sync::Wait;
 use std::thread::Threads;
@@ -51,23 +47,20 @@ pub(crate) fn lines(
 fn add_report(
     alloc: Global,
     options: &Options<'_>,
-    input: &Input,
-    setting: &Setting,
+    work: &Work<'_>,
     run: &Run,
     text: &mut Bytes,
 ) -> Result<(), AllocError>
-    requires input { IsValidInput input.now }
-    requires setting { IsValidSetting setting.now }
-    requires shifts { AreWithin setting.now.k run.now.journal }
-    requires steps { length run.now.moved < 2 ^ 32 }
-    ensures { OnOk result (text.new ≡ text.old ++ bare_report_of options.now.report setting.now
-        (row_count input.now R') (row_count input.now S') run.now) }
+    requires { IsReportable work.now run.now }
+    ensures { OnOk result (text.new ≡ text.old
+        ++ bare_report_of options.now.report work.now.setting.now
+        (row_count work.now.input.now R') (row_count work.now.input.now S') run.now) }
 {
-    let rows_r = input.table_r.rows.len();
-    let rows_s = input.table_s.rows.len();
+    let rows_r = work.input.table_r.rows.len();
+    let rows_s = work.input.table_s.rows.len();
     add(
         text,
-        bare_report(alloc, options, setting, rows_r, rows_s, run)?,
+        bare_report(alloc, options, work, rows_r, rows_s, run)?,
     )
 }
 
@@ -75,20 +68,16 @@ fn add_report(
 fn text_of_waves(
     alloc: Global,
     options: &Options<'_>,
-    input: &Input,
-    setting: &Setting,
+    work: &Work<'_>,
     run: &Run,
 ) -> Result<Bytes, AllocError>
-    requires input { IsValidInput input.now }
-    requires setting { IsValidSetting setting.now }
-    requires shifts { AreWithin setting.now.k run.now.journal }
-    requires steps { length run.now.moved < 2 ^ 32 }
-    ensures { IfOk result (λ text. text ≡ lines_of options.now.rows input.now run.now.pairs
-        ++ bare_report_of options.now.report setting.now
-        (row_count input.now R') (row_count input.now S') run.now) }
+    requires { IsReportable work.now run.now }
+    ensures { IfOk result (λ text. text ≡ lines_of options.now.rows work.now.input.now run.now.pairs
+        ++ bare_report_of options.now.report work.now.setting.now
+        (row_count work.now.input.now R') (row_count work.now.input.now S') run.now) }
 {
-    let mut text = lines(alloc, options, input, run.pairs.as_slice())?;
-    match add_report(alloc, options, input, setting, run, &mut text) {
+    let mut text = lines(alloc, options, work.input, run.pairs.as_slice())?;
+    match add_report(alloc, options, work, run, &mut text) {
         Ok(()) => Ok(text),
         Err(refused) => {
             drop(text);
@@ -102,21 +91,18 @@ pub(crate) fn waves_output<R: Threads + Wait + Sync, G: Gate + Sync>(
     rt: &R,
     alloc: Global,
     options: &Options<'_>,
-    task: &Task<'_>,
+    work: &Work<'_>,
     ends: &[WaveEnd],
     gate: &G,
 ) -> Result<Joined, AllocError>
     requires kind { AreSeveralWaves None options.now.kind }
-    requires task { IsTaskOf (asked options.now) task.now }
-    requires ends { AreAhead task.now.input.now no_rows ends.now }
-    requires few { length ends.now ≤ 4 }
-    ensures { IfOk result (λ joined. (planned : Planned')
-        → task.now.input.now ≡ input_of options.now.seed planned → planned.ends ≡ ends.now
-        → IsMade (asked options.now) planned joined.text (course_of joined.done)) }
+    requires work { IsWorkOf (asked options.now) work.now }
+    requires ends { AreFewWaves work.now.input.now ends.now }
+    ensures { IfOk result (IsMadeUpto (asked options.now) work.now.input.now ends.now) }
 {
-    let Waved { run, trail, rest } = all_waves(rt, alloc, task, ends, gate)?;
+    let Waved { run, trail, rest } = all_waves(rt, alloc, work, ends, gate)?;
     gate.let_go(rest);
-    match text_of_waves(alloc, options, task.input, task.setting, &run) {
+    match text_of_waves(alloc, options, work, &run) {
         Ok(text) => {
             let journal = journal_of(run);
             let done = Outcome::Done { journal, trail };

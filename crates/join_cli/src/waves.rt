@@ -1,17 +1,14 @@
 // The waves of a run, one after the other.
 
-ghost use Rattle.std.specs.Prelude.{◌≡◌, ◌++◌, ◌+◌, ◌*◌, ◌≤◌, ◌^◌, IfOk, length};
-ghost use Rattle.trace_law.specs.Runs.{IsRunOf};
-ghost use Rattle.load_controller.specs.Journal.{last_line};
-ghost use Rattle.actor_core.specs.Rests.{IsRestOf, IsUpto, rest_of, upto};
-ghost use Rattle.join_cli.specs.WaveSteps.{AreAhead, AreAllWaves, AreWavesBehind, IsWaveBehind};
-ghost use Rattle.join_cli.specs.Left.{counted};
-ghost use Rattle.join_cli.specs.Tasks.{IsTask};
+ghost use Rattle.std.specs.Prelude.{◌≡◌, ◌++◌, IfOk, None, Some};
+ghost use Rattle.join_cli.specs.WaveSteps.{AreAllWaves, AreFewWaves, AreWavesBehind, MayGoThrough};
+ghost use Rattle.join_cli.specs.WaveSteps.{MayGoTo, IsWaveBehind, IsWaveFrom};
 ghost use Rattle.join_cli.specs.WaveTexts.{with_wave};
-ghost use Rattle.join_cli.specs.Waves.{IsWaveInThreads, IsWaveReplayed, WaveWentAs, no_rows, upto_of};
+ghost use Rattle.join_cli.specs.Waves.{upto_of};
+ghost use Rattle.join_cli.specs.Works.{view_of};
 
 use crate::in_one::{no_waves, run_of_both, trail_of_both};
-use crate::task::Task;
+use crate::work::Work;
 use join_plan::WaveEnd;
 use join_runtime::{Trail, WaveTold, run_wave};
 use link_trace::{Rest, Run, Upto, WaveRun, replay_wave};
@@ -28,28 +25,19 @@ pub(crate) struct Waved {
     pub(crate) rest: Rest,
 }
 
-/// A replay of the task's wave that goes on from this rest, with this number.
+/// A replay of the work's wave that goes on from this rest, with this number.
 fn replayed<R: Wait>(
     rt: &R,
     alloc: Global,
-    task: &Task<'_>,
+    work: &Work<'_>,
     rest: Rest,
     end: Upto,
     seed: u64,
 ) -> Result<Waved, AllocError>
-    requires task { IsTask task.now }
-    requires end { IsUpto rest.line end task.now.input.now }
-    requires rest { IsRestOf task.now.input.now task.now.setting.now rest }
-    requires epoch { rest.line.epoch ≤ 2 ^ 31 }
-    ensures run { IfOk result (λ wave. IsRunOf (upto end task.now.input.now)
-        task.now.setting.now rest.line wave.run.journal wave.run) }
-    ensures went { IfOk result (λ wave. IsWaveReplayed (upto end task.now.input.now)
-        task.now.setting.now (rest_of rest) seed wave.run.journal wave.trail) }
-    ensures line { IfOk result (λ wave. wave.rest.line ≡ last_line rest.line wave.run.journal) }
-    ensures rest { IfOk result
-        (λ wave. IsRestOf task.now.input.now task.now.setting.now wave.rest) }
+    requires { MayGoTo work.now rest end }
+    ensures { IfOk result (IsWaveFrom (Some seed) work.now rest end) }
 {
-    let WaveRun { run, rest } = replay_wave(rt, alloc, rest, task.input, task.setting, end, seed)?;
+    let WaveRun { run, rest } = replay_wave(rt, alloc, rest, work.input, work.setting, end, seed)?;
     let trail = Trail::new(alloc);
     Ok(Waved { run, trail, rest })
 }
@@ -58,24 +46,15 @@ fn replayed<R: Wait>(
 fn threaded<R: Threads + Wait + Sync, G: Gate + Sync>(
     rt: &R,
     alloc: Global,
-    task: &Task<'_>,
+    work: &Work<'_>,
     rest: Rest,
     end: Upto,
     gate: &G,
 ) -> Result<Waved, AllocError>
-    requires task { IsTask task.now }
-    requires end { IsUpto rest.line end task.now.input.now }
-    requires rest { IsRestOf task.now.input.now task.now.setting.now rest }
-    requires epoch { rest.line.epoch ≤ 2 ^ 31 }
-    ensures run { IfOk result (λ wave. IsRunOf (upto end task.now.input.now)
-        task.now.setting.now rest.line wave.run.journal wave.run) }
-    ensures went { IfOk result (λ wave. IsWaveInThreads (upto end task.now.input.now)
-        task.now.setting.now (rest_of rest) wave.run.journal wave.trail) }
-    ensures line { IfOk result (λ wave. wave.rest.line ≡ last_line rest.line wave.run.journal) }
-    ensures rest { IfOk result
-        (λ wave. IsRestOf task.now.input.now task.now.setting.now wave.rest) }
+    requires { MayGoTo work.now rest end }
+    ensures { IfOk result (IsWaveFrom None work.now rest end) }
 {
-    let WaveTold { wave, ends } = run_wave(rt, alloc, rest, task.input, task.setting, end, gate)?;
+    let WaveTold { wave, ends } = run_wave(rt, alloc, rest, work.input, work.setting, end, gate)?;
     let mut trail = Trail::new(alloc);
     trail.push(ends)?;
     Ok(Waved {
@@ -85,30 +64,21 @@ fn threaded<R: Threads + Wait + Sync, G: Gate + Sync>(
     })
 }
 
-/// The wave that goes on from this rest: in threads, or as a replay where the task has a number of one.
+/// The wave that goes on from this rest: in threads, or as a replay where the work has a number of one.
 fn one_wave<R: Threads + Wait + Sync, G: Gate + Sync>(
     rt: &R,
     alloc: Global,
-    task: &Task<'_>,
+    work: &Work<'_>,
     rest: Rest,
     end: Upto,
     gate: &G,
 ) -> Result<Waved, AllocError>
-    requires task { IsTask task.now }
-    requires end { IsUpto rest.line end task.now.input.now }
-    requires rest { IsRestOf task.now.input.now task.now.setting.now rest }
-    requires epoch { rest.line.epoch ≤ 2 ^ 31 }
-    ensures run { IfOk result (λ wave. IsRunOf (upto end task.now.input.now)
-        task.now.setting.now rest.line wave.run.journal wave.run) }
-    ensures went { IfOk result (λ wave. WaveWentAs task.now.number (upto end task.now.input.now)
-        task.now.setting.now (rest_of rest) wave.run.journal wave.trail) }
-    ensures line { IfOk result (λ wave. wave.rest.line ≡ last_line rest.line wave.run.journal) }
-    ensures rest { IfOk result
-        (λ wave. IsRestOf task.now.input.now task.now.setting.now wave.rest) }
+    requires { MayGoTo work.now rest end }
+    ensures { IfOk result (IsWaveFrom work.now.number work.now rest end) }
 {
-    match task.number {
-        Some(seed) => replayed(rt, alloc, task, rest, end, seed),
-        None => threaded(rt, alloc, task, rest, end, gate),
+    match work.number {
+        Some(seed) => replayed(rt, alloc, work, rest, end, seed),
+        None => threaded(rt, alloc, work, rest, end, gate),
     }
 }
 
@@ -144,24 +114,20 @@ fn waves_of_both(alloc: Global, run: Run, trail: Trail, next: Waved) -> Result<W
 fn next_wave<R: Threads + Wait + Sync, G: Gate + Sync>(
     rt: &R,
     alloc: Global,
-    task: &Task<'_>,
+    work: &Work<'_>,
     before: Waved,
     end: &WaveEnd,
     gate: &G,
 ) -> Result<Waved, AllocError>
-    requires task { IsTask task.now }
-    requires end { IsUpto before.rest.line (upto_of end.now) task.now.input.now }
-    requires rest { IsRestOf task.now.input.now task.now.setting.now before.rest }
-    requires epoch { before.rest.line.epoch ≤ 2 ^ 31 }
-    ensures { IfOk result
-        (IsWaveBehind task.now.number task.now.input.now task.now.setting.now before end.now) }
+    requires { MayGoTo work.now before.rest (upto_of end.now) }
+    ensures { IfOk result (IsWaveBehind (view_of work.now) before end.now) }
 {
     let Waved { run, trail, rest } = before;
     let end = Upto {
         rows_r: end.rows_r,
         rows_s: end.rows_s,
     };
-    match one_wave(rt, alloc, task, rest, end, gate) {
+    match one_wave(rt, alloc, work, rest, end, gate) {
         Ok(next) => waves_of_both(alloc, run, trail, next),
         Err(refused) => {
             drop(run);
@@ -175,46 +141,38 @@ fn next_wave<R: Threads + Wait + Sync, G: Gate + Sync>(
 pub(crate) fn through<R: Threads + Wait + Sync, G: Gate + Sync>(
     rt: &R,
     alloc: Global,
-    task: &Task<'_>,
+    work: &Work<'_>,
     before: Waved,
     ends: &[WaveEnd],
     gate: &G,
 ) -> Result<Waved, AllocError>
-    requires task { IsTask task.now }
-    requires ends { AreAhead task.now.input.now (counted before.rest.line) ends.now }
-    requires rest { IsRestOf task.now.input.now task.now.setting.now before.rest }
-    requires epoch { before.rest.line.epoch + 304 * length ends.now ≤ 2 ^ 31 }
-    ensures { IfOk result
-        (AreWavesBehind task.now.number task.now.input.now task.now.setting.now before ends.now) }
+    requires { MayGoThrough work.now before.rest ends.now }
+    ensures { IfOk result (AreWavesBehind (view_of work.now) before ends.now) }
 {
     let [end, ends @ ..] = ends else {
         return Ok(before);
     };
-    let after = next_wave(rt, alloc, task, before, end, gate)?;
-    through(rt, alloc, task, after, ends, gate)
+    let after = next_wave(rt, alloc, work, before, end, gate)?;
+    through(rt, alloc, work, after, ends, gate)
 }
 
 /// The waves up to these ends, the first of which begins with no rows.
 pub(crate) fn all_waves<R: Threads + Wait + Sync, G: Gate + Sync>(
     rt: &R,
     alloc: Global,
-    task: &Task<'_>,
+    work: &Work<'_>,
     ends: &[WaveEnd],
     gate: &G,
 ) -> Result<Waved, AllocError>
-    requires task { IsTask task.now }
-    requires ends { AreAhead task.now.input.now no_rows ends.now }
-    requires few { length ends.now ≤ 4 }
-    ensures { IfOk result (λ all.
-        AreAllWaves task.now.number task.now.input.now task.now.setting.now
-        ends.now all.run all.trail) }
+    requires { AreFewWaves work.now.input.now ends.now }
+    ensures { IfOk result (λ all. AreAllWaves (view_of work.now) ends.now all.run all.trail) }
 {
-    let rest = Rest::empty(alloc, task.setting.k, task.setting.fixed, &task.input.theta)?;
-    let run = no_waves(alloc, task.setting)?;
+    let rest = Rest::empty(alloc, work.setting.k, work.setting.fixed, &work.input.theta)?;
+    let run = no_waves(alloc, work.setting)?;
     let none = Waved {
         run,
         trail: Trail::new(alloc),
         rest,
     };
-    through(rt, alloc, task, none, ends, gate)
+    through(rt, alloc, work, none, ends, gate)
 }

@@ -1,30 +1,29 @@
-use Rattle.std.proofs.Common.{refl}
+use Rattle.std.proofs.Common.{refl, rules}
 use Rattle.std.proofs.lemmas.Result.{IfOk-weaker}
-use Rattle.trace_law.proofs.Validity.{within_limits}
+use Rattle.join_cli.specs.Works.{view_of}
 use Rattle.join_cli.specs.declared.waves.Waved.{Waved}
 use Rattle.join_cli.proofs.GrownRuns.{first_are}
-use Rattle.join_cli.proofs.WaveRuns.{none_counted}
+use Rattle.join_cli.proofs.WaveRuns.{limits_of, may_begin}
 use Rattle.join_cli.proofs.growth.first_waves.Goals as goal
 
-pub through-requires-clause-ends : goal.through-requires-clause-ends
-through-requires-clause-ends g c lifetimes within =
-    none_counted c.args.task.now.input.now c.args.task.now.setting.now c.in_ok-rest.rest c.args.ends.now
-    (c.in_ok-rest.ensures.first c.args.task.now.setting.now refl refl) c.requires.ends
-
-pub through-requires-clause-rest : goal.through-requires-clause-rest
-through-requires-clause-rest g c lifetimes within =
-    c.in_ok-rest.ensures.stands c.args.task.now.input.now c.args.task.now.setting.now
-    (within_limits c.args.task.now.input.now c.args.task.now.setting.now c.requires.task.input c.requires.task.setting)
-    refl refl refl
+pub through-requires : goal.through-requires
+through-requires g c =
+    let work = c.args.work.now in (
+      search rules,
+      (
+        search rules,
+        may_begin work c.in_ok-rest.rest c.args.ends.now (c.in_ok-rest.ensures.first work.setting.now refl refl)
+            (c.in_ok-rest.ensures.stands work.input.now work.setting.now (limits_of work) refl refl refl)
+            c.in_ok-rest.ensures.epoch c.requires,
+      ),
+    )
 
 pub returns : goal.returns
 returns g c =
     let none : Waved = record { run = c.in_ok-run.run'; trail = c.new-trail.result; rest = c.in_ok-rest.rest } in
+    let work = c.args.work.now in
     IfOk-weaker c.through.result _ _
-    (λ first more. first_are c.args.task.now.number c.args.task.now.input.now c.args.task.now.setting.now none first
-    c.args.ends.now
-    (c.in_ok-rest.ensures.first c.args.task.now.setting.now refl refl) c.in_ok-run.ensures c.new-trail.ensures
-    (c.in_ok-rest.ensures.stands c.args.task.now.input.now c.args.task.now.setting.now
-    (within_limits c.args.task.now.input.now c.args.task.now.setting.now c.requires.task.input c.requires.task.setting)
-    refl refl refl) more)
+    (λ first more. first_are (view_of work) none first c.args.ends.now
+    (c.in_ok-rest.ensures.first work.setting.now refl refl) c.in_ok-run.ensures c.new-trail.ensures
+    (c.in_ok-rest.ensures.stands work.input.now work.setting.now (limits_of work) refl refl refl) more)
     c.through.ensures

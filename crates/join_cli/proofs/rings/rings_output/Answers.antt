@@ -7,11 +7,12 @@ use Rattle.join_cli.proofs.rings.rings_output.Goals as goal
 
 pub returns : goal.returns
 returns g c = λ planned is.
+    let own = asked c.args.options.now in
+    let work = c.args.work.now in
     let told = c.in_ok-run.field-0 in
-    made_over_rings (asked c.args.options.now) planned c.in_ok-text.text
+    made_over_rings own planned c.in_ok-text.text
     (Some (by_rings told.run.journal told.ends told.fallen)) c.requires.kind (λ grid. (
-      course_over_rings (asked c.args.options.now) planned c.args.task.now told is c.requires.task
-          c.in_ok-run.ensures.run c.in_ok-run.ensures.fallen c.in_ok-run.ensures.family,
-      output_is (asked c.args.options.now) planned c.args.task.now told.run.journal c.in_ok-text.text is
-          c.requires.task c.in_ok-text.ensures,
+      course_over_rings own planned work is c.requires.work told c.in_ok-run.ensures.run c.in_ok-run.ensures.fallen
+          c.in_ok-run.ensures.family,
+      output_is own planned work is c.requires.work told.run.journal c.in_ok-text.text c.in_ok-text.ensures,
     ))

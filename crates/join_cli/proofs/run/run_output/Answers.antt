@@ -5,10 +5,12 @@ use Rattle.join_cli.proofs.run.run_output.Goals as goal
 
 pub returns-in-Ok : goal.returns-in-Ok
 returns-in-Ok g c = λ planned is.
+    let own = asked c.args.options.now in
+    let work = c.args.work.now in
+    let course = c.in_ok-run.field-0 in
     rw c.journal_of-journal.ensures
-    (made_once c.args.options.now planned c.args.task.now c.in_ok-run.field-0.run.journal c.in_ok-run.field-0.trail
-    c.in-Ok.text c.requires.task c.requires.kind
-    (course_of_run c.args.task.now.number (asked c.args.options.now) planned c.args.task.now c.in_ok-run.field-0.run
-    c.in_ok-run.field-0.trail is c.requires.task c.in_ok-run.ensures.run c.in_ok-run.ensures.went)
-    (output_is (asked c.args.options.now) planned c.args.task.now c.in_ok-run.field-0.run.journal c.in-Ok.text is
-    c.requires.task c.in-Ok.ensures))
+    (made_once c.args.options.now planned work course.run.journal course.trail
+    c.in-Ok.text c.requires.work c.requires.kind
+    (course_of_run own planned work is c.requires.work work.number course.run course.trail c.in_ok-run.ensures.run
+    c.in_ok-run.ensures.went)
+    (output_is own planned work is c.requires.work course.run.journal c.in-Ok.text c.in-Ok.ensures))

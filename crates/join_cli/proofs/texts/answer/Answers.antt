@@ -7,9 +7,11 @@ use Rattle.join_report.proofs.LoopSums.{loop_sum_fits}
 use Rattle.join_cli.proofs.texts.answer.Goals as goal
 
 pub summary_text-requires : goal.summary_text-requires
-summary_text-requires c = record {
-  small =
-      subst (λ pairs. sum_by numbers_of pairs < 2 ^ 64) (sym c.requires.pairs)
-      (loop_sum_fits (matches_of c.args.input.now) (rows_of c.args.input.now R) (rows_of c.args.input.now S)
-      (c.requires.input.sides R).few (c.requires.input.sides S).few);
-}
+summary_text-requires c =
+    let work = c.args.work.now in
+    record {
+      small =
+          subst (λ pairs. sum_by numbers_of pairs < 2 ^ 64) (sym c.requires)
+          (loop_sum_fits (matches_of work.input.now) (rows_of work.input.now R) (rows_of work.input.now S)
+          (work.valid_input.sides R).few (work.valid_input.sides S).few);
+    }
