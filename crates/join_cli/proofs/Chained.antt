@@ -164,8 +164,10 @@ chain_halted asked planned joined third (outcomes.Limit (Between pairs)) input_i
   are = stopped.0 ∙ ap (λ i. length (nested_loop i)) input_is;
   many = stopped.1;
 }
-chain_halted asked planned joined third (outcomes.Limit (TooLong side wave)) input_is third_is stopped = elim stopped [ ]
-chain_halted asked planned joined third (outcomes.Limit (TooMany side wave)) input_is third_is stopped = elim stopped [ ]
+chain_halted asked planned joined third (outcomes.Limit (TooLong side wave)) input_is third_is stopped =
+    elim stopped [ ]
+chain_halted asked planned joined third (outcomes.Limit (TooMany side wave)) input_is third_is stopped =
+    elim stopped [ ]
 chain_halted asked planned joined third (outcomes.Limit (Total side wave rows)) input_is third_is stopped =
     elim stopped [ ]
 chain_halted asked planned joined third (outcomes.Done _ _) input_is third_is stopped = elim stopped [ ]

@@ -1,5 +1,5 @@
 -- The waves of a run with a growth are those of what was run.
-use Rattle.std.proofs.Common.{◌≡◌, ◌∙◌, ◌+◌, ◌≤◌, ℕ, List, [], ◌++◌, ap₂, drop, length, arith}
+use Rattle.std.proofs.Common.{◌≡◌, ◌∙◌, ◌≤◌, ℕ, List, [], ◌++◌, ap₂, drop, length, arith}
 use Rattle.std.proofs.Common.{refl, sym, ap, subst, take}
 use Rattle.std.specs.List.{IsSplitAt}
 use Rattle.load_controller.specs.declared.line.TurnLine.{TurnLine}
