@@ -112,14 +112,19 @@ fn agree(options: &Options<'_>, wanted: &Wanted) -> bool {
         && options.name_s == wanted.name_s
 }
 
+/// Whether these are options of such a kind of run that say the rest so.
+fn says<'a>(read: Result<Options<'a>, WordsError>, wanted: &Wanted, run: Kind<'a>) -> bool {
+    match read {
+        Ok(options) => agree(&options, wanted) && options.kind == run,
+        Err(_) => false,
+    }
+}
+
 /// Whether those options are read from a line.
 fn reads(alloc: Global, line: &str, wanted: Wanted) -> Result<bool, AllocError> {
     let words = words(alloc, line)?;
     let run = kind(alloc, wanted.run)?;
-    match read_words(alloc, &words) {
-        Ok(options) => Ok(options.kind == run && agree(&options, &wanted)),
-        Err(_) => Ok(false),
-    }
+    Ok(says(read_words(alloc, &words), &wanted, run))
 }
 
 /// What is wrong with a line, if something is.
