@@ -32,7 +32,7 @@ use Rattle.joiner_core.specs.Standing.{JoinerState}
 use Rattle.pair_collector.specs.Standing.{CollectorState, TakesMessage as CollectorTakes}
 use Rattle.pair_collector.specs.Standing.{state_after as collector_state_after}
 use Rattle.pair_collector.specs.Standing.{with_message as collector_with, StandsFor as CollectorStands}
-use Rattle.trace_law.proofs.PairSums.{turn_round}
+use Rattle.trace_law.proofs.FoundOnce.{turn_round}
 use Rattle.actor_core.specs.Lists.{ActorLists, Took, Began, feeder_lists, joiner_lists, controller_lists}
 use Rattle.actor_core.specs.Lists.{collector_lists, with_event}
 use Rattle.actor_core.specs.Standing.{Start, OfFeeder, OfJoiner, OfController, OfCollector, Stands, GoOut, Occurs}

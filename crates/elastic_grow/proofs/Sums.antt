@@ -19,7 +19,7 @@ use Rattle.store_parts.specs.Stored.{Stored}
 use Rattle.load_controller.specs.declared.line.TurnLine.{TurnLine}
 use Rattle.trace_law.specs.declared.input.Input.{Input}
 use Rattle.trace_law.specs.Family.{aged, old_rows}
-use Rattle.trace_law.proofs.PairSums.{never, turn_round}
+use Rattle.trace_law.proofs.FoundOnce.{never, turn_round}
 use Rattle.actor_core.specs.Rests.{tuples_at}
 use Rattle.elastic_grow.specs.Stores.{all_of, side_at}
 

@@ -37,7 +37,7 @@ use Rattle.join_cli.specs.Plan.{report_over}
 use Rattle.join_cli.specs.Steps.{IsReportable}
 use Rattle.join_cli.specs.Works.{IsWholeRun}
 use Rattle.join_cli.specs.declared.work.Work.{Work}
-use Rattle.join_cli.specs.declared.dealt.Dealt.{Dealt}
+use Rattle.join_cli.specs.declared.work_of_groups.Dealt.{Dealt}
 
 -- no shift of a lawful journal is past the grid
 past_fits : (setting : Setting) (first : TurnLine) (journal past : List TurnLine) → Fits (rules_of setting) first

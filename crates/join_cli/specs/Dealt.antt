@@ -5,7 +5,7 @@ use Rattle.trace_law.specs.declared.run.Run.{Run}
 use Rattle.trace_law.specs.declared.setting.Setting.{Setting}
 use Rattle.actor_core.specs.Tasks.{IsRun, task_of}
 use Rattle.group_split.specs.Parts.{input_of_part, part, setting_of_group}
-use Rattle.join_cli.specs.declared.dealt.Dealt.{Dealt}
+use Rattle.join_cli.specs.declared.work_of_groups.Dealt.{Dealt}
 
 -- so many joiners may form groups: there are some and few, and no shift is fixed
 pub record MayDeal (setting : Setting) (joiners : ℕ) : Type 0 where

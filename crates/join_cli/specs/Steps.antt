@@ -11,8 +11,8 @@ use Rattle.trace_law.specs.declared.run.Run.{Run}
 use Rattle.trace_law.specs.declared.setting.Setting.{Setting}
 use Rattle.join_report.specs.Report.{AreWithin}
 use Rattle.join_runtime.specs.Early.{WroteSome}
-use Rattle.join_runtime.specs.declared.lines_by_bout.EarlyFault.{EarlyFault}
-use Rattle.join_runtime.specs.declared.lines_by_bout.EarlyFault.TheVariants as faults
+use Rattle.join_runtime.specs.declared.early_lines.EarlyFault.{EarlyFault}
+use Rattle.join_runtime.specs.declared.early_lines.EarlyFault.TheVariants as faults
 use Rattle.join_words.specs.Words.{Asked, chain_of, is_early}
 use Rattle.join_plan.specs.declared.fault.LimitFault.TheVariants.{Between}
 use Rattle.join_plan.specs.declared.fitting.Planned.{Planned}

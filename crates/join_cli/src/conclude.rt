@@ -6,7 +6,7 @@ ghost use Rattle.join_words.specs.Words.{asked, chain_of};
 ghost use Rattle.join_plan.specs.Plan.{IsFit};
 ghost use Rattle.join_cli.specs.Steps.{CarriesOut};
 
-use crate::early_output::early_output;
+use crate::after_early_lines::early_output;
 use crate::outcome::Outcome;
 use crate::output::{Joined, output};
 use join_plan::Planned;

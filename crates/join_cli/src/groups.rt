@@ -9,11 +9,11 @@ ghost use Rattle.join_cli.specs.Dealt.{AreRunsFrom, IsRunOfGroup, MayDeal};
 ghost use Rattle.join_cli.specs.Steps.{IsMadeOver};
 ghost use Rattle.join_cli.specs.Works.{IsWorkOf};
 
-use crate::dealt::Dealt;
 use crate::outcome::{Journals, Outcome};
 use crate::output::Joined;
 use crate::texts::{answer, bytes_of};
 use crate::work::Work;
+use crate::work_of_groups::Dealt;
 use epoch_tags::Pair;
 use group_split::{GroupsRun, Runs, digits, numbers, part, run_groups};
 use join_report::report_text;

@@ -1,10 +1,9 @@
 //! The top call of `jm`: the words, two files, a predicate, the run of their join, and the output.
 #![tactic(auto)]
 
+mod after_early_lines;
 mod chain;
 mod conclude;
-mod dealt;
-mod early_output;
 mod entry;
 mod groups;
 mod growth;
@@ -23,6 +22,7 @@ mod top;
 mod wave_output;
 mod waves;
 mod work;
+mod work_of_groups;
 
 pub use entry::{Ended, jm_program};
 pub use join_plan::{InputFault, LimitFault, TextFault};

@@ -7,7 +7,7 @@ mod pairs;
 mod put;
 mod report_texts;
 mod rows;
-mod summary;
+mod summary_of_pairs;
 mod told;
 mod waves;
 
@@ -15,6 +15,6 @@ pub use pairs::pairs_text;
 pub use put::put_all;
 pub use report_texts::{grown_report_text, report_text};
 pub use rows::rows_text;
-pub use summary::summary_text;
+pub use summary_of_pairs::summary_text;
 pub use told::{GrownRun, report_of_grown_run, report_of_run};
 pub use waves::sum_counts;

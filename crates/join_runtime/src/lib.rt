@@ -4,22 +4,22 @@
 
 mod ahead;
 mod bouts;
-mod dealt;
+mod early_lines;
 mod ends;
 mod fresh;
 mod gathered;
 mod kept;
 mod left;
-mod lines_by_bout;
 mod mouths;
 mod runs;
 mod seat;
 mod seating;
 mod started;
+mod turns_side_by_side;
 
 pub use actor_core::{Rest, Upto, WaveRun};
 pub use bouts::{Seats, bout};
+pub use early_lines::{EarlyFault, run_early};
 pub use ends::{End, Ends, Told, Trail, WaveTold};
-pub use lines_by_bout::{EarlyFault, run_early};
 pub use runs::{run, run_wave};
 pub use seat::Seat;

@@ -13,10 +13,10 @@ ghost use Rattle.join_runtime.specs.Endings.{lists_left};
 ghost use Rattle.join_runtime.specs.Runs.{TellsOf};
 
 use crate::bouts::{Seats, bout_by};
-use crate::dealt::work_by;
 use crate::ends::{Told, WaveTold};
 use crate::kept::{Turns, pool_of, signals_of};
 use crate::seat::Seat;
+use crate::turns_side_by_side::work_by;
 use actor_core::{Rest, Upto, WaveRun};
 use kept_threads::Pool;
 use std::alloc::{AllocError, Global};

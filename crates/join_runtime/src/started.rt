@@ -3,9 +3,9 @@
 ghost use Rattle.std.specs.Prelude.{◌≡◌, length};
 ghost use Rattle.join_runtime.specs.Workers.{AllWorked};
 
-use crate::dealt::work_by;
 use crate::kept::{Turns, pool_of, signals_of};
 use crate::seat::Seat;
+use crate::turns_side_by_side::work_by;
 use kept_threads::Pool;
 use std::alloc::Global;
 use std::sync::Wait;

@@ -6,9 +6,9 @@ ghost use Rattle.load_controller.specs.Journal.{IsFirst, Fits};
 ghost use Rattle.load_controller.specs.Standing.{rules_with};
 ghost use Rattle.load_controller.specs.Machine.{Begins, IsSound, CauseFits, IsOfGrid, opens_of, Notes, CountsCause};
 
+use crate::decisions::next_line;
 use crate::line::{Cause, Journal, TurnLine};
 use crate::marks::{note_drain, note_settle};
-use crate::next::next_line;
 use crate::post::post_line;
 use crate::stop::is_over;
 use epoch_tags::{Held, Sends, all_down};

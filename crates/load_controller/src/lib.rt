@@ -2,12 +2,12 @@
 #![tactic(auto)]
 
 mod controller;
+mod decisions;
 mod held_settles;
 mod laws;
 mod ledger;
 mod line;
 mod marks;
-mod next;
 mod post;
 mod receive;
 mod stop;

@@ -9,9 +9,9 @@ ghost use Rattle.ring_runtime.specs.Seats.{RingSeatView, frame_of};
 ghost use Rattle.ring_runtime.specs.Joins.{AreHeld, AreWired};
 ghost use Rattle.ring_runtime.specs.Bouts.{AllAdvance, AllLive, EachSeat, IsAtRest, IsBusy, IsReady, IsStill, NoneSpent, SomeEvent, SomeSeat, StandsFor, is_collected, journal_in, lists_in};
 
-use crate::dealt::work;
 use crate::holding::hold_all;
 use crate::seat::RingSeat;
+use crate::turns_side_by_side::work;
 use actor_core::Cast;
 use std::alloc::{AllocError, Global};
 use std::marker::Model;

@@ -3,7 +3,6 @@
 #![tactic(auto)]
 
 mod bouts;
-mod dealt;
 mod ends;
 mod holding;
 mod inlets;
@@ -13,6 +12,7 @@ mod runs;
 mod seat;
 mod seating;
 mod slots;
+mod turns_side_by_side;
 mod wiring;
 
 pub use bouts::{RingSeats, ring_bout};

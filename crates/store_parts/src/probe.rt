@@ -2,7 +2,7 @@
 
 pub(crate) mod by_access;
 pub(crate) mod by_key;
-pub(crate) mod evaluate;
+pub(crate) mod found_pairs;
 
 use crate::by_stamp::Which;
 use epoch_tags::Tuple;

@@ -24,7 +24,7 @@ use crate::half::Half;
 use crate::probe::Query;
 use crate::probe::by_access::seek_by;
 use crate::probe::by_key::{find_keyed, seek, sift};
-use crate::probe::evaluate::{find_each, scan};
+use crate::probe::found_pairs::{find_each, scan};
 use epoch_tags::{Pairs, Tuple, Tuples};
 use join_rows::Side;
 use std::alloc::{AllocError, Global};

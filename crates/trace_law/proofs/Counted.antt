@@ -27,7 +27,7 @@ use Rattle.trace_law.specs.Join.{row_count, is_before}
 use Rattle.trace_law.specs.Batches.{same_place, size_of, stamp_of}
 use Rattle.trace_law.specs.Validity.{IsValid}
 use Rattle.trace_law.specs.Family.{Rest, is_old, own_rows, rules_of, batches, stamp_at}
-use Rattle.trace_law.proofs.PairSums.{never}
+use Rattle.trace_law.proofs.FoundOnce.{never}
 use Rattle.trace_law.proofs.Shares.{own_total}
 use Rattle.trace_law.proofs.StampOf.{own_is_own}
 

@@ -30,7 +30,7 @@ use Rattle.trace_law.specs.Family.{old_rows, aged}
 use Rattle.trace_law.specs.Stored.{is_stored}
 use Rattle.trace_law.specs.Join.{has_new, wave_pairs}
 use Rattle.trace_law.proofs.Aged.{old_stamps}
-use Rattle.trace_law.proofs.PairSums.{finds, found_once, sum-pairs, IsStamped}
+use Rattle.trace_law.proofs.FoundOnce.{finds, found_once, sum-pairs, IsStamped}
 use Rattle.trace_law.proofs.NewPairs.{pairs-parts, pairs-aged, later_stamp, first_finds, same_pairs}
 use Rattle.trace_law.proofs.Loop.{joins_of, weight, row_sum, rows_pair_up, old_pairs, either}
 use Rattle.trace_law.proofs.Journals.{shift_in, rows_known, stores_what_it_holds}

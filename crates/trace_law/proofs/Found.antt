@@ -34,7 +34,7 @@ use Rattle.trace_law.specs.Family.{is_old, all_places, old_rows, aged}
 use Rattle.trace_law.specs.Stored.{is_stored}
 use Rattle.trace_law.proofs.Begun.{fits_begun}
 use Rattle.trace_law.proofs.Aged.{everywhere, old_stamps}
-use Rattle.trace_law.proofs.PairSums.{finds, found_once, sum-pairs}
+use Rattle.trace_law.proofs.FoundOnce.{finds, found_once, sum-pairs}
 use Rattle.trace_law.proofs.NewPairs.{pairs-parts, pairs-aged, later_stamp, first_finds, same_pairs, held_once}
 use Rattle.trace_law.proofs.NewPairs.{weight_of}
 use Rattle.trace_law.proofs.Arrivals.{granted_since}

@@ -3,7 +3,7 @@ pub mod First
 pub mod Aged
 pub mod Stores
 pub mod Membership
-pub mod PairSums
+pub mod FoundOnce
 pub mod Arrivals
 pub mod Journals
 pub mod Cuts

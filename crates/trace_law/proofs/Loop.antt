@@ -26,7 +26,7 @@ use Rattle.load_controller.specs.declared.line.TurnLine.{TurnLine}
 use Rattle.trace_law.specs.Family.{Rest, tuple_of, cells_of, feeder_start, is_old, all_places, old_rows}
 use Rattle.trace_law.specs.Join.{is_before, has_new, wave_pairs}
 use Rattle.trace_law.proofs.Cuts.{joined_again}
-use Rattle.trace_law.proofs.PairSums.{sum-pairs}
+use Rattle.trace_law.proofs.FoundOnce.{sum-pairs}
 use Rattle.trace_law.proofs.RowSums.{shares_sum}
 use Rattle.trace_law.proofs.Stamps.{grant_epochs, granted_is, IsBlind, some_of_batches}
 use Rattle.join_rows.proofs.Totals.{total_same, total_le, total-add, sum-gather, sum_by-le, sum_plus, zeros}

@@ -29,7 +29,7 @@ use Rattle.trace_law.specs.Validity.{IsValid}
 use Rattle.trace_law.specs.Family.{Rest, IsRestFor, Family, IsAgreeing, IsFinished, tuple_of, cells_of, rules_of}
 use Rattle.trace_law.specs.Family.{HasItsStamp, shift_of, stamp_in, is_old, all_places, old_rows}
 use Rattle.trace_law.proofs.Stores.{is_stored}
-use Rattle.trace_law.proofs.PairSums.{sum-pairs, sum-pairs_by, finds, IsStamped, at_epoch, never, turn_round}
+use Rattle.trace_law.proofs.FoundOnce.{sum-pairs, sum-pairs_by, finds, IsStamped, at_epoch, never, turn_round}
 use Rattle.trace_law.proofs.Loop.{joins_of, loop_pair, loop_sum, old_pairs, either}
 use Rattle.trace_law.proofs.Sent.{shift, rows, s_of, t_of}
 use Rattle.trace_law.proofs.Finished.{E, base, its, finds_of, opened_is, found_all, rows_stamped, taken_of}

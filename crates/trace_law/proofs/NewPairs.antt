@@ -21,7 +21,7 @@ use Rattle.load_controller.specs.declared.line.TurnLine.{TurnLine}
 use Rattle.trace_law.specs.Family.{aged}
 use Rattle.trace_law.specs.Join.{is_before}
 use Rattle.trace_law.specs.Stored.{is_stored}
-use Rattle.trace_law.proofs.PairSums.{sum-pairs, sum-pairs_by, never, turn_round}
+use Rattle.trace_law.proofs.FoundOnce.{sum-pairs, sum-pairs_by, never, turn_round}
 
 -- ---- of two lists in one
 

@@ -34,7 +34,7 @@ use Rattle.trace_law.specs.Family.{Rest, IsRestFor, Family, IsAgreeing, IsFinish
 use Rattle.trace_law.specs.Family.{moved_by, feeder_start, shift_of, stamp_in, aged, migrations}
 use Rattle.trace_law.proofs.Stores.{is_stored}
 use Rattle.trace_law.proofs.Membership.{low_within}
-use Rattle.trace_law.proofs.PairSums.{IsStamped, never, turn_round}
+use Rattle.trace_law.proofs.FoundOnce.{IsStamped, never, turn_round}
 use Rattle.trace_law.proofs.Loop.{row_sum}
 use Rattle.trace_law.proofs.AtMost.{shift_is, shift_next}
 use Rattle.trace_law.proofs.Sent.{shift, rows, s_of, t_of}

@@ -3,14 +3,14 @@
 #![tactic(auto)]
 
 mod counting;
-mod dealing;
+mod dealt_seats;
 mod ending;
 mod gate;
 mod pair;
 mod progress;
 
 pub use counting::CountingGate;
-pub use dealing::standing_at;
+pub use dealt_seats::standing_at;
 pub use ending::{EarlierGate, LastGate};
 pub use gate::{Gate, NoGate, Spot};
 pub use pair::PairGate;

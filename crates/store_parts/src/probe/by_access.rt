@@ -14,7 +14,7 @@ use crate::half::Half;
 use crate::numbers::is_admitted;
 use crate::places::Found;
 use crate::probe::Query;
-use crate::probe::evaluate::{at, try_places};
+use crate::probe::found_pairs::{at, try_places};
 use crate::stands::asked;
 use epoch_tags::{Pairs, Tuple};
 use smallvec::SmallVec;

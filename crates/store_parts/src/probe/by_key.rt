@@ -12,7 +12,7 @@ use crate::counted_steps::Steps;
 use crate::half::Half;
 use crate::places::Found;
 use crate::probe::Query;
-use crate::probe::evaluate::{try_one, try_places};
+use crate::probe::found_pairs::{try_one, try_places};
 use epoch_tags::{Pairs, Tuple};
 use join_rows::Side;
 use smallvec::SmallVec;

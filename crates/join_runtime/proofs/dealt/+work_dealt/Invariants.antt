@@ -1,4 +1,0 @@
-use Rattle.join_runtime.proofs.dealt.+work_dealt.Given as goal
-
-abbrev pub decreases-work_dealt : goal.decreases-work_dealt
-decreases-work_dealt g l = l.left
