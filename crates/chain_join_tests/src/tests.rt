@@ -11,7 +11,8 @@ use std::alloc::{AllocError, Global};
 use std::sync::Wait;
 use std::test::Fail;
 use std::thread::Threads;
-use theta_pred::{Theta, parse, resolve};
+use theta_pred::{Theta, resolve};
+use theta_text::parse;
 use trace_law::{Input, Setting};
 use worker_gate::NoGate;
 

@@ -14,7 +14,8 @@ use std::fmt::Debug;
 use std::process::Abort;
 use std::test::*;
 use store_parts::Store;
-use theta_pred::{Theta, parse, resolve};
+use theta_pred::{Theta, resolve};
+use theta_text::parse;
 
 // That these are equal: one call, where an assertion in its place is dear to prove.
 fn is<T: Copy + Debug + PartialEq>(rt: &impl Abort, seen: T, wanted: T, what: &str) {

@@ -4,7 +4,8 @@ use grid_map::Weights;
 use join_rows::{Bytes, Cell, Cells, Names, Rows, Table};
 use row_tickets::Feed;
 use std::alloc::{AllocError, Global};
-use theta_pred::{Theta, parse, resolve};
+use theta_pred::{Theta, resolve};
+use theta_text::parse;
 use trace_law::{Input, Setting};
 
 // What each function here makes, it lets go by a call where it can't go on: what a way out drops by itself is dear to

@@ -22,7 +22,8 @@ use std::alloc::{AllocError, Global};
 use std::sync::Wait;
 use std::{env, io};
 use store_parts::{Store, Which};
-use theta_pred::{Theta, parse, resolve};
+use theta_pred::{Theta, resolve};
+use theta_text::parse;
 
 fn header(alloc: Global, word: &[u8]) -> Result<Names, AllocError>
     ensures { IfOk result (λ names. length names ≡ 1) }

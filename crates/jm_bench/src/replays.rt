@@ -8,7 +8,8 @@ use link_trace::{Input, Setting, replay};
 use row_tickets::{Feed, tickets};
 use std::alloc::{AllocError, Global};
 use std::sync::Wait;
-use theta_pred::{Theta, parse, resolve};
+use theta_pred::{Theta, resolve};
+use theta_text::parse;
 
 // That the rows have the same number.
 fn same_number(alloc: Global, table_r: &Table, table_s: &Table) -> Result<Theta, AllocError> {

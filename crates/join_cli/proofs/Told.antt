@@ -1,6 +1,6 @@
 -- An outcome that tells a refusal tells that one.
 use Rattle.std.proofs.Common.{◌≡◌, ◌⊎◌, ◌∙◌, inl, inr, ℕ, Option, None, Some, refl, sym, ap}
-use Rattle.theta_text.specs.declared.fault.PredFault.{PredFault}
+use Rattle.theta_tree.specs.declared.fault.PredFault.{PredFault}
 use Rattle.join_words.specs.declared.options.WordsFault.{WordsFault}
 use Rattle.join_plan.specs.declared.fault.Refusal.{Refusal}
 use Rattle.join_plan.specs.declared.fault.Refusal.TheVariants as refusals

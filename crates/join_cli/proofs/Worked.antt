@@ -7,9 +7,9 @@ use Rattle.csv.specs.Reading.{records_from}
 use Rattle.csv.specs.Machine.{next_record}
 use Rattle.join_rows.specs.declared.table.Side.TheVariants as sides
 use Rattle.join_rows.specs.Records.{after_marks, table_of, table_of_records, fault_of_rows}
-use Rattle.theta_text.specs.Grammar.{Tree, txt}
-use Rattle.theta_text.specs.declared.tree.Op.TheVariants.{Eq}
-use Rattle.theta_text.specs.declared.tree.TextSide.TheVariants.{Col}
+use Rattle.theta_tree.specs.Grammar.{Tree, txt}
+use Rattle.theta_tree.specs.declared.tree.Op.TheVariants.{Eq}
+use Rattle.theta_tree.specs.declared.tree.TextSide.TheVariants.{Col}
 use Rattle.row_tickets.specs.declared.place.Feed.TheVariants.{Alternate}
 use Rattle.join_words.specs.Words.{Asked, in_chain, in_waves}
 use Rattle.join_words.specs.declared.kind.Grid.{Grid}

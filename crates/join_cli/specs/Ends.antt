@@ -1,7 +1,7 @@
 -- How a run ends, and what it leaves.
 use Rattle.std.specs.Prelude.{◌≡◌, ◌⊎◌, ℕ, ⊤, true, List, length, Option, None, Some, Result, Ok, Err}
 use Rattle.join_rows.specs.Shelves.{Told}
-use Rattle.theta_text.specs.declared.fault.PredFault.{PredFault}
+use Rattle.theta_tree.specs.declared.fault.PredFault.{PredFault}
 use Rattle.trace_law.specs.Join.{nested_loop}
 use Rattle.join_report.specs.PairLines.{pair_lines}
 use Rattle.join_words.specs.Words.{Asked, AskedKind, is_early}

@@ -4,9 +4,9 @@ use Rattle.join_rows.specs.Sinks.{PutsSome}
 use Rattle.join_rows.specs.declared.shelf.Shelf.{Ghosts as ShelfGhosts}
 use Rattle.join_rows.specs.declared.sink.Sink.{Ghosts as SinkGhosts}
 use Rattle.join_rows.specs.declared.table.Side.{Side}
-use Rattle.theta_text.specs.Grammar.{Tree}
-use Rattle.theta_text.specs.declared.fault.PredFault.{PredFault}
-use Rattle.theta_text.specs.Texts.{IsFaultOf, TextReads, limits}
+use Rattle.theta_tree.specs.Grammar.{Tree}
+use Rattle.theta_tree.specs.declared.fault.PredFault.{PredFault}
+use Rattle.theta_tree.specs.Texts.{IsFaultOf, TextReads, limits}
 use Rattle.join_words.specs.Words.{Asked, AskedChain, asked_of, chain_of, is_early}
 use Rattle.join_words.specs.declared.options.WordsFault.{WordsFault}
 use Rattle.join_cli.specs.declared.outcome.Outcome.{Outcome}

@@ -1,10 +1,10 @@
 -- What parsing a text answers, by what the text reads as.
 use Rattle.std.proofs.Common.{◌≡◌, ◌⊎◌, inl, inr, ℕ, List, Result, Ok, Err, sym, ap}
-use Rattle.theta_text.specs.Grammar.{Tree}
-use Rattle.theta_text.specs.Texts.{TextReads, IsFaultOf, limits, tree_of}
-use Rattle.theta_text.specs.declared.tree.Pred.{Pred}
-use Rattle.theta_text.specs.declared.fault.PredFault.{PredFault}
-use Rattle.theta_text.specs.declared.fault.PredFault.TheVariants as texts
+use Rattle.theta_tree.specs.Grammar.{Tree}
+use Rattle.theta_tree.specs.Texts.{TextReads, IsFaultOf, limits, tree_of}
+use Rattle.theta_tree.specs.declared.tree.Pred.{Pred}
+use Rattle.theta_tree.specs.declared.fault.PredFault.{PredFault}
+use Rattle.theta_tree.specs.declared.fault.PredFault.TheVariants as texts
 use Rattle.join_plan.specs.declared.fault.Refusal.TheVariants.{Memory}
 use Rattle.join_plan.specs.Refusals.{text_refusal}
 use Rattle.text_readings.specs.Readings.{IsReading}

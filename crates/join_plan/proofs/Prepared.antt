@@ -3,7 +3,7 @@ use Rattle.std.proofs.Common.{◌≡◌, ◌⊎◌, inl, inr, refl, sym, ap, sub
 use Rattle.std.proofs.Common.{◌+◌, ℕ, List, length, Option, None, Some, Result, Ok, Err}
 use Rattle.std.specs.Prelude.{IfOk, is_some, option_map}
 use Rattle.join_rows.specs.Shelves.{Spot, Told}
-use Rattle.theta_text.specs.Grammar.{Tree}
+use Rattle.theta_tree.specs.Grammar.{Tree}
 use Rattle.join_words.specs.Words.{Asked, AskedChain, chain_of, later_of}
 use Rattle.join_plan.specs.declared.fault.Refusal.{Refusal}
 use Rattle.join_plan.specs.declared.fault.Refusal.TheVariants as refusals

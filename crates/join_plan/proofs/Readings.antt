@@ -1,8 +1,8 @@
 -- Texts that are asked for read in one way, so there is one plan of them.
 use Rattle.std.proofs.Common.{◌≡◌, ◌∙◌, ℕ, List, Option, None, Some, Result, refl, sym, ap, ap₂}
-use Rattle.theta_text.specs.Grammar.{Tree}
-use Rattle.theta_text.specs.Texts.{limits}
-use Rattle.theta_text.specs.declared.fault.PredFault.{PredFault}
+use Rattle.theta_tree.specs.Grammar.{Tree}
+use Rattle.theta_tree.specs.Texts.{limits}
+use Rattle.theta_tree.specs.declared.fault.PredFault.{PredFault}
 use Rattle.text_readings.proofs.Readings.{every_text, one_reading}
 use Rattle.join_words.specs.Words.{Asked, AskedChain, chain_of}
 use Rattle.join_plan.specs.declared.fault.Refusal.{Refusal}

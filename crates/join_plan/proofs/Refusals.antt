@@ -3,10 +3,10 @@ use Rattle.std.proofs.Common.{◌≡◌, ◌≤◌, inl, inr, ℕ, List, Option,
 use Rattle.std.proofs.Common.{arith}
 use Rattle.std.specs.Prelude.{IfErr, IsSomeAnd, is_some}
 use Rattle.join_rows.specs.Shelves.{Spot, Told}
-use Rattle.theta_text.specs.Texts.{IsDeepAt, IsLiteralAt, IsSyntaxAt, IsWideAt, limits}
-use Rattle.theta_text.specs.declared.tree.Pred.{Pred}
-use Rattle.theta_text.specs.declared.fault.PredFault.{PredFault}
-use Rattle.theta_text.specs.declared.fault.PredFault.TheVariants as texts
+use Rattle.theta_tree.specs.Texts.{IsDeepAt, IsLiteralAt, IsSyntaxAt, IsWideAt, limits}
+use Rattle.theta_tree.specs.declared.tree.Pred.{Pred}
+use Rattle.theta_tree.specs.declared.fault.PredFault.{PredFault}
+use Rattle.theta_tree.specs.declared.fault.PredFault.TheVariants as texts
 use Rattle.theta_pred.specs.declared.fault.ResolveFault.{ResolveFault}
 use Rattle.theta_pred.specs.declared.fault.ResolveFault.TheVariants as columns
 use Rattle.join_words.specs.Words.{Asked, AskedChain, chain_of}

@@ -1,11 +1,11 @@
 -- What a predicate's names and its formula are, by its tree.
 use Rattle.std.proofs.Common.{◌≡◌, List, [], ◌∷◌, map, refl, sym, ◌∙◌, ap, subst, ℕ}
-use Rattle.theta_text.specs.Grammar.{Tree, trees}
-use Rattle.theta_text.specs.Texts.{tree_of, tree_step}
-use Rattle.theta_text.specs.declared.tree.Name.{Name}
-use Rattle.theta_text.specs.declared.tree.Pred.{Pred}
-use Rattle.theta_text.specs.declared.tree.Pred.TheOpen.{Pred-F}
-use Rattle.theta_text.specs.declared.tree.Pred.TheFolds.{fold-roll-Pred, ind-Pred, map-Pred}
+use Rattle.theta_tree.specs.Grammar.{Tree, trees}
+use Rattle.theta_tree.specs.Texts.{tree_of, tree_step}
+use Rattle.theta_tree.specs.declared.tree.Name.{Name}
+use Rattle.theta_tree.specs.declared.tree.Pred.{Pred}
+use Rattle.theta_tree.specs.declared.tree.Pred.TheOpen.{Pred-F}
+use Rattle.theta_tree.specs.declared.tree.Pred.TheFolds.{fold-roll-Pred, ind-Pred, map-Pred}
 use Rattle.theta_pred.specs.Formula.{Formula, formulas}
 use Rattle.theta_pred.specs.Names.{joined, names_in, names_step}
 use Rattle.theta_pred.specs.Resolved.{resolved, resolved_step}

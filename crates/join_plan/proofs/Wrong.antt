@@ -1,9 +1,9 @@
 -- The first wrong name, by what resolving tells.
 use Rattle.std.proofs.Common.{◌≡◌, ◌⊎◌, inl, inr, ◌<◌, ◌++◌, ℕ, suc, List, [], ◌∷◌, All, length, refl, sym, ap, subst}
 use Rattle.std.proofs.Common.{Result, Some, None, Ok, Err, arith}
-use Rattle.theta_text.specs.Texts.{tree_of}
-use Rattle.theta_text.specs.declared.tree.Name.{Name}
-use Rattle.theta_text.specs.declared.tree.Pred.{Pred}
+use Rattle.theta_tree.specs.Texts.{tree_of}
+use Rattle.theta_tree.specs.declared.tree.Name.{Name}
+use Rattle.theta_tree.specs.declared.tree.Pred.{Pred}
 use Rattle.theta_pred.specs.Formula.{Meaning}
 use Rattle.theta_pred.specs.Names.{names_in, places_of, StandsOnce, IsFirstWrong}
 use Rattle.theta_pred.specs.Resolved.{resolved, Tells}

@@ -1,8 +1,8 @@
 -- A predicate's tree over two headers.
 use Rattle.std.specs.Prelude.{ℕ, List, [], ◌∷◌, ◌++◌, length, Option, None, Some, Result, Ok, Err}
 use Rattle.std.specs.Option.{option_or}
-use Rattle.theta_text.specs.Grammar.{Tree, any, every, negation, num, band, txt, Trees, no_trees, tree}
-use Rattle.theta_text.specs.declared.tree.Name.{Name}
+use Rattle.theta_tree.specs.Grammar.{Tree, any, every, negation, num, band, txt, Trees, no_trees, tree}
+use Rattle.theta_tree.specs.declared.tree.Name.{Name}
 use Rattle.theta_pred.specs.Formula.{Formula, Formulas, no_formula, formula, Meaning}
 use Rattle.theta_pred.specs.Formula as says
 use Rattle.theta_pred.specs.Names.{sum_names, side_names, places_of}

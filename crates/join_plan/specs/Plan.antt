@@ -4,7 +4,7 @@ use Rattle.join_rows.specs.declared.table.Table.{Table}
 use Rattle.join_rows.specs.Records.{IsTable}
 use Rattle.join_rows.specs.Shelves.{Told}
 use Rattle.joined_rows.specs.Joined.{joined_names}
-use Rattle.theta_text.specs.Grammar.{Tree}
+use Rattle.theta_tree.specs.Grammar.{Tree}
 use Rattle.theta_pred.specs.Formula.{Meaning}
 use Rattle.join_words.specs.Words.{Asked, chain_of, later_of}
 use Rattle.join_plan.specs.declared.fault.InputFault.{InputFault}

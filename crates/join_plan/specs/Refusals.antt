@@ -3,8 +3,8 @@ use Rattle.std.specs.Prelude.{ℕ, Result, Ok, Err}
 use Rattle.join_rows.specs.declared.table.Side.{Side}
 use Rattle.join_rows.specs.declared.fault.TableFault.{TableFault}
 use Rattle.join_rows.specs.declared.fault.TableFault.TheVariants as files
-use Rattle.theta_text.specs.declared.fault.PredFault.{PredFault}
-use Rattle.theta_text.specs.declared.fault.PredFault.TheVariants as texts
+use Rattle.theta_tree.specs.declared.fault.PredFault.{PredFault}
+use Rattle.theta_tree.specs.declared.fault.PredFault.TheVariants as texts
 use Rattle.theta_pred.specs.declared.fault.ResolveFault.{ResolveFault}
 use Rattle.theta_pred.specs.declared.fault.ResolveFault.TheVariants as columns
 use Rattle.join_plan.specs.declared.fault.Refusal.{Refusal}

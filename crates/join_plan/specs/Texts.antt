@@ -1,12 +1,12 @@
 -- What the texts of the predicates are, and the refusal where one is none.
 use Rattle.std.specs.Prelude.{◌≡◌, ◌⊎◌, ◌≤◌, ℕ, List, ⊤, Option, None, Some, option_map, Result, Ok, Err}
 use Rattle.std.specs.Prelude.{IfSome, MatchResult}
-use Rattle.theta_text.specs.Grammar.{Tree}
-use Rattle.theta_text.specs.Sizes.{longest_sum}
-use Rattle.theta_text.specs.Texts.{TextReads, IsFaultOf, limits, tree_of}
-use Rattle.theta_text.specs.declared.tree.Pred.{Pred}
-use Rattle.theta_text.specs.declared.fault.PredFault.{PredFault}
-use Rattle.theta_text.specs.declared.fault.PredFault.TheVariants as texts
+use Rattle.theta_tree.specs.Grammar.{Tree}
+use Rattle.theta_tree.specs.Sizes.{longest_sum}
+use Rattle.theta_tree.specs.Texts.{TextReads, IsFaultOf, limits, tree_of}
+use Rattle.theta_tree.specs.declared.tree.Pred.{Pred}
+use Rattle.theta_tree.specs.declared.fault.PredFault.{PredFault}
+use Rattle.theta_tree.specs.declared.fault.PredFault.TheVariants as texts
 use Rattle.text_readings.specs.Readings.{IsReading}
 use Rattle.join_words.specs.Words.{Asked, AskedChain, chain_of}
 use Rattle.join_plan.specs.declared.fault.TextFault.{TextFault}

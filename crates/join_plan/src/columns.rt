@@ -1,8 +1,8 @@
 // A predicate over the headers of two tables.
 
 ghost use Rattle.std.specs.Prelude.{◌≡◌, ◌⊎◌, ◌≤◌, ℕ, IfErr, IfOk, Ok, Err, length};
-ghost use Rattle.theta_text.specs.Sizes.{longest_sum};
-ghost use Rattle.theta_text.specs.Texts.{tree_of};
+ghost use Rattle.theta_tree.specs.Sizes.{longest_sum};
+ghost use Rattle.theta_tree.specs.Texts.{tree_of};
 ghost use Rattle.join_rows.specs.Shelves.{Spot, Told};
 ghost use Rattle.join_words.specs.Words.{Asked};
 ghost use Rattle.join_plan.specs.Causes.{HasText, Refuses};
@@ -13,7 +13,7 @@ use crate::refusal_of_fault::{Which, columns_refused};
 use join_rows::Names;
 use std::alloc::Global;
 use theta_pred::{Theta, resolve};
-use theta_text::Pred;
+use theta_tree::Pred;
 
 /// The predicate over these headers, or its first wrong name.
 pub(crate) fn theta(

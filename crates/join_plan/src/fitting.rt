@@ -1,8 +1,8 @@
 // Tables, and the predicates over their headers.
 
 ghost use Rattle.std.specs.Prelude.{◌≡◌, ◌⊎◌, ◌+◌, ◌≤◌, ℕ, Ok, Err, IfErr, IfOk, IfSome, is_some, length, option_map};
-ghost use Rattle.theta_text.specs.Sizes.{longest_sum};
-ghost use Rattle.theta_text.specs.Texts.{tree_of};
+ghost use Rattle.theta_tree.specs.Sizes.{longest_sum};
+ghost use Rattle.theta_tree.specs.Texts.{tree_of};
 ghost use Rattle.join_rows.specs.Records.{IsTable};
 ghost use Rattle.join_rows.specs.Shelves.{Spot, Told};
 ghost use Rattle.join_words.specs.Words.{Asked, chain_of};
@@ -23,7 +23,7 @@ use join_rows::Table;
 use joined_rows::joined_names;
 use std::alloc::{AllocError, Global};
 use theta_pred::Theta;
-use theta_text::Pred;
+use theta_tree::Pred;
 
 /// The third table of a second join, and its predicate, whose side R are the joined rows.
 #[derive(Drop)]

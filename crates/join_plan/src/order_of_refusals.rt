@@ -2,9 +2,9 @@
 
 ghost use Rattle.std.specs.Prelude.{◌≡◌, ◌⊎◌, ◌<◌, ◌≤◌, ℕ, List, Option, Some, Err, IfErr, IfOk};
 ghost use Rattle.join_rows.specs.Shelves.{last_fault};
-ghost use Rattle.theta_text.specs.Grammar.{Tree};
-ghost use Rattle.theta_text.specs.Texts.{IsFaultOf, TextReads, limits};
-ghost use Rattle.theta_text.specs.declared.fault.PredFault.{PredFault};
+ghost use Rattle.theta_tree.specs.Grammar.{Tree};
+ghost use Rattle.theta_tree.specs.Texts.{IsFaultOf, TextReads, limits};
+ghost use Rattle.theta_tree.specs.declared.fault.PredFault.{PredFault};
 ghost use Rattle.join_words.specs.Words.{AskedChain, asked, chain_of};
 ghost use Rattle.join_plan.specs.Causes.{Refuses};
 ghost use Rattle.join_plan.specs.Later.{gathered_by};

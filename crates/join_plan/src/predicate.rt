@@ -2,10 +2,10 @@
 
 ghost use Rattle.std.specs.Prelude.{◌≡◌, ◌≤◌, ℕ, Option, Some, option_map, Result, Ok};
 ghost use Rattle.std.specs.Prelude.{IfErr, IfOk, IfSome};
-ghost use Rattle.theta_text.specs.Grammar.{Tree};
-ghost use Rattle.theta_text.specs.Sizes.{longest_sum};
-ghost use Rattle.theta_text.specs.Texts.{IsFaultOf, TextReads, limits, tree_of};
-ghost use Rattle.theta_text.specs.declared.fault.PredFault.{PredFault};
+ghost use Rattle.theta_tree.specs.Grammar.{Tree};
+ghost use Rattle.theta_tree.specs.Sizes.{longest_sum};
+ghost use Rattle.theta_tree.specs.Texts.{IsFaultOf, TextReads, limits, tree_of};
+ghost use Rattle.theta_tree.specs.declared.fault.PredFault.{PredFault};
 ghost use Rattle.text_readings.specs.Readings.{IsReading};
 ghost use Rattle.join_rows.specs.Shelves.{Spot, Told};
 ghost use Rattle.join_words.specs.Words.{Asked, AskedChain, asked, chain_of};
@@ -18,7 +18,8 @@ use crate::fault::Refusal;
 use crate::refusal_of_fault::{Which, text_refused};
 use join_words::Options;
 use std::alloc::Global;
-use theta_text::{Pred, parse};
+use theta_text::parse;
+use theta_tree::Pred;
 
 /// The predicate, and that of a second join, where one is asked for.
 #[derive(Drop)]

@@ -6,7 +6,7 @@ ghost use Rattle.join_plan.specs.Refusals.{column_refusal, file_refusal, text_re
 use crate::fault::{InputFault, LimitFault, Refusal, TextFault};
 use join_rows::{Side, TableFault};
 use theta_pred::ResolveFault;
-use theta_text::PredFault;
+use theta_tree::PredFault;
 
 /// Which of the two predicates is meant.
 #[derive(Clone, Copy, Debug, PartialEq, Eq)]

@@ -1,6 +1,6 @@
 -- What a plan or a refusal says, a verdict that tells it says too.
 use Rattle.std.proofs.Common.{◌≡◌, ◌⊎◌, inl, inr, ℕ, List, Option, Result, Err, refl, ap}
-use Rattle.theta_text.specs.declared.fault.PredFault.{PredFault}
+use Rattle.theta_tree.specs.declared.fault.PredFault.{PredFault}
 use Rattle.join_words.specs.Words.{Asked}
 use Rattle.join_plan.specs.Plan.{IsPlanOf}
 use Rattle.join_plan.specs.declared.fault.Refusal.{Refusal}

@@ -1,9 +1,9 @@
 -- What a verdict says of words and files.
 use Rattle.std.specs.Prelude.{◌≡◌, ◌≢◌, ◌⊎◌, ℕ, List, Option, Some, Result, Ok, Err}
 use Rattle.join_rows.specs.declared.shelf.Shelf.{Ghosts as ShelfGhosts}
-use Rattle.theta_text.specs.Grammar.{Tree}
-use Rattle.theta_text.specs.declared.fault.PredFault.{PredFault}
-use Rattle.theta_text.specs.Texts.{IsFaultOf, TextReads, limits}
+use Rattle.theta_tree.specs.Grammar.{Tree}
+use Rattle.theta_tree.specs.declared.fault.PredFault.{PredFault}
+use Rattle.theta_tree.specs.Texts.{IsFaultOf, TextReads, limits}
 use Rattle.join_words.specs.Words.{Asked, AskedChain, asked_of, chain_of}
 use Rattle.join_words.specs.declared.options.WordsFault.{WordsFault}
 use Rattle.join_plan.specs.declared.fault.Refusal.{Refusal}

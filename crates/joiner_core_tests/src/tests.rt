@@ -13,7 +13,8 @@ use sent::sent;
 use std::alloc::{AllocError, Global};
 use std::process::Abort;
 use std::test::Fail;
-use theta_pred::{Theta, parse, resolve};
+use theta_pred::{Theta, resolve};
+use theta_text::parse;
 
 fn give(
     rt: &impl Abort,

@@ -4,11 +4,11 @@ use Rattle.std.proofs.Common.{Ok, Err, IfOk, MatchResult, Bool, IsTrue, refl, sy
 use Rattle.std.specs.Result.{result_err}
 use Rattle.std.specs.Str.{IsCharBoundary}
 use Rattle.std.specs.declared.alloc.AllocError.{AllocError}
-use Rattle.theta_text.specs.Grammar.{Tree}
-use Rattle.theta_text.specs.Texts.{TextReads, IsFaultOf, IsSyntaxAt, IsDeepAt, IsWideAt, IsLiteralAt, limits, tree_of}
-use Rattle.theta_text.specs.declared.tree.Pred.{Pred}
-use Rattle.theta_text.specs.declared.fault.PredFault.{PredFault}
-use Rattle.theta_text.specs.declared.fault.PredFault.TheVariants.{Syntax, Deep, Wide, Literal, Memory}
+use Rattle.theta_tree.specs.Grammar.{Tree}
+use Rattle.theta_tree.specs.Texts.{TextReads, IsFaultOf, IsSyntaxAt, IsDeepAt, IsWideAt, IsLiteralAt, limits, tree_of}
+use Rattle.theta_tree.specs.declared.tree.Pred.{Pred}
+use Rattle.theta_tree.specs.declared.fault.PredFault.{PredFault}
+use Rattle.theta_tree.specs.declared.fault.PredFault.TheVariants.{Syntax, Deep, Wide, Literal, Memory}
 use Rattle.predicate_hints.specs.Follow.{IsReading, MayFollow, Stands}
 
 -- a fault that is told, and not for want of memory, is the text's one fault

@@ -1,10 +1,10 @@
 -- What may follow the front of a text.
 use Rattle.std.specs.Prelude.{◌≡◌, ◌⊎◌, ℕ, Option, Some, None, List, [], ◌∷◌, ◌++◌, length, take}
 use Rattle.std.specs.Str.{IsCharBoundary}
-use Rattle.theta_text.specs.Grammar.{Tree}
-use Rattle.theta_text.specs.Texts.{TextReads, IsFaultOf, limits}
-use Rattle.theta_text.specs.declared.fault.PredFault.{PredFault}
-use Rattle.theta_text.specs.declared.fault.PredFault.TheVariants.{Syntax}
+use Rattle.theta_tree.specs.Grammar.{Tree}
+use Rattle.theta_tree.specs.Texts.{TextReads, IsFaultOf, limits}
+use Rattle.theta_tree.specs.declared.fault.PredFault.{PredFault}
+use Rattle.theta_tree.specs.declared.fault.PredFault.TheVariants.{Syntax}
 
 -- the text reads as a predicate
 abbrev pub IsPredicate : List ℕ → Type 0

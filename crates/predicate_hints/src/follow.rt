@@ -6,7 +6,8 @@ ghost use Rattle.std.specs.Str.{IsCharBoundary};
 ghost use Rattle.predicate_hints.specs.Follow.{IsPredicate, IsReading, MayEnd, MayFollow, Stands};
 
 use std::alloc::{AllocError, Global};
-use theta_text::{PredFault, parse};
+use theta_text::parse;
+use theta_tree::PredFault;
 
 // What stands before a place, if that is a place between two characters.
 fn front_of(text: &str, place: u64) -> Option<&str>

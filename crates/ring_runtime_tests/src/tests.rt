@@ -10,7 +10,8 @@ use std::fmt::Debug;
 use std::process::Abort;
 use std::test::Fail;
 use std::thread::Threads;
-use theta_pred::{Theta, parse, resolve};
+use theta_pred::{Theta, resolve};
+use theta_text::parse;
 use trace_law::{Input, Setting};
 use worker_gate::NoGate;
 

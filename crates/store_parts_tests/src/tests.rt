@@ -19,7 +19,8 @@ use rows::filled;
 use std::alloc::{AllocError, Global};
 use std::process::Abort;
 use store_parts::{KeyAtom, Store};
-use theta_pred::{ResolveFault, Theta, parse, resolve};
+use theta_pred::{ResolveFault, Theta, resolve};
+use theta_text::parse;
 
 fn theta_from(answer: Result<Theta, ResolveFault>) -> Result<Theta, AllocError> {
     match answer {

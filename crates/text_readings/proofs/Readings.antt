@@ -1,13 +1,13 @@
 -- A text reads in one way and no second.
 use Rattle.std.proofs.Common.{◌≡◌, ℕ, List, length, Result, Ok, Err, refl, ap, subst}
-use Rattle.theta_text.specs.declared.token.Placed.{Placed}
-use Rattle.theta_text.specs.declared.fault.PredFault.{PredFault}
-use Rattle.theta_text.specs.declared.fault.PredFault.TheVariants as faults
-use Rattle.theta_text.specs.Faults.{words}
-use Rattle.theta_text.specs.Grammar.{Limits, Tree, Reads as IsTreeOf}
+use Rattle.theta_tree.specs.declared.token.Placed.{Placed}
+use Rattle.theta_tree.specs.declared.fault.PredFault.{PredFault}
+use Rattle.theta_tree.specs.declared.fault.PredFault.TheVariants as faults
+use Rattle.theta_tree.specs.Faults.{words}
+use Rattle.theta_tree.specs.Grammar.{Limits, Tree, Reads as IsTreeOf}
 use Rattle.theta_text.specs.Machine.{syntax, deep, wide, literal, start, Verdict, fine, wrong, verdict}
-use Rattle.theta_text.specs.Tokens.{AreTokens}
-use Rattle.theta_text.specs.Texts.{IsFaultOf, TextReads}
+use Rattle.theta_tree.specs.Tokens.{AreTokens}
+use Rattle.theta_tree.specs.Texts.{IsFaultOf, TextReads}
 use Rattle.theta_text.proofs.Limited.{syntax_fault, deep_fault, wide_fault, literal_fault}
 use Rattle.theta_text.proofs.OneFault.{no_tree, one_fault}
 use Rattle.theta_text.proofs.Places.{tokens_unique}

@@ -1,8 +1,8 @@
 -- The verdict on the tokens of a text says how it reads.
 use Rattle.std.proofs.Common.{◌≡◌, ℕ, List, [], ◌∷◌, true, false, Bool, cond, Ok, Err, refl}
-use Rattle.theta_text.specs.declared.token.Placed.{Placed}
-use Rattle.theta_text.specs.Grammar.{Limits}
-use Rattle.theta_text.specs.Faults.{words}
+use Rattle.theta_tree.specs.declared.token.Placed.{Placed}
+use Rattle.theta_tree.specs.Grammar.{Limits}
+use Rattle.theta_tree.specs.Faults.{words}
 use Rattle.theta_text.specs.Machine.{Symbol, unit, tail, close, open', dot, field, name}
 use Rattle.theta_text.specs.Machine.{term, sum, more, op, bound, side}
 use Rattle.theta_text.specs.Machine.{Step, step, go_on, is_done, syntax, verdict, fine, wrong}

@@ -1,8 +1,8 @@
 -- How a text reads: as a tree, or as a fault.
 use Rattle.std.specs.Prelude.{◌≡◌, ℕ, List, Result, Ok, Err}
-use Rattle.theta_text.specs.Grammar.{Limits, Tree}
-use Rattle.theta_text.specs.Texts.{IsFaultOf, TextReads}
-use Rattle.theta_text.specs.declared.fault.PredFault.{PredFault}
+use Rattle.theta_tree.specs.Grammar.{Limits, Tree}
+use Rattle.theta_tree.specs.Texts.{IsFaultOf, TextReads}
+use Rattle.theta_tree.specs.declared.fault.PredFault.{PredFault}
 
 -- the text's tree within the limits, or its fault
 abbrev pub IsReading : Limits → List ℕ → Result Tree PredFault → Type 0

@@ -7,8 +7,8 @@ use Rattle.std.specs.declared.cmp.Ordering.{Ordering}
 use Rattle.std.specs.declared.cmp.Ordering.TheVariants.{Less, Equal, Greater}
 use Rattle.std.proofs.lemmas.Bool.{false≢true}
 use Rattle.std.proofs.lemmas.Int.{ints}
-use Rattle.theta_text.specs.declared.tree.Op.{Op}
-use Rattle.theta_text.specs.declared.tree.Op.TheVariants.{Eq, Ne, Lt, Le, Gt, Ge}
+use Rattle.theta_tree.specs.declared.tree.Op.{Op}
+use Rattle.theta_tree.specs.declared.tree.Op.TheVariants.{Eq, Ne, Lt, Le, Gt, Ge}
 use Rattle.theta_pred.specs.Keys.{is_from, is_up_to, num_low, num_high, reach}
 use Rattle.theta_pred.specs.Truth.{allows, size_of}
 

@@ -6,8 +6,8 @@ use Rattle.std.specs.Ordering.{int_cmp}
 use Rattle.std.proofs.lemmas.Bool.{false≢true}
 use Rattle.std.proofs.lemmas.Int.{ints}
 use Rattle.std.proofs.lemmas.Option.{none-some}
-use Rattle.theta_text.specs.declared.tree.Op.{Op}
-use Rattle.theta_text.specs.declared.tree.Op.TheVariants.{Eq, Ne, Lt, Le, Gt, Ge}
+use Rattle.theta_tree.specs.declared.tree.Op.{Op}
+use Rattle.theta_tree.specs.declared.tree.Op.TheVariants.{Eq, Ne, Lt, Le, Gt, Ge}
 use Rattle.join_rows.specs.declared.table.Cell.{Cell}
 use Rattle.join_rows.specs.declared.table.Side.TheVariants.{R, S}
 use Rattle.theta_pred.specs.declared.kind.Kind.{Kind}

@@ -2,8 +2,8 @@
 use Rattle.std.proofs.Common.{◌≡◌, ℕ, suc, ◌+◌, ◌<◌, List, [], ◌∷◌, ◌++◌, map, length, drop, get_or, refl, sym, ◌∙◌, ap}
 use Rattle.std.proofs.Common.{append_assoc, add-one}
 use Rattle.std.proofs.Math.Seq.{drop-cons}
-use Rattle.theta_text.specs.declared.tree.Signed.{Signed}
-use Rattle.theta_text.specs.declared.tree.Pred.{Pred}
+use Rattle.theta_tree.specs.declared.tree.Signed.{Signed}
+use Rattle.theta_tree.specs.declared.tree.Pred.{Pred}
 use Rattle.theta_pred.specs.declared.tree.SignedTerm.{SignedTerm}
 use Rattle.theta_pred.specs.declared.tree.Number.{Number}
 use Rattle.theta_pred.specs.declared.tree.Tree.{Tree}

@@ -6,7 +6,7 @@ use Rattle.std.specs.Str.{bytes_eq}
 use Rattle.std.proofs.lemmas.List.Elements.{All-nil, All-append, All-cons, All-head, All-weaker}
 use Rattle.join_rows.specs.declared.table.Side.{Side}
 use Rattle.join_rows.specs.declared.table.Side.TheVariants.{R, S}
-use Rattle.theta_text.specs.declared.tree.Name.{Name}
+use Rattle.theta_tree.specs.declared.tree.Name.{Name}
 use Rattle.theta_pred.specs.declared.fault.ResolveFault.{ResolveFault}
 use Rattle.theta_pred.specs.declared.fault.ResolveFault.TheVariants.{NoColumn, TwoColumns, Memory}
 use Rattle.theta_pred.specs.Names.{places_from, StandsOnce, IsFirstWrong}

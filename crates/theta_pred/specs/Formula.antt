@@ -1,6 +1,6 @@
 -- What a predicate says, without where it lies in memory.
 use Rattle.std.specs.Prelude.{ℕ, ℤ, List, [], ◌∷◌}
-use Rattle.theta_text.specs.declared.tree.Op.{Op}
+use Rattle.theta_tree.specs.declared.tree.Op.{Op}
 use Rattle.theta_pred.specs.declared.tree.SignedTerm.{SignedTerm}
 use Rattle.theta_pred.specs.declared.tree.Text.{Text}
 use Rattle.theta_pred.specs.declared.tree.Tree.{Tree, fold-Tree}

@@ -1,8 +1,8 @@
 -- The key atom of a predicate: the first test of its top conjunction that an index can serve.
 use Rattle.std.specs.Prelude.{ℕ, Bool, true, false, not, ◌&&◌, ◌||◌, List, [], ◌∷◌, ◌++◌, map, ℤ, pos, ◌+ℤ◌, ◌-ℤ◌}
 use Rattle.std.specs.Prelude.{neg_ℤ, int_le, Option, Some, None, option_and_then, if◌then◌else◌, IsTrue}
-use Rattle.theta_text.specs.declared.tree.Op.{Op}
-use Rattle.theta_text.specs.declared.tree.Op.TheVariants.{Eq, Lt, Le, Gt, Ge}
+use Rattle.theta_tree.specs.declared.tree.Op.{Op}
+use Rattle.theta_tree.specs.declared.tree.Op.TheVariants.{Eq, Lt, Le, Gt, Ge}
 use Rattle.join_rows.specs.declared.table.Cell.{Cell}
 use Rattle.join_rows.specs.declared.table.Side.{Side}
 use Rattle.join_rows.specs.declared.table.Side.TheVariants.{R, S}

@@ -15,7 +15,7 @@ pub mod Sufficing
 pub mod Sums
 pub mod TextAtoms
 pub mod Truth
-pub use Rattle.theta_text.specs.Faults
-pub use Rattle.theta_text.specs.Grammar
-pub use Rattle.theta_text.specs.Sizes as TextSizes
-pub use Rattle.theta_text.specs.Texts
+pub use Rattle.theta_tree.specs.Faults
+pub use Rattle.theta_tree.specs.Grammar
+pub use Rattle.theta_tree.specs.Sizes as TextSizes
+pub use Rattle.theta_tree.specs.Texts

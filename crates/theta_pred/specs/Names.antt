@@ -1,14 +1,14 @@
 -- The names of a predicate, and where they stand in the headers.
 use Rattle.std.specs.Prelude.{◌≡◌, ℕ, ◌+◌, List, [], ◌∷◌, ◌++◌, length, All, if◌then◌else◌}
 use Rattle.std.specs.Str.{bytes_eq}
-use Rattle.theta_text.specs.declared.tree.Name.{Name}
-use Rattle.theta_text.specs.declared.tree.Signed.{Signed}
-use Rattle.theta_text.specs.declared.tree.Term.{Term}
-use Rattle.theta_text.specs.declared.tree.Term.TheVariants as terms
-use Rattle.theta_text.specs.declared.tree.TextSide.{TextSide}
-use Rattle.theta_text.specs.declared.tree.TextSide.TheVariants as sides
-use Rattle.theta_text.specs.declared.tree.Pred.{Pred, fold-Pred}
-use Rattle.theta_text.specs.declared.tree.Pred.TheOpen.{Pred-F}
+use Rattle.theta_tree.specs.declared.tree.Name.{Name}
+use Rattle.theta_tree.specs.declared.tree.Signed.{Signed}
+use Rattle.theta_tree.specs.declared.tree.Term.{Term}
+use Rattle.theta_tree.specs.declared.tree.Term.TheVariants as terms
+use Rattle.theta_tree.specs.declared.tree.TextSide.{TextSide}
+use Rattle.theta_tree.specs.declared.tree.TextSide.TheVariants as sides
+use Rattle.theta_tree.specs.declared.tree.Pred.{Pred, fold-Pred}
+use Rattle.theta_tree.specs.declared.tree.Pred.TheOpen.{Pred-F}
 use Rattle.theta_pred.specs.Sums.{of_side}
 
 -- the places from this one on at which the word stands

@@ -1,13 +1,13 @@
 -- A predicate over names, as one over the places of the headers.
 use Rattle.std.specs.Prelude.{◌≡◌, ℕ, ◌<◌, List, [], ◌∷◌, length, map, ⊤}
-use Rattle.theta_text.specs.declared.tree.Name.{Name}
-use Rattle.theta_text.specs.declared.tree.Signed.{Signed}
-use Rattle.theta_text.specs.declared.tree.Term.{Term}
-use Rattle.theta_text.specs.declared.tree.Term.TheVariants as terms
-use Rattle.theta_text.specs.declared.tree.TextSide.{TextSide}
-use Rattle.theta_text.specs.declared.tree.TextSide.TheVariants as sides
-use Rattle.theta_text.specs.declared.tree.Pred.{Pred, fold-Pred}
-use Rattle.theta_text.specs.declared.tree.Pred.TheOpen.{Pred-F}
+use Rattle.theta_tree.specs.declared.tree.Name.{Name}
+use Rattle.theta_tree.specs.declared.tree.Signed.{Signed}
+use Rattle.theta_tree.specs.declared.tree.Term.{Term}
+use Rattle.theta_tree.specs.declared.tree.Term.TheVariants as terms
+use Rattle.theta_tree.specs.declared.tree.TextSide.{TextSide}
+use Rattle.theta_tree.specs.declared.tree.TextSide.TheVariants as sides
+use Rattle.theta_tree.specs.declared.tree.Pred.{Pred, fold-Pred}
+use Rattle.theta_tree.specs.declared.tree.Pred.TheOpen.{Pred-F}
 use Rattle.theta_pred.specs.declared.tree.Column.{Column}
 use Rattle.theta_pred.specs.declared.tree.SignedTerm.{SignedTerm}
 use Rattle.theta_pred.specs.declared.tree.Number.{Number}

@@ -6,8 +6,8 @@ use Rattle.std.specs.declared.cmp.Ordering.{Ordering}
 use Rattle.std.specs.Cmp.Lexicographic.{slice_cmp}
 use Rattle.join_rows.specs.declared.table.Cell.{Cell}
 use Rattle.join_rows.specs.declared.table.Side.{Side}
-use Rattle.theta_text.specs.declared.tree.Op.{Op}
-use Rattle.theta_text.specs.declared.tree.Op.TheVariants.{Eq, Ne, Lt, Le, Gt, Ge}
+use Rattle.theta_tree.specs.declared.tree.Op.{Op}
+use Rattle.theta_tree.specs.declared.tree.Op.TheVariants.{Eq, Ne, Lt, Le, Gt, Ge}
 use Rattle.theta_pred.specs.Formula.{Formula, any, every, negation, num, band, txt, Formulas, no_formula, formula}
 use Rattle.theta_pred.specs.Formula.{Meaning}
 use Rattle.theta_pred.specs.Sums.{of_side, sum_of, text_of}

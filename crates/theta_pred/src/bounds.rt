@@ -7,7 +7,7 @@ ghost use Rattle.theta_pred.specs.Sizes.{IsAtMost};
 ghost use Rattle.theta_pred.specs.Sums.{with_sign};
 
 use crate::tree::{Number, SignedTerm};
-use theta_text::Op;
+use theta_tree::Op;
 
 // What a constant adds to a sum.
 fn constant_in(term: SignedTerm) -> i128

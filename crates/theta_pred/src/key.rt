@@ -28,7 +28,7 @@ use crate::numeric::place_of;
 use crate::tree::{SignedTerm, Tree};
 use join_rows::Side;
 use std::alloc::{AllocError, Global};
-use theta_text::Op;
+use theta_tree::Op;
 
 // Whether a sum names a column of this side.
 pub(crate) fn names_side(sum: &[SignedTerm], side: Side) -> bool

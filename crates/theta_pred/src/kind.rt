@@ -3,7 +3,7 @@
 ghost use Rattle.std.specs.Prelude.{◌≡◌};
 ghost use Rattle.theta_pred.specs.Keys.{is_num_kind, is_band_kind};
 
-use theta_text::Op;
+use theta_tree::Op;
 
 #[derive(Clone, Copy)]
 pub enum Kind {

@@ -34,5 +34,5 @@ pub use resolver::resolve;
 pub use short::longest_sum;
 pub use text_atom::TextAtom;
 pub use theta::Theta;
-pub use theta_text::{Name, Op, Pred, PredFault, Signed, Sum, Term, TextSide, parse};
+pub use theta_tree::{Name, Op, Pred, Signed, Sum, Term, TextSide};
 pub use tree::{Column, Columns};

@@ -5,7 +5,7 @@ ghost use Rattle.theta_pred.specs.Formula.{formula_of, formulas, num, txt};
 ghost use Rattle.theta_pred.specs.Names.{sum_names, side_names, joined, names_in, StandsOnce};
 ghost use Rattle.theta_pred.specs.Resolved.{resolved_sum, resolved_side, resolved, Tells};
 ghost use Rattle.theta_pred.specs.Sound.{IsTextWithin, AreWithin, IsSound, AreSound};
-ghost use Rattle.theta_text.specs.Sizes.{longest, longest_sum};
+ghost use Rattle.theta_tree.specs.Sizes.{longest, longest_sum};
 
 use crate::fault::ResolveFault;
 use crate::terms::{resolved_terms, resolved_text};
@@ -13,7 +13,7 @@ use crate::theta::Theta;
 use crate::tree::Tree;
 use join_rows::Names;
 use std::alloc::Global;
-use theta_text::{Op, Pred, Sum, TextSide};
+use theta_tree::{Op, Pred, Sum, TextSide};
 
 // The trees of some members.
 #[cycle(resolver)]

@@ -1,9 +1,9 @@
 // How long the sums of a predicate are.
 
 ghost use Rattle.std.specs.Prelude.{◌≡◌};
-ghost use Rattle.theta_text.specs.Sizes;
+ghost use Rattle.theta_tree.specs.Sizes;
 
-use theta_text::Pred;
+use theta_tree::Pred;
 
 /// How many terms the longest sum of the predicate has, or 0. It takes no memory.
 pub fn longest_sum(pred: &Pred) -> u64

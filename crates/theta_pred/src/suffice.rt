@@ -10,7 +10,7 @@ use crate::one_sided::names;
 use crate::text_atom::of_columns;
 use crate::tree::{Text, Tree};
 use join_rows::Side;
-use theta_text::Op;
+use theta_tree::Op;
 
 // Whether a tree is an equality of both sides.
 fn is_equality(tree: &Tree) -> bool

@@ -10,7 +10,7 @@ use crate::named::resolved_name;
 use crate::tree::{Number, SignedTerm, SignedTerms, Text};
 use join_rows::Names;
 use std::alloc::Global;
-use theta_text::{Sum, Term, TextSide};
+use theta_tree::{Sum, Term, TextSide};
 
 fn resolved_number(term: &Term, names_r: &Names, names_s: &Names) -> Result<Number, ResolveFault>
     ensures ok { IfOk result (λ number. number ≡ resolved_term names_r.now names_s.now term.now) }

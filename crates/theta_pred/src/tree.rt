@@ -1,7 +1,7 @@
 // The tree of a predicate over the places of columns.
 
 use join_rows::{Bytes, Items, Side};
-use theta_text::Op;
+use theta_tree::Op;
 
 /// A column, by its side and its place in the header, counted from 0.
 #[derive(Clone, Copy, Debug, PartialEq, Eq)]

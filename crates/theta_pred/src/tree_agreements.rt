@@ -25,7 +25,7 @@ use crate::theta::Theta;
 use crate::tree::{SignedTerm, Text, Tree};
 use join_rows::Side;
 use std::alloc::{AllocError, Global};
-use theta_text::Op;
+use theta_tree::Op;
 
 // The agreement of two equal sums.
 fn sum_pair(alloc: Global, left: &[SignedTerm], right: &[SignedTerm]) -> Result<Same, AllocError>

@@ -10,7 +10,7 @@ use crate::sums::{sum, text};
 use crate::tree::{SignedTerms, Text, Tree};
 use join_rows::Cells;
 use std::cmp::Ordering;
-use theta_text::Op;
+use theta_tree::Op;
 
 // Whether the tree, which is one over headers of these widths, is true of two rows of any width.
 pub(crate) fn is_true(tree: &Tree, width_r: u64, width_s: u64, r: &Cells, s: &Cells) -> bool

@@ -9,7 +9,7 @@ mod sums;
 mod texts;
 
 ghost use Rattle.std.specs.Prelude.{◌≤◌};
-ghost use Rattle.theta_text.specs.Sizes.{longest_sum as longest_sum'};
+ghost use Rattle.theta_tree.specs.Sizes.{longest_sum as longest_sum'};
 
 use self::predicates::{apart, band, compared, either, negated, text_below};
 use self::texts::{is_told, over_x_and_a};

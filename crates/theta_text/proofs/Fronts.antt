@@ -7,7 +7,7 @@ use Rattle.std.specs.List.{prefix_len, AllByRecursion}
 use Rattle.theta_text.specs.declared.lexer.kind.Kind.{Kind}
 use Rattle.theta_text.specs.declared.lexer.kind.Kind.TheVariants.{Word, Number, Literal, Name, Open, Close, Dot, Plus}
 use Rattle.theta_text.specs.declared.lexer.kind.Kind.TheVariants.{Minus, Eq, Ne, Lt, Le, Gt, Ge, Stray}
-use Rattle.theta_text.specs.Tokens.{is_letter, is_digit, is_word, doubled, IsWord, IsNumber}
+use Rattle.theta_tree.specs.Tokens.{is_letter, is_digit, is_word, doubled, IsWord, IsNumber}
 use Rattle.theta_text.specs.Kinds.{IsQuoted, SpellsKind, IsLongestKind, IsStrayKind, IsNextKind}
 use Rattle.theta_text.specs.Front.{Found, later, quoted_len, with_equals, not_equals, sign, front}
 use Rattle.theta_text.proofs.Quotes.{Reaches, Ends, reach, closes, front_cons, other, twice}

@@ -1,18 +1,18 @@
 -- The machine under wider limits, and what each of its faults says.
 use Rattle.std.proofs.Common.{◌≡◌, ℕ, zero, suc, ◌+◌, ◌≤◌, List, [], ◌∷◌, ◌++◌, map, Bool, true, false, cond, nat_le}
 use Rattle.std.proofs.Common.{Ok, Err, refl, sym, ap, subst, ◌∙◌, arith}
-use Rattle.theta_text.specs.declared.token.Token.{Token}
-use Rattle.theta_text.specs.declared.token.Token.TheVariants.{Word, Number, Literal, Quoted, Open, Close, Dot, Sign}
-use Rattle.theta_text.specs.declared.token.Token.TheVariants.{Compare}
-use Rattle.theta_text.specs.declared.token.Keyword.TheVariants.{And, Or, Not, Abs, Text, R, S}
-use Rattle.theta_text.specs.declared.token.Placed.{Placed}
-use Rattle.theta_text.specs.Grammar.{Limits, IsOpen}
-use Rattle.theta_text.specs.Tokens.{number_of}
+use Rattle.theta_tree.specs.declared.token.Token.{Token}
+use Rattle.theta_tree.specs.declared.token.Token.TheVariants.{Word, Number, Literal, Quoted, Open, Close, Dot, Sign}
+use Rattle.theta_tree.specs.declared.token.Token.TheVariants.{Compare}
+use Rattle.theta_tree.specs.declared.token.Keyword.TheVariants.{And, Or, Not, Abs, Text, R, S}
+use Rattle.theta_tree.specs.declared.token.Placed.{Placed}
+use Rattle.theta_tree.specs.Grammar.{Limits, IsOpen}
+use Rattle.theta_tree.specs.Tokens.{number_of}
 use Rattle.theta_text.specs.Machine.{Kind, syntax, deep, wide, literal, Symbol, unit, tail, close, open', dot, field}
 use Rattle.theta_text.specs.Machine.{name, term, sum, more, op, bound, side, Step, small, at_field, at_name, at_term}
 use Rattle.theta_text.specs.Machine.{at_sum, at_side, at_unit, step, is_done, start, fine, wrong, go_on, verdict}
-use Rattle.theta_text.specs.Faults.{words, place_of, IsStuck, IsSyntaxFault, Passes, IsNesting, IsSign, IsNumber}
-use Rattle.theta_text.specs.Faults.{IsDeepFault, IsWideFault, IsLiteralFault}
+use Rattle.theta_tree.specs.Faults.{words, place_of, IsStuck, IsSyntaxFault, Passes, IsNesting, IsSign, IsNumber}
+use Rattle.theta_tree.specs.Faults.{IsDeepFault, IsWideFault, IsLiteralFault}
 use Rattle.theta_text.proofs.MachineLaws.{GivesAll, Goes, IfGoes, if_goes_map, Fits, pull}
 use Rattle.theta_text.proofs.Runs.{fits, spells_done, then_run, run, open_goes, goes_open}
 use Rattle.theta_text.proofs.Stops.{stuck_at, stuck_end, goes_ok, if_goes_at}

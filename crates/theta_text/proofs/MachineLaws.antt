@@ -1,23 +1,23 @@
 -- The machine reads exactly what the grammar spells.
 use Rattle.std.proofs.Common.{◌≡◌, ℕ, zero, suc, ◌≤◌, List, [], ◌∷◌, Bool, true, false, cond, nat_le, Ok, Err, refl}
 use Rattle.std.proofs.Common.{sym, ap, subst, ◌∙◌, arith, ℤ, pos}
-use Rattle.theta_text.specs.declared.token.Token.{Token}
-use Rattle.theta_text.specs.declared.token.Token.TheVariants.{Word, Number, Literal, Quoted, Open, Close, Dot, Sign}
-use Rattle.theta_text.specs.declared.token.Token.TheVariants.{Compare}
-use Rattle.theta_text.specs.declared.token.Keyword.TheVariants.{And, Or, Not, Abs, Text, R, S}
-use Rattle.theta_text.specs.declared.tree.Op.{Op}
-use Rattle.theta_text.specs.declared.tree.Signed.{Signed}
-use Rattle.theta_text.specs.declared.tree.Term.{Term}
-use Rattle.theta_text.specs.declared.tree.Term.TheVariants.{Const, Col}
-use Rattle.theta_text.specs.declared.tree.TextSide.{TextSide}
-use Rattle.theta_text.specs.declared.tree.TextSide.TheVariants.{Lit}
-use Rattle.theta_text.specs.declared.tree.TextSide.TheVariants as texts
-use Rattle.theta_text.specs.declared.tree.Name.{Name}
+use Rattle.theta_tree.specs.declared.token.Token.{Token}
+use Rattle.theta_tree.specs.declared.token.Token.TheVariants.{Word, Number, Literal, Quoted, Open, Close, Dot, Sign}
+use Rattle.theta_tree.specs.declared.token.Token.TheVariants.{Compare}
+use Rattle.theta_tree.specs.declared.token.Keyword.TheVariants.{And, Or, Not, Abs, Text, R, S}
+use Rattle.theta_tree.specs.declared.tree.Op.{Op}
+use Rattle.theta_tree.specs.declared.tree.Signed.{Signed}
+use Rattle.theta_tree.specs.declared.tree.Term.{Term}
+use Rattle.theta_tree.specs.declared.tree.Term.TheVariants.{Const, Col}
+use Rattle.theta_tree.specs.declared.tree.TextSide.{TextSide}
+use Rattle.theta_tree.specs.declared.tree.TextSide.TheVariants.{Lit}
+use Rattle.theta_tree.specs.declared.tree.TextSide.TheVariants as texts
+use Rattle.theta_tree.specs.declared.tree.Name.{Name}
 use Rattle.join_rows.specs.declared.table.Side.TheVariants as sides
-use Rattle.theta_text.specs.Grammar.{Tree, any, every, negation, num, band, txt, Limits, Further, joined, IsAnd, IsOr}
-use Rattle.theta_text.specs.Grammar.{Conj, FieldText, DotText, NameText, TermText, FurtherTerms, FirstText, SumText}
-use Rattle.theta_text.specs.Grammar.{OpText, NumTest, BoundText, BandRest, ColumnText, SideText, TxtTest, Unit'}
-use Rattle.theta_text.specs.Tokens.{number_of}
+use Rattle.theta_tree.specs.Grammar.{Tree, any, every, negation, num, band, txt, Limits, Further, joined, IsAnd, IsOr}
+use Rattle.theta_tree.specs.Grammar.{Conj, FieldText, DotText, NameText, TermText, FurtherTerms, FirstText, SumText}
+use Rattle.theta_tree.specs.Grammar.{OpText, NumTest, BoundText, BandRest, ColumnText, SideText, TxtTest, Unit'}
+use Rattle.theta_tree.specs.Tokens.{number_of}
 use Rattle.theta_text.specs.Machine.{literal, Symbol, unit, tail, close, open', dot, field, name, term, sum, more, op}
 use Rattle.theta_text.specs.Machine.{bound, side, Step, small, at_field, at_name, at_term, at_sum, at_side, at_unit}
 use Rattle.theta_text.specs.Machine.{at_op, step}

@@ -1,8 +1,8 @@
 -- The longest sum of some predicates.
 use Rattle.std.proofs.Common.{◌≡◌, ℕ, ◌≤◌, max, List, [], ◌∷◌, ◌++◌, map, ap, sym, subst, ◌∙◌, arith}
 use Rattle.std.proofs.lemmas.List.{map-append}
-use Rattle.theta_text.specs.declared.tree.Pred.{Pred}
-use Rattle.theta_text.specs.Sizes.{longest, longest_sum}
+use Rattle.theta_tree.specs.declared.tree.Pred.{Pred}
+use Rattle.theta_tree.specs.Sizes.{longest, longest_sum}
 
 -- the greater of two numbers is within a bound that both are within
 pub max-le : (a b n : ℕ) → a ≤ n → b ≤ n → max a b ≤ n

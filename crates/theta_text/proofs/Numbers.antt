@@ -3,7 +3,7 @@ use Rattle.std.proofs.Common.{◌≡◌, ℕ, suc, ◌+◌, ◌-◌, ◌*◌, �
 use Rattle.std.proofs.Common.{ℤ, pos, w64, to_z, of_z}
 use Rattle.std.proofs.lemmas.Int.{to_z_pos}
 use Rattle.std.proofs.Math.Seq.{drop-cons}
-use Rattle.theta_text.specs.Tokens.{number_from}
+use Rattle.theta_tree.specs.Tokens.{number_from}
 
 -- more digits spell no less
 pub number_from-le : (before : ℕ) (digits : List ℕ) → before ≤ number_from before digits

@@ -2,17 +2,17 @@
 use Rattle.std.proofs.Common.{◌≡◌, ℕ, List, [], ◌∷◌, ◌++◌, length, Result, Ok, Err, IfOk, MatchResult, ◌⊎◌, inl, inr}
 use Rattle.std.proofs.Common.{refl, sym, ap, subst, ◌∙◌}
 use Rattle.std.proofs.lemmas.List.{map-append}
-use Rattle.theta_text.specs.declared.token.Token.{Token}
-use Rattle.theta_text.specs.declared.token.Token.TheVariants.{Number, Sign}
-use Rattle.theta_text.specs.declared.token.Placed.{Placed}
-use Rattle.theta_text.specs.declared.tree.Pred.{Pred}
-use Rattle.theta_text.specs.declared.fault.PredFault.{PredFault}
-use Rattle.theta_text.specs.declared.fault.PredFault.TheVariants as faults
-use Rattle.theta_text.specs.Tokens.{AreTokens}
-use Rattle.theta_text.specs.Grammar.{Tree, Limits, Reads, IsOpen}
-use Rattle.theta_text.specs.Faults.{words, place_of, IsStuck, IsSyntaxFault, Passes, IsNesting, IsSign, IsNumber}
+use Rattle.theta_tree.specs.declared.token.Token.{Token}
+use Rattle.theta_tree.specs.declared.token.Token.TheVariants.{Number, Sign}
+use Rattle.theta_tree.specs.declared.token.Placed.{Placed}
+use Rattle.theta_tree.specs.declared.tree.Pred.{Pred}
+use Rattle.theta_tree.specs.declared.fault.PredFault.{PredFault}
+use Rattle.theta_tree.specs.declared.fault.PredFault.TheVariants as faults
+use Rattle.theta_tree.specs.Tokens.{AreTokens}
+use Rattle.theta_tree.specs.Grammar.{Tree, Limits, Reads, IsOpen}
+use Rattle.theta_tree.specs.Faults.{words, place_of, IsStuck, IsSyntaxFault, Passes, IsNesting, IsSign, IsNumber}
 use Rattle.theta_text.specs.Machine.{Symbol, Step, step, start}
-use Rattle.theta_text.specs.Texts.{tree_of, TextReads, IsSyntaxAt, IsDeepAt, IsWideAt, IsLiteralAt, IsFaultOf}
+use Rattle.theta_tree.specs.Texts.{tree_of, TextReads, IsSyntaxAt, IsDeepAt, IsWideAt, IsLiteralAt, IsFaultOf}
 use Rattle.theta_text.proofs.MachineLaws.{Goes}
 use Rattle.theta_text.proofs.Runs.{then_run, run, run_pull, reads_start, open_goes, goes_open}
 use Rattle.theta_text.proofs.Stops.{goes_ok}

@@ -2,7 +2,7 @@
 use Rattle.std.proofs.Common.{◌≡◌, ℕ, zero, suc, ◌<◌, ◌≤◌, List, [], ◌∷◌, ◌++◌, length, take, Bool, true, false, cond}
 use Rattle.std.proofs.Common.{◌==◌, Option, Some, None, option_map, MatchOption, refl, sym, ap, subst, ◌∙◌, arith}
 use Rattle.std.proofs.lemmas.Bool.{eqb-true, eq-eqb}
-use Rattle.theta_text.specs.Tokens.{doubled}
+use Rattle.theta_tree.specs.Tokens.{doubled}
 use Rattle.theta_text.specs.Front.{later, quoted_len}
 
 -- at least so much was found

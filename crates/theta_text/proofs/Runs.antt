@@ -1,18 +1,18 @@
 -- Whole runs of the machine.
 use Rattle.std.proofs.Common.{◌≡◌, ℕ, zero, suc, List, [], ◌∷◌, ◌++◌, Bool, true, false, cond, nat_le, Ok, Err, refl}
 use Rattle.std.proofs.Common.{sym, subst, ◌∙◌, arith, pos}
-use Rattle.theta_text.specs.declared.token.Token.{Token}
-use Rattle.theta_text.specs.declared.token.Token.TheVariants.{Word, Number, Literal, Quoted, Open, Close, Dot, Sign}
-use Rattle.theta_text.specs.declared.token.Token.TheVariants.{Compare}
-use Rattle.theta_text.specs.declared.token.Keyword.TheVariants.{And, Or, Not, Abs, Text, R, S}
-use Rattle.theta_text.specs.declared.tree.Op.TheVariants.{Eq}
-use Rattle.theta_text.specs.declared.tree.Signed.{Signed}
-use Rattle.theta_text.specs.declared.tree.Term.TheVariants.{Const}
-use Rattle.theta_text.specs.declared.tree.TextSide.TheVariants.{Lit}
+use Rattle.theta_tree.specs.declared.token.Token.{Token}
+use Rattle.theta_tree.specs.declared.token.Token.TheVariants.{Word, Number, Literal, Quoted, Open, Close, Dot, Sign}
+use Rattle.theta_tree.specs.declared.token.Token.TheVariants.{Compare}
+use Rattle.theta_tree.specs.declared.token.Keyword.TheVariants.{And, Or, Not, Abs, Text, R, S}
+use Rattle.theta_tree.specs.declared.tree.Op.TheVariants.{Eq}
+use Rattle.theta_tree.specs.declared.tree.Signed.{Signed}
+use Rattle.theta_tree.specs.declared.tree.Term.TheVariants.{Const}
+use Rattle.theta_tree.specs.declared.tree.TextSide.TheVariants.{Lit}
 use Rattle.join_rows.specs.declared.table.Side.TheVariants as sides
-use Rattle.theta_text.specs.Grammar.{Tree, any, every, num, Limits, Further, joined, IsOr, Conj, SumText, NumTest}
-use Rattle.theta_text.specs.Grammar.{Unit', Reads, AreSpelled, IsOpen}
-use Rattle.theta_text.specs.Tokens.{number_of, Spells}
+use Rattle.theta_tree.specs.Grammar.{Tree, any, every, num, Limits, Further, joined, IsOr, Conj, SumText, NumTest}
+use Rattle.theta_tree.specs.Grammar.{Unit', Reads, AreSpelled, IsOpen}
+use Rattle.theta_tree.specs.Tokens.{number_of, Spells}
 use Rattle.theta_text.specs.Machine.{literal, Symbol, unit, tail, close, open', dot, field, name, term, sum, more, op}
 use Rattle.theta_text.specs.Machine.{bound, side, Step, small, at_field, at_name, at_term, at_sum, at_side, at_unit}
 use Rattle.theta_text.specs.Machine.{step, is_done, start}

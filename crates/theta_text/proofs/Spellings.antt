@@ -4,11 +4,11 @@ use Rattle.std.proofs.Common.{ap₂, subst, ◌∙◌}
 use Rattle.std.proofs.lemmas.Bool.{eqb-true}
 use Rattle.theta_text.specs.declared.lexer.kind.Kind.{Kind}
 use Rattle.theta_text.specs.declared.lexer.kind.Kind.TheVariants as kinds
-use Rattle.theta_text.specs.declared.token.Token.{Token}
-use Rattle.theta_text.specs.declared.token.Token.TheVariants.{Word, Number, Literal, Quoted, Open, Close, Dot, Sign}
-use Rattle.theta_text.specs.declared.token.Token.TheVariants.{Compare, Stray}
-use Rattle.theta_text.specs.declared.tree.Op.TheVariants.{Eq, Ne, Lt, Le, Gt, Ge}
-use Rattle.theta_text.specs.Tokens.{IsWord, IsNumber, doubled, in_quotes, keyword_of, Spells, IsLongest, IsNext}
+use Rattle.theta_tree.specs.declared.token.Token.{Token}
+use Rattle.theta_tree.specs.declared.token.Token.TheVariants.{Word, Number, Literal, Quoted, Open, Close, Dot, Sign}
+use Rattle.theta_tree.specs.declared.token.Token.TheVariants.{Compare, Stray}
+use Rattle.theta_tree.specs.declared.tree.Op.TheVariants.{Eq, Ne, Lt, Le, Gt, Ge}
+use Rattle.theta_tree.specs.Tokens.{IsWord, IsNumber, doubled, in_quotes, keyword_of, Spells, IsLongest, IsNext}
 use Rattle.theta_text.specs.Kinds.{SpellsKind, IsLongestKind, IsNextKind, undoubled, unquoted, token_at}
 use Rattle.theta_text.proofs.Quotes.{same_self, doubled-same, doubled-other}
 use Rattle.theta_text.proofs.Fronts.{next_unique}

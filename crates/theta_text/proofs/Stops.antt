@@ -1,12 +1,12 @@
 -- Where the machine stops, and what that says of the grammar.
 use Rattle.std.proofs.Common.{◌≡◌, ℕ, zero, suc, List, [], ◌∷◌, ◌++◌, map, Bool, true, false, cond, nat_le, Ok, Err}
 use Rattle.std.proofs.Common.{refl, sym, ap, subst, ◌∙◌}
-use Rattle.theta_text.specs.declared.token.Token.{Token}
-use Rattle.theta_text.specs.declared.token.Token.TheVariants.{Word, Number, Literal, Quoted, Open, Close, Dot, Sign}
-use Rattle.theta_text.specs.declared.token.Token.TheVariants.{Compare}
-use Rattle.theta_text.specs.declared.token.Keyword.TheVariants.{And, Or, Not, Abs, Text, R, S}
-use Rattle.theta_text.specs.Grammar.{Tree, Limits, Reads, IsOpen}
-use Rattle.theta_text.specs.Tokens.{number_of}
+use Rattle.theta_tree.specs.declared.token.Token.{Token}
+use Rattle.theta_tree.specs.declared.token.Token.TheVariants.{Word, Number, Literal, Quoted, Open, Close, Dot, Sign}
+use Rattle.theta_tree.specs.declared.token.Token.TheVariants.{Compare}
+use Rattle.theta_tree.specs.declared.token.Keyword.TheVariants.{And, Or, Not, Abs, Text, R, S}
+use Rattle.theta_tree.specs.Grammar.{Tree, Limits, Reads, IsOpen}
+use Rattle.theta_tree.specs.Tokens.{number_of}
 use Rattle.theta_text.specs.Machine.{syntax, literal, Symbol, unit, tail, close, open', dot, field, name, term, sum}
 use Rattle.theta_text.specs.Machine.{more, op, bound, side, Step, small, at_field, at_name, at_term, at_sum, at_side}
 use Rattle.theta_text.specs.Machine.{at_unit, at_tail, at_close, at_open, at_dot, at_op, step, is_done, start}

@@ -1,22 +1,22 @@
 -- One turn of the parser: what the machine does at its tokens, and what the grammar says there.
 use Rattle.std.proofs.Common.{◌≡◌, ℕ, zero, suc, ◌≤◌, List, [], ◌∷◌, ◌++◌, Bool, true, false, cond, nat_le, Result, Ok}
 use Rattle.std.proofs.Common.{Err, IfOk, length, ◌-◌, ◌<◌, refl, sym, ap, subst, ◌∙◌, arith}
-use Rattle.theta_text.specs.declared.token.Token.{Token}
-use Rattle.theta_text.specs.declared.token.Token.TheVariants.{Word, Literal, Open, Close, Sign}
-use Rattle.theta_text.specs.declared.token.Keyword.TheVariants.{And, Or, Not, Abs, Text, R, S}
-use Rattle.theta_text.specs.declared.token.Placed.{Placed}
-use Rattle.theta_text.specs.declared.tree.Signed.{Signed}
-use Rattle.theta_text.specs.Grammar.{Tree, Limits, Part, Further, IsAnd, IsOr, Predicate, TermText, FurtherTerms}
-use Rattle.theta_text.specs.Grammar.{NumTest, BandRest, TxtTest, Unit'}
+use Rattle.theta_tree.specs.declared.token.Token.{Token}
+use Rattle.theta_tree.specs.declared.token.Token.TheVariants.{Word, Literal, Open, Close, Sign}
+use Rattle.theta_tree.specs.declared.token.Keyword.TheVariants.{And, Or, Not, Abs, Text, R, S}
+use Rattle.theta_tree.specs.declared.token.Placed.{Placed}
+use Rattle.theta_tree.specs.declared.tree.Signed.{Signed}
+use Rattle.theta_tree.specs.Grammar.{Tree, Limits, Part, Further, IsAnd, IsOr, Predicate, TermText, FurtherTerms}
+use Rattle.theta_tree.specs.Grammar.{NumTest, BandRest, TxtTest, Unit'}
 use Rattle.theta_text.specs.Machine.{Kind, literal, Symbol, unit, tail, close, open', dot, field, name, term, sum, more}
 use Rattle.theta_text.specs.Machine.{op, bound, side, small, step, Verdict, wrong, go_on, verdict}
-use Rattle.theta_text.specs.declared.fault.PredFault.{PredFault}
+use Rattle.theta_tree.specs.declared.fault.PredFault.{PredFault}
 use Rattle.theta_text.specs.declared.parser.units.Start.TheVariants.{StartNot, StartOpen, StartBand, StartTxt, StartNum}
 use Rattle.std.proofs.Common.{Some}
 use Rattle.join_rows.specs.declared.table.Side.{Side}
 use Rattle.theta_text.specs.Starts.{unit_start, named_side, is_text}
-use Rattle.theta_text.specs.Faults.{words}
-use Rattle.theta_text.specs.Texts.{limits}
+use Rattle.theta_tree.specs.Faults.{words}
+use Rattle.theta_tree.specs.Texts.{limits}
 use Rattle.theta_text.specs.Views.{IsFault, Leads, BeginsOff}
 
 -- the greatest number that a text may hold

@@ -1,21 +1,21 @@
 -- A text has at most one tree.
 use Rattle.std.proofs.Common.{◌≡◌, ℕ, zero, suc, List, [], ◌∷◌, Bool, false, refl, sym, ap, ap₂, subst, ◌∙◌, pos}
-use Rattle.theta_text.specs.declared.token.Token.{Token}
-use Rattle.theta_text.specs.declared.token.Token.TheVariants.{Word, Number, Literal, Quoted, Open, Close, Dot, Sign}
-use Rattle.theta_text.specs.declared.token.Token.TheVariants.{Compare}
-use Rattle.theta_text.specs.declared.token.Keyword.TheVariants.{And, Or, Not, Abs, Text, R, S}
-use Rattle.theta_text.specs.declared.tree.Op.{Op}
-use Rattle.theta_text.specs.declared.tree.Signed.{Signed}
-use Rattle.theta_text.specs.declared.tree.Term.{Term}
-use Rattle.theta_text.specs.declared.tree.Term.TheVariants.{Col}
-use Rattle.theta_text.specs.declared.tree.TextSide.TheVariants.{Lit}
-use Rattle.theta_text.specs.declared.tree.TextSide.TheVariants as texts
+use Rattle.theta_tree.specs.declared.token.Token.{Token}
+use Rattle.theta_tree.specs.declared.token.Token.TheVariants.{Word, Number, Literal, Quoted, Open, Close, Dot, Sign}
+use Rattle.theta_tree.specs.declared.token.Token.TheVariants.{Compare}
+use Rattle.theta_tree.specs.declared.token.Keyword.TheVariants.{And, Or, Not, Abs, Text, R, S}
+use Rattle.theta_tree.specs.declared.tree.Op.{Op}
+use Rattle.theta_tree.specs.declared.tree.Signed.{Signed}
+use Rattle.theta_tree.specs.declared.tree.Term.{Term}
+use Rattle.theta_tree.specs.declared.tree.Term.TheVariants.{Col}
+use Rattle.theta_tree.specs.declared.tree.TextSide.TheVariants.{Lit}
+use Rattle.theta_tree.specs.declared.tree.TextSide.TheVariants as texts
 use Rattle.join_rows.specs.declared.table.Side.TheVariants as sides
-use Rattle.theta_text.specs.Grammar.{Tree, Trees, any, every, negation, num, band, txt, Limits, Part, Further, joined}
-use Rattle.theta_text.specs.Grammar.{Chain, IsAnd, IsOr, Conj, Predicate, FieldText, DotText, NameText, TermText}
-use Rattle.theta_text.specs.Grammar.{FurtherTerms, FirstText, SumText, OpText, NumTest, BandRest, ColumnText, SideText}
-use Rattle.theta_text.specs.Grammar.{TxtTest, UnitOver, Unit', Reads}
-use Rattle.theta_text.specs.Tokens.{number_of}
+use Rattle.theta_tree.specs.Grammar.{Tree, Trees, any, every, negation, num, band, txt, Limits, Part, Further, joined}
+use Rattle.theta_tree.specs.Grammar.{Chain, IsAnd, IsOr, Conj, Predicate, FieldText, DotText, NameText, TermText}
+use Rattle.theta_tree.specs.Grammar.{FurtherTerms, FirstText, SumText, OpText, NumTest, BandRest, ColumnText, SideText}
+use Rattle.theta_tree.specs.Grammar.{TxtTest, UnitOver, Unit', Reads}
+use Rattle.theta_tree.specs.Tokens.{number_of}
 
 -- tokens that don't begin with one of this kind
 abbrev pub StartsOff : (Token → Type 0) → List Token → Type 0

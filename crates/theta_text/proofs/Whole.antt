@@ -1,13 +1,13 @@
 -- What the verdict on the whole text says of it.
 use Rattle.std.proofs.Common.{◌≡◌, ℕ, List, [], ◌∷◌, refl, sym, ap, subst, ◌∙◌}
-use Rattle.theta_text.specs.declared.token.Token.{Token}
-use Rattle.theta_text.specs.declared.token.Placed.{Placed}
-use Rattle.theta_text.specs.declared.fault.PredFault.{PredFault}
-use Rattle.theta_text.specs.declared.fault.PredFault.TheVariants as faults
-use Rattle.theta_text.specs.Grammar.{Tree, Limits, Predicate, Unit', Reads}
+use Rattle.theta_tree.specs.declared.token.Token.{Token}
+use Rattle.theta_tree.specs.declared.token.Placed.{Placed}
+use Rattle.theta_tree.specs.declared.fault.PredFault.{PredFault}
+use Rattle.theta_tree.specs.declared.fault.PredFault.TheVariants as faults
+use Rattle.theta_tree.specs.Grammar.{Tree, Limits, Predicate, Unit', Reads}
 use Rattle.theta_text.specs.Machine.{syntax, deep, wide, literal, unit, tail, start, Verdict, fine, wrong, verdict}
-use Rattle.theta_text.specs.Faults.{words, IsSyntaxFault, IsDeepFault, IsWideFault, IsLiteralFault}
-use Rattle.theta_text.specs.Texts.{limits}
+use Rattle.theta_tree.specs.Faults.{words, IsSyntaxFault, IsDeepFault, IsWideFault, IsLiteralFault}
+use Rattle.theta_tree.specs.Texts.{limits}
 use Rattle.theta_text.specs.Views.{IsFault}
 use Rattle.theta_text.proofs.Runs.{reads_start}
 use Rattle.theta_text.proofs.Limited.{reads_fine, syntax_fault, deep_fault, wide_fault, literal_fault}

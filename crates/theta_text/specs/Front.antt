@@ -4,7 +4,7 @@ use Rattle.std.specs.List.{prefix_len}
 use Rattle.theta_text.specs.declared.lexer.kind.Kind.{Kind}
 use Rattle.theta_text.specs.declared.lexer.kind.Kind.TheVariants.{Word, Number, Literal, Name, Open, Close, Dot, Plus}
 use Rattle.theta_text.specs.declared.lexer.kind.Kind.TheVariants.{Minus, Eq, Ne, Lt, Le, Gt, Ge}
-use Rattle.theta_text.specs.Tokens.{is_letter, is_digit, is_word}
+use Rattle.theta_tree.specs.Tokens.{is_letter, is_digit, is_word}
 
 -- a kind of token and how many bytes it has, where a token begins here
 abbrev pub Found : Type 0

@@ -3,10 +3,10 @@ use Rattle.std.specs.Prelude.{◌≡◌, ℕ, ◌≤◌, List, [], ◌∷◌, le
 use Rattle.theta_text.specs.declared.lexer.kind.Kind.{Kind}
 use Rattle.theta_text.specs.declared.lexer.kind.Kind.TheVariants.{Word, Number, Literal, Name, Open, Close, Dot, Plus}
 use Rattle.theta_text.specs.declared.lexer.kind.Kind.TheVariants.{Minus, Eq, Ne, Lt, Le, Gt, Ge, Stray}
-use Rattle.theta_text.specs.declared.token.Token.{Token}
-use Rattle.theta_text.specs.declared.token.Token.TheVariants as tokens
-use Rattle.theta_text.specs.declared.tree.Op.TheVariants as ops
-use Rattle.theta_text.specs.Tokens.{IsWord, IsNumber, in_quotes, keyword_of}
+use Rattle.theta_tree.specs.declared.token.Token.{Token}
+use Rattle.theta_tree.specs.declared.token.Token.TheVariants as tokens
+use Rattle.theta_tree.specs.declared.tree.Op.TheVariants as ops
+use Rattle.theta_tree.specs.Tokens.{IsWord, IsNumber, in_quotes, keyword_of}
 
 -- the bytes are some content between these quotes
 abbrev pub IsQuoted : ℕ → List ℕ → Type 0

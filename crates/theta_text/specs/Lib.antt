@@ -1,8 +1,3 @@
-pub mod Tokens
-pub mod Grammar
-pub mod Faults
-pub mod Texts
-pub mod Sizes
 pub mod Kinds
 pub mod Front
 pub mod Machine

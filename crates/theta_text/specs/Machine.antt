@@ -1,12 +1,12 @@
 -- The tokens from left to right, against what is still to come.
 use Rattle.std.specs.Prelude.{ℕ, zero, suc, List, [], ◌∷◌, Bool, true, false, cond, nat_le, Result, Ok, Err}
-use Rattle.theta_text.specs.Grammar.{Limits}
-use Rattle.theta_text.specs.Tokens.{number_of}
-use Rattle.theta_text.specs.declared.token.Token.{Token}
-use Rattle.theta_text.specs.declared.token.Token.TheVariants.{Word, Number, Literal, Quoted, Open, Close, Dot, Sign}
-use Rattle.theta_text.specs.declared.token.Token.TheVariants.{Compare}
-use Rattle.theta_text.specs.declared.token.Keyword.TheVariants.{And, Or, Not, Abs, Text, R, S}
-use Rattle.theta_text.specs.declared.token.Placed.{Placed}
+use Rattle.theta_tree.specs.Grammar.{Limits}
+use Rattle.theta_tree.specs.Tokens.{number_of}
+use Rattle.theta_tree.specs.declared.token.Token.{Token}
+use Rattle.theta_tree.specs.declared.token.Token.TheVariants.{Word, Number, Literal, Quoted, Open, Close, Dot, Sign}
+use Rattle.theta_tree.specs.declared.token.Token.TheVariants.{Compare}
+use Rattle.theta_tree.specs.declared.token.Keyword.TheVariants.{And, Or, Not, Abs, Text, R, S}
+use Rattle.theta_tree.specs.declared.token.Placed.{Placed}
 
 -- what can be wrong with a text
 pub data Kind : Type 0 where

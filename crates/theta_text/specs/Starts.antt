@@ -1,8 +1,8 @@
 -- What a token begins.
 use Rattle.std.specs.Prelude.{Option, Some, None, Bool, true, false}
-use Rattle.theta_text.specs.declared.token.Token.{Token}
-use Rattle.theta_text.specs.declared.token.Token.TheVariants.{Word, Literal, Open}
-use Rattle.theta_text.specs.declared.token.Keyword.TheVariants.{Not, Abs, Text, R, S}
+use Rattle.theta_tree.specs.declared.token.Token.{Token}
+use Rattle.theta_tree.specs.declared.token.Token.TheVariants.{Word, Literal, Open}
+use Rattle.theta_tree.specs.declared.token.Keyword.TheVariants.{Not, Abs, Text, R, S}
 use Rattle.join_rows.specs.declared.table.Side.{Side}
 use Rattle.join_rows.specs.declared.table.Side.TheVariants as sides
 use Rattle.theta_text.specs.declared.parser.units.Start.{Start}

@@ -2,10 +2,10 @@
 use Rattle.std.specs.Prelude.{◌≡◌, List, ◌∷◌, Option, Some, None, Result, Ok, Err, ⊤}
 use Rattle.std.specs.Borrow.{Bor}
 use Rattle.theta_text.specs.Machine.{Verdict, wrong, syntax, deep, wide, literal}
-use Rattle.theta_text.specs.declared.token.Token.{Token}
-use Rattle.theta_text.specs.declared.token.Placed.{Placed}
-use Rattle.theta_text.specs.declared.fault.PredFault.{PredFault}
-use Rattle.theta_text.specs.declared.fault.PredFault.TheVariants as faults
+use Rattle.theta_tree.specs.declared.token.Token.{Token}
+use Rattle.theta_tree.specs.declared.token.Placed.{Placed}
+use Rattle.theta_tree.specs.declared.fault.PredFault.{PredFault}
+use Rattle.theta_tree.specs.declared.fault.PredFault.TheVariants as faults
 
 -- this fault is what is wrong
 abbrev pub IsFault : Verdict → PredFault → Type 0

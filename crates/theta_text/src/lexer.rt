@@ -1,10 +1,10 @@
 // From the bytes of a text to its tokens.
 
 ghost use Rattle.std.specs.Prelude.{◌≡◌, ◌<◌, ◌≤◌, length, IfOk};
-ghost use Rattle.theta_text.specs.Tokens.{AreTokens};
+ghost use Rattle.theta_tree.specs.Tokens.{AreTokens};
 ghost use Rattle.theta_text.specs.Kinds.{IsNextKind};
 ghost use Rattle.std.specs.List.{prefix_len};
-ghost use Rattle.theta_text.specs.Tokens.{is_blank};
+ghost use Rattle.theta_tree.specs.Tokens.{is_blank};
 
 mod front;
 mod kind;
@@ -13,8 +13,8 @@ mod spelling;
 use crate::lexer::front::{blank, front_kind};
 use crate::lexer::kind::Kind;
 use crate::lexer::spelling::token_of;
-use crate::token::Placed;
 use std::alloc::{AllocError, Global};
+use theta_tree::Placed;
 
 /// The tokens of the text.
 pub(crate) fn lex(alloc: Global, text: &[u8]) -> Result<Vec<Placed>, AllocError>

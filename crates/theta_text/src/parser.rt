@@ -1,24 +1,22 @@
 // The predicate that a text is.
 
 ghost use Rattle.std.specs.Prelude.{◌≡◌, ◌≤◌, ◌⊎◌, ℕ, IfOk, MatchResult};
-ghost use Rattle.theta_text.specs.Grammar.{Tree, Reads};
-ghost use Rattle.theta_text.specs.Faults.{words, IsSyntaxFault, IsDeepFault, IsWideFault, IsLiteralFault};
-ghost use Rattle.theta_text.specs.Texts.{tree_of, limits, TextReads, IsSyntaxAt, IsDeepAt, IsWideAt, IsLiteralAt, IsFaultOf};
-ghost use Rattle.theta_text.specs.Sizes.{longest_sum};
-ghost use Rattle.theta_text.specs.declared.fault.PredFault.{PredFault as Fault};
+ghost use Rattle.theta_tree.specs.Grammar.{Tree, Reads};
+ghost use Rattle.theta_tree.specs.Faults.{words, IsSyntaxFault, IsDeepFault, IsWideFault, IsLiteralFault};
+ghost use Rattle.theta_tree.specs.Texts.{tree_of, limits, TextReads, IsSyntaxAt, IsDeepAt, IsWideAt, IsLiteralAt, IsFaultOf};
+ghost use Rattle.theta_tree.specs.Sizes.{longest_sum};
+ghost use Rattle.theta_tree.specs.declared.fault.PredFault.{PredFault as Fault};
 
 mod number;
 mod parts;
 mod sums;
 mod units;
 
-use crate::fault::PredFault;
 use crate::lexer::lex;
 use crate::parser::parts::next;
 use crate::parser::units::predicate;
-use crate::token::Placed;
-use crate::tree::Pred;
 use std::alloc::Global;
+use theta_tree::{Placed, Pred, PredFault};
 
 // How deep units nest.
 const NESTING: u32 = 32;

@@ -3,7 +3,8 @@ use join_rows::{Bytes, MapShelf, Names, Table, read_table};
 use row_tickets::Feed;
 use std::alloc::{AllocError, Global};
 use std::test::Fail;
-use theta_pred::{Theta, parse, resolve};
+use theta_pred::{Theta, resolve};
+use theta_text::parse;
 use trace_law::{Input, Setting};
 
 #[test]

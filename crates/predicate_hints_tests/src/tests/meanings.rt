@@ -7,7 +7,8 @@ use super::sentences::{
 use predicate_hints::meant;
 use std::alloc::Global;
 use std::process::Abort;
-use theta_text::{PredFault, parse};
+use theta_text::parse;
+use theta_tree::PredFault;
 
 // A text, the place at which it is refused, and what was meant there.
 type Try = (&'static str, u64, &'static str);

@@ -1,7 +1,7 @@
 // The columns that predicates name.
 
 ghost use Rattle.std.specs.Prelude.{◌≤◌};
-ghost use Rattle.theta_text.specs.Sizes.{longest_sum as longest_sum'};
+ghost use Rattle.theta_tree.specs.Sizes.{longest_sum as longest_sum'};
 
 use super::predicates::{below_3, both, column, two};
 use super::{has_short_sums, header};

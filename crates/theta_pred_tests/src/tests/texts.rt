@@ -1,13 +1,14 @@
 // The predicates of texts, and sums, bounds and key atoms as texts.
 
 ghost use Rattle.std.specs.Prelude.{◌≤◌};
-ghost use Rattle.theta_text.specs.Sizes.{longest_sum};
+ghost use Rattle.theta_tree.specs.Sizes.{longest_sum};
 
 use super::header;
 use join_rows::Names;
 use std::alloc::{AllocError, Global};
 use std::process::Abort;
-use theta_pred::{KeyAtom, Linear, Pred, Theta, parse, resolve};
+use theta_pred::{KeyAtom, Linear, Pred, Theta, resolve};
+use theta_text::parse;
 
 fn resolved(alloc: Global, pred: &Pred, names: &Names) -> Result<Theta, AllocError>
     requires { longest_sum pred.now ≤ 16 }

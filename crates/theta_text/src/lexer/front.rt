@@ -2,7 +2,7 @@
 
 ghost use Rattle.std.specs.Prelude.{◌≡◌, ◌≤◌, length};
 ghost use Rattle.std.specs.List.{prefix_len};
-ghost use Rattle.theta_text.specs.Tokens.{is_letter, is_digit, is_word, is_blank};
+ghost use Rattle.theta_tree.specs.Tokens.{is_letter, is_digit, is_word, is_blank};
 ghost use Rattle.theta_text.specs.Front.{with_equals, sign, front};
 
 use crate::lexer::kind::Kind;

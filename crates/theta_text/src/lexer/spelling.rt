@@ -1,15 +1,14 @@
 // What the bytes of a token spell.
 
 ghost use Rattle.std.specs.Prelude.{◌≡◌, IfOk};
-ghost use Rattle.theta_text.specs.Tokens.{keyword_of};
+ghost use Rattle.theta_tree.specs.Tokens.{keyword_of};
 ghost use Rattle.theta_text.specs.Kinds.{token_at};
 
 use crate::lexer::kind::Kind;
 use crate::quoted_texts::content;
-use crate::token::{Keyword, Token};
-use crate::tree::Op;
 use join_rows::Bytes;
 use std::alloc::{AllocError, Global};
+use theta_tree::{Keyword, Op, Token};
 
 // The token of this kind that the text is.
 pub(crate) fn token_of(alloc: Global, kind: Kind, text: &[u8]) -> Result<Token, AllocError>

@@ -1,7 +1,7 @@
 // The value of a number's digits.
 
 ghost use Rattle.std.specs.Prelude.{◌≡◌, ◌<◌, ◌≤◌, pos, MatchOption};
-ghost use Rattle.theta_text.specs.Tokens.{number_of};
+ghost use Rattle.theta_tree.specs.Tokens.{number_of};
 
 // The greatest number.
 const GREATEST: u128 = 9223372036854775807;

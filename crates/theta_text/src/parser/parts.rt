@@ -1,18 +1,16 @@
 // The small parts: signs, names, terms and the sides of text tests.
 
 ghost use Rattle.std.specs.Prelude.{◌≡◌, ◌<◌, List, [], ◌∷◌, length, IfOk, MatchOption};
-ghost use Rattle.theta_text.specs.Grammar.{FieldText, DotText, NameText, TermText, OpText, BoundText, ColumnText, SideText};
+ghost use Rattle.theta_tree.specs.Grammar.{FieldText, DotText, NameText, TermText, OpText, BoundText, ColumnText, SideText};
 ghost use Rattle.theta_text.specs.Machine.{Symbol, close, open', dot, field, name, term, op, bound, side, verdict};
-ghost use Rattle.theta_text.specs.Faults.{words};
-ghost use Rattle.theta_text.specs.Texts.{limits};
+ghost use Rattle.theta_tree.specs.Faults.{words};
+ghost use Rattle.theta_tree.specs.Texts.{limits};
 ghost use Rattle.theta_text.specs.Views.{Leads};
 ghost use Rattle.theta_text.specs.Starts.{named_side, is_text};
 
-use crate::fault::PredFault;
 use crate::parser::number::number;
-use crate::token::{Keyword, Placed, Token};
-use crate::tree::{Name, Op, Term, TextSide};
 use join_rows::{Bytes, Side};
+use theta_tree::{Keyword, Name, Op, Placed, PredFault, Term, TextSide, Token};
 
 // The first token and the others.
 pub(crate) fn next(tokens: &[Placed]) -> Option<(&Placed, &[Placed])>

@@ -1,18 +1,16 @@
 // Sums.
 
 ghost use Rattle.std.specs.Prelude.{◌≡◌, ◌<◌, ◌≤◌, List, ◌∷◌, length, Bool, IfOk, MatchOption};
-ghost use Rattle.theta_text.specs.declared.token.Placed.{Placed as PlacedToken};
-ghost use Rattle.theta_text.specs.Grammar.{FirstText, SumText};
+ghost use Rattle.theta_tree.specs.declared.token.Placed.{Placed as PlacedToken};
+ghost use Rattle.theta_tree.specs.Grammar.{FirstText, SumText};
 ghost use Rattle.theta_text.specs.Machine.{Symbol, sum, more, verdict};
-ghost use Rattle.theta_text.specs.Faults.{words};
-ghost use Rattle.theta_text.specs.Texts.{limits};
+ghost use Rattle.theta_tree.specs.Faults.{words};
+ghost use Rattle.theta_tree.specs.Texts.{limits};
 ghost use Rattle.theta_text.specs.Views.{Leads};
 
-use crate::fault::PredFault;
 use crate::parser::parts::{next, term_of};
-use crate::token::{Placed, Token};
-use crate::tree::{Signed, Sum};
 use std::alloc::Global;
+use theta_tree::{Placed, PredFault, Signed, Sum, Token};
 
 // How many terms a sum has beside the first.
 const MORE: u32 = 15;

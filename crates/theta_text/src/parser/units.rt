@@ -1,20 +1,18 @@
 // Units, conjunctions and predicates.
 
 ghost use Rattle.std.specs.Prelude.{◌≡◌, ◌<◌, ◌≤◌, List, ◌∷◌, length, map, IfOk};
-ghost use Rattle.theta_text.specs.Grammar.{any, every, joined, IsAnd, IsOr, Unit', Conj, Predicate, NumTest, BandRest, TxtTest};
+ghost use Rattle.theta_tree.specs.Grammar.{any, every, joined, IsAnd, IsOr, Unit', Conj, Predicate, NumTest, BandRest, TxtTest};
 ghost use Rattle.theta_text.specs.Machine.{Symbol, unit, tail, close, open', sum, op, bound, side, verdict};
-ghost use Rattle.theta_text.specs.Faults.{words};
-ghost use Rattle.theta_text.specs.Texts.{tree_of, limits};
-ghost use Rattle.theta_text.specs.Sizes.{longest, longest_sum};
+ghost use Rattle.theta_tree.specs.Faults.{words};
+ghost use Rattle.theta_tree.specs.Texts.{tree_of, limits};
+ghost use Rattle.theta_tree.specs.Sizes.{longest, longest_sum};
 ghost use Rattle.theta_text.specs.Views.{Leads, OnlyMemory, BeginsOff, IsPast};
 ghost use Rattle.theta_text.specs.Starts.{unit_start};
 
-use crate::fault::PredFault;
 use crate::parser::parts::{bound_of, closed, next, op_of, opened, side_of};
 use crate::parser::sums::sum_of;
-use crate::token::{Keyword, Placed, Token};
-use crate::tree::Pred;
 use std::alloc::Global;
+use theta_tree::{Keyword, Placed, Pred, PredFault, Token};
 
 // What a unit begins as.
 #[derive(Clone, Copy)]

@@ -1,6 +1,7 @@
 // Faulty texts, with the places that follow from the grammar.
 
-use theta_text::{PredFault, parse};
+use theta_text::parse;
+use theta_tree::PredFault;
 
 #[test]
 fn parts_and_words_out_of_place(rt: HostRuntime) {

@@ -2,7 +2,7 @@
 
 use join_rows::{Bytes, Side};
 use std::alloc::{AllocError, Global};
-use theta_text::{Name, Op, Pred, Sum, Term, TextSide};
+use theta_tree::{Name, Op, Pred, Sum, Term, TextSide};
 
 pub fn shown(alloc: Global, tree: &Pred) -> Result<Bytes, AllocError> {
     let mut out = Bytes::new(alloc);

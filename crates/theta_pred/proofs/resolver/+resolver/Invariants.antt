@@ -1,7 +1,7 @@
 use Rattle.std.proofs.Common.{◌≡◌, ◌≤◌, ◌++◌, length, map, drop}
 use Rattle.theta_pred.specs.Formula.{formula_of, formulas}
 use Rattle.theta_pred.specs.Names.{joined, names_in}
-use Rattle.theta_text.specs.Sizes.{longest, longest_sum}
+use Rattle.theta_tree.specs.Sizes.{longest, longest_sum}
 use Rattle.theta_pred.specs.Resolved.{resolved}
 use Rattle.theta_pred.specs.Sound.{AreSound}
 use Rattle.theta_pred.proofs.Wrong.{Leads}

@@ -1,5 +1,5 @@
 use Rattle.std.proofs.Common.{◌≡◌, max, map, drop}
-use Rattle.theta_text.specs.Sizes.{longest, longest_sum}
+use Rattle.theta_tree.specs.Sizes.{longest, longest_sum}
 use Rattle.theta_pred.proofs.short.+longest_sum.Given as goal
 
 abbrev pub invariant-loop-member : goal.invariant-loop-member

@@ -1,6 +1,6 @@
 use Rattle.std.proofs.Common.{◌≡◌, subst}
-use Rattle.theta_text.specs.Grammar.{Reads}
-use Rattle.theta_text.specs.Faults.{words}
+use Rattle.theta_tree.specs.Grammar.{Reads}
+use Rattle.theta_tree.specs.Faults.{words}
 use Rattle.theta_text.proofs.Places.{tokens_unique}
 use Rattle.theta_text.proofs.Unique.{reads_unique}
 use Rattle.theta_text.proofs.laws.texts_have_one_tree.Goals as goal

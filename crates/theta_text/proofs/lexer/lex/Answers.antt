@@ -2,9 +2,9 @@ use Rattle.std.proofs.Common.{◌≡◌, ℕ, ◌+◌, ◌-◌, ◌≤◌, take,
 use Rattle.std.proofs.Common.{arith, rules}
 use Rattle.std.proofs.lemmas.List.{length-drop, take_all}
 use Rattle.std.specs.List.{prefix_len}
-use Rattle.theta_text.specs.Tokens.{is_blank, Stand, IsNext}
+use Rattle.theta_tree.specs.Tokens.{is_blank, Stand, IsNext}
 use Rattle.theta_text.specs.Kinds.{IsNextKind, token_at}
-use Rattle.theta_text.specs.declared.token.Placed.{Placed}
+use Rattle.theta_tree.specs.declared.token.Placed.{Placed}
 use Rattle.theta_text.proofs.Fronts.{run_le}
 use Rattle.theta_text.proofs.Spellings.{next_token}
 use Rattle.theta_text.proofs.Places.{stand_push, all_run}

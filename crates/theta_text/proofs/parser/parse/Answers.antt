@@ -1,8 +1,8 @@
 use Rattle.std.proofs.Common.{◌≡◌, sym, subst, ◌∙◌}
-use Rattle.theta_text.specs.Tokens.{AreTokens}
-use Rattle.theta_text.specs.Grammar.{Reads}
-use Rattle.theta_text.specs.Faults.{words}
-use Rattle.theta_text.specs.Texts.{limits}
+use Rattle.theta_tree.specs.Tokens.{AreTokens}
+use Rattle.theta_tree.specs.Grammar.{Reads}
+use Rattle.theta_tree.specs.Faults.{words}
+use Rattle.theta_tree.specs.Texts.{limits}
 use Rattle.theta_text.proofs.Places.{tokens_unique}
 use Rattle.theta_text.proofs.Turns.{if_ok_map}
 use Rattle.theta_text.proofs.OneFault.{exact_answer}

@@ -1,10 +1,10 @@
 use Rattle.std.proofs.Common.{◌≡◌, [], refl, sym, ap, ◌∙◌}
 use Rattle.std.proofs.lemmas.Result.{err_from_is_err_and}
-use Rattle.theta_text.specs.declared.fault.PredFault.TheVariants as faults
-use Rattle.theta_text.specs.Grammar.{Reads}
+use Rattle.theta_tree.specs.declared.fault.PredFault.TheVariants as faults
+use Rattle.theta_tree.specs.Grammar.{Reads}
 use Rattle.theta_text.specs.Machine.{start, verdict, syntax}
-use Rattle.theta_text.specs.Faults.{words}
-use Rattle.theta_text.specs.Texts.{limits, tree_of}
+use Rattle.theta_tree.specs.Faults.{words}
+use Rattle.theta_tree.specs.Texts.{limits, tree_of}
 use Rattle.theta_text.specs.Views.{IsFault}
 use Rattle.theta_text.proofs.Unique.{reads_unique}
 use Rattle.theta_text.proofs.Turns.{nesting_is, same_fault, turn_err}

@@ -1,5 +1,5 @@
 use Rattle.std.proofs.Common.{◌≡◌, ◌+◌, ◌*◌, ◌≤◌, drop, sym, ap, ◌∙◌, arith}
-use Rattle.theta_text.specs.Tokens.{number_from, number_of}
+use Rattle.theta_tree.specs.Tokens.{number_from, number_of}
 use Rattle.theta_text.proofs.Numbers.{number_from-le, number_from-drop}
 use Rattle.theta_text.proofs.parser.number.number.Goals as goal
 

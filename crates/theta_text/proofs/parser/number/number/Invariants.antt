@@ -1,5 +1,5 @@
 use Rattle.std.proofs.Common.{◌≡◌, ◌≤◌, drop}
-use Rattle.theta_text.specs.Tokens.{number_from, number_of}
+use Rattle.theta_tree.specs.Tokens.{number_from, number_of}
 use Rattle.theta_text.proofs.parser.number.number.Given as goal
 
 abbrev pub invariant-loop-b : goal.invariant-loop-b

@@ -1,8 +1,8 @@
 use Rattle.std.proofs.Common.{◌≡◌, ◌<◌, ◌≤◌, ◌∷◌, ap, ◌∙◌, arith, pos}
-use Rattle.theta_text.specs.declared.token.Token.TheVariants.{Number}
-use Rattle.theta_text.specs.Tokens.{number_of}
+use Rattle.theta_tree.specs.declared.token.Token.TheVariants.{Number}
+use Rattle.theta_tree.specs.Tokens.{number_of}
 use Rattle.theta_text.specs.Machine.{bound, literal}
-use Rattle.theta_text.specs.Texts.{limits}
+use Rattle.theta_tree.specs.Texts.{limits}
 use Rattle.theta_text.proofs.Numbers.{number-copied}
 use Rattle.theta_text.proofs.Turns.{greatest_is, turn_ok, turn_err, words_at, small_ok, small_err}
 use Rattle.theta_text.proofs.parser.parts.bound_of.Goals as goal

@@ -1,6 +1,6 @@
 use Rattle.std.proofs.Common.{◌∷◌, refl, sym}
 use Rattle.theta_text.specs.Machine.{dot, field, name}
-use Rattle.theta_text.specs.Texts.{limits}
+use Rattle.theta_tree.specs.Texts.{limits}
 use Rattle.theta_text.proofs.Turns.{turn_ok, name_step, same_leads}
 use Rattle.theta_text.proofs.parser.parts.name_of.Goals as goal
 

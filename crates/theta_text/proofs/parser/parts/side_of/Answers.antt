@@ -1,9 +1,9 @@
 use Rattle.std.proofs.Common.{◌≡◌, ◌∷◌, true, refl, sym, ◌∙◌}
-use Rattle.theta_text.specs.declared.token.Token.TheVariants.{Word}
-use Rattle.theta_text.specs.declared.token.Keyword.TheVariants.{Text}
+use Rattle.theta_tree.specs.declared.token.Token.TheVariants.{Word}
+use Rattle.theta_tree.specs.declared.token.Keyword.TheVariants.{Text}
 use Rattle.theta_text.specs.Starts.{is_text}
 use Rattle.theta_text.specs.Machine.{close, open', name, side}
-use Rattle.theta_text.specs.Texts.{limits}
+use Rattle.theta_tree.specs.Texts.{limits}
 use Rattle.theta_text.proofs.Turns.{turn_ok, same_leads, side_column}
 use Rattle.theta_text.proofs.parser.parts.side_of.Goals as goal
 

@@ -1,12 +1,12 @@
 use Rattle.std.proofs.Common.{◌≡◌, ◌<◌, ◌≤◌, ◌∷◌, refl, sym, subst, ap, ◌∙◌, arith, pos, w64, to_z, of_z}
 use Rattle.std.proofs.lemmas.Result.{err_from_is_err_and}
-use Rattle.theta_text.specs.declared.token.Token.TheVariants.{Word, Number}
-use Rattle.theta_text.specs.declared.tree.Term.TheVariants.{Const}
-use Rattle.theta_text.specs.Tokens.{number_of}
-use Rattle.theta_text.specs.Grammar.{TermText}
+use Rattle.theta_tree.specs.declared.token.Token.TheVariants.{Word, Number}
+use Rattle.theta_tree.specs.declared.tree.Term.TheVariants.{Const}
+use Rattle.theta_tree.specs.Tokens.{number_of}
+use Rattle.theta_tree.specs.Grammar.{TermText}
 use Rattle.theta_text.specs.Machine.{name, term, literal}
-use Rattle.theta_text.specs.Faults.{words}
-use Rattle.theta_text.specs.Texts.{limits}
+use Rattle.theta_tree.specs.Faults.{words}
+use Rattle.theta_tree.specs.Texts.{limits}
 use Rattle.theta_text.proofs.Numbers.{number-copied}
 use Rattle.theta_text.proofs.Turns.{greatest_is, turn_ok, turn_err, turn_same, words_at, small_ok, small_err}
 use Rattle.theta_text.proofs.Turns.{same_fault}

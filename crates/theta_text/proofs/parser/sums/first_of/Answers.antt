@@ -1,8 +1,8 @@
 use Rattle.std.proofs.Common.{◌∷◌, refl}
 use Rattle.std.proofs.lemmas.Result.{err_from_is_err_and}
-use Rattle.theta_text.specs.declared.token.Token.TheVariants.{Sign}
+use Rattle.theta_tree.specs.declared.token.Token.TheVariants.{Sign}
 use Rattle.theta_text.specs.Machine.{term, sum, more}
-use Rattle.theta_text.specs.Texts.{limits}
+use Rattle.theta_tree.specs.Texts.{limits}
 use Rattle.theta_text.proofs.Turns.{turn_ok, turn_same, same_fault, sum_plain}
 use Rattle.theta_text.proofs.parser.sums.first_of.Goals as goal
 

@@ -1,11 +1,11 @@
 use Rattle.std.proofs.Common.{◌≡◌, ◌+◌, ◌-◌, ◌<◌, List, [], ◌∷◌, ◌++◌, length, refl, ap, ◌∙◌, arith, rules}
 use Rattle.std.proofs.lemmas.Result.{err_from_is_err_and}
 use Rattle.std.proofs.lemmas.List.{length-append}
-use Rattle.theta_text.specs.declared.token.Token.TheVariants.{Sign}
-use Rattle.theta_text.specs.declared.tree.Signed.{Signed}
+use Rattle.theta_tree.specs.declared.token.Token.TheVariants.{Sign}
+use Rattle.theta_tree.specs.declared.tree.Signed.{Signed}
 use Rattle.theta_text.specs.Machine.{Symbol, term, more, verdict}
-use Rattle.theta_text.specs.Faults.{words}
-use Rattle.theta_text.specs.Texts.{limits}
+use Rattle.theta_tree.specs.Faults.{words}
+use Rattle.theta_tree.specs.Texts.{limits}
 use Rattle.theta_text.proofs.Turns.{more_is, turn_ok, words_at, same_fault, more_sign, terms_push, past_more}
 use Rattle.theta_text.proofs.parser.sums.sum_of.Goals as goal
 

@@ -1,9 +1,9 @@
 use Rattle.std.proofs.Common.{◌≡◌, ◌+◌, ◌<◌, List, ◌∷◌, length}
-use Rattle.theta_text.specs.declared.tree.Signed.{Signed}
-use Rattle.theta_text.specs.Grammar.{FirstText, FurtherTerms}
+use Rattle.theta_tree.specs.declared.tree.Signed.{Signed}
+use Rattle.theta_tree.specs.Grammar.{FirstText, FurtherTerms}
 use Rattle.theta_text.specs.Machine.{Symbol, sum, more, verdict}
-use Rattle.theta_text.specs.Faults.{words}
-use Rattle.theta_text.specs.Texts.{limits}
+use Rattle.theta_tree.specs.Faults.{words}
+use Rattle.theta_tree.specs.Texts.{limits}
 use Rattle.theta_text.proofs.parser.sums.sum_of.Given as goal
 
 abbrev pub invariant-loop-minus : goal.invariant-loop-minus

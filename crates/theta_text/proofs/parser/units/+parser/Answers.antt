@@ -1,12 +1,12 @@
 use Rattle.std.proofs.Common.{◌≡◌, ◌-◌, ◌<◌, List, [], ◌∷◌, ◌++◌, map, refl, sym, subst, ap, ◌∙◌, arith, rules}
 use Rattle.std.proofs.lemmas.Result.{err_from_is_err_and}
 use Rattle.std.proofs.lemmas.List.{map-append}
-use Rattle.theta_text.specs.declared.token.Token.TheVariants.{Word, Open}
-use Rattle.theta_text.specs.declared.token.Keyword.TheVariants.{Abs, Not, And, Or}
-use Rattle.theta_text.specs.Grammar.{Unit', Conj, Further, IsAnd, IsOr}
+use Rattle.theta_tree.specs.declared.token.Token.TheVariants.{Word, Open}
+use Rattle.theta_tree.specs.declared.token.Keyword.TheVariants.{Abs, Not, And, Or}
+use Rattle.theta_tree.specs.Grammar.{Unit', Conj, Further, IsAnd, IsOr}
 use Rattle.theta_text.specs.Machine.{Symbol, unit, tail, close, open', sum, op, bound, side, verdict}
-use Rattle.theta_text.specs.Faults.{words}
-use Rattle.theta_text.specs.Texts.{limits, tree_of}
+use Rattle.theta_tree.specs.Faults.{words}
+use Rattle.theta_tree.specs.Texts.{limits, tree_of}
 use Rattle.theta_text.proofs.Turns.{turn_ok, turn_same, words_at, same_fault, same_leads, if_ok_map, past_tail}
 use Rattle.theta_text.proofs.Turns.{further_push, unit_not, unit_open, unit_band, is_not, is_open, is_band, starts_num}
 use Rattle.theta_text.proofs.Turns.{read_num, starts_txt, read_txt, read_band, read_open}

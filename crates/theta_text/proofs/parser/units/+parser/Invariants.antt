@@ -1,10 +1,10 @@
 use Rattle.std.proofs.Common.{◌≡◌, ◌+◌, ◌*◌, ◌<◌, ◌≤◌, List, ◌∷◌, length, map}
-use Rattle.theta_text.specs.Grammar.{IsAnd, IsOr, Unit', Conj, Further}
+use Rattle.theta_tree.specs.Grammar.{IsAnd, IsOr, Unit', Conj, Further}
 use Rattle.theta_text.specs.Machine.{Symbol, unit, tail, verdict}
-use Rattle.theta_text.specs.Faults.{words}
-use Rattle.theta_text.specs.Texts.{tree_of, limits}
+use Rattle.theta_tree.specs.Faults.{words}
+use Rattle.theta_tree.specs.Texts.{tree_of, limits}
 use Rattle.theta_text.specs.Views.{BeginsOff}
-use Rattle.theta_text.specs.Sizes.{longest, longest_sum}
+use Rattle.theta_tree.specs.Sizes.{longest, longest_sum}
 use Rattle.theta_text.proofs.parser.units.+parser.Given as goal
 
 abbrev pub decreases-predicate : goal.decreases-predicate

@@ -1,7 +1,7 @@
 -- How long the sums of a predicate are.
 use Rattle.std.specs.Prelude.{ℕ, max, List, [], ◌∷◌, length}
-use Rattle.theta_text.specs.declared.tree.Pred.{Pred, fold-Pred}
-use Rattle.theta_text.specs.declared.tree.Pred.TheOpen.{Pred-F}
+use Rattle.theta_tree.specs.declared.tree.Pred.{Pred, fold-Pred}
+use Rattle.theta_tree.specs.declared.tree.Pred.TheOpen.{Pred-F}
 
 -- the greatest of some numbers, or 0
 abbrev pub longest : List ℕ → ℕ

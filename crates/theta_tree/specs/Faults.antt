@@ -1,10 +1,10 @@
 -- Where a text leaves the grammar.
 use Rattle.std.specs.Prelude.{◌≡◌, ℕ, suc, List, [], ◌∷◌, ◌++◌, map, ⊤}
-use Rattle.theta_text.specs.Grammar.{Tree, Limits, Reads, IsOpen}
-use Rattle.theta_text.specs.declared.token.Token.{Token}
-use Rattle.theta_text.specs.declared.token.Token.TheVariants.{Word, Number, Open, Sign}
-use Rattle.theta_text.specs.declared.token.Keyword.TheVariants.{Not}
-use Rattle.theta_text.specs.declared.token.Placed.{Placed}
+use Rattle.theta_tree.specs.Grammar.{Tree, Limits, Reads, IsOpen}
+use Rattle.theta_tree.specs.declared.token.Token.{Token}
+use Rattle.theta_tree.specs.declared.token.Token.TheVariants.{Word, Number, Open, Sign}
+use Rattle.theta_tree.specs.declared.token.Keyword.TheVariants.{Not}
+use Rattle.theta_tree.specs.declared.token.Placed.{Placed}
 
 -- the tokens without their places
 abbrev pub words : List Placed → List Token

@@ -1,7 +1,7 @@
 // Why a text is no predicate.
 
 ghost use Rattle.std.specs.Prelude.{◌≡◌};
-ghost use Rattle.theta_text.specs.declared.fault.PredFault.TheVariants.{Memory};
+ghost use Rattle.theta_tree.specs.declared.fault.PredFault.TheVariants.{Memory};
 
 use std::alloc::{AllocError, AllocFailed};
 use thiserror::Error;

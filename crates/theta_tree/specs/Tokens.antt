@@ -2,14 +2,14 @@
 use Rattle.std.specs.Prelude.{◌≡◌, ℕ, ◌+◌, ◌*◌, ◌-◌, ◌<◌, ◌≤◌, List, [], ◌∷◌, ◌++◌, length, take, drop, Bool, true}
 use Rattle.std.specs.Prelude.{false, cond, ◌&&◌, ◌||◌, ◌==◌, nat_le, bytes_eq, codes}
 use Rattle.std.specs.List.{prefix_len, AllByRecursion}
-use Rattle.theta_text.specs.declared.token.Keyword.{Keyword}
-use Rattle.theta_text.specs.declared.token.Keyword.TheVariants.{And, Or, Not, Abs, Text, R, S, Other}
-use Rattle.theta_text.specs.declared.token.Token.{Token}
-use Rattle.theta_text.specs.declared.token.Token.TheVariants.{Word, Number, Literal, Quoted, Open, Close, Dot, Sign}
-use Rattle.theta_text.specs.declared.token.Token.TheVariants.{Compare, Stray}
-use Rattle.theta_text.specs.declared.token.Placed.{Placed}
-use Rattle.theta_text.specs.declared.tree.Op.{Op}
-use Rattle.theta_text.specs.declared.tree.Op.TheVariants.{Eq, Ne, Lt, Le, Gt, Ge}
+use Rattle.theta_tree.specs.declared.token.Keyword.{Keyword}
+use Rattle.theta_tree.specs.declared.token.Keyword.TheVariants.{And, Or, Not, Abs, Text, R, S, Other}
+use Rattle.theta_tree.specs.declared.token.Token.{Token}
+use Rattle.theta_tree.specs.declared.token.Token.TheVariants.{Word, Number, Literal, Quoted, Open, Close, Dot, Sign}
+use Rattle.theta_tree.specs.declared.token.Token.TheVariants.{Compare, Stray}
+use Rattle.theta_tree.specs.declared.token.Placed.{Placed}
+use Rattle.theta_tree.specs.declared.tree.Op.{Op}
+use Rattle.theta_tree.specs.declared.tree.Op.TheVariants.{Eq, Ne, Lt, Le, Gt, Ge}
 
 -- a letter of ASCII or `_`
 abbrev pub is_letter : ℕ → Bool

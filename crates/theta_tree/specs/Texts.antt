@@ -1,13 +1,13 @@
 -- What a text reads as, and where it is at fault.
 use Rattle.std.specs.Prelude.{◌≡◌, ℕ, List, length}
-use Rattle.theta_text.specs.declared.token.Placed.{Placed}
-use Rattle.theta_text.specs.declared.tree.Pred.{Pred, fold-Pred}
-use Rattle.theta_text.specs.declared.tree.Pred.TheOpen.{Pred-F}
-use Rattle.theta_text.specs.declared.fault.PredFault.{PredFault}
-use Rattle.theta_text.specs.declared.fault.PredFault.TheVariants as faults
-use Rattle.theta_text.specs.Tokens.{AreTokens}
-use Rattle.theta_text.specs.Grammar.{Tree, any, every, negation, num, band, txt, trees, Limits, Reads}
-use Rattle.theta_text.specs.Faults.{words, IsSyntaxFault, IsDeepFault, IsWideFault, IsLiteralFault}
+use Rattle.theta_tree.specs.declared.token.Placed.{Placed}
+use Rattle.theta_tree.specs.declared.tree.Pred.{Pred, fold-Pred}
+use Rattle.theta_tree.specs.declared.tree.Pred.TheOpen.{Pred-F}
+use Rattle.theta_tree.specs.declared.fault.PredFault.{PredFault}
+use Rattle.theta_tree.specs.declared.fault.PredFault.TheVariants as faults
+use Rattle.theta_tree.specs.Tokens.{AreTokens}
+use Rattle.theta_tree.specs.Grammar.{Tree, any, every, negation, num, band, txt, trees, Limits, Reads}
+use Rattle.theta_tree.specs.Faults.{words, IsSyntaxFault, IsDeepFault, IsWideFault, IsLiteralFault}
 
 -- one step of tree_of, at a predicate whose parts have their trees
 abbrev pub tree_step : Pred-F Tree → Tree

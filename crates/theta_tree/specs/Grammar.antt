@@ -1,20 +1,20 @@
 -- The grammar of a predicate, as a relation between tokens and a tree.
 use Rattle.std.specs.Prelude.{◌≡◌, ℕ, zero, suc, ◌≤◌, List, [], ◌∷◌, ◌++◌, false, ℤ, pos}
 use Rattle.std.specs.List.{AllByRecursion}
-use Rattle.theta_text.specs.declared.token.Token.{Token}
-use Rattle.theta_text.specs.declared.token.Token.TheVariants.{Word, Number, Literal, Quoted, Open, Close, Dot, Sign}
-use Rattle.theta_text.specs.declared.token.Token.TheVariants.{Compare}
-use Rattle.theta_text.specs.declared.token.Keyword.TheVariants.{And, Or, Not, Abs, Text, R, S}
-use Rattle.theta_text.specs.declared.tree.Op.{Op}
-use Rattle.theta_text.specs.declared.tree.Signed.{Signed}
-use Rattle.theta_text.specs.declared.tree.Term.{Term}
-use Rattle.theta_text.specs.declared.tree.Term.TheVariants.{Const, Col}
-use Rattle.theta_text.specs.declared.tree.TextSide.{TextSide}
-use Rattle.theta_text.specs.declared.tree.TextSide.TheVariants.{Lit}
-use Rattle.theta_text.specs.declared.tree.TextSide.TheVariants as texts
-use Rattle.theta_text.specs.declared.tree.Name.{Name}
+use Rattle.theta_tree.specs.declared.token.Token.{Token}
+use Rattle.theta_tree.specs.declared.token.Token.TheVariants.{Word, Number, Literal, Quoted, Open, Close, Dot, Sign}
+use Rattle.theta_tree.specs.declared.token.Token.TheVariants.{Compare}
+use Rattle.theta_tree.specs.declared.token.Keyword.TheVariants.{And, Or, Not, Abs, Text, R, S}
+use Rattle.theta_tree.specs.declared.tree.Op.{Op}
+use Rattle.theta_tree.specs.declared.tree.Signed.{Signed}
+use Rattle.theta_tree.specs.declared.tree.Term.{Term}
+use Rattle.theta_tree.specs.declared.tree.Term.TheVariants.{Const, Col}
+use Rattle.theta_tree.specs.declared.tree.TextSide.{TextSide}
+use Rattle.theta_tree.specs.declared.tree.TextSide.TheVariants.{Lit}
+use Rattle.theta_tree.specs.declared.tree.TextSide.TheVariants as texts
+use Rattle.theta_tree.specs.declared.tree.Name.{Name}
 use Rattle.join_rows.specs.declared.table.Side.TheVariants as sides
-use Rattle.theta_text.specs.Tokens.{Spells, number_of}
+use Rattle.theta_tree.specs.Tokens.{Spells, number_of}
 
 mutual
   -- a predicate's meaning, without where it lies in memory

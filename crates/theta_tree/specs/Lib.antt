@@ -1,0 +1,5 @@
+pub mod Tokens
+pub mod Grammar
+pub mod Faults
+pub mod Texts
+pub mod Sizes
