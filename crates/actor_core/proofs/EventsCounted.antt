@@ -17,7 +17,7 @@ use Rattle.actor_core.specs.declared.cast.Cast.{Cast}
 use Rattle.actor_core.specs.Lists.{ActorLists, Cause, Took, Began, no_lists, posted_to, with_event}
 use Rattle.actor_core.specs.Standing.{Event, GoOut, Stands, Waits}
 use Rattle.actor_core.specs.Families.{AreFronts, IsActor, family_of, start_for}
-use Rattle.trace_law.specs.Counts.{most_events}
+use Rattle.trace_law.specs.MostEvents.{most_events}
 use Rattle.actor_core.specs.Numbers.{number}
 use Rattle.actor_core.specs.Players.{AllStand, AreLinked, IsLinked, MayBegin, Player, Runs}
 use Rattle.actor_core.specs.declared.machines.Core.{Core}

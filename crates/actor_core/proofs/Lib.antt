@@ -9,7 +9,7 @@ pub mod LastTwo
 pub mod Waiting
 pub mod Joined
 pub mod EventCounts
-pub mod EventLimit
+pub mod EventsFit
 pub mod Sent
 pub mod Runs
 pub mod Journals

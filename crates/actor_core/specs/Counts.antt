@@ -3,7 +3,7 @@ use Rattle.std.specs.Prelude.{◌-◌, ◌^◌, ◌<◌, List}
 use Rattle.epoch_tags.specs.declared.actor.Actor.{Actor}
 use Rattle.load_controller.specs.declared.line.TurnLine.{TurnLine}
 use Rattle.trace_law.specs.Family.{IsRestFor, migrations}
-use Rattle.trace_law.specs.Counts.{most_events}
+use Rattle.trace_law.specs.MostEvents.{most_events}
 use Rattle.trace_law.specs.Validity.{IsValidInput, IsValidSetting}
 use Rattle.actor_core.specs.Families.{family_of}
 use Rattle.actor_core.specs.Lists.{ActorLists}

@@ -15,7 +15,7 @@ use Rattle.trace_law.specs.Family.{first_rest, migrations}
 use Rattle.trace_law.specs.Laws.{EventsAreFew}
 use Rattle.theta_pred.specs.Formula.{Meaning}
 use Rattle.actor_core.specs.Rests.{IsRestOf}
-use Rattle.trace_law.specs.Counts.{most_events}
+use Rattle.trace_law.specs.MostEvents.{most_events}
 use Rattle.actor_core.specs.Lists.{ActorLists, no_lists}
 use Rattle.actor_core.specs.Families.{AreFronts}
 use Rattle.actor_core.specs.Numbers.{actor_at, count_of}

@@ -4,7 +4,7 @@ use Rattle.epoch_tags.specs.declared.actor.Actor.{Actor}
 use Rattle.load_controller.specs.Journal.{last_line}
 use Rattle.load_controller.specs.declared.line.TurnLine.{TurnLine}
 use Rattle.trace_law.specs.Family.{migrations}
-use Rattle.trace_law.specs.Counts.{most_events}
+use Rattle.trace_law.specs.MostEvents.{most_events}
 use Rattle.actor_core.specs.Lists.{no_lists}
 use Rattle.actor_core.specs.Players.{AgreesOnLinks, IsFinishedFamily}
 use Rattle.actor_core.specs.Rests.{IsRestOf}

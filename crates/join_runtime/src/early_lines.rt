@@ -9,7 +9,7 @@ ghost use Rattle.trace_law.specs.Join.{nested_loop};
 ghost use Rattle.trace_law.specs.Family.{first_rest};
 ghost use Rattle.trace_law.specs.Runs.{IsRunOf};
 ghost use Rattle.load_controller.specs.Journal.{last_epoch};
-ghost use Rattle.trace_law.specs.Counts.{most_events};
+ghost use Rattle.trace_law.specs.MostEvents.{most_events};
 ghost use Rattle.actor_core.specs.Players.{AgreesOnLinks, IsFinishedFamily};
 ghost use Rattle.actor_core.specs.Tasks.{task_of};
 ghost use Rattle.join_report.specs.PairLines.{pair_lines};

@@ -5,7 +5,7 @@ ghost use Rattle.trace_law.specs.Validity.{IsValidInput, IsValidSetting};
 ghost use Rattle.trace_law.specs.Family.{first_rest, migrations};
 ghost use Rattle.trace_law.specs.Runs.{IsRunOf};
 ghost use Rattle.load_controller.specs.Journal.{last_epoch, last_line};
-ghost use Rattle.trace_law.specs.Counts.{most_events};
+ghost use Rattle.trace_law.specs.MostEvents.{most_events};
 ghost use Rattle.actor_core.specs.Players.{AgreesOnLinks, IsFinishedFamily};
 ghost use Rattle.actor_core.specs.Rests.{IsRestOf, IsUpto, task_upto, upto};
 ghost use Rattle.actor_core.specs.Tasks.{task_of};

@@ -7,7 +7,7 @@ use Rattle.load_controller.specs.declared.line.TurnLine.{TurnLine}
 use Rattle.trace_law.specs.declared.input.Input.{Input}
 use Rattle.trace_law.specs.declared.setting.Setting.{Setting}
 use Rattle.trace_law.specs.declared.run.Run.{Run}
-use Rattle.trace_law.specs.Counts.{most_events}
+use Rattle.trace_law.specs.MostEvents.{most_events}
 use Rattle.trace_law.specs.Family.{first_rest, migrations}
 use Rattle.trace_law.specs.Laws.{EventsAreFew}
 use Rattle.trace_law.specs.Validity.{IsValidInput, IsValidSetting}
@@ -16,7 +16,7 @@ use Rattle.actor_core.specs.Families.{after_event}
 use Rattle.actor_core.specs.Counts.{EventsFit}
 use Rattle.actor_core.specs.Tasks.{Task, IsTask}
 use Rattle.actor_core.proofs.EventCounts.{count, took_counts, began_counts, linked_after, left_linked}
-use Rattle.actor_core.proofs.EventLimit.{under}
+use Rattle.actor_core.proofs.EventsFit.{under}
 use Rattle.actor_core.proofs.EventsCounted.{IsCounted, few_events, none_counted}
 use Rattle.link_trace.specs.declared.slots.Slot.{Slot}
 use Rattle.link_trace.specs.declared.slots.Slot.TheVariants.{Begin, Link}

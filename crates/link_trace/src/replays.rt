@@ -8,7 +8,7 @@ ghost use Rattle.trace_law.specs.Runs.{IsRunOf};
 ghost use Rattle.load_controller.specs.Journal.{last_epoch};
 ghost use Rattle.actor_core.specs.Elements.{IsAllAt};
 ghost use Rattle.actor_core.specs.Standing.{IsOver};
-ghost use Rattle.trace_law.specs.Counts.{most_events};
+ghost use Rattle.trace_law.specs.MostEvents.{most_events};
 ghost use Rattle.link_trace.specs.States.{state_of};
 ghost use Rattle.link_trace.specs.Marks.{AreMarked};
 ghost use Rattle.link_trace.specs.Order.{Drives, IsFreshWorld, IsIdle, IsRunReplay, MakesDrawn, MakesFirst};

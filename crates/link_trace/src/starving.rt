@@ -7,7 +7,7 @@ ghost use Rattle.trace_law.specs.Family.{first_rest};
 ghost use Rattle.trace_law.specs.Runs.{IsRunOf};
 ghost use Rattle.actor_core.specs.Elements.{IsAllAt};
 ghost use Rattle.actor_core.specs.Tasks.{task_of};
-ghost use Rattle.trace_law.specs.Counts.{most_events};
+ghost use Rattle.trace_law.specs.MostEvents.{most_events};
 ghost use Rattle.link_trace.specs.declared.slots.Slot.{Slot as Slot'};
 ghost use Rattle.link_trace.specs.States.{state_of};
 ghost use Rattle.link_trace.specs.Order.{IsIdle, Happens};

@@ -7,7 +7,7 @@ ghost use Rattle.load_controller.specs.declared.line.TurnLine.{TurnLine as TurnL
 ghost use Rattle.trace_law.specs.Validity.{IsValidInput, IsValidSetting};
 ghost use Rattle.trace_law.specs.Family.{migrations};
 ghost use Rattle.trace_law.specs.Runs.{IsRunOf};
-ghost use Rattle.trace_law.specs.Counts.{most_events};
+ghost use Rattle.trace_law.specs.MostEvents.{most_events};
 ghost use Rattle.actor_core.specs.Elements.{IsAllAt};
 ghost use Rattle.actor_core.specs.Lists.{ActorLists};
 ghost use Rattle.actor_core.specs.Rests.{IsRestOf, IsUpto, task_upto, upto};

@@ -2,6 +2,7 @@
 #![tactic(auto)]
 
 mod controller;
+mod counted_or_passed_over;
 mod decisions;
 mod held_settles;
 mod laws;
@@ -9,7 +10,6 @@ mod ledger;
 mod line;
 mod marks;
 mod post;
-mod receive;
 mod stop;
 
 pub use controller::Controller;

@@ -9,7 +9,7 @@ use Rattle.trace_law.specs.Join.{row_count}
 use Rattle.trace_law.specs.Laws.{KeepsALawfulJournal, LawfulIsBounded}
 use Rattle.trace_law.specs.Family.{migrations}
 use Rattle.trace_law.specs.Validity.{IsValidInput, IsValidSetting}
-use Rattle.trace_law.specs.Counts.{most_events}
+use Rattle.trace_law.specs.MostEvents.{most_events}
 use Rattle.actor_core.specs.Families.{family_of}
 use Rattle.actor_core.specs.Lists.{ActorLists}
 use Rattle.actor_core.specs.Tasks.{Task, IsTask, Agrees}

@@ -18,7 +18,7 @@ use Rattle.trace_law.specs.Family.{feeder_start, migrations}
 use Rattle.trace_law.specs.Join.{row_count}
 use Rattle.trace_law.specs.Laws.{EventsAreFew, KeepsALawfulJournal, LawfulIsBounded}
 use Rattle.trace_law.specs.Validity.{IsValidInput, IsValidSetting}
-use Rattle.trace_law.specs.Counts.{most_events}
+use Rattle.trace_law.specs.MostEvents.{most_events}
 use Rattle.actor_core.specs.declared.cast.Cast.{Cast}
 use Rattle.actor_core.specs.Families.{AreFronts, family_of, start_for}
 use Rattle.actor_core.specs.Lists.{ActorLists, no_lists}
@@ -32,7 +32,7 @@ use Rattle.actor_core.specs.Tasks.{Task, IsTask, Agrees}
 use Rattle.actor_core.proofs.Balances.{fronts_none}
 use Rattle.actor_core.proofs.Beginnings.{there}
 use Rattle.actor_core.proofs.CompleteAnswer.{agrees as agreeing}
-use Rattle.actor_core.proofs.EventLimit.{under}
+use Rattle.actor_core.proofs.EventsFit.{under}
 use Rattle.actor_core.proofs.EventsCounted.{HasMadeSome, IsCounted, counted_more, few_events, none_counted}
 use Rattle.actor_core.proofs.OwnNumbers.{number_there, some_is}
 use Rattle.actor_core.proofs.Seated.{core_there, relate}

@@ -23,8 +23,10 @@ use Rattle.store_parts.specs.declared.by_stamp.Which.{Which}
 use Rattle.store_parts.specs.declared.places.Window.{Window}
 use Rattle.store_parts.specs.Places.{lies_in, places_by, AreApart, IsMapOf}
 use Rattle.store_parts.specs.Keyed.{at_places}
-use Rattle.store_parts.specs.Matches.{other_side, admitted, does_stand, is_named, is_found, does_match, does_match_at}
-use Rattle.store_parts.specs.Matches.{looked_at, pair_of, matches, stands_by, DoMatch}
+use Rattle.store_parts.specs.Matches.{other_side, is_named, is_found, does_match, does_match_at}
+use Rattle.store_parts.specs.Evaluated.{admitted, does_stand}
+use Rattle.store_parts.specs.Matches.{pair_of, matches, DoMatch}
+use Rattle.store_parts.specs.Evaluated.{looked_at, stands_by}
 use Rattle.store_parts.proofs.Keys.{at_places_by}
 use Rattle.store_parts.proofs.KeyProbes.{filter_of_filter, count_of_filter, places_below, at_places-append}
 use Rattle.store_parts.proofs.KeyProbes.{at_places_more, at_place}

@@ -23,8 +23,10 @@ use Rattle.theta_pred.specs.Truth.{holds}
 use Rattle.store_parts.specs.declared.by_stamp.Which.{Which}
 use Rattle.store_parts.specs.Places.{lies, places_between, places_by, IsMapOf}
 use Rattle.store_parts.specs.Keyed.{at_places, is_key_true, is_key_true_at, value_at, values_at, least_at, greatest_at}
-use Rattle.store_parts.specs.Matches.{other_side, evaluated, is_named, is_found, does_match, does_match_at, pair_of}
-use Rattle.store_parts.specs.Matches.{matches, stands_by, AppendsFront}
+use Rattle.store_parts.specs.Matches.{other_side, is_named, is_found, does_match, does_match_at, pair_of}
+use Rattle.store_parts.specs.Evaluated.{evaluated}
+use Rattle.store_parts.specs.Matches.{matches, AppendsFront}
+use Rattle.store_parts.specs.Evaluated.{stands_by}
 use Rattle.store_parts.proofs.Keys.{band_is_key, no_key, at_places_by}
 use Rattle.store_parts.proofs.OneMoreTuple.{matches-append, take_one, count_by-append}
 use Rattle.join_rows.proofs.Bags.{sum-same}

@@ -11,7 +11,7 @@ use Rattle.theta_pred.specs.declared.agree.Access.{Access}
 use Rattle.theta_pred.specs.declared.agree.Same.TheVariants.{Texts}
 use Rattle.theta_pred.specs.declared.atom.Part.{Part}
 use Rattle.theta_pred.specs.Keys.{atom_of, is_atom_true, Atom}
-use Rattle.store_parts.specs.Matches.{evaluated, looked_at}
+use Rattle.store_parts.specs.Evaluated.{evaluated, looked_at}
 use Rattle.store_parts.specs.declared.by_stamp.Which.TheVariants.{All}
 
 -- ---- the key of abs(r.at - s.at) <= 2, `at` being the second column of both

@@ -6,15 +6,8 @@ ghost use Rattle.std.specs.Prelude.{◌≡◌, ◌+◌, ◌<◌, ◌++◌, count
 ghost use Rattle.store_parts.specs.Accessed.{IsOwnAccess};
 ghost use Rattle.store_parts.specs.Indexed.{IsIndexed};
 ghost use Rattle.store_parts.specs.Keyed.{IsOwn};
-ghost use Rattle.store_parts.specs.Matches.{
-  evaluated,
-  looked_at,
-  matches,
-  other_side,
-  stands_by,
-  AppendsFront,
-  HasWidth,
-};
+ghost use Rattle.store_parts.specs.Matches.{matches, other_side, AppendsFront, HasWidth};
+ghost use Rattle.store_parts.specs.Evaluated.{evaluated, looked_at, stands_by};
 ghost use Rattle.store_parts.specs.Stored.{others_of, side_of, HaveWidths};
 
 use crate::by_stamp::Which;

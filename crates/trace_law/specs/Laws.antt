@@ -29,7 +29,7 @@ use Rattle.epoch_tags.specs.Links.{HasLink}
 use Rattle.trace_law.specs.Stored.{StoresItsRows}
 use Rattle.trace_law.specs.declared.setting.Setting.{Setting}
 use Rattle.trace_law.specs.Validity.{IsValidInput, IsValidSetting, IsValid}
-use Rattle.trace_law.specs.Counts.{most_events}
+use Rattle.trace_law.specs.MostEvents.{most_events}
 use Rattle.trace_law.specs.Family.{Rest, IsLineFor, IsRestFor, first_rest, own_rows, migrations, Family, IsAgreeing}
 use Rattle.trace_law.specs.Family.{joiner_start, IsQuiet, IsFinished, IsAllReceived, NothingWrongIsSent, AnswersTheJoin}
 use Rattle.trace_law.specs.Family.{batches, rest_after, rules_of, stamp_at, events}

@@ -5,6 +5,6 @@ pub mod Family
 pub mod Rows
 pub mod Widths
 pub mod Runs
-pub mod Counts
+pub mod MostEvents
 pub mod Laws
 pub mod Stored

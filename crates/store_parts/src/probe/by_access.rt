@@ -4,7 +4,8 @@ ghost use Rattle.std.specs.Prelude.{◌≡◌, ◌+◌, ◌<◌, ◌++◌, lengt
 ghost use Rattle.store_parts.specs.Accessed.{is_admitted};
 ghost use Rattle.store_parts.specs.Indexed.{numbers_at};
 ghost use Rattle.store_parts.specs.Keyed.{at_places};
-ghost use Rattle.store_parts.specs.Matches.{admitted, does_stand, matches, other_side, AppendsFront, HasWidth};
+ghost use Rattle.store_parts.specs.Matches.{matches, other_side, AppendsFront, HasWidth};
+ghost use Rattle.store_parts.specs.Evaluated.{admitted, does_stand};
 ghost use Rattle.store_parts.specs.Places.{IsMapOf};
 ghost use Rattle.theta_pred.specs.Accesses.{access_of, terms_of};
 

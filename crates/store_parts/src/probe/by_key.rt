@@ -2,7 +2,8 @@
 
 ghost use Rattle.std.specs.Prelude.{◌≡◌, ◌+◌, ◌<◌, ◌++◌, length, All, count_by, filter, Some, IfOk, OnOk, OnErr};
 ghost use Rattle.store_parts.specs.Keyed.{at_places, is_key_true, values_at};
-ghost use Rattle.store_parts.specs.Matches.{evaluated, is_named, matches, other_side, AppendsFront, HasWidth};
+ghost use Rattle.store_parts.specs.Matches.{is_named, matches, other_side, AppendsFront, HasWidth};
+ghost use Rattle.store_parts.specs.Evaluated.{evaluated};
 ghost use Rattle.store_parts.specs.Places.{IsMapOf};
 ghost use Rattle.theta_pred.specs.Keys.{atom_of, key_of};
 

@@ -3,17 +3,8 @@
 ghost use Rattle.std.specs.Prelude.{◌≡◌, ◌+◌, ◌<◌, [], ◌∷◌, ◌++◌, length, All, count_by, slice_get, Some, None};
 ghost use Rattle.std.specs.Prelude.{IsTrue, OnOk, OnErr};
 ghost use Rattle.store_parts.specs.Keyed.{at_places};
-ghost use Rattle.store_parts.specs.Matches.{
-  does_match,
-  is_named,
-  matches,
-  other_side,
-  pair_of,
-  stands_by,
-  AppendsFront,
-  DoMatch,
-  HasWidth,
-};
+ghost use Rattle.store_parts.specs.Matches.{does_match, is_named, matches, other_side, pair_of, AppendsFront, DoMatch, HasWidth};
+ghost use Rattle.store_parts.specs.Evaluated.{stands_by};
 
 use crate::counted_looks::Looks;
 use crate::counted_steps::Steps;

@@ -1,4 +1,4 @@
-use Rattle.actor_core.proofs.EventLimit.{fit}
+use Rattle.actor_core.proofs.EventsFit.{fit}
 use Rattle.actor_core.proofs.laws.events_fit.Goals as goal
 
 pub returns : goal.returns

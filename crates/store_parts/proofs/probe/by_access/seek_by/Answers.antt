@@ -3,7 +3,8 @@ use Rattle.std.specs.Result.{OnOk, OnErr}
 use Rattle.epoch_tags.specs.declared.tuple.Pair.{Pair}
 use Rattle.theta_pred.specs.Accesses.{terms_of}
 use Rattle.store_parts.specs.Keyed.{at_places}
-use Rattle.store_parts.specs.Matches.{does_stand, matches, is_named, AppendsFront, DoMatch}
+use Rattle.store_parts.specs.Matches.{matches, is_named, AppendsFront, DoMatch}
+use Rattle.store_parts.specs.Evaluated.{does_stand}
 use Rattle.store_parts.proofs.AccessProbes.{those_kept, admitted_match, matches_by_access, count_by_access}
 use Rattle.store_parts.proofs.KeyProbes.{seen}
 use Rattle.store_parts.proofs.probe.by_access.seek_by.Goals as goal
