@@ -10,7 +10,7 @@ pub mod FixedOutput
 pub mod Past
 pub mod Lines
 pub mod Ran
-pub mod Statuses
+pub mod StatusOfWords
 pub mod WaveJournals
 pub mod WaveCounts
 pub mod WaveRuns

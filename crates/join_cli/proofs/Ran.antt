@@ -4,7 +4,7 @@ use Rattle.join_rows.specs.declared.shelf.Shelf.{Ghosts as ShelfGhosts}
 use Rattle.join_rows.specs.declared.sink.Sink.{Ghosts as SinkGhosts}
 use Rattle.join_cli.specs.declared.outcome.Outcome.{Outcome}
 use Rattle.join_cli.specs.declared.outcome.Outcome.TheVariants as outcomes
-use Rattle.join_cli.specs.Outcomes.{status_of}
+use Rattle.join_cli.specs.ExitStatus.{status_of}
 use Rattle.join_cli.specs.Programs.{WroteBy, WroteOver}
 use Rattle.join_cli.specs.Courses.{Course, by_chain, by_groups, by_rings, by_run}
 use Rattle.join_cli.specs.Ends.{IsDone, course_of}

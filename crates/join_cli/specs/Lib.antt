@@ -1,4 +1,5 @@
 pub mod Outcomes
+pub mod ExitStatus
 pub mod Plan
 pub mod Chain
 pub mod Courses
@@ -9,7 +10,7 @@ pub mod Programs
 pub mod Past
 pub mod Lines
 pub mod Promises
-pub mod Statuses
+pub mod StatusOfWords
 pub mod Dealt
 pub mod Kinds
 pub mod Works

@@ -17,7 +17,7 @@ use Rattle.join_plan.specs.declared.refusal_of_fault.Which.TheVariants as texts
 use Rattle.join_plan.specs.Causes.{IsTrueFurther, LacksOne, StandsPast}
 use Rattle.join_plan.specs.Files.{sources}
 use Rattle.join_plan.specs.Texts.{IsTrueOf}
-use Rattle.join_cli.specs.Outcomes.{status_of}
+use Rattle.join_cli.specs.ExitStatus.{status_of}
 use Rattle.join_cli.specs.Seen.{EndsSeen}
 use Rattle.join_cli.specs.Courses.{Course}
 use Rattle.join_cli.specs.Ends.{EndsAs, EndsEarly, IsDone, Suffices, Wrote, WroteFront, WroteSoFar, course_of}

@@ -5,11 +5,11 @@ ghost use Rattle.std.specs.Prelude.{IfErr, IfOk, IsOkAnd, string_bytes};
 ghost use Rattle.std.specs.Process.{exit_status};
 ghost use Rattle.join_rows.specs.Shelves.{last_fault};
 ghost use Rattle.join_words.specs.Words.{Asked, asked_of};
-ghost use Rattle.join_cli.specs.Outcomes.{status_of};
+ghost use Rattle.join_cli.specs.ExitStatus.{status_of};
 ghost use Rattle.join_cli.specs.Programs.{WroteBy};
 ghost use Rattle.join_cli.specs.Lines.{TellsLine};
 ghost use Rattle.join_cli.specs.Promises.{RanAs};
-ghost use Rattle.join_cli.specs.Statuses.{IsStatusOver};
+ghost use Rattle.join_cli.specs.StatusOfWords.{IsStatusOver};
 
 use crate::outcome::Outcome;
 use crate::program::{exit_code, jm_main, tell};

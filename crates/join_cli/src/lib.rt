@@ -5,6 +5,7 @@ mod after_early_lines;
 mod chain;
 mod conclude;
 mod entry;
+mod exit_status;
 mod groups;
 mod growth;
 mod growth_output;

@@ -1,7 +1,7 @@
 // How a run of `jm` ends.
 
 ghost use Rattle.std.specs.Prelude.{◌≡◌};
-ghost use Rattle.join_cli.specs.Outcomes.{outcome_of, status_of};
+ghost use Rattle.join_cli.specs.Outcomes.{outcome_of};
 
 use join_plan::{InputFault, LimitFault, Refusal, TextFault};
 use join_rows::Items;
@@ -54,27 +54,6 @@ pub enum Outcome {
     Write,
     /// Memory ran out before anything was written, unless pairs were wanted early.
     Memory,
-}
-
-impl Outcome {
-    /// The exit status of the program. It takes no memory.
-    pub fn status(&self) -> u8
-        ensures { result ≡ status_of self.now }
-    {
-        match self {
-            Outcome::Done { .. }
-            | Outcome::DoneGroups { .. }
-            | Outcome::DoneChain { .. }
-            | Outcome::DoneRings { .. } => 0,
-            Outcome::Words(_) => 2,
-            Outcome::Predicate(_) | Outcome::Then(_) => 3,
-            Outcome::Input(_) => 4,
-            Outcome::Limit(_) => 5,
-            Outcome::Read => 6,
-            Outcome::Write => 7,
-            Outcome::Memory => 8,
-        }
-    }
 }
 
 /// The outcome of a refusal.

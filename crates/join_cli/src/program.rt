@@ -3,7 +3,7 @@
 ghost use Rattle.std.specs.Prelude.{◌≡◌, ◌<◌, ◌++◌, codes, map, string_bytes};
 ghost use Rattle.std.specs.Process.{exit_status};
 ghost use Rattle.join_rows.specs.Shelves.{last_fault};
-ghost use Rattle.join_cli.specs.Outcomes.{status_of};
+ghost use Rattle.join_cli.specs.ExitStatus.{status_of};
 ghost use Rattle.join_cli.specs.Ends.{IsDone};
 ghost use Rattle.join_cli.specs.Lines.{PutsLine, TellsLine, said_of};
 ghost use Rattle.join_cli.specs.Promises.{Promises};

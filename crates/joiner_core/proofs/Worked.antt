@@ -6,7 +6,7 @@ use Rattle.epoch_tags.specs.declared.message.ToJoiner.{ToJoiner}
 use Rattle.epoch_tags.specs.declared.message.ToJoiner.TheVariants.{Tup, Turn, End, Moved, MovedEnd}
 use Rattle.epoch_tags.specs.declared.message.ToCollector.TheVariants.{Found, Fin}
 use Rattle.theta_pred.specs.Formula.{every, no_formula}
-use Rattle.joiner_law.specs.Rows.{r_row, s_row}
+use Rattle.joiner_law.specs.Worked.{r_row, s_row}
 use Rattle.joiner_law.specs.Posting.{moved_post, moved_end_post, settled_post}
 use Rattle.joiner_core.specs.State.{MachineState}
 use Rattle.joiner_core.specs.Calls.{state_after, posts_after}

@@ -15,7 +15,7 @@ use Rattle.epoch_tags.specs.Messages.{moved_of, moved_ends, turns, ends, turn_sh
 use Rattle.migration_plan.specs.Steps.{AreNeighbours, is_of}
 use Rattle.joiner_law.specs.Law.{JoinerLists, JoinerLaw, IsTakenOf, IsSettled, AllTurned, shift_after, partner_of}
 use Rattle.joiner_law.specs.Law.{exchanged, store}
-use Rattle.joiner_law.specs.Rows.{of_feeder, of_joiner, joiner_0, all_taken, r_row}
+use Rattle.joiner_law.specs.Worked.{of_feeder, of_joiner, joiner_0, all_taken, r_row}
 use Rattle.std.proofs.lemmas.List.{append-nil}
 
 -- a list that was taken whole, so that nothing is held

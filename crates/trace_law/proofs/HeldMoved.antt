@@ -23,7 +23,7 @@ use Rattle.joiner_law.specs.Law.{exchanged, store}
 use Rattle.load_controller.specs.declared.line.Cause.TheVariants.{Count}
 use Rattle.load_controller.specs.declared.line.TurnLine.{TurnLine}
 use Rattle.load_controller.specs.Journal.{begun, Follows, start_line}
-use Rattle.load_controller.specs.Rows.{past_of}
+use Rattle.load_controller.specs.Worked.{past_of}
 use Rattle.load_controller.specs.Law.{ControllerLaw, CountsMessages, CountsSettled, sent_by}
 use Rattle.trace_law.specs.Family.{Family, IsAgreeing, feeder_start, joiner_start, rules_of, first_rest}
 use Rattle.trace_law.specs.Laws.{HoldsAMovedRow}

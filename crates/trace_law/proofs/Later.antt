@@ -20,7 +20,7 @@ use Rattle.joiner_law.specs.Law.{Taken}
 use Rattle.load_controller.specs.declared.line.Cause.TheVariants.{Count, Settle, Drain}
 use Rattle.load_controller.specs.declared.line.TurnLine.{TurnLine}
 use Rattle.load_controller.specs.Journal.{begun}
-use Rattle.load_controller.specs.Rows.{past_of}
+use Rattle.load_controller.specs.Worked.{past_of}
 use Rattle.trace_law.specs.declared.input.Input.{Input}
 use Rattle.trace_law.specs.declared.setting.Setting.{Setting}
 use Rattle.trace_law.specs.Family.{Rest, Family, rules_of}

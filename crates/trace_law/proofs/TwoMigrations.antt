@@ -17,7 +17,7 @@ use Rattle.joiner_law.specs.Law.{Taken}
 use Rattle.row_tickets.specs.declared.place.Feed.TheVariants.{RFirst}
 use Rattle.trace_law.specs.declared.setting.Setting.{Setting}
 use Rattle.trace_law.specs.Family.{Family}
-use Rattle.trace_law.specs.Rows.{journal}
+use Rattle.trace_law.specs.Worked.{journal}
 
 -- four joiners and one feeder, batches of four rows
 abbrev pub setting : Setting

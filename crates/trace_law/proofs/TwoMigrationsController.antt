@@ -7,7 +7,7 @@ use Rattle.load_controller.specs.declared.line.Cause.TheVariants.{Settle}
 use Rattle.load_controller.specs.Journal.{begun, Follows}
 use Rattle.load_controller.specs.Law.{ControllerLaw, CountsMessages, CountsSettled, sent_by}
 use Rattle.trace_law.specs.Family.{rules_of, first_rest}
-use Rattle.trace_law.specs.Rows.{journal}
+use Rattle.trace_law.specs.Worked.{journal}
 use Rattle.trace_law.proofs.TwoMigrations.{setting, orders, requests, family}
 
 follows : Follows (rules_of setting) (begun (first_rest setting).line) (reverse journal)

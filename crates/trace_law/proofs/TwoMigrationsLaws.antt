@@ -21,7 +21,7 @@ use Rattle.trace_law.specs.Validity.{IsFor, IsValid}
 use Rattle.trace_law.specs.Family.{IsAgreeing, IsQuiet, IsFinished as IsFinishedFamily, feeder_start, joiner_start}
 use Rattle.trace_law.specs.Family.{first_rest, rest_after}
 use Rattle.trace_law.specs.Laws.{FinishedAfterTwoMigrations, LeavesARest}
-use Rattle.trace_law.specs.Rows.{input}
+use Rattle.trace_law.specs.Worked.{input}
 use Rattle.grid_map.proofs.Halves.{back_again}
 use Rattle.trace_law.proofs.TwoMigrations.{setting, orders, fed, other, part, passed, found_first, found_then, taken}
 use Rattle.trace_law.proofs.TwoMigrations.{family}

@@ -6,11 +6,11 @@ use Rattle.std.proofs.lemmas.List.{append-nil}
 use Rattle.load_controller.specs.declared.line.TurnLine.{TurnLine}
 use Rattle.load_controller.specs.Journal.{IsLawful, Follows, begun, start_line, last_line, last_epoch, causes_of}
 use Rattle.load_controller.specs.Journal.{all_causes}
-use Rattle.load_controller.specs.Rows.{later_past}
+use Rattle.load_controller.specs.Worked.{later_past}
 use Rattle.trace_law.specs.declared.input.Input.{Input}
 use Rattle.trace_law.specs.Batches.{size_of}
 use Rattle.trace_law.specs.Family.{rules_of, batches}
-use Rattle.trace_law.specs.Rows.{journal, input, later_input, later_setting}
+use Rattle.trace_law.specs.Worked.{journal, input, later_input, later_setting}
 use Rattle.trace_law.specs.Runs.{AreLawful, journal_of, decisions_in}
 
 -- the first line of the run

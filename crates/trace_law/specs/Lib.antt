@@ -2,7 +2,7 @@ pub mod Join
 pub mod Validity
 pub mod Batches
 pub mod Family
-pub mod Rows
+pub mod Worked
 pub mod Widths
 pub mod Runs
 pub mod MostEvents

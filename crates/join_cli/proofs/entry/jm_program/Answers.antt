@@ -1,7 +1,7 @@
 use Rattle.std.specs.Prelude.{map, string_bytes}
 use Rattle.join_cli.specs.Lines.{TellsLine}
 use Rattle.join_cli.proofs.Ran.{ran_by, ran_without}
-use Rattle.join_cli.proofs.Statuses.{ran_made, ran_over}
+use Rattle.join_cli.proofs.StatusOfWords.{ran_made, ran_over}
 use Rattle.join_cli.proofs.entry.jm_program.Goals as goal
 
 pub returns-in-Ok-clause-done : goal.returns-in-Ok-clause-done

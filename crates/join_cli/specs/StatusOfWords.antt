@@ -6,7 +6,8 @@ use Rattle.join_plan.specs.declared.fault.Refusal.{Refusal}
 use Rattle.join_plan.specs.declared.fitting.Planned.{Planned}
 use Rattle.join_plan.specs.Plan.{IsPlanOf}
 use Rattle.join_cli.specs.Chain.{IsBetween}
-use Rattle.join_cli.specs.Outcomes.{outcome_of, status_of}
+use Rattle.join_cli.specs.Outcomes.{outcome_of}
+use Rattle.join_cli.specs.ExitStatus.{status_of}
 
 -- the status of a plan: 0, or 5 where its first join has more pairs than a second takes; or that of a refusal
 abbrev pub IsStatusOf : Asked → Result Planned Refusal → ℕ → Type 0

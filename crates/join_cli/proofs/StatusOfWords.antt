@@ -12,9 +12,9 @@ use Rattle.join_plan.specs.declared.fitting.Planned.{Planned}
 use Rattle.join_cli.specs.declared.outcome.Outcome.{Outcome}
 use Rattle.join_cli.specs.declared.outcome.Outcome.TheVariants as outcomes
 use Rattle.join_cli.specs.Ends.{EndsAs, IsEndOf, IsOutcomeOf}
-use Rattle.join_cli.specs.Outcomes.{status_of}
+use Rattle.join_cli.specs.ExitStatus.{status_of}
 use Rattle.join_cli.specs.Promises.{RanAs}
-use Rattle.join_cli.specs.Statuses.{IsStatusOf, IsStatusOver}
+use Rattle.join_cli.specs.StatusOfWords.{IsStatusOf, IsStatusOver}
 
 -- a plan that was carried out has the status 0, or its first join has too many pairs
 end_status : (asked : Asked) (planned : Planned) (outcome : Outcome) → IsEndOf asked planned outcome

@@ -7,7 +7,7 @@ use Rattle.theta_pred.specs.Formula.{every, no_formula}
 use Rattle.load_controller.specs.declared.line.Cause.TheVariants.{Count, Settle, Drain}
 use Rattle.load_controller.specs.declared.line.TurnLine.{TurnLine}
 use Rattle.load_controller.specs.Journal.{start_line, goes_on, last_line, shift_at}
-use Rattle.load_controller.specs.Rows.{past_of, growing, later_line, later_past}
+use Rattle.load_controller.specs.Worked.{past_of, growing, later_line, later_past}
 use Rattle.trace_law.specs.declared.input.Input.{Input}
 use Rattle.trace_law.specs.Join.{made, held, moved}
 use Rattle.row_tickets.specs.declared.place.Feed.TheVariants.{RFirst}
