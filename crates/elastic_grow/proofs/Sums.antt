@@ -83,7 +83,8 @@ by_side k b R ticket c = omega arith
 by_side k b S ticket c =
     ap (λ n. n + c) (never (nat_lt (row_of k b ticket) (2 ^ (k - b)))) ∙ omega arith
 
-module _ (k b k' b' j : ℕ) (within : b ≤ k) (small : k ≤ 8) (within' : b' ≤ k') (small' : k' ≤ 8) (low : j < 2 ^ k') where
+module _ (k b k' b' j : ℕ) (within : b ≤ k) (small : k ≤ 8) (within' : b' ≤ k') (small' : k' ≤ 8)
+    (low : j < 2 ^ k') where
   -- what a joiner of the grown grid holds has a row of the old one
   pub there_if_held : (side : Side) (ticket : ℕ) → holds_ticket k' b' j side ticket ≡ true
       → is_there k b side ticket ≡ true

@@ -1,6 +1,7 @@
 -- What a controller's machine holds, and the lists for which it stands. Of those it stores its journal alone.
 use Rattle.std.specs.Prelude.{◌≡◌, ℕ, zero, suc, ◌+◌, ◌*◌, ◌^◌, ◌<◌, ◌==◌, nat_lt, nat_le, ⊤, Bool, false, not, ◌&&◌}
-use Rattle.std.specs.Prelude.{None, Some, Option, List, [], ◌∷◌, ◌++◌, drop, length, map, reverse, replicate, sum_by, slice_set}
+use Rattle.std.specs.Prelude.{None, Some, Option, List, [], ◌∷◌, ◌++◌, drop, length, map, reverse, replicate, sum_by}
+use Rattle.std.specs.Prelude.{slice_set}
 use Rattle.std.specs.Prelude.{if◌then◌else◌}
 use Rattle.std.specs.List.{find}
 use Rattle.join_rows.specs.Lists.{IsPrefix, counting_from}

@@ -1,6 +1,7 @@
 -- What the collector's machine holds, and the lists for which it stands. It stores none of them.
 use Rattle.std.specs.Prelude.{◌≡◌, ℕ, ◌==◌, Bool, true, false, ◌++◌, ◌∷◌, [], ⊤, List, Option, Some, None, is_some}
-use Rattle.std.specs.Prelude.{flat_map, length, replicate, slice_get, slice_index, slice_index_or, slice_set, if◌then◌else◌}
+use Rattle.std.specs.Prelude.{flat_map, length, replicate, slice_get, slice_index, slice_index_or, slice_set}
+use Rattle.std.specs.Prelude.{if◌then◌else◌}
 use Rattle.std.specs.List.{list_all}
 use Rattle.join_rows.specs.Lists.{greatest, total}
 use Rattle.epoch_tags.specs.declared.actor.Actor.{Actor}
