@@ -15,7 +15,7 @@ use Rattle.grid_map.specs.declared.cost.Weights.{Weights}
 use Rattle.trace_law.specs.Family.{first_rest, migrations, shift_by, stamp_by}
 use Rattle.trace_law.specs.Join.{held, made, row_count}
 use Rattle.trace_law.specs.Runs.{StaysAt, load_over, made_over, moved_over}
-use Rattle.report_lines.specs.declared.report.Step.{Step}
+use Rattle.report_lines.specs.declared.report_numbers.Step.{Step}
 use Rattle.report_lines.specs.Lines.{report_lines}
 use Rattle.join_report.specs.Report.{first_shift, joiners_told, steps_told, told_at}
 use Rattle.join_words.specs.Words.{Asked, grid_of}

@@ -3,7 +3,7 @@ use Rattle.std.proofs.Common.{◌≡◌, ◌∙◌, ◌+◌, ℕ, zero, suc, ap,
 use Rattle.std.specs.Prelude.{slice_get}
 use Rattle.load_controller.specs.declared.line.TurnLine.{TurnLine}
 use Rattle.load_controller.specs.Journal.{shift_at}
-use Rattle.report_lines.specs.declared.report.Step.{Step}
+use Rattle.report_lines.specs.declared.report_numbers.Step.{Step}
 use Rattle.join_report.specs.Report.{step_at, steps_told}
 
 one_step : (k first before : ℕ) (journal : List TurnLine) (moved : List ℕ) (place count : ℕ)

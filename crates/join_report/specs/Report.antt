@@ -12,10 +12,10 @@ use Rattle.pair_collector.specs.declared.collected.Held.{Held}
 use Rattle.trace_law.specs.declared.setting.Setting.{Setting}
 use Rattle.trace_law.specs.declared.run.Run.{Run}
 use Rattle.trace_law.specs.Family.{first_rest}
-use Rattle.report_lines.specs.declared.report.Growth.{Growth}
-use Rattle.report_lines.specs.declared.report.Joiner.{Joiner}
-use Rattle.report_lines.specs.declared.report.Report.{Report}
-use Rattle.report_lines.specs.declared.report.Step.{Step}
+use Rattle.report_lines.specs.declared.report_numbers.Growth.{Growth}
+use Rattle.report_lines.specs.declared.report_numbers.Joiner.{Joiner}
+use Rattle.report_lines.specs.declared.report_numbers.Report.{Report}
+use Rattle.report_lines.specs.declared.report_numbers.Step.{Step}
 use Rattle.report_lines.specs.Lines.{report_lines}
 use Rattle.join_report.specs.declared.told.GrownRun.{GrownRun}
 

@@ -10,7 +10,7 @@ use Rattle.grid_map.proofs.Best.{best_within}
 use Rattle.load_controller.specs.Journal.{last_epoch}
 use Rattle.trace_law.specs.declared.setting.Setting.{Setting}
 use Rattle.trace_law.specs.Validity.{IsValidSetting}
-use Rattle.report_lines.specs.declared.report.Step.{Step}
+use Rattle.report_lines.specs.declared.report_numbers.Step.{Step}
 use Rattle.report_lines.specs.Grids.{HasSides}
 use Rattle.join_report.specs.Report.{first_shift, joiners_told, last_shift, last_shift_from, steps_told}
 use Rattle.join_report.proofs.StepsTold.{steps_length}

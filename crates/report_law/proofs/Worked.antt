@@ -7,9 +7,9 @@ use Rattle.pair_collector.specs.declared.collected.Held.{Held}
 use Rattle.row_tickets.specs.declared.place.Feed.TheVariants.{RFirst}
 use Rattle.trace_law.specs.declared.run.Run.{Run}
 use Rattle.trace_law.specs.declared.setting.Setting.{Setting}
-use Rattle.report_lines.specs.declared.report.Joiner.{Joiner}
-use Rattle.report_lines.specs.declared.report.Report.{Report}
-use Rattle.report_lines.specs.declared.report.Step.{Step}
+use Rattle.report_lines.specs.declared.report_numbers.Joiner.{Joiner}
+use Rattle.report_lines.specs.declared.report_numbers.Report.{Report}
+use Rattle.report_lines.specs.declared.report_numbers.Step.{Step}
 use Rattle.join_report.specs.Report.{told}
 use Rattle.report_law.specs.Readable.{CountFits, IsReportable, LoadFits}
 

@@ -11,7 +11,7 @@ use Rattle.trace_law.specs.Family.{first_rest}
 use Rattle.trace_law.specs.Join.{row_count}
 use Rattle.trace_law.specs.Runs.{IsRunOf}
 use Rattle.trace_law.specs.Validity.{IsValidInput, IsValidSetting}
-use Rattle.report_lines.specs.declared.report.Report.{Report}
+use Rattle.report_lines.specs.declared.report_numbers.Report.{Report}
 use Rattle.report_lines.specs.Grids.{IsWhole}
 use Rattle.report_lines.specs.Lines.{report_lines}
 use Rattle.join_report.specs.Report.{AreWithin, grown_report_of, grown_told, report_of, told}

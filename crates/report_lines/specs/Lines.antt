@@ -2,10 +2,10 @@
 use Rattle.std.specs.Prelude.{◌+◌, ◌++◌, ℕ, List, [], Option, None, Some, flat_map, length, codes}
 use Rattle.std.specs.List.{enumerate_from}
 use Rattle.std.specs.Fmt.{decimal}
-use Rattle.report_lines.specs.declared.report.Step.{Step}
-use Rattle.report_lines.specs.declared.report.Growth.{Growth}
-use Rattle.report_lines.specs.declared.report.Joiner.{Joiner}
-use Rattle.report_lines.specs.declared.report.Report.{Report}
+use Rattle.report_lines.specs.declared.report_numbers.Step.{Step}
+use Rattle.report_lines.specs.declared.report_numbers.Growth.{Growth}
+use Rattle.report_lines.specs.declared.report_numbers.Joiner.{Joiner}
+use Rattle.report_lines.specs.declared.report_numbers.Report.{Report}
 
 -- the numbers of rows
 abbrev pub input_line : ℕ → ℕ → List ℕ

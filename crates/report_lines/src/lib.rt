@@ -2,9 +2,9 @@
 #![tactic(auto)]
 
 mod lines;
-mod report;
+mod report_numbers;
 
-pub use report::{Growth, Joiner, Joiners, Report, Step, Steps};
+pub use report_numbers::{Growth, Joiner, Joiners, Report, Step, Steps};
 
 #[cfg(test)]
 mod tests;

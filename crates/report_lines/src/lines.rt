@@ -5,7 +5,7 @@ ghost use Rattle.report_lines.specs.Lines.{final_line, grid_line, grid_lines, gr
 ghost use Rattle.report_lines.specs.Lines.{growth_lines, input_line, joiner_line, joiner_lines};
 ghost use Rattle.report_lines.specs.Lines.{report_lines};
 
-use crate::report::{Growth, Joiner, Report, Step};
+use crate::report_numbers::{Growth, Joiner, Report, Step};
 use std::alloc::{AllocError, Global};
 
 fn write_input(text: &mut String, x: u64, y: u64) -> Result<(), AllocError>

@@ -1,4 +1,4 @@
-use crate::report::{Growth, Joiner, Report, Step};
+use crate::report_numbers::{Growth, Joiner, Report, Step};
 use join_rows::Items;
 use std::alloc::{AllocError, Global};
 use std::test::Fail;

@@ -4,10 +4,10 @@ use Rattle.std.proofs.Common.{refl, ◌∙◌}
 use Rattle.std.proofs.Common.{ap, arith, length, append_assoc, mul-le-mul, flat_map}
 use Rattle.std.specs.List.{enumerate_from}
 use Rattle.std.proofs.lemmas.List.Elements.{All-nil, All-cons, All-append, All-head, All-tail, All-weaker}
-use Rattle.report_lines.specs.declared.report.Step.{Step}
-use Rattle.report_lines.specs.declared.report.Growth.{Growth}
-use Rattle.report_lines.specs.declared.report.Joiner.{Joiner}
-use Rattle.report_lines.specs.declared.report.Report.{Report}
+use Rattle.report_lines.specs.declared.report_numbers.Step.{Step}
+use Rattle.report_lines.specs.declared.report_numbers.Growth.{Growth}
+use Rattle.report_lines.specs.declared.report_numbers.Joiner.{Joiner}
+use Rattle.report_lines.specs.declared.report_numbers.Report.{Report}
 use Rattle.report_lines.specs.Lines.{input_line, grid_line, grid_lines, grow_line, growth_lines, final_line}
 use Rattle.report_lines.specs.Grids.{HasSides, HasGrownSides, IsWhole}
 use Rattle.report_lines.specs.Lines.{joiner_line, joiner_lines, report_lines}

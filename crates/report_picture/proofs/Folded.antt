@@ -6,10 +6,10 @@ use Rattle.std.proofs.Common.{lt-ltb}
 use Rattle.std.specs.List.{enumerate_from}
 use Rattle.std.proofs.lemmas.List.Elements.{All-nil, All-cons, All-head, All-tail}
 use Rattle.std.proofs.lemmas.List.Sums.{fold_push, fold-append}
-use Rattle.report_lines.specs.declared.report.Step.{Step}
-use Rattle.report_lines.specs.declared.report.Growth.{Growth}
-use Rattle.report_lines.specs.declared.report.Joiner.{Joiner}
-use Rattle.report_lines.specs.declared.report.Report.{Report}
+use Rattle.report_lines.specs.declared.report_numbers.Step.{Step}
+use Rattle.report_lines.specs.declared.report_numbers.Growth.{Growth}
+use Rattle.report_lines.specs.declared.report_numbers.Joiner.{Joiner}
+use Rattle.report_lines.specs.declared.report_numbers.Report.{Report}
 use Rattle.report_picture.specs.Reading.{Entry, Input, Grid, Grow, Final, Held, Blank}
 use Rattle.report_lines.specs.Grids.{IsWhole}
 use Rattle.report_picture.specs.Reading.{line_of, IsReadable, with_step, taken}

@@ -3,10 +3,10 @@ use Rattle.std.proofs.Common.{◌≡◌, ◌∙◌, ℕ, Option, Some, None, tru
 use Rattle.std.proofs.Common.{false}
 use Rattle.std.proofs.Common.{refl, ap, sym, is_some}
 use Rattle.std.proofs.lemmas.Bool.{false≢true}
-use Rattle.report_lines.specs.declared.report.Step.{Step}
-use Rattle.report_lines.specs.declared.report.Growth.{Growth}
-use Rattle.report_lines.specs.declared.report.Joiner.{Joiner}
-use Rattle.report_lines.specs.declared.report.Report.{Report}
+use Rattle.report_lines.specs.declared.report_numbers.Step.{Step}
+use Rattle.report_lines.specs.declared.report_numbers.Growth.{Growth}
+use Rattle.report_lines.specs.declared.report_numbers.Joiner.{Joiner}
+use Rattle.report_lines.specs.declared.report_numbers.Report.{Report}
 use Rattle.report_picture.specs.Reading.{Input, Final, taken, with_step, with_grid_by}
 
 -- a step with the numbers of another is that one

@@ -8,7 +8,7 @@ use Rattle.std.specs.List.{starts_with}
 use Rattle.std.proofs.lemmas.Bool.{false≢true, and_parts, cases_lt}
 use Rattle.std.proofs.lemmas.List.{get_or_at, get_or-append_right}
 use Rattle.std.proofs.lemmas.List.Elements.{All-head, All-tail}
-use Rattle.report_lines.specs.declared.report.Report.{Report}
+use Rattle.report_lines.specs.declared.report_numbers.Report.{Report}
 use Rattle.report_lines.specs.Grids.{IsWhole}
 use Rattle.report_lines.specs.Lines.{report_lines}
 use Rattle.report_picture.specs.Texts.{AreLines, BeginsLine, MayBegin, EndsWithReport}

@@ -3,10 +3,10 @@ use Rattle.std.specs.Prelude.{◌<◌, ◌^◌, ◌++◌, ℕ, All, List, [], �
 use Rattle.std.specs.Prelude.{cond, nat_lt, length, codes, flat_map}
 use Rattle.std.specs.List.{join_with_byte}
 use Rattle.std.specs.Fmt.{decimal}
-use Rattle.report_lines.specs.declared.report.Step.{Step}
-use Rattle.report_lines.specs.declared.report.Growth.{Growth}
-use Rattle.report_lines.specs.declared.report.Joiner.{Joiner}
-use Rattle.report_lines.specs.declared.report.Report.{Report}
+use Rattle.report_lines.specs.declared.report_numbers.Step.{Step}
+use Rattle.report_lines.specs.declared.report_numbers.Growth.{Growth}
+use Rattle.report_lines.specs.declared.report_numbers.Joiner.{Joiner}
+use Rattle.report_lines.specs.declared.report_numbers.Report.{Report}
 use Rattle.report_lines.specs.Grids.{IsSide, HasSides, HasGrownSides}
 
 -- a step's number of rows fits 64 bits

@@ -2,7 +2,7 @@
 use Rattle.std.specs.Prelude.{◌≡◌, ◌<◌, ◌-◌, ◌==◌, ◌++◌, ◌⊎◌, ℕ, IsTrue, List, [], ◌∷◌, eqb, get_or, drop, count_by}
 use Rattle.std.specs.Prelude.{codes}
 use Rattle.std.specs.List.{slice_split, starts_with}
-use Rattle.report_lines.specs.declared.report.Report.{Report}
+use Rattle.report_lines.specs.declared.report_numbers.Report.{Report}
 use Rattle.report_lines.specs.Lines.{report_lines}
 
 -- lines that end with line feeds, or nothing

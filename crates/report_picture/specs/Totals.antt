@@ -1,7 +1,7 @@
 -- What the joiners of a report have together, and the most that one has.
 use Rattle.std.specs.Prelude.{◌+◌, ℕ, List, max, sum_by}
 use Rattle.std.specs.List.{fold}
-use Rattle.report_lines.specs.declared.report.Joiner.{Joiner}
+use Rattle.report_lines.specs.declared.report_numbers.Joiner.{Joiner}
 
 -- how many rows a joiner holds
 abbrev pub held_by : Joiner → ℕ

@@ -4,10 +4,10 @@
 ghost use Rattle.std.specs.Prelude.{◌≡◌, ◌≤◌, ◌<◌, ◌*◌, ◌^◌, ℕ, [], All, List, IfOk, OnOk, Some, fold};
 ghost use Rattle.std.specs.Prelude.{length, slice_get, unwrap_or};
 ghost use Rattle.std.specs.Fmt.{decimal};
-ghost use Rattle.report_lines.specs.declared.report.Growth.{Growth as TheGrowth};
-ghost use Rattle.report_lines.specs.declared.report.Joiner.{Joiner as TheJoiner};
-ghost use Rattle.report_lines.specs.declared.report.Report.{Report as TheReport};
-ghost use Rattle.report_lines.specs.declared.report.Step.{Step as TheStep};
+ghost use Rattle.report_lines.specs.declared.report_numbers.Growth.{Growth as TheGrowth};
+ghost use Rattle.report_lines.specs.declared.report_numbers.Joiner.{Joiner as TheJoiner};
+ghost use Rattle.report_lines.specs.declared.report_numbers.Report.{Report as TheReport};
+ghost use Rattle.report_lines.specs.declared.report_numbers.Step.{Step as TheStep};
 ghost use Rattle.report_lines.specs.Grids.{HasGrids, HasGrownSides, HasSides, IsSide, IsWhole};
 ghost use Rattle.report_lines.specs.Lines.{report_lines};
 ghost use Rattle.report_picture.specs.Texts.{words_in};

@@ -1,7 +1,7 @@
 // A report's numbers, read back from its text: the text of the report that it comes nearest to is compared with it.
 
 ghost use Rattle.std.specs.Prelude.{◌≡◌, ◌≢◌, ◌≤◌, ◌<◌, ◌+◌, ℕ, Err, IfOk, take};
-ghost use Rattle.report_lines.specs.declared.report.Report.{Report as TheReport};
+ghost use Rattle.report_lines.specs.declared.report_numbers.Report.{Report as TheReport};
 ghost use Rattle.report_lines.specs.Grids.{IsWhole};
 ghost use Rattle.report_picture.specs.Texts.{EndsWithReport, MayBegin, feeds_in};
 ghost use Rattle.report_picture.specs.Reading.{NumbersFit};

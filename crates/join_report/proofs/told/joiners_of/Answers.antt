@@ -1,5 +1,5 @@
 use Rattle.std.proofs.Common.{◌≤◌, ◌∙◌, List, [], ◌∷◌, ◌++◌, ap, arith, length, min, sym, take}
-use Rattle.report_lines.specs.declared.report.Joiner.{Joiner}
+use Rattle.report_lines.specs.declared.report_numbers.Joiner.{Joiner}
 use Rattle.join_report.specs.Report.{joiner_told, joiners_told}
 use Rattle.join_report.proofs.Sums.{zip2_more, zip2_whole}
 use Rattle.join_report.proofs.told.joiners_of.Goals as goal

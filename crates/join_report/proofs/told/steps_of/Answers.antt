@@ -1,6 +1,6 @@
 use Rattle.std.proofs.Common.{◌≡◌, ◌∙◌, ◌++◌, ℕ, List, [], ◌∷◌, ap, arith, length, sym, take}
 use Rattle.std.proofs.lemmas.List.{take_all}
-use Rattle.report_lines.specs.declared.report.Step.{Step}
+use Rattle.report_lines.specs.declared.report_numbers.Step.{Step}
 use Rattle.join_report.specs.Report.{step_at, steps_told}
 use Rattle.join_report.proofs.StepsTold.{steps_length, steps_more}
 use Rattle.join_report.proofs.told.steps_of.Goals as goal

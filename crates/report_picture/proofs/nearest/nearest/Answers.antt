@@ -1,5 +1,5 @@
 use Rattle.std.proofs.Common.{◌≡◌, ◌∙◌, ◌*◌, ap, fold, length, subst, sym}
-use Rattle.report_lines.specs.declared.report.Report.{Report}
+use Rattle.report_lines.specs.declared.report_numbers.Report.{Report}
 use Rattle.report_picture.specs.Reading.{taken}
 use Rattle.report_picture.proofs.Entries.{report_text, report_readable}
 use Rattle.report_picture.proofs.Folded.{entries_of, report_taken}

@@ -1,7 +1,7 @@
 use Rattle.std.proofs.Common.{◌∙◌, List, ap, sym}
 use Rattle.std.proofs.lemmas.Result.{on_ok_weaker}
-use Rattle.report_lines.specs.declared.report.Report.{Report}
-use Rattle.report_lines.specs.declared.report.Step.{Step}
+use Rattle.report_lines.specs.declared.report_numbers.Report.{Report}
+use Rattle.report_lines.specs.declared.report_numbers.Step.{Step}
 use Rattle.report_picture.proofs.Made.{grid_behind, grid_before}
 use Rattle.report_picture.proofs.nearest.take_grid.Goals as goal
 

@@ -1,6 +1,6 @@
 use Rattle.std.proofs.Common.{List, ap}
-use Rattle.report_lines.specs.declared.report.Report.{Report}
-use Rattle.report_lines.specs.declared.report.Joiner.{Joiner}
+use Rattle.report_lines.specs.declared.report_numbers.Report.{Report}
+use Rattle.report_lines.specs.declared.report_numbers.Joiner.{Joiner}
 use Rattle.report_picture.proofs.nearest.take_joiner.Goals as goal
 
 pub returns-clause-exact : goal.returns-clause-exact

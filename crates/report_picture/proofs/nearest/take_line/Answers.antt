@@ -1,9 +1,9 @@
 use Rattle.std.proofs.Common.{◌≡◌, ◌∙◌, OnOk, ap, codes, true}
 use Rattle.std.proofs.lemmas.Result.{on_ok_weaker}
-use Rattle.report_lines.specs.declared.report.Report.{Report}
-use Rattle.report_lines.specs.declared.report.Step.{Step}
-use Rattle.report_lines.specs.declared.report.Growth.{Growth}
-use Rattle.report_lines.specs.declared.report.Joiner.{Joiner}
+use Rattle.report_lines.specs.declared.report_numbers.Report.{Report}
+use Rattle.report_lines.specs.declared.report_numbers.Step.{Step}
+use Rattle.report_lines.specs.declared.report_numbers.Growth.{Growth}
+use Rattle.report_lines.specs.declared.report_numbers.Joiner.{Joiner}
 use Rattle.report_picture.specs.Texts.{words_in}
 use Rattle.report_picture.specs.Reading.{Grow, Held, IsReadable, taken, with_grid, words_of}
 use Rattle.report_picture.proofs.Named.{on_input, on_grid, on_grow, on_final, on_joiner, tested}
