@@ -3,10 +3,10 @@
 
 mod end;
 mod epochs;
-mod held;
 mod joiner;
 mod machine;
 mod moved;
+mod order_of_held;
 mod report;
 mod settle;
 mod stock;
