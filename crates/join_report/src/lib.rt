@@ -5,16 +5,16 @@
 mod grids;
 mod pairs;
 mod put;
-mod report_texts;
 mod rows;
 mod summary_of_pairs;
 mod told;
+mod told_as_text;
 mod waves;
 
 pub use pairs::pairs_text;
 pub use put::put_all;
-pub use report_texts::{grown_report_text, report_text};
 pub use rows::rows_text;
 pub use summary_of_pairs::summary_text;
 pub use told::{GrownRun, report_of_grown_run, report_of_run};
+pub use told_as_text::{grown_report_text, report_text};
 pub use waves::sum_counts;

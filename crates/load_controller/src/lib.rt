@@ -1,8 +1,8 @@
 //! The controller's machine, its journal, and what a lawful journal keeps to.
 #![tactic(auto)]
 
+mod asks_in_place;
 mod controller;
-mod counted_or_passed_over;
 mod decisions;
 mod held_settles;
 mod laws;
