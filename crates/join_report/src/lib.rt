@@ -8,13 +8,11 @@ mod put;
 mod rows;
 mod summary_of_pairs;
 mod told;
-mod told_as_text;
 mod waves;
 
 pub use pairs::pairs_text;
 pub use put::put_all;
 pub use rows::rows_text;
 pub use summary_of_pairs::summary_text;
-pub use told::{GrownRun, report_of_grown_run, report_of_run};
-pub use told_as_text::{grown_report_text, report_text};
+pub use told::{GrownRun, grown_report_text, report_of_grown_run, report_of_run, report_text};
 pub use waves::sum_counts;

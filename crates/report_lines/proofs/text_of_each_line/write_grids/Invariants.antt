@@ -2,7 +2,7 @@ use Rattle.std.proofs.Common.{◌≡◌, ◌+◌, ◌++◌, take}
 use Rattle.std.specs.Prelude.{string_bytes}
 use Rattle.report_lines.specs.Lines.{grid_line}
 use Rattle.report_lines.proofs.Numbered.{lines_from}
-use Rattle.report_lines.proofs.lines.write_grids.Given as goal
+use Rattle.report_lines.proofs.text_of_each_line.write_grids.Given as goal
 
 abbrev pub invariant-loop-index : goal.invariant-loop-index
 invariant-loop-index l =

@@ -2,7 +2,7 @@ use Rattle.std.proofs.Common.{string_bytes, arith}
 use Rattle.std.proofs.lemmas.Option.{slice_get-get_or}
 use Rattle.report_lines.specs.Lines.{joiner_line}
 use Rattle.report_lines.proofs.Numbered.{lines_more}
-use Rattle.report_lines.proofs.lines.write_joiners.Goals as goal
+use Rattle.report_lines.proofs.text_of_each_line.write_joiners.Goals as goal
 
 pub loop-id-preserved : goal.loop-id-preserved
 loop-id-preserved c =

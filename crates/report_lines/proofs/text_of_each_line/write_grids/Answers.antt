@@ -2,7 +2,7 @@ use Rattle.std.proofs.Common.{◌+◌, string_bytes, arith}
 use Rattle.std.proofs.lemmas.Option.{slice_get-get_or}
 use Rattle.report_lines.specs.Lines.{grid_line}
 use Rattle.report_lines.proofs.Numbered.{lines_more_from}
-use Rattle.report_lines.proofs.lines.write_grids.Goals as goal
+use Rattle.report_lines.proofs.text_of_each_line.write_grids.Goals as goal
 
 pub loop-index-preserved : goal.loop-index-preserved
 loop-index-preserved c =
