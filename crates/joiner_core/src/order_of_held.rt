@@ -1,4 +1,5 @@
-// The held messages, which are tried again after each one that was taken.
+// The order in which a joiner's held messages are tried again after each one that was taken. (That of the settles which
+// the controller holds is in load_controller, held_settles.rt; a feeder takes its grants as they came.)
 
 ghost use Rattle.std.specs.Prelude.{◌≡◌, ◌<◌, ◌^◌, true, false, OnOk, IfOk, IfSome, MatchOption};
 ghost use Rattle.joiner_core.specs.Machine.{state_of, Advances, IsSound, IsStuck, AreStuckOfFeeders, AreStuckOfJoiners, IsReadyOfFeeder, IsReadyOfJoiner, TookHeld, HasTakenNext, AreTried, DoesNext};

@@ -1,4 +1,4 @@
-// A tuple of a feeder.
+// A tuple of a feeder: an old one, an old one that comes late, or a new one.
 
 ghost use Rattle.std.specs.Prelude.{◌≡◌, ◌++◌, true, false, OnOk};
 ghost use Rattle.epoch_tags.specs.declared.message.ToJoiner.TheVariants.{Tup};

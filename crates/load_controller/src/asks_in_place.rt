@@ -1,4 +1,5 @@
-// What becomes of a message: it is counted, held or passed over.
+// What becomes of a message: one that is in place is counted, a joiner's may be held until it is, and any other is passed
+// over.
 
 ghost use Rattle.std.specs.Prelude.{◌≡◌, ◌+◌, ◌^◌, ◌<◌, ◌≤◌, ◌∷◌, ◌↔◌, IsTrue, List, reverse, true, false, OnOk};
 ghost use Rattle.epoch_tags.specs.declared.actor.Actor.TheVariants.{Feeder, Joiner};

@@ -1,4 +1,4 @@
-// The line that a counted message adds.
+// The line that a counted message adds, and whether a decision is due with it.
 
 ghost use Rattle.std.specs.Prelude.{◌≡◌, ◌+◌, ◌^◌, ◌<◌, ◌≤◌, not, ◌&&◌, ◌||◌, is_none};
 ghost use Rattle.grid_map.specs.Load.{AreWeights};
